@@ -1,0 +1,265 @@
+-- What a ledger takes leaves a valid list.
+use Rattle.std.proofs.Common.{◌≡◌, ℕ, Bool, true, false, cond, not, ◌||◌, List, [], ◌∷◌, ◌++◌, refl, ap, sym, ◌∙◌, arith, ◌⊎◌, inl, inr, subst, append_assoc}
+use Rattle.std.specs.Prelude.{ℤ, pos, negsuc, ◌≤ℤ◌, Option, Some, None, ◌==◌}
+use Rattle.std.proofs.lemmas.Int.{ints}
+use Rattle.std.proofs.lemmas.Bool.Decides.{nat_tests}
+use Rattle.std.proofs.lemmas.List.{append-nil}
+use Rattle.rb_money.specs.Settings.{Settings}
+use Rattle.rb_money.specs.declared.place.Place.{Place}
+use Rattle.rb_money.specs.declared.refusal.Refusal.{Refusal}
+use Rattle.rb_shadow.specs.declared.shadow.Shadow.{Shadow}
+use Rattle.rb_shadow.specs.declared.op_name.OpName.{OpName}
+use Rattle.rb_shadow.specs.declared.kind.Kind.{Kind}
+use Rattle.rb_shadow.specs.declared.kind.Kind.TheVariants.{Deposit, Withdraw, Declined, Interest, Cancel}
+use Rattle.rb_shadow.specs.declared.colour.Colour.{Colour}
+use Rattle.rb_shadow.specs.declared.colour.Colour.TheVariants.{Blue as BlueColour, Red as RedColour}
+use Rattle.rb_shadow.specs.Operations.{Among, same_name, names, past, IsUnique, IsWithin, EachEntry, bal, is_cancelled, cancels, find_in, shown_colour, colour_in}
+use Rattle.rb_shadow.specs.Sound.{fault_in, IsSound}
+use Rattle.rb_shadow.proofs.Members
+use Rattle.rb_shadow.proofs.Balances
+use Rattle.rb_shadow.proofs.Eligible
+use Rattle.rb_ledger.specs.Valid.{HasTarget, IsValid}
+use Rattle.rb_ledger.specs.Checks.{same_colour, is_wrong_target, has_wrong_target, is_negative, refusal_of, refusal_after}
+use Rattle.rb_ledger.proofs.Pushes
+
+-- a fact of each entry, with one more
+pub each_push : (P : List Shadow → Shadow → Type 0) (us : List Shadow) (h : Shadow) → EachEntry us P → P us h → EachEntry (us ++ h ∷ []) P
+each_push P us h each here before v after e = at (Members.push_split us before after h v e)
+  where
+    at : ((after ≡ []) × (before ≡ us) × (v ≡ h)) ⊎ ((rest : List Shadow) × (after ≡ rest ++ h ∷ []) × (us ≡ before ++ v ∷ rest)) → P before v
+    at (inl (none, same, is)) = subst (λ w. P before w) (sym is) (subst (λ ws. P ws h) (sym same) here)
+    at (inr (rest, back, is)) = each before v rest is
+
+pub each_front : (P : List Shadow → Shadow → Type 0) (us vs : List Shadow) → EachEntry (us ++ vs) P → EachEntry us P
+each_front P us vs each before v after e = each before v (after ++ vs) (ap (λ ws. ws ++ vs) e ∙ append_assoc before (v ∷ after) vs)
+
+pub each_last : (P : List Shadow → Shadow → Type 0) (us : List Shadow) (h : Shadow) → EachEntry (us ++ h ∷ []) P → P us h
+each_last P us h each = each us h [] refl
+
+pub empty_front : (front back : List Shadow) → front ++ back ≡ [] → front ≡ []
+empty_front [] back e = refl
+empty_front (v ∷ front) back e = cc
+
+-- a front of a longer list is the longer list or a front of the list
+pub front_split : (us front back : List Shadow) (h : Shadow) → us ++ h ∷ [] ≡ front ++ back → (front ≡ us ++ h ∷ []) ⊎ ((rest : List Shadow) × (us ≡ front ++ rest))
+front_split us [] back h e = inr (us, refl)
+front_split [] (v ∷ front) back h e = inl (let none : front ≡ [] = empty_front front back (let rest : front ++ back ≡ [] = cc in rest) in let a : v ∷ front ≡ h ∷ [] = cc in a)
+front_split (u ∷ us) (v ∷ front) back h e = further (let a : u ≡ v = cc in a) (front_split us front back h (let a : us ++ h ∷ [] ≡ front ++ back = cc in a))
+  where
+    further : u ≡ v → (front ≡ us ++ h ∷ []) ⊎ ((rest : List Shadow) × (us ≡ front ++ rest)) → (v ∷ front ≡ (u ∷ us) ++ h ∷ []) ⊎ ((rest : List Shadow) × (u ∷ us ≡ (v ∷ front) ++ rest))
+    further a (inl b) = inl (let c : v ∷ front ≡ u ∷ (us ++ h ∷ []) = cc in c)
+    further a (inr (rest, b)) = inr (rest, let c : u ∷ us ≡ v ∷ (front ++ rest) = cc in c)
+
+target_named : (before : List Shadow) (c : Shadow) (x : OpName) (k : Kind) → HasTarget before c k → cancels k x ≡ true → names before x ≡ true
+target_named before c x (Cancel y) (t, there, e, right) h = ap (names before) (sym (Members.same_name-true y x h)) ∙ ap (names before) (sym e) ∙ Members.named before t there
+target_named before c x Deposit t h = cc
+target_named before c x Withdraw t h = cc
+target_named before c x Declined t h = cc
+target_named before c x Interest t h = cc
+
+-- nothing there cancels a fresh name
+pub fresh_uncancelled : (us : List Shadow) (x : OpName) → EachEntry us (λ before v. HasTarget before v v.kind) → names us x ≡ false → is_cancelled us x ≡ false
+fresh_uncancelled us x targets fresh = elim (Members.bool_cases (is_cancelled us x)) [
+  | inl e ↦
+      let (c, there, by) = Balances.cancelled_by us x e in
+      let (front, back, is) = Members.split_at us c there in
+      absurd (Members.true≢false (sym (ap (λ ws. names ws x) is ∙ Members.names-append front (c ∷ back) x ∙ ap (λ b. b || names (c ∷ back) x) (target_named front c x c.kind (targets front c back is) by)) ∙ fresh))
+  | inr e ↦ e
+]
+
+-- ---- one more operation
+
+-- what a list may go on with
+pub record MayFollow (s : Settings) (us : List Shadow) (h : Shadow) : Type 0 where
+  pub sound : IsSound s h
+  pub fresh : names us h.name ≡ false
+  pub eligible : IsWithin (past h) (names us)
+  pub target : HasTarget us h h.kind
+  pub colour : shown_colour h.name ≡ colour_in us h
+  pub covered : pos 0 ≤ℤ bal s (us ++ h ∷ []) h.account
+
+pub covered_elsewhere : (s : Settings) (us : List Shadow) (h : Shadow) (a : Place) → IsValid s us → MayFollow s us h → pos 0 ≤ℤ bal s (us ++ h ∷ []) a
+covered_elsewhere s us h a valid may = at (Members.bool_cases (h.account.0 == a.0))
+  where
+    free : is_cancelled us h.name ≡ false
+    free = fresh_uncancelled us h.name valid.targets may.fresh
+
+    at : (h.account.0 == a.0) ≡ true ⊎ (h.account.0 == a.0) ≡ false → pos 0 ≤ℤ bal s (us ++ h ∷ []) a
+    at (inl e) = subst (λ (p : Place). pos 0 ≤ℤ bal s (us ++ h ∷ []) p) (same_place h.account a (grind (arith, nat_tests))) may.covered
+      where
+        same_place : (p q : Place) → p.0 ≡ q.0 → p ≡ q
+        same_place p q e = λ i. record { 0 = e i }
+    at (inr e) = omega (
+      arith,
+      ints,
+      valid.covered us [] (sym (append-nil us)) a,
+      Pushes.bal-push s us h a valid.unique free may.target,
+      ap (λ b. cond b (Pushes.change_of us h.kind h.amount) (pos 0)) e,
+    )
+
+-- a valid list that goes on so is valid
+pub IsValid-push : (s : Settings) (us : List Shadow) (h : Shadow) → IsValid s us → MayFollow s us h → IsValid s (us ++ h ∷ [])
+IsValid-push s us h valid may = record {
+  sound = each_push (λ before v. IsSound s v) us h valid.sound may.sound;
+  unique = Members.IsUnique-push us h valid.unique may.fresh;
+  past_before = each_push (λ before v. IsWithin (past v) (names before)) us h valid.past_before may.eligible;
+  targets = each_push (λ before v. HasTarget before v v.kind) us h valid.targets may.target;
+  colours = each_push (λ before v. shown_colour v.name ≡ colour_in before v) us h valid.colours may.colour;
+  covered = λ front back e a. covered front a (front_split us front back h e);
+}
+  where
+    covered : (front : List Shadow) (a : Place) → (front ≡ us ++ h ∷ []) ⊎ ((rest : List Shadow) × (us ≡ front ++ rest)) → pos 0 ≤ℤ bal s front a
+    covered front a (inl e) = subst (λ ws. pos 0 ≤ℤ bal s ws a) (sym e) (covered_elsewhere s us h a valid may)
+    covered front a (inr (rest, e)) = valid.covered front rest e a
+
+-- each front of a valid list is valid
+pub IsValid-front : (s : Settings) (us vs : List Shadow) → IsValid s (us ++ vs) → IsValid s us
+IsValid-front s us vs valid = record {
+  sound = each_front (λ before v. IsSound s v) us vs valid.sound;
+  unique = Members.IsUnique-front us vs valid.unique;
+  past_before = each_front (λ before v. IsWithin (past v) (names before)) us vs valid.past_before;
+  targets = each_front (λ before v. HasTarget before v v.kind) us vs valid.targets;
+  colours = each_front (λ before v. shown_colour v.name ≡ colour_in before v) us vs valid.colours;
+  covered = λ front back e a. valid.covered front (back ++ vs) (ap (λ ws. ws ++ vs) e ∙ append_assoc front back vs) a;
+}
+
+-- what a valid list goes on with
+pub IsValid-last : (s : Settings) (us : List Shadow) (h : Shadow) → IsValid s (us ++ h ∷ []) → MayFollow s us h
+IsValid-last s us h valid = record {
+  sound = each_last (λ before v. IsSound s v) us h valid.sound;
+  fresh = Members.IsUnique-last us [] h valid.unique;
+  eligible = each_last (λ before v. IsWithin (past v) (names before)) us h valid.past_before;
+  target = each_last (λ before v. HasTarget before v v.kind) us h valid.targets;
+  colour = each_last (λ before v. shown_colour v.name ≡ colour_in before v) us h valid.colours;
+  covered = valid.covered (us ++ h ∷ []) [] (sym (append-nil (us ++ h ∷ []))) h.account;
+}
+
+-- ---- the test
+
+go_on : (b : Bool) (w : Refusal) (r : Option Refusal) → cond b (Some w) r ≡ None → (b ≡ false) × (r ≡ None)
+go_on true w r e = cc
+go_on false w r e = (refl, e)
+
+go_on_two : (b c : Bool) (w x : Refusal) (r : Option Refusal) → cond b (cond c (Some w) (Some x)) r ≡ None → (b ≡ false) × (r ≡ None)
+go_on_two true true w x r e = cc
+go_on_two true false w x r e = cc
+go_on_two false c w x r e = (refl, e)
+
+pub not-false : (b : Bool) → not b ≡ false → b ≡ true
+not-false true h = refl
+not-false false h = cc
+
+same_colour-true : (c d : Colour) → same_colour c d ≡ true → c ≡ d
+same_colour-true BlueColour BlueColour h = refl
+same_colour-true RedColour RedColour h = refl
+same_colour-true BlueColour RedColour h = cc
+same_colour-true RedColour BlueColour h = cc
+
+same_colour-refl : (c : Colour) → same_colour c c ≡ true
+same_colour-refl BlueColour = refl
+same_colour-refl RedColour = refl
+
+pub covers_nothing : (z : ℤ) → is_negative z ≡ false → pos 0 ≤ℤ z
+covers_nothing (pos n) h = omega (arith, ints)
+covers_nothing (negsuc n) h = cc
+
+not_negative : (z : ℤ) → pos 0 ≤ℤ z → is_negative z ≡ false
+not_negative (pos n) h = refl
+not_negative (negsuc n) h = absurd (omega (arith, ints, h))
+
+pub found : (us : List Shadow) (x : OpName) (t : Shadow) → find_in us x ≡ Some t → Among t us × (t.name ≡ x)
+found [] x t h = cc
+found (u ∷ us) x t h = at (Members.bool_cases (same_name u.name x)) (found us x t)
+  where
+    at : (same_name u.name x ≡ true) ⊎ (same_name u.name x ≡ false) → (find_in us x ≡ Some t → Among t us × (t.name ≡ x)) → Among t (u ∷ us) × (t.name ≡ x)
+    at (inl e) more = let same : u ≡ t = some_same (sym (ap (λ b. cond b (Some u) (find_in us x)) e) ∙ h) in (inl (sym same), ap (λ (w : Shadow). w.name) (sym same) ∙ Members.same_name-true u.name x e)
+      where
+        some_same : Some u ≡ Some t → u ≡ t
+        some_same e = cc
+    at (inr e) more = let (there, is) = more (sym (ap (λ b. cond b (Some u) (find_in us x)) e) ∙ h) in (inr there, is)
+
+pub finds : (us : List Shadow) (t : Shadow) → IsUnique us → Among t us → find_in us t.name ≡ Some t
+finds [] t unique h = elim h [ ]
+finds (u ∷ us) t unique (inl e) = ap (λ (w : Shadow). cond (same_name w.name t.name) (Some w) (find_in us t.name)) (sym e) ∙ ap (λ b. cond b (Some t) (find_in us t.name)) (Members.same_name-refl t.name)
+finds (u ∷ us) t unique (inr h) = ap (λ b. cond b (Some u) (find_in us t.name)) (Members.not_same u.name t.name (λ e. Members.true≢false (sym (Members.named us t h) ∙ ap (names us) (sym e) ∙ unique.0))) ∙ finds us t unique.1 h
+
+right_target : (us : List Shadow) (h : Shadow) (x : OpName) (o : Option Shadow) → find_in us x ≡ o → is_wrong_target h o ≡ false → HasTarget us h (Cancel x)
+right_target us h x None is e = cc
+right_target us h x (Some t) is e =
+    let (there, named) = found us x t is in
+    let (first, third) = Members.or-false _ _ e in
+    let (one, two) = Members.or-false _ _ first in (
+      t,
+      there,
+      named,
+      record {
+        kind = not-false _ one;
+        account = same_place t.account h.account (let e : t.account.0 ≡ h.account.0 = same_number t.account.0 h.account.0 (not-false _ two) in e);
+        amount = same_number t.amount h.amount (not-false _ third);
+      },
+    )
+  where
+    same_place : (p q : Place) → p.0 ≡ q.0 → p ≡ q
+    same_place p q e = λ i. record { 0 = e i }
+
+    same_number : (m n : ℕ) → (m == n) ≡ true → m ≡ n
+    same_number m n e = grind (arith, nat_tests)
+
+has_target : (us : List Shadow) (h : Shadow) (k : Kind) → has_wrong_target us h k ≡ false → HasTarget us h k
+has_target us h (Cancel x) e = right_target us h x (find_in us x) refl e
+has_target us h Deposit e = tt
+has_target us h Withdraw e = tt
+has_target us h Declined e = tt
+has_target us h Interest e = tt
+
+no_wrong_target : (us : List Shadow) (h : Shadow) (k : Kind) → IsUnique us → HasTarget us h k → has_wrong_target us h k ≡ false
+no_wrong_target us h Deposit unique t = refl
+no_wrong_target us h Withdraw unique t = refl
+no_wrong_target us h Declined unique t = refl
+no_wrong_target us h Interest unique t = refl
+no_wrong_target us h (Cancel x) unique (t, there, named, right) =
+    ap (is_wrong_target h) (ap (find_in us) (sym named) ∙ finds us t unique there)
+    ∙ Members.false-or _ _ (Members.false-or _ _ (ap not right.kind) (ap not (same_number t.account.0 h.account.0 (ap (λ (p : Place). p.0) right.account)))) (ap not (same_number t.amount h.amount right.amount))
+  where
+    same_number : (m n : ℕ) → m ≡ n → (m == n) ≡ true
+    same_number m n e = grind (arith, nat_tests)
+
+-- the test lets through just what the list may go on with
+pub may_follow : (s : Settings) (us : List Shadow) (h : Shadow) → refusal_of s us h ≡ None → MayFollow s us h
+may_follow s us h e = at (fault_in s h) refl e
+  where
+    at : (o : Option ℕ) → fault_in s h ≡ o → refusal_after s us h o ≡ None → MayFollow s us h
+    at (Some why) is e = cc
+    at None is e =
+        let (fresh, e1) = go_on_two _ _ _ _ _ e in
+        let (eligible, e2) = go_on _ _ _ e1 in
+        let (target, e3) = go_on _ _ _ e2 in
+        let (colour, e4) = go_on _ _ _ e3 in
+        let (covered, e5) = go_on _ _ _ e4 in
+        record {
+          sound = is;
+          fresh = fresh;
+          eligible = Eligible.eligible_means us h (not-false _ eligible);
+          target = has_target us h h.kind target;
+          colour = same_colour-true _ _ (not-false _ colour);
+          covered = covers_nothing _ (Members.or-false _ _ covered).0;
+        }
+
+refused_by_none : (b c d f g : Bool) (i : Bool) (w x y z v q : Refusal) → b ≡ false → d ≡ true → f ≡ false → g ≡ true → i ≡ false
+    → cond b (cond c (Some w) (Some x)) (cond (not d) (Some y) (cond f (Some z) (cond (not g) (Some v) (cond i (Some q) None)))) ≡ None
+refused_by_none b c d f g i w x y z v q hb hd hf hg hi =
+    ap (λ b. cond b (cond c (Some w) (Some x)) (cond (not d) (Some y) (cond f (Some z) (cond (not g) (Some v) (cond i (Some q) None))))) hb
+    ∙ ap (λ d. cond (not d) (Some y) (cond f (Some z) (cond (not g) (Some v) (cond i (Some q) None)))) hd
+    ∙ ap (λ f. cond f (Some z) (cond (not g) (Some v) (cond i (Some q) None))) hf
+    ∙ ap (λ g. cond (not g) (Some v) (cond i (Some q) None)) hg
+    ∙ ap (λ i. cond i (Some q) None) hi
+
+pub follows_may : (s : Settings) (us : List Shadow) (h : Shadow) → IsUnique us → MayFollow s us h → refusal_of s us h ≡ None
+follows_may s us h unique may =
+    ap (refusal_after s us h) may.sound
+    ∙ refused_by_none _ _ _ _ _ _ _ _ _ _ _ _ may.fresh (Eligible.eligible_from us h may.eligible) (no_wrong_target us h h.kind unique may.target)
+    (ap (λ c. same_colour c (colour_in us h)) may.colour ∙ same_colour-refl (colour_in us h)) (Members.false-or _ _ (not_negative _ may.covered) refl)
+
+-- the law: a valid list goes on with just what isn't refused
+pub refuses_rightly : (s : Settings) (us : List Shadow) (h : Shadow) → IsValid s us → (refusal_of s us h ≡ None → IsValid s (us ++ h ∷ [])) × (IsValid s (us ++ h ∷ []) → refusal_of s us h ≡ None)
+refuses_rightly s us h valid = (λ e. IsValid-push s us h valid (may_follow s us h e), λ longer. follows_may s us h valid.unique (IsValid-last s us h longer))

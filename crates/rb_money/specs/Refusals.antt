@@ -1,0 +1,51 @@
+-- Refusals, and the first of several.
+use Rattle.std.specs.Prelude.{ℕ, Bool, true, false, Option, Some, None, Result, Ok, Err}
+use Rattle.rb_money.specs.declared.refusal.Refusal.{Refusal}
+use Rattle.rb_money.specs.declared.refusal.Refusal.TheVariants.{OutOfMemory, UnknownAccount, BadAmount, BadRate, UnknownOperation, NotCancellable, AlreadyCancelled, NumbersExhausted, NeedToken, RedBehind, WouldOverdraw, DeltaTooLarge, BadBatch, BatchRefused, NotHeld, NotReady, InboxFull, BadMessage, Conflict, NoMessage, NoSite, NotYours, PositionBeyond, HistoryFull}
+
+-- the refusal where the condition holds, and else what comes next
+abbrev pub first_if : Bool → Refusal → Option Refusal → Option Refusal
+first_if true why next = Some why
+first_if false why next = next
+
+-- the same, where something comes of it
+abbrev pub refused_if : {A : Type 0} → Bool → Refusal → Result A Refusal → Result A Refusal
+refused_if true why next = Err why
+refused_if false why next = next
+
+-- what comes of it where there is no refusal
+abbrev pub unless_refused : {A : Type 0} → Option Refusal → Result A Refusal → Result A Refusal
+unless_refused (Some why) next = Err why
+unless_refused None next = next
+
+-- what comes of a result
+abbrev pub and_then : {A B : Type 0} → Result A Refusal → (A → Result B Refusal) → Result B Refusal
+and_then (Ok x) next = next x
+and_then (Err why) next = Err why
+
+-- a refusal's number
+abbrev pub number_of_refusal : Refusal → ℕ
+number_of_refusal OutOfMemory = 0
+number_of_refusal UnknownAccount = 1
+number_of_refusal BadAmount = 2
+number_of_refusal BadRate = 3
+number_of_refusal UnknownOperation = 4
+number_of_refusal NotCancellable = 5
+number_of_refusal (AlreadyCancelled position) = 6
+number_of_refusal NumbersExhausted = 7
+number_of_refusal NeedToken = 8
+number_of_refusal (RedBehind seen needed) = 9
+number_of_refusal WouldOverdraw = 10
+number_of_refusal DeltaTooLarge = 11
+number_of_refusal BadBatch = 12
+number_of_refusal (BatchRefused index cause) = 13
+number_of_refusal NotHeld = 14
+number_of_refusal NotReady = 15
+number_of_refusal InboxFull = 16
+number_of_refusal (BadMessage why) = 17
+number_of_refusal Conflict = 18
+number_of_refusal NoMessage = 19
+number_of_refusal NoSite = 20
+number_of_refusal NotYours = 21
+number_of_refusal PositionBeyond = 22
+number_of_refusal HistoryFull = 23

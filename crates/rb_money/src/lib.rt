@@ -1,0 +1,12 @@
+//! Money, places of accounts, limits, refusals and the configuration.
+#![tactic(auto)]
+
+mod config;
+mod limits;
+mod place;
+mod refusal;
+
+pub use config::{Config, MOST_SITES};
+pub use limits::Limits;
+pub use place::Place;
+pub use refusal::{Cause, Refusal};

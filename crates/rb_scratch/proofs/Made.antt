@@ -1,0 +1,91 @@
+-- What is known of an operation that a site makes.
+use Rattle.std.proofs.Common.{◌≡◌, ℕ, ◌+◌, ◌≤◌, Bool, true, false, cond, not, ◌&&◌, List, [], ◌∷◌, ◌++◌, refl, sym, arith, subst, Option, Some, None, Result, Ok, Err}
+use Rattle.std.specs.Prelude.{nat_lt}
+use Rattle.std.proofs.lemmas.Bool.Decides.{nat_tests}
+use Rattle.rb_money.specs.Settings.{Settings}
+use Rattle.rb_money.specs.declared.refusal.Refusal.{Refusal}
+use Rattle.rb_money.specs.declared.refusal.Cause.{Cause}
+use Rattle.rb_money.specs.declared.refusal.Cause.TheVariants.{Declined as DeclinedCause}
+use Rattle.rb_shadow.specs.declared.op_name.OpName.{OpName}
+use Rattle.rb_shadow.specs.declared.op_name.OpName.TheVariants.{Blue, Red}
+use Rattle.rb_shadow.specs.declared.shadow.Shadow.{Shadow}
+use Rattle.rb_shadow.specs.Operations.{is_cancel, red_count, number_of}
+use Rattle.rb_shadow.specs.Sound.{limit_of}
+use Rattle.rb_ledger.specs.Checks.{overdraws}
+use Rattle.rb_scratch.specs.declared.request.Request.{Request}
+use Rattle.rb_token.specs.Token.{Token, refusal_of_red}
+use Rattle.rb_scratch.specs.Requests.{Plan, plan_of, operation_of, allowed, allowed_by_colour, made_of}
+use Rattle.rb_money.specs.Refusals.{refused_if, and_then, first_if, unless_refused}
+
+-- a red one needs the token, all red operations before it, and a cancellation the money
+abbrev pub IsAllowed : Settings → List Shadow → Token → Shadow → OpName → Type 0
+IsAllowed s us token v (Blue i n) = Unit {0}
+IsAllowed s us token v (Red n) = (token.held ≡ true) × (token.needed ≤ red_count us) × ((is_cancel v.kind && overdraws s us v) ≡ false)
+
+pub record IsMadeAt (s : Settings) (me : ℕ) (us : List Shadow) (token : Token) (v : Shadow) : Type 0 where
+  pub request : Request
+  pub plan : Plan
+  pub planned : plan_of s us request ≡ Ok plan
+  pub is : v ≡ operation_of me us plan
+  pub within : number_of v.name ≤ limit_of s.limits v.name
+  pub fair : IsAllowed s us token v v.name
+
+abbrev pub AreMadeAt : Settings → ℕ → List Shadow → Token → List Shadow → Type 0
+AreMadeAt s me us token [] = Unit {0}
+AreMadeAt s me us token (v ∷ vs) = IsMadeAt s me us token v × AreMadeAt s me (us ++ v ∷ []) token vs
+
+pub passed_by : {A : Type 0} (b : Bool) (why : Refusal) (next : Result A Refusal) (v : A) → refused_if b why next ≡ Ok v → (b ≡ false) × (next ≡ Ok v)
+passed_by true why next v e = cc
+passed_by false why next v e = (refl, e)
+
+-- a condition that refuses doesn't hold where nothing is refused
+pub past_first : (b : Bool) (why : Refusal) (next : Option Refusal) → first_if b why next ≡ None → (b ≡ false) × (next ≡ None)
+past_first true why next e = cc
+past_first false why next e = (refl, e)
+
+pub unrefused : {A : Type 0} (o : Option Refusal) (next : Result A Refusal) (v : A) → unless_refused o next ≡ Ok v → (o ≡ None) × (next ≡ Ok v)
+unrefused (Some why) next v e = cc
+unrefused None next v e = (refl, e)
+
+pub not_true : (b : Bool) → not b ≡ false → b ≡ true
+not_true true h = refl
+not_true false h = cc
+
+allowed_facts : (s : Settings) (us : List Shadow) (token : Token) (u v : Shadow) (x : OpName) → allowed_by_colour s us token u x ≡ Ok v → (v ≡ u) × IsAllowed s us token u x
+allowed_facts s us token u v (Blue i n) e = (let h : v ≡ u = cc in h, tt)
+allowed_facts s us token u v (Red n) e =
+    let q : (refusal_of_red token (red_count us) ≡ None) × _ = unrefused (refusal_of_red token (red_count us)) _ v e in
+    let a : (not token.held ≡ false) × _ = past_first (not token.held) _ _ q.0 in
+    let b : (nat_lt (red_count us) token.needed ≡ false) × _ = past_first (nat_lt (red_count us) token.needed) _ _ a.1 in
+    let c : ((is_cancel u.kind && overdraws s us u) ≡ false) × _ = passed_by (is_cancel u.kind && overdraws s us u) _ _ v q.1 in
+    (let h : v ≡ u = let k = c.1 in cc in h, (not_true token.held a.0, let k = b.0 in grind (arith, nat_tests), c.0))
+
+allowed_is : (s : Settings) (us : List Shadow) (token : Token) (u v : Shadow) → allowed s us token u ≡ Ok v → (v ≡ u) × (number_of u.name ≤ limit_of s.limits u.name) × IsAllowed s us token u u.name
+unfolding allowed
+allowed_is s us token u v e =
+    let a : (nat_lt (limit_of s.limits u.name) (number_of u.name) ≡ false) × _ = passed_by (nat_lt (limit_of s.limits u.name) (number_of u.name)) _ _ v e in
+    let b : (v ≡ u) × IsAllowed s us token u u.name = allowed_facts s us token u v u.name a.1 in
+    (b.0, let k = a.0 in grind (arith, nat_tests), b.1)
+
+made_if_allowed : (s : Settings) (me : ℕ) (us : List Shadow) (token : Token) (r : Request) (p : Plan) (v : Shadow) → plan_of s us r ≡ Ok p → allowed s us token (operation_of me us p) ≡ Ok v → IsMadeAt s me us token v
+made_if_allowed s me us token r p v planned e =
+    let a : (v ≡ operation_of me us p) × _ × _ = allowed_is s us token (operation_of me us p) v e in
+    record {
+      request = r;
+      plan = p;
+      planned = planned;
+      is = a.0;
+      within = subst (λ (u : Shadow). number_of u.name ≤ limit_of s.limits u.name) (sym a.0) a.1;
+      fair = subst (λ (u : Shadow). IsAllowed s us token u u.name) (sym a.0) a.2;
+    }
+
+-- ---- Submit
+
+-- what comes of a request that makes an operation
+pub made_is : (s : Settings) (me : ℕ) (us : List Shadow) (token : Token) (r : Request) (v : Shadow) → made_of s me us token r ≡ Ok v → IsMadeAt s me us token v
+unfolding made_of
+made_is s me us token r v e = at (plan_of s us r) refl e
+  where
+    at : (q : Result Plan Refusal) → plan_of s us r ≡ q → and_then q (λ p. allowed s us token (operation_of me us p)) ≡ Ok v → IsMadeAt s me us token v
+    at (Ok p) planned h = made_if_allowed s me us token r p v planned h
+    at (Err why) planned h = cc

@@ -1,0 +1,268 @@
+-- What a request makes at a valid list may follow it.
+use Rattle.std.proofs.Common.{◌≡◌, ℕ, ◌+◌, ◌<◌, ◌≤◌, Bool, true, false, cond, not, ◌&&◌, ◌||◌, List, [], ◌∷◌, ◌++◌, length, refl, ap, sym, ◌∙◌, arith, subst, Option, Some, None, Ok}
+use Rattle.std.specs.Prelude.{ℤ, pos, negsuc, neg_ℤ, ◌+ℤ◌, ◌≤ℤ◌, nat_le, nat_lt, ◌==◌, option_and_then, int_lt}
+use Rattle.std.proofs.lemmas.Int.{ints}
+use Rattle.std.proofs.lemmas.Bool.Decides.{nat_tests}
+use Rattle.std.proofs.lemmas.List.{append-nil}
+use Rattle.std.proofs.lemmas.List.FromFn.{get_or-map-range_with_len}
+use Rattle.rb_money.specs.Amounts.{is_amount}
+use Rattle.rb_money.specs.Settings.{Settings, is_account, most_sites}
+use Rattle.rb_money.specs.declared.place.Place.{Place}
+use Rattle.rb_shadow.specs.declared.shadow.Shadow.{Shadow}
+use Rattle.rb_shadow.specs.declared.op_name.OpName.{OpName}
+use Rattle.rb_shadow.specs.declared.op_name.OpName.TheVariants.{Blue, Red}
+use Rattle.rb_shadow.specs.declared.kind.Kind.{Kind}
+use Rattle.rb_shadow.specs.declared.kind.Kind.TheVariants.{Deposit, Withdraw, Declined, Interest, Cancel}
+use Rattle.rb_shadow.specs.declared.colour.Colour.{Colour}
+use Rattle.rb_shadow.specs.declared.colour.Colour.TheVariants.{Blue as BlueColour, Red as RedColour}
+use Rattle.rb_shadow.specs.Operations.{names, number_of, entry_of, red_count, blue_count, clock_of, colour_of, shown_colour, kind_in, target_of, is_cancel, is_cancelled, bal}
+use Rattle.rb_shadow.specs.Sound.{fault_of, IsSound, is_foreign, limit_of, may_be_nothing, is_miscoloured, cancels_unseen}
+use Rattle.rb_shadow.proofs.Members
+use Rattle.rb_shadow.proofs.Clocks
+use Rattle.rb_shadow.proofs.SoundFacts
+use Rattle.rb_ledger.specs.Valid.{IsValid, HasTarget}
+use Rattle.rb_ledger.specs.Checks.{overdraws}
+use Rattle.rb_ledger.proofs.Legal
+use Rattle.rb_ledger.proofs.Pushes
+use Rattle.rb_ledger.proofs.ValidClocks
+use Rattle.rb_token.specs.Token.{Token}
+use Rattle.rb_scratch.specs.declared.request.Request.{Request}
+use Rattle.rb_scratch.specs.Requests.{Plan, next_name, colour_of_plan, operation_of, made_of}
+use Rattle.rb_scratch.proofs.Made
+use Rattle.rb_scratch.proofs.Made.{IsAllowed, IsMadeAt}
+use Rattle.rb_scratch.proofs.Planned
+use Rattle.rb_scratch.proofs.Planned.{Cancels, IsPlanned}
+
+-- what a plan makes at a site that applied us
+abbrev pub shadow_of : ℕ → List Shadow → Plan → Shadow
+shadow_of me us p = record { name = next_name me us (colour_of_plan us p); home = me; deps = clock_of us; account = p.account; amount = p.amount; kind = p.kind }
+
+operation_is : (me : ℕ) (us : List Shadow) (p : Plan) → operation_of me us p ≡ shadow_of me us p
+unfolding operation_of
+operation_is me us p = refl
+
+-- what a plan has to meet
+pub record IsFit (s : Settings) (me : ℕ) (us : List Shadow) (p : Plan) : Type 0 where
+  pub account : nat_le (length s.starts) p.account.0 ≡ false
+  pub amount : nat_lt 100000000000 p.amount ≡ false
+  pub something : (p.amount == 0 && not (may_be_nothing p.kind)) ≡ false
+  pub target : HasTarget us (shadow_of me us p) p.kind
+  pub within : number_of (next_name me us (colour_of_plan us p)) ≤ limit_of s.limits (next_name me us (colour_of_plan us p))
+  pub covered : pos 0 ≤ℤ bal s (us ++ shadow_of me us p ∷ []) p.account
+
+on : (b : Bool) (why : ℕ) (rest : Option ℕ) → b ≡ false → rest ≡ None → cond b (Some why) rest ≡ None
+on true why rest h k = cc
+on false why rest h k = k
+
+own_name : (me : ℕ) (us : List Shadow) (c : Colour) → is_foreign (next_name me us c) me ≡ false
+own_name me us BlueColour = same me
+  where
+    same : (n : ℕ) → not (n == n) ≡ false
+    same n = grind (arith, nat_tests)
+own_name me us RedColour = refl
+
+numbered : (s : Settings) (me : ℕ) (us : List Shadow) (c : Colour) → number_of (next_name me us c) ≤ limit_of s.limits (next_name me us c) → (number_of (next_name me us c) == 0 || nat_lt (limit_of s.limits (next_name me us c)) (number_of (next_name me us c))) ≡ false
+numbered s me us BlueColour h = fits s.limits.blue (blue_count us me) h
+  where
+    fits : (m n : ℕ) → n + 1 ≤ m → (n + 1 == 0 || nat_lt m (n + 1)) ≡ false
+    fits m n h = Members.false-or (n + 1 == 0) (nat_lt m (n + 1)) (grind (arith, nat_tests)) (grind (arith, nat_tests))
+numbered s me us RedColour h = fits s.limits.red (red_count us) h
+  where
+    fits : (m n : ℕ) → n + 1 ≤ m → (n + 1 == 0 || nat_lt m (n + 1)) ≡ false
+    fits m n h = Members.false-or (n + 1 == 0) (nat_lt m (n + 1)) (grind (arith, nat_tests)) (grind (arith, nat_tests))
+
+well_coloured : (me : ℕ) (us : List Shadow) (k : Kind) (o : Option Kind) → is_miscoloured k (next_name me us (colour_of k o)) ≡ false
+well_coloured me us Deposit o = refl
+well_coloured me us Withdraw o = refl
+well_coloured me us Declined o = refl
+well_coloured me us Interest o = refl
+well_coloured me us (Cancel x) o = at (colour_of (Cancel x) o)
+  where
+    at : (c : Colour) → is_miscoloured (Cancel x) (next_name me us c) ≡ false
+    at BlueColour = refl
+    at RedColour = refl
+
+next_entry : (me : ℕ) (us : List Shadow) (c : Colour) → me < most_sites → (entry_of (clock_of us) (next_name me us c) + 1 == number_of (next_name me us c)) ≡ true
+unfolding clock_of
+next_entry me us BlueColour few = ap (λ n. n + 1 == blue_count us me + 1) (get_or-map-range_with_len (blue_count us) 0 most_sites me me 0 few (omega arith)) ∙ same (blue_count us me + 1)
+  where
+    same : (n : ℕ) → (n == n) ≡ true
+    same n = grind (arith, nat_tests)
+next_entry me us RedColour few = same (red_count us + 1)
+  where
+    same : (n : ℕ) → (n == n) ≡ true
+    same n = grind (arith, nat_tests)
+
+all_seen : (s : Settings) (us : List Shadow) (h : Shadow) (k : Kind) → s.sites ≤ most_sites → IsValid s us → HasTarget us h k → cancels_unseen k (clock_of us) ≡ false
+all_seen s us h (Cancel x) few valid (t, there, named, right) = ap not (sym (ValidClocks.valid_clock s us few valid x) ∙ ap (names us) (sym named) ∙ Members.named us t there)
+all_seen s us h Deposit few valid t = refl
+all_seen s us h Withdraw few valid t = refl
+all_seen s us h Declined few valid t = refl
+all_seen s us h Interest few valid t = refl
+
+plan_sound : (s : Settings) (me : ℕ) (us : List Shadow) (p : Plan) → s.sites ≤ most_sites → me < s.sites → IsValid s us → IsFit s me us p → IsSound s (shadow_of me us p)
+unfolding fault_of
+plan_sound s me us p few here valid fit =
+    on _ 1 _ (Members.false-or _ _ (within s.sites me here) (own_name me us (colour_of_plan us p)))
+    (on _ 2 _ (numbered s me us (colour_of_plan us p) fit.within)
+    (on _ 3 _ fit.account
+    (on _ 4 _ (Members.false-or _ _ fit.amount fit.something)
+    (on _ 5 _ (well_coloured me us p.kind (option_and_then (kind_in us) (target_of p.kind)))
+    (on _ 6 _ (all_seen s us (shadow_of me us p) p.kind few valid fit.target)
+    (on _ 7 _ (Members.false-or _ _ (ap not (ValidClocks.clock_is_clock s us valid)) (ap not (next_entry me us (colour_of_plan us p) (omega arith)))) refl))))))
+  where
+    within : (m n : ℕ) → n < m → nat_le m n ≡ false
+    within m n h = grind (arith, nat_tests)
+
+fresh_name : (s : Settings) (me : ℕ) (us : List Shadow) (c : Colour) → IsValid s us → names us (next_name me us c) ≡ false
+fresh_name s me us BlueColour valid = ValidClocks.valid_counted s us valid (Blue me (blue_count us me + 1)) ∙ past_end (blue_count us me)
+  where
+    past_end : (n : ℕ) → (nat_le 1 (n + 1) && nat_le (n + 1) n) ≡ false
+    past_end n = grind (arith, nat_tests)
+fresh_name s me us RedColour valid = ValidClocks.valid_counted s us valid (Red (red_count us + 1)) ∙ past_end (red_count us)
+  where
+    past_end : (n : ℕ) → (nat_le 1 (n + 1) && nat_le (n + 1) n) ≡ false
+    past_end n = grind (arith, nat_tests)
+
+shows : (me : ℕ) (us : List Shadow) (c : Colour) → shown_colour (next_name me us c) ≡ c
+shows me us BlueColour = refl
+shows me us RedColour = refl
+
+pub plan_follows : (s : Settings) (me : ℕ) (us : List Shadow) (p : Plan) → s.sites ≤ most_sites → me < s.sites → IsValid s us → IsFit s me us p → Legal.MayFollow s us (shadow_of me us p)
+plan_follows s me us p few here valid fit = record {
+  sound = plan_sound s me us p few here valid fit;
+  fresh = fresh_name s me us (colour_of_plan us p) valid;
+  eligible = λ x h. sym (ValidClocks.clock_past s us (shadow_of me us p) few valid refl x) ∙ h;
+  target = fit.target;
+  colour = shows me us (colour_of_plan us p);
+  covered = fit.covered;
+}
+
+valid_now : (s : Settings) (us : List Shadow) (a : Place) → IsValid s us → pos 0 ≤ℤ bal s us a
+valid_now s us a valid = valid.covered us [] (sym (append-nil us)) a
+
+covered_after : (s : Settings) (me : ℕ) (us : List Shadow) (p : Plan) (z : ℤ) → IsValid s us → HasTarget us (shadow_of me us p) p.kind → Pushes.change_of us p.kind p.amount ≡ z → pos 0 ≤ℤ (bal s us p.account +ℤ z) → pos 0 ≤ℤ bal s (us ++ shadow_of me us p ∷ []) p.account
+covered_after s me us p z valid target is ok =
+    let h = shadow_of me us p in
+    let change : Pushes.change us h p.account ≡ z = ap (λ b. cond b (Pushes.change_of us p.kind p.amount) (pos 0)) (same p.account.0) ∙ is in
+    omega (arith, ints, ok, change, Pushes.bal-push s us h p.account valid.unique (Legal.fresh_uncancelled us h.name valid.targets (fresh_name s me us (colour_of_plan us p) valid)) target)
+  where
+    same : (n : ℕ) → (n == n) ≡ true
+    same n = grind (arith, nat_tests)
+
+blue_gives : (x : OpName) (k : Kind) (n : ℕ) → colour_of (Cancel x) (Some k) ≡ BlueColour → pos 0 ≤ℤ Pushes.given_back (Some k) n
+blue_gives x Withdraw n h = omega (arith, ints)
+blue_gives x Deposit n h = cc
+blue_gives x Declined n h = cc
+blue_gives x Interest n h = cc
+blue_gives x (Cancel y) n h = cc
+
+cond_least : (b : Bool) (z : ℤ) → pos 0 ≤ℤ z → pos 0 ≤ℤ cond b (pos 0) z
+cond_least true z h = omega (arith, ints)
+cond_least false z h = h
+
+enough : (z : ℤ) (n : ℕ) → int_lt z (pos n) ≡ false → pos n ≤ℤ z
+enough (pos m) n h = let low : n ≤ m = grind (arith, nat_tests) in omega (arith, ints)
+enough (negsuc m) n h = cc
+
+none_free : (b : Bool) → (b && false) ≡ false
+none_free true = refl
+none_free false = refl
+
+measure : (n : ℕ) (b : Bool) → is_amount n ≡ true → (nat_lt 100000000000 n ≡ false) × ((n == 0 && b) ≡ false)
+measure n b h = let q : (1 ≤ n) × (n ≤ 100000000000) = Clocks.in_range-true n 100000000000 h in let low = q.0 in let high = q.1 in
+    (grind (arith, nat_tests), ap (λ c. c && b) (let z : (n == 0) ≡ false = grind (arith, nat_tests) in z))
+
+housed : (a n : ℕ) → nat_lt a n ≡ true → nat_le n a ≡ false
+housed a n h = grind (arith, nat_tests)
+
+-- a red one that overdraws isn't allowed
+not_overdrawn : (s : Settings) (me : ℕ) (us : List Shadow) (token : Token) (v : Shadow) (c : Colour) → c ≡ RedColour → IsAllowed s us token v (next_name me us c) → (is_cancel v.kind && overdraws s us v) ≡ false
+not_overdrawn s me us token v BlueColour e fair = cc
+not_overdrawn s me us token v RedColour e fair = fair.2
+
+fit_plain : (s : Settings) (me : ℕ) (us : List Shadow) (p : Plan) (k : Kind) (z : ℤ) → IsValid s us → p.kind ≡ k
+    → is_account s p.account ≡ true → nat_lt 100000000000 p.amount ≡ false → (p.amount == 0 && not (may_be_nothing k)) ≡ false
+    → HasTarget us (shadow_of me us p) k → Pushes.change_of us k p.amount ≡ z → pos 0 ≤ℤ (bal s us p.account +ℤ z)
+    → number_of (next_name me us (colour_of_plan us p)) ≤ limit_of s.limits (next_name me us (colour_of_plan us p))
+    → IsFit s me us p
+fit_plain s me us p k z valid e known low some target is ok within =
+    let there : HasTarget us (shadow_of me us p) p.kind = subst (HasTarget us (shadow_of me us p)) (sym e) target in
+    record {
+      account = housed p.account.0 (length s.starts) known;
+      amount = low;
+      something = ap (λ j. p.amount == 0 && not (may_be_nothing j)) e ∙ some;
+      target = there;
+      within = within;
+      covered = covered_after s me us p z valid there (ap (λ j. Pushes.change_of us j p.amount) e ∙ is) ok;
+    }
+
+fit_cancel : (s : Settings) (me : ℕ) (us : List Shadow) (token : Token) (p : Plan) (x : OpName) → IsValid s us → p.kind ≡ Cancel x → (c : Cancels us x p)
+    → number_of (next_name me us (colour_of_plan us p)) ≤ limit_of s.limits (next_name me us (colour_of_plan us p))
+    → IsAllowed s us token (shadow_of me us p) (next_name me us (colour_of_plan us p))
+    → IsFit s me us p
+fit_cancel s me us token p x valid e c within fair = at (colour_of_plan us p) refl
+  where
+    facts : SoundFacts.SoundFacts s c.target
+    facts = ValidClocks.member_sound s us c.target valid c.there
+
+    target : HasTarget us (shadow_of me us p) p.kind
+    target = subst (HasTarget us (shadow_of me us p)) (sym e) (c.target, c.there, c.named, record { kind = c.kind; account = c.account; amount = c.amount })
+
+    kind_is : kind_in us x ≡ Some c.target.kind
+    kind_is = ap (kind_in us) (sym c.named) ∙ Pushes.kind_in-named us c.target valid.unique c.there
+
+    make : pos 0 ≤ℤ bal s (us ++ shadow_of me us p ∷ []) p.account → IsFit s me us p
+    make ok = record {
+      account = ap (λ (a : Place). nat_le (length s.starts) a.0) (sym c.account) ∙ facts.account;
+      amount = ap (nat_lt 100000000000) (sym c.amount) ∙ facts.amount;
+      something = ap (λ j. p.amount == 0 && not (may_be_nothing j)) e ∙ none_free (p.amount == 0);
+      target = target;
+      within = within;
+      covered = ok;
+    }
+
+    second : (b c : Bool) → b ≡ true → (b && c) ≡ false → c ≡ false
+    second true c q r = r
+    second false c q r = cc
+
+    at : (d : Colour) → colour_of_plan us p ≡ d → IsFit s me us p
+    at RedColour q = make (Legal.covers_nothing _ (Members.or-false _ _ (second (is_cancel p.kind) (overdraws s us (shadow_of me us p)) (ap is_cancel e) (not_overdrawn s me us token (shadow_of me us p) (colour_of_plan us p) q fair))).0)
+    at BlueColour q =
+        let coloured : colour_of (Cancel x) (Some c.target.kind) ≡ BlueColour = ap (colour_of (Cancel x)) (sym kind_is) ∙ ap (λ j. colour_of j (option_and_then (kind_in us) (target_of j))) (sym e) ∙ q in
+        let gives : pos 0 ≤ℤ Pushes.given_back (Some c.target.kind) p.amount = blue_gives x c.target.kind p.amount coloured in
+        let change : Pushes.change_of us p.kind p.amount ≡ cond (is_cancelled us x) (pos 0) (Pushes.given_back (Some c.target.kind) p.amount) =
+        ap (λ j. Pushes.change_of us j p.amount) e ∙ ap (λ o. cond (is_cancelled us x) (pos 0) (Pushes.given_back o p.amount)) kind_is in
+        let least : pos 0 ≤ℤ cond (is_cancelled us x) (pos 0) (Pushes.given_back (Some c.target.kind) p.amount) = cond_least (is_cancelled us x) _ gives in
+        make (covered_after s me us p _ valid target change (omega (arith, ints, least, valid_now s us p.account valid)))
+
+-- a plan of a request is fit
+fit : (s : Settings) (me : ℕ) (us : List Shadow) (token : Token) (p : Plan) (k : Kind) → IsValid s us → p.kind ≡ k → IsPlanned s us p k
+    → number_of (next_name me us (colour_of_plan us p)) ≤ limit_of s.limits (next_name me us (colour_of_plan us p))
+    → IsAllowed s us token (shadow_of me us p) (next_name me us (colour_of_plan us p))
+    → IsFit s me us p
+fit s me us token p Deposit valid e h within fair =
+    let m = measure p.amount true h.amount in
+    fit_plain s me us p Deposit (pos p.amount) valid e h.account m.0 m.1 tt refl (omega (arith, ints, valid_now s us p.account valid)) within
+fit s me us token p Withdraw valid e h within fair =
+    let m = measure p.amount true h.0.amount in
+    fit_plain s me us p Withdraw (neg_ℤ (pos p.amount)) valid e h.0.account m.0 m.1 tt refl (let some : pos p.amount ≤ℤ bal s us p.account = enough (bal s us p.account) p.amount h.1 in omega (arith, ints, some)) within
+fit s me us token p Declined valid e h within fair =
+    let m = measure p.amount true h.amount in
+    fit_plain s me us p Declined (pos 0) valid e h.account m.0 m.1 tt refl (omega (arith, ints, valid_now s us p.account valid)) within
+fit s me us token p Interest valid e h within fair =
+    fit_plain s me us p Interest (pos p.amount) valid e h.0 h.1 (none_free (p.amount == 0)) tt refl (omega (arith, ints, valid_now s us p.account valid)) within
+fit s me us token p (Cancel x) valid e h within fair = fit_cancel s me us token p x valid e h within fair
+
+-- what a site makes at a valid list may follow it
+pub made_follows : (s : Settings) (me : ℕ) (us : List Shadow) (token : Token) (v : Shadow) → s.sites ≤ most_sites → me < s.sites → IsValid s us → IsMadeAt s me us token v → Legal.MayFollow s us v
+made_follows s me us token v few here valid m =
+    let is : v ≡ shadow_of me us m.plan = m.is ∙ operation_is me us m.plan in
+    subst (Legal.MayFollow s us) (sym is)
+    (plan_follows s me us m.plan few here valid
+    (fit s me us token m.plan m.plan.kind valid refl (Planned.planned s us m.request m.plan m.planned)
+    (subst (λ (u : Shadow). number_of u.name ≤ limit_of s.limits u.name) is m.within)
+    (subst (λ (u : Shadow). IsAllowed s us token u u.name) is m.fair)))
+
+pub made_is_valid : (s : Settings) (me : ℕ) (us : List Shadow) (token : Token) (r : Request) (v : Shadow) → s.sites ≤ most_sites → me < s.sites → IsValid s us → made_of s me us token r ≡ Ok v → IsValid s (us ++ v ∷ [])
+made_is_valid s me us token r v few here valid e = Legal.IsValid-push s us v valid (made_follows s me us token v few here valid (Made.made_is s me us token r v e))

@@ -1,0 +1,36 @@
+-- The bank of the published paper: what each operation does to a map from accounts to balances.
+use Rattle.std.specs.Prelude.{ℕ, ◌*◌, Bool, if◌then◌else◌, not, ◌&&◌, ◌==◌, ℤ, pos, ◌+ℤ◌, neg_ℤ, ◌/◌, int_lt}
+use Rattle.rb_money.specs.Amounts.{cents}
+use Rattle.std.specs.Prelude.{◌≡◌, List, [], ◌∷◌, ◌++◌, false}
+use Rattle.rb_money.specs.Settings.{Settings}
+use Rattle.rb_money.specs.declared.place.Place.{Place}
+use Rattle.rb_shadow.specs.declared.shadow.Shadow.{Shadow}
+use Rattle.rb_shadow.specs.declared.kind.Kind.TheVariants.{Deposit, Interest}
+use Rattle.rb_shadow.specs.Operations.{bal, is_cancelled}
+use Rattle.rb_scratch.specs.Requests.{withdrawal, interest_on}
+
+-- so much is added to an account
+abbrev pub after_deposit : (Place → ℤ) → Place → ℕ → Place → ℤ
+after_deposit b a x = λ q. b q +ℤ (if a.0 == q.0 then pos x else pos 0)
+
+-- a withdrawal is granted where there is enough
+abbrev pub grants : (Place → ℤ) → Place → ℕ → Bool
+grants b a x = not (int_lt (b a) (pos x))
+
+-- so much is taken from an account where there is enough
+abbrev pub after_withdraw : (Place → ℤ) → Place → ℕ → Place → ℤ
+after_withdraw b a x = λ q. b q +ℤ (if grants b a x && (a.0 == q.0) then neg_ℤ (pos x) else pos 0)
+
+-- an account gets the floor of its share, the rate in basis points
+abbrev pub after_accrue : (Place → ℤ) → Place → ℕ → Place → ℤ
+after_accrue b a rate = λ q. b q +ℤ (if a.0 == q.0 then pos (cents (b a) * rate / 10000) else pos 0)
+
+-- an operation at the end of a list does to every balance what the published bank does
+pub record IsOriginal (s : Settings) (us : List Shadow) (v : Shadow) : Type 0 where
+  pub deposit : v.kind ≡ Deposit → (q : Place) → bal s (us ++ v ∷ []) q ≡ after_deposit (bal s us) v.account v.amount q
+  pub withdraw : v.kind ≡ withdrawal s us v.account v.amount → (q : Place) → bal s (us ++ v ∷ []) q ≡ after_withdraw (bal s us) v.account v.amount q
+  pub accrue : (rate : ℕ) → v.kind ≡ Interest → v.amount ≡ interest_on s us v.account rate → (q : Place) → bal s (us ++ v ∷ []) q ≡ after_accrue (bal s us) v.account rate q
+
+-- so it is for every operation whose name none of them cancels
+abbrev pub EachIsOriginal : Type 0
+EachIsOriginal = (s : Settings) (us : List Shadow) (v : Shadow) → is_cancelled us v.name ≡ false → IsOriginal s us v

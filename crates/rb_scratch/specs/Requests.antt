@@ -1,0 +1,110 @@
+-- What a request makes.
+use Rattle.std.specs.Prelude.{ℕ, ◌+◌, ◌*◌, if◌then◌else◌, not, ◌&&◌, nat_lt, List, Option, Some, None, Result, Ok, Err, pos, ◌/◌, int_lt, option_and_then}
+use Rattle.rb_money.specs.Amounts.{cents, is_amount}
+use Rattle.rb_money.specs.Refusals.{refused_if, and_then, unless_refused}
+use Rattle.std.specs.Prelude.{◌≡◌, ℕ, ◌<◌, ◌≤◌, [], ◌∷◌, ◌++◌}
+use Rattle.rb_ledger.specs.Valid.{IsValid}
+use Rattle.rb_money.specs.Settings.{Settings, is_account, most_sites}
+use Rattle.rb_money.specs.declared.place.Place.{Place}
+use Rattle.rb_money.specs.declared.refusal.Refusal.{Refusal}
+use Rattle.rb_money.specs.declared.refusal.Refusal.TheVariants.{UnknownAccount, BadAmount, BadRate, UnknownOperation, NotCancellable, AlreadyCancelled, NumbersExhausted, WouldOverdraw, DeltaTooLarge}
+use Rattle.rb_shadow.specs.Operations.{is_cancelled, bal, red_count, find_in, may_be_cancelled, is_cancel, colour_of, kind_in, target_of, blue_count, clock_of, number_of}
+use Rattle.rb_shadow.specs.Sound.{limit_of}
+use Rattle.rb_shadow.specs.declared.colour.Colour.{Colour}
+use Rattle.rb_shadow.specs.declared.colour.Colour.TheVariants.{Blue as BlueColour, Red as RedColour}
+use Rattle.rb_shadow.specs.declared.kind.Kind.{Kind}
+use Rattle.rb_shadow.specs.declared.kind.Kind.TheVariants.{Deposit, Withdraw, Declined, Interest, Cancel}
+use Rattle.rb_shadow.specs.declared.op_name.OpName.{OpName}
+use Rattle.rb_shadow.specs.declared.op_name.OpName.TheVariants.{Blue, Red}
+use Rattle.rb_shadow.specs.declared.shadow.Shadow.{Shadow}
+use Rattle.rb_ledger.specs.Checks.{overdraws}
+use Rattle.rb_ledger.specs.Valid.{first_cancel_from}
+use Rattle.rb_scratch.specs.declared.request.Request.{Request}
+use Rattle.rb_scratch.specs.declared.request.Request.TheVariants.{Deposit as AskDeposit, Withdraw as AskWithdraw, Interest as AskInterest, Cancel as AskCancel}
+use Rattle.rb_token.specs.Token.{Token, refusal_of_red}
+
+-- what a request would make: its account, its amount and its kind
+pub record Plan : Type 0 where
+  pub account : Place
+  pub amount : ℕ
+  pub kind : Kind
+
+-- a withdrawal is decided on the balance
+abbrev pub withdrawal : Settings → List Shadow → Place → ℕ → Kind
+withdrawal s us a n = if int_lt (bal s us a) (pos n) then Declined else Withdraw
+
+-- the floor of the balance's share, the rate in basis points
+abbrev pub interest_on : Settings → List Shadow → Place → ℕ → ℕ
+interest_on s us a rate = cents (bal s us a) * rate / 10000
+
+-- what a request to cancel would make, by the operation of its target's name
+abbrev pub plan_of_cancel : List Shadow → OpName → Option Shadow → Result Plan Refusal
+plan_of_cancel us x None = Err UnknownOperation
+plan_of_cancel us x (Some t) =
+    refused_if (not (may_be_cancelled t.kind)) NotCancellable
+    (refused_if (is_cancelled us x) (AlreadyCancelled (first_cancel_from 1 us x))
+    (Ok (record { account = t.account; amount = t.amount; kind = Cancel x })))
+
+-- what a request would make at a site that applied us
+unfoldable pub plan_of : Settings → List Shadow → Request → Result Plan Refusal
+plan_of s us (AskDeposit a n) =
+    refused_if (not (is_account s a)) UnknownAccount
+    (refused_if (not (is_amount n)) BadAmount
+    (Ok (record { account = a; amount = n; kind = Deposit })))
+plan_of s us (AskWithdraw a n) =
+    refused_if (not (is_account s a)) UnknownAccount
+    (refused_if (not (is_amount n)) BadAmount
+    (Ok (record { account = a; amount = n; kind = withdrawal s us a n })))
+plan_of s us (AskInterest a rate) =
+    refused_if (not (is_account s a)) UnknownAccount
+    (refused_if (nat_lt 10000 rate) BadRate
+    (refused_if (nat_lt 100000000000 (interest_on s us a rate)) DeltaTooLarge
+    (Ok (record { account = a; amount = interest_on s us a rate; kind = Interest }))))
+plan_of s us (AskCancel x) = plan_of_cancel us x (find_in us x)
+
+-- the next name of a colour at a site
+abbrev pub next_name : ℕ → List Shadow → Colour → OpName
+next_name me us BlueColour = Blue me (blue_count us me + 1)
+next_name me us RedColour = Red (red_count us + 1)
+
+-- the colour of a plan: that of its kind, and of what it cancels
+abbrev pub colour_of_plan : List Shadow → Plan → Colour
+colour_of_plan us p = colour_of p.kind (option_and_then (kind_in us) (target_of p.kind))
+
+-- what the plan makes at a site that applied us: the past is what it has applied
+unfoldable pub operation_of : ℕ → List Shadow → Plan → Shadow
+operation_of me us p =
+    record {
+      name = next_name me us (colour_of_plan us p);
+      home = me;
+      deps = clock_of us;
+      account = p.account;
+      amount = p.amount;
+      kind = p.kind;
+    }
+
+-- a red operation needs the token, and all red operations before it; a red cancellation needs the money
+abbrev pub allowed_red : Settings → List Shadow → Token → Shadow → Result Shadow Refusal
+allowed_red s us token v =
+    unless_refused (refusal_of_red token (red_count us))
+    (refused_if (is_cancel v.kind && overdraws s us v) WouldOverdraw
+    (Ok v))
+
+-- only a red name asks for more
+abbrev pub allowed_by_colour : Settings → List Shadow → Token → Shadow → OpName → Result Shadow Refusal
+allowed_by_colour s us token v (Blue i n) = Ok v
+allowed_by_colour s us token v (Red n) = allowed_red s us token v
+
+-- whether the site may make the operation
+unfoldable pub allowed : Settings → List Shadow → Token → Shadow → Result Shadow Refusal
+allowed s us token v =
+    refused_if (nat_lt (limit_of s.limits v.name) (number_of v.name)) NumbersExhausted
+    (allowed_by_colour s us token v v.name)
+
+-- the operation that a request makes at a site that applied us, or why it is refused
+unfoldable pub made_of : Settings → ℕ → List Shadow → Token → Request → Result Shadow Refusal
+made_of s me us token r = and_then (plan_of s us r) (λ p. allowed s us token (operation_of me us p))
+
+-- what a request makes at a valid list may be added to it
+abbrev pub MadeIsValid : Type 0
+MadeIsValid = (s : Settings) (me : ℕ) (us : List Shadow) (token : Token) (r : Request) (v : Shadow) → s.sites ≤ most_sites → me < s.sites → IsValid s us → made_of s me us token r ≡ Ok v → IsValid s (us ++ v ∷ [])

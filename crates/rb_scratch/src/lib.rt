@@ -1,0 +1,19 @@
+//! Requests, and what they make.
+#![tactic(auto)]
+
+ghost use Rattle.rb_scratch.specs.Originals.{EachIsOriginal};
+ghost use Rattle.rb_scratch.specs.Requests.{MadeIsValid};
+
+mod request;
+
+pub use request::Request;
+
+/// A deposit, a withdrawal and interest do to every balance what the published bank does.
+pub fn is_original()
+    ensures { EachIsOriginal }
+{}
+
+/// What a request makes at a valid list may be added to it.
+pub fn made_is_valid()
+    ensures { MadeIsValid }
+{}

@@ -1,0 +1,263 @@
+-- Operations, their order, serializations and balances.
+use Rattle.std.specs.Prelude.{◌≡◌, ◌≢◌, ℕ, ◌+◌, Bool, true, false, if◌then◌else◌, not, ◌&&◌, nat_le, ◌==◌, List, [], ◌∷◌, ◌++◌, Option, Some, None, option_and_then, slice_index, ◌⊎◌, ℤ, pos, neg_ℤ, ◌+ℤ◌, filter, map, find, count_by}
+use Rattle.std.specs.List.{range_with_len, list_all, list_any}
+use Rattle.rb_money.specs.Settings.{Settings, most_sites, start_of}
+use Rattle.rb_money.specs.declared.place.Place.{Place}
+use Rattle.rb_shadow.specs.declared.op_name.OpName.{OpName}
+use Rattle.rb_shadow.specs.declared.op_name.OpName.TheVariants.{Blue, Red}
+use Rattle.rb_shadow.specs.declared.kind.Kind.{Kind}
+use Rattle.rb_shadow.specs.declared.kind.Kind.TheVariants.{Deposit, Withdraw, Declined, Interest, Cancel}
+use Rattle.rb_shadow.specs.declared.colour.Colour.{Colour}
+use Rattle.rb_shadow.specs.declared.colour.Colour.TheVariants.{Blue as BlueColour, Red as RedColour}
+use Rattle.rb_shadow.specs.declared.deps.Deps.{Deps}
+use Rattle.rb_shadow.specs.declared.shadow.Shadow.{Shadow}
+
+-- two names are the same
+abbrev pub same_name : OpName → OpName → Bool
+same_name (Blue i m) (Blue j n) = (i == j) && (m == n)
+same_name (Red m) (Red n) = m == n
+same_name (Blue i m) (Red n) = false
+same_name (Red m) (Blue j n) = false
+
+-- a set of names, by its members
+abbrev pub Names : Type 0
+Names = OpName → Bool
+
+-- each member of the first is one of the second
+abbrev pub IsWithin : Names → Names → Type 0
+IsWithin xs ys = (x : OpName) → xs x ≡ true → ys x ≡ true
+
+-- they have the same members
+abbrev pub AreSame : Names → Names → Type 0
+AreSame xs ys = (x : OpName) → xs x ≡ ys x
+
+-- the names that a clock counts: of each site's blue and of the red operations, those from 1 to the entry
+abbrev pub names_of_clock : Deps → Names
+names_of_clock c (Blue i n) = nat_le 1 n && nat_le n (slice_index c.blue i)
+names_of_clock c (Red n) = nat_le 1 n && nat_le n c.red
+
+-- what the operation's home had applied just before it
+unfoldable pub past : Shadow → Names
+past v = names_of_clock v.deps
+
+-- u stands before v in the order
+abbrev pub Precedes : Shadow → Shadow → Type 0
+Precedes u v = past v u.name ≡ true
+
+-- the names of a list of operations
+abbrev pub names : List Shadow → Names
+names us x = list_any (λ u. same_name u.name x) us
+
+-- u is one of the operations
+abbrev pub Among : Shadow → List Shadow → Type 0
+Among u [] = ⊥
+Among u (v ∷ vs) = (u ≡ v) ⊎ Among u vs
+
+-- the kind of the operation of a name
+abbrev pub kind_in : List Shadow → OpName → Option Kind
+kind_in [] x = None
+kind_in (u ∷ us) x = if same_name u.name x then Some u.kind else kind_in us x
+
+-- the target of a cancellation
+abbrev pub target_of : Kind → Option OpName
+target_of (Cancel x) = Some x
+target_of Deposit = None
+target_of Withdraw = None
+target_of Declined = None
+target_of Interest = None
+
+-- an operation's colour, by its kind and by its target's
+abbrev pub colour_of : Kind → Option Kind → Colour
+colour_of Deposit target = BlueColour
+colour_of Withdraw target = RedColour
+colour_of Declined target = BlueColour
+colour_of Interest target = BlueColour
+colour_of (Cancel x) (Some Withdraw) = BlueColour
+colour_of (Cancel x) (Some Deposit) = RedColour
+colour_of (Cancel x) (Some Declined) = RedColour
+colour_of (Cancel x) (Some Interest) = RedColour
+colour_of (Cancel x) (Some (Cancel y)) = RedColour
+colour_of (Cancel x) None = RedColour
+
+-- whether it is a cancellation
+abbrev pub is_cancel : Kind → Bool
+is_cancel (Cancel x) = true
+is_cancel Deposit = false
+is_cancel Withdraw = false
+is_cancel Declined = false
+is_cancel Interest = false
+
+-- u cancels the operation of the name
+abbrev pub cancels : Kind → OpName → Bool
+cancels (Cancel x) y = same_name x y
+cancels Deposit y = false
+cancels Withdraw y = false
+cancels Declined y = false
+cancels Interest y = false
+
+-- how many of the operations cancel the one of the name
+abbrev pub cancel_count : List Shadow → OpName → ℕ
+cancel_count us x = count_by (λ u. cancels u.kind x) us
+
+-- whether one of the operations cancels the one of the name
+abbrev pub is_cancelled : List Shadow → OpName → Bool
+is_cancelled us x = list_any (λ u. cancels u.kind x) us
+
+-- what a kind moves
+abbrev pub moved : Kind → ℕ → ℤ
+moved Deposit n = pos n
+moved Withdraw n = neg_ℤ (pos n)
+moved Declined n = pos 0
+moved Interest n = pos n
+moved (Cancel x) n = pos 0
+
+-- what an operation moves on an account: its amount on its own account, and nothing on any other
+abbrev pub delta : Shadow → Place → ℤ
+delta u a = if u.account.0 == a.0 then moved u.kind u.amount else pos 0
+
+-- the accounts whose balances an operation may change: its own
+abbrev pub accounts_on : List Shadow → Shadow → List Place
+accounts_on us v = v.account ∷ []
+
+-- the account is one of those
+abbrev pub is_on : List Shadow → Shadow → Place → Bool
+is_on us v a = list_any (λ (p : Place). p.0 == a.0) (accounts_on us v)
+
+-- neither a cancellation nor cancelled
+abbrev pub is_kept : List Shadow → Shadow → Bool
+is_kept us u = not (is_cancel u.kind) && not (is_cancelled us u.name)
+
+-- the operations without the cancellations and without what they cancel
+abbrev pub kept : List Shadow → List Shadow
+kept us = filter (is_kept us) us
+
+-- the sum of a number of each operation
+abbrev pub total : (Shadow → ℤ) → List Shadow → ℤ
+total f [] = pos 0
+total f (u ∷ us) = f u +ℤ total f us
+
+-- the balance: the start and the deltas of what is kept
+unfoldable pub bal : Settings → List Shadow → Place → ℤ
+bal s us a = pos (start_of s a) +ℤ total (λ u. delta u a) (kept us)
+
+-- no name stands twice
+abbrev pub IsUnique : List Shadow → Type 0
+IsUnique [] = Unit {0}
+IsUnique (u ∷ us) = (names us u.name ≡ false) × IsUnique us
+
+-- the fact holds of each operation of the list, with those before it
+abbrev pub EachEntry : List Shadow → (List Shadow → Shadow → Type 0) → Type 0
+EachEntry us P = (before : List Shadow) (v : Shadow) (after : List Shadow) → us ≡ before ++ v ∷ after → P before v
+
+-- the colour of one of the operations, by its kind and by its target's among them
+abbrev pub colour_in : List Shadow → Shadow → Colour
+colour_in us v = colour_of v.kind (option_and_then (kind_in us) (target_of v.kind))
+
+-- of two different operations one precedes the other
+abbrev pub AreOrdered : Shadow → Shadow → Type 0
+AreOrdered u v = u.name ≢ v.name → Precedes u v ⊎ Precedes v u
+
+-- a RedBlue order: a set of operations, ordered by their pasts, in which the red ones, and those of one home, are in line
+pub record IsLawful (us : List Shadow) : Type 0 where
+  pub unique : IsUnique us
+  pub closed : (v : Shadow) → Among v us → IsWithin (past v) (names us)
+  pub transitive : (t u v : Shadow) → Among t us → Among u us → Among v us → Precedes t u → Precedes u v → Precedes t v
+  pub irreflexive : (u : Shadow) → Among u us → ¬ Precedes u u
+  pub reds : (u v : Shadow) → Among u us → Among v us → colour_in us u ≡ RedColour → colour_in us v ≡ RedColour → AreOrdered u v
+  pub homes : (u v : Shadow) → Among u us → Among v us → u.home ≡ v.home → AreOrdered u v
+
+-- a causal serialization at a site: an operation comes after its past, and one of this site after just its past
+pub record IsSerialization (site : ℕ) (us : List Shadow) : Type 0 where
+  pub unique : IsUnique us
+  pub past_before : EachEntry us (λ before v. IsWithin (past v) (names before))
+  pub own_past : EachEntry us (λ before v. v.home ≡ site → AreSame (past v) (names before))
+
+-- two lists leave equal balances, numbers of cancellations and names
+pub record Agree (s : Settings) (us vs : List Shadow) : Type 0 where
+  pub balances : (a : Place) → bal s us a ≡ bal s vs a
+  pub cancels : (x : OpName) → cancel_count us x ≡ cancel_count vs x
+  pub names : AreSame (names us) (names vs)
+
+-- the number of a name
+abbrev pub number_of : OpName → ℕ
+number_of (Blue i n) = n
+number_of (Red n) = n
+
+-- the colour that a name shows
+abbrev pub shown_colour : OpName → Colour
+shown_colour (Blue i n) = BlueColour
+shown_colour (Red n) = RedColour
+
+-- the clock's entry for the name
+abbrev pub entry_of : Deps → OpName → ℕ
+entry_of c (Blue i n) = slice_index c.blue i
+entry_of c (Red n) = c.red
+
+-- a Deposit, a Withdraw or an Interest may be cancelled
+abbrev pub may_be_cancelled : Kind → Bool
+may_be_cancelled Deposit = true
+may_be_cancelled Withdraw = true
+may_be_cancelled Declined = false
+may_be_cancelled Interest = true
+may_be_cancelled (Cancel x) = false
+
+-- the name is a blue one of the site
+abbrev pub is_blue_of : OpName → ℕ → Bool
+is_blue_of (Blue i n) j = i == j
+is_blue_of (Red n) j = false
+
+-- the name is a red one
+abbrev pub is_red : OpName → Bool
+is_red (Blue i n) = false
+is_red (Red n) = true
+
+-- how many of the operations have a blue name of the site
+abbrev pub blue_count : List Shadow → ℕ → ℕ
+blue_count us i = count_by (λ u. is_blue_of u.name i) us
+
+-- how many of them have a red name
+abbrev pub red_count : List Shadow → ℕ
+red_count us = count_by (λ u. is_red u.name) us
+
+-- those numbers, as a shadow made now would carry them
+unfoldable pub clock_of : List Shadow → Deps
+clock_of us = record { blue = map (blue_count us) (range_with_len 0 most_sites); red = red_count us }
+
+-- the blue names that a clock counts, from a site on
+abbrev pub blue_listed : ℕ → List ℕ → List OpName
+blue_listed i [] = []
+blue_listed i (n ∷ ns) = map (λ m. Blue i m) (range_with_len 1 n) ++ blue_listed (i + 1) ns
+
+-- all the names that a clock counts, listed
+unfoldable pub names_listed : Deps → List OpName
+names_listed c = blue_listed 0 c.blue ++ map (λ m. Red m) (range_with_len 1 c.red)
+
+-- the operation's past is among the names
+unfoldable pub is_eligible : List Shadow → Shadow → Bool
+is_eligible us v = list_all (names us) (names_listed v.deps)
+
+-- two kinds are the same
+abbrev pub same_kind : Kind → Kind → Bool
+same_kind Deposit Deposit = true
+same_kind Withdraw Withdraw = true
+same_kind Declined Declined = true
+same_kind Interest Interest = true
+same_kind (Cancel x) (Cancel y) = same_name x y
+same_kind _ _ = false
+
+-- two lists of numbers are the same
+abbrev pub same_numbers : List ℕ → List ℕ → Bool
+same_numbers [] [] = true
+same_numbers (m ∷ ms) (n ∷ ns) = (m == n) && same_numbers ms ns
+same_numbers [] (n ∷ ns) = false
+same_numbers (m ∷ ms) [] = false
+
+-- two shadows are the same, field by field
+unfoldable pub same_shadow : Shadow → Shadow → Bool
+same_shadow u v =
+    same_name u.name v.name && (u.home == v.home) && same_numbers u.deps.blue v.deps.blue && (u.deps.red == v.deps.red)
+    && (u.account.0 == v.account.0) && (u.amount == v.amount) && same_kind u.kind v.kind
+
+-- the operation of the name
+abbrev pub find_in : List Shadow → OpName → Option Shadow
+find_in us x = find (λ u. same_name u.name x) us

@@ -1,0 +1,79 @@
+-- What is wrong with a shadow by itself.
+use Rattle.std.specs.Prelude.{◌≡◌, ℕ, ◌+◌, ◌-◌, Bool, true, false, if◌then◌else◌, not, ◌&&◌, ◌||◌, nat_le, nat_lt, ◌==◌, List, [], ◌∷◌, length, Option, Some, None}
+use Rattle.rb_money.specs.Settings.{Settings}
+use Rattle.rb_money.specs.declared.limits.Limits.{Limits}
+use Rattle.rb_shadow.specs.declared.op_name.OpName.{OpName}
+use Rattle.rb_shadow.specs.declared.op_name.OpName.TheVariants.{Blue, Red}
+use Rattle.rb_shadow.specs.declared.kind.Kind.{Kind}
+use Rattle.rb_shadow.specs.declared.kind.Kind.TheVariants.{Deposit, Withdraw, Declined, Interest, Cancel}
+use Rattle.rb_shadow.specs.declared.deps.Deps.{Deps}
+use Rattle.rb_shadow.specs.declared.shadow.Shadow.{Shadow}
+use Rattle.rb_shadow.specs.Operations.{names_of_clock, number_of, entry_of}
+
+-- a blue name's site isn't the home
+abbrev pub is_foreign : OpName → ℕ → Bool
+is_foreign (Blue i n) home = not (i == home)
+is_foreign (Red n) home = false
+
+-- how many names of its colour there may be
+abbrev pub limit_of : Limits → OpName → ℕ
+limit_of l (Blue i n) = l.blue
+limit_of l (Red n) = l.red
+
+-- an amount of 0 is for an Interest or a Cancel alone
+abbrev pub may_be_nothing : Kind → Bool
+may_be_nothing Deposit = false
+may_be_nothing Withdraw = false
+may_be_nothing Declined = false
+may_be_nothing Interest = true
+may_be_nothing (Cancel x) = true
+
+-- by its kind alone the name can't be of this colour
+abbrev pub is_miscoloured : Kind → OpName → Bool
+is_miscoloured Withdraw (Blue i n) = true
+is_miscoloured Withdraw (Red n) = false
+is_miscoloured Deposit (Red n) = true
+is_miscoloured Deposit (Blue i n) = false
+is_miscoloured Declined (Red n) = true
+is_miscoloured Declined (Blue i n) = false
+is_miscoloured Interest (Red n) = true
+is_miscoloured Interest (Blue i n) = false
+is_miscoloured (Cancel x) (Blue i n) = false
+is_miscoloured (Cancel x) (Red n) = false
+
+-- it cancels what its home hadn't applied
+abbrev pub cancels_unseen : Kind → Deps → Bool
+cancels_unseen (Cancel x) c = not (names_of_clock c x)
+cancels_unseen Deposit c = false
+cancels_unseen Withdraw c = false
+cancels_unseen Declined c = false
+cancels_unseen Interest c = false
+
+-- each entry is within the limit, and 0 past the sites
+abbrev pub are_entries : ℕ → ℕ → List ℕ → Bool
+are_entries sites limit [] = true
+are_entries sites limit (n ∷ ns) = (if sites == 0 then n == 0 else nat_le n limit) && are_entries (sites - 1) limit ns
+
+-- the entries are those of a clock of so many sites
+abbrev pub is_clock : ℕ → Limits → Deps → Bool
+is_clock sites l c = are_entries sites l.blue c.blue && nat_le c.red l.red
+
+-- the first thing that is wrong with a shadow by itself, where there are so many sites and accounts
+unfoldable pub fault_of : ℕ → ℕ → Limits → Shadow → Option ℕ
+fault_of sites accounts l v =
+    if nat_le sites v.home || is_foreign v.name v.home then Some 1
+    else (if number_of v.name == 0 || nat_lt (limit_of l v.name) (number_of v.name) then Some 2
+    else (if nat_le accounts v.account.0 then Some 3
+    else (if nat_lt 100000000000 v.amount || (v.amount == 0 && not (may_be_nothing v.kind)) then Some 4
+    else (if is_miscoloured v.kind v.name then Some 5
+    else (if cancels_unseen v.kind v.deps then Some 6
+    else (if not (is_clock sites l v.deps) || not (entry_of v.deps v.name + 1 == number_of v.name) then Some 7
+    else None))))))
+
+-- the same, in a configuration
+abbrev pub fault_in : Settings → Shadow → Option ℕ
+fault_in s v = fault_of s.sites (length s.starts) s.limits v
+
+-- nothing is wrong with it by itself
+abbrev pub IsSound : Settings → Shadow → Type 0
+IsSound s v = fault_in s v ≡ None

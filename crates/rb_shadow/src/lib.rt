@@ -1,0 +1,16 @@
+//! Shadow operations: their names, kinds, colours and order.
+#![tactic(auto)]
+
+mod colour;
+mod deps;
+mod kind;
+mod label;
+mod op_name;
+mod shadow;
+
+pub use colour::Colour;
+pub use deps::Deps;
+pub use kind::Kind;
+pub use label::Label;
+pub use op_name::OpName;
+pub use shadow::Shadow;

@@ -1,0 +1,196 @@
+-- One event of a site.
+use Rattle.std.specs.Prelude.{◌≡◌, ℕ, Bool, true, false, if◌then◌else◌, not, ◌&&◌, nat_le, nat_lt, ◌==◌, List, [], ◌∷◌, ◌++◌, length, map, take, Option, Some, None, Result, Ok, Err}
+use Rattle.rb_money.specs.Amounts.{cents}
+use Rattle.rb_money.specs.Settings.{Settings, is_account}
+use Rattle.rb_money.specs.declared.refusal.Refusal.{Refusal}
+use Rattle.rb_money.specs.declared.refusal.Refusal.TheVariants.{UnknownAccount, NotHeld, NotReady, InboxFull, BadMessage, Conflict, HistoryFull}
+use Rattle.rb_shadow.specs.Labels.{label_of}
+use Rattle.rb_shadow.specs.Operations.{bal, red_count, find_in, same_shadow, is_eligible}
+use Rattle.rb_shadow.specs.Sound.{fault_in}
+use Rattle.rb_shadow.specs.declared.op_name.OpName.{OpName}
+use Rattle.rb_shadow.specs.declared.shadow.Shadow.{Shadow}
+use Rattle.rb_ledger.specs.Checks.{refusal_of_sound}
+use Rattle.rb_inbox.specs.Held.{with_held, without}
+use Rattle.rb_scratch.specs.Requests.{made_of}
+use Rattle.rb_site.specs.declared.entry.Entry.{Entry}
+use Rattle.rb_site.specs.declared.event.Event.{Event}
+use Rattle.rb_site.specs.declared.event.Event.TheVariants.{Submit, Receive, Apply, Pass, Balance}
+use Rattle.rb_site.specs.declared.message.Message.{Message}
+use Rattle.rb_site.specs.declared.message.Message.TheVariants.{Shadow as ShadowMessage, Token as TokenOnItsWay}
+use Rattle.rb_site.specs.declared.reply.Reply.{Reply}
+use Rattle.rb_site.specs.declared.reply.Reply.TheVariants.{Made, Held, Already, Taken, Stale, Applied, Passed, Balance as BalanceIs, Refused}
+use Rattle.rb_token.specs.Token.{Token, first_token, taken_token, passed_token, pass_message, refusal_of_pass, refusal_of_token, is_stale}
+use Rattle.rb_token.specs.declared.message.TokenMessage.{TokenMessage}
+
+-- ---- what a site is
+
+-- a site: its number, the operations that it applied, in their order, those that it holds, one for each name and in the order of the names, what it knows of the token, and its events with their replies
+pub record ModelSite : Type 0 where
+  pub me : ℕ
+  pub ops : List Shadow
+  pub held : List Shadow
+  pub token : Token
+  pub history : List Entry
+
+-- ---- what an event comes to
+
+-- what an event comes to. Only these change more than the history: Drops, Makes, Holds, Applies, Takes and Passes
+pub data Outcome : Type 0 where
+  Refuses : (why : Refusal) → Outcome
+  -- what is held under the name can't be applied, and is let go
+  Drops : (name : OpName) → (why : Refusal) → Outcome
+  Answers : (reply : Reply) → Outcome
+  -- operations are made here, one after another, and sent
+  Makes : (reply : Reply) → (made : List Shadow) → Outcome
+  Holds : (v : Shadow) → Outcome
+  Applies : (v : Shadow) → Outcome
+  Takes : (m : TokenMessage) → Outcome
+  Passes : (m : TokenMessage) → Outcome
+
+-- the refusal where the condition holds, and else what comes next
+abbrev pub refuses_if : Bool → Refusal → Outcome → Outcome
+refuses_if true why next = Refuses why
+refuses_if false why next = next
+
+-- the refusal where there is one, and else what comes next
+abbrev pub refuses_first : Option Refusal → Outcome → Outcome
+refuses_first (Some why) next = Refuses why
+refuses_first None next = next
+
+-- ---- Submit
+
+-- what a request's operation comes to
+abbrev pub outcome_of_made : Result Shadow Refusal → Outcome
+outcome_of_made (Ok v) = Makes (Made v.name (label_of v.kind)) (v ∷ [])
+outcome_of_made (Err why) = Refuses why
+
+-- ---- Receive and Apply
+
+-- a shadow that is wrong by itself is refused
+abbrev pub unless_faulty : Option ℕ → Outcome → Outcome
+unless_faulty (Some why) next = Refuses (BadMessage why)
+unless_faulty None next = next
+
+-- a shadow that is known under its name: the same comes again, or another is a conflict
+abbrev pub unless_known : Shadow → Option Shadow → Outcome → Outcome
+unless_known v None next = next
+unless_known v (Some u) next = if same_shadow u v then Answers (Already v.name) else Refuses Conflict
+
+-- what a received shadow comes to
+unfoldable pub outcome_of_shadow : Settings → ModelSite → Shadow → Outcome
+outcome_of_shadow s t v =
+    unless_faulty (fault_in s v)
+    (unless_known v (find_in t.ops v.name)
+    (refuses_if (v.home == t.me) Conflict
+    (unless_known v (find_in t.held v.name)
+    (refuses_if (nat_le s.limits.inbox (length t.held) && not (is_eligible t.ops v)) InboxFull
+    (Holds v)))))
+
+-- what a token message comes to
+unfoldable pub outcome_of_token : Settings → ModelSite → TokenMessage → Outcome
+outcome_of_token s t m =
+    refuses_first (refusal_of_token s.limits t.me m)
+    (if is_stale t.token m then Answers (Stale m.epoch) else Takes m)
+
+-- a held operation that may not be applied stays while it isn't ready, and else is let go
+abbrev pub outcome_of_check : Shadow → Option Refusal → Outcome
+outcome_of_check v None = Applies v
+outcome_of_check v (Some NotReady) = Refuses NotReady
+outcome_of_check v (Some why) = Drops v.name why
+
+-- what the application of a held operation comes to
+unfoldable pub outcome_of_apply : Settings → ModelSite → Option Shadow → Outcome
+outcome_of_apply s t None = Refuses NotHeld
+outcome_of_apply s t (Some v) =
+    refuses_if (not (is_eligible t.ops v)) NotReady
+    (outcome_of_check v (refusal_of_sound s t.ops v))
+
+-- ---- Pass
+
+-- what the passing of the token comes to
+unfoldable pub outcome_of_pass : Settings → ModelSite → ℕ → Outcome
+outcome_of_pass s t to =
+    refuses_first (refusal_of_pass s.sites s.limits t.me t.token to)
+    (Passes (pass_message t.token to (red_count t.ops)))
+
+-- ---- one event
+
+-- what an event comes to at a site
+unfoldable pub outcome_of : Settings → ModelSite → Event → Outcome
+outcome_of s t (Submit r) = outcome_of_made (made_of s t.me t.ops t.token r)
+outcome_of s t (Receive (ShadowMessage v)) = outcome_of_shadow s t v
+outcome_of s t (Receive (TokenOnItsWay m)) = outcome_of_token s t m
+outcome_of s t (Apply x) = outcome_of_apply s t (find_in t.held x)
+outcome_of s t (Pass to) = outcome_of_pass s t to
+outcome_of s t (Balance a) = refuses_if (not (is_account s a)) UnknownAccount (Answers (BalanceIs (cents (bal s t.ops a))))
+
+-- the reply
+abbrev pub reply_of : Outcome → Reply
+reply_of (Refuses why) = Refused why
+reply_of (Drops x why) = Refused why
+reply_of (Answers reply) = reply
+reply_of (Makes reply vs) = reply
+reply_of (Holds v) = Held v.name
+reply_of (Applies v) = Applied v.name
+reply_of (Takes m) = Taken m.epoch
+reply_of (Passes m) = Passed m.epoch
+
+-- what is sent
+abbrev pub sent_by : Outcome → List Message
+sent_by (Makes reply vs) = map ShadowMessage vs
+sent_by (Passes m) = TokenOnItsWay m ∷ []
+sent_by (Refuses why) = []
+sent_by (Drops x why) = []
+sent_by (Answers reply) = []
+sent_by (Holds v) = []
+sent_by (Applies v) = []
+sent_by (Takes m) = []
+
+-- the site after it, but for the history
+abbrev pub changed : ModelSite → Outcome → ModelSite
+changed t (Refuses why) = t
+changed t (Answers reply) = t
+changed t (Drops x why) = record t { held = without x t.held }
+changed t (Makes reply vs) = record t { ops = t.ops ++ vs }
+changed t (Holds v) = record t { held = with_held v t.held }
+changed t (Applies v) = record t { ops = t.ops ++ v ∷ []; held = without v.name t.held }
+changed t (Takes m) = record t { token = taken_token m }
+changed t (Passes m) = record t { token = passed_token t.token m }
+
+-- the site with the event and its reply in its history
+abbrev pub noted : ModelSite → Event → Reply → ModelSite
+noted t e reply = record t { history = t.history ++ (record { event = e; reply = reply }) ∷ [] }
+
+-- there is no room in the history
+abbrev pub is_full : Settings → ModelSite → Bool
+is_full s t = nat_le s.limits.history (length t.history)
+
+-- the reply to an event
+abbrev pub reply_to : Settings → ModelSite → Event → Reply
+reply_to s t e = if is_full s t then Refused HistoryFull else reply_of (outcome_of s t e)
+
+-- the site after an event
+abbrev pub after_event : Settings → ModelSite → Event → ModelSite
+after_event s t e = if is_full s t then t else noted (changed t (outcome_of s t e)) e (reply_of (outcome_of s t e))
+
+-- what an event sends
+abbrev pub sent_at : Settings → ModelSite → Event → List Message
+sent_at s t e = if is_full s t then [] else sent_by (outcome_of s t e)
+
+-- a site before any event. Site 0 has the token
+abbrev pub first_site : ℕ → ModelSite
+first_site me = record { me = me; ops = []; held = []; token = first_token me; history = [] }
+
+-- a site after a list of events
+abbrev pub after_events : Settings → ModelSite → List Event → ModelSite
+after_events s t [] = t
+after_events s t (e ∷ es) = after_events s (after_event s t e) es
+
+-- the replies to a list of events
+abbrev pub replies_to_events : Settings → ModelSite → List Event → List Reply
+replies_to_events s t [] = []
+replies_to_events s t (e ∷ es) = reply_to s t e ∷ replies_to_events s (after_event s t e) es
+
+-- the site stands as the run of its own history leaves it
+abbrev pub IsRunOfItsHistory : Settings → ModelSite → Type 0
+IsRunOfItsHistory s t = after_events s (first_site t.me) (map (λ (x : Entry). x.event) t.history) ≡ t

@@ -1,0 +1,46 @@
+-- A site as callers see it: its configuration, its number and its history. All else is the run of the history.
+use Rattle.std.specs.Prelude.{◌≡◌, ℕ, ◌<◌, ◌≤◌, List, [], ◌∷◌, ◌++◌, length}
+use Rattle.rb_money.specs.Settings.{Settings}
+use Rattle.rb_shadow.specs.declared.shadow.Shadow.{Shadow}
+use Rattle.rb_token.specs.Token.{Token}
+use Rattle.rb_site.specs.declared.entry.Entry.{Entry}
+use Rattle.rb_site.specs.declared.event.Event.{Event}
+use Rattle.rb_site.specs.declared.reply.Reply.{Reply}
+use Rattle.rb_site.specs.Events.{ModelSite, after_event, after_events, first_site, reply_to}
+use Rattle.rb_site.specs.Histories.{events_of}
+
+-- the configuration, the site's number, and its events with their replies
+pub record SeenSite : Type 0 where
+  pub settings : Settings
+  pub me : ℕ
+  pub entries : List Entry
+
+-- where a site stands: the run of its events
+abbrev pub state_of : SeenSite → ModelSite
+state_of x = after_events x.settings (first_site x.me) (events_of x.entries)
+
+-- an event with its reply
+abbrev pub entry : Event → Reply → Entry
+entry e reply = record { event = e; reply = reply }
+
+-- the site with one event more, where there is room for it
+abbrev pub stepped : SeenSite → Event → SeenSite
+stepped x e = record x { entries = x.entries ++ entry e (reply_to x.settings (state_of x) e) ∷ [] }
+
+-- each reply is the one that the run gives there
+abbrev pub Replays : Settings → ModelSite → List Entry → Type 0
+Replays s t [] = Unit {0}
+Replays s t (x ∷ xs) = (x.reply ≡ reply_to s t x.event) × Replays s (after_event s t x.event) xs
+
+-- what a site keeps: it is one of the configuration, its history replays and is within its limit
+pub record IsReplayed (x : SeenSite) : Type 0 where
+  pub place : x.me < x.settings.sites
+  pub replays : Replays x.settings (first_site x.me) x.entries
+  pub room : length x.entries ≤ x.settings.limits.history
+
+-- a site's fields are those of the run
+pub record IsStanding (x : SeenSite) (ops held : List Shadow) (token : Token) : Type 0 where
+  pub kept : IsReplayed x
+  pub ops_is : ops ≡ (state_of x).ops
+  pub held_is : held ≡ (state_of x).held
+  pub token_is : token ≡ (state_of x).token

@@ -1,0 +1,23 @@
+//! Sites: their messages, events, replies and histories.
+#![tactic(auto)]
+
+mod entry;
+mod event;
+mod message;
+mod reply;
+mod site;
+mod world_event;
+
+ghost use Rattle.rb_site.specs.Histories.{StuckIsFinal};
+
+pub use entry::Entry;
+pub use event::Event;
+pub use message::Message;
+pub use reply::Reply;
+pub use site::Site;
+pub use world_event::WorldEvent;
+
+/// Histories whose next entries are receipts of messages that no entry before sent are not one world's.
+pub fn stuck_final()
+    ensures { StuckIsFinal }
+{}

@@ -1,0 +1,11 @@
+//! Messages between sites.
+
+use rb_shadow::Shadow;
+use rb_token::TokenMessage;
+
+/// What sites send one another.
+#[derive(Clone, Copy, Debug, PartialEq, Eq)]
+pub enum Message {
+    Shadow(Shadow),
+    Token(TokenMessage),
+}

@@ -1,0 +1,6 @@
+//! The red token: who may make red operations.
+#![tactic(auto)]
+
+mod message;
+
+pub use message::TokenMessage;

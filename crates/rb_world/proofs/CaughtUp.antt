@@ -1,0 +1,233 @@
+-- A site can be brought to all that was made.
+use Rattle.std.proofs.Common.{◌≡◌, ℕ, suc, ◌+◌, ◌<◌, ◌≤◌, Bool, true, false, cond, ◌||◌, List, [], ◌∷◌, ◌++◌, length, refl, ap, sym, ◌∙◌, arith, ◌⊎◌, inl, inr, subst, Some, append_assoc, length-append}
+use Rattle.std.specs.Prelude.{slice_get, nat_le}
+use Rattle.std.proofs.lemmas.Bool.Decides.{nat_tests}
+use Rattle.std.proofs.lemmas.List.{append-nil}
+use Rattle.rb_money.specs.Settings.{Settings}
+use Rattle.rb_shadow.specs.declared.op_name.OpName.{OpName}
+use Rattle.rb_shadow.specs.declared.shadow.Shadow.{Shadow}
+use Rattle.rb_shadow.specs.Operations.{Among, IsWithin, names, past, same_name}
+use Rattle.rb_shadow.proofs.Members
+use Rattle.rb_shadow.proofs.Eligible
+use Rattle.rb_site.specs.declared.message.Message.{Message}
+use Rattle.rb_site.specs.declared.message.Message.TheVariants.{Shadow as ShadowMessage, Token as TokenOnItsWay}
+use Rattle.rb_site.specs.declared.event.Event.{Event}
+use Rattle.rb_site.specs.declared.event.Event.TheVariants.{Apply, Receive}
+use Rattle.rb_site.specs.declared.reply.Reply.TheVariants.{Already}
+use Rattle.rb_site.specs.declared.world_event.WorldEvent.{WorldEvent}
+use Rattle.rb_site.specs.declared.world_event.WorldEvent.TheVariants.{At, Deliver}
+use Rattle.rb_site.specs.Events.{Answers, Applies, Drops, Holds, Makes, ModelSite, Outcome, Passes, Refuses, Takes, after_event, changed, is_full, noted, outcome_of, outcome_of_shadow, reply_of, sent_at}
+use Rattle.rb_inbox.specs.Held.{stands_before, with_held}
+use Rattle.rb_site.specs.Worlds.{AreOwn, World, made_in, message_at, shadows_in, world_after, world_after_all, world_at, world_delivered}
+use Rattle.rb_world.specs.Laws.{CanCatchUp, catching_up}
+use Rattle.rb_world.proofs.Steps
+use Rattle.rb_world.proofs.Steps.{get_set_same}
+use Rattle.rb_world.proofs.Token
+use Rattle.rb_world.proofs.Good.{IsGood}
+use Rattle.rb_world.proofs.Ready
+use Rattle.rb_world.proofs.Sound
+use Rattle.rb_world.proofs.Sound.{IsBounded}
+
+-- ---- a list of applied operations only grows
+
+names-left : (us vs : List Shadow) → IsWithin (names us) (names (us ++ vs))
+names-left us vs x h = Members.names-append us vs x ∙ ap (λ b. b || names vs x) h
+
+changed_grows : (t : ModelSite) (o : Outcome) → IsWithin (names t.ops) (names (changed t o).ops)
+changed_grows t (Refuses why) x h = h
+changed_grows t (Answers r) x h = h
+changed_grows t (Drops y why) x h = h
+changed_grows t (Makes r vs) x h = names-left t.ops vs x h
+changed_grows t (Holds v) x h = h
+changed_grows t (Applies v) x h = names-left t.ops (v ∷ []) x h
+changed_grows t (Takes m) x h = h
+changed_grows t (Passes m) x h = h
+
+changed_history : (t : ModelSite) (o : Outcome) → (changed t o).history ≡ t.history
+changed_history t (Refuses why) = refl
+changed_history t (Answers r) = refl
+changed_history t (Drops y why) = refl
+changed_history t (Makes r vs) = refl
+changed_history t (Holds v) = refl
+changed_history t (Applies v) = refl
+changed_history t (Takes m) = refl
+changed_history t (Passes m) = refl
+
+-- the site after an event for which it has room
+pub after_roomy : (s : Settings) (t : ModelSite) (e : Event) → is_full s t ≡ false → after_event s t e ≡ noted (changed t (outcome_of s t e)) e (reply_of (outcome_of s t e))
+after_roomy s t e h = ap (λ b. cond b t (noted (changed t (outcome_of s t e)) e (reply_of (outcome_of s t e)))) h
+
+pub history_after : (s : Settings) (t : ModelSite) (e : Event) → is_full s t ≡ false → length (after_event s t e).history ≡ length t.history + 1
+history_after s t e h =
+    ap (λ (u : ModelSite). length u.history) (after_roomy s t e h)
+    ∙ length-append (changed t (outcome_of s t e)).history _
+    ∙ ap (λ n. n + 1) (ap length (changed_history t (outcome_of s t e)))
+
+-- ---- what stands while a site catches up
+
+pub record IsStage (s : Settings) (w : World) (i : ℕ) (t : ModelSite) (known : List Shadow) (front rest extra : List Message) : Type 0 where
+  pub good : IsGood s w
+  pub bounded : IsBounded s w
+  pub at : slice_get w.sites i ≡ Some t
+  pub messages : w.messages ≡ front ++ rest ++ extra
+  pub knows : IsWithin (names known) (names t.ops)
+  pub has : IsWithin (names (shadows_in front)) (names t.ops)
+
+good_after : (s : Settings) (w : World) (e : WorldEvent) → AreOwn (e ∷ []) → IsGood s w → IsBounded s w → IsGood s (world_after s w e) × IsBounded s (world_after s w e)
+good_after s w e own g b = Steps.after_all s (λ w. IsGood s w × IsBounded s w) (Sound.keeps_bounded s) (e ∷ []) w own (g, b)
+
+at_place : (front rest : List Message) (m : Message) → slice_get (front ++ m ∷ rest) (length front) ≡ Some m
+at_place [] rest m = refl
+at_place (n ∷ front) rest m = at_place front rest m
+
+deliver_is : (s : Settings) (w : World) (i k : ℕ) (t : ModelSite) (m : Message) → slice_get w.sites i ≡ Some t → message_at w.messages k ≡ Some m → world_after s w (Deliver i k) ≡ world_at s w i (Receive m) (Some t)
+deliver_is s w i k t m at h = ap (world_delivered s w i) h ∙ ap (world_at s w i (Receive m)) at
+
+apply_is : (s : Settings) (w : World) (i : ℕ) (t : ModelSite) (x : OpName) → slice_get w.sites i ≡ Some t → world_after s w (At i (Apply x)) ≡ world_at s w i (Apply x) (Some t)
+apply_is s w i t x at = ap (world_at s w i (Apply x)) at
+
+-- an event at the site keeps the stage, but for what was sent meanwhile
+stage_after : (s : Settings) (w : World) (i : ℕ) (t : ModelSite) (known : List Shadow) (front rest extra : List Message) (e : WorldEvent) (x : Event)
+    → AreOwn (e ∷ []) → world_after s w e ≡ world_at s w i x (Some t) → is_full s t ≡ false → IsStage s w i t known front rest extra
+    → IsStage s (world_after s w e) i (after_event s t x) known front rest (extra ++ sent_at s t x)
+stage_after s w i t known front rest extra e x own is room g =
+    let k = good_after s w e own g.good g.bounded in
+    record {
+      good = k.0;
+      bounded = k.1;
+      at = ap (λ (v : World). slice_get v.sites i) is ∙ get_set_same w.sites i t (after_event s t x) g.at;
+      messages = ap (λ (v : World). v.messages) is ∙ ap (λ ms. ms ++ sent_at s t x) g.messages ∙ append_assoc (front ++ rest) extra (sent_at s t x);
+      knows = λ y h. grows y (g.knows y h);
+      has = λ y h. grows y (g.has y h);
+    }
+  where
+    grows : IsWithin (names t.ops) (names (after_event s t x).ops)
+    grows y h = ap (λ (u : ModelSite). names u.ops y) (after_roomy s t x room) ∙ changed_grows t (outcome_of s t x) y h
+
+pub roomy : (s : Settings) (t : ModelSite) (n : ℕ) → length t.history + suc n ≤ s.limits.history → is_full s t ≡ false
+roomy s t n h = at (length t.history) h
+  where
+    at : (m : ℕ) → m + suc n ≤ s.limits.history → nat_le s.limits.history m ≡ false
+    at m h = let k : m < s.limits.history = omega arith in grind (arith, nat_tests)
+
+-- ---- one operation that is missing
+
+held_there : (v : Shadow) (us : List Shadow) → Among v (with_held v us)
+held_there v [] = inl refl
+held_there v (u ∷ us) = at (stands_before v.name u.name) (held_there v us)
+  where
+    at : (b : Bool) → Among v (with_held v us) → Among v (cond b (v ∷ u ∷ us) (u ∷ with_held v us))
+    at true h = inl refl
+    at false h = inr h
+
+-- after the delivery the operation was applied, or is held
+delivered_there : (s : Settings) (w : World) (i : ℕ) (t : ModelSite) (v : Shadow) → IsGood s w → IsBounded s w → slice_get w.sites i ≡ Some t → is_full s t ≡ false → Among v (made_in w) → IsWithin (past v) (names t.ops)
+    → (names (after_event s t (Receive (ShadowMessage v))).ops v.name ≡ true) ⊎ Among v (after_event s t (Receive (ShadowMessage v))).held
+delivered_there s w i t v g b at room made within = elim (Ready.site_receives s w i t v g b at made) [
+  | inl e ↦ elim e.1 [
+    | inl h ↦ inl (ap (λ (u : ModelSite). names u.ops v.name) (is (Answers (Already v.name)) e.0) ∙ h)
+    | inr h ↦ inr (subst (λ (u : ModelSite). Among v u.held) (sym (is (Answers (Already v.name)) e.0)) h)
+  ]
+  | inr q ↦ elim q [
+    | inl e ↦ inr (subst (λ (u : ModelSite). Among v u.held) (sym (is (Holds v) e)) (held_there v t.held))
+    | inr e ↦ absurd (Members.true≢false (sym (Eligible.eligible_from t.ops v within) ∙ e.1))
+  ]
+]
+  where
+    is : (o : Outcome) → outcome_of_shadow s t v ≡ o → after_event s t (Receive (ShadowMessage v)) ≡ noted (changed t o) (Receive (ShadowMessage v)) (reply_of o)
+    is o e = after_roomy s t (Receive (ShadowMessage v)) room ∙ ap (λ o. noted (changed t o) (Receive (ShadowMessage v)) (reply_of o)) (Ready.received s t v ∙ e)
+
+-- after the event Apply it was applied
+applied_there : (s : Settings) (w : World) (i : ℕ) (t : ModelSite) (v : Shadow) → IsGood s w → slice_get w.sites i ≡ Some t → is_full s t ≡ false → IsWithin (past v) (names t.ops) → (names t.ops v.name ≡ true) ⊎ Among v t.held → names (after_event s t (Apply v.name)).ops v.name ≡ true
+applied_there s w i t v g at room within (inl h) = ap (λ (u : ModelSite). names u.ops v.name) (after_roomy s t (Apply v.name) room) ∙ changed_grows t (outcome_of s t (Apply v.name)) v.name h
+applied_there s w i t v g at room within (inr h) =
+    ap (λ (u : ModelSite). names u.ops v.name) (after_roomy s t (Apply v.name) room)
+    ∙ ap (λ o. names (changed t o).ops v.name) (Ready.site_applies s w i t v g at h within)
+    ∙ Members.names-append t.ops (v ∷ []) v.name ∙ Members.or-right (names t.ops v.name) (names (v ∷ []) v.name) (ap (λ b. b || false) (Members.same_name-refl v.name))
+
+-- ---- all of them
+
+shadows_split : (front rest extra : List Message) (v : Shadow) → shadows_in ((front ++ ShadowMessage v ∷ rest) ++ extra) ≡ shadows_in front ++ v ∷ shadows_in (rest ++ extra)
+shadows_split front rest extra v = ap shadows_in (append_assoc front (ShadowMessage v ∷ rest) extra) ∙ Token.shadows_in-append front (ShadowMessage v ∷ (rest ++ extra))
+
+-- the next message comes to those that are done with
+step_on : (s : Settings) (w : World) (i : ℕ) (t : ModelSite) (known : List Shadow) (front rest extra : List Message) (m : Message) → IsStage s w i t known front (m ∷ rest) extra → IsWithin (names (shadows_in (front ++ m ∷ []))) (names t.ops) → IsStage s w i t known (front ++ m ∷ []) rest extra
+step_on s w i t known front rest extra m g has = record {
+  good = g.good;
+  bounded = g.bounded;
+  at = g.at;
+  messages = g.messages ∙ ap (λ ms. ms ++ extra) (sym (append_assoc front (m ∷ []) rest));
+  knows = g.knows;
+  has = has;
+}
+
+next_place : (front : List Message) (m : Message) (k : ℕ) → k ≡ suc (length front) → k + 1 ≡ suc (length (front ++ m ∷ []))
+next_place front m k e = let h : length (front ++ m ∷ []) ≡ length front + 1 = length-append front (m ∷ []) in omega arith
+
+regrouped : (front rest : List Message) (m : Message) (us : List Shadow) → IsWithin (names (shadows_in ((front ++ m ∷ []) ++ rest))) (names us) → IsWithin (names (shadows_in (front ++ m ∷ rest))) (names us)
+regrouped front rest m us h x k = h x (ap (λ ms. names (shadows_in ms) x) (append_assoc front (m ∷ []) rest) ∙ k)
+
+with_last : (s : Settings) (w : World) (i : ℕ) (t : ModelSite) (known : List Shadow) (front rest extra : List Message) (v : Shadow) → IsStage s w i t known front (ShadowMessage v ∷ rest) extra → names t.ops v.name ≡ true → IsWithin (names (shadows_in (front ++ ShadowMessage v ∷ []))) (names t.ops)
+with_last s w i t known front rest extra v g there x h = elim (Members.or-true (names (shadows_in front) x) (names (v ∷ []) x) (sym (ap (λ us. names us x) (Token.made_more front v) ∙ Members.names-append (shadows_in front) (v ∷ []) x) ∙ h)) [
+  | inl k ↦ g.has x k
+  | inr k ↦ elim (Members.or-true (same_name v.name x) false k) [ inl e ↦ ap (names t.ops) (sym (Members.same_name-true v.name x e)) ∙ there | inr e ↦ absurd (Members.true≢false (sym e)) ]
+]
+
+past_there : (s : Settings) (w : World) (i : ℕ) (t : ModelSite) (known : List Shadow) (front rest extra : List Message) (v : Shadow) → IsStage s w i t known front (ShadowMessage v ∷ rest) extra → IsWithin (past v) (names t.ops)
+past_there s w i t known front rest extra v g x h = g.has x (g.good.order.order.in_turn (shadows_in front) v (shadows_in (rest ++ extra)) (ap shadows_in g.messages ∙ shadows_split front rest extra v) x h)
+
+made_there : (s : Settings) (w : World) (i : ℕ) (t : ModelSite) (known : List Shadow) (front rest extra : List Message) (v : Shadow) → IsStage s w i t known front (ShadowMessage v ∷ rest) extra → Among v (made_in w)
+made_there s w i t known front rest extra v g = subst (Among v) (sym (ap shadows_in g.messages ∙ shadows_split front rest extra v)) (Members.Among-right (shadows_in front) (v ∷ shadows_in (rest ++ extra)) v (inl refl))
+
+placed_there : (s : Settings) (w : World) (i k : ℕ) (t : ModelSite) (known : List Shadow) (front rest extra : List Message) (m : Message) → k ≡ suc (length front) → IsStage s w i t known front (m ∷ rest) extra → message_at w.messages k ≡ Some m
+placed_there s w i k t known front rest extra m e g = ap (message_at w.messages) e ∙ ap (λ ms. slice_get ms (length front)) (g.messages ∙ append_assoc front (m ∷ rest) extra) ∙ at_place front (rest ++ extra) m
+
+caught_up : (s : Settings) (rest : List Message) (w : World) (i k : ℕ) (t : ModelSite) (known : List Shadow) (front extra : List Message) → k ≡ suc (length front) → IsStage s w i t known front rest extra
+    → length t.history + length (catching_up i known k rest) ≤ s.limits.history
+    → (u : ModelSite) → slice_get (world_after_all s w (catching_up i known k rest)).sites i ≡ Some u → IsWithin (names (shadows_in (front ++ rest))) (names u.ops)
+caught_up s [] w i k t known front extra e g room u there = λ x h.
+    let same : u ≡ t = Token.same_site w i t u g.at there in
+    ap (λ (y : ModelSite). names y.ops x) same ∙ g.has x (ap (λ ms. names (shadows_in ms) x) (sym (append-nil front)) ∙ h)
+caught_up s (TokenOnItsWay m ∷ rest) w i k t known front extra e g room u there =
+    regrouped front rest (TokenOnItsWay m) u.ops
+    (caught_up s rest w i (k + 1) t known (front ++ TokenOnItsWay m ∷ []) extra (next_place front (TokenOnItsWay m) k e)
+    (step_on s w i t known front rest extra (TokenOnItsWay m) g (λ x h. g.has x (ap (λ us. names us x) (sym (Token.made_same front m)) ∙ h)))
+    room u there)
+caught_up s (ShadowMessage v ∷ rest) w i k t known front extra e g room u there =
+    regrouped front rest (ShadowMessage v) u.ops
+    (by (names known v.name) refl room there (λ w' t' extra' g' room' there'. caught_up s rest w' i (k + 1) t' known (front ++ ShadowMessage v ∷ []) extra' (next_place front (ShadowMessage v) k e) g' room' u there'))
+  where
+    later : List WorldEvent
+    later = catching_up i known (k + 1) rest
+
+    Done : Type 0
+    Done = IsWithin (names (shadows_in ((front ++ ShadowMessage v ∷ []) ++ rest))) (names u.ops)
+
+    Rest : Type 0
+    Rest = (w' : World) (t' : ModelSite) (extra' : List Message) → IsStage s w' i t' known (front ++ ShadowMessage v ∷ []) rest extra' → length t'.history + length later ≤ s.limits.history → slice_get (world_after_all s w' later).sites i ≡ Some u → Done
+
+    by : (b : Bool) → names known v.name ≡ b → length t.history + length (cond b later (Deliver i k ∷ At i (Apply v.name) ∷ later)) ≤ s.limits.history → slice_get (world_after_all s w (cond b later (Deliver i k ∷ At i (Apply v.name) ∷ later))).sites i ≡ Some u → Rest → Done
+    by true q room' there' go = go w t extra (step_on s w i t known front rest extra (ShadowMessage v) g (with_last s w i t known front rest extra v g (g.knows v.name q))) room' there'
+    by false q room' there' go =
+        let full : is_full s t ≡ false = roomy s t (suc (length later)) (omega arith) in
+        let w1 : World = world_after s w (Deliver i k) in
+        let t1 : ModelSite = after_event s t (Receive (ShadowMessage v)) in
+        let g1 : IsStage s w1 i t1 known front (ShadowMessage v ∷ rest) (extra ++ sent_at s t (Receive (ShadowMessage v))) =
+        stage_after s w i t known front (ShadowMessage v ∷ rest) extra (Deliver i k) (Receive (ShadowMessage v)) tt (deliver_is s w i k t (ShadowMessage v) g.at (placed_there s w i k t known front rest extra (ShadowMessage v) e g)) full g in
+        let h1 : length t1.history ≡ length t.history + 1 = history_after s t (Receive (ShadowMessage v)) full in
+        let full1 : is_full s t1 ≡ false = roomy s t1 (length later) (omega arith) in
+        let held1 : (names t1.ops v.name ≡ true) ⊎ Among v t1.held = delivered_there s w i t v g.good g.bounded g.at full (made_there s w i t known front rest extra v g) (past_there s w i t known front rest extra v g) in
+        let w2 : World = world_after s w1 (At i (Apply v.name)) in
+        let t2 : ModelSite = after_event s t1 (Apply v.name) in
+        let extra2 : List Message = (extra ++ sent_at s t (Receive (ShadowMessage v))) ++ sent_at s t1 (Apply v.name) in
+        let g2 : IsStage s w2 i t2 known front (ShadowMessage v ∷ rest) extra2 =
+        stage_after s w1 i t1 known front (ShadowMessage v ∷ rest) (extra ++ sent_at s t (Receive (ShadowMessage v))) (At i (Apply v.name)) (Apply v.name) (tt, tt) (apply_is s w1 i t1 v.name g1.at) full1 g1 in
+        let h2 : length t2.history ≡ length t1.history + 1 = history_after s t1 (Apply v.name) full1 in
+        let there2 : names t2.ops v.name ≡ true = applied_there s w1 i t1 v g1.good g1.at full1 (past_there s w1 i t1 known front rest (extra ++ sent_at s t (Receive (ShadowMessage v))) v g1) held1 in
+        go w2 t2 extra2 (step_on s w2 i t2 known front rest extra2 (ShadowMessage v) g2 (with_last s w2 i t2 known front rest extra2 v g2 there2)) (omega arith) there'
+
+pub can_catch_up : (s : Settings) (w : World) → IsGood s w → IsBounded s w → CanCatchUp s w
+can_catch_up s w g b i t at room u there =
+    caught_up s w.messages w i 1 t t.ops [] [] refl
+    (record { good = g; bounded = b; at = at; messages = sym (append-nil w.messages); knows = λ x h. h; has = λ x h. cc })
+    room u there

@@ -1,0 +1,169 @@
+-- A site's replies and its state but for the history don't hang on refused messages.
+use Rattle.std.proofs.Common.{◌≡◌, ℕ, ◌+◌, ◌≤◌, Bool, true, false, cond, not, ◌&&◌, List, [], ◌∷◌, ◌++◌, length, refl, ap, sym, ◌∙◌, arith, subst, Option, Some, None, length-append}
+use Rattle.std.specs.Prelude.{nat_le, ◌==◌}
+use Rattle.rb_money.specs.Settings.{Settings}
+use Rattle.rb_money.specs.declared.refusal.Refusal.{Refusal}
+use Rattle.rb_money.specs.declared.refusal.Refusal.TheVariants.{Conflict, HistoryFull, InboxFull}
+use Rattle.rb_shadow.specs.declared.shadow.Shadow.{Shadow}
+use Rattle.rb_shadow.specs.Operations.{find_in, is_eligible, same_shadow}
+use Rattle.rb_shadow.specs.Sound.{fault_in}
+use Rattle.rb_token.specs.Token.{refusal_of_token}
+use Rattle.rb_site.specs.declared.message.Message.TheVariants.{Shadow as ShadowMessage, Token as TokenOnItsWay}
+use Rattle.rb_site.specs.declared.event.Event.{Event}
+use Rattle.rb_site.specs.declared.event.Event.TheVariants.{Submit, Receive, Apply, Pass, Balance}
+use Rattle.rb_site.specs.declared.entry.Entry.{Entry}
+use Rattle.rb_site.specs.declared.reply.Reply.{Reply}
+use Rattle.rb_site.specs.declared.reply.Reply.TheVariants.{Already, Refused, Stale}
+use Rattle.rb_site.specs.Events.{refuses_first, Answers, Applies, Drops, Holds, Makes, ModelSite, Outcome, Passes, Refuses, Takes, after_event, after_events, changed, first_site, is_full, noted, outcome_of, outcome_of_apply, outcome_of_pass, outcome_of_shadow, outcome_of_token, refuses_if, replies_to_events, reply_of, reply_to, unless_faulty, unless_known}
+use Rattle.rb_world.specs.Laws.{AreAlike, is_receive, is_refused, is_refused_receive, other_replies, without_refused}
+use Rattle.rb_world.proofs.CaughtUp
+
+-- the site with another history
+abbrev pub with_history : ModelSite → List Entry → ModelSite
+with_history t h = record t { history = h }
+
+same_outcome : (s : Settings) (t : ModelSite) (h : List Entry) (e : Event) → outcome_of s (with_history t h) e ≡ outcome_of s t e
+unfolding outcome_of outcome_of_shadow outcome_of_token outcome_of_apply outcome_of_pass
+same_outcome s t h (Submit r) = refl
+same_outcome s t h (Receive (ShadowMessage v)) = refl
+same_outcome s t h (Receive (TokenOnItsWay m)) = refl
+same_outcome s t h (Apply x) = by (find_in t.held x)
+  where
+    by : (o : Option Shadow) → outcome_of_apply s (with_history t h) o ≡ outcome_of_apply s t o
+    by None = refl
+    by (Some v) = refl
+same_outcome s t h (Pass to) = refl
+same_outcome s t h (Balance a) = refl
+
+-- ---- a refused Receive changes nothing
+
+abbrev Lets : Outcome → Type 0
+Lets o = (t : ModelSite) → is_refused (reply_of o) ≡ true → changed t o ≡ t
+
+lets_if : (b : Bool) (why : Refusal) (next : Outcome) → Lets next → Lets (refuses_if b why next)
+lets_if true why next h t e = refl
+lets_if false why next h t e = h t e
+
+lets_known : (v : Shadow) (o : Option Shadow) (next : Outcome) → Lets next → Lets (unless_known v o next)
+lets_known v None next h t e = h t e
+lets_known v (Some u) next h t e = by (same_shadow u v) e
+  where
+    by : (b : Bool) → is_refused (reply_of (cond b (Answers (Already v.name)) (Refuses Conflict))) ≡ true → changed t (cond b (Answers (Already v.name)) (Refuses Conflict)) ≡ t
+    by true k = refl
+    by false k = refl
+
+lets_refusal : (o : Option Refusal) (next : Outcome) → Lets next → Lets (refuses_first o next)
+lets_refusal None next h t e = h t e
+lets_refusal (Some why) next h t e = refl
+
+lets_fault : (o : Option ℕ) (next : Outcome) → Lets next → Lets (unless_faulty o next)
+lets_fault None next h t e = h t e
+lets_fault (Some why) next h t e = refl
+
+refused_changes_nothing : (s : Settings) (t : ModelSite) (e : Event) → is_receive e ≡ true → is_refused (reply_of (outcome_of s t e)) ≡ true → changed t (outcome_of s t e) ≡ t
+unfolding outcome_of outcome_of_shadow outcome_of_token
+refused_changes_nothing s t (Receive (ShadowMessage v)) h k =
+    lets_fault (fault_in s v) (unless_known v (find_in t.ops v.name) held) (lets_known v (find_in t.ops v.name) held
+    (lets_if (v.home == t.me) Conflict (unless_known v (find_in t.held v.name) room) (lets_known v (find_in t.held v.name) room
+    (lets_if (nat_le s.limits.inbox (length t.held) && not (is_eligible t.ops v)) InboxFull (Holds v) (λ u q. cc))))) t k
+  where
+    room : Outcome
+    room = refuses_if (nat_le s.limits.inbox (length t.held) && not (is_eligible t.ops v)) InboxFull (Holds v)
+
+    held : Outcome
+    held = refuses_if (v.home == t.me) Conflict (unless_known v (find_in t.held v.name) room)
+refused_changes_nothing s t (Receive (TokenOnItsWay m)) h k =
+    lets_refusal (refusal_of_token s.limits t.me m) (cond (nat_le m.epoch t.token.epoch) (Answers (Stale m.epoch)) (Takes m)) (last (nat_le m.epoch t.token.epoch)) t k
+  where
+    last : (b : Bool) → Lets (cond b (Answers (Stale m.epoch)) (Takes m))
+    last true u q = refl
+    last false u q = cc
+refused_changes_nothing s t (Submit r) h k = cc
+refused_changes_nothing s t (Apply x) h k = cc
+refused_changes_nothing s t (Pass to) h k = cc
+refused_changes_nothing s t (Balance a) h k = cc
+
+-- ---- one event
+
+change_alike : (t : ModelSite) (h : List Entry) (o : Outcome) → changed (with_history t h) o ≡ with_history (changed t o) h
+change_alike t h (Refuses why) = refl
+change_alike t h (Answers r) = refl
+change_alike t h (Drops x why) = refl
+change_alike t h (Makes r vs) = refl
+change_alike t h (Holds v) = refl
+change_alike t h (Applies v) = refl
+change_alike t h (Takes m) = refl
+change_alike t h (Passes m) = refl
+
+reply_roomy : (s : Settings) (t : ModelSite) (e : Event) → is_full s t ≡ false → reply_to s t e ≡ reply_of (outcome_of s t e)
+reply_roomy s t e h = ap (λ b. cond b (Refused HistoryFull) (reply_of (outcome_of s t e))) h
+
+-- the site with another history goes on alike
+goes_alike : (s : Settings) (t : ModelSite) (h : List Entry) (e : Event) → is_full s t ≡ false → is_full s (with_history t h) ≡ false
+    → (k : List Entry) × (after_event s (with_history t h) e ≡ with_history (after_event s t e) k) × (length k ≡ length h + 1)
+goes_alike s t h e room room' = (k, is, length-append h _)
+  where
+    o : Outcome
+    o = outcome_of s t e
+
+    k : List Entry
+    k = h ++ (record { event = e; reply = reply_of o }) ∷ []
+
+    is : after_event s (with_history t h) e ≡ with_history (after_event s t e) k
+    is =
+        CaughtUp.after_roomy s (with_history t h) e room'
+        ∙ ap (λ o. noted (changed (with_history t h) o) e (reply_of o)) (same_outcome s t h e)
+        ∙ ap (λ u. noted u e (reply_of o)) (change_alike t h o)
+        ∙ sym (ap (λ u. with_history u k) (CaughtUp.after_roomy s t e room))
+
+-- a refused Receive leaves the site but for the history
+stays_alike : (s : Settings) (t : ModelSite) (h : List Entry) (e : Event) → is_full s t ≡ false → is_refused_receive s t e ≡ true → with_history (after_event s t e) h ≡ with_history t h
+stays_alike s t h e room b =
+    ap (λ u. with_history u h) (CaughtUp.after_roomy s t e room)
+    ∙ ap (λ u. with_history u h) (refused_changes_nothing s t e (first _ _ b) (ap is_refused (sym (reply_roomy s t e room)) ∙ second _ _ b))
+  where
+    first : (b c : Bool) → (b && c) ≡ true → b ≡ true
+    first true c h = refl
+    first false c h = cc
+
+    second : (b c : Bool) → (b && c) ≡ true → c ≡ true
+    second true c h = h
+    second false c h = cc
+
+-- ---- a list of events
+
+no_trace_from : (s : Settings) (es : List Event) (t : ModelSite) (h : List Entry) → length t.history + length es ≤ s.limits.history → length h + length es ≤ s.limits.history
+    → AreAlike (after_events s (with_history t h) (without_refused s t es)) (after_events s t es) × (replies_to_events s (with_history t h) (without_refused s t es) ≡ other_replies s t es)
+no_trace_from s [] t h room room' = (record { me = refl; ops = refl; held = refl; token = refl }, refl)
+no_trace_from s (e ∷ es) t h room room' = by (is_refused_receive s t e) refl (λ k r r'. no_trace_from s es (after_event s t e) k r r')
+  where
+    t2 : ModelSite
+    t2 = after_event s t e
+
+    full : is_full s t ≡ false
+    full = CaughtUp.roomy s t (length es) (omega arith)
+
+    full' : is_full s (with_history t h) ≡ false
+    full' = CaughtUp.roomy s (with_history t h) (length es) (omega arith)
+
+    longer : length t2.history ≡ length t.history + 1
+    longer = CaughtUp.history_after s t e full
+
+    Says : ModelSite → List Event → List Reply → Type 0
+    Says u fs rs = AreAlike (after_events s u fs) (after_events s t2 es) × (replies_to_events s u fs ≡ rs)
+
+    Rest : Type 0
+    Rest = (k : List Entry) → length t2.history + length es ≤ s.limits.history → length k + length es ≤ s.limits.history → Says (with_history t2 k) (without_refused s t2 es) (other_replies s t2 es)
+
+    by : (b : Bool) → is_refused_receive s t e ≡ b → Rest → Says (with_history t h) (cond b (without_refused s t2 es) (e ∷ without_refused s t2 es)) (cond b (other_replies s t2 es) (reply_to s t e ∷ other_replies s t2 es))
+    by true q go = subst (λ u. Says u (without_refused s t2 es) (other_replies s t2 es)) (stays_alike s t h e full q) (go h (omega (arith, longer)) (omega arith))
+    by false q go =
+        let (k, is, more) = goes_alike s t h e full full' in
+        let r : Says (with_history t2 k) (without_refused s t2 es) (other_replies s t2 es) = go k (omega (arith, longer)) (omega arith) in
+        let r' : Says (after_event s (with_history t h) e) (without_refused s t2 es) (other_replies s t2 es) = subst (λ u. Says u (without_refused s t2 es) (other_replies s t2 es)) (sym is) r in
+        let first : reply_to s (with_history t h) e ≡ reply_to s t e = reply_roomy s (with_history t h) e full' ∙ ap reply_of (same_outcome s t h e) ∙ sym (reply_roomy s t e full) in
+        (r'.0, ap (λ x. x ∷ replies_to_events s (after_event s (with_history t h) e) (without_refused s t2 es)) first ∙ ap (λ rs. reply_to s t e ∷ rs) r'.1)
+
+pub no_trace : (s : Settings) (me : ℕ) (es : List Event) → length es ≤ s.limits.history
+    → AreAlike (after_events s (first_site me) (without_refused s (first_site me) es)) (after_events s (first_site me) es) × (replies_to_events s (first_site me) (without_refused s (first_site me) es) ≡ other_replies s (first_site me) es)
+no_trace s me es room = no_trace_from s es (first_site me) [] (omega arith) (omega arith)

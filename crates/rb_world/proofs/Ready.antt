@@ -1,0 +1,298 @@
+-- No operation of the world is refused where its past is there.
+use Rattle.std.proofs.Common.{◌≡◌, ℕ, ◌≤◌, Bool, true, false, cond, not, ◌&&◌, ◌||◌, List, [], ◌∷◌, ◌++◌, length, refl, ap, sym, ◌∙◌, arith, ◌⊎◌, inl, inr, subst, Option, Some, None}
+use Rattle.std.specs.Prelude.{slice_get, nat_lt, nat_le, ◌==◌, ℤ, pos, negsuc, ◌≤ℤ◌, option_and_then}
+use Rattle.std.proofs.lemmas.Bool.Decides.{nat_tests}
+use Rattle.std.proofs.lemmas.Int.{ints}
+use Rattle.rb_money.specs.Settings.{Settings}
+use Rattle.rb_money.specs.declared.place.Place.{Place}
+use Rattle.rb_money.specs.declared.refusal.Refusal.TheVariants.{BadMessage, Conflict, HistoryFull, InboxFull, NotReady, NotYours}
+use Rattle.rb_shadow.specs.declared.op_name.OpName.{OpName}
+use Rattle.rb_shadow.specs.declared.op_name.OpName.TheVariants.{Blue, Red}
+use Rattle.rb_shadow.specs.declared.kind.Kind.{Kind}
+use Rattle.rb_shadow.specs.declared.kind.Kind.TheVariants.{Deposit, Withdraw, Declined, Interest, Cancel}
+use Rattle.rb_shadow.specs.declared.colour.Colour.{Colour}
+use Rattle.rb_shadow.specs.declared.colour.Colour.TheVariants.{Blue as BlueColour, Red as RedColour}
+use Rattle.rb_shadow.specs.declared.shadow.Shadow.{Shadow}
+use Rattle.rb_shadow.specs.Operations.{Among, IsUnique, IsWithin, bal, colour_in, colour_of, find_in, is_eligible, is_red, kind_in, names, past, same_kind, same_numbers, same_shadow, shown_colour, target_of}
+use Rattle.rb_shadow.proofs.Members
+use Rattle.rb_shadow.proofs.Balances.{IsPart}
+use Rattle.rb_shadow.proofs.Covered
+use Rattle.rb_shadow.proofs.Eligible
+use Rattle.rb_ledger.specs.Checks.{has_wrong_target, is_negative, is_wrong_target, refusal_of_sound, same_colour}
+use Rattle.rb_token.specs.declared.message.TokenMessage.{TokenMessage}
+use Rattle.rb_money.specs.Refusals.{first_if}
+use Rattle.rb_site.specs.declared.message.Message.{Message}
+use Rattle.rb_site.specs.declared.message.Message.TheVariants.{Shadow as ShadowMessage, Token as TokenOnItsWay}
+use Rattle.rb_site.specs.declared.event.Event.{Event}
+use Rattle.rb_site.specs.declared.event.Event.TheVariants.{Apply, Receive}
+use Rattle.rb_site.specs.declared.reply.Reply.{Reply}
+use Rattle.rb_site.specs.declared.reply.Reply.TheVariants.{Already, Refused, Stale}
+use Rattle.rb_site.specs.declared.world_event.WorldEvent.TheVariants.{Deliver}
+use Rattle.rb_site.specs.Events.{refuses_first, Answers, Applies, Holds, ModelSite, Outcome, Refuses, Takes, is_full, outcome_of, outcome_of_apply, outcome_of_check, outcome_of_shadow, outcome_of_token, refuses_if, reply_of, reply_to, unless_faulty, unless_known}
+use Rattle.rb_site.specs.Worlds.{World, made_in, message_at, reply_at, reply_delivered, reply_in}
+use Rattle.rb_world.specs.Laws.{IsNeverStuck, TrustsItsOwn}
+use Rattle.rb_world.proofs.Steps
+use Rattle.rb_world.proofs.Steps.{AmongTokens}
+use Rattle.rb_world.proofs.Order
+use Rattle.rb_world.proofs.Order.{IsInOrder, IsOrderedSet, IsSerial}
+use Rattle.rb_world.proofs.Right
+use Rattle.rb_world.proofs.Right.{AreRight, HasKind}
+use Rattle.rb_world.proofs.Good.{IsGood}
+use Rattle.rb_world.proofs.Sound.{IsBounded}
+
+-- ---- equal shadows
+
+same_numbers-refl : (ns : List ℕ) → same_numbers ns ns ≡ true
+same_numbers-refl [] = refl
+same_numbers-refl (n ∷ ns) = both _ _ (grind (arith, nat_tests)) (same_numbers-refl ns)
+  where
+    both : (b c : Bool) → b ≡ true → c ≡ true → (b && c) ≡ true
+    both true c e h = h
+    both false c e h = e
+
+same_kind-refl : (k : Kind) → same_kind k k ≡ true
+same_kind-refl Deposit = refl
+same_kind-refl Withdraw = refl
+same_kind-refl Declined = refl
+same_kind-refl Interest = refl
+same_kind-refl (Cancel x) = Members.same_name-refl x
+
+both : (b c : Bool) → b ≡ true → c ≡ true → (b && c) ≡ true
+both true c e h = h
+both false c e h = e
+
+same_number : (n : ℕ) → (n == n) ≡ true
+same_number n = grind (arith, nat_tests)
+
+same_shadow-refl : (v : Shadow) → same_shadow v v ≡ true
+unfolding same_shadow
+same_shadow-refl v =
+    both _ _ (both _ _ (both _ _ (both _ _ (both _ _ (both _ _ (Members.same_name-refl v.name) (same_number v.home)) (same_numbers-refl v.deps.blue)) (same_number v.deps.red)) (same_number v.account.0)) (same_number v.amount)) (same_kind-refl v.kind)
+
+-- ---- looking up a name
+
+find_there : (us : List Shadow) (x : OpName) → names us x ≡ true → (u : Shadow) × (find_in us x ≡ Some u)
+find_there us x h = at (find_in us x) refl
+  where
+    at : (o : Option Shadow) → find_in us x ≡ o → (u : Shadow) × (find_in us x ≡ Some u)
+    at (Some u) e = (u, e)
+    at None e = absurd (Members.true≢false (sym h ∙ Steps.find_none us x e))
+
+-- what is found under an operation's name is the operation
+found_is : (all us : List Shadow) (u v : Shadow) → IsUnique all → IsPart us all → Among v all → find_in us v.name ≡ Some u → u ≡ v
+found_is all us u v unique part h e = let f : Among u us × (u.name ≡ v.name) = Steps.find_some us v.name u e in Members.same_named all u v unique (part u f.0) h f.1
+
+-- ---- the check of an operation of the world
+
+pass : {A : Type 0} (b : Bool) (x y : A) → b ≡ false → cond b x y ≡ y
+pass true x y h = cc
+pass false x y h = refl
+
+right_if : (s : Settings) (us : List Shadow) (v : Shadow)
+    → names us v.name ≡ false → is_eligible us v ≡ true → has_wrong_target us v v.kind ≡ false → shown_colour v.name ≡ colour_in us v → pos 0 ≤ℤ bal s (us ++ v ∷ []) v.account
+    → refusal_of_sound s us v ≡ None
+right_if s us v a b c d e = pass _ _ _ a ∙ pass _ _ _ (ap not b) ∙ pass _ _ _ c ∙ pass _ _ _ (coloured (shown_colour v.name) (colour_in us v) d) ∙ pass _ _ _ (Members.false-or _ _ (not_less (bal s (us ++ v ∷ []) v.account) e) refl)
+  where
+    coloured : (c d : Colour) → c ≡ d → not (same_colour c d) ≡ false
+    coloured BlueColour BlueColour e = refl
+    coloured RedColour RedColour e = refl
+    coloured BlueColour RedColour e = cc
+    coloured RedColour BlueColour e = cc
+
+    not_less : (z : ℤ) → pos 0 ≤ℤ z → is_negative z ≡ false
+    not_less (pos n) h = refl
+    not_less (negsuc n) h = absurd (omega (arith, ints))
+
+shown_blue : (x : OpName) → is_red x ≡ false → shown_colour x ≡ BlueColour
+shown_blue (Blue i n) h = refl
+shown_blue (Red n) h = cc
+
+shown_red : (x : OpName) → is_red x ≡ true → shown_colour x ≡ RedColour
+shown_red (Blue i n) h = cc
+shown_red (Red n) h = refl
+
+-- the target is in a list that has the past
+target_there : (all us : List Shadow) (v : Shadow) (x : OpName) → IsUnique all → IsPart us all → IsWithin (past v) (names us) → (h : HasKind all v (Cancel x)) → Among h.target us
+target_there all us v x unique part within h = Order.named_there all us h.target unique part h.there (ap (names us) h.named ∙ within x h.seen)
+
+colour_there : (all us : List Shadow) (v : Shadow) (k : Kind) → IsUnique all → IsUnique us → IsPart us all → IsWithin (past v) (names us) → HasKind all v k → shown_colour v.name ≡ colour_of k (option_and_then (kind_in us) (target_of k))
+colour_there all us v Deposit unique uu part within h = shown_blue v.name h
+colour_there all us v Withdraw unique uu part within h = shown_red v.name h
+colour_there all us v Declined unique uu part within h = shown_blue v.name h
+colour_there all us v Interest unique uu part within h = shown_blue v.name h
+colour_there all us v (Cancel x) unique uu part within h =
+    h.colour ∙ sym (ap (colour_of (Cancel x)) (ap (kind_in us) (sym h.named) ∙ Right.kind_in-named us h.target uu (target_there all us v x unique part within h)))
+
+right_target : (all us : List Shadow) (v : Shadow) (k : Kind) → IsUnique all → IsPart us all → IsWithin (past v) (names us) → HasKind all v k → has_wrong_target us v k ≡ false
+right_target all us v Deposit unique part within h = refl
+right_target all us v Withdraw unique part within h = refl
+right_target all us v Declined unique part within h = refl
+right_target all us v Interest unique part within h = refl
+right_target all us v (Cancel x) unique part within h =
+    let (u, e) = find_there us x (within x h.seen) in
+    let named : find_in us h.target.name ≡ Some u = ap (find_in us) h.named ∙ e in
+    let is : u ≡ h.target = found_is all us u h.target unique part h.there named in
+    ap (is_wrong_target v) e ∙ ap (λ (t : Shadow). is_wrong_target v (Some t)) is
+    ∙ Members.false-or _ _ (Members.false-or _ _ (ap not h.right.kind) (ap not (ap (λ (a : Place). a.0 == v.account.0) h.right.account ∙ same_number v.account.0))) (ap not (ap (λ n. n == v.amount) h.right.amount ∙ same_number v.amount))
+
+-- a list with one more that has its past there is closed
+closed_more : (us : List Shadow) (v : Shadow) → Covered.IsClosed us → IsWithin (past v) (names us) → Covered.IsClosed (us ++ v ∷ [])
+closed_more us v closed within u h x k = Members.names-append us (v ∷ []) x ∙ ap (λ b. b || names (v ∷ []) x) (elim (Order.last_cases us v u h) [
+  | inl i ↦ closed u i x k
+  | inr e ↦ within x (ap (λ (y : Shadow). past y x) (sym e) ∙ k)
+])
+
+pub applied_if_ready : (s : Settings) (all us : List Shadow) (v : Shadow) → IsOrderedSet all → AreRight s all → IsSerial all us → Among v all → names us v.name ≡ false → IsWithin (past v) (names us) → refusal_of_sound s us v ≡ None
+applied_if_ready s all us v o right l there fresh within =
+    right_if s us v fresh (Eligible.eligible_from us v within)
+    (right_target all us v v.kind o.unique l.part within (right v there).kind)
+    (colour_there all us v v.kind o.unique l.unique l.part within (right v there).kind)
+    (Right.never_negative s all (us ++ v ∷ []) v.account o right
+    (λ u h. elim (Order.last_cases us v u h) [ inl k ↦ l.part u k | inr e ↦ subst (λ w. Among w all) (sym e) there ])
+    (Members.IsUnique-push us v l.unique fresh)
+    (closed_more us v (λ u h. Order.past_inside us u l.past_before h) within))
+
+-- ---- the replies
+
+pub site_applies : (s : Settings) (w : World) (i : ℕ) (t : ModelSite) (v : Shadow) → IsGood s w → slice_get w.sites i ≡ Some t → Among v t.held → IsWithin (past v) (names t.ops) → outcome_of s t (Apply v.name) ≡ Applies v
+unfolding outcome_of outcome_of_apply
+site_applies s w i t v g at held within =
+    let (u, e) = find_there t.held v.name (Members.named t.held v held) in
+    let is : u ≡ v = found_is (made_in w) t.held u v g.order.order.unique here.held (here.held v held) e in
+    let ok : refusal_of_sound s t.ops v ≡ None = applied_if_ready s (made_in w) t.ops v g.order.order g.right (Order.serial_at (made_in w) i t here) (here.held v held) (g.inbox i t at v held) within in
+    ap (outcome_of_apply s t) e ∙ ap (λ (x : Shadow). outcome_of_apply s t (Some x)) is
+    ∙ ap (λ b. refuses_if (not b) NotReady (outcome_of_check v (refusal_of_sound s t.ops v))) (Eligible.eligible_from t.ops v within)
+    ∙ ap (outcome_of_check v) ok
+  where
+    here : IsInOrder (made_in w) i t
+    here = g.order.sites i t at
+
+-- what a site answers to an operation of the world
+abbrev pub IsTrusting : Settings → ModelSite → Shadow → Outcome → Type 0
+IsTrusting s t v o = ((o ≡ Answers (Already v.name)) × ((names t.ops v.name ≡ true) ⊎ Among v t.held)) ⊎ ((o ≡ Holds v) ⊎ ((o ≡ Refuses InboxFull) × (is_eligible t.ops v ≡ false)))
+
+pub site_receives : (s : Settings) (w : World) (i : ℕ) (t : ModelSite) (v : Shadow) → IsGood s w → IsBounded s w → slice_get w.sites i ≡ Some t → Among v (made_in w) → IsTrusting s t v (outcome_of_shadow s t v)
+unfolding outcome_of_shadow
+site_receives s w i t v g b at made = subst (IsTrusting s t v) (sym (ap (λ o. unless_faulty o next) (b.sound v made))) (by_ops (find_in t.ops v.name) refl)
+  where
+    here : IsInOrder (made_in w) i t
+    here = g.order.sites i t at
+
+    room : Outcome
+    room = refuses_if (nat_le s.limits.inbox (length t.held) && not (is_eligible t.ops v)) InboxFull (Holds v)
+
+    next : Outcome
+    next = unless_known v (find_in t.ops v.name) (refuses_if (v.home == t.me) Conflict (unless_known v (find_in t.held v.name) room))
+
+    known : (u : Shadow) (us : List Shadow) (o : Outcome) → IsPart us (made_in w) → find_in us v.name ≡ Some u → unless_known v (Some u) o ≡ Answers (Already v.name)
+    known u us o part e = let is : u ≡ v = found_is (made_in w) us u v g.order.order.unique part made e in
+        ap (λ c. cond c (Answers (Already v.name)) (Refuses Conflict)) (ap (λ (x : Shadow). same_shadow x v) is ∙ same_shadow-refl v)
+
+    by_room : (b : Bool) (c : Bool) → is_eligible t.ops v ≡ c → IsTrusting s t v (refuses_if (b && not c) InboxFull (Holds v))
+    by_room false c e = inr (inl refl)
+    by_room true true e = inr (inl refl)
+    by_room true false e = inr (inr (refl, e))
+
+    by_held : (o : Option Shadow) → find_in t.held v.name ≡ o → IsTrusting s t v (unless_known v o room)
+    by_held None e = by_room (nat_le s.limits.inbox (length t.held)) (is_eligible t.ops v) refl
+    by_held (Some u) e = inl (known u t.held room here.held e, inr (subst (λ x. Among x t.held) (found_is (made_in w) t.held u v g.order.order.unique here.held made e) (Steps.find_some t.held v.name u e).0))
+
+    away : find_in t.ops v.name ≡ None → (v.home == t.me) ≡ false
+    away e = elim (Members.bool_cases (v.home == t.me)) [
+      | inl k ↦ absurd (Members.true≢false (sym (Members.named t.ops v (here.own v made (home (v.home) t.me k ∙ g.place.numbered i t at))) ∙ Steps.find_none t.ops v.name e))
+      | inr k ↦ k
+    ]
+      where
+        home : (a b : ℕ) → (a == b) ≡ true → a ≡ b
+        home a b h = grind (arith, nat_tests)
+
+    by_ops : (o : Option Shadow) → find_in t.ops v.name ≡ o → IsTrusting s t v (unless_known v o (refuses_if (v.home == t.me) Conflict (unless_known v (find_in t.held v.name) room)))
+    by_ops (Some u) e = inl (known u t.ops (refuses_if (v.home == t.me) Conflict (unless_known v (find_in t.held v.name) room)) here.part e, inl (let f : Among u t.ops × (u.name ≡ v.name) = Steps.find_some t.ops v.name u e in ap (names t.ops) (sym f.1) ∙ Members.named t.ops u f.0))
+    by_ops None e = subst (λ c. IsTrusting s t v (refuses_if c Conflict (unless_known v (find_in t.held v.name) room))) (sym (away e)) (by_held (find_in t.held v.name) refl)
+
+-- ---- the laws
+
+-- the reply of a site with room
+roomy : (s : Settings) (t : ModelSite) (e : Event) → is_full s t ≡ false → reply_to s t e ≡ reply_of (outcome_of s t e)
+roomy s t e h = ap (λ b. cond b (Refused HistoryFull) (reply_of (outcome_of s t e))) h
+
+pub received : (s : Settings) (t : ModelSite) (v : Shadow) → outcome_of s t (Receive (ShadowMessage v)) ≡ outcome_of_shadow s t v
+unfolding outcome_of
+received s t v = refl
+
+received_token : (s : Settings) (t : ModelSite) (m : TokenMessage) → outcome_of s t (Receive (TokenOnItsWay m)) ≡ outcome_of_token s t m
+unfolding outcome_of
+received_token s t m = refl
+
+sent_shadow : (w : World) (k : ℕ) (v : Shadow) → message_at w.messages k ≡ Some (ShadowMessage v) → Among v (made_in w)
+sent_shadow w k v h = Steps.sent_message w.messages k (ShadowMessage v) h
+
+reply_there : (s : Settings) (w : World) (i k : ℕ) (t : ModelSite) (m : Message) → slice_get w.sites i ≡ Some t → message_at w.messages k ≡ Some m → reply_in s w (Deliver i k) ≡ reply_to s t (Receive m)
+reply_there s w i k t m at h = ap (λ o. reply_delivered s w i o (message_at w.messages k)) at ∙ ap (reply_delivered s w i (Some t)) h
+
+pub never_stuck : (s : Settings) (w : World) → IsGood s w → IsBounded s w → IsNeverStuck s w
+never_stuck s w g b = record {
+  delivered = λ i t at room v k h within.
+      let reply : reply_in s w (Deliver i k) ≡ reply_of (outcome_of_shadow s t v) = reply_there s w i k t (ShadowMessage v) at h ∙ roomy s t (Receive (ShadowMessage v)) room ∙ ap reply_of (received s t v) in
+      elim (site_receives s w i t v g b at (sent_shadow w k v h)) [
+        | inl e ↦ inr (reply ∙ ap reply_of e.0)
+        | inr q ↦ elim q [
+          | inl e ↦ inl (reply ∙ ap reply_of e)
+          | inr e ↦ absurd (Members.true≢false (sym (Eligible.eligible_from t.ops v within) ∙ e.1))
+        ]
+      ];
+  applied = λ i t at room v held within.
+      ap (reply_at s (Apply v.name)) at ∙ roomy s t (Apply v.name) room ∙ ap reply_of (site_applies s w i t v g at held within);
+}
+
+-- neither refusal
+abbrev Trusts : Reply → Type 0
+Trusts r = (r ≡ Refused Conflict → ⊥) × ((why : ℕ) → r ≡ Refused (BadMessage why) → ⊥)
+
+trusts_full : Trusts (Refused HistoryFull)
+trusts_full = (λ e. cc, λ why e. cc)
+
+trusts_shadow : (s : Settings) (t : ModelSite) (v : Shadow) (o : Outcome) → IsTrusting s t v o → Trusts (reply_of o)
+trusts_shadow s t v o (inl e) = subst (λ o. Trusts (reply_of o)) (sym e.0) (λ e. cc, λ why e. cc)
+trusts_shadow s t v o (inr (inl e)) = subst (λ o. Trusts (reply_of o)) (sym e) (λ e. cc, λ why e. cc)
+trusts_shadow s t v o (inr (inr e)) = subst (λ o. Trusts (reply_of o)) (sym e.0) (λ e. cc, λ why e. cc)
+
+trusts_token : (s : Settings) (t : ModelSite) (m : TokenMessage) → m.epoch ≤ s.limits.epoch → m.red ≤ s.limits.red → Trusts (reply_of (outcome_of_token s t m))
+unfolding outcome_of_token
+trusts_token s t m epoch red = by_to (not (m.to == t.me))
+  where
+    rest : Outcome
+    rest = cond (nat_le m.epoch t.token.epoch) (Answers (Stale m.epoch)) (Takes m)
+
+    within : (nat_lt s.limits.epoch m.epoch || nat_lt s.limits.red m.red) ≡ false
+    within = Members.false-or (nat_lt s.limits.epoch m.epoch) (nat_lt s.limits.red m.red) (grind (arith, nat_tests)) (grind (arith, nat_tests))
+
+    last : (b : Bool) → Trusts (reply_of (cond b (Answers (Stale m.epoch)) (Takes m)))
+    last true = (λ e. cc, λ why e. cc)
+    last false = (λ e. cc, λ why e. cc)
+
+    by_to : (b : Bool) → Trusts (reply_of (refuses_first (first_if b NotYours (first_if (nat_lt s.limits.epoch m.epoch || nat_lt s.limits.red m.red) (BadMessage 2) None)) rest))
+    by_to true = (λ e. cc, λ why e. cc)
+    by_to false = subst (λ b. Trusts (reply_of (refuses_first (first_if b (BadMessage 2) None) rest))) (sym within) (last (nat_le m.epoch t.token.epoch))
+
+trusts_site : (s : Settings) (w : World) (i : ℕ) (t : ModelSite) (m : Message) → IsGood s w → IsBounded s w → slice_get w.sites i ≡ Some t → Steps.IsSent w.messages m → Trusts (reply_to s t (Receive m))
+trusts_site s w i t m g b at sent = by_room (is_full s t)
+  where
+    by_message : (m : Message) → Steps.IsSent w.messages m → Trusts (reply_of (outcome_of s t (Receive m)))
+    by_message (ShadowMessage v) h = subst (λ o. Trusts (reply_of o)) (sym (received s t v)) (trusts_shadow s t v (outcome_of_shadow s t v) (site_receives s w i t v g b at h))
+    by_message (TokenOnItsWay m) h = let q = b.tokens m h in subst (λ o. Trusts (reply_of o)) (sym (received_token s t m)) (trusts_token s t m q.0 q.1)
+
+    by_room : (c : Bool) → Trusts (cond c (Refused HistoryFull) (reply_of (outcome_of s t (Receive m))))
+    by_room true = trusts_full
+    by_room false = by_message m sent
+
+pub trusts_its_own : (s : Settings) (w : World) → IsGood s w → IsBounded s w → TrustsItsOwn s w
+trusts_its_own s w g b i k = by_site (slice_get w.sites i) refl
+  where
+    by_message : (t : ModelSite) → slice_get w.sites i ≡ Some t → (o : Option Message) → message_at w.messages k ≡ o → Trusts (reply_delivered s w i (Some t) o)
+    by_message t at None h = (λ e. cc, λ why e. cc)
+    by_message t at (Some m) h = trusts_site s w i t m g b at (Steps.sent_message w.messages k m h)
+
+    by_site : (o : Option ModelSite) → slice_get w.sites i ≡ o → Trusts (reply_delivered s w i o (message_at w.messages k))
+    by_site None h = (λ e. cc, λ why e. cc)
+    by_site (Some t) h = by_message t h (message_at w.messages k) refl

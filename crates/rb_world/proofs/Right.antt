@@ -1,0 +1,261 @@
+-- Each operation made has its kind's colour and target, and each red one was covered where it was made.
+use Rattle.std.proofs.Common.{◌≡◌, ℕ, Bool, true, false, cond, ◌&&◌, List, [], ◌∷◌, ◌++◌, refl, ap, sym, ◌∙◌, arith, inl, inr, subst, Some}
+use Rattle.std.specs.Prelude.{◌==◌, ℤ, pos, negsuc, neg_ℤ, ◌+ℤ◌, ◌≤ℤ◌, int_lt, option_and_then}
+use Rattle.std.proofs.lemmas.Bool.Decides.{nat_tests}
+use Rattle.std.proofs.lemmas.Int.{ints}
+use Rattle.rb_money.specs.Settings.{Settings}
+use Rattle.rb_money.specs.declared.place.Place.{Place}
+use Rattle.rb_shadow.specs.declared.op_name.OpName.{OpName}
+use Rattle.rb_shadow.specs.declared.op_name.OpName.TheVariants.{Blue, Red}
+use Rattle.rb_shadow.specs.declared.kind.Kind.{Kind}
+use Rattle.rb_shadow.specs.declared.kind.Kind.TheVariants.{Deposit, Withdraw, Declined, Interest, Cancel}
+use Rattle.rb_shadow.specs.declared.colour.Colour.{Colour}
+use Rattle.rb_shadow.specs.declared.colour.Colour.TheVariants.{Blue as BlueColour, Red as RedColour}
+use Rattle.rb_shadow.specs.declared.shadow.Shadow.{Shadow}
+use Rattle.rb_shadow.specs.Operations.{Among, AreSame, IsUnique, bal, cancels, colour_of, is_cancel, is_cancelled, is_red, kind_in, names, past, same_name, shown_colour, target_of}
+use Rattle.rb_shadow.proofs.Members
+use Rattle.rb_shadow.proofs.Balances
+use Rattle.rb_shadow.proofs.Balances.{IsPart}
+use Rattle.rb_shadow.proofs.Covered
+use Rattle.rb_shadow.proofs.Covered.{IsCovered, adds, is_withdraw}
+use Rattle.rb_ledger.specs.Valid.{HasTarget, IsTargetOf}
+use Rattle.rb_ledger.specs.Checks.{is_negative, overdraws}
+use Rattle.rb_ledger.proofs.Pushes
+use Rattle.rb_scratch.specs.Requests.{Plan, colour_of_plan, next_name, operation_of}
+use Rattle.rb_token.specs.Token.{Token}
+use Rattle.rb_scratch.proofs.Planned.{IsPlanned, planned}
+use Rattle.rb_scratch.proofs.Made.{IsAllowed, IsMadeAt}
+use Rattle.rb_world.proofs.Order
+use Rattle.rb_world.proofs.Order.{IsInOrder, IsNew, IsOrdered, IsOrderedSet, IsSerial}
+
+-- ---- what is known of an operation's kind
+
+-- what it cancels, and the colour that goes with it
+pub record IsCancelOf (all : List Shadow) (v : Shadow) (x : OpName) : Type 0 where
+  pub target : Shadow
+  pub there : Among target all
+  pub named : target.name ≡ x
+  pub seen : past v x ≡ true
+  pub right : IsTargetOf v target
+  pub colour : shown_colour v.name ≡ colour_of (Cancel x) (Some target.kind)
+
+abbrev pub HasKind : List Shadow → Shadow → Kind → Type 0
+HasKind all v Deposit = is_red v.name ≡ false
+HasKind all v Withdraw = is_red v.name ≡ true
+HasKind all v Declined = is_red v.name ≡ false
+HasKind all v Interest = is_red v.name ≡ false
+HasKind all v (Cancel x) = IsCancelOf all v x
+
+-- its home had applied its past, and had the money
+pub record IsPaidFor (s : Settings) (all : List Shadow) (v : Shadow) : Type 0 where
+  pub before : List Shadow
+  pub part : IsPart before all
+  pub unique : IsUnique before
+  pub is_past : AreSame (names before) (past v)
+  pub covered : (a : Place) → pos 0 ≤ℤ bal s (before ++ v ∷ []) a
+
+pub record IsRight (s : Settings) (all : List Shadow) (v : Shadow) : Type 0 where
+  pub kind : HasKind all v v.kind
+  pub paid : is_red v.name ≡ true → IsPaidFor s all v
+
+abbrev pub AreRight : Settings → List Shadow → Type 0
+AreRight s all = (v : Shadow) → Among v all → IsRight s all v
+
+-- ---- no balance of a closed part is negative
+
+pub is_red-shown : (x : OpName) (c : Colour) → shown_colour x ≡ c → c ≡ RedColour → is_red x ≡ true
+is_red-shown (Blue i n) c e k = cc
+is_red-shown (Red n) c e k = refl
+
+red_to_undo : (x : OpName) (k : Kind) → adds k ≡ true → colour_of (Cancel x) (Some k) ≡ RedColour
+red_to_undo x Deposit h = refl
+red_to_undo x Withdraw h = cc
+red_to_undo x Declined h = cc
+red_to_undo x Interest h = refl
+red_to_undo x (Cancel y) h = cc
+
+withdraw_red : (all : List Shadow) (v : Shadow) (k : Kind) → HasKind all v k → is_withdraw k ≡ true → is_red v.name ≡ true
+withdraw_red all v Deposit h e = cc
+withdraw_red all v Withdraw h e = h
+withdraw_red all v Declined h e = cc
+withdraw_red all v Interest h e = cc
+withdraw_red all v (Cancel x) h e = cc
+
+cancel_red : (all : List Shadow) (u c : Shadow) (k : Kind) → IsUnique all → Among u all → HasKind all c k → cancels k u.name ≡ true → adds u.kind ≡ true → is_red c.name ≡ true
+cancel_red all u c Deposit unique there h e a = cc
+cancel_red all u c Withdraw unique there h e a = cc
+cancel_red all u c Declined unique there h e a = cc
+cancel_red all u c Interest unique there h e a = cc
+cancel_red all u c (Cancel x) unique there h e a =
+    let same : h.target ≡ u = Members.same_named all h.target u unique h.there there (h.named ∙ Members.same_name-true x u.name e) in
+    is_red-shown c.name _ h.colour (red_to_undo x h.target.kind (ap (λ (t : Shadow). adds t.kind) same ∙ a))
+
+pub is_covered : (s : Settings) (all : List Shadow) → IsUnique all → AreRight s all → IsCovered s all
+is_covered s all unique right = record {
+  withdraw_red = λ u h e. withdraw_red all u u.kind (right u h).kind e;
+  cancel_red = λ u c h k e a. cancel_red all u c c.kind unique h (right c k).kind e a;
+  checked = λ r h red. let p : IsPaidFor s all r = (right r h).paid red in (p.before, p.part, p.unique, p.is_past, p.covered);
+}
+
+-- no balance of a closed part is negative
+pub never_negative : (s : Settings) (all us : List Shadow) (a : Place) → IsOrderedSet all → AreRight s all → IsPart us all → IsUnique us → Covered.IsClosed us → pos 0 ≤ℤ bal s us a
+never_negative s all us a o right part unique closed =
+    Covered.never_negative s all us a o.unique
+    (λ u v h k p q. o.reds u v h k p q)
+    (λ t u v h k l p q. o.transitive u v k l q t.name p)
+    (λ u h p. Members.true≢false (sym p ∙ (o.each u h).irreflexive))
+    (is_covered s all o.unique right) part unique closed
+
+pub list_never_negative : (s : Settings) (all us : List Shadow) (a : Place) → IsOrderedSet all → AreRight s all → IsSerial all us → pos 0 ≤ℤ bal s us a
+list_never_negative s all us a o right l = never_negative s all us a o right l.part l.unique (λ v h. Order.past_inside us v l.past_before h)
+
+-- ---- what is made is right
+
+not_below : (z : ℤ) (n : ℕ) → int_lt z (pos n) ≡ false → pos n ≤ℤ z
+not_below z n h = grind (arith, ints)
+
+not_negative : (z : ℤ) → is_negative z ≡ false → pos 0 ≤ℤ z
+not_negative (pos n) h = omega (arith, ints)
+not_negative (negsuc n) h = cc
+
+pub kind_in-named : (us : List Shadow) (t : Shadow) → IsUnique us → Among t us → kind_in us t.name ≡ Some t.kind
+kind_in-named [] t unique h = elim h [ ]
+kind_in-named (u ∷ us) t unique (inl e) = ap (λ (w : Shadow). cond (same_name w.name t.name) (Some w.kind) (kind_in us t.name)) (sym e) ∙ ap (λ b. cond b (Some t.kind) (kind_in us t.name)) (Members.same_name-refl t.name)
+kind_in-named (u ∷ us) t unique (inr h) = ap (λ b. cond b (Some u.kind) (kind_in us t.name)) (Members.not_same u.name t.name (λ e. Members.true≢false (sym (Members.named us t h) ∙ ap (names us) (sym e) ∙ unique.0))) ∙ kind_in-named us t unique.1 h
+
+shown-next : (me : ℕ) (us : List Shadow) (c : Colour) → shown_colour (next_name me us c) ≡ c
+shown-next me us BlueColour = refl
+shown-next me us RedColour = refl
+
+is_red-next : (me : ℕ) (us : List Shadow) (c : Colour) (k : Bool) → k ≡ is_red (next_name me us c) → c ≡ BlueColour → k ≡ false
+is_red-next me us BlueColour k e h = e
+is_red-next me us RedColour k e h = cc
+
+red_name : (me : ℕ) (us : List Shadow) (x : OpName) → x ≡ next_name me us RedColour → is_red x ≡ true
+red_name me us x e = ap is_red e
+
+blue_name : (me : ℕ) (us : List Shadow) (x : OpName) → x ≡ next_name me us BlueColour → is_red x ≡ false
+blue_name me us x e = ap is_red e
+
+-- the colour of a plan, by its kind
+plan_colour : (us : List Shadow) (p : Plan) (k : Kind) → p.kind ≡ k → colour_of_plan us p ≡ colour_of k (option_and_then (kind_in us) (target_of k))
+plan_colour us p k e = ap (λ k. colour_of k (option_and_then (kind_in us) (target_of k))) e
+
+pub record Made (s : Settings) (us : List Shadow) (me : ℕ) (v : Shadow) (p : Plan) : Type 0 where
+  pub name : v.name ≡ next_name me us (colour_of_plan us p)
+  pub account : v.account ≡ p.account
+  pub amount : v.amount ≡ p.amount
+  pub kind : v.kind ≡ p.kind
+
+pub fields : (s : Settings) (us : List Shadow) (me : ℕ) (v : Shadow) (p : Plan) → v ≡ operation_of me us p → Made s us me v p
+unfolding operation_of
+fields s us me v p e = record { name = ap (λ (x : Shadow). x.name) e; account = ap (λ (x : Shadow). x.account) e; amount = ap (λ (x : Shadow). x.amount) e; kind = ap (λ (x : Shadow). x.kind) e }
+
+kind_made : (s : Settings) (all us : List Shadow) (me : ℕ) (v : Shadow) (p : Plan) (k : Kind) → IsUnique us → IsPart us all → AreSame (past v) (names us) → Made s us me v p → p.kind ≡ k → IsPlanned s us p k → HasKind all v k
+kind_made s all us me v p Deposit unique part is_past m e h = blue_name me us v.name (m.name ∙ ap (next_name me us) (plan_colour us p Deposit e))
+kind_made s all us me v p Withdraw unique part is_past m e h = red_name me us v.name (m.name ∙ ap (next_name me us) (plan_colour us p Withdraw e))
+kind_made s all us me v p Declined unique part is_past m e h = blue_name me us v.name (m.name ∙ ap (next_name me us) (plan_colour us p Declined e))
+kind_made s all us me v p Interest unique part is_past m e h = blue_name me us v.name (m.name ∙ ap (next_name me us) (plan_colour us p Interest e))
+kind_made s all us me v p (Cancel x) unique part is_past m e h = record {
+  target = h.target;
+  there = part h.target h.there;
+  named = h.named;
+  seen = is_past x ∙ ap (names us) (sym h.named) ∙ Members.named us h.target h.there;
+  right = record { kind = h.kind; account = h.account ∙ sym m.account; amount = h.amount ∙ sym m.amount };
+  colour = ap shown_colour m.name ∙ shown-next me us (colour_of_plan us p) ∙ plan_colour us p (Cancel x) e ∙ ap (colour_of (Cancel x)) (ap (kind_in us) (sym h.named) ∙ kind_in-named us h.target unique h.there);
+}
+
+-- what is made has its target in the list
+target_made : (s : Settings) (us : List Shadow) (me : ℕ) (v : Shadow) (p : Plan) (k : Kind) → Made s us me v p → IsPlanned s us p k → HasTarget us v k
+target_made s us me v p Deposit m h = tt
+target_made s us me v p Withdraw m h = tt
+target_made s us me v p Declined m h = tt
+target_made s us me v p Interest m h = tt
+target_made s us me v p (Cancel x) m h = (h.target, h.there, h.named, record { kind = h.kind; account = h.account ∙ sym m.account; amount = h.amount ∙ sym m.amount })
+
+-- nothing of the set cancels a name that isn't there
+not_cancelled : (s : Settings) (all us : List Shadow) (x : OpName) → AreRight s all → IsPart us all → names all x ≡ false → is_cancelled us x ≡ false
+not_cancelled s all us x right part fresh = elim (Members.bool_cases (is_cancelled us x)) [
+  | inl e ↦ (let (c, there, by) = Balances.cancelled_by us x e in absurd (never c c.kind (right c (part c there)).kind by))
+  | inr e ↦ e
+]
+  where
+    never : (c : Shadow) (k : Kind) → HasKind all c k → cancels k x ≡ true → ⊥
+    never c Deposit h e = cc
+    never c Withdraw h e = cc
+    never c Declined h e = cc
+    never c Interest h e = cc
+    never c (Cancel y) h e = Members.true≢false (sym (Members.named all h.target h.there) ∙ ap (names all) (h.named ∙ Members.same_name-true y x e) ∙ fresh)
+
+same_place : (a b : Place) → (a.0 == b.0) ≡ true → a ≡ b
+same_place a b h = let e : a.0 ≡ b.0 = grind (arith, nat_tests) in ap (λ n. let p : Place = record { 0 = n } in p) e
+
+-- a red operation leaves no account below zero
+covered_made : (s : Settings) (us : List Shadow) (me : ℕ) (token : Token) (v : Shadow) (p : Plan) (k : Kind) (a : Place)
+    → Made s us me v p → p.kind ≡ k → IsPlanned s us p k → ((b : Place) → pos 0 ≤ℤ bal s us b)
+    → bal s (us ++ v ∷ []) a ≡ bal s us a +ℤ Pushes.change us v a
+    → is_red v.name ≡ true → IsAllowed s us token v v.name → HasKind us v k → pos 0 ≤ℤ bal s (us ++ v ∷ []) a
+covered_made s us me token v p k a m e h base push red fair kind = elim (Members.bool_cases (v.account.0 == a.0)) [
+  | inl q ↦ own k e h kind (same_place v.account a q) (ap (λ b. cond b (Pushes.change_of us v.kind v.amount) (pos 0)) q)
+  | inr q ↦ (let z : Pushes.change us v a ≡ pos 0 = ap (λ b. cond b (Pushes.change_of us v.kind v.amount) (pos 0)) q in omega (arith, ints, push, z, base a))
+]
+  where
+    overdrawn : (x : OpName) → IsAllowed s us token v x → is_red x ≡ true → (is_cancel v.kind && overdraws s us v) ≡ false
+    overdrawn (Blue i n) f r = cc
+    overdrawn (Red n) f r = f.2
+
+    second : (b c : Bool) → b ≡ true → (b && c) ≡ false → c ≡ false
+    second true c q r = r
+    second false c q r = cc
+
+    own : (k : Kind) → p.kind ≡ k → IsPlanned s us p k → HasKind us v k → v.account ≡ a → Pushes.change us v a ≡ Pushes.change_of us v.kind v.amount → pos 0 ≤ℤ bal s (us ++ v ∷ []) a
+    own Deposit e h kind q z = absurd (Members.true≢false (sym red ∙ kind))
+    own Declined e h kind q z = absurd (Members.true≢false (sym red ∙ kind))
+    own Interest e h kind q z = absurd (Members.true≢false (sym red ∙ kind))
+    own Withdraw e h kind q z =
+        let enough : pos p.amount ≤ℤ bal s us p.account = not_below _ _ h.1 in
+        let here : bal s us p.account ≡ bal s us a = ap (bal s us) (sym m.account ∙ q) in
+        let takes : Pushes.change us v a ≡ neg_ℤ (pos p.amount) = z ∙ ap (λ k. Pushes.change_of us k v.amount) (m.kind ∙ e) ∙ ap (λ n. neg_ℤ (pos n)) m.amount in
+        omega (arith, ints, enough, here, takes, push)
+    own (Cancel x) e h kind q z =
+        subst (λ b. pos 0 ≤ℤ bal s (us ++ v ∷ []) b) q (not_negative _ (Members.or-false _ _ (second (is_cancel v.kind) (overdraws s us v) (ap is_cancel (m.kind ∙ e)) (overdrawn v.name fair red))).0)
+
+pub right_made : (s : Settings) (all us : List Shadow) (me : ℕ) (token : Token) (v : Shadow) → IsOrderedSet all → AreRight s all → IsSerial all us → IsNew all us v → IsMadeAt s me us token v → IsRight s (all ++ v ∷ []) v
+right_made s all us me token v o right l n made = record {
+  kind = kind v.kind (m.kind);
+  paid = λ red. record {
+    before = us;
+    part = λ u h. Order.part-more all v u (l.part u h);
+    unique = l.unique;
+    is_past = λ x. sym (n.is_past x);
+    covered = λ a. covered_made s us me token v made.plan made.plan.kind a m refl plan (λ b. list_never_negative s all us b o right l)
+        (Pushes.bal-push s us v a l.unique (not_cancelled s all us v.name right l.part n.fresh) (subst (HasTarget us v) (sym m.kind) (target_made s us me v made.plan made.plan.kind m plan)))
+        red made.fair (kind_made s us us me v made.plan made.plan.kind l.unique (λ u h. h) n.is_past m refl plan);
+  };
+}
+  where
+    m : Made s us me v made.plan
+    m = fields s us me v made.plan made.is
+
+    plan : IsPlanned s us made.plan made.plan.kind
+    plan = planned s us made.request made.plan made.planned
+
+    kind : (k : Kind) → k ≡ made.plan.kind → HasKind (all ++ v ∷ []) v k
+    kind k e = subst (HasKind (all ++ v ∷ []) v) (sym e) (kind_made s (all ++ v ∷ []) us me v made.plan made.plan.kind l.unique (λ u h. Order.part-more all v u (l.part u h)) n.is_past m refl plan)
+
+-- what is right stays so
+has_kind-more : (all : List Shadow) (v u : Shadow) (k : Kind) → HasKind all u k → HasKind (all ++ v ∷ []) u k
+has_kind-more all v u Deposit h = h
+has_kind-more all v u Withdraw h = h
+has_kind-more all v u Declined h = h
+has_kind-more all v u Interest h = h
+has_kind-more all v u (Cancel x) h = record { target = h.target; there = Order.part-more all v h.target h.there; named = h.named; seen = h.seen; right = h.right; colour = h.colour }
+
+right-more : (s : Settings) (all : List Shadow) (v u : Shadow) → IsRight s all u → IsRight s (all ++ v ∷ []) u
+right-more s all v u r = record {
+  kind = has_kind-more all v u u.kind r.kind;
+  paid = λ red. let p : IsPaidFor s all u = r.paid red in record { before = p.before; part = λ w h. Order.part-more all v w (p.part w h); unique = p.unique; is_past = p.is_past; covered = p.covered };
+}
+
+pub are_right-more : (s : Settings) (all : List Shadow) (v : Shadow) → AreRight s all → IsRight s (all ++ v ∷ []) v → AreRight s (all ++ v ∷ [])
+are_right-more s all v right r u h = elim (Order.last_cases all v u h) [ inl k ↦ right-more s all v u (right u k) | inr e ↦ subst (IsRight s (all ++ v ∷ [])) (sym e) r ]

@@ -1,0 +1,324 @@
+-- What an event of the world comes to, case by case.
+use Rattle.std.proofs.Common.{◌≡◌, ◌≢◌, ℕ, zero, suc, ◌+◌, ◌<◌, ◌≤◌, Bool, true, false, cond, not, ◌&&◌, ◌||◌, List, [], ◌∷◌, ◌++◌, length, refl, ap, sym, ◌∙◌, arith, ◌⊎◌, inl, inr, subst, Option, Some, None, Result, Ok, Err, append_assoc}
+use Rattle.std.specs.Prelude.{slice_get, slice_set, map, nat_lt, nat_le, ◌==◌, max, take}
+use Rattle.std.proofs.lemmas.List.{append-nil}
+use Rattle.std.proofs.lemmas.Bool.Decides.{nat_tests}
+use Rattle.rb_money.specs.Settings.{Settings, is_account}
+use Rattle.rb_money.specs.declared.refusal.Refusal.{Refusal}
+use Rattle.rb_money.specs.declared.refusal.Refusal.TheVariants.{Conflict, NotReady, InboxFull, PositionBeyond}
+use Rattle.rb_site.specs.declared.reply.Reply.TheVariants.{Already, Stale, Balance as BalanceIs}
+use Rattle.rb_shadow.specs.declared.op_name.OpName.{OpName}
+use Rattle.rb_shadow.specs.declared.shadow.Shadow.{Shadow}
+use Rattle.rb_shadow.specs.Operations.{Among, same_name, names, red_count, bal, find_in, is_eligible, same_shadow}
+use Rattle.rb_shadow.specs.Sound.{fault_in}
+use Rattle.rb_shadow.proofs.Members
+use Rattle.rb_ledger.specs.Checks.{refusal_of_sound}
+use Rattle.rb_token.specs.declared.message.TokenMessage.{TokenMessage}
+use Rattle.rb_site.specs.declared.message.Message.{Message}
+use Rattle.rb_site.specs.declared.message.Message.TheVariants.{Shadow as ShadowMessage, Token as TokenOnItsWay}
+use Rattle.rb_site.specs.declared.event.Event.{Event}
+use Rattle.rb_site.specs.declared.event.Event.TheVariants.{Submit, Receive, Apply, Pass, Balance}
+use Rattle.rb_site.specs.declared.entry.Entry.{Entry}
+use Rattle.rb_site.specs.declared.world_event.WorldEvent.{WorldEvent}
+use Rattle.rb_site.specs.declared.world_event.WorldEvent.TheVariants.{At, Deliver}
+use Rattle.rb_token.specs.Token.{refusal_of_pass, refusal_of_token}
+use Rattle.rb_money.specs.Amounts.{cents}
+use Rattle.rb_scratch.proofs.Made.{AreMadeAt, IsMadeAt, made_is, not_true, past_first}
+use Rattle.rb_site.specs.Events.{refuses_first, ModelSite, Outcome, Refuses, Drops, Answers, Makes, Holds, Applies, Takes, Passes, outcome_of, outcome_of_made, outcome_of_shadow, outcome_of_token, outcome_of_apply, outcome_of_pass, refuses_if, changed, noted, is_full, sent_by, reply_of, outcome_of_check, unless_faulty, unless_known}
+use Rattle.rb_inbox.specs.Held.{with_held, without}
+use Rattle.rb_site.specs.Worlds.{World, shadows_in, tokens_in, message_at, world_at, world_delivered, world_after, world_after_all, IsOwn, AreOwn}
+use Rattle.rb_world.specs.Laws.{EachSite}
+
+-- ---- what is known where an event comes to an outcome
+
+-- one of the token messages
+abbrev pub AmongTokens : TokenMessage → List TokenMessage → Type 0
+AmongTokens m [] = ⊥
+AmongTokens m (n ∷ ns) = (m ≡ n) ⊎ AmongTokens m ns
+
+-- what is received was sent
+abbrev pub IsSent : List Message → Message → Type 0
+IsSent ms (ShadowMessage v) = Among v (shadows_in ms)
+IsSent ms (TokenOnItsWay m) = AmongTokens m (tokens_in ms)
+
+abbrev pub IsSourced : List Message → Event → Type 0
+IsSourced ms (Receive m) = IsSent ms m
+IsSourced ms (Submit r) = Unit {0}
+IsSourced ms (Apply x) = Unit {0}
+IsSourced ms (Pass to) = Unit {0}
+IsSourced ms (Balance a) = Unit {0}
+
+pub record MayHold (ms : List Message) (t : ModelSite) (v : Shadow) : Type 0 where
+  pub sent : Among v (shadows_in ms)
+  pub fresh : names t.ops v.name ≡ false
+  pub foreign : v.home ≢ t.me
+  pub free : names t.held v.name ≡ false
+
+pub record MayApply (s : Settings) (t : ModelSite) (v : Shadow) : Type 0 where
+  pub held : Among v t.held
+  pub eligible : is_eligible t.ops v ≡ true
+  pub right : refusal_of_sound s t.ops v ≡ None
+
+pub record MayTake (ms : List Message) (t : ModelSite) (m : TokenMessage) : Type 0 where
+  pub sent : AmongTokens m (tokens_in ms)
+  pub mine : m.to ≡ t.me
+  pub later : t.token.epoch < m.epoch
+
+pub record MayPass (s : Settings) (t : ModelSite) (m : TokenMessage) : Type 0 where
+  pub held : t.token.held ≡ true
+  pub to_other : m.to ≢ t.me
+  pub to_site : m.to < s.sites
+  pub epoch : m.epoch ≡ t.token.epoch + 1
+  pub within : m.epoch ≤ s.limits.epoch
+  pub red : m.red ≡ max t.token.needed (red_count t.ops)
+
+abbrev pub Comes : Settings → List Message → ModelSite → Outcome → Type 0
+Comes s ms t (Refuses why) = Unit {0}
+Comes s ms t (Answers reply) = Unit {0}
+Comes s ms t (Drops x why) = Unit {0}
+Comes s ms t (Makes reply vs) = AreMadeAt s t.me t.ops t.token vs
+Comes s ms t (Holds v) = MayHold ms t v
+Comes s ms t (Applies v) = MayApply s t v
+Comes s ms t (Takes m) = MayTake ms t m
+Comes s ms t (Passes m) = MayPass s t m
+
+-- a test that refuses leaves what holds where it doesn't
+past_test : (s : Settings) (ms : List Message) (t : ModelSite) (b : Bool) (why : Refusal) (next : Outcome) → (b ≡ false → Comes s ms t next) → Comes s ms t (refuses_if b why next)
+past_test s ms t true why next h = tt
+past_test s ms t false why next h = h refl
+
+past_refusal : (s : Settings) (ms : List Message) (t : ModelSite) (o : Option Refusal) (next : Outcome) → (o ≡ None → Comes s ms t next) → Comes s ms t (refuses_first o next)
+past_refusal s ms t (Some why) next h = tt
+past_refusal s ms t None next h = h refl
+
+past_fault : (s : Settings) (ms : List Message) (t : ModelSite) (o : Option ℕ) (next : Outcome) → Comes s ms t next → Comes s ms t (unless_faulty o next)
+past_fault s ms t (Some why) next h = tt
+past_fault s ms t None next h = h
+
+past_known : (s : Settings) (ms : List Message) (t : ModelSite) (v : Shadow) (o : Option Shadow) (next : Outcome) → (o ≡ None → Comes s ms t next) → Comes s ms t (unless_known v o next)
+past_known s ms t v None next h = h refl
+past_known s ms t v (Some u) next h = at (same_shadow u v)
+  where
+    at : (b : Bool) → Comes s ms t (cond b (Answers (Already v.name)) (Refuses Conflict))
+    at true = tt
+    at false = tt
+
+past_check : (s : Settings) (ms : List Message) (t : ModelSite) (v : Shadow) (o : Option Refusal) → (o ≡ None → MayApply s t v) → Comes s ms t (outcome_of_check v o)
+past_check s ms t v None h = h refl
+past_check s ms t v (Some NotReady) h = tt
+past_check s ms t v (Some why) h = tt
+
+pub find_none : (us : List Shadow) (x : OpName) → find_in us x ≡ None → names us x ≡ false
+find_none [] x h = refl
+find_none (u ∷ us) x h = at (same_name u.name x) h (find_none us x)
+  where
+    at : (b : Bool) → cond b (Some u) (find_in us x) ≡ None → (find_in us x ≡ None → names us x ≡ false) → (b || names us x) ≡ false
+    at true k rest = cc
+    at false k rest = rest k
+
+pub find_some : (us : List Shadow) (x : OpName) (v : Shadow) → find_in us x ≡ Some v → Among v us × (v.name ≡ x)
+find_some [] x v h = cc
+find_some (u ∷ us) x v h = at (same_name u.name x) refl h (find_some us x v)
+  where
+    at : (b : Bool) → same_name u.name x ≡ b → cond b (Some u) (find_in us x) ≡ Some v → (find_in us x ≡ Some v → Among v us × (v.name ≡ x)) → Among v (u ∷ us) × (v.name ≡ x)
+    at true e k rest = let a : v ≡ u = cc in (inl a, ap (λ (w : Shadow). w.name) a ∙ Members.same_name-true u.name x e)
+    at false e k rest = let r : Among v us × (v.name ≡ x) = rest k in (inr r.0, r.1)
+
+comes_shadow : (s : Settings) (ms : List Message) (t : ModelSite) (v : Shadow) → Among v (shadows_in ms) → Comes s ms t (outcome_of_shadow s t v)
+unfolding outcome_of_shadow
+comes_shadow s ms t v sent =
+    past_fault s ms t (fault_in s v) _
+    (past_known s ms t v (find_in t.ops v.name) _ (λ a.
+    past_test s ms t (v.home == t.me) _ _ (λ b.
+    past_known s ms t v (find_in t.held v.name) _ (λ c.
+    past_test s ms t (nat_le s.limits.inbox (length t.held) && not (is_eligible t.ops v)) InboxFull (Holds v) (λ d.
+    let r : MayHold ms t v = record { sent = sent; fresh = find_none t.ops v.name a; foreign = grind (arith, nat_tests); free = find_none t.held v.name c } in r)))))
+
+comes_token : (s : Settings) (ms : List Message) (t : ModelSite) (m : TokenMessage) → AmongTokens m (tokens_in ms) → Comes s ms t (outcome_of_token s t m)
+unfolding outcome_of_token
+comes_token s ms t m sent =
+    past_refusal s ms t (refusal_of_token s.limits t.me m) _ (λ a.
+    at (nat_le m.epoch t.token.epoch) refl (not_true (m.to == t.me) (past_first (not (m.to == t.me)) _ _ a).0))
+  where
+    at : (b : Bool) → nat_le m.epoch t.token.epoch ≡ b → (m.to == t.me) ≡ true → Comes s ms t (cond b (Answers (Stale m.epoch)) (Takes m))
+    at true e h = tt
+    at false e h = record { sent = sent; mine = grind (arith, nat_tests); later = grind (arith, nat_tests) }
+
+comes_apply : (s : Settings) (ms : List Message) (t : ModelSite) (o : Option Shadow) → ((v : Shadow) → o ≡ Some v → Among v t.held) → Comes s ms t (outcome_of_apply s t o)
+unfolding outcome_of_apply
+comes_apply s ms t None found = tt
+comes_apply s ms t (Some v) found =
+    past_test s ms t (not (is_eligible t.ops v)) _ _ (λ a.
+    past_check s ms t v (refusal_of_sound s t.ops v) (λ b.
+    record { held = found v refl; eligible = not_true _ a; right = b }))
+
+comes_pass : (s : Settings) (ms : List Message) (t : ModelSite) (to : ℕ) → Comes s ms t (outcome_of_pass s t to)
+unfolding outcome_of_pass
+comes_pass s ms t to =
+    past_refusal s ms t (refusal_of_pass s.sites s.limits t.me t.token to) _ (λ e.
+    let a : ((nat_le s.sites to || (to == t.me)) ≡ false) × _ = past_first (nat_le s.sites to || (to == t.me)) _ _ e in
+    let b : (nat_lt s.limits.epoch (t.token.epoch + 1) ≡ false) × _ = past_first (nat_lt s.limits.epoch (t.token.epoch + 1)) _ _ a.1 in
+    let c : (not t.token.held ≡ false) × _ = past_first (not t.token.held) _ _ b.1 in
+    let d : (nat_le s.sites to ≡ false) × ((to == t.me) ≡ false) = Members.or-false _ _ a.0 in
+    record {
+      held = not_true _ c.0;
+      to_other = let k = d.1 in grind (arith, nat_tests);
+      to_site = let k = d.0 in grind (arith, nat_tests);
+      epoch = refl;
+      within = let k = b.0 in grind (arith, nat_tests);
+      red = refl;
+    })
+
+comes_made : (s : Settings) (ms : List Message) (t : ModelSite) (q : Result Shadow Refusal) → ((v : Shadow) → q ≡ Ok v → IsMadeAt s t.me t.ops t.token v) → Comes s ms t (outcome_of_made q)
+comes_made s ms t (Ok v) h = (h v refl, tt)
+comes_made s ms t (Err why) h = tt
+
+
+-- what is known of each event's outcome
+pub comes : (s : Settings) (ms : List Message) (t : ModelSite) (e : Event) → IsSourced ms e → Comes s ms t (outcome_of s t e)
+unfolding outcome_of
+comes s ms t (Submit r) h = comes_made s ms t _ (λ v k. made_is s t.me t.ops t.token r v k)
+comes s ms t (Receive (ShadowMessage v)) h = comes_shadow s ms t v h
+comes s ms t (Receive (TokenOnItsWay m)) h = comes_token s ms t m h
+comes s ms t (Apply x) h = comes_apply s ms t (find_in t.held x) (λ v k. (find_some t.held x v k).0)
+comes s ms t (Pass to) h = comes_pass s ms t to
+comes s ms t (Balance a) h = past_test s ms t (not (is_account s a)) _ _ (λ b. tt)
+
+-- ---- a step of the world
+
+-- the site i stands as n, and these are the messages
+abbrev pub moved : World → ℕ → ModelSite → List Message → World
+moved w i n ms = record { sites = slice_set w.sites i n; messages = ms }
+
+pub get_set_same : (ts : List ModelSite) (i : ℕ) (t n : ModelSite) → slice_get ts i ≡ Some t → slice_get (slice_set ts i n) i ≡ Some n
+get_set_same [] i t n h = cc
+get_set_same (u ∷ ts) zero t n h = refl
+get_set_same (u ∷ ts) (suc i) t n h = get_set_same ts i t n h
+
+pub get_set_other : (ts : List ModelSite) (i j : ℕ) (n : ModelSite) → j ≢ i → slice_get (slice_set ts i n) j ≡ slice_get ts j
+get_set_other [] i j n h = refl
+get_set_other (u ∷ ts) zero zero n h = absurd (h refl)
+get_set_other (u ∷ ts) zero (suc j) n h = refl
+get_set_other (u ∷ ts) (suc i) zero n h = refl
+get_set_other (u ∷ ts) (suc i) (suc j) n h = get_set_other ts i j n (λ e. h (ap suc e))
+
+pub set_set : (ts : List ModelSite) (i : ℕ) (m n : ModelSite) → slice_set (slice_set ts i m) i n ≡ slice_set ts i n
+set_set [] i m n = refl
+set_set (u ∷ ts) zero m n = refl
+set_set (u ∷ ts) (suc i) m n = ap (λ xs. u ∷ xs) (set_set ts i m n)
+
+pub same_number : (i j : ℕ) → (j ≡ i) ⊎ (j ≢ i)
+same_number i j = elim (Members.bool_cases (j == i)) [ inl e ↦ inl (grind (arith, nat_tests)) | inr e ↦ inr (λ k. grind (arith, nat_tests)) ]
+
+-- each site after a move
+pub each_moved : (w : World) (i : ℕ) (t n : ModelSite) (ms : List Message) (P : ℕ → ModelSite → Type 0)
+    → slice_get w.sites i ≡ Some t
+    → EachSite w (λ j u. j ≢ i → P j u)
+    → P i n
+    → EachSite (moved w i n ms) P
+each_moved w i t n ms P at others this j u h = elim (same_number i j) [
+  | inl e ↦
+      let k : Some n ≡ Some u = sym (get_set_same w.sites i t n at) ∙ ap (slice_get (slice_set w.sites i n)) (sym e) ∙ h in
+      subst (λ m. P m u) (sym e) (subst (P i) (let q : n ≡ u = cc in q) this)
+  | inr e ↦ others j u (sym (get_set_other w.sites i j n e) ∙ h) e
+]
+
+-- a fact of the world that each kind of step keeps
+pub record Keeps (s : Settings) (P : World → Type 0) : Type 0 where
+  pub notes : (w : World) (i : ℕ) (t : ModelSite) (h : List Entry) → P w → slice_get w.sites i ≡ Some t → P (moved w i (record t { history = h }) w.messages)
+  pub makes : (w : World) (i : ℕ) (t : ModelSite) (v : Shadow) → P w → slice_get w.sites i ≡ Some t → IsMadeAt s t.me t.ops t.token v → P (moved w i (record t { ops = t.ops ++ v ∷ [] }) (w.messages ++ ShadowMessage v ∷ []))
+  pub drops : (w : World) (i : ℕ) (t : ModelSite) (x : OpName) → P w → slice_get w.sites i ≡ Some t → P (moved w i (record t { held = without x t.held }) w.messages)
+  pub holds : (w : World) (i : ℕ) (t : ModelSite) (v : Shadow) → P w → slice_get w.sites i ≡ Some t → MayHold w.messages t v → P (moved w i (record t { held = with_held v t.held }) w.messages)
+  pub applies : (w : World) (i : ℕ) (t : ModelSite) (v : Shadow) → P w → slice_get w.sites i ≡ Some t → MayApply s t v → P (moved w i (record t { ops = t.ops ++ v ∷ []; held = without v.name t.held }) w.messages)
+  pub takes : (w : World) (i : ℕ) (t : ModelSite) (m : TokenMessage) → P w → slice_get w.sites i ≡ Some t → MayTake w.messages t m → P (moved w i (record t { token = record { epoch = m.epoch; held = true; needed = m.red } }) w.messages)
+  pub passes : (w : World) (i : ℕ) (t : ModelSite) (m : TokenMessage) → P w → slice_get w.sites i ≡ Some t → MayPass s t m → P (moved w i (record t { token = record { epoch = m.epoch; held = false; needed = t.token.needed } }) (w.messages ++ TokenOnItsWay m ∷ []))
+
+-- several operations, one after another
+keeps_made : (s : Settings) (P : World → Type 0) → Keeps s P → (vs : List Shadow) (w : World) (i : ℕ) (t : ModelSite) → P w → slice_get w.sites i ≡ Some t → AreMadeAt s t.me t.ops t.token vs → P (moved w i (record t { ops = t.ops ++ vs }) (w.messages ++ map ShadowMessage vs))
+keeps_made s P keeps [] w i t p at made =
+    subst (λ (us : List Shadow). P (moved w i (record t { ops = us }) (w.messages ++ []))) (sym (append-nil t.ops))
+    (subst (λ (ms : List Message). P (moved w i t ms)) (sym (append-nil w.messages)) (keeps.notes w i t t.history p at))
+keeps_made s P keeps (v ∷ vs) w i t p at made =
+    let n : ModelSite = record t { ops = t.ops ++ v ∷ [] } in
+    let one : World = moved w i n (w.messages ++ ShadowMessage v ∷ []) in
+    let rest : P (moved one i (record n { ops = n.ops ++ vs }) (one.messages ++ map ShadowMessage vs)) =
+    keeps_made s P keeps vs one i n (keeps.makes w i t v p at made.0) (get_set_same w.sites i t n at) made.1 in
+    subst (λ (us : List Shadow). P (moved w i (record t { ops = us }) (w.messages ++ map ShadowMessage (v ∷ vs)))) (append_assoc t.ops (v ∷ []) vs)
+    (subst (λ (ms : List Message). P (moved w i (record n { ops = n.ops ++ vs }) ms)) (append_assoc w.messages (ShadowMessage v ∷ []) (map ShadowMessage vs))
+    (subst (λ (ts : List ModelSite). P (record { sites = ts; messages = one.messages ++ map ShadowMessage vs })) (set_set w.sites i n (record n { ops = n.ops ++ vs })) rest))
+
+keeps_outcome : (s : Settings) (P : World → Type 0) → Keeps s P → (w : World) (i : ℕ) (t : ModelSite) (o : Outcome) → P w → slice_get w.sites i ≡ Some t → Comes s w.messages t o → P (moved w i (changed t o) (w.messages ++ sent_by o))
+keeps_outcome s P keeps w i t o p at c = by o c
+  where
+    quiet : (n : ModelSite) → P (moved w i n w.messages) → P (moved w i n (w.messages ++ []))
+    quiet n q = subst (λ (ms : List Message). P (moved w i n ms)) (sym (append-nil w.messages)) q
+
+    by : (o : Outcome) → Comes s w.messages t o → P (moved w i (changed t o) (w.messages ++ sent_by o))
+    by (Refuses why) c = quiet t (keeps.notes w i t t.history p at)
+    by (Answers reply) c = quiet t (keeps.notes w i t t.history p at)
+    by (Drops x why) c = quiet _ (keeps.drops w i t x p at)
+    by (Makes reply vs) c = keeps_made s P keeps vs w i t p at c
+    by (Holds v) c = quiet _ (keeps.holds w i t v p at c)
+    by (Applies v) c = quiet _ (keeps.applies w i t v p at c)
+    by (Takes m) c = quiet _ (keeps.takes w i t m p at c)
+    by (Passes m) c = keeps.passes w i t m p at c
+
+keeps_event : (s : Settings) (P : World → Type 0) → Keeps s P → (w : World) (i : ℕ) (t : ModelSite) (e : Event) → P w → slice_get w.sites i ≡ Some t → IsSourced w.messages e → P (world_at s w i e (Some t))
+keeps_event s P keeps w i t e p at sourced = by (is_full s t)
+  where
+    o : Outcome
+    o = outcome_of s t e
+
+    by : (b : Bool) → P (moved w i (cond b t (noted (changed t o) e (reply_of o))) (w.messages ++ cond b [] (sent_by o)))
+    by true = subst (λ (ms : List Message). P (moved w i t ms)) (sym (append-nil w.messages)) (keeps.notes w i t t.history p at)
+    by false =
+        let n : ModelSite = changed t o in
+        let q : P (moved w i n (w.messages ++ sent_by o)) = keeps_outcome s P keeps w i t o p at (comes s w.messages t e sourced) in
+        subst (λ (ts : List ModelSite). P (record { sites = ts; messages = w.messages ++ sent_by o })) (set_set w.sites i n (noted n e (reply_of o)))
+        (keeps.notes (moved w i n (w.messages ++ sent_by o)) i n (noted n e (reply_of o)).history q (get_set_same w.sites i t n at))
+
+sourced_own : (ms : List Message) (e : Event) → IsOwn e → IsSourced ms e
+sourced_own ms (Receive m) h = elim h [ ]
+sourced_own ms (Submit r) h = tt
+sourced_own ms (Apply x) h = tt
+sourced_own ms (Pass to) h = tt
+sourced_own ms (Balance a) h = tt
+
+sent_one_more : (ms : List Message) (n m : Message) → IsSent ms m → IsSent (n ∷ ms) m
+sent_one_more ms (ShadowMessage u) (ShadowMessage v) h = inr h
+sent_one_more ms (ShadowMessage u) (TokenOnItsWay m) h = h
+sent_one_more ms (TokenOnItsWay n) (ShadowMessage v) h = h
+sent_one_more ms (TokenOnItsWay n) (TokenOnItsWay m) h = inr h
+
+sent_first : (ms : List Message) (m : Message) → IsSent (m ∷ ms) m
+sent_first ms (ShadowMessage v) = inl refl
+sent_first ms (TokenOnItsWay m) = inl refl
+
+sent_at_place : (ms : List Message) (k : ℕ) (m : Message) → slice_get ms k ≡ Some m → IsSent ms m
+sent_at_place [] k m h = cc
+sent_at_place (n ∷ ms) zero m h = subst (IsSent (n ∷ ms)) (let e : n ≡ m = cc in e) (sent_first ms n)
+sent_at_place (n ∷ ms) (suc k) m h = sent_one_more ms n m (sent_at_place ms k m h)
+
+pub sent_message : (ms : List Message) (k : ℕ) (m : Message) → message_at ms k ≡ Some m → IsSent ms m
+sent_message ms zero m h = cc
+sent_message ms (suc k) m h = sent_at_place ms k m h
+
+keeps_at : (s : Settings) (P : World → Type 0) → Keeps s P → (w : World) (i : ℕ) (e : Event) → P w → IsSourced w.messages e → P (world_at s w i e (slice_get w.sites i))
+keeps_at s P keeps w i e p sourced = by (slice_get w.sites i) refl
+  where
+    by : (o : Option ModelSite) → slice_get w.sites i ≡ o → P (world_at s w i e o)
+    by None h = p
+    by (Some t) h = keeps_event s P keeps w i t e p h sourced
+
+keeps_delivery : (s : Settings) (P : World → Type 0) → Keeps s P → (w : World) (i k : ℕ) → P w → P (world_after s w (Deliver i k))
+keeps_delivery s P keeps w i k p = by (message_at w.messages k) refl
+  where
+    by : (o : Option Message) → message_at w.messages k ≡ o → P (world_delivered s w i o)
+    by None h = p
+    by (Some m) h = keeps_at s P keeps w i (Receive m) p (sent_message w.messages k m h)
+
+-- what each kind of step keeps holds after every run
+pub after_all : (s : Settings) (P : World → Type 0) → Keeps s P → (es : List WorldEvent) (w : World) → AreOwn es → P w → P (world_after_all s w es)
+after_all s P keeps [] w own p = p
+after_all s P keeps (At i e ∷ es) w own p = after_all s P keeps es (world_after s w (At i e)) own.1 (keeps_at s P keeps w i e p (sourced_own w.messages e own.0))
+after_all s P keeps (Deliver i k ∷ es) w own p = after_all s P keeps es (world_after s w (Deliver i k)) own (keeps_delivery s P keeps w i k p)

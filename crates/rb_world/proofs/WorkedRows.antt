@@ -1,0 +1,122 @@
+-- Worked scripts: the replies of a world, computed.
+use Rattle.std.proofs.Common.{◌≡◌, ℕ, true, false, [], ◌∷◌, refl}
+use Rattle.std.specs.Prelude.{pos, negsuc, codes}
+use Rattle.rb_money.specs.declared.place.Place.{Place}
+use Rattle.rb_money.specs.declared.refusal.Cause.TheVariants.{Declined as DeclinedCause, Refused as RefusedCause}
+use Rattle.rb_money.specs.declared.refusal.Refusal.TheVariants.{UnknownAccount, BadAmount, BadRate, UnknownOperation, NotCancellable, AlreadyCancelled, NumbersExhausted, NeedToken, RedBehind, WouldOverdraw, DeltaTooLarge, BadBatch, BatchRefused, NotHeld, NotReady, InboxFull, NoMessage, NoSite, NotYours, PositionBeyond, HistoryFull}
+use Rattle.rb_shadow.specs.declared.op_name.OpName.TheVariants.{Blue, Red}
+use Rattle.rb_shadow.specs.Operations.{bal, past, clock_of, is_eligible, same_shadow, names_listed}
+use Rattle.rb_shadow.specs.Sound.{fault_of}
+use Rattle.rb_scratch.specs.declared.request.Request.TheVariants.{Deposit as AskDeposit, Withdraw as AskWithdraw, Interest as AskInterest, Cancel as AskCancel}
+use Rattle.rb_shadow.specs.declared.label.Label.TheVariants.{Deposit as DepositLabel, Withdraw as WithdrawLabel, Declined as DeclinedLabel, Interest as InterestLabel, Cancel as CancelLabel}
+use Rattle.rb_site.specs.declared.event.Event.TheVariants.{Submit, Apply, Pass, Balance}
+use Rattle.rb_site.specs.declared.reply.Reply.TheVariants.{Made, Held, Already, Taken, Stale, Applied, Passed, Balance as BalanceIs, Refused}
+use Rattle.rb_site.specs.declared.world_event.WorldEvent.TheVariants.{At, Deliver}
+use Rattle.rb_scratch.specs.Requests.{plan_of, operation_of, allowed, made_of}
+use Rattle.rb_site.specs.Events.{outcome_of, outcome_of_shadow, outcome_of_token, outcome_of_apply, outcome_of_pass}
+use Rattle.rb_site.specs.Worlds.{replies_of_run}
+
+place : ℕ → Place
+place n = record { 0 = n }
+
+deposit_delivered_and_applied : replies_of_run (record { sites = 2; names = codes "ann" ∷ []; starts = (0) ∷ []; limits = record { blue = 1000000; red = 1000000; inbox = 4096; history = 100000000; epoch = 4000000000 } })
+    ((At 0 (Submit (AskDeposit (place 0) 500))) ∷ (At 0 (Balance (place 0))) ∷ (At 1 (Balance (place 0))) ∷ (Deliver 1 1) ∷ (At 1 (Apply (Blue 0 1))) ∷ (At 1 (Balance (place 0))) ∷ [])
+    ≡ (Made (Blue 0 1) DepositLabel) ∷ (BalanceIs 500) ∷ (BalanceIs 0) ∷ (Held (Blue 0 1)) ∷ (Applied (Blue 0 1)) ∷ (BalanceIs 500) ∷ []
+unfolding place bal past clock_of is_eligible same_shadow names_listed fault_of plan_of operation_of allowed made_of outcome_of outcome_of_shadow outcome_of_token outcome_of_apply outcome_of_pass
+deposit_delivered_and_applied = refl
+
+uncovered_withdrawal_is_declined : replies_of_run (record { sites = 2; names = codes "ann" ∷ []; starts = (100) ∷ []; limits = record { blue = 1000000; red = 1000000; inbox = 4096; history = 100000000; epoch = 4000000000 } })
+    ((At 1 (Submit (AskWithdraw (place 0) 101))) ∷ (At 1 (Balance (place 0))) ∷ [])
+    ≡ (Made (Blue 1 1) DeclinedLabel) ∷ (BalanceIs 100) ∷ []
+unfolding place bal past clock_of is_eligible same_shadow names_listed fault_of plan_of operation_of allowed made_of outcome_of outcome_of_shadow outcome_of_token outcome_of_apply outcome_of_pass
+uncovered_withdrawal_is_declined = refl
+
+token_waits_for_red_operations : replies_of_run (record { sites = 2; names = codes "ann" ∷ []; starts = (100) ∷ []; limits = record { blue = 1000000; red = 1000000; inbox = 4096; history = 100000000; epoch = 4000000000 } })
+    ((At 0 (Submit (AskWithdraw (place 0) 10))) ∷ (At 0 (Pass 1)) ∷ (Deliver 1 2) ∷ (At 1 (Submit (AskWithdraw (place 0) 20))) ∷ (Deliver 1 1) ∷ (At 1 (Apply (Red 1))) ∷ (At 1 (Submit (AskWithdraw (place 0) 20))) ∷ (At 1 (Balance (place 0))) ∷ [])
+    ≡ (Made (Red 1) WithdrawLabel) ∷ (Passed 1) ∷ (Taken 1) ∷ (Refused (RedBehind 0 1)) ∷ (Held (Red 1)) ∷ (Applied (Red 1)) ∷ (Made (Red 2) WithdrawLabel) ∷ (BalanceIs 70) ∷ []
+unfolding place bal past clock_of is_eligible same_shadow names_listed fault_of plan_of operation_of allowed made_of outcome_of outcome_of_shadow outcome_of_token outcome_of_apply outcome_of_pass
+token_waits_for_red_operations = refl
+
+token_goes_on : replies_of_run (record { sites = 2; names = codes "ann" ∷ []; starts = (100) ∷ []; limits = record { blue = 1000000; red = 1000000; inbox = 4096; history = 100000000; epoch = 4000000000 } })
+    ((At 0 (Submit (AskWithdraw (place 0) 10))) ∷ (At 0 (Pass 1)) ∷ (Deliver 1 2) ∷ (At 1 (Submit (AskWithdraw (place 0) 20))) ∷ (Deliver 1 1) ∷ (At 1 (Apply (Red 1))) ∷ (At 1 (Submit (AskWithdraw (place 0) 20))) ∷ (At 1 (Balance (place 0))) ∷ (At 1 (Pass 0)) ∷ (Deliver 1 2) ∷ (At 1 (Submit (AskWithdraw (place 0) 1))) ∷ (Deliver 0 2) ∷ (Deliver 0 4) ∷ (At 0 (Submit (AskWithdraw (place 0) 1))) ∷ [])
+    ≡ (Made (Red 1) WithdrawLabel) ∷ (Passed 1) ∷ (Taken 1) ∷ (Refused (RedBehind 0 1)) ∷ (Held (Red 1)) ∷ (Applied (Red 1)) ∷ (Made (Red 2) WithdrawLabel) ∷ (BalanceIs 70) ∷ (Passed 2) ∷ (Stale 1) ∷ (Refused NeedToken) ∷ (Refused NotYours) ∷ (Taken 2) ∷ (Refused (RedBehind 1 2)) ∷ []
+unfolding place bal past clock_of is_eligible same_shadow names_listed fault_of plan_of operation_of allowed made_of outcome_of outcome_of_shadow outcome_of_token outcome_of_apply outcome_of_pass
+token_goes_on = refl
+
+applied_in_order_of_the_past : replies_of_run (record { sites = 2; names = codes "ann" ∷ []; starts = (0) ∷ []; limits = record { blue = 1000000; red = 1000000; inbox = 4096; history = 100000000; epoch = 4000000000 } })
+    ((At 0 (Submit (AskDeposit (place 0) 5))) ∷ (At 0 (Submit (AskDeposit (place 0) 7))) ∷ (Deliver 1 2) ∷ (At 1 (Apply (Blue 0 2))) ∷ (At 1 (Apply (Blue 0 1))) ∷ (Deliver 1 1) ∷ (At 1 (Apply (Blue 0 1))) ∷ (At 1 (Apply (Blue 0 2))) ∷ (At 1 (Balance (place 0))) ∷ [])
+    ≡ (Made (Blue 0 1) DepositLabel) ∷ (Made (Blue 0 2) DepositLabel) ∷ (Held (Blue 0 2)) ∷ (Refused NotReady) ∷ (Refused NotHeld) ∷ (Held (Blue 0 1)) ∷ (Applied (Blue 0 1)) ∷ (Applied (Blue 0 2)) ∷ (BalanceIs 12) ∷ []
+unfolding place bal past clock_of is_eligible same_shadow names_listed fault_of plan_of operation_of allowed made_of outcome_of outcome_of_shadow outcome_of_token outcome_of_apply outcome_of_pass
+applied_in_order_of_the_past = refl
+
+delivered_again : replies_of_run (record { sites = 2; names = codes "ann" ∷ []; starts = (0) ∷ []; limits = record { blue = 1000000; red = 1000000; inbox = 4096; history = 100000000; epoch = 4000000000 } })
+    ((At 0 (Submit (AskDeposit (place 0) 5))) ∷ (At 0 (Submit (AskDeposit (place 0) 7))) ∷ (Deliver 1 2) ∷ (At 1 (Apply (Blue 0 2))) ∷ (At 1 (Apply (Blue 0 1))) ∷ (Deliver 1 1) ∷ (At 1 (Apply (Blue 0 1))) ∷ (At 1 (Apply (Blue 0 2))) ∷ (At 1 (Balance (place 0))) ∷ (Deliver 1 1) ∷ (Deliver 0 1) ∷ (At 1 (Apply (Blue 0 1))) ∷ [])
+    ≡ (Made (Blue 0 1) DepositLabel) ∷ (Made (Blue 0 2) DepositLabel) ∷ (Held (Blue 0 2)) ∷ (Refused NotReady) ∷ (Refused NotHeld) ∷ (Held (Blue 0 1)) ∷ (Applied (Blue 0 1)) ∷ (Applied (Blue 0 2)) ∷ (BalanceIs 12) ∷ (Already (Blue 0 1)) ∷ (Already (Blue 0 1)) ∷ (Refused NotHeld) ∷ []
+unfolding place bal past clock_of is_eligible same_shadow names_listed fault_of plan_of operation_of allowed made_of outcome_of outcome_of_shadow outcome_of_token outcome_of_apply outcome_of_pass
+delivered_again = refl
+
+spent_deposit_is_not_cancelled : replies_of_run (record { sites = 2; names = codes "ann" ∷ []; starts = (0) ∷ []; limits = record { blue = 1000000; red = 1000000; inbox = 4096; history = 100000000; epoch = 4000000000 } })
+    ((At 0 (Submit (AskDeposit (place 0) 100))) ∷ (At 0 (Submit (AskWithdraw (place 0) 80))) ∷ (At 0 (Submit (AskCancel (Blue 0 1)))) ∷ (Deliver 1 1) ∷ (At 1 (Apply (Blue 0 1))) ∷ (Deliver 1 2) ∷ (At 1 (Apply (Red 1))) ∷ (At 1 (Submit (AskCancel (Blue 0 1)))) ∷ [])
+    ≡ (Made (Blue 0 1) DepositLabel) ∷ (Made (Red 1) WithdrawLabel) ∷ (Refused WouldOverdraw) ∷ (Held (Blue 0 1)) ∷ (Applied (Blue 0 1)) ∷ (Held (Red 1)) ∷ (Applied (Red 1)) ∷ (Refused NeedToken) ∷ []
+unfolding place bal past clock_of is_eligible same_shadow names_listed fault_of plan_of operation_of allowed made_of outcome_of outcome_of_shadow outcome_of_token outcome_of_apply outcome_of_pass
+spent_deposit_is_not_cancelled = refl
+
+what_may_be_cancelled : replies_of_run (record { sites = 2; names = codes "ann" ∷ []; starts = (100) ∷ []; limits = record { blue = 1000000; red = 1000000; inbox = 4096; history = 100000000; epoch = 4000000000 } })
+    ((At 0 (Submit (AskWithdraw (place 0) 200))) ∷ (At 0 (Submit (AskCancel (Blue 0 1)))) ∷ (At 0 (Submit (AskWithdraw (place 0) 40))) ∷ (At 0 (Submit (AskCancel (Red 1)))) ∷ (At 0 (Submit (AskCancel (Blue 0 2)))) ∷ (At 0 (Submit (AskCancel (Blue 1 1)))) ∷ (At 0 (Submit (AskCancel (Red 1)))) ∷ [])
+    ≡ (Made (Blue 0 1) DeclinedLabel) ∷ (Refused NotCancellable) ∷ (Made (Red 1) WithdrawLabel) ∷ (Made (Blue 0 2) CancelLabel) ∷ (Refused NotCancellable) ∷ (Refused UnknownOperation) ∷ (Refused (AlreadyCancelled 3)) ∷ []
+unfolding place bal past clock_of is_eligible same_shadow names_listed fault_of plan_of operation_of allowed made_of outcome_of outcome_of_shadow outcome_of_token outcome_of_apply outcome_of_pass
+what_may_be_cancelled = refl
+
+amounts_and_rates : replies_of_run (record { sites = 2; names = codes "ann" ∷ []; starts = (0) ∷ []; limits = record { blue = 1000000; red = 1000000; inbox = 4096; history = 100000000; epoch = 4000000000 } })
+    ((At 0 (Submit (AskDeposit (place 0) 0))) ∷ (At 0 (Submit (AskDeposit (place 0) 1))) ∷ (At 0 (Submit (AskDeposit (place 0) 100000000000))) ∷ (At 0 (Submit (AskDeposit (place 0) 100000000001))) ∷ (At 0 (Submit (AskInterest (place 0) 10000))) ∷ (At 0 (Submit (AskInterest (place 0) 10001))) ∷ (At 0 (Submit (AskInterest (place 0) 0))) ∷ (At 0 (Submit (AskDeposit (place 65535) 0))) ∷ (At 0 (Balance (place 65535))) ∷ (At 0 (Balance (place 0))) ∷ [])
+    ≡ (Refused BadAmount) ∷ (Made (Blue 0 1) DepositLabel) ∷ (Made (Blue 0 2) DepositLabel) ∷ (Refused BadAmount) ∷ (Refused DeltaTooLarge) ∷ (Refused BadRate) ∷ (Made (Blue 0 3) InterestLabel) ∷ (Refused UnknownAccount) ∷ (Refused UnknownAccount) ∷ (BalanceIs 100000000001) ∷ []
+unfolding place bal past clock_of is_eligible same_shadow names_listed fault_of plan_of operation_of allowed made_of outcome_of outcome_of_shadow outcome_of_token outcome_of_apply outcome_of_pass
+amounts_and_rates = refl
+
+numbers_run_out : replies_of_run (record { sites = 2; names = codes "ann" ∷ []; starts = (0) ∷ []; limits = record { blue = 1; red = 1; inbox = 4096; history = 100000000; epoch = 4000000000 } })
+    ((At 0 (Submit (AskDeposit (place 0) 5))) ∷ (At 0 (Submit (AskDeposit (place 0) 5))) ∷ (At 0 (Submit (AskWithdraw (place 0) 2))) ∷ (At 0 (Submit (AskWithdraw (place 0) 1))) ∷ (At 0 (Submit (AskCancel (Red 1)))) ∷ (At 0 (Balance (place 0))) ∷ [])
+    ≡ (Made (Blue 0 1) DepositLabel) ∷ (Refused NumbersExhausted) ∷ (Made (Red 1) WithdrawLabel) ∷ (Refused NumbersExhausted) ∷ (Refused NumbersExhausted) ∷ (BalanceIs 3) ∷ []
+unfolding place bal past clock_of is_eligible same_shadow names_listed fault_of plan_of operation_of allowed made_of outcome_of outcome_of_shadow outcome_of_token outcome_of_apply outcome_of_pass
+numbers_run_out = refl
+
+full_inbox : replies_of_run (record { sites = 2; names = codes "ann" ∷ []; starts = (0) ∷ []; limits = record { blue = 1000000; red = 1000000; inbox = 1; history = 100000000; epoch = 4000000000 } })
+    ((At 0 (Submit (AskDeposit (place 0) 1))) ∷ (At 0 (Submit (AskDeposit (place 0) 1))) ∷ (At 0 (Submit (AskDeposit (place 0) 1))) ∷ (Deliver 1 2) ∷ (Deliver 1 3) ∷ (Deliver 1 1) ∷ (At 1 (Apply (Blue 0 1))) ∷ (At 1 (Apply (Blue 0 2))) ∷ (Deliver 1 3) ∷ [])
+    ≡ (Made (Blue 0 1) DepositLabel) ∷ (Made (Blue 0 2) DepositLabel) ∷ (Made (Blue 0 3) DepositLabel) ∷ (Held (Blue 0 2)) ∷ (Refused InboxFull) ∷ (Held (Blue 0 1)) ∷ (Applied (Blue 0 1)) ∷ (Applied (Blue 0 2)) ∷ (Held (Blue 0 3)) ∷ []
+unfolding place bal past clock_of is_eligible same_shadow names_listed fault_of plan_of operation_of allowed made_of outcome_of outcome_of_shadow outcome_of_token outcome_of_apply outcome_of_pass
+full_inbox = refl
+
+full_history : replies_of_run (record { sites = 2; names = codes "ann" ∷ []; starts = (0) ∷ []; limits = record { blue = 1000000; red = 1000000; inbox = 4096; history = 2; epoch = 4000000000 } })
+    ((At 0 (Submit (AskDeposit (place 0) 5))) ∷ (At 0 (Balance (place 0))) ∷ (At 0 (Balance (place 0))) ∷ (At 1 (Balance (place 0))) ∷ [])
+    ≡ (Made (Blue 0 1) DepositLabel) ∷ (BalanceIs 5) ∷ (Refused HistoryFull) ∷ (BalanceIs 0) ∷ []
+unfolding place bal past clock_of is_eligible same_shadow names_listed fault_of plan_of operation_of allowed made_of outcome_of outcome_of_shadow outcome_of_token outcome_of_apply outcome_of_pass
+full_history = refl
+
+pass_refused : replies_of_run (record { sites = 2; names = codes "ann" ∷ []; starts = (0) ∷ []; limits = record { blue = 1000000; red = 1000000; inbox = 4096; history = 100000000; epoch = 1 } })
+    ((At 0 (Pass 0)) ∷ (At 0 (Pass 2)) ∷ (At 1 (Pass 0)) ∷ (At 0 (Pass 1)) ∷ (Deliver 1 1) ∷ (At 1 (Pass 0)) ∷ (At 0 (Pass 1)) ∷ [])
+    ≡ (Refused NoSite) ∷ (Refused NoSite) ∷ (Refused NeedToken) ∷ (Passed 1) ∷ (Taken 1) ∷ (Refused NumbersExhausted) ∷ (Refused NumbersExhausted) ∷ []
+unfolding place bal past clock_of is_eligible same_shadow names_listed fault_of plan_of operation_of allowed made_of outcome_of outcome_of_shadow outcome_of_token outcome_of_apply outcome_of_pass
+pass_refused = refl
+
+no_such_site_or_message : replies_of_run (record { sites = 2; names = codes "ann" ∷ []; starts = (0) ∷ []; limits = record { blue = 1000000; red = 1000000; inbox = 4096; history = 100000000; epoch = 4000000000 } })
+    ((At 2 (Balance (place 0))) ∷ (Deliver 0 0) ∷ (Deliver 0 1) ∷ [])
+    ≡ (Refused NoSite) ∷ (Refused NoMessage) ∷ (Refused NoMessage) ∷ []
+unfolding place bal past clock_of is_eligible same_shadow names_listed fault_of plan_of operation_of allowed made_of outcome_of outcome_of_shadow outcome_of_token outcome_of_apply outcome_of_pass
+no_such_site_or_message = refl
+
+behind_then_overdrawn : replies_of_run (record { sites = 2; names = codes "ann" ∷ []; starts = (0) ∷ []; limits = record { blue = 1000000; red = 1000000; inbox = 4096; history = 100000000; epoch = 4000000000 } })
+    ((At 0 (Submit (AskDeposit (place 0) 5))) ∷ (At 0 (Submit (AskWithdraw (place 0) 5))) ∷ (Deliver 1 1) ∷ (At 1 (Apply (Blue 0 1))) ∷ (At 0 (Pass 1)) ∷ (Deliver 1 3) ∷ (At 1 (Submit (AskCancel (Blue 0 1)))) ∷ (Deliver 1 2) ∷ (At 1 (Apply (Red 1))) ∷ (At 1 (Submit (AskCancel (Blue 0 1)))) ∷ (At 1 (Submit (AskCancel (Red 1)))) ∷ (At 1 (Submit (AskCancel (Blue 0 1)))) ∷ (At 0 (Submit (AskCancel (Blue 0 1)))) ∷ (At 0 (Submit (AskCancel (Red 1)))) ∷ (At 1 (Submit (AskCancel (Blue 0 1)))) ∷ [])
+    ≡ (Made (Blue 0 1) DepositLabel) ∷ (Made (Red 1) WithdrawLabel) ∷ (Held (Blue 0 1)) ∷ (Applied (Blue 0 1)) ∷ (Passed 1) ∷ (Taken 1) ∷ (Refused (RedBehind 0 1)) ∷ (Held (Red 1)) ∷ (Applied (Red 1)) ∷ (Refused WouldOverdraw) ∷ (Made (Blue 1 1) CancelLabel) ∷ (Made (Red 2) CancelLabel) ∷ (Refused NeedToken) ∷ (Made (Blue 0 2) CancelLabel) ∷ (Refused (AlreadyCancelled 4)) ∷ []
+unfolding place bal past clock_of is_eligible same_shadow names_listed fault_of plan_of operation_of allowed made_of outcome_of outcome_of_shadow outcome_of_token outcome_of_apply outcome_of_pass
+behind_then_overdrawn = refl
+
+needed_count_passes_on : replies_of_run (record { sites = 3; names = codes "ann" ∷ []; starts = (9) ∷ []; limits = record { blue = 1000000; red = 1000000; inbox = 4096; history = 100000000; epoch = 4000000000 } })
+    ((At 0 (Submit (AskWithdraw (place 0) 1))) ∷ (At 0 (Pass 1)) ∷ (Deliver 1 2) ∷ (At 1 (Pass 2)) ∷ (Deliver 2 3) ∷ (At 2 (Submit (AskWithdraw (place 0) 1))) ∷ (At 2 (Submit (AskCancel (Red 1)))) ∷ (Deliver 2 1) ∷ (At 2 (Apply (Red 1))) ∷ (At 2 (Submit (AskCancel (Red 1)))) ∷ (Deliver 2 3) ∷ (At 2 (Pass 1)) ∷ (Deliver 1 5) ∷ (At 1 (Submit (AskWithdraw (place 0) 9))) ∷ (At 1 (Submit (AskWithdraw (place 0) 10))) ∷ [])
+    ≡ (Made (Red 1) WithdrawLabel) ∷ (Passed 1) ∷ (Taken 1) ∷ (Passed 2) ∷ (Taken 2) ∷ (Refused (RedBehind 0 1)) ∷ (Refused UnknownOperation) ∷ (Held (Red 1)) ∷ (Applied (Red 1)) ∷ (Made (Blue 2 1) CancelLabel) ∷ (Stale 2) ∷ (Passed 3) ∷ (Taken 3) ∷ (Refused (RedBehind 0 1)) ∷ (Made (Blue 1 1) DeclinedLabel) ∷ []
+unfolding place bal past clock_of is_eligible same_shadow names_listed fault_of plan_of operation_of allowed made_of outcome_of outcome_of_shadow outcome_of_token outcome_of_apply outcome_of_pass
+needed_count_passes_on = refl
+
+unrecorded_refusals : replies_of_run (record { sites = 2; names = codes "ann" ∷ []; starts = (0) ∷ []; limits = record { blue = 1000000; red = 1000000; inbox = 4096; history = 1; epoch = 4000000000 } })
+    ((Deliver 0 0) ∷ (Deliver 0 7) ∷ (At 2 (Balance (place 0))) ∷ (Deliver 2 0) ∷ (At 0 (Balance (place 0))) ∷ (At 0 (Balance (place 0))) ∷ [])
+    ≡ (Refused NoMessage) ∷ (Refused NoMessage) ∷ (Refused NoSite) ∷ (Refused NoSite) ∷ (BalanceIs 0) ∷ (Refused HistoryFull) ∷ []
+unfolding place bal past clock_of is_eligible same_shadow names_listed fault_of plan_of operation_of allowed made_of outcome_of outcome_of_shadow outcome_of_token outcome_of_apply outcome_of_pass
+unrecorded_refusals = refl
