@@ -1,18 +1,20 @@
 -- How long a valid list can be.
 use Rattle.std.proofs.Common.{◌≡◌, ℕ, zero, suc, ◌+◌, ◌*◌, ◌<◌, ◌≤◌, Bool, true, false, cond, List, [], ◌∷◌, length, get_or, refl, ap, sym, ◌∙◌, arith, ◌⊎◌, inl, inr, subst}
-use Rattle.std.specs.Prelude.{nat_lt, ◌==◌, All}
+use Rattle.std.specs.Prelude.{nat_lt, ◌==◌, All, slice_get, slice_index, Some}
 use Rattle.std.proofs.lemmas.Bool.Decides.{nat_tests}
-use Rattle.std.proofs.lemmas.List.Sums.{sum_by-cons}
+use Rattle.std.proofs.lemmas.List.Sums.{sum_by-cons, count_by-le-length}
 use Rattle.rb_money.specs.Settings.{Settings, most_sites, IsConfigured}
 use Rattle.rb_shadow.specs.declared.shadow.Shadow.{Shadow}
 use Rattle.rb_shadow.specs.declared.op_name.OpName.{OpName}
 use Rattle.rb_shadow.specs.declared.op_name.OpName.TheVariants.{Blue, Red}
-use Rattle.rb_shadow.specs.Operations.{Among, is_blue_of, is_red, blue_count, red_count}
+use Rattle.rb_shadow.specs.Operations.{Among, is_blue_of, is_red, blue_count, red_count, cancels, cancel_count}
 use Rattle.rb_shadow.specs.Sound.{IsSound}
 use Rattle.rb_shadow.proofs.Members
 use Rattle.rb_shadow.proofs.Clocks
 use Rattle.rb_shadow.proofs.SoundFacts
+use Rattle.rb_shadow.specs.declared.deps.Deps.{Deps}
 use Rattle.rb_ledger.specs.Valid.{IsValid}
+use Rattle.rb_ledger.specs.Book.{IsKept}
 use Rattle.rb_ledger.proofs.ValidClocks
 
 -- the truth of a test as a number
@@ -105,3 +107,25 @@ valid_amounts s us valid k d h = low (get_or us k d).amount (ValidClocks.member_
   where
     low : (n : ℕ) → nat_lt 100000000000 n ≡ false → n ≤ 100000000000
     low n e = grind (arith, nat_tests)
+
+-- ---- the same, of what a ledger keeps
+
+pub kept_length : (s : Settings) (us : List Shadow) (c : Deps) → IsKept s us c → length us ≤ 9000000
+kept_length s us c kept = valid_length s us kept.configured kept.valid
+
+pub kept_few : (s : Settings) (us vs : List Shadow) (c : Deps) → IsKept s us c → vs ≡ us → length vs ≤ 9000000
+kept_few s us vs c kept e = omega (arith, ap length e, kept_length s us c kept)
+
+pub kept_small : (s : Settings) (us vs : List Shadow) (c : Deps) → IsKept s us c → vs ≡ us → All (λ u. u.amount ≤ 100000000000) vs
+kept_small s us vs c kept e = subst (All (λ (u : Shadow). u.amount ≤ 100000000000)) (sym e) (valid_amounts s us kept.valid)
+
+starts_low : (ns : List ℕ) (m : ℕ) → ((i n : ℕ) → slice_get ns i ≡ Some n → n ≤ m) → (i : ℕ) → slice_index ns i ≤ m
+starts_low [] m h i = omega arith
+starts_low (n ∷ ns) m h zero = h 0 n refl
+starts_low (n ∷ ns) m h (suc i) = starts_low ns m (λ j k e. h (suc j) k e) i
+
+pub kept_start : (s : Settings) (us : List Shadow) (c : Deps) (i : ℕ) → IsKept s us c → slice_index s.starts i ≤ 100000000000
+kept_start s us c i kept = starts_low s.starts 100000000000 kept.configured.starts i
+
+pub kept_cancels : (s : Settings) (us vs : List Shadow) (c : Deps) (x : OpName) (n : ℕ) → IsKept s us c → vs ≡ us → n ≡ cancel_count vs x → n ≤ 9000000
+kept_cancels s us vs c x n kept e is = omega (arith, count_by-le-length (λ (u : Shadow). cancels u.kind x) vs, kept_few s us vs c kept e)
