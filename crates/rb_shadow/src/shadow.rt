@@ -38,7 +38,7 @@ impl Shadow {
         ensures sound { OnOk result (fault_in config.now self.now ≡ None) }
         ensures faulty { IfErr result (λ refusal. (why : ℕ) × (refusal ≡ Refusal.BadMessage why) × (fault_in config.now self.now ≡ Some why)) }
     {
-        let accounts = config.accounts();
+        let accounts = config.accounts().len();
         match self.fault(config.sites(), accounts, config.limits()) {
             None => Ok(()),
             Some(why) => Err(Refusal::BadMessage { why }),
