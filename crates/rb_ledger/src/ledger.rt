@@ -1,7 +1,7 @@
 //! The ledger of a site.
 ghost use Rattle.std.specs.Prelude.{◌≡◌, ◌↔◌, ◌≤◌, ◌<◌, length, pos, Some, None, IsTrue, [], IsNone, IfSome, option_map, option_and_then, option_copied};
 ghost use Rattle.rb_shadow.specs.Operations.{bal, cancel_count, clock_of};
-ghost use Rattle.rb_ledger.specs.Valid.{entry_at, find_position, first_cancel_in};
+ghost use Rattle.rb_ledger.specs.Valid.{IsValid, entry_at, find_position, first_cancel_in};
 
 use crate::walk;
 use rb_money::{Config, Place};
@@ -29,9 +29,10 @@ impl Model for Ledger {
 }
 
 impl Ledger {
-    /// The configuration.
+    /// The configuration, under which the operations are a valid list.
     pub fn config(&self) -> &Config
-        ensures { result.now ≡ self.now.settings }
+        ensures same { result.now ≡ self.now.settings }
+        ensures valid { IsValid self.now.settings self.now.entries }
     {
         &self.config
     }

@@ -1,6 +1,6 @@
 -- What is found by its name.
-use Rattle.std.proofs.Common.{◌≡◌, ℕ, ◌+◌, ◌≤◌, ◌<◌, Bool, true, false, cond, not, ◌||◌, List, [], ◌∷◌, refl, suc, ap, sym, ◌∙◌, arith, Option, Some, None, Result, Ok, Err, subst}
-use Rattle.std.specs.Prelude.{◌-◌, ◌==◌, slice_get, option_map}
+use Rattle.std.proofs.Common.{◌≡◌, ℕ, ◌+◌, ◌≤◌, ◌<◌, Bool, true, false, cond, not, ◌||◌, List, [], ◌∷◌, refl, suc, ap, sym, ◌∙◌, arith, Option, Some, None, Result, Ok, Err, subst, Bor, rules}
+use Rattle.std.specs.Prelude.{◌-◌, ◌==◌, slice_get, option_map, option_and_then, IsSome, option_copied}
 use Rattle.std.proofs.lemmas.Bool.Decides.{nat_tests}
 use Rattle.rb_shadow.specs.declared.shadow.Shadow.{Shadow}
 use Rattle.rb_shadow.specs.declared.op_name.OpName.{OpName}
@@ -12,8 +12,7 @@ use Rattle.rb_shadow.specs.declared.kind.Kind.TheVariants.{Cancel}
 use Rattle.rb_money.specs.declared.refusal.Refusal.{Refusal}
 use Rattle.rb_money.specs.declared.refusal.Refusal.TheVariants.{UnknownOperation, NotCancellable, AlreadyCancelled}
 use Rattle.rb_money.specs.Refusals.{refused_if}
-use Rattle.rb_ledger.specs.Valid.{position_from, first_cancel_from}
-use Rattle.rb_ledger.specs.Stub.{entry_at, find_position, first_cancel_in}
+use Rattle.rb_ledger.specs.Valid.{entry_at, find_position, first_cancel_in, position_from, first_cancel_from}
 use Rattle.rb_ledger.proofs.Legal
 use Rattle.rb_scratch.specs.Requests.{Plan, plan_of_cancel}
 
@@ -103,19 +102,46 @@ uncancellable us x t found h = ap (plan_of_cancel us x) found ∙ ap (λ b. refu
 past_kind : (us : List Shadow) (x : OpName) (t : Shadow) → find_in us x ≡ Some t → may_be_cancelled t.kind ≡ true → plan_of_cancel us x (find_in us x) ≡ refused_if (is_cancelled us x) (AlreadyCancelled (first_cancel_from 1 us x)) (Ok (cancelling x t))
 past_kind us x t found h = ap (plan_of_cancel us x) found ∙ ap (λ b. refused_if (not b) NotCancellable (refused_if (is_cancelled us x) (AlreadyCancelled (first_cancel_from 1 us x)) (Ok (cancelling x t)))) h
 
-pub cancelled_at : (us : List Shadow) (x : OpName) (t : Shadow) (p : ℕ) → find_in us x ≡ Some t → may_be_cancelled t.kind ≡ true → first_cancel_in us t.name ≡ Some p → plan_of_cancel us x (find_in us x) ≡ Err (AlreadyCancelled p)
-cancelled_at us x t p found kind first = past_kind us x t found kind ∙ at (is_cancelled us x) (ap (first_cancel_in us) (sym (Legal.found us x t found).1) ∙ first)
+-- the operation of the name stands at the position
+pub record IsFound (us : List Shadow) (x : OpName) (p : ℕ) (t : Shadow) : Type 0 where
+  pub entry : entry_at us p ≡ Some t
+  pub found : find_in us x ≡ Some t
+
+pub is_found : (us : List Shadow) (x : OpName) (p : ℕ) (r : Option (Bor Shadow)) (b : Bor Shadow) → find_position us x ≡ Some p → option_copied r ≡ entry_at us p → r ≡ Some b → IsFound us x p b.now
+is_found us x p r b at copied some =
+    let e : entry_at us p ≡ Some b.now = sym copied ∙ ap option_copied some in
+    record { entry = e; found = sym (at_position us x p at) ∙ e }
+
+-- what is found is there to be read
+pub readable : (us : List Shadow) (x : OpName) (p : ℕ) (r : Option (Bor Shadow)) → find_position us x ≡ Some p → option_copied r ≡ entry_at us p → IsSome r
+readable us x p r at copied = let (t, found) = found_there us x p at in some r t (copied ∙ at_position us x p at ∙ found)
   where
-    at : (b : Bool) → cond b (Some (first_cancel_from 1 us x)) None ≡ Some p → refused_if b (AlreadyCancelled (first_cancel_from 1 us x)) (Ok (cancelling x t)) ≡ Err (AlreadyCancelled p)
-    at true h = let is : first_cancel_from 1 us x ≡ p = cc in ap refused is
-      where
-        refused : ℕ → Result Plan Refusal
-        refused n = Err (AlreadyCancelled n)
+    some : (r : Option (Bor Shadow)) (t : Shadow) → option_copied r ≡ Some t → IsSome r
+    some None t h = cc
+    some (Some b) t h = search rules
+
+first_cancel : (us : List Shadow) (x : OpName) (p : ℕ) (t : Shadow) (o : Option ℕ) → IsFound us x p t → o ≡ option_and_then (λ (u : Shadow). first_cancel_in us u.name) (entry_at us p) → o ≡ first_cancel_in us x
+first_cancel us x p t o is e = e ∙ ap (option_and_then (λ (u : Shadow). first_cancel_in us u.name)) is.entry ∙ ap (first_cancel_in us) (Legal.found us x t is.found).1
+
+pub cancelled_at : (us : List Shadow) (x : OpName) (p : ℕ) (t : Shadow) (o : Option ℕ) (n : ℕ) → IsFound us x p t → may_be_cancelled t.kind ≡ true
+    → o ≡ option_and_then (λ (u : Shadow). first_cancel_in us u.name) (entry_at us p) → o ≡ Some n → plan_of_cancel us x (find_in us x) ≡ Err (AlreadyCancelled n)
+cancelled_at us x p t o n is kind e some = past_kind us x t is.found kind ∙ at (is_cancelled us x) (sym (first_cancel us x p t o is e) ∙ some)
+  where
+    refused : ℕ → Result Plan Refusal
+    refused n = Err (AlreadyCancelled n)
+
+    at : (b : Bool) → cond b (Some (first_cancel_from 1 us x)) None ≡ Some n → refused_if b (AlreadyCancelled (first_cancel_from 1 us x)) (Ok (cancelling x t)) ≡ Err (AlreadyCancelled n)
+    at true h = let same : first_cancel_from 1 us x ≡ n = cc in ap refused same
     at false h = cc
 
-pub planned_to_cancel : (us : List Shadow) (x : OpName) (t : Shadow) → find_in us x ≡ Some t → may_be_cancelled t.kind ≡ true → first_cancel_in us t.name ≡ None → plan_of_cancel us x (find_in us x) ≡ Ok (cancelling x t)
-planned_to_cancel us x t found kind first = past_kind us x t found kind ∙ at (is_cancelled us x) (ap (first_cancel_in us) (sym (Legal.found us x t found).1) ∙ first)
+pub planned_to_cancel : (us : List Shadow) (x : OpName) (p : ℕ) (t : Shadow) (o : Option ℕ) → IsFound us x p t → may_be_cancelled t.kind ≡ true
+    → o ≡ option_and_then (λ (u : Shadow). first_cancel_in us u.name) (entry_at us p) → o ≡ None → plan_of_cancel us x (find_in us x) ≡ Ok (record { account = t.account; amount = t.amount; kind = Cancel x })
+planned_to_cancel us x p t o is kind e none = past_kind us x t is.found kind ∙ at (is_cancelled us x) (sym (first_cancel us x p t o is e) ∙ none)
   where
     at : (b : Bool) → cond b (Some (first_cancel_from 1 us x)) None ≡ None → refused_if b (AlreadyCancelled (first_cancel_from 1 us x)) (Ok (cancelling x t)) ≡ Ok (cancelling x t)
     at true h = cc
     at false h = refl
+
+-- the kind of what is found
+pub kind_is : (us : List Shadow) (x : OpName) (p : ℕ) (t : Shadow) → IsFound us x p t → kind_in us x ≡ Some t.kind
+kind_is us x p t is = kind_in-found us x ∙ ap (option_map (λ (u : Shadow). u.kind)) is.found

@@ -5,6 +5,10 @@ use Rattle.rb_money.specs.Refusals.{refused_if, unless_refused}
 use Rattle.rb_money.specs.declared.refusal.Refusal.{Refusal}
 use Rattle.rb_money.specs.declared.refusal.Refusal.TheVariants.{WouldOverdraw}
 use Rattle.rb_shadow.specs.declared.deps.Deps.{Deps}
+use Rattle.std.specs.Prelude.{MatchResult}
+use Rattle.rb_shadow.specs.declared.kind.Kind.{Kind}
+use Rattle.rb_shadow.specs.declared.kind.Kind.TheVariants.{Deposit, Withdraw, Declined, Interest, Cancel}
+use Rattle.rb_shadow.specs.declared.op_name.OpName.{OpName}
 use Rattle.rb_shadow.specs.declared.shadow.Shadow.{Shadow}
 use Rattle.rb_shadow.specs.Operations.{clock_of, red_count, is_cancel}
 use Rattle.rb_ledger.specs.Checks.{overdraws, refusal_of}
@@ -44,3 +48,17 @@ red_overdraws s us token v c why is e cancel money some = past_token s us token 
     at true true q h = let same : WouldOverdraw ≡ why = cc in ap refused same
     at true false q h = cc
     at false b q h = cc
+
+-- the ledger's check decides on a cancellation
+pub red_cancellation : (s : Settings) (us : List Shadow) (token : Token) (v : Shadow) (c : Deps) (r : Result (Unit {0}) Refusal) → c ≡ clock_of us → refusal_of_red token c.red ≡ None → is_cancel v.kind ≡ true
+    → refusal_of s us v ≡ cond (overdraws s us v) (Some WouldOverdraw) None → MatchResult r (λ _. refusal_of s us v ≡ None) (λ why. refusal_of s us v ≡ Some why)
+    → MatchResult r (λ _. allowed_red s us token v ≡ Ok v) (λ why. allowed_red s us token v ≡ Err why)
+red_cancellation s us token v c (Ok x) is e cancel money none = red_covered s us token v c is e money none
+red_cancellation s us token v c (Err why) is e cancel money some = red_overdraws s us token v c why is e cancel money some
+
+pub no_cancel : (k : Kind) → ((x : OpName) → k ≡ Cancel x → ⊥) → is_cancel k ≡ false
+no_cancel Deposit h = refl
+no_cancel Withdraw h = refl
+no_cancel Declined h = refl
+no_cancel Interest h = refl
+no_cancel (Cancel x) h = absurd (h x refl)

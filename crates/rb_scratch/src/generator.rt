@@ -14,9 +14,8 @@ ghost use Rattle.rb_scratch.specs.Effects.{plan_of_effect};
 use crate::effect::Effect;
 use crate::plan::cancel_of;
 use crate::request::Request;
-use crate::stub::{Amount, Cents, Rate, interest_of};
 use rb_ledger::Ledger;
-use rb_money::{Place, Refusal};
+use rb_money::{Amount, Cents, Place, Rate, Refusal, interest_of};
 use rb_shadow::{Colour, Kind, OpName, Shadow};
 use rb_token::TokenView;
 
@@ -25,7 +24,7 @@ fn deposit(ledger: &Ledger, account: Place, amount: u64) -> Result<Effect, Refus
     ensures plan { MatchResult result (λ effect. plan_of ledger.now.settings ledger.now.entries (AskDeposit account amount) ≡ Ok (plan_of_effect effect)) (λ why. plan_of ledger.now.settings ledger.now.entries (AskDeposit account amount) ≡ Err why) }
     ensures colour { IfOk result (λ effect. effect.colour ≡ colour_of_plan ledger.now.entries (plan_of_effect effect)) }
 {
-    if ledger.config().accounts() <= account.0 as usize {
+    if ledger.config().accounts().len() <= account.0 as usize {
         return Err(Refusal::UnknownAccount);
     }
     if let Err(why) = Amount::new(amount) {
@@ -181,7 +180,7 @@ fn permit_red(ledger: &Ledger, token: &TokenView, shadow: &Shadow) -> Result<(),
         return Err(why);
     }
     match shadow.kind {
-        Kind::Cancel { .. } => ledger.checks(shadow),
+        Kind::Cancel { .. } => ledger.check(shadow),
         _ => Ok(()),
     }
 }

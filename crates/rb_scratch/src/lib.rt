@@ -8,7 +8,6 @@ mod effect;
 mod generator;
 mod plan;
 mod request;
-mod stub;
 
 pub use generator::generate;
 pub use plan::{CancelPlan, cancel_of};
