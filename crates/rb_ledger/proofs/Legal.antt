@@ -213,7 +213,7 @@ has_target us h Withdraw e = tt
 has_target us h Declined e = tt
 has_target us h Interest e = tt
 
-no_wrong_target : (us : List Shadow) (h : Shadow) (k : Kind) → IsUnique us → HasTarget us h k → has_wrong_target us h k ≡ false
+pub no_wrong_target : (us : List Shadow) (h : Shadow) (k : Kind) → IsUnique us → HasTarget us h k → has_wrong_target us h k ≡ false
 no_wrong_target us h Deposit unique t = refl
 no_wrong_target us h Withdraw unique t = refl
 no_wrong_target us h Declined unique t = refl

@@ -34,9 +34,10 @@ impl Model for Ledger {
 }
 
 impl Ledger {
-    /// The configuration.
+    /// The configuration, under which the operations are a valid list.
     pub fn config(&self) -> &Config
-        ensures { result.now ≡ self.now.settings }
+        ensures same { result.now ≡ self.now.settings }
+        ensures valid { IsValid self.now.settings self.now.entries }
     {
         &self.config
     }
