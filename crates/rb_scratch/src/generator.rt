@@ -8,8 +8,8 @@ ghost use Rattle.rb_ledger.specs.Checks.{refusal_of, overdraws};
 ghost use Rattle.rb_token.specs.Token.{Token};
 ghost use Rattle.rb_token.specs.Seat.{Shows};
 ghost use Rattle.rb_scratch.specs.declared.request.Request.TheVariants.{Deposit as AskDeposit, Withdraw as AskWithdraw, Interest as AskInterest, Cancel as AskCancel};
-ghost use Rattle.rb_scratch.specs.Requests.{plan_of, next_name, colour_of_plan, operation_of, allowed_red, made_of};
-ghost use Rattle.rb_scratch.specs.Effects.{plan_of_effect};
+ghost use Rattle.rb_scratch.specs.Requests.{next_name, colour_of_plan, operation_of, allowed_red, made_of};
+ghost use Rattle.rb_scratch.specs.Effects.{IsColoured, IsDecision, plan_of_effect};
 
 use crate::effect::Effect;
 use crate::plan::cancel_of;
@@ -19,10 +19,11 @@ use rb_money::{Amount, Cents, Place, Rate, Refusal, interest_of};
 use rb_shadow::{Colour, Kind, OpName, Shadow};
 use rb_token::TokenView;
 
+/// What a deposit would do.
 #[tactic(auto, unfolding(crate::specs::Requests::plan_of))]
 fn deposit(ledger: &Ledger, account: Place, amount: u64) -> Result<Effect, Refusal>
-    ensures plan { MatchResult result (λ effect. plan_of ledger.now.settings ledger.now.entries (AskDeposit account amount) ≡ Ok (plan_of_effect effect)) (λ why. plan_of ledger.now.settings ledger.now.entries (AskDeposit account amount) ≡ Err why) }
-    ensures colour { IfOk result (λ effect. effect.colour ≡ colour_of_plan ledger.now.entries (plan_of_effect effect)) }
+    ensures plan { IsDecision ledger.now.settings ledger.now.entries (AskDeposit account amount) result }
+    ensures colour { IsColoured ledger.now.entries result }
 {
     if ledger.config().accounts().len() <= account.0 as usize {
         return Err(Refusal::UnknownAccount);
@@ -38,10 +39,11 @@ fn deposit(ledger: &Ledger, account: Place, amount: u64) -> Result<Effect, Refus
     })
 }
 
+/// What a withdrawal would do: it is declined where the balance is below it.
 #[tactic(auto, unfolding(crate::specs::Requests::plan_of))]
 fn withdrawal(ledger: &Ledger, account: Place, amount: u64) -> Result<Effect, Refusal>
-    ensures plan { MatchResult result (λ effect. plan_of ledger.now.settings ledger.now.entries (AskWithdraw account amount) ≡ Ok (plan_of_effect effect)) (λ why. plan_of ledger.now.settings ledger.now.entries (AskWithdraw account amount) ≡ Err why) }
-    ensures colour { IfOk result (λ effect. effect.colour ≡ colour_of_plan ledger.now.entries (plan_of_effect effect)) }
+    ensures plan { IsDecision ledger.now.settings ledger.now.entries (AskWithdraw account amount) result }
+    ensures colour { IsColoured ledger.now.entries result }
 {
     let Some(balance) = ledger.balance(account) else {
         return Err(Refusal::UnknownAccount);
@@ -62,10 +64,11 @@ fn withdrawal(ledger: &Ledger, account: Place, amount: u64) -> Result<Effect, Re
     })
 }
 
+/// What interest would do.
 #[tactic(auto, unfolding(crate::specs::Requests::plan_of))]
 fn interest(ledger: &Ledger, account: Place, rate: u32) -> Result<Effect, Refusal>
-    ensures plan { MatchResult result (λ effect. plan_of ledger.now.settings ledger.now.entries (AskInterest account rate) ≡ Ok (plan_of_effect effect)) (λ why. plan_of ledger.now.settings ledger.now.entries (AskInterest account rate) ≡ Err why) }
-    ensures colour { IfOk result (λ effect. effect.colour ≡ colour_of_plan ledger.now.entries (plan_of_effect effect)) }
+    ensures plan { IsDecision ledger.now.settings ledger.now.entries (AskInterest account rate) result }
+    ensures colour { IsColoured ledger.now.entries result }
 {
     let Some(balance) = ledger.balance(account) else {
         return Err(Refusal::UnknownAccount);
@@ -85,10 +88,11 @@ fn interest(ledger: &Ledger, account: Place, rate: u32) -> Result<Effect, Refusa
     }
 }
 
+/// What a cancellation would do.
 #[tactic(auto, unfolding(crate::specs::Requests::plan_of))]
 fn cancellation(ledger: &Ledger, target: OpName) -> Result<Effect, Refusal>
-    ensures plan { MatchResult result (λ effect. plan_of ledger.now.settings ledger.now.entries (AskCancel target) ≡ Ok (plan_of_effect effect)) (λ why. plan_of ledger.now.settings ledger.now.entries (AskCancel target) ≡ Err why) }
-    ensures colour { IfOk result (λ effect. effect.colour ≡ colour_of_plan ledger.now.entries (plan_of_effect effect)) }
+    ensures plan { IsDecision ledger.now.settings ledger.now.entries (AskCancel target) result }
+    ensures colour { IsColoured ledger.now.entries result }
 {
     match cancel_of(ledger, target) {
         Ok(plan) => Ok(Effect {
@@ -103,8 +107,8 @@ fn cancellation(ledger: &Ledger, target: OpName) -> Result<Effect, Refusal>
 
 /// What the request would do, decided on the ledger as it is.
 fn decide(ledger: &Ledger, request: &Request) -> Result<Effect, Refusal>
-    ensures plan { MatchResult result (λ effect. plan_of ledger.now.settings ledger.now.entries request.now ≡ Ok (plan_of_effect effect)) (λ why. plan_of ledger.now.settings ledger.now.entries request.now ≡ Err why) }
-    ensures colour { IfOk result (λ effect. effect.colour ≡ colour_of_plan ledger.now.entries (plan_of_effect effect)) }
+    ensures plan { IsDecision ledger.now.settings ledger.now.entries request.now result }
+    ensures colour { IsColoured ledger.now.entries result }
 {
     match *request {
         Request::Deposit { account, amount } => deposit(ledger, account, amount),

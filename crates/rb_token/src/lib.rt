@@ -10,6 +10,9 @@ mod message;
 mod state;
 mod view;
 
+#[cfg(test)]
+mod tests;
+
 pub use accepted::Accepted;
 pub use message::TokenMessage;
 pub use state::TokenState;
