@@ -1,6 +1,7 @@
 -- The list of held operations: one for each name, in the order of the names.
-use Rattle.std.specs.Prelude.{Bool, true, false, if◌then◌else◌, not, ◌&&◌, ◌||◌, nat_lt, ◌==◌, List, [], ◌∷◌, filter}
-use Rattle.rb_shadow.specs.Operations.{same_name}
+use Rattle.std.specs.Prelude.{◌≡◌, ◌≢◌, ℕ, suc, ◌≤◌, Bool, true, false, if◌then◌else◌, not, ◌&&◌, ◌||◌, nat_lt, ◌==◌, List, [], ◌∷◌, length, filter, Option, Some, None}
+use Rattle.rb_shadow.specs.Operations.{find_in, names_of_clock, past, same_name, IsWithin}
+use Rattle.rb_shadow.specs.declared.deps.Deps.{Deps}
 use Rattle.rb_shadow.specs.declared.op_name.OpName.{OpName}
 use Rattle.rb_shadow.specs.declared.op_name.OpName.TheVariants.{Blue, Red}
 use Rattle.rb_shadow.specs.declared.shadow.Shadow.{Shadow}
@@ -20,3 +21,50 @@ with_held v (u ∷ us) = if stands_before v.name u.name then v ∷ u ∷ us else
 -- without the operation of a name
 abbrev pub without : OpName → List Shadow → List Shadow
 without x us = filter (λ u. not (same_name u.name x)) us
+
+-- how many operations are held, at least, before others must be ready to be held too, and those that are held
+pub record Holding : Type 0 where
+  pub limit : ℕ
+  pub held : List Shadow
+
+-- the name stands before each of the operations
+abbrev pub StandsBeforeAll : OpName → List Shadow → Type 0
+StandsBeforeAll x [] = Unit {0}
+StandsBeforeAll x (u ∷ us) = (stands_before x u.name ≡ true) × StandsBeforeAll x us
+
+-- each operation stands before all later ones, so there is one for each name
+abbrev pub IsInOrder : List Shadow → Type 0
+IsInOrder [] = Unit {0}
+IsInOrder (u ∷ us) = StandsBeforeAll u.name us × IsInOrder us
+
+-- how many of the first operations stand before the name
+abbrev pub place_in : List Shadow → OpName → ℕ
+place_in [] x = 0
+place_in (u ∷ us) x = if stands_before u.name x then suc (place_in us x) else 0
+
+-- the operation can be applied at the clock: all of its past is counted there
+abbrev pub IsReady : Deps → Shadow → Type 0
+IsReady c v = IsWithin (past v) (names_of_clock c)
+
+-- an operation can be put: nothing is held under its name, and there is room, or it is ready
+pub record IsWelcome (b : Holding) (c : Deps) (v : Shadow) : Type 0 where
+  pub new : find_in b.held v.name ≡ None
+  pub room : b.limit ≤ length b.held → IsReady c v
+
+-- an operation can't be put for want of room: nothing is held under its name, there is no room, and it isn't ready
+pub record IsTooMany (b : Holding) (c : Deps) (v : Shadow) : Type 0 where
+  pub new : find_in b.held v.name ≡ None
+  pub full : b.limit ≤ length b.held
+  pub waits : ¬ IsReady c v
+
+-- another operation is held under its name
+abbrev pub IsInConflict : Holding → Shadow → Type 0
+IsInConflict b v = (u : Shadow) × (find_in b.held v.name ≡ Some u) × (u ≢ v)
+
+-- an operation is held under the name, and is ready
+abbrev pub HoldsReady : Holding → Deps → OpName → Type 0
+HoldsReady b c x = (u : Shadow) × (find_in b.held x ≡ Some u) × IsReady c u
+
+-- an operation is held under the name, and isn't ready
+abbrev pub HoldsWaiting : Holding → Deps → OpName → Type 0
+HoldsWaiting b c x = (u : Shadow) × (find_in b.held x ≡ Some u) × ¬ IsReady c u

@@ -1,0 +1,244 @@
+-- The order of the names, and lists in that order.
+use Rattle.std.proofs.Common.{◌≡◌, ◌≢◌, ℕ, suc, zero, ◌+◌, ◌<◌, ◌≤◌, Bool, true, false, cond, not, ◌&&◌, ◌||◌, List, [], ◌∷◌, ◌++◌, length, take, drop, refl, ap, sym, ◌∙◌, arith, ◌⊎◌, inl, inr, subst, get_or}
+use Rattle.std.specs.Prelude.{nat_lt, ◌==◌, Option, Some, None, slice_get, find, filter, insert, remove}
+use Rattle.std.specs.List.Sorted.{IsPartitionedBy, IsPartitionPoint}
+use Rattle.std.proofs.lemmas.Bool.Decides.{nat_tests}
+use Rattle.std.proofs.lemmas.List.{drop_all, drop_more}
+use Rattle.rb_shadow.specs.Operations.{Among, find_in, names, same_name}
+use Rattle.rb_shadow.specs.declared.op_name.OpName.{OpName}
+use Rattle.rb_shadow.specs.declared.op_name.OpName.TheVariants.{Blue, Red}
+use Rattle.rb_shadow.specs.declared.shadow.Shadow.{Shadow}
+use Rattle.rb_shadow.proofs.Members
+use Rattle.rb_inbox.specs.Held.{Holding, IsInOrder, StandsBeforeAll, place_in, stands_before, with_held, without}
+
+pub before-trans : (x y z : OpName) → stands_before x y ≡ true → stands_before y z ≡ true → stands_before x z ≡ true
+before-trans (Blue i m) (Blue j n) (Blue k p) h l = grind (arith, nat_tests)
+before-trans (Blue i m) (Blue j n) (Red p) h l = refl
+before-trans (Blue i m) (Red n) (Blue k p) h l = cc
+before-trans (Blue i m) (Red n) (Red p) h l = refl
+before-trans (Red m) (Blue j n) z h l = cc
+before-trans (Red m) (Red n) (Blue k p) h l = cc
+before-trans (Red m) (Red n) (Red p) h l = grind (arith, nat_tests)
+
+-- a name stands before no name that stands before it
+pub before-one_way : (x y : OpName) → stands_before x y ≡ true → stands_before y x ≡ false
+before-one_way (Blue i m) (Blue j n) h = grind (arith, nat_tests)
+before-one_way (Blue i m) (Red n) h = refl
+before-one_way (Red m) (Blue j n) h = cc
+before-one_way (Red m) (Red n) h = grind (arith, nat_tests)
+
+pub before-not_same : (x y : OpName) → stands_before x y ≡ true → same_name x y ≡ false
+before-not_same (Blue i m) (Blue j n) h = grind (arith, nat_tests)
+before-not_same (Blue i m) (Red n) h = refl
+before-not_same (Red m) (Blue j n) h = refl
+before-not_same (Red m) (Red n) h = grind (arith, nat_tests)
+
+-- of two different names one stands before the other
+pub before-other_way : (x y : OpName) → same_name x y ≡ false → stands_before x y ≡ false → stands_before y x ≡ true
+before-other_way (Blue i m) (Blue j n) h k = grind (arith, nat_tests)
+before-other_way (Blue i m) (Red n) h k = cc
+before-other_way (Red m) (Blue j n) h k = refl
+before-other_way (Red m) (Red n) h k = grind (arith, nat_tests)
+
+-- ---- what stands before all of a list
+
+pub before_all-trans : (x y : OpName) (us : List Shadow) → stands_before x y ≡ true → StandsBeforeAll y us → StandsBeforeAll x us
+before_all-trans x y [] h k = tt
+before_all-trans x y (u ∷ us) h k = (before-trans x y u.name h k.0, before_all-trans x y us h k.1)
+
+-- it is the name of none of them
+pub before_all-find : (x : OpName) (us : List Shadow) → StandsBeforeAll x us → find_in us x ≡ None
+before_all-find x [] h = refl
+before_all-find x (u ∷ us) h = ap (λ b. cond b (Some u) (find_in us x)) (Members.same_name-comm u.name x ∙ before-not_same x u.name h.0) ∙ before_all-find x us h.1
+
+-- nor is any of them left out without it
+pub before_all-without : (x : OpName) (us : List Shadow) → StandsBeforeAll x us → without x us ≡ us
+before_all-without x [] h = refl
+before_all-without x (u ∷ us) h =
+    ap (λ b. cond (not b) (u ∷ without x us) (without x us)) (Members.same_name-comm u.name x ∙ before-not_same x u.name h.0)
+    ∙ ap (λ ws. u ∷ ws) (before_all-without x us h.1)
+
+pub before_all-with_held : (x : OpName) (v : Shadow) (us : List Shadow) → stands_before x v.name ≡ true → StandsBeforeAll x us → StandsBeforeAll x (with_held v us)
+before_all-with_held x v [] h k = (h, tt)
+before_all-with_held x v (u ∷ us) h k = at (stands_before v.name u.name) (before_all-with_held x v us h k.1)
+  where
+    at : (b : Bool) → StandsBeforeAll x (with_held v us) → StandsBeforeAll x (cond b (v ∷ u ∷ us) (u ∷ with_held v us))
+    at true r = (h, k)
+    at false r = (k.0, r)
+
+pub before_all-filter : (p : Shadow → Bool) (x : OpName) (us : List Shadow) → StandsBeforeAll x us → StandsBeforeAll x (filter p us)
+before_all-filter p x [] h = tt
+before_all-filter p x (u ∷ us) h = at (p u) (before_all-filter p x us h.1)
+  where
+    at : (b : Bool) → StandsBeforeAll x (filter p us) → StandsBeforeAll x (cond b (u ∷ filter p us) (filter p us))
+    at true r = (h.0, r)
+    at false r = r
+
+-- ---- the order is kept
+
+pub in_order-with_held : (v : Shadow) (us : List Shadow) → IsInOrder us → find_in us v.name ≡ None → IsInOrder (with_held v us)
+in_order-with_held v [] h new = (tt, tt)
+in_order-with_held v (u ∷ us) h new = at (stands_before v.name u.name) (same_name u.name v.name) refl refl new (λ k. in_order-with_held v us h.1 k)
+  where
+    at : (b s : Bool) → stands_before v.name u.name ≡ b → same_name u.name v.name ≡ s → cond s (Some u) (find_in us v.name) ≡ None
+        → (find_in us v.name ≡ None → IsInOrder (with_held v us)) → IsInOrder (cond b (v ∷ u ∷ us) (u ∷ with_held v us))
+    at b true e q new rest = absurd (cc)
+    at true false e q new rest = ((e, before_all-trans v.name u.name us e h.0), h)
+    at false false e q new rest = (before_all-with_held u.name v us (before-other_way v.name u.name (Members.same_name-comm v.name u.name ∙ q) e) h.0, rest new)
+
+pub in_order-filter : (p : Shadow → Bool) (us : List Shadow) → IsInOrder us → IsInOrder (filter p us)
+in_order-filter p [] h = tt
+in_order-filter p (u ∷ us) h = at (p u) (in_order-filter p us h.1)
+  where
+    at : (b : Bool) → IsInOrder (filter p us) → IsInOrder (cond b (u ∷ filter p us) (filter p us))
+    at true r = (before_all-filter p u.name us h.0, r)
+    at false r = r
+
+-- ---- the place of a name
+
+-- past the end nothing is of the name
+pub find-past : (us : List Shadow) (x : OpName) → IsInOrder us → length us ≤ place_in us x → find_in us x ≡ None
+find-past [] x h l = refl
+find-past (u ∷ us) x h l = at (stands_before u.name x) refl l (find-past us x h.1)
+  where
+    at : (b : Bool) → stands_before u.name x ≡ b → suc (length us) ≤ cond b (suc (place_in us x)) 0 → (length us ≤ place_in us x → find_in us x ≡ None)
+        → cond (same_name u.name x) (Some u) (find_in us x) ≡ None
+    at true e l rest = ap (λ s. cond s (Some u) (find_in us x)) (before-not_same u.name x e) ∙ rest (omega arith)
+    at false e l rest = absurd (omega arith)
+
+-- what stands in the place is the operation of the name, if that is its name
+pub find-place : (us : List Shadow) (x : OpName) (d : Shadow) → IsInOrder us → place_in us x < length us
+    → find_in us x ≡ cond (same_name (get_or us (place_in us x) d).name x) (Some (get_or us (place_in us x) d)) None
+find-place [] x d h l = absurd (omega arith)
+find-place (u ∷ us) x d h l = at (stands_before u.name x) refl l (find-place us x d h.1)
+  where
+    at : (b : Bool) → stands_before u.name x ≡ b → cond b (suc (place_in us x)) 0 < suc (length us)
+        → (place_in us x < length us → find_in us x ≡ cond (same_name (get_or us (place_in us x) d).name x) (Some (get_or us (place_in us x) d)) None)
+        → cond (same_name u.name x) (Some u) (find_in us x)
+            ≡ cond (same_name (get_or (u ∷ us) (cond b (suc (place_in us x)) 0) d).name x) (Some (get_or (u ∷ us) (cond b (suc (place_in us x)) 0) d)) None
+    at true e l rest = ap (λ s. cond s (Some u) (find_in us x)) (before-not_same u.name x e) ∙ rest (omega arith)
+    at false e l rest = here (same_name u.name x) refl
+      where
+        here : (s : Bool) → same_name u.name x ≡ s → cond s (Some u) (find_in us x) ≡ cond s (Some u) None
+        here true q = refl
+        here false q = before_all-find x us (before_all-trans x u.name us (before-other_way u.name x q e) h.0)
+
+-- the same, where a read of the place gives an operation of the name, or of another
+pub find-same : (us : List Shadow) (x : OpName) (u : Shadow) → IsInOrder us → place_in us x < length us → u ≡ get_or us (place_in us x) u → u.name ≡ x → Some u ≡ find_in us x
+find-same us x u h l e q =
+    sym (find-place us x u h l ∙ ap (λ (w : Shadow). cond (same_name w.name x) (Some w) None) (sym e)
+    ∙ ap (λ b. cond b (Some u) None) (ap (same_name u.name) (sym q) ∙ Members.same_name-refl u.name))
+
+pub find-other : (us : List Shadow) (x : OpName) (u : Shadow) → IsInOrder us → place_in us x < length us → u ≡ get_or us (place_in us x) u → (u.name ≡ x → ⊥) → None ≡ find_in us x
+find-other us x u h l e q =
+    sym (find-place us x u h l ∙ ap (λ (w : Shadow). cond (same_name w.name x) (Some w) None) (sym e)
+    ∙ ap (λ b. cond b (Some u) None) (Members.not_same u.name x q))
+
+pub found_within : (us : List Shadow) (x : OpName) (u : Shadow) → IsInOrder us → find_in us x ≡ Some u → place_in us x < length us
+found_within us x u h e = at (nat_lt (place_in us x) (length us)) refl
+  where
+    at : (b : Bool) → nat_lt (place_in us x) (length us) ≡ b → place_in us x < length us
+    at true q = grind (arith, nat_tests)
+    at false q = absurd (let none : find_in us x ≡ None = find-past us x h (grind (arith, nat_tests)) in cc)
+
+pub insert-place : (v : Shadow) (us : List Shadow) → IsInOrder us → find_in us v.name ≡ None → insert us (place_in us v.name) v ≡ with_held v us
+insert-place v [] h new = refl
+insert-place v (u ∷ us) h new = at (stands_before u.name v.name) (same_name u.name v.name) refl refl new (λ k. insert-place v us h.1 k)
+  where
+    at : (b s : Bool) → stands_before u.name v.name ≡ b → same_name u.name v.name ≡ s → cond s (Some u) (find_in us v.name) ≡ None
+        → (find_in us v.name ≡ None → insert us (place_in us v.name) v ≡ with_held v us)
+        → insert (u ∷ us) (cond b (suc (place_in us v.name)) 0) v ≡ cond (stands_before v.name u.name) (v ∷ u ∷ us) (u ∷ with_held v us)
+    at b true e q new rest = absurd (cc)
+    at true false e q new rest = ap (λ ws. u ∷ ws) (rest new) ∙ ap (λ c. cond c (v ∷ u ∷ us) (u ∷ with_held v us)) (sym (before-one_way u.name v.name e))
+    at false false e q new rest = ap (λ c. cond c (v ∷ u ∷ us) (u ∷ with_held v us)) (sym (before-other_way u.name v.name q e))
+
+pub remove-place : (us : List Shadow) (x : OpName) (u : Shadow) → IsInOrder us → find_in us x ≡ Some u → remove us (place_in us x) ≡ without x us
+remove-place [] x w h found = absurd (cc)
+remove-place (u ∷ us) x w h found = at (stands_before u.name x) (same_name u.name x) refl refl found (λ k. remove-place us x w h.1 k)
+  where
+    at : (b s : Bool) → stands_before u.name x ≡ b → same_name u.name x ≡ s → cond s (Some u) (find_in us x) ≡ Some w
+        → (find_in us x ≡ Some w → remove us (place_in us x) ≡ without x us)
+        → remove (u ∷ us) (cond b (suc (place_in us x)) 0) ≡ cond (not s) (u ∷ without x us) (without x us)
+    at true true e q found rest = absurd (Members.true≢false (sym q ∙ before-not_same u.name x e))
+    at true false e q found rest = ap (λ ws. u ∷ ws) (rest found)
+    at false true e q found rest = sym (before_all-without x us (subst (λ y. StandsBeforeAll y us) (Members.same_name-true u.name x q) h.0))
+    at false false e q found rest = absurd (let none : find_in us x ≡ None = before_all-find x us (before_all-trans x u.name us (before-other_way u.name x q e) h.0) in cc)
+
+-- ---- the place that a search finds
+
+before_all-at : (x : OpName) (us : List Shadow) (k : ℕ) (d : Shadow) → StandsBeforeAll x us → k < length us → stands_before x (get_or us k d).name ≡ true
+before_all-at x [] k d h l = absurd (omega arith)
+before_all-at x (u ∷ us) zero d h l = h.0
+before_all-at x (u ∷ us) (suc k) d h l = before_all-at x us k d h.1 (omega arith)
+
+pub parted : (us : List Shadow) (x : OpName) → IsInOrder us → IsPartitionedBy (λ (u : Shadow). stands_before u.name x) us
+parted [] x h i j d up l e = absurd (omega arith)
+parted (u ∷ us) x h zero zero d up l e = e
+parted (u ∷ us) x h zero (suc j) d up l e = before-trans u.name (get_or us j d).name x (before_all-at u.name us j d h.0 (omega arith)) e
+parted (u ∷ us) x h (suc i) zero d up l e = absurd (omega arith)
+parted (u ∷ us) x h (suc i) (suc j) d up l e = parted us x h.1 i j d (omega arith) (omega arith) e
+
+pub point-place : (us : List Shadow) (x : OpName) (i : ℕ) → i ≤ length us
+    → IsPartitionPoint (λ (u : Shadow). stands_before u.name x ≡ true) (λ (u : Shadow). stands_before u.name x ≡ false) us i → i ≡ place_in us x
+point-place [] x zero l h = refl
+point-place [] x (suc i) l h = absurd (omega arith)
+point-place (u ∷ us) x zero l h = ap (λ b. cond b (suc (place_in us x)) 0) (sym (h.1 0 u (omega arith) (omega arith)))
+point-place (u ∷ us) x (suc i) l h =
+    ap suc (point-place us x i (omega arith) (λ k d low high. h.0 (suc k) d (omega arith) (omega arith), λ k d low high. h.1 (suc k) d (omega arith) (omega arith)))
+    ∙ ap (λ b. cond b (suc (place_in us x)) 0) (sym (h.0 0 u (omega arith) (omega arith)))
+
+-- ---- what is held, by its name
+
+pub Among-find : (us : List Shadow) (u : Shadow) → IsInOrder us → Among u us → find_in us u.name ≡ Some u
+Among-find [] u h a = elim a [ ]
+Among-find (w ∷ us) u h (inl e) =
+    ap (λ (v : Shadow). cond (same_name w.name v.name) (Some w) (find_in us v.name)) e
+    ∙ ap (λ b. cond b (Some w) (find_in us w.name)) (Members.same_name-refl w.name) ∙ ap Some (sym e)
+Among-find (w ∷ us) u h (inr a) =
+    ap (λ b. cond b (Some w) (find_in us u.name)) (before-not_same w.name u.name (before_all-among w.name us u h.0 a)) ∙ Among-find us u h.1 a
+  where
+    before_all-among : (x : OpName) (us : List Shadow) (u : Shadow) → StandsBeforeAll x us → Among u us → stands_before x u.name ≡ true
+    before_all-among x [] u h a = elim a [ ]
+    before_all-among x (v ∷ us) u h (inl e) = ap (λ (w : Shadow). stands_before x w.name) e ∙ h.0
+    before_all-among x (v ∷ us) u h (inr a) = before_all-among x us u h.1 a
+
+pub find-Among : (us : List Shadow) (x : OpName) (u : Shadow) → find_in us x ≡ Some u → Among u us × (u.name ≡ x)
+find-Among [] x u e = absurd (cc)
+find-Among (w ∷ us) x u e = at (same_name w.name x) refl e (find-Among us x u)
+  where
+    at : (b : Bool) → same_name w.name x ≡ b → cond b (Some w) (find_in us x) ≡ Some u → (find_in us x ≡ Some u → Among u us × (u.name ≡ x)) → Among u (w ∷ us) × (u.name ≡ x)
+    at true q e rest = let same : w ≡ u = cc in (inl (sym same), ap (λ (v : Shadow). v.name) (sym same) ∙ Members.same_name-true w.name x q)
+    at false q e rest = (inr (rest e).0, (rest e).1)
+
+Among-at : (us : List Shadow) (i : ℕ) (d : Shadow) → i < length us → Among (get_or us i d) us
+Among-at [] i d l = absurd (omega arith)
+Among-at (u ∷ us) zero d l = inl refl
+Among-at (u ∷ us) (suc i) d l = inr (Among-at us i d (omega arith))
+
+-- what stands at a place is what is held under its name
+pub find-at : (held us : List Shadow) (i : ℕ) (d : Shadow) → us ≡ held → IsInOrder us → i < length us → find_in held (get_or us i d).name ≡ Some (get_or us i d)
+find-at held us i d e h l = ap (λ (ws : List Shadow). find_in ws (get_or us i d).name) (sym e) ∙ Among-find us (get_or us i d) h (Among-at us i d l)
+
+-- what is among the rest, and isn't the first of it, is among what is left after that
+pub Among-more : (us : List Shadow) (i : ℕ) (d u : Shadow) → i < length us → Among u (drop i us) → (u ≡ get_or us i d → ⊥) → Among u (drop (i + 1) us)
+Among-more us i d u l a other = at (subst (λ (ws : List Shadow). Among u ws) (drop_more us i d l) a)
+  where
+    at : Among u (get_or us i d ∷ drop (i + 1) us) → Among u (drop (i + 1) us)
+    at (inl q) = absurd (other q)
+    at (inr k) = k
+
+-- nothing is left at the end
+pub Among-end : (us : List Shadow) (i : ℕ) (u : Shadow) → length us ≤ i → Among u (drop i us) → ⊥
+Among-end us i u l a = at (subst (λ (ws : List Shadow). Among u ws) (drop_all i us l) a)
+  where
+    at : Among u [] → ⊥
+    at k = elim k [ ]
+
+-- ---- the inbox's value
+
+abbrev holding : ℕ → List Shadow → Holding
+holding n us = record { limit = n; held = us }
+
+-- the value after a change of the list
+pub changed : (n : ℕ) (us vs : List Shadow) (b : Holding) (f : List Shadow → List Shadow) → us ≡ f vs → holding n vs ≡ b → holding n us ≡ holding b.limit (f b.held)
+changed n us vs b f e h = ap (holding n) e ∙ ap (λ (b : Holding). holding b.limit (f b.held)) h
