@@ -1,6 +1,6 @@
 -- What follows where nothing is wrong with a configuration that is asked for.
 use Rattle.std.proofs.Common.{◌≡◌, List, [], ◌∷◌, ◌++◌, ℕ, ◌+◌, zero, suc, Bool, true, false, Option, Some, None, refl, ap, sym, subst, ◌∙◌, ◌≤◌, length, slice_get}
-use Rattle.std.specs.Prelude.{map, not, ◌&&◌, ◌||◌, nat_le, nat_lt, if◌then◌else◌}
+use Rattle.std.specs.Prelude.{map, not, ◌&&◌, nat_le, nat_lt, if◌then◌else◌}
 use Rattle.std.specs.Option.{option_or}
 use Rattle.std.specs.Str.{bytes_eq}
 use Rattle.std.proofs.lemmas.Bool.{not-false, and_parts, or_parts, leb-true, ltb-false, true≢false, or_right, or_left}
@@ -10,7 +10,7 @@ use Rattle.rb_money.specs.declared.fault.ConfigFault.{ConfigFault}
 use Rattle.rb_money.specs.declared.fault.ConfigFault.TheVariants.{Sites, Accounts, Name, Twice, Start, Limit}
 use Rattle.rb_money.specs.declared.limits.Limits.{Limits}
 use Rattle.rb_money.specs.Amounts.{most_cents}
-use Rattle.rb_money.specs.Settings.{Settings, IsConfigured, IsLimit, is_account_name, most_sites, most_accounts}
+use Rattle.rb_money.specs.Settings.{IsConfigured, IsLimit, is_account_name, most_sites, most_accounts}
 use Rattle.rb_money.specs.Faults.{Account, settings_of, is_among, account_fault, is_limit, are_limits, config_fault}
 
 -- the first of two faults is not there, so the test fails and the second is not there

@@ -1,5 +1,5 @@
 -- A list of accounts is filled with names that are not in it yet.
-use Rattle.std.proofs.Common.{◌≡◌, List, [], ◌∷◌, ◌++◌, ℕ, ◌+◌, ◌≤◌, ◌<◌, false, None, refl, sym, ap, ◌∙◌, append_assoc, append-nil, zero-add, length, length-append, arith}
+use Rattle.std.proofs.Common.{◌≡◌, List, [], ◌∷◌, ◌++◌, ℕ, ◌+◌, ◌≤◌, false, None, refl, sym, ◌∙◌, append_assoc, append-nil, zero-add, length, length-append, arith}
 use Rattle.std.specs.Prelude.{map, string_bytes, String}
 use Rattle.std.specs.List.{IsDistinct, AllByRecursion}
 use Rattle.std.specs.Map.{keys_of}
@@ -56,14 +56,6 @@ pub record IsFilling (names : List (List ℕ)) (starts : List ℕ) (rest : Entri
   pub fresh : AllFresh names rest
   pub room : length names + length rest ≤ most_accounts
 
-pub filled_more : (names : List (List ℕ)) (starts : List ℕ) (e : String Global × ℕ) (rest : Entries) (all : AccountList) → IsFilling names starts (e ∷ rest) all → IsFilling (names ++ string_bytes e.0 ∷ []) (starts ++ e.1 ∷ []) rest all
-filled_more names starts e rest all f = record {
-  all_names = append_assoc names (string_bytes e.0 ∷ []) (names_of rest) ∙ f.all_names;
-  all_starts = append_assoc starts (e.1 ∷ []) (starts_of rest) ∙ f.all_starts;
-  fresh = f.fresh.1;
-  room = let r = f.room in omega (arith, length-append names (string_bytes e.0 ∷ []));
-}
-
 -- it begins with none
 pub filling : (list : AccountList) (rest : Entries) (all : AccountList) → list.names ≡ [] → list.starts ≡ [] → names_of rest ≡ all.names → starts_of rest ≡ all.starts → AllFresh [] rest → length rest ≤ most_accounts → IsFilling list.names list.starts rest all
 filling list rest all no_names no_starts same_names same_starts fresh few = record {
@@ -72,10 +64,3 @@ filling list rest all no_names no_starts same_names same_starts fresh few = reco
   fresh = rw no_names fresh;
   room = rw (no_names, zero-add) few;
 }
-
--- and ends with all
-pub filled : (list : AccountList) (rest : Entries) (all : AccountList) → rest ≡ [] → IsFilling list.names list.starts rest all → list ≡ all
-filled list rest all none f =
-    let names : list.names ≡ all.names = sym (append-nil list.names) ∙ rw none at f.all_names in
-    let starts : list.starts ≡ all.starts = sym (append-nil list.starts) ∙ rw none at f.all_starts in
-    λ i. record { names = names i; starts = starts i }

@@ -2,7 +2,7 @@
 ghost use Rattle.std.specs.Prelude.{◌≡◌, true, false, IfOk, OnOk, IfErr, OnErr};
 ghost use Rattle.rb_money.specs.Amounts.{is_amount};
 
-use crate::cents::Cents;
+use crate::cents::{Cents, MOST_CENTS};
 use crate::refusal::Refusal;
 use std::marker::Model;
 
@@ -33,7 +33,7 @@ impl Amount {
         ensures improper { OnErr result (is_amount cents ≡ false) }
         ensures why { IfErr result (λ why. why ≡ Refusal.BadAmount) }
     {
-        if 1 <= cents && cents <= 100_000_000_000 {
+        if 1 <= cents && cents <= MOST_CENTS {
             Ok(Amount { cents })
         } else {
             Err(Refusal::BadAmount)

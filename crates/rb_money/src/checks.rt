@@ -3,7 +3,8 @@ ghost use Rattle.std.specs.Prelude.{◌≡◌, ◌≢◌, ◌≤◌, [], length,
 ghost use Rattle.rb_money.specs.Faults.{account_fault, account_of, are_limits, config_fault, is_among, is_limit};
 ghost use Rattle.rb_money.specs.Settings.{is_account_name, is_name_byte, most_accounts};
 
-use crate::config::{MOST_ACCOUNTS, MOST_CENTS, MOST_SITES};
+use crate::cents::MOST_CENTS;
+use crate::config::{MOST_ACCOUNTS, MOST_SITES};
 use crate::fault::ConfigFault;
 use crate::limits::Limits;
 
@@ -13,14 +14,7 @@ const LONGEST_NAME: usize = 32;
 fn is_name_byte(byte: u8) -> bool
     ensures { result ≡ is_name_byte byte }
 {
-    match byte {
-        b'a'..=b'z' => true,
-        b'0'..=b'9' => true,
-        b'.' => true,
-        b'_' => true,
-        b'-' => true,
-        _ => false,
-    }
+    matches!(byte, b'a'..=b'z' | b'0'..=b'9' | b'.' | b'_' | b'-')
 }
 
 fn is_account_name(name: &[u8]) -> bool
@@ -93,11 +87,7 @@ fn are_limits(limits: &Limits) -> bool
 }
 
 /// The first thing that is wrong with a configuration, other than that memory may not suffice.
-pub fn config_fault(
-    sites: u8,
-    accounts: &[(String, u64)],
-    limits: &Limits,
-) -> Option<ConfigFault>
+pub fn config_fault(sites: u8, accounts: &[(String, u64)], limits: &Limits) -> Option<ConfigFault>
     ensures first { result ≡ config_fault sites (map account_of accounts.now) limits.now }
     ensures no_memory { result ≢ Some ConfigFault.OutOfMemory }
 {
@@ -110,5 +100,9 @@ pub fn config_fault(
     if let Some(fault) = account_fault(accounts) {
         return Some(fault);
     }
-    if are_limits(limits) { None } else { Some(ConfigFault::Limit) }
+    if are_limits(limits) {
+        None
+    } else {
+        Some(ConfigFault::Limit)
+    }
 }

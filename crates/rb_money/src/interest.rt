@@ -2,8 +2,7 @@
 ghost use Rattle.std.specs.Prelude.{◌≡◌, ◌<◌, ◌≤◌, IfOk, OnOk, IfErr, OnErr};
 ghost use Rattle.rb_money.specs.Amounts.{interest, most_cents};
 
-use crate::cents::Cents;
-use crate::config::MOST_CENTS;
+use crate::cents::{Cents, MOST_CENTS};
 use crate::rate::Rate;
 use crate::refusal::Refusal;
 

@@ -15,11 +15,14 @@ mod refusal;
 
 pub use accounts::Accounts;
 pub use amount::Amount;
-pub use cents::Cents;
-pub use config::{Config, MOST_ACCOUNTS, MOST_CENTS, MOST_SITES};
+pub use cents::{Cents, MOST_CENTS};
+pub use config::{Config, MOST_ACCOUNTS, MOST_SITES};
 pub use fault::ConfigFault;
 pub use interest::interest_of;
 pub use limits::Limits;
 pub use place::Place;
 pub use rate::Rate;
 pub use refusal::{Cause, Refusal};
+
+#[cfg(test)]
+mod tests;

@@ -1,7 +1,7 @@
-use Rattle.std.proofs.Common.{◌≡◌, ◌∙◌, sym, ap}
+use Rattle.std.proofs.Common.{◌≡◌}
 use Rattle.std.specs.Vec.Iter.{into_iter_items}
 use Rattle.rb_money.proofs.Entries.{names_listed, starts_listed}
-use Rattle.rb_money.proofs.Filled.{filling, filled, filled_more, fresh_if_proper}
+use Rattle.rb_money.proofs.Filled.{filling, fresh_if_proper}
 use Rattle.rb_money.proofs.accounts.Accounts.from_vec.Goals as goal
 
 pub loop-name-init : goal.loop-name-init

@@ -1,4 +1,4 @@
-use Rattle.std.proofs.Common.{◌≡◌, ◌∙◌, ap, List, ℕ}
+use Rattle.std.proofs.Common.{◌≡◌, ◌∙◌, ap}
 use Rattle.rb_money.specs.Settings.{AccountList}
 use Rattle.rb_money.proofs.Filled.{filling, fresh_if_distinct}
 use Rattle.rb_money.proofs.accounts.Accounts.try_copy.Goals as goal
