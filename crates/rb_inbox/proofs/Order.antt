@@ -242,3 +242,12 @@ holding n us = record { limit = n; held = us }
 -- the value after a change of the list
 pub changed : (n : ℕ) (us vs : List Shadow) (b : Holding) (f : List Shadow → List Shadow) → us ≡ f vs → holding n vs ≡ b → holding n us ≡ holding b.limit (f b.held)
 changed n us vs b f e h = ap (holding n) e ∙ ap (λ (b : Holding). holding b.limit (f b.held)) h
+
+-- where nothing stands under the name, nothing is left out
+pub without-absent : (us : List Shadow) (x : OpName) → find_in us x ≡ None → without x us ≡ us
+without-absent [] x h = refl
+without-absent (u ∷ us) x h = by (same_name u.name x) h (without-absent us x)
+  where
+    by : (b : Bool) → cond b (Some u) (find_in us x) ≡ None → (find_in us x ≡ None → without x us ≡ us) → cond (not b) (u ∷ without x us) (without x us) ≡ u ∷ us
+    by true k rest = cc
+    by false k rest = ap (λ vs. u ∷ vs) (rest k)

@@ -123,9 +123,21 @@ impl Inbox {
         if !clock.at_least(&shadow.deps) {
             return Err(Refusal::NotReady);
         }
-        let place = place_of(&self.shadows, name);
-        self.shadows.remove(place);
+        self.remove(&name);
         Ok(shadow)
+    }
+
+    /// Lets go what is held under the name, if anything is.
+    pub fn remove(&mut self, name: &OpName)
+        ensures { self.new ≡ record self.old { held = without name.now self.old.held } }
+    {
+        match self.held(name) {
+            None => {}
+            Some(_) => {
+                let place = place_of(&self.shadows, *name);
+                self.shadows.remove(place);
+            }
+        }
     }
 
     /// How many shadows are held.

@@ -1,6 +1,11 @@
 -- Where a site stands between two events.
-use Rattle.std.specs.Prelude.{◌≡◌, List, [], ◌∷◌, Option, Some, None}
+use Rattle.std.specs.Prelude.{◌≡◌, ◌<◌, List, [], ◌∷◌, Option, Some, None}
 use Rattle.rb_money.specs.Settings.{Settings}
+use Rattle.rb_inbox.specs.Held.{Holding}
+use Rattle.rb_shadow.specs.declared.shadow.Shadow.{Shadow}
+use Rattle.rb_shadow.specs.Operations.{Among}
+use Rattle.rb_shadow.specs.Sound.{IsSound}
+use Rattle.rb_token.specs.Seat.{TokenSeat}
 use Rattle.rb_site.specs.declared.answer.Answer.{Answer}
 use Rattle.rb_site.specs.declared.message.Message.{Message}
 use Rattle.rb_site.specs.Events.{ModelSite, Outcome, changed, reply_of, sent_by}
@@ -14,6 +19,14 @@ pub record SiteState : Type 0 where
 -- the site, its history left out
 abbrev pub without_history : ModelSite → ModelSite
 without_history t = record t { history = [] }
+
+-- the inbox and the token are of the configuration, and all that is held is sound
+pub record IsTied (s : Settings) (inbox : Holding) (token : TokenSeat) : Type 0 where
+  pub me : token.me < s.sites
+  pub sites : token.sites ≡ s.sites
+  pub limits : token.limits ≡ s.limits
+  pub limit : inbox.limit ≡ s.limits.inbox
+  pub sound : (v : Shadow) → Among v inbox.held → IsSound s v
 
 -- a message or none, as a list
 abbrev pub listed : Option Message → List Message
