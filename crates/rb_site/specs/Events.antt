@@ -76,15 +76,20 @@ abbrev pub unless_known : Shadow → Option Shadow → Outcome → Outcome
 unless_known v None next = next
 unless_known v (Some u) next = if same_shadow u v then Answers (Already v.name) else Refuses Conflict
 
+-- what comes of a shadow that isn't applied here: it is held, unless it is known or too many are held
+abbrev pub outcome_of_new : Settings → ModelSite → Shadow → Outcome
+outcome_of_new s t v =
+    unless_known v (find_in t.held v.name)
+    (refuses_if (nat_le s.limits.inbox (length t.held) && not (is_eligible t.ops v)) InboxFull
+    (Holds v))
+
 -- what a received shadow comes to
 unfoldable pub outcome_of_shadow : Settings → ModelSite → Shadow → Outcome
 outcome_of_shadow s t v =
     unless_faulty (fault_in s v)
     (unless_known v (find_in t.ops v.name)
     (refuses_if (v.home == t.me) Conflict
-    (unless_known v (find_in t.held v.name)
-    (refuses_if (nat_le s.limits.inbox (length t.held) && not (is_eligible t.ops v)) InboxFull
-    (Holds v)))))
+    (outcome_of_new s t v)))
 
 -- what a token message comes to
 unfoldable pub outcome_of_token : Settings → ModelSite → TokenMessage → Outcome

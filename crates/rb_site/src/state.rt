@@ -1,7 +1,8 @@
 //! Where a site stands between two events.
 ghost use Rattle.std.specs.Prelude.{◌≡◌, ◌<◌, if◌then◌else◌, IfOk, OnErr};
 ghost use Rattle.rb_shadow.specs.Operations.{find_in, same_shadow};
-ghost use Rattle.rb_site.specs.Events.{first_site, outcome_of, outcome_of_shadow, outcome_of_token, outcome_of_apply, outcome_of_pass};
+ghost use Rattle.rb_shadow.specs.Sound.{IsSound};
+ghost use Rattle.rb_site.specs.Events.{first_site, outcome_of, outcome_of_new, outcome_of_shadow, outcome_of_token, outcome_of_apply, outcome_of_pass};
 ghost use Rattle.rb_site.specs.States.{Follows};
 
 use crate::answer::Answer;
@@ -74,6 +75,7 @@ impl State {
         &self.ledger
     }
 
+    #[tactic(auto, unfolding(crate::specs::Events::outcome_of))]
     /// One event. After want of memory the state is as before.
     pub fn act(&mut self, event: &Event) -> Result<Answer, AllocError>
         ensures ok { IfOk result (Follows self.old self.new (outcome_of self.old.settings self.old.site event.now)) }
@@ -89,6 +91,7 @@ impl State {
         }
     }
 
+    #[tactic(auto, unfolding(crate::specs::Events::outcome_of))]
     /// A request is decided here, and its shadow is applied here and sent.
     fn submit(&mut self, request: &Request) -> Result<Answer, AllocError>
         ensures ok { IfOk result (Follows self.old self.new (outcome_of self.old.settings self.old.site (Event.Submit request.now))) }
@@ -111,6 +114,7 @@ impl State {
         }
     }
 
+    #[tactic(auto, unfolding(crate::specs::Events::outcome_of_shadow))]
     /// A shadow from another site is held until it is applied.
     fn receive(&mut self, shadow: Shadow) -> Result<Answer, AllocError>
         ensures ok { IfOk result (Follows self.old self.new (outcome_of_shadow self.old.settings self.old.site shadow)) }
@@ -125,11 +129,24 @@ impl State {
         if shadow.home == self.token.view().me {
             return Ok(Answer::alone(Reply::Refused(Refusal::Conflict)));
         }
-        match self.inbox.put(shadow, self.ledger.clock()) {
-            Ok(PutAnswer::Held) => Ok(Answer::alone(Reply::Held(shadow.name))),
-            Ok(PutAnswer::Already) => Ok(Answer::alone(Reply::Already(shadow.name))),
-            Err(Refusal::OutOfMemory) => Err(AllocError),
-            Err(why) => Ok(Answer::alone(Reply::Refused(why))),
+        self.hold(shadow)
+    }
+
+    /// A sound shadow that isn't applied here is held until it is.
+    fn hold(&mut self, shadow: Shadow) -> Result<Answer, AllocError>
+        requires { IsSound self.old.settings shadow }
+        ensures ok { IfOk result (Follows self.old self.new (outcome_of_new self.old.settings self.old.site shadow)) }
+        ensures err { OnErr result (self.new ≡ self.old) }
+    {
+        let _sites = self.ledger.config().sites();
+        let why = match self.inbox.put(shadow, self.ledger.clock()) {
+            Ok(PutAnswer::Held) => return Ok(Answer::alone(Reply::Held(shadow.name))),
+            Ok(PutAnswer::Already) => return Ok(Answer::alone(Reply::Already(shadow.name))),
+            Err(why) => why,
+        };
+        match why {
+            Refusal::OutOfMemory => Err(AllocError),
+            why => Ok(Answer::alone(Reply::Refused(why))),
         }
     }
 
@@ -137,10 +154,13 @@ impl State {
     fn applied(&self, name: &OpName) -> Option<Shadow>
         ensures { result ≡ find_in self.now.site.ops name.now }
     {
-        let position = self.ledger.find(name)?;
-        self.ledger.entry(position).copied()
+        match self.ledger.find(name) {
+            Some(position) => self.ledger.entry(position).copied(),
+            None => None,
+        }
     }
 
+    #[tactic(auto, unfolding(crate::specs::Events::outcome_of_token))]
     /// A token message makes this site the holder, unless its epoch was seen.
     fn accept(&mut self, message: TokenMessage) -> Answer
         ensures { Follows self.old self.new (outcome_of_token self.old.settings self.old.site message) result }
@@ -152,6 +172,7 @@ impl State {
         }
     }
 
+    #[tactic(auto, unfolding(crate::specs::Events::outcome_of_apply))]
     /// A held shadow whose past is applied is applied too, or is let go where it can't be.
     fn apply(&mut self, name: OpName) -> Result<Answer, AllocError>
         ensures ok { IfOk result (Follows self.old self.new (outcome_of_apply self.old.settings self.old.site (find_in self.old.site.held name))) }
@@ -164,32 +185,36 @@ impl State {
         if !self.ledger.is_eligible(&shadow) {
             return Ok(Answer::alone(Reply::Refused(Refusal::NotReady)));
         }
-        match self.ledger.apply(shadow) {
+        let why = match self.ledger.apply(shadow) {
             Ok(_undo) => {
                 self.inbox.remove(&shadow.name);
-                Ok(Answer::alone(Reply::Applied(shadow.name)))
+                return Ok(Answer::alone(Reply::Applied(shadow.name)));
             }
-            Err((_, Refusal::OutOfMemory)) => Err(AllocError),
-            Err((_, Refusal::NotReady)) => Ok(Answer::alone(Reply::Refused(Refusal::NotReady))),
-            Err((_, why)) => {
+            Err((_, why)) => why,
+        };
+        match why {
+            Refusal::OutOfMemory => Err(AllocError),
+            Refusal::NotReady => Ok(Answer::alone(Reply::Refused(Refusal::NotReady))),
+            why => {
                 self.inbox.remove(&shadow.name);
                 Ok(Answer::alone(Reply::Refused(why)))
             }
         }
     }
 
+    #[tactic(auto, unfolding(crate::specs::Events::outcome_of_pass))]
     /// The token goes to another site.
     fn pass(&mut self, to: u8) -> Answer
         ensures { Follows self.old self.new (outcome_of_pass self.old.settings self.old.site to) result }
     {
-        match self.token.pass(to, self.ledger.clock()) {
-            Ok(message) => {
-                Answer::with(Reply::Passed(message.epoch), Message::Token(message))
-            }
-            Err(why) => Answer::alone(Reply::Refused(why)),
-        }
+        let message = match self.token.pass(to, self.ledger.clock()) {
+            Ok(message) => message,
+            Err(why) => return Answer::alone(Reply::Refused(why)),
+        };
+        Answer::with(Reply::Passed(message.epoch), Message::Token(message))
     }
 
+    #[tactic(auto, unfolding(crate::specs::Events::outcome_of))]
     /// An account's balance.
     fn balance(&self, place: Place) -> Answer
         ensures { Follows self.now self.now (outcome_of self.now.settings self.now.site (Event.Balance place)) result }

@@ -10,6 +10,7 @@ use Rattle.rb_shadow.specs.declared.colour.Colour.TheVariants.{Red as RedColour}
 use Rattle.rb_shadow.specs.Operations.{Among, IsUnique, colour_of, is_red, kind_in, names, same_name, target_of}
 use Rattle.rb_shadow.proofs.Members
 use Rattle.rb_shadow.proofs.Balances
+use Rattle.rb_inbox.proofs.Order.{kept_among, held_cases}
 use Rattle.rb_site.specs.declared.message.Message.{Message}
 use Rattle.rb_site.specs.declared.world_event.WorldEvent.{WorldEvent}
 use Rattle.rb_site.specs.Events.{ModelSite}
@@ -52,7 +53,7 @@ without_name x (v ∷ us) u h = at (same_name v.name x) refl h (without_name x u
     at false e (inr k) rest = rest k
 
 in_without : (x : OpName) (us : List Shadow) (u : Shadow) → Among u (without x us) → Among u us
-in_without x us u h = Order.kept_among (λ y. not (same_name y.name x)) us u h
+in_without x us u h = kept_among (λ y. not (same_name y.name x)) us u h
 
 made_inbox : (all : List Shadow) (i : ℕ) (t : ModelSite) (v : Shadow) → IsInOrder all i t → IsNew all t.ops v → IsInbox i t → IsInbox i (record t { ops = t.ops ++ v ∷ [] })
 made_inbox all i t v o n inbox u h = pass_name t.ops v u.name (inbox u h) (Members.not_same v.name u.name (λ e. Members.true≢false (sym (Members.named all u (o.held u h)) ∙ ap (names all) (sym e) ∙ n.fresh)))
@@ -61,7 +62,7 @@ applied_inbox : (i : ℕ) (t : ModelSite) (v : Shadow) → IsInbox i t → IsInb
 applied_inbox i t v inbox u h = pass_name t.ops v u.name (inbox u (in_without v.name t.held u h)) (Members.same_name-comm v.name u.name ∙ without_name v.name t.held u h)
 
 held_inbox : (ms : List Message) (i : ℕ) (t : ModelSite) (v : Shadow) → MayHold ms t v → IsInbox i t → IsInbox i (record t { held = with_held v t.held })
-held_inbox ms i t v may inbox u h = elim (Order.held_cases v t.held u h) [ inl e ↦ ap (λ (y : Shadow). names t.ops y.name) e ∙ may.fresh | inr k ↦ inbox u k ]
+held_inbox ms i t v may inbox u h = elim (held_cases v t.held u h) [ inl e ↦ ap (λ (y : Shadow). names t.ops y.name) e ∙ may.fresh | inr k ↦ inbox u k ]
 
 pub keeps_good : (s : Settings) → Keeps s (IsGood s)
 keeps_good s = record {

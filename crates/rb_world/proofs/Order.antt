@@ -20,6 +20,7 @@ use Rattle.rb_shadow.proofs.Eligible
 use Rattle.rb_ledger.specs.Checks.{is_applied, refusal_of_sound}
 use Rattle.rb_ledger.proofs.Legal
 use Rattle.rb_token.specs.declared.message.TokenMessage.{TokenMessage}
+use Rattle.rb_inbox.proofs.Order.{kept_among, held_cases}
 use Rattle.rb_site.specs.declared.message.Message.{Message}
 use Rattle.rb_site.specs.declared.message.Message.TheVariants.{Shadow as ShadowMessage}
 use Rattle.rb_site.specs.declared.entry.Entry.{Entry}
@@ -353,26 +354,6 @@ fresh_if_right s us v h = at (names us v.name) refl h
     at : (b : Bool) → names us v.name ≡ b → refusal_of_sound s us v ≡ None → names us v.name ≡ false
     at false e k = e
     at true e k = absurd (never (is_applied (find_in us v.name) v) (let a : refusal_of_sound s us v ≡ cond (is_applied (find_in us v.name) v) (Some NotReady) (Some Conflict) = rw e in sym a ∙ k))
-
-pub kept_among : (p : Shadow → Bool) (us : List Shadow) (u : Shadow) → Among u (filter p us) → Among u us
-kept_among p [] u h = elim h [ ]
-kept_among p (v ∷ us) u h = at (p v) h (kept_among p us u)
-  where
-    at : (b : Bool) → Among u (cond b (v ∷ filter p us) (filter p us)) → (Among u (filter p us) → Among u us) → Among u (v ∷ us)
-    at true (inl e) rest = inl e
-    at true (inr k) rest = inr (rest k)
-    at false k rest = inr (rest k)
-
-pub held_cases : (v : Shadow) (us : List Shadow) (u : Shadow) → Among u (with_held v us) → (u ≡ v) ⊎ Among u us
-held_cases v [] u (inl e) = inl e
-held_cases v [] u (inr h) = elim h [ ]
-held_cases v (w ∷ us) u h = at (stands_before v.name w.name) h (held_cases v us u)
-  where
-    at : (b : Bool) → Among u (cond b (v ∷ w ∷ us) (w ∷ with_held v us)) → (Among u (with_held v us) → (u ≡ v) ⊎ Among u us) → (u ≡ v) ⊎ Among u (w ∷ us)
-    at true (inl e) rest = inl e
-    at true (inr k) rest = inr k
-    at false (inl e) rest = inr (inl e)
-    at false (inr k) rest = elim (rest k) [ inl e ↦ inl e | inr q ↦ inr (inr q) ]
 
 -- a site whose list is the same
 same_list : (all : List Shadow) (i : ℕ) (t : ModelSite) (hs : List Shadow) (k : Token) (h : List Entry) → IsInOrder all i t → IsPart hs all → IsInOrder all i (record { me = t.me; ops = t.ops; held = hs; token = k; history = h })

@@ -1,0 +1,222 @@
+-- What each handler of a site does is what the event comes to.
+use Rattle.std.proofs.Common.{◌≡◌, ◌≢◌, ℕ, ◌≤◌, Bool, true, false, cond, not, ◌&&◌, ◌⊎◌, inl, inr, List, [], ◌∷◌, ◌++◌, length, refl, ap, sym, subst, ◌∙◌, arith, Option, Some, None}
+use Rattle.std.specs.Prelude.{nat_le, ◌==◌}
+use Rattle.std.proofs.lemmas.Bool.Decides.{nat_tests}
+use Rattle.rb_money.specs.Settings.{Settings, most_sites}
+use Rattle.rb_money.specs.declared.refusal.Refusal.{Refusal}
+use Rattle.rb_money.specs.declared.refusal.Refusal.TheVariants.{NotReady, InboxFull, Conflict, OutOfMemory}
+use Rattle.rb_shadow.proofs.Eligible
+use Rattle.rb_shadow.proofs.Same
+use Rattle.rb_shadow.specs.Operations.{Among, AreSame, IsWithin, find_in, is_eligible, names, names_of_clock, past, red_count, same_shadow, clock_of}
+use Rattle.rb_shadow.specs.Sound.{IsSound, fault_in}
+use Rattle.rb_shadow.specs.declared.op_name.OpName.{OpName}
+use Rattle.rb_shadow.specs.declared.deps.Deps.{Deps}
+use Rattle.rb_shadow.specs.declared.shadow.Shadow.{Shadow}
+use Rattle.rb_ledger.proofs.ValidClocks
+use Rattle.rb_ledger.specs.Checks.{refusal_after, refusal_of, refusal_of_sound}
+use Rattle.rb_ledger.specs.Valid.{IsValid}
+use Rattle.rb_inbox.proofs.Order.{find-Among, held_cases, kept_among}
+use Rattle.rb_inbox.specs.Held.{Holding, IsInConflict, IsReady, IsTooMany, IsWelcome, with_held, without}
+use Rattle.rb_token.specs.Seat.{TokenSeat}
+use Rattle.rb_token.specs.Token.{Token, pass_message, passed_token, refusal_of_pass}
+use Rattle.rb_token.specs.declared.message.TokenMessage.{TokenMessage}
+use Rattle.rb_site.specs.declared.answer.Answer.{Answer}
+use Rattle.rb_site.specs.declared.reply.Reply.{Reply}
+use Rattle.rb_site.specs.declared.reply.Reply.TheVariants.{Held, Already, Applied, Passed, Refused}
+use Rattle.rb_site.specs.declared.message.Message.{Message}
+use Rattle.rb_site.specs.declared.message.Message.TheVariants.{Token as TokenOnItsWay}
+use Rattle.rb_site.specs.Events.{ModelSite, Outcome, Refuses, Drops, Answers, Holds, Applies, Passes, changed, outcome_of_apply, outcome_of_check, outcome_of_new, outcome_of_pass, outcome_of_shadow, refuses_first, refuses_if, unless_faulty, unless_known}
+use Rattle.rb_site.specs.States.{Follows, IsTied, SiteState, listed}
+
+-- what follows an outcome follows an equal one
+pub follows_as : (old now : SiteState) (o p : Outcome) (a : Answer) → o ≡ p → Follows old now p a → Follows old now o a
+follows_as old now o p a e h = let P : Outcome → Type 0 = λ q. Follows old now q a in subst P (sym e) h
+
+-- an answer without a message
+abbrev pub alone : Reply → Answer
+alone reply = record { reply = reply; message = None }
+
+-- a state by its parts
+abbrev pub state_as : Settings → ℕ → List Shadow → List Shadow → Token → SiteState
+state_as s me ops held token = record { settings = s; site = record { me = me; ops = ops; held = held; token = token; history = [] } }
+
+abbrev site_as : ℕ → List Shadow → List Shadow → Token → ModelSite
+site_as me ops held token = record { me = me; ops = ops; held = held; token = token; history = [] }
+
+-- ---- the token goes to another site
+
+pub passes : (s : Settings) (me : ℕ) (ops held : List Shadow) (token later : Token) (to reds : ℕ) (m : TokenMessage) (a : Answer)
+    → refusal_of_pass s.sites s.limits me token to ≡ None → reds ≡ red_count ops → m ≡ pass_message token to reds → later ≡ passed_token token m → a ≡ record { reply = Passed m.epoch; message = Some (TokenOnItsWay m) }
+    → Follows (state_as s me ops held token) (state_as s me ops held later) (outcome_of_pass s (site_as me ops held token) to) a
+unfolding outcome_of_pass
+passes s me ops held token later to reds m a allowed count sent passed is =
+    let comes : refuses_first (refusal_of_pass s.sites s.limits me token to) (Passes (pass_message token to (red_count ops))) ≡ Passes m = ap (λ r. refuses_first r (Passes (pass_message token to (red_count ops)))) allowed ∙ ap Passes (ap (pass_message token to) (sym count) ∙ sym sent) in
+    follows_as _ _ _ _ a comes (ap (state_as s me ops held) passed, ap (λ (b : Answer). b.reply) is, ap (λ (b : Answer). listed b.message) is)
+
+-- ---- a held shadow is applied, or is let go
+
+-- a sound shadow is refused for the list alone
+pub refusal-sound : (s : Settings) (us : List Shadow) (v : Shadow) → IsSound s v → refusal_of s us v ≡ refusal_of_sound s us v
+refusal-sound s us v sound = ap (refusal_after s us v) sound
+
+dropped : (v : Shadow) (why : Refusal) → (why ≡ NotReady → ⊥) → outcome_of_check v (Some why) ≡ Drops v.name why
+dropped v NotReady h = absurd (h refl)
+dropped v why h = refl
+
+-- a held shadow whose past is applied comes to what the ledger's check says
+comes_to_check : (s : Settings) (t : ModelSite) (x : OpName) (v : Shadow) (o : Option Refusal) → find_in t.held x ≡ Some v → is_eligible t.ops v ≡ true → IsSound s v → refusal_of s t.ops v ≡ o → outcome_of_apply s t (find_in t.held x) ≡ outcome_of_check v o
+unfolding outcome_of_apply
+comes_to_check s t x v o found eligible sound refusal =
+    ap (outcome_of_apply s t) found
+    ∙ ap (λ b. refuses_if (not b) NotReady (outcome_of_check v (refusal_of_sound s t.ops v))) eligible
+    ∙ ap (outcome_of_check v) (sym (refusal-sound s t.ops v sound) ∙ refusal)
+
+pub applies : (s : Settings) (me : ℕ) (ops held more less : List Shadow) (token : Token) (x : OpName) (v : Shadow) (a : Answer) → find_in held x ≡ Some v → is_eligible ops v ≡ true → IsSound s v → refusal_of s ops v ≡ None
+    → more ≡ ops ++ v ∷ [] → less ≡ without v.name held → a ≡ alone (Applied v.name)
+    → Follows (state_as s me ops held token) (state_as s me more less token) (outcome_of_apply s (site_as me ops held token) (find_in held x)) a
+applies s me ops held more less token x v a found eligible sound refusal grown taken is =
+    follows_as _ _ _ _ a (comes_to_check s (site_as me ops held token) x v None found eligible sound refusal)
+    (ap (λ us. state_as s me us less token) grown ∙ ap (λ vs. state_as s me (ops ++ v ∷ []) vs token) taken, ap (λ (b : Answer). b.reply) is, ap (λ (b : Answer). listed b.message) is)
+
+pub drops : (s : Settings) (me : ℕ) (ops held less : List Shadow) (token : Token) (x : OpName) (v : Shadow) (why : Refusal) (a : Answer) → find_in held x ≡ Some v → is_eligible ops v ≡ true → IsSound s v → refusal_of s ops v ≡ Some why → (why ≡ NotReady → ⊥)
+    → less ≡ without v.name held → a ≡ alone (Refused why)
+    → Follows (state_as s me ops held token) (state_as s me ops less token) (outcome_of_apply s (site_as me ops held token) (find_in held x)) a
+drops s me ops held less token x v why a found eligible sound refusal other taken is =
+    follows_as _ _ _ _ a (comes_to_check s (site_as me ops held token) x v (Some why) found eligible sound refusal ∙ dropped v why other)
+    (ap (λ vs. state_as s me ops vs token) taken, ap (λ (b : Answer). b.reply) is, ap (λ (b : Answer). listed b.message) is)
+
+pub waits : (s : Settings) (me : ℕ) (ops held : List Shadow) (token : Token) (x : OpName) (v : Shadow) (a : Answer) → find_in held x ≡ Some v → is_eligible ops v ≡ true → IsSound s v → refusal_of s ops v ≡ Some NotReady → a ≡ alone (Refused NotReady)
+    → Follows (state_as s me ops held token) (state_as s me ops held token) (outcome_of_apply s (site_as me ops held token) (find_in held x)) a
+waits s me ops held token x v a found eligible sound refusal is =
+    follows_as _ _ _ _ a (comes_to_check s (site_as me ops held token) x v (Some NotReady) found eligible sound refusal)
+    (refl, ap (λ (b : Answer). b.reply) is, ap (λ (b : Answer). listed b.message) is)
+
+-- what a ledger's refusal is, but for want of memory
+pub refusal_is : (why : Refusal) (o : Option Refusal) → (o ≡ Some why) ⊎ ((why ≡ OutOfMemory) × (o ≡ None)) → (why ≡ OutOfMemory → ⊥) → o ≡ Some why
+refusal_is why o (inl e) memory = e
+refusal_is why o (inr h) memory = absurd (memory h.0)
+
+pub not_memory : (why : Refusal) → why ≡ NotReady → why ≡ OutOfMemory → ⊥
+not_memory why e h = let bad : NotReady ≡ OutOfMemory = sym e ∙ h in cc
+
+-- what is held is sound
+pub held_sound : (s : Settings) (held : List Shadow) (x : OpName) (v : Shadow) → ((u : Shadow) → Among u held → IsSound s u) → find_in held x ≡ Some v → IsSound s v
+held_sound s held x v all found = all v (find-Among held x v found).0
+
+-- without one of them, what is held is still tied to the rest
+pub tied_without : (s : Settings) (now : Settings) (inbox later : Holding) (token : TokenSeat) (x : OpName) → now ≡ s → later ≡ record inbox { held = without x inbox.held } → IsTied s inbox token → IsTied now later token
+tied_without s now inbox later token x same taken tied =
+    let P : Settings → Type 0 = λ z. IsTied z later token in
+    subst P (sym same)
+    (let Q : Holding → Type 0 = λ b. IsTied s b token in
+    subst Q (sym taken) (record { me = tied.me; sites = tied.sites; limits = tied.limits; limit = tied.limit; sound = λ v h. tied.sound v (kept_among _ inbox.held v h) }))
+
+-- ---- a shadow is held
+
+-- the clock counts the names of a valid list
+pub ready_means : (s : Settings) (us : List Shadow) (c : Deps) (v : Shadow) → s.sites ≤ most_sites → IsValid s us → c ≡ clock_of us → IsReady c v → is_eligible us v ≡ true
+ready_means s us c v few valid same ready =
+    Eligible.eligible_from us v (λ x h. ValidClocks.valid_clock s us few valid x ∙ ap (λ d. names_of_clock d x) (sym same) ∙ ready x h)
+
+pub waits_means : (s : Settings) (us : List Shadow) (c : Deps) (v : Shadow) → s.sites ≤ most_sites → IsValid s us → c ≡ clock_of us → ¬ IsReady c v → is_eligible us v ≡ false
+waits_means s us c v few valid same waits = by (is_eligible us v) refl
+  where
+    by : (b : Bool) → is_eligible us v ≡ b → is_eligible us v ≡ false
+    by false e = e
+    by true e = absurd (waits (λ x h. ap (λ d. names_of_clock d x) same ∙ sym (ValidClocks.valid_clock s us few valid x) ∙ Eligible.eligible_means us v e x h))
+
+-- whether a new shadow must wait outside
+abbrev pub is_too_many : Settings → ModelSite → Shadow → Bool
+is_too_many s t v = nat_le s.limits.inbox (length t.held) && not (is_eligible t.ops v)
+
+-- a shadow of a name that nothing held has
+new_comes : (s : Settings) (t : ModelSite) (v : Shadow) (b : Bool) → find_in t.held v.name ≡ None → is_too_many s t v ≡ b → outcome_of_new s t v ≡ refuses_if b InboxFull (Holds v)
+new_comes s t v b none test =
+    ap (λ o. unless_known v o (refuses_if (is_too_many s t v) InboxFull (Holds v))) none
+    ∙ ap (λ c. refuses_if c InboxFull (Holds v)) test
+
+-- a shadow of a name that a held one has
+known_comes : (s : Settings) (t : ModelSite) (v u : Shadow) (b : Bool) → find_in t.held v.name ≡ Some u → same_shadow u v ≡ b → outcome_of_new s t v ≡ cond b (Answers (Already v.name)) (Refuses Conflict)
+known_comes s t v u b found test =
+    ap (λ o. unless_known v o (refuses_if (is_too_many s t v) InboxFull (Holds v))) found
+    ∙ ap (λ c. cond c (Answers (Already v.name)) (Refuses Conflict)) test
+
+pub holds : (s : Settings) (me : ℕ) (ops : List Shadow) (inbox later : Holding) (token : Token) (c : Deps) (v : Shadow) (a : Answer) → s.sites ≤ most_sites → IsValid s ops → c ≡ clock_of ops → inbox.limit ≡ s.limits.inbox
+    → IsWelcome inbox c v → later ≡ record inbox { held = with_held v inbox.held } → a ≡ alone (Held v.name)
+    → Follows (state_as s me ops inbox.held token) (state_as s me ops later.held token) (outcome_of_new s (site_as me ops inbox.held token) v) a
+holds s me ops inbox later token c v a few valid same limit welcome grown is =
+    follows_as _ _ _ _ a (new_comes s (site_as me ops inbox.held token) v false welcome.new test)
+    (ap (λ (b : Holding). state_as s me ops b.held token) grown, ap (λ (b : Answer). b.reply) is, ap (λ (b : Answer). listed b.message) is)
+  where
+    by : (b : Bool) → nat_le s.limits.inbox (length inbox.held) ≡ b → (b && not (is_eligible ops v)) ≡ false
+    by false e = refl
+    by true e =
+        let full : inbox.limit ≤ length inbox.held = subst (λ n. n ≤ length inbox.held) (sym limit) (grind (arith, nat_tests)) in
+        ap not (ready_means s ops c v few valid same (welcome.room full))
+
+    test : is_too_many s (site_as me ops inbox.held token) v ≡ false
+    test = by (nat_le s.limits.inbox (length inbox.held)) refl
+
+pub too_many : (s : Settings) (me : ℕ) (ops : List Shadow) (inbox : Holding) (token : Token) (c : Deps) (v : Shadow) (a : Answer) → s.sites ≤ most_sites → IsValid s ops → c ≡ clock_of ops → inbox.limit ≡ s.limits.inbox
+    → IsTooMany inbox c v → a ≡ alone (Refused InboxFull)
+    → Follows (state_as s me ops inbox.held token) (state_as s me ops inbox.held token) (outcome_of_new s (site_as me ops inbox.held token) v) a
+too_many s me ops inbox token c v a few valid same limit many is =
+    follows_as _ _ _ _ a (new_comes s (site_as me ops inbox.held token) v true many.new test)
+    (refl, ap (λ (b : Answer). b.reply) is, ap (λ (b : Answer). listed b.message) is)
+  where
+    full : s.limits.inbox ≤ length inbox.held
+    full = subst (λ n. n ≤ length inbox.held) limit many.full
+
+    test : is_too_many s (site_as me ops inbox.held token) v ≡ true
+    test =
+        let first : nat_le s.limits.inbox (length inbox.held) ≡ true = grind (arith, nat_tests, full) in
+        ap (λ b. b && not (is_eligible ops v)) first ∙ ap not (waits_means s ops c v few valid same many.waits)
+
+pub already : (s : Settings) (me : ℕ) (ops held : List Shadow) (token : Token) (v : Shadow) (a : Answer) → find_in held v.name ≡ Some v → a ≡ alone (Already v.name)
+    → Follows (state_as s me ops held token) (state_as s me ops held token) (outcome_of_new s (site_as me ops held token) v) a
+already s me ops held token v a found is =
+    follows_as _ _ _ _ a (known_comes s (site_as me ops held token) v v true found (Same.same_shadow-refl v))
+    (refl, ap (λ (b : Answer). b.reply) is, ap (λ (b : Answer). listed b.message) is)
+
+pub conflicts : (s : Settings) (me : ℕ) (ops : List Shadow) (inbox : Holding) (token : Token) (v : Shadow) (a : Answer) → IsInConflict inbox v → a ≡ alone (Refused Conflict)
+    → Follows (state_as s me ops inbox.held token) (state_as s me ops inbox.held token) (outcome_of_new s (site_as me ops inbox.held token) v) a
+conflicts s me ops inbox token v a (u, found, other) is =
+    follows_as _ _ _ _ a (known_comes s (site_as me ops inbox.held token) v u false found (by (same_shadow u v) refl))
+    (refl, ap (λ (b : Answer). b.reply) is, ap (λ (b : Answer). listed b.message) is)
+  where
+    by : (b : Bool) → same_shadow u v ≡ b → same_shadow u v ≡ false
+    by false e = e
+    by true e = absurd (other (Same.same_shadow-true u v e))
+
+-- a shadow that the inbox refuses, but for want of memory
+pub refused_put : (s : Settings) (me : ℕ) (ops : List Shadow) (inbox later : Holding) (token : Token) (c : Deps) (v : Shadow) (why : Refusal) (a : Answer) → s.sites ≤ most_sites → IsValid s ops → c ≡ clock_of ops → inbox.limit ≡ s.limits.inbox
+    → (why ≡ Conflict) ⊎ (why ≡ InboxFull) ⊎ (why ≡ OutOfMemory) → (why ≡ Conflict → IsInConflict inbox v) → (why ≡ InboxFull → IsTooMany inbox c v) → (why ≡ OutOfMemory → ⊥) → later ≡ inbox → a ≡ alone (Refused why)
+    → Follows (state_as s me ops inbox.held token) (state_as s me ops later.held token) (outcome_of_new s (site_as me ops inbox.held token) v) a
+refused_put s me ops inbox later token c v why a few valid same limit refusals conflict full memory stays is =
+    let P : Holding → Type 0 = λ b. Follows (state_as s me ops inbox.held token) (state_as s me ops b.held token) (outcome_of_new s (site_as me ops inbox.held token) v) a in
+    subst P (sym stays) (by refusals)
+  where
+    by : (why ≡ Conflict) ⊎ (why ≡ InboxFull) ⊎ (why ≡ OutOfMemory) → Follows (state_as s me ops inbox.held token) (state_as s me ops inbox.held token) (outcome_of_new s (site_as me ops inbox.held token) v) a
+    by (inl e) = conflicts s me ops inbox token v a (conflict e) (is ∙ ap (λ w. alone (Refused w)) e)
+    by (inr (inl e)) = too_many s me ops inbox token c v a few valid same limit (full e) (is ∙ ap (λ w. alone (Refused w)) e)
+    by (inr (inr e)) = absurd (memory e)
+
+-- with one more that is sound, what is held is still tied to the rest
+pub tied_with : (s : Settings) (inbox later : Holding) (token : TokenSeat) (v : Shadow) → later ≡ record inbox { held = with_held v inbox.held } → IsSound s v → IsTied s inbox token → IsTied s later token
+tied_with s inbox later token v grown sound tied =
+    let P : Holding → Type 0 = λ b. IsTied s b token in
+    subst P (sym grown) (record {
+      me = tied.me;
+      sites = tied.sites;
+      limits = tied.limits;
+      limit = tied.limit;
+      sound = λ u h. elim (held_cases v inbox.held u h) [ inl e ↦ subst (IsSound s) (sym e) sound | inr k ↦ tied.sound u k ];
+    })
+
+-- a received shadow that isn't known here comes to what a new one does
+pub comes_to_new : (s : Settings) (t : ModelSite) (v : Shadow) → fault_in s v ≡ None → find_in t.ops v.name ≡ None → (v.home == t.me) ≡ false → outcome_of_shadow s t v ≡ outcome_of_new s t v
+unfolding outcome_of_shadow
+comes_to_new s t v sound fresh other =
+    ap (λ o. unless_faulty o (unless_known v (find_in t.ops v.name) (refuses_if (v.home == t.me) Conflict (outcome_of_new s t v)))) sound
+    ∙ ap (λ o. unless_known v o (refuses_if (v.home == t.me) Conflict (outcome_of_new s t v))) fresh
+    ∙ ap (λ b. refuses_if b Conflict (outcome_of_new s t v)) other
