@@ -115,7 +115,7 @@ find-place (u ∷ us) x d h l = at (stands_before u.name x) refl l (find-place u
     at : (b : Bool) → stands_before u.name x ≡ b → cond b (suc (place_in us x)) 0 < suc (length us)
         → (place_in us x < length us → find_in us x ≡ cond (same_name (get_or us (place_in us x) d).name x) (Some (get_or us (place_in us x) d)) None)
         → cond (same_name u.name x) (Some u) (find_in us x)
-            ≡ cond (same_name (get_or (u ∷ us) (cond b (suc (place_in us x)) 0) d).name x) (Some (get_or (u ∷ us) (cond b (suc (place_in us x)) 0) d)) None
+        ≡ cond (same_name (get_or (u ∷ us) (cond b (suc (place_in us x)) 0) d).name x) (Some (get_or (u ∷ us) (cond b (suc (place_in us x)) 0) d)) None
     at true e l rest = ap (λ s. cond s (Some u) (find_in us x)) (before-not_same u.name x e) ∙ rest (omega arith)
     at false e l rest = here (same_name u.name x) refl
       where

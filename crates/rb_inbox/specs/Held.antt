@@ -22,7 +22,7 @@ with_held v (u ∷ us) = if stands_before v.name u.name then v ∷ u ∷ us else
 abbrev pub without : OpName → List Shadow → List Shadow
 without x us = filter (λ u. not (same_name u.name x)) us
 
--- how many operations are held, at least, before others must be ready to be held too, and those that are held
+-- the number of operations from which on only ready ones are taken in, and the operations held
 pub record Holding : Type 0 where
   pub limit : ℕ
   pub held : List Shadow

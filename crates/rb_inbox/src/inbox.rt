@@ -58,7 +58,11 @@ impl Inbox {
         ensures err { OnErr result (self.new ≡ self.old) }
     {
         if let Some(held) = self.held(&shadow.name) {
-            return if held.same(&shadow) { Ok(PutAnswer::Already) } else { Err(Refusal::Conflict) };
+            return if held.same(&shadow) {
+                Ok(PutAnswer::Already)
+            } else {
+                Err(Refusal::Conflict)
+            };
         }
         if !self.has_room_for(&shadow, clock) {
             return Err(Refusal::InboxFull);
@@ -76,7 +80,7 @@ impl Inbox {
         ensures full { OnFalse result (self.now.limit ≤ length self.now.held) }
         ensures waits { OnFalse result (¬ IsReady clock.now shadow.now) }
     {
-        self.shadows.len() < self.limit as usize || clock.at_least(&shadow.deps)
+        self.len() < self.limit as usize || clock.at_least(&shadow.deps)
     }
 
     /// The name of a held shadow that is ready at the clock, if there is one.
@@ -97,9 +101,13 @@ impl Inbox {
     pub fn held(&self, name: &OpName) -> Option<&Shadow>
         ensures { option_copied result ≡ find_in self.now.held name.now }
     {
-        let shadows = self.shadows.as_slice();
+        let shadows = self.as_slice();
         let shadow = shadows.get(place_of(shadows, *name))?;
-        if shadow.name == *name { Some(shadow) } else { None }
+        if shadow.name == *name {
+            Some(shadow)
+        } else {
+            None
+        }
     }
 
     /// Takes out the shadow that is held under the name and is ready at the clock.

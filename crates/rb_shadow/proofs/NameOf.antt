@@ -59,6 +59,7 @@ value_is t None found range only = by (is_name (candidate t) && bytes_eq (name_t
   where
     by : (b : Bool) → (is_name (candidate t) && bytes_eq (name_text (candidate t)) t) ≡ b → None ≡ name_of t
     by true e =
-        let p = both _ _ e in
-        absurd (cc (only (candidate t) (IsName_from (candidate t) p.0) (sym ((bytes_eq-Decides (name_text (candidate t)) t).0 p.1))))
+        let p : (is_name (candidate t) ≡ true) × (bytes_eq (name_text (candidate t)) t ≡ true) = both _ _ e in
+        let other : None ≡ Some (candidate t) = only (candidate t) (IsName_from (candidate t) p.0) (sym ((bytes_eq-Decides (name_text (candidate t)) t).0 p.1)) in
+        absurd (cc)
     by false e = rw e refl

@@ -8,6 +8,8 @@ mod label;
 mod name_text;
 mod op_name;
 mod shadow;
+#[cfg(test)]
+mod tests;
 
 pub use colour::Colour;
 pub use deps::Deps;

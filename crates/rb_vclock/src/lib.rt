@@ -2,6 +2,8 @@
 #![tactic(auto)]
 
 mod clock;
+#[cfg(test)]
+mod tests;
 
 ghost use Rattle.rb_vclock.specs.Clocks.{AtLeastMeansWithin};
 
