@@ -8,6 +8,8 @@ mod effect;
 mod generator;
 mod plan;
 mod request;
+#[cfg(test)]
+mod tests;
 
 pub use generator::generate;
 pub use plan::{CancelPlan, cancel_of};

@@ -8,10 +8,9 @@
 mod accepted;
 mod message;
 mod state;
-mod view;
-
 #[cfg(test)]
 mod tests;
+mod view;
 
 pub use accepted::Accepted;
 pub use message::TokenMessage;

@@ -41,8 +41,8 @@ pub returns-in-Ok-permit_red-clause-valid : goal.returns-in-Ok-permit_red-clause
 returns-in-Ok-permit_red-clause-valid c =
     Makes.made_is_valid _ _ _ (Generated.seen c.args.token.now) c.args.request.now _ (few_sites _ _ _ c.config.ensures.same c.sites-sites.ensures.same c.sites-sites.ensures.few) c.requires c.config.ensures.valid
     (
-      Generated.red_made _ _ _ _ _ _ _ c.in-Ok.ensures.plan c.in-Ok-operation.ensures.0 c.in-Ok-operation.ensures.1 (sym c.in-Ok.ensures.colour ∙ c.in-Red.is)
-      ∙ c.in-Ok-permit_red.ensures (Generated.seen c.args.token.now) (Generated.seen_shows c.args.token.now)
+    Generated.red_made _ _ _ _ _ _ _ c.in-Ok.ensures.plan c.in-Ok-operation.ensures.0 c.in-Ok-operation.ensures.1 (sym c.in-Ok.ensures.colour ∙ c.in-Red.is)
+    ∙ c.in-Ok-permit_red.ensures (Generated.seen c.args.token.now) (Generated.seen_shows c.args.token.now)
     )
 
 pub returns-in-Err-permit_red-clause-made : goal.returns-in-Err-permit_red-clause-made
