@@ -1,0 +1,8 @@
+//! Texts of names, and numbers of refusals, until the crates below have them.
+#![tactic(auto)]
+
+mod name;
+mod refusals;
+
+pub use name::{read_name, write_name};
+pub use refusals::number_of;
