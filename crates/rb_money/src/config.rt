@@ -1,7 +1,8 @@
 //! The configuration of a bank.
-ghost use Rattle.std.specs.Prelude.{◌≡◌, ◌≤◌, length};
+ghost use Rattle.std.specs.Prelude.{◌≡◌, ◌≤◌};
 ghost use Rattle.rb_money.specs.Settings.{most_sites};
 
+use crate::accounts::Accounts;
 use crate::limits::Limits;
 use std::marker::Model;
 
@@ -12,20 +13,18 @@ pub const MOST_SITES: usize = 8;
 #[derive(Drop)]
 pub struct Config {
     sites: u8,
-    names: Vec<String>,
-    starts: Vec<u64>,
+    accounts: Accounts,
     limits: Limits,
 }
 
 impl Model for Config {
-    ghost use Rattle.std.specs.Prelude.{map, string_bytes};
     ghost use Rattle.rb_money.specs.Settings.{Settings, IsConfigured};
 
     ghost Value = { Settings };
 
-    ghost view = { λ c. record { sites = c.sites; names = map string_bytes c.names.items; starts = c.starts.items; limits = c.limits } };
+    ghost view = { λ c. record { sites = c.sites; names = c.accounts.names; starts = c.accounts.starts; limits = c.limits } };
 
-    ghost invariant = { λ c. IsConfigured (record { sites = c.sites; names = map string_bytes c.names.items; starts = c.starts.items; limits = c.limits }) };
+    ghost invariant = { λ c. IsConfigured (record { sites = c.sites; names = c.accounts.names; starts = c.accounts.starts; limits = c.limits }) };
 }
 
 impl Config {
@@ -45,10 +44,11 @@ impl Config {
         self.limits
     }
 
-    /// How many accounts there are.
-    pub fn accounts(&self) -> usize
-        ensures { result ≡ length self.now.starts }
+    /// The accounts.
+    pub fn accounts(&self) -> &Accounts
+        ensures names { result.now.names ≡ self.now.names }
+        ensures starts { result.now.starts ≡ self.now.starts }
     {
-        self.starts.len()
+        &self.accounts
     }
 }
