@@ -9,6 +9,12 @@ use std::marker::Model;
 /// How many sites there may be.
 pub const MOST_SITES: usize = 8;
 
+/// How many accounts there may be.
+pub const MOST_ACCOUNTS: usize = 1000;
+
+/// The most cents that an account may start with, and that interest may come to.
+pub const MOST_CENTS: u64 = 100_000_000_000;
+
 /// The sites, the accounts with their starting balances, and the limits.
 #[derive(Drop)]
 pub struct Config {
