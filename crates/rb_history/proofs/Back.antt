@@ -1,9 +1,9 @@
 -- A command's own JSON object is read as the command.
-use Rattle.std.proofs.Common.{◌≡◌, ◌<◌, ◌^◌, ℕ, Some, true, refl, sym, ap, ◌∙◌, rules, codes}
+use Rattle.std.proofs.Common.{◌≡◌, ◌<◌, ◌^◌, ℕ, Some, true, refl, sym, ap, ◌∙◌, rules}
 use Rattle.std.specs.Prelude.{nat_lt}
 use Rattle.rb_money.specs.Settings.{Settings}
-use Rattle.rb_names.proofs.NameOf.{value_is, candidate_is}
-use Rattle.rb_names.specs.Name.{IsName, candidate, name_of, name_text}
+use Rattle.rb_shadow.proofs.NameOf.{value_is, candidate_is}
+use Rattle.rb_shadow.specs.NameText.{IsName, candidate, name_of, name_text}
 use Rattle.rb_shadow.specs.declared.op_name.OpName.{OpName}
 use Rattle.rb_history.specs.Commands.{ReadsCommands}
 

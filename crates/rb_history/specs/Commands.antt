@@ -12,7 +12,7 @@ use Rattle.rb_site.specs.declared.event.Event.{Event}
 use Rattle.rb_site.specs.declared.event.Event.TheVariants.{Submit, Apply, Pass, Balance}
 use Rattle.rb_site.specs.declared.world_event.WorldEvent.{WorldEvent}
 use Rattle.rb_site.specs.declared.world_event.WorldEvent.TheVariants.{At, Deliver}
-use Rattle.rb_names.specs.Name.{IsName}
+use Rattle.rb_shadow.specs.NameText.{IsName}
 use Rattle.rb_history.specs.Values.{number_json, name_json, pair_json, number_below, name_at, pair_of, size_of, either}
 
 -- the place that no configuration has

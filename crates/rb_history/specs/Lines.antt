@@ -1,6 +1,5 @@
 -- What reading a line answers.
-use Rattle.std.specs.Prelude.{◌≡◌, Option, Some, None, Result, Ok, Err, List, ℕ, String, string_bytes}
-use Rattle.std.specs.declared.alloc.Global.{Global}
+use Rattle.std.specs.Prelude.{◌≡◌, Option, Some, None, Result, Ok, Err}
 use Rattle.rb_history.specs.declared.fault.LineFault.{LineFault}
 use Rattle.rb_history.specs.declared.fault.LineFault.TheVariants.{Bad, OutOfMemory}
 
@@ -15,7 +14,3 @@ abbrev pub GivesAs : {A B : Type 0} → (A → B) → Result A LineFault → Opt
 GivesAs seen (Ok x) meant = meant ≡ Some (seen x)
 GivesAs seen (Err Bad) meant = meant ≡ None
 GivesAs seen (Err OutOfMemory) meant = Unit {0}
-
--- an account's name and starting balance
-abbrev pub named : String Global × ℕ → List ℕ × ℕ
-named a = (string_bytes a.0, a.1)

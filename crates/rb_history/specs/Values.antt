@@ -1,10 +1,10 @@
 -- JSON values: how numbers, names and the shapes of lines are written, and what is read from them.
-use Rattle.std.specs.Prelude.{ℕ, List, Option, Some, None, nat_lt, if◌then◌else◌, option_and_then, option_map}
+use Rattle.std.specs.Prelude.{ℕ, List, Option, Some, None, nat_lt, if◌then◌else◌, option_and_then}
 use Rattle.serde_json.specs.Data.{Data, null, boolean, number, string, array, object, unsigned, Items, no_items, item, member, no_members}
 use Rattle.serde_json.specs.Events.{members_len}
 use Rattle.serde_json.specs.Find.{as_number, as_str, as_u64}
 use Rattle.rb_shadow.specs.declared.op_name.OpName.{OpName}
-use Rattle.rb_names.specs.Name.{name_of, name_text}
+use Rattle.rb_shadow.specs.NameText.{name_of, name_text}
 
 -- a number
 abbrev pub number_json : ℕ → Data

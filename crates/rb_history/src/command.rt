@@ -7,7 +7,7 @@ ghost use Rattle.rb_history.specs.Commands.{place_of, place_at, asked_of, reques
 ghost use Rattle.rb_history.specs.Lines.{Gives};
 
 use crate::fault::LineFault;
-use crate::values::{byte, long, name, pair, size, word};
+use crate::values::{byte, long, name, pair, parse, size, word};
 use rb_money::{Config, Place};
 use rb_scratch::Request;
 use rb_site::{Event, WorldEvent};
@@ -133,14 +133,9 @@ pub fn read_command(alloc: Global, config: &Config, line: &str) -> Result<WorldE
     ensures value { Gives result (command_at config.now line.now) }
     ensures command { IfOk result IsCommand }
 {
-    let value = match Value::from_str(alloc, line) {
+    let value = match parse(alloc, line) {
         Ok(value) => value,
-        Err(error) => {
-            if error.is_memory() {
-                return Err(LineFault::OutOfMemory);
-            }
-            return Err(LineFault::Bad);
-        }
+        Err(fault) => return Err(fault),
     };
     match command(config, &value) {
         Some(command) => Ok(command),

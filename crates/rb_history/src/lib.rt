@@ -2,7 +2,6 @@
 #![tactic(auto)]
 
 mod command;
-mod config_line;
 mod fault;
 mod values;
 mod write;
@@ -10,7 +9,6 @@ mod write;
 ghost use Rattle.rb_history.specs.Commands.{CommandsAreRead};
 
 pub use command::read_command;
-pub use config_line::read_config;
 pub use fault::LineFault;
 pub use write::write_reply;
 

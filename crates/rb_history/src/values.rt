@@ -1,11 +1,29 @@
-//! Numbers, names and lists of two in JSON values.
+//! JSON values: numbers, names and lists of two in them.
 ghost use Rattle.std.specs.Prelude.{◌≡◌, ◌^◌, option_map};
+ghost use Rattle.serde_json.specs.Read.{read};
 ghost use Rattle.serde_json.specs.View.{view};
+ghost use Rattle.rb_history.specs.Lines.{GivesAs};
 ghost use Rattle.rb_history.specs.Values.{number_below, name_at, pair_of, size_of};
 
-use rb_names::read_name;
-use rb_shadow::OpName;
+use crate::fault::LineFault;
+use rb_shadow::{OpName, read_name};
 use serde_json::Value;
+use std::alloc::Global;
+
+/// The JSON value that a line is.
+pub fn parse(alloc: Global, line: &str) -> Result<Value, LineFault>
+    ensures { GivesAs view result (read line.now) }
+{
+    match Value::from_str(alloc, line) {
+        Ok(value) => Ok(value),
+        Err(error) => {
+            if error.is_memory() {
+                return Err(LineFault::OutOfMemory);
+            }
+            Err(LineFault::Bad)
+        }
+    }
+}
 
 pub fn byte(value: &Value) -> Option<u8>
     ensures { result ≡ number_below (2 ^ 8) (view value.now) }

@@ -5,8 +5,7 @@ ghost use Rattle.rb_history.specs.Replies.{line, reply_json, refusal_json, label
 ghost use Rattle.rb_history.specs.Values.{name_json, one_json};
 
 use rb_money::{Cause, Refusal};
-use rb_names::{number_of, write_name};
-use rb_shadow::{Label, OpName};
+use rb_shadow::{Label, OpName, write_name};
 use rb_site::Reply;
 use serde_json::{Value, json};
 use std::alloc::{AllocError, Global};
@@ -96,7 +95,7 @@ fn refusal_value(alloc: Global, refusal: Refusal) -> Result<Value, AllocError>
         Refusal::RedBehind { seen, needed } => behind_value(alloc, seen, needed),
         Refusal::BatchRefused { index, cause } => batch_value(alloc, index, cause),
         Refusal::BadMessage { why } => message_value(alloc, why),
-        _ => one_value(alloc, "refused", Value::from(number_of(refusal))),
+        _ => one_value(alloc, "refused", Value::from(refusal.number())),
     }
 }
 

@@ -1,7 +1,7 @@
-use Rattle.std.proofs.Common.{◌≡◌, ◌++◌, string_bytes, rules}
+use Rattle.std.proofs.Common.{◌≡◌, string_bytes, rules}
 use Rattle.serde_json.specs.View.{view}
 use Rattle.serde_json.specs.Written.{compact_text}
-use Rattle.rb_history.specs.Replies.{line, reply_json}
+use Rattle.rb_history.specs.Replies.{reply_json}
 use Rattle.rb_history.proofs.Whole.{no_float}
 use Rattle.rb_history.proofs.write.write_reply.Goals as goal
 

@@ -15,15 +15,16 @@ abbrev pub IsName : OpName → Type 0
 IsName (Blue site n) = (site < 2 ^ 8) × (n < 2 ^ 32)
 IsName (Red n) = n < 2 ^ 32
 
--- the one name that a text could be: its digits, before and after the first dot
+-- the same, as a test
+abbrev pub is_name : OpName → Bool
+is_name (Blue site n) = nat_lt site (2 ^ 8) && nat_lt n (2 ^ 32)
+is_name (Red n) = nat_lt n (2 ^ 32)
+
+-- the one name that a text could be: after an `R` (82) its digits, else its digits before and after the first dot (46)
 abbrev pub candidate : List ℕ → OpName
 candidate [] = Red 0
 candidate (b ∷ bs) = if b == 82 then Red (digits_value 10 bs) else Blue (digits_value 10 (before_first (λ c. c == 46) bs)) (digits_value 10 (after_first (λ c. c == 46) bs))
 
-abbrev pub fits : OpName → Bool
-fits (Blue site n) = nat_lt site (2 ^ 8) && nat_lt n (2 ^ 32)
-fits (Red n) = nat_lt n (2 ^ 32)
-
 -- the name whose text this is
 abbrev pub name_of : List ℕ → Option OpName
-name_of text = if fits (candidate text) && bytes_eq (name_text (candidate text)) text then Some (candidate text) else None
+name_of text = if is_name (candidate text) && bytes_eq (name_text (candidate text)) text then Some (candidate text) else None

@@ -1,7 +1,7 @@
 use Rattle.std.proofs.Common.{rules, arith, ◌≡◌, ◌<◌}
 use Rattle.std.proofs.lemmas.Str.Pattern.{strip_prefix_char}
-use Rattle.rb_names.proofs.Digits.{no_name, blue_cut}
-use Rattle.rb_names.proofs.name.parse_name.Goals as goal
+use Rattle.rb_shadow.proofs.NameDigits.{no_name, blue_cut}
+use Rattle.rb_shadow.proofs.name_text.parse_name.Goals as goal
 
 pub returns-in_err-strip_prefix-clause-only : goal.returns-in_err-strip_prefix-clause-only
 returns-in_err-strip_prefix-clause-only c = λ name fits e.

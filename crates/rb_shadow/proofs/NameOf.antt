@@ -1,18 +1,16 @@
 -- Each name has one text.
 use Rattle.std.proofs.Common.{◌≡◌, ◌≢◌, ◌<◌, ◌^◌, ◌==◌, ◌+◌, ℕ, List, [], ◌∷◌, ◌++◌, length, take, drop, get_or, decimal, arith, rules, refl, sym, ap, ◌∙◌, append_assoc, add-one, Option, Some, None, Bool, true, false, suc}
 use Rattle.std.specs.Prelude.{IfSome, bytes_eq, ◌&&◌}
-use Rattle.std.specs.List.{before_first, after_first, position_or_len}
+use Rattle.std.specs.List.{before_first, after_first}
 use Rattle.std.specs.Str.Parse.{digits_value}
 use Rattle.std.proofs.lemmas.Fmt.{decimal_is_IsNumeral}
-use Rattle.std.proofs.lemmas.List.Sums.{position_or_len_is}
-use Rattle.std.proofs.Math.Seq.{take-append_seam, drop-append-add, get_or-append_seam}
 use Rattle.std.proofs.lemmas.Slice.Eq.{bytes_eq-Decides}
 use Rattle.std.proofs.lemmas.Bool.{eqb-true, false_from_ne_true}
 use borrow.Author.Tests.{ltb-true}
-use Rattle.rb_names.specs.Name.{name_text, name_of, candidate, fits, IsName}
+use Rattle.rb_shadow.specs.NameText.{name_text, name_of, candidate, is_name, IsName}
 use Rattle.rb_shadow.specs.declared.op_name.OpName.{OpName}
 use Rattle.rb_shadow.specs.declared.op_name.OpName.TheVariants.{Blue, Red}
-use Rattle.rb_names.proofs.Digits.{no_dot}
+use Rattle.rb_shadow.proofs.NameDigits.{no_dot}
 
 both : (a b : Bool) → (a && b) ≡ true → (a ≡ true) × (b ≡ true)
 both true b h = (refl, h)
@@ -42,13 +40,13 @@ candidate_is (Blue s n) h =
     ∙ ap (λ l. Blue (digits_value 10 (decimal s)) (digits_value 10 l)) cut.1
     ∙ ap (λ m. Blue m (digits_value 10 (decimal n))) (digits_back s (omega arith)) ∙ ap (Blue s) (digits_back n (omega arith))
 
-fits_is : (x : OpName) → IsName x → fits x ≡ true
-fits_is (Blue s n) h = search rules
-fits_is (Red n) h = search rules
+is_name_is : (x : OpName) → IsName x → is_name x ≡ true
+is_name_is (Blue s n) h = search rules
+is_name_is (Red n) h = search rules
 
-is_name : (x : OpName) → fits x ≡ true → IsName x
-is_name (Blue s n) h = let p = both _ _ h in (ltb-true _ _ p.0, ltb-true _ _ p.1)
-is_name (Red n) h = search rules
+IsName_from : (x : OpName) → is_name x ≡ true → IsName x
+IsName_from (Blue s n) h = let p = both _ _ h in (ltb-true _ _ p.0, ltb-true _ _ p.1)
+IsName_from (Red n) h = search rules
 
 same_text : (t : List ℕ) → bytes_eq t t ≡ true
 same_text t = (bytes_eq-Decides t t).1 refl
@@ -56,11 +54,11 @@ same_text t = (bytes_eq-Decides t t).1 refl
 pub value_is : (t : List ℕ) (r : Option OpName) → IfSome r (λ x. t ≡ name_text x) → IfSome r IsName → ((x : OpName) → IsName x → t ≡ name_text x → r ≡ Some x) → r ≡ name_of t
 value_is t (Some x) found range only =
     let c : candidate t ≡ x = ap candidate found ∙ candidate_is x range in
-    rw (c, fits_is x range, ← found, same_text t) refl
-value_is t None found range only = by (fits (candidate t) && bytes_eq (name_text (candidate t)) t) refl
+    rw (c, is_name_is x range, ← found, same_text t) refl
+value_is t None found range only = by (is_name (candidate t) && bytes_eq (name_text (candidate t)) t) refl
   where
-    by : (b : Bool) → (fits (candidate t) && bytes_eq (name_text (candidate t)) t) ≡ b → None ≡ name_of t
+    by : (b : Bool) → (is_name (candidate t) && bytes_eq (name_text (candidate t)) t) ≡ b → None ≡ name_of t
     by true e =
         let p = both _ _ e in
-        absurd (cc (only (candidate t) (is_name (candidate t) p.0) (sym ((bytes_eq-Decides (name_text (candidate t)) t).0 p.1))))
+        absurd (cc (only (candidate t) (IsName_from (candidate t) p.0) (sym ((bytes_eq-Decides (name_text (candidate t)) t).0 p.1))))
     by false e = rw e refl

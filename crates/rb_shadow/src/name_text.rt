@@ -1,12 +1,13 @@
+//! The text of names: `B0.1` for the first blue operation of site 0, `R1` for the first red one.
 ghost use Rattle.std.specs.Prelude.{◌≡◌, ◌++◌, ◌<◌, ◌^◌, ℕ, decimal, string_bytes, IfSome, OnOk, OnErr};
-ghost use Rattle.rb_names.specs.Name.{name_text, name_of, IsName};
+ghost use Rattle.rb_shadow.specs.NameText.{name_text, name_of, IsName};
 ghost use Rattle.rb_shadow.specs.declared.op_name.OpName.{OpName};
 
+use crate::OpName;
 use itoa::Buffer;
-use rb_shadow::OpName;
 use std::alloc::AllocError;
 
-/// Adds the text of a name. An `Err` leaves the text as it was.
+/// Adds the text of the name at the end of `out`, which an error leaves as it was.
 pub fn write_name(name: OpName, out: &mut String) -> Result<(), AllocError>
     ensures ok { OnOk result (string_bytes out.new ≡ string_bytes out.old ++ name_text name) }
     ensures err { OnErr result (string_bytes out.new ≡ string_bytes out.old) }
@@ -33,24 +34,7 @@ pub fn write_name(name: OpName, out: &mut String) -> Result<(), AllocError>
     }
 }
 
-/// The number that these digits are the text of, with no sign and no zero in front.
-fn read_number(text: &str) -> Option<u32>
-    ensures found { IfSome result (λ n. text.now ≡ decimal n) }
-    ensures only { (n : ℕ) → n < 2 ^ 32 → text.now ≡ decimal n → result ≡ Some n }
-{
-    match text.parse::<u32>() {
-        Ok(n) => {
-            if Buffer::new().format(n) == text {
-                Some(n)
-            } else {
-                None
-            }
-        }
-        Err(_) => None,
-    }
-}
-
-/// The name that this is the text of.
+/// The name that this is the text of, as `write_name` writes it and in no other spelling.
 pub fn read_name(text: &str) -> Option<OpName>
     ensures value { result ≡ name_of text.now }
     ensures found { IfSome result (λ name. text.now ≡ name_text name) }
@@ -72,4 +56,21 @@ fn parse_name(text: &str) -> Option<OpName>
     let site = u8::try_from(read_number(site)?).ok()?;
     let n = read_number(number)?;
     Some(OpName::Blue { site, n })
+}
+
+/// The number that these digits are the text of, with no sign and no zero in front.
+fn read_number(text: &str) -> Option<u32>
+    ensures found { IfSome result (λ n. text.now ≡ decimal n) }
+    ensures only { (n : ℕ) → n < 2 ^ 32 → text.now ≡ decimal n → result ≡ Some n }
+{
+    match text.parse::<u32>() {
+        Ok(n) => {
+            if Buffer::new().format(n) == text {
+                Some(n)
+            } else {
+                None
+            }
+        }
+        Err(_) => None,
+    }
 }
