@@ -1,10 +1,12 @@
 //! The accounts of a bank.
-ghost use Rattle.std.specs.Prelude.{◌≡◌, ◌≤◌, length, nat_lt, is_some, option_map, slice_get, slice_index, IfSome};
+ghost use Rattle.std.specs.Prelude.{◌≡◌, ◌<◌, ◌≤◌, ◌++◌, ◌∷◌, [], false, length, map, nat_lt, is_some, option_map, slice_get, slice_index, string_bytes, None, IfOk, IfSome, OnOk};
+ghost use Rattle.rb_money.specs.Faults.{account_fault, account_of, is_among, listed};
 ghost use Rattle.rb_money.specs.Settings.{most_accounts, place_in};
 
 use crate::cents::Cents;
 use crate::place::Place;
 use indexmap::IndexMap;
+use std::alloc::{AllocError, Global};
 use std::marker::Model;
 
 /// The accounts in order of the configuration: an account's place is its index.
@@ -25,6 +27,53 @@ impl Model for Accounts {
 }
 
 impl Accounts {
+    /// No account yet, with room for so many.
+    fn with_capacity(alloc: Global, capacity: usize) -> Result<Accounts, AllocError>
+        ensures names { IfOk result (λ none. none.names ≡ []) }
+        ensures starts { IfOk result (λ none. none.starts ≡ []) }
+    {
+        let by_name = IndexMap::with_capacity(alloc, capacity)?;
+        Ok(Accounts { by_name })
+    }
+
+    /// Adds an account behind the others.
+    fn push(&mut self, name: String, start: u64) -> Result<(), AllocError>
+        requires room { length self.old.names < most_accounts }
+        requires fresh { is_among self.old.names (string_bytes name) ≡ false }
+        ensures names { OnOk result (self.new.names ≡ self.old.names ++ string_bytes name ∷ []) }
+        ensures starts { OnOk result (self.new.starts ≡ self.old.starts ++ start ∷ []) }
+    {
+        self.by_name.insert(name, start)?;
+        Ok(())
+    }
+
+    /// These accounts, of which none is wrong.
+    pub(crate) fn from_vec(
+        alloc: Global,
+        accounts: Vec<(String, u64)>,
+    ) -> Result<Accounts, AllocError>
+        requires few { length accounts.items ≤ most_accounts }
+        requires proper { account_fault [] 0 (map account_of accounts.items) ≡ None }
+        ensures { IfOk result (λ list. list ≡ listed (map account_of accounts.items)) }
+    {
+        let mut list = Accounts::with_capacity(alloc, accounts.len())?;
+        for (name, start) in accounts {
+            list.push(name, start)?;
+        }
+        Ok(list)
+    }
+
+    /// The same accounts once more.
+    pub(crate) fn try_copy(&self, alloc: Global) -> Result<Accounts, AllocError>
+        ensures { IfOk result (λ copy. copy ≡ self.now) }
+    {
+        let mut copy = Accounts::with_capacity(alloc, self.len())?;
+        for (name, start) in self.by_name.iter() {
+            copy.push(name.clone()?, *start)?;
+        }
+        Ok(copy)
+    }
+
     /// How many accounts there are.
     pub fn len(&self) -> usize
         ensures names { result ≡ length self.now.names }

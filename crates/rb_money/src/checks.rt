@@ -1,5 +1,5 @@
 //! What is looked at before a configuration is made.
-ghost use Rattle.std.specs.Prelude.{◌≡◌, ◌≤◌, [], length, map};
+ghost use Rattle.std.specs.Prelude.{◌≡◌, ◌≢◌, ◌≤◌, [], length, map};
 ghost use Rattle.rb_money.specs.Faults.{account_fault, account_of, are_limits, config_fault, is_among, is_limit};
 ghost use Rattle.rb_money.specs.Settings.{is_account_name, is_name_byte, most_accounts};
 
@@ -55,7 +55,8 @@ fn has_name(accounts: &[(String, u64)], name: &str) -> bool
 /// The first account that is wrong, and how.
 fn account_fault(accounts: &[(String, u64)]) -> Option<ConfigFault>
     requires { length accounts.now ≤ most_accounts }
-    ensures { result ≡ account_fault [] 0 (map account_of accounts.now) }
+    ensures first { result ≡ account_fault [] 0 (map account_of accounts.now) }
+    ensures no_memory { result ≢ Some ConfigFault.OutOfMemory }
 {
     for (i, account) in accounts.iter().enumerate() {
         let place = i as u16;
@@ -97,7 +98,8 @@ pub fn config_fault(
     accounts: &[(String, u64)],
     limits: &Limits,
 ) -> Option<ConfigFault>
-    ensures { result ≡ config_fault sites (map account_of accounts.now) limits.now }
+    ensures first { result ≡ config_fault sites (map account_of accounts.now) limits.now }
+    ensures no_memory { result ≢ Some ConfigFault.OutOfMemory }
 {
     if sites < 2 || sites as usize > MOST_SITES {
         return Some(ConfigFault::Sites);

@@ -1,9 +1,13 @@
 //! The configuration of a bank.
-ghost use Rattle.std.specs.Prelude.{◌≡◌, ◌≤◌};
+ghost use Rattle.std.specs.Prelude.{◌≡◌, ◌≢◌, ◌≤◌, map, None, IfErr, IfOk, OnOk};
+ghost use Rattle.rb_money.specs.Faults.{account_of, config_fault, settings_of};
 ghost use Rattle.rb_money.specs.Settings.{most_sites};
 
 use crate::accounts::Accounts;
+use crate::checks;
+use crate::fault::ConfigFault;
 use crate::limits::Limits;
+use std::alloc::{AllocError, Global};
 use std::marker::Model;
 
 /// How many sites there may be.
@@ -34,6 +38,44 @@ impl Model for Config {
 }
 
 impl Config {
+    /// The configuration of these sites, accounts (each a name and its starting cents) and limits, or the
+    /// first thing that is wrong. Memory is looked at last.
+    pub fn new(
+        alloc: Global,
+        sites: u8,
+        accounts: Vec<(String, u64)>,
+        limits: Limits,
+    ) -> Result<Config, ConfigFault>
+        ensures config { IfOk result (λ config. config ≡ settings_of sites (map account_of accounts.items) limits) }
+        ensures proper { OnOk result (config_fault sites (map account_of accounts.items) limits ≡ None) }
+        ensures first { IfErr result (λ fault. fault ≢ ConfigFault.OutOfMemory → config_fault sites (map account_of accounts.items) limits ≡ Some fault) }
+        ensures memory_last { result ≡ Err ConfigFault.OutOfMemory → config_fault sites (map account_of accounts.items) limits ≡ None }
+    {
+        if let Some(fault) = checks::config_fault(sites, &accounts, &limits) {
+            return Err(fault);
+        }
+        match Accounts::from_vec(alloc, accounts) {
+            Ok(accounts) => Ok(Config {
+                sites,
+                accounts,
+                limits,
+            }),
+            Err(_) => Err(ConfigFault::OutOfMemory),
+        }
+    }
+
+    /// An equal configuration.
+    pub fn try_copy(&self, alloc: Global) -> Result<Config, AllocError>
+        ensures { IfOk result (λ config. config ≡ self.now) }
+    {
+        let accounts = self.accounts.try_copy(alloc)?;
+        Ok(Config {
+            sites: self.sites,
+            accounts,
+            limits: self.limits,
+        })
+    }
+
     /// How many sites there are.
     pub fn sites(&self) -> u8
         ensures same { result ≡ self.now.sites }
