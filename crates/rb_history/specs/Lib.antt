@@ -1,0 +1,5 @@
+pub mod Values
+pub mod Replies
+pub mod Lines
+pub mod Commands
+pub mod Configurations

@@ -1,0 +1,23 @@
+//! Lines of text: the configuration, commands and replies as JSON.
+#![tactic(auto)]
+
+mod command;
+mod config_line;
+mod fault;
+mod values;
+mod write;
+
+ghost use Rattle.rb_history.specs.Commands.{CommandsAreRead};
+
+pub use command::read_command;
+pub use config_line::read_config;
+pub use fault::LineFault;
+pub use write::write_reply;
+
+/// Each command is read from the JSON object that tells it.
+pub fn commands_are_read()
+    ensures { CommandsAreRead }
+{}
+
+#[cfg(test)]
+mod tests;
