@@ -9,6 +9,7 @@ use std::alloc::{AllocError, Global};
 use std::marker::Model;
 
 /// One site for each site number, every message that was ever sent, and the events that the sites recorded. It is always the run of its events.
+#[derive(Drop)]
 pub struct World {
     config: Config,
     seats: Vec<Site>,
