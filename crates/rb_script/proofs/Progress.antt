@@ -22,9 +22,9 @@ IsAt w0 w r0 r s p e owed = (text : List ℕ) × Appends w0 w text × FollowsKno
 abbrev pub IsOver : Option (List ℕ) → Option (List ℕ) → Option (List ℕ) → Option (List ℕ) → Result ℕ ScriptFault → List ℕ → Type 0
 IsOver w0 w r0 r result owed = (text : List ℕ) × Appends w0 w text × IfSome r0 (λ input. WillEndAs result input r (text ++ owed))
 
-both : {P Q : List ℕ → Type 0} (a : Option (List ℕ)) → IfSome a P → IfSome a Q → IfSome a (λ x. P x × Q x)
-both None p q = tt
-both (Some x) p q = (p, q)
+both : (P Q : List ℕ → Type 0) (a : Option (List ℕ)) → IfSome a P → IfSome a Q → IfSome a (λ x. P x × Q x)
+both P Q None p q = tt
+both P Q (Some x) p q = (p, q)
 
 -- ---- between two lines
 
@@ -51,24 +51,24 @@ goes_on w0 w r0 r s s' p e owed owed' n st len fits stands end answered = (
 
 with_front : (w0 w r0 r : Option (List ℕ)) (s : Session) (p : List ℕ) (e : Bool) (owed : List ℕ) (result : Result ℕ ScriptFault) → (st : IsAt w0 w r0 r s p e owed) → IfSome r0 (λ input. EndsAs result input r (st.0 ++ owed))
     → IsOver w0 w r0 r result owed
-with_front w0 w r0 r s p e owed result st ends = (st.0, st.1, both r0 ends (known_front r0 r s p e (st.0 ++ owed) st.2))
+with_front w0 w r0 r s p e owed result st ends = (st.0, st.1, both _ _ r0 ends (known_front r0 r s p e (st.0 ++ owed) st.2))
 
 pub ends_long : (w0 w r0 r : Option (List ℕ)) (s : Session) (p : List ℕ) (e : Bool) (owed : List ℕ) → IsAt w0 w r0 r s p e owed → line_limit < line_len p → IsOver w0 w r0 r (Err (LongLine s.number)) owed
-ends_long w0 w r0 r s p e owed st long = with_front w0 w r0 r s p e owed _ st (known_long r0 r s p e (st.0 ++ owed) st.2 long)
+ends_long w0 w r0 r s p e owed st long = with_front w0 w r0 r s p e owed (Err (LongLine s.number)) st (known_long r0 r s p e (st.0 ++ owed) st.2 long)
 
 pub ends_unread : (w0 w r0 r : Option (List ℕ)) (s : Session) (p : List ℕ) (e : Bool) (owed : List ℕ) → IsAt w0 w r0 r s p e owed → e ≡ false → line_len p ≡ length p → IsOver w0 w r0 r (Err Read) owed
-ends_unread w0 w r0 r s p e owed st going none = with_front w0 w r0 r s p e owed _ st (known_stop r0 r s p e (st.0 ++ owed) st.2 going none)
+ends_unread w0 w r0 r s p e owed st going none = with_front w0 w r0 r s p e owed (Err Read) st (known_stop r0 r s p e (st.0 ++ owed) st.2 going none)
 
 pub ends_at_fault : (w0 w r0 r : Option (List ℕ)) (s : Session) (p : List ℕ) (e : Bool) (owed owed' : List ℕ) (n : ℕ) (f : ScriptFault) → IsAt w0 w r0 r s p e owed → n ≡ line_len p → n ≤ length p
     → (n < length p) ⊎ ((n ≡ length p) × (0 < n) × (e ≡ true)) → (e ≡ true → IsAtEnd r) → (owed' ≡ owed) × EndsAt s (take n p) f → IsOver w0 w r0 r (Err f) owed'
 ends_at_fault w0 w r0 r s p e owed owed' n f st len fits stands end (same, fault) =
-    subst (λ o. IsOver w0 w r0 r (Err f) o) (sym same) (with_front w0 w r0 r s p e owed _ st (known_fault r0 r s p e (st.0 ++ owed) n f st.2 len fits stands end fault))
+    subst (λ o. IsOver w0 w r0 r (Err f) o) (sym same) (with_front w0 w r0 r s p e owed (Err f) st (known_fault r0 r s p e (st.0 ++ owed) n f st.2 len fits stands end fault))
 
 pub ends_whole : (w0 w r0 r : Option (List ℕ)) (s : Session) (p : List ℕ) (e : Bool) (owed : List ℕ) (m : SeenWorld) → IsAt w0 w r0 r s p e owed → p ≡ [] → IsAtEnd r → s.world ≡ Some m → IsOver w0 w r0 r (Ok s.count) owed
-ends_whole w0 w r0 r s p e owed m st none end is = with_front w0 w r0 r s p e owed _ st (known_end r0 r s p e (st.0 ++ owed) m st.2 none end is)
+ends_whole w0 w r0 r s p e owed m st none end is = with_front w0 w r0 r s p e owed (Ok s.count) st (known_end r0 r s p e (st.0 ++ owed) m st.2 none end is)
 
 pub ends_unconfigured : (w0 w r0 r : Option (List ℕ)) (s : Session) (p : List ℕ) (e : Bool) (owed : List ℕ) → IsAt w0 w r0 r s p e owed → p ≡ [] → IsAtEnd r → s.world ≡ None → IsOver w0 w r0 r (Err NoConfig) owed
-ends_unconfigured w0 w r0 r s p e owed st none end is = with_front w0 w r0 r s p e owed _ st (known_unconfigured r0 r s p e (st.0 ++ owed) st.2 none end is)
+ends_unconfigured w0 w r0 r s p e owed st none end is = with_front w0 w r0 r s p e owed (Err NoConfig) st (known_unconfigured r0 r s p e (st.0 ++ owed) st.2 none end is)
 
 twice : (a : Option (List ℕ)) (text : List ℕ) → IfSome a (λ input. IsFront text (script_of (lines_of input)).text) → IfSome a (λ input. IsFront text (script_of (lines_of input)).text × IsFront text (script_of (lines_of input)).text)
 twice None text h = tt

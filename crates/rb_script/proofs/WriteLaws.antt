@@ -1,5 +1,5 @@
 -- What a writer holds after two writes.
-use Rattle.std.proofs.Common.{◌≡◌, List, ℕ, ◌++◌, take, drop, Option, Some, None, sym, ap, ◌∙◌, append_assoc, append-nil, [], refl}
+use Rattle.std.proofs.Common.{◌≡◌, List, ℕ, ◌++◌, take, drop, Option, Some, None, sym, ap, ◌∙◌, append_assoc, append-nil, [], refl, Bool, true, false}
 use Rattle.std.proofs.lemmas.List.{take-append-drop}
 use Rattle.std.specs.Io.KnownBytes.{Appends}
 use Rattle.rb_script.specs.Buffers.{Sends}
@@ -34,3 +34,8 @@ Sends-nothing a owed = ([], Appends-nothing a, refl)
 -- a front of the rest went out
 pub Sends-front : (a b c : Option (List ℕ)) (owed still : List ℕ) → Sends a b owed still → AppendsFront b c still → AppendsFront a c owed
 Sends-front a b c owed still p q = (p.0 ++ q.0, (q.1.0, p.2 ∙ ap (λ l. p.0 ++ l) q.1.1 ∙ sym (append_assoc p.0 q.0 q.1.0)), Appends-then a b c p.0 q.0 p.1 q.2)
+
+-- a writer that can't have failed hasn't
+pub not_failed : (b : Bool) → (b ≡ true → ⊥) → b ≡ false
+not_failed true h = absurd (h refl)
+not_failed false h = refl

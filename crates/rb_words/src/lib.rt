@@ -1,2 +1,6 @@
 //! The words of the command line.
 #![tactic(auto)]
+
+mod words;
+
+pub use words::{Words, read_words};

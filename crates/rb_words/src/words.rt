@@ -1,0 +1,33 @@
+//! What a command line asks for.
+ghost use Rattle.std.specs.Prelude.{◌≡◌, IfOk, map};
+ghost use Rattle.rb_words.specs.Words.{words_of};
+
+use clap::error::ErrorKind;
+use clap::{Command, Error};
+use std::alloc::{AllocError, Global};
+
+/// What the program is asked to do.
+#[derive(Clone, Copy, Debug, PartialEq, Eq)]
+pub enum Words {
+    /// To answer the script on standard input.
+    Script,
+}
+
+/// The command line that the program takes.
+fn command<'a>(alloc: Global) -> Result<Command<'a>, AllocError> {
+    Command::new(alloc, "rbbank")
+        .subcommand_required(true)
+        .subcommand(Command::new(alloc, "script"))
+}
+
+/// What the words after the program's name ask for. The error has the text to show, help included, and its kind: `ErrorKind::DisplayHelp` is help that was asked for.
+pub fn read_words<'a>(alloc: Global, words: &'a [&'a str]) -> Result<Words, Error>
+    ensures { IfOk result (λ asked. map (λ word. word.now) words.entry.now ≡ words_of asked) }
+{
+    let mut command = command(alloc)?.no_binary_name(true);
+    let _matches = command.try_get_matches_from_mut(words)?;
+    match words {
+        ["script"] => Ok(Words::Script),
+        _ => Err(command.error(ErrorKind::InvalidSubcommand, "no such command")?),
+    }
+}
