@@ -1,5 +1,5 @@
 //! What a command line asks for.
-ghost use Rattle.std.specs.Prelude.{◌≡◌, IfOk, map};
+ghost use Rattle.std.specs.Prelude.{◌≡◌, IfOk, IfSome, map};
 ghost use Rattle.rb_words.specs.Words.{words_of};
 
 use clap::error::ErrorKind;
@@ -20,14 +20,24 @@ fn command<'a>(alloc: Global) -> Result<Command<'a>, AllocError> {
         .subcommand(Command::new(alloc, "script"))
 }
 
-/// What the words after the program's name ask for. The error has the text to show, help included, and its kind: `ErrorKind::DisplayHelp` is help that was asked for.
+/// What the words ask for, where they are just its words.
+fn asked_for(words: &[&str]) -> Option<Words>
+    ensures { IfSome result (λ asked. map (λ word. word.now) words.now ≡ words_of asked) }
+{
+    match words {
+        ["script"] => Some(Words::Script),
+        _ => None,
+    }
+}
+
+/// What the words after the program's name ask for. The error has the text to show: `ErrorKind::DisplayHelp` is help that was asked for.
 pub fn read_words<'a>(alloc: Global, words: &'a [&'a str]) -> Result<Words, Error>
     ensures { IfOk result (λ asked. map (λ word. word.now) words.entry.now ≡ words_of asked) }
 {
     let mut command = command(alloc)?.no_binary_name(true);
     let _matches = command.try_get_matches_from_mut(words)?;
-    match words {
-        ["script"] => Ok(Words::Script),
-        _ => Err(command.error(ErrorKind::InvalidSubcommand, "no such command")?),
+    match asked_for(words) {
+        Some(asked) => Ok(asked),
+        None => Err(command.error(ErrorKind::InvalidSubcommand, "no such command")?),
     }
 }
