@@ -7,19 +7,20 @@ use Rattle.std.proofs.lemmas.List.{append-nil}
 use Rattle.rb_money.specs.Settings.{Settings}
 use Rattle.rb_money.specs.declared.place.Place.{Place}
 use Rattle.rb_money.specs.declared.refusal.Refusal.{Refusal}
+use Rattle.rb_money.specs.declared.refusal.Refusal.TheVariants.{BadMessage, NotReady, Conflict, WouldOverdraw}
 use Rattle.rb_shadow.specs.declared.shadow.Shadow.{Shadow}
 use Rattle.rb_shadow.specs.declared.op_name.OpName.{OpName}
 use Rattle.rb_shadow.specs.declared.kind.Kind.{Kind}
 use Rattle.rb_shadow.specs.declared.kind.Kind.TheVariants.{Deposit, Withdraw, Declined, Interest, Cancel}
 use Rattle.rb_shadow.specs.declared.colour.Colour.{Colour}
 use Rattle.rb_shadow.specs.declared.colour.Colour.TheVariants.{Blue as BlueColour, Red as RedColour}
-use Rattle.rb_shadow.specs.Operations.{Among, same_name, names, past, IsUnique, IsWithin, EachEntry, bal, is_cancelled, cancels, find_in, shown_colour, colour_in}
+use Rattle.rb_shadow.specs.Operations.{Among, same_name, names, past, IsUnique, IsWithin, EachEntry, bal, is_cancelled, cancels, find_in, same_shadow, is_eligible, shown_colour, colour_in}
 use Rattle.rb_shadow.specs.Sound.{fault_in, IsSound}
 use Rattle.rb_shadow.proofs.Members
 use Rattle.rb_shadow.proofs.Balances
 use Rattle.rb_shadow.proofs.Eligible
 use Rattle.rb_ledger.specs.Valid.{HasTarget, IsValid}
-use Rattle.rb_ledger.specs.Checks.{same_colour, is_wrong_target, has_wrong_target, is_negative, refusal_of, refusal_after}
+use Rattle.rb_ledger.specs.Checks.{same_colour, is_wrong_target, has_wrong_target, is_negative, is_applied, overdraws, refusal_of, refusal_of_sound, refusal_after}
 use Rattle.rb_ledger.proofs.Pushes
 
 -- a fact of each entry, with one more
@@ -205,14 +206,14 @@ right_target us h x (Some t) is e =
     same_number : (m n : ℕ) → (m == n) ≡ true → m ≡ n
     same_number m n e = grind (arith, nat_tests)
 
-has_target : (us : List Shadow) (h : Shadow) (k : Kind) → has_wrong_target us h k ≡ false → HasTarget us h k
+pub has_target : (us : List Shadow) (h : Shadow) (k : Kind) → has_wrong_target us h k ≡ false → HasTarget us h k
 has_target us h (Cancel x) e = right_target us h x (find_in us x) refl e
 has_target us h Deposit e = tt
 has_target us h Withdraw e = tt
 has_target us h Declined e = tt
 has_target us h Interest e = tt
 
-no_wrong_target : (us : List Shadow) (h : Shadow) (k : Kind) → IsUnique us → HasTarget us h k → has_wrong_target us h k ≡ false
+pub no_wrong_target : (us : List Shadow) (h : Shadow) (k : Kind) → IsUnique us → HasTarget us h k → has_wrong_target us h k ≡ false
 no_wrong_target us h Deposit unique t = refl
 no_wrong_target us h Withdraw unique t = refl
 no_wrong_target us h Declined unique t = refl
@@ -260,6 +261,54 @@ follows_may s us h unique may =
     ∙ refused_by_none _ _ _ _ _ _ _ _ _ _ _ _ may.fresh (Eligible.eligible_from us h may.eligible) (no_wrong_target us h h.kind unique may.target)
     (ap (λ c. same_colour c (colour_in us h)) may.colour ∙ same_colour-refl (colour_in us h)) (Members.false-or _ _ (not_negative _ may.covered) refl)
 
+unnamed : (us : List Shadow) (x : OpName) → find_in us x ≡ None → names us x ≡ false
+unnamed [] x e = refl
+unnamed (u ∷ us) x e = at (same_name u.name x) (unnamed us x) e
+  where
+    at : (b : Bool) → (find_in us x ≡ None → names us x ≡ false) → cond b (Some u) (find_in us x) ≡ None → (b || names us x) ≡ false
+    at true rest e = cc
+    at false rest e = rest e
+
+pub is_new : (us vs : List Shadow) (x : OpName) → vs ≡ us → None ≡ find_in vs x → names us x ≡ false
+is_new us vs x here none = unnamed us x (ap (λ ws. find_in ws x) (sym here) ∙ sym none)
+
+is_named : (us : List Shadow) (x : OpName) (t : Shadow) → find_in us x ≡ Some t → names us x ≡ true
+is_named us x t e = let (there, is) = found us x t e in ap (names us) (sym is) ∙ Members.named us t there
+
+-- what is refused whose name was applied
+pub refused_named : (s : Settings) (us vs : List Shadow) (h t : Shadow) (b : Bool) → vs ≡ us → Some t ≡ find_in vs h.name → b ≡ same_shadow t h → cond b (Some NotReady) (Some Conflict) ≡ refusal_of_sound s us h
+refused_named s us vs h t b here is same =
+    let there : find_in us h.name ≡ Some t = ap (λ ws. find_in ws h.name) (sym here) ∙ sym is in
+    sym (ap (λ n. cond n (cond (is_applied (find_in us h.name) h) (Some NotReady) (Some Conflict)) (cond (not (is_eligible us h)) (Some NotReady) (cond (has_wrong_target us h h.kind) (Some (BadMessage 6)) (cond (not (same_colour (shown_colour h.name) (colour_in us h))) (Some (BadMessage 5)) (cond (overdraws s us h) (Some WouldOverdraw) None))))) (is_named us h.name t there)
+    ∙ ap (λ o. cond (is_applied o h) (Some NotReady) (Some Conflict)) there
+    ∙ ap (λ b. cond b (Some NotReady) (Some Conflict)) (sym same))
+
+-- what is refused whose name is new
+pub refused_new : (s : Settings) (us vs : List Shadow) (h : Shadow) (e t k o : Bool) → vs ≡ us → None ≡ find_in vs h.name → e ≡ is_eligible us h → t ≡ has_wrong_target vs h h.kind → k ≡ same_colour (shown_colour h.name) (colour_in vs h) → o ≡ overdraws s us h
+    → cond (not e) (Some NotReady) (cond t (Some (BadMessage 6)) (cond (not k) (Some (BadMessage 5)) (cond o (Some WouldOverdraw) None))) ≡ refusal_of_sound s us h
+refused_new s us vs h e t k o here none eligible target colour over =
+    at (names us h.name) _ _ _ _ (is_new us vs h.name here none) eligible
+    (target ∙ ap (λ ws. has_wrong_target ws h h.kind) here) (colour ∙ ap (λ ws. same_colour (shown_colour h.name) (colour_in ws h)) here) over
+  where
+    at : (n e' t' k' o' : Bool) → n ≡ false → e ≡ e' → t ≡ t' → k ≡ k' → o ≡ o'
+        → cond (not e) (Some NotReady) (cond t (Some (BadMessage 6)) (cond (not k) (Some (BadMessage 5)) (cond o (Some WouldOverdraw) None)))
+        ≡ cond n (cond (is_applied (find_in us h.name) h) (Some NotReady) (Some Conflict)) (cond (not e') (Some NotReady) (cond t' (Some (BadMessage 6)) (cond (not k') (Some (BadMessage 5)) (cond o' (Some WouldOverdraw) None))))
+    at n e' t' k' o' hn he ht hk ho =
+        ap (λ e. cond (not e) (Some NotReady) (cond t (Some (BadMessage 6)) (cond (not k) (Some (BadMessage 5)) (cond o (Some WouldOverdraw) None)))) he
+        ∙ ap (λ t. cond (not e') (Some NotReady) (cond t (Some (BadMessage 6)) (cond (not k) (Some (BadMessage 5)) (cond o (Some WouldOverdraw) None)))) ht
+        ∙ ap (λ k. cond (not e') (Some NotReady) (cond t' (Some (BadMessage 6)) (cond (not k) (Some (BadMessage 5)) (cond o (Some WouldOverdraw) None)))) hk
+        ∙ ap (λ o. cond (not e') (Some NotReady) (cond t' (Some (BadMessage 6)) (cond (not k') (Some (BadMessage 5)) (cond o (Some WouldOverdraw) None)))) ho
+        ∙ ap (λ n. cond n (cond (is_applied (find_in us h.name) h) (Some NotReady) (Some Conflict)) (cond (not e') (Some NotReady) (cond t' (Some (BadMessage 6)) (cond (not k') (Some (BadMessage 5)) (cond o' (Some WouldOverdraw) None))))) (sym hn)
+
 -- the law: a valid list goes on with just what isn't refused
 pub refuses_rightly : (s : Settings) (us : List Shadow) (h : Shadow) → IsValid s us → (refusal_of s us h ≡ None → IsValid s (us ++ h ∷ [])) × (IsValid s (us ++ h ∷ []) → refusal_of s us h ≡ None)
 refuses_rightly s us h valid = (λ e. IsValid-push s us h valid (may_follow s us h e), λ longer. follows_may s us h valid.unique (IsValid-last s us h longer))
+
+-- the same, by the refusal of a shadow without fault
+pub taken_rightly : (s : Settings) (us : List Shadow) (h : Shadow) → IsValid s us → fault_in s h ≡ None → None ≡ refusal_of_sound s us h → IsValid s (us ++ h ∷ [])
+taken_rightly s us h valid sound none = (refuses_rightly s us h valid).0 (ap (refusal_after s us h) sound ∙ sym none)
+
+pub refused_rightly : (s : Settings) (us : List Shadow) (h : Shadow) (why : Refusal) → IsValid s us → fault_in s h ≡ None → Some why ≡ refusal_of_sound s us h → ¬ IsValid s (us ++ h ∷ [])
+refused_rightly s us h why valid sound some longer =
+    let none : None ≡ Some why = sym ((refuses_rightly s us h valid).1 longer) ∙ ap (refusal_after s us h) sound ∙ sym some in
+    cc

@@ -13,6 +13,7 @@ use Rattle.rb_shadow.proofs.Members
 use Rattle.rb_shadow.proofs.Totals
 use Rattle.rb_shadow.proofs.Balances
 use Rattle.rb_ledger.specs.Valid.{HasTarget}
+pub use Rattle.rb_ledger.specs.Changes.{given_back, change_of, change}
 
 pub is_cancelled-append : (us vs : List Shadow) (x : OpName) → is_cancelled (us ++ vs) x ≡ (is_cancelled us x || is_cancelled vs x)
 is_cancelled-append [] vs x = refl
@@ -120,27 +121,6 @@ bal-push_first s us h t a is unique there plain free = at (Members.split_at us t
         let after : total (Balances.worth new a) us ≡ total (Balances.worth us a) (front ++ back) =
         ap (total (Balances.worth new a)) e ∙ Totals.total-middle (Balances.worth new a) front back t ∙ ap (λ z. z +ℤ total (Balances.worth new a) (front ++ back)) now ∙ ints-zero _ ∙ rest in
         omega (arith, ints, before, after, added, Balances.bal-worth s us a, Balances.bal-worth s new a, Totals.total-append (Balances.worth new a) us (h ∷ []))
-
--- what taking an operation of a kind back moves
-abbrev pub given_back : Option Kind → ℕ → ℤ
-given_back None n = pos 0
-given_back (Some Deposit) n = neg_ℤ (pos n)
-given_back (Some Withdraw) n = pos n
-given_back (Some Declined) n = pos 0
-given_back (Some Interest) n = neg_ℤ (pos n)
-given_back (Some (Cancel x)) n = pos 0
-
--- what one more operation of a kind moves on its account
-abbrev pub change_of : List Shadow → Kind → ℕ → ℤ
-change_of us Deposit n = pos n
-change_of us Withdraw n = neg_ℤ (pos n)
-change_of us Declined n = pos 0
-change_of us Interest n = pos n
-change_of us (Cancel x) n = cond (is_cancelled us x) (pos 0) (given_back (kind_in us x) n)
-
--- what one more operation moves on an account
-abbrev pub change : List Shadow → Shadow → Place → ℤ
-change us h a = cond (h.account.0 == a.0) (change_of us h.kind h.amount) (pos 0)
 
 pub kind_in-named : (us : List Shadow) (t : Shadow) → IsUnique us → Among t us → kind_in us t.name ≡ Some t.kind
 kind_in-named [] t unique h = elim h [ ]

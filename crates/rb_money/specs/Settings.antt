@@ -1,6 +1,7 @@
 -- What a configuration fixes.
 use Rattle.std.specs.List.{list_all}
-use Rattle.std.specs.Prelude.{◌≡◌, ℕ, Bool, true, ◌&&◌, ◌||◌, nat_le, nat_lt, ◌==◌, List, length, Some, slice_get, slice_index, ◌≤◌}
+use Rattle.std.specs.Prelude.{◌≡◌, ℕ, Bool, true, ◌&&◌, ◌||◌, nat_le, nat_lt, ◌==◌, List, length, Option, Some, option_map, position, slice_get, slice_index, ◌≤◌}
+use Rattle.std.specs.Str.{bytes_eq}
 use Rattle.rb_money.specs.declared.limits.Limits.{Limits}
 use Rattle.rb_money.specs.declared.place.Place.{Place}
 
@@ -14,6 +15,19 @@ pub record Settings : Type 0 where
   pub names : List (List ℕ)
   pub starts : List ℕ
   pub limits : Limits
+
+-- the name and the starting balance of each account, in order of place
+pub record AccountList : Type 0 where
+  pub names : List (List ℕ)
+  pub starts : List ℕ
+
+-- how many accounts there may be
+abbrev pub most_accounts : ℕ
+most_accounts = 1000
+
+-- the first place whose name that is
+abbrev pub place_in : List (List ℕ) → List ℕ → Option Place
+place_in names name = option_map (λ i. record { 0 = i }) (position (λ n. bytes_eq name n) names)
 
 -- what an account starts with
 abbrev pub start_of : Settings → Place → ℕ

@@ -1,34 +1,81 @@
 //! The configuration of a bank.
-ghost use Rattle.std.specs.Prelude.{◌≡◌, ◌≤◌, length};
+ghost use Rattle.std.specs.Prelude.{◌≡◌, ◌≢◌, ◌≤◌, map, None, IfErr, IfOk, OnOk};
+ghost use Rattle.rb_money.specs.Faults.{account_of, config_fault, settings_of};
 ghost use Rattle.rb_money.specs.Settings.{most_sites};
 
+use crate::accounts::Accounts;
+use crate::checks;
+use crate::fault::ConfigFault;
 use crate::limits::Limits;
+use std::alloc::{AllocError, Global};
 use std::marker::Model;
 
 /// How many sites there may be.
 pub const MOST_SITES: usize = 8;
 
+/// How many accounts there may be.
+pub const MOST_ACCOUNTS: usize = 1000;
+
+/// The most cents that an account may start with, and that interest may come to.
+pub const MOST_CENTS: u64 = 100_000_000_000;
+
 /// The sites, the accounts with their starting balances, and the limits.
 #[derive(Drop)]
 pub struct Config {
     sites: u8,
-    names: Vec<String>,
-    starts: Vec<u64>,
+    accounts: Accounts,
     limits: Limits,
 }
 
 impl Model for Config {
-    ghost use Rattle.std.specs.Prelude.{map, string_bytes};
     ghost use Rattle.rb_money.specs.Settings.{Settings, IsConfigured};
 
     ghost Value = { Settings };
 
-    ghost view = { λ c. record { sites = c.sites; names = map string_bytes c.names.items; starts = c.starts.items; limits = c.limits } };
+    ghost view = { λ c. record { sites = c.sites; names = c.accounts.names; starts = c.accounts.starts; limits = c.limits } };
 
-    ghost invariant = { λ c. IsConfigured (record { sites = c.sites; names = map string_bytes c.names.items; starts = c.starts.items; limits = c.limits }) };
+    ghost invariant = { λ c. IsConfigured (record { sites = c.sites; names = c.accounts.names; starts = c.accounts.starts; limits = c.limits }) };
 }
 
 impl Config {
+    /// The configuration of these sites, accounts (each a name and its starting cents) and limits, or the
+    /// first thing that is wrong. Memory is looked at last.
+    pub fn new(
+        alloc: Global,
+        sites: u8,
+        accounts: Vec<(String, u64)>,
+        limits: Limits,
+    ) -> Result<Config, ConfigFault>
+        ensures config { IfOk result (λ config. config ≡ settings_of sites (map account_of accounts.items) limits) }
+        ensures proper { OnOk result (config_fault sites (map account_of accounts.items) limits ≡ None) }
+        ensures first { IfErr result (λ fault. fault ≢ ConfigFault.OutOfMemory → config_fault sites (map account_of accounts.items) limits ≡ Some fault) }
+        ensures memory_last { result ≡ Err ConfigFault.OutOfMemory → config_fault sites (map account_of accounts.items) limits ≡ None }
+    {
+        if let Some(fault) = checks::config_fault(sites, &accounts, &limits) {
+            return Err(fault);
+        }
+        match Accounts::from_vec(alloc, accounts) {
+            Ok(accounts) => Ok(Config {
+                sites,
+                accounts,
+                limits,
+            }),
+            Err(_) => Err(ConfigFault::OutOfMemory),
+        }
+    }
+
+    /// An equal configuration.
+    pub fn try_copy(&self, alloc: Global) -> Result<Config, AllocError>
+        ensures { IfOk result (λ config. config ≡ self.now) }
+    {
+        let accounts = self.accounts.try_copy(alloc)?;
+        Ok(Config {
+            sites: self.sites,
+            accounts,
+            limits: self.limits,
+        })
+    }
+
     /// How many sites there are.
     pub fn sites(&self) -> u8
         ensures same { result ≡ self.now.sites }
@@ -45,10 +92,11 @@ impl Config {
         self.limits
     }
 
-    /// How many accounts there are.
-    pub fn accounts(&self) -> usize
-        ensures { result ≡ length self.now.starts }
+    /// The accounts.
+    pub fn accounts(&self) -> &Accounts
+        ensures names { result.now.names ≡ self.now.names }
+        ensures starts { result.now.starts ≡ self.now.starts }
     {
-        self.starts.len()
+        &self.accounts
     }
 }

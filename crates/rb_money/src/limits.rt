@@ -1,4 +1,5 @@
 //! What a configuration limits.
+ghost use Rattle.std.specs.Prelude.{◌≡◌};
 
 /// How many of each thing there may be.
 #[derive(Clone, Copy, Debug, PartialEq, Eq)]
@@ -13,4 +14,19 @@ pub struct Limits {
     pub history: u32,
     /// The token's epochs, 1 to 4,000,000,000.
     pub epoch: u32,
+}
+
+impl Limits {
+    /// The largest of each.
+    pub fn largest() -> Limits
+        ensures { result ≡ record { blue = 1000000; red = 1000000; inbox = 4096; history = 100000000; epoch = 4000000000 } }
+    {
+        Limits {
+            blue: 1_000_000,
+            red: 1_000_000,
+            inbox: 4_096,
+            history: 100_000_000,
+            epoch: 4_000_000_000,
+        }
+    }
 }

@@ -15,19 +15,21 @@ use Rattle.rb_shadow.specs.declared.kind.Kind.{Kind}
 use Rattle.rb_shadow.specs.declared.kind.Kind.TheVariants.{Deposit, Withdraw, Declined, Interest, Cancel}
 use Rattle.rb_shadow.specs.declared.colour.Colour.{Colour}
 use Rattle.rb_shadow.specs.declared.colour.Colour.TheVariants.{Blue as BlueColour, Red as RedColour}
-use Rattle.rb_shadow.specs.Operations.{names, number_of, entry_of, red_count, blue_count, clock_of, colour_of, shown_colour, kind_in, target_of, is_cancel, is_cancelled, bal}
+use Rattle.rb_shadow.specs.Operations.{names, past, IsWithin, is_eligible, colour_in, number_of, entry_of, red_count, blue_count, clock_of, colour_of, shown_colour, kind_in, target_of, is_cancel, is_cancelled, bal}
 use Rattle.rb_shadow.specs.Sound.{fault_of, IsSound, is_foreign, limit_of, may_be_nothing, is_miscoloured, cancels_unseen}
 use Rattle.rb_shadow.proofs.Members
 use Rattle.rb_shadow.proofs.Clocks
 use Rattle.rb_shadow.proofs.SoundFacts
 use Rattle.rb_ledger.specs.Valid.{IsValid, HasTarget}
-use Rattle.rb_ledger.specs.Checks.{overdraws}
+use Rattle.rb_ledger.specs.Checks.{overdraws, refusal_of, refusal_after, has_wrong_target, same_colour}
+use Rattle.rb_money.specs.declared.refusal.Refusal.TheVariants.{WouldOverdraw}
+use Rattle.rb_shadow.proofs.Eligible
 use Rattle.rb_ledger.proofs.Legal
 use Rattle.rb_ledger.proofs.Pushes
 use Rattle.rb_ledger.proofs.ValidClocks
 use Rattle.rb_token.specs.Token.{Token}
 use Rattle.rb_scratch.specs.declared.request.Request.{Request}
-use Rattle.rb_scratch.specs.Requests.{Plan, next_name, colour_of_plan, operation_of, made_of}
+use Rattle.rb_scratch.specs.Requests.{Plan, next_name, colour_of_plan, operation_of, plan_of, made_of}
 use Rattle.rb_scratch.proofs.Made
 use Rattle.rb_scratch.proofs.Made.{IsAllowed, IsMadeAt}
 use Rattle.rb_scratch.proofs.Planned
@@ -41,14 +43,13 @@ operation_is : (me : ℕ) (us : List Shadow) (p : Plan) → operation_of me us p
 unfolding operation_of
 operation_is me us p = refl
 
--- what a plan has to meet
+-- what a plan has to meet, but for the money
 pub record IsFit (s : Settings) (me : ℕ) (us : List Shadow) (p : Plan) : Type 0 where
   pub account : nat_le (length s.starts) p.account.0 ≡ false
   pub amount : nat_lt 100000000000 p.amount ≡ false
   pub something : (p.amount == 0 && not (may_be_nothing p.kind)) ≡ false
   pub target : HasTarget us (shadow_of me us p) p.kind
   pub within : number_of (next_name me us (colour_of_plan us p)) ≤ limit_of s.limits (next_name me us (colour_of_plan us p))
-  pub covered : pos 0 ≤ℤ bal s (us ++ shadow_of me us p ∷ []) p.account
 
 on : (b : Bool) (why : ℕ) (rest : Option ℕ) → b ≡ false → rest ≡ None → cond b (Some why) rest ≡ None
 on true why rest h k = cc
@@ -128,14 +129,17 @@ shows : (me : ℕ) (us : List Shadow) (c : Colour) → shown_colour (next_name m
 shows me us BlueColour = refl
 shows me us RedColour = refl
 
-pub plan_follows : (s : Settings) (me : ℕ) (us : List Shadow) (p : Plan) → s.sites ≤ most_sites → me < s.sites → IsValid s us → IsFit s me us p → Legal.MayFollow s us (shadow_of me us p)
-plan_follows s me us p few here valid fit = record {
+seen_past : (s : Settings) (me : ℕ) (us : List Shadow) (p : Plan) → s.sites ≤ most_sites → IsValid s us → IsWithin (past (shadow_of me us p)) (names us)
+seen_past s me us p few valid x h = sym (ValidClocks.clock_past s us (shadow_of me us p) few valid refl x) ∙ h
+
+pub plan_follows : (s : Settings) (me : ℕ) (us : List Shadow) (p : Plan) → s.sites ≤ most_sites → me < s.sites → IsValid s us → IsFit s me us p → pos 0 ≤ℤ bal s (us ++ shadow_of me us p ∷ []) p.account → Legal.MayFollow s us (shadow_of me us p)
+plan_follows s me us p few here valid fit covered = record {
   sound = plan_sound s me us p few here valid fit;
   fresh = fresh_name s me us (colour_of_plan us p) valid;
-  eligible = λ x h. sym (ValidClocks.clock_past s us (shadow_of me us p) few valid refl x) ∙ h;
+  eligible = seen_past s me us p few valid;
   target = fit.target;
   colour = shows me us (colour_of_plan us p);
-  covered = fit.covered;
+  covered = covered;
 }
 
 valid_now : (s : Settings) (us : List Shadow) (a : Place) → IsValid s us → pos 0 ≤ℤ bal s us a
@@ -181,88 +185,107 @@ not_overdrawn : (s : Settings) (me : ℕ) (us : List Shadow) (token : Token) (v 
 not_overdrawn s me us token v BlueColour e fair = cc
 not_overdrawn s me us token v RedColour e fair = fair.2
 
-fit_plain : (s : Settings) (me : ℕ) (us : List Shadow) (p : Plan) (k : Kind) (z : ℤ) → IsValid s us → p.kind ≡ k
-    → is_account s p.account ≡ true → nat_lt 100000000000 p.amount ≡ false → (p.amount == 0 && not (may_be_nothing k)) ≡ false
-    → HasTarget us (shadow_of me us p) k → Pushes.change_of us k p.amount ≡ z → pos 0 ≤ℤ (bal s us p.account +ℤ z)
+-- a plan of the kind, for an account and an amount of the configuration
+fit_plain : (s : Settings) (me : ℕ) (us : List Shadow) (p : Plan) (k : Kind) → p.kind ≡ k
+    → is_account s p.account ≡ true → nat_lt 100000000000 p.amount ≡ false → (p.amount == 0 && not (may_be_nothing k)) ≡ false → HasTarget us (shadow_of me us p) k
     → number_of (next_name me us (colour_of_plan us p)) ≤ limit_of s.limits (next_name me us (colour_of_plan us p))
     → IsFit s me us p
-fit_plain s me us p k z valid e known low some target is ok within =
-    let there : HasTarget us (shadow_of me us p) p.kind = subst (HasTarget us (shadow_of me us p)) (sym e) target in
-    record {
-      account = housed p.account.0 (length s.starts) known;
-      amount = low;
-      something = ap (λ j. p.amount == 0 && not (may_be_nothing j)) e ∙ some;
-      target = there;
-      within = within;
-      covered = covered_after s me us p z valid there (ap (λ j. Pushes.change_of us j p.amount) e ∙ is) ok;
-    }
+fit_plain s me us p k e known low some target within = record {
+  account = housed p.account.0 (length s.starts) known;
+  amount = low;
+  something = ap (λ j. p.amount == 0 && not (may_be_nothing j)) e ∙ some;
+  target = subst (HasTarget us (shadow_of me us p)) (sym e) target;
+  within = within;
+}
 
-fit_cancel : (s : Settings) (me : ℕ) (us : List Shadow) (token : Token) (p : Plan) (x : OpName) → IsValid s us → p.kind ≡ Cancel x → (c : Cancels us x p)
+fit_cancel : (s : Settings) (me : ℕ) (us : List Shadow) (p : Plan) (x : OpName) → IsValid s us → p.kind ≡ Cancel x → (c : Cancels us x p)
     → number_of (next_name me us (colour_of_plan us p)) ≤ limit_of s.limits (next_name me us (colour_of_plan us p))
-    → IsAllowed s us token (shadow_of me us p) (next_name me us (colour_of_plan us p))
     → IsFit s me us p
-fit_cancel s me us token p x valid e c within fair = at (colour_of_plan us p) refl
+fit_cancel s me us p x valid e c within = record {
+  account = ap (λ (a : Place). nat_le (length s.starts) a.0) (sym c.account) ∙ facts.account;
+  amount = ap (nat_lt 100000000000) (sym c.amount) ∙ facts.amount;
+  something = ap (λ j. p.amount == 0 && not (may_be_nothing j)) e ∙ none_free (p.amount == 0);
+  target = subst (HasTarget us (shadow_of me us p)) (sym e) (c.target, c.there, c.named, record { kind = c.kind; account = c.account; amount = c.amount });
+  within = within;
+}
   where
     facts : SoundFacts.SoundFacts s c.target
     facts = ValidClocks.member_sound s us c.target valid c.there
 
-    target : HasTarget us (shadow_of me us p) p.kind
-    target = subst (HasTarget us (shadow_of me us p)) (sym e) (c.target, c.there, c.named, record { kind = c.kind; account = c.account; amount = c.amount })
+-- a plan of a request is fit
+fit : (s : Settings) (me : ℕ) (us : List Shadow) (p : Plan) (k : Kind) → IsValid s us → p.kind ≡ k → IsPlanned s us p k
+    → number_of (next_name me us (colour_of_plan us p)) ≤ limit_of s.limits (next_name me us (colour_of_plan us p))
+    → IsFit s me us p
+fit s me us p Deposit valid e h within = let m = measure p.amount true h.amount in fit_plain s me us p Deposit e h.account m.0 m.1 tt within
+fit s me us p Withdraw valid e h within = let m = measure p.amount true h.0.amount in fit_plain s me us p Withdraw e h.0.account m.0 m.1 tt within
+fit s me us p Declined valid e h within = let m = measure p.amount true h.amount in fit_plain s me us p Declined e h.account m.0 m.1 tt within
+fit s me us p Interest valid e h within = fit_plain s me us p Interest e h.0 h.1 (none_free (p.amount == 0)) tt within
+fit s me us p (Cancel x) valid e h within = fit_cancel s me us p x valid e h within
 
+-- ---- the money
+
+covered_plain : (s : Settings) (me : ℕ) (us : List Shadow) (p : Plan) (k : Kind) (z : ℤ) → IsValid s us → p.kind ≡ k → HasTarget us (shadow_of me us p) p.kind
+    → Pushes.change_of us k p.amount ≡ z → pos 0 ≤ℤ (bal s us p.account +ℤ z) → pos 0 ≤ℤ bal s (us ++ shadow_of me us p ∷ []) p.account
+covered_plain s me us p k z valid e target is ok = covered_after s me us p z valid target (ap (λ j. Pushes.change_of us j p.amount) e ∙ is) ok
+
+covered_cancel : (s : Settings) (me : ℕ) (us : List Shadow) (token : Token) (p : Plan) (x : OpName) → IsValid s us → p.kind ≡ Cancel x → (c : Cancels us x p) → HasTarget us (shadow_of me us p) p.kind
+    → IsAllowed s us token (shadow_of me us p) (next_name me us (colour_of_plan us p))
+    → pos 0 ≤ℤ bal s (us ++ shadow_of me us p ∷ []) p.account
+covered_cancel s me us token p x valid e c target fair = at (colour_of_plan us p) refl
+  where
     kind_is : kind_in us x ≡ Some c.target.kind
     kind_is = ap (kind_in us) (sym c.named) ∙ Pushes.kind_in-named us c.target valid.unique c.there
-
-    make : pos 0 ≤ℤ bal s (us ++ shadow_of me us p ∷ []) p.account → IsFit s me us p
-    make ok = record {
-      account = ap (λ (a : Place). nat_le (length s.starts) a.0) (sym c.account) ∙ facts.account;
-      amount = ap (nat_lt 100000000000) (sym c.amount) ∙ facts.amount;
-      something = ap (λ j. p.amount == 0 && not (may_be_nothing j)) e ∙ none_free (p.amount == 0);
-      target = target;
-      within = within;
-      covered = ok;
-    }
 
     second : (b c : Bool) → b ≡ true → (b && c) ≡ false → c ≡ false
     second true c q r = r
     second false c q r = cc
 
-    at : (d : Colour) → colour_of_plan us p ≡ d → IsFit s me us p
-    at RedColour q = make (Legal.covers_nothing _ (Members.or-false _ _ (second (is_cancel p.kind) (overdraws s us (shadow_of me us p)) (ap is_cancel e) (not_overdrawn s me us token (shadow_of me us p) (colour_of_plan us p) q fair))).0)
+    at : (d : Colour) → colour_of_plan us p ≡ d → pos 0 ≤ℤ bal s (us ++ shadow_of me us p ∷ []) p.account
+    at RedColour q = Legal.covers_nothing _ (Members.or-false _ _ (second (is_cancel p.kind) (overdraws s us (shadow_of me us p)) (ap is_cancel e) (not_overdrawn s me us token (shadow_of me us p) (colour_of_plan us p) q fair))).0
     at BlueColour q =
         let coloured : colour_of (Cancel x) (Some c.target.kind) ≡ BlueColour = ap (colour_of (Cancel x)) (sym kind_is) ∙ ap (λ j. colour_of j (option_and_then (kind_in us) (target_of j))) (sym e) ∙ q in
         let gives : pos 0 ≤ℤ Pushes.given_back (Some c.target.kind) p.amount = blue_gives x c.target.kind p.amount coloured in
         let change : Pushes.change_of us p.kind p.amount ≡ cond (is_cancelled us x) (pos 0) (Pushes.given_back (Some c.target.kind) p.amount) =
         ap (λ j. Pushes.change_of us j p.amount) e ∙ ap (λ o. cond (is_cancelled us x) (pos 0) (Pushes.given_back o p.amount)) kind_is in
         let least : pos 0 ≤ℤ cond (is_cancelled us x) (pos 0) (Pushes.given_back (Some c.target.kind) p.amount) = cond_least (is_cancelled us x) _ gives in
-        make (covered_after s me us p _ valid target change (omega (arith, ints, least, valid_now s us p.account valid)))
+        covered_after s me us p _ valid target change (omega (arith, ints, least, valid_now s us p.account valid))
 
--- a plan of a request is fit
-fit : (s : Settings) (me : ℕ) (us : List Shadow) (token : Token) (p : Plan) (k : Kind) → IsValid s us → p.kind ≡ k → IsPlanned s us p k
-    → number_of (next_name me us (colour_of_plan us p)) ≤ limit_of s.limits (next_name me us (colour_of_plan us p))
+-- what is planned and allowed leaves its account no less than nothing
+covered : (s : Settings) (me : ℕ) (us : List Shadow) (token : Token) (p : Plan) (k : Kind) → IsValid s us → p.kind ≡ k → IsPlanned s us p k → HasTarget us (shadow_of me us p) p.kind
     → IsAllowed s us token (shadow_of me us p) (next_name me us (colour_of_plan us p))
-    → IsFit s me us p
-fit s me us token p Deposit valid e h within fair =
-    let m = measure p.amount true h.amount in
-    fit_plain s me us p Deposit (pos p.amount) valid e h.account m.0 m.1 tt refl (omega (arith, ints, valid_now s us p.account valid)) within
-fit s me us token p Withdraw valid e h within fair =
-    let m = measure p.amount true h.0.amount in
-    fit_plain s me us p Withdraw (neg_ℤ (pos p.amount)) valid e h.0.account m.0 m.1 tt refl (let some : pos p.amount ≤ℤ bal s us p.account = enough (bal s us p.account) p.amount h.1 in omega (arith, ints, some)) within
-fit s me us token p Declined valid e h within fair =
-    let m = measure p.amount true h.amount in
-    fit_plain s me us p Declined (pos 0) valid e h.account m.0 m.1 tt refl (omega (arith, ints, valid_now s us p.account valid)) within
-fit s me us token p Interest valid e h within fair =
-    fit_plain s me us p Interest (pos p.amount) valid e h.0 h.1 (none_free (p.amount == 0)) tt refl (omega (arith, ints, valid_now s us p.account valid)) within
-fit s me us token p (Cancel x) valid e h within fair = fit_cancel s me us token p x valid e h within fair
+    → pos 0 ≤ℤ bal s (us ++ shadow_of me us p ∷ []) p.account
+covered s me us token p Deposit valid e h target fair = covered_plain s me us p Deposit (pos p.amount) valid e target refl (omega (arith, ints, valid_now s us p.account valid))
+covered s me us token p Withdraw valid e h target fair = covered_plain s me us p Withdraw (neg_ℤ (pos p.amount)) valid e target refl (let some : pos p.amount ≤ℤ bal s us p.account = enough (bal s us p.account) p.amount h.1 in omega (arith, ints, some))
+covered s me us token p Declined valid e h target fair = covered_plain s me us p Declined (pos 0) valid e target refl (omega (arith, ints, valid_now s us p.account valid))
+covered s me us token p Interest valid e h target fair = covered_plain s me us p Interest (pos p.amount) valid e target refl (omega (arith, ints, valid_now s us p.account valid))
+covered s me us token p (Cancel x) valid e h target fair = covered_cancel s me us token p x valid e h target fair
 
 -- what a site makes at a valid list may follow it
 pub made_follows : (s : Settings) (me : ℕ) (us : List Shadow) (token : Token) (v : Shadow) → s.sites ≤ most_sites → me < s.sites → IsValid s us → IsMadeAt s me us token v → Legal.MayFollow s us v
 made_follows s me us token v few here valid m =
     let is : v ≡ shadow_of me us m.plan = m.is ∙ operation_is me us m.plan in
+    let planned : IsPlanned s us m.plan m.plan.kind = Planned.planned s us m.request m.plan m.planned in
+    let fits : IsFit s me us m.plan = fit s me us m.plan m.plan.kind valid refl planned (subst (λ (u : Shadow). number_of u.name ≤ limit_of s.limits u.name) is m.within) in
     subst (Legal.MayFollow s us) (sym is)
-    (plan_follows s me us m.plan few here valid
-    (fit s me us token m.plan m.plan.kind valid refl (Planned.planned s us m.request m.plan m.planned)
-    (subst (λ (u : Shadow). number_of u.name ≤ limit_of s.limits u.name) is m.within)
-    (subst (λ (u : Shadow). IsAllowed s us token u u.name) is m.fair)))
+    (plan_follows s me us m.plan few here valid fits
+    (covered s me us token m.plan m.plan.kind valid refl planned fits.target (subst (λ (u : Shadow). IsAllowed s us token u u.name) is m.fair)))
 
 pub made_is_valid : (s : Settings) (me : ℕ) (us : List Shadow) (token : Token) (r : Request) (v : Shadow) → s.sites ≤ most_sites → me < s.sites → IsValid s us → made_of s me us token r ≡ Ok v → IsValid s (us ++ v ∷ [])
 made_is_valid s me us token r v few here valid e = Legal.IsValid-push s us v valid (made_follows s me us token v few here valid (Made.made_is s me us token r v e))
+
+-- what a site would make is refused by its ledger for want of money alone
+pub refused_for_money : (s : Settings) (me : ℕ) (us : List Shadow) (r : Request) (p : Plan) (v : Shadow) → s.sites ≤ most_sites → me < s.sites → IsValid s us
+    → plan_of s us r ≡ Ok p → v ≡ operation_of me us p → number_of v.name ≤ limit_of s.limits v.name
+    → refusal_of s us v ≡ cond (overdraws s us v) (Some WouldOverdraw) None
+refused_for_money s me us r p v few here valid planned made within =
+    let is : v ≡ shadow_of me us p = made ∙ operation_is me us p in
+    let fits : IsFit s me us p = fit s me us p p.kind valid refl (Planned.planned s us r p planned) (subst (λ (u : Shadow). number_of u.name ≤ limit_of s.limits u.name) is within) in
+    subst (λ (u : Shadow). refusal_of s us u ≡ cond (overdraws s us u) (Some WouldOverdraw) None) (sym is) (at (shadow_of me us p) (plan_sound s me us p few here valid fits) (fresh_name s me us (colour_of_plan us p) valid) (Eligible.eligible_from us (shadow_of me us p) (seen_past s me us p few valid))
+    (Legal.no_wrong_target us (shadow_of me us p) p.kind valid.unique fits.target) (ap (λ c. same_colour c (colour_of_plan us p)) (shows me us (colour_of_plan us p)) ∙ same (colour_of_plan us p)))
+  where
+    same : (c : Colour) → same_colour c c ≡ true
+    same BlueColour = refl
+    same RedColour = refl
+
+    at : (u : Shadow) → IsSound s u → names us u.name ≡ false → is_eligible us u ≡ true → has_wrong_target us u u.kind ≡ false → same_colour (shown_colour u.name) (colour_in us u) ≡ true → refusal_of s us u ≡ cond (overdraws s us u) (Some WouldOverdraw) None
+    at u sound fresh eligible target colour = ap (refusal_after s us u) sound ∙ (rw (fresh, eligible, target, colour) refl)

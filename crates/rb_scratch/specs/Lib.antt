@@ -1,2 +1,3 @@
 pub mod Requests
 pub mod Originals
+pub mod Effects

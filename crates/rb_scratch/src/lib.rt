@@ -4,8 +4,13 @@
 ghost use Rattle.rb_scratch.specs.Originals.{EachIsOriginal};
 ghost use Rattle.rb_scratch.specs.Requests.{MadeIsValid};
 
+mod effect;
+mod generator;
+mod plan;
 mod request;
 
+pub use generator::generate;
+pub use plan::{CancelPlan, cancel_of};
 pub use request::Request;
 
 /// A deposit, a withdrawal and interest do to every balance what the published bank does.

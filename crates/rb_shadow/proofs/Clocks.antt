@@ -11,7 +11,7 @@ use Rattle.rb_shadow.specs.declared.shadow.Shadow.{Shadow}
 use Rattle.rb_shadow.specs.declared.op_name.OpName.{OpName}
 use Rattle.rb_shadow.specs.declared.op_name.OpName.TheVariants.{Blue, Red}
 use Rattle.rb_shadow.specs.declared.deps.Deps.{Deps}
-use Rattle.rb_shadow.specs.Operations.{Among, same_name, names, past, names_of_clock, IsUnique, IsWithin, AreSame, EachEntry, number_of, entry_of, is_blue_of, is_red, blue_count, red_count, clock_of}
+use Rattle.rb_shadow.specs.Operations.{Among, same_name, names, past, names_of_clock, IsUnique, IsWithin, AreSame, EachEntry, number_of, entry_of, HasEntry, is_blue_of, is_red, blue_count, red_count, clock_of}
 use Rattle.rb_shadow.proofs.Members
 
 -- how many of the operations have a name of the same row: blue of the same site, or red
@@ -122,8 +122,7 @@ at_member us P u each h = let (front, back, e) = Members.split_at us u h in (fro
 
 -- a blue name is of a site that a clock has an entry for
 abbrev pub IsHoused : OpName → Type 0
-IsHoused (Blue i n) = i < most_sites
-IsHoused (Red n) = Unit {0}
+IsHoused x = HasEntry x
 
 housed : (us : List Shadow) (x : OpName) → EachEntry us (λ before v. IsHoused v.name) → names us x ≡ true → IsHoused x
 housed us x each h =

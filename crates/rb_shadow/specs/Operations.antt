@@ -1,5 +1,5 @@
 -- Operations, their order, serializations and balances.
-use Rattle.std.specs.Prelude.{◌≡◌, ◌≢◌, ℕ, ◌+◌, Bool, true, false, if◌then◌else◌, not, ◌&&◌, nat_le, ◌==◌, List, [], ◌∷◌, ◌++◌, Option, Some, None, option_and_then, slice_index, ◌⊎◌, ℤ, pos, neg_ℤ, ◌+ℤ◌, filter, map, find, count_by}
+use Rattle.std.specs.Prelude.{◌≡◌, ◌≢◌, ℕ, ◌+◌, ◌<◌, Bool, true, false, if◌then◌else◌, not, ◌&&◌, nat_le, ◌==◌, List, [], ◌∷◌, ◌++◌, Option, Some, None, option_and_then, slice_index, ◌⊎◌, ℤ, pos, neg_ℤ, ◌+ℤ◌, filter, map, find, count_by}
 use Rattle.std.specs.List.{range_with_len, list_all, list_any}
 use Rattle.rb_money.specs.Settings.{Settings, most_sites, start_of}
 use Rattle.rb_money.specs.declared.place.Place.{Place}
@@ -192,6 +192,11 @@ shown_colour (Red n) = RedColour
 abbrev pub entry_of : Deps → OpName → ℕ
 entry_of c (Blue i n) = slice_index c.blue i
 entry_of c (Red n) = c.red
+
+-- a clock has an entry for the name: a blue one's site is one of those that there may be
+abbrev pub HasEntry : OpName → Type 0
+HasEntry (Blue i n) = i < most_sites
+HasEntry (Red n) = Unit {0}
 
 -- a Deposit, a Withdraw or an Interest may be cancelled
 abbrev pub may_be_cancelled : Kind → Bool

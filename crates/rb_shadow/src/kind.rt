@@ -2,8 +2,9 @@
 ghost use Rattle.std.specs.Prelude.{◌≡◌};
 ghost use Rattle.rb_shadow.specs.Operations.{colour_of};
 ghost use Rattle.rb_shadow.specs.Labels.{label_of};
+ghost use Rattle.rb_shadow.specs.Sound.{cancels_unseen, is_miscoloured, may_be_nothing};
 
-use crate::{Colour, Label, OpName};
+use crate::{Colour, Deps, Label, OpName};
 
 /// What an operation does.
 #[derive(Clone, Copy, Debug, PartialEq, Eq)]
@@ -43,6 +44,39 @@ impl Kind {
             Kind::Declined => Label::Declined,
             Kind::Interest => Label::Interest,
             Kind::Cancel { .. } => Label::Cancel,
+        }
+    }
+
+    /// Whether an operation of this kind may be of no cents.
+    pub(crate) fn may_be_nothing(self) -> bool
+        ensures { result ≡ may_be_nothing self }
+    {
+        match self {
+            Kind::Interest | Kind::Cancel { .. } => true,
+            Kind::Deposit | Kind::Withdraw | Kind::Declined => false,
+        }
+    }
+
+    /// Whether no operation of this kind, whatever its target, has a name of this colour.
+    pub(crate) fn is_miscoloured(self, name: OpName) -> bool
+        ensures { result ≡ is_miscoloured self name }
+    {
+        match (self, name) {
+            (Kind::Cancel { .. }, _) => false,
+            (Kind::Withdraw, OpName::Red { .. }) => false,
+            (Kind::Withdraw, OpName::Blue { .. }) => true,
+            (_, OpName::Blue { .. }) => false,
+            (_, OpName::Red { .. }) => true,
+        }
+    }
+
+    /// Whether it cancels an operation that isn't counted there.
+    pub(crate) fn cancels_unseen(self, deps: &Deps) -> bool
+        ensures { result ≡ cancels_unseen self deps.now }
+    {
+        match self {
+            Kind::Cancel { target } => !deps.covers(target),
+            _ => false,
         }
     }
 }

@@ -5,6 +5,7 @@ mod colour;
 mod deps;
 mod kind;
 mod label;
+mod name_text;
 mod op_name;
 mod shadow;
 
@@ -12,5 +13,6 @@ pub use colour::Colour;
 pub use deps::Deps;
 pub use kind::Kind;
 pub use label::Label;
+pub use name_text::{read_name, write_name};
 pub use op_name::OpName;
 pub use shadow::Shadow;

@@ -1,8 +1,45 @@
 //! Names of operations.
+ghost use Rattle.std.specs.Prelude.{◌≡◌};
+ghost use Rattle.rb_shadow.specs.Operations.{number_of};
+ghost use Rattle.rb_shadow.specs.Sound.{is_foreign, limit_of};
+
+use rb_money::Limits;
 
 /// The n-th blue operation of a site, or the n-th red one of all.
 #[derive(Clone, Copy, Debug, PartialEq, Eq)]
 pub enum OpName {
     Blue { site: u8, n: u32 },
     Red { n: u32 },
+}
+
+impl OpName {
+    /// The number in the name, from 1.
+    pub fn number(self) -> u32
+        ensures { result ≡ number_of self }
+    {
+        match self {
+            OpName::Blue { n, .. } => n,
+            OpName::Red { n } => n,
+        }
+    }
+
+    /// Whether it is a blue name of another site than the home.
+    pub(crate) fn is_foreign(self, home: u8) -> bool
+        ensures { result ≡ is_foreign self home }
+    {
+        match self {
+            OpName::Blue { site, .. } => site != home,
+            OpName::Red { .. } => false,
+        }
+    }
+
+    /// The greatest number that a name of its colour may have.
+    pub(crate) fn most(self, limits: Limits) -> u32
+        ensures { result ≡ limit_of limits self }
+    {
+        match self {
+            OpName::Blue { .. } => limits.blue,
+            OpName::Red { .. } => limits.red,
+        }
+    }
 }

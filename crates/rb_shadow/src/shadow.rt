@@ -1,7 +1,13 @@
 //! Shadow operations.
+ghost use Rattle.std.specs.Prelude.{◌≡◌, ◌↔◌, ℕ, length, Some, None, IsTrue, OnOk, IfErr};
+ghost use Rattle.rb_shadow.specs.Operations.{same_shadow};
+ghost use Rattle.rb_shadow.specs.Sound.{fault_in, fault_of};
 
 use crate::{Deps, Kind, OpName};
-use rb_money::Place;
+use rb_money::{Config, Limits, Place, Refusal};
+
+/// The most cents of one operation.
+const MOST_CENTS: u64 = 100_000_000_000;
 
 /// What a request did, as every site is told: its name, its home, what that had applied, and its effect.
 #[derive(Clone, Copy, Debug, PartialEq, Eq)]
@@ -10,6 +16,69 @@ pub struct Shadow {
     pub home: u8,
     pub deps: Deps,
     pub account: Place,
+    /// In cents.
     pub amount: u64,
     pub kind: Kind,
+}
+
+impl Shadow {
+    /// Whether a site of this configuration could have made the shadow, as far as the shadow alone shows.
+    ///
+    /// The error is `BadMessage`, with the first of these as its `why`:
+    ///
+    /// 1. the home is no site, or a blue name is of another site than the home;
+    /// 2. the name's number is 0, or over the limit of its colour;
+    /// 3. the account is none of the configuration's;
+    /// 4. the amount is over 100,000,000,000 cents, or 0 for a Deposit, a Withdraw or a Declined;
+    /// 5. a Withdraw has a blue name, or a Deposit, a Declined or an Interest a red one;
+    /// 6. a Cancel's target is none of the operations that the home had applied;
+    /// 7. an entry of `deps` is over its limit, one past the sites isn't 0, or the one of the own
+    ///    name isn't that name's number less 1.
+    pub fn sound(&self, config: &Config) -> Result<(), Refusal>
+        ensures sound { OnOk result (fault_in config.now self.now ≡ None) }
+        ensures faulty { IfErr result (λ refusal. (why : ℕ) × (refusal ≡ Refusal.BadMessage why) × (fault_in config.now self.now ≡ Some why)) }
+    {
+        let accounts = config.accounts().len();
+        match self.fault(config.sites(), accounts, config.limits()) {
+            None => Ok(()),
+            Some(why) => Err(Refusal::BadMessage { why }),
+        }
+    }
+
+    #[tactic(auto, unfolding(crate::specs::Sound::fault_of))]
+    fn fault(&self, sites: u8, accounts: usize, limits: Limits) -> Option<u8>
+        ensures { result ≡ fault_of sites accounts limits self.now }
+    {
+        if self.home >= sites || self.name.is_foreign(self.home) {
+            return Some(1);
+        }
+        let n = self.name.number();
+        if n == 0 || n > self.name.most(limits) {
+            return Some(2);
+        }
+        if usize::from(self.account.0) >= accounts {
+            return Some(3);
+        }
+        if self.amount > MOST_CENTS || (self.amount == 0 && !self.kind.may_be_nothing()) {
+            return Some(4);
+        }
+        if self.kind.is_miscoloured(self.name) {
+            return Some(5);
+        }
+        if self.kind.cancels_unseen(&self.deps) {
+            return Some(6);
+        }
+        if !self.deps.is_clock(sites, limits) || self.deps.entry(self.name) != n - 1 {
+            return Some(7);
+        }
+        None
+    }
+
+    /// Whether the two are equal, field by field.
+    pub fn same(&self, other: &Shadow) -> bool
+        ensures same { result ≡ same_shadow self.now other.now }
+        ensures equal { IsTrue result ↔ (self.now ≡ other.now) }
+    {
+        *self == *other
+    }
 }

@@ -1,5 +1,5 @@
 -- A site stays the run of its history.
-use Rattle.std.proofs.Common.{◌≡◌, ◌+◌, ◌<◌, ◌≤◌, false, cond, List, [], ◌∷◌, ◌++◌, length, refl, ap, sym, ◌∙◌, arith, length-append, append_assoc}
+use Rattle.std.proofs.Common.{◌≡◌, ◌+◌, ◌<◌, ◌≤◌, Bool, true, false, cond, List, [], ◌∷◌, ◌++◌, length, refl, ap, sym, ◌∙◌, arith, length-append, append_assoc}
 use Rattle.std.proofs.lemmas.Bool.Decides.{nat_tests}
 use Rattle.rb_money.specs.Settings.{Settings}
 use Rattle.rb_site.specs.declared.entry.Entry.{Entry}
@@ -8,7 +8,7 @@ use Rattle.rb_site.specs.declared.reply.Reply.TheVariants.{Refused}
 use Rattle.rb_money.specs.declared.refusal.Refusal.TheVariants.{HistoryFull}
 use Rattle.rb_site.specs.Events.{ModelSite, Outcome, after_event, after_events, changed, first_site, is_full, noted, outcome_of, reply_of, reply_to}
 use Rattle.rb_site.specs.Histories.{events_of}
-use Rattle.rb_site.specs.Seen.{IsReplayed, Replays, SeenSite, entry, state_of, stepped}
+use Rattle.rb_site.specs.Seen.{IsReplayed, Replays, SeenSite, entry, next_site, state_of, stepped}
 use Rattle.rb_site.proofs.Runs
 
 -- the state after one event more
@@ -16,6 +16,28 @@ pub state-stepped : (x : SeenSite) (e : Event) → state_of (stepped x e) ≡ af
 state-stepped x e =
     ap (after_events x.settings (first_site x.me)) (Runs.map-append (λ (y : Entry). y.event) x.entries _)
     ∙ Runs.after_events-append x.settings (events_of x.entries) (e ∷ []) (first_site x.me)
+
+-- the same at a site whose history may be full
+pub state-next : (x : SeenSite) (e : Event) → state_of (next_site x e) ≡ after_event x.settings (state_of x) e
+state-next x e = by (is_full x.settings (state_of x)) refl
+  where
+    t : ModelSite
+    t = state_of x
+
+    after : ModelSite
+    after = noted (changed t (outcome_of x.settings t e)) e (reply_of (outcome_of x.settings t e))
+
+    by : (b : Bool) → is_full x.settings t ≡ b → state_of (cond b x (stepped x e)) ≡ cond b t after
+    by true q = refl
+    by false q = state-stepped x e ∙ ap (λ b. cond b t after) q
+
+-- a step keeps the configuration
+pub settings-next : (x : SeenSite) (e : Event) → (next_site x e).settings ≡ x.settings
+settings-next x e = by (is_full x.settings (state_of x))
+  where
+    by : (b : Bool) → (cond b x (stepped x e)).settings ≡ x.settings
+    by true = refl
+    by false = refl
 
 pub replays-push : (s : Settings) (t : ModelSite) (xs : List Entry) (e : Event) → Replays s t xs → Replays s t (xs ++ entry e (reply_to s (after_events s t (events_of xs)) e) ∷ [])
 replays-push s t [] e h = (refl, tt)

@@ -124,6 +124,14 @@ outcome_of s t (Apply x) = outcome_of_apply s t (find_in t.held x)
 outcome_of s t (Pass to) = outcome_of_pass s t to
 outcome_of s t (Balance a) = refuses_if (not (is_account s a)) UnknownAccount (Answers (BalanceIs (cents (bal s t.ops a))))
 
+-- only a request and the passing of the token may send a message
+abbrev pub may_send : Event → Bool
+may_send (Submit r) = true
+may_send (Pass to) = true
+may_send (Receive m) = false
+may_send (Apply x) = false
+may_send (Balance a) = false
+
 -- the reply
 abbrev pub reply_of : Outcome → Reply
 reply_of (Refuses why) = Refused why

@@ -1,12 +1,10 @@
 -- A site as callers see it: its configuration, its number and its history. All else is the run of the history.
-use Rattle.std.specs.Prelude.{◌≡◌, ℕ, ◌<◌, ◌≤◌, List, [], ◌∷◌, ◌++◌, length}
+use Rattle.std.specs.Prelude.{◌≡◌, ℕ, ◌<◌, ◌≤◌, if◌then◌else◌, List, [], ◌∷◌, ◌++◌, length}
 use Rattle.rb_money.specs.Settings.{Settings}
-use Rattle.rb_shadow.specs.declared.shadow.Shadow.{Shadow}
-use Rattle.rb_token.specs.Token.{Token}
 use Rattle.rb_site.specs.declared.entry.Entry.{Entry}
 use Rattle.rb_site.specs.declared.event.Event.{Event}
 use Rattle.rb_site.specs.declared.reply.Reply.{Reply}
-use Rattle.rb_site.specs.Events.{ModelSite, after_event, after_events, first_site, reply_to}
+use Rattle.rb_site.specs.Events.{ModelSite, after_event, after_events, first_site, is_full, reply_to}
 use Rattle.rb_site.specs.Histories.{events_of}
 
 -- the configuration, the site's number, and its events with their replies
@@ -38,9 +36,6 @@ pub record IsReplayed (x : SeenSite) : Type 0 where
   pub replays : Replays x.settings (first_site x.me) x.entries
   pub room : length x.entries ≤ x.settings.limits.history
 
--- a site's fields are those of the run
-pub record IsStanding (x : SeenSite) (ops held : List Shadow) (token : Token) : Type 0 where
-  pub kept : IsReplayed x
-  pub ops_is : ops ≡ (state_of x).ops
-  pub held_is : held ≡ (state_of x).held
-  pub token_is : token ≡ (state_of x).token
+-- the site with one event more, or as it is where its history is full
+abbrev pub next_site : SeenSite → Event → SeenSite
+next_site x e = if is_full x.settings (state_of x) then x else stepped x e

@@ -1,5 +1,5 @@
 -- Sites that share nothing but messages.
-use Rattle.std.specs.Prelude.{ℕ, zero, suc, Bool, false, List, [], ◌∷◌, ◌++◌, map, Option, Some, None, slice_get, slice_set, not, ◌&&◌, is_some}
+use Rattle.std.specs.Prelude.{ℕ, zero, suc, Bool, false, List, [], ◌∷◌, ◌++◌, map, Option, Some, None, option_map, slice_get, slice_set, not, ◌&&◌, is_some}
 use Rattle.std.specs.List.{range_with_len}
 use Rattle.rb_money.specs.Settings.{Settings}
 use Rattle.rb_money.specs.declared.refusal.Refusal.TheVariants.{NoMessage, NoSite}
@@ -112,6 +112,11 @@ AreOwn (Deliver i k ∷ es) = AreOwn es
 abbrev pub IsCommand : WorldEvent → Type 0
 IsCommand (At i e) = IsOwn e
 IsCommand (Deliver i k) = Unit {0}
+
+-- what an event of the world brings to its site: an event of its own, or the receipt of the message
+abbrev pub arrival : List Message → WorldEvent → Option Event
+arrival ms (At i e) = Some e
+arrival ms (Deliver i k) = option_map Receive (message_at ms k)
 
 -- whether a site records the event: there is such a site, and such a message, and room in its history
 abbrev pub is_recorded_at : Settings → Option ModelSite → Bool

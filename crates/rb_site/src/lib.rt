@@ -1,11 +1,13 @@
 //! Sites: their messages, events, replies and histories.
 #![tactic(auto)]
 
+mod answer;
 mod entry;
 mod event;
 mod message;
 mod reply;
 mod site;
+mod state;
 mod world_event;
 
 ghost use Rattle.rb_site.specs.Histories.{StuckIsFinal};

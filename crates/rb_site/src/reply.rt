@@ -1,10 +1,12 @@
 //! Replies of a site.
+ghost use Rattle.std.specs.Prelude.{◌≡◌, IfOk};
 
 use rb_money::Refusal;
 use rb_shadow::{Label, OpName};
+use std::alloc::{AllocError, Global};
 
 /// What the site answers.
-#[derive(Drop)]
+#[derive(Clone, Copy, Debug, PartialEq, Eq)]
 pub enum Reply {
     Made { name: OpName, kind: Label },
     Held(OpName),
@@ -15,4 +17,13 @@ pub enum Reply {
     Passed(u32),
     Balance(u64),
     Refused(Refusal),
+}
+
+impl Reply {
+    /// An equal reply. `Err` is want of memory.
+    pub fn try_copy(&self, _alloc: Global) -> Result<Reply, AllocError>
+        ensures { IfOk result (λ copy. copy ≡ self.now) }
+    {
+        Ok(*self)
+    }
 }

@@ -1,10 +1,32 @@
 //! Events of a world.
+ghost use Rattle.std.specs.Prelude.{◌≡◌, IfOk};
+ghost use Rattle.rb_site.specs.Histories.{place_of};
 
 use crate::Event;
+use std::alloc::{AllocError, Global};
 
 /// What happens in a world: an event at a site, or the delivery of a message to a site.
-#[derive(Drop)]
+#[derive(Clone, Copy, Debug, PartialEq, Eq)]
 pub enum WorldEvent {
     At(u8, Event),
     Deliver(u8, u32),
+}
+
+impl WorldEvent {
+    /// The site that the event is for.
+    pub fn place(&self) -> u8
+        ensures { result ≡ place_of self.now }
+    {
+        match self {
+            WorldEvent::At(place, _) => *place,
+            WorldEvent::Deliver(place, _) => *place,
+        }
+    }
+
+    /// An equal event. `Err` is want of memory.
+    pub fn try_copy(&self, _alloc: Global) -> Result<WorldEvent, AllocError>
+        ensures { IfOk result (λ copy. copy ≡ self.now) }
+    {
+        Ok(*self)
+    }
 }

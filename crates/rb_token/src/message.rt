@@ -1,5 +1,4 @@
 //! The token on its way.
-ghost use Rattle.std.specs.Prelude.{◌≡◌};
 
 /// The red token on its way: which handing over it is, to which site, and how many red operations there were.
 #[derive(Clone, Copy, Debug, PartialEq, Eq)]
@@ -7,13 +6,4 @@ pub struct TokenMessage {
     pub epoch: u32,
     pub to: u8,
     pub red: u32,
-}
-
-impl TokenMessage {
-    /// The addressee.
-    pub fn to(&self) -> u8
-        ensures { result ≡ self.now.to }
-    {
-        self.to
-    }
 }

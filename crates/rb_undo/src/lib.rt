@@ -2,5 +2,7 @@
 #![tactic(auto)]
 
 mod parts;
+mod undo;
 
 pub use parts::UndoParts;
+pub use undo::Undo;

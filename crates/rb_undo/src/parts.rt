@@ -1,24 +1,18 @@
 //! What an undo record holds.
-ghost use Rattle.std.specs.Prelude.{◌≡◌};
-
 use rb_money::Place;
 use rb_shadow::OpName;
 
-/// The position and name of an entry, its account, that account's balance before it, and the position of what it cancels, or 0.
+/// What is known of an entry of a ledger as it is applied.
 #[derive(Clone, Copy, Debug, PartialEq, Eq)]
 pub struct UndoParts {
+    /// The entry's position, from 1.
     pub position: u32,
+    /// The entry's name.
     pub name: OpName,
+    /// The entry's account.
     pub place: Place,
+    /// That account's balance before the entry, in cents.
     pub balance: u64,
+    /// The position of what the entry cancels, or 0.
     pub target: u32,
-}
-
-impl UndoParts {
-    /// The balance before the entry.
-    pub fn balance(&self) -> u64
-        ensures { result ≡ self.now.balance }
-    {
-        self.balance
-    }
 }

@@ -1,6 +1,6 @@
 -- A clock that counts all names of another is at least that, entry by entry.
-use Rattle.std.proofs.Common.{◌≡◌, ℕ, zero, suc, ◌≤◌, true, ◌&&◌, arith}
-use Rattle.std.specs.Prelude.{nat_le}
+use Rattle.std.proofs.Common.{◌≡◌, ℕ, zero, suc, ◌≤◌, Bool, true, ◌&&◌, arith}
+use Rattle.std.specs.Prelude.{nat_le, ◌↔◌, IsTrue}
 use Rattle.std.proofs.lemmas.Bool.Decides.{nat_tests}
 use Rattle.rb_shadow.specs.declared.deps.Deps.{Deps}
 use Rattle.rb_shadow.specs.declared.op_name.OpName.TheVariants.{Blue, Red}
@@ -28,3 +28,7 @@ within_at_least c d within = record {
   blue = λ i. entry_low _ _ (λ n e. within (Blue i n) e);
   red = entry_low d.red c.red (λ n e. within (Red n) e);
 }
+
+-- a test of the entries is one of the names
+pub by_names : (b : Bool) (c d : Deps) → IsTrue b ↔ IsAtLeast c d → IsTrue b ↔ IsWithin (names_of_clock d) (names_of_clock c)
+by_names b c d h = (λ e. at_least_within c d (h.0 e), λ w. h.1 (within_at_least c d w))

@@ -14,26 +14,10 @@ use Rattle.rb_site.specs.declared.event.Event.TheVariants.{Submit, Receive, Appl
 use Rattle.rb_site.specs.declared.entry.Entry.{Entry}
 use Rattle.rb_site.specs.declared.reply.Reply.{Reply}
 use Rattle.rb_site.specs.declared.reply.Reply.TheVariants.{Already, Refused, Stale}
+use Rattle.rb_site.proofs.States.{same_outcome, with_history}
 use Rattle.rb_site.specs.Events.{refuses_first, Answers, Applies, Drops, Holds, Makes, ModelSite, Outcome, Passes, Refuses, Takes, after_event, after_events, changed, first_site, is_full, noted, outcome_of, outcome_of_apply, outcome_of_pass, outcome_of_shadow, outcome_of_token, refuses_if, replies_to_events, reply_of, reply_to, unless_faulty, unless_known}
 use Rattle.rb_world.specs.Laws.{AreAlike, is_receive, is_refused, is_refused_receive, other_replies, without_refused}
 use Rattle.rb_world.proofs.CaughtUp
-
--- the site with another history
-abbrev pub with_history : ModelSite → List Entry → ModelSite
-with_history t h = record t { history = h }
-
-same_outcome : (s : Settings) (t : ModelSite) (h : List Entry) (e : Event) → outcome_of s (with_history t h) e ≡ outcome_of s t e
-unfolding outcome_of outcome_of_shadow outcome_of_token outcome_of_apply outcome_of_pass
-same_outcome s t h (Submit r) = refl
-same_outcome s t h (Receive (ShadowMessage v)) = refl
-same_outcome s t h (Receive (TokenOnItsWay m)) = refl
-same_outcome s t h (Apply x) = by (find_in t.held x)
-  where
-    by : (o : Option Shadow) → outcome_of_apply s (with_history t h) o ≡ outcome_of_apply s t o
-    by None = refl
-    by (Some v) = refl
-same_outcome s t h (Pass to) = refl
-same_outcome s t h (Balance a) = refl
 
 -- ---- a refused Receive changes nothing
 

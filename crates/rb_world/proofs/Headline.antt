@@ -27,4 +27,4 @@ holds s es some few own =
 pub holds_of_run : (x : SeenWorld) → IsRunOf x → Holds x.settings x.world
 holds_of_run x run =
     subst (Holds x.settings) (sym run.is)
-    (holds x.settings x.events (let some : 2 ≤ x.settings.sites = run.configured.some_sites in omega arith) run.configured.few_sites run.own)
+    (holds x.settings x.events (let some : 2 ≤ x.settings.sites = run.some_sites in omega arith) run.few_sites run.own)

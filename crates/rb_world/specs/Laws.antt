@@ -1,6 +1,6 @@
 -- Laws over every run.
 use Rattle.std.specs.Prelude.{◌≡◌, ℕ, ◌+◌, if◌then◌else◌, ◌≤◌, Bool, true, false, List, [], ◌∷◌, ◌++◌, length, Some, slice_get, ◌⊎◌, ◌&&◌, pos, ◌≤ℤ◌}
-use Rattle.rb_money.specs.Settings.{Settings, IsConfigured, most_sites}
+use Rattle.rb_money.specs.Settings.{Settings, most_sites}
 use Rattle.rb_money.specs.declared.place.Place.{Place}
 use Rattle.rb_money.specs.declared.refusal.Refusal.TheVariants.{BadMessage, Conflict}
 use Rattle.rb_shadow.specs.declared.shadow.Shadow.{Shadow}
@@ -168,6 +168,7 @@ next_replies w (e ∷ es) = next_reply w e ∷ next_replies (next_world w e) es
 
 -- the world is the run of its own events
 pub record IsRunOf (x : SeenWorld) : Type 0 where
-  pub configured : IsConfigured x.settings
+  pub some_sites : 2 ≤ x.settings.sites
+  pub few_sites : x.settings.sites ≤ most_sites
   pub own : AreOwn x.events
   pub is : x.world ≡ world_of_run x.settings x.events

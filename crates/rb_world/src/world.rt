@@ -1,14 +1,20 @@
 //! The sites of a bank, in one place.
-ghost use Rattle.std.specs.Prelude.{◌≡◌, IfOk, OnErr};
-ghost use Rattle.rb_site.specs.Worlds.{IsCommand};
-ghost use Rattle.rb_world.specs.Laws.{Holds, next_reply, next_world, opened};
+ghost use Rattle.std.specs.Prelude.{◌≡◌, ◌≤◌, ◌<◌, ◌++◌, [], Some, IsSomeAnd, IfSome, IfOk, IfErr, OnErr, All, length, false, map, option_copied, option_map, slice_get, take, vec_len, vec_capacity};
+ghost use Rattle.std.specs.List.{range_with_len};
+ghost use Rattle.rb_site.specs.Events.{first_site, is_full};
+ghost use Rattle.rb_site.specs.Seen.{state_of};
+ghost use Rattle.rb_site.specs.Histories.{place_of};
+ghost use Rattle.rb_site.specs.Worlds.{IsCommand, arrival, message_at};
+ghost use Rattle.rb_world.specs.Laws.{Holds, IsRunOf, next_replies, next_reply, next_world, next_worlds, opened};
 
-use rb_money::Config;
-use rb_site::{Message, Reply, Site, WorldEvent};
+use crate::Stopped;
+use rb_money::{Config, Refusal};
+use rb_site::{Event, Message, Reply, Site, WorldEvent};
 use std::alloc::{AllocError, Global};
 use std::marker::Model;
 
-/// One site for each site number, every message that was ever sent, and the events that the sites recorded. It is always the run of its events.
+/// One site for each site number, every message that was ever sent, and the events that the sites
+/// recorded. It is always the run of its events.
 #[derive(Drop)]
 pub struct World {
     config: Config,
@@ -18,8 +24,8 @@ pub struct World {
 }
 
 impl Model for World {
-    ghost use Rattle.std.specs.Prelude.{map};
-    ghost use Rattle.rb_site.specs.Seen.{state_of};
+    ghost use Rattle.std.specs.Prelude.{◌≡◌, All, map};
+    ghost use Rattle.rb_site.specs.Seen.{SeenSite, state_of};
     ghost use Rattle.rb_world.specs.Laws.{SeenWorld, IsRunOf};
 
     ghost Value = { SeenWorld };
@@ -34,15 +40,103 @@ impl Model for World {
       settings = w.config;
       world = record { sites = map state_of w.seats.items; messages = w.sent.items };
       events = w.recorded.items;
-    }) };
+    }) × All (λ (x : SeenSite). x.settings ≡ w.config) w.seats.items };
 }
 
 impl World {
     /// The sites of a configuration before any event. `Err` is want of memory.
-    pub fn open(_alloc: Global, _config: Config) -> Result<World, AllocError>
-        ensures { IfOk result (λ world. world ≡ opened _config) }
+    pub fn open(alloc: Global, config: Config) -> Result<World, AllocError>
+        ensures { IfOk result (λ world. world ≡ opened config) }
     {
-        Err(AllocError)
+        let seats = open_sites(alloc, &config)?;
+        let _sites = config.sites();
+        Ok(World {
+            config,
+            seats,
+            sent: Vec::new(alloc),
+            recorded: Vec::new(alloc),
+        })
+    }
+
+    /// One event, and its reply. It is listed where a site recorded it. `Err` is want of memory:
+    /// the world is then as before.
+    pub fn step(&mut self, event: WorldEvent) -> Result<Reply, AllocError>
+        requires { IsCommand event }
+        ensures ok { IfOk result (λ reply. (reply ≡ next_reply self.old event) × (self.new ≡ next_world self.old event)) }
+        ensures err { OnErr result (self.new ≡ self.old) }
+    {
+        let place = event.place();
+        let Some(site) = self.site(place) else {
+            return Ok(Reply::Refused(Refusal::NoSite));
+        };
+        let full = site.is_full();
+        let Some(arrived) = self.arrival(&event) else {
+            return Ok(Reply::Refused(Refusal::NoMessage));
+        };
+        if full {
+            return Ok(Reply::Refused(Refusal::HistoryFull));
+        }
+        self.record(place, arrived, event)
+    }
+
+    /// A list of events, and their replies. After want of memory the world stands after as many
+    /// events as `Stopped` says.
+    pub fn run(&mut self, alloc: Global, events: &[WorldEvent]) -> Result<Vec<Reply>, Stopped>
+        requires { All IsCommand events.now }
+        ensures ok { IfOk result (λ replies. (replies.items ≡ next_replies self.old events.now) × (self.new ≡ next_worlds self.old events.now)) }
+        ensures stopped { IfErr result (λ stopped. (stopped.answered ≤ length events.now) × (self.new ≡ next_worlds self.old (take stopped.answered events.now))) }
+    {
+        let mut replies = Vec::new(alloc);
+        if replies.reserve(events.len()).is_err() {
+            return Err(Stopped { answered: 0 });
+        }
+        for (answered, event) in events.iter().enumerate() {
+            match self.step(*event) {
+                Ok(reply) => replies.push_reserved(reply),
+                Err(_) => return Err(Stopped { answered }),
+            }
+        }
+        Ok(replies)
+    }
+
+    /// What an event brings to its site: an event of its own, or the receipt of the message.
+    fn arrival(&self, event: &WorldEvent) -> Option<Event>
+        ensures { result ≡ arrival self.now.world.messages event.now }
+    {
+        match event {
+            WorldEvent::At(_, event) => Some(*event),
+            WorldEvent::Deliver(_, number) => match self.message(*number) {
+                Some(message) => Some(Event::Receive(message)),
+                None => None,
+            },
+        }
+    }
+
+    /// The message of a number, from 1.
+    fn message(&self, number: u32) -> Option<Message>
+        ensures { result ≡ message_at self.now.world.messages number }
+    {
+        if number == 0 {
+            return None;
+        }
+        self.sent.get(number as usize - 1).copied()
+    }
+
+    /// A site takes an event for which its history has room.
+    fn record(&mut self, place: u8, arrived: Event, event: WorldEvent) -> Result<Reply, AllocError>
+        requires command { IsCommand event }
+        requires place { place ≡ place_of event }
+        requires arrived { arrival self.old.world.messages event ≡ Some arrived }
+        requires room { IsSomeAnd (slice_get self.old.world.sites place) (λ site. is_full self.old.settings site ≡ false) }
+        ensures ok { IfOk result (λ reply. (reply ≡ next_reply self.old event) × (self.new ≡ next_world self.old event)) }
+        ensures err { OnErr result (self.new ≡ self.old) }
+    {
+        self.recorded.reserve(1)?;
+        self.sent.reserve(1)?;
+        let (reply, posted) = self.seats[place as usize].step(arrived)?;
+        self.recorded.push_reserved(event);
+        send(&mut self.sent, posted);
+        Ok(reply)
     }
 
     /// The configuration.
@@ -52,13 +146,12 @@ impl World {
         &self.config
     }
 
-    /// One event, and its reply. `Err` is want of memory: the world is then as before.
-    pub fn step(&mut self, event: WorldEvent) -> Result<Reply, AllocError>
-        requires { IsCommand event }
-        ensures ok { IfOk result (λ reply. (reply ≡ next_reply self.old event) × (self.new ≡ next_world self.old event)) }
-        ensures err { OnErr result (self.new ≡ self.old) }
+    /// A site, if there is one of that number.
+    pub fn site(&self, place: u8) -> Option<&Site>
+        ensures state { option_map (λ site. state_of site.now) result ≡ slice_get self.now.world.sites place }
+        ensures settings { IfSome result (λ site. site.now.settings ≡ self.now.settings) }
     {
-        Err(AllocError)
+        self.seats.get(place as usize)
     }
 
     /// Every message that was ever sent, in order. Whatever happened, all that was promised holds.
@@ -67,5 +160,36 @@ impl World {
         ensures holds { Holds self.now.settings self.now.world }
     {
         self.sent.as_slice()
+    }
+
+    /// The events that a site recorded, in order. The world is the run of them.
+    pub fn events(&self) -> &[WorldEvent]
+        ensures same { result.now ≡ self.now.events }
+        ensures run { IsRunOf self.now }
+    {
+        self.recorded.as_slice()
+    }
+}
+
+/// A site for each number of the configuration.
+fn open_sites(alloc: Global, config: &Config) -> Result<Vec<Site>, AllocError>
+    ensures { IfOk result (λ seats. (map state_of seats.items ≡ map first_site (range_with_len 0 config.now.sites)) × All (λ x. x.settings ≡ config.now) seats.items) }
+{
+    let mut seats = Vec::new(alloc);
+    for me in 0..config.sites() {
+        let site = Site::open(alloc, config, me)?;
+        seats.push(site)?;
+    }
+    Ok(seats)
+}
+
+/// Adds at most one message to those that were sent.
+fn send(sent: &mut Vec<Message>, mut posted: Vec<Message>)
+    requires few { length posted.items ≤ 1 }
+    requires room { vec_len sent.old < vec_capacity sent.old }
+    ensures { sent.new.items ≡ sent.old.items ++ posted.items }
+{
+    if let Some(message) = posted.pop() {
+        sent.push_reserved(message);
     }
 }

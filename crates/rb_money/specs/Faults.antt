@@ -1,0 +1,55 @@
+-- The first thing that is wrong with a configuration that is asked for.
+use Rattle.std.specs.Prelude.{ℕ, ◌+◌, ◌&&◌, Bool, not, List, [], ◌∷◌, ◌++◌, length, map, Option, Some, None, nat_le, nat_lt, if◌then◌else◌, String, string_bytes}
+use Rattle.std.specs.List.{list_any}
+use Rattle.std.specs.Option.{option_or}
+use Rattle.std.specs.Str.{bytes_eq}
+use Rattle.std.specs.declared.alloc.Global.{Global}
+use Rattle.rb_money.specs.declared.fault.ConfigFault.{ConfigFault}
+use Rattle.rb_money.specs.declared.fault.ConfigFault.TheVariants.{Sites, Accounts, Name, Twice, Start, Limit}
+use Rattle.rb_money.specs.declared.limits.Limits.{Limits}
+use Rattle.rb_money.specs.Amounts.{most_cents}
+use Rattle.rb_money.specs.Settings.{AccountList, Settings, most_sites, most_accounts, is_account_name}
+
+-- an account that is asked for: its name, and what it is to start with
+abbrev pub Account : Type 0
+Account = List ℕ × ℕ
+
+-- the account that a text and a number ask for
+abbrev pub account_of : String Global × ℕ → Account
+account_of a = (string_bytes a.0, a.1)
+
+-- accounts by their names and by their starting balances
+abbrev pub listed : List Account → AccountList
+listed accounts = record { names = map (λ a. a.0) accounts; starts = map (λ a. a.1) accounts }
+
+-- what is asked for, as a configuration has it
+abbrev pub settings_of : ℕ → List Account → Limits → Settings
+settings_of sites accounts limits = record { sites = sites; names = (listed accounts).names; starts = (listed accounts).starts; limits = limits }
+
+-- the name is one of these
+abbrev pub is_among : List (List ℕ) → List ℕ → Bool
+is_among names name = list_any (λ n. bytes_eq name n) names
+
+-- the first account, of those from place i on, that is wrong: earlier ones have the names `before`
+abbrev pub account_fault : List (List ℕ) → ℕ → List Account → Option ConfigFault
+account_fault before i [] = None
+account_fault before i (a ∷ later) =
+    if not (is_account_name a.0) then Some (Name i)
+    else (if is_among before a.0 then Some (Twice i)
+    else (if nat_lt most_cents a.1 then Some (Start i)
+    else account_fault (before ++ a.0 ∷ []) (i + 1) later))
+
+-- the number is from 1 to the most
+abbrev pub is_limit : ℕ → ℕ → Bool
+is_limit n most = nat_le 1 n && nat_le n most
+
+-- each limit is in its range
+abbrev pub are_limits : Limits → Bool
+are_limits l = is_limit l.blue 1000000 && is_limit l.red 1000000 && is_limit l.inbox 4096 && is_limit l.history 100000000 && is_limit l.epoch 4000000000
+
+-- the first thing that is wrong
+abbrev pub config_fault : ℕ → List Account → Limits → Option ConfigFault
+config_fault sites accounts limits =
+    if not (nat_le 2 sites && nat_le sites most_sites) then Some Sites
+    else (if not (nat_le 1 (length accounts) && nat_le (length accounts) most_accounts) then Some Accounts
+    else option_or (account_fault [] 0 accounts) (if are_limits limits then None else Some Limit))

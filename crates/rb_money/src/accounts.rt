@@ -1,0 +1,116 @@
+//! The accounts of a bank.
+ghost use Rattle.std.specs.Prelude.{◌≡◌, ◌<◌, ◌≤◌, ◌++◌, ◌∷◌, [], false, length, map, nat_lt, is_some, option_map, slice_get, slice_index, string_bytes, None, IfOk, IfSome, OnOk};
+ghost use Rattle.rb_money.specs.Faults.{account_fault, account_of, is_among, listed};
+ghost use Rattle.rb_money.specs.Settings.{most_accounts, place_in};
+
+use crate::cents::Cents;
+use crate::place::Place;
+use indexmap::IndexMap;
+use std::alloc::{AllocError, Global};
+use std::marker::Model;
+
+/// The accounts in order of the configuration: an account's place is its index.
+#[derive(Drop)]
+pub struct Accounts {
+    by_name: IndexMap<String, u64>,
+}
+
+impl Model for Accounts {
+    ghost use Rattle.std.specs.Prelude.{◌≤◌, length, map, string_bytes};
+    ghost use Rattle.rb_money.specs.Settings.{AccountList, most_accounts};
+
+    ghost Value = { AccountList };
+
+    ghost view = { λ a. record { names = map (λ e. string_bytes e.0) a.by_name.entries; starts = map (λ e. e.1) a.by_name.entries } };
+
+    ghost invariant = { λ a. length a.by_name.entries ≤ most_accounts };
+}
+
+impl Accounts {
+    /// No account yet, with room for so many.
+    fn with_capacity(alloc: Global, capacity: usize) -> Result<Accounts, AllocError>
+        ensures names { IfOk result (λ none. none.names ≡ []) }
+        ensures starts { IfOk result (λ none. none.starts ≡ []) }
+    {
+        let by_name = IndexMap::with_capacity(alloc, capacity)?;
+        Ok(Accounts { by_name })
+    }
+
+    /// Adds an account behind the others.
+    fn push(&mut self, name: String, start: u64) -> Result<(), AllocError>
+        requires room { length self.old.names < most_accounts }
+        requires fresh { is_among self.old.names (string_bytes name) ≡ false }
+        ensures names { OnOk result (self.new.names ≡ self.old.names ++ string_bytes name ∷ []) }
+        ensures starts { OnOk result (self.new.starts ≡ self.old.starts ++ start ∷ []) }
+    {
+        self.by_name.insert(name, start)?;
+        Ok(())
+    }
+
+    /// These accounts, of which none is wrong.
+    pub(crate) fn from_vec(
+        alloc: Global,
+        accounts: Vec<(String, u64)>,
+    ) -> Result<Accounts, AllocError>
+        requires few { length accounts.items ≤ most_accounts }
+        requires proper { account_fault [] 0 (map account_of accounts.items) ≡ None }
+        ensures { IfOk result (λ list. list ≡ listed (map account_of accounts.items)) }
+    {
+        let mut list = Accounts::with_capacity(alloc, accounts.len())?;
+        for (name, start) in accounts {
+            list.push(name, start)?;
+        }
+        Ok(list)
+    }
+
+    /// The same accounts once more.
+    pub(crate) fn try_copy(&self, alloc: Global) -> Result<Accounts, AllocError>
+        ensures { IfOk result (λ copy. copy ≡ self.now) }
+    {
+        let mut copy = Accounts::with_capacity(alloc, self.len())?;
+        for (name, start) in self.by_name.iter() {
+            copy.push(name.clone()?, *start)?;
+        }
+        Ok(copy)
+    }
+
+    /// How many accounts there are.
+    pub fn len(&self) -> usize
+        ensures names { result ≡ length self.now.names }
+        ensures starts { result ≡ length self.now.starts }
+        ensures few { result ≤ most_accounts }
+    {
+        self.by_name.len()
+    }
+
+    /// What the account at the place starts with, in cents.
+    pub fn start(&self, place: Place) -> Option<Cents>
+        ensures account { is_some result ≡ nat_lt place.0 (length self.now.starts) }
+        ensures start { IfSome result (λ start. start.0 ≡ slice_index self.now.starts place.0) }
+    {
+        match self.by_name.get_index(place.0 as usize) {
+            Some((_, start)) => Some(Cents(*start)),
+            None => None,
+        }
+    }
+
+    /// The name of the account at the place.
+    pub fn name(&self, place: Place) -> Option<&str>
+        ensures { option_map (λ name. name.now) result ≡ slice_get self.now.names place.0 }
+    {
+        match self.by_name.get_index(place.0 as usize) {
+            Some((name, _)) => Some(name.as_str()),
+            None => None,
+        }
+    }
+
+    /// The place of the account with the name.
+    pub fn place(&self, name: &str) -> Option<Place>
+        ensures { result ≡ place_in self.now.names name.now }
+    {
+        match self.by_name.get_index_of(name) {
+            Some(index) => Some(Place(index as u16)),
+            None => None,
+        }
+    }
+}

@@ -1,0 +1,50 @@
+//! Amounts of deposits and withdrawals.
+ghost use Rattle.std.specs.Prelude.{◌≡◌, true, false, IfOk, OnOk, IfErr, OnErr};
+ghost use Rattle.rb_money.specs.Amounts.{is_amount};
+
+use crate::cents::Cents;
+use crate::refusal::Refusal;
+use std::marker::Model;
+
+/// What a deposit or a withdrawal moves: 1 to 100,000,000,000 cents.
+#[derive(Clone, Copy, Debug, PartialEq, Eq)]
+pub struct Amount {
+    cents: u64,
+}
+
+impl Model for Amount {
+    ghost use Rattle.std.specs.Prelude.{◌≡◌, ℕ, true};
+    ghost use Rattle.rb_money.specs.Amounts.{is_amount};
+
+    ghost Value = { ℕ };
+
+    ghost view = { λ a. a.cents };
+
+    ghost invariant = { λ a. is_amount a.cents ≡ true };
+
+    ghost inverse = { λ n. record { cents = n } };
+}
+
+impl Amount {
+    /// The amount of so many cents, or `BadAmount` where they are not 1 to 100,000,000,000.
+    pub fn new(cents: u64) -> Result<Amount, Refusal>
+        ensures value { IfOk result (λ amount. amount ≡ cents) }
+        ensures proper { OnOk result (is_amount cents ≡ true) }
+        ensures improper { OnErr result (is_amount cents ≡ false) }
+        ensures why { IfErr result (λ why. why ≡ Refusal.BadAmount) }
+    {
+        if 1 <= cents && cents <= 100_000_000_000 {
+            Ok(Amount { cents })
+        } else {
+            Err(Refusal::BadAmount)
+        }
+    }
+
+    /// How many cents it is.
+    pub fn cents(self) -> Cents
+        ensures same { result.0 ≡ self }
+        ensures proper { is_amount result.0 ≡ true }
+    {
+        Cents(self.cents)
+    }
+}

@@ -1,0 +1,114 @@
+//! What is looked at before a configuration is made.
+ghost use Rattle.std.specs.Prelude.{◌≡◌, ◌≢◌, ◌≤◌, [], length, map};
+ghost use Rattle.rb_money.specs.Faults.{account_fault, account_of, are_limits, config_fault, is_among, is_limit};
+ghost use Rattle.rb_money.specs.Settings.{is_account_name, is_name_byte, most_accounts};
+
+use crate::config::{MOST_ACCOUNTS, MOST_CENTS, MOST_SITES};
+use crate::fault::ConfigFault;
+use crate::limits::Limits;
+
+/// The most bytes of an account's name.
+const LONGEST_NAME: usize = 32;
+
+fn is_name_byte(byte: u8) -> bool
+    ensures { result ≡ is_name_byte byte }
+{
+    match byte {
+        b'a'..=b'z' => true,
+        b'0'..=b'9' => true,
+        b'.' => true,
+        b'_' => true,
+        b'-' => true,
+        _ => false,
+    }
+}
+
+fn is_account_name(name: &[u8]) -> bool
+    ensures { result ≡ is_account_name name.now }
+{
+    if name.is_empty() {
+        return false;
+    }
+    if name.len() > LONGEST_NAME {
+        return false;
+    }
+    for byte in name {
+        if !is_name_byte(*byte) {
+            return false;
+        }
+    }
+    true
+}
+
+/// Whether one of these accounts has the name.
+fn has_name(accounts: &[(String, u64)], name: &str) -> bool
+    ensures { result ≡ is_among (map (λ a. a.0) (map account_of accounts.now)) name.now }
+{
+    for account in accounts {
+        if name == account.0.as_str() {
+            return true;
+        }
+    }
+    false
+}
+
+/// The first account that is wrong, and how.
+fn account_fault(accounts: &[(String, u64)]) -> Option<ConfigFault>
+    requires { length accounts.now ≤ most_accounts }
+    ensures first { result ≡ account_fault [] 0 (map account_of accounts.now) }
+    ensures no_memory { result ≢ Some ConfigFault.OutOfMemory }
+{
+    for (i, account) in accounts.iter().enumerate() {
+        let place = i as u16;
+        if !is_account_name(account.0.as_bytes()) {
+            return Some(ConfigFault::Name(place));
+        }
+        if has_name(&accounts[..i], account.0.as_str()) {
+            return Some(ConfigFault::Twice(place));
+        }
+        if account.1 > MOST_CENTS {
+            return Some(ConfigFault::Start(place));
+        }
+    }
+    None
+}
+
+fn is_limit(limit: u32, most: u32) -> bool
+    ensures { result ≡ is_limit limit most }
+{
+    1 <= limit && limit <= most
+}
+
+/// Whether each limit is in its range.
+fn are_limits(limits: &Limits) -> bool
+    ensures { result ≡ are_limits limits.now }
+{
+    let most = Limits::largest();
+    let blue = is_limit(limits.blue, most.blue);
+    let red = is_limit(limits.red, most.red);
+    let inbox = is_limit(limits.inbox, most.inbox);
+    let history = is_limit(limits.history, most.history);
+    let epoch = is_limit(limits.epoch, most.epoch);
+    blue && red && inbox && history && epoch
+}
+
+/// The first thing that is wrong with a configuration, other than that memory may not suffice.
+pub fn config_fault(
+    sites: u8,
+    accounts: &[(String, u64)],
+    limits: &Limits,
+) -> Option<ConfigFault>
+    ensures first { result ≡ config_fault sites (map account_of accounts.now) limits.now }
+    ensures no_memory { result ≢ Some ConfigFault.OutOfMemory }
+{
+    if sites < 2 || sites as usize > MOST_SITES {
+        return Some(ConfigFault::Sites);
+    }
+    if accounts.is_empty() || accounts.len() > MOST_ACCOUNTS {
+        return Some(ConfigFault::Accounts);
+    }
+    if let Some(fault) = account_fault(accounts) {
+        return Some(fault);
+    }
+    if are_limits(limits) { None } else { Some(ConfigFault::Limit) }
+}

@@ -1,0 +1,14 @@
+//! What a request would do.
+
+use rb_money::Place;
+use rb_shadow::{Colour, Kind};
+
+/// What a generator decided on a request: the account, the amount in cents, the kind and the
+/// colour of the operation that it would make.
+#[derive(Clone, Copy, Debug, PartialEq, Eq)]
+pub struct Effect {
+    pub account: Place,
+    pub amount: u64,
+    pub kind: Kind,
+    pub colour: Colour,
+}

@@ -1,0 +1,219 @@
+//! The generator: what a request makes at a site.
+ghost use Rattle.std.specs.Prelude.{◌≡◌, ◌+◌, ◌<◌, ◌≤◌, ◌∷◌, ◌++◌, [], if◌then◌else◌, Some, None, Ok, Err, MatchResult, IfOk};
+ghost use Rattle.rb_money.specs.Settings.{most_sites};
+ghost use Rattle.rb_shadow.specs.Sound.{limit_of};
+ghost use Rattle.rb_shadow.specs.Operations.{number_of};
+ghost use Rattle.rb_ledger.specs.Valid.{IsValid};
+ghost use Rattle.rb_ledger.specs.Checks.{refusal_of, overdraws};
+ghost use Rattle.rb_token.specs.Token.{Token};
+ghost use Rattle.rb_token.specs.Seat.{Shows};
+ghost use Rattle.rb_scratch.specs.declared.request.Request.TheVariants.{Deposit as AskDeposit, Withdraw as AskWithdraw, Interest as AskInterest, Cancel as AskCancel};
+ghost use Rattle.rb_scratch.specs.Requests.{plan_of, next_name, colour_of_plan, operation_of, allowed_red, made_of};
+ghost use Rattle.rb_scratch.specs.Effects.{plan_of_effect};
+
+use crate::effect::Effect;
+use crate::plan::cancel_of;
+use crate::request::Request;
+use rb_ledger::Ledger;
+use rb_money::{Amount, Cents, Place, Rate, Refusal, interest_of};
+use rb_shadow::{Colour, Kind, OpName, Shadow};
+use rb_token::TokenView;
+
+#[tactic(auto, unfolding(crate::specs::Requests::plan_of))]
+fn deposit(ledger: &Ledger, account: Place, amount: u64) -> Result<Effect, Refusal>
+    ensures plan { MatchResult result (λ effect. plan_of ledger.now.settings ledger.now.entries (AskDeposit account amount) ≡ Ok (plan_of_effect effect)) (λ why. plan_of ledger.now.settings ledger.now.entries (AskDeposit account amount) ≡ Err why) }
+    ensures colour { IfOk result (λ effect. effect.colour ≡ colour_of_plan ledger.now.entries (plan_of_effect effect)) }
+{
+    if ledger.config().accounts().len() <= account.0 as usize {
+        return Err(Refusal::UnknownAccount);
+    }
+    if let Err(why) = Amount::new(amount) {
+        return Err(why);
+    }
+    Ok(Effect {
+        account,
+        amount,
+        kind: Kind::Deposit,
+        colour: Colour::Blue,
+    })
+}
+
+#[tactic(auto, unfolding(crate::specs::Requests::plan_of))]
+fn withdrawal(ledger: &Ledger, account: Place, amount: u64) -> Result<Effect, Refusal>
+    ensures plan { MatchResult result (λ effect. plan_of ledger.now.settings ledger.now.entries (AskWithdraw account amount) ≡ Ok (plan_of_effect effect)) (λ why. plan_of ledger.now.settings ledger.now.entries (AskWithdraw account amount) ≡ Err why) }
+    ensures colour { IfOk result (λ effect. effect.colour ≡ colour_of_plan ledger.now.entries (plan_of_effect effect)) }
+{
+    let Some(balance) = ledger.balance(account) else {
+        return Err(Refusal::UnknownAccount);
+    };
+    if let Err(why) = Amount::new(amount) {
+        return Err(why);
+    }
+    let kind = if balance < amount {
+        Kind::Declined
+    } else {
+        Kind::Withdraw
+    };
+    Ok(Effect {
+        account,
+        amount,
+        kind,
+        colour: kind.colour(None),
+    })
+}
+
+#[tactic(auto, unfolding(crate::specs::Requests::plan_of))]
+fn interest(ledger: &Ledger, account: Place, rate: u32) -> Result<Effect, Refusal>
+    ensures plan { MatchResult result (λ effect. plan_of ledger.now.settings ledger.now.entries (AskInterest account rate) ≡ Ok (plan_of_effect effect)) (λ why. plan_of ledger.now.settings ledger.now.entries (AskInterest account rate) ≡ Err why) }
+    ensures colour { IfOk result (λ effect. effect.colour ≡ colour_of_plan ledger.now.entries (plan_of_effect effect)) }
+{
+    let Some(balance) = ledger.balance(account) else {
+        return Err(Refusal::UnknownAccount);
+    };
+    let rate = match Rate::new(rate) {
+        Ok(rate) => rate,
+        Err(why) => return Err(why),
+    };
+    match interest_of(Cents(balance), rate) {
+        Ok(delta) => Ok(Effect {
+            account,
+            amount: delta.0,
+            kind: Kind::Interest,
+            colour: Colour::Blue,
+        }),
+        Err(why) => Err(why),
+    }
+}
+
+#[tactic(auto, unfolding(crate::specs::Requests::plan_of))]
+fn cancellation(ledger: &Ledger, target: OpName) -> Result<Effect, Refusal>
+    ensures plan { MatchResult result (λ effect. plan_of ledger.now.settings ledger.now.entries (AskCancel target) ≡ Ok (plan_of_effect effect)) (λ why. plan_of ledger.now.settings ledger.now.entries (AskCancel target) ≡ Err why) }
+    ensures colour { IfOk result (λ effect. effect.colour ≡ colour_of_plan ledger.now.entries (plan_of_effect effect)) }
+{
+    match cancel_of(ledger, target) {
+        Ok(plan) => Ok(Effect {
+            account: plan.account,
+            amount: plan.amount,
+            kind: Kind::Cancel { target },
+            colour: plan.colour,
+        }),
+        Err(why) => Err(why),
+    }
+}
+
+/// What the request would do, decided on the ledger as it is.
+fn decide(ledger: &Ledger, request: &Request) -> Result<Effect, Refusal>
+    ensures plan { MatchResult result (λ effect. plan_of ledger.now.settings ledger.now.entries request.now ≡ Ok (plan_of_effect effect)) (λ why. plan_of ledger.now.settings ledger.now.entries request.now ≡ Err why) }
+    ensures colour { IfOk result (λ effect. effect.colour ≡ colour_of_plan ledger.now.entries (plan_of_effect effect)) }
+{
+    match *request {
+        Request::Deposit { account, amount } => deposit(ledger, account, amount),
+        Request::Withdraw { account, amount } => withdrawal(ledger, account, amount),
+        Request::Interest { account, rate } => interest(ledger, account, rate),
+        Request::Cancel { target } => cancellation(ledger, target),
+    }
+}
+
+/// The number after this one, up to the limit.
+fn number_after(count: u32, limit: u32) -> Result<u32, Refusal>
+    ensures { MatchResult result (λ n. (n ≡ count + 1) × (count < limit)) (λ why. (why ≡ Refusal.NumbersExhausted) × (limit ≤ count)) }
+{
+    if limit <= count {
+        return Err(Refusal::NumbersExhausted);
+    }
+    Ok(count + 1)
+}
+
+/// The next name of the colour at site `me`.
+#[tactic(auto, using(crate::proofs::Counts::counts_blue, crate::proofs::Counts::counts_red))]
+fn name_after(ledger: &Ledger, me: u8, colour: Colour) -> Result<OpName, Refusal>
+    requires { me < most_sites }
+    ensures { MatchResult result
+        (λ name. (name ≡ next_name me ledger.now.entries colour) × (number_of name ≤ limit_of ledger.now.settings.limits name))
+        (λ why. (why ≡ Refusal.NumbersExhausted) × (limit_of ledger.now.settings.limits (next_name me ledger.now.entries colour) < number_of (next_name me ledger.now.entries colour))) }
+{
+    let limits = ledger.config().limits();
+    let counts = ledger.clock().deps();
+    match colour {
+        Colour::Blue => match number_after(counts.blue[me as usize], limits.blue) {
+            Ok(n) => Ok(OpName::Blue { site: me, n }),
+            Err(why) => Err(why),
+        },
+        Colour::Red => match number_after(counts.red, limits.red) {
+            Ok(n) => Ok(OpName::Red { n }),
+            Err(why) => Err(why),
+        },
+    }
+}
+
+/// The operation that the effect makes at site `me`.
+#[tactic(auto, unfolding(crate::specs::Requests::operation_of))]
+fn operation(ledger: &Ledger, me: u8, effect: Effect) -> Result<Shadow, Refusal>
+    requires here { me < most_sites }
+    requires colour { effect.colour ≡ colour_of_plan ledger.now.entries (plan_of_effect effect) }
+    ensures { MatchResult result
+        (λ made. (made ≡ operation_of me ledger.now.entries (plan_of_effect effect)) × (number_of made.name ≤ limit_of ledger.now.settings.limits made.name))
+        (λ why. (why ≡ Refusal.NumbersExhausted) × (limit_of ledger.now.settings.limits (operation_of me ledger.now.entries (plan_of_effect effect)).name < number_of (operation_of me ledger.now.entries (plan_of_effect effect)).name)) }
+{
+    match name_after(ledger, me, effect.colour) {
+        Ok(name) => Ok(Shadow {
+            name,
+            home: me,
+            deps: ledger.clock().deps(),
+            account: effect.account,
+            amount: effect.amount,
+            kind: effect.kind,
+        }),
+        Err(why) => Err(why),
+    }
+}
+
+/// Whether the site may make the red operation: it needs the token and all red operations before
+/// it, and a cancellation needs the money that it takes back.
+fn permit_red(ledger: &Ledger, token: &TokenView, shadow: &Shadow) -> Result<(), Refusal>
+    requires { refusal_of ledger.now.settings ledger.now.entries shadow.now ≡ (if overdraws ledger.now.settings ledger.now.entries shadow.now then Some Refusal.WouldOverdraw else None) }
+    ensures { (known : Token) → Shows token.now known → MatchResult result
+        (λ _. allowed_red ledger.now.settings ledger.now.entries known shadow.now ≡ Ok shadow.now)
+        (λ why. allowed_red ledger.now.settings ledger.now.entries known shadow.now ≡ Err why) }
+{
+    if let Err(why) = token.may_red(ledger.clock()) {
+        return Err(why);
+    }
+    match shadow.kind {
+        Kind::Cancel { .. } => ledger.check(shadow),
+        _ => Ok(()),
+    }
+}
+
+/// What the request makes at the token's site, whose ledger this is: the operation that every site
+/// is to apply. Nothing changes.
+///
+/// After "Defining shadow operations" of the published paper: a generator runs at the submitting
+/// site, decides, and has no side effects. A withdrawal above the balance makes a declined one.
+///
+/// The refusals, of which the first that holds is answered: `UnknownAccount`; `BadAmount` or
+/// `BadRate`; `UnknownOperation`, `NotCancellable`, `AlreadyCancelled`; `DeltaTooLarge`;
+/// `NumbersExhausted`; for a red operation `NeedToken`, `RedBehind`; for a red cancellation `WouldOverdraw`.
+pub fn generate(ledger: &Ledger, token: &TokenView, request: &Request) -> Result<Shadow, Refusal>
+    requires { token.now.me < ledger.now.settings.sites }
+    ensures made { (known : Token) → Shows token.now known → result ≡ made_of ledger.now.settings token.now.me ledger.now.entries known request.now }
+    ensures valid { IfOk result (λ made. IsValid ledger.now.settings (ledger.now.entries ++ made ∷ [])) }
+{
+    let sites = ledger.config().sites();
+    prove!(token.me < sites);
+    let effect = match decide(ledger, request) {
+        Ok(effect) => effect,
+        Err(why) => return Err(why),
+    };
+    let shadow = match operation(ledger, token.me, effect) {
+        Ok(shadow) => shadow,
+        Err(why) => return Err(why),
+    };
+    match effect.colour {
+        Colour::Blue => Ok(shadow),
+        Colour::Red => match permit_red(ledger, token, &shadow) {
+            Ok(()) => Ok(shadow),
+            Err(why) => Err(why),
+        },
+    }
+}

@@ -1,0 +1,53 @@
+//! Plans to cancel.
+ghost use Rattle.std.specs.Prelude.{◌≡◌, IfOk, IfErr, Ok, Err};
+ghost use Rattle.rb_shadow.specs.Operations.{colour_of, find_in, kind_in, may_be_cancelled};
+ghost use Rattle.rb_scratch.specs.Requests.{plan_of_cancel};
+
+use rb_ledger::Ledger;
+use rb_money::{Place, Refusal};
+use rb_shadow::{Colour, Kind, OpName};
+
+/// What cancelling an operation would do: the operation's account and amount, in cents, and the
+/// cancellation's colour.
+#[derive(Clone, Copy, Debug, PartialEq, Eq)]
+pub struct CancelPlan {
+    pub account: Place,
+    pub amount: u64,
+    pub colour: Colour,
+}
+
+fn can_be_cancelled(kind: Kind) -> bool
+    ensures { result ≡ may_be_cancelled kind }
+{
+    match kind {
+        Kind::Deposit | Kind::Withdraw | Kind::Interest => true,
+        Kind::Declined | Kind::Cancel { .. } => false,
+    }
+}
+
+/// What cancelling the operation of this name would do at this ledger.
+///
+/// Refuses with `UnknownOperation` where the ledger hasn't the operation, then with
+/// `NotCancellable` where it is a declined withdrawal or a cancellation, then with
+/// `AlreadyCancelled` and the position of the first cancellation where the ledger has one.
+pub fn cancel_of(ledger: &Ledger, target: OpName) -> Result<CancelPlan, Refusal>
+    ensures planned { IfOk result (λ plan. plan_of_cancel ledger.now.entries target (find_in ledger.now.entries target) ≡ Ok (record { account = plan.account; amount = plan.amount; kind = Kind.Cancel target })) }
+    ensures colour { IfOk result (λ plan. plan.colour ≡ colour_of (Kind.Cancel target) (kind_in ledger.now.entries target)) }
+    ensures reason { IfErr result (λ why. plan_of_cancel ledger.now.entries target (find_in ledger.now.entries target) ≡ Err why) }
+{
+    let Some(position) = ledger.find(&target) else {
+        return Err(Refusal::UnknownOperation);
+    };
+    let found = ledger.entry(position).unwrap();
+    if !can_be_cancelled(found.kind) {
+        return Err(Refusal::NotCancellable);
+    }
+    if let Some(position) = ledger.first_cancel(position) {
+        return Err(Refusal::AlreadyCancelled { position });
+    }
+    Ok(CancelPlan {
+        account: found.account,
+        amount: found.amount,
+        colour: Kind::Cancel { target }.colour(Some(found.kind)),
+    })
+}

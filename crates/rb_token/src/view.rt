@@ -1,0 +1,40 @@
+//! What a generator is told of the token.
+ghost use Rattle.std.specs.Prelude.{◌≡◌, Some, None, MatchResult};
+ghost use Rattle.rb_token.specs.Token.{Token, refusal_of_red};
+ghost use Rattle.rb_token.specs.Seat.{Shows};
+
+use rb_money::Refusal;
+use rb_vclock::Clock;
+
+/// What a site knows of the token when a request comes.
+#[derive(Clone, Copy, Debug, PartialEq, Eq)]
+pub struct TokenView {
+    /// The site, from 0.
+    pub me: u8,
+    /// Whether it has the token.
+    pub held: bool,
+    /// How many red operations it needs to have applied before it makes one.
+    pub needed: u32,
+}
+
+impl TokenView {
+    /// Whether the site may make a red operation, having applied what the clock counts.
+    ///
+    /// Refuses with `NeedToken` where it hasn't the token, then with `RedBehind` where it applied
+    /// fewer red operations than it needs.
+    pub fn may_red(&self, clock: &Clock) -> Result<(), Refusal>
+        ensures { (known : Token) → Shows self.now known → MatchResult result (λ _. refusal_of_red known clock.now.red ≡ None) (λ why. refusal_of_red known clock.now.red ≡ Some why) }
+    {
+        if !self.held {
+            return Err(Refusal::NeedToken);
+        }
+        let seen = clock.deps().red;
+        if seen < self.needed {
+            return Err(Refusal::RedBehind {
+                seen,
+                needed: self.needed,
+            });
+        }
+        Ok(())
+    }
+}

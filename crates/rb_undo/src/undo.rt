@@ -1,0 +1,43 @@
+//! Undo records.
+use crate::UndoParts;
+use std::marker::Model;
+
+/// What is kept to undo an entry of a ledger. Callers see its parts.
+#[derive(Drop)]
+pub struct Undo {
+    parts: UndoParts,
+}
+
+impl Model for Undo {
+    ghost use Rattle.rb_undo.specs.declared.parts.UndoParts.{UndoParts};
+
+    ghost Value = { UndoParts };
+
+    ghost view = { λ u. u.parts };
+}
+
+impl Undo {
+    ghost use Rattle.std.specs.Prelude.{◌≡◌};
+
+    /// The record with these parts.
+    pub fn new(parts: UndoParts) -> Undo
+        ensures { result ≡ parts }
+    {
+        Undo { parts }
+    }
+
+    /// The entry's position in its ledger, from 1.
+    pub fn position(&self) -> u32
+        ensures { result ≡ self.now.position }
+    {
+        self.parts.position
+    }
+
+    /// Uses the record up, and gives its parts.
+    pub fn spend(self) -> UndoParts
+        ensures { result ≡ self }
+    {
+        let Undo { parts } = self;
+        parts
+    }
+}

@@ -1,0 +1,11 @@
+-- So far there is a site for each number below.
+use Rattle.std.proofs.Common.{◌≡◌, All, map}
+use Rattle.std.specs.List.{range_with_len}
+use Rattle.rb_site.specs.Events.{first_site}
+use Rattle.rb_site.specs.Seen.{SeenSite, state_of}
+use Rattle.rb_world.proofs.world.open_sites.Given as goal
+
+abbrev pub invariant-loop-me : goal.invariant-loop-me
+invariant-loop-me l =
+    (map state_of l.seats.items ≡ map first_site (range_with_len 0 l.me))
+    × All (λ (x : SeenSite). x.settings ≡ l.config) l.seats.items
