@@ -1,0 +1,18 @@
+//! Lines of text: the configuration, commands and replies as JSON.
+#![tactic(auto)]
+
+mod command;
+mod fault;
+mod values;
+mod write;
+
+ghost use Rattle.rb_history.specs.Commands.{CommandsAreRead};
+
+pub use command::read_command;
+pub use fault::LineFault;
+pub use write::write_reply;
+
+/// Each command is read from the JSON object that tells it.
+pub fn commands_are_read()
+    ensures { CommandsAreRead }
+{}
