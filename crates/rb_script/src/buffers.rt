@@ -7,7 +7,7 @@ ghost use Rattle.rb_script.specs.Writes.{AppendsFront};
 ghost use Rattle.rb_script.specs.declared.buffers.NoLine.TheVariants.{TooLong, Read, Write, OutOfMemory};
 
 use crate::pending::Pending;
-use crate::sink::{Sink, WriteFailed};
+use crate::sink::Sink;
 use crate::source::Source;
 use crate::write::flush;
 use std::alloc::Global;
@@ -126,11 +126,8 @@ impl Buffers {
         ensures write { (result ≡ Err Write) ↔ (W.failed writer.new ≡ true) }
         ensures front { result ≡ Err Write → AppendsFront (W.contents writer.old) (W.contents writer.new) self.old.owed.items × (self.new.owed.items ≡ []) }
     {
-        if self.owed.len() >= MOST_OWED {
-            match flush(writer, &mut self.owed) {
-                Ok(()) => {}
-                Err(WriteFailed) => return Err(NoLine::Write),
-            }
+        if self.owed.len() >= MOST_OWED && flush(writer, &mut self.owed).is_err() {
+            return Err(NoLine::Write);
         }
         'reads: loop {
             let n = self.pending.first_line();
@@ -143,9 +140,8 @@ impl Buffers {
             if self.ended {
                 return Ok(if n == 0 { None } else { Some(n) });
             }
-            match flush(writer, &mut self.owed) {
-                Ok(()) => {}
-                Err(WriteFailed) => return Err(NoLine::Write),
+            if flush(writer, &mut self.owed).is_err() {
+                return Err(NoLine::Write);
             }
             match self.read_more(reader) {
                 Ok(()) => {}
