@@ -1,21 +1,24 @@
 -- The clock that a ledger keeps, from one list to the next.
 use Rattle.std.proofs.Common.{◌≡◌, ℕ, zero, suc, ◌+◌, ◌-◌, ◌<◌, ◌≤◌, Bool, true, false, cond, List, [], ◌∷◌, ◌++◌, length, take, length-append, refl, ap, sym, ◌∙◌, arith, ◌⊎◌, inl, inr, subst}
-use Rattle.std.specs.Prelude.{◌==◌, map, slice_set, None, IsTrue, ◌↔◌}
+use Rattle.std.specs.Prelude.{◌==◌, map, slice_set, None, IsTrue, ◌↔◌, pos, ◌≤ℤ◌}
 use Rattle.std.specs.List.{range_with_len}
 use Rattle.std.proofs.lemmas.Bool.Decides.{nat_tests}
+use Rattle.std.proofs.Math.Seq.{take-append_seam}
 use Rattle.std.proofs.lemmas.List.FromFn.{get_or-map-range_with_len}
-use Rattle.rb_money.specs.Settings.{Settings, most_sites}
+use Rattle.rb_money.specs.Settings.{Settings, most_sites, IsConfigured}
 use Rattle.rb_shadow.specs.declared.shadow.Shadow.{Shadow}
 use Rattle.rb_shadow.specs.declared.op_name.OpName.{OpName}
 use Rattle.rb_shadow.specs.declared.op_name.OpName.TheVariants.{Blue, Red}
 use Rattle.rb_shadow.specs.declared.deps.Deps.{Deps}
-use Rattle.rb_shadow.specs.Operations.{names, past, names_of_clock, IsWithin, HasEntry, number_of, entry_of, is_blue_of, is_red, blue_count, red_count, clock_of, is_eligible}
-use Rattle.rb_vclock.specs.Clocks.{raised, lowered}
+use Rattle.rb_shadow.specs.Operations.{names, past, names_of_clock, IsWithin, HasEntry, number_of, entry_of, is_blue_of, is_red, blue_count, red_count, clock_of, is_eligible, EachEntry, shown_colour, colour_in, bal}
+use Rattle.rb_shadow.specs.Sound.{IsSound}
+use Rattle.rb_vclock.specs.Clocks.{raised, lowered, zero_clock}
 use Rattle.rb_shadow.proofs.Members
 use Rattle.rb_shadow.proofs.Clocks
 use Rattle.rb_shadow.proofs.Eligible
+use Rattle.rb_shadow.proofs.Covered
 use Rattle.rb_shadow.proofs.SoundFacts
-use Rattle.rb_ledger.specs.Valid.{IsValid}
+use Rattle.rb_ledger.specs.Valid.{IsValid, HasTarget}
 use Rattle.rb_ledger.specs.Checks.{refusal_of}
 use Rattle.rb_ledger.specs.Book.{IsKept}
 use Rattle.rb_ledger.proofs.Legal
@@ -182,15 +185,10 @@ pub pushed : (b : Bool) (us vs : List Shadow) → b ≡ true → cond b us vs �
 pushed b us vs e = ap (λ b. cond b us vs) e
 
 -- what a pop leaves
-pub popped : (us vs front : List Shadow) (h : Shadow) → us ≡ front ++ h ∷ [] → vs ≡ take (length us - 1) us → vs ≡ front
-popped us vs front h e is =
-    let one : length us ≡ length front + 1 = omega (arith, ap length e, length-append front (h ∷ [])) in
-    let all : length us - 1 ≡ length front = omega arith in
-    is ∙ ap (λ n. take n us) all ∙ ap (take (length front)) e ∙ front_taken front (h ∷ [])
-  where
-    front_taken : (us vs : List Shadow) → take (length us) (us ++ vs) ≡ us
-    front_taken [] vs = refl
-    front_taken (u ∷ us) vs = ap (λ ws. u ∷ ws) (front_taken us vs)
+pub popped : (us vs front : List Shadow) (h : Shadow) (n : ℕ) → us ≡ front ++ h ∷ [] → n ≡ length us → vs ≡ take (n - 1) us → vs ≡ front
+popped us vs front h n e counted is =
+    let one : n - 1 ≡ length front = omega (arith, ap length e, length-append front (h ∷ [])) in
+    is ∙ ap (λ k. take k us) one ∙ ap (take (length front)) e ∙ take-append_seam front (h ∷ [])
 
 -- ---- eligible where the clock is at least what the operation carries
 
@@ -203,3 +201,27 @@ kept_eligible s us c v b kept h =
   where
     same : (x : OpName) → names us x ≡ names_of_clock c x
     same x = ValidClocks.valid_clock s us kept.configured.few_sites kept.valid x ∙ ap (λ d. names_of_clock d x) (sym kept.clock)
+
+-- ---- a ledger without operations
+
+nothing_before : (P : List Shadow → Shadow → Type 0) → EachEntry [] P
+nothing_before P before v after e = absurd (Members.never_empty before after v (sym e))
+
+-- no operations are a valid list
+pub IsValid-none : (s : Settings) → IsValid s []
+IsValid-none s = record {
+  sound = nothing_before (λ before v. IsSound s v);
+  unique = tt;
+  past_before = nothing_before (λ before v. IsWithin (past v) (names before));
+  targets = nothing_before (λ before v. HasTarget before v v.kind);
+  colours = nothing_before (λ before v. shown_colour v.name ≡ colour_in before v);
+  covered = λ front back e a. subst (λ us. pos 0 ≤ℤ bal s us a) (sym (Legal.empty_front front back (sym e))) (Covered.nothing_less s a);
+}
+
+pub kept_none : (s : Settings) (us : List Shadow) (c : Deps) → IsConfigured s → us ≡ [] → c ≡ zero_clock → IsKept s us c
+unfolding clock_of
+kept_none s us c configured e is = record {
+  configured = configured;
+  valid = subst (IsValid s) (sym e) (IsValid-none s);
+  clock = is ∙ ap clock_of (sym e);
+}

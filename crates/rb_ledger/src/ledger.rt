@@ -11,7 +11,7 @@ use rb_money::{Config, Place, Refusal};
 use rb_shadow::{Kind, OpName, Shadow};
 use rb_undo::{Undo, UndoParts};
 use rb_vclock::Clock;
-use std::alloc::AllocError;
+use std::alloc::{AllocError, Global};
 use std::marker::Model;
 
 /// The operations that a site applied, in order. They are always a valid list: each is sound, stands
@@ -34,6 +34,18 @@ impl Model for Ledger {
 }
 
 impl Ledger {
+    /// A ledger of the configuration, without operations.
+    pub fn open(alloc: Global, config: &Config) -> Result<Ledger, AllocError>
+        ensures { IfOk result (λ ledger. (ledger.settings ≡ config.now) × (ledger.entries ≡ [])) }
+    {
+        let config = config.try_copy(alloc)?;
+        Ok(Ledger {
+            config,
+            entries: Vec::new(alloc),
+            clock: Clock::zero(),
+        })
+    }
+
     /// The configuration, under which the operations are a valid list.
     pub fn config(&self) -> &Config
         ensures same { result.now ≡ self.now.settings }

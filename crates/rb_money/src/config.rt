@@ -1,7 +1,7 @@
 //! The configuration of a bank.
 ghost use Rattle.std.specs.Prelude.{◌≡◌, ◌≢◌, ◌≤◌, map, None, IfErr, IfOk, OnOk};
 ghost use Rattle.rb_money.specs.Faults.{account_of, config_fault, settings_of};
-ghost use Rattle.rb_money.specs.Settings.{most_sites};
+ghost use Rattle.rb_money.specs.Settings.{most_sites, IsConfigured};
 
 use crate::accounts::Accounts;
 use crate::checks;
@@ -66,7 +66,8 @@ impl Config {
 
     /// An equal configuration.
     pub fn try_copy(&self, alloc: Global) -> Result<Config, AllocError>
-        ensures { IfOk result (λ config. config ≡ self.now) }
+        ensures same { IfOk result (λ config. config ≡ self.now) }
+        ensures configured { IfOk result IsConfigured }
     {
         let accounts = self.accounts.try_copy(alloc)?;
         Ok(Config {

@@ -1,63 +1,213 @@
-//! stub
+//! Where a site stands between two events.
 ghost use Rattle.std.specs.Prelude.{◌≡◌, ◌<◌, if◌then◌else◌, IfOk, OnErr};
-ghost use Rattle.rb_site.specs.Events.{first_site, outcome_of};
+ghost use Rattle.rb_shadow.specs.Operations.{find_in, same_shadow};
+ghost use Rattle.rb_site.specs.Events.{first_site, outcome_of, outcome_of_shadow, outcome_of_token, outcome_of_apply, outcome_of_pass};
 ghost use Rattle.rb_site.specs.States.{Follows};
 
 use crate::answer::Answer;
-use crate::Event;
+use crate::{Event, Message, Reply};
+use rb_inbox::{Inbox, PutAnswer};
 use rb_ledger::Ledger;
-use rb_money::Config;
+use rb_money::{Config, Place, Refusal};
+use rb_scratch::{Request, generate};
+use rb_shadow::{OpName, Shadow};
+use rb_token::{Accepted, TokenMessage, TokenState};
 use std::alloc::{AllocError, Global};
 use std::marker::Model;
 
+/// What a site applied, what it holds, and what it knows of the token.
 #[derive(Drop)]
 pub struct State {
     ledger: Ledger,
-    config: Config,
-    me: u8,
+    inbox: Inbox,
+    token: TokenState,
 }
 
 impl Model for State {
-    ghost use Rattle.rb_site.specs.States.{SiteState};
-    ghost use Rattle.std.specs.Prelude.{◌≡◌, ◌<◌};
-    ghost use Rattle.rb_site.specs.Events.{first_site};
+    ghost use Rattle.std.specs.Prelude.{[]};
+    ghost use Rattle.rb_site.specs.States.{SiteState, IsTied};
 
     ghost Value = { SiteState };
 
-    ghost view = { λ s. record { settings = s.config; site = record (first_site s.me) { ops = s.ledger.entries } } };
+    ghost view = { λ s. record {
+      settings = s.ledger.settings;
+      site = record { me = s.token.me; ops = s.ledger.entries; held = s.inbox.held; token = s.token.token; history = [] };
+    } };
 
-    ghost invariant = { λ s. (s.ledger.settings ≡ s.config) × (s.me < s.config.sites) };
+    ghost invariant = { λ s. IsTied s.ledger.settings s.inbox s.token };
 }
 
 impl State {
-    pub fn open(_alloc: Global, _config: &Config, me: u8) -> Result<State, AllocError>
-        requires { me < _config.now.sites }
-        ensures { IfOk result (λ state. (state.settings ≡ _config.now) × (state.site ≡ first_site me)) }
+    /// The state of a site before any event.
+    pub fn open(alloc: Global, config: &Config, me: u8) -> Result<State, AllocError>
+        requires { me < config.now.sites }
+        ensures { IfOk result (λ state. (state.settings ≡ config.now) × (state.site ≡ first_site me)) }
     {
-        Err(AllocError)
+        let ledger = Ledger::open(alloc, config)?;
+        Ok(State {
+            ledger,
+            inbox: Inbox::open(alloc, config.limits().inbox),
+            token: TokenState::open(me, config),
+        })
     }
+
+    /// The configuration.
     pub fn config(&self) -> &Config
         ensures { result.now ≡ self.now.settings }
     {
-        &self.config
+        self.ledger.config()
     }
+
+    /// The site's number.
     pub fn me(&self) -> u8
         ensures same { result ≡ self.now.site.me }
         ensures place { result < self.now.settings.sites }
     {
-        self.me
+        self.token.view().me
     }
+
+    /// What the site applied.
     pub fn ledger(&self) -> &Ledger
         ensures settings { result.now.settings ≡ self.now.settings }
         ensures entries { result.now.entries ≡ self.now.site.ops }
     {
         &self.ledger
     }
+
+    /// One event. After want of memory the state is as before.
     pub fn act(&mut self, event: &Event) -> Result<Answer, AllocError>
         ensures ok { IfOk result (Follows self.old self.new (outcome_of self.old.settings self.old.site event.now)) }
         ensures err { OnErr result (self.new ≡ self.old) }
     {
-        let _e = *event;
-        Err(AllocError)
+        match event {
+            Event::Submit(request) => self.submit(request),
+            Event::Receive(Message::Shadow(shadow)) => self.receive(*shadow),
+            Event::Receive(Message::Token(message)) => Ok(self.accept(*message)),
+            Event::Apply(name) => self.apply(*name),
+            Event::Pass(to) => Ok(self.pass(*to)),
+            Event::Balance(place) => Ok(self.balance(*place)),
+        }
+    }
+
+    /// A request is decided here, and its shadow is applied here and sent.
+    fn submit(&mut self, request: &Request) -> Result<Answer, AllocError>
+        ensures ok { IfOk result (Follows self.old self.new (outcome_of self.old.settings self.old.site (Event.Submit request.now))) }
+        ensures err { OnErr result (self.new ≡ self.old) }
+    {
+        let shadow = match generate(&self.ledger, &self.token.view(), request) {
+            Ok(shadow) => shadow,
+            Err(why) => return Ok(Answer::alone(Reply::Refused(why))),
+        };
+        match self.ledger.apply(shadow) {
+            Ok(_undo) => Ok(Answer::with(
+                Reply::Made {
+                    name: shadow.name,
+                    kind: shadow.kind.label(),
+                },
+                Message::Shadow(shadow),
+            )),
+            // What was generated may follow the list, so that only memory can be wanting.
+            Err(_) => Err(AllocError),
+        }
+    }
+
+    /// A shadow from another site is held until it is applied.
+    fn receive(&mut self, shadow: Shadow) -> Result<Answer, AllocError>
+        ensures ok { IfOk result (Follows self.old self.new (outcome_of_shadow self.old.settings self.old.site shadow)) }
+        ensures err { OnErr result (self.new ≡ self.old) }
+    {
+        if let Err(why) = shadow.sound(self.ledger.config()) {
+            return Ok(Answer::alone(Reply::Refused(why)));
+        }
+        if let Some(applied) = self.applied(&shadow.name) {
+            return Ok(Answer::alone(again(&shadow, &applied)));
+        }
+        if shadow.home == self.token.view().me {
+            return Ok(Answer::alone(Reply::Refused(Refusal::Conflict)));
+        }
+        match self.inbox.put(shadow, self.ledger.clock()) {
+            Ok(PutAnswer::Held) => Ok(Answer::alone(Reply::Held(shadow.name))),
+            Ok(PutAnswer::Already) => Ok(Answer::alone(Reply::Already(shadow.name))),
+            Err(Refusal::OutOfMemory) => Err(AllocError),
+            Err(why) => Ok(Answer::alone(Reply::Refused(why))),
+        }
+    }
+
+    /// The applied shadow of a name.
+    fn applied(&self, name: &OpName) -> Option<Shadow>
+        ensures { result ≡ find_in self.now.site.ops name.now }
+    {
+        let position = self.ledger.find(name)?;
+        self.ledger.entry(position).copied()
+    }
+
+    /// A token message makes this site the holder, unless its epoch was seen.
+    fn accept(&mut self, message: TokenMessage) -> Answer
+        ensures { Follows self.old self.new (outcome_of_token self.old.settings self.old.site message) result }
+    {
+        match self.token.accept(message) {
+            Ok(Accepted::Taken) => Answer::alone(Reply::Taken(message.epoch)),
+            Ok(Accepted::Stale) => Answer::alone(Reply::Stale(message.epoch)),
+            Err(why) => Answer::alone(Reply::Refused(why)),
+        }
+    }
+
+    /// A held shadow whose past is applied is applied too, or is let go where it can't be.
+    fn apply(&mut self, name: OpName) -> Result<Answer, AllocError>
+        ensures ok { IfOk result (Follows self.old self.new (outcome_of_apply self.old.settings self.old.site (find_in self.old.site.held name))) }
+        ensures err { OnErr result (self.new ≡ self.old) }
+    {
+        let Some(held) = self.inbox.held(&name) else {
+            return Ok(Answer::alone(Reply::Refused(Refusal::NotHeld)));
+        };
+        let shadow = *held;
+        if !self.ledger.is_eligible(&shadow) {
+            return Ok(Answer::alone(Reply::Refused(Refusal::NotReady)));
+        }
+        match self.ledger.apply(shadow) {
+            Ok(_undo) => {
+                self.inbox.remove(&shadow.name);
+                Ok(Answer::alone(Reply::Applied(shadow.name)))
+            }
+            Err((_, Refusal::OutOfMemory)) => Err(AllocError),
+            Err((_, Refusal::NotReady)) => Ok(Answer::alone(Reply::Refused(Refusal::NotReady))),
+            Err((_, why)) => {
+                self.inbox.remove(&shadow.name);
+                Ok(Answer::alone(Reply::Refused(why)))
+            }
+        }
+    }
+
+    /// The token goes to another site.
+    fn pass(&mut self, to: u8) -> Answer
+        ensures { Follows self.old self.new (outcome_of_pass self.old.settings self.old.site to) result }
+    {
+        match self.token.pass(to, self.ledger.clock()) {
+            Ok(message) => {
+                Answer::with(Reply::Passed(message.epoch), Message::Token(message))
+            }
+            Err(why) => Answer::alone(Reply::Refused(why)),
+        }
+    }
+
+    /// An account's balance.
+    fn balance(&self, place: Place) -> Answer
+        ensures { Follows self.now self.now (outcome_of self.now.settings self.now.site (Event.Balance place)) result }
+    {
+        match self.ledger.balance(place) {
+            Some(cents) => Answer::alone(Reply::Balance(cents)),
+            None => Answer::alone(Reply::Refused(Refusal::UnknownAccount)),
+        }
+    }
+}
+
+/// A shadow whose name is known: the same comes again, or it is a conflict.
+fn again(shadow: &Shadow, known: &Shadow) -> Reply
+    ensures { result ≡ (if same_shadow known.now shadow.now then Reply.Already shadow.now.name else Reply.Refused Refusal.Conflict) }
+{
+    if known.same(shadow) {
+        Reply::Already(shadow.name)
+    } else {
+        Reply::Refused(Refusal::Conflict)
     }
 }

@@ -1,7 +1,8 @@
-use Rattle.std.proofs.Common.{◌≡◌, ◌≤◌, ◌++◌, ◌∷◌, [], List, ap, sym, ◌∙◌, subst}
+use Rattle.std.proofs.Common.{◌≡◌, ◌≤◌, ◌++◌, ◌∷◌, [], List, ap, sym, ◌∙◌, subst, length, arith}
 use Rattle.rb_shadow.specs.declared.shadow.Shadow.{Shadow}
 use Rattle.rb_undo.specs.declared.parts.UndoParts.{UndoParts}
 use Rattle.rb_shadow.specs.Operations.{HasEntry, number_of, entry_of}
+use Rattle.std.specs.Prelude.{vec_len}
 use Rattle.rb_vclock.specs.Clocks.{lowered}
 use Rattle.rb_ledger.specs.Book.{Book}
 use Rattle.rb_ledger.proofs.LedgerClocks
@@ -29,5 +30,6 @@ pub invariant_of-self : goal.invariant_of-self
 invariant_of-self c =
     let (front, last, e, is) = c.requires in
     let here : c.self.inside.entries.items ≡ front ++ last ∷ [] = ap (λ (b : Book). b.entries) c.self.view_is ∙ e in
-    LedgerClocks.kept_front _ _ front _ _ _ last c.self.invariant here (LedgerClocks.popped _ _ front last here c.pop.ensures.rest)
+    let counted : vec_len c.self.inside.entries ≡ length c.self.inside.entries.items = omega arith in
+    LedgerClocks.kept_front _ _ front _ _ _ last c.self.invariant here (LedgerClocks.popped _ _ front last _ here counted c.pop.ensures.rest)
     (c.retreat.ensures.entries ∙ ap (λ (p : UndoParts). lowered c.self.inside.clock p.name) (c.spend-parts.ensures ∙ is))
