@@ -2,3 +2,4 @@ pub mod Values
 pub mod Replies
 pub mod Lines
 pub mod Commands
+pub mod Configurations

@@ -2,6 +2,7 @@
 #![tactic(auto)]
 
 mod command;
+mod config_line;
 mod fault;
 mod values;
 mod write;
@@ -9,6 +10,7 @@ mod write;
 ghost use Rattle.rb_history.specs.Commands.{CommandsAreRead};
 
 pub use command::read_command;
+pub use config_line::read_config;
 pub use fault::LineFault;
 pub use write::write_reply;
 
@@ -16,3 +18,6 @@ pub use write::write_reply;
 pub fn commands_are_read()
     ensures { CommandsAreRead }
 {}
+
+#[cfg(test)]
+mod tests;
