@@ -80,7 +80,7 @@ ends_out_of_memory w0 w w' r0 r r' s p e owed owed' st sent = (
   st.0 ++ sent.0,
   Appends-then w0 w w' st.0 sent.0 st.1 sent.1,
   twice r0 ((st.0 ++ sent.0) ++ owed')
-  (subst (λ t. IfSome r0 (λ input. IsFront t (script_of (lines_of input)).text)) (ap (λ t. st.0 ++ t) sent.2 ∙ sym (append_assoc st.0 sent.0 owed')) (known_front r0 r s p e (st.0 ++ owed) st.2)),
+      (subst (λ t. IfSome r0 (λ input. IsFront t (script_of (lines_of input)).text)) (ap (λ t. st.0 ++ t) sent.2 ∙ sym (append_assoc st.0 sent.0 owed')) (known_front r0 r s p e (st.0 ++ owed) st.2)),
 )
 
 -- a front of a front
@@ -99,8 +99,8 @@ ends_unwritten w0 w w' r0 r r' s p e owed owed' st (front, nothing) = (
   st.0 ++ front.0,
   Appends-then w0 w w' st.0 front.0 st.1 front.2,
   twice r0 ((st.0 ++ front.0) ++ owed')
-  (subst (λ t. IfSome r0 (λ input. IsFront t (script_of (lines_of input)).text)) (sym (append-nil (st.0 ++ front.0)) ∙ ap (λ t. (st.0 ++ front.0) ++ t) (sym nothing))
-  (all_shorter r0 st.0 owed front.0 front.1.0 (known_front r0 r s p e (st.0 ++ owed) st.2) front.1.1)),
+      (subst (λ t. IfSome r0 (λ input. IsFront t (script_of (lines_of input)).text)) (sym (append-nil (st.0 ++ front.0)) ∙ ap (λ t. (st.0 ++ front.0) ++ t) (sym nothing))
+      (all_shorter r0 st.0 owed front.0 front.1.0 (known_front r0 r s p e (st.0 ++ owed) st.2) front.1.1)),
 )
 
 -- ---- after the end

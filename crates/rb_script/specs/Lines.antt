@@ -6,7 +6,8 @@ use Rattle.std.specs.Str.{is_utf8}
 use Rattle.rb_money.specs.Settings.{Settings}
 use Rattle.rb_site.specs.declared.world_event.WorldEvent.{WorldEvent}
 use Rattle.rb_world.specs.Laws.{SeenWorld, next_replies, opened}
-use Rattle.rb_history.specs.Commands.{command_at, config_at}
+use Rattle.rb_history.specs.Commands.{command_at}
+use Rattle.rb_history.specs.Configurations.{config_at}
 use Rattle.rb_history.specs.Replies.{line}
 use Rattle.rb_script.specs.declared.fault.ScriptFault.{ScriptFault}
 use Rattle.rb_script.specs.declared.fault.ScriptFault.TheVariants.{NoConfig, BadConfig, BadLine, LongLine}

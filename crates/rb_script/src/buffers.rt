@@ -7,7 +7,7 @@ ghost use Rattle.rb_script.specs.Writes.{AppendsFront};
 ghost use Rattle.rb_script.specs.declared.buffers.NoLine.TheVariants.{TooLong, Read, Write, OutOfMemory};
 
 use crate::pending::Pending;
-use crate::sink::Sink;
+use crate::sink::{Sink, WriteFailed};
 use crate::source::Source;
 use crate::write::flush;
 use std::alloc::Global;
@@ -140,8 +140,9 @@ impl Buffers {
             if self.ended {
                 return Ok(if n == 0 { None } else { Some(n) });
             }
-            if flush(writer, &mut self.owed).is_err() {
-                return Err(NoLine::Write);
+            match flush(writer, &mut self.owed) {
+                Ok(()) => {}
+                Err(WriteFailed) => return Err(NoLine::Write),
             }
             match self.read_more(reader) {
                 Ok(()) => {}

@@ -155,7 +155,11 @@ fn answers_in_any_pieces(rt: HostRuntime) -> Result<(), Fail> {
     for piece in [1usize, 2, 5, 4096] {
         let (result, text) = answers(rt.alloc(), DEPOSIT.as_bytes(), piece);
         assert_eq!(rt; result, Ok(6), "in pieces of {piece}");
-        assert_eq!(rt; text.as_slice(), DEPOSIT_REPLIES.as_bytes(), "in pieces of {piece}");
+        assert_eq!(rt;
+            text.as_slice(),
+            DEPOSIT_REPLIES.as_bytes(),
+            "in pieces of {piece}"
+        );
     }
     Ok(())
 }
@@ -180,10 +184,7 @@ fn stops_before_a_configuration(rt: HostRuntime) -> Result<(), Fail> {
         (b"{}".as_slice(), ScriptFault::BadConfig { line: 1 }),
         (b"\n \nno\n".as_slice(), ScriptFault::BadConfig { line: 3 }),
         (b"\xff\n".as_slice(), ScriptFault::BadConfig { line: 1 }),
-        (
-            BALANCE.as_bytes(),
-            ScriptFault::BadConfig { line: 1 },
-        ),
+        (BALANCE.as_bytes(), ScriptFault::BadConfig { line: 1 }),
     ];
     for (input, fault) in cases {
         let (result, text) = answers(rt.alloc(), input, 2);
@@ -213,7 +214,7 @@ fn stops_at_bad_lines(rt: HostRuntime) -> Result<(), Fail> {
 balance
 {"balance":"ann","site":0}
 "#
-            .as_slice(),
+                .as_slice(),
             5,
             "{\"balance\":0}\n",
         ),
@@ -326,7 +327,10 @@ fn many_lines_take_few_writes(rt: HostRuntime) -> Result<(), Fail> {
     }
     let mut reader = Pieces::new(input.as_slice(), 4096, false, &log);
     let mut writer = Room::new(rt.alloc(), usize::MAX, usize::MAX, &log);
-    assert_eq!(rt; run_script(rt.alloc(), &mut reader, &mut writer), Ok(10_000));
+    assert_eq!(rt;
+        run_script(rt.alloc(), &mut reader, &mut writer),
+        Ok(10_000)
+    );
     let steps = log.into_inner();
     let reads = steps
         .iter()
@@ -340,7 +344,11 @@ fn many_lines_take_few_writes(rt: HostRuntime) -> Result<(), Fail> {
 fn tells_faults(rt: HostRuntime) -> Result<(), Fail> {
     let cases = [
         (ScriptFault::NoConfig, "rbbank: no configuration", 2u8),
-        (ScriptFault::BadLine { line: 3 }, "rbbank: line 3: bad line", 2),
+        (
+            ScriptFault::BadLine { line: 3 },
+            "rbbank: line 3: bad line",
+            2,
+        ),
         (ScriptFault::Write, "rbbank: write failed", 3),
         (ScriptFault::OutOfMemory, "rbbank: out of memory", 4),
     ];

@@ -20,8 +20,12 @@ fn refuses_other_words(rt: HostRuntime) -> Result<(), Fail> {
         ["script", "--sites", "2"].as_slice(),
     ];
     for words in cases {
-        let kind = read_words(rt.alloc(), words).err().map(|error| error.kind());
-        assert!(rt; matches!(kind, Some(kind) if kind != ErrorKind::DisplayHelp && kind != ErrorKind::OutOfMemory));
+        let kind = read_words(rt.alloc(), words)
+            .err()
+            .map(|error| error.kind());
+        assert!(rt;
+            matches!(kind, Some(kind) if kind != ErrorKind::DisplayHelp && kind != ErrorKind::OutOfMemory)
+        );
     }
     Ok(())
 }
@@ -34,7 +38,9 @@ fn gives_help(rt: HostRuntime) -> Result<(), Fail> {
         ["script", "--help"].as_slice(),
     ];
     for words in cases {
-        let kind = read_words(rt.alloc(), words).err().map(|error| error.kind());
+        let kind = read_words(rt.alloc(), words)
+            .err()
+            .map(|error| error.kind());
         assert_eq!(rt; kind, Some(ErrorKind::DisplayHelp));
     }
     Ok(())

@@ -9,9 +9,8 @@ use from_reader::FromReader;
 use rb_script::{ScriptFault, message, run_script, status};
 use rb_words::{Words, read_words};
 use std::alloc::AllocError;
-use std::env;
-use std::io;
 use std::process::ExitCode;
+use std::{env, io};
 use to_writer::ToWriter;
 
 /// The status where the words are wrong.
