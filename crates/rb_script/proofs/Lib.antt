@@ -1,0 +1,6 @@
+pub mod Exits
+pub mod Follows
+pub mod LineLaws
+pub mod Progress
+pub mod ReadLaws
+pub mod WriteLaws

@@ -1,0 +1,116 @@
+-- What went out and what is owed, together, as a run goes on.
+use Rattle.std.proofs.Common.{◌≡◌, ◌<◌, ◌≤◌, ◌+◌, ◌⊎◌, ℕ, Bool, true, false, List, [], ◌++◌, length, take, drop, Option, Some, None, Result, Ok, Err, refl, sym, ap, ◌∙◌, subst, append-nil, append_assoc}
+use Rattle.std.specs.Prelude.{IfSome}
+use Rattle.std.specs.Io.KnownBytes.{Appends, IsAtEnd}
+use Rattle.rb_world.specs.Laws.{SeenWorld}
+use Rattle.rb_script.specs.declared.session.Session.{Session}
+use Rattle.rb_script.specs.declared.fault.ScriptFault.{ScriptFault}
+use Rattle.rb_script.specs.declared.fault.ScriptFault.TheVariants.{NoConfig, LongLine, Read, Write, OutOfMemory}
+use Rattle.rb_script.specs.Buffers.{Reads, Sends}
+use Rattle.rb_script.specs.Lines.{line_len, line_limit, lines_of, script_of}
+use Rattle.rb_script.specs.Run.{EndsAs, WillEndAs}
+use Rattle.rb_script.specs.Session.{Answers, EndsAt, first_session}
+use Rattle.rb_script.specs.Writes.{AppendsFront, IsFront}
+use Rattle.rb_script.proofs.Exits.{FollowsKnown, known_end, known_fault, known_front, known_line, known_long, known_read, known_start, known_stop, known_unconfigured}
+use Rattle.rb_script.proofs.WriteLaws.{Appends-nothing, Appends-then}
+
+-- between two lines: the writer had w0 and has w, the reader had r0 and has r
+abbrev pub IsAt : Option (List ℕ) → Option (List ℕ) → Option (List ℕ) → Option (List ℕ) → Session → List ℕ → Bool → List ℕ → Type 0
+IsAt w0 w r0 r s p e owed = (text : List ℕ) × Appends w0 w text × FollowsKnown r0 r s p e (text ++ owed)
+
+-- at the end, where some may still be owed
+abbrev pub IsOver : Option (List ℕ) → Option (List ℕ) → Option (List ℕ) → Option (List ℕ) → Result ℕ ScriptFault → List ℕ → Type 0
+IsOver w0 w r0 r result owed = (text : List ℕ) × Appends w0 w text × IfSome r0 (λ input. WillEndAs result input r (text ++ owed))
+
+both : (P Q : List ℕ → Type 0) (a : Option (List ℕ)) → IfSome a P → IfSome a Q → IfSome a (λ x. P x × Q x)
+both P Q None p q = tt
+both P Q (Some x) p q = (p, q)
+
+-- ---- between two lines
+
+pub starts : (w r : Option (List ℕ)) (s : Session) (p : List ℕ) (e : Bool) (owed : List ℕ) → s ≡ first_session → p ≡ [] → e ≡ false → owed ≡ [] → IsAt w w r r s p e owed
+starts w r s p e owed is none going nothing = ([], Appends-nothing w, subst (λ t. FollowsKnown r r s p e t) (sym nothing) (known_start r s p e is none going))
+
+pub reads_on : (w0 w w' r0 r r' : Option (List ℕ)) (s : Session) (p p' : List ℕ) (e e' : Bool) (owed owed' : List ℕ) → IsAt w0 w r0 r s p e owed → Reads p p' r r' → (e' ≡ false → e ≡ false) → Sends w w' owed owed'
+    → IsAt w0 w' r0 r' s p' e' owed'
+reads_on w0 w w' r0 r r' s p p' e e' owed owed' st read was sent = (
+  st.0 ++ sent.0,
+  Appends-then w0 w w' st.0 sent.0 st.1 sent.1,
+  subst (λ t. FollowsKnown r0 r' s p' e' t) (ap (λ t. st.0 ++ t) sent.2 ∙ sym (append_assoc st.0 sent.0 owed')) (known_read r0 r r' s p p' e e' (st.0 ++ owed) st.2 read was),
+)
+
+pub goes_on : (w0 w r0 r : Option (List ℕ)) (s s' : Session) (p : List ℕ) (e : Bool) (owed owed' : List ℕ) (n : ℕ) → IsAt w0 w r0 r s p e owed → n ≡ line_len p → n ≤ length p
+    → (n < length p) ⊎ ((n ≡ length p) × (0 < n) × (e ≡ true)) → (e ≡ true → IsAtEnd r) → (text : List ℕ) × (owed' ≡ owed ++ text) × Answers s s' (take n p) text → IsAt w0 w r0 r s' (drop (n + 1) p) e owed'
+goes_on w0 w r0 r s s' p e owed owed' n st len fits stands end answered = (
+  st.0,
+  st.1,
+  subst (λ t. FollowsKnown r0 r s' (drop (n + 1) p) e t) (append_assoc st.0 owed answered.0 ∙ ap (λ t. st.0 ++ t) (sym answered.1)) (known_line r0 r s s' p e (st.0 ++ owed) answered.0 n st.2 len fits stands end answered.2),
+)
+
+-- ---- the ends
+
+with_front : (w0 w r0 r : Option (List ℕ)) (s : Session) (p : List ℕ) (e : Bool) (owed : List ℕ) (result : Result ℕ ScriptFault) → (st : IsAt w0 w r0 r s p e owed) → IfSome r0 (λ input. EndsAs result input r (st.0 ++ owed))
+    → IsOver w0 w r0 r result owed
+with_front w0 w r0 r s p e owed result st ends = (st.0, st.1, both _ _ r0 ends (known_front r0 r s p e (st.0 ++ owed) st.2))
+
+pub ends_long : (w0 w r0 r : Option (List ℕ)) (s : Session) (p : List ℕ) (e : Bool) (owed : List ℕ) → IsAt w0 w r0 r s p e owed → line_limit < line_len p → IsOver w0 w r0 r (Err (LongLine s.number)) owed
+ends_long w0 w r0 r s p e owed st long = with_front w0 w r0 r s p e owed (Err (LongLine s.number)) st (known_long r0 r s p e (st.0 ++ owed) st.2 long)
+
+pub ends_unread : (w0 w r0 r : Option (List ℕ)) (s : Session) (p : List ℕ) (e : Bool) (owed : List ℕ) → IsAt w0 w r0 r s p e owed → e ≡ false → line_len p ≡ length p → IsOver w0 w r0 r (Err Read) owed
+ends_unread w0 w r0 r s p e owed st going none = with_front w0 w r0 r s p e owed (Err Read) st (known_stop r0 r s p e (st.0 ++ owed) st.2 going none)
+
+pub ends_at_fault : (w0 w r0 r : Option (List ℕ)) (s : Session) (p : List ℕ) (e : Bool) (owed owed' : List ℕ) (n : ℕ) (f : ScriptFault) → IsAt w0 w r0 r s p e owed → n ≡ line_len p → n ≤ length p
+    → (n < length p) ⊎ ((n ≡ length p) × (0 < n) × (e ≡ true)) → (e ≡ true → IsAtEnd r) → (owed' ≡ owed) × EndsAt s (take n p) f → IsOver w0 w r0 r (Err f) owed'
+ends_at_fault w0 w r0 r s p e owed owed' n f st len fits stands end (same, fault) =
+    subst (λ o. IsOver w0 w r0 r (Err f) o) (sym same) (with_front w0 w r0 r s p e owed (Err f) st (known_fault r0 r s p e (st.0 ++ owed) n f st.2 len fits stands end fault))
+
+pub ends_whole : (w0 w r0 r : Option (List ℕ)) (s : Session) (p : List ℕ) (e : Bool) (owed : List ℕ) (m : SeenWorld) → IsAt w0 w r0 r s p e owed → p ≡ [] → IsAtEnd r → s.world ≡ Some m → IsOver w0 w r0 r (Ok s.count) owed
+ends_whole w0 w r0 r s p e owed m st none end is = with_front w0 w r0 r s p e owed (Ok s.count) st (known_end r0 r s p e (st.0 ++ owed) m st.2 none end is)
+
+pub ends_unconfigured : (w0 w r0 r : Option (List ℕ)) (s : Session) (p : List ℕ) (e : Bool) (owed : List ℕ) → IsAt w0 w r0 r s p e owed → p ≡ [] → IsAtEnd r → s.world ≡ None → IsOver w0 w r0 r (Err NoConfig) owed
+ends_unconfigured w0 w r0 r s p e owed st none end is = with_front w0 w r0 r s p e owed (Err NoConfig) st (known_unconfigured r0 r s p e (st.0 ++ owed) st.2 none end is)
+
+twice : (a : Option (List ℕ)) (text : List ℕ) → IfSome a (λ input. IsFront text (script_of (lines_of input)).text) → IfSome a (λ input. IsFront text (script_of (lines_of input)).text × IsFront text (script_of (lines_of input)).text)
+twice None text h = tt
+twice (Some x) text h = (h, h)
+
+-- some of what was owed before went out, and then there was no memory
+pub ends_out_of_memory : (w0 w w' r0 r r' : Option (List ℕ)) (s : Session) (p : List ℕ) (e : Bool) (owed owed' : List ℕ) → IsAt w0 w r0 r s p e owed → Sends w w' owed owed' → IsOver w0 w' r0 r' (Err OutOfMemory) owed'
+ends_out_of_memory w0 w w' r0 r r' s p e owed owed' st sent = (
+  st.0 ++ sent.0,
+  Appends-then w0 w w' st.0 sent.0 st.1 sent.1,
+  twice r0 ((st.0 ++ sent.0) ++ owed')
+      (subst (λ t. IfSome r0 (λ input. IsFront t (script_of (lines_of input)).text)) (ap (λ t. st.0 ++ t) sent.2 ∙ sym (append_assoc st.0 sent.0 owed')) (known_front r0 r s p e (st.0 ++ owed) st.2)),
+)
+
+-- a front of a front
+shorter : (text owed front rest whole : List ℕ) → IsFront (text ++ owed) whole → owed ≡ front ++ rest → IsFront (text ++ front) whole
+shorter text owed front rest whole h e =
+    (rest ++ h.0, h.1 ∙ ap (λ t. (text ++ t) ++ h.0) e ∙ ap (λ t. t ++ h.0) (sym (append_assoc text front rest)) ∙ append_assoc (text ++ front) rest h.0)
+
+all_shorter : (a : Option (List ℕ)) (text owed front rest : List ℕ) → IfSome a (λ input. IsFront (text ++ owed) (script_of (lines_of input)).text) → owed ≡ front ++ rest
+    → IfSome a (λ input. IsFront (text ++ front) (script_of (lines_of input)).text)
+all_shorter None text owed front rest h e = tt
+all_shorter (Some x) text owed front rest h e = shorter text owed front rest _ h e
+
+-- a write failed, and nothing is owed any more
+pub ends_unwritten : (w0 w w' r0 r r' : Option (List ℕ)) (s : Session) (p : List ℕ) (e : Bool) (owed owed' : List ℕ) → IsAt w0 w r0 r s p e owed → AppendsFront w w' owed × (owed' ≡ []) → IsOver w0 w' r0 r' (Err Write) owed'
+ends_unwritten w0 w w' r0 r r' s p e owed owed' st (front, nothing) = (
+  st.0 ++ front.0,
+  Appends-then w0 w w' st.0 front.0 st.1 front.2,
+  twice r0 ((st.0 ++ front.0) ++ owed')
+      (subst (λ t. IfSome r0 (λ input. IsFront t (script_of (lines_of input)).text)) (sym (append-nil (st.0 ++ front.0)) ∙ ap (λ t. (st.0 ++ front.0) ++ t) (sym nothing))
+      (all_shorter r0 st.0 owed front.0 front.1.0 (known_front r0 r s p e (st.0 ++ owed) st.2) front.1.1)),
+)
+
+-- ---- after the end
+
+-- what was owed went out
+pub over_written : (w0 w w' r0 r : Option (List ℕ)) (result : Result ℕ ScriptFault) (owed : List ℕ) → IsOver w0 w r0 r result owed → Appends w w' owed → (text : List ℕ) × Appends w0 w' text × IfSome r0 (λ input. EndsAs result input r text)
+over_written w0 w w' None r result owed st written = (st.0 ++ owed, Appends-then w0 w w' st.0 owed st.1 written, tt)
+over_written w0 w w' (Some x) r result owed st written = (st.0 ++ owed, Appends-then w0 w w' st.0 owed st.1 written, st.2.0)
+
+-- a front of it did
+pub over_unwritten : (w0 w w' r0 r : Option (List ℕ)) (result : Result ℕ ScriptFault) (owed : List ℕ) → IsOver w0 w r0 r result owed → AppendsFront w w' owed → (text : List ℕ) × Appends w0 w' text × IfSome r0 (λ input. EndsAs (Err Write) input r text)
+over_unwritten w0 w w' None r result owed st front = (st.0 ++ front.0, Appends-then w0 w w' st.0 front.0 st.1 front.2, tt)
+over_unwritten w0 w w' (Some x) r result owed st front = (st.0 ++ front.0, Appends-then w0 w w' st.0 front.0 st.1 front.2, shorter st.0 owed front.0 front.1.0 _ st.2.1 front.1.1)

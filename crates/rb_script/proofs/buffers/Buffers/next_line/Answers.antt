@@ -1,0 +1,22 @@
+use Rattle.std.proofs.Common.{rules, arith, ◌≡◌}
+use Rattle.rb_script.proofs.ReadLaws.{Reads-then}
+use Rattle.rb_script.proofs.WriteLaws.{Sends-all, Sends-front, Sends-then}
+use Rattle.rb_script.proofs.buffers.Buffers.next_line.Goals as goal
+
+pub returns-in-Err-flush-clause-front : goal.returns-in-Err-flush-clause-front
+returns-in-Err-flush-clause-front g c = λ _. (Sends-front _ (g.W.Sink.contents c.reads.writer) _ _ _ c.reads.invariant.sent c.in-Err-flush.ensures.written.0, c.in-Err-flush.ensures.emptied)
+
+pub reads-preserved : goal.reads-preserved
+reads-preserved g c =
+    let before = c.reads.invariant in
+    let flushed = c.in-Ok-flush.ensures in
+    let found = c.in-Ok-read_more.ensures in
+    record {
+      counted = found.counted;
+      left = search rules;
+      end = search rules;
+      was_going = search rules;
+      fresh = search rules;
+      read = Reads-then _ (g.S.Source.remaining c.reads.reader) _ _ _ _ before.read (search rules);
+      sent = Sends-then _ (g.W.Sink.contents c.reads.writer) _ _ _ _ before.sent (Sends-all _ _ _ _ flushed.written.0 (search rules));
+    }

@@ -1,0 +1,145 @@
+//! The lines of a script, one at a time.
+ghost use Rattle.std.specs.Prelude.{◌≡◌, ◌+◌, ◌++◌, ◌^◌, ◌<◌, ◌≤◌, ℕ, List, true, false, None, Some, length, MatchOption, MatchResult, OnOk, OnErr};
+ghost use Rattle.std.specs.Str.{is_utf8};
+ghost use Rattle.rb_money.specs.Settings.{Settings};
+ghost use Rattle.rb_world.specs.Laws.{opened};
+ghost use Rattle.rb_history.specs.declared.fault.LineFault.TheVariants.{Bad};
+ghost use Rattle.rb_script.specs.Lines.{command_on, config_on, is_blank, line_limit};
+ghost use Rattle.rb_script.specs.Session.{Answers, AnswersCommand, EndsAt, first_session};
+
+use crate::fault::ScriptFault;
+use rb_history::{LineFault, read_command, read_config, write_reply};
+use rb_world::World;
+use std::alloc::Global;
+use std::str;
+
+/// Where a script stands: the world once there is a configuration, the number of the next line, and the replies so far.
+pub struct Session {
+    pub world: Option<World>,
+    pub number: u64,
+    pub count: u64,
+}
+
+/// Whether a line is to be skipped: spaces, tabs and carriage returns alone.
+fn is_skipped(line: &[u8]) -> bool
+    ensures { result ≡ is_blank line.now }
+{
+    line.iter()
+        .all(|b| *b == b' ' || *b == b'\t' || *b == b'\r')
+}
+
+/// The text of a line, where it is UTF-8.
+fn text_on(line: &[u8]) -> Option<&str>
+    ensures { MatchOption result (is_utf8 line.now ≡ false) (λ text. (text.now ≡ line.now) × (is_utf8 line.now ≡ true)) }
+{
+    str::from_utf8(line).ok()
+}
+
+/// The world before any event of the configuration on a line.
+fn open_world(alloc: Global, line: &[u8]) -> Result<World, LineFault>
+    ensures { MatchResult result
+        (λ world. (s : Settings) × (config_on line.now ≡ Some s) × (world ≡ opened s))
+        (λ why. why ≡ Bad → config_on line.now ≡ None) }
+{
+    let Some(text) = text_on(line) else {
+        return Err(LineFault::Bad);
+    };
+    let config = match read_config(alloc, text) {
+        Ok(config) => config,
+        Err(fault) => return Err(fault),
+    };
+    match World::open(alloc, config) {
+        Ok(world) => Ok(world),
+        Err(_) => Err(LineFault::OutOfMemory),
+    }
+}
+
+/// Gives the world the command on a line, and owes its reply. An `Err` owes nothing more.
+fn answer_command(
+    alloc: Global,
+    world: &mut World,
+    line: &[u8],
+    owed: &mut Vec<u8>,
+) -> Result<(), LineFault>
+    ensures answered { MatchResult result
+        (λ _. AnswersCommand world.old world.new line.now owed.old.items owed.new.items)
+        (λ why. why ≡ Bad → command_on world.old.settings line.now ≡ None) }
+    ensures err { OnErr result (owed.new.items ≡ owed.old.items) }
+{
+    let Some(text) = text_on(line) else {
+        return Err(LineFault::Bad);
+    };
+    let command = match read_command(alloc, world.config(), text) {
+        Ok(command) => command,
+        Err(fault) => return Err(fault),
+    };
+    let Ok(reply) = world.step(command) else {
+        return Err(LineFault::OutOfMemory);
+    };
+    let Ok(answer) = write_reply(alloc, &reply) else {
+        return Err(LineFault::OutOfMemory);
+    };
+    match owed.extend_from_slice(answer.as_bytes()) {
+        Ok(()) => Ok(()),
+        Err(_) => Err(LineFault::OutOfMemory),
+    }
+}
+
+impl Session {
+    /// Before the first line.
+    pub fn new() -> Session
+        ensures { result ≡ first_session }
+    {
+        Session {
+            world: None,
+            number: 1,
+            count: 0,
+        }
+    }
+
+    /// Takes one line, which isn't too long, and owes its reply. An `Err` owes nothing more.
+    pub fn answer_line(
+        &mut self,
+        alloc: Global,
+        line: &[u8],
+        owed: &mut Vec<u8>,
+    ) -> Result<(), ScriptFault>
+        requires short { length line.now ≤ line_limit }
+        requires number { self.old.number < 2 ^ 63 }
+        requires count { self.old.count < 2 ^ 63 }
+        ensures answered { MatchResult result
+            (λ _. (text : List ℕ) × (owed.new.items ≡ owed.old.items ++ text) × Answers self.old self.new line.now text)
+            (λ fault. (owed.new.items ≡ owed.old.items) × EndsAt self.old line.now fault) }
+        ensures count { OnOk result (self.new.count ≤ self.old.count + 1) }
+    {
+        let number = self.number;
+        self.number = number + 1;
+        if is_skipped(line) {
+            return Ok(());
+        }
+        let Some(world) = &mut self.world else {
+            match open_world(alloc, line) {
+                Ok(world) => self.world = Some(world),
+                Err(LineFault::Bad) => return Err(ScriptFault::BadConfig { line: number }),
+                Err(LineFault::OutOfMemory) => return Err(ScriptFault::OutOfMemory),
+            }
+            return Ok(());
+        };
+        match answer_command(alloc, world, line, owed) {
+            Ok(()) => self.count += 1,
+            Err(LineFault::Bad) => return Err(ScriptFault::BadLine { line: number }),
+            Err(LineFault::OutOfMemory) => return Err(ScriptFault::OutOfMemory),
+        }
+        Ok(())
+    }
+
+    /// Lets the world go.
+    pub fn close(self) {
+        let Session {
+            world,
+            number: _,
+            count: _,
+        } = self;
+        drop(world);
+    }
+}

@@ -1,0 +1,11 @@
+use Rattle.std.proofs.Common.{arith, ◌≡◌, map, ℕ, ◌<◌, ◌≤◌, length, get_or, List, [], ◌∷◌, Bor, ap}
+use Rattle.rb_words.proofs.words.asked_for.Goals as goal
+
+-- a single word
+single : (words : List (Bor (List ℕ))) (d : Bor (List ℕ)) (text : List ℕ) → 1 ≤ length words → length words < 2 → (get_or words 0 d).now ≡ text → map (λ word. word.now) words ≡ text ∷ []
+single [] d text some few is = absurd (omega arith)
+single (w ∷ []) d text some few is = ap (λ t. t ∷ []) is
+single (w ∷ x ∷ ws) d text some few is = absurd (omega arith)
+
+pub returns-in-script : goal.returns-in-script
+returns-in-script c = single c.args.words.now _ _ c.in-script.len_at_least c.in-script.len_below c.in-script.is-script

@@ -1,0 +1,8 @@
+//! The words of the command line.
+#![tactic(auto)]
+
+#[cfg(test)]
+mod tests;
+mod words;
+
+pub use words::{Words, read_words};

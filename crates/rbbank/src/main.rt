@@ -1,0 +1,92 @@
+//! `rbbank`: the sites of a bank, driven by a script.
+#![tactic(auto)]
+
+mod from_reader;
+mod to_writer;
+
+use clap::error::ErrorKind;
+use from_reader::FromReader;
+use rb_script::{ScriptFault, message, run_script, status};
+use rb_words::{Words, read_words};
+use std::alloc::AllocError;
+use std::process::ExitCode;
+use std::{env, io};
+use to_writer::ToWriter;
+
+/// The status where the words are wrong.
+const WRONG_WORDS: u8 = 2;
+
+/// The status for want of memory.
+const NO_MEMORY: u8 = 4;
+
+fn out_of_memory(rt: &HostRuntime) -> ExitCode {
+    let _ = rt.eprintln("rbbank: out of memory");
+    ExitCode::from(NO_MEMORY)
+}
+
+/// Says why a script stopped.
+fn tell_fault(rt: &HostRuntime, fault: ScriptFault) -> ExitCode {
+    match message(rt.alloc(), fault) {
+        Ok(line) => {
+            let _ = rt.eprintln(line.as_str());
+            ExitCode::from(status(fault))
+        }
+        Err(AllocError) => out_of_memory(rt),
+    }
+}
+
+/// Says what is wrong with the words. Help that was asked for goes to standard output, and nothing is wrong.
+fn tell_words(rt: &HostRuntime, error: clap::Error) -> ExitCode {
+    match error.kind() {
+        ErrorKind::OutOfMemory => out_of_memory(rt),
+        ErrorKind::DisplayHelp => {
+            let _ = rt.print(&error);
+            ExitCode::SUCCESS
+        }
+        _ => {
+            let _ = rt.eprint(&error);
+            ExitCode::from(WRONG_WORDS)
+        }
+    }
+}
+
+/// Says why the words can't be read: there is no memory, or one of them isn't UTF-8.
+fn tell_unread(rt: &HostRuntime, error: io::Error) -> ExitCode {
+    if error.kind() == io::ErrorKind::OutOfMemory {
+        return out_of_memory(rt);
+    }
+    let _ = rt.eprintln("error: invalid UTF-8 was detected in one or more arguments");
+    ExitCode::from(WRONG_WORDS)
+}
+
+/// Answers the script on standard input.
+fn script(rt: &HostRuntime) -> ExitCode {
+    let mut reader = FromReader::new(rt.reader());
+    let mut writer = ToWriter::new(io::writer(rt));
+    match run_script(rt.alloc(), &mut reader, &mut writer) {
+        Ok(_) => ExitCode::SUCCESS,
+        Err(fault) => tell_fault(rt, fault),
+    }
+}
+
+fn main(rt: HostRuntime) -> ExitCode {
+    let alloc = rt.alloc();
+    let given = match env::args(&rt) {
+        Ok(given) => given,
+        Err(error) => return tell_unread(&rt, error),
+    };
+    let Ok(words) = given.skip(1).collect::<Vec<String>>(alloc) else {
+        return out_of_memory(&rt);
+    };
+    let Ok(views) = words
+        .iter()
+        .map(|word| word.as_str())
+        .collect::<Vec<&str>>(alloc)
+    else {
+        return out_of_memory(&rt);
+    };
+    match read_words(alloc, views.as_slice()) {
+        Ok(Words::Script) => script(&rt),
+        Err(error) => tell_words(&rt, error),
+    }
+}
