@@ -1,6 +1,7 @@
 pub mod Exits
 pub mod Follows
 pub mod LineLaws
+pub mod Opens
 pub mod Progress
 pub mod ReadLaws
 pub mod WriteLaws

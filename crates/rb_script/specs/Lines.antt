@@ -47,11 +47,11 @@ is_blank l = list_all (λ b. b == 32 || b == 9 || b == 13) l
 -- ---- what a line says
 
 -- the configuration on a line: it has to be UTF-8
-abbrev pub config_on : List ℕ → Option Settings
+unfoldable pub config_on : List ℕ → Option Settings
 config_on l = if is_utf8 l then config_at l else None
 
 -- the command on a line, at these settings
-abbrev pub command_on : Settings → List ℕ → Option WorldEvent
+unfoldable pub command_on : Settings → List ℕ → Option WorldEvent
 command_on s l = if is_utf8 l then command_at s l else None
 
 -- a script's commands up to its first bad line, and what is wrong with that

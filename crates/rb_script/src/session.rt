@@ -36,6 +36,7 @@ fn text_on(line: &[u8]) -> Option<&str>
 }
 
 /// The world before any event of the configuration on a line.
+#[tactic(auto, unfolding(crate::specs::Lines::config_on))]
 fn open_world(alloc: Global, line: &[u8]) -> Result<World, LineFault>
     ensures { MatchResult result
         (λ world. (s : Settings) × (config_on line.now ≡ Some s) × (world ≡ opened s))
@@ -55,6 +56,7 @@ fn open_world(alloc: Global, line: &[u8]) -> Result<World, LineFault>
 }
 
 /// Gives the world the command on a line, and owes its reply. An `Err` owes nothing more.
+#[tactic(auto, unfolding(crate::specs::Lines::command_on))]
 fn answer_command(
     alloc: Global,
     world: &mut World,

@@ -1,15 +1,18 @@
-use Rattle.std.proofs.Common.{rules, arith, ◌≡◌}
+use Rattle.std.proofs.Common.{rules}
 use Rattle.rb_script.proofs.ReadLaws.{Reads-then}
 use Rattle.rb_script.proofs.WriteLaws.{Sends-all, Sends-front, Sends-then}
 use Rattle.rb_script.proofs.buffers.Buffers.next_line.Goals as goal
 
-pub returns-in-Err-flush-clause-front : goal.returns-in-Err-flush-clause-front
-returns-in-Err-flush-clause-front g c = λ _. (Sends-front _ (g.W.Sink.contents c.reads.writer) _ _ _ c.reads.invariant.sent c.in-Err-flush.ensures.written.0, c.in-Err-flush.ensures.emptied)
+pub returns-in-Err-clause-front : goal.returns-in-Err-clause-front
+returns-in-Err-clause-front g c = λ _. (Sends-front _ (g.W.Sink.contents c.reads.writer) _ _ _ c.reads.invariant.sent c.in-Err.ensures.written.0, c.in-Err.ensures.emptied)
+
+pub returns-in-Err-read_more-clause-sent : goal.returns-in-Err-read_more-clause-sent
+returns-in-Err-read_more-clause-sent g c = λ _. Sends-then _ (g.W.Sink.contents c.reads.writer) _ _ _ _ c.reads.invariant.sent (Sends-all _ _ _ _ c.in-Ok.ensures.written.0 (search rules))
 
 pub reads-preserved : goal.reads-preserved
 reads-preserved g c =
     let before = c.reads.invariant in
-    let flushed = c.in-Ok-flush.ensures in
+    let flushed = c.in-Ok.ensures in
     let found = c.in-Ok-read_more.ensures in
     record {
       counted = found.counted;

@@ -1,0 +1,20 @@
+-- The line of the configuration.
+use Rattle.std.proofs.Common.{◌≡◌, ◌+◌, ◌-◌, ℕ, false, List, [], ◌∷◌, Option, Some, None, refl, sym, ap, ◌∙◌, subst, arith, zero-add}
+use Rattle.rb_money.specs.Settings.{Settings}
+use Rattle.rb_world.specs.Laws.{opened}
+use Rattle.rb_script.specs.declared.session.Session.{Session}
+use Rattle.rb_script.specs.Lines.{Outcome, commands_from, config_on, is_blank, is_long, outcome}
+use Rattle.rb_script.specs.Session.{Answers, after_text, rest_of}
+
+-- nothing was written, and nothing counted
+nothing : (n : ℕ) (o : Outcome) → after_text [] (n - n) o ≡ o
+nothing n o = let none : (n - n) + o.count ≡ o.count = omega arith in ap (λ m. record { text = o.text; count = m; fault = o.fault }) none
+
+pub opens : (s s' : Session) (l : List ℕ) (k : Settings) → s.world ≡ None → is_long l ≡ false → is_blank l ≡ false → config_on l ≡ Some k
+    → s' ≡ record { world = Some (opened k); number = s.number + 1; count = s.count } → Answers s s' l []
+opens s s' l k none short some is e =
+    subst (λ x. Answers s x l []) (sym e) (record {
+      follows = λ ls. rw (none, short, some, is) (sym (nothing s.count (outcome (opened k) (commands_from k (s.number + 1) ls))));
+      count = omega arith;
+      number = refl;
+    })
