@@ -1,0 +1,18 @@
+.PHONY: demo build test check
+
+# The stored run, each command beside its reply.
+demo:
+	@examples/demo.py
+
+# Proves and builds the program, and prints where it lies.
+build:
+	@cd crates/rbbank && rt run -- script < stdin > /dev/null
+	@echo $(CURDIR)/crates/rbbank/out/rbbank
+
+# The gate: everything from nothing. The last line is 'N passed, 0 failed'.
+test:
+	rt ci
+
+# Every crate, over what earlier checks kept.
+check:
+	rt all check
