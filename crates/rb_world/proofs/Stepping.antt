@@ -48,12 +48,13 @@ arrives s w (Deliver i k) e t arrived at = by (message_at w.messages k) refl arr
     by : (o : Option Message) → message_at w.messages k ≡ o → option_map Receive o ≡ Some e → Arrives s w (Deliver i k) e t
     by None q h = cc
     by (Some m) q h =
-      let same : Receive m ≡ e = cc in
-      record {
-        world = ap (world_delivered s w i) q ∙ ap (world_at s w i (Receive m)) at ∙ ap (λ x. world_at s w i x (Some t)) same;
-        reply = ap (λ o. reply_delivered s w i (slice_get w.sites i) o) q ∙ ap (λ o. reply_delivered s w i o (Some m)) at ∙ ap (reply_to s t) same;
-        recorded = ap (λ o. is_recorded_at s (slice_get w.sites i) && is_some o) q ∙ ap (λ o. is_recorded_at s o && true) at ∙ and_true (is_full s t);
-      }
+        let same : Receive m ≡ e = cc in
+        record {
+          world = ap (world_delivered s w i) q ∙ ap (world_at s w i (Receive m)) at ∙ ap (λ x. world_at s w i x (Some t)) same;
+          reply = ap (λ o. reply_delivered s w i (slice_get w.sites i) o) q ∙ ap (λ o. reply_delivered s w i o (Some m)) at ∙ ap (reply_to s t) same;
+          recorded = ap (λ o. is_recorded_at s (slice_get w.sites i) && is_some o) q ∙ ap (λ o. is_recorded_at s o && true) at ∙ and_true (is_full s t);
+        }
+
 -- ---- a step that no site records
 
 -- a world by its parts
@@ -68,8 +69,7 @@ still w ev h =
 -- at a site whose history is full nothing happens
 pub full_step : (w : SeenWorld) (ev : WorldEvent) (e : Event) (t : ModelSite) → arrival w.world.messages ev ≡ Some e → slice_get w.world.sites (place_of ev) ≡ Some t → is_full w.settings t ≡ true → (Refused HistoryFull ≡ next_reply w ev) × (w ≡ next_world w ev)
 full_step w ev e t arrived at full =
-    let here = arrives w.settings w.world ev e t arrived at in
-    (
+    let here = arrives w.settings w.world ev e t arrived at in (
       sym (here.reply ∙ ap (λ b. cond b (Refused HistoryFull) (reply_of (outcome_of w.settings t e))) full),
       still w ev (here.recorded ∙ ap not full),
     )
@@ -93,15 +93,14 @@ shown_world s xs ms es = world_as s (sites_and (map state_of xs) ms) es
 pub taken_step : (s : Settings) (xs : List SeenSite) (ms : List Message) (es : List WorldEvent) (ev : WorldEvent) (e : Event) (x : SeenSite) → IsTaken s xs ms ev e x
     → (reply_to x.settings (state_of x) e ≡ next_reply (shown_world s xs ms es) ev)
     × (shown_world s (slice_set xs (place_of ev) (next_site x e)) (ms ++ sent_at x.settings (state_of x) e) (es ++ ev ∷ []) ≡ next_world (shown_world s xs ms es) ev)
-taken_step s xs ms es ev e x taken =
-    (
-      ap (λ z. reply_to z (state_of x) e) taken.settings ∙ sym here.reply,
-      ap (λ ts. world_as s (sites_and ts (ms ++ sent_at x.settings (state_of x) e)) (es ++ ev ∷ [])) (map-set state_of xs (place_of ev) (next_site x e))
+taken_step s xs ms es ev e x taken = (
+  ap (λ z. reply_to z (state_of x) e) taken.settings ∙ sym here.reply,
+  ap (λ ts. world_as s (sites_and ts (ms ++ sent_at x.settings (state_of x) e)) (es ++ ev ∷ [])) (map-set state_of xs (place_of ev) (next_site x e))
       ∙ ap (λ u. world_as s (sites_and (slice_set (map state_of xs) (place_of ev) u) (ms ++ sent_at x.settings (state_of x) e)) (es ++ ev ∷ [])) (Seen.state-next x e)
       ∙ ap (λ z. world_as s (sites_and (slice_set (map state_of xs) (place_of ev) (after_event z (state_of x) e)) (ms ++ sent_at z (state_of x) e)) (es ++ ev ∷ [])) taken.settings
       ∙ ap (λ v. world_as s v (es ++ ev ∷ [])) (sym here.world)
       ∙ ap (λ b. world_as s (world_after s w ev) (cond b (es ++ ev ∷ []) es)) (sym (here.recorded ∙ ap not taken.room)),
-    )
+)
   where
     w : World
     w = sites_and (map state_of xs) ms
@@ -152,13 +151,13 @@ taken_at s xs ms ev e i x place arrived room all same = by (slice_get xs i) refl
     by : (o : Option SeenSite) → slice_get xs i ≡ o → IsSomeAnd (option_map state_of o) (λ t. is_full s t ≡ false) → IsTaken s xs ms ev e x
     by None q h = absurd h
     by (Some y) q h =
-      let here : x ≡ y = same ∙ get_or_from_slice_get xs i y x q in
-      record {
-        arrived = arrived;
-        at = ap (slice_get xs) (sym place) ∙ q ∙ ap Some (sym here);
-        settings = ap (λ (z : SeenSite). z.settings) same ∙ all i x (slice_get_within xs i y q);
-        room = let P : SeenSite → Type 0 = λ z. is_full s (state_of z) ≡ false in subst P (sym here) h;
-      }
+        let here : x ≡ y = same ∙ get_or_from_slice_get xs i y x q in
+        record {
+          arrived = arrived;
+          at = ap (slice_get xs) (sym place) ∙ q ∙ ap Some (sym here);
+          settings = ap (λ (z : SeenSite). z.settings) same ∙ all i x (slice_get_within xs i y q);
+          room = let P : SeenSite → Type 0 = λ z. is_full s (state_of z) ≡ false in subst P (sym here) h;
+        }
 
 -- ---- a run so far
 

@@ -173,7 +173,6 @@ comes_made : (s : Settings) (ms : List Message) (t : ModelSite) (q : Result Shad
 comes_made s ms t (Ok v) h = (h v refl, tt)
 comes_made s ms t (Err why) h = tt
 
-
 -- what is known of each event's outcome
 pub comes : (s : Settings) (ms : List Message) (t : ModelSite) (e : Event) → IsSourced ms e → Comes s ms t (outcome_of s t e)
 unfolding outcome_of

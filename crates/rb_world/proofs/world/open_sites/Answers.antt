@@ -10,13 +10,12 @@ use Rattle.rb_world.proofs.Stepping.{AreOf, one_of}
 use Rattle.rb_world.proofs.world.open_sites.Goals as goal
 
 pub loop-me-preserved : goal.loop-me-preserved
-loop-me-preserved c =
-    (
-      ap (map state_of) c.in_ok-push.ensures.items
+loop-me-preserved c = (
+  ap (map state_of) c.in_ok-push.ensures.items
       ∙ map-append state_of c.loop-me.seats.items _
       ∙ ap (λ x. map state_of c.loop-me.seats.items ++ state_of x ∷ []) c.in_ok-site.ensures
       ∙ ap (λ ts. ts ++ first_site c.loop-me.me ∷ []) c.loop-me.invariant.0
       ∙ sym (map-range_with_len_more first_site 0 c.loop-me.me c.loop-me.me (omega arith)),
-      (let P : List SeenSite → Type 0 = λ xs. AreOf c.args.config.now xs in
+  (let P : List SeenSite → Type 0 = λ xs. AreOf c.args.config.now xs in
       subst P (sym c.in_ok-push.ensures.items) (All-append (λ (x : SeenSite). x.settings ≡ c.args.config.now) c.loop-me.seats.items _ c.loop-me.invariant.1 (one_of c.args.config.now c.in_ok-site.site (ap (λ (x : SeenSite). x.settings) c.in_ok-site.ensures)))),
-    )
+)

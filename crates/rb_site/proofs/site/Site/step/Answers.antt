@@ -10,8 +10,7 @@ use Rattle.rb_site.proofs.States.{IsStep, is_step, me_kept, noted_in, one_or_non
 
 pub returns-then-is_full-clause-ok : goal.returns-then-is_full-clause-ok
 returns-then-is_full-clause-ok c =
-    let full : is_full c.args.self.now.settings (state_of c.args.self.now) ≡ true = sym c.is_full.ensures ∙ c.if-is_full.true in
-    (
+    let full : is_full c.args.self.now.settings (state_of c.args.self.now) ≡ true = sym c.is_full.ensures ∙ c.if-is_full.true in (
       sym (ap (λ b. cond b c.args.self.now (stepped c.args.self.now c.args.event)) full),
       sym (ap (λ b. cond b (Refused HistoryFull) (reply_of (outcome_of c.args.self.now.settings (state_of c.args.self.now) c.args.event))) full),
       c.new.ensures.items ∙ sym (ap (λ b. cond b [] (sent_by (outcome_of c.args.self.now.settings (state_of c.args.self.now) c.args.event))) full),
@@ -42,9 +41,8 @@ pub invariant_of-self-2 : goal.invariant_of-self-2
 invariant_of-self-2 c = let P : SeenSite → Type 0 = λ x. IsStanding x c.act.new.self in subst P (sym (the_pushed c)) (the_step c).standing
 
 pub returns-clause-ok : goal.returns-clause-ok
-returns-clause-ok c =
-    (
-      the_view c,
-      (the_step c).reply ∙ ap (λ (x : SeenSite). reply_to x.settings (state_of x) c.args.event) c.self.view_is,
-      c.posted_with.ensures.listed ∙ (the_step c).sent ∙ ap (λ (x : SeenSite). sent_at x.settings (state_of x) c.args.event) c.self.view_is,
-    )
+returns-clause-ok c = (
+  the_view c,
+  (the_step c).reply ∙ ap (λ (x : SeenSite). reply_to x.settings (state_of x) c.args.event) c.self.view_is,
+  c.posted_with.ensures.listed ∙ (the_step c).sent ∙ ap (λ (x : SeenSite). sent_at x.settings (state_of x) c.args.event) c.self.view_is,
+)

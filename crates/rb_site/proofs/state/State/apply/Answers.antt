@@ -22,9 +22,9 @@ returns-in-Ok-clause-ok c =
     let Q : Settings → Type 0 = λ s. Follows old (state_as s c.self.inside.token.me c.apply.new.self.entries c.remove.new.self.held c.self.inside.token.token) (outcome_of_apply old.settings old.site (find_in old.site.held c.args.name)) c.alone-in-Ok.result in
     subst Q (sym c.in-Ok.ensures.settings)
     (applies c.self.inside.ledger.settings c.self.inside.token.me c.self.inside.ledger.entries c.self.inside.inbox.held c.apply.new.self.entries c.remove.new.self.held c.self.inside.token.token c.args.name c.in-Some.held.now c.alone-in-Ok.result
-      (sym c.in-Some.ensures) (sym c.is_eligible.ensures ∙ c.if-not-is_eligible.false)
-      (held_sound c.self.inside.ledger.settings c.self.inside.inbox.held c.args.name c.in-Some.held.now c.self.invariant.sound (sym c.in-Some.ensures))
-      c.in-Ok.ensures.taken c.in-Ok.ensures.applied.0 (ap (λ (b : Holding). b.held) c.remove.ensures) c.alone-in-Ok.ensures))
+    (sym c.in-Some.ensures) (sym c.is_eligible.ensures ∙ c.if-not-is_eligible.false)
+    (held_sound c.self.inside.ledger.settings c.self.inside.inbox.held c.args.name c.in-Some.held.now c.self.invariant.sound (sym c.in-Some.ensures))
+    c.in-Ok.ensures.taken c.in-Ok.ensures.applied.0 (ap (λ (b : Holding). b.held) c.remove.ensures) c.alone-in-Ok.ensures))
 
 pub invariant_of-self-in_default-why : goal.invariant_of-self-in_default-why
 invariant_of-self-in_default-why c = tied_without c.self.inside.ledger.settings c.apply.new.self.settings c.self.inside.inbox c.remove-in_default-why.new.self c.self.inside.token c.in-Some.held.now.name c.apply.ensures.settings c.remove-in_default-why.ensures c.self.invariant
@@ -38,9 +38,9 @@ returns-in-NotReady-clause-ok c =
     let Q : Book → Type 0 = λ b. Follows old (state_as b.settings c.self.inside.token.me b.entries c.self.inside.inbox.held c.self.inside.token.token) (outcome_of_apply old.settings old.site (find_in old.site.held c.args.name)) c.alone-in-NotReady.result in
     subst Q (sym c.in-Err.ensures.refused.0)
     (waits c.self.inside.ledger.settings c.self.inside.token.me c.self.inside.ledger.entries c.self.inside.inbox.held c.self.inside.token.token c.args.name c.in-Some.held.now c.alone-in-NotReady.result
-      (sym c.in-Some.ensures) (sym c.is_eligible.ensures ∙ c.if-not-is_eligible.false)
-      (held_sound c.self.inside.ledger.settings c.self.inside.inbox.held c.args.name c.in-Some.held.now c.self.invariant.sound (sym c.in-Some.ensures))
-      (refusal_is c.in-Err.why _ c.in-Err.ensures.reason (not_memory c.in-Err.why c.in-NotReady.is) ∙ ap Some c.in-NotReady.is) c.alone-in-NotReady.ensures))
+    (sym c.in-Some.ensures) (sym c.is_eligible.ensures ∙ c.if-not-is_eligible.false)
+    (held_sound c.self.inside.ledger.settings c.self.inside.inbox.held c.args.name c.in-Some.held.now c.self.invariant.sound (sym c.in-Some.ensures))
+    (refusal_is c.in-Err.why _ c.in-Err.ensures.reason (not_memory c.in-Err.why c.in-NotReady.is) ∙ ap Some c.in-NotReady.is) c.alone-in-NotReady.ensures))
 
 pub returns-in_default-why : goal.returns-in_default-why
 returns-in_default-why c =
@@ -48,10 +48,10 @@ returns-in_default-why c =
     let P : SiteState → Type 0 = λ z. Follows z now (outcome_of_apply z.settings z.site (find_in z.site.held c.args.name)) c.alone-in_default-why.result in
     record {
       ok = subst P c.self.view_is
-        (let old : SiteState = state_as c.self.inside.ledger.settings c.self.inside.token.me c.self.inside.ledger.entries c.self.inside.inbox.held c.self.inside.token.token in
-        let Q : Book → Type 0 = λ b. Follows old (state_as b.settings c.self.inside.token.me b.entries c.remove-in_default-why.new.self.held c.self.inside.token.token) (outcome_of_apply old.settings old.site (find_in old.site.held c.args.name)) c.alone-in_default-why.result in
-        subst Q (sym c.in-Err.ensures.refused.0)
-        (drops c.self.inside.ledger.settings c.self.inside.token.me c.self.inside.ledger.entries c.self.inside.inbox.held c.remove-in_default-why.new.self.held c.self.inside.token.token c.args.name c.in-Some.held.now c.in-Err.why c.alone-in_default-why.result
+          (let old : SiteState = state_as c.self.inside.ledger.settings c.self.inside.token.me c.self.inside.ledger.entries c.self.inside.inbox.held c.self.inside.token.token in
+          let Q : Book → Type 0 = λ b. Follows old (state_as b.settings c.self.inside.token.me b.entries c.remove-in_default-why.new.self.held c.self.inside.token.token) (outcome_of_apply old.settings old.site (find_in old.site.held c.args.name)) c.alone-in_default-why.result in
+          subst Q (sym c.in-Err.ensures.refused.0)
+          (drops c.self.inside.ledger.settings c.self.inside.token.me c.self.inside.ledger.entries c.self.inside.inbox.held c.remove-in_default-why.new.self.held c.self.inside.token.token c.args.name c.in-Some.held.now c.in-Err.why c.alone-in_default-why.result
           (sym c.in-Some.ensures) (sym c.is_eligible.ensures ∙ c.if-not-is_eligible.false)
           (held_sound c.self.inside.ledger.settings c.self.inside.inbox.held c.args.name c.in-Some.held.now c.self.invariant.sound (sym c.in-Some.ensures))
           (refusal_is c.in-Err.why _ c.in-Err.ensures.reason c.in_default-why.not-OutOfMemory) c.in_default-why.not-NotReady

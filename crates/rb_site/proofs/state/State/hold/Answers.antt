@@ -21,7 +21,7 @@ returns-in-Ok-Held-clause-ok c =
     let P : SiteState → Type 0 = λ z. Follows z (state_as c.self.inside.ledger.settings c.self.inside.token.me c.self.inside.ledger.entries c.put.new.self.held c.self.inside.token.token) (outcome_of_new z.settings z.site c.args.shadow) c.alone.result in
     subst P c.self.view_is
     (holds c.self.inside.ledger.settings c.self.inside.token.me c.self.inside.ledger.entries c.self.inside.inbox c.put.new.self c.self.inside.token.token c.clock.result.now c.args.shadow c.alone.result few c.config.ensures.valid c.clock.ensures c.self.invariant.limit
-      (c.put.ensures.welcome (c.in-Ok-Held.is ∙ ap Ok c.in-Ok-Held.field-0-is)) (c.put.ensures.held (c.in-Ok-Held.is ∙ ap Ok c.in-Ok-Held.field-0-is)) c.alone.ensures)
+    (c.put.ensures.welcome (c.in-Ok-Held.is ∙ ap Ok c.in-Ok-Held.field-0-is)) (c.put.ensures.held (c.in-Ok-Held.is ∙ ap Ok c.in-Ok-Held.field-0-is)) c.alone.ensures)
 
 pub returns-in-Ok-Already-clause-ok : goal.returns-in-Ok-Already-clause-ok
 returns-in-Ok-Already-clause-ok c =
@@ -39,9 +39,9 @@ returns-clause-ok c =
     subst P c.self.view_is
     (let old : SiteState = state_as c.self.inside.ledger.settings c.self.inside.token.me c.self.inside.ledger.entries c.self.inside.inbox.held c.self.inside.token.token in
     let Q : Result Answer AllocError → Type 0 = λ r. IfOk r (Follows old now (outcome_of_new old.settings old.site c.args.shadow)) in
-    elim c.match-why.branch
-      [ in-OutOfMemory w ↦ subst Q (sym w.result-is) tt
+    elim c.match-why.branch [
+      | in-OutOfMemory w ↦ subst Q (sym w.result-is) tt
       | in_default w ↦ subst Q (sym w.result-is)
-        (refused_put c.self.inside.ledger.settings c.self.inside.token.me c.self.inside.ledger.entries c.self.inside.inbox c.put.new.self c.self.inside.token.token c.clock.result.now c.args.shadow c.in-Err.why w.alone-in_default.result few c.config.ensures.valid c.clock.ensures c.self.invariant.limit
+          (refused_put c.self.inside.ledger.settings c.self.inside.token.me c.self.inside.ledger.entries c.self.inside.inbox c.put.new.self c.self.inside.token.token c.clock.result.now c.args.shadow c.in-Err.why w.alone-in_default.result few c.config.ensures.valid c.clock.ensures c.self.invariant.limit
           c.in-Err.ensures.refusals (λ e. c.put.ensures.conflict (c.in-Err.is ∙ ap Err e)) (λ e. c.put.ensures.full (c.in-Err.is ∙ ap Err e)) w.in_default.not-OutOfMemory c.in-Err.ensures.err w.alone-in_default.ensures)
-      ])
+    ])

@@ -19,7 +19,7 @@ returns c =
     (let Q : TokenSeat → Type 0 = λ seat. Follows (state_as c.self.inside.ledger.settings c.self.inside.token.me c.self.inside.ledger.entries c.self.inside.inbox.held c.self.inside.token.token) (state_as c.self.inside.ledger.settings seat.me c.self.inside.ledger.entries c.self.inside.inbox.held seat.token) (outcome_of_pass c.self.inside.ledger.settings (state_as c.self.inside.ledger.settings c.self.inside.token.me c.self.inside.ledger.entries c.self.inside.inbox.held c.self.inside.token.token).site c.args.to) c.with.result in
     subst Q (sym c.in-Ok.ensures.passed)
     (passes c.self.inside.ledger.settings c.self.inside.token.me c.self.inside.ledger.entries c.self.inside.inbox.held c.self.inside.token.token _ c.args.to c.clock.result.now.red c.in-Ok.message c.with.result
-      (ap (λ n. refusal_of_pass n c.self.inside.ledger.settings.limits c.self.inside.token.me c.self.inside.token.token c.args.to) (sym c.self.invariant.sites)
-      ∙ ap (λ l. refusal_of_pass c.self.inside.token.sites l c.self.inside.token.me c.self.inside.token.token c.args.to) (sym c.self.invariant.limits)
-      ∙ c.in-Ok.ensures.allowed)
-      (ap (λ (d : Deps). d.red) c.clock.ensures) c.in-Ok.ensures.sent refl c.with.ensures))
+    (ap (λ n. refusal_of_pass n c.self.inside.ledger.settings.limits c.self.inside.token.me c.self.inside.token.token c.args.to) (sym c.self.invariant.sites)
+    ∙ ap (λ l. refusal_of_pass c.self.inside.token.sites l c.self.inside.token.me c.self.inside.token.token c.args.to) (sym c.self.invariant.limits)
+    ∙ c.in-Ok.ensures.allowed)
+    (ap (λ (d : Deps). d.red) c.clock.ensures) c.in-Ok.ensures.sent refl c.with.ensures))

@@ -24,22 +24,20 @@ the_step c =
     ap (λ i. shown_world c.self.inside.config (slice_set c.self.inside.seats.items i c.step.new.self) c.send.new.sent.items c.push_reserved.new.self.items) c.requires.place
     ∙ ap (λ x. shown_world c.self.inside.config (slice_set c.self.inside.seats.items (place_of c.args.event) x) c.send.new.sent.items c.push_reserved.new.self.items) (c.in_ok-reply.ensures.ok).0
     ∙ ap (λ ms. shown_world c.self.inside.config (slice_set c.self.inside.seats.items (place_of c.args.event) (next_site c.index_mut.result.now c.args.arrived)) ms c.push_reserved.new.self.items)
-      (c.send.ensures ∙ ap (λ ms. ms ++ c.in_ok-reply.posted.items) c.in_ok-reserve-2.ensures.items ∙ ap (λ ms. c.self.inside.sent.items ++ ms) (c.in_ok-reply.ensures.ok).2)
+    (c.send.ensures ∙ ap (λ ms. ms ++ c.in_ok-reply.posted.items) c.in_ok-reserve-2.ensures.items ∙ ap (λ ms. c.self.inside.sent.items ++ ms) (c.in_ok-reply.ensures.ok).2)
     ∙ ap (shown_world c.self.inside.config (slice_set c.self.inside.seats.items (place_of c.args.event) (next_site c.index_mut.result.now c.args.arrived)) _)
-      (c.push_reserved.ensures.items ∙ ap (λ es. es ++ c.args.event ∷ []) c.in_ok-reserve.ensures.items)
+    (c.push_reserved.ensures.items ∙ ap (λ es. es ++ c.args.event ∷ []) c.in_ok-reserve.ensures.items)
     ∙ (taken_step _ _ _ c.self.inside.recorded.items c.args.event c.args.arrived c.index_mut.result.now (taken c)).1
 
 pub invariant_of-self-2 : goal.invariant_of-self-2
-invariant_of-self-2 c =
-    (
-      subst IsRunOf (sym (the_step c)) (next_run (the_world c) c.args.event c.self.invariant.0 c.requires.command),
-      (let P : SeenSite → Type 0 = λ x. AreOf c.self.inside.config (slice_set c.self.inside.seats.items c.args.place x) in
+invariant_of-self-2 c = (
+  subst IsRunOf (sym (the_step c)) (next_run (the_world c) c.args.event c.self.invariant.0 c.requires.command),
+  (let P : SeenSite → Type 0 = λ x. AreOf c.self.inside.config (slice_set c.self.inside.seats.items c.args.place x) in
       subst P (sym (c.in_ok-reply.ensures.ok).0) (settings_kept c.self.inside.config c.self.inside.seats.items c.args.place c.index_mut.result.now c.args.arrived (taken c).settings c.self.invariant.1)),
-    )
+)
 
 pub returns-clause-ok : goal.returns-clause-ok
-returns-clause-ok c =
-    (
-      (c.in_ok-reply.ensures.ok).1 ∙ (taken_step _ _ _ c.self.inside.recorded.items c.args.event c.args.arrived c.index_mut.result.now (taken c)).0 ∙ ap (λ w. next_reply w c.args.event) c.self.view_is,
-      the_step c ∙ ap (λ w. next_world w c.args.event) c.self.view_is,
-    )
+returns-clause-ok c = (
+  (c.in_ok-reply.ensures.ok).1 ∙ (taken_step _ _ _ c.self.inside.recorded.items c.args.event c.args.arrived c.index_mut.result.now (taken c)).0 ∙ ap (λ w. next_reply w c.args.event) c.self.view_is,
+  the_step c ∙ ap (λ w. next_world w c.args.event) c.self.view_is,
+)
