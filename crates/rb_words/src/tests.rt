@@ -1,5 +1,6 @@
 use crate::{Words, read_words};
 use clap::error::ErrorKind;
+use std::alloc::Global;
 use std::test::Fail;
 
 #[test]
@@ -9,39 +10,43 @@ fn reads_script(rt: HostRuntime) -> Result<(), Fail> {
     Ok(())
 }
 
-#[test]
-fn refuses_other_words(rt: HostRuntime) -> Result<(), Fail> {
-    let cases: [&[&str]; 6] = [
-        [].as_slice(),
-        ["Script"].as_slice(),
-        ["scripts"].as_slice(),
-        ["script", "script"].as_slice(),
-        ["--", "script"].as_slice(),
-        ["script", "--sites", "2"].as_slice(),
-    ];
-    for words in cases {
-        let kind = read_words(rt.alloc(), words)
-            .err()
-            .map(|error| error.kind());
-        assert!(rt;
-            matches!(kind, Some(kind) if kind != ErrorKind::DisplayHelp && kind != ErrorKind::OutOfMemory)
-        );
+/// What kind of error the words are.
+fn kind_of(alloc: Global, words: &[&str]) -> Option<ErrorKind> {
+    read_words(alloc, words).err().map(|error| error.kind())
+}
+
+/// The words are wrong, and help wasn't asked for.
+fn are_wrong(alloc: Global, words: &[&str]) -> bool {
+    match kind_of(alloc, words) {
+        Some(ErrorKind::DisplayHelp | ErrorKind::OutOfMemory) | None => false,
+        Some(_) => true,
     }
-    Ok(())
 }
 
 #[test]
-fn gives_help(rt: HostRuntime) -> Result<(), Fail> {
-    let cases: [&[&str]; 3] = [
-        ["--help"].as_slice(),
-        ["help"].as_slice(),
-        ["script", "--help"].as_slice(),
-    ];
-    for words in cases {
-        let kind = read_words(rt.alloc(), words)
-            .err()
-            .map(|error| error.kind());
-        assert_eq!(rt; kind, Some(ErrorKind::DisplayHelp));
-    }
-    Ok(())
+fn refuses_other_words(rt: HostRuntime) {
+    let alloc = rt.alloc();
+    assert!(rt; are_wrong(alloc, [].as_slice()));
+    assert!(rt; are_wrong(alloc, ["Script"].as_slice()));
+    assert!(rt; are_wrong(alloc, ["scripts"].as_slice()));
+    assert!(rt; are_wrong(alloc, ["script", "script"].as_slice()));
+    assert!(rt; are_wrong(alloc, ["--", "script"].as_slice()));
+    assert!(rt; are_wrong(alloc, ["script", "--sites", "2"].as_slice()));
+}
+
+#[test]
+fn gives_help(rt: HostRuntime) {
+    let alloc = rt.alloc();
+    assert_eq!(rt;
+        kind_of(alloc, ["--help"].as_slice()),
+        Some(ErrorKind::DisplayHelp)
+    );
+    assert_eq!(rt;
+        kind_of(alloc, ["help"].as_slice()),
+        Some(ErrorKind::DisplayHelp)
+    );
+    assert_eq!(rt;
+        kind_of(alloc, ["script", "--help"].as_slice()),
+        Some(ErrorKind::DisplayHelp)
+    );
 }

@@ -2,6 +2,10 @@
 #![tactic(auto)]
 
 mod from_reader;
+#[cfg(test)]
+mod rows;
+#[cfg(test)]
+mod tests;
 mod to_writer;
 
 use clap::error::ErrorKind;
