@@ -1,5 +1,5 @@
 -- How long a valid list can be.
-use Rattle.std.proofs.Common.{◌≡◌, ℕ, zero, suc, ◌+◌, ◌*◌, ◌<◌, ◌≤◌, Bool, true, false, cond, List, [], ◌∷◌, length, get_or, refl, ap, sym, ◌∙◌, arith, ◌⊎◌, inl, inr, subst}
+use Rattle.std.proofs.Common.{◌≡◌, ℕ, zero, suc, ◌+◌, ◌*◌, ◌<◌, ◌≤◌, Bool, true, false, cond, List, [], ◌∷◌, length, get_or, refl, ap, sym, arith, ◌⊎◌, inl, inr, subst}
 use Rattle.std.specs.Prelude.{nat_lt, ◌==◌, All, slice_get, slice_index, Some}
 use Rattle.std.proofs.lemmas.Bool.Decides.{nat_tests}
 use Rattle.std.proofs.lemmas.List.Sums.{sum_by-cons, count_by-le-length}
@@ -124,8 +124,8 @@ starts_low [] m h i = omega arith
 starts_low (n ∷ ns) m h zero = h 0 n refl
 starts_low (n ∷ ns) m h (suc i) = starts_low ns m (λ j k e. h (suc j) k e) i
 
-pub kept_start : (s : Settings) (us : List Shadow) (c : Deps) (i : ℕ) → IsKept s us c → slice_index s.starts i ≤ 100000000000
-kept_start s us c i kept = starts_low s.starts 100000000000 kept.configured.starts i
+pub kept_start : (s : Settings) (us : List Shadow) (c : Deps) (ns : List ℕ) (i n : ℕ) → IsKept s us c → ns ≡ s.starts → n ≡ slice_index ns i → n ≤ 100000000000
+kept_start s us c ns i n kept e is = omega (arith, is, ap (λ ns. slice_index ns i) e, starts_low s.starts 100000000000 kept.configured.starts i)
 
 pub kept_cancels : (s : Settings) (us vs : List Shadow) (c : Deps) (x : OpName) (n : ℕ) → IsKept s us c → vs ≡ us → n ≡ cancel_count vs x → n ≤ 9000000
 kept_cancels s us vs c x n kept e is = omega (arith, count_by-le-length (λ (u : Shadow). cancels u.kind x) vs, kept_few s us vs c kept e)

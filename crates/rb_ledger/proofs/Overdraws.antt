@@ -1,18 +1,17 @@
 -- Whether one more operation takes more than there is.
-use Rattle.std.proofs.Common.{◌≡◌, ℕ, ◌+◌, ◌<◌, ◌≤◌, Bool, true, false, cond, ◌||◌, List, [], ◌∷◌, ◌++◌, length, refl, ap, sym, ◌∙◌, arith, subst}
-use Rattle.std.specs.Prelude.{ℤ, pos, negsuc, ◌+ℤ◌, nat_lt, nat_le, ◌==◌, Option, Some, None, unwrap_or}
+use Rattle.std.proofs.Common.{◌≡◌, ℕ, ◌+◌, ◌<◌, ◌≤◌, Bool, true, false, cond, ◌||◌, List, [], ◌∷◌, ◌++◌, length, refl, ap, sym, arith, subst}
+use Rattle.std.specs.Prelude.{ℤ, pos, negsuc, ◌+ℤ◌, nat_lt, nat_le, ◌==◌, Some, None, unwrap_or}
 use Rattle.std.proofs.lemmas.Int.{ints}
 use Rattle.std.proofs.lemmas.Bool.Decides.{nat_tests}
 use Rattle.rb_money.specs.Settings.{Settings}
 use Rattle.rb_money.specs.Amounts.{cents}
-use Rattle.rb_money.specs.declared.place.Place.{Place}
 use Rattle.rb_shadow.specs.declared.shadow.Shadow.{Shadow}
 use Rattle.rb_shadow.specs.declared.op_name.OpName.{OpName}
 use Rattle.rb_shadow.specs.declared.deps.Deps.{Deps}
 use Rattle.rb_shadow.specs.Operations.{bal, names, same_name}
 use Rattle.rb_shadow.specs.Sound.{IsSound}
 use Rattle.rb_shadow.proofs.SoundFacts
-use Rattle.rb_ledger.specs.Valid.{IsValid, find_position, position_from}
+use Rattle.rb_ledger.specs.Valid.{find_position, position_from}
 use Rattle.rb_ledger.specs.Checks.{is_negative, has_wrong_target, overdraws}
 use Rattle.rb_ledger.specs.Changes.{change_of}
 use Rattle.rb_ledger.specs.Book.{Book, IsKept}

@@ -39,10 +39,12 @@ impl Ledger {
         ensures { IfOk result (λ ledger. (ledger.settings ≡ config.now) × (ledger.entries ≡ [])) }
     {
         let config = config.try_copy(alloc)?;
+        let entries = Vec::new(alloc);
+        let clock = Clock::zero();
         Ok(Ledger {
             config,
-            entries: Vec::new(alloc),
-            clock: Clock::zero(),
+            entries,
+            clock,
         })
     }
 

@@ -2,6 +2,8 @@
 #![tactic(auto)]
 
 mod ledger;
+#[cfg(test)]
+mod tests;
 mod walk;
 
 pub use ledger::Ledger;

@@ -1,5 +1,4 @@
-use Rattle.std.proofs.Common.{◌≡◌, ◌+◌, ◌≤◌, ap, ◌∙◌, subst, sym, arith}
-use Rattle.std.specs.Prelude.{pos, ◌+ℤ◌, ◌≤ℤ◌, slice_index}
+use Rattle.std.proofs.Common.{◌≤◌, ap, ◌∙◌, arith}
 use Rattle.rb_shadow.specs.Operations.{bal}
 use Rattle.rb_ledger.specs.Book.{Book}
 use Rattle.rb_ledger.proofs.Lengths
@@ -14,25 +13,23 @@ moved_on-added-requires-clause-small c = Lengths.kept_small _ _ _ _ c.self.invar
 
 pub overflow_add-result : goal.overflow_add-result
 overflow_add-result c =
-    let starts : c.accounts.result.now.starts ≡ c.self.inside.config.starts = c.accounts.ensures.starts in
-    let start : c.in_ok-start.start.0 ≡ slice_index c.self.inside.config.starts c.args.place.0 = c.in_ok-start.ensures.start ∙ ap (λ ns. slice_index ns c.args.place.0) starts in
-    omega (arith, Lengths.kept_start _ _ _ c.args.place.0 c.self.invariant)
+    let low : c.in_ok-start.start.0 ≤ 100000000000 = Lengths.kept_start c.self.inside.config _ _ _ c.args.place.0 _ c.self.invariant c.accounts.ensures.starts c.in_ok-start.ensures.start in
+    omega arith
 
 pub overflow_sub-result : goal.overflow_sub-result
 overflow_sub-result c =
-    let starts : c.accounts.result.now.starts ≡ c.self.inside.config.starts = c.accounts.ensures.starts in
-    let start : c.in_ok-start.start.0 ≡ slice_index c.self.inside.config.starts c.args.place.0 = c.in_ok-start.ensures.start ∙ ap (λ ns. slice_index ns c.args.place.0) starts in
-    Walks.walked_least _ _ _ (Walks.walked c.self.inside.config c.self.inside.entries.items _ c.args.place _ _ _ c.deref.ensures.value start c.moved_on-added.ensures.sums) (Walks.covers _ _ c.args.place c.self.invariant.valid)
+    Walks.walked_least _ _ _
+    (Walks.walked c.self.inside.config c.self.inside.entries.items _ _ c.args.place _ _ _ c.deref.ensures.value c.accounts.ensures.starts c.in_ok-start.ensures.start c.moved_on-added.ensures.sums)
+    (Walks.covers _ _ c.args.place c.self.invariant.valid)
 
 pub returns-clause-sum : goal.returns-clause-sum
 returns-clause-sum c =
-    let starts : c.accounts.result.now.starts ≡ c.self.inside.config.starts = c.accounts.ensures.starts in
-    let start : c.in_ok-start.start.0 ≡ slice_index c.self.inside.config.starts c.args.place.0 = c.in_ok-start.ensures.start ∙ ap (λ ns. slice_index ns c.args.place.0) starts in
-    Walks.walked_rest _ _ _ (Walks.walked c.self.inside.config c.self.inside.entries.items _ c.args.place _ _ _ c.deref.ensures.value start c.moved_on-added.ensures.sums) (Walks.covers _ _ c.args.place c.self.invariant.valid)
+    Walks.walked_rest _ _ _
+    (Walks.walked c.self.inside.config c.self.inside.entries.items _ _ c.args.place _ _ _ c.deref.ensures.value c.accounts.ensures.starts c.in_ok-start.ensures.start c.moved_on-added.ensures.sums)
+    (Walks.covers _ _ c.args.place c.self.invariant.valid)
     ∙ ap (λ (b : Book). bal b.settings b.entries c.args.place) c.self.view_is
 
 pub returns-clause-bounded : goal.returns-clause-bounded
 returns-clause-bounded c =
-    let starts : c.accounts.result.now.starts ≡ c.self.inside.config.starts = c.accounts.ensures.starts in
-    let start : c.in_ok-start.start.0 ≡ slice_index c.self.inside.config.starts c.args.place.0 = c.in_ok-start.ensures.start ∙ ap (λ ns. slice_index ns c.args.place.0) starts in
-    omega (arith, Lengths.kept_start _ _ _ c.args.place.0 c.self.invariant, c.moved_on-added.ensures.low)
+    let low : c.in_ok-start.start.0 ≤ 100000000000 = Lengths.kept_start c.self.inside.config _ _ _ c.args.place.0 _ c.self.invariant c.accounts.ensures.starts c.in_ok-start.ensures.start in
+    omega (arith, c.moved_on-added.ensures.low)

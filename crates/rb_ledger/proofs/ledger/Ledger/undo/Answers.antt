@@ -1,5 +1,4 @@
-use Rattle.std.proofs.Common.{◌≡◌, ◌≤◌, ◌++◌, ◌∷◌, [], List, ap, sym, ◌∙◌, subst, length, arith}
-use Rattle.rb_shadow.specs.declared.shadow.Shadow.{Shadow}
+use Rattle.std.proofs.Common.{◌≡◌, ◌≤◌, ◌++◌, ◌∷◌, [], ap, sym, ◌∙◌, subst, length, arith}
 use Rattle.rb_undo.specs.declared.parts.UndoParts.{UndoParts}
 use Rattle.rb_shadow.specs.Operations.{HasEntry, number_of, entry_of}
 use Rattle.std.specs.Prelude.{vec_len}
