@@ -1,5 +1,5 @@
 -- A list of accounts is filled with names that are not in it yet.
-use Rattle.std.proofs.Common.{◌≡◌, List, [], ◌∷◌, ◌++◌, ℕ, ◌+◌, ◌≤◌, false, None, refl, sym, ◌∙◌, append_assoc, append-nil, zero-add, length, length-append, arith}
+use Rattle.std.proofs.Common.{◌≡◌, List, [], ◌∷◌, ◌++◌, ℕ, ◌+◌, ◌≤◌, false, None, refl, ◌∙◌, zero-add, length}
 use Rattle.std.specs.Prelude.{map, string_bytes, String}
 use Rattle.std.specs.List.{IsDistinct, AllByRecursion}
 use Rattle.std.specs.Map.{keys_of}
