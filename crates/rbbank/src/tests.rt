@@ -5,9 +5,9 @@ use crate::from_reader::FromReader;
 use crate::rows::ROWS;
 use crate::to_writer::ToWriter;
 use rb_history::{LineFault, read_command, read_config, write_reply};
-use rb_money::Config;
+use rb_money::{Config, Place};
 use rb_script::run_script;
-use rb_site::WorldEvent;
+use rb_site::{Event, Reply, WorldEvent};
 use rb_world::World;
 use std::alloc::Global;
 use std::test::Fail;
@@ -78,5 +78,24 @@ fn nothing_is_recorded_where_no_site_or_message_is(rt: HostRuntime) -> Result<()
         assert!(rt; site.history().is_empty());
     }
     assert!(rt; world.site(2).is_none());
+    Ok(())
+}
+
+#[test]
+fn copies(rt: HostRuntime) -> Result<(), Fail> {
+    let alloc = rt.alloc();
+    let config = read_config(alloc, r#"{"accounts":[["ann",5]],"sites":2,"version":1}"#)?;
+    let mut world = World::open(alloc, config)?;
+    let event = WorldEvent::At(0, Event::Balance(Place(0)));
+    assert_eq!(rt; event.try_copy(alloc)?, event);
+    let reply = world.step(event)?;
+    assert_eq!(rt; reply, Reply::Balance(5));
+    assert_eq!(rt; reply.try_copy(alloc)?, reply);
+    assert_eq!(rt; world.events(), [event].as_slice());
+    let site = world.site(0).ok_or("no site")?;
+    assert_eq!(rt; site.history().len(), 1);
+    let entry = site.history()[0];
+    assert_eq!(rt; entry.try_copy(alloc)?, entry);
+    assert_eq!(rt; entry.event.try_copy(alloc)?, Event::Balance(Place(0)));
     Ok(())
 }
