@@ -1,7 +1,7 @@
 -- What a run has written where it ends, for a source whose bytes are known.
-use Rattle.std.proofs.Common.{◌≡◌, ◌<◌, ◌≤◌, ◌+◌, ◌⊎◌, ℕ, Bool, true, false, List, [], ◌∷◌, ◌++◌, length, take, drop, Option, Some, None, Ok, Err, refl, sym, ap, ◌∙◌, arith, rules, subst, append-nil, append_assoc, add-zero}
+use Rattle.std.proofs.Common.{◌≡◌, ◌<◌, ◌≤◌, ◌+◌, ◌⊎◌, ℕ, Bool, true, false, List, [], ◌∷◌, ◌++◌, length, take, drop, Option, Some, None, Ok, Err, refl, sym, ap, ◌∙◌, rules, subst, append-nil, add-zero}
 use Rattle.std.specs.Prelude.{IfSome}
-use Rattle.std.specs.Io.KnownBytes.{IsAtEnd, Consumes}
+use Rattle.std.specs.Io.KnownBytes.{IsAtEnd}
 use Rattle.rb_world.specs.Laws.{SeenWorld}
 use Rattle.rb_script.specs.declared.session.Session.{Session}
 use Rattle.rb_script.specs.declared.fault.ScriptFault.{ScriptFault}

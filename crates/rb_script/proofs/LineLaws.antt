@@ -1,8 +1,8 @@
 -- Lines at the front of the bytes.
-use Rattle.std.proofs.Common.{◌≡◌, ◌<◌, ◌≤◌, ◌+◌, ◌==◌, ℕ, zero, suc, Bool, true, false, cond, List, [], ◌∷◌, ◌++◌, length, take, drop, refl, sym, ap, ◌∙◌, arith, rules, subst, append-nil, append_assoc}
+use Rattle.std.proofs.Common.{◌≡◌, ◌<◌, ◌≤◌, ◌+◌, ◌==◌, ℕ, zero, suc, Bool, true, false, cond, List, [], ◌∷◌, ◌++◌, length, take, drop, refl, ◌∙◌, arith}
 use Rattle.std.specs.List.{onto_first}
 use Rattle.std.proofs.lemmas.List.Recursion.{is_position_or_len}
-use Rattle.rb_script.specs.Lines.{lines_of, whole_lines, onto_whole, line_len}
+use Rattle.rb_script.specs.Lines.{lines_of, whole_lines, line_len}
 
 -- the length by recursion
 abbrev len : List ℕ → ℕ

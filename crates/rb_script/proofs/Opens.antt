@@ -1,10 +1,10 @@
 -- The line of the configuration.
-use Rattle.std.proofs.Common.{◌≡◌, ◌+◌, ◌-◌, ℕ, false, List, [], ◌∷◌, Option, Some, None, refl, sym, ap, ◌∙◌, subst, arith, zero-add}
+use Rattle.std.proofs.Common.{◌≡◌, ◌+◌, ◌-◌, ℕ, false, List, [], Some, None, refl, sym, ap, subst, arith}
 use Rattle.rb_money.specs.Settings.{Settings}
 use Rattle.rb_world.specs.Laws.{opened}
 use Rattle.rb_script.specs.declared.session.Session.{Session}
 use Rattle.rb_script.specs.Lines.{Outcome, commands_from, config_on, is_blank, is_long, outcome}
-use Rattle.rb_script.specs.Session.{Answers, after_text, rest_of}
+use Rattle.rb_script.specs.Session.{Answers, after_text}
 
 -- nothing was written, and nothing counted
 nothing : (n : ℕ) (o : Outcome) → after_text [] (n - n) o ≡ o

@@ -150,6 +150,17 @@ fn answers(alloc: Global, input: &[u8], piece: usize) -> (Result<u64, ScriptFaul
     (result, taken)
 }
 
+/// The calls of a run over these bytes, read in such pieces, with a writer that takes all.
+fn calls(alloc: Global, input: &[u8], piece: usize) -> (Result<u64, ScriptFault>, Vec<Step>) {
+    let log = RefCell::new(Vec::new(alloc));
+    let mut reader = Pieces::new(input, piece, false, &log);
+    let mut writer = Room::new(alloc, usize::MAX, usize::MAX, &log);
+    let result = run_script(alloc, &mut reader, &mut writer);
+    drop(reader);
+    drop(writer);
+    (result, log.into_inner())
+}
+
 #[test]
 fn answers_in_any_pieces(rt: HostRuntime) -> Result<(), Fail> {
     for piece in [1usize, 2, 5, 4096] {
@@ -299,12 +310,9 @@ deposit"#;
 
 #[test]
 fn replies_go_out_before_the_next_read(rt: HostRuntime) -> Result<(), Fail> {
-    let log = RefCell::new(Vec::new(rt.alloc()));
     // The first piece ends in the third command, after 107 bytes of whole lines.
-    let mut reader = Pieces::new(DEPOSIT.as_bytes(), 110, false, &log);
-    let mut writer = Room::new(rt.alloc(), usize::MAX, usize::MAX, &log);
-    assert_eq!(rt; run_script(rt.alloc(), &mut reader, &mut writer), Ok(6));
-    let steps = log.into_inner();
+    let (result, steps) = calls(rt.alloc(), DEPOSIT.as_bytes(), 110);
+    assert_eq!(rt; result, Ok(6));
     let want = [
         Step::Read(110),
         Step::Write(33 + 16),
@@ -318,25 +326,23 @@ fn replies_go_out_before_the_next_read(rt: HostRuntime) -> Result<(), Fail> {
 
 #[test]
 fn many_lines_take_few_writes(rt: HostRuntime) -> Result<(), Fail> {
-    let log = RefCell::new(Vec::new(rt.alloc()));
     let mut input = Vec::new(rt.alloc());
     input.extend_from_slice(CONFIGURATION.as_bytes())?;
     for _ in 0..10_000 {
         input.push(b'\n')?;
         input.extend_from_slice(BALANCE.as_bytes())?;
     }
-    let mut reader = Pieces::new(input.as_slice(), 4096, false, &log);
-    let mut writer = Room::new(rt.alloc(), usize::MAX, usize::MAX, &log);
-    assert_eq!(rt;
-        run_script(rt.alloc(), &mut reader, &mut writer),
-        Ok(10_000)
-    );
-    let steps = log.into_inner();
+    let (result, steps) = calls(rt.alloc(), input.as_slice(), 4096);
+    assert_eq!(rt; result, Ok(10_000));
     let reads = steps
         .iter()
         .filter(|step| matches!(step, Step::Read(_)))
         .count();
-    assert!(rt; steps.len() <= reads * 2 + 1, "{reads} reads");
+    let writes = steps.len().saturating_sub(reads);
+    assert!(rt;
+        writes <= reads.saturating_add(2),
+        "{writes} writes for {reads} reads"
+    );
     Ok(())
 }
 

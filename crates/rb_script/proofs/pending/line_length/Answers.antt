@@ -1,4 +1,4 @@
-use Rattle.std.proofs.Common.{◌≡◌, ◌==◌, ◌≤◌, rules, arith, length, sym, ◌∙◌}
+use Rattle.std.proofs.Common.{◌≡◌, ◌==◌, rules, arith, length, sym, ◌∙◌}
 use Rattle.std.proofs.lemmas.List.Sums.{position_or_len_is}
 use Rattle.rb_script.proofs.pending.line_length.Goals as goal
 

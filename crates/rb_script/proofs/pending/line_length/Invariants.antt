@@ -1,4 +1,4 @@
-use Rattle.std.proofs.Common.{◌≡◌, ◌+◌, ◌==◌, drop, false}
+use Rattle.std.proofs.Common.{◌≡◌, ◌==◌, false}
 use Rattle.std.proofs.Common.{ℕ, ◌<◌, get_or}
 use Rattle.rb_script.proofs.pending.line_length.Given as goal
 

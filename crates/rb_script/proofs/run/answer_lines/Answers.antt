@@ -1,4 +1,4 @@
-use Rattle.std.proofs.Common.{rules, arith, ◌≡◌, ◌≤◌, ◌+◌, [], true, false, Err, ap, refl, length, length-drop}
+use Rattle.std.proofs.Common.{arith, ◌+◌, Err, ap, length, length-drop}
 use Rattle.rb_script.proofs.Progress.{ends_at_fault, ends_long, ends_out_of_memory, ends_unconfigured, ends_unread, ends_unwritten, ends_whole, goes_on, reads_on, starts}
 use Rattle.rb_script.proofs.WriteLaws.{not_failed}
 use Rattle.rb_script.proofs.run.answer_lines.Goals as goal

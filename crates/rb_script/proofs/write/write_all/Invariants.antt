@@ -1,4 +1,4 @@
-use Rattle.std.proofs.Common.{◌≡◌, List, ℕ, false, length, ◌++◌}
+use Rattle.std.proofs.Common.{◌≡◌, List, ℕ, length, ◌++◌}
 use Rattle.std.specs.Io.KnownBytes.{Appends}
 use Rattle.rb_script.proofs.write.write_all.Given as goal
 

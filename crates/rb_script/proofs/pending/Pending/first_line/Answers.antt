@@ -1,4 +1,4 @@
-use Rattle.std.proofs.Common.{arith, rules, ◌≡◌, ◌≤◌, ◌+◌, ◌∙◌, length, drop, ap}
+use Rattle.std.proofs.Common.{arith, rules, ◌≡◌, ◌≤◌, ◌∙◌, length, drop, ap}
 use Rattle.std.proofs.lemmas.List.{take_rest}
 use Rattle.rb_script.specs.Lines.{line_len}
 use Rattle.rb_script.proofs.LineLaws.{found_later, stays_within}
