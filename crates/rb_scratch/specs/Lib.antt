@@ -1,3 +1,4 @@
 pub mod Requests
 pub mod Originals
 pub mod Effects
+pub mod Batches

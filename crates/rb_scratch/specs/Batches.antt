@@ -1,0 +1,56 @@
+-- What a batch of requests makes.
+use Rattle.std.specs.Prelude.{ℕ, ◌+◌, Bool, true, false, if◌then◌else◌, List, [], ◌∷◌, ◌++◌, map, Result, Ok, Err}
+use Rattle.rb_money.specs.Refusals.{number_of_refusal}
+use Rattle.rb_money.specs.Settings.{Settings}
+use Rattle.rb_money.specs.declared.refusal.Cause.{Cause}
+use Rattle.rb_money.specs.declared.refusal.Cause.TheVariants.{Declined as DeclinedCause, Refused as RefusedCause}
+use Rattle.rb_money.specs.declared.refusal.Refusal.{Refusal}
+use Rattle.rb_money.specs.declared.refusal.Refusal.TheVariants.{BatchRefused}
+use Rattle.rb_shadow.specs.declared.kind.Kind.{Kind}
+use Rattle.rb_shadow.specs.declared.kind.Kind.TheVariants.{Deposit, Withdraw, Declined, Interest, Cancel}
+use Rattle.rb_shadow.specs.declared.op_name.OpName.{OpName}
+use Rattle.rb_shadow.specs.declared.shadow.Shadow.{Shadow}
+use Rattle.rb_scratch.specs.Requests.{Plan, plan_of, operation_of, allowed}
+use Rattle.rb_scratch.specs.declared.request.Request.{Request}
+use Rattle.rb_token.specs.Token.{Token}
+
+-- whether it is a declined withdrawal
+abbrev pub is_declined : Kind → Bool
+is_declined Declined = true
+is_declined Deposit = false
+is_declined Withdraw = false
+is_declined Interest = false
+is_declined (Cancel x) = false
+
+-- what stops a batch: a request that would be refused, or a withdrawal that would be declined
+abbrev pub stopped : {A : Type 0} → Result A Refusal → Result A Cause
+stopped (Ok x) = Ok x
+stopped (Err why) = Err (RefusedCause (number_of_refusal why))
+
+-- what a plan of a batch makes, or what stops the batch
+abbrev pub planned_in_batch : Settings → ℕ → List Shadow → Token → Result Plan Refusal → Result Shadow Cause
+planned_in_batch s me us token (Err why) = Err (RefusedCause (number_of_refusal why))
+planned_in_batch s me us token (Ok p) = if is_declined p.kind then Err DeclinedCause else stopped (allowed s us token (operation_of me us p))
+
+-- what a request of a batch makes, or what stops the batch
+unfoldable pub made_in_batch : Settings → ℕ → List Shadow → Token → Request → Result Shadow Cause
+made_in_batch s me us token r = planned_in_batch s me us token (plan_of s us r)
+
+-- one more at the front
+abbrev pub with_first : Shadow → Result (List Shadow) Refusal → Result (List Shadow) Refusal
+with_first v (Ok vs) = Ok (v ∷ vs)
+with_first v (Err why) = Err why
+
+-- the rest of a batch, unless its request of this index stops it
+abbrev pub then_rest : ℕ → Result Shadow Cause → (Shadow → Result (List Shadow) Refusal) → Result (List Shadow) Refusal
+then_rest index (Ok v) rest = with_first v (rest v)
+then_rest index (Err cause) rest = Err (BatchRefused index cause)
+
+-- the operations of a batch, each made after those before it, or what stops it
+unfoldable pub batch_of : Settings → ℕ → List Shadow → Token → ℕ → List Request → Result (List Shadow) Refusal
+batch_of s me us token index [] = Ok []
+batch_of s me us token index (r ∷ rs) = then_rest index (made_in_batch s me us token r) (λ v. batch_of s me (us ++ v ∷ []) token (index + 1) rs)
+
+-- their names
+abbrev pub names_of_all : List Shadow → List OpName
+names_of_all vs = map (λ (v : Shadow). v.name) vs
