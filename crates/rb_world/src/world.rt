@@ -95,6 +95,8 @@ impl World {
         ensures stopped { IfErr result (λ stopped. (stopped.answered ≤ length events.now) × (self.new ≡ next_worlds self.old (take stopped.answered events.now))) }
         ensures holds { Holds self.new.settings self.new.world }
     {
+        // What every world keeps: it is the run of its events.
+        let _ = &self.config;
         let mut replies = Vec::new(alloc);
         if replies.reserve(events.len()).is_err() {
             return Err(Stopped { answered: 0 });

@@ -6,5 +6,5 @@ use Rattle.rb_world.proofs.world.World.close.Given as goal
 
 abbrev pub invariant-loop-site : goal.invariant-loop-site
 invariant-loop-site l =
-    IsClosing l.fn.self.settings l.fn.self.seats.items l.reports.items (into_iter_items l.site-iterator)
+    IsClosing l.fn.self.settings l.fn.self.world.sites l.reports.items (into_iter_items l.site-iterator)
     × (vec_len l.reports + length (into_iter_items l.site-iterator) ≤ vec_capacity l.reports)
