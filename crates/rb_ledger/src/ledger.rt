@@ -265,6 +265,19 @@ impl Ledger {
         self.entries.reserve(additional)
     }
 
+    /// Gives up the ledger for its operations, in order, and their clock.
+    pub fn close(self) -> (Vec<Shadow>, Clock)
+        ensures entries { result.0.items ≡ self.entries }
+        ensures clock { result.1 ≡ clock_of self.entries }
+    {
+        let Ledger {
+            config: _,
+            entries,
+            clock,
+        } = self;
+        (entries, clock)
+    }
+
     /// Takes the last entry out again. The record is that of this entry.
     pub fn undo(&mut self, undo: Undo)
         requires { (front : List TheShadow) × (last : TheShadow) × (self.old.entries ≡ front ++ last ∷ []) × (undo ≡ parts_of self.old.settings front last) }

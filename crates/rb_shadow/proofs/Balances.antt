@@ -8,6 +8,7 @@ use Rattle.rb_money.specs.declared.place.Place.{Place}
 use Rattle.rb_shadow.specs.declared.shadow.Shadow.{Shadow}
 use Rattle.rb_shadow.specs.declared.op_name.OpName.{OpName}
 use Rattle.rb_shadow.specs.Operations.{Among, same_name, names, IsUnique, IsWithin, AreSame, total, delta, bal, is_kept, is_cancelled, is_cancel, cancels, cancel_count, Agree, IsLawful}
+use Rattle.rb_shadow.specs.Laws.{IsPart}
 use Rattle.rb_shadow.proofs.Members
 use Rattle.rb_shadow.proofs.Totals
 
@@ -18,10 +19,6 @@ worth us a u = cond (is_kept us u) (delta u a) (pos 0)
 pub bal-worth : (s : Settings) (us : List Shadow) (a : Place) → bal s us a ≡ pos (start_of s a) +ℤ total (worth us a) us
 unfolding bal
 bal-worth s us a = ap (λ z. pos (start_of s a) +ℤ z) (Totals.total-filter (is_kept us) (λ u. delta u a) us)
-
--- each operation of the first is one of the second
-abbrev pub IsPart : List Shadow → List Shadow → Type 0
-IsPart us vs = (u : Shadow) → Among u us → Among u vs
 
 -- what is a part of a list without u is a part of the list without u
 part_without : (us front back : List Shadow) (u : Shadow) → names us u.name ≡ false → IsPart us (front ++ u ∷ back) → IsPart us (front ++ back)

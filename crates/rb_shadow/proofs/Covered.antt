@@ -2,13 +2,14 @@
 use Rattle.std.proofs.Common.{◌≡◌, ◌≢◌, ℕ, Bool, true, false, cond, not, ◌&&◌, ◌||◌, List, [], ◌∷◌, ◌++◌, refl, ap, sym, ◌∙◌, arith, ◌⊎◌, inl, inr, subst}
 use Rattle.std.specs.Prelude.{ℤ, pos, ◌≤ℤ◌, ◌==◌}
 use Rattle.std.proofs.lemmas.Int.{ints}
-use Rattle.rb_money.specs.Settings.{Settings}
+use Rattle.rb_money.specs.Settings.{Settings, start_of}
 use Rattle.rb_money.specs.declared.place.Place.{Place}
 use Rattle.rb_shadow.specs.declared.shadow.Shadow.{Shadow}
 use Rattle.rb_shadow.specs.declared.op_name.OpName.{OpName}
 use Rattle.rb_shadow.specs.declared.kind.Kind.{Kind}
 use Rattle.rb_shadow.specs.declared.kind.Kind.TheVariants.{Deposit, Withdraw, Declined, Interest, Cancel}
 use Rattle.rb_shadow.specs.Operations.{Among, same_name, names, past, Precedes, IsUnique, IsWithin, AreSame, delta, moved, bal, is_kept, is_cancelled, is_cancel, cancels, is_red}
+use Rattle.rb_shadow.specs.Laws.{IsClosed, IsFunded, IsPart}
 use Rattle.rb_shadow.proofs.Members
 use Rattle.rb_shadow.proofs.Totals
 use Rattle.rb_shadow.proofs.Balances
@@ -73,7 +74,7 @@ worth-more us vs a u there back = elim (Members.bool_cases (adds u.kind)) [
 ]
 
 -- a balance is no less with more operations, of which none is a withdrawal and none cancels what adds
-pub bal-more : (s : Settings) (us vs : List Shadow) (a : Place) → IsUnique us → IsUnique vs → Balances.IsPart us vs
+pub bal-more : (s : Settings) (us vs : List Shadow) (a : Place) → IsUnique us → IsUnique vs → IsPart us vs
     → ((v : Shadow) → Among v vs → names us v.name ≡ false → is_withdraw v.kind ≡ false)
     → ((u c : Shadow) → Among u us → Among c vs → cancels c.kind u.name ≡ true → adds u.kind ≡ true → Among c us)
     → bal s us a ≤ℤ bal s vs a
@@ -103,7 +104,7 @@ IsTransitive all = (t u v : Shadow) → Among t all → Among u all → Among v 
 abbrev pub LastRed : List Shadow → Type 0
 LastRed vs = ((v : Shadow) → Among v vs → is_red v.name ≡ false) ⊎ ((r : Shadow) × Among r vs × (is_red r.name ≡ true) × ((v : Shadow) → Among v vs → is_red v.name ≡ true → (v.name ≡ r.name) ⊎ Precedes v r))
 
-pub last_red : (all vs : List Shadow) → RedsInLine all → IsTransitive all → Balances.IsPart vs all → LastRed vs
+pub last_red : (all vs : List Shadow) → RedsInLine all → IsTransitive all → IsPart vs all → LastRed vs
 last_red all [] line trans part = inl (λ v h. elim h [ ])
 last_red all (v ∷ vs) line trans part = at (Members.bool_cases (is_red v.name)) (last_red all vs line trans (λ u h. part u (inr h)))
   where
@@ -150,15 +151,15 @@ pub record IsCovered (s : Settings) (all : List Shadow) : Type 0 where
   pub withdraw_red : (u : Shadow) → Among u all → is_withdraw u.kind ≡ true → is_red u.name ≡ true
   pub cancel_red : (u c : Shadow) → Among u all → Among c all → cancels c.kind u.name ≡ true → adds u.kind ≡ true → is_red c.name ≡ true
   pub checked : (r : Shadow) → Among r all → is_red r.name ≡ true →
-      (before : List Shadow) × Balances.IsPart before all × IsUnique before × AreSame (names before) (past r) × ((a : Place) → pos 0 ≤ℤ bal s (before ++ r ∷ []) a)
+      (before : List Shadow) × IsPart before all × IsUnique before × AreSame (names before) (past r) × ((a : Place) → pos 0 ≤ℤ bal s (before ++ r ∷ []) a)
 
--- a list that has the past of each of its operations
-abbrev pub IsClosed : List Shadow → Type 0
-IsClosed vs = (v : Shadow) → Among v vs → IsWithin (past v) (names vs)
+-- where there are no operations, a balance is the start
+at_start : (s : Settings) (a : Place) → pos (start_of s a) ≤ℤ bal s [] a
+unfolding bal
+at_start s a = omega (arith, ints)
 
 pub nothing_less : (s : Settings) (a : Place) → pos 0 ≤ℤ bal s [] a
-unfolding bal
-nothing_less s a = omega (arith, ints)
+nothing_less s a = let start : pos 0 ≤ℤ pos (start_of s a) = omega (arith, ints) in omega (arith, ints, start, at_start s a)
 
 not_withdraw : (k : Kind) → (is_withdraw k ≡ true → ⊥) → is_withdraw k ≡ false
 not_withdraw k h = elim (Members.bool_cases (is_withdraw k)) [ inl e ↦ absurd (h e) | inr e ↦ e ]
@@ -166,9 +167,9 @@ not_withdraw k h = elim (Members.bool_cases (is_withdraw k)) [ inl e ↦ absurd 
 -- a closed part has no less than the last red operation's past with it
 above_last : (s : Settings) (all vs before : List Shadow) (r : Shadow) (a : Place)
     → IsUnique all → IsCovered s all → ¬ Precedes r r
-    → Balances.IsPart vs all → IsUnique vs → IsClosed vs
+    → IsPart vs all → IsUnique vs → IsClosed vs
     → Among r vs → ((v : Shadow) → Among v vs → is_red v.name ≡ true → (v.name ≡ r.name) ⊎ Precedes v r)
-    → Balances.IsPart before all → IsUnique before → AreSame (names before) (past r)
+    → IsPart before all → IsUnique before → AreSame (names before) (past r)
     → bal s (before ++ r ∷ []) a ≤ℤ bal s vs a
 above_last s all vs before r a unique covered alone part uv closed there last inside ub is_past =
     bal-more s us vs a uu uv us_in_vs
@@ -185,7 +186,7 @@ above_last s all vs before r a unique covered alone part uv closed there last in
     uu : IsUnique us
     uu = Members.IsUnique-push before r ub (is_past r.name ∙ elim (Members.bool_cases (past r r.name)) [ inl e ↦ absurd (alone e) | inr e ↦ e ])
 
-    us_in_all : Balances.IsPart us all
+    us_in_all : IsPart us all
     us_in_all u h = elim (Members.Among-cases before (r ∷ []) u h) [ inl k ↦ inside u k | inr k ↦ one u k ]
       where
         one : (u : Shadow) → Among u (r ∷ []) → Among u all
@@ -201,7 +202,7 @@ above_last s all vs before r a unique covered alone part uv closed there last in
         only : (x : OpName) → names (r ∷ []) x ≡ true → r.name ≡ x
         only x e = elim (Members.or-true (same_name r.name x) false e) [ inl k ↦ Members.same_name-true r.name x k | inr k ↦ absurd (Members.true≢false (sym k)) ]
 
-    us_in_vs : Balances.IsPart us vs
+    us_in_vs : IsPart us vs
     us_in_vs = Balances.part_by_names all us vs unique us_in_all part within
 
     red_named : (v : Shadow) → Among v vs → is_red v.name ≡ true → names us v.name ≡ true
@@ -213,24 +214,37 @@ above_last s all vs before r a unique covered alone part uv closed there last in
     us_has : (c : Shadow) → Among c vs → names us c.name ≡ true → Among c us
     us_has c h k = let (w, here, e) = Members.find_named us c.name k in subst (λ u. Among u us) (Members.same_named all w c unique (us_in_all w here) (part c h) e) here
 
--- no balance of a closed part is negative
-pub never_negative : (s : Settings) (all vs : List Shadow) (a : Place)
+-- each balance of a closed part has its source
+pub funded : (s : Settings) (all vs : List Shadow) (a : Place)
     → IsUnique all → RedsInLine all → IsTransitive all → ((u : Shadow) → Among u all → ¬ Precedes u u) → IsCovered s all
-    → Balances.IsPart vs all → IsUnique vs → IsClosed vs → pos 0 ≤ℤ bal s vs a
-never_negative s all vs a unique line trans irreflexive covered part uv closed = at (last_red all vs line trans part)
+    → IsPart vs all → IsUnique vs → IsClosed vs → IsFunded s all vs a
+funded s all vs a unique line trans irreflexive covered part uv closed = at (last_red all vs line trans part)
   where
     red_if_withdraw : (v : Shadow) → Among v vs → is_withdraw v.kind ≡ true → is_red v.name ≡ true
     red_if_withdraw v h e = covered.withdraw_red v (part v h) e
 
-    at : LastRed vs → pos 0 ≤ℤ bal s vs a
-    at (inl none) = omega (
-      arith,
-      ints,
-      nothing_less s a,
-      bal-more s [] vs a tt uv (λ u h. elim h [ ])
-          (λ v h k. not_withdraw v.kind (λ e. Members.true≢false (sym (red_if_withdraw v h e) ∙ none v h)))
-          (λ u c h. elim h [ ]),
+    at : LastRed vs → IsFunded s all vs a
+    at (inl none) = inl (
+      none,
+      omega (
+        arith,
+        ints,
+        at_start s a,
+        bal-more s [] vs a tt uv (λ u h. elim h [ ])
+            (λ v h k. not_withdraw v.kind (λ e. Members.true≢false (sym (red_if_withdraw v h e) ∙ none v h)))
+            (λ u c h. elim h [ ]),
+      ),
     )
     at (inr (r, there, red, last)) =
         let (before, inside, ub, is_past, ok) = covered.checked r (part r there) red in
-        omega (arith, ints, ok a, above_last s all vs before r a unique covered (irreflexive r (part r there)) part uv closed there last inside ub is_past)
+        inr (r, there, red, before, inside, is_past, ok a, above_last s all vs before r a unique covered (irreflexive r (part r there)) part uv closed there last inside ub is_past)
+
+-- no balance of a closed part is negative
+pub never_negative : (s : Settings) (all vs : List Shadow) (a : Place)
+    → IsUnique all → RedsInLine all → IsTransitive all → ((u : Shadow) → Among u all → ¬ Precedes u u) → IsCovered s all
+    → IsPart vs all → IsUnique vs → IsClosed vs → pos 0 ≤ℤ bal s vs a
+never_negative s all vs a unique line trans irreflexive covered part uv closed = at (funded s all vs a unique line trans irreflexive covered part uv closed)
+  where
+    at : IsFunded s all vs a → pos 0 ≤ℤ bal s vs a
+    at (inl (none, enough)) = let start : pos 0 ≤ℤ pos (start_of s a) = omega (arith, ints) in omega (arith, ints, start, enough)
+    at (inr (r, there, red, before, inside, is_past, ok, more)) = omega (arith, ints, ok, more)

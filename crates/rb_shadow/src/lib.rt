@@ -11,6 +11,8 @@ mod shadow;
 #[cfg(test)]
 mod tests;
 
+ghost use Rattle.rb_shadow.specs.Laws.{CancellationCommutes};
+
 pub use colour::Colour;
 pub use deps::Deps;
 pub use kind::Kind;
@@ -18,3 +20,9 @@ pub use label::Label;
 pub use name_text::{read_name, write_name};
 pub use op_name::OpName;
 pub use shadow::Shadow;
+
+/// The same operations leave the same balances, numbers of cancellations and names, in whatever order
+/// they were applied.
+pub fn cancellation_commutes()
+    ensures { CancellationCommutes }
+{}

@@ -13,6 +13,10 @@ pub record SeenSite : Type 0 where
   pub me : ℕ
   pub entries : List Entry
 
+-- a site before any event
+abbrev pub first_seen : Settings → ℕ → SeenSite
+first_seen s me = record { settings = s; me = me; entries = [] }
+
 -- where a site stands: the run of its events
 abbrev pub state_of : SeenSite → ModelSite
 state_of x = after_events x.settings (first_site x.me) (events_of x.entries)
@@ -39,3 +43,8 @@ pub record IsReplayed (x : SeenSite) : Type 0 where
 -- the site with one event more, or as it is where its history is full
 abbrev pub next_site : SeenSite → Event → SeenSite
 next_site x e = if is_full x.settings (state_of x) then x else stepped x e
+
+-- the site after a list of events
+abbrev pub next_sites : SeenSite → List Event → SeenSite
+next_sites x [] = x
+next_sites x (e ∷ es) = next_sites (next_site x e) es

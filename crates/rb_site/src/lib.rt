@@ -6,6 +6,8 @@ mod entry;
 mod event;
 mod message;
 mod reply;
+mod report;
+mod room;
 mod site;
 mod state;
 mod world_event;
@@ -16,8 +18,15 @@ pub use entry::Entry;
 pub use event::Event;
 pub use message::Message;
 pub use reply::Reply;
+pub use report::SiteReport;
 pub use site::Site;
 pub use world_event::WorldEvent;
+
+/// The events of a site with their replies, in order.
+pub type History = Vec<Entry>;
+
+/// The messages that one event sends, in order.
+pub type Posted = Vec<Message>;
 
 /// Histories whose next entries are receipts of messages that no entry before sent are not one world's.
 pub fn stuck_final()

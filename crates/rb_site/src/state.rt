@@ -1,6 +1,6 @@
 //! Where a site stands between two events.
 ghost use Rattle.std.specs.Prelude.{◌≡◌, ◌<◌, if◌then◌else◌, IfOk, OnErr};
-ghost use Rattle.rb_shadow.specs.Operations.{find_in, same_shadow};
+ghost use Rattle.rb_shadow.specs.Operations.{clock_of, find_in, same_shadow};
 ghost use Rattle.rb_shadow.specs.Sound.{IsSound};
 ghost use Rattle.rb_site.specs.Events.{first_site, outcome_of, outcome_of_new, outcome_of_shadow, outcome_of_token, outcome_of_apply, outcome_of_pass};
 ghost use Rattle.rb_site.specs.States.{Follows};
@@ -13,6 +13,7 @@ use rb_money::{Config, Place, Refusal};
 use rb_scratch::{Request, generate};
 use rb_shadow::{OpName, Shadow};
 use rb_token::{Accepted, TokenMessage, TokenState};
+use rb_vclock::Clock;
 use std::alloc::{AllocError, Global};
 use std::marker::Model;
 
@@ -73,6 +74,37 @@ impl State {
         ensures entries { result.now.entries ≡ self.now.site.ops }
     {
         &self.ledger
+    }
+
+    /// What the site holds.
+    pub fn inbox(&self) -> &Inbox
+        ensures held { result.now.held ≡ self.now.site.held }
+        ensures limit { result.now.limit ≡ self.now.settings.limits.inbox }
+    {
+        &self.inbox
+    }
+
+    /// What the site knows of the token.
+    pub fn token(&self) -> &TokenState
+        ensures me { result.now.me ≡ self.now.site.me }
+        ensures token { result.now.token ≡ self.now.site.token }
+    {
+        &self.token
+    }
+
+    /// The operations in order, their clock, and what the site knows of the token.
+    pub fn close(self) -> (Vec<Shadow>, Clock, TokenState)
+        ensures entries { result.0.items ≡ self.site.ops }
+        ensures clock { result.1 ≡ clock_of self.site.ops }
+        ensures token { result.2.token ≡ self.site.token }
+    {
+        let State {
+            ledger,
+            inbox: _,
+            token,
+        } = self;
+        let (entries, clock) = ledger.close();
+        (entries, clock, token)
     }
 
     #[tactic(auto, unfolding(crate::specs::Events::outcome_of))]

@@ -16,7 +16,7 @@ use Rattle.rb_site.specs.declared.world_event.WorldEvent.{WorldEvent}
 use Rattle.rb_site.specs.Events.{ModelSite}
 use Rattle.rb_inbox.specs.Held.{with_held, without}
 use Rattle.rb_site.specs.Worlds.{AreOwn, World, first_world, made_in, world_of_run}
-use Rattle.rb_world.specs.Laws.{EachSite, HasClocks, IsNeverNegative, IsRedBlue, SitesAgree}
+use Rattle.rb_world.specs.Laws.{EachSite, HasClocks, HasFunds, IsNeverNegative, IsRedBlue, SitesAgree}
 use Rattle.rb_world.proofs.Steps
 use Rattle.rb_world.proofs.Steps.{Keeps, MayApply, MayHold, each_moved, moved}
 use Rattle.rb_world.proofs.Token
@@ -136,3 +136,6 @@ agreement s w g i t at j u at' same =
 
 pub never_negative : (s : Settings) (w : World) → IsGood s w → IsNeverNegative s w
 never_negative s w g i t at a = Right.list_never_negative s (made_in w) t.ops a g.order.order g.right (Order.serial_at (made_in w) i t (g.order.sites i t at))
+
+pub funds : (s : Settings) (w : World) → IsGood s w → HasFunds s w
+funds s w g vs part unique closed a = Right.funded s (made_in w) vs a g.order.order g.right part unique closed

@@ -1,13 +1,16 @@
 -- All laws, of every run, and of every world that is the run of its events.
-use Rattle.std.proofs.Common.{◌≤◌, List, sym, subst, arith}
+use Rattle.std.proofs.Common.{◌≡◌, ◌≤◌, ℕ, zero, suc, List, [], ◌∷◌, All, take, sym, subst, arith}
+use Rattle.std.proofs.lemmas.List.Elements.{All-head, All-tail}
 use Rattle.rb_money.specs.Settings.{Settings, most_sites}
+use Rattle.rb_site.specs.declared.reply.Reply.{Reply}
 use Rattle.rb_site.specs.declared.world_event.WorldEvent.{WorldEvent}
-use Rattle.rb_site.specs.Worlds.{AreOwn, world_of_run}
-use Rattle.rb_world.specs.Laws.{Holds, IsRunOf, SeenWorld}
+use Rattle.rb_site.specs.Worlds.{AreOwn, IsCommand, world_of_run}
+use Rattle.rb_world.specs.Laws.{Holds, IsRunOf, SeenWorld, next_world, next_worlds}
 use Rattle.rb_world.proofs.CaughtUp
 use Rattle.rb_world.proofs.Good
 use Rattle.rb_world.proofs.Ready
 use Rattle.rb_world.proofs.Sound
+use Rattle.rb_world.proofs.Stepping.{IsRunSoFar, next_run}
 use Rattle.rb_world.proofs.Token
 
 pub holds : (s : Settings) (es : List WorldEvent) → 1 ≤ s.sites → s.sites ≤ most_sites → AreOwn es → Holds s (world_of_run s es)
@@ -18,13 +21,27 @@ holds s es some few own =
       red_blue = Good.red_blue s (world_of_run s es) g.0;
       clocks = Good.clocks s (world_of_run s es) g.0;
       agree = Good.agreement s (world_of_run s es) g.0;
+      funded = Good.funds s (world_of_run s es) g.0;
       never_negative = Good.never_negative s (world_of_run s es) g.0;
       never_stuck = Ready.never_stuck s (world_of_run s es) g.0 g.1;
       trusts = Ready.trusts_its_own s (world_of_run s es) g.0 g.1;
       catches_up = CaughtUp.can_catch_up s (world_of_run s es) g.0 g.1;
     }
 
+-- a world stays the run of its events
+run_of_worlds : (x : SeenWorld) (es : List WorldEvent) (k : ℕ) → IsRunOf x → All IsCommand es → IsRunOf (next_worlds x (take k es))
+run_of_worlds x [] zero run own = run
+run_of_worlds x [] (suc k) run own = run
+run_of_worlds x (e ∷ es) zero run own = run
+run_of_worlds x (e ∷ es) (suc k) run own = run_of_worlds (next_world x e) es k (next_run x e run (All-head IsCommand e es own)) (All-tail IsCommand e es own)
+
 pub holds_of_run : (x : SeenWorld) → IsRunOf x → Holds x.settings x.world
 holds_of_run x run =
     subst (Holds x.settings) (sym run.is)
     (holds x.settings x.events (let some : 2 ≤ x.settings.sites = run.some_sites in omega arith) run.few_sites run.own)
+
+-- so far all laws hold
+pub holds_so_far : (start : SeenWorld) (events : List WorldEvent) (k : ℕ) (now : SeenWorld) (replies : List Reply) → IsRunOf start → All IsCommand events → IsRunSoFar start events k now replies → Holds now.settings now.world
+holds_so_far start events k now replies run own far =
+    let P : SeenWorld → Type 0 = λ x. Holds x.settings x.world in
+    subst P (sym far.world) (holds_of_run _ (run_of_worlds start events k run own))

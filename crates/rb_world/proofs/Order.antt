@@ -13,7 +13,7 @@ use Rattle.rb_shadow.specs.declared.shadow.Shadow.{Shadow}
 use Rattle.rb_shadow.specs.Operations.{Among, AreOrdered, AreSame, EachEntry, IsSerialization, IsUnique, IsWithin, Precedes, blue_count, clock_of, entry_of, find_in, is_red, names, names_of_clock, number_of, past, red_count, same_name}
 use Rattle.rb_shadow.proofs.Members
 use Rattle.rb_shadow.proofs.Balances
-use Rattle.rb_shadow.proofs.Balances.{IsPart}
+use Rattle.rb_shadow.specs.Laws.{IsPart}
 use Rattle.rb_shadow.proofs.Clocks
 use Rattle.rb_shadow.proofs.Clocks.{IsCounted, IsHoused, IsNext, row_count}
 use Rattle.rb_shadow.proofs.Eligible

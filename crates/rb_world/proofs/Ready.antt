@@ -15,7 +15,7 @@ use Rattle.rb_shadow.specs.declared.colour.Colour.TheVariants.{Blue as BlueColou
 use Rattle.rb_shadow.specs.declared.shadow.Shadow.{Shadow}
 use Rattle.rb_shadow.specs.Operations.{Among, IsUnique, IsWithin, bal, colour_in, colour_of, find_in, is_eligible, is_red, kind_in, names, past, same_kind, same_numbers, same_shadow, shown_colour, target_of}
 use Rattle.rb_shadow.proofs.Members
-use Rattle.rb_shadow.proofs.Balances.{IsPart}
+use Rattle.rb_shadow.specs.Laws.{IsClosed, IsPart}
 use Rattle.rb_shadow.proofs.Covered
 use Rattle.rb_shadow.proofs.Eligible
 use Rattle.rb_ledger.specs.Checks.{has_wrong_target, is_negative, is_wrong_target, refusal_of_sound, same_colour}
@@ -136,7 +136,7 @@ right_target all us v (Cancel x) unique part within h =
     ∙ Members.false-or _ _ (Members.false-or _ _ (ap not h.right.kind) (ap not (ap (λ (a : Place). a.0 == v.account.0) h.right.account ∙ same_number v.account.0))) (ap not (ap (λ n. n == v.amount) h.right.amount ∙ same_number v.amount))
 
 -- a list with one more that has its past there is closed
-closed_more : (us : List Shadow) (v : Shadow) → Covered.IsClosed us → IsWithin (past v) (names us) → Covered.IsClosed (us ++ v ∷ [])
+closed_more : (us : List Shadow) (v : Shadow) → IsClosed us → IsWithin (past v) (names us) → IsClosed (us ++ v ∷ [])
 closed_more us v closed within u h x k = Members.names-append us (v ∷ []) x ∙ ap (λ b. b || names (v ∷ []) x) (elim (Order.last_cases us v u h) [
   | inl i ↦ closed u i x k
   | inr e ↦ within x (ap (λ (y : Shadow). past y x) (sym e) ∙ k)

@@ -15,7 +15,7 @@ use Rattle.rb_shadow.specs.declared.shadow.Shadow.{Shadow}
 use Rattle.rb_shadow.specs.Operations.{Among, AreSame, IsUnique, bal, cancels, colour_of, is_cancel, is_cancelled, is_red, kind_in, names, past, same_name, shown_colour, target_of}
 use Rattle.rb_shadow.proofs.Members
 use Rattle.rb_shadow.proofs.Balances
-use Rattle.rb_shadow.proofs.Balances.{IsPart}
+use Rattle.rb_shadow.specs.Laws.{IsClosed, IsFunded, IsPart}
 use Rattle.rb_shadow.proofs.Covered
 use Rattle.rb_shadow.proofs.Covered.{IsCovered, adds, is_withdraw}
 use Rattle.rb_ledger.specs.Valid.{HasTarget, IsTargetOf}
@@ -98,9 +98,18 @@ is_covered s all unique right = record {
 }
 
 -- no balance of a closed part is negative
-pub never_negative : (s : Settings) (all us : List Shadow) (a : Place) → IsOrderedSet all → AreRight s all → IsPart us all → IsUnique us → Covered.IsClosed us → pos 0 ≤ℤ bal s us a
+pub never_negative : (s : Settings) (all us : List Shadow) (a : Place) → IsOrderedSet all → AreRight s all → IsPart us all → IsUnique us → IsClosed us → pos 0 ≤ℤ bal s us a
 never_negative s all us a o right part unique closed =
     Covered.never_negative s all us a o.unique
+    (λ u v h k p q. o.reds u v h k p q)
+    (λ t u v h k l p q. o.transitive u v k l q t.name p)
+    (λ u h p. Members.true≢false (sym p ∙ (o.each u h).irreflexive))
+    (is_covered s all o.unique right) part unique closed
+
+-- each balance of a closed part has its source
+pub funded : (s : Settings) (all us : List Shadow) (a : Place) → IsOrderedSet all → AreRight s all → IsPart us all → IsUnique us → IsClosed us → IsFunded s all us a
+funded s all us a o right part unique closed =
+    Covered.funded s all us a o.unique
     (λ u v h k p q. o.reds u v h k p q)
     (λ t u v h k l p q. o.transitive u v k l q t.name p)
     (λ u h p. Members.true≢false (sym p ∙ (o.each u h).irreflexive))

@@ -4,7 +4,8 @@ use Rattle.rb_money.specs.Settings.{Settings, most_sites}
 use Rattle.rb_money.specs.declared.place.Place.{Place}
 use Rattle.rb_money.specs.declared.refusal.Refusal.TheVariants.{BadMessage, Conflict}
 use Rattle.rb_shadow.specs.declared.shadow.Shadow.{Shadow}
-use Rattle.rb_shadow.specs.Operations.{Agree, Among, AreSame, IsLawful, IsSerialization, IsWithin, bal, clock_of, names, names_of_clock, past}
+use Rattle.rb_shadow.specs.Operations.{Agree, Among, AreSame, IsLawful, IsSerialization, IsUnique, IsWithin, bal, clock_of, names, names_of_clock, past}
+use Rattle.rb_shadow.specs.Laws.{IsClosed, IsFunded, IsPart}
 use Rattle.rb_site.specs.declared.event.Event.{Event}
 use Rattle.rb_site.specs.declared.event.Event.TheVariants.{Submit, Receive, Apply, Pass, Balance}
 use Rattle.rb_site.specs.declared.message.Message.{Message}
@@ -42,6 +43,10 @@ HasClocks s w = EachSite w (λ i t. AreSame (names t.ops) (names_of_clock (clock
 -- sites that applied the same operations agree
 abbrev pub SitesAgree : Settings → World → Type 0
 SitesAgree s w = EachSite w (λ i t. EachSite w (λ j u. AreSame (names t.ops) (names u.ops) → Agree s t.ops u.ops))
+
+-- each balance has its source, in every part of the operations made that has the past of each of its own
+abbrev pub HasFunds : Settings → World → Type 0
+HasFunds s w = (vs : List Shadow) → IsPart vs (made_in w) → IsUnique vs → IsClosed vs → (a : Place) → IsFunded s (made_in w) vs a
 
 -- no balance is negative
 abbrev pub IsNeverNegative : Settings → World → Type 0
@@ -126,6 +131,7 @@ pub record Holds (s : Settings) (w : World) : Type 0 where
   pub red_blue : IsRedBlue s w
   pub clocks : HasClocks s w
   pub agree : SitesAgree s w
+  pub funded : HasFunds s w
   pub never_negative : IsNeverNegative s w
   pub never_stuck : IsNeverStuck s w
   pub trusts : TrustsItsOwn s w

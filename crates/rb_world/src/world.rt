@@ -2,6 +2,7 @@
 ghost use Rattle.std.specs.Prelude.{◌≡◌, ◌≤◌, ◌<◌, ◌++◌, [], Some, IsSomeAnd, IfSome, IfOk, IfErr, OnErr, All, length, false, map, option_copied, option_map, slice_get, take, vec_len, vec_capacity};
 ghost use Rattle.std.specs.List.{range_with_len};
 ghost use Rattle.rb_site.specs.Events.{first_site, is_full};
+ghost use Rattle.rb_site.specs.Reports.{AreReports};
 ghost use Rattle.rb_site.specs.Seen.{state_of};
 ghost use Rattle.rb_site.specs.Histories.{place_of};
 ghost use Rattle.rb_site.specs.Worlds.{IsCommand, arrival, message_at};
@@ -9,7 +10,7 @@ ghost use Rattle.rb_world.specs.Laws.{Holds, IsRunOf, next_replies, next_reply, 
 
 use crate::Stopped;
 use rb_money::{Config, Refusal};
-use rb_site::{Event, Message, Reply, Site, WorldEvent};
+use rb_site::{Event, Message, Reply, Site, SiteReport, WorldEvent};
 use std::alloc::{AllocError, Global};
 use std::marker::Model;
 
@@ -21,10 +22,11 @@ pub struct World {
     seats: Vec<Site>,
     sent: Vec<Message>,
     recorded: Vec<WorldEvent>,
+    reports: Vec<SiteReport>,
 }
 
 impl Model for World {
-    ghost use Rattle.std.specs.Prelude.{◌≡◌, All, map};
+    ghost use Rattle.std.specs.Prelude.{◌≡◌, ◌≤◌, [], All, length, map, vec_capacity};
     ghost use Rattle.rb_site.specs.Seen.{SeenSite, state_of};
     ghost use Rattle.rb_world.specs.Laws.{SeenWorld, IsRunOf};
 
@@ -40,7 +42,10 @@ impl Model for World {
       settings = w.config;
       world = record { sites = map state_of w.seats.items; messages = w.sent.items };
       events = w.recorded.items;
-    }) × All (λ (x : SeenSite). x.settings ≡ w.config) w.seats.items };
+    })
+        × All (λ (x : SeenSite). x.settings ≡ w.config) w.seats.items
+        × (w.reports.items ≡ [])
+        × (length w.seats.items ≤ vec_capacity w.reports) };
 }
 
 impl World {
@@ -50,11 +55,14 @@ impl World {
     {
         let seats = open_sites(alloc, &config)?;
         let _sites = config.sites();
+        let mut reports = Vec::new(alloc);
+        reports.reserve(seats.len())?;
         Ok(World {
             config,
             seats,
             sent: Vec::new(alloc),
             recorded: Vec::new(alloc),
+            reports,
         })
     }
 
@@ -85,7 +93,10 @@ impl World {
         requires { All IsCommand events.now }
         ensures ok { IfOk result (λ replies. (replies.items ≡ next_replies self.old events.now) × (self.new ≡ next_worlds self.old events.now)) }
         ensures stopped { IfErr result (λ stopped. (stopped.answered ≤ length events.now) × (self.new ≡ next_worlds self.old (take stopped.answered events.now))) }
+        ensures holds { Holds self.new.settings self.new.world }
     {
+        // What every world keeps: it is the run of its events.
+        let _ = &self.config;
         let mut replies = Vec::new(alloc);
         if replies.reserve(events.len()).is_err() {
             return Err(Stopped { answered: 0 });
@@ -168,6 +179,23 @@ impl World {
         ensures run { IsRunOf self.now }
     {
         self.recorded.as_slice()
+    }
+
+    /// Ends the world: each site in turn tells where it stood. This takes no memory.
+    pub fn close(self) -> Vec<SiteReport>
+        ensures { AreReports self.settings self.world.sites result.items }
+    {
+        let World {
+            config: _,
+            seats,
+            sent: _,
+            recorded: _,
+            mut reports,
+        } = self;
+        for site in seats {
+            reports.push_reserved(site.close());
+        }
+        reports
     }
 }
 

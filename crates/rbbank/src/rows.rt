@@ -8,7 +8,7 @@ pub struct Row {
 }
 
 /// Each row whose verbs are there.
-pub const ROWS: [Row; 17] = [
+pub const ROWS: [Row; 18] = [
     Row {
         name: "deposit_reaches_the_other_site",
         script: r#"{"accounts":[["ann",0]],"sites":2,"version":1}
@@ -35,6 +35,16 @@ pub const ROWS: [Row; 17] = [
 "#,
         replies: r#"{"kind":"declined","name":"B1.1"}
 {"balance":100}
+"#,
+    },
+    Row {
+        name: "batch_without_token",
+        script: r#"{"accounts":[["ann",100]],"sites":2,"version":1}
+{"site":1,"withdraw":["ann",50]}
+{"deposit":["ann",1],"site":1}
+"#,
+        replies: r#"{"refused":8}
+{"kind":"deposit","name":"B1.1"}
 "#,
     },
     Row {

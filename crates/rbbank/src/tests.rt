@@ -1,15 +1,18 @@
-ghost use Rattle.std.specs.Prelude.{All, IfOk};
+ghost use Rattle.std.specs.Prelude.{◌≡◌, All, IfOk, OnOk};
 ghost use Rattle.rb_site.specs.Worlds.{IsCommand};
 
 use crate::from_reader::FromReader;
-use crate::rows::ROWS;
+use crate::rows::{ROWS, Row};
 use crate::to_writer::ToWriter;
 use rb_history::{LineFault, read_command, read_config, write_reply};
+use rb_ledger::Ledger;
 use rb_money::{Config, Place};
 use rb_script::run_script;
+use rb_shadow::Shadow;
 use rb_site::{Event, Reply, WorldEvent};
 use rb_world::World;
 use std::alloc::Global;
+use std::process::Abort;
 use std::test::Fail;
 
 /// The commands on the lines after the configuration's.
@@ -44,17 +47,33 @@ fn rows_as_scripts(rt: HostRuntime) -> Result<(), Fail> {
     Ok(())
 }
 
+/// The world after a script, and its replies.
+fn run(alloc: Global, script: &str) -> Result<(World, Vec<Reply>), Fail> {
+    let first = script.lines().next().ok_or("no configuration")?;
+    let config = read_config(alloc, first)?;
+    let events = commands(alloc, &config, script)?;
+    let mut world = World::open(alloc, config)?;
+    match world.run(alloc, events.as_slice()) {
+        Ok(replies) => Ok((world, replies)),
+        Err(_) => Err(Fail::from("no memory")),
+    }
+}
+
+/// The worked row of a name.
+fn row(name: &str) -> Result<&'static Row, Fail> {
+    for row in &ROWS {
+        if row.name == name {
+            return Ok(row);
+        }
+    }
+    Err(Fail::from("no such row"))
+}
+
 #[test]
-fn rows_as_runs(rt: HostRuntime) -> Result<(), Fail> {
+fn whole_run(rt: HostRuntime) -> Result<(), Fail> {
     let alloc = rt.alloc();
     for row in &ROWS {
-        let first = row.script.lines().next().ok_or("no configuration")?;
-        let config = read_config(alloc, first)?;
-        let events = commands(alloc, &config, row.script)?;
-        let mut world = World::open(alloc, config)?;
-        let Ok(replies) = world.run(alloc, events.as_slice()) else {
-            return Err(Fail::from("no memory"));
-        };
+        let (_world, replies) = run(alloc, row.script)?;
         let mut text = String::new(alloc);
         for reply in &replies {
             text.push_str(write_reply(alloc, reply)?.as_str())?;
@@ -97,5 +116,94 @@ fn copies(rt: HostRuntime) -> Result<(), Fail> {
     let entry = site.history()[0];
     assert_eq!(rt; entry.try_copy(alloc)?, entry);
     assert_eq!(rt; entry.event.try_copy(alloc)?, Event::Balance(Place(0)));
+    Ok(())
+}
+
+#[test]
+fn sites_tell_where_they_stood(rt: HostRuntime) -> Result<(), Fail> {
+    let (world, _replies) = run(rt.alloc(), row("two_cancels_of_one_withdrawal")?.script)?;
+    for (place, report) in world.close().iter().enumerate() {
+        assert_eq!(rt; report.me as usize, place);
+        assert_eq!(rt; report.balances.as_slice(), [1000].as_slice());
+        assert_eq!(rt; report.entries.len(), 3);
+        assert_eq!(rt; report.counts.as_slice(), [2, 0, 0].as_slice());
+        assert_eq!(rt; report.clock.deps().red, 1);
+        assert_eq!(rt; report.token.view().held, place == 0);
+        assert_eq!(rt; report.waiting, 0);
+    }
+    let (world, _replies) = run(rt.alloc(), row("history_full")?.script)?;
+    let reports = world.close();
+    assert_eq!(rt; reports[0].history.len(), 2);
+    assert_eq!(rt; reports[1].history.len(), 1);
+    Ok(())
+}
+
+/// Whether two ledgers answer each look-up alike.
+fn same_answers(rt: &impl Abort, ledger: &Ledger, other: &Ledger) {
+    assert_eq!(rt; ledger.len(), other.len());
+    assert_eq!(rt; ledger.clock().deps(), other.clock().deps());
+    for place in 0..3u16 {
+        assert_eq!(rt; ledger.balance(Place(place)), other.balance(Place(place)));
+    }
+    for position in 0..ledger.len() + 2 {
+        assert_eq!(rt; ledger.entry(position), other.entry(position));
+        assert_eq!(rt; ledger.count(position), other.count(position));
+        assert_eq!(rt; ledger.first_cancel(position), other.first_cancel(position));
+    }
+    for shadow in ledger.entries() {
+        assert_eq!(rt; ledger.find(&shadow.name), other.find(&shadow.name));
+    }
+}
+
+/// A ledger after these operations.
+fn ledger_of(alloc: Global, config: &Config, shadows: &[Shadow]) -> Result<Ledger, Fail> {
+    let mut ledger = Ledger::open(alloc, config)?;
+    for shadow in shadows {
+        if ledger.apply(*shadow).is_err() {
+            return Err(Fail::from("refused"));
+        }
+    }
+    Ok(ledger)
+}
+
+/// Applies the operations from one on, and undoes them backwards. At each length the ledger answers as
+/// one that applied no more.
+fn there_and_back(
+    rt: &impl Abort,
+    alloc: Global,
+    ledger: &mut Ledger,
+    shadows: &[Shadow],
+    from: usize,
+) -> Result<(), Fail>
+    ensures { OnOk result (ledger.new ≡ ledger.old) }
+{
+    let Some(shadow) = shadows.get(from) else {
+        return Ok(());
+    };
+    let Ok(undo) = ledger.apply(*shadow) else {
+        return Err(Fail::from("refused"));
+    };
+    there_and_back(rt, alloc, ledger, shadows, from + 1)?;
+    ledger.undo(undo);
+    let config = ledger.config().try_copy(alloc)?;
+    let front = shadows.get(..from).ok_or("no front")?;
+    same_answers(rt, ledger, &ledger_of(alloc, &config, front)?);
+    Ok(())
+}
+
+#[test]
+fn tail_back(rt: HostRuntime) -> Result<(), Fail> {
+    let alloc = rt.alloc();
+    for name in [
+        "two_cancels_of_one_withdrawal",
+        "cancelled_deposit_later",
+        "interest_stays",
+    ] {
+        let (world, _replies) = run(alloc, row(name)?.script)?;
+        let applied = world.site(0).ok_or("no site")?.ledger();
+        let mut ledger = Ledger::open(alloc, world.config())?;
+        there_and_back(&rt, alloc, &mut ledger, applied.entries(), 0)?;
+        assert!(rt; ledger.is_empty());
+    }
     Ok(())
 }

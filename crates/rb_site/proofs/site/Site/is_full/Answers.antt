@@ -12,5 +12,5 @@ pub returns : goal.returns
 returns c =
     ap (λ (l : Limits). nat_le l.history c.len.result) (c.limits.ensures ∙ ap (λ (s : Settings). s.limits) c.config.ensures)
     ∙ ap (nat_le c.self.inside.state.settings.limits.history) (c.len.ensures ∙ c.self.inside.history.ok.0)
-    ∙ is_full-state _ c.self.invariant.kept
+    ∙ is_full-state _ c.self.invariant.0.kept
     ∙ ap (λ (x : SeenSite). is_full x.settings (state_of x)) c.self.view_is

@@ -1,11 +1,13 @@
 -- A step of the code is a step of the model.
-use Rattle.std.proofs.Common.{◌≡◌, ◌∙◌, [], ◌∷◌, ◌++◌, ◌⊎◌, ◌<◌, None, vec_capacity, Bool, true, false, cond, ap, inl, inr, refl, subst, sym}
+use Rattle.std.proofs.Common.{◌≡◌, ◌∙◌, ◌+◌, ◌≤◌, List, length, [], ◌∷◌, ◌++◌, ◌⊎◌, ◌<◌, None, vec_capacity, Bool, true, false, cond, ap, inl, inr, refl, subst, sym}
 use Rattle.rb_money.specs.declared.refusal.Refusal.TheVariants.{HistoryFull}
 use Rattle.rb_site.specs.declared.reply.Reply.TheVariants.{Refused}
 use Rattle.rb_site.specs.Events.{is_full, may_send, outcome_of, reply_of, reply_to, sent_at, sent_by}
 use Rattle.rb_site.specs.Seen.{SeenSite, entry, next_site, state_of, stepped}
 use Rattle.rb_site.specs.States.{IsStanding}
 use Rattle.rb_site.proofs.site.Site.step.Goals as goal
+use Rattle.rb_site.specs.declared.message.Message.{Message}
+use Rattle.rb_site.proofs.Reports.{still_enough}
 use Rattle.rb_site.proofs.States.{IsStep, is_step, me_kept, noted_in, one_or_none, seen_as, seen_now, sends_nothing}
 
 pub returns-then-is_full-clause-ok : goal.returns-then-is_full-clause-ok
@@ -27,7 +29,7 @@ the_step : (c : goal.After-posted_with) → IsStep (seen_as c.self.inside.state.
 the_step c =
     is_step _ c.self.inside.state c.act.new.self c.args.event c.in_ok-answer.answer
     (ap (λ (x : SeenSite). is_full x.settings (state_of x)) c.self.view_is ∙ sym c.is_full.ensures ∙ c.if-is_full.false)
-    c.self.invariant c.in_ok-answer.ensures.ok
+    c.self.invariant.0 c.in_ok-answer.ensures.ok
 
 the_pushed : (c : goal.After-posted_with) → seen_as c.act.new.self.settings c.act.new.self.site.me c.push_reserved.new.self.items ≡ noted_in (seen_as c.self.inside.state.settings c.self.inside.state.site.me c.self.inside.history.items) c.args.event c.in_ok-answer.answer.reply
 the_pushed c =
@@ -38,7 +40,13 @@ the_view : (c : goal.After-posted_with) → seen_as c.act.new.self.settings c.ac
 the_view c = the_pushed c ∙ (the_step c).seen ∙ ap (λ (x : SeenSite). next_site x c.args.event) c.self.view_is
 
 pub invariant_of-self-2 : goal.invariant_of-self-2
-invariant_of-self-2 c = let P : SeenSite → Type 0 = λ x. IsStanding x c.act.new.self in subst P (sym (the_pushed c)) (the_step c).standing
+invariant_of-self-2 c = (
+  let P : SeenSite → Type 0 = λ x. IsStanding x c.act.new.self in subst P (sym (the_pushed c)) (the_step c).standing,
+  still_enough c.grow.new.self c.self.inside.state c.act.new.self (outcome_of c.self.inside.state.settings c.self.inside.state.site c.args.event) c.in_ok-answer.answer c.in_ok-answer.ensures.ok
+      (subst (λ (ms : List Message). length ms ≤ 1) (c.posted_with.ensures.listed ∙ (c.in_ok-answer.ensures.ok).2) c.posted_with.ensures.few)
+      (subst (λ n. length c.self.inside.state.settings.starts ≤ n) (sym c.grow.ensures.accounts) (c.self.invariant.1).accounts)
+      (subst (λ n. n + 1 ≤ c.grow.new.self.entries) (c.len.ensures.same ∙ ap length c.ledger.ensures.entries) c.in_ok-grow.ensures.ok),
+)
 
 pub returns-clause-ok : goal.returns-clause-ok
 returns-clause-ok c = (

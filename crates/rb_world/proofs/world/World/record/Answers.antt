@@ -1,5 +1,6 @@
 -- A site's step is the world's.
-use Rattle.std.proofs.Common.{◌≡◌, ◌∙◌, List, [], ◌∷◌, ◌++◌, ap, subst, sym}
+use Rattle.std.proofs.Common.{◌≡◌, ◌∙◌, ◌≤◌, List, [], ◌∷◌, ◌++◌, ap, arith, length, subst, sym, vec_capacity}
+use Rattle.std.proofs.lemmas.List.{length-set}
 use Rattle.std.specs.Prelude.{Some, IsSomeAnd, false, slice_get, slice_set}
 use Rattle.rb_site.specs.Events.{is_full}
 use Rattle.rb_site.specs.Seen.{SeenSite, next_site}
@@ -34,6 +35,10 @@ invariant_of-self-2 c = (
   subst IsRunOf (sym (the_step c)) (next_run (the_world c) c.args.event c.self.invariant.0 c.requires.command),
   (let P : SeenSite → Type 0 = λ x. AreOf c.self.inside.config (slice_set c.self.inside.seats.items c.args.place x) in
       subst P (sym (c.in_ok-reply.ensures.ok).0) (settings_kept c.self.inside.config c.self.inside.seats.items c.args.place c.index_mut.result.now c.args.arrived (taken c).settings c.self.invariant.1)),
+  c.self.invariant.2,
+  (let room : length c.self.inside.seats.items ≤ vec_capacity c.self.inside.reports = c.self.invariant.3 in
+      let same : length (slice_set c.self.inside.seats.items c.args.place c.step.new.self) ≡ length c.self.inside.seats.items = length-set c.self.inside.seats.items c.args.place c.step.new.self in
+      omega arith),
 )
 
 pub returns-clause-ok : goal.returns-clause-ok

@@ -1,0 +1,36 @@
+-- The report tells where the site stands.
+use Rattle.std.proofs.Common.{◌≡◌, ◌∙◌, ap, sym}
+use Rattle.rb_money.specs.Settings.{Settings}
+use Rattle.rb_shadow.specs.Operations.{clock_of}
+use Rattle.rb_site.specs.Events.{ModelSite}
+use Rattle.rb_site.specs.Reports.{balances_of, counts_of}
+use Rattle.rb_site.specs.Seen.{SeenSite, IsReplayed, state_of}
+use Rattle.rb_site.specs.States.{without_history}
+use Rattle.rb_site.proofs.Reports.{me-state}
+use Rattle.rb_site.proofs.Seen
+use Rattle.rb_site.proofs.site.Site.close.Goals as goal
+
+settings : (c : goal.After-close-entries) → c.self.inside.state.settings ≡ c.args.self.settings
+settings c = (c.self.invariant.0).settings ∙ ap (λ (x : SeenSite). x.settings) c.self.view_is
+
+stands : (c : goal.After-close-entries) → c.self.inside.state.site ≡ without_history (state_of c.args.self)
+stands c = (c.self.invariant.0).site ∙ ap (λ (x : SeenSite). without_history (state_of x)) c.self.view_is
+
+history : (c : goal.After-close-entries) → c.self.inside.history.items ≡ (state_of c.args.self).history
+history c = sym (Seen.history-state _ (c.self.invariant.0).kept) ∙ ap (λ (x : SeenSite). (state_of x).history) c.self.view_is
+
+pub returns : goal.returns
+returns c =
+    record {
+      me = c.me-me.ensures.same ∙ sym (me-state c.args.self);
+      balances =
+          c.filled-balances.ensures.balances
+          ∙ ap (λ s. balances_of s c.ledger.result.now.entries) (c.ledger.ensures.settings ∙ settings c)
+          ∙ ap (balances_of c.args.self.settings) (c.ledger.ensures.entries ∙ ap (λ (t : ModelSite). t.ops) (stands c));
+      entries = c.close-entries.ensures.entries ∙ ap (λ (t : ModelSite). t.ops) (stands c);
+      counts = c.filled-balances.ensures.counts ∙ ap counts_of (c.ledger.ensures.entries ∙ ap (λ (t : ModelSite). t.ops) (stands c));
+      clock = c.close-entries.ensures.clock ∙ ap (λ (t : ModelSite). clock_of t.ops) (stands c);
+      token = c.close-entries.ensures.token ∙ ap (λ (t : ModelSite). t.token) (stands c);
+      waiting = c.waiting-waiting.ensures;
+      history = history c;
+    }

@@ -1,0 +1,46 @@
+-- What a site tells as it is closed.
+use Rattle.std.specs.Prelude.{◌≡◌, ℕ, ◌≤◌, List, [], ◌∷◌, length, map}
+use Rattle.std.specs.List.{range_with_len}
+use Rattle.rb_money.specs.Amounts.{cents}
+use Rattle.rb_money.specs.Settings.{Settings}
+use Rattle.rb_shadow.specs.declared.shadow.Shadow.{Shadow}
+use Rattle.rb_shadow.specs.Operations.{bal, cancel_count, clock_of}
+use Rattle.rb_site.specs.declared.report.SiteReport.{SiteReport}
+use Rattle.rb_site.specs.Events.{ModelSite}
+use Rattle.rb_site.specs.States.{SiteState}
+
+-- the balance of each account, in the order of the configuration
+abbrev pub balances_of : Settings → List Shadow → List ℕ
+balances_of s us = map (λ i. cents (bal s us (record { 0 = i }))) (range_with_len 0 (length s.starts))
+
+-- how many operations cancel each one
+abbrev pub counts_of : List Shadow → List ℕ
+counts_of us = map (λ (u : Shadow). cancel_count us u.name) us
+
+-- the report tells where the site stands, and its history
+pub record IsReport (s : Settings) (t : ModelSite) (r : SiteReport) : Type 0 where
+  pub me : r.me ≡ t.me
+  pub balances : r.balances.items ≡ balances_of s t.ops
+  pub entries : r.entries.items ≡ t.ops
+  pub counts : r.counts.items ≡ counts_of t.ops
+  pub clock : r.clock ≡ clock_of t.ops
+  pub token : r.token.token ≡ t.token
+  pub waiting : r.waiting ≡ length t.held
+  pub history : r.history.items ≡ t.history
+
+-- room for so many balances and so many counts
+pub record RoomFor : Type 0 where
+  pub accounts : ℕ
+  pub entries : ℕ
+
+-- the room is enough for a report of where the site stands
+pub record IsEnough (room : RoomFor) (now : SiteState) : Type 0 where
+  pub accounts : length now.settings.starts ≤ room.accounts
+  pub entries : length now.site.ops ≤ room.entries
+
+-- one report for each site, in their order
+abbrev pub AreReports : Settings → List ModelSite → List SiteReport → Type 0
+AreReports s [] [] = Unit {0}
+AreReports s (t ∷ ts) (r ∷ rs) = IsReport s t r × AreReports s ts rs
+AreReports s [] (r ∷ rs) = ⊥
+AreReports s (t ∷ ts) [] = ⊥

@@ -1,0 +1,27 @@
+//! What a site tells as it is closed.
+
+use crate::History;
+use rb_shadow::Shadow;
+use rb_token::TokenState;
+use rb_vclock::Clock;
+
+/// Where a site stood when it was closed, and its history.
+#[derive(Drop)]
+pub struct SiteReport {
+    /// The site's number.
+    pub me: u8,
+    /// The balance of each account in cents, in the order of the configuration.
+    pub balances: Vec<u64>,
+    /// The operations that were applied, in their order.
+    pub entries: Vec<Shadow>,
+    /// For each of them, how many operations cancel it.
+    pub counts: Vec<u32>,
+    /// How many operations of each site, and how many red ones, were applied.
+    pub clock: Clock,
+    /// What the site knew of the token.
+    pub token: TokenState,
+    /// How many shadows were held and not applied.
+    pub waiting: u32,
+    /// The events with their replies.
+    pub history: History,
+}

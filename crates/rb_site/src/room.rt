@@ -1,0 +1,93 @@
+//! Room for the lists of a report.
+ghost use Rattle.std.specs.Prelude.{◌≡◌, ◌≤◌, [], IfOk, OnOk, length, vec_capacity};
+ghost use Rattle.rb_site.specs.Reports.{balances_of, counts_of};
+
+use rb_ledger::Ledger;
+use rb_money::Place;
+use std::alloc::{AllocError, Global};
+use std::marker::Model;
+
+/// Memory for the balances and the counts of a report, so that closing a site takes none. Callers see
+/// for how many there is room.
+#[derive(Drop)]
+pub struct Room {
+    balances: Vec<u64>,
+    counts: Vec<u32>,
+}
+
+impl Model for Room {
+    ghost use Rattle.std.specs.Prelude.{◌≡◌, [], vec_capacity};
+    ghost use Rattle.rb_site.specs.Reports.{RoomFor};
+
+    ghost Value = { RoomFor };
+
+    ghost view = { λ r. record { accounts = vec_capacity r.balances; entries = vec_capacity r.counts } };
+
+    ghost invariant = { λ r. (r.balances.items ≡ []) × (r.counts.items ≡ []) };
+}
+
+impl Room {
+    /// Room for so many accounts, and for no operation yet. `Err` is want of memory.
+    pub fn open(alloc: Global, accounts: usize) -> Result<Room, AllocError>
+        ensures { IfOk result (λ room. accounts ≤ room.accounts) }
+    {
+        let mut balances = Vec::new(alloc);
+        balances.reserve(accounts)?;
+        Ok(Room {
+            balances,
+            counts: Vec::new(alloc),
+        })
+    }
+
+    /// Makes room for so many operations in all. `Err` is want of memory.
+    pub fn grow(&mut self, entries: usize) -> Result<(), AllocError>
+        ensures ok { OnOk result (entries ≤ self.new.entries) }
+        ensures kept { self.old.entries ≤ self.new.entries }
+        ensures accounts { self.new.accounts ≡ self.old.accounts }
+    {
+        self.counts.reserve(entries)
+    }
+
+    /// The balances and the counts of a ledger, for which there is room.
+    pub fn filled(self, ledger: &Ledger) -> (Vec<u64>, Vec<u32>)
+        requires accounts { length ledger.now.settings.starts ≤ self.accounts }
+        requires entries { length ledger.now.entries ≤ self.entries }
+        ensures balances { result.0.items ≡ balances_of ledger.now.settings ledger.now.entries }
+        ensures counts { result.1.items ≡ counts_of ledger.now.entries }
+    {
+        let Room { balances, counts } = self;
+        (with_balances(balances, ledger), with_counts(counts, ledger))
+    }
+}
+
+/// Each account's balance.
+fn with_balances(mut balances: Vec<u64>, ledger: &Ledger) -> Vec<u64>
+    requires empty { balances.items ≡ [] }
+    requires room { length ledger.now.settings.starts ≤ vec_capacity balances }
+    ensures { result.items ≡ balances_of ledger.now.settings ledger.now.entries }
+{
+    let accounts = ledger.config().accounts().len();
+    for place in 0..accounts {
+        match ledger.balance(Place(place as u16)) {
+            Some(balance) => balances.push_reserved(balance),
+            None => unreachable!(),
+        }
+    }
+    balances
+}
+
+/// How many operations cancel each one.
+fn with_counts(mut counts: Vec<u32>, ledger: &Ledger) -> Vec<u32>
+    requires empty { counts.items ≡ [] }
+    requires room { length ledger.now.entries ≤ vec_capacity counts }
+    ensures { result.items ≡ counts_of ledger.now.entries }
+{
+    let entries = ledger.len();
+    for before in 0..entries {
+        match ledger.count(before + 1) {
+            Some(count) => counts.push_reserved(count),
+            None => unreachable!(),
+        }
+    }
+    counts
+}
