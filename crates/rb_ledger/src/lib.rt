@@ -2,6 +2,7 @@
 #![tactic(auto)]
 
 mod ledger;
+mod room;
 #[cfg(test)]
 mod tests;
 mod walk;

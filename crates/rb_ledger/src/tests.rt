@@ -68,9 +68,11 @@ fn looks_up(rt: HostRuntime) -> Result<(), Fail> {
     let mut ledger = ann_alone(rt.alloc())?;
     ledger.reserve(2)?;
     assert!(rt; ledger.is_empty());
-    applied(&rt, &mut ledger, withdrawal());
+    applied(&rt, &mut ledger, withdrawal()).seal();
     assert!(rt; ledger.is_eligible(&cancellation(1)));
-    assert_eq!(rt; applied(&rt, &mut ledger, cancellation(1)).position(), 2);
+    let undo = applied(&rt, &mut ledger, cancellation(1));
+    assert_eq!(rt; undo.position(), 2);
+    undo.seal();
     assert_eq!(rt;
         (
             ledger.len(),
@@ -100,7 +102,7 @@ fn refuses(rt: HostRuntime) -> Result<(), Fail> {
     let next = OpName::Blue { site: 0, n: 2 };
     let cancel = Kind::Cancel { target: DEPOSIT };
     let known = on_ann(DEPOSIT, 0, (0, 0), 100, Kind::Deposit);
-    applied(&rt, &mut ledger, known);
+    applied(&rt, &mut ledger, known).seal();
     for (shadow, refusal) in [
         (
             on_ann(DEPOSIT, 2, (0, 0), 100, Kind::Deposit),
@@ -130,10 +132,13 @@ fn refuses(rt: HostRuntime) -> Result<(), Fail> {
     ] {
         assert_eq!(rt; ledger.check(&shadow), Err(refusal));
     }
-    let Err((back, why)) = ledger.apply(known) else {
-        return Err(Fail::from("taken twice"));
-    };
-    assert_eq!(rt; (back, why), (known, Refusal::NotReady));
+    match ledger.apply(known) {
+        Ok(undo) => {
+            undo.seal();
+            return Err(Fail::from("taken twice"));
+        }
+        Err((back, why)) => assert_eq!(rt; (back, why), (known, Refusal::NotReady)),
+    }
     assert_eq!(rt; ledger.balance(ANN), Some(1100));
     Ok(())
 }
@@ -141,7 +146,7 @@ fn refuses(rt: HostRuntime) -> Result<(), Fail> {
 #[test]
 fn undo_two(rt: HostRuntime) -> Result<(), Fail> {
     let mut ledger = ann_alone(rt.alloc())?;
-    applied(&rt, &mut ledger, withdrawal());
+    applied(&rt, &mut ledger, withdrawal()).seal();
     assert_eq!(rt; seen(&ledger), (Some(700), Some(0)));
     let first = applied(&rt, &mut ledger, cancellation(0));
     assert_eq!(rt; seen(&ledger), (Some(1000), Some(1)));
