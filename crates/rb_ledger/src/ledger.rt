@@ -1,5 +1,5 @@
 //! The ledger of a site.
-ghost use Rattle.std.specs.Prelude.{◌≡◌, ◌↔◌, ◌≤◌, ◌<◌, ◌+◌, length, pos, Some, None, List, [], ◌∷◌, ◌++◌, ◌⊎◌, IsTrue, IsOk, OnOk, OnErr, IfOk, IfErr, MatchResult, IsNone, IfSome, option_map, option_and_then, option_copied, false};
+ghost use Rattle.std.specs.Prelude.{◌≡◌, ◌↔◌, ◌≤◌, ◌<◌, ◌+◌, length, take, pos, Some, None, List, [], ◌∷◌, ◌++◌, ◌⊎◌, IsTrue, IsOk, OnOk, OnErr, IfOk, IfErr, MatchResult, IsNone, IfSome, option_map, option_and_then, option_copied, false};
 ghost use Rattle.rb_shadow.specs.declared.shadow.Shadow.{Shadow as TheShadow};
 ghost use Rattle.rb_shadow.specs.Operations.{names, target_of, is_eligible, bal, cancel_count, clock_of};
 ghost use Rattle.rb_shadow.specs.Sound.{IsSound};
@@ -127,8 +127,20 @@ impl Ledger {
         ensures sum { IfSome result (λ n. pos n ≡ bal self.now.settings self.now.entries place) }
         ensures bounded { IfSome result (λ n. n < 1800000000000000000) }
     {
+        self.balance_after(self.len(), place)
+    }
+
+    /// The balance of the account after the first operations, in cents. `None` where there is no such
+    /// account.
+    pub(crate) fn balance_after(&self, position: u32, place: Place) -> Option<u64>
+        requires { position ≤ length self.now.entries }
+        ensures absent { IsNone result ↔ (length self.now.settings.starts ≤ place.0) }
+        ensures sum { IfSome result (λ n. pos n ≡ bal self.now.settings (take position self.now.entries) place) }
+        ensures bounded { IfSome result (λ n. n < 1800000000000000000) }
+    {
         let start = self.config.accounts().start(place)?;
-        let (added, taken) = walk::moved_on(&self.entries, place);
+        let entries = &self.entries[..position as usize];
+        let (added, taken) = walk::moved_on(entries, place);
         Some(start.0 + added - taken)
     }
 
