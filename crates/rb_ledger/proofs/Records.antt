@@ -27,6 +27,24 @@ pub records_of-pushed : (s t : Settings) (us vs : List Shadow) (v : Shadow) (ps 
 records_of-pushed s t us vs v ps qs r logged is more same added =
     added ∙ ap (λ rs. rs ++ r ∷ []) logged ∙ ap (λ p. records_of s us ++ p ∷ []) is ∙ sym (records_of-push s us v) ∙ ap (records_of s) (sym more) ∙ ap (λ z. records_of z vs) (sym same)
 
+-- the last record is that of the last operation, and those before it are those of the operations before
+logged-last : (s : Settings) (before us : List Shadow) (front : List UndoParts) (r : UndoParts) → logged s before us ≡ front ++ r ∷ [] → (vs : List Shadow) × (v : Shadow) × (us ≡ vs ++ v ∷ []) × (r ≡ parts_of s (before ++ vs) v) × (front ≡ logged s before vs)
+logged-last s before [] [] r e = cc
+logged-last s before [] (p ∷ front) r e = cc
+logged-last s before (u ∷ []) [] r e = ([], u, refl, (let here : parts_of s before u ≡ r = cc in sym here ∙ ap (λ ws. parts_of s ws u) (sym (append-nil before))), refl)
+logged-last s before (u ∷ w ∷ us) [] r e = cc
+logged-last s before (u ∷ us) (p ∷ front) r e = further (logged-last s (before ++ u ∷ []) us front r (let rest : logged s (before ++ u ∷ []) us ≡ front ++ r ∷ [] = cc in rest))
+  where
+    first : parts_of s before u ≡ p
+    first = cc
+
+    further : (vs : List Shadow) × (v : Shadow) × (us ≡ vs ++ v ∷ []) × (r ≡ parts_of s ((before ++ u ∷ []) ++ vs) v) × (front ≡ logged s (before ++ u ∷ []) vs)
+        → (vs : List Shadow) × (v : Shadow) × (u ∷ us ≡ vs ++ v ∷ []) × (r ≡ parts_of s (before ++ vs) v) × (p ∷ front ≡ logged s before vs)
+    further (vs, v, all, is, rest) = (u ∷ vs, v, ap (λ ws. u ∷ ws) all, is ∙ ap (λ ws. parts_of s ws v) (append_assoc before (u ∷ []) vs), ap (λ q. q ∷ front) (sym first) ∙ ap (λ rs. parts_of s before u ∷ rs) rest)
+
+pub records_of-last : (s : Settings) (us : List Shadow) (front : List UndoParts) (r : UndoParts) → records_of s us ≡ front ++ r ∷ [] → (vs : List Shadow) × (v : Shadow) × (us ≡ vs ++ v ∷ []) × (r ≡ parts_of s vs v) × (front ≡ records_of s vs)
+records_of-last s us front r e = logged-last s [] us front r e
+
 -- as many records as operations
 pub logged-length : (s : Settings) (before us : List Shadow) → length (logged s before us) ≡ length us
 logged-length s before [] = refl
