@@ -1,9 +1,11 @@
 //! The ledger of a site.
-ghost use Rattle.std.specs.Prelude.{◌≡◌, ◌↔◌, ◌≤◌, ◌<◌, ◌+◌, length, take, pos, Some, None, List, [], ◌∷◌, ◌++◌, ◌⊎◌, IsTrue, IsOk, OnOk, OnErr, IfOk, IfErr, MatchResult, IsNone, IfSome, option_map, option_and_then, option_copied, false};
+ghost use Rattle.std.specs.Prelude.{◌≡◌, ◌↔◌, ◌≤◌, ◌<◌, ◌+◌, length, take, pos, negsuc, ◌≤ℤ◌, Some, None, List, [], ◌∷◌, ◌++◌, ◌⊎◌, IsTrue, IsOk, OnOk, OnErr, IfOk, IfErr, MatchResult, IsNone, IfSome, option_map, option_and_then, option_copied, false};
+ghost use Rattle.rb_money.specs.Settings.{IsConfigured};
 ghost use Rattle.rb_shadow.specs.declared.shadow.Shadow.{Shadow as TheShadow};
 ghost use Rattle.rb_shadow.specs.Operations.{names, target_of, is_eligible, bal, cancel_count, clock_of};
 ghost use Rattle.rb_shadow.specs.Sound.{IsSound};
 ghost use Rattle.rb_ledger.specs.Valid.{IsValid, entry_at, find_position, first_cancel_in, position_of, parts_of};
+ghost use Rattle.rb_ledger.specs.Changes.{moved_at};
 ghost use Rattle.rb_ledger.specs.Checks.{has_wrong_target, overdraws, refusal_of_sound, refusal_of};
 
 use crate::room::make_room;
@@ -53,6 +55,7 @@ impl Ledger {
     /// The configuration, under which the operations are a valid list.
     pub fn config(&self) -> &Config
         ensures same { result.now ≡ self.now.settings }
+        ensures configured { IsConfigured self.now.settings }
         ensures valid { IsValid self.now.settings self.now.entries }
     {
         &self.config
@@ -142,6 +145,18 @@ impl Ledger {
         let entries = &self.entries[..position as usize];
         let (added, taken) = walk::moved_on(entries, place);
         Some(start.0 + added - taken)
+    }
+
+    /// What the operation at the position, counted from 1, moved on an account when it was applied, in
+    /// cents: the balance as of it less the balance as of the one before. `None` where there is no such
+    /// position.
+    pub fn moved(&self, position: u32, place: Place) -> Option<i64>
+        ensures moved { result ≡ moved_at self.now.settings self.now.entries place position }
+        ensures least { IfSome result (λ n. negsuc 99999999999 ≤ℤ n) }
+        ensures most { IfSome result (λ n. n ≤ℤ pos 100000000000) }
+    {
+        let before = position.checked_sub(1)?;
+        walk::moved_at(&self.entries, before as usize, place)
     }
 
     /// Whether all that the shadow's home had applied was applied here.

@@ -96,6 +96,15 @@ fn looks_up(rt: HostRuntime) -> Result<(), Fail> {
         (ledger.first_cancel(1), ledger.first_cancel(2)),
         (Some(2), None)
     );
+    assert_eq!(rt;
+        (
+            ledger.moved(1, ANN),
+            ledger.moved(2, ANN),
+            ledger.moved(3, ANN)
+        ),
+        (Some(-300), Some(300), None)
+    );
+    assert_eq!(rt; ledger.moved(2, Place(1)), Some(0));
     Ok(())
 }
 

@@ -7,23 +7,28 @@ use Rattle.rb_shadow.specs.Labels.{label_of}
 use Rattle.rb_shadow.specs.Operations.{is_cancelled, bal, is_on}
 use Rattle.rb_shadow.specs.declared.shadow.Shadow.{Shadow}
 use Rattle.rb_statements.specs.declared.row.Row.{Row}
-use Rattle.rb_statements.specs.declared.statement.Statement.{Statement}
+use Rattle.rb_statements.specs.declared.account.Statement.{Statement}
 
--- the rows of an account: of those after before, in the whole list
-abbrev pub rows_of : Settings → List Shadow → Place → List Shadow → List Shadow → List Row
-rows_of s all a before [] = []
-rows_of s all a before (u ∷ us) =
-    let rest = rows_of s all a (before ++ u ∷ []) us in
-    if is_on before u a
-    then record {
+-- the row of an operation that stands after before, in the whole list
+abbrev pub row_of : Settings → List Shadow → Place → List Shadow → Shadow → Row
+row_of s all a before u =
+    record {
       position = length before + 1;
       name = u.name;
       kind = label_of u.kind;
       moved = bal s (before ++ u ∷ []) a +ℤ neg_ℤ (bal s before a);
       cancelled = is_cancelled all u.name;
       balance = cents (bal s (before ++ u ∷ []) a);
-    } ∷ rest
-    else rest
+    }
+
+-- the rows that such an operation has in the account's statement: one if it is on the account, else none
+abbrev pub rows_here : Settings → List Shadow → Place → List Shadow → Shadow → List Row
+rows_here s all a before u = if is_on before u a then row_of s all a before u ∷ [] else []
+
+-- the rows of the operations after before, in the whole list
+abbrev pub rows_of : Settings → List Shadow → Place → List Shadow → List Shadow → List Row
+rows_of s all a before [] = []
+rows_of s all a before (u ∷ us) = rows_here s all a before u ++ rows_of s all a (before ++ u ∷ []) us
 
 -- the start, the rows and the balance of an account
 unfoldable pub statement_of : Settings → List Shadow → Place → Statement

@@ -1,10 +1,14 @@
 //! Statements of accounts.
 #![tactic(auto)]
 
+mod account;
 mod row;
 mod rows;
-mod statement;
+#[cfg(test)]
+mod tests;
+mod views;
 
+pub use account::Statement;
 pub use row::Row;
 pub use rows::Rows;
-pub use statement::Statement;
+pub use views::statement;
