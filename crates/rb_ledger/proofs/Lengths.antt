@@ -1,5 +1,5 @@
 -- How long a valid list can be.
-use Rattle.std.proofs.Common.{◌≡◌, ℕ, zero, suc, ◌+◌, ◌*◌, ◌<◌, ◌≤◌, Bool, true, false, cond, List, [], ◌∷◌, length, get_or, refl, ap, arith, ◌⊎◌, inl, inr}
+use Rattle.std.proofs.Common.{◌≡◌, ℕ, zero, suc, ◌+◌, ◌*◌, ◌<◌, ◌≤◌, Bool, true, false, cond, List, [], ◌∷◌, length, get_or, refl, ap, sym, arith, ◌⊎◌, inl, inr, subst}
 use Rattle.std.specs.Prelude.{nat_lt, ◌==◌, All, slice_get, slice_index, Some}
 use Rattle.std.proofs.lemmas.Bool.Decides.{nat_tests}
 use Rattle.std.proofs.lemmas.List.Sums.{sum_by-cons, count_by-le-length}
@@ -115,6 +115,9 @@ kept_length s us c kept = valid_length s us kept.configured kept.valid
 
 pub kept_few : (s : Settings) (us vs : List Shadow) (c : Deps) → IsKept s us c → vs ≡ us → length vs ≤ 9000000
 kept_few s us vs c kept e = omega (arith, ap length e, kept_length s us c kept)
+
+pub kept_small : (s : Settings) (us vs : List Shadow) (c : Deps) → IsKept s us c → vs ≡ us → All (λ u. u.amount ≤ 100000000000) vs
+kept_small s us vs c kept e = subst (All (λ (u : Shadow). u.amount ≤ 100000000000)) (sym e) (valid_amounts s us kept.valid)
 
 starts_low : (ns : List ℕ) (m : ℕ) → ((i n : ℕ) → slice_get ns i ≡ Some n → n ≤ m) → (i : ℕ) → slice_index ns i ≤ m
 starts_low [] m h i = omega arith

@@ -1,8 +1,10 @@
 -- What a statement shows.
-use Rattle.std.specs.Prelude.{◌+◌, if◌then◌else◌, List, [], ◌∷◌, ◌++◌, length, ◌+ℤ◌, neg_ℤ}
+use Rattle.std.specs.Prelude.{ℕ, ◌+◌, if◌then◌else◌, not, nat_lt, List, [], ◌∷◌, ◌++◌, length, take, Result, Ok, Err, ◌+ℤ◌, neg_ℤ}
 use Rattle.rb_money.specs.Amounts.{cents}
-use Rattle.rb_money.specs.Settings.{Settings, start_of}
+use Rattle.rb_money.specs.Settings.{Settings, is_account, start_of}
 use Rattle.rb_money.specs.declared.place.Place.{Place}
+use Rattle.rb_money.specs.declared.refusal.Refusal.{Refusal}
+use Rattle.rb_money.specs.declared.refusal.Refusal.TheVariants.{UnknownAccount, PositionBeyond}
 use Rattle.rb_shadow.specs.Labels.{label_of}
 use Rattle.rb_shadow.specs.Operations.{is_cancelled, bal, is_on}
 use Rattle.rb_shadow.specs.declared.shadow.Shadow.{Shadow}
@@ -33,3 +35,10 @@ rows_of s all a before (u ∷ us) = rows_here s all a before u ++ rows_of s all 
 -- the start, the rows and the balance of an account
 unfoldable pub statement_of : Settings → List Shadow → Place → Statement
 statement_of s us a = record { start = start_of s a; rows = rows_of s us a [] us; balance = cents (bal s us a) }
+
+-- the balance of an account after the first n operations, or why it isn't told
+abbrev pub balance_as_of : Settings → List Shadow → Place → ℕ → Result ℕ Refusal
+balance_as_of s us a n =
+    if not (is_account s a) then Err UnknownAccount
+    else if nat_lt (length us) n then Err PositionBeyond
+    else Ok (cents (bal s (take n us) a))

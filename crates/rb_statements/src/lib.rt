@@ -11,4 +11,4 @@ mod views;
 pub use account::Statement;
 pub use row::Row;
 pub use rows::Rows;
-pub use views::statement;
+pub use views::{as_of, statement};

@@ -1,13 +1,15 @@
 //! What is shown of an account.
-ghost use Rattle.std.specs.Prelude.{◌≡◌, ◌≤◌, ◌<◌, ◌+◌, ◌*◌, ◌++◌, [], ◌⊎◌, length, pos, ◌+ℤ◌, ◌≤ℤ◌, slice_get, Some, true, false, take, IfOk, IfErr, OnOk};
+ghost use Rattle.std.specs.Prelude.{◌≡◌, ◌≤◌, ◌<◌, ◌+◌, ◌*◌, ◌++◌, [], ◌⊎◌, length, pos, ◌+ℤ◌, ◌≤ℤ◌, slice_get, Some, Ok, Err, true, false, take, IfOk, IfErr, OnOk};
 ghost use Rattle.rb_money.specs.Settings.{is_account, start_of};
 ghost use Rattle.rb_shadow.specs.declared.shadow.Shadow.{Shadow as TheShadow};
 ghost use Rattle.rb_shadow.specs.Operations.{bal};
-ghost use Rattle.rb_statements.specs.Statements.{rows_here, rows_of, statement_of};
+ghost use Rattle.rb_ledger.specs.Records.{records_of};
+ghost use Rattle.rb_statements.specs.Statements.{balance_as_of, rows_here, rows_of, statement_of};
 
 use crate::{Row, Rows, Statement};
 use rb_ledger::Ledger;
 use rb_money::{Place, Refusal};
+use rb_undo::UndoLog;
 use std::alloc::{AllocError, Global};
 
 /// The balance, in cents, after so much was moved.
@@ -97,5 +99,36 @@ pub fn statement(alloc: Global, ledger: &Ledger, place: Place) -> Result<Stateme
             balance,
         }),
         Err(_) => Err(Refusal::OutOfMemory),
+    }
+}
+
+/// The balance of an account as of a position, in cents: after so many operations. The ledger and its
+/// log, which has the ledger's records, come back as they were. This takes no memory.
+///
+/// Errors: `UnknownAccount` where the configuration has no such account, then `PositionBeyond` where
+/// the ledger has fewer operations.
+pub fn as_of(
+    ledger: Ledger,
+    log: UndoLog,
+    place: Place,
+    position: u32,
+) -> (Ledger, UndoLog, Result<u64, Refusal>)
+    requires { log.parts ≡ records_of ledger.settings ledger.entries }
+    ensures ledger { result.0 ≡ ledger }
+    ensures log { result.1 ≡ log }
+    ensures balance { result.2 ≡ balance_as_of ledger.settings ledger.entries place position }
+{
+    if ledger.config().accounts().start(place).is_none() {
+        return (ledger, log, Err(Refusal::UnknownAccount));
+    }
+    let rewound = match ledger.rewind(log, position) {
+        Ok(rewound) => rewound,
+        Err((ledger, log, why)) => return (ledger, log, Err(why)),
+    };
+    let balance = rewound.balance(place);
+    let (ledger, log) = rewound.forward();
+    match balance {
+        Some(balance) => (ledger, log, Ok(balance)),
+        None => unreachable!(),
     }
 }
