@@ -1,5 +1,5 @@
 -- A site steps as the model does.
-use Rattle.std.proofs.Common.{◌≡◌, ℕ, not, ◌&&◌, ◌==◌, nat_le, nat_lt, ◌+◌, ◌<◌, ◌≤◌, Bool, true, false, cond, List, [], ◌∷◌, ◌++◌, length, lit≤, take, refl, ap, sym, subst, ◌∙◌, arith, Option, Some, None, Result, Ok, Err}
+use Rattle.std.proofs.Common.{◌≡◌, ℕ, not, ◌&&◌, ◌==◌, nat_le, nat_lt, ◌<◌, ◌≤◌, Bool, true, false, cond, List, [], ◌∷◌, ◌++◌, length, lit≤, take, refl, ap, sym, subst, ◌∙◌, arith, Option, Some, None, Result, Ok, Err}
 use Rattle.std.proofs.lemmas.Bool.Decides.{nat_tests}
 use Rattle.std.proofs.lemmas.List.{length-map}
 use Rattle.rb_money.specs.Settings.{Settings}
@@ -22,11 +22,10 @@ use Rattle.rb_site.specs.declared.answer.Answer.{Answer}
 use Rattle.rb_site.specs.declared.entry.Entry.{Entry}
 use Rattle.rb_site.specs.declared.event.Event.{Event}
 use Rattle.rb_site.specs.declared.event.Event.TheVariants.{Submit, Batch, Receive, Apply, Pass, Balance, AsOf, Statement as AskStatement}
-use Rattle.rb_site.specs.declared.message.Message.{Message}
 use Rattle.rb_site.specs.declared.message.Message.TheVariants.{Shadow as ShadowMessage, Token as TokenOnItsWay}
 use Rattle.rb_site.specs.declared.reply.Reply.{Reply}
 use Rattle.rb_site.specs.declared.reply.Reply.TheVariants.{Refused, Already, Stale, Balance as BalanceIs, Statement as StatementIs}
-use Rattle.rb_site.specs.Events.{ModelSite, Outcome, Refuses, Drops, Answers, Makes, Holds, Applies, Takes, Passes, after_event, changed, is_full, noted, outcome_of, outcome_of_apply, outcome_of_batch, outcome_of_check, outcome_of_made, outcome_of_pass, outcome_of_shadow, outcome_of_token, refuses_first, refuses_if, reply_of, reply_to, sent_at, sent_by, unless_faulty, unless_known}
+use Rattle.rb_site.specs.Events.{ModelSite, Outcome, Refuses, Drops, Answers, Makes, Holds, Applies, Takes, Passes, changed, is_full, noted, outcome_of, outcome_of_apply, outcome_of_batch, outcome_of_check, outcome_of_made, outcome_of_pass, outcome_of_shadow, outcome_of_token, refuses_first, refuses_if, reply_of, reply_to, sent_at, sent_by, unless_faulty, unless_known}
 use Rattle.rb_site.specs.Seen.{SeenSite, IsReplayed, entry, next_site, state_of, stepped}
 use Rattle.rb_site.specs.States.{Follows, IsStanding, SiteState, without_history}
 use Rattle.rb_site.proofs.Runs

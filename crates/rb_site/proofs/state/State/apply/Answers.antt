@@ -1,10 +1,9 @@
 -- A held shadow is applied or let go as the model says.
-use Rattle.std.proofs.Common.{◌≡◌, ◌∙◌, ◌++◌, ◌∷◌, [], Ok, Err, Some, true, IfOk, sym, ap, subst, refl}
+use Rattle.std.proofs.Common.{◌∙◌, Some, IfOk, sym, ap, subst}
 use Rattle.rb_money.specs.Settings.{Settings}
 use Rattle.rb_inbox.specs.Held.{Holding}
 use Rattle.rb_ledger.specs.Book.{Book}
-use Rattle.rb_shadow.specs.Operations.{find_in, is_eligible}
-use Rattle.rb_shadow.specs.Sound.{IsSound}
+use Rattle.rb_shadow.specs.Operations.{find_in}
 use Rattle.rb_site.specs.Events.{outcome_of_apply}
 use Rattle.rb_site.specs.States.{Follows, SiteState}
 use Rattle.rb_site.proofs.Handlers.{answered, applies, drops, held_sound, not_memory, refusal_is, state_as, tied_without, waits}

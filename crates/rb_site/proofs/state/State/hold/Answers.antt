@@ -1,5 +1,5 @@
 -- A shadow is held as the model says.
-use Rattle.std.proofs.Common.{◌≡◌, ◌∙◌, ◌≤◌, Ok, Err, IfOk, sym, ap, subst, refl}
+use Rattle.std.proofs.Common.{◌∙◌, ◌≤◌, Ok, Err, IfOk, sym, ap, subst}
 use Rattle.rb_money.specs.Settings.{Settings, most_sites}
 use Rattle.rb_inbox.specs.Held.{Holding}
 use Rattle.rb_shadow.specs.Sound.{IsSound}

@@ -1,7 +1,5 @@
 -- The token goes as the model says.
-use Rattle.std.proofs.Common.{◌≡◌, ◌∙◌, sym, ap, subst, refl}
-use Rattle.rb_money.specs.Settings.{Settings}
-use Rattle.rb_money.specs.declared.limits.Limits.{Limits}
+use Rattle.std.proofs.Common.{◌∙◌, sym, ap, subst, refl}
 use Rattle.rb_shadow.specs.Operations.{clock_of}
 use Rattle.rb_shadow.specs.declared.deps.Deps.{Deps}
 use Rattle.rb_token.specs.Seat.{TokenSeat}
