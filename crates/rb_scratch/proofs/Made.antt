@@ -1,11 +1,9 @@
 -- What is known of an operation that a site makes.
-use Rattle.std.proofs.Common.{◌≡◌, ℕ, ◌+◌, ◌≤◌, Bool, true, false, cond, not, ◌&&◌, List, [], ◌∷◌, ◌++◌, refl, sym, arith, subst, Option, Some, None, Result, Ok, Err}
+use Rattle.std.proofs.Common.{◌≡◌, ℕ, suc, ◌+◌, ◌≤◌, Bool, true, false, cond, not, ◌&&◌, List, [], ◌∷◌, ◌++◌, length, refl, ap, sym, ◌∙◌, arith, subst, Option, Some, None, Result, Ok, Err}
 use Rattle.std.specs.Prelude.{nat_lt}
 use Rattle.std.proofs.lemmas.Bool.Decides.{nat_tests}
 use Rattle.rb_money.specs.Settings.{Settings}
 use Rattle.rb_money.specs.declared.refusal.Refusal.{Refusal}
-use Rattle.rb_money.specs.declared.refusal.Cause.{Cause}
-use Rattle.rb_money.specs.declared.refusal.Cause.TheVariants.{Declined as DeclinedCause}
 use Rattle.rb_shadow.specs.declared.op_name.OpName.{OpName}
 use Rattle.rb_shadow.specs.declared.op_name.OpName.TheVariants.{Blue, Red}
 use Rattle.rb_shadow.specs.declared.shadow.Shadow.{Shadow}
@@ -13,6 +11,9 @@ use Rattle.rb_shadow.specs.Operations.{is_cancel, red_count, number_of}
 use Rattle.rb_shadow.specs.Sound.{limit_of}
 use Rattle.rb_ledger.specs.Checks.{overdraws}
 use Rattle.rb_scratch.specs.declared.request.Request.{Request}
+use Rattle.rb_scratch.specs.declared.run_fault.RunFault.{RunFault}
+use Rattle.rb_scratch.specs.declared.run_fault.RunFault.TheVariants.{Declined as DeclinedFault}
+use Rattle.rb_scratch.specs.Batches.{batch_of, made_in_batch, is_declined, planned_in_batch, stopped, then_rest, with_first}
 use Rattle.rb_token.specs.Token.{Token, refusal_of_red}
 use Rattle.rb_scratch.specs.Requests.{Plan, plan_of, operation_of, allowed, allowed_by_colour, made_of}
 use Rattle.rb_money.specs.Refusals.{refused_if, and_then, first_if, unless_refused}
@@ -79,7 +80,7 @@ made_if_allowed s me us token r p v planned e =
       fair = subst (λ (u : Shadow). IsAllowed s us token u u.name) (sym a.0) a.2;
     }
 
--- ---- Submit
+-- ---- Submit and Batch
 
 -- what comes of a request that makes an operation
 pub made_is : (s : Settings) (me : ℕ) (us : List Shadow) (token : Token) (r : Request) (v : Shadow) → made_of s me us token r ≡ Ok v → IsMadeAt s me us token v
@@ -89,3 +90,55 @@ made_is s me us token r v e = at (plan_of s us r) refl e
     at : (q : Result Plan Refusal) → plan_of s us r ≡ q → and_then q (λ p. allowed s us token (operation_of me us p)) ≡ Ok v → IsMadeAt s me us token v
     at (Ok p) planned h = made_if_allowed s me us token r p v planned h
     at (Err why) planned h = cc
+
+-- what comes of a plan in a batch that makes an operation
+planned_is : (s : Settings) (me : ℕ) (us : List Shadow) (token : Token) (r : Request) (v : Shadow) (q : Result Plan Refusal) → plan_of s us r ≡ q → planned_in_batch s me us token q ≡ Ok v → IsMadeAt s me us token v
+planned_is s me us token r v (Err why) planned h = cc
+planned_is s me us token r v (Ok p) planned h = at (is_declined p.kind) h
+  where
+    here : (q : Result Shadow Refusal) → allowed s us token (operation_of me us p) ≡ q → stopped q ≡ Ok v → IsMadeAt s me us token v
+    here (Ok u) e k = made_if_allowed s me us token r p v planned (subst (λ w. allowed s us token (operation_of me us p) ≡ Ok w) (let a : u ≡ v = cc in a) e)
+    here (Err why) e k = cc
+
+    at : (b : Bool) → cond b (Err DeclinedFault) (stopped (allowed s us token (operation_of me us p))) ≡ Ok v → IsMadeAt s me us token v
+    at true k = cc
+    at false k = here (allowed s us token (operation_of me us p)) refl k
+
+-- the same of the request
+made_in_batch_is : (s : Settings) (me : ℕ) (us : List Shadow) (token : Token) (r : Request) (v : Shadow) → made_in_batch s me us token r ≡ Ok v → IsMadeAt s me us token v
+unfolding made_in_batch
+made_in_batch_is s me us token r v e = planned_is s me us token r v (plan_of s us r) refl e
+
+-- what comes of a batch that makes operations
+pub batch_is : (s : Settings) (me : ℕ) (us : List Shadow) (token : Token) (index : ℕ) (rs : List Request) (vs : List Shadow) → batch_of s me us token index rs ≡ Ok vs → AreMadeAt s me us token vs
+unfolding batch_of
+batch_is s me us token index [] vs e = subst (AreMadeAt s me us token) (let a : [] ≡ vs = cc in a) tt
+batch_is s me us token index (r ∷ rs) vs e = at (made_in_batch s me us token r) refl e (λ v ws k. batch_is s me (us ++ v ∷ []) token (index + 1) rs ws k)
+  where
+    Rest : Type 0
+    Rest = (v : Shadow) (ws : List Shadow) → batch_of s me (us ++ v ∷ []) token (index + 1) rs ≡ Ok ws → AreMadeAt s me (us ++ v ∷ []) token ws
+
+    first : (v : Shadow) → made_in_batch s me us token r ≡ Ok v → (q : Result (List Shadow) Refusal) → batch_of s me (us ++ v ∷ []) token (index + 1) rs ≡ q → with_first v q ≡ Ok vs → Rest → AreMadeAt s me us token vs
+    first v made (Ok ws) k h rest = subst (AreMadeAt s me us token) (let a : v ∷ ws ≡ vs = cc in a) (made_in_batch_is s me us token r v made, rest v ws k)
+    first v made (Err why) k h rest = cc
+
+    at : (q : Result Shadow RunFault) → made_in_batch s me us token r ≡ q → then_rest index q (λ v. batch_of s me (us ++ v ∷ []) token (index + 1) rs) ≡ Ok vs → Rest → AreMadeAt s me us token vs
+    at (Ok v) made h rest = first v made (batch_of s me (us ++ v ∷ []) token (index + 1) rs) refl h rest
+    at (Err fault) made h rest = cc
+
+-- a batch makes as many operations as it has requests
+pub batch_length : (s : Settings) (me : ℕ) (us : List Shadow) (token : Token) (index : ℕ) (rs : List Request) (vs : List Shadow) → batch_of s me us token index rs ≡ Ok vs → length vs ≡ length rs
+unfolding batch_of
+batch_length s me us token index [] vs e = ap length (let a : vs ≡ [] = cc in a)
+batch_length s me us token index (r ∷ rs) vs e = at (made_in_batch s me us token r) e (λ v ws k. batch_length s me (us ++ v ∷ []) token (index + 1) rs ws k)
+  where
+    Rest : Type 0
+    Rest = (v : Shadow) (ws : List Shadow) → batch_of s me (us ++ v ∷ []) token (index + 1) rs ≡ Ok ws → length ws ≡ length rs
+
+    first : (v : Shadow) (q : Result (List Shadow) Refusal) → batch_of s me (us ++ v ∷ []) token (index + 1) rs ≡ q → with_first v q ≡ Ok vs → Rest → length vs ≡ length (r ∷ rs)
+    first v (Ok ws) k h rest = ap length (let a : vs ≡ v ∷ ws = cc in a) ∙ ap suc (rest v ws k)
+    first v (Err why) k h rest = cc
+
+    at : (q : Result Shadow RunFault) → then_rest index q (λ v. batch_of s me (us ++ v ∷ []) token (index + 1) rs) ≡ Ok vs → Rest → length vs ≡ length (r ∷ rs)
+    at (Ok v) h rest = first v (batch_of s me (us ++ v ∷ []) token (index + 1) rs) refl h rest
+    at (Err fault) h rest = cc

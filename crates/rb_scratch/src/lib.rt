@@ -8,12 +8,14 @@ mod effect;
 mod generator;
 mod plan;
 mod request;
+mod run_fault;
 #[cfg(test)]
 mod tests;
 
 pub use generator::generate;
 pub use plan::{CancelPlan, cancel_of};
 pub use request::Request;
+pub use run_fault::RunFault;
 
 /// A deposit, a withdrawal and interest do to every balance what the published bank does.
 pub fn is_original()

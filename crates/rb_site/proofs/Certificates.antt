@@ -11,7 +11,7 @@ use Rattle.rb_site.specs.declared.reply.Reply.TheVariants.{Refused}
 use Rattle.rb_site.proofs.Runs
 use Rattle.rb_site.specs.declared.entry.Entry.{Entry}
 use Rattle.rb_site.specs.declared.event.Event.{Event}
-use Rattle.rb_site.specs.declared.event.Event.TheVariants.{Submit, Receive, Apply, Pass, Balance}
+use Rattle.rb_site.specs.declared.event.Event.TheVariants.{Submit, Batch, Receive, Apply, Pass, Balance, AsOf, Statement as AskStatement}
 use Rattle.rb_site.specs.declared.message.Message.{Message}
 use Rattle.rb_site.specs.declared.world_event.WorldEvent.{WorldEvent}
 use Rattle.rb_site.specs.declared.world_event.WorldEvent.TheVariants.{At, Deliver}
@@ -42,9 +42,12 @@ source_comes s w i (Receive m) (k, there) = record {
   recorded = λ t at room. ap (λ b. b && is_some (message_at w.messages k)) (at_site s w i t at room) ∙ ap is_some there;
 }
 source_comes s w i (Submit r) h = plainly s w i (Submit r) tt
+source_comes s w i (Batch rs) h = plainly s w i (Batch rs) tt
 source_comes s w i (Apply x) h = plainly s w i (Apply x) tt
 source_comes s w i (Pass to) h = plainly s w i (Pass to) tt
 source_comes s w i (Balance a) h = plainly s w i (Balance a) tt
+source_comes s w i (AsOf a n) h = plainly s w i (AsOf a n) tt
+source_comes s w i (AskStatement a) h = plainly s w i (AskStatement a) tt
 
 more_own : (e : WorldEvent) (es : List WorldEvent) → AreOwn (e ∷ []) → AreOwn es → AreOwn (e ∷ es)
 more_own (At i x) es h k = (h.0, k)
@@ -164,9 +167,12 @@ pub record IsRecorded (s : Settings) (w : World) (e : WorldEvent) : Type 0 where
 own_from : (ms : List Message) (e : Event) → IsOwn e → IsFrom ms e
 own_from ms (Receive m) h = elim h [ ]
 own_from ms (Submit r) h = tt
+own_from ms (Batch rs) h = tt
 own_from ms (Apply x) h = tt
 own_from ms (Pass to) h = tt
 own_from ms (Balance a) h = tt
+own_from ms (AsOf a n) h = tt
+own_from ms (AskStatement a) h = tt
 
 roomy : (s : Settings) (o : Option ModelSite) → is_recorded_at s o ≡ true → (t : ModelSite) × (o ≡ Some t) × (is_full s t ≡ false)
 roomy s None h = cc

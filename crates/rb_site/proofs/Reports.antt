@@ -20,10 +20,10 @@ use Rattle.rb_site.specs.Seen.{SeenSite, next_site, next_sites, state_of}
 use Rattle.rb_site.specs.States.{Follows, IsStanding, SiteState, listed}
 use Rattle.rb_site.proofs.Runs
 
--- ---- what is applied grows by one
+-- ---- what is applied grows by what is sent at most
 
--- what sends at most one message makes at most one operation
-ops_grow : (t : ModelSite) (o : Outcome) → length (sent_by o) ≤ 1 → length (changed t o).ops ≤ length t.ops + 1
+-- what sends few messages makes few operations
+ops_grow : (t : ModelSite) (o : Outcome) → length (sent_by o) ≤ 16 → length (changed t o).ops ≤ length t.ops + 16
 ops_grow t (Refuses why) h = omega arith
 ops_grow t (Answers r) h = omega arith
 ops_grow t (Drops x why) h = omega arith
@@ -34,11 +34,11 @@ ops_grow t (Takes m) h = omega arith
 ops_grow t (Passes m) h = omega arith
 
 -- after an event there is still enough room
-pub still_enough : (room : RoomFor) (old now : SiteState) (o : Outcome) (a : Answer) → Follows old now o a → length (sent_by o) ≤ 1 → length old.settings.starts ≤ room.accounts → length old.site.ops + 1 ≤ room.entries → IsEnough room now
+pub still_enough : (room : RoomFor) (old now : SiteState) (o : Outcome) (a : Answer) → Follows old now o a → length (sent_by o) ≤ 16 → length old.settings.starts ≤ room.accounts → length old.site.ops + 16 ≤ room.entries → IsEnough room now
 still_enough room old now o a follows few accounts entries =
     subst (IsEnough room) (sym follows.0) (record {
       accounts = accounts;
-      entries = let more : length (changed old.site o).ops ≤ length old.site.ops + 1 = ops_grow old.site o few in omega arith;
+      entries = let more : length (changed old.site o).ops ≤ length old.site.ops + 16 = ops_grow old.site o few in omega arith;
     })
 
 -- ---- what is held

@@ -1,28 +1,33 @@
 -- A site steps as the model does.
-use Rattle.std.proofs.Common.{◌≡◌, ℕ, not, ◌&&◌, ◌==◌, nat_le, ◌+◌, ◌<◌, ◌≤◌, Bool, true, false, cond, List, [], ◌∷◌, ◌++◌, length, refl, ap, sym, subst, ◌∙◌, arith, Option, Some, None}
+use Rattle.std.proofs.Common.{◌≡◌, ℕ, not, ◌&&◌, ◌==◌, nat_le, nat_lt, ◌<◌, ◌≤◌, Bool, true, false, cond, List, [], ◌∷◌, ◌++◌, length, lit≤, take, refl, ap, sym, subst, ◌∙◌, arith, Option, Some, None, Result, Ok, Err}
 use Rattle.std.proofs.lemmas.Bool.Decides.{nat_tests}
+use Rattle.std.proofs.lemmas.List.{length-map}
 use Rattle.rb_money.specs.Settings.{Settings}
 use Rattle.rb_money.specs.declared.refusal.Refusal.{Refusal}
 use Rattle.rb_money.specs.Amounts.{cents}
 use Rattle.rb_money.specs.Settings.{is_account}
-use Rattle.rb_money.specs.declared.refusal.Refusal.TheVariants.{HistoryFull, UnknownAccount, NotReady, InboxFull, Conflict}
+use Rattle.rb_money.specs.declared.refusal.Refusal.TheVariants.{BadBatch, HistoryFull, UnknownAccount, NotReady, InboxFull, Conflict, PositionBeyond}
 use Rattle.rb_ledger.specs.Checks.{refusal_of_sound}
-use Rattle.rb_shadow.specs.Operations.{bal, is_eligible}
+use Rattle.rb_shadow.specs.Operations.{bal, is_eligible, red_count}
 use Rattle.rb_shadow.specs.Sound.{fault_in}
-use Rattle.rb_token.specs.Token.{refusal_of_token}
+use Rattle.rb_scratch.specs.Batches.{batch_of}
+use Rattle.rb_scratch.specs.Requests.{made_of}
+use Rattle.rb_scratch.specs.declared.request.Request.{Request}
+use Rattle.rb_scratch.proofs.Made.{batch_length}
+use Rattle.rb_statements.specs.Statements.{statement_of}
+use Rattle.rb_token.specs.Token.{pass_message, refusal_of_pass, refusal_of_token}
 use Rattle.rb_shadow.specs.Operations.{find_in, same_shadow}
 use Rattle.rb_shadow.specs.declared.shadow.Shadow.{Shadow}
 use Rattle.rb_site.specs.declared.answer.Answer.{Answer}
 use Rattle.rb_site.specs.declared.entry.Entry.{Entry}
 use Rattle.rb_site.specs.declared.event.Event.{Event}
-use Rattle.rb_site.specs.declared.event.Event.TheVariants.{Submit, Receive, Apply, Pass, Balance}
-use Rattle.rb_site.specs.declared.message.Message.{Message}
+use Rattle.rb_site.specs.declared.event.Event.TheVariants.{Submit, Batch, Receive, Apply, Pass, Balance, AsOf, Statement as AskStatement}
 use Rattle.rb_site.specs.declared.message.Message.TheVariants.{Shadow as ShadowMessage, Token as TokenOnItsWay}
 use Rattle.rb_site.specs.declared.reply.Reply.{Reply}
-use Rattle.rb_site.specs.declared.reply.Reply.TheVariants.{Refused, Already, Stale, Balance as BalanceIs}
-use Rattle.rb_site.specs.Events.{ModelSite, Outcome, Refuses, Drops, Answers, Makes, Holds, Applies, Takes, Passes, after_event, changed, is_full, may_send, noted, outcome_of, outcome_of_apply, outcome_of_check, outcome_of_pass, outcome_of_shadow, outcome_of_token, refuses_first, refuses_if, reply_of, reply_to, sent_at, sent_by, unless_faulty, unless_known}
+use Rattle.rb_site.specs.declared.reply.Reply.TheVariants.{Refused, Already, Stale, Balance as BalanceIs, Statement as StatementIs}
+use Rattle.rb_site.specs.Events.{ModelSite, Outcome, Refuses, Drops, Answers, Makes, Holds, Applies, Takes, Passes, changed, is_full, noted, outcome_of, outcome_of_apply, outcome_of_batch, outcome_of_check, outcome_of_made, outcome_of_pass, outcome_of_shadow, outcome_of_token, refuses_first, refuses_if, reply_of, reply_to, sent_at, sent_by, unless_faulty, unless_known}
 use Rattle.rb_site.specs.Seen.{SeenSite, IsReplayed, entry, next_site, state_of, stepped}
-use Rattle.rb_site.specs.States.{Follows, IsStanding, SiteState, listed, without_history}
+use Rattle.rb_site.specs.States.{Follows, IsStanding, SiteState, without_history}
 use Rattle.rb_site.proofs.Runs
 use Rattle.rb_site.proofs.Seen
 
@@ -34,6 +39,7 @@ with_history t h = record t { history = h }
 pub same_outcome : (s : Settings) (t : ModelSite) (h : List Entry) (e : Event) → outcome_of s (with_history t h) e ≡ outcome_of s t e
 unfolding outcome_of outcome_of_shadow outcome_of_token outcome_of_apply outcome_of_pass
 same_outcome s t h (Submit r) = refl
+same_outcome s t h (Batch rs) = refl
 same_outcome s t h (Receive (ShadowMessage v)) = refl
 same_outcome s t h (Receive (TokenOnItsWay m)) = refl
 same_outcome s t h (Apply x) = by (find_in t.held x)
@@ -43,6 +49,8 @@ same_outcome s t h (Apply x) = by (find_in t.held x)
     by (Some v) = refl
 same_outcome s t h (Pass to) = refl
 same_outcome s t h (Balance a) = refl
+same_outcome s t h (AsOf a n) = refl
+same_outcome s t h (AskStatement a) = refl
 
 -- nor does what it changes
 changed-with_history : (t : ModelSite) (h : List Entry) (o : Outcome) → changed (with_history t h) o ≡ with_history (changed t o) h
@@ -72,18 +80,18 @@ noted_in x e reply = record x { entries = x.entries ++ entry e reply ∷ [] }
 
 -- what the code did is the model's step
 pub record IsStep (x : SeenSite) (now : SiteState) (e : Event) (a : Answer) : Type 0 where
-  pub seen : noted_in x e a.reply ≡ next_site x e
+  pub seen : noted_in x e a.noted ≡ next_site x e
   pub reply : a.reply ≡ reply_to x.settings (state_of x) e
-  pub sent : listed a.message ≡ sent_at x.settings (state_of x) e
-  pub standing : IsStanding (noted_in x e a.reply) now
+  pub sent : a.posted.items ≡ sent_at x.settings (state_of x) e
+  pub standing : IsStanding (noted_in x e a.noted) now
 
 pub is_step : (x : SeenSite) (old now : SiteState) (e : Event) (a : Answer) → is_full x.settings (state_of x) ≡ false → IsStanding x old → Follows old now (outcome_of old.settings old.site e) a → IsStep x now e a
 is_step x old now e a free standing follows =
     record {
-      seen = ap (noted_in x e) reply ∙ sym (ap (λ b. cond b x (stepped x e)) free);
-      reply = reply;
-      sent = follows.2 ∙ ap sent_by same ∙ sym (ap (λ b. cond b [] (sent_by o)) free);
-      standing = subst (λ r. IsStanding (noted_in x e r) now) (sym reply) (record {
+      seen = ap (noted_in x e) noted_reply ∙ sym (ap (λ b. cond b x (stepped x e)) free);
+      reply = follows.1.0 ∙ told;
+      sent = follows.1.2 ∙ ap sent_by same ∙ sym (ap (λ b. cond b [] (sent_by o)) free);
+      standing = subst (λ r. IsStanding (noted_in x e r) now) (sym noted_reply) (record {
         kept = Seen.replayed-stepped x e (room_left x standing.kept free) standing.kept;
         settings = ap (λ (z : SiteState). z.settings) follows.0 ∙ standing.settings;
         site =
@@ -108,15 +116,18 @@ is_step x old now e a free standing follows =
     same : outcome_of old.settings old.site e ≡ o
     same = ap (λ z. outcome_of z old.site e) standing.settings ∙ ap (λ u. outcome_of s u e) standing.site ∙ same_outcome s t [] e
 
-    reply : a.reply ≡ reply_to s t e
-    reply = follows.1 ∙ ap reply_of same ∙ sym (ap (λ b. cond b (Refused HistoryFull) (reply_of o)) free)
+    told : reply_of (outcome_of old.settings old.site e) ≡ reply_to s t e
+    told = ap reply_of same ∙ sym (ap (λ b. cond b (Refused HistoryFull) (reply_of o)) free)
+
+    noted_reply : a.noted ≡ reply_to s t e
+    noted_reply = follows.1.1 ∙ told
 
 -- a site as callers see it, by its parts
 abbrev pub seen_as : Settings → ℕ → List Entry → SeenSite
 seen_as s me xs = record { settings = s; me = me; entries = xs }
 
 -- where the entry was pushed, callers see the model's step
-pub seen_now : (x : SeenSite) (now : SiteState) (e : Event) (a : Answer) (xs : List Entry) → IsStep x now e a → now.site.me ≡ x.me → xs ≡ x.entries ++ entry e a.reply ∷ [] → seen_as now.settings now.site.me xs ≡ noted_in x e a.reply
+pub seen_now : (x : SeenSite) (now : SiteState) (e : Event) (a : Answer) (xs : List Entry) → IsStep x now e a → now.site.me ≡ x.me → xs ≡ x.entries ++ entry e a.noted ∷ [] → seen_as now.settings now.site.me xs ≡ noted_in x e a.noted
 seen_now x now e a xs step me pushed =
     ap (λ s. seen_as s now.site.me xs) step.standing.settings
     ∙ ap (λ i. seen_as x.settings i xs) me
@@ -128,55 +139,71 @@ me_kept old now o a follows = ap (λ (z : SiteState). z.site.me) follows.0 ∙ R
 
 -- ---- what is sent
 
--- the outcome sends nothing
-abbrev Silent : Outcome → Type 0
-Silent o = sent_by o ≡ []
+-- the outcome sends at most 16 messages
+abbrev SendsFew : Outcome → Type 0
+SendsFew o = length (sent_by o) ≤ 16
 
-silent_if : (b : Bool) (why : Refusal) (next : Outcome) → Silent next → Silent (refuses_if b why next)
-silent_if true why next h = refl
-silent_if false why next h = h
+few_if : (b : Bool) (why : Refusal) (next : Outcome) → SendsFew next → SendsFew (refuses_if b why next)
+few_if true why next h = lit≤ tt
+few_if false why next h = h
 
-silent_first : (o : Option Refusal) (next : Outcome) → Silent next → Silent (refuses_first o next)
-silent_first (Some why) next h = refl
-silent_first None next h = h
+few_first : (o : Option Refusal) (next : Outcome) → SendsFew next → SendsFew (refuses_first o next)
+few_first (Some why) next h = lit≤ tt
+few_first None next h = h
 
-silent_known : (v : Shadow) (o : Option Shadow) (next : Outcome) → Silent next → Silent (unless_known v o next)
-silent_known v None next h = h
-silent_known v (Some u) next h = by (same_shadow u v)
+few_known : (v : Shadow) (o : Option Shadow) (next : Outcome) → SendsFew next → SendsFew (unless_known v o next)
+few_known v None next h = h
+few_known v (Some u) next h = by (same_shadow u v)
   where
-    by : (b : Bool) → Silent (cond b (Answers (Already v.name)) (Refuses Conflict))
-    by true = refl
-    by false = refl
+    by : (b : Bool) → SendsFew (cond b (Answers (Already v.name)) (Refuses Conflict))
+    by true = lit≤ tt
+    by false = lit≤ tt
 
-silent_faulty : (o : Option ℕ) (next : Outcome) → Silent next → Silent (unless_faulty o next)
-silent_faulty (Some why) next h = refl
-silent_faulty None next h = h
+few_faulty : (o : Option ℕ) (next : Outcome) → SendsFew next → SendsFew (unless_faulty o next)
+few_faulty (Some why) next h = lit≤ tt
+few_faulty None next h = h
 
-silent_test : (b : Bool) (o p : Outcome) → Silent o → Silent p → Silent (cond b o p)
-silent_test true o p h k = h
-silent_test false o p h k = k
+few_test : (b : Bool) (o p : Outcome) → SendsFew o → SendsFew p → SendsFew (cond b o p)
+few_test true o p h k = h
+few_test false o p h k = k
 
-silent_check : (v : Shadow) (o : Option Refusal) → Silent (outcome_of_check v o)
-silent_check v None = refl
-silent_check v (Some NotReady) = refl
-silent_check v (Some why) = refl
+few_check : (v : Shadow) (o : Option Refusal) → SendsFew (outcome_of_check v o)
+few_check v None = lit≤ tt
+few_check v (Some NotReady) = lit≤ tt
+few_check v (Some why) = lit≤ tt
 
--- an event that may not send sends nothing
-pub sends_nothing : (s : Settings) (t : ModelSite) (e : Event) → may_send e ≡ false → sent_by (outcome_of s t e) ≡ []
-unfolding outcome_of outcome_of_shadow outcome_of_token outcome_of_apply
-sends_nothing s t (Submit r) h = cc
-sends_nothing s t (Pass to) h = cc
-sends_nothing s t (Receive (ShadowMessage v)) h =
-    silent_faulty (fault_in s v) _ (silent_known v (find_in t.ops v.name) _ (silent_if (v.home == t.me) Conflict _ (silent_known v (find_in t.held v.name) _ (silent_if (nat_le s.limits.inbox (length t.held) && not (is_eligible t.ops v)) InboxFull (Holds v) refl))))
-sends_nothing s t (Receive (TokenOnItsWay m)) h = silent_first (refusal_of_token s.limits t.me m) _ (silent_test (nat_le m.epoch t.token.epoch) (Answers (Stale m.epoch)) (Takes m) refl refl)
-sends_nothing s t (Apply x) h = by (find_in t.held x)
+few_made : (q : Result Shadow Refusal) → SendsFew (outcome_of_made q)
+few_made (Ok v) = lit≤ tt
+few_made (Err why) = lit≤ tt
+
+-- a batch of at most 16 requests makes as many operations
+few_batch : (s : Settings) (t : ModelSite) (rs : List Request) → SendsFew (outcome_of s t (Batch rs))
+unfolding outcome_of
+few_batch s t rs = by (nat_le 1 (length rs)) (nat_le (length rs) 16) refl
   where
-    by : (o : Option Shadow) → Silent (outcome_of_apply s t o)
-    by None = refl
-    by (Some v) = silent_if (not (is_eligible t.ops v)) NotReady _ (silent_check v (refusal_of_sound s t.ops v))
-sends_nothing s t (Balance a) h = silent_if (not (is_account s a)) UnknownAccount (Answers (BalanceIs (cents (bal s t.ops a)))) refl
+    made : length rs ≤ 16 → (q : Result (List Shadow) Refusal) → batch_of s t.me t.ops t.token 0 rs ≡ q → SendsFew (outcome_of_batch q)
+    made few (Ok vs) e = subst (λ n. n ≤ 16) (sym (length-map vs ShadowMessage ∙ batch_length s t.me t.ops t.token 0 rs vs e)) few
+    made few (Err why) e = lit≤ tt
 
--- what is sent fits where one message does
-pub one_or_none : (m : Option Message) (ms : List Message) → listed m ≡ ms → ms ≡ [] → m ≡ None
-one_or_none None ms h k = refl
-one_or_none (Some m) ms h k = cc
+    by : (b c : Bool) → nat_le (length rs) 16 ≡ c → SendsFew (refuses_if (not (b && c)) BadBatch (outcome_of_batch (batch_of s t.me t.ops t.token 0 rs)))
+    by false c e = lit≤ tt
+    by true false e = lit≤ tt
+    by true true e = made (grind (arith, nat_tests)) (batch_of s t.me t.ops t.token 0 rs) refl
+
+-- an event sends at most 16 messages
+pub sends_few : (s : Settings) (t : ModelSite) (e : Event) → length (sent_by (outcome_of s t e)) ≤ 16
+unfolding outcome_of outcome_of_shadow outcome_of_token outcome_of_apply outcome_of_pass
+sends_few s t (Submit r) = few_made (made_of s t.me t.ops t.token r)
+sends_few s t (Batch rs) = few_batch s t rs
+sends_few s t (Receive (ShadowMessage v)) =
+    few_faulty (fault_in s v) _ (few_known v (find_in t.ops v.name) _ (few_if (v.home == t.me) Conflict _ (few_known v (find_in t.held v.name) _ (few_if (nat_le s.limits.inbox (length t.held) && not (is_eligible t.ops v)) InboxFull (Holds v) (lit≤ tt)))))
+sends_few s t (Receive (TokenOnItsWay m)) = few_first (refusal_of_token s.limits t.me m) _ (few_test (nat_le m.epoch t.token.epoch) (Answers (Stale m.epoch)) (Takes m) (lit≤ tt) (lit≤ tt))
+sends_few s t (Apply x) = by (find_in t.held x)
+  where
+    by : (o : Option Shadow) → SendsFew (outcome_of_apply s t o)
+    by None = lit≤ tt
+    by (Some v) = few_if (not (is_eligible t.ops v)) NotReady _ (few_check v (refusal_of_sound s t.ops v))
+sends_few s t (Pass to) = few_first (refusal_of_pass s.sites s.limits t.me t.token to) (Passes (pass_message t.token to (red_count t.ops))) (lit≤ tt)
+sends_few s t (Balance a) = few_if (not (is_account s a)) UnknownAccount (Answers (BalanceIs (cents (bal s t.ops a)))) (lit≤ tt)
+sends_few s t (AsOf a n) = few_if (not (is_account s a)) UnknownAccount _ (few_if (nat_lt (length t.ops) n) PositionBeyond (Answers (BalanceIs (cents (bal s (take n t.ops) a)))) (lit≤ tt))
+sends_few s t (AskStatement a) = few_if (not (is_account s a)) UnknownAccount (Answers (StatementIs (statement_of s t.ops a))) (lit≤ tt)

@@ -3,7 +3,7 @@ use Rattle.std.specs.Prelude.{◌≡◌, ℕ, Bool, true, false, if◌then◌els
 use Rattle.rb_money.specs.Amounts.{cents}
 use Rattle.rb_money.specs.Settings.{Settings, is_account}
 use Rattle.rb_money.specs.declared.refusal.Refusal.{Refusal}
-use Rattle.rb_money.specs.declared.refusal.Refusal.TheVariants.{UnknownAccount, NotHeld, NotReady, InboxFull, BadMessage, Conflict, HistoryFull}
+use Rattle.rb_money.specs.declared.refusal.Refusal.TheVariants.{UnknownAccount, BadBatch, NotHeld, NotReady, InboxFull, BadMessage, Conflict, PositionBeyond, HistoryFull}
 use Rattle.rb_shadow.specs.Labels.{label_of}
 use Rattle.rb_shadow.specs.Operations.{bal, red_count, find_in, same_shadow, is_eligible}
 use Rattle.rb_shadow.specs.Sound.{fault_in}
@@ -11,14 +11,16 @@ use Rattle.rb_shadow.specs.declared.op_name.OpName.{OpName}
 use Rattle.rb_shadow.specs.declared.shadow.Shadow.{Shadow}
 use Rattle.rb_ledger.specs.Checks.{refusal_of_sound}
 use Rattle.rb_inbox.specs.Held.{with_held, without}
+use Rattle.rb_scratch.specs.Batches.{batch_of, names_of_all}
 use Rattle.rb_scratch.specs.Requests.{made_of}
 use Rattle.rb_site.specs.declared.entry.Entry.{Entry}
 use Rattle.rb_site.specs.declared.event.Event.{Event}
-use Rattle.rb_site.specs.declared.event.Event.TheVariants.{Submit, Receive, Apply, Pass, Balance}
+use Rattle.rb_site.specs.declared.event.Event.TheVariants.{Submit, Batch, Receive, Apply, Pass, Balance, AsOf, Statement as AskStatement}
 use Rattle.rb_site.specs.declared.message.Message.{Message}
 use Rattle.rb_site.specs.declared.message.Message.TheVariants.{Shadow as ShadowMessage, Token as TokenOnItsWay}
 use Rattle.rb_site.specs.declared.reply.Reply.{Reply}
-use Rattle.rb_site.specs.declared.reply.Reply.TheVariants.{Made, Held, Already, Taken, Stale, Applied, Passed, Balance as BalanceIs, Refused}
+use Rattle.rb_site.specs.declared.reply.Reply.TheVariants.{Made, Names as NamesMade, Held, Already, Taken, Stale, Applied, Passed, Balance as BalanceIs, Statement as StatementIs, Refused}
+use Rattle.rb_statements.specs.Statements.{statement_of}
 use Rattle.rb_token.specs.Token.{Token, first_token, taken_token, passed_token, pass_message, refusal_of_pass, refusal_of_token, is_stale}
 use Rattle.rb_token.specs.declared.message.TokenMessage.{TokenMessage}
 
@@ -57,12 +59,17 @@ abbrev pub refuses_first : Option Refusal → Outcome → Outcome
 refuses_first (Some why) next = Refuses why
 refuses_first None next = next
 
--- ---- Submit
+-- ---- Submit and Batch
 
 -- what a request's operation comes to
 abbrev pub outcome_of_made : Result Shadow Refusal → Outcome
 outcome_of_made (Ok v) = Makes (Made v.name (label_of v.kind)) (v ∷ [])
 outcome_of_made (Err why) = Refuses why
+
+-- what a batch's operations come to
+abbrev pub outcome_of_batch : Result (List Shadow) Refusal → Outcome
+outcome_of_batch (Ok vs) = Makes (NamesMade (names_of_all vs)) vs
+outcome_of_batch (Err why) = Refuses why
 
 -- ---- Receive and Apply
 
@@ -123,19 +130,19 @@ outcome_of_pass s t to =
 -- what an event comes to at a site
 unfoldable pub outcome_of : Settings → ModelSite → Event → Outcome
 outcome_of s t (Submit r) = outcome_of_made (made_of s t.me t.ops t.token r)
+outcome_of s t (Batch rs) =
+    refuses_if (not (nat_le 1 (length rs) && nat_le (length rs) 16)) BadBatch
+    (outcome_of_batch (batch_of s t.me t.ops t.token 0 rs))
 outcome_of s t (Receive (ShadowMessage v)) = outcome_of_shadow s t v
 outcome_of s t (Receive (TokenOnItsWay m)) = outcome_of_token s t m
 outcome_of s t (Apply x) = outcome_of_apply s t (find_in t.held x)
 outcome_of s t (Pass to) = outcome_of_pass s t to
 outcome_of s t (Balance a) = refuses_if (not (is_account s a)) UnknownAccount (Answers (BalanceIs (cents (bal s t.ops a))))
-
--- only a request and the passing of the token may send a message
-abbrev pub may_send : Event → Bool
-may_send (Submit r) = true
-may_send (Pass to) = true
-may_send (Receive m) = false
-may_send (Apply x) = false
-may_send (Balance a) = false
+outcome_of s t (AsOf a n) =
+    refuses_if (not (is_account s a)) UnknownAccount
+    (refuses_if (nat_lt (length t.ops) n) PositionBeyond
+    (Answers (BalanceIs (cents (bal s (take n t.ops) a)))))
+outcome_of s t (AskStatement a) = refuses_if (not (is_account s a)) UnknownAccount (Answers (StatementIs (statement_of s t.ops a)))
 
 -- the reply
 abbrev pub reply_of : Outcome → Reply

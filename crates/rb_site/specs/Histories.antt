@@ -5,7 +5,7 @@ use Rattle.rb_site.specs.declared.entry.Entry.{Entry}
 use Rattle.rb_site.specs.declared.world_event.WorldEvent.{WorldEvent}
 use Rattle.rb_site.specs.declared.world_event.WorldEvent.TheVariants.{At, Deliver}
 use Rattle.rb_site.specs.declared.event.Event.{Event}
-use Rattle.rb_site.specs.declared.event.Event.TheVariants.{Submit, Receive, Apply, Pass, Balance}
+use Rattle.rb_site.specs.declared.event.Event.TheVariants.{Submit, Batch, Receive, Apply, Pass, Balance, AsOf, Statement as AskStatement}
 use Rattle.rb_site.specs.declared.message.Message.{Message}
 use Rattle.rb_site.specs.Events.{ModelSite, after_event, first_site, is_full, reply_to, sent_at}
 use Rattle.rb_site.specs.Worlds.{AreOwn, World, first_world, is_recorded, message_at, world_after, world_at, world_of_run}
@@ -42,9 +42,12 @@ pub record Certifies (s : Settings) (hs : List (List Entry)) (order : List ℕ) 
 abbrev pub IsFrom : List Message → Event → Type 0
 IsFrom ms (Receive m) = (k : ℕ) × (message_at ms k ≡ Some m)
 IsFrom ms (Submit r) = Unit {0}
+IsFrom ms (Batch rs) = Unit {0}
 IsFrom ms (Apply x) = Unit {0}
 IsFrom ms (Pass to) = Unit {0}
 IsFrom ms (Balance a) = Unit {0}
+IsFrom ms (AsOf a n) = Unit {0}
+IsFrom ms (AskStatement a) = Unit {0}
 
 -- the site's next entry of its history can be taken: its event can come, there is room, and the site gives the reply
 pub record IsNextEntry (s : Settings) (w : World) (hs : List (List Entry)) (i : ℕ) (t : ModelSite) (x : Entry) : Type 0 where

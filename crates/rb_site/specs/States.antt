@@ -1,5 +1,5 @@
 -- Where a site stands between two events.
-use Rattle.std.specs.Prelude.{◌≡◌, ◌<◌, List, [], ◌∷◌, Option, Some, None}
+use Rattle.std.specs.Prelude.{◌≡◌, ◌<◌, List, []}
 use Rattle.rb_money.specs.Settings.{Settings}
 use Rattle.rb_inbox.specs.Held.{Holding}
 use Rattle.rb_shadow.specs.declared.shadow.Shadow.{Shadow}
@@ -8,6 +8,7 @@ use Rattle.rb_shadow.specs.Sound.{IsSound}
 use Rattle.rb_token.specs.Seat.{TokenSeat}
 use Rattle.rb_site.specs.declared.answer.Answer.{Answer}
 use Rattle.rb_site.specs.declared.message.Message.{Message}
+use Rattle.rb_site.specs.declared.reply.Reply.{Reply}
 use Rattle.rb_site.specs.Events.{ModelSite, Outcome, changed, reply_of, sent_by}
 use Rattle.rb_site.specs.Seen.{SeenSite, IsReplayed, state_of}
 
@@ -28,17 +29,15 @@ pub record IsTied (s : Settings) (inbox : Holding) (token : TokenSeat) : Type 0 
   pub limit : inbox.limit ≡ s.limits.inbox
   pub sound : (v : Shadow) → Among v inbox.held → IsSound s v
 
--- a message or none, as a list
-abbrev pub listed : Option Message → List Message
-listed None = []
-listed (Some m) = m ∷ []
+-- the answer has this reply, the same for the history, and sends these messages
+abbrev pub Says : Answer → Reply → List Message → Type 0
+Says answer reply ms = (answer.reply ≡ reply) × (answer.noted ≡ reply) × (answer.posted.items ≡ ms)
 
 -- the answer and the new state are what the event came to
 abbrev pub Follows : SiteState → SiteState → Outcome → Answer → Type 0
 Follows old new o answer =
     (new ≡ record old { site = changed old.site o })
-    × (answer.reply ≡ reply_of o)
-    × (listed answer.message ≡ sent_by o)
+    × Says answer (reply_of o) (sent_by o)
 
 -- a site's history replays, and it stands where the run of it leaves it
 pub record IsStanding (x : SeenSite) (now : SiteState) : Type 0 where

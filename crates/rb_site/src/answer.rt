@@ -1,33 +1,44 @@
 //! What a site answers to one event.
-ghost use Rattle.std.specs.Prelude.{◌≡◌, Some, None};
+ghost use Rattle.std.specs.Prelude.{◌∷◌, [], IfOk};
 
 use crate::{Message, Reply};
+use std::alloc::{AllocError, Global};
 
-/// A reply, and what is sent with it.
-#[derive(Clone, Copy, Debug, PartialEq, Eq)]
+/// A reply, the same once more for the history, and what is sent with it. A handler has its answer
+/// before it changes anything, so that want of memory leaves the site as it was.
+#[derive(Debug, Drop)]
 pub struct Answer {
     pub reply: Reply,
-    pub message: Option<Message>,
+    pub noted: Reply,
+    pub posted: Vec<Message>,
 }
 
 impl Answer {
-    /// A reply with which nothing is sent.
-    pub fn alone(reply: Reply) -> Answer
-        ensures { result ≡ record { reply = reply; message = None } }
+    ghost use Rattle.rb_site.specs.States.{Says};
+
+    /// A reply with which nothing is sent. `Err` is want of memory.
+    pub fn alone(alloc: Global, reply: Reply) -> Result<Answer, AllocError>
+        ensures { IfOk result (λ answer. Says answer reply []) }
     {
-        Answer {
+        let noted = reply.try_copy(alloc)?;
+        Ok(Answer {
             reply,
-            message: None,
-        }
+            noted,
+            posted: Vec::new(alloc),
+        })
     }
 
-    /// A reply with which a message is sent.
-    pub fn with(reply: Reply, message: Message) -> Answer
-        ensures { result ≡ record { reply = reply; message = Some message } }
+    /// A reply with which a message is sent. `Err` is want of memory.
+    pub fn with(alloc: Global, reply: Reply, message: Message) -> Result<Answer, AllocError>
+        ensures { IfOk result (λ answer. Says answer reply (message ∷ [])) }
     {
-        Answer {
+        let noted = reply.try_copy(alloc)?;
+        let mut posted = Vec::new(alloc);
+        posted.push(message)?;
+        Ok(Answer {
             reply,
-            message: Some(message),
-        }
+            noted,
+            posted,
+        })
     }
 }

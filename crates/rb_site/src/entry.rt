@@ -5,7 +5,7 @@ use crate::{Event, Reply};
 use std::alloc::{AllocError, Global};
 
 /// An event with its reply.
-#[derive(Clone, Copy, Debug, PartialEq, Eq)]
+#[derive(Debug, Drop)]
 pub struct Entry {
     pub event: Event,
     pub reply: Reply,
@@ -13,9 +13,11 @@ pub struct Entry {
 
 impl Entry {
     /// An equal entry. `Err` is want of memory.
-    pub fn try_copy(&self, _alloc: Global) -> Result<Entry, AllocError>
+    pub fn try_copy(&self, alloc: Global) -> Result<Entry, AllocError>
         ensures { IfOk result (λ copy. copy ≡ self.now) }
     {
-        Ok(*self)
+        let event = self.event.try_copy(alloc)?;
+        let reply = self.reply.try_copy(alloc)?;
+        Ok(Entry { event, reply })
     }
 }

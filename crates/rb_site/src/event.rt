@@ -1,35 +1,50 @@
 //! Events of a site.
 ghost use Rattle.std.specs.Prelude.{◌≡◌, IfOk};
-ghost use Rattle.rb_site.specs.Events.{may_send};
 
-use crate::Message;
+use crate::{Message, Requests};
 use rb_money::Place;
 use rb_scratch::Request;
 use rb_shadow::OpName;
 use std::alloc::{AllocError, Global};
 
 /// What happens at a site.
-#[derive(Clone, Copy, Debug, PartialEq, Eq)]
+#[derive(Debug, Drop)]
 pub enum Event {
+    /// A teller asks for one operation.
     Submit(Request),
+    /// A teller asks for 1 to 16 operations, of which all are made or none.
+    Batch(Requests),
+    /// A message comes.
     Receive(Message),
+    /// A held operation is to be applied.
     Apply(OpName),
+    /// The token is to go to the site of this number.
     Pass(u8),
+    /// A teller asks for an account's balance.
     Balance(Place),
+    /// A teller asks for an account's balance after so many of the site's operations.
+    AsOf(Place, u32),
+    /// A teller asks for an account's statement.
+    Statement(Place),
 }
 
 impl Event {
-    /// Whether the event may send a message: a request and the passing of the token may.
-    pub fn may_send(&self) -> bool
-        ensures { result ≡ may_send self.now }
-    {
-        matches!(self, Event::Submit(_) | Event::Pass(_))
-    }
-
     /// An equal event. `Err` is want of memory.
-    pub fn try_copy(&self, _alloc: Global) -> Result<Event, AllocError>
+    pub fn try_copy(&self, alloc: Global) -> Result<Event, AllocError>
         ensures { IfOk result (λ copy. copy ≡ self.now) }
     {
-        Ok(*self)
+        match self {
+            Event::Submit(request) => Ok(Event::Submit(*request)),
+            Event::Batch(requests) => {
+                let requests = requests.try_copy(alloc)?;
+                Ok(Event::Batch(requests))
+            }
+            Event::Receive(message) => Ok(Event::Receive(*message)),
+            Event::Apply(name) => Ok(Event::Apply(*name)),
+            Event::Pass(to) => Ok(Event::Pass(*to)),
+            Event::Balance(place) => Ok(Event::Balance(*place)),
+            Event::AsOf(place, position) => Ok(Event::AsOf(*place, *position)),
+            Event::Statement(place) => Ok(Event::Statement(*place)),
+        }
     }
 }

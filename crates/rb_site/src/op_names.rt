@@ -1,7 +1,8 @@
 //! Lists of names.
-ghost use Rattle.std.specs.Prelude.{◌≡◌};
+ghost use Rattle.std.specs.Prelude.{◌≡◌, ◌↔◌, IfOk, IsTrue};
 
 use rb_shadow::OpName;
+use std::alloc::{AllocError, Global};
 use std::marker::Model;
 
 /// The names of what a batch made, in order. Callers see the names.
@@ -32,5 +33,20 @@ impl OpNames {
         ensures { result.now ≡ self.now }
     {
         self.items.as_slice()
+    }
+
+    /// The same once more. `Err` is want of memory.
+    pub fn try_copy(&self, alloc: Global) -> Result<OpNames, AllocError>
+        ensures { IfOk result (λ copy. copy ≡ self.now) }
+    {
+        let items = self.items.as_slice().to_vec(alloc)?;
+        Ok(OpNames { items })
+    }
+
+    /// Whether the two are equal, one by one.
+    pub fn same(&self, other: &OpNames) -> bool
+        ensures { IsTrue result ↔ (self.now ≡ other.now) }
+    {
+        self.items.as_slice() == other.items.as_slice()
     }
 }

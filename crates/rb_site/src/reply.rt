@@ -1,14 +1,17 @@
 //! Replies of a site.
 ghost use Rattle.std.specs.Prelude.{◌≡◌, IfOk};
 
+use crate::OpNames;
 use rb_money::Refusal;
 use rb_shadow::{Label, OpName};
+use rb_statements::Statement;
 use std::alloc::{AllocError, Global};
 
 /// What the site answers.
-#[derive(Clone, Copy, Debug, PartialEq, Eq)]
+#[derive(Debug, Drop)]
 pub enum Reply {
     Made { name: OpName, kind: Label },
+    Names(OpNames),
     Held(OpName),
     Already(OpName),
     Taken(u32),
@@ -16,14 +19,36 @@ pub enum Reply {
     Applied(OpName),
     Passed(u32),
     Balance(u64),
+    Statement(Statement),
     Refused(Refusal),
 }
 
 impl Reply {
     /// An equal reply. `Err` is want of memory.
-    pub fn try_copy(&self, _alloc: Global) -> Result<Reply, AllocError>
+    pub fn try_copy(&self, alloc: Global) -> Result<Reply, AllocError>
         ensures { IfOk result (λ copy. copy ≡ self.now) }
     {
-        Ok(*self)
+        match self {
+            Reply::Made { name, kind } => Ok(Reply::Made {
+                name: *name,
+                kind: *kind,
+            }),
+            Reply::Names(names) => {
+                let names = names.try_copy(alloc)?;
+                Ok(Reply::Names(names))
+            }
+            Reply::Held(name) => Ok(Reply::Held(*name)),
+            Reply::Already(name) => Ok(Reply::Already(*name)),
+            Reply::Taken(epoch) => Ok(Reply::Taken(*epoch)),
+            Reply::Stale(epoch) => Ok(Reply::Stale(*epoch)),
+            Reply::Applied(name) => Ok(Reply::Applied(*name)),
+            Reply::Passed(epoch) => Ok(Reply::Passed(*epoch)),
+            Reply::Balance(cents) => Ok(Reply::Balance(*cents)),
+            Reply::Statement(statement) => {
+                let statement = statement.try_copy(alloc)?;
+                Ok(Reply::Statement(statement))
+            }
+            Reply::Refused(why) => Ok(Reply::Refused(*why)),
+        }
     }
 }

@@ -1,7 +1,8 @@
 //! Lists of requests.
-ghost use Rattle.std.specs.Prelude.{◌≡◌};
+ghost use Rattle.std.specs.Prelude.{◌≡◌, ◌↔◌, IfOk, IsTrue};
 
 use rb_scratch::Request;
+use std::alloc::{AllocError, Global};
 use std::marker::Model;
 
 /// The requests of a batch, in order. Callers see the requests.
@@ -32,5 +33,20 @@ impl Requests {
         ensures { result.now ≡ self.now }
     {
         self.items.as_slice()
+    }
+
+    /// The same once more. `Err` is want of memory.
+    pub fn try_copy(&self, alloc: Global) -> Result<Requests, AllocError>
+        ensures { IfOk result (λ copy. copy ≡ self.now) }
+    {
+        let items = self.items.as_slice().to_vec(alloc)?;
+        Ok(Requests { items })
+    }
+
+    /// Whether the two are equal, one by one.
+    pub fn same(&self, other: &Requests) -> bool
+        ensures { IsTrue result ↔ (self.now ≡ other.now) }
+    {
+        self.items.as_slice() == other.items.as_slice()
     }
 }

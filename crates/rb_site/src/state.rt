@@ -6,7 +6,7 @@ ghost use Rattle.rb_site.specs.Events.{first_site, outcome_of, outcome_of_new, o
 ghost use Rattle.rb_site.specs.States.{Follows};
 
 use crate::answer::Answer;
-use crate::{Event, Message, Reply};
+use crate::{Event, Message, Reply, Requests};
 use rb_inbox::{Inbox, PutAnswer};
 use rb_ledger::Ledger;
 use rb_money::{Config, Place, Refusal};
@@ -20,6 +20,7 @@ use std::marker::Model;
 /// What a site applied, what it holds, and what it knows of the token.
 #[derive(Drop)]
 pub struct State {
+    alloc: Global,
     ledger: Ledger,
     inbox: Inbox,
     token: TokenState,
@@ -47,6 +48,7 @@ impl State {
     {
         let ledger = Ledger::open(alloc, config)?;
         Ok(State {
+            alloc,
             ledger,
             inbox: Inbox::open(alloc, config.limits().inbox),
             token: TokenState::open(me, config),
@@ -115,11 +117,14 @@ impl State {
     {
         match event {
             Event::Submit(request) => self.submit(request),
+            Event::Batch(requests) => self.batch(requests),
             Event::Receive(Message::Shadow(shadow)) => self.receive(*shadow),
-            Event::Receive(Message::Token(message)) => Ok(self.accept(*message)),
+            Event::Receive(Message::Token(message)) => self.accept(*message),
             Event::Apply(name) => self.apply(*name),
-            Event::Pass(to) => Ok(self.pass(*to)),
-            Event::Balance(place) => Ok(self.balance(*place)),
+            Event::Pass(to) => self.pass(*to),
+            Event::Balance(place) => self.balance(*place),
+            Event::AsOf(place, position) => self.as_of(*place, *position),
+            Event::Statement(place) => self.statement(*place),
         }
     }
 
@@ -131,22 +136,31 @@ impl State {
     {
         let shadow = match generate(&self.ledger, &self.token.view(), request) {
             Ok(shadow) => shadow,
-            Err(why) => return Ok(Answer::alone(Reply::Refused(why))),
+            Err(why) => return Answer::alone(self.alloc, Reply::Refused(why)),
         };
+        let made = Reply::Made {
+            name: shadow.name,
+            kind: shadow.kind.label(),
+        };
+        let answer = Answer::with(self.alloc, made, Message::Shadow(shadow))?;
         match self.ledger.apply(shadow) {
             Ok(undo) => {
                 undo.seal();
-                Ok(Answer::with(
-                    Reply::Made {
-                        name: shadow.name,
-                        kind: shadow.kind.label(),
-                    },
-                    Message::Shadow(shadow),
-                ))
+                Ok(answer)
             }
             // What was generated may follow the list, so that only memory can be wanting.
             Err(_) => Err(AllocError),
         }
+    }
+
+    /// The requests of a batch are decided here one after another, and their shadows are applied
+    /// here and sent: all of them or none.
+    fn batch(&mut self, _requests: &Requests) -> Result<Answer, AllocError>
+        ensures ok { IfOk result (Follows self.old self.new (outcome_of self.old.settings self.old.site (Event.Batch _requests.now))) }
+        ensures err { OnErr result (self.new ≡ self.old) }
+    {
+        // To come.
+        Err(AllocError)
     }
 
     #[tactic(auto, unfolding(crate::specs::Events::outcome_of_shadow))]
@@ -156,13 +170,13 @@ impl State {
         ensures err { OnErr result (self.new ≡ self.old) }
     {
         if let Err(why) = shadow.sound(self.ledger.config()) {
-            return Ok(Answer::alone(Reply::Refused(why)));
+            return Answer::alone(self.alloc, Reply::Refused(why));
         }
         if let Some(applied) = self.applied(&shadow.name) {
-            return Ok(Answer::alone(again(&shadow, &applied)));
+            return Answer::alone(self.alloc, again(&shadow, &applied));
         }
         if shadow.home == self.token.view().me {
-            return Ok(Answer::alone(Reply::Refused(Refusal::Conflict)));
+            return Answer::alone(self.alloc, Reply::Refused(Refusal::Conflict));
         }
         self.hold(shadow)
     }
@@ -174,14 +188,17 @@ impl State {
         ensures err { OnErr result (self.new ≡ self.old) }
     {
         let _sites = self.ledger.config().sites();
+        let held = Answer::alone(self.alloc, Reply::Held(shadow.name))?;
         let why = match self.inbox.put(shadow, self.ledger.clock()) {
-            Ok(PutAnswer::Held) => return Ok(Answer::alone(Reply::Held(shadow.name))),
-            Ok(PutAnswer::Already) => return Ok(Answer::alone(Reply::Already(shadow.name))),
+            Ok(PutAnswer::Held) => return Ok(held),
+            Ok(PutAnswer::Already) => {
+                return Answer::alone(self.alloc, Reply::Already(shadow.name));
+            }
             Err(why) => why,
         };
         match why {
             Refusal::OutOfMemory => Err(AllocError),
-            why => Ok(Answer::alone(Reply::Refused(why))),
+            why => Answer::alone(self.alloc, Reply::Refused(why)),
         }
     }
 
@@ -197,13 +214,15 @@ impl State {
 
     #[tactic(auto, unfolding(crate::specs::Events::outcome_of_token))]
     /// A token message makes this site the holder, unless its epoch was seen.
-    fn accept(&mut self, message: TokenMessage) -> Answer
-        ensures { Follows self.old self.new (outcome_of_token self.old.settings self.old.site message) result }
+    fn accept(&mut self, message: TokenMessage) -> Result<Answer, AllocError>
+        ensures ok { IfOk result (Follows self.old self.new (outcome_of_token self.old.settings self.old.site message)) }
+        ensures err { OnErr result (self.new ≡ self.old) }
     {
+        let taken = Answer::alone(self.alloc, Reply::Taken(message.epoch))?;
         match self.token.accept(message) {
-            Ok(Accepted::Taken) => Answer::alone(Reply::Taken(message.epoch)),
-            Ok(Accepted::Stale) => Answer::alone(Reply::Stale(message.epoch)),
-            Err(why) => Answer::alone(Reply::Refused(why)),
+            Ok(Accepted::Taken) => Ok(taken),
+            Ok(Accepted::Stale) => Answer::alone(self.alloc, Reply::Stale(message.epoch)),
+            Err(why) => Answer::alone(self.alloc, Reply::Refused(why)),
         }
     }
 
@@ -214,51 +233,74 @@ impl State {
         ensures err { OnErr result (self.new ≡ self.old) }
     {
         let Some(held) = self.inbox.held(&name) else {
-            return Ok(Answer::alone(Reply::Refused(Refusal::NotHeld)));
+            return Answer::alone(self.alloc, Reply::Refused(Refusal::NotHeld));
         };
         let shadow = *held;
         if !self.ledger.is_eligible(&shadow) {
-            return Ok(Answer::alone(Reply::Refused(Refusal::NotReady)));
+            return Answer::alone(self.alloc, Reply::Refused(Refusal::NotReady));
         }
+        let applied = Answer::alone(self.alloc, Reply::Applied(shadow.name))?;
         let why = match self.ledger.apply(shadow) {
             Ok(undo) => {
                 undo.seal();
                 self.inbox.remove(&shadow.name);
-                return Ok(Answer::alone(Reply::Applied(shadow.name)));
+                return Ok(applied);
             }
             Err((_, why)) => why,
         };
         match why {
             Refusal::OutOfMemory => Err(AllocError),
-            Refusal::NotReady => Ok(Answer::alone(Reply::Refused(Refusal::NotReady))),
+            Refusal::NotReady => Answer::alone(self.alloc, Reply::Refused(Refusal::NotReady)),
             why => {
+                let refused = Answer::alone(self.alloc, Reply::Refused(why))?;
                 self.inbox.remove(&shadow.name);
-                Ok(Answer::alone(Reply::Refused(why)))
+                Ok(refused)
             }
         }
     }
 
     #[tactic(auto, unfolding(crate::specs::Events::outcome_of_pass))]
     /// The token goes to another site.
-    fn pass(&mut self, to: u8) -> Answer
-        ensures { Follows self.old self.new (outcome_of_pass self.old.settings self.old.site to) result }
+    fn pass(&mut self, to: u8) -> Result<Answer, AllocError>
+        ensures ok { IfOk result (Follows self.old self.new (outcome_of_pass self.old.settings self.old.site to)) }
+        ensures err { OnErr result (self.new ≡ self.old) }
     {
-        let message = match self.token.pass(to, self.ledger.clock()) {
+        let mut passed = self.token.copy();
+        let message = match passed.pass(to, self.ledger.clock()) {
             Ok(message) => message,
-            Err(why) => return Answer::alone(Reply::Refused(why)),
+            Err(why) => return Answer::alone(self.alloc, Reply::Refused(why)),
         };
-        Answer::with(Reply::Passed(message.epoch), Message::Token(message))
+        let reply = Reply::Passed(message.epoch);
+        let answer = Answer::with(self.alloc, reply, Message::Token(message))?;
+        self.token = passed;
+        Ok(answer)
     }
 
     #[tactic(auto, unfolding(crate::specs::Events::outcome_of))]
     /// An account's balance.
-    fn balance(&self, place: Place) -> Answer
-        ensures { Follows self.now self.now (outcome_of self.now.settings self.now.site (Event.Balance place)) result }
+    fn balance(&self, place: Place) -> Result<Answer, AllocError>
+        ensures { IfOk result (Follows self.now self.now (outcome_of self.now.settings self.now.site (Event.Balance place))) }
     {
         match self.ledger.balance(place) {
-            Some(cents) => Answer::alone(Reply::Balance(cents)),
-            None => Answer::alone(Reply::Refused(Refusal::UnknownAccount)),
+            Some(cents) => Answer::alone(self.alloc, Reply::Balance(cents)),
+            None => Answer::alone(self.alloc, Reply::Refused(Refusal::UnknownAccount)),
         }
+    }
+
+    /// An account's balance after so many operations of the ledger.
+    fn as_of(&self, _place: Place, _position: u32) -> Result<Answer, AllocError>
+        ensures { IfOk result (Follows self.now self.now (outcome_of self.now.settings self.now.site (Event.AsOf _place _position))) }
+    {
+        // To come.
+        Err(AllocError)
+    }
+
+    /// An account's statement.
+    fn statement(&self, _place: Place) -> Result<Answer, AllocError>
+        ensures { IfOk result (Follows self.now self.now (outcome_of self.now.settings self.now.site (Event.Statement _place))) }
+    {
+        // To come.
+        Err(AllocError)
     }
 }
 

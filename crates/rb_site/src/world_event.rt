@@ -6,7 +6,7 @@ use crate::Event;
 use std::alloc::{AllocError, Global};
 
 /// What happens in a world: an event at a site, or the delivery of a message to a site.
-#[derive(Clone, Copy, Debug, PartialEq, Eq)]
+#[derive(Debug, Drop)]
 pub enum WorldEvent {
     At(u8, Event),
     Deliver(u8, u32),
@@ -24,9 +24,15 @@ impl WorldEvent {
     }
 
     /// An equal event. `Err` is want of memory.
-    pub fn try_copy(&self, _alloc: Global) -> Result<WorldEvent, AllocError>
+    pub fn try_copy(&self, alloc: Global) -> Result<WorldEvent, AllocError>
         ensures { IfOk result (λ copy. copy ≡ self.now) }
     {
-        Ok(*self)
+        match self {
+            WorldEvent::At(place, event) => {
+                let event = event.try_copy(alloc)?;
+                Ok(WorldEvent::At(*place, event))
+            }
+            WorldEvent::Deliver(place, number) => Ok(WorldEvent::Deliver(*place, *number)),
+        }
     }
 }

@@ -1,5 +1,8 @@
 //! Statements.
+ghost use Rattle.std.specs.Prelude.{◌≡◌, ◌↔◌, IfOk, IsTrue};
+
 use crate::Rows;
+use std::alloc::{AllocError, Global};
 
 /// An account's start, its entries and its balance.
 #[derive(Debug, Drop)]
@@ -10,4 +13,25 @@ pub struct Statement {
     pub rows: Rows,
     /// The account's balance, in cents.
     pub balance: u64,
+}
+
+impl Statement {
+    /// The same once more. `Err` is want of memory.
+    pub fn try_copy(&self, alloc: Global) -> Result<Statement, AllocError>
+        ensures { IfOk result (λ copy. copy ≡ self.now) }
+    {
+        let rows = self.rows.try_copy(alloc)?;
+        Ok(Statement {
+            start: self.start,
+            rows,
+            balance: self.balance,
+        })
+    }
+
+    /// Whether the two are equal, field by field.
+    pub fn same(&self, other: &Statement) -> bool
+        ensures { IsTrue result ↔ (self.now ≡ other.now) }
+    {
+        self.start == other.start && self.balance == other.balance && self.rows.same(&other.rows)
+    }
 }

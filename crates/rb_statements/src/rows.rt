@@ -1,7 +1,8 @@
 //! Lists of rows.
-ghost use Rattle.std.specs.Prelude.{◌≡◌};
+ghost use Rattle.std.specs.Prelude.{◌≡◌, ◌↔◌, IfOk, IsTrue};
 
 use crate::Row;
+use std::alloc::{AllocError, Global};
 use std::marker::Model;
 
 /// A list of rows. Callers see the rows.
@@ -32,5 +33,20 @@ impl Rows {
         ensures { result.now ≡ self.now }
     {
         self.items.as_slice()
+    }
+
+    /// The same once more. `Err` is want of memory.
+    pub fn try_copy(&self, alloc: Global) -> Result<Rows, AllocError>
+        ensures { IfOk result (λ copy. copy ≡ self.now) }
+    {
+        let items = self.items.as_slice().to_vec(alloc)?;
+        Ok(Rows { items })
+    }
+
+    /// Whether the two are equal, one by one.
+    pub fn same(&self, other: &Rows) -> bool
+        ensures { IsTrue result ↔ (self.now ≡ other.now) }
+    {
+        self.items.as_slice() == other.items.as_slice()
     }
 }

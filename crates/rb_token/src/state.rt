@@ -47,6 +47,21 @@ impl TokenState {
         }
     }
 
+    /// The same once more.
+    pub fn copy(&self) -> TokenState
+        ensures { result ≡ self.now }
+    {
+        let TokenView { me, held, needed } = self.view();
+        TokenState {
+            me,
+            sites: self.sites,
+            limits: self.limits,
+            epoch: self.epoch,
+            held,
+            needed,
+        }
+    }
+
     /// What a generator at this site is told.
     pub fn view(&self) -> TokenView
         ensures me { result.me ≡ self.now.me }

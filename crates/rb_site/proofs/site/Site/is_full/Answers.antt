@@ -1,5 +1,5 @@
 -- The history's length is that of the model site's.
-use Rattle.std.proofs.Common.{◌≡◌, ◌∙◌, ap, sym, arith, refl}
+use Rattle.std.proofs.Common.{◌∙◌, ap}
 use Rattle.std.specs.Prelude.{nat_le}
 use Rattle.rb_money.specs.Settings.{Settings}
 use Rattle.rb_money.specs.declared.limits.Limits.{Limits}

@@ -1,5 +1,5 @@
 -- The entry at the position of the name.
-use Rattle.std.proofs.Common.{◌≡◌, ◌∙◌, sym, ap}
+use Rattle.std.proofs.Common.{◌∙◌, sym, ap}
 use Rattle.rb_shadow.specs.Operations.{find_in}
 use Rattle.rb_site.specs.States.{SiteState}
 use Rattle.rb_scratch.proofs.Found.{at_position, no_position}

@@ -1,25 +1,27 @@
 -- The token goes as the model says.
-use Rattle.std.proofs.Common.{◌≡◌, ◌∙◌, sym, ap, subst, refl}
-use Rattle.rb_money.specs.Settings.{Settings}
-use Rattle.rb_money.specs.declared.limits.Limits.{Limits}
+use Rattle.std.proofs.Common.{◌∙◌, sym, ap, subst, refl}
 use Rattle.rb_shadow.specs.Operations.{clock_of}
 use Rattle.rb_shadow.specs.declared.deps.Deps.{Deps}
 use Rattle.rb_token.specs.Seat.{TokenSeat}
-use Rattle.rb_token.specs.Token.{refusal_of_pass}
+use Rattle.rb_token.specs.Token.{pass_message, passed_token, refusal_of_pass}
 use Rattle.rb_site.specs.Events.{outcome_of_pass}
 use Rattle.rb_site.specs.States.{Follows, SiteState}
 use Rattle.rb_site.proofs.Handlers.{passes, state_as}
 use Rattle.rb_site.proofs.state.State.pass.Goals as goal
 
-pub returns : goal.returns
+pub returns-clause-ok : goal.returns-clause-ok
 unfolding clock_of
-returns c =
-    let P : SiteState → Type 0 = λ z. Follows z (state_as c.self.inside.ledger.settings c.pass.new.self.me c.self.inside.ledger.entries c.self.inside.inbox.held c.pass.new.self.token) (outcome_of_pass z.settings z.site c.args.to) c.with.result in
+returns-clause-ok c =
+    let P : SiteState → Type 0 = λ z. Follows z (state_as c.self.inside.ledger.settings c.pass.new.self.me c.self.inside.ledger.entries c.self.inside.inbox.held c.pass.new.self.token) (outcome_of_pass z.settings z.site c.args.to) c.in_ok-answer.answer in
     subst P c.self.view_is
-    (let Q : TokenSeat → Type 0 = λ seat. Follows (state_as c.self.inside.ledger.settings c.self.inside.token.me c.self.inside.ledger.entries c.self.inside.inbox.held c.self.inside.token.token) (state_as c.self.inside.ledger.settings seat.me c.self.inside.ledger.entries c.self.inside.inbox.held seat.token) (outcome_of_pass c.self.inside.ledger.settings (state_as c.self.inside.ledger.settings c.self.inside.token.me c.self.inside.ledger.entries c.self.inside.inbox.held c.self.inside.token.token).site c.args.to) c.with.result in
-    subst Q (sym c.in-Ok.ensures.passed)
-    (passes c.self.inside.ledger.settings c.self.inside.token.me c.self.inside.ledger.entries c.self.inside.inbox.held c.self.inside.token.token _ c.args.to c.clock.result.now.red c.in-Ok.message c.with.result
+    (let old : SiteState = state_as c.self.inside.ledger.settings c.self.inside.token.me c.self.inside.ledger.entries c.self.inside.inbox.held c.self.inside.token.token in
+    let Q : TokenSeat → Type 0 = λ seat. Follows old (state_as c.self.inside.ledger.settings seat.me c.self.inside.ledger.entries c.self.inside.inbox.held seat.token) (outcome_of_pass old.settings old.site c.args.to) c.in_ok-answer.answer in
+    subst Q (sym (c.in-Ok.ensures.passed ∙ ap (λ (seat : TokenSeat). record seat { token = passed_token seat.token c.in-Ok.message }) c.copy-passed.ensures))
+    (passes c.self.inside.ledger.settings c.self.inside.token.me c.self.inside.ledger.entries c.self.inside.inbox.held c.self.inside.token.token _ c.args.to c.clock.result.now.red c.in-Ok.message c.in_ok-answer.answer
     (ap (λ n. refusal_of_pass n c.self.inside.ledger.settings.limits c.self.inside.token.me c.self.inside.token.token c.args.to) (sym c.self.invariant.sites)
     ∙ ap (λ l. refusal_of_pass c.self.inside.token.sites l c.self.inside.token.me c.self.inside.token.token c.args.to) (sym c.self.invariant.limits)
+    ∙ ap (λ (seat : TokenSeat). refusal_of_pass seat.sites seat.limits seat.me seat.token c.args.to) (sym c.copy-passed.ensures)
     ∙ c.in-Ok.ensures.allowed)
-    (ap (λ (d : Deps). d.red) c.clock.ensures) c.in-Ok.ensures.sent refl c.with.ensures))
+    (ap (λ (d : Deps). d.red) c.clock.ensures)
+    (c.in-Ok.ensures.sent ∙ ap (λ (seat : TokenSeat). pass_message seat.token c.args.to c.clock.result.now.red) c.copy-passed.ensures)
+    refl c.in_ok-answer.ensures))
