@@ -1,5 +1,5 @@
 -- A site's step is the world's.
-use Rattle.std.proofs.Common.{◌≡◌, ◌∙◌, List, [], ◌∷◌, ◌++◌, ap, subst, sym}
+use Rattle.std.proofs.Common.{◌≡◌, ◌∙◌, [], ◌∷◌, ◌++◌, ap, subst, sym}
 use Rattle.std.specs.Prelude.{Some, IsSomeAnd, false, slice_get, slice_set}
 use Rattle.rb_site.specs.Events.{is_full}
 use Rattle.rb_site.specs.Seen.{SeenSite, next_site}
