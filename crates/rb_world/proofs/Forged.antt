@@ -10,12 +10,12 @@ use Rattle.rb_shadow.specs.Sound.{fault_in}
 use Rattle.rb_token.specs.Token.{refusal_of_token}
 use Rattle.rb_site.specs.declared.message.Message.TheVariants.{Shadow as ShadowMessage, Token as TokenOnItsWay}
 use Rattle.rb_site.specs.declared.event.Event.{Event}
-use Rattle.rb_site.specs.declared.event.Event.TheVariants.{Submit, Receive, Apply, Pass, Balance}
+use Rattle.rb_site.specs.declared.event.Event.TheVariants.{Submit, Batch, Receive, Apply, Pass, Balance, AsOf, Statement as AskStatement}
 use Rattle.rb_site.specs.declared.entry.Entry.{Entry}
 use Rattle.rb_site.specs.declared.reply.Reply.{Reply}
 use Rattle.rb_site.specs.declared.reply.Reply.TheVariants.{Already, Refused, Stale}
 use Rattle.rb_site.proofs.States.{same_outcome, with_history}
-use Rattle.rb_site.specs.Events.{refuses_first, Answers, Applies, Drops, Holds, Makes, ModelSite, Outcome, Passes, Refuses, Takes, after_event, after_events, changed, first_site, is_full, noted, outcome_of, outcome_of_apply, outcome_of_pass, outcome_of_shadow, outcome_of_token, refuses_if, replies_to_events, reply_of, reply_to, unless_faulty, unless_known}
+use Rattle.rb_site.specs.Events.{refuses_first, Answers, Applies, Drops, Holds, Makes, ModelSite, Outcome, Passes, Refuses, Takes, after_event, after_events, changed, first_site, is_full, noted, outcome_of, outcome_of_shadow, outcome_of_token, refuses_if, replies_to_events, reply_of, reply_to, unless_faulty, unless_known}
 use Rattle.rb_world.specs.Laws.{AreAlike, is_receive, is_refused, is_refused_receive, other_replies, without_refused}
 use Rattle.rb_world.proofs.CaughtUp
 
@@ -63,9 +63,12 @@ refused_changes_nothing s t (Receive (TokenOnItsWay m)) h k =
     last true u q = refl
     last false u q = cc
 refused_changes_nothing s t (Submit r) h k = cc
+refused_changes_nothing s t (Batch rs) h k = cc
 refused_changes_nothing s t (Apply x) h k = cc
 refused_changes_nothing s t (Pass to) h k = cc
 refused_changes_nothing s t (Balance a) h k = cc
+refused_changes_nothing s t (AsOf a n) h k = cc
+refused_changes_nothing s t (AskStatement a) h k = cc
 
 -- ---- one event
 

@@ -1,6 +1,6 @@
 -- The operations made are a RedBlue order, and each site's list is a serialization of it.
 use Rattle.std.proofs.Common.{◌≡◌, ◌≢◌, ℕ, ◌+◌, ◌<◌, ◌≤◌, Bool, true, false, cond, not, ◌||◌, List, [], ◌∷◌, ◌++◌, refl, ap, sym, ◌∙◌, arith, ◌⊎◌, inl, inr, subst, Some, None}
-use Rattle.std.specs.Prelude.{slice_get, max, filter}
+use Rattle.std.specs.Prelude.{slice_get, max}
 use Rattle.std.proofs.lemmas.List.FromFn.{get_or-map-range_with_len}
 use Rattle.rb_money.specs.Settings.{Settings, most_sites}
 use Rattle.rb_money.specs.declared.refusal.Refusal.TheVariants.{NotReady, Conflict}
@@ -28,7 +28,7 @@ use Rattle.rb_site.specs.declared.world_event.WorldEvent.{WorldEvent}
 use Rattle.rb_scratch.specs.Requests.{Plan, colour_of_plan, next_name, operation_of}
 use Rattle.rb_token.specs.Token.{Token}
 use Rattle.rb_site.specs.Events.{ModelSite}
-use Rattle.rb_inbox.specs.Held.{stands_before, with_held, without}
+use Rattle.rb_inbox.specs.Held.{with_held, without}
 use Rattle.rb_site.specs.Worlds.{AreOwn, World, first_world, made_in, shadows_in, world_of_run}
 use Rattle.rb_world.specs.Laws.{EachSite}
 use Rattle.rb_world.proofs.Steps

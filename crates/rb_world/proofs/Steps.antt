@@ -17,14 +17,14 @@ use Rattle.rb_token.specs.declared.message.TokenMessage.{TokenMessage}
 use Rattle.rb_site.specs.declared.message.Message.{Message}
 use Rattle.rb_site.specs.declared.message.Message.TheVariants.{Shadow as ShadowMessage, Token as TokenOnItsWay}
 use Rattle.rb_site.specs.declared.event.Event.{Event}
-use Rattle.rb_site.specs.declared.event.Event.TheVariants.{Submit, Receive, Apply, Pass, Balance}
+use Rattle.rb_site.specs.declared.event.Event.TheVariants.{Submit, Batch, Receive, Apply, Pass, Balance, AsOf, Statement as AskStatement}
 use Rattle.rb_site.specs.declared.entry.Entry.{Entry}
 use Rattle.rb_site.specs.declared.world_event.WorldEvent.{WorldEvent}
 use Rattle.rb_site.specs.declared.world_event.WorldEvent.TheVariants.{At, Deliver}
 use Rattle.rb_token.specs.Token.{refusal_of_pass, refusal_of_token}
 use Rattle.rb_money.specs.Amounts.{cents}
-use Rattle.rb_scratch.proofs.Made.{AreMadeAt, IsMadeAt, made_is, not_true, past_first}
-use Rattle.rb_site.specs.Events.{refuses_first, ModelSite, Outcome, Refuses, Drops, Answers, Makes, Holds, Applies, Takes, Passes, outcome_of, outcome_of_made, outcome_of_shadow, outcome_of_token, outcome_of_apply, outcome_of_pass, refuses_if, changed, noted, is_full, sent_by, reply_of, outcome_of_check, unless_faulty, unless_known}
+use Rattle.rb_scratch.proofs.Made.{AreMadeAt, IsMadeAt, batch_is, made_is, not_true, past_first}
+use Rattle.rb_site.specs.Events.{refuses_first, ModelSite, Outcome, Refuses, Drops, Answers, Makes, Holds, Applies, Takes, Passes, outcome_of, outcome_of_made, outcome_of_batch, outcome_of_shadow, outcome_of_token, outcome_of_apply, outcome_of_pass, refuses_if, changed, noted, is_full, sent_by, reply_of, outcome_of_check, unless_faulty, unless_known}
 use Rattle.rb_inbox.specs.Held.{with_held, without}
 use Rattle.rb_site.specs.Worlds.{World, shadows_in, tokens_in, message_at, world_at, world_delivered, world_after, world_after_all, IsOwn, AreOwn}
 use Rattle.rb_world.specs.Laws.{EachSite}
@@ -44,9 +44,12 @@ IsSent ms (TokenOnItsWay m) = AmongTokens m (tokens_in ms)
 abbrev pub IsSourced : List Message → Event → Type 0
 IsSourced ms (Receive m) = IsSent ms m
 IsSourced ms (Submit r) = Unit {0}
+IsSourced ms (Batch rs) = Unit {0}
 IsSourced ms (Apply x) = Unit {0}
 IsSourced ms (Pass to) = Unit {0}
 IsSourced ms (Balance a) = Unit {0}
+IsSourced ms (AsOf a n) = Unit {0}
+IsSourced ms (AskStatement a) = Unit {0}
 
 pub record MayHold (ms : List Message) (t : ModelSite) (v : Shadow) : Type 0 where
   pub sent : Among v (shadows_in ms)
@@ -173,15 +176,23 @@ comes_made : (s : Settings) (ms : List Message) (t : ModelSite) (q : Result Shad
 comes_made s ms t (Ok v) h = (h v refl, tt)
 comes_made s ms t (Err why) h = tt
 
+-- what comes of a batch is made one after another
+comes_batch : (s : Settings) (ms : List Message) (t : ModelSite) (q : Result (List Shadow) Refusal) → ((vs : List Shadow) → q ≡ Ok vs → AreMadeAt s t.me t.ops t.token vs) → Comes s ms t (outcome_of_batch q)
+comes_batch s ms t (Ok vs) h = h vs refl
+comes_batch s ms t (Err why) h = tt
+
 -- what is known of each event's outcome
 pub comes : (s : Settings) (ms : List Message) (t : ModelSite) (e : Event) → IsSourced ms e → Comes s ms t (outcome_of s t e)
 unfolding outcome_of
 comes s ms t (Submit r) h = comes_made s ms t _ (λ v k. made_is s t.me t.ops t.token r v k)
+comes s ms t (Batch rs) h = past_test s ms t _ _ _ (λ a. comes_batch s ms t _ (λ vs k. batch_is s t.me t.ops t.token 0 rs vs k))
 comes s ms t (Receive (ShadowMessage v)) h = comes_shadow s ms t v h
 comes s ms t (Receive (TokenOnItsWay m)) h = comes_token s ms t m h
 comes s ms t (Apply x) h = comes_apply s ms t (find_in t.held x) (λ v k. (find_some t.held x v k).0)
 comes s ms t (Pass to) h = comes_pass s ms t to
 comes s ms t (Balance a) h = past_test s ms t (not (is_account s a)) _ _ (λ b. tt)
+comes s ms t (AsOf a n) h = past_test s ms t (not (is_account s a)) _ _ (λ b. past_test s ms t (nat_lt (length t.ops) n) PositionBeyond (Answers (BalanceIs (cents (bal s (take n t.ops) a)))) (λ c. tt))
+comes s ms t (AskStatement a) h = past_test s ms t (not (is_account s a)) _ _ (λ b. tt)
 
 -- ---- a step of the world
 
@@ -279,9 +290,12 @@ keeps_event s P keeps w i t e p at sourced = by (is_full s t)
 sourced_own : (ms : List Message) (e : Event) → IsOwn e → IsSourced ms e
 sourced_own ms (Receive m) h = elim h [ ]
 sourced_own ms (Submit r) h = tt
+sourced_own ms (Batch rs) h = tt
 sourced_own ms (Apply x) h = tt
 sourced_own ms (Pass to) h = tt
 sourced_own ms (Balance a) h = tt
+sourced_own ms (AsOf a n) h = tt
+sourced_own ms (AskStatement a) h = tt
 
 sent_one_more : (ms : List Message) (n m : Message) → IsSent ms m → IsSent (n ∷ ms) m
 sent_one_more ms (ShadowMessage u) (ShadowMessage v) h = inr h

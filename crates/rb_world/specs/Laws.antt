@@ -7,11 +7,11 @@ use Rattle.rb_shadow.specs.declared.shadow.Shadow.{Shadow}
 use Rattle.rb_shadow.specs.Operations.{Agree, Among, AreSame, IsLawful, IsSerialization, IsUnique, IsWithin, bal, clock_of, names, names_of_clock, past}
 use Rattle.rb_shadow.specs.Laws.{IsClosed, IsFunded, IsPart}
 use Rattle.rb_site.specs.declared.event.Event.{Event}
-use Rattle.rb_site.specs.declared.event.Event.TheVariants.{Submit, Receive, Apply, Pass, Balance}
+use Rattle.rb_site.specs.declared.event.Event.TheVariants.{Submit, Batch, Receive, Apply, Pass, Balance, AsOf, Statement as AskStatement}
 use Rattle.rb_site.specs.declared.message.Message.{Message}
 use Rattle.rb_site.specs.declared.message.Message.TheVariants.{Shadow as ShadowMessage, Token as TokenOnItsWay}
 use Rattle.rb_site.specs.declared.reply.Reply.{Reply}
-use Rattle.rb_site.specs.declared.reply.Reply.TheVariants.{Made, Held, Already, Taken, Stale, Applied, Passed, Balance as BalanceIs, Refused}
+use Rattle.rb_site.specs.declared.reply.Reply.TheVariants.{Made, Names as NamesMade, Held, Already, Taken, Stale, Applied, Passed, Balance as BalanceIs, Statement as StatementIs, Refused}
 use Rattle.rb_site.specs.declared.world_event.WorldEvent.{WorldEvent}
 use Rattle.rb_site.specs.declared.world_event.WorldEvent.TheVariants.{At, Deliver}
 use Rattle.rb_site.specs.Events.{ModelSite, after_event, after_events, first_site, is_full, replies_to_events, reply_to}
@@ -80,6 +80,7 @@ CanCatchUp s w = EachSite w (λ i t. length t.history + length (catching_up i t.
 abbrev pub is_refused : Reply → Bool
 is_refused (Refused why) = true
 is_refused (Made x k) = false
+is_refused (NamesMade xs) = false
 is_refused (Held x) = false
 is_refused (Already x) = false
 is_refused (Taken n) = false
@@ -87,14 +88,18 @@ is_refused (Stale n) = false
 is_refused (Applied x) = false
 is_refused (Passed n) = false
 is_refused (BalanceIs n) = false
+is_refused (StatementIs a) = false
 
 -- the event is the receipt of a message
 abbrev pub is_receive : Event → Bool
 is_receive (Receive m) = true
 is_receive (Submit r) = false
+is_receive (Batch rs) = false
 is_receive (Apply x) = false
 is_receive (Pass to) = false
 is_receive (Balance a) = false
+is_receive (AsOf a n) = false
+is_receive (AskStatement a) = false
 
 -- a Receive that the site refuses
 abbrev pub is_refused_receive : Settings → ModelSite → Event → Bool

@@ -1,5 +1,5 @@
 //! The sites of a bank, in one place.
-ghost use Rattle.std.specs.Prelude.{◌≡◌, ◌≤◌, ◌<◌, ◌++◌, [], Some, IsSomeAnd, IfSome, IfOk, IfErr, OnErr, All, length, false, map, option_copied, option_map, slice_get, take, vec_len, vec_capacity};
+ghost use Rattle.std.specs.Prelude.{◌≡◌, ◌+◌, ◌≤◌, ◌++◌, [], Some, IsSomeAnd, IfSome, IfOk, IfErr, OnErr, All, length, false, map, option_copied, option_map, slice_get, take, vec_len, vec_capacity};
 ghost use Rattle.std.specs.List.{range_with_len};
 ghost use Rattle.rb_site.specs.Events.{first_site, is_full};
 ghost use Rattle.rb_site.specs.Reports.{AreReports};
@@ -14,10 +14,14 @@ use rb_site::{Event, Message, Reply, Site, SiteReport, WorldEvent};
 use std::alloc::{AllocError, Global};
 use std::marker::Model;
 
+/// The most messages that one event sends.
+const MOST_SENT: usize = 16;
+
 /// One site for each site number, every message that was ever sent, and the events that the sites
 /// recorded. It is always the run of its events.
 #[derive(Drop)]
 pub struct World {
+    alloc: Global,
     config: Config,
     seats: Vec<Site>,
     sent: Vec<Message>,
@@ -58,6 +62,7 @@ impl World {
         let mut reports = Vec::new(alloc);
         reports.reserve(seats.len())?;
         Ok(World {
+            alloc,
             config,
             seats,
             sent: Vec::new(alloc),
@@ -78,7 +83,7 @@ impl World {
             return Ok(Reply::Refused(Refusal::NoSite));
         };
         let full = site.is_full();
-        let Some(arrived) = self.arrival(&event) else {
+        let Some(arrived) = self.arrival(&event)? else {
             return Ok(Reply::Refused(Refusal::NoMessage));
         };
         if full {
@@ -102,7 +107,7 @@ impl World {
             return Err(Stopped { answered: 0 });
         }
         for (answered, event) in events.iter().enumerate() {
-            match self.step(*event) {
+            match self.step_as(event) {
                 Ok(reply) => replies.push_reserved(reply),
                 Err(_) => return Err(Stopped { answered }),
             }
@@ -110,15 +115,29 @@ impl World {
         Ok(replies)
     }
 
-    /// What an event brings to its site: an event of its own, or the receipt of the message.
-    fn arrival(&self, event: &WorldEvent) -> Option<Event>
-        ensures { result ≡ arrival self.now.world.messages event.now }
+    /// One event of a run, which is copied.
+    fn step_as(&mut self, event: &WorldEvent) -> Result<Reply, AllocError>
+        requires { IsCommand event.now }
+        ensures ok { IfOk result (λ reply. (reply ≡ next_reply self.old event.now) × (self.new ≡ next_world self.old event.now)) }
+        ensures err { OnErr result (self.new ≡ self.old) }
+    {
+        let event = event.try_copy(self.alloc)?;
+        self.step(event)
+    }
+
+    /// What an event brings to its site: an event of its own, or the receipt of the message. `Err` is
+    /// want of memory for a copy of the event.
+    fn arrival(&self, event: &WorldEvent) -> Result<Option<Event>, AllocError>
+        ensures { IfOk result (λ arrived. arrived ≡ arrival self.now.world.messages event.now) }
     {
         match event {
-            WorldEvent::At(_, event) => Some(*event),
+            WorldEvent::At(_, event) => {
+                let event = event.try_copy(self.alloc)?;
+                Ok(Some(event))
+            }
             WorldEvent::Deliver(_, number) => match self.message(*number) {
-                Some(message) => Some(Event::Receive(message)),
-                None => None,
+                Some(message) => Ok(Some(Event::Receive(message))),
+                None => Ok(None),
             },
         }
     }
@@ -143,7 +162,7 @@ impl World {
         ensures err { OnErr result (self.new ≡ self.old) }
     {
         self.recorded.reserve(1)?;
-        self.sent.reserve(1)?;
+        self.sent.reserve(MOST_SENT)?;
         let (reply, posted) = self.seats[place as usize].step(arrived)?;
         self.recorded.push_reserved(event);
         send(&mut self.sent, posted);
@@ -211,13 +230,12 @@ fn open_sites(alloc: Global, config: &Config) -> Result<Vec<Site>, AllocError>
     Ok(seats)
 }
 
-/// Adds at most one message to those that were sent.
-fn send(sent: &mut Vec<Message>, mut posted: Vec<Message>)
-    requires few { length posted.items ≤ 1 }
-    requires room { vec_len sent.old < vec_capacity sent.old }
+/// Adds messages to those that were sent, where there is room for them.
+fn send(sent: &mut Vec<Message>, posted: Vec<Message>)
+    requires { vec_len sent.old + length posted.items ≤ vec_capacity sent.old }
     ensures { sent.new.items ≡ sent.old.items ++ posted.items }
 {
-    if let Some(message) = posted.pop() {
-        sent.push_reserved(message);
+    for message in &posted {
+        sent.push_reserved(*message);
     }
 }
