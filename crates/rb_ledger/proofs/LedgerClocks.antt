@@ -180,10 +180,6 @@ kept_front s us front vs c d h kept e is on =
       clock = on ∙ ap (λ b. lowered b h.name) (kept.clock ∙ ap clock_of e) ∙ clock_of-front front h (last_entry s us front c h kept e) (last_next s front h valid) ∙ ap clock_of (sym is);
     }
 
--- what a push that succeeds leaves
-pub pushed : (b : Bool) (us vs : List Shadow) → b ≡ true → cond b us vs ≡ us
-pushed b us vs e = ap (λ b. cond b us vs) e
-
 -- what a pop leaves
 pub popped : (us vs front : List Shadow) (h : Shadow) (n : ℕ) → us ≡ front ++ h ∷ [] → n ≡ length us → vs ≡ take (n - 1) us → vs ≡ front
 popped us vs front h n e counted is =

@@ -53,8 +53,8 @@ sound_account s h sound = low (length s.starts) h.account.0 (SoundFacts.sound_fa
     low m n e = grind (arith, nat_tests)
 
 -- what a ledger keeps, of what is seen of it
-pub kept_seen : (s : Settings) (us : List Shadow) (c : Deps) (b : Book) → IsKept s us c → record { settings = s; entries = us } ≡ b → IsKept b.settings b.entries c
-kept_seen s us c b kept e = subst (λ (b : Book). IsKept b.settings b.entries c) e kept
+pub kept_seen : (s : Settings) (us : List Shadow) (n : ℕ) (c : Deps) (b : Book) → IsKept s us c → record { settings = s; entries = us; room = n } ≡ b → IsKept b.settings b.entries c
+kept_seen s us n c b kept e = subst (λ (b : Book). IsKept b.settings b.entries c) e kept
 
 -- ---- the parts of a record
 

@@ -1,5 +1,5 @@
 //! The ledger of a site.
-ghost use Rattle.std.specs.Prelude.{◌≡◌, ◌↔◌, ◌≤◌, ◌<◌, length, pos, negsuc, ◌≤ℤ◌, Some, None, List, [], ◌∷◌, ◌++◌, ◌⊎◌, IsTrue, IsOk, OnOk, IfOk, IfErr, MatchResult, IsNone, IfSome, option_map, option_and_then, option_copied, false};
+ghost use Rattle.std.specs.Prelude.{◌≡◌, ◌↔◌, ◌≤◌, ◌<◌, ◌+◌, length, take, pos, negsuc, ◌≤ℤ◌, Some, None, List, [], ◌∷◌, ◌++◌, ◌⊎◌, IsTrue, IsOk, OnOk, OnErr, IfOk, IfErr, MatchResult, IsNone, IfSome, option_map, option_and_then, option_copied, false};
 ghost use Rattle.rb_money.specs.Settings.{IsConfigured};
 ghost use Rattle.rb_shadow.specs.declared.shadow.Shadow.{Shadow as TheShadow};
 ghost use Rattle.rb_shadow.specs.Operations.{names, target_of, is_eligible, bal, cancel_count, clock_of};
@@ -8,6 +8,7 @@ ghost use Rattle.rb_ledger.specs.Valid.{IsValid, entry_at, find_position, first_
 ghost use Rattle.rb_ledger.specs.Changes.{moved_at};
 ghost use Rattle.rb_ledger.specs.Checks.{has_wrong_target, overdraws, refusal_of_sound, refusal_of};
 
+use crate::room::make_room;
 use crate::walk;
 use rb_money::{Config, Place, Refusal};
 use rb_shadow::{Kind, OpName, Shadow};
@@ -26,19 +27,20 @@ pub struct Ledger {
 }
 
 impl Model for Ledger {
+    ghost use Rattle.std.specs.Prelude.{◌-◌, vec_len, vec_capacity};
     ghost use Rattle.rb_ledger.specs.Book.{Book, IsKept};
 
     ghost Value = { Book };
 
-    ghost view = { λ l. record { settings = l.config; entries = l.entries.items } };
+    ghost view = { λ l. record { settings = l.config; entries = l.entries.items; room = vec_capacity l.entries - vec_len l.entries } };
 
     ghost invariant = { λ l. IsKept l.config l.entries.items l.clock };
 }
 
 impl Ledger {
-    /// A ledger of the configuration, without operations.
+    /// A ledger of the configuration, without operations and without memory for any.
     pub fn open(alloc: Global, config: &Config) -> Result<Ledger, AllocError>
-        ensures { IfOk result (λ ledger. (ledger.settings ≡ config.now) × (ledger.entries ≡ [])) }
+        ensures { IfOk result (λ ledger. (ledger.settings ≡ config.now) × (ledger.entries ≡ []) × (ledger.room ≡ 0)) }
     {
         let config = config.try_copy(alloc)?;
         let entries = Vec::new(alloc);
@@ -128,8 +130,20 @@ impl Ledger {
         ensures sum { IfSome result (λ n. pos n ≡ bal self.now.settings self.now.entries place) }
         ensures bounded { IfSome result (λ n. n < 1800000000000000000) }
     {
+        self.balance_after(self.len(), place)
+    }
+
+    /// The balance of the account after the first operations, in cents. `None` where there is no such
+    /// account.
+    pub(crate) fn balance_after(&self, position: u32, place: Place) -> Option<u64>
+        requires { position ≤ length self.now.entries }
+        ensures absent { IsNone result ↔ (length self.now.settings.starts ≤ place.0) }
+        ensures sum { IfSome result (λ n. pos n ≡ bal self.now.settings (take position self.now.entries) place) }
+        ensures bounded { IfSome result (λ n. n < 1800000000000000000) }
+    {
         let start = self.config.accounts().start(place)?;
-        let (added, taken) = walk::moved_on(&self.entries, place);
+        let entries = &self.entries[..position as usize];
+        let (added, taken) = walk::moved_on(entries, place);
         Some(start.0 + added - taken)
     }
 
@@ -252,30 +266,36 @@ impl Ledger {
     }
 
     /// Adds a shadow at the end, and gives the record to undo that. A shadow that is refused comes
-    /// back, with the refusal of `check`, or else `OutOfMemory`.
+    /// back, with the refusal of `check`, or else, where there was no room, `OutOfMemory`.
     pub fn apply(&mut self, shadow: Shadow) -> Result<Undo, (Shadow, Refusal)>
         ensures applied { IfOk result (λ undo. (self.new.entries ≡ self.old.entries ++ shadow ∷ []) × (undo ≡ parts_of self.old.settings self.old.entries shadow)) }
         ensures taken { OnOk result (refusal_of self.old.settings self.old.entries shadow ≡ None) }
         ensures settings { self.new.settings ≡ self.old.settings }
+        ensures room { OnOk result (0 < self.old.room → self.new.room + 1 ≡ self.old.room) }
 
         ensures refused { IfErr result (λ back. (self.new ≡ self.old) × (back.0 ≡ shadow)) }
         ensures reason { IfErr result (λ back. (refusal_of self.old.settings self.old.entries shadow ≡ Some back.1)
-            ⊎ ((back.1 ≡ Refusal.OutOfMemory) × (refusal_of self.old.settings self.old.entries shadow ≡ None))) }
+            ⊎ ((back.1 ≡ Refusal.OutOfMemory) × (refusal_of self.old.settings self.old.entries shadow ≡ None) × (self.old.room ≡ 0))) }
     {
         if let Err(refusal) = self.check(&shadow) {
             return Err((shadow, refusal));
         }
         let parts = self.parts(&shadow);
-        if self.entries.push(shadow).is_err() {
+        if make_room(&mut self.entries).is_err() {
             return Err((shadow, Refusal::OutOfMemory));
         }
+        self.entries.push_reserved(shadow);
         self.clock.advance(&shadow.name);
         Ok(Undo::new(parts))
     }
 
     /// Makes room for so many more operations.
     pub fn reserve(&mut self, additional: usize) -> Result<(), AllocError>
-        ensures { self.new ≡ self.old }
+        ensures settings { self.new.settings ≡ self.old.settings }
+        ensures entries { self.new.entries ≡ self.old.entries }
+        ensures ok { OnOk result (additional ≤ self.new.room) }
+        ensures grows { self.old.room ≤ self.new.room }
+        ensures err { OnErr result (self.new ≡ self.old) }
     {
         self.entries.reserve(additional)
     }
@@ -285,6 +305,7 @@ impl Ledger {
         requires { (front : List TheShadow) × (last : TheShadow) × (self.old.entries ≡ front ++ last ∷ []) × (undo ≡ parts_of self.old.settings front last) }
         ensures entries { (last : TheShadow) × (self.old.entries ≡ self.new.entries ++ last ∷ []) }
         ensures settings { self.new.settings ≡ self.old.settings }
+        ensures room { self.new.room ≡ self.old.room + 1 }
     {
         let parts = undo.spend();
         self.entries.pop();

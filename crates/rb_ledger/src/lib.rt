@@ -2,8 +2,11 @@
 #![tactic(auto)]
 
 mod ledger;
+mod rewound;
+mod room;
 #[cfg(test)]
 mod tests;
 mod walk;
 
 pub use ledger::Ledger;
+pub use rewound::Rewound;

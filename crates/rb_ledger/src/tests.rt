@@ -1,11 +1,12 @@
 //! Tests of the ledger.
-ghost use Rattle.std.specs.Prelude.{◌≡◌, ◌++◌, ◌∷◌, []};
+ghost use Rattle.std.specs.Prelude.{◌≡◌, ◌++◌, ◌∷◌, [], IfOk};
 ghost use Rattle.rb_ledger.specs.Valid.{parts_of};
+ghost use Rattle.rb_ledger.specs.Records.{records_of};
 
 use crate::Ledger;
 use rb_money::{Config, Limits, MOST_SITES, Place, Refusal};
 use rb_shadow::{Deps, Kind, OpName, Shadow};
-use rb_undo::Undo;
+use rb_undo::{Undo, UndoLog};
 use std::alloc::Global;
 use std::process::Abort;
 use std::test::Fail;
@@ -19,7 +20,9 @@ const WITHDRAWAL: OpName = OpName::Red { n: 1 };
 const UNDO_IT: Kind = Kind::Cancel { target: WITHDRAWAL };
 
 /// A ledger of two sites, where ann starts with 1000 cents.
-fn ann_alone(alloc: Global) -> Result<Ledger, Fail> {
+fn ann_alone(alloc: Global) -> Result<Ledger, Fail>
+    ensures { IfOk result (λ ledger. ledger.entries ≡ []) }
+{
     let mut accounts = Vec::new(alloc);
     accounts.push((String::from_str(alloc, "ann")?, 1000))?;
     let config = Config::new(alloc, 2, accounts, Limits::largest())?;
@@ -68,9 +71,11 @@ fn looks_up(rt: HostRuntime) -> Result<(), Fail> {
     let mut ledger = ann_alone(rt.alloc())?;
     ledger.reserve(2)?;
     assert!(rt; ledger.is_empty());
-    applied(&rt, &mut ledger, withdrawal());
+    applied(&rt, &mut ledger, withdrawal()).seal();
     assert!(rt; ledger.is_eligible(&cancellation(1)));
-    assert_eq!(rt; applied(&rt, &mut ledger, cancellation(1)).position(), 2);
+    let undo = applied(&rt, &mut ledger, cancellation(1));
+    assert_eq!(rt; undo.position(), 2);
+    undo.seal();
     assert_eq!(rt;
         (
             ledger.len(),
@@ -109,7 +114,7 @@ fn refuses(rt: HostRuntime) -> Result<(), Fail> {
     let next = OpName::Blue { site: 0, n: 2 };
     let cancel = Kind::Cancel { target: DEPOSIT };
     let known = on_ann(DEPOSIT, 0, (0, 0), 100, Kind::Deposit);
-    applied(&rt, &mut ledger, known);
+    applied(&rt, &mut ledger, known).seal();
     for (shadow, refusal) in [
         (
             on_ann(DEPOSIT, 2, (0, 0), 100, Kind::Deposit),
@@ -139,10 +144,13 @@ fn refuses(rt: HostRuntime) -> Result<(), Fail> {
     ] {
         assert_eq!(rt; ledger.check(&shadow), Err(refusal));
     }
-    let Err((back, why)) = ledger.apply(known) else {
-        return Err(Fail::from("taken twice"));
-    };
-    assert_eq!(rt; (back, why), (known, Refusal::NotReady));
+    match ledger.apply(known) {
+        Ok(undo) => {
+            undo.seal();
+            return Err(Fail::from("taken twice"));
+        }
+        Err((back, why)) => assert_eq!(rt; (back, why), (known, Refusal::NotReady)),
+    }
     assert_eq!(rt; ledger.balance(ANN), Some(1100));
     Ok(())
 }
@@ -150,15 +158,70 @@ fn refuses(rt: HostRuntime) -> Result<(), Fail> {
 #[test]
 fn undo_two(rt: HostRuntime) -> Result<(), Fail> {
     let mut ledger = ann_alone(rt.alloc())?;
-    applied(&rt, &mut ledger, withdrawal());
+    let first = applied(&rt, &mut ledger, withdrawal());
     assert_eq!(rt; seen(&ledger), (Some(700), Some(0)));
-    let first = applied(&rt, &mut ledger, cancellation(0));
+    let second = applied(&rt, &mut ledger, cancellation(0));
     assert_eq!(rt; seen(&ledger), (Some(1000), Some(1)));
-    let second = applied(&rt, &mut ledger, cancellation(1));
+    let third = applied(&rt, &mut ledger, cancellation(1));
     assert_eq!(rt; seen(&ledger), (Some(1000), Some(2)));
-    ledger.undo(second);
+    ledger.undo(third);
     assert_eq!(rt; seen(&ledger), (Some(1000), Some(1)));
-    ledger.undo(first);
+    ledger.undo(second);
     assert_eq!(rt; seen(&ledger), (Some(700), Some(0)));
+    first.seal();
+    Ok(())
+}
+
+/// Applies the shadow and keeps its record.
+fn logged(rt: &impl Abort, ledger: &mut Ledger, log: &mut UndoLog, shadow: Shadow)
+    requires { log.old.parts ≡ records_of ledger.old.settings ledger.old.entries }
+    ensures { log.new.parts ≡ records_of ledger.new.settings ledger.new.entries }
+{
+    let undo = applied(rt, ledger, shadow);
+    if let Err(back) = log.push(undo) {
+        back.seal();
+        panic!(rt; "no memory");
+    }
+}
+
+/// The position and ann's balance as of it, where there is one.
+fn as_of(
+    ledger: Ledger,
+    log: UndoLog,
+    position: u32,
+) -> (Ledger, UndoLog, Option<(u32, Option<u64>)>)
+    requires { log.parts ≡ records_of ledger.settings ledger.entries }
+    ensures ledger { result.0 ≡ ledger }
+    ensures log { result.1 ≡ log }
+{
+    match ledger.rewind(log, position) {
+        Ok(rewound) => {
+            let seen = (rewound.position(), rewound.balance(ANN));
+            let (ledger, log) = rewound.forward();
+            (ledger, log, Some(seen))
+        }
+        Err((ledger, log, _)) => (ledger, log, None),
+    }
+}
+
+#[test]
+fn rewound(rt: HostRuntime) -> Result<(), Fail> {
+    let mut ledger = ann_alone(rt.alloc())?;
+    let mut log = UndoLog::new(rt.alloc());
+    logged(&rt, &mut ledger, &mut log, withdrawal());
+    logged(&rt, &mut ledger, &mut log, cancellation(0));
+    logged(&rt, &mut ledger, &mut log, cancellation(1));
+    let (ledger, log, at_0) = as_of(ledger, log, 0);
+    let (ledger, log, at_1) = as_of(ledger, log, 1);
+    let (ledger, log, at_2) = as_of(ledger, log, 2);
+    let (ledger, log, at_3) = as_of(ledger, log, 3);
+    let (ledger, log, at_4) = as_of(ledger, log, 4);
+    assert_eq!(rt; (at_0, at_1), (Some((0, Some(1000))), Some((1, Some(700)))));
+    assert_eq!(rt;
+        (at_2, at_3, at_4),
+        (Some((2, Some(1000))), Some((3, Some(1000))), None)
+    );
+    assert_eq!(rt; (ledger.len(), log.len()), (3, 3));
+    log.close();
     Ok(())
 }

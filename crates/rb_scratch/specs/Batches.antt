@@ -12,6 +12,8 @@ use Rattle.rb_shadow.specs.declared.op_name.OpName.{OpName}
 use Rattle.rb_shadow.specs.declared.shadow.Shadow.{Shadow}
 use Rattle.rb_scratch.specs.Requests.{Plan, plan_of, operation_of, allowed}
 use Rattle.rb_scratch.specs.declared.request.Request.{Request}
+use Rattle.rb_scratch.specs.declared.run_fault.RunFault.{RunFault}
+use Rattle.rb_scratch.specs.declared.run_fault.RunFault.TheVariants.{Declined as DeclinedFault, Refused as RefusedFault}
 use Rattle.rb_token.specs.Token.{Token}
 
 -- whether it is a declined withdrawal
@@ -22,19 +24,24 @@ is_declined Withdraw = false
 is_declined Interest = false
 is_declined (Cancel x) = false
 
--- what stops a batch: a request that would be refused, or a withdrawal that would be declined
-abbrev pub stopped : {A : Type 0} → Result A Refusal → Result A Cause
+-- what a request of a batch would be refused for
+abbrev pub stopped : {A : Type 0} → Result A Refusal → Result A RunFault
 stopped (Ok x) = Ok x
-stopped (Err why) = Err (RefusedCause (number_of_refusal why))
+stopped (Err why) = Err (RefusedFault why)
 
--- what a plan of a batch makes, or what stops the batch
-abbrev pub planned_in_batch : Settings → ℕ → List Shadow → Token → Result Plan Refusal → Result Shadow Cause
-planned_in_batch s me us token (Err why) = Err (RefusedCause (number_of_refusal why))
-planned_in_batch s me us token (Ok p) = if is_declined p.kind then Err DeclinedCause else stopped (allowed s us token (operation_of me us p))
+-- what a plan of a batch makes, or what is wrong with it: a declined withdrawal stops a batch as a refusal does
+abbrev pub planned_in_batch : Settings → ℕ → List Shadow → Token → Result Plan Refusal → Result Shadow RunFault
+planned_in_batch s me us token (Err why) = Err (RefusedFault why)
+planned_in_batch s me us token (Ok p) = if is_declined p.kind then Err DeclinedFault else stopped (allowed s us token (operation_of me us p))
 
--- what a request of a batch makes, or what stops the batch
-unfoldable pub made_in_batch : Settings → ℕ → List Shadow → Token → Request → Result Shadow Cause
+-- what a request of a batch makes, or what is wrong with it
+unfoldable pub made_in_batch : Settings → ℕ → List Shadow → Token → Request → Result Shadow RunFault
 made_in_batch s me us token r = planned_in_batch s me us token (plan_of s us r)
+
+-- what is told of it: a refusal by its number
+abbrev pub cause_of : RunFault → Cause
+cause_of DeclinedFault = DeclinedCause
+cause_of (RefusedFault why) = RefusedCause (number_of_refusal why)
 
 -- one more at the front
 abbrev pub with_first : Shadow → Result (List Shadow) Refusal → Result (List Shadow) Refusal
@@ -42,9 +49,9 @@ with_first v (Ok vs) = Ok (v ∷ vs)
 with_first v (Err why) = Err why
 
 -- the rest of a batch, unless its request of this index stops it
-abbrev pub then_rest : ℕ → Result Shadow Cause → (Shadow → Result (List Shadow) Refusal) → Result (List Shadow) Refusal
+abbrev pub then_rest : ℕ → Result Shadow RunFault → (Shadow → Result (List Shadow) Refusal) → Result (List Shadow) Refusal
 then_rest index (Ok v) rest = with_first v (rest v)
-then_rest index (Err cause) rest = Err (BatchRefused index cause)
+then_rest index (Err fault) rest = Err (BatchRefused index (cause_of fault))
 
 -- the operations of a batch, each made after those before it, or what stops it
 unfoldable pub batch_of : Settings → ℕ → List Shadow → Token → ℕ → List Request → Result (List Shadow) Refusal

@@ -92,7 +92,7 @@ waits s me ops held token x v a found eligible sound refusal is =
     (refl, ap (λ (b : Answer). b.reply) is, ap (λ (b : Answer). listed b.message) is)
 
 -- what a ledger's refusal is, but for want of memory
-pub refusal_is : (why : Refusal) (o : Option Refusal) → (o ≡ Some why) ⊎ ((why ≡ OutOfMemory) × (o ≡ None)) → (why ≡ OutOfMemory → ⊥) → o ≡ Some why
+pub refusal_is : {P : Type 0} (why : Refusal) (o : Option Refusal) → (o ≡ Some why) ⊎ ((why ≡ OutOfMemory) × (o ≡ None) × P) → (why ≡ OutOfMemory → ⊥) → o ≡ Some why
 refusal_is why o (inl e) memory = e
 refusal_is why o (inr h) memory = absurd (memory h.0)
 

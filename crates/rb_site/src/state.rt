@@ -102,13 +102,16 @@ impl State {
             Err(why) => return Ok(Answer::alone(Reply::Refused(why))),
         };
         match self.ledger.apply(shadow) {
-            Ok(_undo) => Ok(Answer::with(
-                Reply::Made {
-                    name: shadow.name,
-                    kind: shadow.kind.label(),
-                },
-                Message::Shadow(shadow),
-            )),
+            Ok(undo) => {
+                undo.seal();
+                Ok(Answer::with(
+                    Reply::Made {
+                        name: shadow.name,
+                        kind: shadow.kind.label(),
+                    },
+                    Message::Shadow(shadow),
+                ))
+            }
             // What was generated may follow the list, so that only memory can be wanting.
             Err(_) => Err(AllocError),
         }
@@ -186,7 +189,8 @@ impl State {
             return Ok(Answer::alone(Reply::Refused(Refusal::NotReady)));
         }
         let why = match self.ledger.apply(shadow) {
-            Ok(_undo) => {
+            Ok(undo) => {
+                undo.seal();
                 self.inbox.remove(&shadow.name);
                 return Ok(Answer::alone(Reply::Applied(shadow.name)));
             }

@@ -2,8 +2,8 @@
 use crate::UndoParts;
 use std::marker::Model;
 
-/// What is kept to undo an entry of a ledger. Callers see its parts.
-#[derive(Drop)]
+/// What is kept to undo an entry of a ledger. Callers see its parts. A record can't be dropped: it
+/// is spent to undo the entry, or sealed where the entry is to stay.
 pub struct Undo {
     parts: UndoParts,
 }
@@ -39,5 +39,10 @@ impl Undo {
     {
         let Undo { parts } = self;
         parts
+    }
+
+    /// Gives the undo up: the entry stays.
+    pub fn seal(self) {
+        let Undo { parts: _ } = self;
     }
 }

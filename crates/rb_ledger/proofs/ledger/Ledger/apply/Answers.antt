@@ -1,4 +1,4 @@
-use Rattle.std.proofs.Common.{ap, ◌∙◌}
+use Rattle.std.proofs.Common.{ap, ◌∙◌, ◌++◌, ◌∷◌, []}
 use Rattle.rb_ledger.specs.Book.{Book}
 use Rattle.rb_ledger.specs.Checks.{refusal_of}
 use Rattle.rb_ledger.proofs.LedgerClocks
@@ -15,4 +15,4 @@ advance-requires-clause-entry c =
 pub invariant_of-self-2 : goal.invariant_of-self-2
 invariant_of-self-2 c =
     LedgerClocks.kept_push c.self.inside.config c.self.inside.entries.items _ _ _ c.args.shadow c.self.invariant
-    (ap (λ (b : Book). refusal_of b.settings b.entries c.args.shadow) c.self.view_is ∙ c.in_default.ensures.first) (c.push.ensures.items ∙ LedgerClocks.pushed _ _ _ c.if-is_err.ensures.negation) c.advance.ensures.entries
+    (ap (λ (b : Book). refusal_of b.settings b.entries c.args.shadow) c.self.view_is ∙ c.in_default.ensures.first) (c.push_reserved.ensures.items ∙ ap (λ us. us ++ c.args.shadow ∷ []) c.make_room.ensures.items) c.advance.ensures.entries

@@ -9,5 +9,5 @@ overflow_add-result c = omega (arith, Overdraws.sound_amount c.args.self.now.set
 pub returns : goal.returns
 returns c =
     Overdraws.overdraws_is c.args.self.now.settings c.args.self.now.entries c.deref.result.now c.self.inside.clock c.args.shadow.now _ _ _
-    (Overdraws.kept_seen _ _ _ _ c.self.invariant c.self.view_is) (c.deref.ensures.value ∙ ap (λ (b : Book). b.entries) c.self.view_is)
+    (Overdraws.kept_seen _ _ _ _ _ c.self.invariant c.self.view_is) (c.deref.ensures.value ∙ ap (λ (b : Book). b.entries) c.self.view_is)
     c.requires.fresh c.requires.target c.balance_before.ensures.sum c.moved_by-added.ensures.sums

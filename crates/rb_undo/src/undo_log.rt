@@ -1,0 +1,115 @@
+//! Logs of undo records.
+ghost use Rattle.std.specs.Prelude.{◌≡◌, ◌↔◌, ◌+◌, ◌<◌, ◌≤◌, [], ◌∷◌, ◌++◌, length, MatchResult, MatchOption, OnOk, OnErr, IfErr};
+
+use crate::Undo;
+use std::alloc::{AllocError, Global};
+use std::marker::Model;
+
+/// Undo records in order, each of which is still to be spent or sealed. A log can't be dropped
+/// either: it is closed, or its records are taken out.
+pub struct UndoLog {
+    undos: Vec<Undo>,
+}
+
+impl Model for UndoLog {
+    ghost use Rattle.std.specs.Prelude.{◌-◌, vec_len, vec_capacity};
+    ghost use Rattle.rb_undo.specs.Log.{Log};
+
+    ghost Value = { Log };
+
+    ghost view = { λ l. record { parts = l.undos.items; room = vec_capacity l.undos - vec_len l.undos } };
+}
+
+impl UndoLog {
+    /// A log without records, and without memory for any.
+    pub fn new(alloc: Global) -> UndoLog
+        ensures parts { result.parts ≡ [] }
+        ensures room { result.room ≡ 0 }
+    {
+        UndoLog {
+            undos: Vec::new(alloc),
+        }
+    }
+
+    /// How many records there are.
+    pub fn len(&self) -> usize
+        ensures { result ≡ length self.now.parts }
+    {
+        self.undos.len()
+    }
+
+    /// Makes room for so many more records.
+    pub fn reserve(&mut self, additional: usize) -> Result<(), AllocError>
+        ensures parts { self.new.parts ≡ self.old.parts }
+        ensures ok { OnOk result (additional ≤ self.new.room) }
+        ensures grows { self.old.room ≤ self.new.room }
+        ensures err { OnErr result (self.new ≡ self.old) }
+    {
+        self.undos.reserve(additional)
+    }
+
+    /// Adds a record at the end. For want of memory the record comes back.
+    pub fn push(&mut self, undo: Undo) -> Result<(), Undo>
+        ensures added { OnOk result (self.new.parts ≡ self.old.parts ++ undo ∷ []) }
+        ensures room { OnOk result (0 < self.old.room → self.new.room + 1 ≡ self.old.room) }
+        ensures back { IfErr result (λ back. (back ≡ undo) × (self.new ≡ self.old) × (self.old.room ≡ 0)) }
+    {
+        if self.make_room().is_err() {
+            return Err(undo);
+        }
+        self.push_reserved(undo);
+        Ok(())
+    }
+
+    /// Takes memory for a record where there is no room.
+    fn make_room(&mut self) -> Result<(), AllocError>
+        ensures parts { self.new.parts ≡ self.old.parts }
+        ensures ok { OnOk result (0 < self.new.room) }
+        ensures room { 0 < self.old.room → self.new ≡ self.old }
+        ensures err { OnErr result ((self.new ≡ self.old) × (self.old.room ≡ 0)) }
+    {
+        if self.undos.len() < self.undos.capacity() {
+            return Ok(());
+        }
+        self.undos.reserve(1)
+    }
+
+    /// Adds a record at the end, where there is room.
+    pub fn push_reserved(&mut self, undo: Undo)
+        requires { 0 < self.old.room }
+        ensures parts { self.new.parts ≡ self.old.parts ++ undo ∷ [] }
+        ensures room { self.new.room + 1 ≡ self.old.room }
+    {
+        self.undos.push_reserved(undo)
+    }
+
+    /// Takes the last record out.
+    pub fn pop(&mut self) -> Option<Undo>
+        ensures { MatchOption result ((self.old.parts ≡ []) × (self.new ≡ self.old))
+            (λ undo. (self.old.parts ≡ self.new.parts ++ undo ∷ []) × (self.new.room ≡ self.old.room + 1)) }
+    {
+        self.undos.pop()
+    }
+
+    /// Moves the records of another log to the end, where there is room.
+    pub fn append(&mut self, other: UndoLog)
+        requires { length other.parts ≤ self.old.room }
+        ensures parts { self.new.parts ≡ self.old.parts ++ other.parts }
+        ensures room { self.old.room ≤ self.new.room + length other.parts }
+    {
+        let UndoLog { mut undos } = other;
+        match self.undos.append(&mut undos) {
+            Ok(()) => undos.destroy_empty(),
+            Err(_) => unreachable!(),
+        }
+    }
+
+    /// Seals all records.
+    pub fn close(self) {
+        let UndoLog { mut undos } = self;
+        'undos: while let Some(undo) = undos.pop() {
+            undo.seal();
+        }
+        undos.destroy_empty()
+    }
+}
