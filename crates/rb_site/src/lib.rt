@@ -8,8 +8,11 @@ mod message;
 mod op_names;
 mod reply;
 mod requests;
+mod same;
 mod site;
 mod state;
+#[cfg(test)]
+mod tests;
 mod world_event;
 
 ghost use Rattle.rb_site.specs.Histories.{StuckIsFinal};
