@@ -120,11 +120,12 @@ impl State {
 
     /// The requests of a batch are decided here one after another, and their shadows are applied
     /// here and sent: all of them or none.
-    fn batch(&mut self, _requests: &Requests) -> Result<Answer, AllocError>
-        ensures ok { IfOk result (Follows self.old self.new (outcome_of self.old.settings self.old.site (Event.Batch _requests.now))) }
+    fn batch(&mut self, requests: &Requests) -> Result<Answer, AllocError>
+        ensures ok { IfOk result (Follows self.old self.new (outcome_of self.old.settings self.old.site (Event.Batch requests.now))) }
         ensures err { OnErr result (self.new ≡ self.old) }
     {
         // To come.
+        let _ = requests;
         Err(AllocError)
     }
 
@@ -252,18 +253,21 @@ impl State {
     }
 
     /// An account's balance after so many operations of the ledger.
-    fn as_of(&self, _place: Place, _position: u32) -> Result<Answer, AllocError>
-        ensures { IfOk result (Follows self.now self.now (outcome_of self.now.settings self.now.site (Event.AsOf _place _position))) }
+    fn as_of(&mut self, place: Place, position: u32) -> Result<Answer, AllocError>
+        ensures ok { IfOk result (Follows self.old self.new (outcome_of self.old.settings self.old.site (Event.AsOf place position))) }
+        ensures err { OnErr result (self.new ≡ self.old) }
     {
         // To come.
+        let _ = (place, position);
         Err(AllocError)
     }
 
     /// An account's statement.
-    fn statement(&self, _place: Place) -> Result<Answer, AllocError>
-        ensures { IfOk result (Follows self.now self.now (outcome_of self.now.settings self.now.site (Event.Statement _place))) }
+    fn statement(&self, place: Place) -> Result<Answer, AllocError>
+        ensures { IfOk result (Follows self.now self.now (outcome_of self.now.settings self.now.site (Event.Statement place))) }
     {
         // To come.
+        let _ = place;
         Err(AllocError)
     }
 }
