@@ -1,5 +1,5 @@
 //! Entries of a history.
-ghost use Rattle.std.specs.Prelude.{◌≡◌, IfOk};
+ghost use Rattle.std.specs.Prelude.{◌≡◌, ◌↔◌, IfOk, IsTrue};
 
 use crate::{Event, Reply};
 use std::alloc::{AllocError, Global};
@@ -19,5 +19,12 @@ impl Entry {
         let event = self.event.try_copy(alloc)?;
         let reply = self.reply.try_copy(alloc)?;
         Ok(Entry { event, reply })
+    }
+
+    /// Whether the two are equal.
+    pub fn same(&self, other: &Entry) -> bool
+        ensures { IsTrue result ↔ (self.now ≡ other.now) }
+    {
+        self.event.same(&other.event) && self.reply.same(&other.reply)
     }
 }

@@ -1,6 +1,7 @@
 //! Events of a site.
-ghost use Rattle.std.specs.Prelude.{◌≡◌, IfOk};
+ghost use Rattle.std.specs.Prelude.{◌≡◌, ◌↔◌, IfOk, IsTrue};
 
+use crate::same::{same_in, same_message, same_name, same_place, same_request};
 use crate::{Message, Requests};
 use rb_money::Place;
 use rb_scratch::Request;
@@ -45,6 +46,30 @@ impl Event {
             Event::Balance(place) => Ok(Event::Balance(*place)),
             Event::AsOf(place, position) => Ok(Event::AsOf(*place, *position)),
             Event::Statement(place) => Ok(Event::Statement(*place)),
+        }
+    }
+
+    /// Whether the two are equal.
+    pub fn same(&self, other: &Event) -> bool
+        ensures { IsTrue result ↔ (self.now ≡ other.now) }
+    {
+        match self {
+            Event::Submit(request) => {
+                same_in!(other, Event::Submit(it) => same_request(request, it))
+            }
+            Event::Batch(requests) => same_in!(other, Event::Batch(it) => requests.same(it)),
+            Event::Receive(message) => {
+                same_in!(other, Event::Receive(it) => same_message(message, it))
+            }
+            Event::Apply(name) => same_in!(other, Event::Apply(it) => same_name(name, it)),
+            Event::Pass(to) => same_in!(other, Event::Pass(it) => *to == *it),
+            Event::Balance(place) => same_in!(other, Event::Balance(it) => same_place(place, it)),
+            Event::AsOf(place, position) => {
+                same_in!(other, Event::AsOf(it, at) => same_place(place, it) && *position == *at)
+            }
+            Event::Statement(place) => {
+                same_in!(other, Event::Statement(it) => same_place(place, it))
+            }
         }
     }
 }

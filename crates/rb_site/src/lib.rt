@@ -11,8 +11,11 @@ mod reply;
 mod report;
 mod requests;
 mod room;
+mod same;
 mod site;
 mod state;
+#[cfg(test)]
+mod tests;
 mod world_event;
 
 ghost use Rattle.rb_site.specs.Histories.{StuckIsFinal};

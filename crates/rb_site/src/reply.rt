@@ -1,7 +1,8 @@
 //! Replies of a site.
-ghost use Rattle.std.specs.Prelude.{◌≡◌, IfOk};
+ghost use Rattle.std.specs.Prelude.{◌≡◌, ◌↔◌, IfOk, IsTrue};
 
 use crate::OpNames;
+use crate::same::{same_in, same_label, same_name, same_refusal};
 use rb_money::Refusal;
 use rb_shadow::{Label, OpName};
 use rb_statements::Statement;
@@ -49,6 +50,29 @@ impl Reply {
                 Ok(Reply::Statement(statement))
             }
             Reply::Refused(why) => Ok(Reply::Refused(*why)),
+        }
+    }
+
+    /// Whether the two are equal.
+    pub fn same(&self, other: &Reply) -> bool
+        ensures { IsTrue result ↔ (self.now ≡ other.now) }
+    {
+        match self {
+            Reply::Made { name, kind } => {
+                same_in!(other, Reply::Made { name: it, kind: its } => same_name(name, it) && same_label(kind, its))
+            }
+            Reply::Names(names) => same_in!(other, Reply::Names(it) => names.same(it)),
+            Reply::Held(name) => same_in!(other, Reply::Held(it) => same_name(name, it)),
+            Reply::Already(name) => same_in!(other, Reply::Already(it) => same_name(name, it)),
+            Reply::Taken(epoch) => same_in!(other, Reply::Taken(it) => *epoch == *it),
+            Reply::Stale(epoch) => same_in!(other, Reply::Stale(it) => *epoch == *it),
+            Reply::Applied(name) => same_in!(other, Reply::Applied(it) => same_name(name, it)),
+            Reply::Passed(epoch) => same_in!(other, Reply::Passed(it) => *epoch == *it),
+            Reply::Balance(cents) => same_in!(other, Reply::Balance(it) => *cents == *it),
+            Reply::Statement(statement) => {
+                same_in!(other, Reply::Statement(it) => statement.same(it))
+            }
+            Reply::Refused(why) => same_in!(other, Reply::Refused(it) => same_refusal(why, it)),
         }
     }
 }

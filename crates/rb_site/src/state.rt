@@ -154,11 +154,12 @@ impl State {
 
     /// The requests of a batch are decided here one after another, and their shadows are applied
     /// here and sent: all of them or none.
-    fn batch(&mut self, _requests: &Requests) -> Result<Answer, AllocError>
-        ensures ok { IfOk result (Follows self.old self.new (outcome_of self.old.settings self.old.site (Event.Batch _requests.now))) }
+    fn batch(&mut self, requests: &Requests) -> Result<Answer, AllocError>
+        ensures ok { IfOk result (Follows self.old self.new (outcome_of self.old.settings self.old.site (Event.Batch requests.now))) }
         ensures err { OnErr result (self.new ≡ self.old) }
     {
         // To come.
+        let _ = requests;
         Err(AllocError)
     }
 

@@ -1,8 +1,9 @@
 //! Events of a world.
-ghost use Rattle.std.specs.Prelude.{◌≡◌, IfOk};
+ghost use Rattle.std.specs.Prelude.{◌≡◌, ◌↔◌, IfOk, IsTrue};
 ghost use Rattle.rb_site.specs.Histories.{place_of};
 
 use crate::Event;
+use crate::same::same_in;
 use std::alloc::{AllocError, Global};
 
 /// What happens in a world: an event at a site, or the delivery of a message to a site.
@@ -33,6 +34,20 @@ impl WorldEvent {
                 Ok(WorldEvent::At(*place, event))
             }
             WorldEvent::Deliver(place, number) => Ok(WorldEvent::Deliver(*place, *number)),
+        }
+    }
+
+    /// Whether the two are equal.
+    pub fn same(&self, other: &WorldEvent) -> bool
+        ensures { IsTrue result ↔ (self.now ≡ other.now) }
+    {
+        match self {
+            WorldEvent::At(place, event) => {
+                same_in!(other, WorldEvent::At(at, it) => *place == *at && event.same(it))
+            }
+            WorldEvent::Deliver(place, number) => {
+                same_in!(other, WorldEvent::Deliver(at, it) => *place == *at && *number == *it)
+            }
         }
     }
 }

@@ -1,11 +1,9 @@
 -- The derived test of rows is true exactly of equal rows.
-use Rattle.std.proofs.Common.{◌≡◌, ℕ, Bool, true, false, ◌&&◌, refl, ap, sym, ◌∙◌}
-use Rattle.std.specs.Prelude.{◌==◌, ℤ}
+use Rattle.std.proofs.Common.{◌≡◌, ℕ, Bool, true, false, refl}
+use Rattle.std.specs.Prelude.{ℤ}
 use Rattle.std.specs.Ordering.{int_eq}
 use Rattle.std.specs.Bool.{beq}
 use Rattle.std.proofs.lemmas.Bool.Decides.{Decides-int_eq}
-use Rattle.rb_shadow.specs.contracts.op_name.OpNamePartialEq.TheImpl.{ghosts as name_test}
-use Rattle.rb_shadow.specs.contracts.label.LabelPartialEq.TheImpl.{ghosts as label_test}
 use Rattle.rb_shadow.specs.declared.label.Label.{Label}
 use Rattle.rb_shadow.specs.declared.op_name.OpName.{OpName}
 use Rattle.rb_statements.specs.contracts.row.RowPartialEq.TheImpl.{ghosts as row_test}

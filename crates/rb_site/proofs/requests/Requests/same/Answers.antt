@@ -3,7 +3,7 @@ use Rattle.std.proofs.Common.{◌∙◌, ap}
 use Rattle.std.specs.Cmp.Lexicographic.{pointwise}
 use Rattle.rb_scratch.specs.contracts.request.RequestPartialEq.TheImpl.{ghosts as request_test}
 use Rattle.rb_statements.proofs.Exact.{exact_means, lists_exact}
-use Rattle.rb_site.proofs.Same.{requests_exact}
+use Rattle.rb_site.proofs.Exact.{requests_exact}
 use Rattle.rb_site.proofs.requests.Requests.same.Goals as goal
 
 pub returns : goal.returns

@@ -1,0 +1,72 @@
+//! Comparison of what events and replies hold.
+ghost use Rattle.std.specs.Prelude.{◌≡◌, ◌↔◌, IsTrue};
+
+use crate::Message;
+use rb_money::{Place, Refusal};
+use rb_scratch::Request;
+use rb_shadow::{Label, OpName};
+use rb_token::TokenMessage;
+
+/// The test of what the pattern finds in the value, and `false` where the value is another variant.
+macro_rules! same_in {
+    ($value:expr, $pattern:pat => $test:expr) => {
+        match $value {
+            $pattern => $test,
+            _ => false,
+        }
+    };
+}
+
+pub(crate) use same_in;
+
+/// Whether two places are equal.
+pub fn same_place(first: &Place, second: &Place) -> bool
+    ensures { IsTrue result ↔ (first.now ≡ second.now) }
+{
+    first.0 == second.0
+}
+
+/// Whether two names are equal.
+pub fn same_name(first: &OpName, second: &OpName) -> bool
+    ensures { IsTrue result ↔ (first.now ≡ second.now) }
+{
+    *first == *second
+}
+
+/// Whether two labels are equal.
+pub fn same_label(first: &Label, second: &Label) -> bool
+    ensures { IsTrue result ↔ (first.now ≡ second.now) }
+{
+    *first == *second
+}
+
+/// Whether two refusals are equal.
+pub fn same_refusal(first: &Refusal, second: &Refusal) -> bool
+    ensures { IsTrue result ↔ (first.now ≡ second.now) }
+{
+    *first == *second
+}
+
+/// Whether two requests are equal.
+pub fn same_request(first: &Request, second: &Request) -> bool
+    ensures { IsTrue result ↔ (first.now ≡ second.now) }
+{
+    *first == *second
+}
+
+/// Whether two token messages are equal.
+pub fn same_token(first: &TokenMessage, second: &TokenMessage) -> bool
+    ensures { IsTrue result ↔ (first.now ≡ second.now) }
+{
+    first.epoch == second.epoch && first.to == second.to && first.red == second.red
+}
+
+/// Whether two messages are equal.
+pub fn same_message(first: &Message, second: &Message) -> bool
+    ensures { IsTrue result ↔ (first.now ≡ second.now) }
+{
+    match first {
+        Message::Shadow(shadow) => same_in!(second, Message::Shadow(it) => shadow.same(it)),
+        Message::Token(token) => same_in!(second, Message::Token(it) => same_token(token, it)),
+    }
+}
