@@ -1,13 +1,12 @@
 -- What is found by its name.
-use Rattle.std.proofs.Common.{◌≡◌, ℕ, ◌+◌, ◌≤◌, ◌<◌, Bool, true, false, cond, not, ◌||◌, List, [], ◌∷◌, refl, suc, ap, sym, ◌∙◌, arith, Option, Some, None, Result, Ok, Err, subst, Bor, rules}
+use Rattle.std.proofs.Common.{◌≡◌, ℕ, ◌+◌, ◌≤◌, Bool, true, false, cond, not, ◌||◌, List, [], ◌∷◌, refl, suc, ap, sym, ◌∙◌, arith, Option, Some, None, Result, Ok, Err, subst, Bor, rules}
 use Rattle.std.specs.Prelude.{◌-◌, ◌==◌, slice_get, option_map, option_and_then, IsSome, option_copied}
 use Rattle.std.proofs.lemmas.Bool.Decides.{nat_tests}
 use Rattle.rb_shadow.specs.declared.shadow.Shadow.{Shadow}
 use Rattle.rb_shadow.specs.declared.op_name.OpName.{OpName}
-use Rattle.rb_shadow.specs.declared.kind.Kind.{Kind}
 use Rattle.rb_shadow.specs.Operations.{same_name, names, find_in, kind_in}
 use Rattle.rb_shadow.proofs.Members
-use Rattle.rb_shadow.specs.Operations.{may_be_cancelled, is_cancelled, colour_of}
+use Rattle.rb_shadow.specs.Operations.{may_be_cancelled, is_cancelled}
 use Rattle.rb_shadow.specs.declared.kind.Kind.TheVariants.{Cancel}
 use Rattle.rb_money.specs.declared.refusal.Refusal.{Refusal}
 use Rattle.rb_money.specs.declared.refusal.Refusal.TheVariants.{UnknownOperation, NotCancellable, AlreadyCancelled}

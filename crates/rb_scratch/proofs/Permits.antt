@@ -1,5 +1,5 @@
 -- When a red operation is allowed.
-use Rattle.std.proofs.Common.{◌≡◌, Bool, true, false, cond, ◌&&◌, List, refl, ap, sym, ◌∙◌, Option, Some, None, Result, Ok, Err}
+use Rattle.std.proofs.Common.{◌≡◌, Bool, true, false, cond, ◌&&◌, List, refl, ap, sym, ◌∙◌, Some, None, Result, Ok, Err}
 use Rattle.rb_money.specs.Settings.{Settings}
 use Rattle.rb_money.specs.Refusals.{refused_if, unless_refused}
 use Rattle.rb_money.specs.declared.refusal.Refusal.{Refusal}
@@ -10,7 +10,7 @@ use Rattle.rb_shadow.specs.declared.kind.Kind.{Kind}
 use Rattle.rb_shadow.specs.declared.kind.Kind.TheVariants.{Deposit, Withdraw, Declined, Interest, Cancel}
 use Rattle.rb_shadow.specs.declared.op_name.OpName.{OpName}
 use Rattle.rb_shadow.specs.declared.shadow.Shadow.{Shadow}
-use Rattle.rb_shadow.specs.Operations.{clock_of, red_count, is_cancel}
+use Rattle.rb_shadow.specs.Operations.{clock_of, is_cancel}
 use Rattle.rb_ledger.specs.Checks.{overdraws, refusal_of}
 use Rattle.rb_token.specs.Token.{Token, refusal_of_red}
 use Rattle.rb_scratch.specs.Requests.{allowed_red}

@@ -2,3 +2,4 @@ pub mod Requests
 pub mod Originals
 pub mod Effects
 pub mod Batches
+pub mod Tried

@@ -106,7 +106,7 @@ fn cancellation(ledger: &Ledger, target: OpName) -> Result<Effect, Refusal>
 }
 
 /// What the request would do, decided on the ledger as it is.
-fn decide(ledger: &Ledger, request: &Request) -> Result<Effect, Refusal>
+pub(crate) fn decide(ledger: &Ledger, request: &Request) -> Result<Effect, Refusal>
     ensures plan { IsDecision ledger.now.settings ledger.now.entries request.now result }
     ensures colour { IsColoured ledger.now.entries result }
 {

@@ -4,11 +4,15 @@
 ghost use Rattle.rb_scratch.specs.Originals.{EachIsOriginal};
 ghost use Rattle.rb_scratch.specs.Requests.{MadeIsValid};
 
+#[cfg(test)]
+mod batch_tests;
 mod effect;
 mod generator;
+mod in_batch;
 mod plan;
 mod request;
 mod run_fault;
+mod scratch;
 #[cfg(test)]
 mod tests;
 
@@ -16,6 +20,7 @@ pub use generator::generate;
 pub use plan::{CancelPlan, cancel_of};
 pub use request::Request;
 pub use run_fault::RunFault;
+pub use scratch::Scratch;
 
 /// A deposit, a withdrawal and interest do to every balance what the published bank does.
 pub fn is_original()

@@ -97,9 +97,9 @@ waits s me ops held token x v a found eligible sound refusal is =
     (refl, is)
 
 -- what a ledger's refusal is, but for want of memory
-pub refusal_is : {P : Type 0} (why : Refusal) (o : Option Refusal) → (o ≡ Some why) ⊎ ((why ≡ OutOfMemory) × (o ≡ None) × P) → (why ≡ OutOfMemory → ⊥) → o ≡ Some why
+pub refusal_is : (why : Refusal) (o : Option Refusal) → (o ≡ Some why) ⊎ (why ≡ OutOfMemory) → (why ≡ OutOfMemory → ⊥) → o ≡ Some why
 refusal_is why o (inl e) memory = e
-refusal_is why o (inr h) memory = absurd (memory h.0)
+refusal_is why o (inr h) memory = absurd (memory h)
 
 pub not_memory : (why : Refusal) → why ≡ NotReady → why ≡ OutOfMemory → ⊥
 not_memory why e h = let bad : NotReady ≡ OutOfMemory = sym e ∙ h in cc

@@ -17,7 +17,7 @@ use Rattle.rb_site.specs.Events.{Answers, Applies, Drops, Holds, Makes, ModelSit
 use Rattle.rb_site.specs.Histories.{events_of}
 use Rattle.rb_site.specs.Reports.{IsEnough, RoomFor}
 use Rattle.rb_site.specs.Seen.{SeenSite, next_site, next_sites, state_of}
-use Rattle.rb_site.specs.States.{Follows, IsStanding, SiteState, listed}
+use Rattle.rb_site.specs.States.{Follows, IsStanding, SiteState}
 use Rattle.rb_site.proofs.Runs
 
 -- ---- what is applied grows by what is sent at most

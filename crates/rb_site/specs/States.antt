@@ -17,6 +17,11 @@ pub record SiteState : Type 0 where
   pub settings : Settings
   pub site : ModelSite
 
+-- a ledger with its undo records: the configuration's settings, and the operations that were applied
+pub record SeenLedger : Type 0 where
+  pub settings : Settings
+  pub ops : List Shadow
+
 -- the site, its history left out
 abbrev pub without_history : ModelSite → ModelSite
 without_history t = record t { history = [] }

@@ -4,12 +4,13 @@
 mod answer;
 mod entry;
 mod event;
+mod journal;
 mod message;
 mod op_names;
 mod reply;
 mod report;
-mod room;
 mod requests;
+mod room;
 mod site;
 mod state;
 mod world_event;

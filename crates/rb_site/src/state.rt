@@ -6,22 +6,23 @@ ghost use Rattle.rb_site.specs.Events.{first_site, outcome_of, outcome_of_new, o
 ghost use Rattle.rb_site.specs.States.{Follows};
 
 use crate::answer::Answer;
+use crate::journal::Journal;
 use crate::{Event, Message, Reply, Requests};
 use rb_inbox::{Inbox, PutAnswer};
 use rb_ledger::Ledger;
 use rb_money::{Config, Place, Refusal};
 use rb_scratch::{Request, generate};
 use rb_shadow::{OpName, Shadow};
+use rb_statements::statement;
 use rb_token::{Accepted, TokenMessage, TokenState};
 use rb_vclock::Clock;
 use std::alloc::{AllocError, Global};
 use std::marker::Model;
 
 /// What a site applied, what it holds, and what it knows of the token.
-#[derive(Drop)]
 pub struct State {
     alloc: Global,
-    ledger: Ledger,
+    journal: Journal,
     inbox: Inbox,
     token: TokenState,
 }
@@ -33,11 +34,11 @@ impl Model for State {
     ghost Value = { SiteState };
 
     ghost view = { λ s. record {
-      settings = s.ledger.settings;
-      site = record { me = s.token.me; ops = s.ledger.entries; held = s.inbox.held; token = s.token.token; history = [] };
+      settings = s.journal.settings;
+      site = record { me = s.token.me; ops = s.journal.ops; held = s.inbox.held; token = s.token.token; history = [] };
     } };
 
-    ghost invariant = { λ s. IsTied s.ledger.settings s.inbox s.token };
+    ghost invariant = { λ s. IsTied s.journal.settings s.inbox s.token };
 }
 
 impl State {
@@ -46,10 +47,10 @@ impl State {
         requires { me < config.now.sites }
         ensures { IfOk result (λ state. (state.settings ≡ config.now) × (state.site ≡ first_site me)) }
     {
-        let ledger = Ledger::open(alloc, config)?;
+        let journal = Journal::open(alloc, config)?;
         Ok(State {
             alloc,
-            ledger,
+            journal,
             inbox: Inbox::open(alloc, config.limits().inbox),
             token: TokenState::open(me, config),
         })
@@ -59,7 +60,7 @@ impl State {
     pub fn config(&self) -> &Config
         ensures { result.now ≡ self.now.settings }
     {
-        self.ledger.config()
+        self.journal.config()
     }
 
     /// The site's number.
@@ -75,7 +76,7 @@ impl State {
         ensures settings { result.now.settings ≡ self.now.settings }
         ensures entries { result.now.entries ≡ self.now.site.ops }
     {
-        &self.ledger
+        self.journal.ledger()
     }
 
     /// What the site holds.
@@ -101,11 +102,12 @@ impl State {
         ensures token { result.2.token ≡ self.site.token }
     {
         let State {
-            ledger,
+            alloc: _,
+            journal,
             inbox: _,
             token,
         } = self;
-        let (entries, clock) = ledger.close();
+        let (entries, clock) = journal.close();
         (entries, clock, token)
     }
 
@@ -134,7 +136,7 @@ impl State {
         ensures ok { IfOk result (Follows self.old self.new (outcome_of self.old.settings self.old.site (Event.Submit request.now))) }
         ensures err { OnErr result (self.new ≡ self.old) }
     {
-        let shadow = match generate(&self.ledger, &self.token.view(), request) {
+        let shadow = match generate(self.journal.ledger(), &self.token.view(), request) {
             Ok(shadow) => shadow,
             Err(why) => return Answer::alone(self.alloc, Reply::Refused(why)),
         };
@@ -143,11 +145,8 @@ impl State {
             kind: shadow.kind.label(),
         };
         let answer = Answer::with(self.alloc, made, Message::Shadow(shadow))?;
-        match self.ledger.apply(shadow) {
-            Ok(undo) => {
-                undo.seal();
-                Ok(answer)
-            }
+        match self.journal.apply(shadow) {
+            Ok(()) => Ok(answer),
             // What was generated may follow the list, so that only memory can be wanting.
             Err(_) => Err(AllocError),
         }
@@ -169,10 +168,10 @@ impl State {
         ensures ok { IfOk result (Follows self.old self.new (outcome_of_shadow self.old.settings self.old.site shadow)) }
         ensures err { OnErr result (self.new ≡ self.old) }
     {
-        if let Err(why) = shadow.sound(self.ledger.config()) {
+        if let Err(why) = shadow.sound(self.journal.config()) {
             return Answer::alone(self.alloc, Reply::Refused(why));
         }
-        if let Some(applied) = self.applied(&shadow.name) {
+        if let Some(applied) = self.journal.applied(&shadow.name) {
             return Answer::alone(self.alloc, again(&shadow, &applied));
         }
         if shadow.home == self.token.view().me {
@@ -187,9 +186,9 @@ impl State {
         ensures ok { IfOk result (Follows self.old self.new (outcome_of_new self.old.settings self.old.site shadow)) }
         ensures err { OnErr result (self.new ≡ self.old) }
     {
-        let _sites = self.ledger.config().sites();
+        let _sites = self.journal.config().sites();
         let held = Answer::alone(self.alloc, Reply::Held(shadow.name))?;
-        let why = match self.inbox.put(shadow, self.ledger.clock()) {
+        let why = match self.inbox.put(shadow, self.journal.clock()) {
             Ok(PutAnswer::Held) => return Ok(held),
             Ok(PutAnswer::Already) => {
                 return Answer::alone(self.alloc, Reply::Already(shadow.name));
@@ -199,16 +198,6 @@ impl State {
         match why {
             Refusal::OutOfMemory => Err(AllocError),
             why => Answer::alone(self.alloc, Reply::Refused(why)),
-        }
-    }
-
-    /// The applied shadow of a name.
-    fn applied(&self, name: &OpName) -> Option<Shadow>
-        ensures { result ≡ find_in self.now.site.ops name.now }
-    {
-        match self.ledger.find(name) {
-            Some(position) => self.ledger.entry(position).copied(),
-            None => None,
         }
     }
 
@@ -236,17 +225,16 @@ impl State {
             return Answer::alone(self.alloc, Reply::Refused(Refusal::NotHeld));
         };
         let shadow = *held;
-        if !self.ledger.is_eligible(&shadow) {
+        if !self.journal.is_eligible(&shadow) {
             return Answer::alone(self.alloc, Reply::Refused(Refusal::NotReady));
         }
         let applied = Answer::alone(self.alloc, Reply::Applied(shadow.name))?;
-        let why = match self.ledger.apply(shadow) {
-            Ok(undo) => {
-                undo.seal();
+        let why = match self.journal.apply(shadow) {
+            Ok(()) => {
                 self.inbox.remove(&shadow.name);
                 return Ok(applied);
             }
-            Err((_, why)) => why,
+            Err(why) => why,
         };
         match why {
             Refusal::OutOfMemory => Err(AllocError),
@@ -266,7 +254,7 @@ impl State {
         ensures err { OnErr result (self.new ≡ self.old) }
     {
         let mut passed = self.token.copy();
-        let message = match passed.pass(to, self.ledger.clock()) {
+        let message = match passed.pass(to, self.journal.clock()) {
             Ok(message) => message,
             Err(why) => return Answer::alone(self.alloc, Reply::Refused(why)),
         };
@@ -281,26 +269,34 @@ impl State {
     fn balance(&self, place: Place) -> Result<Answer, AllocError>
         ensures { IfOk result (Follows self.now self.now (outcome_of self.now.settings self.now.site (Event.Balance place))) }
     {
-        match self.ledger.balance(place) {
+        match self.journal.ledger().balance(place) {
             Some(cents) => Answer::alone(self.alloc, Reply::Balance(cents)),
             None => Answer::alone(self.alloc, Reply::Refused(Refusal::UnknownAccount)),
         }
     }
 
+    #[tactic(auto, unfolding(crate::specs::Events::outcome_of))]
     /// An account's balance after so many operations of the ledger.
-    fn as_of(&self, _place: Place, _position: u32) -> Result<Answer, AllocError>
-        ensures { IfOk result (Follows self.now self.now (outcome_of self.now.settings self.now.site (Event.AsOf _place _position))) }
+    fn as_of(&mut self, place: Place, position: u32) -> Result<Answer, AllocError>
+        ensures ok { IfOk result (Follows self.old self.new (outcome_of self.old.settings self.old.site (Event.AsOf place position))) }
+        ensures err { OnErr result (self.new ≡ self.old) }
     {
-        // To come.
-        Err(AllocError)
+        match self.journal.as_of(place, position) {
+            Ok(cents) => Answer::alone(self.alloc, Reply::Balance(cents)),
+            Err(why) => Answer::alone(self.alloc, Reply::Refused(why)),
+        }
     }
 
+    #[tactic(auto, unfolding(crate::specs::Events::outcome_of))]
     /// An account's statement.
-    fn statement(&self, _place: Place) -> Result<Answer, AllocError>
-        ensures { IfOk result (Follows self.now self.now (outcome_of self.now.settings self.now.site (Event.Statement _place))) }
+    fn statement(&self, place: Place) -> Result<Answer, AllocError>
+        ensures { IfOk result (Follows self.now self.now (outcome_of self.now.settings self.now.site (Event.Statement place))) }
     {
-        // To come.
-        Err(AllocError)
+        match statement(self.alloc, self.journal.ledger(), place) {
+            Ok(shown) => Answer::alone(self.alloc, Reply::Statement(shown)),
+            Err(Refusal::OutOfMemory) => Err(AllocError),
+            Err(why) => Answer::alone(self.alloc, Reply::Refused(why)),
+        }
     }
 }
 

@@ -43,7 +43,7 @@ fn operation(name: OpName, seen: u32, account: Place, amount: u64, kind: Kind) -
 }
 
 fn apply(rt: &impl Abort, ledger: &mut Ledger, shadow: Shadow) {
-    let _undo = ledger.apply(shadow).expect(rt, "applied");
+    ledger.apply(shadow).expect(rt, "applied").seal();
 }
 
 fn row(position: u32, name: OpName, kind: Label, moved: i64, cancelled: bool, balance: u64) -> Row {

@@ -1,5 +1,5 @@
 //! The sites of a bank, in one place.
-ghost use Rattle.std.specs.Prelude.{◌≡◌, ◌+◌, ◌≤◌, ◌++◌, [], Some, IsSomeAnd, IfSome, IfOk, IfErr, OnErr, All, length, false, map, option_copied, option_map, slice_get, take, vec_len, vec_capacity};
+ghost use Rattle.std.specs.Prelude.{◌≡◌, ◌+◌, ◌≤◌, ◌++◌, [], Some, IsSomeAnd, IfSome, IfOk, IfErr, OnErr, All, is_some, length, false, map, option_copied, option_map, slice_get, take, vec_len, vec_capacity};
 ghost use Rattle.std.specs.List.{range_with_len};
 ghost use Rattle.rb_site.specs.Events.{first_site, is_full};
 ghost use Rattle.rb_site.specs.Reports.{AreReports};
@@ -18,8 +18,7 @@ use std::marker::Model;
 const MOST_SENT: usize = 16;
 
 /// One site for each site number, every message that was ever sent, and the events that the sites
-/// recorded. It is always the run of its events.
-#[derive(Drop)]
+/// recorded. It is always the run of its events. It can't be dropped: it is closed.
 pub struct World {
     alloc: Global,
     config: Config,
@@ -57,10 +56,9 @@ impl World {
     pub fn open(alloc: Global, config: Config) -> Result<World, AllocError>
         ensures { IfOk result (λ world. world ≡ opened config) }
     {
-        let seats = open_sites(alloc, &config)?;
-        let _sites = config.sites();
         let mut reports = Vec::new(alloc);
-        reports.reserve(seats.len())?;
+        reports.reserve(config.sites() as usize)?;
+        let seats = open_sites(alloc, &config)?;
         Ok(World {
             alloc,
             config,
@@ -83,12 +81,15 @@ impl World {
             return Ok(Reply::Refused(Refusal::NoSite));
         };
         let full = site.is_full();
-        let Some(arrived) = self.arrival(&event)? else {
+        if !self.is_there(&event) {
             return Ok(Reply::Refused(Refusal::NoMessage));
-        };
+        }
         if full {
             return Ok(Reply::Refused(Refusal::HistoryFull));
         }
+        let Some(arrived) = self.arrival(&event)? else {
+            unreachable!()
+        };
         self.record(place, arrived, event)
     }
 
@@ -123,6 +124,16 @@ impl World {
     {
         let event = event.try_copy(self.alloc)?;
         self.step(event)
+    }
+
+    /// Whether there is what an event brings to its site: a message of the number.
+    fn is_there(&self, event: &WorldEvent) -> bool
+        ensures { result ≡ is_some (arrival self.now.world.messages event.now) }
+    {
+        match event {
+            WorldEvent::At(_, _) => true,
+            WorldEvent::Deliver(_, number) => self.message(*number).is_some(),
+        }
     }
 
     /// What an event brings to its site: an event of its own, or the receipt of the message. `Err` is
@@ -205,29 +216,52 @@ impl World {
         ensures { AreReports self.settings self.world.sites result.items }
     {
         let World {
+            alloc: _,
             config: _,
-            seats,
+            mut seats,
             sent: _,
             recorded: _,
             mut reports,
         } = self;
-        for site in seats {
+        'seats: while let Some(site) = seats.pop() {
             reports.push_reserved(site.close());
         }
+        seats.destroy_empty();
+        reports.reverse();
         reports
     }
 }
 
 /// A site for each number of the configuration.
 fn open_sites(alloc: Global, config: &Config) -> Result<Vec<Site>, AllocError>
-    ensures { IfOk result (λ seats. (map state_of seats.items ≡ map first_site (range_with_len 0 config.now.sites)) × All (λ x. x.settings ≡ config.now) seats.items) }
+    ensures sites { IfOk result (λ seats. map state_of seats.items ≡ map first_site (range_with_len 0 config.now.sites)) }
+    ensures settings { IfOk result (λ seats. All (λ x. x.settings ≡ config.now) seats.items) }
+    ensures few { IfOk result (λ seats. length seats.items ≡ config.now.sites) }
 {
     let mut seats = Vec::new(alloc);
-    for me in 0..config.sites() {
-        let site = Site::open(alloc, config, me)?;
-        seats.push(site)?;
+    let sites = config.sites();
+    if seats.reserve(sites as usize).is_err() {
+        seats.destroy_empty();
+        return Err(AllocError);
+    }
+    for me in 0..sites {
+        match Site::open(alloc, config, me) {
+            Ok(site) => seats.push_reserved(site),
+            Err(refused) => {
+                close_all(seats);
+                return Err(refused);
+            }
+        }
     }
     Ok(seats)
+}
+
+/// Ends sites whose reports nobody asks for.
+fn close_all(mut seats: Vec<Site>) {
+    'seats: while let Some(site) = seats.pop() {
+        let _report = site.close();
+    }
+    seats.destroy_empty();
 }
 
 /// Adds messages to those that were sent, where there is room for them.

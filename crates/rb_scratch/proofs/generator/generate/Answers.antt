@@ -1,8 +1,7 @@
-use Rattle.std.proofs.Common.{◌≡◌, ◌≤◌, ap, sym, subst, ◌∙◌, Result, Ok, Err, ℕ}
+use Rattle.std.proofs.Common.{◌≡◌, ◌≤◌, ap, sym, subst, ◌∙◌, Result, Err, ℕ}
 use Rattle.rb_money.specs.Settings.{Settings, most_sites}
 use Rattle.rb_money.specs.declared.refusal.Refusal.{Refusal}
 use Rattle.rb_shadow.specs.declared.shadow.Shadow.{Shadow}
-use Rattle.rb_scratch.specs.Requests.{made_of}
 use Rattle.rb_scratch.specs.Effects.{plan_of_effect}
 use Rattle.rb_scratch.proofs.Generated
 use Rattle.rb_scratch.proofs.Makes

@@ -1,4 +1,4 @@
-use Rattle.std.proofs.Common.{◌≡◌, ap}
+use Rattle.std.proofs.Common.{ap}
 use Rattle.rb_shadow.specs.Operations.{is_cancel}
 use Rattle.rb_scratch.proofs.Permits
 use Rattle.rb_scratch.proofs.generator.permit_red.Goals as goal

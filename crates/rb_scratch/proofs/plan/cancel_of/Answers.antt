@@ -1,6 +1,6 @@
-use Rattle.std.proofs.Common.{◌≡◌, ap, sym, ◌∙◌, false, true}
+use Rattle.std.proofs.Common.{ap, sym, ◌∙◌}
 use Rattle.rb_shadow.specs.declared.kind.Kind.TheVariants.{Cancel}
-use Rattle.rb_shadow.specs.Operations.{colour_of, may_be_cancelled}
+use Rattle.rb_shadow.specs.Operations.{colour_of}
 use Rattle.rb_scratch.proofs.Found
 use Rattle.rb_scratch.proofs.Found.{IsFound}
 use Rattle.rb_scratch.proofs.plan.cancel_of.Goals as goal

@@ -1,5 +1,5 @@
--- So far there is a site for each number below.
-use Rattle.std.proofs.Common.{◌≡◌, All, map}
+-- So far there is a site for each number below, and there is room for the others.
+use Rattle.std.proofs.Common.{◌≡◌, ◌≤◌, All, map, vec_len, vec_capacity}
 use Rattle.std.specs.List.{range_with_len}
 use Rattle.rb_site.specs.Events.{first_site}
 use Rattle.rb_site.specs.Seen.{SeenSite, state_of}
@@ -9,3 +9,5 @@ abbrev pub invariant-loop-me : goal.invariant-loop-me
 invariant-loop-me l =
     (map state_of l.seats.items ≡ map first_site (range_with_len 0 l.me))
     × All (λ (x : SeenSite). x.settings ≡ l.config) l.seats.items
+    × (vec_len l.seats ≡ l.me)
+    × (l.config.sites ≤ vec_capacity l.seats)

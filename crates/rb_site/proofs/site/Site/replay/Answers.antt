@@ -1,9 +1,15 @@
 -- One event more.
-use Rattle.std.proofs.Common.{◌≡◌, ◌∙◌, ap}
+use Rattle.std.proofs.Common.{◌≡◌, ◌∙◌, Bool, true, false, Result, Ok, Err, OnOk, is_err, ap, sym}
+use Rattle.std.specs.declared.alloc.AllocError.{AllocError}
 use Rattle.rb_site.specs.Seen.{first_seen, next_site}
 use Rattle.rb_site.proofs.Reports.{sites_more}
 use Rattle.rb_site.proofs.site.Site.replay.Goals as goal
 
+-- what holds where a result is Ok holds where it isn't an error
+replayed : (r : Result (Unit {0}) AllocError) (P : Type 0) → is_err r ≡ false → OnOk r P → P
+replayed (Ok u) P e h = h
+replayed (Err why) P e h = cc
+
 pub loop-event-preserved : goal.loop-event-preserved
 loop-event-preserved c =
-    sites_more (first_seen c.args.config.now c.args.me) c.args.events.now c.loop-event.event-index _ c.loop-event.site c.step.new.self c.loop-event-test.true c.loop-event.invariant ((c.in_ok-step.ensures.ok).0 ∙ ap (next_site c.loop-event.site) c.in_ok-event.ensures)
+    sites_more (first_seen c.args.config.now c.args.me) c.args.events.now c.loop-event.event-index c.event-item.result c.loop-event.site c.step_as.new.self c.loop-event-test.true c.loop-event.invariant (replayed c.step_as.result _ (sym c.is_err.ensures.value ∙ c.if-is_err.false) c.step_as.ensures.ok ∙ ap (next_site c.loop-event.site) c.event-item.is)

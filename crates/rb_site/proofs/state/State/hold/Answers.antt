@@ -10,31 +10,31 @@ use Rattle.rb_site.proofs.state.State.hold.Goals as goal
 
 pub invariant_of-self : goal.invariant_of-self
 invariant_of-self c =
-    tied_with c.self.inside.ledger.settings c.self.inside.inbox c.put.new.self c.self.inside.token c.args.shadow (c.put.ensures.held (c.in-Ok-Held.is ∙ ap Ok c.in-Ok-Held.field-0-is)) (let P : SiteState → Type 0 = λ z. IsSound z.settings c.args.shadow in subst P (sym c.self.view_is) c.requires) c.self.invariant
+    tied_with c.self.inside.journal.settings c.self.inside.inbox c.put.new.self c.self.inside.token c.args.shadow (c.put.ensures.held (c.in-Ok-Held.is ∙ ap Ok c.in-Ok-Held.field-0-is)) (let P : SiteState → Type 0 = λ z. IsSound z.settings c.args.shadow in subst P (sym c.self.view_is) c.requires) c.self.invariant
 
 pub returns-in-Ok-Held-clause-ok : goal.returns-in-Ok-Held-clause-ok
 returns-in-Ok-Held-clause-ok c =
-    let few : c.self.inside.ledger.settings.sites ≤ most_sites = subst (λ n. n ≤ most_sites) (c.sites-sites.ensures.same ∙ ap (λ (z : Settings). z.sites) c.config.ensures.same) c.sites-sites.ensures.few in
-    let P : SiteState → Type 0 = λ z. Follows z (state_as c.self.inside.ledger.settings c.self.inside.token.me c.self.inside.ledger.entries c.put.new.self.held c.self.inside.token.token) (outcome_of_new z.settings z.site c.args.shadow) c.in_ok-held.held in
+    let few : c.self.inside.journal.settings.sites ≤ most_sites = subst (λ n. n ≤ most_sites) (c.sites-sites.ensures.same ∙ ap (λ (z : Settings). z.sites) c.config.ensures.same) c.sites-sites.ensures.few in
+    let P : SiteState → Type 0 = λ z. Follows z (state_as c.self.inside.journal.settings c.self.inside.token.me c.self.inside.journal.ops c.put.new.self.held c.self.inside.token.token) (outcome_of_new z.settings z.site c.args.shadow) c.in_ok-held.held in
     subst P c.self.view_is
-    (holds c.self.inside.ledger.settings c.self.inside.token.me c.self.inside.ledger.entries c.self.inside.inbox c.put.new.self c.self.inside.token.token c.clock.result.now c.args.shadow c.in_ok-held.held few c.config.ensures.valid c.clock.ensures c.self.invariant.limit
+    (holds c.self.inside.journal.settings c.self.inside.token.me c.self.inside.journal.ops c.self.inside.inbox c.put.new.self c.self.inside.token.token c.clock.result.now c.args.shadow c.in_ok-held.held few c.config.ensures.valid c.clock.ensures c.self.invariant.limit
     (c.put.ensures.welcome (c.in-Ok-Held.is ∙ ap Ok c.in-Ok-Held.field-0-is)) (c.put.ensures.held (c.in-Ok-Held.is ∙ ap Ok c.in-Ok-Held.field-0-is)) c.in_ok-held.ensures)
 
 pub returns-in-Ok-Already-clause-ok : goal.returns-in-Ok-Already-clause-ok
 returns-in-Ok-Already-clause-ok c =
-    let now : SiteState = state_as c.self.inside.ledger.settings c.self.inside.token.me c.self.inside.ledger.entries c.put.new.self.held c.self.inside.token.token in
+    let now : SiteState = state_as c.self.inside.journal.settings c.self.inside.token.me c.self.inside.journal.ops c.put.new.self.held c.self.inside.token.token in
     let P : SiteState → Type 0 = λ z. IfOk c.alone-in-Ok-Already.result (Follows z now (outcome_of_new z.settings z.site c.args.shadow)) in
     subst P c.self.view_is
-    (let old : SiteState = state_as c.self.inside.ledger.settings c.self.inside.token.me c.self.inside.ledger.entries c.self.inside.inbox.held c.self.inside.token.token in
-    let Q : Holding → Type 0 = λ b. IfOk c.alone-in-Ok-Already.result (Follows old (state_as c.self.inside.ledger.settings c.self.inside.token.me c.self.inside.ledger.entries b.held c.self.inside.token.token) (outcome_of_new old.settings old.site c.args.shadow)) in
+    (let old : SiteState = state_as c.self.inside.journal.settings c.self.inside.token.me c.self.inside.journal.ops c.self.inside.inbox.held c.self.inside.token.token in
+    let Q : Holding → Type 0 = λ b. IfOk c.alone-in-Ok-Already.result (Follows old (state_as c.self.inside.journal.settings c.self.inside.token.me c.self.inside.journal.ops b.held c.self.inside.token.token) (outcome_of_new old.settings old.site c.args.shadow)) in
     subst Q (sym (c.put.ensures.unchanged (c.in-Ok-Already.is ∙ ap Ok c.in-Ok-Already.field-0-is)))
-    (answered _ _ c.alone-in-Ok-Already.result (λ a. already c.self.inside.ledger.settings c.self.inside.token.me c.self.inside.ledger.entries c.self.inside.inbox.held c.self.inside.token.token c.args.shadow a (c.put.ensures.already (c.in-Ok-Already.is ∙ ap Ok c.in-Ok-Already.field-0-is))) c.alone-in-Ok-Already.ensures))
+    (answered _ _ c.alone-in-Ok-Already.result (λ a. already c.self.inside.journal.settings c.self.inside.token.me c.self.inside.journal.ops c.self.inside.inbox.held c.self.inside.token.token c.args.shadow a (c.put.ensures.already (c.in-Ok-Already.is ∙ ap Ok c.in-Ok-Already.field-0-is))) c.alone-in-Ok-Already.ensures))
 
 pub returns-clause-ok : goal.returns-clause-ok
 returns-clause-ok c =
-    let few : c.self.inside.ledger.settings.sites ≤ most_sites = subst (λ n. n ≤ most_sites) (c.sites-sites.ensures.same ∙ ap (λ (z : Settings). z.sites) c.config.ensures.same) c.sites-sites.ensures.few in
-    let now : SiteState = state_as c.self.inside.ledger.settings c.self.inside.token.me c.self.inside.ledger.entries c.put.new.self.held c.self.inside.token.token in
+    let few : c.self.inside.journal.settings.sites ≤ most_sites = subst (λ n. n ≤ most_sites) (c.sites-sites.ensures.same ∙ ap (λ (z : Settings). z.sites) c.config.ensures.same) c.sites-sites.ensures.few in
+    let now : SiteState = state_as c.self.inside.journal.settings c.self.inside.token.me c.self.inside.journal.ops c.put.new.self.held c.self.inside.token.token in
     let P : SiteState → Type 0 = λ z. IfOk c.alone-in_default.result (Follows z now (outcome_of_new z.settings z.site c.args.shadow)) in
     subst P c.self.view_is
-    (answered _ _ c.alone-in_default.result (λ a. refused_put c.self.inside.ledger.settings c.self.inside.token.me c.self.inside.ledger.entries c.self.inside.inbox c.put.new.self c.self.inside.token.token c.clock.result.now c.args.shadow c.in-Err.why a few c.config.ensures.valid c.clock.ensures c.self.invariant.limit
+    (answered _ _ c.alone-in_default.result (λ a. refused_put c.self.inside.journal.settings c.self.inside.token.me c.self.inside.journal.ops c.self.inside.inbox c.put.new.self c.self.inside.token.token c.clock.result.now c.args.shadow c.in-Err.why a few c.config.ensures.valid c.clock.ensures c.self.invariant.limit
     c.in-Err.ensures.refusals (λ e. c.put.ensures.conflict (c.in-Err.is ∙ ap Err e)) (λ e. c.put.ensures.full (c.in-Err.is ∙ ap Err e)) c.in_default.not-OutOfMemory c.in-Err.ensures.err) c.alone-in_default.ensures)

@@ -12,13 +12,13 @@ use Rattle.rb_site.proofs.state.State.pass.Goals as goal
 pub returns-clause-ok : goal.returns-clause-ok
 unfolding clock_of
 returns-clause-ok c =
-    let P : SiteState → Type 0 = λ z. Follows z (state_as c.self.inside.ledger.settings c.pass.new.self.me c.self.inside.ledger.entries c.self.inside.inbox.held c.pass.new.self.token) (outcome_of_pass z.settings z.site c.args.to) c.in_ok-answer.answer in
+    let P : SiteState → Type 0 = λ z. Follows z (state_as c.self.inside.journal.settings c.pass.new.self.me c.self.inside.journal.ops c.self.inside.inbox.held c.pass.new.self.token) (outcome_of_pass z.settings z.site c.args.to) c.in_ok-answer.answer in
     subst P c.self.view_is
-    (let old : SiteState = state_as c.self.inside.ledger.settings c.self.inside.token.me c.self.inside.ledger.entries c.self.inside.inbox.held c.self.inside.token.token in
-    let Q : TokenSeat → Type 0 = λ seat. Follows old (state_as c.self.inside.ledger.settings seat.me c.self.inside.ledger.entries c.self.inside.inbox.held seat.token) (outcome_of_pass old.settings old.site c.args.to) c.in_ok-answer.answer in
+    (let old : SiteState = state_as c.self.inside.journal.settings c.self.inside.token.me c.self.inside.journal.ops c.self.inside.inbox.held c.self.inside.token.token in
+    let Q : TokenSeat → Type 0 = λ seat. Follows old (state_as c.self.inside.journal.settings seat.me c.self.inside.journal.ops c.self.inside.inbox.held seat.token) (outcome_of_pass old.settings old.site c.args.to) c.in_ok-answer.answer in
     subst Q (sym (c.in-Ok.ensures.passed ∙ ap (λ (seat : TokenSeat). record seat { token = passed_token seat.token c.in-Ok.message }) c.copy-passed.ensures))
-    (passes c.self.inside.ledger.settings c.self.inside.token.me c.self.inside.ledger.entries c.self.inside.inbox.held c.self.inside.token.token _ c.args.to c.clock.result.now.red c.in-Ok.message c.in_ok-answer.answer
-    (ap (λ n. refusal_of_pass n c.self.inside.ledger.settings.limits c.self.inside.token.me c.self.inside.token.token c.args.to) (sym c.self.invariant.sites)
+    (passes c.self.inside.journal.settings c.self.inside.token.me c.self.inside.journal.ops c.self.inside.inbox.held c.self.inside.token.token _ c.args.to c.clock.result.now.red c.in-Ok.message c.in_ok-answer.answer
+    (ap (λ n. refusal_of_pass n c.self.inside.journal.settings.limits c.self.inside.token.me c.self.inside.token.token c.args.to) (sym c.self.invariant.sites)
     ∙ ap (λ l. refusal_of_pass c.self.inside.token.sites l c.self.inside.token.me c.self.inside.token.token c.args.to) (sym c.self.invariant.limits)
     ∙ ap (λ (seat : TokenSeat). refusal_of_pass seat.sites seat.limits seat.me seat.token c.args.to) (sym c.copy-passed.ensures)
     ∙ c.in-Ok.ensures.allowed)

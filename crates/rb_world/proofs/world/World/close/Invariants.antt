@@ -1,10 +1,12 @@
--- So far each site before has told where it stood, and there is room for the other reports.
+-- So far each site after those left has told where it stood, and there is room for the other reports.
 use Rattle.std.proofs.Common.{◌≡◌, ◌+◌, ◌≤◌, length, vec_len, vec_capacity}
-use Rattle.std.specs.Vec.Iter.{into_iter_items}
 use Rattle.rb_world.proofs.Closing.{IsClosing}
 use Rattle.rb_world.proofs.world.World.close.Given as goal
 
-abbrev pub invariant-loop-site : goal.invariant-loop-site
-invariant-loop-site l =
-    IsClosing l.fn.self.settings l.fn.self.world.sites l.reports.items (into_iter_items l.site-iterator)
-    × (vec_len l.reports + length (into_iter_items l.site-iterator) ≤ vec_capacity l.reports)
+abbrev pub decreases-seats : goal.decreases-seats
+decreases-seats l = vec_len l.seats
+
+abbrev pub invariant-seats : goal.invariant-seats
+invariant-seats l =
+    IsClosing l.fn.self.settings l.fn.self.world.sites l.reports.items l.seats.items
+    × (vec_len l.reports + vec_len l.seats ≤ vec_capacity l.reports)

@@ -1,16 +1,16 @@
 -- The entry at the position of the name.
 use Rattle.std.proofs.Common.{◌∙◌, sym, ap}
 use Rattle.rb_shadow.specs.Operations.{find_in}
-use Rattle.rb_site.specs.States.{SiteState}
+use Rattle.rb_site.specs.States.{SeenLedger}
 use Rattle.rb_scratch.proofs.Found.{at_position, no_position}
-use Rattle.rb_site.proofs.state.State.applied.Goals as goal
+use Rattle.rb_site.proofs.journal.Journal.applied.Goals as goal
 
 pub returns-in-Some : goal.returns-in-Some
 returns-in-Some c =
     c.copied.ensures ∙ c.entry.ensures ∙ at_position c.self.inside.ledger.entries c.args.name.now c.in-Some.position (sym c.in-Some.ensures)
-    ∙ ap (λ (z : SiteState). find_in z.site.ops c.args.name.now) c.self.view_is
+    ∙ ap (λ (z : SeenLedger). find_in z.ops c.args.name.now) c.self.view_is
 
 pub returns-in-None : goal.returns-in-None
 returns-in-None c =
     sym (no_position c.self.inside.ledger.entries c.args.name.now (sym c.in-None.ensures))
-    ∙ ap (λ (z : SiteState). find_in z.site.ops c.args.name.now) c.self.view_is
+    ∙ ap (λ (z : SeenLedger). find_in z.ops c.args.name.now) c.self.view_is

@@ -1,0 +1,25 @@
+use Rattle.std.proofs.Common.{◌++◌, ◌∷◌, [], ap, sym, ◌∙◌, refl, arith, inr}
+use Rattle.rb_money.specs.declared.refusal.Refusal.{Refusal}
+use Rattle.rb_undo.specs.declared.parts.UndoParts.{UndoParts}
+use Rattle.rb_scratch.specs.declared.run_fault.RunFault.{RunFault}
+use Rattle.rb_scratch.specs.declared.run_fault.RunFault.TheVariants.{Refused as RefusedFault}
+use Rattle.rb_scratch.proofs.Tries
+use Rattle.rb_scratch.proofs.scratch.try_one.Goals as goal
+
+abbrev refused : Refusal → RunFault
+refused why = RefusedFault why
+
+pub returns-in-Ok-apply-clause-ran : goal.returns-in-Ok-apply-clause-ran
+returns-in-Ok-apply-clause-ran c = (
+  c.in-Ok.shadow,
+  refl,
+  Tries.added c.args.ledger.now c.apply.new.self c.args.undos.now.parts c.push_reserved.new.self.parts c.in-Ok.shadow c.in-Ok-apply.ensures.settings c.in-Ok-apply.ensures.applied.0
+      (c.push_reserved.ensures.parts ∙ ap (λ ps. ps ++ c.in-Ok-apply.undo ∷ []) c.reserve.ensures.parts ∙ ap (λ (p : UndoParts). c.args.undos.now.parts ++ p ∷ []) c.in-Ok-apply.ensures.applied.1),
+  λ known shows. sym (c.in-Ok.ensures.made known shows),
+)
+
+pub returns-in-Err-apply-clause-fault : goal.returns-in-Err-apply-clause-fault
+returns-in-Err-apply-clause-fault c = λ known shows. record {
+  many = λ h. absurd (omega arith);
+  few = λ h. inr (c.in-Ok.shadow, sym (c.in-Ok.ensures.made known shows), ap refused (Tries.no_memory _ _ _ _ _ c.in-Ok.ensures.valid c.in-Err-apply.ensures.reason));
+}

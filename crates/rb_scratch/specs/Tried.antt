@@ -1,0 +1,54 @@
+-- What is tried on a ledger: the requests of a batch, one by one.
+use Rattle.std.specs.Prelude.{◌≡◌, ◌≤◌, ◌<◌, ℕ, Bool, false, List, [], ◌∷◌, ◌++◌, length, ◌⊎◌, Result, Ok, Err, OnOk, OnErr}
+use Rattle.std.specs.Borrow.{Fml, GName, RattleType, MutBor, follows_so}
+use mathlib.Core.Option as maybe
+use Rattle.rb_money.specs.declared.refusal.Refusal.{Refusal}
+use Rattle.rb_money.specs.declared.refusal.Refusal.TheVariants.{OutOfMemory, BadBatch}
+use Rattle.rb_shadow.specs.declared.shadow.Shadow.{Shadow}
+use Rattle.rb_undo.specs.declared.parts.UndoParts.{UndoParts}
+use Rattle.rb_ledger.specs.Book.{Book}
+use Rattle.rb_ledger.specs.Records.{logged}
+use Rattle.rb_ledger.specs.Valid.{parts_of}
+use Rattle.rb_token.specs.Token.{Token}
+use Rattle.rb_scratch.specs.Requests.{Plan}
+use Rattle.rb_scratch.specs.Batches.{is_declined, made_in_batch}
+use Rattle.rb_scratch.specs.declared.request.Request.{Request}
+use Rattle.rb_scratch.specs.declared.run_fault.RunFault.{RunFault}
+use Rattle.rb_scratch.specs.declared.run_fault.RunFault.TheVariants.{Refused as RefusedFault}
+
+-- the plan is a withdrawal that would be declined
+abbrev pub would_decline : Result Plan Refusal → Bool
+would_decline (Ok p) = is_declined p.kind
+would_decline (Err why) = false
+
+-- the list goes on with the operations that were made, and the records are theirs
+pub record IsTried (base made : List Shadow) (book : Book) (parts : List UndoParts) : Type 0 where
+  pub entries : book.entries ≡ base ++ made
+  pub records : parts ≡ logged book.settings base made
+
+-- the records are those of the last operations
+abbrev pub IsOfTheLast : Book → List UndoParts → Type 0
+IsOfTheLast book parts = (base : List Shadow) × (made : List Shadow) × IsTried base made book parts
+
+-- one operation more, with its record
+pub record IsAdded (was now : Book) (parts more : List UndoParts) (v : Shadow) : Type 0 where
+  pub settings : now.settings ≡ was.settings
+  pub entries : now.entries ≡ was.entries ++ v ∷ []
+  pub records : more ≡ parts ++ parts_of was.settings was.entries v ∷ []
+  -- so the records are still those of the last operations
+  pub tried : (base made : List Shadow) → IsTried base made was parts → IsTried base (made ++ v ∷ []) now more
+
+-- why a request of a batch is not made: it is the seventeenth, or it makes nothing, or there is no memory
+pub record IsFault (book : Book) (parts : List UndoParts) (me : ℕ) (known : Token) (r : Request) (fault : RunFault) : Type 0 where
+  pub many : 16 ≤ length parts → fault ≡ RefusedFault BadBatch
+  pub few : length parts < 16 → (made_in_batch book.settings me book.entries known r ≡ Err fault) ⊎ ((v : Shadow) × (made_in_batch book.settings me book.entries known r ≡ Ok v) × (fault ≡ RefusedFault OutOfMemory))
+
+-- a name at an error
+abbrev pub name_if_err : {A E : Type 0} → (E → GName) → Result A E → maybe.Option GName
+name_if_err name (Ok x) = maybe.none
+name_if_err name (Err e) = maybe.some (name e)
+
+-- what was lent ends as P says, unless an error hands the loan back
+module _ (R : RattleType) (s : MutBor R.Denot) {E : Type 0} (name : E → GName) where
+  abbrev pub RestsIfOk : {A : Type 0} → Result A E → (R.Denot → Type 0) → Fml
+  RestsIfOk r P = follows_so R R s.ghost_name (name_if_err name r) (λ x n. OnErr r (n ≡ x)) (λ n. OnOk r (P n))

@@ -1,0 +1,196 @@
+//! Requests that are tried together.
+ghost use Rattle.std.specs.Prelude.{◌≡◌, ◌≤◌, ◌<◌, ◌++◌, ◌∷◌, [], ◌⊎◌, List, length, IfOk, IfErr, OnOk, OnErr};
+ghost use Rattle.std.specs.Borrow.{sem};
+ghost use Rattle.rb_shadow.specs.declared.shadow.Shadow.{Shadow as TheShadow};
+ghost use Rattle.rb_ledger.specs.contracts.ledger.Ledger.{the_row};
+ghost use Rattle.rb_token.specs.Token.{Token};
+ghost use Rattle.rb_token.specs.Seat.{Shows};
+ghost use Rattle.rb_scratch.specs.Batches.{made_in_batch};
+ghost use Rattle.rb_scratch.specs.Tried.{IsTried, IsOfTheLast, IsAdded, IsFault, RestsIfOk};
+
+use crate::in_batch::generate_in_batch;
+use crate::request::Request;
+use crate::run_fault::RunFault;
+use rb_ledger::Ledger;
+use rb_money::Refusal;
+use rb_shadow::{OpName, Shadow};
+use rb_token::TokenView;
+use rb_undo::UndoLog;
+use std::alloc::{AllocError, Global};
+
+/// The most requests of a batch.
+const MOST_REQUESTS: usize = 16;
+
+/// A ledger on which requests are tried, to be kept all or not at all: it must be spent by `commit` or
+/// `abort`. It has the ledger alone meanwhile. That its records are those of the ledger's last entries
+/// is a condition of its calls, and each of them keeps it.
+pub struct Scratch<'a, L = UndoLog> {
+    ledger: &'a mut Ledger,
+    token: TokenView,
+    undos: L,
+    alloc: Global,
+}
+
+/// Takes the last entries out again, backwards, as many as there are records.
+fn undo_all(ledger: &mut Ledger, undos: UndoLog)
+    requires { IsOfTheLast ledger.old undos.parts }
+    ensures settings { ledger.new.settings ≡ ledger.old.settings }
+    ensures entries { (base made : List TheShadow) → IsTried base made ledger.old undos.parts → ledger.new.entries ≡ base }
+{
+    let mut undos = undos;
+    'undos: while let Some(undo) = undos.pop() {
+        ledger.undo(undo);
+    }
+    undos.close();
+}
+
+/// The last entries of a ledger, as many as there are records.
+fn last_entries(alloc: Global, ledger: &Ledger, undos: &UndoLog) -> Result<Vec<Shadow>, AllocError>
+    requires { IsOfTheLast ledger.now undos.now.parts }
+    ensures { IfOk result (λ shadows. (base made : List TheShadow) → IsTried base made ledger.now undos.now.parts → shadows.items ≡ made) }
+{
+    let entries = ledger.entries();
+    let first = entries.len() - undos.len();
+    let shadows = entries[first..].to_vec(alloc)?;
+    Ok(shadows)
+}
+
+/// Runs a request on a ledger, at the site of the token's view, unless there are too many records.
+fn try_one(
+    ledger: &mut Ledger,
+    undos: &mut UndoLog,
+    token: TokenView,
+    request: &Request,
+) -> Result<OpName, RunFault>
+    requires { token.me < ledger.old.settings.sites }
+    ensures few { OnOk result (length undos.old.parts < 16) }
+    ensures ran { IfOk result (λ name. (v : TheShadow) × (name ≡ v.name) × IsAdded ledger.old ledger.new undos.old.parts undos.new.parts v
+        × ((known : Token) → Shows token known → made_in_batch ledger.old.settings token.me ledger.old.entries known request.now ≡ Ok v)) }
+    ensures fault { IfErr result (λ fault. (known : Token) → Shows token known → IsFault ledger.old undos.old.parts token.me known request.now fault) }
+    ensures unchanged { OnErr result ((ledger.new ≡ ledger.old) × (undos.new.parts ≡ undos.old.parts)) }
+{
+    if undos.len() >= MOST_REQUESTS {
+        return Err(RunFault::Refused(Refusal::BadBatch));
+    }
+    let shadow = match generate_in_batch(ledger, &token, request) {
+        Ok(shadow) => shadow,
+        Err(fault) => return Err(fault),
+    };
+    if undos.reserve(1).is_err() {
+        return Err(RunFault::Refused(Refusal::OutOfMemory));
+    }
+    match ledger.apply(shadow) {
+        Ok(undo) => {
+            undos.push_reserved(undo);
+            Ok(shadow.name)
+        }
+        Err(back) => Err(RunFault::Refused(back.1)),
+    }
+}
+
+impl<'a> Scratch<'a, UndoLog> {
+    /// A scratch on the ledger, at the site of the token's view.
+    pub fn open(alloc: Global, ledger: &'a mut Ledger, token: TokenView) -> Scratch<'a, UndoLog>
+        requires { token.me < ledger.old.settings.sites }
+        ensures same_reference { result.ledger.ghost_name ≡ ledger.entry.ghost_name }
+        ensures ledger { result.ledger.now ≡ ledger.old }
+        ensures token { result.token ≡ token }
+        ensures records { result.undos.parts ≡ [] }
+        ensures tried { IsTried ledger.old.entries [] ledger.old result.undos.parts }
+    {
+        let undos = UndoLog::new(alloc);
+        Scratch {
+            ledger,
+            token,
+            undos,
+            alloc,
+        }
+    }
+
+    /// How many requests were run.
+    pub fn len(&self) -> usize
+        ensures { result ≡ length self.now.undos.parts }
+    {
+        self.undos.len()
+    }
+
+    /// Runs a request: what it makes in a batch stands at the ledger's end, and its name is answered.
+    /// After a fault all is as before. The fault is `Refused(BadBatch)` for a seventeenth request, else
+    /// `Declined` or what refuses the request, else `Refused(OutOfMemory)`.
+    pub fn run(&mut self, request: &Request) -> Result<OpName, RunFault>
+        requires { self.old.token.me < self.old.ledger.now.settings.sites }
+        ensures same_reference { self.new.ledger.ghost_name ≡ self.old.ledger.ghost_name }
+        ensures token { self.new.token ≡ self.old.token }
+        ensures settings { self.new.ledger.now.settings ≡ self.old.ledger.now.settings }
+        ensures last { IsOfTheLast self.old.ledger.now self.old.undos.parts → IsOfTheLast self.new.ledger.now self.new.undos.parts }
+        ensures few { OnOk result (length self.old.undos.parts < 16) }
+        ensures ran { IfOk result (λ name. (v : TheShadow) × (name ≡ v.name) × IsAdded self.old.ledger.now self.new.ledger.now self.old.undos.parts self.new.undos.parts v
+            × ((known : Token) → Shows self.old.token known → made_in_batch self.old.ledger.now.settings self.old.token.me self.old.ledger.now.entries known request.now ≡ Ok v)) }
+        ensures fault { IfErr result (λ fault. (known : Token) → Shows self.old.token known → IsFault self.old.ledger.now self.old.undos.parts self.old.token.me known request.now fault) }
+        ensures unchanged { OnErr result ((self.new.ledger.now ≡ self.old.ledger.now) × (self.new.undos.parts ≡ self.old.undos.parts)) }
+    {
+        let token = self.token;
+        try_one(self.ledger, &mut self.undos, token, request)
+    }
+
+    /// Keeps what was run: gives the shadows in order, and puts their records at the log's end. For
+    /// want of memory nothing changes, and the scratch comes back.
+    pub fn commit(self, log: &mut UndoLog) -> Result<Vec<Shadow>, Scratch<'a, UndoLog>>
+        requires { IsOfTheLast self.ledger.now self.undos.parts }
+        ensures* ledger { sem 𝓛 (RestsIfOk the_row self.entry.ledger (λ scratch. scratch.ledger.ghost_name) result (λ book. book ≡ self.entry.ledger.now)) }
+        ensures made { IfOk result (λ shadows. (base made : List TheShadow) → IsTried base made self.entry.ledger.now self.entry.undos.parts → shadows.items ≡ made) }
+        ensures log { OnOk result (log.new.parts ≡ log.old.parts ++ self.entry.undos.parts) }
+        ensures back { IfErr result (λ back. (back.ledger.ghost_name ≡ self.entry.ledger.ghost_name) × (back.ledger.now ≡ self.entry.ledger.now) × (back.token ≡ self.entry.token) × (back.undos ≡ self.entry.undos)) }
+        ensures unchanged { OnErr result (log.new.parts ≡ log.old.parts) }
+    {
+        let Scratch {
+            ledger,
+            token,
+            undos,
+            alloc,
+        } = self;
+        match kept(alloc, ledger, &undos, log) {
+            Ok(shadows) => {
+                log.append(undos);
+                Ok(shadows)
+            }
+            Err(_) => Err(Scratch {
+                ledger,
+                token,
+                undos,
+                alloc,
+            }),
+        }
+    }
+
+    /// Takes back what was run: the ledger's list is that at the opening.
+    pub fn abort(self)
+        requires { IsOfTheLast self.ledger.now self.undos.parts }
+        ensures settings { self.exit.0.now.settings ≡ self.entry.ledger.now.settings }
+        ensures entries { (base made : List TheShadow) → IsTried base made self.entry.ledger.now self.entry.undos.parts → self.exit.0.now.entries ≡ base }
+    {
+        let Scratch {
+            ledger,
+            token: _,
+            undos,
+            alloc: _,
+        } = self;
+        undo_all(ledger, undos);
+    }
+}
+
+/// What is needed to keep what was run: the shadows, and room for their records in the log.
+fn kept(
+    alloc: Global,
+    ledger: &Ledger,
+    undos: &UndoLog,
+    log: &mut UndoLog,
+) -> Result<Vec<Shadow>, AllocError>
+    requires { IsOfTheLast ledger.now undos.now.parts }
+    ensures shadows { IfOk result (λ shadows. (base made : List TheShadow) → IsTried base made ledger.now undos.now.parts → shadows.items ≡ made) }
+    ensures parts { log.new.parts ≡ log.old.parts }
+    ensures room { OnOk result (length undos.now.parts ≤ log.new.room) }
+{
+    log.reserve(undos.len())?;
+    last_entries(alloc, ledger, undos)
+}

@@ -1,0 +1,144 @@
+//! A site's ledger with its undo records.
+ghost use Rattle.std.specs.Prelude.{◌≡◌, ◌++◌, ◌∷◌, ◌⊎◌, [], Some, None, IfOk, IfErr, OnOk};
+ghost use Rattle.rb_ledger.specs.Checks.{refusal_of};
+ghost use Rattle.rb_ledger.specs.Records.{records_of};
+ghost use Rattle.rb_ledger.specs.Valid.{IsValid};
+ghost use Rattle.rb_shadow.specs.Operations.{clock_of, find_in, is_eligible};
+ghost use Rattle.rb_statements.specs.Statements.{balance_as_of};
+
+use core::mem::replace_with;
+use rb_ledger::Ledger;
+use rb_money::{Config, Place, Refusal};
+use rb_shadow::{OpName, Shadow};
+use rb_statements::as_of;
+use rb_undo::UndoLog;
+use rb_vclock::Clock;
+use std::alloc::{AllocError, Global};
+use std::marker::Model;
+
+/// A ledger and its undo records, one for each operation. Callers see the settings and the operations.
+pub struct Journal {
+    ledger: Ledger,
+    log: UndoLog,
+}
+
+impl Model for Journal {
+    ghost use Rattle.std.specs.Prelude.{◌≡◌};
+    ghost use Rattle.rb_ledger.specs.Records.{records_of};
+    ghost use Rattle.rb_site.specs.States.{SeenLedger};
+
+    ghost Value = { SeenLedger };
+
+    ghost view = { λ j. record { settings = j.ledger.settings; ops = j.ledger.entries } };
+
+    ghost invariant = { λ j. j.log.parts ≡ records_of j.ledger.settings j.ledger.entries };
+}
+
+impl Journal {
+    /// A ledger of the configuration without operations, and without records.
+    pub fn open(alloc: Global, config: &Config) -> Result<Journal, AllocError>
+        ensures { IfOk result (λ journal. journal ≡ record { settings = config.now; ops = [] }) }
+    {
+        let ledger = Ledger::open(alloc, config)?;
+        Ok(Journal {
+            ledger,
+            log: UndoLog::new(alloc),
+        })
+    }
+
+    /// The ledger.
+    pub fn ledger(&self) -> &Ledger
+        ensures settings { result.now.settings ≡ self.now.settings }
+        ensures entries { result.now.entries ≡ self.now.ops }
+    {
+        &self.ledger
+    }
+
+    /// The configuration, under which the operations are a valid list.
+    pub fn config(&self) -> &Config
+        ensures same { result.now ≡ self.now.settings }
+        ensures valid { IsValid self.now.settings self.now.ops }
+    {
+        self.ledger.config()
+    }
+
+    /// How many operations of each site, and how many red ones, were applied.
+    pub fn clock(&self) -> &Clock
+        ensures { result.now ≡ clock_of self.now.ops }
+    {
+        self.ledger.clock()
+    }
+
+    /// Whether all that the shadow's home had applied was applied here.
+    pub fn is_eligible(&self, shadow: &Shadow) -> bool
+        ensures { result ≡ is_eligible self.now.ops shadow.now }
+    {
+        self.ledger.is_eligible(shadow)
+    }
+
+    /// The applied shadow of a name.
+    pub fn applied(&self, name: &OpName) -> Option<Shadow>
+        ensures { result ≡ find_in self.now.ops name.now }
+    {
+        match self.ledger.find(name) {
+            Some(position) => self.ledger.entry(position).copied(),
+            None => None,
+        }
+    }
+
+    /// The undo records: the k-th is that of the first k operations.
+    pub fn log(&self) -> &UndoLog
+        ensures { result.now.parts ≡ records_of self.now.settings self.now.ops }
+    {
+        &self.log
+    }
+
+    /// Applies a shadow, and keeps the record to undo that. After a refusal, which is that of
+    /// `Ledger::check` or want of memory, all is as before.
+    pub fn apply(&mut self, shadow: Shadow) -> Result<(), Refusal>
+        ensures applied { OnOk result (self.new ≡ record self.old { ops = self.old.ops ++ shadow ∷ [] }) }
+        ensures taken { OnOk result (refusal_of self.old.settings self.old.ops shadow ≡ None) }
+        ensures refused { IfErr result (λ why. (self.new ≡ self.old) × ((refusal_of self.old.settings self.old.ops shadow ≡ Some why) ⊎ (why ≡ Refusal.OutOfMemory))) }
+    {
+        if self.log.reserve(1).is_err() {
+            return Err(Refusal::OutOfMemory);
+        }
+        match self.ledger.apply(shadow) {
+            Ok(undo) => {
+                self.log.push_reserved(undo);
+                Ok(())
+            }
+            Err((_, why)) => Err(why),
+        }
+    }
+
+    /// The balance of an account after so many operations, in cents, or why it isn't told. This takes
+    /// no memory, and changes nothing.
+    pub fn as_of(&mut self, place: Place, position: u32) -> Result<u64, Refusal>
+        ensures same { self.new ≡ self.old }
+        ensures balance { result ≡ balance_as_of self.old.settings self.old.ops place position }
+    {
+        replace_with(self, (place, position), seen_as_of)
+    }
+
+    /// Gives up the undo of every operation, and gives the operations and their clock.
+    pub fn close(self) -> (Vec<Shadow>, Clock)
+        ensures entries { result.0.items ≡ self.ops }
+        ensures clock { result.1 ≡ clock_of self.ops }
+    {
+        let Journal { ledger, log } = self;
+        log.close();
+        ledger.close()
+    }
+}
+
+/// The balance of an account as of a position, and the journal as it was.
+fn seen_as_of(journal: Journal, asked: (Place, u32)) -> (Journal, Result<u64, Refusal>)
+    ensures same { result.0 ≡ journal }
+    ensures balance { result.1 ≡ balance_as_of journal.settings journal.ops asked.0 asked.1 }
+{
+    let (place, position) = asked;
+    let Journal { ledger, log } = journal;
+    let (ledger, log, balance) = as_of(ledger, log, place, position);
+    (Journal { ledger, log }, balance)
+}
