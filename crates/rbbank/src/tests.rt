@@ -7,9 +7,10 @@ use crate::to_writer::ToWriter;
 use rb_history::{LineFault, read_command, read_config, write_reply};
 use rb_ledger::Ledger;
 use rb_money::{Config, Place};
+use rb_scratch::Request;
 use rb_script::run_script;
-use rb_shadow::Shadow;
-use rb_site::{Event, Reply, WorldEvent};
+use rb_shadow::{OpName, Shadow};
+use rb_site::{Event, OpNames, Reply, Requests, WorldEvent};
 use rb_world::World;
 use std::alloc::Global;
 use std::process::Abort;
@@ -106,16 +107,46 @@ fn copies(rt: HostRuntime) -> Result<(), Fail> {
     let config = read_config(alloc, r#"{"accounts":[["ann",5]],"sites":2,"version":1}"#)?;
     let mut world = World::open(alloc, config)?;
     let event = WorldEvent::At(0, Event::Balance(Place(0)));
-    assert_eq!(rt; event.try_copy(alloc)?, event);
+    let copy = event.try_copy(alloc)?;
+    assert!(rt; matches!(&copy, WorldEvent::At(0, Event::Balance(Place(0)))));
     let reply = world.step(event)?;
-    assert_eq!(rt; reply, Reply::Balance(5));
-    assert_eq!(rt; reply.try_copy(alloc)?, reply);
-    assert_eq!(rt; world.events(), [event].as_slice());
+    assert!(rt; matches!(&reply, Reply::Balance(5)));
+    let copy = reply.try_copy(alloc)?;
+    assert!(rt; matches!(&copy, Reply::Balance(5)));
+    assert_eq!(rt; world.events().len(), 1);
+    assert!(rt;
+        matches!(
+            &world.events()[0],
+            WorldEvent::At(0, Event::Balance(Place(0)))
+        )
+    );
     let site = world.site(0).ok_or("no site")?;
     assert_eq!(rt; site.history().len(), 1);
-    let entry = site.history()[0];
-    assert_eq!(rt; entry.try_copy(alloc)?, entry);
-    assert_eq!(rt; entry.event.try_copy(alloc)?, Event::Balance(Place(0)));
+    let entry = site.history()[0].try_copy(alloc)?;
+    assert!(rt; matches!(&entry.event, Event::Balance(Place(0))));
+    assert!(rt; matches!(&entry.reply, Reply::Balance(5)));
+    Ok(())
+}
+
+#[test]
+fn copies_of_lists(rt: HostRuntime) -> Result<(), Fail> {
+    let alloc = rt.alloc();
+    let asked = [
+        Request::Deposit {
+            account: Place(0),
+            amount: 5,
+        },
+        Request::Cancel {
+            target: OpName::Red { n: 1 },
+        },
+    ];
+    let batch = Event::Batch(Requests::new(Vec::from_array(alloc, asked)?));
+    let copy = batch.try_copy(alloc)?;
+    assert!(rt; matches!(&copy, Event::Batch(requests) if requests.as_slice() == asked.as_slice()));
+    let made = [OpName::Blue { site: 0, n: 1 }, OpName::Red { n: 1 }];
+    let names = Reply::Names(OpNames::new(Vec::from_array(alloc, made)?));
+    let copy = names.try_copy(alloc)?;
+    assert!(rt; matches!(&copy, Reply::Names(names) if names.as_slice() == made.as_slice()));
     Ok(())
 }
 
