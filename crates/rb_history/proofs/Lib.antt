@@ -1,4 +1,4 @@
 pub mod Whole
 pub mod Shapes
 pub mod Back
-pub mod Accounts
+pub mod Fronts

@@ -9,18 +9,10 @@ use Rattle.rb_money.specs.declared.refusal.Refusal.{Refusal}
 use Rattle.rb_money.specs.declared.refusal.Refusal.TheVariants.{AlreadyCancelled, RedBehind, BatchRefused, BadMessage}
 use Rattle.rb_shadow.specs.declared.op_name.OpName.{OpName}
 use Rattle.rb_shadow.specs.declared.label.Label.{Label}
-use Rattle.rb_shadow.specs.declared.label.Label.TheVariants.{Deposit, Withdraw, Declined, Interest, Cancel}
 use Rattle.rb_site.specs.declared.reply.Reply.{Reply}
-use Rattle.rb_site.specs.declared.reply.Reply.TheVariants.{Made, Held, Already, Taken, Stale, Applied, Passed, Balance, Refused}
-use Rattle.rb_history.specs.Values.{number_json, name_json, one_json}
-
--- a kind's word
-abbrev pub label_text : Label → List ℕ
-label_text Deposit = codes "deposit"
-label_text Withdraw = codes "withdraw"
-label_text Declined = codes "declined"
-label_text Interest = codes "interest"
-label_text Cancel = codes "cancel"
+use Rattle.rb_site.specs.declared.reply.Reply.TheVariants.{Made, Names, Held, Already, Taken, Stale, Applied, Passed, Balance, Statement, Refused}
+use Rattle.rb_history.specs.Statements.{statement_json}
+use Rattle.rb_history.specs.Values.{number_json, name_json, label_text, list_json, one_json}
 
 -- an operation was made: its kind and its name
 abbrev pub made_json : OpName → Label → Data
@@ -58,6 +50,7 @@ refusal_json r = one_json (codes "refused") (number_json (number_of_refusal r))
 -- the JSON object of a reply
 abbrev pub reply_json : Reply → Data
 reply_json (Made name kind) = made_json name kind
+reply_json (Names names) = one_json (codes "names") (list_json name_json names)
 reply_json (Held name) = one_json (codes "held") (name_json name)
 reply_json (Already name) = one_json (codes "already") (name_json name)
 reply_json (Taken epoch) = one_json (codes "taken") (number_json epoch)
@@ -65,6 +58,7 @@ reply_json (Stale epoch) = one_json (codes "stale") (number_json epoch)
 reply_json (Applied name) = one_json (codes "applied") (name_json name)
 reply_json (Passed epoch) = one_json (codes "passed") (number_json epoch)
 reply_json (Balance cents) = one_json (codes "balance") (number_json cents)
+reply_json (Statement shown) = statement_json shown
 reply_json (Refused why) = refusal_json why
 
 -- the line of a reply

@@ -1,144 +1,142 @@
 //! Lines of commands.
-ghost use Rattle.std.specs.Prelude.{◌≡◌, ◌^◌, IfOk, IfSome};
+ghost use Rattle.std.specs.Prelude.{◌≡◌, ◌^◌, IfOk, IfSome, codes, option_and_then, option_map};
+ghost use Rattle.serde_json.specs.Find.{get};
 ghost use Rattle.serde_json.specs.View.{view};
-ghost use Rattle.rb_scratch.specs.declared.request.Request.TheVariants.{Deposit, Withdraw, Interest};
 ghost use Rattle.rb_site.specs.Worlds.{IsCommand, IsOwn};
-ghost use Rattle.rb_history.specs.Commands.{place_of, place_at, asked_of, request_of, event_of, command_for, command_of, command_at};
+ghost use Rattle.rb_site.specs.declared.event.Event.TheVariants.{Batch, AsOf};
+ghost use Rattle.rb_history.specs.Commands.{call_of, event_of, command_for, command_of, command_at};
 ghost use Rattle.rb_history.specs.Lines.{Gives};
+ghost use Rattle.rb_history.specs.Requests.{asked_of, requests_at};
+ghost use Rattle.rb_history.specs.Values.{number_below};
 
 use crate::fault::LineFault;
-use crate::values::{byte, long, name, pair, parse, size, word};
-use rb_money::{Config, Place};
-use rb_scratch::Request;
-use rb_site::{Event, WorldEvent};
+use crate::request::{account, request, requests};
+use crate::values::{byte, name, pair, parse, size, word};
+use rb_money::Config;
+use rb_site::{Event, Requests, WorldEvent};
 use serde_json::Value;
 use std::alloc::Global;
 
-/// The place of an account's name.
-fn place(config: &Config, name: &str) -> Place
-    ensures { result ≡ place_of config.now name.now }
-{
-    match config.accounts().place(name) {
-        Some(place) => place,
-        None => Place::NOWHERE,
-    }
-}
-
-fn account(config: &Config, value: &Value) -> Option<Place>
-    ensures { result ≡ place_at config.now (view value.now) }
-{
-    match value.as_str() {
-        Some(name) => Some(place(config, name)),
-        None => None,
-    }
-}
-
-/// An account and an amount, in cents.
-fn deposit(config: &Config, value: &Value) -> Option<Request>
-    ensures { result ≡ asked_of config.now (2 ^ 64) Deposit (view value.now) }
-{
-    let (name, amount) = pair(value)?;
-    let account = account(config, name)?;
-    let amount = long(amount)?;
-    Some(Request::Deposit { account, amount })
-}
-
-/// An account and an amount, in cents.
-fn withdraw(config: &Config, value: &Value) -> Option<Request>
-    ensures { result ≡ asked_of config.now (2 ^ 64) Withdraw (view value.now) }
-{
-    let (name, amount) = pair(value)?;
-    let account = account(config, name)?;
-    let amount = long(amount)?;
-    Some(Request::Withdraw { account, amount })
-}
-
-/// An account and a rate, in basis points.
-fn interest(config: &Config, value: &Value) -> Option<Request>
-    ensures { result ≡ asked_of config.now (2 ^ 32) Interest (view value.now) }
-{
-    let (name, rate) = pair(value)?;
-    let account = account(config, name)?;
-    let rate = word(rate)?;
-    Some(Request::Interest { account, rate })
-}
-
-/// A request, by a key of an object that may have others.
-fn request(config: &Config, value: &Value) -> Option<Request>
-    ensures { result ≡ request_of config.now (view value.now) }
-{
-    if let Some(asked) = value.get("deposit") {
-        return deposit(config, asked);
-    }
-    if let Some(asked) = value.get("withdraw") {
-        return withdraw(config, asked);
-    }
-    if let Some(asked) = value.get("interest") {
-        return interest(config, asked);
-    }
-    let target = name(value.get("cancel")?)?;
-    Some(Request::Cancel { target })
-}
-
-/// An event of a site, by a key of an object that may have others.
-fn event(config: &Config, value: &Value) -> Option<Event>
-    ensures value { result ≡ event_of config.now (view value.now) }
+/// An account and a position.
+fn as_of(config: &Config, value: &Value) -> Option<Event>
+    ensures value { result ≡ asked_of config.now (2 ^ 32) AsOf (view value.now) }
     ensures own { IfSome result IsOwn }
 {
-    if let Some(text) = value.get("apply") {
-        let name = name(text)?;
-        return Some(Event::Apply(name));
-    }
-    if let Some(to) = value.get("pass") {
-        let to = byte(to)?;
-        return Some(Event::Pass(to));
-    }
+    let (name, position) = pair(value)?;
+    let account = account(config, name)?;
+    let position = word(position)?;
+    Some(Event::AsOf(account, position))
+}
+
+/// What a teller sees of an account, or a request, by a key of an object that may have others.
+fn call(config: &Config, value: &Value) -> Option<Event>
+    ensures value { result ≡ call_of config.now (view value.now) }
+    ensures own { IfSome result IsOwn }
+{
     if let Some(name) = value.get("balance") {
         let account = account(config, name)?;
         return Some(Event::Balance(account));
+    }
+    if let Some(asked) = value.get("asof") {
+        return as_of(config, asked);
+    }
+    if let Some(name) = value.get("statement") {
+        let account = account(config, name)?;
+        return Some(Event::Statement(account));
     }
     let request = request(config, value)?;
     Some(Event::Submit(request))
 }
 
+/// A batch, from the list of its requests.
+fn batch(alloc: Global, config: &Config, list: &Value) -> Result<Event, LineFault>
+    ensures value { Gives result (option_map Batch (requests_at config.now (view list.now))) }
+    ensures own { IfOk result IsOwn }
+{
+    match requests(alloc, config, list) {
+        Ok(requests) => Ok(Event::Batch(Requests::new(requests))),
+        Err(fault) => Err(fault),
+    }
+}
+
+/// An event of a site, by a key of an object that may have others.
+fn event(alloc: Global, config: &Config, value: &Value) -> Result<Event, LineFault>
+    ensures value { Gives result (event_of config.now (view value.now)) }
+    ensures own { IfOk result IsOwn }
+{
+    if let Some(list) = value.get("batch") {
+        return batch(alloc, config, list);
+    }
+    if let Some(text) = value.get("apply") {
+        return match name(text) {
+            Some(name) => Ok(Event::Apply(name)),
+            None => Err(LineFault::Bad),
+        };
+    }
+    if let Some(to) = value.get("pass") {
+        return match byte(to) {
+            Some(to) => Ok(Event::Pass(to)),
+            None => Err(LineFault::Bad),
+        };
+    }
+    match call(config, value) {
+        Some(event) => Ok(event),
+        None => Err(LineFault::Bad),
+    }
+}
+
 /// A command for a site, by a key of an object that may have others.
-fn command_at_site(config: &Config, value: &Value, site: u8) -> Option<WorldEvent>
-    ensures value { result ≡ command_for config.now (view value.now) site }
-    ensures command { IfSome result IsCommand }
+fn command_at_site(
+    alloc: Global,
+    config: &Config,
+    value: &Value,
+    site: u8,
+) -> Result<WorldEvent, LineFault>
+    ensures value { Gives result (command_for config.now (view value.now) site) }
+    ensures command { IfOk result IsCommand }
 {
     if let Some(message) = value.get("deliver") {
-        let message = word(message)?;
-        return Some(WorldEvent::Deliver(site, message));
+        return match word(message) {
+            Some(message) => Ok(WorldEvent::Deliver(site, message)),
+            None => Err(LineFault::Bad),
+        };
     }
-    let event = event(config, value)?;
-    Some(WorldEvent::At(site, event))
+    match event(alloc, config, value) {
+        Ok(event) => Ok(WorldEvent::At(site, event)),
+        Err(fault) => Err(fault),
+    }
+}
+
+/// The site of a command.
+fn site(value: &Value) -> Option<u8>
+    ensures { result ≡ option_and_then (number_below (2 ^ 8)) (get (codes "site") (view value.now)) }
+{
+    byte(value.get("site")?)
 }
 
 /// A command, from an object of its site and one more member.
-fn command(config: &Config, value: &Value) -> Option<WorldEvent>
-    ensures value { result ≡ command_of config.now (view value.now) }
-    ensures command { IfSome result IsCommand }
+fn command(alloc: Global, config: &Config, value: &Value) -> Result<WorldEvent, LineFault>
+    ensures value { Gives result (command_of config.now (view value.now)) }
+    ensures command { IfOk result IsCommand }
 {
     if size(value) != 2 {
-        return None;
+        return Err(LineFault::Bad);
     }
-    let site = byte(value.get("site")?)?;
-    command_at_site(config, value, site)
+    match site(value) {
+        Some(site) => command_at_site(alloc, config, value, site),
+        None => Err(LineFault::Bad),
+    }
 }
 
 /// The command that a line is: `Bad` where it is none, `OutOfMemory` where there was no memory to read it.
 ///
-/// An account that the configuration doesn't have is read as `Place::NOWHERE`.
+/// An account that the configuration doesn't have is read as `Place::NOWHERE`. A batch may have any number of requests.
 pub fn read_command(alloc: Global, config: &Config, line: &str) -> Result<WorldEvent, LineFault>
     ensures value { Gives result (command_at config.now line.now) }
     ensures command { IfOk result IsCommand }
 {
-    let value = match parse(alloc, line) {
-        Ok(value) => value,
-        Err(fault) => return Err(fault),
-    };
-    match command(config, &value) {
-        Some(command) => Ok(command),
-        None => Err(LineFault::Bad),
+    match parse(alloc, line) {
+        Ok(value) => command(alloc, config, &value),
+        Err(fault) => Err(fault),
     }
 }

@@ -2,8 +2,13 @@
 #![tactic(auto)]
 
 mod command;
+#[cfg(test)]
+mod command_tests;
 mod config_line;
 mod fault;
+mod parts;
+mod request;
+mod statement;
 mod values;
 mod write;
 

@@ -1,12 +1,15 @@
 use super::*;
-use rb_money::{Cause, Config, Limits, Place, Refusal};
-use rb_scratch::Request;
+use rb_money::{Cause, Limits, Place, Refusal};
 use rb_shadow::{Label, OpName};
-use rb_site::{Event, Reply, WorldEvent};
-use std::alloc::Global;
+use rb_site::{OpNames, Reply};
+use rb_statements::{Row, Rows, Statement};
 use std::test::Fail;
 
 const FIRST: OpName = OpName::Blue { site: 0, n: 1 };
+
+const SECOND: OpName = OpName::Blue { site: 0, n: 2 };
+
+const RED: OpName = OpName::Red { n: 1 };
 
 const TWO_ACCOUNTS: &str = "{\"accounts\":[[\"ann\",0],[\"bob\",70]],\"sites\":2,\"version\":1}";
 
@@ -61,6 +64,57 @@ fn kinds(rt: HostRuntime) -> Result<(), Fail> {
 }
 
 #[test]
+fn names(rt: HostRuntime) -> Result<(), Fail> {
+    let made = Vec::from_array(rt.alloc(), [SECOND, RED])?;
+    let text = write_reply(rt.alloc(), &Reply::Names(OpNames::new(made)))?;
+    assert_eq!(rt; text.as_str(), "{\"names\":[\"B0.2\",\"R1\"]}\n");
+    Ok(())
+}
+
+#[test]
+fn statements(rt: HostRuntime) -> Result<(), Fail> {
+    let rows = Vec::from_array(
+        rt.alloc(),
+        [
+            Row {
+                position: 2,
+                name: SECOND,
+                kind: Label::Deposit,
+                moved: 1000,
+                cancelled: true,
+                balance: 1000,
+            },
+            Row {
+                position: 4,
+                name: RED,
+                kind: Label::Cancel,
+                moved: -1000,
+                cancelled: false,
+                balance: 0,
+            },
+        ],
+    )?;
+    let shown = Statement {
+        start: 0,
+        rows: Rows::new(rows),
+        balance: 0,
+    };
+    let text = write_reply(rt.alloc(), &Reply::Statement(shown))?;
+    assert_eq!(rt;
+        text.as_str(),
+        "{\"balance\":0,\"rows\":[[2,\"B0.2\",\"deposit\",1000,true,1000],[4,\"R1\",\"cancel\",-1000,false,0]],\"start\":0}\n"
+    );
+    let shown = Statement {
+        start: 7,
+        rows: Rows::new(Vec::new(rt.alloc())),
+        balance: 7,
+    };
+    let text = write_reply(rt.alloc(), &Reply::Statement(shown))?;
+    assert_eq!(rt; text.as_str(), "{\"balance\":7,\"rows\":[],\"start\":7}\n");
+    Ok(())
+}
+
+#[test]
 fn refusals(rt: HostRuntime) -> Result<(), Fail> {
     let declined = Cause::Declined;
     let refused = Cause::Refused(8);
@@ -96,125 +150,6 @@ fn refusals(rt: HostRuntime) -> Result<(), Fail> {
     ] {
         let text = write_reply(rt.alloc(), &Reply::Refused(refusal))?;
         assert_eq!(rt; text.as_str(), line);
-    }
-    Ok(())
-}
-
-/// The site and the request of a line that submits one.
-fn submitted(alloc: Global, config: &Config, line: &str) -> Option<(u8, Request)> {
-    match read_command(alloc, config, line) {
-        Ok(WorldEvent::At(site, Event::Submit(request))) => Some((site, request)),
-        _ => None,
-    }
-}
-
-#[test]
-fn requests(rt: HostRuntime) -> Result<(), Fail> {
-    let config = read_config(rt.alloc(), TWO_ACCOUNTS)?;
-    let ann = Place(0);
-    let bob = Place(1);
-    for (line, site, request) in [
-        (
-            "{\"deposit\":[\"ann\",500],\"site\":0}",
-            0,
-            Request::Deposit {
-                account: ann,
-                amount: 500,
-            },
-        ),
-        (
-            "{\"site\":1,\"withdraw\":[\"bob\",200]}",
-            1,
-            Request::Withdraw {
-                account: bob,
-                amount: 200,
-            },
-        ),
-        (
-            " { \"interest\" : [ \"bob\", 150 ], \"site\" : 0 } ",
-            0,
-            Request::Interest {
-                account: bob,
-                rate: 150,
-            },
-        ),
-        (
-            "{\"cancel\":\"R1\",\"site\":7}",
-            7,
-            Request::Cancel {
-                target: OpName::Red { n: 1 },
-            },
-        ),
-        (
-            "{\"deposit\":[\"eve\",18446744073709551615],\"site\":255}",
-            255,
-            Request::Deposit {
-                account: Place::NOWHERE,
-                amount: 18446744073709551615,
-            },
-        ),
-    ] {
-        assert_eq!(rt;
-            submitted(rt.alloc(), &config, line),
-            Some((site, request)),
-            "at {line}"
-        );
-    }
-    Ok(())
-}
-
-#[test]
-fn other_commands(rt: HostRuntime) -> Result<(), Fail> {
-    let config = read_config(rt.alloc(), TWO_ACCOUNTS)?;
-    let apply = read_command(rt.alloc(), &config, "{\"apply\":\"B0.1\",\"site\":1}")?;
-    assert!(rt;
-        matches!(
-            &apply,
-            WorldEvent::At(1, Event::Apply(OpName::Blue { site: 0, n: 1 }))
-        )
-    );
-    let pass = read_command(rt.alloc(), &config, "{\"pass\":1,\"site\":0}")?;
-    assert!(rt; matches!(&pass, WorldEvent::At(0, Event::Pass(1))));
-    let balance = read_command(rt.alloc(), &config, "{\"balance\":\"bob\",\"site\":0}")?;
-    assert!(rt; matches!(&balance, WorldEvent::At(0, Event::Balance(Place(1)))));
-    let deliver = read_command(rt.alloc(), &config, "{\"deliver\":1,\"site\":1}")?;
-    assert!(rt; matches!(&deliver, WorldEvent::Deliver(1, 1)));
-    Ok(())
-}
-
-#[test]
-fn bad_commands(rt: HostRuntime) -> Result<(), Fail> {
-    let config = read_config(rt.alloc(), TWO_ACCOUNTS)?;
-    for line in [
-        "",
-        "[]",
-        "{\"site\":0",
-        "{\"site\":0}",
-        "{\"balance\":\"ann\"}",
-        "{\"balance\":\"ann\",\"note\":1,\"site\":0}",
-        "{\"balance\":\"ann\",\"deposit\":[\"ann\",1],\"site\":0}",
-        "{\"balance\":0,\"site\":0}",
-        "{\"deposit\":{\"ann\":1},\"site\":0}",
-        "{\"deposit\":[\"ann\"],\"site\":0}",
-        "{\"deposit\":[\"ann\",1,2],\"site\":0}",
-        "{\"deposit\":[\"ann\",\"1\"],\"site\":0}",
-        "{\"deposit\":[\"ann\",-1],\"site\":0}",
-        "{\"deposit\":[\"ann\",1.0],\"site\":0}",
-        "{\"deposit\":[\"ann\",1e2],\"site\":0}",
-        "{\"deposit\":[\"ann\",18446744073709551616],\"site\":0}",
-        "{\"interest\":[\"ann\",4294967296],\"site\":0}",
-        "{\"deliver\":4294967296,\"site\":0}",
-        "{\"pass\":256,\"site\":0}",
-        "{\"pass\":1,\"site\":256}",
-        "{\"pass\":1,\"site\":\"0\"}",
-        "{\"apply\":\"B00.1\",\"site\":0}",
-        "{\"cancel\":\"r1\",\"site\":0}",
-        "{\"lend\":[\"ann\",1],\"site\":0}",
-        "{\"token\":[1,1,0],\"site\":1}",
-        "{\"shadow\":{\"account\":\"ann\",\"amount\":500,\"deps\":[[0,0,0,0,0,0,0,0],0],\"home\":0,\"kind\":\"deposit\",\"name\":\"B0.1\"},\"site\":1}",
-    ] {
-        let read = read_command(rt.alloc(), &config, line);
-        assert_eq!(rt; read.err(), Some(LineFault::Bad), "at {line}");
     }
     Ok(())
 }

@@ -1,27 +1,16 @@
 //! Lines of replies.
 ghost use Rattle.std.specs.Prelude.{◌≡◌, IfOk, string_bytes};
 ghost use Rattle.serde_json.specs.View.{view};
-ghost use Rattle.rb_history.specs.Replies.{line, reply_json, refusal_json, label_text, made_json, cause_json, cancelled_json, behind_json, batch_json, message_json};
-ghost use Rattle.rb_history.specs.Values.{name_json, one_json};
+ghost use Rattle.rb_history.specs.Replies.{line, reply_json, refusal_json, made_json, cause_json, cancelled_json, behind_json, batch_json, message_json};
+ghost use Rattle.rb_history.specs.Values.{name_json, list_json, one_json};
 
+use crate::parts::{label_word, name_value, names_value};
+use crate::statement::statement_value;
 use rb_money::{Cause, Refusal};
-use rb_shadow::{Label, OpName, write_name};
+use rb_shadow::{Label, OpName};
 use rb_site::Reply;
 use serde_json::{Value, json};
 use std::alloc::{AllocError, Global};
-
-/// A kind's word.
-fn label_word(kind: Label) -> &'static str
-    ensures { result.now ≡ label_text kind }
-{
-    match kind {
-        Label::Deposit => "deposit",
-        Label::Withdraw => "withdraw",
-        Label::Declined => "declined",
-        Label::Interest => "interest",
-        Label::Cancel => "cancel",
-    }
-}
 
 /// An object of one member.
 fn one_value(alloc: Global, key: &str, value: Value) -> Result<Value, AllocError>
@@ -30,20 +19,20 @@ fn one_value(alloc: Global, key: &str, value: Value) -> Result<Value, AllocError
     json!(in alloc; {(key): value})
 }
 
-fn name_value(alloc: Global, name: OpName) -> Result<Value, AllocError>
-    ensures { IfOk result (λ v. view v ≡ name_json name) }
-{
-    let mut text = String::new(alloc);
-    write_name(name, &mut text)?;
-    Ok(Value::String(text))
-}
-
 /// An object of one member, an operation's name.
 fn named_value(alloc: Global, key: &str, name: OpName) -> Result<Value, AllocError>
     ensures { IfOk result (λ v. view v ≡ one_json key.now (name_json name)) }
 {
     let name = name_value(alloc, name)?;
     one_value(alloc, key, name)
+}
+
+/// An object of one member, a list of names.
+fn listed_value(alloc: Global, key: &str, names: &[OpName]) -> Result<Value, AllocError>
+    ensures { IfOk result (λ v. view v ≡ one_json key.now (list_json name_json names.now)) }
+{
+    let names = names_value(alloc, names)?;
+    one_value(alloc, key, names)
 }
 
 fn made_value(alloc: Global, name: OpName, kind: Label) -> Result<Value, AllocError>
@@ -105,6 +94,7 @@ fn reply_value(alloc: Global, reply: &Reply) -> Result<Value, AllocError>
 {
     match reply {
         Reply::Made { name, kind } => made_value(alloc, *name, *kind),
+        Reply::Names(names) => listed_value(alloc, "names", names.as_slice()),
         Reply::Held(name) => named_value(alloc, "held", *name),
         Reply::Already(name) => named_value(alloc, "already", *name),
         Reply::Taken(epoch) => one_value(alloc, "taken", Value::from(*epoch)),
@@ -112,6 +102,7 @@ fn reply_value(alloc: Global, reply: &Reply) -> Result<Value, AllocError>
         Reply::Applied(name) => named_value(alloc, "applied", *name),
         Reply::Passed(epoch) => one_value(alloc, "passed", Value::from(*epoch)),
         Reply::Balance(cents) => one_value(alloc, "balance", Value::from(*cents)),
+        Reply::Statement(shown) => statement_value(alloc, shown),
         Reply::Refused(refusal) => refusal_value(alloc, *refusal),
     }
 }

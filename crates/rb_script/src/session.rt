@@ -99,6 +99,15 @@ impl Session {
         }
     }
 
+    /// The script goes on with this world. One that stood there is closed.
+    fn start(&mut self, world: World)
+        ensures { self.new ≡ record self.old { world = Some world } }
+    {
+        if let Some(before) = self.world.replace(world) {
+            let _reports = before.close();
+        }
+    }
+
     /// Takes one line, which isn't too long, and owes its reply. An `Err` owes nothing more.
     pub fn answer_line(
         &mut self,
@@ -121,7 +130,7 @@ impl Session {
         }
         let Some(world) = &mut self.world else {
             match open_world(alloc, line) {
-                Ok(world) => self.world = Some(world),
+                Ok(world) => self.start(world),
                 Err(LineFault::Bad) => return Err(ScriptFault::BadConfig { line: number }),
                 Err(LineFault::OutOfMemory) => return Err(ScriptFault::OutOfMemory),
             }
@@ -135,13 +144,15 @@ impl Session {
         Ok(())
     }
 
-    /// Lets the world go.
+    /// Closes the world.
     pub fn close(self) {
         let Session {
             world,
             number: _,
             count: _,
         } = self;
-        drop(world);
+        if let Some(world) = world {
+            let _reports = world.close();
+        }
     }
 }

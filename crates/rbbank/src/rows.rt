@@ -8,7 +8,7 @@ pub struct Row {
 }
 
 /// Each row whose verbs are there.
-pub const ROWS: [Row; 18] = [
+pub const ROWS: [Row; 20] = [
     Row {
         name: "deposit_reaches_the_other_site",
         script: r#"{"accounts":[["ann",0]],"sites":2,"version":1}
@@ -42,9 +42,13 @@ pub const ROWS: [Row; 18] = [
         script: r#"{"accounts":[["ann",100]],"sites":2,"version":1}
 {"site":1,"withdraw":["ann",50]}
 {"deposit":["ann",1],"site":1}
+{"batch":[{"deposit":["ann",1]},{"withdraw":["ann",50]}],"site":1}
+{"balance":"ann","site":1}
 "#,
         replies: r#"{"refused":8}
 {"kind":"deposit","name":"B1.1"}
+{"cause":8,"index":1,"refused":13}
+{"balance":101}
 "#,
     },
     Row {
@@ -171,6 +175,8 @@ pub const ROWS: [Row; 18] = [
 {"apply":"B1.1","site":0}
 {"balance":"ann","site":0}
 {"balance":"ann","site":1}
+{"asof":["ann",2],"site":0}
+{"asof":["ann",1],"site":0}
 "#,
         replies: r#"{"kind":"withdraw","name":"R1"}
 {"held":"R1"}
@@ -183,6 +189,8 @@ pub const ROWS: [Row; 18] = [
 {"applied":"B1.1"}
 {"balance":1000}
 {"balance":1000}
+{"balance":1000}
+{"balance":700}
 "#,
     },
     Row {
@@ -215,12 +223,14 @@ pub const ROWS: [Row; 18] = [
 {"deposit":["ann",100],"site":0}
 {"cancel":"B0.1","site":0}
 {"balance":"ann","site":0}
+{"asof":["ann",3],"site":0}
 "#,
         replies: r#"{"kind":"deposit","name":"B0.1"}
 {"kind":"withdraw","name":"R1"}
 {"kind":"deposit","name":"B0.2"}
 {"kind":"cancel","name":"R2"}
 {"balance":0}
+{"balance":100}
 "#,
     },
     Row {
@@ -251,12 +261,60 @@ pub const ROWS: [Row; 18] = [
 {"deposit":["bob",1000],"site":0}
 {"interest":["bob",100],"site":0}
 {"cancel":"B0.2","site":0}
+{"site":0,"statement":"bob"}
 "#,
         replies: r#"{"kind":"interest","name":"B0.1"}
 {"balance":1013}
 {"kind":"deposit","name":"B0.2"}
 {"kind":"interest","name":"B0.3"}
 {"kind":"cancel","name":"R1"}
+{"balance":10,"rows":[[2,"B0.2","deposit",1000,true,1000],[3,"B0.3","interest",10,false,1010],[4,"R1","cancel",-1000,false,10]],"start":0}
+"#,
+    },
+    Row {
+        name: "batch_all_or_nothing",
+        script: r#"{"accounts":[["ann",0]],"sites":2,"version":1}
+{"batch":[{"deposit":["ann",50]},{"withdraw":["ann",80]}],"site":0}
+{"balance":"ann","site":0}
+{"deposit":["ann",7],"site":0}
+{"deliver":1,"site":1}
+{"deliver":2,"site":1}
+{"batch":[{"deposit":["ann",50]},{"withdraw":["ann",57]}],"site":0}
+{"balance":"ann","site":0}
+{"batch":[],"site":0}
+{"batch":[{"deposit":["ann",1]},{"deposit":["ann",1]},{"deposit":["ann",1]},{"deposit":["ann",1]},{"deposit":["ann",1]},{"deposit":["ann",1]},{"deposit":["ann",1]},{"deposit":["ann",1]},{"deposit":["ann",1]},{"deposit":["ann",1]},{"deposit":["ann",1]},{"deposit":["ann",1]},{"deposit":["ann",1]},{"deposit":["ann",1]},{"deposit":["ann",1]},{"deposit":["ann",1]},{"deposit":["ann",1]}],"site":0}
+"#,
+        replies: r#"{"cause":"declined","index":1,"refused":13}
+{"balance":0}
+{"kind":"deposit","name":"B0.1"}
+{"held":"B0.1"}
+{"refused":19}
+{"names":["B0.2","R1"]}
+{"balance":0}
+{"refused":12}
+{"refused":12}
+"#,
+    },
+    Row {
+        name: "as_of_each_position",
+        script: r#"{"accounts":[["ann",1000]],"sites":2,"version":1}
+{"site":0,"withdraw":["ann",300]}
+{"cancel":"R1","site":0}
+{"asof":["ann",0],"site":0}
+{"asof":["ann",1],"site":0}
+{"asof":["ann",2],"site":0}
+{"asof":["ann",3],"site":0}
+{"balance":"ann","site":0}
+{"site":0,"withdraw":["ann",1]}
+"#,
+        replies: r#"{"kind":"withdraw","name":"R1"}
+{"kind":"cancel","name":"B0.1"}
+{"balance":1000}
+{"balance":700}
+{"balance":1000}
+{"refused":22}
+{"balance":1000}
+{"kind":"withdraw","name":"R2"}
 "#,
     },
     Row {

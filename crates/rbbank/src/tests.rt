@@ -7,9 +7,10 @@ use crate::to_writer::ToWriter;
 use rb_history::{LineFault, read_command, read_config, write_reply};
 use rb_ledger::Ledger;
 use rb_money::{Config, Place};
+use rb_scratch::Request;
 use rb_script::run_script;
-use rb_shadow::Shadow;
-use rb_site::{Event, Reply, WorldEvent};
+use rb_shadow::{OpName, Shadow};
+use rb_site::{Event, OpNames, Reply, Requests, WorldEvent};
 use rb_world::World;
 use std::alloc::Global;
 use std::test::Fail;
@@ -46,15 +47,23 @@ fn rows_as_scripts(rt: HostRuntime) -> Result<(), Fail> {
     Ok(())
 }
 
+/// The configuration on the first line.
+fn config_of(alloc: Global, script: &str) -> Result<Config, Fail> {
+    let first = script.lines().next().ok_or("no configuration")?;
+    Ok(read_config(alloc, first)?)
+}
+
 /// The world after a script, and its replies.
 fn run(alloc: Global, script: &str) -> Result<(World, Vec<Reply>), Fail> {
-    let first = script.lines().next().ok_or("no configuration")?;
-    let config = read_config(alloc, first)?;
+    let config = config_of(alloc, script)?;
     let events = commands(alloc, &config, script)?;
     let mut world = World::open(alloc, config)?;
     match world.run(alloc, events.as_slice()) {
         Ok(replies) => Ok((world, replies)),
-        Err(_) => Err(Fail::from("no memory")),
+        Err(_) => {
+            let _reports = world.close();
+            Err(Fail::from("no memory"))
+        }
     }
 }
 
@@ -72,7 +81,8 @@ fn row(name: &str) -> Result<&'static Row, Fail> {
 fn whole_run(rt: HostRuntime) -> Result<(), Fail> {
     let alloc = rt.alloc();
     for row in &ROWS {
-        let (_world, replies) = run(alloc, row.script)?;
+        let (world, replies) = run(alloc, row.script)?;
+        let _reports = world.close();
         let mut text = String::new(alloc);
         for reply in &replies {
             text.push_str(write_reply(alloc, reply)?.as_str())?;
@@ -88,14 +98,15 @@ fn nothing_is_recorded_where_no_site_or_message_is(rt: HostRuntime) -> Result<()
     let config = read_config(alloc, r#"{"accounts":[["ann",0]],"sites":2,"version":1}"#)?;
     let mut world = World::open(alloc, config)?;
     let event = WorldEvent::Deliver(0, 1);
-    world.step(event)?;
+    let _reply = world.step(event).expect(&rt, "answered");
     assert!(rt; world.events().is_empty());
     assert!(rt; world.messages().is_empty());
     for place in 0..2u8 {
-        let site = world.site(place).ok_or("no site")?;
+        let site = world.site(place).expect(&rt, "a site");
         assert!(rt; site.history().is_empty());
     }
     assert!(rt; world.site(2).is_none());
+    let _reports = world.close();
     Ok(())
 }
 
@@ -105,16 +116,53 @@ fn copies(rt: HostRuntime) -> Result<(), Fail> {
     let config = read_config(alloc, r#"{"accounts":[["ann",5]],"sites":2,"version":1}"#)?;
     let mut world = World::open(alloc, config)?;
     let event = WorldEvent::At(0, Event::Balance(Place(0)));
-    assert_eq!(rt; event.try_copy(alloc)?, event);
-    let reply = world.step(event)?;
-    assert_eq!(rt; reply, Reply::Balance(5));
-    assert_eq!(rt; reply.try_copy(alloc)?, reply);
-    assert_eq!(rt; world.events(), [event].as_slice());
-    let site = world.site(0).ok_or("no site")?;
+    let copy = event.try_copy(alloc).expect(&rt, "copied");
+    assert!(rt; matches!(&copy, WorldEvent::At(0, Event::Balance(Place(0)))));
+    let reply = world.step(event).expect(&rt, "answered");
+    assert!(rt; matches!(&reply, Reply::Balance(5)));
+    let copy = reply.try_copy(alloc).expect(&rt, "copied");
+    assert!(rt; matches!(&copy, Reply::Balance(5)));
+    assert_eq!(rt; world.events().len(), 1);
+    assert!(rt;
+        matches!(
+            &world.events()[0],
+            WorldEvent::At(0, Event::Balance(Place(0)))
+        )
+    );
+    let site = world.site(0).expect(&rt, "a site");
     assert_eq!(rt; site.history().len(), 1);
-    let entry = site.history()[0];
-    assert_eq!(rt; entry.try_copy(alloc)?, entry);
-    assert_eq!(rt; entry.event.try_copy(alloc)?, Event::Balance(Place(0)));
+    let entry = site.history()[0].try_copy(alloc).expect(&rt, "copied");
+    assert!(rt; matches!(&entry.event, Event::Balance(Place(0))));
+    assert!(rt; matches!(&entry.reply, Reply::Balance(5)));
+    let _reports = world.close();
+    Ok(())
+}
+
+#[test]
+fn copies_of_lists(rt: HostRuntime) -> Result<(), Fail> {
+    let alloc = rt.alloc();
+    let asked = [
+        Request::Deposit {
+            account: Place(0),
+            amount: 5,
+        },
+        Request::Cancel {
+            target: OpName::Red { n: 1 },
+        },
+    ];
+    let batch = Event::Batch(Requests::new(Vec::from_array(alloc, asked)?));
+    let copy = batch.try_copy(alloc)?;
+    let Event::Batch(requests) = copy else {
+        return Err(Fail::from("no batch"));
+    };
+    assert_eq!(rt; requests.as_slice(), asked.as_slice());
+    let made = [OpName::Blue { site: 0, n: 1 }, OpName::Red { n: 1 }];
+    let names = Reply::Names(OpNames::new(Vec::from_array(alloc, made)?));
+    let copy = names.try_copy(alloc)?;
+    let Reply::Names(names) = copy else {
+        return Err(Fail::from("no names"));
+    };
+    assert_eq!(rt; names.as_slice(), made.as_slice());
     Ok(())
 }
 
@@ -161,8 +209,9 @@ fn same_answers(ledger: &Ledger, other: &Ledger) -> bool {
 fn ledger_of(alloc: Global, config: &Config, shadows: &[Shadow]) -> Result<Ledger, Fail> {
     let mut ledger = Ledger::open(alloc, config)?;
     for shadow in shadows {
-        if ledger.apply(*shadow).is_err() {
-            return Err(Fail::from("refused"));
+        match ledger.apply(*shadow) {
+            Ok(undo) => undo.seal(),
+            Err(_) => return Err(Fail::from("refused")),
         }
     }
     Ok(ledger)
@@ -191,7 +240,13 @@ fn there_and_back(
     let Ok(undo) = ledger.apply(shadows[from]) else {
         return Err(Fail::from("refused"));
     };
-    let later = there_and_back(alloc, ledger, shadows, from + 1)?;
+    let later = match there_and_back(alloc, ledger, shadows, from + 1) {
+        Ok(later) => later,
+        Err(fail) => {
+            undo.seal();
+            return Err(fail);
+        }
+    };
     ledger.undo(undo);
     let here = stands_after(alloc, ledger, &shadows[..from])?;
     Ok(later & here)
@@ -205,10 +260,12 @@ fn tail_back(rt: HostRuntime) -> Result<(), Fail> {
         "cancelled_deposit_later",
         "interest_stays",
     ] {
-        let (world, _replies) = run(alloc, row(name)?.script)?;
-        let applied = world.site(0).ok_or("no site")?.ledger();
-        let mut ledger = Ledger::open(alloc, world.config())?;
-        assert!(rt; there_and_back(alloc, &mut ledger, applied.entries(), 0)?);
+        let script = row(name)?.script;
+        let (world, _replies) = run(alloc, script)?;
+        let reports = world.close();
+        let applied = &reports.get(0).ok_or("no report")?.entries;
+        let mut ledger = Ledger::open(alloc, &config_of(alloc, script)?)?;
+        assert!(rt; there_and_back(alloc, &mut ledger, applied.as_slice(), 0)?);
         assert!(rt; ledger.is_empty());
         assert!(rt; !applied.is_empty());
     }

@@ -3,7 +3,7 @@ use Rattle.std.specs.Prelude.{map}
 use Rattle.serde_json.specs.View.{items_view}
 use Rattle.rb_history.specs.Configurations.{accounts_in}
 use Rattle.rb_money.specs.Faults.{account_of}
-use Rattle.rb_history.proofs.Accounts.{with_front}
+use Rattle.rb_history.proofs.Fronts.{with_front}
 use Rattle.rb_history.proofs.config_line.accounts.Given as goal
 
 abbrev pub invariant-loop-item : goal.invariant-loop-item

@@ -1,0 +1,182 @@
+use super::*;
+use rb_money::{Config, Place};
+use rb_scratch::Request;
+use rb_shadow::OpName;
+use rb_site::{Event, Requests, WorldEvent};
+use std::alloc::Global;
+use std::test::Fail;
+
+const TWO_ACCOUNTS: &str = "{\"accounts\":[[\"ann\",0],[\"bob\",70]],\"sites\":2,\"version\":1}";
+
+/// The site and the request of a line that submits one.
+fn submitted(alloc: Global, config: &Config, line: &str) -> Option<(u8, Request)> {
+    match read_command(alloc, config, line) {
+        Ok(WorldEvent::At(site, Event::Submit(request))) => Some((site, request)),
+        _ => None,
+    }
+}
+
+#[test]
+fn requests(rt: HostRuntime) -> Result<(), Fail> {
+    let config = read_config(rt.alloc(), TWO_ACCOUNTS)?;
+    let ann = Place(0);
+    let bob = Place(1);
+    for (line, site, request) in [
+        (
+            "{\"deposit\":[\"ann\",500],\"site\":0}",
+            0,
+            Request::Deposit {
+                account: ann,
+                amount: 500,
+            },
+        ),
+        (
+            "{\"site\":1,\"withdraw\":[\"bob\",200]}",
+            1,
+            Request::Withdraw {
+                account: bob,
+                amount: 200,
+            },
+        ),
+        (
+            " { \"interest\" : [ \"bob\", 150 ], \"site\" : 0 } ",
+            0,
+            Request::Interest {
+                account: bob,
+                rate: 150,
+            },
+        ),
+        (
+            "{\"cancel\":\"R1\",\"site\":7}",
+            7,
+            Request::Cancel {
+                target: OpName::Red { n: 1 },
+            },
+        ),
+        (
+            "{\"deposit\":[\"eve\",18446744073709551615],\"site\":255}",
+            255,
+            Request::Deposit {
+                account: Place::NOWHERE,
+                amount: 18446744073709551615,
+            },
+        ),
+    ] {
+        assert_eq!(rt;
+            submitted(rt.alloc(), &config, line),
+            Some((site, request)),
+            "at {line}"
+        );
+    }
+    Ok(())
+}
+
+/// The site and the requests of a line that is a batch.
+fn batched(alloc: Global, config: &Config, line: &str) -> Option<(u8, Requests)> {
+    match read_command(alloc, config, line) {
+        Ok(WorldEvent::At(site, Event::Batch(requests))) => Some((site, requests)),
+        _ => None,
+    }
+}
+
+#[test]
+fn batches(rt: HostRuntime) -> Result<(), Fail> {
+    let config = read_config(rt.alloc(), TWO_ACCOUNTS)?;
+    let line =
+        "{\"batch\":[{\"deposit\":[\"ann\",50]},{\"withdraw\":[\"bob\",80]},{\"interest\":[\"eve\",1]},{\"cancel\":\"R1\"}],\"site\":1}";
+    let (site, asked) = batched(rt.alloc(), &config, line).ok_or("no batch")?;
+    let requests = [
+        Request::Deposit {
+            account: Place(0),
+            amount: 50,
+        },
+        Request::Withdraw {
+            account: Place(1),
+            amount: 80,
+        },
+        Request::Interest {
+            account: Place::NOWHERE,
+            rate: 1,
+        },
+        Request::Cancel {
+            target: OpName::Red { n: 1 },
+        },
+    ];
+    assert_eq!(rt; site, 1);
+    assert_eq!(rt; asked.as_slice(), requests.as_slice());
+    let line = "{\"batch\":[],\"site\":0}";
+    let (_site, asked) = batched(rt.alloc(), &config, line).ok_or("no batch")?;
+    assert!(rt; asked.as_slice().is_empty());
+    Ok(())
+}
+
+#[test]
+fn other_commands(rt: HostRuntime) -> Result<(), Fail> {
+    let config = read_config(rt.alloc(), TWO_ACCOUNTS)?;
+    let apply = read_command(rt.alloc(), &config, "{\"apply\":\"B0.1\",\"site\":1}")?;
+    assert!(rt;
+        matches!(
+            &apply,
+            WorldEvent::At(1, Event::Apply(OpName::Blue { site: 0, n: 1 }))
+        )
+    );
+    let pass = read_command(rt.alloc(), &config, "{\"pass\":1,\"site\":0}")?;
+    assert!(rt; matches!(&pass, WorldEvent::At(0, Event::Pass(1))));
+    let balance = read_command(rt.alloc(), &config, "{\"balance\":\"bob\",\"site\":0}")?;
+    assert!(rt; matches!(&balance, WorldEvent::At(0, Event::Balance(Place(1)))));
+    let as_of = read_command(rt.alloc(), &config, "{\"asof\":[\"bob\",3],\"site\":1}")?;
+    assert!(rt; matches!(&as_of, WorldEvent::At(1, Event::AsOf(Place(1), 3))));
+    let statement = read_command(rt.alloc(), &config, "{\"statement\":\"ann\",\"site\":0}")?;
+    assert!(rt; matches!(&statement, WorldEvent::At(0, Event::Statement(Place(0)))));
+    let deliver = read_command(rt.alloc(), &config, "{\"deliver\":1,\"site\":1}")?;
+    assert!(rt; matches!(&deliver, WorldEvent::Deliver(1, 1)));
+    Ok(())
+}
+
+#[test]
+fn bad_commands(rt: HostRuntime) -> Result<(), Fail> {
+    let config = read_config(rt.alloc(), TWO_ACCOUNTS)?;
+    for line in [
+        "",
+        "[]",
+        "{\"site\":0",
+        "{\"site\":0}",
+        "{\"balance\":\"ann\"}",
+        "{\"balance\":\"ann\",\"note\":1,\"site\":0}",
+        "{\"balance\":\"ann\",\"deposit\":[\"ann\",1],\"site\":0}",
+        "{\"balance\":0,\"site\":0}",
+        "{\"deposit\":{\"ann\":1},\"site\":0}",
+        "{\"deposit\":[\"ann\"],\"site\":0}",
+        "{\"deposit\":[\"ann\",1,2],\"site\":0}",
+        "{\"deposit\":[\"ann\",\"1\"],\"site\":0}",
+        "{\"deposit\":[\"ann\",-1],\"site\":0}",
+        "{\"deposit\":[\"ann\",1.0],\"site\":0}",
+        "{\"deposit\":[\"ann\",1e2],\"site\":0}",
+        "{\"deposit\":[\"ann\",18446744073709551616],\"site\":0}",
+        "{\"interest\":[\"ann\",4294967296],\"site\":0}",
+        "{\"deliver\":4294967296,\"site\":0}",
+        "{\"pass\":256,\"site\":0}",
+        "{\"pass\":1,\"site\":256}",
+        "{\"pass\":1,\"site\":\"0\"}",
+        "{\"apply\":\"B00.1\",\"site\":0}",
+        "{\"cancel\":\"r1\",\"site\":0}",
+        "{\"lend\":[\"ann\",1],\"site\":0}",
+        "{\"batch\":{},\"site\":0}",
+        "{\"batch\":[[\"ann\",1]],\"site\":0}",
+        "{\"batch\":[{}],\"site\":0}",
+        "{\"batch\":[{\"deposit\":[\"ann\",1],\"site\":0}],\"site\":0}",
+        "{\"batch\":[{\"deposit\":[\"ann\",1]},{\"apply\":\"B0.1\"}],\"site\":0}",
+        "{\"batch\":[{\"batch\":[]}],\"site\":0}",
+        "{\"asof\":\"ann\",\"site\":0}",
+        "{\"asof\":[\"ann\"],\"site\":0}",
+        "{\"asof\":[\"ann\",-1],\"site\":0}",
+        "{\"asof\":[\"ann\",4294967296],\"site\":0}",
+        "{\"site\":0,\"statement\":[\"ann\"]}",
+        "{\"token\":[1,1,0],\"site\":1}",
+        "{\"shadow\":{\"account\":\"ann\",\"amount\":500,\"deps\":[[0,0,0,0,0,0,0,0],0],\"home\":0,\"kind\":\"deposit\",\"name\":\"B0.1\"},\"site\":1}",
+    ] {
+        let read = read_command(rt.alloc(), &config, line);
+        assert_eq!(rt; read.err(), Some(LineFault::Bad), "at {line}");
+    }
+    Ok(())
+}

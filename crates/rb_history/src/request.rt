@@ -1,0 +1,109 @@
+//! Requests, alone and in lists.
+ghost use Rattle.std.specs.Prelude.{◌≡◌, ◌^◌};
+ghost use Rattle.serde_json.specs.View.{view};
+ghost use Rattle.rb_scratch.specs.declared.request.Request.TheVariants.{Deposit, Withdraw, Interest};
+ghost use Rattle.rb_history.specs.Lines.{GivesAs};
+ghost use Rattle.rb_history.specs.Requests.{place_of, place_at, asked_of, request_of, request_alone, requests_at};
+
+use crate::fault::LineFault;
+use crate::values::{long, name, pair, size, word};
+use rb_money::{Config, Place};
+use rb_scratch::Request;
+use serde_json::Value;
+use std::alloc::Global;
+
+/// The place of an account's name.
+fn place(config: &Config, name: &str) -> Place
+    ensures { result ≡ place_of config.now name.now }
+{
+    match config.accounts().place(name) {
+        Some(place) => place,
+        None => Place::NOWHERE,
+    }
+}
+
+/// The place of the account that a value names.
+pub fn account(config: &Config, value: &Value) -> Option<Place>
+    ensures { result ≡ place_at config.now (view value.now) }
+{
+    match value.as_str() {
+        Some(name) => Some(place(config, name)),
+        None => None,
+    }
+}
+
+/// An account and an amount, in cents.
+fn deposit(config: &Config, value: &Value) -> Option<Request>
+    ensures { result ≡ asked_of config.now (2 ^ 64) Deposit (view value.now) }
+{
+    let (name, amount) = pair(value)?;
+    let account = account(config, name)?;
+    let amount = long(amount)?;
+    Some(Request::Deposit { account, amount })
+}
+
+/// An account and an amount, in cents.
+fn withdraw(config: &Config, value: &Value) -> Option<Request>
+    ensures { result ≡ asked_of config.now (2 ^ 64) Withdraw (view value.now) }
+{
+    let (name, amount) = pair(value)?;
+    let account = account(config, name)?;
+    let amount = long(amount)?;
+    Some(Request::Withdraw { account, amount })
+}
+
+/// An account and a rate, in basis points.
+fn interest(config: &Config, value: &Value) -> Option<Request>
+    ensures { result ≡ asked_of config.now (2 ^ 32) Interest (view value.now) }
+{
+    let (name, rate) = pair(value)?;
+    let account = account(config, name)?;
+    let rate = word(rate)?;
+    Some(Request::Interest { account, rate })
+}
+
+/// A request, by a key of an object that may have others.
+pub fn request(config: &Config, value: &Value) -> Option<Request>
+    ensures { result ≡ request_of config.now (view value.now) }
+{
+    if let Some(asked) = value.get("deposit") {
+        return deposit(config, asked);
+    }
+    if let Some(asked) = value.get("withdraw") {
+        return withdraw(config, asked);
+    }
+    if let Some(asked) = value.get("interest") {
+        return interest(config, asked);
+    }
+    let target = name(value.get("cancel")?)?;
+    Some(Request::Cancel { target })
+}
+
+/// A request of a batch, from an object of one member.
+fn request_alone(config: &Config, value: &Value) -> Option<Request>
+    ensures { result ≡ request_alone config.now (view value.now) }
+{
+    if size(value) != 1 {
+        return None;
+    }
+    request(config, value)
+}
+
+/// The requests of a list, in its order.
+pub fn requests(alloc: Global, config: &Config, value: &Value) -> Result<Vec<Request>, LineFault>
+    ensures { GivesAs (λ v. v.items) result (requests_at config.now (view value.now)) }
+{
+    let Some(items) = value.as_array() else {
+        return Err(LineFault::Bad);
+    };
+    let mut requests = Vec::new(alloc);
+    for item in items {
+        let Some(request) = request_alone(config, item) else {
+            return Err(LineFault::Bad);
+        };
+        if requests.push(request).is_err() {
+            return Err(LineFault::OutOfMemory);
+        }
+    }
+    Ok(requests)
+}
