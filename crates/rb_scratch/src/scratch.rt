@@ -23,7 +23,7 @@ const MOST_REQUESTS: usize = 16;
 
 /// A ledger on which requests are tried, to be kept all or not at all: it must be spent by `commit` or
 /// `abort`. It has the ledger alone meanwhile. That its records are those of the ledger's last entries
-/// is a condition of its calls, and each of them keeps it.
+/// is a condition of its calls, and each of them keeps it. `L` is the type of the log of its records.
 pub struct Scratch<'a, L = UndoLog> {
     ledger: &'a mut Ledger,
     token: TokenView,
