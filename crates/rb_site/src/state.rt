@@ -1,6 +1,7 @@
 //! Where a site stands between two events.
 ghost use Rattle.std.specs.Prelude.{◌≡◌, ◌<◌, if◌then◌else◌, IfOk, OnErr};
 ghost use Rattle.rb_shadow.specs.Operations.{clock_of, find_in, same_shadow};
+ghost use Rattle.rb_ledger.specs.Records.{records_of};
 ghost use Rattle.rb_shadow.specs.Sound.{IsSound};
 ghost use Rattle.rb_site.specs.Events.{first_site, outcome_of, outcome_of_new, outcome_of_shadow, outcome_of_token, outcome_of_apply, outcome_of_pass};
 ghost use Rattle.rb_site.specs.States.{Follows};
@@ -15,6 +16,7 @@ use rb_scratch::{Request, generate};
 use rb_shadow::{OpName, Shadow};
 use rb_statements::statement;
 use rb_token::{Accepted, TokenMessage, TokenState};
+use rb_undo::UndoLog;
 use rb_vclock::Clock;
 use std::alloc::{AllocError, Global};
 use std::marker::Model;
@@ -77,6 +79,13 @@ impl State {
         ensures entries { result.now.entries ≡ self.now.site.ops }
     {
         self.journal.ledger()
+    }
+
+    /// The undo records: the k-th is that of the first k operations.
+    pub fn log(&self) -> &UndoLog
+        ensures { result.now.parts ≡ records_of self.now.settings self.now.site.ops }
+    {
+        self.journal.log()
     }
 
     /// What the site holds.
