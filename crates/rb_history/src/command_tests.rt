@@ -161,6 +161,19 @@ fn bad_commands(rt: HostRuntime) -> Result<(), Fail> {
         "{\"apply\":\"B00.1\",\"site\":0}",
         "{\"cancel\":\"r1\",\"site\":0}",
         "{\"lend\":[\"ann\",1],\"site\":0}",
+        "{\"token\":[1,1,0],\"site\":1}",
+        "{\"shadow\":{\"account\":\"ann\",\"amount\":500,\"deps\":[[0,0,0,0,0,0,0,0],0],\"home\":0,\"kind\":\"deposit\",\"name\":\"B0.1\"},\"site\":1}",
+    ] {
+        let read = read_command(rt.alloc(), &config, line);
+        assert_eq!(rt; read.err(), Some(LineFault::Bad), "at {line}");
+    }
+    Ok(())
+}
+
+#[test]
+fn bad_batches_and_views(rt: HostRuntime) -> Result<(), Fail> {
+    let config = read_config(rt.alloc(), TWO_ACCOUNTS)?;
+    for line in [
         "{\"batch\":{},\"site\":0}",
         "{\"batch\":[[\"ann\",1]],\"site\":0}",
         "{\"batch\":[{}],\"site\":0}",
@@ -172,8 +185,6 @@ fn bad_commands(rt: HostRuntime) -> Result<(), Fail> {
         "{\"asof\":[\"ann\",-1],\"site\":0}",
         "{\"asof\":[\"ann\",4294967296],\"site\":0}",
         "{\"site\":0,\"statement\":[\"ann\"]}",
-        "{\"token\":[1,1,0],\"site\":1}",
-        "{\"shadow\":{\"account\":\"ann\",\"amount\":500,\"deps\":[[0,0,0,0,0,0,0,0],0],\"home\":0,\"kind\":\"deposit\",\"name\":\"B0.1\"},\"site\":1}",
     ] {
         let read = read_command(rt.alloc(), &config, line);
         assert_eq!(rt; read.err(), Some(LineFault::Bad), "at {line}");

@@ -104,6 +104,11 @@ fn statements(rt: HostRuntime) -> Result<(), Fail> {
         text.as_str(),
         "{\"balance\":0,\"rows\":[[2,\"B0.2\",\"deposit\",1000,true,1000],[4,\"R1\",\"cancel\",-1000,false,0]],\"start\":0}\n"
     );
+    Ok(())
+}
+
+#[test]
+fn statement_of_nothing(rt: HostRuntime) -> Result<(), Fail> {
     let shown = Statement {
         start: 7,
         rows: Rows::new(Vec::new(rt.alloc())),
