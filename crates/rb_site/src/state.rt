@@ -1,11 +1,12 @@
 //! Where a site stands between two events.
-ghost use Rattle.std.specs.Prelude.{◌≡◌, ◌<◌, if◌then◌else◌, IfOk, OnErr};
+ghost use Rattle.std.specs.Prelude.{◌≡◌, ◌<◌, ◌&&◌, nat_le, if◌then◌else◌, IfOk, OnErr};
 ghost use Rattle.rb_shadow.specs.Operations.{clock_of, find_in, same_shadow};
 ghost use Rattle.rb_shadow.specs.Sound.{IsSound};
 ghost use Rattle.rb_site.specs.Events.{first_site, outcome_of, outcome_of_new, outcome_of_shadow, outcome_of_token, outcome_of_apply, outcome_of_pass};
 ghost use Rattle.rb_site.specs.States.{Follows};
 
 use crate::answer::Answer;
+use crate::batch_room::BatchRoom;
 use crate::journal::Journal;
 use crate::{Event, Message, Reply, Requests};
 use rb_inbox::{Inbox, PutAnswer};
@@ -154,12 +155,24 @@ impl State {
 
     /// The requests of a batch are decided here one after another, and their shadows are applied
     /// here and sent: all of them or none.
-    fn batch(&mut self, _requests: &Requests) -> Result<Answer, AllocError>
-        ensures ok { IfOk result (Follows self.old self.new (outcome_of self.old.settings self.old.site (Event.Batch _requests.now))) }
+    fn batch(&mut self, requests: &Requests) -> Result<Answer, AllocError>
+        ensures ok { IfOk result (Follows self.old self.new (outcome_of self.old.settings self.old.site (Event.Batch requests.now))) }
         ensures err { OnErr result (self.new ≡ self.old) }
     {
-        // To come.
-        Err(AllocError)
+        let asked = requests.as_slice();
+        if !is_batch(asked.len()) {
+            return Answer::alone(self.alloc, Reply::Refused(Refusal::BadBatch));
+        }
+        let room = BatchRoom::open(self.alloc, asked.len())?;
+        let token = self.token.view();
+        let why = match self.journal.batch(self.alloc, token, asked) {
+            Ok(made) => return Ok(room.filled(made.as_slice())),
+            Err(why) => why,
+        };
+        match why {
+            Refusal::OutOfMemory => Err(AllocError),
+            why => Answer::alone(self.alloc, Reply::Refused(why)),
+        }
     }
 
     #[tactic(auto, unfolding(crate::specs::Events::outcome_of_shadow))]
@@ -298,6 +311,13 @@ impl State {
             Err(why) => Answer::alone(self.alloc, Reply::Refused(why)),
         }
     }
+}
+
+/// Whether a batch may have so many requests.
+fn is_batch(requests: usize) -> bool
+    ensures { result ≡ (nat_le 1 requests && nat_le requests 16) }
+{
+    1 <= requests && requests <= 16
 }
 
 /// A shadow whose name is known: the same comes again, or it is a conflict.
