@@ -1,12 +1,9 @@
 -- One request more, or what stops the batch.
-use Rattle.std.proofs.Common.{◌≡◌, ◌∙◌, ◌+◌, ◌<◌, ◌⊎◌, inl, inr, [], ◌∷◌, ◌++◌, ap, arith, length, length-append, refl, subst, sym, Err}
+use Rattle.std.proofs.Common.{◌∙◌, ◌+◌, ◌<◌, inl, inr, [], ◌∷◌, ◌++◌, ap, length, length-append, refl, subst, sym, Err}
 use Rattle.rb_money.specs.Settings.{Settings}
-use Rattle.rb_money.specs.declared.refusal.Refusal.{Refusal}
-use Rattle.rb_money.specs.declared.refusal.Refusal.TheVariants.{BatchRefused, OutOfMemory}
-use Rattle.rb_shadow.specs.declared.shadow.Shadow.{Shadow}
 use Rattle.rb_token.specs.Seat.{Shows}
 use Rattle.rb_token.specs.declared.view.TokenView.{TokenView}
-use Rattle.rb_scratch.specs.Batches.{batch_of, cause_of}
+use Rattle.rb_scratch.specs.Batches.{batch_of}
 use Rattle.rb_site.proofs.Batches.{fault_made, run_more, run_stopped}
 use Rattle.rb_site.proofs.batch.run_all.Goals as goal
 

@@ -1,5 +1,5 @@
 -- So far the requests below are made.
-use Rattle.std.proofs.Common.{◌≡◌, ℕ, ◌<◌, List, length, take, Ok}
+use Rattle.std.proofs.Common.{◌≡◌, ◌<◌, List, length, take, Ok}
 use Rattle.rb_shadow.specs.declared.shadow.Shadow.{Shadow}
 use Rattle.rb_token.specs.Token.{Token}
 use Rattle.rb_token.specs.Seat.{Shows}

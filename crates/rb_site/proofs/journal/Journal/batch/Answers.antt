@@ -1,5 +1,4 @@
 -- The log goes on with the records of the batch.
-use Rattle.std.proofs.Common.{◌≡◌}
 use Rattle.rb_site.proofs.Batches.{journaled}
 use Rattle.rb_site.proofs.journal.Journal.batch.Goals as goal
 

@@ -1,9 +1,8 @@
 -- A batch is made or refused as the model says.
-use Rattle.std.proofs.Common.{◌≡◌, ◌∙◌, ◌≤◌, List, ap, arith, length, map, subst, sym, true, false, Ok, Err, IfOk, OnErr, Result}
+use Rattle.std.proofs.Common.{◌≡◌, ◌∙◌, List, ap, arith, length, map, subst, sym, true, false, Ok, Err, IfOk}
 use Rattle.rb_shadow.specs.declared.shadow.Shadow.{Shadow}
 use Rattle.rb_scratch.proofs.Made.{batch_length}
 use Rattle.rb_scratch.specs.Batches.{batch_of, names_of_all}
-use Rattle.rb_scratch.specs.declared.request.Request.{Request}
 use Rattle.rb_site.specs.declared.event.Event.TheVariants.{Batch}
 use Rattle.rb_site.specs.declared.message.Message.TheVariants.{Shadow as ShadowMessage}
 use Rattle.rb_site.specs.declared.reply.Reply.TheVariants.{Names as NamesMade}
