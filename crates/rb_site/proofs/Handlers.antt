@@ -45,7 +45,7 @@ IsAlone a reply = Says a reply []
 abbrev pub state_as : Settings → ℕ → List Shadow → List Shadow → Token → SiteState
 state_as s me ops held token = record { settings = s; site = record { me = me; ops = ops; held = held; token = token; history = [] } }
 
-abbrev site_as : ℕ → List Shadow → List Shadow → Token → ModelSite
+abbrev pub site_as : ℕ → List Shadow → List Shadow → Token → ModelSite
 site_as me ops held token = record { me = me; ops = ops; held = held; token = token; history = [] }
 
 -- ---- the token goes to another site

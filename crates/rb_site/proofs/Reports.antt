@@ -4,14 +4,12 @@ use Rattle.std.specs.Prelude.{zero, suc, Some, map, option_map, slice_get}
 use Rattle.std.proofs.lemmas.List.{length-map, take_more}
 use Rattle.std.proofs.lemmas.List.Sums.{length-filter, count_by-le-length}
 use Rattle.rb_money.specs.Settings.{Settings}
-use Rattle.rb_money.specs.declared.refusal.Refusal.{Refusal}
 use Rattle.rb_shadow.specs.Operations.{same_name}
 use Rattle.rb_shadow.specs.declared.shadow.Shadow.{Shadow}
-use Rattle.rb_inbox.specs.Held.{stands_before, with_held, without}
+use Rattle.rb_inbox.specs.Held.{stands_before, with_held}
 use Rattle.rb_site.specs.declared.answer.Answer.{Answer}
 use Rattle.rb_site.specs.declared.entry.Entry.{Entry}
 use Rattle.rb_site.specs.declared.event.Event.{Event}
-use Rattle.rb_site.specs.declared.message.Message.{Message}
 use Rattle.rb_site.specs.declared.message.Message.TheVariants.{Shadow as ShadowMessage}
 use Rattle.rb_site.specs.Events.{Answers, Applies, Drops, Holds, Makes, ModelSite, Outcome, Passes, Refuses, Takes, after_event, after_events, changed, first_site, is_full, noted, outcome_of, reply_of, sent_by}
 use Rattle.rb_site.specs.Histories.{events_of}

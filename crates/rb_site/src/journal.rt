@@ -1,16 +1,22 @@
 //! A site's ledger with its undo records.
-ghost use Rattle.std.specs.Prelude.{◌≡◌, ◌++◌, ◌∷◌, ◌⊎◌, [], Some, None, IfOk, IfErr, OnOk};
+ghost use Rattle.std.specs.Prelude.{◌≡◌, ◌<◌, ◌≤◌, ◌++◌, ◌∷◌, ◌⊎◌, [], length, Some, None, Ok, Err, IfOk, IfErr, OnOk};
 ghost use Rattle.rb_ledger.specs.Checks.{refusal_of};
 ghost use Rattle.rb_ledger.specs.Records.{records_of};
 ghost use Rattle.rb_ledger.specs.Valid.{IsValid};
 ghost use Rattle.rb_shadow.specs.Operations.{clock_of, find_in, is_eligible};
+ghost use Rattle.rb_scratch.specs.Batches.{batch_of};
 ghost use Rattle.rb_statements.specs.Statements.{balance_as_of};
+ghost use Rattle.rb_token.specs.Token.{Token};
+ghost use Rattle.rb_token.specs.Seat.{Shows};
 
+use crate::batch::run_batch;
 use core::mem::replace_with;
 use rb_ledger::Ledger;
 use rb_money::{Config, Place, Refusal};
+use rb_scratch::Request;
 use rb_shadow::{OpName, Shadow};
 use rb_statements::as_of;
+use rb_token::TokenView;
 use rb_undo::UndoLog;
 use rb_vclock::Clock;
 use std::alloc::{AllocError, Global};
@@ -110,6 +116,27 @@ impl Journal {
             }
             Err((_, why)) => Err(why),
         }
+    }
+
+    /// Makes the requests of a batch at the site of the token's view, each after those before it: all of
+    /// them or none. Their shadows are given in order.
+    ///
+    /// Refuses, and changes nothing: with `BatchRefused` by the first request at fault, or with
+    /// `OutOfMemory`.
+    pub fn batch(
+        &mut self,
+        alloc: Global,
+        token: TokenView,
+        requests: &[Request],
+    ) -> Result<Vec<Shadow>, Refusal>
+        requires site { token.me < self.old.settings.sites }
+        requires few { length requests.now ≤ 16 }
+        ensures made { IfOk result (λ made. (self.new ≡ record self.old { ops = self.old.ops ++ made.items })
+            × ((known : Token) → Shows token known → batch_of self.old.settings token.me self.old.ops known 0 requests.now ≡ Ok made.items)) }
+        ensures refused { IfErr result (λ why. (self.new ≡ self.old)
+            × ((why ≡ Refusal.OutOfMemory) ⊎ ((known : Token) → Shows token known → batch_of self.old.settings token.me self.old.ops known 0 requests.now ≡ Err why))) }
+    {
+        run_batch(alloc, &mut self.ledger, &mut self.log, token, requests)
     }
 
     /// The balance of an account after so many operations, in cents, or why it isn't told. This takes

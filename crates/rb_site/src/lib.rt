@@ -2,6 +2,8 @@
 #![tactic(auto)]
 
 mod answer;
+mod batch;
+mod batch_room;
 mod entry;
 mod event;
 mod journal;

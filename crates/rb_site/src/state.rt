@@ -1,5 +1,5 @@
 //! Where a site stands between two events.
-ghost use Rattle.std.specs.Prelude.{◌≡◌, ◌<◌, if◌then◌else◌, IfOk, OnErr};
+ghost use Rattle.std.specs.Prelude.{◌≡◌, ◌<◌, ◌&&◌, nat_le, if◌then◌else◌, IfOk, OnErr};
 ghost use Rattle.rb_shadow.specs.Operations.{clock_of, find_in, same_shadow};
 ghost use Rattle.rb_ledger.specs.Records.{records_of};
 ghost use Rattle.rb_shadow.specs.Sound.{IsSound};
@@ -7,6 +7,7 @@ ghost use Rattle.rb_site.specs.Events.{first_site, outcome_of, outcome_of_new, o
 ghost use Rattle.rb_site.specs.States.{Follows};
 
 use crate::answer::Answer;
+use crate::batch_room::BatchRoom;
 use crate::journal::Journal;
 use crate::{Event, Message, Reply, Requests};
 use rb_inbox::{Inbox, PutAnswer};
@@ -167,9 +168,20 @@ impl State {
         ensures ok { IfOk result (Follows self.old self.new (outcome_of self.old.settings self.old.site (Event.Batch requests.now))) }
         ensures err { OnErr result (self.new ≡ self.old) }
     {
-        // To come.
-        let _ = requests;
-        Err(AllocError)
+        let asked = requests.as_slice();
+        if !is_batch(asked.len()) {
+            return Answer::alone(self.alloc, Reply::Refused(Refusal::BadBatch));
+        }
+        let room = BatchRoom::open(self.alloc, asked.len())?;
+        let token = self.token.view();
+        let why = match self.journal.batch(self.alloc, token, asked) {
+            Ok(made) => return Ok(room.filled(made.as_slice())),
+            Err(why) => why,
+        };
+        match why {
+            Refusal::OutOfMemory => Err(AllocError),
+            why => Answer::alone(self.alloc, Reply::Refused(why)),
+        }
     }
 
     #[tactic(auto, unfolding(crate::specs::Events::outcome_of_shadow))]
@@ -308,6 +320,13 @@ impl State {
             Err(why) => Answer::alone(self.alloc, Reply::Refused(why)),
         }
     }
+}
+
+/// Whether a batch may have so many requests.
+fn is_batch(requests: usize) -> bool
+    ensures { result ≡ (nat_le 1 requests && nat_le requests 16) }
+{
+    1 <= requests && requests <= 16
 }
 
 /// A shadow whose name is known: the same comes again, or it is a conflict.

@@ -1,5 +1,5 @@
 -- One balance more.
-use Rattle.std.proofs.Common.{◌≡◌, ◌∙◌, ◌≤◌, ℕ, ◌+◌, List, ◌++◌, [], ◌∷◌, ap, arith, length, map, subst, sym, vec_capacity}
+use Rattle.std.proofs.Common.{◌∙◌, ◌≤◌, ℕ, ◌+◌, ◌++◌, [], ◌∷◌, ap, arith, length, map, subst, sym}
 use Rattle.std.specs.List.{range_with_len}
 use Rattle.std.proofs.lemmas.List.FromFn.{map-range_with_len_more}
 use Rattle.rb_money.specs.Amounts.{cents}

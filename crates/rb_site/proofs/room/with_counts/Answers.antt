@@ -1,6 +1,6 @@
 -- One count more.
-use Rattle.std.proofs.Common.{◌≡◌, ◌∙◌, ◌≤◌, ℕ, ◌+◌, List, ◌++◌, [], ◌∷◌, ap, arith, length, map, subst, sym, suc, vec_capacity, false, true, Bool}
-use Rattle.std.specs.Prelude.{Option, Some, None, if◌then◌else◌, ◌==◌, ◌-◌, option_map, slice_get, take}
+use Rattle.std.proofs.Common.{◌≡◌, ◌∙◌, ◌≤◌, ℕ, ◌+◌, List, ◌++◌, [], ◌∷◌, ap, arith, length, map, subst, sym, suc, false}
+use Rattle.std.specs.Prelude.{Some, None, if◌then◌else◌, ◌==◌, ◌-◌, option_map, slice_get, take}
 use Rattle.std.proofs.lemmas.Bool.Decides.{nat_tests}
 use Rattle.rb_shadow.specs.Operations.{cancel_count}
 use Rattle.rb_shadow.specs.declared.shadow.Shadow.{Shadow}

@@ -1,5 +1,5 @@
 -- The record of the new operation is the last.
-use Rattle.std.proofs.Common.{◌≡◌, ◌∙◌, ◌++◌, ◌∷◌, [], List, ap, sym}
+use Rattle.std.proofs.Common.{◌∙◌, ◌++◌, ◌∷◌, [], ap, sym}
 use Rattle.rb_money.specs.Settings.{Settings}
 use Rattle.rb_ledger.specs.Records.{records_of}
 use Rattle.rb_ledger.proofs.Records

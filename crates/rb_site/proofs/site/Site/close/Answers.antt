@@ -1,10 +1,9 @@
 -- The report tells where the site stands.
 use Rattle.std.proofs.Common.{◌≡◌, ◌∙◌, ap, sym}
-use Rattle.rb_money.specs.Settings.{Settings}
 use Rattle.rb_shadow.specs.Operations.{clock_of}
 use Rattle.rb_site.specs.Events.{ModelSite}
 use Rattle.rb_site.specs.Reports.{balances_of, counts_of}
-use Rattle.rb_site.specs.Seen.{SeenSite, IsReplayed, state_of}
+use Rattle.rb_site.specs.Seen.{SeenSite, state_of}
 use Rattle.rb_site.specs.States.{without_history}
 use Rattle.rb_site.proofs.Reports.{me-state}
 use Rattle.rb_site.proofs.Seen

@@ -1,5 +1,5 @@
 -- One event more.
-use Rattle.std.proofs.Common.{◌≡◌, ◌∙◌, Bool, true, false, Result, Ok, Err, OnOk, is_err, ap, sym}
+use Rattle.std.proofs.Common.{◌≡◌, ◌∙◌, false, Result, Ok, Err, OnOk, is_err, ap, sym}
 use Rattle.std.specs.declared.alloc.AllocError.{AllocError}
 use Rattle.rb_site.specs.Seen.{first_seen, next_site}
 use Rattle.rb_site.proofs.Reports.{sites_more}

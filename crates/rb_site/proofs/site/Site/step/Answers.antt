@@ -1,12 +1,11 @@
 -- A step of the code is a step of the model.
-use Rattle.std.proofs.Common.{◌≡◌, ◌∙◌, ◌+◌, ◌≤◌, List, [], ◌∷◌, ◌++◌, true, cond, length, ap, subst, sym}
+use Rattle.std.proofs.Common.{◌≡◌, ◌∙◌, ◌+◌, ◌≤◌, [], ◌∷◌, ◌++◌, true, cond, length, ap, subst, sym}
 use Rattle.rb_money.specs.declared.refusal.Refusal.TheVariants.{HistoryFull}
 use Rattle.rb_site.specs.declared.reply.Reply.TheVariants.{Refused}
 use Rattle.rb_site.specs.Events.{is_full, outcome_of, reply_of, reply_to, sent_at, sent_by}
 use Rattle.rb_site.specs.Seen.{SeenSite, entry, next_site, state_of, stepped}
 use Rattle.rb_site.specs.States.{IsStanding}
 use Rattle.rb_site.proofs.site.Site.step.Goals as goal
-use Rattle.rb_site.specs.declared.message.Message.{Message}
 use Rattle.rb_site.proofs.Reports.{still_enough}
 use Rattle.rb_site.proofs.States.{IsStep, is_step, me_kept, noted_in, seen_as, seen_now, sends_few}
 

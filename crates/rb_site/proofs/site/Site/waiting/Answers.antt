@@ -2,7 +2,6 @@
 use Rattle.std.proofs.Common.{◌≡◌, ◌∙◌, ◌≤◌, ap, arith, length}
 use Rattle.rb_money.specs.declared.limits.Limits.{Limits}
 use Rattle.rb_money.specs.Settings.{Settings}
-use Rattle.rb_site.specs.Seen.{SeenSite}
 use Rattle.rb_site.proofs.Reports.{held_few}
 use Rattle.rb_site.proofs.site.Site.waiting.Goals as goal
 

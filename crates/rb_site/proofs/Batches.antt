@@ -1,0 +1,107 @@
+-- The requests of a batch, one by one.
+use Rattle.std.proofs.Common.{◌≡◌, ◌∙◌, ℕ, ◌+◌, ◌<◌, ◌≤◌, ◌⊎◌, inl, inr, List, [], ◌∷◌, ◌++◌, drop, get_or, length, take, ap, arith, refl, sym, Bool, true, false, not, ◌&&◌, Result, Ok, Err, IfOk, IfErr, OnErr, map}
+use Rattle.std.specs.Prelude.{nat_le}
+use Rattle.std.specs.declared.alloc.AllocError.{AllocError}
+use Rattle.std.proofs.lemmas.List.{drop_more, length-take-le, take-append-drop, take_more}
+use Rattle.rb_money.specs.Settings.{Settings}
+use Rattle.rb_money.specs.declared.refusal.Refusal.{Refusal}
+use Rattle.rb_money.specs.declared.refusal.Refusal.TheVariants.{BadBatch, BatchRefused, OutOfMemory}
+use Rattle.rb_shadow.specs.declared.shadow.Shadow.{Shadow}
+use Rattle.rb_undo.specs.declared.parts.UndoParts.{UndoParts}
+use Rattle.rb_ledger.specs.Book.{Book}
+use Rattle.rb_ledger.proofs.Records.{records_of-append}
+use Rattle.rb_ledger.specs.Records.{logged, records_of}
+use Rattle.rb_token.specs.Token.{Token}
+use Rattle.rb_scratch.proofs.InBatch.{batch_more, batch_stopped}
+use Rattle.rb_scratch.proofs.Tries.{tried_length}
+use Rattle.rb_scratch.specs.Batches.{batch_of, cause_of, made_in_batch, names_of_all}
+use Rattle.rb_scratch.specs.Tried.{IsFault, IsTried}
+use Rattle.rb_scratch.specs.declared.request.Request.{Request}
+use Rattle.rb_scratch.specs.declared.run_fault.RunFault.{RunFault}
+use Rattle.rb_scratch.specs.declared.run_fault.RunFault.TheVariants.{Refused as RefusedFault}
+use Rattle.rb_site.specs.declared.answer.Answer.{Answer}
+use Rattle.rb_site.specs.declared.event.Event.TheVariants.{Batch}
+use Rattle.rb_site.specs.declared.message.Message.TheVariants.{Shadow as ShadowMessage}
+use Rattle.rb_site.specs.declared.reply.Reply.TheVariants.{Names as NamesMade, Refused}
+use Rattle.rb_site.specs.Events.{ModelSite, outcome_of, outcome_of_batch, refuses_if}
+use Rattle.rb_site.specs.States.{Follows, Says}
+use Rattle.rb_site.proofs.Handlers.{IsAlone, follows_as, site_as, state_as}
+
+-- what a request makes where the same list stands
+same_made : (s now : Settings) (me here : ℕ) (us them : List Shadow) (known : Token) (r : Request) → now ≡ s → here ≡ me → them ≡ us → made_in_batch s me us known r ≡ made_in_batch now here them known r
+same_made s now me here us them known r same at list =
+    ap (λ z. made_in_batch z me us known r) (sym same)
+    ∙ ap (λ i. made_in_batch now i us known r) (sym at)
+    ∙ ap (λ ws. made_in_batch now here ws known r) (sym list)
+
+-- one request more of a batch
+pub run_more : (s now : Settings) (me here : ℕ) (us them vs : List Shadow) (known : Token) (rs : List Request) (k : ℕ) (d : Request) (v : Shadow) → k < length rs → now ≡ s → here ≡ me → them ≡ us ++ vs
+    → batch_of s me us known 0 (take k rs) ≡ Ok vs → made_in_batch now here them known (get_or rs k d) ≡ Ok v → batch_of s me us known 0 (take (k + 1) rs) ≡ Ok (vs ++ v ∷ [])
+run_more s now me here us them vs known rs k d v there same at list far made =
+    ap (batch_of s me us known 0) (take_more rs k d there)
+    ∙ batch_more s me us known 0 (take k rs) (get_or rs k d) vs v far (same_made s now me here (us ++ vs) them known (get_or rs k d) same at list ∙ made)
+
+-- a request at fault stops the batch
+pub run_stopped : (s now : Settings) (me here : ℕ) (us them vs : List Shadow) (known : Token) (rs : List Request) (k : ℕ) (d : Request) (fault : RunFault) → k < length rs → now ≡ s → here ≡ me → them ≡ us ++ vs
+    → batch_of s me us known 0 (take k rs) ≡ Ok vs → made_in_batch now here them known (get_or rs k d) ≡ Err fault → batch_of s me us known 0 rs ≡ Err (BatchRefused k (cause_of fault))
+run_stopped s now me here us them vs known rs k d fault there same at list far made =
+    let low : k ≤ length rs = omega arith in
+    let taken : length (take k rs) ≡ k = length-take-le k rs low in
+    let index : 0 + length (take k rs) ≡ k = omega (arith, taken) in
+    ap (batch_of s me us known 0) (sym (take-append-drop k rs) ∙ ap (λ xs. take k rs ++ xs) (drop_more rs k d there))
+    ∙ batch_stopped s me us known 0 (take k rs) (get_or rs k d) (drop (k + 1) rs) vs fault far (same_made s now me here (us ++ vs) them known (get_or rs k d) same at list ∙ made)
+    ∙ ap (λ n. Err (BatchRefused n (cause_of fault))) index
+
+-- among the first requests, what isn't want of memory is the request's own fault
+pub fault_made : (base vs : List Shadow) (book : Book) (parts : List UndoParts) (me : ℕ) (known : Token) (rs : List Request) (r : Request) (fault : RunFault) → IsTried base vs book parts → length vs < length rs → length rs ≤ 16
+    → IsFault book parts me known r fault → (fault ≡ RefusedFault OutOfMemory → ⊥) → made_in_batch book.settings me book.entries known r ≡ Err fault
+fault_made base vs book parts me known rs r fault tried more few is other = by (is.few (omega (arith, tried_length base vs book parts tried, more, few)))
+  where
+    by : (made_in_batch book.settings me book.entries known r ≡ Err fault) ⊎ ((v : Shadow) × (made_in_batch book.settings me book.entries known r ≡ Ok v) × (fault ≡ RefusedFault OutOfMemory)) → made_in_batch book.settings me book.entries known r ≡ Err fault
+    by (inl e) = e
+    by (inr (v, made, e)) = absurd (other e)
+
+-- ---- the records of a batch
+
+-- the log has the list's records, whether a batch was made or refused
+pub journaled : {A : Type 0} (items : A → List Shadow) (X : A → Type 0) (Y : Refusal → Type 0) (r : Result A Refusal) (s now : Settings) (us later : List Shadow) (ps qs : List UndoParts) → now ≡ s → ps ≡ records_of s us
+    → IfOk r (λ made. (later ≡ us ++ items made) × (qs ≡ ps ++ logged s us (items made)) × X made) → IfErr r (λ why. (later ≡ us) × (qs ≡ ps) × Y why) → qs ≡ records_of now later
+journaled items X Y (Ok made) s now us later ps qs same kept ok err =
+    ok.1 ∙ ap (λ rs. rs ++ logged s us (items made)) kept ∙ sym (records_of-append s us (items made))
+    ∙ ap (records_of s) (sym ok.0)
+    ∙ ap (λ z. records_of z later) (sym same)
+journaled items X Y (Err why) s now us later ps qs same kept ok err =
+    err.1 ∙ kept ∙ ap (records_of s) (sym err.0)
+    ∙ ap (λ z. records_of z later) (sym same)
+
+-- ---- what a batch comes to
+
+-- whether a batch has as many requests as it may
+abbrev pub is_of_size : List Request → Bool
+is_of_size rs = nat_le 1 (length rs) && nat_le (length rs) 16
+
+batch_comes : (s : Settings) (t : ModelSite) (rs : List Request) (b : Bool) → is_of_size rs ≡ b → outcome_of s t (Batch rs) ≡ refuses_if (not b) BadBatch (outcome_of_batch (batch_of s t.me t.ops t.token 0 rs))
+unfolding outcome_of
+batch_comes s t rs b e = ap (λ c. refuses_if (not c) BadBatch (outcome_of_batch (batch_of s t.me t.ops t.token 0 rs))) e
+
+pub refuses_size : (s : Settings) (me : ℕ) (ops held : List Shadow) (token : Token) (rs : List Request) (a : Answer) → is_of_size rs ≡ false → IsAlone a (Refused BadBatch)
+    → Follows (state_as s me ops held token) (state_as s me ops held token) (outcome_of s (site_as me ops held token) (Batch rs)) a
+refuses_size s me ops held token rs a size is = follows_as _ _ _ _ a (batch_comes s (site_as me ops held token) rs false size) (refl, is)
+
+pub makes_batch : (s : Settings) (me : ℕ) (ops held : List Shadow) (token : Token) (rs : List Request) (vs : List Shadow) (a : Answer) → is_of_size rs ≡ true → batch_of s me ops token 0 rs ≡ Ok vs → Says a (NamesMade (names_of_all vs)) (map ShadowMessage vs)
+    → Follows (state_as s me ops held token) (state_as s me (ops ++ vs) held token) (outcome_of s (site_as me ops held token) (Batch rs)) a
+makes_batch s me ops held token rs vs a size made is = follows_as _ _ _ _ a (batch_comes s (site_as me ops held token) rs true size ∙ ap outcome_of_batch made) (refl, is)
+
+pub refuses_batch : (s : Settings) (me : ℕ) (ops held : List Shadow) (token : Token) (rs : List Request) (why : Refusal) (a : Answer) → is_of_size rs ≡ true → batch_of s me ops token 0 rs ≡ Err why → IsAlone a (Refused why)
+    → Follows (state_as s me ops held token) (state_as s me ops held token) (outcome_of s (site_as me ops held token) (Batch rs)) a
+refuses_batch s me ops held token rs why a size refused is = follows_as _ _ _ _ a (batch_comes s (site_as me ops held token) rs true size ∙ ap outcome_of_batch refused) (refl, is)
+
+-- what refused a batch, but for want of memory
+pub refused_batch : (why : Refusal) (X : Type 0) → (why ≡ OutOfMemory) ⊎ X → (why ≡ OutOfMemory → ⊥) → X
+refused_batch why X (inl e) memory = absurd (memory e)
+refused_batch why X (inr h) memory = h
+
+-- what holds holds at an error
+pub at_err : (P : Type 0) (r : Result Answer AllocError) → P → OnErr r P
+at_err P (Ok a) h = tt
+at_err P (Err e) h = h

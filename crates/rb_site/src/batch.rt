@@ -1,0 +1,82 @@
+//! The requests of a batch, made on a ledger with its undo log.
+ghost use Rattle.std.specs.Prelude.{◌≡◌, ◌+◌, ◌≤◌, ◌<◌, ◌++◌, [], ◌⊎◌, List, length, Ok, Err, IfOk, IfErr, OnOk};
+ghost use Rattle.rb_shadow.specs.declared.shadow.Shadow.{Shadow as TheShadow};
+ghost use Rattle.rb_ledger.specs.Records.{logged};
+ghost use Rattle.rb_token.specs.Token.{Token};
+ghost use Rattle.rb_token.specs.Seat.{Shows};
+ghost use Rattle.rb_scratch.specs.Batches.{batch_of, cause_of};
+ghost use Rattle.rb_scratch.specs.Tried.{IsTried};
+
+use rb_ledger::Ledger;
+use rb_money::Refusal;
+use rb_scratch::{Request, RunFault, Scratch};
+use rb_shadow::Shadow;
+use rb_token::TokenView;
+use rb_undo::UndoLog;
+use std::alloc::Global;
+
+/// The refusal of a batch whose request of this index, from 0, is at fault. Want of memory is told as it
+/// is.
+fn why_stopped(index: u8, fault: RunFault) -> Refusal
+    ensures { ((fault ≡ RunFault.Refused Refusal.OutOfMemory) × (result ≡ Refusal.OutOfMemory)) ⊎ ((fault ≡ RunFault.Refused Refusal.OutOfMemory → ⊥) × (result ≡ Refusal.BatchRefused index (cause_of fault))) }
+{
+    let cause = fault.cause();
+    match fault {
+        RunFault::Refused(Refusal::OutOfMemory) => Refusal::OutOfMemory,
+        _ => Refusal::BatchRefused { index, cause },
+    }
+}
+
+/// Runs the requests in order. Where one is at fault, those before it stand in the scratch.
+fn run_all(scratch: &mut Scratch<UndoLog>, requests: &[Request]) -> Result<(), Refusal>
+    requires here { scratch.old.token.me < scratch.old.ledger.now.settings.sites }
+    requires none { IsTried scratch.old.ledger.now.entries [] scratch.old.ledger.now scratch.old.undos.parts }
+    requires few { length requests.now ≤ 16 }
+    ensures same_reference { scratch.new.ledger.ghost_name ≡ scratch.old.ledger.ghost_name }
+    ensures settings { scratch.new.ledger.now.settings ≡ scratch.old.ledger.now.settings }
+    ensures tried { (made : List TheShadow) × IsTried scratch.old.ledger.now.entries made scratch.new.ledger.now scratch.new.undos.parts
+        × OnOk result ((known : Token) → Shows scratch.old.token known → batch_of scratch.old.ledger.now.settings scratch.old.token.me scratch.old.ledger.now.entries known 0 requests.now ≡ Ok made) }
+    ensures refused { IfErr result (λ why. (why ≡ Refusal.OutOfMemory)
+        ⊎ ((known : Token) → Shows scratch.old.token known → batch_of scratch.old.ledger.now.settings scratch.old.token.me scratch.old.ledger.now.entries known 0 requests.now ≡ Err why)) }
+{
+    'requests: for index in 0..requests.len() {
+        let _name = match scratch.run(&requests[index]) {
+            Ok(name) => name,
+            Err(fault) => return Err(why_stopped(index as u8, fault)),
+        };
+    }
+    Ok(())
+}
+
+/// Makes the requests at the site of the token's view, each after those before it: all of them or none.
+/// Their shadows are given in order, and their records are put at the log's end.
+///
+/// Refuses, and changes nothing: with `BatchRefused` by the first request at fault, or with `OutOfMemory`.
+pub fn run_batch(
+    alloc: Global,
+    ledger: &mut Ledger,
+    log: &mut UndoLog,
+    token: TokenView,
+    requests: &[Request],
+) -> Result<Vec<Shadow>, Refusal>
+    requires site { token.me < ledger.old.settings.sites }
+    requires few { length requests.now ≤ 16 }
+    ensures settings { ledger.new.settings ≡ ledger.old.settings }
+    ensures made { IfOk result (λ made. (ledger.new.entries ≡ ledger.old.entries ++ made.items) × (log.new.parts ≡ log.old.parts ++ logged ledger.old.settings ledger.old.entries made.items)
+        × ((known : Token) → Shows token known → batch_of ledger.old.settings token.me ledger.old.entries known 0 requests.now ≡ Ok made.items)) }
+    ensures refused { IfErr result (λ why. (ledger.new.entries ≡ ledger.old.entries) × (log.new.parts ≡ log.old.parts)
+        × ((why ≡ Refusal.OutOfMemory) ⊎ ((known : Token) → Shows token known → batch_of ledger.old.settings token.me ledger.old.entries known 0 requests.now ≡ Err why))) }
+{
+    let mut scratch = Scratch::open(alloc, ledger, token);
+    if let Err(why) = run_all(&mut scratch, requests) {
+        scratch.abort();
+        return Err(why);
+    }
+    match scratch.commit(log) {
+        Ok(made) => Ok(made),
+        Err(back) => {
+            back.abort();
+            Err(Refusal::OutOfMemory)
+        }
+    }
+}
