@@ -1,4 +1,5 @@
 ghost use Rattle.std.specs.Prelude.{◌≡◌, All, IfOk, OnOk};
+ghost use Rattle.rb_ledger.specs.Records.{records_of};
 ghost use Rattle.rb_site.specs.Worlds.{IsCommand};
 
 use crate::from_reader::FromReader;
@@ -11,6 +12,7 @@ use rb_scratch::Request;
 use rb_script::run_script;
 use rb_shadow::{OpName, Shadow};
 use rb_site::{Event, OpNames, Reply, Requests, WorldEvent};
+use rb_undo::UndoLog;
 use rb_world::World;
 use std::alloc::Global;
 use std::test::Fail;
@@ -217,39 +219,61 @@ fn ledger_of(alloc: Global, config: &Config, shadows: &[Shadow]) -> Result<Ledge
     Ok(ledger)
 }
 
-/// Whether a ledger answers as one that applied just these operations.
+/// Whether a ledger answers as one that applied just as many of the operations.
 fn stands_after(alloc: Global, ledger: &Ledger, shadows: &[Shadow]) -> Result<bool, Fail> {
-    let other = ledger_of(alloc, ledger.config(), shadows)?;
+    let front = shadows.get(..ledger.len() as usize).ok_or("no front")?;
+    let other = ledger_of(alloc, ledger.config(), front)?;
     Ok(same_answers(ledger, &other))
 }
 
-/// Applies the operations from one on, and undoes them backwards. Whether at each length the ledger
-/// answers as one that applied no more.
-fn there_and_back(
+/// Applies operations, and keeps the record to undo each.
+fn apply_all(ledger: &mut Ledger, log: &mut UndoLog, shadows: &[Shadow]) -> Result<(), Fail>
+    requires { log.old.parts ≡ records_of ledger.old.settings ledger.old.entries }
+    ensures { OnOk result (log.new.parts ≡ records_of ledger.new.settings ledger.new.entries) }
+{
+    'shadows: for shadow in shadows {
+        let Ok(undo) = ledger.apply(*shadow) else {
+            return Err(Fail::from("refused"));
+        };
+        if let Err(undo) = log.push(undo) {
+            undo.seal();
+            return Err(Fail::from("no memory"));
+        }
+    }
+    Ok(())
+}
+
+/// Undoes all operations backwards. Whether at each length the ledger answers as one that applied no
+/// more.
+fn undo_all(
     alloc: Global,
     ledger: &mut Ledger,
+    log: &mut UndoLog,
     shadows: &[Shadow],
-    from: usize,
 ) -> Result<bool, Fail>
-    ensures settings { OnOk result (ledger.new.settings ≡ ledger.old.settings) }
-    ensures entries { OnOk result (ledger.new.entries ≡ ledger.old.entries) }
+    requires { log.old.parts ≡ records_of ledger.old.settings ledger.old.entries }
 {
-    if from >= shadows.len() {
-        return Ok(true);
+    let mut same = true;
+    'undos: while let Some(undo) = log.pop() {
+        ledger.undo(undo);
+        let here = stands_after(alloc, ledger, shadows)?;
+        same = same & here;
     }
-    let Ok(undo) = ledger.apply(shadows[from]) else {
-        return Err(Fail::from("refused"));
-    };
-    let later = match there_and_back(alloc, ledger, shadows, from + 1) {
-        Ok(later) => later,
-        Err(fail) => {
-            undo.seal();
-            return Err(fail);
-        }
-    };
-    ledger.undo(undo);
-    let here = stands_after(alloc, ledger, &shadows[..from])?;
-    Ok(later & here)
+    Ok(same)
+}
+
+/// Whether a ledger with these operations answers, at each length on the way back, as one that applied
+/// no more.
+fn there_and_back(alloc: Global, config: &Config, shadows: &[Shadow]) -> Result<bool, Fail> {
+    let mut ledger = Ledger::open(alloc, config)?;
+    let mut log = UndoLog::new(alloc);
+    if let Err(fail) = apply_all(&mut ledger, &mut log, shadows) {
+        log.close();
+        return Err(fail);
+    }
+    let same = undo_all(alloc, &mut ledger, &mut log, shadows);
+    log.close();
+    Ok(same? & ledger.is_empty())
 }
 
 #[test]
@@ -258,15 +282,15 @@ fn tail_back(rt: HostRuntime) -> Result<(), Fail> {
     for name in [
         "two_cancels_of_one_withdrawal",
         "cancelled_deposit_later",
+        "batch_all_or_nothing",
         "interest_stays",
     ] {
         let script = row(name)?.script;
         let (world, _replies) = run(alloc, script)?;
         let reports = world.close();
         let applied = &reports.get(0).ok_or("no report")?.entries;
-        let mut ledger = Ledger::open(alloc, &config_of(alloc, script)?)?;
-        assert!(rt; there_and_back(alloc, &mut ledger, applied.as_slice(), 0)?);
-        assert!(rt; ledger.is_empty());
+        let config = config_of(alloc, script)?;
+        assert!(rt; there_and_back(alloc, &config, applied.as_slice())?);
         assert!(rt; !applied.is_empty());
     }
     Ok(())

@@ -1,0 +1,29 @@
+-- The last record is that of the last operation.
+use Rattle.std.proofs.Common.{◌≡◌, ◌∙◌, List, [], ◌∷◌, ◌++◌, ap, arith, length, length-append, refl, sym}
+use Rattle.rb_money.specs.Settings.{Settings}
+use Rattle.rb_ledger.proofs.Records
+use Rattle.rb_ledger.specs.Records.{records_of}
+use Rattle.rb_shadow.specs.declared.shadow.Shadow.{Shadow}
+use Rattle.rbbank.proofs.tests.undo_all.Goals as goal
+
+-- lists with one more each are the same without it
+same_front : (us ws : List Shadow) (v w : Shadow) → us ++ v ∷ [] ≡ ws ++ w ∷ [] → ws ≡ us
+same_front [] [] v w e = refl
+same_front [] (b ∷ ws) v w e = absurd (omega (arith, ap length e, length-append ws (w ∷ [])))
+same_front (a ∷ us) [] v w e = absurd (omega (arith, ap length e, length-append us (v ∷ [])))
+same_front (a ∷ us) (b ∷ ws) v w e =
+    let heads : b ≡ a = cc in
+    let rest : us ++ v ∷ [] ≡ ws ++ w ∷ [] = cc in
+    ap (λ c. c ∷ ws) heads ∙ ap (λ zs. a ∷ zs) (same_front us ws v w rest)
+
+pub undo-requires : goal.undo-requires
+undo-requires c =
+    let (front, last, longer, is, rest) = Records.records_of-last c.undos.ledger.settings c.undos.ledger.entries c.pop.new.self.parts c.in-Some.undo (sym c.undos.invariant ∙ c.in-Some.ensures.0) in
+    (front, last, longer, is)
+
+pub undos-preserved : goal.undos-preserved
+undos-preserved c =
+    let (front, last, longer, is, rest) = Records.records_of-last c.undos.ledger.settings c.undos.ledger.entries c.pop.new.self.parts c.in-Some.undo (sym c.undos.invariant ∙ c.in-Some.ensures.0) in
+    let (taken, same) = c.undo.ensures.entries in
+    rest ∙ ap (records_of c.undos.ledger.settings) (sym (same_front front c.undo.new.self.entries last taken (sym longer ∙ same)))
+    ∙ ap (λ (s : Settings). records_of s c.undo.new.self.entries) (sym c.undo.ensures.settings)
