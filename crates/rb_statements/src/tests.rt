@@ -1,8 +1,11 @@
-//! Tests of statements.
-use crate::{Row, statement};
+//! Tests of statements and of balances as of a position.
+ghost use Rattle.std.specs.Prelude.{◌≡◌, [], IfOk};
+
+use crate::{Row, as_of, statement};
 use rb_ledger::Ledger;
 use rb_money::{Config, Limits, MOST_SITES, Place, Refusal};
 use rb_shadow::{Deps, Kind, Label, OpName, Shadow};
+use rb_undo::UndoLog;
 use std::alloc::Global;
 use std::process::Abort;
 use std::test::Fail;
@@ -16,7 +19,9 @@ const DEPOSIT: OpName = OpName::Blue { site: 0, n: 2 };
 const RED: OpName = OpName::Red { n: 1 };
 
 /// A ledger of two sites, where ann starts with 999 cents and bob with none.
-fn opened(alloc: Global) -> Result<Ledger, Fail> {
+fn opened(alloc: Global) -> Result<Ledger, Fail>
+    ensures { IfOk result (λ ledger. ledger.entries ≡ []) }
+{
     let mut accounts = Vec::new(alloc);
     accounts.push((String::from_str(alloc, "ann")?, 999))?;
     accounts.push((String::from_str(alloc, "bob")?, 0))?;
@@ -89,5 +94,19 @@ fn unknown_account(rt: HostRuntime) -> Result<(), Fail> {
     let ledger = opened(rt.alloc())?;
     let shown = statement(rt.alloc(), &ledger, Place(2));
     assert_eq!(rt; shown.err(), Some(Refusal::UnknownAccount));
+    Ok(())
+}
+
+#[test]
+fn as_of_the_start(rt: HostRuntime) -> Result<(), Fail> {
+    let ledger = opened(rt.alloc())?;
+    let log = UndoLog::new(rt.alloc());
+    let (ledger, log, start) = as_of(ledger, log, ANN, 0);
+    let (ledger, log, beyond) = as_of(ledger, log, ANN, 1);
+    let (_ledger, log, unknown) = as_of(ledger, log, Place(2), 1);
+    log.close();
+    assert_eq!(rt; start, Ok(999));
+    assert_eq!(rt; beyond, Err(Refusal::PositionBeyond));
+    assert_eq!(rt; unknown, Err(Refusal::UnknownAccount));
     Ok(())
 }
