@@ -1,5 +1,5 @@
-use crate::{Entry, Event, Message, OpNames, Reply, Requests, WorldEvent};
-use rb_money::{Place, Refusal};
+use crate::{Entry, Event, Message, OpNames, Reply, Requests, Site, WorldEvent};
+use rb_money::{Config, Limits, Place, Refusal};
 use rb_scratch::Request;
 use rb_shadow::{Label, OpName};
 use rb_statements::{Row, Rows, Statement};
@@ -115,5 +115,38 @@ fn entries_and_deliveries_are_compared(rt: HostRuntime) -> Result<(), Fail> {
     assert!(rt; !at.same(&WorldEvent::At(1, batch(alloc, 5)?)));
     assert!(rt; !at.same(&WorldEvent::Deliver(0, 1)));
     assert!(rt; !WorldEvent::Deliver(0, 1).same(&WorldEvent::Deliver(0, 2)));
+    Ok(())
+}
+
+#[test]
+fn a_site_is_replayed_and_closed(rt: HostRuntime) -> Result<(), Fail> {
+    let alloc = rt.alloc();
+    let accounts = vec![in alloc; (String::from_str(alloc, "ann")?, 0)]?;
+    let config = Config::new(alloc, 2, accounts, Limits::largest())?;
+    let sites = config.sites();
+    prove!(0 < sites);
+    let deposit = Request::Deposit {
+        account: ANN,
+        amount: 5,
+    };
+    let events = vec![in alloc; Event::Submit(deposit), Event::Balance(ANN)]?;
+    let site = Site::replay(alloc, &config, 0, events.as_slice()).expect(&rt, "replayed");
+    assert_eq!(rt; site.history().len(), 2);
+    let told = matches!(
+        site.history().get(1),
+        Some(Entry {
+            reply: Reply::Balance(5),
+            ..
+        })
+    );
+    assert!(rt; told);
+    assert_eq!(rt;
+        (site.ledger().len(), site.log().len(), site.inbox().len()),
+        (1, 1, 0)
+    );
+    assert!(rt; site.token().view().held);
+    let report = site.close();
+    assert_eq!(rt; report.balances.as_slice(), [5].as_slice());
+    assert_eq!(rt; report.history.len(), 2);
     Ok(())
 }
