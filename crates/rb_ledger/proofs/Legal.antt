@@ -164,7 +164,7 @@ pub covers_nothing : (z : ℤ) → is_negative z ≡ false → pos 0 ≤ℤ z
 covers_nothing (pos n) h = omega (arith, ints)
 covers_nothing (negsuc n) h = cc
 
-not_negative : (z : ℤ) → pos 0 ≤ℤ z → is_negative z ≡ false
+pub not_negative : (z : ℤ) → pos 0 ≤ℤ z → is_negative z ≡ false
 not_negative (pos n) h = refl
 not_negative (negsuc n) h = absurd (omega (arith, ints, h))
 

@@ -1,9 +1,10 @@
 -- What a checker goes through is what certifies.
-use Rattle.std.proofs.Common.{◌≡◌, ◌≢◌, ℕ, zero, suc, Bool, true, false, cond, not, ◌&&◌, List, [], ◌∷◌, ◌++◌, length, refl, ap, sym, ◌∙◌, arith, ◌⊎◌, inl, inr, subst, Option, Some, None, append_assoc}
-use Rattle.std.specs.Prelude.{map, slice_get, slice_set, is_some, ◌==◌}
+use Rattle.std.proofs.Common.{◌≡◌, ℕ, Bool, true, false, cond, not, ◌&&◌, List, [], ◌∷◌, ◌++◌, length, refl, ap, sym, ◌∙◌, inl, inr, subst, Option, Some, None, append_assoc}
+use Rattle.std.specs.Prelude.{map, slice_get, slice_set, is_some}
 use Rattle.std.specs.Option.{option_map}
-use Rattle.std.proofs.lemmas.Bool.Decides.{nat_tests}
 use Rattle.std.proofs.lemmas.Option.{slice_get-map}
+use Rattle.std.proofs.lemmas.List.{append-nil}
+use Rattle.rb_site.proofs.Places.{get_set_other, get_set_same, same_number}
 use Rattle.rb_money.specs.Settings.{Settings}
 use Rattle.rb_shadow.proofs.Members
 use Rattle.rb_money.specs.declared.refusal.Refusal.TheVariants.{HistoryFull}
@@ -80,25 +81,6 @@ certified s hs order h = let f : Found s (first_world s) hs order = found s orde
 
 -- ---- the other way
 
-pub get_set_same : (ts : List ModelSite) (i : ℕ) (t n : ModelSite) → slice_get ts i ≡ Some t → slice_get (slice_set ts i n) i ≡ Some n
-get_set_same [] i t n h = cc
-get_set_same (u ∷ ts) zero t n h = refl
-get_set_same (u ∷ ts) (suc i) t n h = get_set_same ts i t n h
-
-pub get_set_other : (ts : List ModelSite) (i j : ℕ) (n : ModelSite) → j ≢ i → slice_get (slice_set ts i n) j ≡ slice_get ts j
-get_set_other [] i j n h = refl
-get_set_other (u ∷ ts) zero zero n h = absurd (h refl)
-get_set_other (u ∷ ts) zero (suc j) n h = refl
-get_set_other (u ∷ ts) (suc i) zero n h = refl
-get_set_other (u ∷ ts) (suc i) (suc j) n h = get_set_other ts i j n (λ e. h (ap suc e))
-
-pub same_number : (i j : ℕ) → (j ≡ i) ⊎ (j ≢ i)
-same_number i j = elim (Members.bool_cases (j == i)) [ inl e ↦ inl (grind (arith, nat_tests)) | inr e ↦ inr (λ k. grind (arith, nat_tests)) ]
-
-pub append-none : {A : Type 0} (xs : List A) → xs ++ [] ≡ xs
-append-none [] = refl
-append-none (x ∷ xs) = ap (λ ys. x ∷ ys) (append-none xs)
-
 -- the site i has gone on from t
 pub record Later (w : World) (i : ℕ) (t : ModelSite) : Type 0 where
   pub site : ModelSite
@@ -107,7 +89,7 @@ pub record Later (w : World) (i : ℕ) (t : ModelSite) : Type 0 where
   pub longer : site.history ≡ t.history ++ more
 
 not_yet : (w : World) (i : ℕ) (t : ModelSite) → slice_get w.sites i ≡ Some t → Later w i t
-not_yet w i t at = record { site = t; at = at; more = []; longer = sym (append-none t.history) }
+not_yet w i t at = record { site = t; at = at; more = []; longer = sym (append-nil t.history) }
 
 -- what an event leaves of the history
 pub noted_history : (s : Settings) (t : ModelSite) (e : Event) → is_full s t ≡ false → (after_event s t e).history ≡ t.history ++ (record { event = e; reply = reply_to s t e }) ∷ []
@@ -118,7 +100,7 @@ noted_history s t e room =
 
 event_later : (s : Settings) (t : ModelSite) (e : Event) → (more : List Entry) × ((after_event s t e).history ≡ t.history ++ more)
 event_later s t e = elim (Members.bool_cases (is_full s t)) [
-  | inl h ↦ ([], ap (λ b. (cond b t (noted (changed t (outcome_of s t e)) e (reply_of (outcome_of s t e)))).history) h ∙ sym (append-none t.history))
+  | inl h ↦ ([], ap (λ b. (cond b t (noted (changed t (outcome_of s t e)) e (reply_of (outcome_of s t e)))).history) h ∙ sym (append-nil t.history))
   | inr h ↦ ((record { event = e; reply = reply_to s t e }) ∷ [], noted_history s t e h)
 ]
 
@@ -133,7 +115,7 @@ later_at s w i j t e at (Some u) h = elim (same_number j i) [
         more = m.0;
         longer = m.1 ∙ ap (λ (v : ModelSite). v.history ++ m.0) (sym same);
       })
-  | inr ne ↦ record { site = t; at = get_set_other w.sites j i (after_event s u e) ne ∙ at; more = []; longer = sym (append-none t.history) }
+  | inr ne ↦ record { site = t; at = get_set_other w.sites j i (after_event s u e) ne ∙ at; more = []; longer = sym (append-nil t.history) }
 ]
 
 later_event : (s : Settings) (w : World) (i : ℕ) (t : ModelSite) (e : WorldEvent) → slice_get w.sites i ≡ Some t → Later (world_after s w e) i t

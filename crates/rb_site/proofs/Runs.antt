@@ -1,6 +1,7 @@
 -- Runs, one event after another.
 use Rattle.std.proofs.Common.{◌≡◌, ℕ, zero, suc, Bool, true, false, cond, not, ◌&&◌, List, [], ◌∷◌, ◌++◌, refl, ap, ◌∙◌, Option, Some, None}
 use Rattle.std.specs.Prelude.{map, slice_get, slice_set, is_some}
+use Rattle.std.proofs.lemmas.List.{append-nil}
 use Rattle.rb_money.specs.Settings.{Settings}
 use Rattle.rb_site.specs.declared.entry.Entry.{Entry}
 use Rattle.rb_site.specs.declared.event.Event.{Event}
@@ -71,10 +72,6 @@ run_goes_on s t e run = by (is_full s t) refl
         ∙ ap (λ b. cond b t n) q
 
 -- an event that no site records changes nothing
-pub append-none : {A : Type 0} (xs : List A) → xs ++ [] ≡ xs
-append-none [] = refl
-append-none (x ∷ xs) = ap (λ ys. x ∷ ys) (append-none xs)
-
 set-same : (ts : List ModelSite) (i : ℕ) (t : ModelSite) → slice_get ts i ≡ Some t → slice_set ts i t ≡ ts
 set-same [] i t h = refl
 set-same (u ∷ ts) zero t h = ap (λ x. x ∷ ts) (let e : t ≡ u = cc in e)
@@ -88,7 +85,7 @@ unrecorded_at s w i e (Some t) at h = by (is_full s t) h
     with_sites ts ms = record { sites = ts; messages = ms }
 
     by : (b : Bool) → not b ≡ false → with_sites (slice_set w.sites i (cond b t (noted (changed t (outcome_of s t e)) e (reply_of (outcome_of s t e))))) (w.messages ++ cond b [] (sent_by (outcome_of s t e))) ≡ w
-    by true q = ap (λ ts. with_sites ts (w.messages ++ [])) (set-same w.sites i t at) ∙ ap (with_sites w.sites) (append-none w.messages)
+    by true q = ap (λ ts. with_sites ts (w.messages ++ [])) (set-same w.sites i t at) ∙ ap (with_sites w.sites) (append-nil w.messages)
     by false q = cc
 
 -- what no site records leaves the world as it is

@@ -1,6 +1,7 @@
 -- A site stays the run of its history.
 use Rattle.std.proofs.Common.{◌≡◌, ◌+◌, ◌<◌, ◌≤◌, Bool, true, false, cond, List, [], ◌∷◌, ◌++◌, length, refl, ap, sym, ◌∙◌, arith, length-append, append_assoc}
 use Rattle.std.proofs.lemmas.Bool.Decides.{nat_tests}
+use Rattle.std.proofs.lemmas.List.{append-nil}
 use Rattle.rb_money.specs.Settings.{Settings}
 use Rattle.rb_site.specs.declared.entry.Entry.{Entry}
 use Rattle.rb_site.specs.declared.event.Event.{Event}
@@ -66,7 +67,7 @@ history_after s t x room e =
 
 -- the history of the run is the history that was run
 pub history_of_run : (s : Settings) (t : ModelSite) (xs : List Entry) → Replays s t xs → length t.history + length xs ≤ s.limits.history → (after_events s t (events_of xs)).history ≡ t.history ++ xs
-history_of_run s t [] h room = sym (Runs.append-none t.history)
+history_of_run s t [] h room = sym (append-nil t.history)
 history_of_run s t (x ∷ xs) h room =
     let free : is_full s t ≡ false = grind (arith, nat_tests) in
     let one : (after_event s t x.event).history ≡ t.history ++ x ∷ [] = history_after s t x free h.0 in

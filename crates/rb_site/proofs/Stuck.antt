@@ -4,6 +4,7 @@ use Rattle.std.specs.Prelude.{map, slice_get, slice_set}
 use Rattle.std.specs.Option.{option_map}
 use Rattle.std.specs.List.{range_with_len}
 use Rattle.std.proofs.lemmas.Option.{slice_get-map}
+use Rattle.std.proofs.lemmas.List.{append-nil}
 use Rattle.rb_money.specs.Settings.{Settings}
 use Rattle.rb_shadow.proofs.Members
 use Rattle.rb_site.specs.declared.entry.Entry.{Entry}
@@ -16,7 +17,8 @@ use Rattle.rb_site.specs.Worlds.{AreOwn, World, first_world, is_recorded, messag
 use Rattle.rb_site.specs.Histories.{IsAmong, IsBlocked, IsCut, IsFrom, StuckIsFinal, events_of, histories_of, place_of, sends_of}
 use Rattle.rb_site.proofs.Runs
 use Rattle.rb_site.proofs.Certificates
-use Rattle.rb_site.proofs.Certificates.{IsRecorded, Later, get_set_other, get_set_same, same_number}
+use Rattle.rb_site.proofs.Certificates.{IsRecorded, Later}
+use Rattle.rb_site.proofs.Places.{get_set_other, get_set_same, same_number}
 
 -- ---- messages
 
@@ -73,7 +75,7 @@ sent_in_front s t t1 i e x front more m me run ev is h =
     (subst (IsAmong m) (sym (ap (sends_of s (first_site i)) (Runs.map-append (λ (x : Entry). x.event) t.history (x ∷ [])) ∙ sends-append s (events_of t.history) (x.event ∷ []) (first_site i)))
     (among-right m (sends_of s (first_site i) (events_of t.history)) _
     (subst (λ u. IsAmong m (sends_of s u (x.event ∷ []))) (sym (ap (λ j. after_events s (first_site j) (events_of t.history)) (sym me) ∙ run))
-    (subst (IsAmong m) (sym (Certificates.append-none (sent_at s t x.event))) (subst (λ e. IsAmong m (sent_at s t e)) (sym ev) h))))))
+    (subst (IsAmong m) (sym (append-nil (sent_at s t x.event))) (subst (λ e. IsAmong m (sent_at s t e)) (sym ev) h))))))
 
 cancel : (h xs ys : List Entry) → h ++ xs ≡ h ++ ys → xs ≡ ys
 cancel [] xs ys e = e
@@ -197,7 +199,7 @@ ends_at_front : (s : Settings) (hs fronts : List (List Entry)) (w : World) (i : 
 ends_at_front s hs fronts w i h g gives c at = by (slice_get w.sites i) refl (sym (slice_get-map (λ (t : ModelSite). t.history) w.sites i) ∙ ap (λ ks. slice_get ks i) gives ∙ at)
   where
     nothing : (front h more rest : List Entry) → front ≡ h ++ more → h ≡ front ++ rest → rest ≡ []
-    nothing front h more rest e k = empty more rest (cancel h (more ++ rest) [] (sym (append_assoc h more rest) ∙ ap (λ f. f ++ rest) (sym e) ∙ sym k ∙ sym (Certificates.append-none h)))
+    nothing front h more rest e k = empty more rest (cancel h (more ++ rest) [] (sym (append_assoc h more rest) ∙ ap (λ f. f ++ rest) (sym e) ∙ sym k ∙ sym (append-nil h)))
       where
         empty : (xs ys : List Entry) → xs ++ ys ≡ [] → ys ≡ []
         empty [] ys e = e
@@ -210,7 +212,7 @@ ends_at_front s hs fronts w i h g gives c at = by (slice_get w.sites i) refl (sy
         let is : t.history ≡ h = cc in
         let same : c.front ≡ old.front = both (slice_get fronts i) c.there old.there in
         let none : c.rest ≡ [] = nothing c.front h old.more c.rest (same ∙ old.goes_on ∙ ap (λ k. k ++ old.more) is) c.goes_on in
-        c.there ∙ ap Some (sym (c.goes_on ∙ ap (λ r. c.front ++ r) none ∙ Certificates.append-none c.front))
+        c.there ∙ ap Some (sym (c.goes_on ∙ ap (λ r. c.front ++ r) none ∙ append-nil c.front))
       where
         both : (o : Option (List Entry)) → o ≡ Some c.front → o ≡ Some (g.sites i t e).front → c.front ≡ (g.sites i t e).front
         both o p q = cc

@@ -21,7 +21,8 @@ use Rattle.rb_inbox.specs.Held.{stands_before, with_held}
 use Rattle.rb_site.specs.Worlds.{AreOwn, World, made_in, message_at, shadows_in, world_after, world_after_all, world_at, world_delivered}
 use Rattle.rb_world.specs.Laws.{CanCatchUp, catching_up}
 use Rattle.rb_world.proofs.Steps
-use Rattle.rb_world.proofs.Steps.{get_set_same}
+use Rattle.rb_site.proofs.Places.{get_set_same}
+use Rattle.rb_site.proofs.Runs
 use Rattle.rb_world.proofs.Token
 use Rattle.rb_world.proofs.Good.{IsGood}
 use Rattle.rb_world.proofs.Ready
@@ -43,16 +44,6 @@ changed_grows t (Applies v) x h = names-left t.ops (v ∷ []) x h
 changed_grows t (Takes m) x h = h
 changed_grows t (Passes m) x h = h
 
-changed_history : (t : ModelSite) (o : Outcome) → (changed t o).history ≡ t.history
-changed_history t (Refuses why) = refl
-changed_history t (Answers r) = refl
-changed_history t (Drops y why) = refl
-changed_history t (Makes r vs) = refl
-changed_history t (Holds v) = refl
-changed_history t (Applies v) = refl
-changed_history t (Takes m) = refl
-changed_history t (Passes m) = refl
-
 -- the site after an event for which it has room
 pub after_roomy : (s : Settings) (t : ModelSite) (e : Event) → is_full s t ≡ false → after_event s t e ≡ noted (changed t (outcome_of s t e)) e (reply_of (outcome_of s t e))
 after_roomy s t e h = ap (λ b. cond b t (noted (changed t (outcome_of s t e)) e (reply_of (outcome_of s t e)))) h
@@ -61,7 +52,7 @@ pub history_after : (s : Settings) (t : ModelSite) (e : Event) → is_full s t �
 history_after s t e h =
     ap (λ (u : ModelSite). length u.history) (after_roomy s t e h)
     ∙ length-append (changed t (outcome_of s t e)).history _
-    ∙ ap (λ n. n + 1) (ap length (changed_history t (outcome_of s t e)))
+    ∙ ap (λ n. n + 1) (ap length (Runs.same_past t (outcome_of s t e)))
 
 -- ---- what stands while a site catches up
 

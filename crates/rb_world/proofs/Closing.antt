@@ -1,13 +1,12 @@
 -- The reports of a world's sites.
 use Rattle.std.proofs.Common.{◌≡◌, ◌∙◌, List, [], ◌∷◌, ◌++◌, Some, ap, arith, length, map, reverse, subst, sym, append_assoc}
-use Rattle.std.proofs.lemmas.List.{reverse-append}
+use Rattle.std.proofs.lemmas.List.{append-nil, reverse-append}
 use Rattle.std.proofs.lemmas.List.Elements.{All-pop}
 use Rattle.rb_money.specs.Settings.{Settings}
 use Rattle.rb_site.specs.declared.report.SiteReport.{SiteReport}
 use Rattle.rb_site.specs.Events.{ModelSite}
 use Rattle.rb_site.specs.Reports.{AreReports, IsReport}
 use Rattle.rb_site.specs.Seen.{SeenSite, state_of}
-use Rattle.rb_site.proofs.Runs
 use Rattle.rb_world.proofs.Stepping.{AreOf}
 
 -- the last sites gave their reports, the last of all first, and those that are left are of the configuration
@@ -18,7 +17,7 @@ pub record IsClosing (s : Settings) (all : List ModelSite) (rs : List SiteReport
   pub settings : AreOf s left
 
 pub closing-first : (s : Settings) (all : List ModelSite) (xs : List SeenSite) → map state_of xs ≡ all → AreOf s xs → IsClosing s all [] xs
-closing-first s all xs sites settings = record { closed = []; together = ap (map state_of) (Runs.append-none xs) ∙ sites; told = tt; settings = settings }
+closing-first s all xs sites settings = record { closed = []; together = ap (map state_of) (append-nil xs) ∙ sites; told = tt; settings = settings }
 
 pub closing-next : (s : Settings) (all : List ModelSite) (before left : List SeenSite) (rs : List SiteReport) (x : SeenSite) (r : SiteReport) → before ≡ left ++ x ∷ [] → IsClosing s all rs before → IsReport x.settings (state_of x) r → IsClosing s all (rs ++ r ∷ []) left
 closing-next s all before left rs x r popped far is =

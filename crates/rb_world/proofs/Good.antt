@@ -10,6 +10,7 @@ use Rattle.rb_shadow.specs.declared.colour.Colour.TheVariants.{Red as RedColour}
 use Rattle.rb_shadow.specs.Operations.{Among, IsUnique, colour_of, is_red, kind_in, names, same_name, target_of}
 use Rattle.rb_shadow.proofs.Members
 use Rattle.rb_shadow.proofs.Balances
+use Rattle.rb_ledger.proofs.Pushes
 use Rattle.rb_inbox.proofs.Order.{kept_among, held_cases}
 use Rattle.rb_site.specs.declared.message.Message.{Message}
 use Rattle.rb_site.specs.declared.world_event.WorldEvent.{WorldEvent}
@@ -18,7 +19,7 @@ use Rattle.rb_inbox.specs.Held.{with_held, without}
 use Rattle.rb_site.specs.Worlds.{AreOwn, World, first_world, made_in, world_of_run}
 use Rattle.rb_world.specs.Laws.{EachSite, HasClocks, HasFunds, IsNeverNegative, IsRedBlue, SitesAgree}
 use Rattle.rb_world.proofs.Steps
-use Rattle.rb_world.proofs.Steps.{Keeps, MayApply, MayHold, each_moved, moved}
+use Rattle.rb_world.proofs.Steps.{Keeps, MayHold, each_moved, moved}
 use Rattle.rb_world.proofs.Token
 use Rattle.rb_world.proofs.Token.{IsInOnePlace}
 use Rattle.rb_world.proofs.Order
@@ -104,7 +105,7 @@ red_by_kind all v Withdraw unique h e = h
 red_by_kind all v Declined unique h e = cc
 red_by_kind all v Interest unique h e = cc
 red_by_kind all v (Cancel x) unique h e =
-    Right.is_red-shown v.name _ h.colour (sym (ap (colour_of (Cancel x)) (ap (kind_in all) (sym h.named) ∙ Right.kind_in-named all h.target unique h.there)) ∙ e)
+    Right.is_red-shown v.name _ h.colour (sym (ap (colour_of (Cancel x)) (ap (kind_in all) (sym h.named) ∙ Pushes.kind_in-named all h.target unique h.there)) ∙ e)
 
 pub red_blue : (s : Settings) (w : World) → IsGood s w → IsRedBlue s w
 red_blue s w g = record {

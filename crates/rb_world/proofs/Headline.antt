@@ -1,5 +1,5 @@
 -- All laws, of every run, and of every world that is the run of its events.
-use Rattle.std.proofs.Common.{◌≡◌, ◌≤◌, ℕ, zero, suc, List, [], ◌∷◌, All, take, sym, subst, arith}
+use Rattle.std.proofs.Common.{◌≤◌, ℕ, zero, suc, List, [], ◌∷◌, All, take, sym, subst, arith}
 use Rattle.std.proofs.lemmas.List.Elements.{All-head, All-tail}
 use Rattle.rb_money.specs.Settings.{Settings, most_sites}
 use Rattle.rb_site.specs.declared.reply.Reply.{Reply}
@@ -12,6 +12,7 @@ use Rattle.rb_world.proofs.Ready
 use Rattle.rb_world.proofs.Sound
 use Rattle.rb_world.proofs.Stepping.{IsRunSoFar, next_run}
 use Rattle.rb_world.proofs.Token
+use Rattle.rb_world.proofs.Valid
 
 pub holds : (s : Settings) (es : List WorldEvent) → 1 ≤ s.sites → s.sites ≤ most_sites → AreOwn es → Holds s (world_of_run s es)
 holds s es some few own =
@@ -22,6 +23,7 @@ holds s es some few own =
       clocks = Good.clocks s (world_of_run s es) g.0;
       agree = Good.agreement s (world_of_run s es) g.0;
       funded = Good.funds s (world_of_run s es) g.0;
+      valid = Valid.valid_lists s (world_of_run s es) g.0 g.1;
       never_negative = Good.never_negative s (world_of_run s es) g.0;
       never_stuck = Ready.never_stuck s (world_of_run s es) g.0 g.1;
       trusts = Ready.trusts_its_own s (world_of_run s es) g.0 g.1;

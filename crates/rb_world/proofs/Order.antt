@@ -15,7 +15,7 @@ use Rattle.rb_shadow.proofs.Members
 use Rattle.rb_shadow.proofs.Balances
 use Rattle.rb_shadow.specs.Laws.{IsPart}
 use Rattle.rb_shadow.proofs.Clocks
-use Rattle.rb_shadow.proofs.Clocks.{IsCounted, IsHoused, IsNext, row_count}
+use Rattle.rb_shadow.proofs.Clocks.{IsCounted, IsHoused, IsNext}
 use Rattle.rb_shadow.proofs.Eligible
 use Rattle.rb_ledger.specs.Checks.{is_applied, refusal_of_sound}
 use Rattle.rb_ledger.proofs.Legal
@@ -32,7 +32,8 @@ use Rattle.rb_inbox.specs.Held.{with_held, without}
 use Rattle.rb_site.specs.Worlds.{AreOwn, World, first_world, made_in, shadows_in, world_of_run}
 use Rattle.rb_world.specs.Laws.{EachSite}
 use Rattle.rb_world.proofs.Steps
-use Rattle.rb_world.proofs.Steps.{Keeps, MayApply, MayHold, MayPass, MayTake, each_moved, get_set_same, moved, same_number}
+use Rattle.rb_site.proofs.Places.{same_number}
+use Rattle.rb_world.proofs.Steps.{Keeps, MayApply, each_moved, moved}
 use Rattle.rb_world.proofs.Token
 use Rattle.rb_world.proofs.Token.{IsHeldAt, IsInOnePlace, IsOnItsWay, red_number}
 

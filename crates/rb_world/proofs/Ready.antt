@@ -1,8 +1,7 @@
 -- No operation of the world is refused where its past is there.
 use Rattle.std.proofs.Common.{◌≡◌, ℕ, ◌≤◌, Bool, true, false, cond, not, ◌&&◌, ◌||◌, List, [], ◌∷◌, ◌++◌, length, refl, ap, sym, ◌∙◌, arith, ◌⊎◌, inl, inr, subst, Option, Some, None}
-use Rattle.std.specs.Prelude.{slice_get, nat_lt, nat_le, ◌==◌, ℤ, pos, negsuc, ◌≤ℤ◌, option_and_then}
+use Rattle.std.specs.Prelude.{slice_get, nat_lt, nat_le, ◌==◌, pos, ◌≤ℤ◌, option_and_then}
 use Rattle.std.proofs.lemmas.Bool.Decides.{nat_tests}
-use Rattle.std.proofs.lemmas.Int.{ints}
 use Rattle.rb_money.specs.Settings.{Settings}
 use Rattle.rb_money.specs.declared.place.Place.{Place}
 use Rattle.rb_money.specs.declared.refusal.Refusal.TheVariants.{BadMessage, Conflict, HistoryFull, InboxFull, NotReady, NotYours}
@@ -13,12 +12,14 @@ use Rattle.rb_shadow.specs.declared.kind.Kind.TheVariants.{Deposit, Withdraw, De
 use Rattle.rb_shadow.specs.declared.colour.Colour.{Colour}
 use Rattle.rb_shadow.specs.declared.colour.Colour.TheVariants.{Blue as BlueColour, Red as RedColour}
 use Rattle.rb_shadow.specs.declared.shadow.Shadow.{Shadow}
-use Rattle.rb_shadow.specs.Operations.{Among, IsUnique, IsWithin, bal, colour_in, colour_of, find_in, is_eligible, is_red, kind_in, names, past, same_kind, same_numbers, same_shadow, shown_colour, target_of}
+use Rattle.rb_shadow.specs.Operations.{Among, IsUnique, IsWithin, bal, colour_in, colour_of, find_in, is_eligible, is_red, kind_in, names, past, same_shadow, shown_colour, target_of}
 use Rattle.rb_shadow.proofs.Members
 use Rattle.rb_shadow.specs.Laws.{IsClosed, IsPart}
-use Rattle.rb_shadow.proofs.Covered
 use Rattle.rb_shadow.proofs.Eligible
-use Rattle.rb_ledger.specs.Checks.{has_wrong_target, is_negative, is_wrong_target, refusal_of_sound, same_colour}
+use Rattle.rb_shadow.proofs.Same.{same_shadow-refl}
+use Rattle.rb_ledger.specs.Checks.{has_wrong_target, is_wrong_target, refusal_of_sound, same_colour}
+use Rattle.rb_ledger.proofs.Legal
+use Rattle.rb_ledger.proofs.Pushes
 use Rattle.rb_token.specs.declared.message.TokenMessage.{TokenMessage}
 use Rattle.rb_money.specs.Refusals.{first_if}
 use Rattle.rb_site.specs.declared.message.Message.{Message}
@@ -32,7 +33,6 @@ use Rattle.rb_site.specs.Events.{refuses_first, Answers, Applies, Holds, ModelSi
 use Rattle.rb_site.specs.Worlds.{World, made_in, message_at, reply_at, reply_delivered, reply_in}
 use Rattle.rb_world.specs.Laws.{IsNeverStuck, TrustsItsOwn}
 use Rattle.rb_world.proofs.Steps
-use Rattle.rb_world.proofs.Steps.{AmongTokens}
 use Rattle.rb_world.proofs.Order
 use Rattle.rb_world.proofs.Order.{IsInOrder, IsOrderedSet, IsSerial}
 use Rattle.rb_world.proofs.Right
@@ -40,34 +40,8 @@ use Rattle.rb_world.proofs.Right.{AreRight, HasKind}
 use Rattle.rb_world.proofs.Good.{IsGood}
 use Rattle.rb_world.proofs.Sound.{IsBounded}
 
--- ---- equal shadows
-
-same_numbers-refl : (ns : List ℕ) → same_numbers ns ns ≡ true
-same_numbers-refl [] = refl
-same_numbers-refl (n ∷ ns) = both _ _ (grind (arith, nat_tests)) (same_numbers-refl ns)
-  where
-    both : (b c : Bool) → b ≡ true → c ≡ true → (b && c) ≡ true
-    both true c e h = h
-    both false c e h = e
-
-same_kind-refl : (k : Kind) → same_kind k k ≡ true
-same_kind-refl Deposit = refl
-same_kind-refl Withdraw = refl
-same_kind-refl Declined = refl
-same_kind-refl Interest = refl
-same_kind-refl (Cancel x) = Members.same_name-refl x
-
-both : (b c : Bool) → b ≡ true → c ≡ true → (b && c) ≡ true
-both true c e h = h
-both false c e h = e
-
 same_number : (n : ℕ) → (n == n) ≡ true
 same_number n = grind (arith, nat_tests)
-
-same_shadow-refl : (v : Shadow) → same_shadow v v ≡ true
-unfolding same_shadow
-same_shadow-refl v =
-    both _ _ (both _ _ (both _ _ (both _ _ (both _ _ (both _ _ (Members.same_name-refl v.name) (same_number v.home)) (same_numbers-refl v.deps.blue)) (same_number v.deps.red)) (same_number v.account.0)) (same_number v.amount)) (same_kind-refl v.kind)
 
 -- ---- looking up a name
 
@@ -91,17 +65,13 @@ pass false x y h = refl
 right_if : (s : Settings) (us : List Shadow) (v : Shadow)
     → names us v.name ≡ false → is_eligible us v ≡ true → has_wrong_target us v v.kind ≡ false → shown_colour v.name ≡ colour_in us v → pos 0 ≤ℤ bal s (us ++ v ∷ []) v.account
     → refusal_of_sound s us v ≡ None
-right_if s us v a b c d e = pass _ _ _ a ∙ pass _ _ _ (ap not b) ∙ pass _ _ _ c ∙ pass _ _ _ (coloured (shown_colour v.name) (colour_in us v) d) ∙ pass _ _ _ (Members.false-or _ _ (not_less (bal s (us ++ v ∷ []) v.account) e) refl)
+right_if s us v a b c d e = pass _ _ _ a ∙ pass _ _ _ (ap not b) ∙ pass _ _ _ c ∙ pass _ _ _ (coloured (shown_colour v.name) (colour_in us v) d) ∙ pass _ _ _ (Members.false-or _ _ (Legal.not_negative (bal s (us ++ v ∷ []) v.account) e) refl)
   where
     coloured : (c d : Colour) → c ≡ d → not (same_colour c d) ≡ false
     coloured BlueColour BlueColour e = refl
     coloured RedColour RedColour e = refl
     coloured BlueColour RedColour e = cc
     coloured RedColour BlueColour e = cc
-
-    not_less : (z : ℤ) → pos 0 ≤ℤ z → is_negative z ≡ false
-    not_less (pos n) h = refl
-    not_less (negsuc n) h = absurd (omega (arith, ints))
 
 shown_blue : (x : OpName) → is_red x ≡ false → shown_colour x ≡ BlueColour
 shown_blue (Blue i n) h = refl
@@ -121,7 +91,7 @@ colour_there all us v Withdraw unique uu part within h = shown_red v.name h
 colour_there all us v Declined unique uu part within h = shown_blue v.name h
 colour_there all us v Interest unique uu part within h = shown_blue v.name h
 colour_there all us v (Cancel x) unique uu part within h =
-    h.colour ∙ sym (ap (colour_of (Cancel x)) (ap (kind_in us) (sym h.named) ∙ Right.kind_in-named us h.target uu (target_there all us v x unique part within h)))
+    h.colour ∙ sym (ap (colour_of (Cancel x)) (ap (kind_in us) (sym h.named) ∙ Pushes.kind_in-named us h.target uu (target_there all us v x unique part within h)))
 
 right_target : (all us : List Shadow) (v : Shadow) (k : Kind) → IsUnique all → IsPart us all → IsWithin (past v) (names us) → HasKind all v k → has_wrong_target us v k ≡ false
 right_target all us v Deposit unique part within h = refl

@@ -1,6 +1,6 @@
 -- Each operation made has its kind's colour and target, and each red one was covered where it was made.
 use Rattle.std.proofs.Common.{◌≡◌, ℕ, Bool, true, false, cond, ◌&&◌, List, [], ◌∷◌, ◌++◌, refl, ap, sym, ◌∙◌, arith, inl, inr, subst, Some}
-use Rattle.std.specs.Prelude.{◌==◌, ℤ, pos, negsuc, neg_ℤ, ◌+ℤ◌, ◌≤ℤ◌, int_lt, option_and_then}
+use Rattle.std.specs.Prelude.{◌==◌, ℤ, pos, neg_ℤ, ◌+ℤ◌, ◌≤ℤ◌, int_lt, option_and_then}
 use Rattle.std.proofs.lemmas.Bool.Decides.{nat_tests}
 use Rattle.std.proofs.lemmas.Int.{ints}
 use Rattle.rb_money.specs.Settings.{Settings}
@@ -12,21 +12,22 @@ use Rattle.rb_shadow.specs.declared.kind.Kind.TheVariants.{Deposit, Withdraw, De
 use Rattle.rb_shadow.specs.declared.colour.Colour.{Colour}
 use Rattle.rb_shadow.specs.declared.colour.Colour.TheVariants.{Blue as BlueColour, Red as RedColour}
 use Rattle.rb_shadow.specs.declared.shadow.Shadow.{Shadow}
-use Rattle.rb_shadow.specs.Operations.{Among, AreSame, IsUnique, bal, cancels, colour_of, is_cancel, is_cancelled, is_red, kind_in, names, past, same_name, shown_colour, target_of}
+use Rattle.rb_shadow.specs.Operations.{Among, AreSame, IsUnique, bal, cancels, colour_of, is_cancel, is_cancelled, is_red, kind_in, names, past, shown_colour, target_of}
 use Rattle.rb_shadow.proofs.Members
 use Rattle.rb_shadow.proofs.Balances
 use Rattle.rb_shadow.specs.Laws.{IsClosed, IsFunded, IsPart}
 use Rattle.rb_shadow.proofs.Covered
 use Rattle.rb_shadow.proofs.Covered.{IsCovered, adds, is_withdraw}
 use Rattle.rb_ledger.specs.Valid.{HasTarget, IsTargetOf}
-use Rattle.rb_ledger.specs.Checks.{is_negative, overdraws}
+use Rattle.rb_ledger.specs.Checks.{overdraws}
+use Rattle.rb_ledger.proofs.Legal
 use Rattle.rb_ledger.proofs.Pushes
 use Rattle.rb_scratch.specs.Requests.{Plan, colour_of_plan, next_name, operation_of}
 use Rattle.rb_token.specs.Token.{Token}
 use Rattle.rb_scratch.proofs.Planned.{IsPlanned, planned}
 use Rattle.rb_scratch.proofs.Made.{IsAllowed, IsMadeAt}
 use Rattle.rb_world.proofs.Order
-use Rattle.rb_world.proofs.Order.{IsInOrder, IsNew, IsOrdered, IsOrderedSet, IsSerial}
+use Rattle.rb_world.proofs.Order.{IsNew, IsOrderedSet, IsSerial}
 
 -- ---- what is known of an operation's kind
 
@@ -123,15 +124,6 @@ list_never_negative s all us a o right l = never_negative s all us a o right l.p
 not_below : (z : ℤ) (n : ℕ) → int_lt z (pos n) ≡ false → pos n ≤ℤ z
 not_below z n h = grind (arith, ints)
 
-not_negative : (z : ℤ) → is_negative z ≡ false → pos 0 ≤ℤ z
-not_negative (pos n) h = omega (arith, ints)
-not_negative (negsuc n) h = cc
-
-pub kind_in-named : (us : List Shadow) (t : Shadow) → IsUnique us → Among t us → kind_in us t.name ≡ Some t.kind
-kind_in-named [] t unique h = elim h [ ]
-kind_in-named (u ∷ us) t unique (inl e) = ap (λ (w : Shadow). cond (same_name w.name t.name) (Some w.kind) (kind_in us t.name)) (sym e) ∙ ap (λ b. cond b (Some t.kind) (kind_in us t.name)) (Members.same_name-refl t.name)
-kind_in-named (u ∷ us) t unique (inr h) = ap (λ b. cond b (Some u.kind) (kind_in us t.name)) (Members.not_same u.name t.name (λ e. Members.true≢false (sym (Members.named us t h) ∙ ap (names us) (sym e) ∙ unique.0))) ∙ kind_in-named us t unique.1 h
-
 shown-next : (me : ℕ) (us : List Shadow) (c : Colour) → shown_colour (next_name me us c) ≡ c
 shown-next me us BlueColour = refl
 shown-next me us RedColour = refl
@@ -171,7 +163,7 @@ kind_made s all us me v p (Cancel x) unique part is_past m e h = record {
   named = h.named;
   seen = is_past x ∙ ap (names us) (sym h.named) ∙ Members.named us h.target h.there;
   right = record { kind = h.kind; account = h.account ∙ sym m.account; amount = h.amount ∙ sym m.amount };
-  colour = ap shown_colour m.name ∙ shown-next me us (colour_of_plan us p) ∙ plan_colour us p (Cancel x) e ∙ ap (colour_of (Cancel x)) (ap (kind_in us) (sym h.named) ∙ kind_in-named us h.target unique h.there);
+  colour = ap shown_colour m.name ∙ shown-next me us (colour_of_plan us p) ∙ plan_colour us p (Cancel x) e ∙ ap (colour_of (Cancel x)) (ap (kind_in us) (sym h.named) ∙ Pushes.kind_in-named us h.target unique h.there);
 }
 
 -- what is made has its target in the list
@@ -227,7 +219,7 @@ covered_made s us me token v p k a m e h base push red fair kind = elim (Members
         let takes : Pushes.change us v a ≡ neg_ℤ (pos p.amount) = z ∙ ap (λ k. Pushes.change_of us k v.amount) (m.kind ∙ e) ∙ ap (λ n. neg_ℤ (pos n)) m.amount in
         omega (arith, ints, enough, here, takes, push)
     own (Cancel x) e h kind q z =
-        subst (λ b. pos 0 ≤ℤ bal s (us ++ v ∷ []) b) q (not_negative _ (Members.or-false _ _ (second (is_cancel v.kind) (overdraws s us v) (ap is_cancel (m.kind ∙ e)) (overdrawn v.name fair red))).0)
+        subst (λ b. pos 0 ≤ℤ bal s (us ++ v ∷ []) b) q (Legal.covers_nothing _ (Members.or-false _ _ (second (is_cancel v.kind) (overdraws s us v) (ap is_cancel (m.kind ∙ e)) (overdrawn v.name fair red))).0)
 
 pub right_made : (s : Settings) (all us : List Shadow) (me : ℕ) (token : Token) (v : Shadow) → IsOrderedSet all → AreRight s all → IsSerial all us → IsNew all us v → IsMadeAt s me us token v → IsRight s (all ++ v ∷ []) v
 right_made s all us me token v o right l n made = record {

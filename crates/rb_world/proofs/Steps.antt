@@ -3,6 +3,7 @@ use Rattle.std.proofs.Common.{◌≡◌, ◌≢◌, ℕ, zero, suc, ◌+◌, ◌
 use Rattle.std.specs.Prelude.{slice_get, slice_set, map, nat_lt, nat_le, ◌==◌, max, take}
 use Rattle.std.proofs.lemmas.List.{append-nil}
 use Rattle.std.proofs.lemmas.Bool.Decides.{nat_tests}
+use Rattle.rb_site.proofs.Places.{get_set_other, get_set_same, same_number, set_set}
 use Rattle.rb_money.specs.Settings.{Settings, is_account}
 use Rattle.rb_money.specs.declared.refusal.Refusal.{Refusal}
 use Rattle.rb_money.specs.declared.refusal.Refusal.TheVariants.{Conflict, NotReady, InboxFull, PositionBeyond}
@@ -199,26 +200,6 @@ comes s ms t (AskStatement a) h = past_test s ms t (not (is_account s a)) _ _ (�
 -- the site i stands as n, and these are the messages
 abbrev pub moved : World → ℕ → ModelSite → List Message → World
 moved w i n ms = record { sites = slice_set w.sites i n; messages = ms }
-
-pub get_set_same : (ts : List ModelSite) (i : ℕ) (t n : ModelSite) → slice_get ts i ≡ Some t → slice_get (slice_set ts i n) i ≡ Some n
-get_set_same [] i t n h = cc
-get_set_same (u ∷ ts) zero t n h = refl
-get_set_same (u ∷ ts) (suc i) t n h = get_set_same ts i t n h
-
-pub get_set_other : (ts : List ModelSite) (i j : ℕ) (n : ModelSite) → j ≢ i → slice_get (slice_set ts i n) j ≡ slice_get ts j
-get_set_other [] i j n h = refl
-get_set_other (u ∷ ts) zero zero n h = absurd (h refl)
-get_set_other (u ∷ ts) zero (suc j) n h = refl
-get_set_other (u ∷ ts) (suc i) zero n h = refl
-get_set_other (u ∷ ts) (suc i) (suc j) n h = get_set_other ts i j n (λ e. h (ap suc e))
-
-pub set_set : (ts : List ModelSite) (i : ℕ) (m n : ModelSite) → slice_set (slice_set ts i m) i n ≡ slice_set ts i n
-set_set [] i m n = refl
-set_set (u ∷ ts) zero m n = refl
-set_set (u ∷ ts) (suc i) m n = ap (λ xs. u ∷ xs) (set_set ts i m n)
-
-pub same_number : (i j : ℕ) → (j ≡ i) ⊎ (j ≢ i)
-same_number i j = elim (Members.bool_cases (j == i)) [ inl e ↦ inl (grind (arith, nat_tests)) | inr e ↦ inr (λ k. grind (arith, nat_tests)) ]
 
 -- each site after a move
 pub each_moved : (w : World) (i : ℕ) (t n : ModelSite) (ms : List Message) (P : ℕ → ModelSite → Type 0)

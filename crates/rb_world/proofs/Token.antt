@@ -3,6 +3,7 @@ use Rattle.std.proofs.Common.{◌≡◌, ◌≢◌, ℕ, zero, suc, ◌+◌, ◌
 use Rattle.std.specs.Prelude.{slice_get, map, ◌==◌, max}
 use Rattle.std.specs.List.{range_with_len}
 use Rattle.std.proofs.lemmas.Bool.Decides.{nat_tests}
+use Rattle.std.proofs.lemmas.List.{append-nil}
 use Rattle.rb_money.specs.Settings.{Settings}
 use Rattle.rb_scratch.proofs.Made.{IsAllowed, IsMadeAt}
 use Rattle.rb_shadow.specs.declared.op_name.OpName.{OpName}
@@ -24,7 +25,8 @@ use Rattle.rb_inbox.specs.Held.{with_held, without}
 use Rattle.rb_site.specs.Worlds.{World, shadows_in, tokens_in, made_in, world_of_run, first_world, AreOwn}
 use Rattle.rb_world.specs.Laws.{EachSite, HasOneToken}
 use Rattle.rb_world.proofs.Steps
-use Rattle.rb_world.proofs.Steps.{AmongTokens, MayHold, MayApply, MayTake, MayPass, Keeps, moved, each_moved, get_set_same, same_number}
+use Rattle.rb_world.proofs.Steps.{AmongTokens, MayTake, MayPass, Keeps, moved, each_moved}
+use Rattle.rb_site.proofs.Places.{get_set_other, get_set_same, same_number}
 
 -- ---- messages
 
@@ -38,19 +40,15 @@ tokens_in-append [] ns = refl
 tokens_in-append (ShadowMessage v ∷ ms) ns = tokens_in-append ms ns
 tokens_in-append (TokenOnItsWay m ∷ ms) ns = ap (λ vs. m ∷ vs) (tokens_in-append ms ns)
 
-append-none : {A : Type 0} (xs : List A) → xs ++ [] ≡ xs
-append-none [] = refl
-append-none (x ∷ xs) = ap (λ ys. x ∷ ys) (append-none xs)
-
 -- one more shadow is sent
 pub made_more : (ms : List Message) (v : Shadow) → shadows_in (ms ++ ShadowMessage v ∷ []) ≡ shadows_in ms ++ v ∷ []
 made_more ms v = shadows_in-append ms (ShadowMessage v ∷ [])
 
 pub tokens_same : (ms : List Message) (v : Shadow) → tokens_in (ms ++ ShadowMessage v ∷ []) ≡ tokens_in ms
-tokens_same ms v = tokens_in-append ms (ShadowMessage v ∷ []) ∙ append-none (tokens_in ms)
+tokens_same ms v = tokens_in-append ms (ShadowMessage v ∷ []) ∙ append-nil (tokens_in ms)
 
 pub made_same : (ms : List Message) (m : TokenMessage) → shadows_in (ms ++ TokenOnItsWay m ∷ []) ≡ shadows_in ms
-made_same ms m = shadows_in-append ms (TokenOnItsWay m ∷ []) ∙ append-none (shadows_in ms)
+made_same ms m = shadows_in-append ms (TokenOnItsWay m ∷ []) ∙ append-nil (shadows_in ms)
 
 pub tokens_more : (ms : List Message) (m : TokenMessage) → tokens_in (ms ++ TokenOnItsWay m ∷ []) ≡ tokens_in ms ++ m ∷ []
 tokens_more ms m = tokens_in-append ms (TokenOnItsWay m ∷ [])
@@ -151,7 +149,7 @@ quiet w i t os hs h ms p at toks more few = record { numbered = numbered_quietly
 
     there : (k : ℕ) (u : ModelSite) → k ≢ i → IsHeldAt w k u → IsHeldAt (moved w i n ms) k u
     there k u ne o = record {
-      at = Steps.get_set_other w.sites i k n ne ∙ o.at;
+      at = get_set_other w.sites i k n ne ∙ o.at;
       held = o.held;
       alone = each_moved w i t n ms (λ j v. j ≢ k → v.token.held ≡ false) at (λ j v g e. o.alone j v g) (o.alone i t at);
       latest = each_moved w i t n ms (λ j v. v.token.epoch ≤ u.token.epoch) at (λ j v g e. o.latest j v g) (o.latest i t at);

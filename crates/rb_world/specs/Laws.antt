@@ -6,6 +6,7 @@ use Rattle.rb_money.specs.declared.refusal.Refusal.TheVariants.{BadMessage, Conf
 use Rattle.rb_shadow.specs.declared.shadow.Shadow.{Shadow}
 use Rattle.rb_shadow.specs.Operations.{Agree, Among, AreSame, IsLawful, IsSerialization, IsUnique, IsWithin, bal, clock_of, names, names_of_clock, past}
 use Rattle.rb_shadow.specs.Laws.{IsClosed, IsFunded, IsPart}
+use Rattle.rb_ledger.specs.Valid.{IsValid}
 use Rattle.rb_site.specs.declared.event.Event.{Event}
 use Rattle.rb_site.specs.declared.event.Event.TheVariants.{Submit, Batch, Receive, Apply, Pass, Balance, AsOf, Statement as AskStatement}
 use Rattle.rb_site.specs.declared.message.Message.{Message}
@@ -47,6 +48,10 @@ SitesAgree s w = EachSite w (λ i t. EachSite w (λ j u. AreSame (names t.ops) (
 -- each balance has its source, in every part of the operations made that has the past of each of its own
 abbrev pub HasFunds : Settings → World → Type 0
 HasFunds s w = (vs : List Shadow) → IsPart vs (made_in w) → IsUnique vs → IsClosed vs → (a : Place) → IsFunded s (made_in w) vs a
+
+-- each site's list is valid: a ledger may hold it, whose last operations are undone exactly
+abbrev pub HasValidLists : Settings → World → Type 0
+HasValidLists s w = EachSite w (λ i t. IsValid s t.ops)
 
 -- no balance is negative
 abbrev pub IsNeverNegative : Settings → World → Type 0
@@ -137,6 +142,7 @@ pub record Holds (s : Settings) (w : World) : Type 0 where
   pub clocks : HasClocks s w
   pub agree : SitesAgree s w
   pub funded : HasFunds s w
+  pub valid : HasValidLists s w
   pub never_negative : IsNeverNegative s w
   pub never_stuck : IsNeverStuck s w
   pub trusts : TrustsItsOwn s w

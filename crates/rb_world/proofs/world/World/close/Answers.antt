@@ -1,5 +1,5 @@
 -- Each site tells where it stood.
-use Rattle.std.proofs.Common.{◌≡◌, ◌∙◌, ◌+◌, ◌≤◌, ℕ, List, [], ◌∷◌, ◌++◌, ap, arith, length, reverse, subst, sym, vec_len, vec_capacity}
+use Rattle.std.proofs.Common.{◌≡◌, ◌∙◌, ◌+◌, ◌≤◌, List, [], ap, arith, length, subst, sym, vec_len, vec_capacity}
 use Rattle.rb_site.specs.declared.report.SiteReport.{SiteReport}
 use Rattle.rb_site.specs.Reports.{AreReports}
 use Rattle.rb_world.specs.Laws.{SeenWorld}

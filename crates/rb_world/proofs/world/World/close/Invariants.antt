@@ -1,5 +1,5 @@
 -- So far each site after those left has told where it stood, and there is room for the other reports.
-use Rattle.std.proofs.Common.{◌≡◌, ◌+◌, ◌≤◌, length, vec_len, vec_capacity}
+use Rattle.std.proofs.Common.{◌+◌, ◌≤◌, vec_len, vec_capacity}
 use Rattle.rb_world.proofs.Closing.{IsClosing}
 use Rattle.rb_world.proofs.world.World.close.Given as goal
 

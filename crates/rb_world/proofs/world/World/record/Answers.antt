@@ -1,5 +1,5 @@
 -- A site's step is the world's.
-use Rattle.std.proofs.Common.{◌≡◌, ◌∙◌, ◌≤◌, List, [], ◌∷◌, ◌++◌, ap, arith, length, subst, sym, vec_capacity}
+use Rattle.std.proofs.Common.{◌≡◌, ◌∙◌, ◌≤◌, [], ◌∷◌, ◌++◌, ap, arith, length, subst, sym, vec_capacity}
 use Rattle.std.proofs.lemmas.List.{length-set}
 use Rattle.std.specs.Prelude.{Some, IsSomeAnd, false, slice_get, slice_set}
 use Rattle.rb_site.specs.Events.{is_full}

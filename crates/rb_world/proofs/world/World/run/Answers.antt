@@ -1,5 +1,5 @@
 -- One event more.
-use Rattle.std.proofs.Common.{◌≡◌, ◌∙◌, ℕ, ◌+◌, ◌≤◌, List, length, ap, subst, sym}
+use Rattle.std.proofs.Common.{◌∙◌, ℕ, ◌+◌, ◌≤◌, List, length, ap, subst, sym}
 use Rattle.rb_site.specs.declared.reply.Reply.{Reply}
 use Rattle.rb_world.specs.Laws.{Holds, IsRunOf, SeenWorld, next_reply, next_world}
 use Rattle.rb_world.proofs.Headline.{holds_of_run, holds_so_far}

@@ -1,6 +1,6 @@
 -- At a full history nothing happens.
-use Rattle.std.proofs.Common.{◌≡◌, ◌∙◌, Bool, true, false, Option, Some, None, ap, refl, sym}
-use Rattle.std.specs.Prelude.{is_some, not, slice_get}
+use Rattle.std.proofs.Common.{◌≡◌, ◌∙◌, true, Option, Some, None, ap, refl, sym}
+use Rattle.std.specs.Prelude.{is_some, slice_get}
 use Rattle.rb_site.specs.declared.event.Event.{Event}
 use Rattle.rb_site.specs.Worlds.{arrival}
 use Rattle.rb_site.specs.Events.{is_full}
