@@ -1,20 +1,18 @@
 -- The last record is that of the last operation.
-use Rattle.std.proofs.Common.{◌≡◌, ◌∙◌, List, [], ◌∷◌, ◌++◌, ap, arith, length, length-append, refl, sym}
+use Rattle.std.proofs.Common.{◌≡◌, ◌∙◌, List, [], ◌∷◌, ◌++◌, ap, inl, inr, sym}
 use Rattle.rb_money.specs.Settings.{Settings}
 use Rattle.rb_ledger.proofs.Records
 use Rattle.rb_ledger.specs.Records.{records_of}
+use Rattle.rb_shadow.proofs.Members
 use Rattle.rb_shadow.specs.declared.shadow.Shadow.{Shadow}
 use Rattle.rbbank.proofs.tests.undo_all.Goals as goal
 
 -- lists with one more each are the same without it
 same_front : (us ws : List Shadow) (v w : Shadow) → us ++ v ∷ [] ≡ ws ++ w ∷ [] → ws ≡ us
-same_front [] [] v w e = refl
-same_front [] (b ∷ ws) v w e = absurd (omega (arith, ap length e, length-append ws (w ∷ [])))
-same_front (a ∷ us) [] v w e = absurd (omega (arith, ap length e, length-append us (v ∷ [])))
-same_front (a ∷ us) (b ∷ ws) v w e =
-    let heads : b ≡ a = cc in
-    let rest : us ++ v ∷ [] ≡ ws ++ w ∷ [] = cc in
-    ap (λ c. c ∷ ws) heads ∙ ap (λ zs. a ∷ zs) (same_front us ws v w rest)
+same_front us ws v w e = elim (Members.push_split us ws [] v w e) [
+  | inl (none, same, is) ↦ same
+  | inr (rest, none, is) ↦ absurd (Members.never_empty rest [] v (sym none))
+]
 
 pub undo-requires : goal.undo-requires
 undo-requires c =
