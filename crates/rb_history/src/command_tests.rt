@@ -16,57 +16,53 @@ fn submitted(alloc: Global, config: &Config, line: &str) -> Option<(u8, Request)
     }
 }
 
+fn deposit(account: Place, amount: u64) -> Request {
+    Request::Deposit { account, amount }
+}
+
+fn withdraw(account: Place, amount: u64) -> Request {
+    Request::Withdraw { account, amount }
+}
+
+fn interest(account: Place, rate: u32) -> Request {
+    Request::Interest { account, rate }
+}
+
+/// A cancellation of the red operation of a number.
+fn cancel(n: u32) -> Request {
+    Request::Cancel {
+        target: OpName::Red { n },
+    }
+}
+
 #[test]
 fn requests(rt: HostRuntime) -> Result<(), Fail> {
     let config = read_config(rt.alloc(), TWO_ACCOUNTS)?;
-    let ann = Place(0);
-    let bob = Place(1);
     for (line, site, request) in [
         (
             "{\"deposit\":[\"ann\",500],\"site\":0}",
             0,
-            Request::Deposit {
-                account: ann,
-                amount: 500,
-            },
+            deposit(Place(0), 500),
         ),
         (
             "{\"site\":1,\"withdraw\":[\"bob\",200]}",
             1,
-            Request::Withdraw {
-                account: bob,
-                amount: 200,
-            },
+            withdraw(Place(1), 200),
         ),
         (
             " { \"interest\" : [ \"bob\", 150 ], \"site\" : 0 } ",
             0,
-            Request::Interest {
-                account: bob,
-                rate: 150,
-            },
+            interest(Place(1), 150),
         ),
-        (
-            "{\"cancel\":\"R1\",\"site\":7}",
-            7,
-            Request::Cancel {
-                target: OpName::Red { n: 1 },
-            },
-        ),
+        ("{\"cancel\":\"R1\",\"site\":7}", 7, cancel(1)),
         (
             "{\"deposit\":[\"eve\",18446744073709551615],\"site\":255}",
             255,
-            Request::Deposit {
-                account: Place::NOWHERE,
-                amount: 18446744073709551615,
-            },
+            deposit(Place::NOWHERE, 18446744073709551615),
         ),
     ] {
-        assert_eq!(rt;
-            submitted(rt.alloc(), &config, line),
-            Some((site, request)),
-            "at {line}"
-        );
+        let read = submitted(rt.alloc(), &config, line);
+        assert_eq!(rt; read, Some((site, request)), "at {line}");
     }
     Ok(())
 }
@@ -86,21 +82,10 @@ fn batches(rt: HostRuntime) -> Result<(), Fail> {
         "{\"batch\":[{\"deposit\":[\"ann\",50]},{\"withdraw\":[\"bob\",80]},{\"interest\":[\"eve\",1]},{\"cancel\":\"R1\"}],\"site\":1}";
     let (site, asked) = batched(rt.alloc(), &config, line).ok_or("no batch")?;
     let requests = [
-        Request::Deposit {
-            account: Place(0),
-            amount: 50,
-        },
-        Request::Withdraw {
-            account: Place(1),
-            amount: 80,
-        },
-        Request::Interest {
-            account: Place::NOWHERE,
-            rate: 1,
-        },
-        Request::Cancel {
-            target: OpName::Red { n: 1 },
-        },
+        deposit(Place(0), 50),
+        withdraw(Place(1), 80),
+        interest(Place::NOWHERE, 1),
+        cancel(1),
     ];
     assert_eq!(rt; site, 1);
     assert_eq!(rt; asked.as_slice(), requests.as_slice());

@@ -289,12 +289,13 @@ impl Ledger {
         Ok(Undo::new(parts))
     }
 
-    /// Makes room for so many more operations.
+    /// Makes room for so many more operations. It takes no memory where there is room.
     pub fn reserve(&mut self, additional: usize) -> Result<(), AllocError>
         ensures settings { self.new.settings ≡ self.old.settings }
         ensures entries { self.new.entries ≡ self.old.entries }
         ensures ok { OnOk result (additional ≤ self.new.room) }
         ensures grows { self.old.room ≤ self.new.room }
+        ensures short { OnErr result (self.old.room < additional) }
         ensures err { OnErr result (self.new ≡ self.old) }
     {
         self.entries.reserve(additional)

@@ -38,11 +38,12 @@ impl UndoLog {
         self.undos.len()
     }
 
-    /// Makes room for so many more records.
+    /// Makes room for so many more records. It takes no memory where there is room.
     pub fn reserve(&mut self, additional: usize) -> Result<(), AllocError>
         ensures parts { self.new.parts ≡ self.old.parts }
         ensures ok { OnOk result (additional ≤ self.new.room) }
         ensures grows { self.old.room ≤ self.new.room }
+        ensures short { OnErr result (self.old.room < additional) }
         ensures err { OnErr result (self.new ≡ self.old) }
     {
         self.undos.reserve(additional)
