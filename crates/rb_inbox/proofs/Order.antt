@@ -1,10 +1,10 @@
 -- The order of the names, and lists in that order.
-use Rattle.std.proofs.Common.{◌≡◌, ◌≢◌, ℕ, suc, zero, ◌+◌, ◌<◌, ◌≤◌, Bool, true, false, cond, not, ◌&&◌, ◌||◌, List, [], ◌∷◌, ◌++◌, length, take, drop, refl, ap, sym, ◌∙◌, arith, ◌⊎◌, inl, inr, subst, get_or}
-use Rattle.std.specs.Prelude.{nat_lt, ◌==◌, Option, Some, None, slice_get, find, filter, insert, remove}
+use Rattle.std.proofs.Common.{◌≡◌, ℕ, suc, zero, ◌+◌, ◌<◌, ◌≤◌, Bool, true, false, cond, not, List, [], ◌∷◌, length, drop, refl, ap, sym, ◌∙◌, arith, ◌⊎◌, inl, inr, subst, get_or}
+use Rattle.std.specs.Prelude.{nat_lt, Some, None, filter, insert, remove}
 use Rattle.std.specs.List.Sorted.{IsPartitionedBy, IsPartitionPoint}
 use Rattle.std.proofs.lemmas.Bool.Decides.{nat_tests}
 use Rattle.std.proofs.lemmas.List.{drop_all, drop_more}
-use Rattle.rb_shadow.specs.Operations.{Among, find_in, names, same_name}
+use Rattle.rb_shadow.specs.Operations.{Among, find_in, same_name}
 use Rattle.rb_shadow.specs.declared.op_name.OpName.{OpName}
 use Rattle.rb_shadow.specs.declared.op_name.OpName.TheVariants.{Blue, Red}
 use Rattle.rb_shadow.specs.declared.shadow.Shadow.{Shadow}

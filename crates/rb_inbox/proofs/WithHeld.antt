@@ -1,10 +1,9 @@
 -- The list with an operation more, and without one.
 use Rattle.std.proofs.Common.{◌≡◌, ◌+◌, Bool, true, false, cond, not, List, [], ◌∷◌, length, refl, ap, ◌∙◌, arith, ◌⊎◌, inl, inr}
-use Rattle.std.specs.Prelude.{Option, Some, None}
+use Rattle.std.specs.Prelude.{Some, None}
 use Rattle.rb_shadow.specs.Operations.{Among, find_in, same_name}
 use Rattle.rb_shadow.specs.declared.op_name.OpName.{OpName}
 use Rattle.rb_shadow.specs.declared.shadow.Shadow.{Shadow}
-use Rattle.rb_shadow.proofs.Members
 use Rattle.rb_inbox.specs.Held.{stands_before, with_held, without}
 
 pub Among-with_held : (v : Shadow) (us : List Shadow) (u : Shadow) → Among u (with_held v us) → (u ≡ v) ⊎ Among u us

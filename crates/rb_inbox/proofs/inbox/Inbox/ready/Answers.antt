@@ -1,7 +1,6 @@
-use Rattle.std.proofs.Common.{rules, arith, ◌≡◌, ◌∙◌, ap, sym, subst, ◌≤◌, ◌<◌, length}
+use Rattle.std.proofs.Common.{rules, arith, ◌∙◌, ap, sym, subst}
 use Rattle.std.proofs.lemmas.List.{get_or_default}
 use Rattle.rb_shadow.specs.Operations.{past, Among}
-use Rattle.rb_shadow.specs.declared.shadow.Shadow.{Shadow}
 use Rattle.rb_inbox.specs.Held.{Holding, IsInOrder, IsReady}
 use Rattle.rb_inbox.proofs.Order.{Among-end, Among-more, find-at}
 use Rattle.rb_inbox.proofs.inbox.Inbox.ready.Goals as goal

@@ -1,4 +1,4 @@
-use Rattle.std.proofs.Common.{rules, arith, ◌≡◌, ◌∙◌, ap, sym, subst, ◌<◌, length, None, Some, not}
+use Rattle.std.proofs.Common.{arith, ◌≡◌, ◌∙◌, ap, sym, subst, length, Some, not}
 use Rattle.std.specs.Prelude.{remove}
 use Rattle.rb_shadow.specs.Operations.{find_in, same_name}
 use Rattle.rb_shadow.specs.declared.shadow.Shadow.{Shadow}
