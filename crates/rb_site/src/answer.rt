@@ -4,8 +4,8 @@ ghost use Rattle.std.specs.Prelude.{◌∷◌, [], IfOk};
 use crate::{Message, Reply};
 use std::alloc::{AllocError, Global};
 
-/// A reply, the same once more for the history, and what is sent with it. A handler has its answer
-/// before it changes anything, so that want of memory leaves the site as it was.
+/// A reply, the same once more for the history, and what is sent with it. A handler has its answer, or
+/// the room for it, before it changes anything, so that want of memory leaves the site as it was.
 #[derive(Debug, Drop)]
 pub struct Answer {
     pub reply: Reply,

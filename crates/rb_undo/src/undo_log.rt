@@ -6,7 +6,7 @@ use std::alloc::{AllocError, Global};
 use std::marker::Model;
 
 /// Undo records in order, each of which is still to be spent or sealed. A log can't be dropped
-/// either: it is closed, or its records are taken out.
+/// either: it is closed, or appended to another.
 pub struct UndoLog {
     undos: Vec<Undo>,
 }

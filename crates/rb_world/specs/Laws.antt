@@ -49,7 +49,7 @@ SitesAgree s w = EachSite w (λ i t. EachSite w (λ j u. AreSame (names t.ops) (
 abbrev pub HasFunds : Settings → World → Type 0
 HasFunds s w = (vs : List Shadow) → IsPart vs (made_in w) → IsUnique vs → IsClosed vs → (a : Place) → IsFunded s (made_in w) vs a
 
--- each site's list is valid: a ledger may hold it, whose last operations are undone exactly
+-- each site's list is valid, so that a ledger may hold it
 abbrev pub HasValidLists : Settings → World → Type 0
 HasValidLists s w = EachSite w (λ i t. IsValid s t.ops)
 

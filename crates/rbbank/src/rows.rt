@@ -7,7 +7,7 @@ pub struct Row {
     pub replies: &'static str,
 }
 
-/// Each row whose verbs are there.
+/// The rows.
 pub const ROWS: [Row; 20] = [
     Row {
         name: "deposit_reaches_the_other_site",
