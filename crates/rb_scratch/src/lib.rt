@@ -18,7 +18,7 @@ mod tests;
 
 pub use generator::generate;
 pub use plan::{CancelPlan, cancel_of};
-pub use request::Request;
+pub use request::{MOST_REQUESTS, Request};
 pub use run_fault::RunFault;
 pub use scratch::Scratch;
 

@@ -3,11 +3,18 @@
 use rb_money::Place;
 use rb_shadow::OpName;
 
-/// What a teller asks for.
+/// The most requests of a batch.
+pub const MOST_REQUESTS: usize = 16;
+
+/// What a teller asks for. Any numbers may be asked for: what is out of range is refused.
 #[derive(Clone, Copy, Debug, PartialEq, Eq)]
 pub enum Request {
+    /// To add an amount in cents, 1 to 100,000,000,000.
     Deposit { account: Place, amount: u64 },
+    /// To take an amount in cents, 1 to 100,000,000,000; it is declined where the balance is less.
     Withdraw { account: Place, amount: u64 },
+    /// To add the balance's share, a rate in basis points from 1 to 10,000, rounded down.
     Interest { account: Place, rate: u32 },
+    /// To undo what an operation did, a deposit, a withdrawal or interest.
     Cancel { target: OpName },
 }

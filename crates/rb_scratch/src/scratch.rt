@@ -9,7 +9,7 @@ ghost use Rattle.rb_scratch.specs.Batches.{made_in_batch};
 ghost use Rattle.rb_scratch.specs.Tried.{IsTried, IsOfTheLast, IsAdded, IsFault, RestsIfOk};
 
 use crate::in_batch::generate_in_batch;
-use crate::request::Request;
+use crate::request::{MOST_REQUESTS, Request};
 use crate::run_fault::RunFault;
 use rb_ledger::Ledger;
 use rb_money::Refusal;
@@ -17,9 +17,6 @@ use rb_shadow::{OpName, Shadow};
 use rb_token::TokenView;
 use rb_undo::UndoLog;
 use std::alloc::{AllocError, Global};
-
-/// The most requests of a batch.
-const MOST_REQUESTS: usize = 16;
 
 /// A ledger on which requests are tried, to be kept all or not at all: it must be spent by `commit` or
 /// `abort`. It has the ledger alone meanwhile. That its records are those of the ledger's last entries
