@@ -13,7 +13,7 @@ pub enum Request {
     Deposit { account: Place, amount: u64 },
     /// To take an amount in cents, 1 to 100,000,000,000; it is declined where the balance is less.
     Withdraw { account: Place, amount: u64 },
-    /// To add the balance's share, a rate in basis points from 1 to 10,000, rounded down.
+    /// To add a share of the balance, rounded down: a rate of 0 to 10,000 basis points.
     Interest { account: Place, rate: u32 },
     /// To undo what an operation did, a deposit, a withdrawal or interest.
     Cancel { target: OpName },
