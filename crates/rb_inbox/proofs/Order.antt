@@ -9,6 +9,7 @@ use Rattle.rb_shadow.specs.declared.op_name.OpName.{OpName}
 use Rattle.rb_shadow.specs.declared.op_name.OpName.TheVariants.{Blue, Red}
 use Rattle.rb_shadow.specs.declared.shadow.Shadow.{Shadow}
 use Rattle.rb_shadow.proofs.Members
+use Rattle.rb_shadow.proofs.Lookups
 use Rattle.rb_inbox.specs.Held.{Holding, IsInOrder, StandsBeforeAll, place_in, stands_before, with_held, without}
 
 pub before-trans : (x y z : OpName) → stands_before x y ≡ true → stands_before y z ≡ true → stands_before x z ≡ true
@@ -202,22 +203,9 @@ Among-find (w ∷ us) u h (inr a) =
     before_all-among x (v ∷ us) u h (inl e) = ap (λ (w : Shadow). stands_before x w.name) e ∙ h.0
     before_all-among x (v ∷ us) u h (inr a) = before_all-among x us u h.1 a
 
-pub find-Among : (us : List Shadow) (x : OpName) (u : Shadow) → find_in us x ≡ Some u → Among u us × (u.name ≡ x)
-find-Among [] x u e = absurd (cc)
-find-Among (w ∷ us) x u e = at (same_name w.name x) refl e (find-Among us x u)
-  where
-    at : (b : Bool) → same_name w.name x ≡ b → cond b (Some w) (find_in us x) ≡ Some u → (find_in us x ≡ Some u → Among u us × (u.name ≡ x)) → Among u (w ∷ us) × (u.name ≡ x)
-    at true q e rest = let same : w ≡ u = cc in (inl (sym same), ap (λ (v : Shadow). v.name) (sym same) ∙ Members.same_name-true w.name x q)
-    at false q e rest = (inr (rest e).0, (rest e).1)
-
-Among-at : (us : List Shadow) (i : ℕ) (d : Shadow) → i < length us → Among (get_or us i d) us
-Among-at [] i d l = absurd (omega arith)
-Among-at (u ∷ us) zero d l = inl refl
-Among-at (u ∷ us) (suc i) d l = inr (Among-at us i d (omega arith))
-
 -- what stands at a place is what is held under its name
 pub find-at : (held us : List Shadow) (i : ℕ) (d : Shadow) → us ≡ held → IsInOrder us → i < length us → find_in held (get_or us i d).name ≡ Some (get_or us i d)
-find-at held us i d e h l = ap (λ (ws : List Shadow). find_in ws (get_or us i d).name) (sym e) ∙ Among-find us (get_or us i d) h (Among-at us i d l)
+find-at held us i d e h l = ap (λ (ws : List Shadow). find_in ws (get_or us i d).name) (sym e) ∙ Among-find us (get_or us i d) h (Lookups.Among-index us i d l)
 
 -- what is among the rest, and isn't the first of it, is among what is left after that
 pub Among-more : (us : List Shadow) (i : ℕ) (d u : Shadow) → i < length us → Among u (drop i us) → (u ≡ get_or us i d → ⊥) → Among u (drop (i + 1) us)

@@ -17,6 +17,7 @@ use Rattle.rb_shadow.specs.declared.colour.Colour.TheVariants.{Blue as BlueColou
 use Rattle.rb_shadow.specs.Operations.{Among, same_name, names, past, IsUnique, IsWithin, EachEntry, bal, is_cancelled, cancels, find_in, same_shadow, is_eligible, shown_colour, colour_in}
 use Rattle.rb_shadow.specs.Sound.{fault_in, IsSound}
 use Rattle.rb_shadow.proofs.Members
+use Rattle.rb_shadow.proofs.Lookups
 use Rattle.rb_shadow.proofs.Balances
 use Rattle.rb_shadow.proofs.Eligible
 use Rattle.rb_ledger.specs.Valid.{HasTarget, IsValid}
@@ -168,17 +169,6 @@ pub not_negative : (z : ℤ) → pos 0 ≤ℤ z → is_negative z ≡ false
 not_negative (pos n) h = refl
 not_negative (negsuc n) h = absurd (omega (arith, ints, h))
 
-pub found : (us : List Shadow) (x : OpName) (t : Shadow) → find_in us x ≡ Some t → Among t us × (t.name ≡ x)
-found [] x t h = cc
-found (u ∷ us) x t h = at (Members.bool_cases (same_name u.name x)) (found us x t)
-  where
-    at : (same_name u.name x ≡ true) ⊎ (same_name u.name x ≡ false) → (find_in us x ≡ Some t → Among t us × (t.name ≡ x)) → Among t (u ∷ us) × (t.name ≡ x)
-    at (inl e) more = let same : u ≡ t = some_same (sym (ap (λ b. cond b (Some u) (find_in us x)) e) ∙ h) in (inl (sym same), ap (λ (w : Shadow). w.name) (sym same) ∙ Members.same_name-true u.name x e)
-      where
-        some_same : Some u ≡ Some t → u ≡ t
-        some_same e = cc
-    at (inr e) more = let (there, is) = more (sym (ap (λ b. cond b (Some u) (find_in us x)) e) ∙ h) in (inr there, is)
-
 pub finds : (us : List Shadow) (t : Shadow) → IsUnique us → Among t us → find_in us t.name ≡ Some t
 finds [] t unique h = elim h [ ]
 finds (u ∷ us) t unique (inl e) = ap (λ (w : Shadow). cond (same_name w.name t.name) (Some w) (find_in us t.name)) (sym e) ∙ ap (λ b. cond b (Some t) (find_in us t.name)) (Members.same_name-refl t.name)
@@ -187,7 +177,7 @@ finds (u ∷ us) t unique (inr h) = ap (λ b. cond b (Some u) (find_in us t.name
 right_target : (us : List Shadow) (h : Shadow) (x : OpName) (o : Option Shadow) → find_in us x ≡ o → is_wrong_target h o ≡ false → HasTarget us h (Cancel x)
 right_target us h x None is e = cc
 right_target us h x (Some t) is e =
-    let (there, named) = found us x t is in
+    let (there, named) = Lookups.found us x t is in
     let (first, third) = Members.or-false _ _ e in
     let (one, two) = Members.or-false _ _ first in (
       t,
@@ -261,19 +251,11 @@ follows_may s us h unique may =
     ∙ refused_by_none _ _ _ _ _ _ _ _ _ _ _ _ may.fresh (Eligible.eligible_from us h may.eligible) (no_wrong_target us h h.kind unique may.target)
     (ap (λ c. same_colour c (colour_in us h)) may.colour ∙ same_colour-refl (colour_in us h)) (Members.false-or _ _ (not_negative _ may.covered) refl)
 
-unnamed : (us : List Shadow) (x : OpName) → find_in us x ≡ None → names us x ≡ false
-unnamed [] x e = refl
-unnamed (u ∷ us) x e = at (same_name u.name x) (unnamed us x) e
-  where
-    at : (b : Bool) → (find_in us x ≡ None → names us x ≡ false) → cond b (Some u) (find_in us x) ≡ None → (b || names us x) ≡ false
-    at true rest e = cc
-    at false rest e = rest e
-
 pub is_new : (us vs : List Shadow) (x : OpName) → vs ≡ us → None ≡ find_in vs x → names us x ≡ false
-is_new us vs x here none = unnamed us x (ap (λ ws. find_in ws x) (sym here) ∙ sym none)
+is_new us vs x here none = Lookups.unnamed us x (ap (λ ws. find_in ws x) (sym here) ∙ sym none)
 
 is_named : (us : List Shadow) (x : OpName) (t : Shadow) → find_in us x ≡ Some t → names us x ≡ true
-is_named us x t e = let (there, is) = found us x t e in ap (names us) (sym is) ∙ Members.named us t there
+is_named us x t e = let (there, is) = Lookups.found us x t e in ap (names us) (sym is) ∙ Members.named us t there
 
 -- what is refused whose name was applied
 pub refused_named : (s : Settings) (us vs : List Shadow) (h t : Shadow) (b : Bool) → vs ≡ us → Some t ≡ find_in vs h.name → b ≡ same_shadow t h → cond b (Some NotReady) (Some Conflict) ≡ refusal_of_sound s us h

@@ -13,6 +13,7 @@ use Rattle.rb_shadow.proofs.Members
 use Rattle.rb_shadow.proofs.Clocks
 use Rattle.rb_shadow.proofs.SoundFacts
 use Rattle.rb_shadow.specs.declared.deps.Deps.{Deps}
+use Rattle.rb_shadow.proofs.Lookups
 use Rattle.rb_ledger.specs.Valid.{IsValid}
 use Rattle.rb_ledger.specs.Book.{IsKept}
 use Rattle.rb_ledger.proofs.ValidClocks
@@ -96,14 +97,9 @@ valid_length s us configured valid =
     reds : red_count us ≤ 1000000
     reds = omega (arith, ValidClocks.within_limit s us (Red (red_count us)) valid refl, configured.red.1)
 
-Among-index : (us : List Shadow) (k : ℕ) (d : Shadow) → k < length us → Among (get_or us k d) us
-Among-index [] k d h = absurd (omega arith)
-Among-index (v ∷ us) zero d h = inl refl
-Among-index (v ∷ us) (suc k) d h = inr (Among-index us k d (omega arith))
-
 -- each amount of a valid list is small
 pub valid_amounts : (s : Settings) (us : List Shadow) → IsValid s us → All (λ u. u.amount ≤ 100000000000) us
-valid_amounts s us valid k d h = low (get_or us k d).amount (ValidClocks.member_sound s us (get_or us k d) valid (Among-index us k d h)).amount
+valid_amounts s us valid k d h = low (get_or us k d).amount (ValidClocks.member_sound s us (get_or us k d) valid (Lookups.Among-index us k d h)).amount
   where
     low : (n : ℕ) → nat_lt 100000000000 n ≡ false → n ≤ 100000000000
     low n e = grind (arith, nat_tests)

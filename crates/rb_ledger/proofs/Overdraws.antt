@@ -4,7 +4,6 @@ use Rattle.std.specs.Prelude.{ℤ, pos, negsuc, ◌+ℤ◌, nat_lt, nat_le, ◌=
 use Rattle.std.proofs.lemmas.Int.{ints}
 use Rattle.std.proofs.lemmas.Bool.Decides.{nat_tests}
 use Rattle.rb_money.specs.Settings.{Settings}
-use Rattle.rb_money.specs.Amounts.{cents}
 use Rattle.rb_shadow.specs.declared.shadow.Shadow.{Shadow}
 use Rattle.rb_shadow.specs.declared.op_name.OpName.{OpName}
 use Rattle.rb_shadow.specs.declared.deps.Deps.{Deps}
@@ -57,9 +56,6 @@ pub kept_seen : (s : Settings) (us : List Shadow) (n : ℕ) (c : Deps) (b : Book
 kept_seen s us n c b kept e = subst (λ (b : Book). IsKept b.settings b.entries c) e kept
 
 -- ---- the parts of a record
-
-pub cents_of : (n : ℕ) (z : ℤ) → pos n ≡ z → n ≡ cents z
-cents_of n z e = ap cents e
 
 pub position_or_none : (us : List Shadow) (x : OpName) → unwrap_or (find_position us x) 0 ≡ position_from 1 us x
 position_or_none us x = at (names us x) (λ e. absent 1 us e)

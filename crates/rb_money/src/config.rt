@@ -61,7 +61,7 @@ impl Config {
         }
     }
 
-    /// An equal configuration.
+    /// An equal configuration. `Err` is want of memory.
     pub fn try_copy(&self, alloc: Global) -> Result<Config, AllocError>
         ensures same { IfOk result (λ config. config ≡ self.now) }
         ensures configured { IfOk result IsConfigured }

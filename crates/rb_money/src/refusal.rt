@@ -11,36 +11,60 @@ pub enum Cause {
 /// Why a request or a message was refused.
 #[derive(Clone, Copy, Debug, PartialEq, Eq)]
 pub enum Refusal {
+    /// There was no memory for it.
     OutOfMemory,
+    /// The configuration has no such account.
     UnknownAccount,
+    /// The amount isn't 1 to 100,000,000,000 cents.
     BadAmount,
+    /// The rate is over 10,000 basis points.
     BadRate,
+    /// The operation to cancel isn't applied here.
     UnknownOperation,
+    /// It is a declined withdrawal or a cancellation.
     NotCancellable,
+    /// It is cancelled already, first by the operation at this position, from 1.
     AlreadyCancelled { position: u32 },
+    /// The operation numbers of its colour, or the epochs, are used up.
     NumbersExhausted,
+    /// It would be red, and the site hasn't the token.
     NeedToken,
+    /// The site has the token, but applied only `seen` of the `needed` red operations.
     RedBehind { seen: u32, needed: u32 },
+    /// It would leave a balance below zero.
     WouldOverdraw,
+    /// The interest would be over 100,000,000,000 cents.
     DeltaTooLarge,
+    /// The batch has no request, or more than 16.
     BadBatch,
+    /// A request of the batch, by its index from 0, and what stopped it.
     BatchRefused { index: u8, cause: Cause },
+    /// Nothing is held under the name.
     NotHeld,
+    /// Its past isn't applied here yet.
     NotReady,
+    /// The inbox is full, and the operation isn't ready.
     InboxFull,
+    /// No site made such a message; `why` is 1 to 7.
     BadMessage { why: u8 },
+    /// Another operation has the name.
     Conflict,
+    /// No message has the number.
     NoMessage,
+    /// There is no such site, or the token would go to the site that has it.
     NoSite,
+    /// The token message is for another site.
     NotYours,
+    /// The position is beyond the operations that the site applied.
     PositionBeyond,
+    /// The site's history is full.
     HistoryFull,
 }
 
 impl Refusal {
     ghost use Rattle.rb_money.specs.Refusals.{number_of_refusal};
 
-    /// The number by which lines name the refusal.
+    /// The number by which lines name the refusal: 1 to 23, and 0 for want of memory, which no line tells.
     pub fn number(&self) -> u8
         ensures { result ≡ number_of_refusal self.now }
     {

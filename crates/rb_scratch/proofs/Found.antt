@@ -8,11 +8,11 @@ use Rattle.rb_shadow.specs.Operations.{same_name, names, find_in, kind_in}
 use Rattle.rb_shadow.proofs.Members
 use Rattle.rb_shadow.specs.Operations.{may_be_cancelled, is_cancelled}
 use Rattle.rb_shadow.specs.declared.kind.Kind.TheVariants.{Cancel}
+use Rattle.rb_shadow.proofs.Lookups
 use Rattle.rb_money.specs.declared.refusal.Refusal.{Refusal}
 use Rattle.rb_money.specs.declared.refusal.Refusal.TheVariants.{UnknownOperation, NotCancellable, AlreadyCancelled}
 use Rattle.rb_money.specs.Refusals.{refused_if}
 use Rattle.rb_ledger.specs.Valid.{entry_at, find_position, first_cancel_in, position_from, first_cancel_from}
-use Rattle.rb_ledger.proofs.Legal
 use Rattle.rb_scratch.specs.Requests.{Plan, plan_of_cancel}
 
 -- what isn't named isn't found
@@ -69,20 +69,11 @@ at_position us x p h = at (names us x) refl h
         subst (λ n. entry_at us n ≡ find_in us x) is (ap (λ b. cond b None (slice_get us (position_from 1 us x - 1))) (positive (position_from 1 us x) q.0) ∙ q.1)
     at false e h = cc
 
--- a name that stands there is found
-found_named : (us : List Shadow) (x : OpName) → names us x ≡ true → (t : Shadow) × (find_in us x ≡ Some t)
-found_named [] x h = cc
-found_named (u ∷ us) x h = at (same_name u.name x) h (found_named us x)
-  where
-    at : (b : Bool) → (b || names us x) ≡ true → (names us x ≡ true → (t : Shadow) × (find_in us x ≡ Some t)) → (t : Shadow) × (cond b (Some u) (find_in us x) ≡ Some t)
-    at true h more = (u, refl)
-    at false h more = more h
-
 pub found_there : (us : List Shadow) (x : OpName) (p : ℕ) → find_position us x ≡ Some p → (t : Shadow) × (find_in us x ≡ Some t)
 found_there us x p h = at (names us x) refl h
   where
     at : (b : Bool) → names us x ≡ b → cond b (Some (position_from 1 us x)) None ≡ Some p → (t : Shadow) × (find_in us x ≡ Some t)
-    at true e h = found_named us x e
+    at true e h = Lookups.found_named us x e
     at false e h = cc
 
 -- ---- the plan of a request to cancel what is found
@@ -120,7 +111,7 @@ readable us x p r at copied = let (t, found) = found_there us x p at in some r t
     some (Some b) t h = search rules
 
 first_cancel : (us : List Shadow) (x : OpName) (p : ℕ) (t : Shadow) (o : Option ℕ) → IsFound us x p t → o ≡ option_and_then (λ (u : Shadow). first_cancel_in us u.name) (entry_at us p) → o ≡ first_cancel_in us x
-first_cancel us x p t o is e = e ∙ ap (option_and_then (λ (u : Shadow). first_cancel_in us u.name)) is.entry ∙ ap (first_cancel_in us) (Legal.found us x t is.found).1
+first_cancel us x p t o is e = e ∙ ap (option_and_then (λ (u : Shadow). first_cancel_in us u.name)) is.entry ∙ ap (first_cancel_in us) (Lookups.found us x t is.found).1
 
 pub cancelled_at : (us : List Shadow) (x : OpName) (p : ℕ) (t : Shadow) (o : Option ℕ) (n : ℕ) → IsFound us x p t → may_be_cancelled t.kind ≡ true
     → o ≡ option_and_then (λ (u : Shadow). first_cancel_in us u.name) (entry_at us p) → o ≡ Some n → plan_of_cancel us x (find_in us x) ≡ Err (AlreadyCancelled n)

@@ -35,9 +35,6 @@ plain_in_batch s me us token r b e is = at (plan_of s us r) (sym e ∙ is)
 
 -- ---- a batch, request by request
 
-first_is : (v : Shadow) (vs ws : List Shadow) (q : Result (List Shadow) Refusal) → q ≡ Ok vs → with_first v q ≡ Ok (v ∷ vs)
-first_is v vs ws q e = ap (with_first v) e
-
 -- what a batch makes is what its first request makes and what the rest makes after that
 batch_cases : (s : Settings) (me : ℕ) (us : List Shadow) (token : Token) (index : ℕ) (r : Request) (rs : List Request) (vs : List Shadow) → batch_of s me us token index (r ∷ rs) ≡ Ok vs
     → (v : Shadow) × (ws : List Shadow) × (made_in_batch s me us token r ≡ Ok v) × (batch_of s me (us ++ v ∷ []) token (index + 1) rs ≡ Ok ws) × (vs ≡ v ∷ ws)

@@ -9,11 +9,11 @@ use Rattle.rb_shadow.specs.declared.kind.Kind.{Kind}
 use Rattle.rb_shadow.specs.declared.kind.Kind.TheVariants.{Deposit, Withdraw, Declined, Interest, Cancel}
 use Rattle.rb_shadow.specs.declared.shadow.Shadow.{Shadow}
 use Rattle.rb_shadow.specs.Operations.{Among, bal, find_in, is_cancelled, may_be_cancelled}
+use Rattle.rb_shadow.proofs.Lookups
 use Rattle.rb_scratch.specs.declared.request.Request.{Request}
 use Rattle.rb_scratch.specs.declared.request.Request.TheVariants.{Deposit as AskDeposit, Withdraw as AskWithdraw, Interest as AskInterest, Cancel as AskCancel}
 use Rattle.rb_scratch.specs.Requests.{Plan, interest_on, plan_of, plan_of_cancel}
 use Rattle.rb_money.specs.Amounts.{is_amount}
-use Rattle.rb_ledger.proofs.Legal
 use Rattle.rb_scratch.proofs.Made.{passed_by, not_true}
 
 pub record IsFor (s : Settings) (p : Plan) : Type 0 where
@@ -49,7 +49,7 @@ planned_cancel s us x None p found e = cc
 planned_cancel s us x (Some t) p found e =
     let (a, e1) = passed_by (not (may_be_cancelled t.kind)) _ _ p e in
     let (b, e2) = passed_by (is_cancelled us x) _ _ p e1 in
-    let f : Among t us × (t.name ≡ x) = Legal.found us x t found in
+    let f : Among t us × (t.name ≡ x) = Lookups.found us x t found in
     subst (λ (q : Plan). IsPlanned s us q q.kind) (at_ok p _ e2) (record { target = t; there = f.0; named = f.1; kind = not_true _ a; account = refl; amount = refl; free = b })
 
 planned_withdraw : (s : Settings) (us : List Shadow) (a : Place) (n : ℕ) (b : Bool) → int_lt (bal s us a) (pos n) ≡ b → is_account s a ≡ true → is_amount n ≡ true → IsPlanned s us (record { account = a; amount = n; kind = cond b Declined Withdraw }) (cond b Declined Withdraw)

@@ -17,10 +17,6 @@ use Rattle.rb_ledger.proofs.Legal
 use Rattle.rb_ledger.proofs.Records
 use Rattle.rb_scratch.specs.Tried.{IsTried, IsAdded}
 
--- nothing is tried at the start
-pub tried_none : (book : Book) (records : List UndoParts) → records ≡ [] → IsTried book.entries [] book records
-tried_none book records e = record { entries = sym (append-nil book.entries); records = e }
-
 -- there are as many records as operations
 pub tried_length : (base made : List Shadow) (book : Book) (records : List UndoParts) → IsTried base made book records → length records ≡ length made
 tried_length base made book records tried = ap length tried.records ∙ Records.logged-length book.settings base made

@@ -1,6 +1,6 @@
 //! Plans to cancel.
 ghost use Rattle.std.specs.Prelude.{◌≡◌, IfOk, IfErr, Ok, Err};
-ghost use Rattle.rb_shadow.specs.Operations.{colour_of, find_in, kind_in, may_be_cancelled};
+ghost use Rattle.rb_shadow.specs.Operations.{colour_of, find_in, kind_in};
 ghost use Rattle.rb_scratch.specs.Requests.{plan_of_cancel};
 
 use rb_ledger::Ledger;
@@ -14,15 +14,6 @@ pub struct CancelPlan {
     pub account: Place,
     pub amount: u64,
     pub colour: Colour,
-}
-
-fn can_be_cancelled(kind: Kind) -> bool
-    ensures { result ≡ may_be_cancelled kind }
-{
-    match kind {
-        Kind::Deposit | Kind::Withdraw | Kind::Interest => true,
-        Kind::Declined | Kind::Cancel { .. } => false,
-    }
 }
 
 /// What cancelling the operation of this name would do at this ledger.
@@ -39,7 +30,7 @@ pub fn cancel_of(ledger: &Ledger, target: OpName) -> Result<CancelPlan, Refusal>
         return Err(Refusal::UnknownOperation);
     };
     let found = ledger.entry(position).unwrap();
-    if !can_be_cancelled(found.kind) {
+    if !found.kind.may_be_cancelled() {
         return Err(Refusal::NotCancellable);
     }
     if let Some(position) = ledger.first_cancel(position) {

@@ -1,5 +1,5 @@
 //! Requests that are tried together.
-ghost use Rattle.std.specs.Prelude.{◌≡◌, ◌≤◌, ◌<◌, ◌++◌, ◌∷◌, [], ◌⊎◌, List, length, IfOk, IfErr, OnOk, OnErr};
+ghost use Rattle.std.specs.Prelude.{◌≡◌, ◌+◌, ◌≤◌, ◌<◌, ◌++◌, [], List, length, IfOk, IfErr, OnOk, OnErr};
 ghost use Rattle.std.specs.Borrow.{sem};
 ghost use Rattle.rb_shadow.specs.declared.shadow.Shadow.{Shadow as TheShadow};
 ghost use Rattle.rb_ledger.specs.contracts.ledger.Ledger.{the_row};
@@ -33,6 +33,7 @@ fn undo_all(ledger: &mut Ledger, undos: UndoLog)
     requires { IsOfTheLast ledger.old undos.parts }
     ensures settings { ledger.new.settings ≡ ledger.old.settings }
     ensures entries { (base made : List TheShadow) → IsTried base made ledger.old undos.parts → ledger.new.entries ≡ base }
+    ensures room { ledger.new.room ≡ ledger.old.room + length undos.parts }
 {
     let mut undos = undos;
     'undos: while let Some(undo) = undos.pop() {
@@ -131,7 +132,7 @@ impl<'a> Scratch<'a, UndoLog> {
     }
 
     /// Keeps what was run: gives the shadows in order, and puts their records at the log's end. For
-    /// want of memory nothing changes, and the scratch comes back.
+    /// want of memory the scratch comes back, and nothing changes but that the log may have more room.
     pub fn commit(self, log: &mut UndoLog) -> Result<Vec<Shadow>, Scratch<'a, UndoLog>>
         requires { IsOfTheLast self.ledger.now self.undos.parts }
         ensures* ledger { sem 𝓛 (RestsIfOk the_row self.entry.ledger (λ scratch. scratch.ledger.ghost_name) result (λ book. book ≡ self.entry.ledger.now)) }
@@ -139,6 +140,7 @@ impl<'a> Scratch<'a, UndoLog> {
         ensures log { OnOk result (log.new.parts ≡ log.old.parts ++ self.entry.undos.parts) }
         ensures back { IfErr result (λ back. (back.ledger.ghost_name ≡ self.entry.ledger.ghost_name) × (back.ledger.now ≡ self.entry.ledger.now) × (back.token ≡ self.entry.token) × (back.undos ≡ self.entry.undos)) }
         ensures unchanged { OnErr result (log.new.parts ≡ log.old.parts) }
+        ensures grows { OnErr result (log.old.room ≤ log.new.room) }
     {
         let Scratch {
             ledger,
@@ -160,11 +162,12 @@ impl<'a> Scratch<'a, UndoLog> {
         }
     }
 
-    /// Takes back what was run: the ledger's list is that at the opening.
+    /// Takes back what was run: the ledger's list is that at the opening, and the room stays.
     pub fn abort(self)
         requires { IsOfTheLast self.ledger.now self.undos.parts }
         ensures settings { self.exit.0.now.settings ≡ self.entry.ledger.now.settings }
         ensures entries { (base made : List TheShadow) → IsTried base made self.entry.ledger.now self.entry.undos.parts → self.exit.0.now.entries ≡ base }
+        ensures room { self.exit.0.now.room ≡ self.entry.ledger.now.room + length self.entry.undos.parts }
     {
         let Scratch {
             ledger,
@@ -186,6 +189,7 @@ fn kept(
     requires { IsOfTheLast ledger.now undos.now.parts }
     ensures shadows { IfOk result (λ shadows. (base made : List TheShadow) → IsTried base made ledger.now undos.now.parts → shadows.items ≡ made) }
     ensures parts { log.new.parts ≡ log.old.parts }
+    ensures grows { log.old.room ≤ log.new.room }
     ensures room { OnOk result (length undos.now.parts ≤ log.new.room) }
 {
     log.reserve(undos.len())?;

@@ -6,7 +6,7 @@ ghost use Rattle.rb_shadow.specs.Sound.{are_entries, is_clock};
 use crate::OpName;
 use rb_money::{Limits, MOST_SITES};
 
-/// How many of each site's blue operations, and how many red ones.
+/// How many of each site's blue operations, by the site's number, and how many red ones.
 #[derive(Clone, Copy, Debug, PartialEq, Eq)]
 pub struct Deps {
     pub blue: [u32; MOST_SITES],

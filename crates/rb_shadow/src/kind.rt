@@ -1,6 +1,6 @@
 //! Kinds of operations.
 ghost use Rattle.std.specs.Prelude.{◌≡◌};
-ghost use Rattle.rb_shadow.specs.Operations.{colour_of};
+ghost use Rattle.rb_shadow.specs.Operations.{colour_of, may_be_cancelled};
 ghost use Rattle.rb_shadow.specs.Labels.{label_of};
 ghost use Rattle.rb_shadow.specs.Sound.{cancels_unseen, is_miscoloured, may_be_nothing};
 
@@ -9,17 +9,22 @@ use crate::{Colour, Deps, Label, OpName};
 /// What an operation does.
 #[derive(Clone, Copy, Debug, PartialEq, Eq)]
 pub enum Kind {
+    /// Adds its amount.
     Deposit,
+    /// Takes its amount.
     Withdraw,
+    /// A withdrawal that wasn't covered: it moves nothing.
     Declined,
+    /// Adds its amount, which its home worked out from the balance.
     Interest,
+    /// Undoes what its target did.
     Cancel { target: OpName },
 }
 
 impl Kind {
     /// The colour of an operation of this kind, whose target, if it cancels one, is of the second kind.
     ///
-    /// After "The Banking Example" of the published paper: what could break "no balance is
+    /// After "What can be blue? What must be red?" of the published paper: what could break "no balance is
     /// negative" is red.
     pub fn colour(self, target: Option<Kind>) -> Colour
         ensures { result ≡ colour_of self target }
@@ -44,6 +49,16 @@ impl Kind {
             Kind::Declined => Label::Declined,
             Kind::Interest => Label::Interest,
             Kind::Cancel { .. } => Label::Cancel,
+        }
+    }
+
+    /// Whether an operation of this kind may be cancelled: a deposit, a withdrawal or interest.
+    pub fn may_be_cancelled(self) -> bool
+        ensures { result ≡ may_be_cancelled self }
+    {
+        match self {
+            Kind::Deposit | Kind::Withdraw | Kind::Interest => true,
+            Kind::Declined | Kind::Cancel { .. } => false,
         }
     }
 

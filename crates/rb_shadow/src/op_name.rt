@@ -5,7 +5,8 @@ ghost use Rattle.rb_shadow.specs.Sound.{is_foreign, limit_of};
 
 use rb_money::Limits;
 
-/// The n-th blue operation of a site, or the n-th red one of all.
+/// The n-th blue operation of a site, or the n-th red one of all: sites are numbered from 0, operations
+/// from 1.
 #[derive(Clone, Copy, Debug, PartialEq, Eq)]
 pub enum OpName {
     Blue { site: u8, n: u32 },

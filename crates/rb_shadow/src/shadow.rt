@@ -1,22 +1,21 @@
 //! Shadow operations.
-ghost use Rattle.std.specs.Prelude.{◌≡◌, ◌↔◌, ℕ, length, Some, None, IsTrue, OnOk, IfErr};
+ghost use Rattle.std.specs.Prelude.{◌≡◌, ◌↔◌, ℕ, Some, None, IsTrue, OnOk, IfErr};
 ghost use Rattle.rb_shadow.specs.Operations.{same_shadow};
 ghost use Rattle.rb_shadow.specs.Sound.{fault_in, fault_of};
 
 use crate::{Deps, Kind, OpName};
-use rb_money::{Config, Limits, Place, Refusal};
+use rb_money::{Config, Limits, MOST_CENTS, Place, Refusal};
 
-/// The most cents of one operation.
-const MOST_CENTS: u64 = 100_000_000_000;
-
-/// What a request did, as every site is told: its name, its home, what that had applied, and its effect.
+/// What a request did, as every site is told.
 #[derive(Clone, Copy, Debug, PartialEq, Eq)]
 pub struct Shadow {
     pub name: OpName,
+    /// The number of the site that made it, from 0.
     pub home: u8,
+    /// What its home had applied when it was made.
     pub deps: Deps,
     pub account: Place,
-    /// In cents.
+    /// In cents. A cancellation has its target's.
     pub amount: u64,
     pub kind: Kind,
 }

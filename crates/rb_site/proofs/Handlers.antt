@@ -16,7 +16,8 @@ use Rattle.rb_shadow.specs.declared.shadow.Shadow.{Shadow}
 use Rattle.rb_ledger.proofs.ValidClocks
 use Rattle.rb_ledger.specs.Checks.{refusal_after, refusal_of, refusal_of_sound}
 use Rattle.rb_ledger.specs.Valid.{IsValid}
-use Rattle.rb_inbox.proofs.Order.{find-Among, held_cases, kept_among}
+use Rattle.rb_inbox.proofs.Order.{held_cases, kept_among}
+use Rattle.rb_shadow.proofs.Lookups
 use Rattle.rb_inbox.specs.Held.{Holding, IsInConflict, IsReady, IsTooMany, IsWelcome, with_held, without}
 use Rattle.rb_token.specs.Seat.{TokenSeat}
 use Rattle.rb_token.specs.Token.{Token, pass_message, passed_token, refusal_of_pass}
@@ -106,7 +107,7 @@ not_memory why e h = let bad : NotReady ≡ OutOfMemory = sym e ∙ h in cc
 
 -- what is held is sound
 pub held_sound : (s : Settings) (held : List Shadow) (x : OpName) (v : Shadow) → ((u : Shadow) → Among u held → IsSound s u) → find_in held x ≡ Some v → IsSound s v
-held_sound s held x v all found = all v (find-Among held x v found).0
+held_sound s held x v all found = all v (Lookups.found held x v found).0
 
 -- without one of them, what is held is still tied to the rest
 pub tied_without : (s : Settings) (now : Settings) (inbox later : Holding) (token : TokenSeat) (x : OpName) → now ≡ s → later ≡ record inbox { held = without x inbox.held } → IsTied s inbox token → IsTied now later token

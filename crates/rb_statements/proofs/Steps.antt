@@ -35,14 +35,6 @@ entry_here us i =
     let back : i + 1 - 1 ≡ i = omega arith in
     ap (λ b. cond b None (slice_get us (i + 1 - 1))) test ∙ ap (slice_get us) back
 
--- so it is found there
-pub entry_found : (us : List Shadow) (i : ℕ) (o : Option (Bor Shadow)) → i < length us → option_copied o ≡ entry_at us (i + 1) → IsSome o
-entry_found us i o near e = let (u, there) = here us i near in at o (e ∙ entry_here us i ∙ there)
-  where
-    at : {u : Shadow} (o : Option (Bor Shadow)) → option_copied o ≡ Some u → IsSome o
-    at None e = cc
-    at (Some x) e = refl
-
 pub entry_value : (us : List Shadow) (i : ℕ) (o : Option (Bor Shadow)) (x : Bor Shadow) → option_copied o ≡ entry_at us (i + 1) → o ≡ Some x → slice_get us i ≡ Some x.now
 entry_value us i o x e is = sym (entry_here us i) ∙ sym e ∙ ap option_copied is
 
@@ -52,14 +44,6 @@ moved_here s us a i near =
     let back : i + 1 - 1 ≡ i = omega arith in
     ap (option_map (λ (v : Shadow). bal s (take (i + 1) us) a +ℤ neg_ℤ (bal s (take (i + 1 - 1) us) a))) (entry_here us i ∙ there)
     ∙ ap (λ k. Some (bal s (take (i + 1) us) a +ℤ neg_ℤ (bal s (take k us) a))) back
-
--- what it moved is known
-pub moved_found : (s : Settings) (us : List Shadow) (a : Place) (i : ℕ) (o : Option ℤ) → i < length us → o ≡ moved_at s us a (i + 1) → IsSome o
-moved_found s us a i o near e = at o (e ∙ moved_here s us a i near)
-  where
-    at : {z : ℤ} (o : Option ℤ) → o ≡ Some z → IsSome o
-    at None e = cc
-    at (Some x) e = refl
 
 pub moved_value : (s : Settings) (us : List Shadow) (a : Place) (i : ℕ) (o : Option ℤ) (z : ℤ) → i < length us → o ≡ moved_at s us a (i + 1) → o ≡ Some z → z ≡ bal s (take (i + 1) us) a +ℤ neg_ℤ (bal s (take i us) a)
 moved_value s us a i o z near e is = let same : Some z ≡ Some (bal s (take (i + 1) us) a +ℤ neg_ℤ (bal s (take i us) a)) = sym is ∙ e ∙ moved_here s us a i near in cc
@@ -72,17 +56,11 @@ moved_sum s us a i n z e sum = omega (arith, ints)
 pub covered_at : (s : Settings) (us : List Shadow) (a : Place) (n : ℕ) → IsValid s us → pos 0 ≤ℤ bal s (take n us) a
 covered_at s us a n valid = valid.covered (take n us) (drop n us) (sym (take-append-drop n us)) a
 
-drop_here : (us : List Shadow) (i : ℕ) (u : Shadow) → slice_get us i ≡ Some u → drop i us ≡ u ∷ drop (i + 1) us
-drop_here us i u e = let near : i < length us = slice_get_within us i u e in rw add-one (drop-cons us i u near ∙ ap (λ (w : Shadow). w ∷ drop (suc i) us) (get_or_from_slice_get us i u u e))
-
-pub one_more : (us : List Shadow) (i : ℕ) (u : Shadow) → slice_get us i ≡ Some u → take (i + 1) us ≡ take i us ++ u ∷ []
-one_more us i u e = let near : i < length us = slice_get_within us i u e in rw add-one (take-suc us i u near ∙ ap (λ (w : Shadow). take i us ++ w ∷ []) (get_or_from_slice_get us i u u e))
-
 -- the rows from an operation on are its own and those from the next on
 rows_step : (s : Settings) (us : List Shadow) (a : Place) (i : ℕ) (u : Shadow) → slice_get us i ≡ Some u → rows_of s us a (take i us) (drop i us) ≡ rows_here s us a (take i us) u ++ rows_of s us a (take (i + 1) us) (drop (i + 1) us)
 rows_step s us a i u e =
-    ap (rows_of s us a (take i us)) (drop_here us i u e)
-    ∙ ap (λ vs. rows_here s us a (take i us) u ++ rows_of s us a vs (drop (i + 1) us)) (sym (one_more us i u e))
+    ap (rows_of s us a (take i us)) (Moves.drop_here us i u e)
+    ∙ ap (λ vs. rows_here s us a (take i us) u ++ rows_of s us a vs (drop (i + 1) us)) (sym (Moves.one_more us i u e))
 
 pub rows_more : (s : Settings) (us : List Shadow) (a : Place) (i : ℕ) (done now : List Row) → i < length us → rows_of s us a [] us ≡ done ++ rows_of s us a (take i us) (drop i us)
     → ((u : Shadow) → slice_get us i ≡ Some u → now ≡ done ++ rows_here s us a (take i us) u) → rows_of s us a [] us ≡ now ++ rows_of s us a (take (i + 1) us) (drop (i + 1) us)
@@ -90,17 +68,6 @@ rows_more s us a i done now near before added =
     let (u, e) = here us i near in
     let rest : List Row = rows_of s us a (take (i + 1) us) (drop (i + 1) us) in
     before ∙ ap (λ rows. done ++ rows) (rows_step s us a i u e) ∙ sym (append_assoc done (rows_here s us a (take i us) u) rest) ∙ ap (λ rows. rows ++ rest) (sym (added u e))
-
--- an operation on another account has no row
-pub no_row : (s : Settings) (us : List Shadow) (a : Place) (i : ℕ) (u v : Shadow) (rows : List Row) → slice_get us i ≡ Some v → slice_get us i ≡ Some u → not (v.account.0 == a.0) ≡ true → rows ≡ rows ++ rows_here s us a (take i us) u
-no_row s us a i u v rows e f off =
-    let same : Some v ≡ Some u = sym e ∙ f in
-    let is : v ≡ u = cc in
-    sym (append-nil rows) ∙ ap (λ r. rows ++ r) (sym (ap (λ (w : Shadow). rows_here s us a (take i us) w) (sym is) ∙ none (v.account.0 == a.0) off))
-  where
-    none : (b : Bool) → not b ≡ true → cond (b || false) (row_of s us a (take i us) v ∷ []) [] ≡ []
-    none true off = cc
-    none false off = refl
 
 row : Shadow → ℕ → Label → ℤ → Bool → ℕ → Row
 row u position kind moved cancelled balance = record { position = position; name = u.name; kind = kind; moved = moved; cancelled = cancelled; balance = balance }
@@ -116,7 +83,7 @@ own_row s us a i u v rows k z n o c e f own kind moved sum cancel known =
     let is : v ≡ u = cc in
     let near : i < length us = slice_get_within us i v e in
     let position : i + 1 ≡ length (take i us) + 1 = omega (arith, length-take-le i us (omega arith)) in
-    let after : take (i + 1) us ≡ take i us ++ v ∷ [] = one_more us i v e in
+    let after : take (i + 1) us ≡ take i us ++ v ∷ [] = Moves.one_more us i v e in
     let change : z ≡ bal s (take i us ++ v ∷ []) a +ℤ neg_ℤ (bal s (take i us) a) = moved ∙ ap (λ ws. bal s ws a +ℤ neg_ℤ (bal s (take i us) a)) after in
     let cancelled : c ≡ is_cancelled us v.name = known ∙ ap is_some (cancel ∙ ap (option_and_then (λ (w : Shadow). first_cancel_in us w.name)) (entry_here us i ∙ e)) ∙ any (is_cancelled us v.name) in
     let balance : n ≡ cents (bal s (take i us ++ v ∷ []) a) = ap cents (sum ∙ ap (λ ws. bal s ws a) after) in
@@ -146,12 +113,3 @@ shown s us a start balance rows e f g = ap (λ n. whole n rows balance) e ∙ ap
 pub bal-none : (s : Settings) (a : Place) → bal s [] a ≡ pos (start_of s a)
 unfolding bal
 bal-none s a = omega (arith, ints)
-
-starts_low : (ns : List ℕ) (m : ℕ) → ((i n : ℕ) → slice_get ns i ≡ Some n → n ≤ m) → (i : ℕ) → slice_index ns i ≤ m
-starts_low [] m h i = omega arith
-starts_low (n ∷ ns) m h zero = h 0 n refl
-starts_low (n ∷ ns) m h (suc i) = starts_low ns m (λ j k e. h (suc j) k e) i
-
--- an account starts with few cents
-pub start_low : (s : Settings) (a : Place) → IsConfigured s → start_of s a ≤ 100000000000
-start_low s a configured = starts_low s.starts 100000000000 configured.starts a.0
