@@ -4,6 +4,7 @@ use Rattle.std.specs.Prelude.{ℤ, pos, negsuc, ◌≤ℤ◌, Option, Some, None
 use Rattle.std.proofs.lemmas.Int.{ints}
 use Rattle.std.proofs.lemmas.Bool.Decides.{nat_tests}
 use Rattle.std.proofs.lemmas.List.{append-nil}
+use Rattle.std.proofs.lemmas.Bool.{not-false}
 use Rattle.rb_money.specs.Settings.{Settings}
 use Rattle.rb_money.specs.declared.place.Place.{Place}
 use Rattle.rb_money.specs.declared.refusal.Refusal.{Refusal}
@@ -146,10 +147,6 @@ go_on_two : (b c : Bool) (w x : Refusal) (r : Option Refusal) → cond b (cond c
 go_on_two true true w x r e = cc
 go_on_two true false w x r e = cc
 go_on_two false c w x r e = (refl, e)
-
-pub not-false : (b : Bool) → not b ≡ false → b ≡ true
-not-false true h = refl
-not-false false h = cc
 
 same_colour-true : (c d : Colour) → same_colour c d ≡ true → c ≡ d
 same_colour-true BlueColour BlueColour h = refl

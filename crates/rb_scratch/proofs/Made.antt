@@ -2,6 +2,7 @@
 use Rattle.std.proofs.Common.{◌≡◌, ℕ, suc, ◌+◌, ◌≤◌, Bool, true, false, cond, not, ◌&&◌, List, [], ◌∷◌, ◌++◌, length, refl, ap, sym, ◌∙◌, arith, subst, Option, Some, None, Result, Ok, Err}
 use Rattle.std.specs.Prelude.{nat_lt}
 use Rattle.std.proofs.lemmas.Bool.Decides.{nat_tests}
+pub use Rattle.std.proofs.lemmas.Bool.{not-false as not_true}
 use Rattle.rb_money.specs.Settings.{Settings}
 use Rattle.rb_money.specs.declared.refusal.Refusal.{Refusal}
 use Rattle.rb_shadow.specs.declared.op_name.OpName.{OpName}
@@ -47,10 +48,6 @@ past_first false why next e = (refl, e)
 pub unrefused : {A : Type 0} (o : Option Refusal) (next : Result A Refusal) (v : A) → unless_refused o next ≡ Ok v → (o ≡ None) × (next ≡ Ok v)
 unrefused (Some why) next v e = cc
 unrefused None next v e = (refl, e)
-
-pub not_true : (b : Bool) → not b ≡ false → b ≡ true
-not_true true h = refl
-not_true false h = cc
 
 allowed_facts : (s : Settings) (us : List Shadow) (token : Token) (u v : Shadow) (x : OpName) → allowed_by_colour s us token u x ≡ Ok v → (v ≡ u) × IsAllowed s us token u x
 allowed_facts s us token u v (Blue i n) e = (let h : v ≡ u = cc in h, tt)

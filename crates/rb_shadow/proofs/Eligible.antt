@@ -1,23 +1,21 @@
 -- The test of eligibility says that the past is among the names.
-use Rattle.std.proofs.Common.{◌≡◌, ℕ, suc, zero, ◌+◌, ◌<◌, ◌≤◌, Bool, true, false, ◌&&◌, List, [], ◌∷◌, ◌++◌, refl, ap, ◌∙◌, arith, ◌⊎◌, inl, inr, subst, get_or}
-use Rattle.std.specs.Prelude.{nat_le, ◌==◌, map}
+use Rattle.std.proofs.Common.{◌≡◌, ℕ, suc, zero, ◌+◌, ◌<◌, ◌≤◌, Bool, true, ◌&&◌, List, [], ◌∷◌, ◌++◌, refl, ap, ◌∙◌, arith, ◌⊎◌, inl, inr, subst, get_or}
+use Rattle.std.specs.Prelude.{◌==◌, map}
 use Rattle.std.specs.List.{range_with_len, list_all}
 use Rattle.std.proofs.lemmas.Bool.Decides.{nat_tests}
+use Rattle.std.proofs.lemmas.Bool.{and_parts as and-true}
 use Rattle.rb_shadow.specs.declared.shadow.Shadow.{Shadow}
 use Rattle.rb_shadow.specs.declared.op_name.OpName.{OpName}
 use Rattle.rb_shadow.specs.declared.op_name.OpName.TheVariants.{Blue, Red}
 use Rattle.rb_shadow.specs.declared.deps.Deps.{Deps}
 use Rattle.rb_shadow.specs.Operations.{names, past, names_of_clock, IsWithin, blue_listed, names_listed, is_eligible}
 use Rattle.rb_shadow.proofs.Members
+use Rattle.rb_shadow.proofs.Clocks
 
 -- a name of the list
 abbrev pub Listed : OpName → List OpName → Type 0
 Listed x [] = ⊥
 Listed x (y ∷ ys) = (x ≡ y) ⊎ Listed x ys
-
-and-true : (a b : Bool) → (a && b) ≡ true → (a ≡ true) × (b ≡ true)
-and-true true b h = (refl, h)
-and-true false b h = cc
 
 all_listed : (p : OpName → Bool) (ys : List OpName) → list_all p ys ≡ true → (x : OpName) → Listed x ys → p x ≡ true
 all_listed p [] h x k = elim k [ ]
@@ -74,21 +72,15 @@ row_blue i (c ∷ ns) x h = at (Listed-cases x (map (λ m. Blue i m) (range_with
     at (inl t) more = let (m, low, high, e) = listed_row (λ m. Blue i m) 1 c x t in (0, m, e ∙ ap (λ j. Blue j m) (let q : i ≡ i + 0 = omega arith in q), low, omega arith)
     at (inr t) more = let (k, n, e, low, high) = more t in (suc k, n, e ∙ ap (λ j. Blue j n) (let q : (i + 1) + k ≡ i + suc k = omega arith in q), low, high)
 
-in_row : (n c : ℕ) → (nat_le 1 n && nat_le n c) ≡ true → (1 ≤ n) × (n ≤ c)
-in_row n c h = (grind (arith, nat_tests), grind (arith, nat_tests))
-
-row_in : (n c : ℕ) → 1 ≤ n → n ≤ c → (nat_le 1 n && nat_le n c) ≡ true
-row_in n c h k = grind (arith, nat_tests)
-
 -- the list has just the clock's names
 pub listed_names : (c : Deps) (x : OpName) → names_of_clock c x ≡ true → Listed x (names_listed c)
 unfolding names_listed
 listed_names c (Blue i n) h =
-    let (low, high) = in_row n (get_or c.blue i 0) h in
+    let (low, high) = Clocks.in_range-true n (get_or c.blue i 0) h in
     Listed-left (Blue i n) (blue_listed 0 c.blue) (map (λ m. Red m) (range_with_len 1 c.red))
     (subst (λ j. Listed (Blue j n) (blue_listed 0 c.blue)) (let e : 0 + i ≡ i = omega arith in e) (blue_row 0 i n c.blue low high))
 listed_names c (Red n) h =
-    let (low, high) = in_row n c.red h in
+    let (low, high) = Clocks.in_range-true n c.red h in
     Listed-right (Red n) (blue_listed 0 c.blue) (map (λ m. Red m) (range_with_len 1 c.red)) (row_listed (λ m. Red m) 1 c.red n low (omega arith))
 
 pub names_in_list : (c : Deps) (x : OpName) → Listed x (names_listed c) → names_of_clock c x ≡ true
@@ -97,8 +89,8 @@ names_in_list c x h = at (Listed-cases x (blue_listed 0 c.blue) (map (λ m. Red 
   where
     at : Listed x (blue_listed 0 c.blue) ⊎ Listed x (map (λ m. Red m) (range_with_len 1 c.red)) → names_of_clock c x ≡ true
     at (inl t) = let (k, n, e, low, high) = row_blue 0 c.blue x t in
-        ap (names_of_clock c) (e ∙ ap (λ j. Blue j n) (let q : 0 + k ≡ k = omega arith in q)) ∙ row_in n (get_or c.blue k 0) low high
-    at (inr t) = let (m, low, high, e) = listed_row (λ m. Red m) 1 c.red x t in ap (names_of_clock c) e ∙ row_in m c.red low (omega arith)
+        ap (names_of_clock c) (e ∙ ap (λ j. Blue j n) (let q : 0 + k ≡ k = omega arith in q)) ∙ Clocks.in_range n (get_or c.blue k 0) low high
+    at (inr t) = let (m, low, high, e) = listed_row (λ m. Red m) 1 c.red x t in ap (names_of_clock c) e ∙ Clocks.in_range m c.red low (omega arith)
 
 -- eligible: its past is among the names
 pub eligible_means : (us : List Shadow) (v : Shadow) → is_eligible us v ≡ true → IsWithin (past v) (names us)

@@ -1,6 +1,7 @@
 -- Members of lists of operations, and their names.
 use Rattle.std.proofs.Common.{◌≡◌, Bool, true, false, ◌||◌, List, [], ◌∷◌, ◌++◌, refl, ap, sym, ◌∙◌, arith, ◌⊎◌, inl, inr}
 use Rattle.std.proofs.lemmas.Bool.Decides.{nat_tests}
+pub use Rattle.std.proofs.lemmas.Bool.{cases_Bool as bool_cases, or_cases as or-true, or_from as false-or, or_parts as or-false, or_right as or-right}
 use Rattle.rb_shadow.specs.declared.shadow.Shadow.{Shadow}
 use Rattle.rb_shadow.specs.declared.op_name.OpName.{OpName}
 use Rattle.rb_shadow.specs.declared.op_name.OpName.TheVariants.{Blue, Red}
@@ -22,22 +23,6 @@ same_name-comm (Red m) (Red n) = grind (arith, nat_tests)
 same_name-comm (Blue i m) (Red n) = refl
 same_name-comm (Red m) (Blue j n) = refl
 
-pub or-true : (a b : Bool) → (a || b) ≡ true → (a ≡ true) ⊎ (b ≡ true)
-or-true true b h = inl refl
-or-true false b h = inr h
-
-pub or-right : (a b : Bool) → b ≡ true → (a || b) ≡ true
-or-right true b h = refl
-or-right false b h = h
-
-pub or-false : (a b : Bool) → (a || b) ≡ false → (a ≡ false) × (b ≡ false)
-or-false true b h = cc
-or-false false b h = (refl, h)
-
-pub false-or : (a b : Bool) → a ≡ false → b ≡ false → (a || b) ≡ false
-false-or true b h k = h
-false-or false b h k = k
-
 pub true≢false : true ≡ false → ⊥
 true≢false h = cc
 
@@ -45,10 +30,6 @@ pub both-same : (a b : Bool) → (a ≡ true → b ≡ true) → (b ≡ true →
 both-same true b h k = sym (h refl)
 both-same false true h k = k refl
 both-same false false h k = refl
-
-pub bool_cases : (b : Bool) → (b ≡ true) ⊎ (b ≡ false)
-bool_cases true = inl refl
-bool_cases false = inr refl
 
 pub not_same : (x y : OpName) → (x ≡ y → ⊥) → same_name x y ≡ false
 not_same x y h = elim (bool_cases (same_name x y)) [ inl e ↦ absurd (h (same_name-true x y e)) | inr e ↦ e ]

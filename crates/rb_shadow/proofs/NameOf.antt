@@ -6,15 +6,12 @@ use Rattle.std.specs.Str.Parse.{digits_value}
 use Rattle.std.proofs.lemmas.Fmt.{decimal_is_IsNumeral}
 use Rattle.std.proofs.lemmas.Slice.Eq.{bytes_eq-Decides}
 use Rattle.std.proofs.lemmas.Bool.{eqb-true, false_from_ne_true}
+use Rattle.std.proofs.lemmas.Bool.{and_parts as both}
 use borrow.Author.Tests.{ltb-true}
 use Rattle.rb_shadow.specs.NameText.{name_text, name_of, candidate, is_name, IsName}
 use Rattle.rb_shadow.specs.declared.op_name.OpName.{OpName}
 use Rattle.rb_shadow.specs.declared.op_name.OpName.TheVariants.{Blue, Red}
 use Rattle.rb_shadow.proofs.NameDigits.{no_dot}
-
-both : (a b : Bool) → (a && b) ≡ true → (a ≡ true) × (b ≡ true)
-both true b h = (refl, h)
-both false b h = absurd (cc)
 
 one_more : (n x : ℕ) (bs : List ℕ) → (take (1 + n) (x ∷ bs) ≡ x ∷ take n bs) × (drop ((1 + n) + 1) (x ∷ bs) ≡ drop (n + 1) bs)
 one_more n x bs = (let e : 1 + n ≡ suc n = omega arith in rw e refl, let e : (1 + n) + 1 ≡ suc (n + 1) = omega arith in rw e refl)

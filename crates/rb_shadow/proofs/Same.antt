@@ -2,6 +2,7 @@
 use Rattle.std.proofs.Common.{◌≡◌, ℕ, Bool, true, false, ◌&&◌, List, [], ◌∷◌, refl, ap, sym, ◌∙◌, arith}
 use Rattle.std.specs.Prelude.{◌==◌, ◌↔◌, IsTrue, nat_eq}
 use Rattle.std.proofs.lemmas.Bool.Decides.{nat_tests}
+use Rattle.std.proofs.lemmas.Bool.{and_from as both, and_parts as each}
 use Rattle.std.specs.Cmp.Lexicographic.{pointwise}
 use Rattle.rb_shadow.specs.contracts.op_name.OpNamePartialEq.TheImpl.{ghosts as name_test}
 use Rattle.rb_shadow.specs.contracts.kind.KindPartialEq.TheImpl.{ghosts as kind_test}
@@ -13,14 +14,6 @@ use Rattle.rb_shadow.specs.declared.kind.Kind.TheVariants.{Deposit, Withdraw, De
 use Rattle.rb_shadow.specs.declared.shadow.Shadow.{Shadow}
 use Rattle.rb_shadow.specs.Operations.{same_name, same_kind, same_numbers, same_shadow}
 use Rattle.rb_shadow.proofs.Members
-
-both : (a b : Bool) → a ≡ true → b ≡ true → (a && b) ≡ true
-both true b h k = k
-both false b h k = h
-
-each : (a b : Bool) → (a && b) ≡ true → (a ≡ true) × (b ≡ true)
-each true b h = (refl, h)
-each false b h = cc
 
 same_number-refl : (n : ℕ) → (n == n) ≡ true
 same_number-refl n = grind (arith, nat_tests)

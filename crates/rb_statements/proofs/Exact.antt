@@ -3,6 +3,7 @@ use Rattle.std.proofs.Common.{◌≡◌, ℕ, Bool, true, false, ◌&&◌, List,
 use Rattle.std.specs.Prelude.{◌==◌, ◌↔◌, IsTrue}
 use Rattle.std.proofs.lemmas.Bool.Decides.{nat_tests}
 use Rattle.std.specs.Cmp.Lexicographic.{pointwise}
+pub use Rattle.std.proofs.lemmas.Bool.{and_from as both, and_parts as each}
 use Rattle.rb_shadow.specs.contracts.op_name.OpNamePartialEq.TheImpl.{ghosts as name_test}
 use Rattle.rb_shadow.specs.contracts.label.LabelPartialEq.TheImpl.{ghosts as label_test}
 use Rattle.rb_shadow.specs.declared.op_name.OpName.{OpName}
@@ -18,16 +19,6 @@ pub record IsExact {A : Type 0} (test : A → A → Bool) : Type 0 where
 -- what an exact test says
 pub exact_means : {A : Type 0} (test : A → A → Bool) (b : Bool) (x y : A) → IsExact test → b ≡ test x y → IsTrue b ↔ (x ≡ y)
 exact_means test b x y exact h = (λ e. exact.sound x y (sym h ∙ e), λ e. h ∙ ap (test x) (sym e) ∙ exact.same x)
-
--- both of two tests
-pub both : (a b : Bool) → a ≡ true → b ≡ true → (a && b) ≡ true
-both true b h k = k
-both false b h k = h
-
--- each of two tests
-pub each : (a b : Bool) → (a && b) ≡ true → (a ≡ true) × (b ≡ true)
-each true b h = (refl, h)
-each false b h = cc
 
 -- equality of numbers
 pub number_sound : (m n : ℕ) → (m == n) ≡ true → m ≡ n

@@ -1,14 +1,13 @@
 -- The step from one operation of a statement to the next.
-use Rattle.std.proofs.Common.{◌≡◌, ℕ, zero, suc, ◌⊎◌, inl, inr, not, ◌+◌, ◌-◌, ◌<◌, ◌≤◌, ◌||◌, Bool, true, false, cond, List, [], ◌∷◌, ◌++◌, length, take, drop, get_or, refl, ap, sym, ◌∙◌, arith, append_assoc, add-one, drop-cons}
+use Rattle.std.proofs.Common.{◌≡◌, ℕ, ◌⊎◌, inl, inr, not, ◌+◌, ◌-◌, ◌<◌, ◌≤◌, ◌||◌, Bool, true, false, cond, List, [], ◌∷◌, ◌++◌, length, take, drop, get_or, refl, ap, sym, ◌∙◌, arith, append_assoc}
 use Rattle.std.specs.Borrow.{Bor}
-use Rattle.std.specs.Prelude.{ℤ, pos, neg_ℤ, ◌+ℤ◌, ◌≤ℤ◌, ◌==◌, slice_get, slice_index, Option, Some, None, option_map, option_copied, option_and_then, is_some, IsSome}
+use Rattle.std.specs.Prelude.{ℤ, pos, neg_ℤ, ◌+ℤ◌, ◌≤ℤ◌, ◌==◌, slice_get, Option, Some, None, option_map, option_copied, option_and_then, is_some}
 use Rattle.std.proofs.lemmas.Int.{ints}
-use Rattle.std.proofs.lemmas.Option.{slice_get_cases, slice_get_within, get_or_from_slice_get}
-use Rattle.std.proofs.lemmas.List.{take-append-drop, append-nil, length-take-le}
-use Rattle.std.proofs.Math.Seq.{take-suc}
+use Rattle.std.proofs.lemmas.Option.{slice_get_cases, slice_get_within}
+use Rattle.std.proofs.lemmas.List.{take-append-drop, length-take-le}
 use Rattle.std.proofs.lemmas.Bool.Decides.{nat_tests}
 use Rattle.rb_money.specs.Amounts.{cents}
-use Rattle.rb_money.specs.Settings.{Settings, IsConfigured, start_of}
+use Rattle.rb_money.specs.Settings.{Settings, start_of}
 use Rattle.rb_money.specs.declared.place.Place.{Place}
 use Rattle.rb_shadow.specs.Labels.{label_of}
 use Rattle.rb_shadow.specs.Operations.{bal, is_cancelled}
@@ -16,6 +15,7 @@ use Rattle.rb_shadow.specs.declared.shadow.Shadow.{Shadow}
 use Rattle.rb_shadow.specs.declared.label.Label.{Label}
 use Rattle.rb_ledger.specs.Valid.{IsValid, entry_at, first_cancel_in, first_cancel_from}
 use Rattle.rb_ledger.specs.Changes.{moved_at}
+use Rattle.rb_ledger.proofs.Moves
 use Rattle.rb_statements.specs.Statements.{row_of, rows_here, rows_of, statement_of}
 use Rattle.rb_statements.specs.declared.row.Row.{Row}
 use Rattle.rb_statements.specs.declared.account.Statement.{Statement}

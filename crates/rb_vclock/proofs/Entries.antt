@@ -1,23 +1,19 @@
 -- A clock that counts all names of another is at least that, entry by entry.
 use Rattle.std.proofs.Common.{◌≡◌, ℕ, zero, suc, ◌≤◌, Bool, true, ◌&&◌, arith}
 use Rattle.std.specs.Prelude.{nat_le, ◌↔◌, IsTrue}
-use Rattle.std.proofs.lemmas.Bool.Decides.{nat_tests}
 use Rattle.rb_shadow.specs.declared.deps.Deps.{Deps}
 use Rattle.rb_shadow.specs.declared.op_name.OpName.TheVariants.{Blue, Red}
 use Rattle.rb_shadow.specs.Operations.{IsWithin, names_of_clock}
 use Rattle.rb_shadow.proofs.Clocks
 use Rattle.rb_vclock.specs.Clocks.{IsAtLeast}
 
-in_range : (n most : ℕ) → 1 ≤ n → n ≤ most → (nat_le 1 n && nat_le n most) ≡ true
-in_range n most h k = grind (arith, nat_tests)
-
 wider : (n few many : ℕ) → few ≤ many → (nat_le 1 n && nat_le n few) ≡ true → (nat_le 1 n && nat_le n many) ≡ true
-wider n few many h e = let (low, high) = Clocks.in_range-true n few e in in_range n many low (omega arith)
+wider n few many h e = let (low, high) = Clocks.in_range-true n few e in Clocks.in_range n many low (omega arith)
 
 -- an entry all of whose numbers are counted by another
 entry_low : (few many : ℕ) → ((n : ℕ) → (nat_le 1 n && nat_le n few) ≡ true → (nat_le 1 n && nat_le n many) ≡ true) → few ≤ many
 entry_low zero many h = omega arith
-entry_low (suc k) many h = (Clocks.in_range-true (suc k) many (h (suc k) (in_range (suc k) (suc k) (omega arith) (omega arith)))).1
+entry_low (suc k) many h = (Clocks.in_range-true (suc k) many (h (suc k) (Clocks.in_range (suc k) (suc k) (omega arith) (omega arith)))).1
 
 pub at_least_within : (c d : Deps) → IsAtLeast c d → IsWithin (names_of_clock d) (names_of_clock c)
 at_least_within c d least (Blue i n) e = wider n _ _ (least.blue i) e
