@@ -144,6 +144,14 @@ fn refuses(rt: HostRuntime) -> Result<(), Fail> {
     ] {
         assert_eq!(rt; ledger.check(&shadow), Err(refusal));
     }
+    Ok(())
+}
+
+#[test]
+fn takes_nothing_twice(rt: HostRuntime) -> Result<(), Fail> {
+    let mut ledger = ann_alone(rt.alloc())?;
+    let known = on_ann(DEPOSIT, 0, (0, 0), 100, Kind::Deposit);
+    applied(&rt, &mut ledger, known).seal();
     match ledger.apply(known) {
         Ok(undo) => {
             undo.seal();
