@@ -3,7 +3,7 @@ use Rattle.std.proofs.Common.{◌≡◌, ℕ, ◌+◌, ◌≤◌, Bool, true, fa
 use Rattle.std.specs.Prelude.{nat_le, ◌==◌}
 use Rattle.rb_money.specs.Settings.{Settings}
 use Rattle.rb_money.specs.declared.refusal.Refusal.{Refusal}
-use Rattle.rb_money.specs.declared.refusal.Refusal.TheVariants.{Conflict, HistoryFull, InboxFull}
+use Rattle.rb_money.specs.declared.refusal.Refusal.TheVariants.{Conflict, InboxFull}
 use Rattle.rb_shadow.specs.declared.shadow.Shadow.{Shadow}
 use Rattle.rb_shadow.specs.Operations.{find_in, is_eligible, same_shadow}
 use Rattle.rb_shadow.specs.Sound.{fault_in}
@@ -13,11 +13,12 @@ use Rattle.rb_site.specs.declared.event.Event.{Event}
 use Rattle.rb_site.specs.declared.event.Event.TheVariants.{Submit, Batch, Receive, Apply, Pass, Balance, AsOf, Statement as AskStatement}
 use Rattle.rb_site.specs.declared.entry.Entry.{Entry}
 use Rattle.rb_site.specs.declared.reply.Reply.{Reply}
-use Rattle.rb_site.specs.declared.reply.Reply.TheVariants.{Already, Refused, Stale}
+use Rattle.rb_site.specs.declared.reply.Reply.TheVariants.{Already, Stale}
 use Rattle.rb_site.proofs.States.{same_outcome, with_history}
 use Rattle.rb_site.specs.Events.{refuses_first, Answers, Applies, Drops, Holds, Makes, ModelSite, Outcome, Passes, Refuses, Takes, after_event, after_events, changed, first_site, is_full, noted, outcome_of, outcome_of_shadow, outcome_of_token, refuses_if, replies_to_events, reply_of, reply_to, unless_faulty, unless_known}
 use Rattle.rb_world.specs.Laws.{AreAlike, is_receive, is_refused, is_refused_receive, other_replies, without_refused}
 use Rattle.rb_world.proofs.CaughtUp
+use Rattle.rb_world.proofs.Ready
 
 -- ---- a refused Receive changes nothing
 
@@ -82,9 +83,6 @@ change_alike t h (Applies v) = refl
 change_alike t h (Takes m) = refl
 change_alike t h (Passes m) = refl
 
-reply_roomy : (s : Settings) (t : ModelSite) (e : Event) → is_full s t ≡ false → reply_to s t e ≡ reply_of (outcome_of s t e)
-reply_roomy s t e h = ap (λ b. cond b (Refused HistoryFull) (reply_of (outcome_of s t e))) h
-
 -- the site with another history goes on alike
 goes_alike : (s : Settings) (t : ModelSite) (h : List Entry) (e : Event) → is_full s t ≡ false → is_full s (with_history t h) ≡ false
     → (k : List Entry) × (after_event s (with_history t h) e ≡ with_history (after_event s t e) k) × (length k ≡ length h + 1)
@@ -107,7 +105,7 @@ goes_alike s t h e room room' = (k, is, length-append h _)
 stays_alike : (s : Settings) (t : ModelSite) (h : List Entry) (e : Event) → is_full s t ≡ false → is_refused_receive s t e ≡ true → with_history (after_event s t e) h ≡ with_history t h
 stays_alike s t h e room b =
     ap (λ u. with_history u h) (CaughtUp.after_roomy s t e room)
-    ∙ ap (λ u. with_history u h) (refused_changes_nothing s t e (first _ _ b) (ap is_refused (sym (reply_roomy s t e room)) ∙ second _ _ b))
+    ∙ ap (λ u. with_history u h) (refused_changes_nothing s t e (first _ _ b) (ap is_refused (sym (Ready.reply_roomy s t e room)) ∙ second _ _ b))
   where
     first : (b c : Bool) → (b && c) ≡ true → b ≡ true
     first true c h = refl
@@ -148,7 +146,7 @@ no_trace_from s (e ∷ es) t h room room' = by (is_refused_receive s t e) refl (
         let (k, is, more) = goes_alike s t h e full full' in
         let r : Says (with_history t2 k) (without_refused s t2 es) (other_replies s t2 es) = go k (omega (arith, longer)) (omega arith) in
         let r' : Says (after_event s (with_history t h) e) (without_refused s t2 es) (other_replies s t2 es) = subst (λ u. Says u (without_refused s t2 es) (other_replies s t2 es)) (sym is) r in
-        let first : reply_to s (with_history t h) e ≡ reply_to s t e = reply_roomy s (with_history t h) e full' ∙ ap reply_of (same_outcome s t h e) ∙ sym (reply_roomy s t e full) in
+        let first : reply_to s (with_history t h) e ≡ reply_to s t e = Ready.reply_roomy s (with_history t h) e full' ∙ ap reply_of (same_outcome s t h e) ∙ sym (Ready.reply_roomy s t e full) in
         (r'.0, ap (λ x. x ∷ replies_to_events s (after_event s (with_history t h) e) (without_refused s t2 es)) first ∙ ap (λ rs. reply_to s t e ∷ rs) r'.1)
 
 pub no_trace : (s : Settings) (me : ℕ) (es : List Event) → length es ≤ s.limits.history

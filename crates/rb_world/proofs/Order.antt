@@ -24,14 +24,12 @@ use Rattle.rb_inbox.proofs.Order.{kept_among, held_cases}
 use Rattle.rb_site.specs.declared.message.Message.{Message}
 use Rattle.rb_site.specs.declared.message.Message.TheVariants.{Shadow as ShadowMessage}
 use Rattle.rb_site.specs.declared.entry.Entry.{Entry}
-use Rattle.rb_site.specs.declared.world_event.WorldEvent.{WorldEvent}
 use Rattle.rb_scratch.specs.Requests.{Plan, colour_of_plan, next_name, operation_of}
 use Rattle.rb_token.specs.Token.{Token}
 use Rattle.rb_site.specs.Events.{ModelSite}
 use Rattle.rb_inbox.specs.Held.{with_held, without}
-use Rattle.rb_site.specs.Worlds.{AreOwn, World, first_world, made_in, shadows_in, world_of_run}
+use Rattle.rb_site.specs.Worlds.{World, first_world, made_in, shadows_in}
 use Rattle.rb_world.specs.Laws.{EachSite}
-use Rattle.rb_world.proofs.Steps
 use Rattle.rb_site.proofs.Places.{same_number}
 use Rattle.rb_world.proofs.Steps.{Keeps, MayApply, each_moved, moved}
 use Rattle.rb_world.proofs.Token
@@ -421,12 +419,9 @@ keeps_order s = record {
   passes = λ w i t m p at may. ((Token.keeps_place s).passes w i t m p.0 at may, stays w i t _ _ p.1 at (Token.made_same w.messages m) (same_list _ i t t.held _ t.history (p.1.sites i t at) (p.1.sites i t at).held));
 }
 
-no_entry : (P : List Shadow → Shadow → Type 0) → EachEntry [] P
-no_entry P before v after e = absurd (at before e)
-  where
-    at : (before : List Shadow) → [] ≡ before ++ v ∷ after → ⊥
-    at [] k = cc
-    at (u ∷ us) k = cc
+-- an empty list has no entry
+pub no_entry : (P : List Shadow → Shadow → Type 0) → EachEntry [] P
+no_entry P before v after e = absurd (Members.never_empty before after v (sym e))
 
 pub first_order : (s : Settings) → s.sites ≤ most_sites → IsOrdered (first_world s)
 first_order s few = record {
@@ -441,6 +436,3 @@ first_order s few = record {
         held = λ v k. elim k [ ];
       });
 }
-
-pub ordered_run : (s : Settings) (es : List WorldEvent) → 1 ≤ s.sites → s.sites ≤ most_sites → AreOwn es → IsInOnePlace (world_of_run s es) × IsOrdered (world_of_run s es)
-ordered_run s es some few own = Steps.after_all s (λ w. IsInOnePlace w × IsOrdered w) (keeps_order s) es (first_world s) own (Token.first_place s some, first_order s few)

@@ -1,6 +1,7 @@
 -- No operation of the world is refused where its past is there.
 use Rattle.std.proofs.Common.{◌≡◌, ℕ, ◌≤◌, Bool, true, false, cond, not, ◌&&◌, ◌||◌, List, [], ◌∷◌, ◌++◌, length, refl, ap, sym, ◌∙◌, arith, ◌⊎◌, inl, inr, subst, Option, Some, None}
 use Rattle.std.specs.Prelude.{slice_get, nat_lt, nat_le, ◌==◌, pos, ◌≤ℤ◌, option_and_then}
+use Rattle.std.proofs.lemmas.Bool.{cond-false}
 use Rattle.std.proofs.lemmas.Bool.Decides.{nat_tests}
 use Rattle.rb_money.specs.Settings.{Settings}
 use Rattle.rb_money.specs.declared.place.Place.{Place}
@@ -14,6 +15,7 @@ use Rattle.rb_shadow.specs.declared.colour.Colour.TheVariants.{Blue as BlueColou
 use Rattle.rb_shadow.specs.declared.shadow.Shadow.{Shadow}
 use Rattle.rb_shadow.specs.Operations.{Among, IsUnique, IsWithin, bal, colour_in, colour_of, find_in, is_eligible, is_red, kind_in, names, past, same_shadow, shown_colour, target_of}
 use Rattle.rb_shadow.proofs.Members
+use Rattle.rb_shadow.proofs.Lookups
 use Rattle.rb_shadow.specs.Laws.{IsClosed, IsPart}
 use Rattle.rb_shadow.proofs.Eligible
 use Rattle.rb_shadow.proofs.Same.{same_shadow-refl}
@@ -45,27 +47,16 @@ same_number n = grind (arith, nat_tests)
 
 -- ---- looking up a name
 
-find_there : (us : List Shadow) (x : OpName) → names us x ≡ true → (u : Shadow) × (find_in us x ≡ Some u)
-find_there us x h = at (find_in us x) refl
-  where
-    at : (o : Option Shadow) → find_in us x ≡ o → (u : Shadow) × (find_in us x ≡ Some u)
-    at (Some u) e = (u, e)
-    at None e = absurd (Members.true≢false (sym h ∙ Steps.find_none us x e))
-
 -- what is found under an operation's name is the operation
 found_is : (all us : List Shadow) (u v : Shadow) → IsUnique all → IsPart us all → Among v all → find_in us v.name ≡ Some u → u ≡ v
-found_is all us u v unique part h e = let f : Among u us × (u.name ≡ v.name) = Steps.find_some us v.name u e in Members.same_named all u v unique (part u f.0) h f.1
+found_is all us u v unique part h e = let f : Among u us × (u.name ≡ v.name) = Lookups.found us v.name u e in Members.same_named all u v unique (part u f.0) h f.1
 
 -- ---- the check of an operation of the world
-
-pass : {A : Type 0} (b : Bool) (x y : A) → b ≡ false → cond b x y ≡ y
-pass true x y h = cc
-pass false x y h = refl
 
 right_if : (s : Settings) (us : List Shadow) (v : Shadow)
     → names us v.name ≡ false → is_eligible us v ≡ true → has_wrong_target us v v.kind ≡ false → shown_colour v.name ≡ colour_in us v → pos 0 ≤ℤ bal s (us ++ v ∷ []) v.account
     → refusal_of_sound s us v ≡ None
-right_if s us v a b c d e = pass _ _ _ a ∙ pass _ _ _ (ap not b) ∙ pass _ _ _ c ∙ pass _ _ _ (coloured (shown_colour v.name) (colour_in us v) d) ∙ pass _ _ _ (Members.false-or _ _ (Legal.not_negative (bal s (us ++ v ∷ []) v.account) e) refl)
+right_if s us v a b c d e = cond-false _ _ _ a ∙ cond-false _ _ _ (ap not b) ∙ cond-false _ _ _ c ∙ cond-false _ _ _ (coloured (shown_colour v.name) (colour_in us v) d) ∙ cond-false _ _ _ (Members.false-or _ _ (Legal.not_negative (bal s (us ++ v ∷ []) v.account) e) refl)
   where
     coloured : (c d : Colour) → c ≡ d → not (same_colour c d) ≡ false
     coloured BlueColour BlueColour e = refl
@@ -99,7 +90,7 @@ right_target all us v Withdraw unique part within h = refl
 right_target all us v Declined unique part within h = refl
 right_target all us v Interest unique part within h = refl
 right_target all us v (Cancel x) unique part within h =
-    let (u, e) = find_there us x (within x h.seen) in
+    let (u, e) = Lookups.found_named us x (within x h.seen) in
     let named : find_in us h.target.name ≡ Some u = ap (find_in us) h.named ∙ e in
     let is : u ≡ h.target = found_is all us u h.target unique part h.there named in
     ap (is_wrong_target v) e ∙ ap (λ (t : Shadow). is_wrong_target v (Some t)) is
@@ -127,7 +118,7 @@ applied_if_ready s all us v o right l there fresh within =
 pub site_applies : (s : Settings) (w : World) (i : ℕ) (t : ModelSite) (v : Shadow) → IsGood s w → slice_get w.sites i ≡ Some t → Among v t.held → IsWithin (past v) (names t.ops) → outcome_of s t (Apply v.name) ≡ Applies v
 unfolding outcome_of outcome_of_apply
 site_applies s w i t v g at held within =
-    let (u, e) = find_there t.held v.name (Members.named t.held v held) in
+    let (u, e) = Lookups.found_named t.held v.name (Members.named t.held v held) in
     let is : u ≡ v = found_is (made_in w) t.held u v g.order.order.unique here.held (here.held v held) e in
     let ok : refusal_of_sound s t.ops v ≡ None = applied_if_ready s (made_in w) t.ops v g.order.order g.right (Order.serial_at (made_in w) i t here) (here.held v held) (g.inbox i t at v held) within in
     ap (outcome_of_apply s t) e ∙ ap (λ (x : Shadow). outcome_of_apply s t (Some x)) is
@@ -165,11 +156,11 @@ site_receives s w i t v g b at made = subst (IsTrusting s t v) (sym (ap (λ o. u
 
     by_held : (o : Option Shadow) → find_in t.held v.name ≡ o → IsTrusting s t v (unless_known v o room)
     by_held None e = by_room (nat_le s.limits.inbox (length t.held)) (is_eligible t.ops v) refl
-    by_held (Some u) e = inl (known u t.held room here.held e, inr (subst (λ x. Among x t.held) (found_is (made_in w) t.held u v g.order.order.unique here.held made e) (Steps.find_some t.held v.name u e).0))
+    by_held (Some u) e = inl (known u t.held room here.held e, inr (subst (λ x. Among x t.held) (found_is (made_in w) t.held u v g.order.order.unique here.held made e) (Lookups.found t.held v.name u e).0))
 
     away : find_in t.ops v.name ≡ None → (v.home == t.me) ≡ false
     away e = elim (Members.bool_cases (v.home == t.me)) [
-      | inl k ↦ absurd (Members.true≢false (sym (Members.named t.ops v (here.own v made (home (v.home) t.me k ∙ g.place.numbered i t at))) ∙ Steps.find_none t.ops v.name e))
+      | inl k ↦ absurd (Members.true≢false (sym (Members.named t.ops v (here.own v made (home (v.home) t.me k ∙ g.place.numbered i t at))) ∙ Lookups.unnamed t.ops v.name e))
       | inr k ↦ k
     ]
       where
@@ -177,14 +168,14 @@ site_receives s w i t v g b at made = subst (IsTrusting s t v) (sym (ap (λ o. u
         home a b h = grind (arith, nat_tests)
 
     by_ops : (o : Option Shadow) → find_in t.ops v.name ≡ o → IsTrusting s t v (unless_known v o (refuses_if (v.home == t.me) Conflict (unless_known v (find_in t.held v.name) room)))
-    by_ops (Some u) e = inl (known u t.ops (refuses_if (v.home == t.me) Conflict (unless_known v (find_in t.held v.name) room)) here.part e, inl (let f : Among u t.ops × (u.name ≡ v.name) = Steps.find_some t.ops v.name u e in ap (names t.ops) (sym f.1) ∙ Members.named t.ops u f.0))
+    by_ops (Some u) e = inl (known u t.ops (refuses_if (v.home == t.me) Conflict (unless_known v (find_in t.held v.name) room)) here.part e, inl (let f : Among u t.ops × (u.name ≡ v.name) = Lookups.found t.ops v.name u e in ap (names t.ops) (sym f.1) ∙ Members.named t.ops u f.0))
     by_ops None e = subst (λ c. IsTrusting s t v (refuses_if c Conflict (unless_known v (find_in t.held v.name) room))) (sym (away e)) (by_held (find_in t.held v.name) refl)
 
 -- ---- the laws
 
 -- the reply of a site with room
-roomy : (s : Settings) (t : ModelSite) (e : Event) → is_full s t ≡ false → reply_to s t e ≡ reply_of (outcome_of s t e)
-roomy s t e h = ap (λ b. cond b (Refused HistoryFull) (reply_of (outcome_of s t e))) h
+pub reply_roomy : (s : Settings) (t : ModelSite) (e : Event) → is_full s t ≡ false → reply_to s t e ≡ reply_of (outcome_of s t e)
+reply_roomy s t e h = ap (λ b. cond b (Refused HistoryFull) (reply_of (outcome_of s t e))) h
 
 pub received : (s : Settings) (t : ModelSite) (v : Shadow) → outcome_of s t (Receive (ShadowMessage v)) ≡ outcome_of_shadow s t v
 unfolding outcome_of
@@ -203,7 +194,7 @@ reply_there s w i k t m at h = ap (λ o. reply_delivered s w i o (message_at w.m
 pub never_stuck : (s : Settings) (w : World) → IsGood s w → IsBounded s w → IsNeverStuck s w
 never_stuck s w g b = record {
   delivered = λ i t at room v k h within.
-      let reply : reply_in s w (Deliver i k) ≡ reply_of (outcome_of_shadow s t v) = reply_there s w i k t (ShadowMessage v) at h ∙ roomy s t (Receive (ShadowMessage v)) room ∙ ap reply_of (received s t v) in
+      let reply : reply_in s w (Deliver i k) ≡ reply_of (outcome_of_shadow s t v) = reply_there s w i k t (ShadowMessage v) at h ∙ reply_roomy s t (Receive (ShadowMessage v)) room ∙ ap reply_of (received s t v) in
       elim (site_receives s w i t v g b at (sent_shadow w k v h)) [
         | inl e ↦ inr (reply ∙ ap reply_of e.0)
         | inr q ↦ elim q [
@@ -212,7 +203,7 @@ never_stuck s w g b = record {
         ]
       ];
   applied = λ i t at room v held within.
-      ap (reply_at s (Apply v.name)) at ∙ roomy s t (Apply v.name) room ∙ ap reply_of (site_applies s w i t v g at held within);
+      ap (reply_at s (Apply v.name)) at ∙ reply_roomy s t (Apply v.name) room ∙ ap reply_of (site_applies s w i t v g at held within);
 }
 
 -- neither refusal

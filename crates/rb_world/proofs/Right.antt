@@ -128,10 +128,6 @@ shown-next : (me : ℕ) (us : List Shadow) (c : Colour) → shown_colour (next_n
 shown-next me us BlueColour = refl
 shown-next me us RedColour = refl
 
-is_red-next : (me : ℕ) (us : List Shadow) (c : Colour) (k : Bool) → k ≡ is_red (next_name me us c) → c ≡ BlueColour → k ≡ false
-is_red-next me us BlueColour k e h = e
-is_red-next me us RedColour k e h = cc
-
 red_name : (me : ℕ) (us : List Shadow) (x : OpName) → x ≡ next_name me us RedColour → is_red x ≡ true
 red_name me us x e = ap is_red e
 

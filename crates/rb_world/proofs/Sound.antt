@@ -2,6 +2,8 @@
 use Rattle.std.proofs.Common.{◌≡◌, ℕ, zero, suc, ◌+◌, ◌-◌, ◌<◌, ◌≤◌, Bool, true, false, cond, not, ◌&&◌, ◌||◌, List, [], ◌∷◌, ◌++◌, length, refl, ap, sym, ◌∙◌, arith, inl, inr, subst, Some}
 use Rattle.std.specs.Prelude.{slice_get, slice_set, nat_lt, nat_le, ◌==◌, map, max}
 use Rattle.std.specs.List.{range_with_len}
+use Rattle.std.proofs.Math.Bool.{and-false}
+use Rattle.std.proofs.lemmas.Bool.{cond-false}
 use Rattle.std.proofs.lemmas.Bool.Decides.{nat_tests}
 use Rattle.std.proofs.lemmas.Option.{slice_get_within}
 use Rattle.rb_money.specs.Settings.{Settings, most_sites}
@@ -17,7 +19,7 @@ use Rattle.rb_shadow.specs.Operations.{Among, blue_count, clock_of, entry_of, is
 use Rattle.rb_shadow.specs.Sound.{IsSound, are_entries, cancels_unseen, fault_of, is_clock, is_foreign, is_miscoloured, limit_of, may_be_nothing}
 use Rattle.rb_shadow.proofs.Members
 use Rattle.rb_shadow.proofs.Clocks
-use Rattle.rb_shadow.proofs.Clocks.{IsCounted, IsNext}
+use Rattle.rb_shadow.proofs.Clocks.{IsCounted}
 use Rattle.rb_shadow.proofs.SoundFacts
 use Rattle.rb_shadow.proofs.SoundFacts.{SoundFacts}
 use Rattle.rb_token.specs.declared.message.TokenMessage.{TokenMessage}
@@ -30,7 +32,7 @@ use Rattle.rb_site.specs.Events.{ModelSite, first_site}
 use Rattle.rb_site.specs.Worlds.{AreOwn, World, first_world, made_in, shadows_in, tokens_in, world_of_run}
 use Rattle.rb_world.specs.Laws.{EachSite}
 use Rattle.rb_world.proofs.Steps
-use Rattle.rb_world.proofs.Steps.{AmongTokens, Keeps, MayPass, MayTake, each_moved, moved}
+use Rattle.rb_world.proofs.Steps.{AmongTokens, Keeps, MayPass, each_moved, moved}
 use Rattle.rb_world.proofs.Token
 use Rattle.rb_world.proofs.Order
 use Rattle.rb_world.proofs.Order.{IsHomeName, IsInOrder, IsNew, IsOrderedSet, IsSerial}
@@ -109,10 +111,6 @@ clock_sound s us counted sound = both _ _ (entries_are (blue_count us) s.limits.
 
 -- ---- what is made is sound
 
-pass : {A : Type 0} (b : Bool) (x y : A) → b ≡ false → cond b x y ≡ y
-pass true x y h = cc
-pass false x y h = refl
-
 is_sound : (s : Settings) (v : Shadow)
     → (nat_le s.sites v.home || is_foreign v.name v.home) ≡ false
     → (number_of v.name == 0 || nat_lt (limit_of s.limits v.name) (number_of v.name)) ≡ false
@@ -123,7 +121,7 @@ is_sound : (s : Settings) (v : Shadow)
     → (not (is_clock s.sites s.limits v.deps) || not (entry_of v.deps v.name + 1 == number_of v.name)) ≡ false
     → IsSound s v
 unfolding fault_of
-is_sound s v a b c d e f g = pass _ _ _ a ∙ pass _ _ _ b ∙ pass _ _ _ c ∙ pass _ _ _ d ∙ pass _ _ _ e ∙ pass _ _ _ f ∙ pass _ _ _ g
+is_sound s v a b c d e f g = cond-false _ _ _ a ∙ cond-false _ _ _ b ∙ cond-false _ _ _ c ∙ cond-false _ _ _ d ∙ cond-false _ _ _ e ∙ cond-false _ _ _ f ∙ cond-false _ _ _ g
 
 own_name : (x : OpName) (home : ℕ) → IsHomeName x home → is_foreign x home ≡ false
 own_name (Blue i n) home h = grind (arith, nat_tests)
@@ -158,10 +156,6 @@ pub record IsMeasured (s : Settings) (p : Plan) (k : Kind) : Type 0 where
   pub amount : nat_lt 100000000000 p.amount ≡ false
   pub something : (p.amount == 0 && not (may_be_nothing k)) ≡ false
 
-none_free : (b : Bool) → (b && false) ≡ false
-none_free true = refl
-none_free false = refl
-
 measured_for : (s : Settings) (p : Plan) (k : Kind) → IsFor s p → IsMeasured s p k
 measured_for s p k h = let a = h.account in let b = h.amount in record {
   account = account p.account.0 a;
@@ -182,7 +176,7 @@ measured : (s : Settings) (us : List Shadow) (p : Plan) (k : Kind) → ((u : Sha
 measured s us p Deposit sound h = measured_for s p Deposit h
 measured s us p Withdraw sound h = measured_for s p Withdraw h.0
 measured s us p Declined sound h = measured_for s p Declined h
-measured s us p Interest sound h = record { account = account p.account.0 h.0; amount = h.1; something = none_free (p.amount == 0) }
+measured s us p Interest sound h = record { account = account p.account.0 h.0; amount = h.1; something = and-false (p.amount == 0) }
   where
     account : (a : ℕ) → nat_lt a (length s.starts) ≡ true → nat_le (length s.starts) a ≡ false
     account a h = grind (arith, nat_tests)
@@ -191,7 +185,7 @@ measured s us p (Cancel x) sound h =
     record {
       account = ap (λ (a : Place). nat_le (length s.starts) a.0) (sym h.account) ∙ f.account;
       amount = ap (λ n. nat_lt 100000000000 n) (sym h.amount) ∙ f.amount;
-      something = none_free (p.amount == 0);
+      something = and-false (p.amount == 0);
     }
 
 pub sound_made : (s : Settings) (all us : List Shadow) (me : ℕ) (token : Token) (v : Shadow) → me < s.sites → IsOrderedSet all → AreRight s all → IsSerial all us → AreSound s all → IsNew all us v → IsMadeAt s me us token v → IsSound s v

@@ -2,7 +2,6 @@
 use Rattle.std.proofs.Common.{◌≡◌, ℕ, ◌+◌, ◌<◌, All, length, take, get_or, Bool, true, false, cond, not, ◌&&◌, List, [], ◌∷◌, ◌++◌, refl, ap, sym, subst, ◌∙◌, Option, Some, None}
 use Rattle.std.specs.Prelude.{map, option_map, IsSomeAnd, slice_get, slice_set, is_some}
 use Rattle.std.proofs.lemmas.List.Elements.{All-cons, All-nil, All-set}
-use Rattle.std.proofs.Math.Seq.{take-length}
 use Rattle.std.proofs.lemmas.List.{map-set, take_more}
 use Rattle.std.proofs.lemmas.Option.{slice_get-map, slice_get_within, get_or_from_slice_get}
 use Rattle.rb_money.specs.Settings.{Settings}
@@ -186,8 +185,3 @@ run_more start events k d now later replies reply there far stepped answered =
           ∙ sym (replies-push start (take k events) (get_or events k d))
           ∙ ap (next_replies start) (sym more);
     }
-
-pub run_whole : (start : SeenWorld) (events : List WorldEvent) (k : ℕ) (now : SeenWorld) (replies : List Reply) → k ≡ length events → IsRunSoFar start events k now replies → (replies ≡ next_replies start events) × (now ≡ next_worlds start events)
-run_whole start events k now replies all far =
-    let whole : take k events ≡ events = ap (λ n. take n events) all ∙ take-length events in
-    (far.replies ∙ ap (next_replies start) whole, far.world ∙ ap (next_worlds start) whole)

@@ -10,9 +10,10 @@ use Rattle.rb_money.specs.declared.refusal.Refusal.TheVariants.{Conflict, NotRea
 use Rattle.rb_site.specs.declared.reply.Reply.TheVariants.{Already, Stale, Balance as BalanceIs}
 use Rattle.rb_shadow.specs.declared.op_name.OpName.{OpName}
 use Rattle.rb_shadow.specs.declared.shadow.Shadow.{Shadow}
-use Rattle.rb_shadow.specs.Operations.{Among, same_name, names, red_count, bal, find_in, is_eligible, same_shadow}
+use Rattle.rb_shadow.specs.Operations.{Among, names, red_count, bal, find_in, is_eligible, same_shadow}
 use Rattle.rb_shadow.specs.Sound.{fault_in}
 use Rattle.rb_shadow.proofs.Members
+use Rattle.rb_shadow.proofs.Lookups
 use Rattle.rb_ledger.specs.Checks.{refusal_of_sound}
 use Rattle.rb_token.specs.declared.message.TokenMessage.{TokenMessage}
 use Rattle.rb_site.specs.declared.message.Message.{Message}
@@ -112,22 +113,6 @@ past_check s ms t v None h = h refl
 past_check s ms t v (Some NotReady) h = tt
 past_check s ms t v (Some why) h = tt
 
-pub find_none : (us : List Shadow) (x : OpName) → find_in us x ≡ None → names us x ≡ false
-find_none [] x h = refl
-find_none (u ∷ us) x h = at (same_name u.name x) h (find_none us x)
-  where
-    at : (b : Bool) → cond b (Some u) (find_in us x) ≡ None → (find_in us x ≡ None → names us x ≡ false) → (b || names us x) ≡ false
-    at true k rest = cc
-    at false k rest = rest k
-
-pub find_some : (us : List Shadow) (x : OpName) (v : Shadow) → find_in us x ≡ Some v → Among v us × (v.name ≡ x)
-find_some [] x v h = cc
-find_some (u ∷ us) x v h = at (same_name u.name x) refl h (find_some us x v)
-  where
-    at : (b : Bool) → same_name u.name x ≡ b → cond b (Some u) (find_in us x) ≡ Some v → (find_in us x ≡ Some v → Among v us × (v.name ≡ x)) → Among v (u ∷ us) × (v.name ≡ x)
-    at true e k rest = let a : v ≡ u = cc in (inl a, ap (λ (w : Shadow). w.name) a ∙ Members.same_name-true u.name x e)
-    at false e k rest = let r : Among v us × (v.name ≡ x) = rest k in (inr r.0, r.1)
-
 comes_shadow : (s : Settings) (ms : List Message) (t : ModelSite) (v : Shadow) → Among v (shadows_in ms) → Comes s ms t (outcome_of_shadow s t v)
 unfolding outcome_of_shadow
 comes_shadow s ms t v sent =
@@ -136,7 +121,7 @@ comes_shadow s ms t v sent =
     past_test s ms t (v.home == t.me) _ _ (λ b.
     past_known s ms t v (find_in t.held v.name) _ (λ c.
     past_test s ms t (nat_le s.limits.inbox (length t.held) && not (is_eligible t.ops v)) InboxFull (Holds v) (λ d.
-    let r : MayHold ms t v = record { sent = sent; fresh = find_none t.ops v.name a; foreign = grind (arith, nat_tests); free = find_none t.held v.name c } in r)))))
+    let r : MayHold ms t v = record { sent = sent; fresh = Lookups.unnamed t.ops v.name a; foreign = grind (arith, nat_tests); free = Lookups.unnamed t.held v.name c } in r)))))
 
 comes_token : (s : Settings) (ms : List Message) (t : ModelSite) (m : TokenMessage) → AmongTokens m (tokens_in ms) → Comes s ms t (outcome_of_token s t m)
 unfolding outcome_of_token
@@ -189,7 +174,7 @@ comes s ms t (Submit r) h = comes_made s ms t _ (λ v k. made_is s t.me t.ops t.
 comes s ms t (Batch rs) h = past_test s ms t _ _ _ (λ a. comes_batch s ms t _ (λ vs k. batch_is s t.me t.ops t.token 0 rs vs k))
 comes s ms t (Receive (ShadowMessage v)) h = comes_shadow s ms t v h
 comes s ms t (Receive (TokenOnItsWay m)) h = comes_token s ms t m h
-comes s ms t (Apply x) h = comes_apply s ms t (find_in t.held x) (λ v k. (find_some t.held x v k).0)
+comes s ms t (Apply x) h = comes_apply s ms t (find_in t.held x) (λ v k. (Lookups.found t.held x v k).0)
 comes s ms t (Pass to) h = comes_pass s ms t to
 comes s ms t (Balance a) h = past_test s ms t (not (is_account s a)) _ _ (λ b. tt)
 comes s ms t (AsOf a n) h = past_test s ms t (not (is_account s a)) _ _ (λ b. past_test s ms t (nat_lt (length t.ops) n) PositionBeyond (Answers (BalanceIs (cents (bal s (take n t.ops) a)))) (λ c. tt))

@@ -4,7 +4,7 @@ use Rattle.std.specs.Prelude.{pos, ◌≤ℤ◌}
 use Rattle.std.proofs.lemmas.List.{append-nil}
 use Rattle.rb_money.specs.Settings.{Settings}
 use Rattle.rb_shadow.specs.declared.shadow.Shadow.{Shadow}
-use Rattle.rb_shadow.specs.Operations.{Among, EachEntry, IsWithin, bal, names, past}
+use Rattle.rb_shadow.specs.Operations.{Among, IsWithin, bal, names, past}
 use Rattle.rb_shadow.proofs.Members
 use Rattle.rb_ledger.specs.Valid.{IsValid}
 use Rattle.rb_ledger.proofs.Legal
@@ -27,16 +27,13 @@ serial_front all us vs l = record {
 
 empty_valid : (s : Settings) (all : List Shadow) → IsOrderedSet all → AreRight s all → IsSerial all [] → IsValid s []
 empty_valid s all o right l = record {
-  sound = none (λ before v. _);
+  sound = Order.no_entry _;
   unique = l.unique;
   past_before = l.past_before;
-  targets = none (λ before v. _);
-  colours = none (λ before v. _);
+  targets = Order.no_entry _;
+  colours = Order.no_entry _;
   covered = λ front back e a. subst (λ us. pos 0 ≤ℤ bal s us a) (sym (Legal.empty_front front back (sym e))) (Right.list_never_negative s all [] a o right l);
 }
-  where
-    none : (P : List Shadow → Shadow → Type 0) → EachEntry [] P
-    none P before v after e = absurd (Members.never_empty before after v (sym e))
 
 -- operation by operation, each of which passes its check
 longer_valid : (s : Settings) (all us vs : List Shadow) → IsOrderedSet all → AreRight s all → AreSound s all → IsSerial all (us ++ vs) → IsValid s us → IsValid s (us ++ vs)

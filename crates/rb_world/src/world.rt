@@ -1,5 +1,5 @@
 //! The sites of a bank, in one place.
-ghost use Rattle.std.specs.Prelude.{◌≡◌, ◌+◌, ◌≤◌, ◌++◌, [], Some, IsSomeAnd, IfSome, IfOk, IfErr, OnErr, All, is_some, length, false, map, option_copied, option_map, slice_get, take, vec_len, vec_capacity};
+ghost use Rattle.std.specs.Prelude.{◌≡◌, ◌+◌, ◌≤◌, ◌++◌, Some, IsSomeAnd, IfSome, IfOk, IfErr, OnErr, All, is_some, length, false, map, option_map, slice_get, take, vec_len, vec_capacity};
 ghost use Rattle.std.specs.List.{range_with_len};
 ghost use Rattle.rb_site.specs.Events.{first_site, is_full};
 ghost use Rattle.rb_site.specs.Reports.{AreReports};
@@ -10,12 +10,10 @@ ghost use Rattle.rb_world.specs.Laws.{Holds, IsRunOf, next_replies, next_reply, 
 
 use crate::Stopped;
 use rb_money::{Config, Refusal};
+use rb_scratch::MOST_REQUESTS;
 use rb_site::{Event, Message, Reply, Site, SiteReport, WorldEvent};
 use std::alloc::{AllocError, Global};
 use std::marker::Model;
-
-/// The most messages that one event sends.
-const MOST_SENT: usize = 16;
 
 /// One site for each site number, every message that was ever sent, and the events that the sites
 /// recorded. It is always the run of its events. It can't be dropped: it is closed.
@@ -173,7 +171,8 @@ impl World {
         ensures err { OnErr result (self.new ≡ self.old) }
     {
         self.recorded.reserve(1)?;
-        self.sent.reserve(MOST_SENT)?;
+        // An event sends at most one message for each request of a batch.
+        self.sent.reserve(MOST_REQUESTS)?;
         let (reply, posted) = self.seats[place as usize].step(arrived)?;
         self.recorded.push_reserved(event);
         send(&mut self.sent, posted);
@@ -195,7 +194,7 @@ impl World {
         self.seats.get(place as usize)
     }
 
-    /// Every message that was ever sent, in order. Whatever happened, all that was promised holds.
+    /// Every message that was ever sent, in order. Whatever happened, the laws of a world hold.
     pub fn messages(&self) -> &[Message]
         ensures same { result.now ≡ self.now.world.messages }
         ensures holds { Holds self.now.settings self.now.world }
@@ -203,7 +202,7 @@ impl World {
         self.sent.as_slice()
     }
 
-    /// The events that a site recorded, in order. The world is the run of them.
+    /// The events that the sites recorded, in order. The world is the run of them.
     pub fn events(&self) -> &[WorldEvent]
         ensures same { result.now ≡ self.now.events }
         ensures run { IsRunOf self.now }
