@@ -1,9 +1,9 @@
 -- What a request makes at a valid list may follow it.
 use Rattle.std.proofs.Common.{◌≡◌, ℕ, ◌+◌, ◌<◌, ◌≤◌, Bool, true, false, cond, not, ◌&&◌, ◌||◌, List, [], ◌∷◌, ◌++◌, length, refl, ap, sym, ◌∙◌, arith, subst, Option, Some, None, Ok}
 use Rattle.std.specs.Prelude.{ℤ, pos, negsuc, neg_ℤ, ◌+ℤ◌, ◌≤ℤ◌, nat_le, nat_lt, ◌==◌, option_and_then, int_lt}
+use Rattle.std.proofs.Math.Bool.{and-false}
 use Rattle.std.proofs.lemmas.Int.{ints}
 use Rattle.std.proofs.lemmas.Bool.Decides.{nat_tests}
-use Rattle.std.proofs.lemmas.List.{append-nil}
 use Rattle.std.proofs.lemmas.List.FromFn.{get_or-map-range_with_len}
 use Rattle.rb_money.specs.Amounts.{is_amount}
 use Rattle.rb_money.specs.Settings.{Settings, is_account, most_sites}
@@ -27,6 +27,7 @@ use Rattle.rb_shadow.proofs.Eligible
 use Rattle.rb_ledger.proofs.Legal
 use Rattle.rb_ledger.proofs.Pushes
 use Rattle.rb_ledger.proofs.ValidClocks
+use Rattle.rb_ledger.proofs.Walks
 use Rattle.rb_token.specs.Token.{Token}
 use Rattle.rb_scratch.specs.declared.request.Request.{Request}
 use Rattle.rb_scratch.specs.Requests.{Plan, next_name, colour_of_plan, operation_of, plan_of, made_of}
@@ -125,7 +126,7 @@ fresh_name s me us RedColour valid = ValidClocks.valid_counted s us valid (Red (
     past_end : (n : ℕ) → (nat_le 1 (n + 1) && nat_le (n + 1) n) ≡ false
     past_end n = grind (arith, nat_tests)
 
-shows : (me : ℕ) (us : List Shadow) (c : Colour) → shown_colour (next_name me us c) ≡ c
+pub shows : (me : ℕ) (us : List Shadow) (c : Colour) → shown_colour (next_name me us c) ≡ c
 shows me us BlueColour = refl
 shows me us RedColour = refl
 
@@ -141,9 +142,6 @@ plan_follows s me us p few here valid fit covered = record {
   colour = shows me us (colour_of_plan us p);
   covered = covered;
 }
-
-valid_now : (s : Settings) (us : List Shadow) (a : Place) → IsValid s us → pos 0 ≤ℤ bal s us a
-valid_now s us a valid = valid.covered us [] (sym (append-nil us)) a
 
 covered_after : (s : Settings) (me : ℕ) (us : List Shadow) (p : Plan) (z : ℤ) → IsValid s us → HasTarget us (shadow_of me us p) p.kind → Pushes.change_of us p.kind p.amount ≡ z → pos 0 ≤ℤ (bal s us p.account +ℤ z) → pos 0 ≤ℤ bal s (us ++ shadow_of me us p ∷ []) p.account
 covered_after s me us p z valid target is ok =
@@ -165,13 +163,9 @@ cond_least : (b : Bool) (z : ℤ) → pos 0 ≤ℤ z → pos 0 ≤ℤ cond b (po
 cond_least true z h = omega (arith, ints)
 cond_least false z h = h
 
-enough : (z : ℤ) (n : ℕ) → int_lt z (pos n) ≡ false → pos n ≤ℤ z
+pub enough : (z : ℤ) (n : ℕ) → int_lt z (pos n) ≡ false → pos n ≤ℤ z
 enough (pos m) n h = let low : n ≤ m = grind (arith, nat_tests) in omega (arith, ints)
 enough (negsuc m) n h = cc
-
-none_free : (b : Bool) → (b && false) ≡ false
-none_free true = refl
-none_free false = refl
 
 measure : (n : ℕ) (b : Bool) → is_amount n ≡ true → (nat_lt 100000000000 n ≡ false) × ((n == 0 && b) ≡ false)
 measure n b h = let q : (1 ≤ n) × (n ≤ 100000000000) = Clocks.in_range-true n 100000000000 h in let low = q.0 in let high = q.1 in
@@ -204,7 +198,7 @@ fit_cancel : (s : Settings) (me : ℕ) (us : List Shadow) (p : Plan) (x : OpName
 fit_cancel s me us p x valid e c within = record {
   account = ap (λ (a : Place). nat_le (length s.starts) a.0) (sym c.account) ∙ facts.account;
   amount = ap (nat_lt 100000000000) (sym c.amount) ∙ facts.amount;
-  something = ap (λ j. p.amount == 0 && not (may_be_nothing j)) e ∙ none_free (p.amount == 0);
+  something = ap (λ j. p.amount == 0 && not (may_be_nothing j)) e ∙ and-false (p.amount == 0);
   target = subst (HasTarget us (shadow_of me us p)) (sym e) (c.target, c.there, c.named, record { kind = c.kind; account = c.account; amount = c.amount });
   within = within;
 }
@@ -219,7 +213,7 @@ fit : (s : Settings) (me : ℕ) (us : List Shadow) (p : Plan) (k : Kind) → IsV
 fit s me us p Deposit valid e h within = let m = measure p.amount true h.amount in fit_plain s me us p Deposit e h.account m.0 m.1 tt within
 fit s me us p Withdraw valid e h within = let m = measure p.amount true h.0.amount in fit_plain s me us p Withdraw e h.0.account m.0 m.1 tt within
 fit s me us p Declined valid e h within = let m = measure p.amount true h.amount in fit_plain s me us p Declined e h.account m.0 m.1 tt within
-fit s me us p Interest valid e h within = fit_plain s me us p Interest e h.0 h.1 (none_free (p.amount == 0)) tt within
+fit s me us p Interest valid e h within = fit_plain s me us p Interest e h.0 h.1 (and-false (p.amount == 0)) tt within
 fit s me us p (Cancel x) valid e h within = fit_cancel s me us p x valid e h within
 
 -- ---- the money
@@ -248,16 +242,16 @@ covered_cancel s me us token p x valid e c target fair = at (colour_of_plan us p
         let change : Pushes.change_of us p.kind p.amount ≡ cond (is_cancelled us x) (pos 0) (Pushes.given_back (Some c.target.kind) p.amount) =
         ap (λ j. Pushes.change_of us j p.amount) e ∙ ap (λ o. cond (is_cancelled us x) (pos 0) (Pushes.given_back o p.amount)) kind_is in
         let least : pos 0 ≤ℤ cond (is_cancelled us x) (pos 0) (Pushes.given_back (Some c.target.kind) p.amount) = cond_least (is_cancelled us x) _ gives in
-        covered_after s me us p _ valid target change (omega (arith, ints, least, valid_now s us p.account valid))
+        covered_after s me us p _ valid target change (omega (arith, ints, least, Walks.covers s us p.account valid))
 
 -- what is planned and allowed leaves its account no less than nothing
 covered : (s : Settings) (me : ℕ) (us : List Shadow) (token : Token) (p : Plan) (k : Kind) → IsValid s us → p.kind ≡ k → IsPlanned s us p k → HasTarget us (shadow_of me us p) p.kind
     → IsAllowed s us token (shadow_of me us p) (next_name me us (colour_of_plan us p))
     → pos 0 ≤ℤ bal s (us ++ shadow_of me us p ∷ []) p.account
-covered s me us token p Deposit valid e h target fair = covered_plain s me us p Deposit (pos p.amount) valid e target refl (omega (arith, ints, valid_now s us p.account valid))
+covered s me us token p Deposit valid e h target fair = covered_plain s me us p Deposit (pos p.amount) valid e target refl (omega (arith, ints, Walks.covers s us p.account valid))
 covered s me us token p Withdraw valid e h target fair = covered_plain s me us p Withdraw (neg_ℤ (pos p.amount)) valid e target refl (let some : pos p.amount ≤ℤ bal s us p.account = enough (bal s us p.account) p.amount h.1 in omega (arith, ints, some))
-covered s me us token p Declined valid e h target fair = covered_plain s me us p Declined (pos 0) valid e target refl (omega (arith, ints, valid_now s us p.account valid))
-covered s me us token p Interest valid e h target fair = covered_plain s me us p Interest (pos p.amount) valid e target refl (omega (arith, ints, valid_now s us p.account valid))
+covered s me us token p Declined valid e h target fair = covered_plain s me us p Declined (pos 0) valid e target refl (omega (arith, ints, Walks.covers s us p.account valid))
+covered s me us token p Interest valid e h target fair = covered_plain s me us p Interest (pos p.amount) valid e target refl (omega (arith, ints, Walks.covers s us p.account valid))
 covered s me us token p (Cancel x) valid e h target fair = covered_cancel s me us token p x valid e h target fair
 
 -- what a site makes at a valid list may follow it

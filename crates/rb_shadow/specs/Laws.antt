@@ -17,7 +17,7 @@ IsClosed vs = (v : Shadow) → Among v vs → IsWithin (past v) (names vs)
 abbrev pub CancellationCommutes : Type 0
 CancellationCommutes = (s : Settings) (us vs : List Shadow) → IsUnique us → IsUnique vs → IsPart us vs → IsPart vs us → Agree s us vs
 
--- where a balance comes from in a list of operations: the list has no red one, and no less than the start; or it has a red one whose past, with it, left no balance negative, and has no less than that
+-- where a balance comes from in a list of operations: the list has no red one, and no less than the start; or it has a red one after whose past, with it, the balance was not negative, and has no less than that
 abbrev pub IsFunded : Settings → List Shadow → List Shadow → Place → Type 0
 IsFunded s all vs a =
     (((v : Shadow) → Among v vs → is_red v.name ≡ false) × (pos (start_of s a) ≤ℤ bal s vs a))

@@ -8,7 +8,7 @@ use Rattle.rb_scratch.specs.declared.request.Request.TheVariants.{Deposit, Withd
 use Rattle.rb_statements.proofs.Exact.{IsExact, both, each, names_exact, number_same, number_sound}
 
 -- equality of places
-place_sound : (a b : Place) → (a.0 == b.0) ≡ true → a ≡ b
+pub place_sound : (a b : Place) → (a.0 == b.0) ≡ true → a ≡ b
 place_sound a b h =
     let place : ℕ → Place = λ n. record { 0 = n } in
     ap place (number_sound a.0 b.0 h)

@@ -53,7 +53,7 @@ same_outcome s t h (AsOf a n) = refl
 same_outcome s t h (AskStatement a) = refl
 
 -- nor does what it changes
-changed-with_history : (t : ModelSite) (h : List Entry) (o : Outcome) → changed (with_history t h) o ≡ with_history (changed t o) h
+pub changed-with_history : (t : ModelSite) (h : List Entry) (o : Outcome) → changed (with_history t h) o ≡ with_history (changed t o) h
 changed-with_history t h (Refuses why) = refl
 changed-with_history t h (Answers r) = refl
 changed-with_history t h (Drops x why) = refl

@@ -15,7 +15,8 @@ use Rattle.rb_site.specs.declared.entry.Entry.{Entry}
 use Rattle.rb_site.specs.declared.reply.Reply.{Reply}
 use Rattle.rb_site.specs.declared.reply.Reply.TheVariants.{Already, Stale}
 use Rattle.rb_site.proofs.States.{same_outcome, with_history}
-use Rattle.rb_site.specs.Events.{refuses_first, Answers, Applies, Drops, Holds, Makes, ModelSite, Outcome, Passes, Refuses, Takes, after_event, after_events, changed, first_site, is_full, noted, outcome_of, outcome_of_shadow, outcome_of_token, refuses_if, replies_to_events, reply_of, reply_to, unless_faulty, unless_known}
+use Rattle.rb_site.specs.Events.{refuses_first, Answers, Holds, ModelSite, Outcome, Refuses, Takes, after_event, after_events, changed, first_site, is_full, noted, outcome_of, outcome_of_shadow, outcome_of_token, refuses_if, replies_to_events, reply_of, reply_to, unless_faulty, unless_known}
+use Rattle.rb_site.proofs.States.{changed-with_history}
 use Rattle.rb_world.specs.Laws.{AreAlike, is_receive, is_refused, is_refused_receive, other_replies, without_refused}
 use Rattle.rb_world.proofs.CaughtUp
 use Rattle.rb_world.proofs.Ready
@@ -73,16 +74,6 @@ refused_changes_nothing s t (AskStatement a) h k = cc
 
 -- ---- one event
 
-change_alike : (t : ModelSite) (h : List Entry) (o : Outcome) → changed (with_history t h) o ≡ with_history (changed t o) h
-change_alike t h (Refuses why) = refl
-change_alike t h (Answers r) = refl
-change_alike t h (Drops x why) = refl
-change_alike t h (Makes r vs) = refl
-change_alike t h (Holds v) = refl
-change_alike t h (Applies v) = refl
-change_alike t h (Takes m) = refl
-change_alike t h (Passes m) = refl
-
 -- the site with another history goes on alike
 goes_alike : (s : Settings) (t : ModelSite) (h : List Entry) (e : Event) → is_full s t ≡ false → is_full s (with_history t h) ≡ false
     → (k : List Entry) × (after_event s (with_history t h) e ≡ with_history (after_event s t e) k) × (length k ≡ length h + 1)
@@ -98,7 +89,7 @@ goes_alike s t h e room room' = (k, is, length-append h _)
     is =
         CaughtUp.after_roomy s (with_history t h) e room'
         ∙ ap (λ o. noted (changed (with_history t h) o) e (reply_of o)) (same_outcome s t h e)
-        ∙ ap (λ u. noted u e (reply_of o)) (change_alike t h o)
+        ∙ ap (λ u. noted u e (reply_of o)) (changed-with_history t h o)
         ∙ sym (ap (λ u. with_history u k) (CaughtUp.after_roomy s t e room))
 
 -- a refused Receive leaves the site but for the history

@@ -22,6 +22,7 @@ use Rattle.rb_shadow.proofs.Same.{same_shadow-refl}
 use Rattle.rb_ledger.specs.Checks.{has_wrong_target, is_wrong_target, refusal_of_sound, same_colour}
 use Rattle.rb_ledger.proofs.Legal
 use Rattle.rb_ledger.proofs.Pushes
+use Rattle.rb_statements.proofs.Exact.{number_same}
 use Rattle.rb_token.specs.declared.message.TokenMessage.{TokenMessage}
 use Rattle.rb_money.specs.Refusals.{first_if}
 use Rattle.rb_site.specs.declared.message.Message.{Message}
@@ -41,9 +42,6 @@ use Rattle.rb_world.proofs.Right
 use Rattle.rb_world.proofs.Right.{AreRight, HasKind}
 use Rattle.rb_world.proofs.Good.{IsGood}
 use Rattle.rb_world.proofs.Sound.{IsBounded}
-
-same_number : (n : ℕ) → (n == n) ≡ true
-same_number n = grind (arith, nat_tests)
 
 -- ---- looking up a name
 
@@ -94,7 +92,7 @@ right_target all us v (Cancel x) unique part within h =
     let named : find_in us h.target.name ≡ Some u = ap (find_in us) h.named ∙ e in
     let is : u ≡ h.target = found_is all us u h.target unique part h.there named in
     ap (is_wrong_target v) e ∙ ap (λ (t : Shadow). is_wrong_target v (Some t)) is
-    ∙ Members.false-or _ _ (Members.false-or _ _ (ap not h.right.kind) (ap not (ap (λ (a : Place). a.0 == v.account.0) h.right.account ∙ same_number v.account.0))) (ap not (ap (λ n. n == v.amount) h.right.amount ∙ same_number v.amount))
+    ∙ Members.false-or _ _ (Members.false-or _ _ (ap not h.right.kind) (ap not (ap (λ (a : Place). a.0 == v.account.0) h.right.account ∙ number_same v.account.0))) (ap not (ap (λ n. n == v.amount) h.right.amount ∙ number_same v.amount))
 
 -- a list with one more that has its past there is closed
 closed_more : (us : List Shadow) (v : Shadow) → IsClosed us → IsWithin (past v) (names us) → IsClosed (us ++ v ∷ [])

@@ -1,7 +1,6 @@
 -- Each operation made has its kind's colour and target, and each red one was covered where it was made.
 use Rattle.std.proofs.Common.{◌≡◌, ℕ, Bool, true, false, cond, ◌&&◌, List, [], ◌∷◌, ◌++◌, refl, ap, sym, ◌∙◌, arith, inl, inr, subst, Some}
-use Rattle.std.specs.Prelude.{◌==◌, ℤ, pos, neg_ℤ, ◌+ℤ◌, ◌≤ℤ◌, int_lt, option_and_then}
-use Rattle.std.proofs.lemmas.Bool.Decides.{nat_tests}
+use Rattle.std.specs.Prelude.{◌==◌, pos, neg_ℤ, ◌+ℤ◌, ◌≤ℤ◌, option_and_then}
 use Rattle.std.proofs.lemmas.Int.{ints}
 use Rattle.rb_money.specs.Settings.{Settings}
 use Rattle.rb_money.specs.declared.place.Place.{Place}
@@ -26,6 +25,8 @@ use Rattle.rb_scratch.specs.Requests.{Plan, colour_of_plan, next_name, operation
 use Rattle.rb_token.specs.Token.{Token}
 use Rattle.rb_scratch.proofs.Planned.{IsPlanned, planned}
 use Rattle.rb_scratch.proofs.Made.{IsAllowed, IsMadeAt}
+use Rattle.rb_scratch.proofs.Makes
+use Rattle.rb_site.proofs.Exact.{place_sound}
 use Rattle.rb_world.proofs.Order
 use Rattle.rb_world.proofs.Order.{IsNew, IsOrderedSet, IsSerial}
 
@@ -121,13 +122,6 @@ list_never_negative s all us a o right l = never_negative s all us a o right l.p
 
 -- ---- what is made is right
 
-not_below : (z : ℤ) (n : ℕ) → int_lt z (pos n) ≡ false → pos n ≤ℤ z
-not_below z n h = grind (arith, ints)
-
-shown-next : (me : ℕ) (us : List Shadow) (c : Colour) → shown_colour (next_name me us c) ≡ c
-shown-next me us BlueColour = refl
-shown-next me us RedColour = refl
-
 red_name : (me : ℕ) (us : List Shadow) (x : OpName) → x ≡ next_name me us RedColour → is_red x ≡ true
 red_name me us x e = ap is_red e
 
@@ -159,7 +153,7 @@ kind_made s all us me v p (Cancel x) unique part is_past m e h = record {
   named = h.named;
   seen = is_past x ∙ ap (names us) (sym h.named) ∙ Members.named us h.target h.there;
   right = record { kind = h.kind; account = h.account ∙ sym m.account; amount = h.amount ∙ sym m.amount };
-  colour = ap shown_colour m.name ∙ shown-next me us (colour_of_plan us p) ∙ plan_colour us p (Cancel x) e ∙ ap (colour_of (Cancel x)) (ap (kind_in us) (sym h.named) ∙ Pushes.kind_in-named us h.target unique h.there);
+  colour = ap shown_colour m.name ∙ Makes.shows me us (colour_of_plan us p) ∙ plan_colour us p (Cancel x) e ∙ ap (colour_of (Cancel x)) (ap (kind_in us) (sym h.named) ∙ Pushes.kind_in-named us h.target unique h.there);
 }
 
 -- what is made has its target in the list
@@ -184,16 +178,13 @@ not_cancelled s all us x right part fresh = elim (Members.bool_cases (is_cancell
     never c Interest h e = cc
     never c (Cancel y) h e = Members.true≢false (sym (Members.named all h.target h.there) ∙ ap (names all) (h.named ∙ Members.same_name-true y x e) ∙ fresh)
 
-same_place : (a b : Place) → (a.0 == b.0) ≡ true → a ≡ b
-same_place a b h = let e : a.0 ≡ b.0 = grind (arith, nat_tests) in ap (λ n. let p : Place = record { 0 = n } in p) e
-
 -- a red operation leaves no account below zero
 covered_made : (s : Settings) (us : List Shadow) (me : ℕ) (token : Token) (v : Shadow) (p : Plan) (k : Kind) (a : Place)
     → Made s us me v p → p.kind ≡ k → IsPlanned s us p k → ((b : Place) → pos 0 ≤ℤ bal s us b)
     → bal s (us ++ v ∷ []) a ≡ bal s us a +ℤ Pushes.change us v a
     → is_red v.name ≡ true → IsAllowed s us token v v.name → HasKind us v k → pos 0 ≤ℤ bal s (us ++ v ∷ []) a
 covered_made s us me token v p k a m e h base push red fair kind = elim (Members.bool_cases (v.account.0 == a.0)) [
-  | inl q ↦ own k e h kind (same_place v.account a q) (ap (λ b. cond b (Pushes.change_of us v.kind v.amount) (pos 0)) q)
+  | inl q ↦ own k e h kind (place_sound v.account a q) (ap (λ b. cond b (Pushes.change_of us v.kind v.amount) (pos 0)) q)
   | inr q ↦ (let z : Pushes.change us v a ≡ pos 0 = ap (λ b. cond b (Pushes.change_of us v.kind v.amount) (pos 0)) q in omega (arith, ints, push, z, base a))
 ]
   where
@@ -210,7 +201,7 @@ covered_made s us me token v p k a m e h base push red fair kind = elim (Members
     own Declined e h kind q z = absurd (Members.true≢false (sym red ∙ kind))
     own Interest e h kind q z = absurd (Members.true≢false (sym red ∙ kind))
     own Withdraw e h kind q z =
-        let enough : pos p.amount ≤ℤ bal s us p.account = not_below _ _ h.1 in
+        let enough : pos p.amount ≤ℤ bal s us p.account = Makes.enough _ _ h.1 in
         let here : bal s us p.account ≡ bal s us a = ap (bal s us) (sym m.account ∙ q) in
         let takes : Pushes.change us v a ≡ neg_ℤ (pos p.amount) = z ∙ ap (λ k. Pushes.change_of us k v.amount) (m.kind ∙ e) ∙ ap (λ n. neg_ℤ (pos n)) m.amount in
         omega (arith, ints, enough, here, takes, push)
