@@ -97,9 +97,9 @@ waits s me ops held token x v a found eligible sound refusal is =
     (refl, is)
 
 -- what a ledger's refusal is, but for want of memory
-pub refusal_is : (why : Refusal) (o : Option Refusal) → (o ≡ Some why) ⊎ (why ≡ OutOfMemory) → (why ≡ OutOfMemory → ⊥) → o ≡ Some why
+pub refusal_is : (why : Refusal) (o : Option Refusal) → (o ≡ Some why) ⊎ ((why ≡ OutOfMemory) × (o ≡ None)) → (why ≡ OutOfMemory → ⊥) → o ≡ Some why
 refusal_is why o (inl e) memory = e
-refusal_is why o (inr h) memory = absurd (memory h)
+refusal_is why o (inr h) memory = absurd (memory h.0)
 
 pub not_memory : (why : Refusal) → why ≡ NotReady → why ≡ OutOfMemory → ⊥
 not_memory why e h = let bad : NotReady ≡ OutOfMemory = sym e ∙ h in cc
@@ -217,11 +217,3 @@ tied_with s inbox later token v grown sound tied =
       limit = tied.limit;
       sound = λ u h. elim (held_cases v inbox.held u h) [ inl e ↦ subst (IsSound s) (sym e) sound | inr k ↦ tied.sound u k ];
     })
-
--- a received shadow that isn't known here comes to what a new one does
-pub comes_to_new : (s : Settings) (t : ModelSite) (v : Shadow) → fault_in s v ≡ None → find_in t.ops v.name ≡ None → (v.home == t.me) ≡ false → outcome_of_shadow s t v ≡ outcome_of_new s t v
-unfolding outcome_of_shadow
-comes_to_new s t v sound fresh other =
-    ap (λ o. unless_faulty o (unless_known v (find_in t.ops v.name) (refuses_if (v.home == t.me) Conflict (outcome_of_new s t v)))) sound
-    ∙ ap (λ o. unless_known v o (refuses_if (v.home == t.me) Conflict (outcome_of_new s t v))) fresh
-    ∙ ap (λ b. refuses_if b Conflict (outcome_of_new s t v)) other
