@@ -1,6 +1,6 @@
 -- What each handler of a site does is what the event comes to.
 use Rattle.std.proofs.Common.{◌≡◌, ℕ, ◌≤◌, Bool, true, false, cond, not, ◌&&◌, ◌⊎◌, inl, inr, List, [], ◌∷◌, ◌++◌, length, refl, ap, sym, subst, ◌∙◌, arith, Option, Some, None, Result, Ok, Err, IfOk}
-use Rattle.std.specs.Prelude.{nat_le, ◌==◌}
+use Rattle.std.specs.Prelude.{nat_le}
 use Rattle.std.proofs.lemmas.Bool.Decides.{nat_tests}
 use Rattle.std.specs.declared.alloc.AllocError.{AllocError}
 use Rattle.rb_money.specs.Settings.{Settings, most_sites}
@@ -9,7 +9,7 @@ use Rattle.rb_money.specs.declared.refusal.Refusal.TheVariants.{NotReady, InboxF
 use Rattle.rb_shadow.proofs.Eligible
 use Rattle.rb_shadow.proofs.Same
 use Rattle.rb_shadow.specs.Operations.{Among, find_in, is_eligible, names_of_clock, red_count, same_shadow, clock_of}
-use Rattle.rb_shadow.specs.Sound.{IsSound, fault_in}
+use Rattle.rb_shadow.specs.Sound.{IsSound}
 use Rattle.rb_shadow.specs.declared.op_name.OpName.{OpName}
 use Rattle.rb_shadow.specs.declared.deps.Deps.{Deps}
 use Rattle.rb_shadow.specs.declared.shadow.Shadow.{Shadow}
@@ -25,7 +25,7 @@ use Rattle.rb_site.specs.declared.answer.Answer.{Answer}
 use Rattle.rb_site.specs.declared.reply.Reply.{Reply}
 use Rattle.rb_site.specs.declared.reply.Reply.TheVariants.{Held, Already, Applied, Passed, Refused}
 use Rattle.rb_site.specs.declared.message.Message.TheVariants.{Token as TokenOnItsWay}
-use Rattle.rb_site.specs.Events.{ModelSite, Outcome, Refuses, Drops, Answers, Holds, Passes, outcome_of_apply, outcome_of_check, outcome_of_new, outcome_of_pass, outcome_of_shadow, refuses_first, refuses_if, unless_faulty, unless_known}
+use Rattle.rb_site.specs.Events.{ModelSite, Outcome, Refuses, Drops, Answers, Holds, Passes, outcome_of_apply, outcome_of_check, outcome_of_new, outcome_of_pass, refuses_first, refuses_if, unless_known}
 use Rattle.rb_site.specs.States.{Follows, IsTied, Says, SiteState}
 
 -- what follows an outcome follows an equal one

@@ -1,6 +1,7 @@
 -- Worked scripts: the replies of a world, computed.
-use Rattle.std.proofs.Common.{◌≡◌, ℕ, true, false, [], ◌∷◌, refl}
+use Rattle.std.proofs.Common.{◌≡◌, ℕ, true, false, List, [], ◌∷◌, refl}
 use Rattle.std.specs.Prelude.{pos, negsuc, codes}
+use Rattle.rb_money.specs.Settings.{Settings}
 use Rattle.rb_money.specs.declared.place.Place.{Place}
 use Rattle.rb_money.specs.declared.refusal.Cause.TheVariants.{Declined as DeclinedCause, Refused as RefusedCause}
 use Rattle.rb_money.specs.declared.refusal.Refusal.TheVariants.{UnknownAccount, BadAmount, BadRate, UnknownOperation, NotCancellable, AlreadyCancelled, NumbersExhausted, NeedToken, RedBehind, WouldOverdraw, DeltaTooLarge, BadBatch, BatchRefused, NotHeld, NotReady, InboxFull, NoMessage, NoSite, NotYours, PositionBeyond, HistoryFull}
@@ -10,16 +11,27 @@ use Rattle.rb_shadow.specs.Sound.{fault_of}
 use Rattle.rb_scratch.specs.declared.request.Request.TheVariants.{Deposit as AskDeposit, Withdraw as AskWithdraw, Interest as AskInterest, Cancel as AskCancel}
 use Rattle.rb_shadow.specs.declared.label.Label.TheVariants.{Deposit as DepositLabel, Withdraw as WithdrawLabel, Declined as DeclinedLabel, Interest as InterestLabel, Cancel as CancelLabel}
 use Rattle.rb_site.specs.declared.event.Event.TheVariants.{Submit, Batch, Apply, Pass, Balance, AsOf, Statement as AskStatement}
+use Rattle.rb_site.specs.declared.reply.Reply.{Reply}
 use Rattle.rb_site.specs.declared.reply.Reply.TheVariants.{Made, Names as NamesMade, Held, Already, Taken, Stale, Applied, Passed, Balance as BalanceIs, Statement as StatementIs, Refused}
+use Rattle.rb_site.specs.declared.world_event.WorldEvent.{WorldEvent}
 use Rattle.rb_site.specs.declared.world_event.WorldEvent.TheVariants.{At, Deliver}
 use Rattle.rb_scratch.specs.Requests.{plan_of, operation_of, allowed, made_of}
 use Rattle.rb_site.specs.Events.{outcome_of, outcome_of_shadow, outcome_of_token, outcome_of_apply, outcome_of_pass}
 use Rattle.rb_scratch.specs.Batches.{made_in_batch, batch_of}
 use Rattle.rb_statements.specs.Statements.{statement_of}
-use Rattle.rb_site.specs.Worlds.{replies_of_run}
+use Rattle.rb_site.specs.Worlds.{World, first_world, reply_in, world_after}
 
 place : ℕ → Place
 place n = record { 0 = n }
+
+-- the replies to a list of events
+abbrev pub replies_of_all : Settings → World → List WorldEvent → List Reply
+replies_of_all s w [] = []
+replies_of_all s w (e ∷ es) = reply_in s w e ∷ replies_of_all s (world_after s w e) es
+
+-- the replies to a list of events from the start
+abbrev pub replies_of_run : Settings → List WorldEvent → List Reply
+replies_of_run s es = replies_of_all s (first_world s) es
 
 deposit_delivered_and_applied : replies_of_run (record { sites = 2; names = codes "ann" ∷ []; starts = (0) ∷ []; limits = record { blue = 1000000; red = 1000000; inbox = 4096; history = 100000000; epoch = 4000000000 } })
     ((At 0 (Submit (AskDeposit (place 0) 500))) ∷ (At 0 (Balance (place 0))) ∷ (At 1 (Balance (place 0))) ∷ (Deliver 1 1) ∷ (At 1 (Apply (Blue 0 1))) ∷ (At 1 (Balance (place 0))) ∷ [])
