@@ -6,7 +6,7 @@ use rb_token::TokenMessage;
 /// What sites send one another.
 #[derive(Clone, Copy, Debug, PartialEq, Eq)]
 pub enum Message {
-    /// An operation that the sender made.
+    /// An operation.
     Shadow(Shadow),
     /// The token.
     Token(TokenMessage),
