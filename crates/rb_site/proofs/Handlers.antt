@@ -1,6 +1,6 @@
 -- What each handler of a site does is what the event comes to.
 use Rattle.std.proofs.Common.{◌≡◌, ℕ, ◌≤◌, Bool, true, false, cond, not, ◌&&◌, ◌⊎◌, inl, inr, List, [], ◌∷◌, ◌++◌, length, refl, ap, sym, subst, ◌∙◌, arith, Option, Some, None, Result, Ok, Err, IfOk}
-use Rattle.std.specs.Prelude.{nat_le, ◌==◌}
+use Rattle.std.specs.Prelude.{nat_le}
 use Rattle.std.proofs.lemmas.Bool.Decides.{nat_tests}
 use Rattle.std.specs.declared.alloc.AllocError.{AllocError}
 use Rattle.rb_money.specs.Settings.{Settings, most_sites}
@@ -9,7 +9,7 @@ use Rattle.rb_money.specs.declared.refusal.Refusal.TheVariants.{NotReady, InboxF
 use Rattle.rb_shadow.proofs.Eligible
 use Rattle.rb_shadow.proofs.Same
 use Rattle.rb_shadow.specs.Operations.{Among, find_in, is_eligible, names_of_clock, red_count, same_shadow, clock_of}
-use Rattle.rb_shadow.specs.Sound.{IsSound, fault_in}
+use Rattle.rb_shadow.specs.Sound.{IsSound}
 use Rattle.rb_shadow.specs.declared.op_name.OpName.{OpName}
 use Rattle.rb_shadow.specs.declared.deps.Deps.{Deps}
 use Rattle.rb_shadow.specs.declared.shadow.Shadow.{Shadow}
@@ -26,7 +26,7 @@ use Rattle.rb_site.specs.declared.answer.Answer.{Answer}
 use Rattle.rb_site.specs.declared.reply.Reply.{Reply}
 use Rattle.rb_site.specs.declared.reply.Reply.TheVariants.{Held, Already, Applied, Passed, Refused}
 use Rattle.rb_site.specs.declared.message.Message.TheVariants.{Token as TokenOnItsWay}
-use Rattle.rb_site.specs.Events.{ModelSite, Outcome, Refuses, Drops, Answers, Holds, Passes, outcome_of_apply, outcome_of_check, outcome_of_new, outcome_of_pass, outcome_of_shadow, refuses_first, refuses_if, unless_faulty, unless_known}
+use Rattle.rb_site.specs.Events.{ModelSite, Outcome, Refuses, Drops, Answers, Holds, Passes, outcome_of_apply, outcome_of_check, outcome_of_new, outcome_of_pass, refuses_first, refuses_if, unless_known}
 use Rattle.rb_site.specs.States.{Follows, IsTied, Says, SiteState}
 
 -- what follows an outcome follows an equal one
@@ -98,9 +98,9 @@ waits s me ops held token x v a found eligible sound refusal is =
     (refl, is)
 
 -- what a ledger's refusal is, but for want of memory
-pub refusal_is : (why : Refusal) (o : Option Refusal) → (o ≡ Some why) ⊎ (why ≡ OutOfMemory) → (why ≡ OutOfMemory → ⊥) → o ≡ Some why
+pub refusal_is : (why : Refusal) (o : Option Refusal) → (o ≡ Some why) ⊎ ((why ≡ OutOfMemory) × (o ≡ None)) → (why ≡ OutOfMemory → ⊥) → o ≡ Some why
 refusal_is why o (inl e) memory = e
-refusal_is why o (inr h) memory = absurd (memory h)
+refusal_is why o (inr h) memory = absurd (memory h.0)
 
 pub not_memory : (why : Refusal) → why ≡ NotReady → why ≡ OutOfMemory → ⊥
 not_memory why e h = let bad : NotReady ≡ OutOfMemory = sym e ∙ h in cc
@@ -218,11 +218,3 @@ tied_with s inbox later token v grown sound tied =
       limit = tied.limit;
       sound = λ u h. elim (held_cases v inbox.held u h) [ inl e ↦ subst (IsSound s) (sym e) sound | inr k ↦ tied.sound u k ];
     })
-
--- a received shadow that isn't known here comes to what a new one does
-pub comes_to_new : (s : Settings) (t : ModelSite) (v : Shadow) → fault_in s v ≡ None → find_in t.ops v.name ≡ None → (v.home == t.me) ≡ false → outcome_of_shadow s t v ≡ outcome_of_new s t v
-unfolding outcome_of_shadow
-comes_to_new s t v sound fresh other =
-    ap (λ o. unless_faulty o (unless_known v (find_in t.ops v.name) (refuses_if (v.home == t.me) Conflict (outcome_of_new s t v)))) sound
-    ∙ ap (λ o. unless_known v o (refuses_if (v.home == t.me) Conflict (outcome_of_new s t v))) fresh
-    ∙ ap (λ b. refuses_if b Conflict (outcome_of_new s t v)) other

@@ -9,24 +9,16 @@ use Rattle.rb_site.specs.declared.event.Event.TheVariants.{Receive}
 use Rattle.rb_site.specs.declared.message.Message.{Message}
 use Rattle.rb_site.specs.declared.world_event.WorldEvent.{WorldEvent}
 use Rattle.rb_site.specs.declared.world_event.WorldEvent.TheVariants.{At, Deliver}
-use Rattle.rb_site.specs.Events.{Answers, Applies, Drops, Holds, IsRunOfItsHistory, Makes, ModelSite, Outcome, Passes, Refuses, Takes, after_event, after_events, changed, first_site, is_full, noted, outcome_of, replies_to_events, reply_of, reply_to, sent_by}
-use Rattle.rb_site.specs.Worlds.{World, is_recorded, is_recorded_at, message_at, replies_of_all, reply_in, world_after, world_after_all, world_at, world_delivered}
+use Rattle.rb_site.specs.Events.{Answers, Applies, Drops, Holds, Makes, ModelSite, Outcome, Passes, Refuses, Takes, after_event, after_events, changed, first_site, is_full, noted, outcome_of, reply_of, sent_by}
+use Rattle.rb_site.specs.Worlds.{World, is_recorded, is_recorded_at, message_at, world_after, world_after_all, world_at, world_delivered}
 
 pub after_events-append : (s : Settings) (es fs : List Event) (t : ModelSite) → after_events s t (es ++ fs) ≡ after_events s (after_events s t es) fs
 after_events-append s [] fs t = refl
 after_events-append s (e ∷ es) fs t = after_events-append s es fs (after_event s t e)
 
-pub replies-append : (s : Settings) (es fs : List Event) (t : ModelSite) → replies_to_events s t (es ++ fs) ≡ replies_to_events s t es ++ replies_to_events s (after_events s t es) fs
-replies-append s [] fs t = refl
-replies-append s (e ∷ es) fs t = ap (λ rs. reply_to s t e ∷ rs) (replies-append s es fs (after_event s t e))
-
 pub world-append : (s : Settings) (es fs : List WorldEvent) (w : World) → world_after_all s w (es ++ fs) ≡ world_after_all s (world_after_all s w es) fs
 world-append s [] fs w = refl
 world-append s (e ∷ es) fs w = world-append s es fs (world_after s w e)
-
-pub world_replies-append : (s : Settings) (es fs : List WorldEvent) (w : World) → replies_of_all s w (es ++ fs) ≡ replies_of_all s w es ++ replies_of_all s (world_after_all s w es) fs
-world_replies-append s [] fs w = refl
-world_replies-append s (e ∷ es) fs w = ap (λ rs. reply_in s w e ∷ rs) (world_replies-append s es fs (world_after s w e))
 
 pub map-append : (f : Entry → Event) (xs ys : List Entry) → map f (xs ++ ys) ≡ map f xs ++ map f ys
 map-append f [] ys = refl
@@ -51,6 +43,10 @@ same_past t (Holds v) = refl
 same_past t (Applies v) = refl
 same_past t (Takes m) = refl
 same_past t (Passes m) = refl
+
+-- the site stands as the run of its own history leaves it
+abbrev pub IsRunOfItsHistory : Settings → ModelSite → Type 0
+IsRunOfItsHistory s t = after_events s (first_site t.me) (map (λ (x : Entry). x.event) t.history) ≡ t
 
 -- a site stays the run of its own history
 pub run_goes_on : (s : Settings) (t : ModelSite) (e : Event) → IsRunOfItsHistory s t → IsRunOfItsHistory s (after_event s t e)

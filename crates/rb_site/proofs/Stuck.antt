@@ -12,12 +12,13 @@ use Rattle.rb_site.specs.declared.event.Event.{Event}
 use Rattle.rb_site.specs.declared.event.Event.TheVariants.{Receive}
 use Rattle.rb_site.specs.declared.message.Message.{Message}
 use Rattle.rb_site.specs.declared.world_event.WorldEvent.{WorldEvent}
-use Rattle.rb_site.specs.Events.{IsRunOfItsHistory, ModelSite, after_event, after_events, changed, first_site, is_full, noted, outcome_of, reply_of, reply_to, sent_at}
+use Rattle.rb_site.specs.Events.{ModelSite, after_event, after_events, changed, first_site, is_full, noted, outcome_of, reply_of, reply_to, sent_at}
 use Rattle.rb_site.specs.Worlds.{AreOwn, World, first_world, is_recorded, message_at, world_after, world_after_all, world_of_run}
-use Rattle.rb_site.specs.Histories.{IsAmong, IsBlocked, IsCut, IsFrom, StuckIsFinal, events_of, histories_of, place_of, sends_of}
+use Rattle.rb_site.specs.Histories.{IsAmong, IsBlocked, IsCut, StuckIsFinal, events_of, histories_of, place_of, sends_of}
 use Rattle.rb_site.proofs.Runs
-use Rattle.rb_site.proofs.Certificates
-use Rattle.rb_site.proofs.Certificates.{IsRecorded, Later}
+use Rattle.rb_site.proofs.Runs.{IsRunOfItsHistory}
+use Rattle.rb_site.proofs.Recorded
+use Rattle.rb_site.proofs.Recorded.{IsFrom, IsRecorded, Later}
 use Rattle.rb_site.proofs.Places.{get_set_other, get_set_same, same_number}
 
 -- ---- messages
@@ -113,10 +114,10 @@ within_event s hs fronts w e es cut gives r g = subst (IsWithinFronts s fronts) 
     at1 = ap (λ (v : World). slice_get v.sites i) r.is ∙ get_set_same w.sites i t t1 r.at
 
     last : Later (world_after_all s (world_after s w e) es) i t1
-    last = Certificates.later_all s es (world_after s w e) i t1 at1
+    last = Recorded.later_all s es (world_after s w e) i t1 at1
 
     grown : t1.history ≡ t.history ++ x ∷ []
-    grown = Certificates.noted_history s t r.event r.room
+    grown = Recorded.noted_history s t r.event r.room
 
     there : slice_get hs i ≡ Some last.site.history
     there = ap (λ ks. slice_get ks i) (sym gives) ∙ slice_get-map (λ (t : ModelSite). t.history) (world_after_all s (world_after s w e) es).sites i ∙ ap (option_map (λ (t : ModelSite). t.history)) last.at
@@ -183,9 +184,9 @@ within_all : (s : Settings) (hs fronts : List (List Entry)) (es : List WorldEven
     → AreOwn es → histories_of (world_after_all s w es) ≡ hs → IsWithinFronts s fronts w → IsWithinFronts s fronts (world_after_all s w es)
 within_all s hs fronts [] w cut own gives g = g
 within_all s hs fronts (e ∷ es) w cut own gives g =
-    let owns : AreOwn (e ∷ []) × AreOwn es = Certificates.split_own e es own in
+    let owns : AreOwn (e ∷ []) × AreOwn es = Recorded.split_own e es own in
     within_all s hs fronts es (world_after s w e) cut owns.1 gives (elim (Members.bool_cases (is_recorded s w e)) [
-      | inl h ↦ within_event s hs fronts w e es cut gives (Certificates.is_recorded_event s w e owns.0 h) g
+      | inl h ↦ within_event s hs fronts w e es cut gives (Recorded.is_recorded_event s w e owns.0 h) g
       | inr h ↦ subst (IsWithinFronts s fronts) (sym (Runs.unrecorded s w e h)) g
     ])
 
@@ -238,7 +239,7 @@ stuck_final s hs fronts stuck one =
   where
     has : HasFronts s fronts
     has i t at =
-        let last : Later (world_of_run s one.events) i t = Certificates.later_all s one.events (first_world s) i t at in
+        let last : Later (world_of_run s one.events) i t = Recorded.later_all s one.events (first_world s) i t at in
         let there : slice_get hs i ≡ Some last.site.history = ap (λ ks. slice_get ks i) (sym one.gives) ∙ slice_get-map (λ (t : ModelSite). t.history) (world_of_run s one.events).sites i ∙ ap (option_map (λ (t : ModelSite). t.history)) last.at in
         let c : IsCut s fronts i last.site.history = stuck.cut i last.site.history there in
         (c.front, c.there)

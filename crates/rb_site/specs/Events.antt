@@ -1,5 +1,5 @@
 -- One event of a site.
-use Rattle.std.specs.Prelude.{◌≡◌, ℕ, Bool, true, false, if◌then◌else◌, not, ◌&&◌, nat_le, nat_lt, ◌==◌, List, [], ◌∷◌, ◌++◌, length, map, take, Option, Some, None, Result, Ok, Err}
+use Rattle.std.specs.Prelude.{ℕ, Bool, true, false, if◌then◌else◌, not, ◌&&◌, nat_le, nat_lt, ◌==◌, List, [], ◌∷◌, ◌++◌, length, map, take, Option, Some, None, Result, Ok, Err}
 use Rattle.rb_money.specs.Amounts.{cents}
 use Rattle.rb_money.specs.Settings.{Settings, is_account}
 use Rattle.rb_money.specs.declared.refusal.Refusal.{Refusal}
@@ -210,7 +210,3 @@ after_events s t (e ∷ es) = after_events s (after_event s t e) es
 abbrev pub replies_to_events : Settings → ModelSite → List Event → List Reply
 replies_to_events s t [] = []
 replies_to_events s t (e ∷ es) = reply_to s t e ∷ replies_to_events s (after_event s t e) es
-
--- the site stands as the run of its own history leaves it
-abbrev pub IsRunOfItsHistory : Settings → ModelSite → Type 0
-IsRunOfItsHistory s t = after_events s (first_site t.me) (map (λ (x : Entry). x.event) t.history) ≡ t

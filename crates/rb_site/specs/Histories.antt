@@ -1,14 +1,14 @@
--- Histories of one world, and lists that are put together from several.
-use Rattle.std.specs.Prelude.{◌≡◌, ℕ, true, false, List, [], ◌∷◌, ◌++◌, ◌⊎◌, length, map, Some, slice_get, slice_set}
+-- Histories of one world.
+use Rattle.std.specs.Prelude.{◌≡◌, ℕ, List, [], ◌∷◌, ◌++◌, ◌⊎◌, map, Some, slice_get}
 use Rattle.rb_money.specs.Settings.{Settings}
 use Rattle.rb_site.specs.declared.entry.Entry.{Entry}
 use Rattle.rb_site.specs.declared.world_event.WorldEvent.{WorldEvent}
 use Rattle.rb_site.specs.declared.world_event.WorldEvent.TheVariants.{At, Deliver}
 use Rattle.rb_site.specs.declared.event.Event.{Event}
-use Rattle.rb_site.specs.declared.event.Event.TheVariants.{Submit, Batch, Receive, Apply, Pass, Balance, AsOf, Statement as AskStatement}
+use Rattle.rb_site.specs.declared.event.Event.TheVariants.{Receive}
 use Rattle.rb_site.specs.declared.message.Message.{Message}
-use Rattle.rb_site.specs.Events.{ModelSite, after_event, first_site, is_full, reply_to, sent_at}
-use Rattle.rb_site.specs.Worlds.{AreOwn, World, first_world, is_recorded, message_at, world_after, world_at, world_of_run}
+use Rattle.rb_site.specs.Events.{ModelSite, after_event, first_site, sent_at}
+use Rattle.rb_site.specs.Worlds.{AreOwn, World, world_of_run}
 
 -- the histories of a world's sites
 abbrev pub histories_of : World → List (List Entry)
@@ -24,50 +24,6 @@ pub record AreOneWorlds (s : Settings) (hs : List (List Entry)) : Type 0 where
   pub events : List WorldEvent
   pub own : AreOwn events
   pub gives : histories_of (world_of_run s events) ≡ hs
-
--- each event is recorded by its site
-abbrev pub AllRecorded : Settings → World → List WorldEvent → Type 0
-AllRecorded s w [] = Unit {0}
-AllRecorded s w (e ∷ es) = (is_recorded s w e ≡ true) × AllRecorded s (world_after s w e) es
-
--- the list of site numbers is an order in which a world could have recorded the entries: the places of a run of recorded events that gives the histories. So it has each site as often as its history has entries
-pub record Certifies (s : Settings) (hs : List (List Entry)) (order : List ℕ) : Type 0 where
-  pub events : List WorldEvent
-  pub own : AreOwn events
-  pub taken : map place_of events ≡ order
-  pub recorded : AllRecorded s (first_world s) events
-  pub gives : histories_of (world_of_run s events) ≡ hs
-
--- the event is a site's own, or receives a message that was sent
-abbrev pub IsFrom : List Message → Event → Type 0
-IsFrom ms (Receive m) = (k : ℕ) × (message_at ms k ≡ Some m)
-IsFrom ms (Submit r) = Unit {0}
-IsFrom ms (Batch rs) = Unit {0}
-IsFrom ms (Apply x) = Unit {0}
-IsFrom ms (Pass to) = Unit {0}
-IsFrom ms (Balance a) = Unit {0}
-IsFrom ms (AsOf a n) = Unit {0}
-IsFrom ms (AskStatement a) = Unit {0}
-
--- the site's next entry of its history can be taken: its event can come, there is room, and the site gives the reply
-pub record IsNextEntry (s : Settings) (w : World) (hs : List (List Entry)) (i : ℕ) (t : ModelSite) (x : Entry) : Type 0 where
-  pub at : slice_get w.sites i ≡ Some t
-  pub history : List Entry
-  pub there : slice_get hs i ≡ Some history
-  pub next : slice_get history (length t.history) ≡ Some x
-  pub source : IsFrom w.messages x.event
-  pub room : is_full s t ≡ false
-  pub reply : reply_to s t x.event ≡ x.reply
-
--- the entries can be taken one by one in this order of sites, until none is left: what a checker goes through
-abbrev pub IsTaken : Settings → World → List (List Entry) → List ℕ → Type 0
-IsTaken s w hs [] = histories_of w ≡ hs
-IsTaken s w hs (i ∷ order) = (t : ModelSite) × (x : Entry) × IsNextEntry s w hs i t x × IsTaken s (world_at s w i x.event (Some t)) hs order
-
--- the list is an interleaving of the callers' lists: each next one is the first that is left of some caller
-abbrev pub IsInterleaving : {A : Type 0} → List A → List (List A) → Type 0
-IsInterleaving {A} [] callers = (k : ℕ) (xs : List A) → slice_get callers k ≡ Some xs → xs ≡ []
-IsInterleaving {A} (x ∷ xs) callers = (k : ℕ) × (rest : List A) × (slice_get callers k ≡ Some (x ∷ rest)) × IsInterleaving xs (slice_set callers k rest)
 
 -- ---- histories that no world has
 

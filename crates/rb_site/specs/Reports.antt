@@ -24,6 +24,9 @@ pub record IsReport (s : Settings) (t : ModelSite) (r : SiteReport) : Type 0 whe
   pub entries : r.entries.items ≡ t.ops
   pub counts : r.counts.items ≡ counts_of t.ops
   pub clock : r.clock ≡ clock_of t.ops
+  pub token_me : r.token.me ≡ t.me
+  pub token_sites : r.token.sites ≡ s.sites
+  pub token_limits : r.token.limits ≡ s.limits
   pub token : r.token.token ≡ t.token
   pub waiting : r.waiting ≡ length t.held
   pub history : r.history.items ≡ t.history

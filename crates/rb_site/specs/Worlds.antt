@@ -81,18 +81,9 @@ abbrev pub world_after_all : Settings → World → List WorldEvent → World
 world_after_all s w [] = w
 world_after_all s w (e ∷ es) = world_after_all s (world_after s w e) es
 
--- the replies to a list of events
-abbrev pub replies_of_all : Settings → World → List WorldEvent → List Reply
-replies_of_all s w [] = []
-replies_of_all s w (e ∷ es) = reply_in s w e ∷ replies_of_all s (world_after s w e) es
-
 -- the world after a list of events from the start
 abbrev pub world_of_run : Settings → List WorldEvent → World
 world_of_run s es = world_after_all s (first_world s) es
-
--- the replies to a list of events from the start
-abbrev pub replies_of_run : Settings → List WorldEvent → List Reply
-replies_of_run s es = replies_of_all s (first_world s) es
 
 -- messages come by deliveries alone: no event at a site is a Receive
 abbrev pub IsOwn : Event → Type 0

@@ -1,5 +1,5 @@
 //! The requests of a batch, made on a ledger with its undo log.
-ghost use Rattle.std.specs.Prelude.{◌≡◌, ◌+◌, ◌≤◌, ◌<◌, ◌++◌, [], ◌⊎◌, List, length, Ok, Err, IfOk, IfErr, OnOk};
+ghost use Rattle.std.specs.Prelude.{◌≡◌, ◌≤◌, ◌<◌, ◌++◌, [], ◌⊎◌, List, length, Ok, Err, IfOk, IfErr, OnOk};
 ghost use Rattle.rb_shadow.specs.declared.shadow.Shadow.{Shadow as TheShadow};
 ghost use Rattle.rb_ledger.specs.Records.{logged};
 ghost use Rattle.rb_token.specs.Token.{Token};

@@ -7,7 +7,9 @@ use std::alloc::{AllocError, Global};
 /// An event with its reply.
 #[derive(Debug, Drop)]
 pub struct Entry {
+    /// What happened.
     pub event: Event,
+    /// What the site answered.
     pub reply: Reply,
 }
 

@@ -100,13 +100,18 @@ impl Journal {
     }
 
     /// Applies a shadow, and keeps the record to undo that. After a refusal, which is that of
-    /// `Ledger::check` or want of memory, all is as before.
+    /// `Ledger::check`, or else want of memory, all is as before.
     pub fn apply(&mut self, shadow: Shadow) -> Result<(), Refusal>
         ensures applied { OnOk result (self.new ≡ record self.old { ops = self.old.ops ++ shadow ∷ [] }) }
         ensures taken { OnOk result (refusal_of self.old.settings self.old.ops shadow ≡ None) }
-        ensures refused { IfErr result (λ why. (self.new ≡ self.old) × ((refusal_of self.old.settings self.old.ops shadow ≡ Some why) ⊎ (why ≡ Refusal.OutOfMemory))) }
+        ensures refused { IfErr result (λ why. (self.new ≡ self.old) × ((refusal_of self.old.settings self.old.ops shadow ≡ Some why)
+            ⊎ ((why ≡ Refusal.OutOfMemory) × (refusal_of self.old.settings self.old.ops shadow ≡ None)))) }
     {
         if self.log.reserve(1).is_err() {
+            // Want of memory is told where nothing else refuses the shadow.
+            if let Err(why) = self.ledger.check(&shadow) {
+                return Err(why);
+            }
             return Err(Refusal::OutOfMemory);
         }
         match self.ledger.apply(shadow) {

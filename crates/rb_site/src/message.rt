@@ -6,6 +6,8 @@ use rb_token::TokenMessage;
 /// What sites send one another.
 #[derive(Clone, Copy, Debug, PartialEq, Eq)]
 pub enum Message {
+    /// An operation.
     Shadow(Shadow),
+    /// The token.
     Token(TokenMessage),
 }

@@ -11,16 +11,27 @@ use std::alloc::{AllocError, Global};
 /// What the site answers.
 #[derive(Debug, Drop)]
 pub enum Reply {
+    /// A request's operation was made, of this kind.
     Made { name: OpName, kind: Label },
+    /// A batch's operations were made.
     Names(OpNames),
+    /// The received operation is held until it is applied.
     Held(OpName),
+    /// The received operation is held or applied here already.
     Already(OpName),
+    /// The token came, with this epoch.
     Taken(u32),
+    /// A token message came whose epoch, this one, is not above what was seen here.
     Stale(u32),
+    /// The held operation was applied.
     Applied(OpName),
+    /// The token was sent to another site, with this epoch.
     Passed(u32),
+    /// The account's balance in cents.
     Balance(u64),
+    /// The account's statement.
     Statement(Statement),
+    /// The event was refused.
     Refused(Refusal),
 }
 

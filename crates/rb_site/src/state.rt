@@ -13,7 +13,7 @@ use crate::{Event, Message, Reply, Requests};
 use rb_inbox::{Inbox, PutAnswer};
 use rb_ledger::Ledger;
 use rb_money::{Config, Place, Refusal};
-use rb_scratch::{Request, generate};
+use rb_scratch::{MOST_REQUESTS, Request, generate};
 use rb_shadow::{OpName, Shadow};
 use rb_statements::statement;
 use rb_token::{Accepted, TokenMessage, TokenState};
@@ -100,6 +100,8 @@ impl State {
     /// What the site knows of the token.
     pub fn token(&self) -> &TokenState
         ensures me { result.now.me ≡ self.now.site.me }
+        ensures sites { result.now.sites ≡ self.now.settings.sites }
+        ensures limits { result.now.limits ≡ self.now.settings.limits }
         ensures token { result.now.token ≡ self.now.site.token }
     {
         &self.token
@@ -109,6 +111,9 @@ impl State {
     pub fn close(self) -> (Vec<Shadow>, Clock, TokenState)
         ensures entries { result.0.items ≡ self.site.ops }
         ensures clock { result.1 ≡ clock_of self.site.ops }
+        ensures me { result.2.me ≡ self.site.me }
+        ensures sites { result.2.sites ≡ self.settings.sites }
+        ensures limits { result.2.limits ≡ self.settings.limits }
         ensures token { result.2.token ≡ self.site.token }
     {
         let State {
@@ -326,7 +331,7 @@ impl State {
 fn is_batch(requests: usize) -> bool
     ensures { result ≡ (nat_le 1 requests && nat_le requests 16) }
 {
-    1 <= requests && requests <= 16
+    1 <= requests && requests <= MOST_REQUESTS
 }
 
 /// A shadow whose name is known: the same comes again, or it is a conflict.

@@ -9,7 +9,9 @@ use std::alloc::{AllocError, Global};
 /// What happens in a world: an event at a site, or the delivery of a message to a site.
 #[derive(Debug, Drop)]
 pub enum WorldEvent {
+    /// The event at the site of this number, from 0.
     At(u8, Event),
+    /// To the site of this number, from 0, the delivery of the message of this number, from 1.
     Deliver(u8, u32),
 }
 

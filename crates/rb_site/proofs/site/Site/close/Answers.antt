@@ -1,5 +1,6 @@
 -- The report tells where the site stands.
 use Rattle.std.proofs.Common.{◌≡◌, ◌∙◌, ap, sym}
+use Rattle.rb_money.specs.Settings.{Settings}
 use Rattle.rb_shadow.specs.Operations.{clock_of}
 use Rattle.rb_site.specs.Events.{ModelSite}
 use Rattle.rb_site.specs.Reports.{balances_of, counts_of}
@@ -29,6 +30,9 @@ returns c =
       entries = c.close-entries.ensures.entries ∙ ap (λ (t : ModelSite). t.ops) (stands c);
       counts = c.filled-balances.ensures.counts ∙ ap counts_of (c.ledger.ensures.entries ∙ ap (λ (t : ModelSite). t.ops) (stands c));
       clock = c.close-entries.ensures.clock ∙ ap (λ (t : ModelSite). clock_of t.ops) (stands c);
+      token_me = c.close-entries.ensures.me ∙ ap (λ (t : ModelSite). t.me) (stands c);
+      token_sites = c.close-entries.ensures.sites ∙ ap (λ (s : Settings). s.sites) (settings c);
+      token_limits = c.close-entries.ensures.limits ∙ ap (λ (s : Settings). s.limits) (settings c);
       token = c.close-entries.ensures.token ∙ ap (λ (t : ModelSite). t.token) (stands c);
       waiting = c.waiting-waiting.ensures;
       history = history c;
