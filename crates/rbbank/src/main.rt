@@ -39,6 +39,7 @@ fn out_of_memory(rt: &HostRuntime) -> ExitCode
 
 /// Says why a script stopped.
 fn tell_fault(rt: &HostRuntime, fault: ScriptFault) -> ExitCode
+    // 4 is for want of memory for the text.
     ensures { (exit_status result ≡ status_of fault) ⊎ (exit_status result ≡ 4) }
 {
     match message(rt.alloc(), fault) {
