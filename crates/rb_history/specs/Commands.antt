@@ -13,7 +13,7 @@ use Rattle.rb_site.specs.declared.event.Event.TheVariants.{Submit, Batch, Apply,
 use Rattle.rb_site.specs.declared.world_event.WorldEvent.{WorldEvent}
 use Rattle.rb_site.specs.declared.world_event.WorldEvent.TheVariants.{At, Deliver}
 use Rattle.rb_shadow.specs.NameText.{IsName}
-use Rattle.rb_history.specs.Requests.{ReadsRequests, place_of, place_at, asked_of, request_alone, request_of, requests_at}
+use Rattle.rb_history.specs.Requests.{ReadsRequests, account_place, place_at, asked_of, request_alone, request_of, requests_at}
 use Rattle.rb_history.specs.Values.{number_json, name_json, pair_json, number_below, name_at, size_of, either}
 
 -- what a teller sees of an account, or the request, that an object's key tells
@@ -49,17 +49,17 @@ sited_json key value site = object (put key value (member (codes "site") (number
 
 -- each command is read from the object that tells it
 pub record ReadsCommands (s : Settings) : Type 0 where
-  pub deposit : (site amount : ℕ) (name : List ℕ) → site < 2 ^ 8 → amount < 2 ^ 64 → command_of s (sited_json (codes "deposit") (pair_json (string name) (number_json amount)) site) ≡ Some (At site (Submit (Deposit (place_of s name) amount)))
-  pub withdraw : (site amount : ℕ) (name : List ℕ) → site < 2 ^ 8 → amount < 2 ^ 64 → command_of s (sited_json (codes "withdraw") (pair_json (string name) (number_json amount)) site) ≡ Some (At site (Submit (Withdraw (place_of s name) amount)))
-  pub interest : (site rate : ℕ) (name : List ℕ) → site < 2 ^ 8 → rate < 2 ^ 32 → command_of s (sited_json (codes "interest") (pair_json (string name) (number_json rate)) site) ≡ Some (At site (Submit (Interest (place_of s name) rate)))
+  pub deposit : (site amount : ℕ) (name : List ℕ) → site < 2 ^ 8 → amount < 2 ^ 64 → command_of s (sited_json (codes "deposit") (pair_json (string name) (number_json amount)) site) ≡ Some (At site (Submit (Deposit (account_place s name) amount)))
+  pub withdraw : (site amount : ℕ) (name : List ℕ) → site < 2 ^ 8 → amount < 2 ^ 64 → command_of s (sited_json (codes "withdraw") (pair_json (string name) (number_json amount)) site) ≡ Some (At site (Submit (Withdraw (account_place s name) amount)))
+  pub interest : (site rate : ℕ) (name : List ℕ) → site < 2 ^ 8 → rate < 2 ^ 32 → command_of s (sited_json (codes "interest") (pair_json (string name) (number_json rate)) site) ≡ Some (At site (Submit (Interest (account_place s name) rate)))
   pub cancel : (site : ℕ) (x : OpName) → site < 2 ^ 8 → IsName x → command_of s (sited_json (codes "cancel") (name_json x) site) ≡ Some (At site (Submit (Cancel x)))
   pub alone : ReadsRequests s
   pub batch : (site : ℕ) (list : List Data) (rs : List Request) → site < 2 ^ 8 → map (request_alone s) list ≡ map Some rs → command_of s (sited_json (codes "batch") (array (items_of list)) site) ≡ Some (At site (Batch rs))
   pub apply : (site : ℕ) (x : OpName) → site < 2 ^ 8 → IsName x → command_of s (sited_json (codes "apply") (name_json x) site) ≡ Some (At site (Apply x))
   pub pass : (site to : ℕ) → site < 2 ^ 8 → to < 2 ^ 8 → command_of s (sited_json (codes "pass") (number_json to) site) ≡ Some (At site (Pass to))
-  pub balance : (site : ℕ) (name : List ℕ) → site < 2 ^ 8 → command_of s (sited_json (codes "balance") (string name) site) ≡ Some (At site (Balance (place_of s name)))
-  pub asof : (site n : ℕ) (name : List ℕ) → site < 2 ^ 8 → n < 2 ^ 32 → command_of s (sited_json (codes "asof") (pair_json (string name) (number_json n)) site) ≡ Some (At site (AsOf (place_of s name) n))
-  pub statement : (site : ℕ) (name : List ℕ) → site < 2 ^ 8 → command_of s (sited_json (codes "statement") (string name) site) ≡ Some (At site (Statement (place_of s name)))
+  pub balance : (site : ℕ) (name : List ℕ) → site < 2 ^ 8 → command_of s (sited_json (codes "balance") (string name) site) ≡ Some (At site (Balance (account_place s name)))
+  pub asof : (site n : ℕ) (name : List ℕ) → site < 2 ^ 8 → n < 2 ^ 32 → command_of s (sited_json (codes "asof") (pair_json (string name) (number_json n)) site) ≡ Some (At site (AsOf (account_place s name) n))
+  pub statement : (site : ℕ) (name : List ℕ) → site < 2 ^ 8 → command_of s (sited_json (codes "statement") (string name) site) ≡ Some (At site (Statement (account_place s name)))
   pub deliver : (site m : ℕ) → site < 2 ^ 8 → m < 2 ^ 32 → command_of s (sited_json (codes "deliver") (number_json m) site) ≡ Some (Deliver site m)
 
 -- the same in every configuration

@@ -22,19 +22,19 @@ abbrev pub accounts_at : Data → Option (List Account)
 accounts_at d = option_and_then accounts_in (as_array d)
 
 -- a limit: the most that it may be where its key is missing
-abbrev pub limit_of : List ℕ → ℕ → Data → Option ℕ
-limit_of key most d = either (get key d) (number_below (2 ^ 32)) (Some most)
+abbrev pub limit_read : List ℕ → ℕ → Data → Option ℕ
+limit_read key most d = either (get key d) (number_below (2 ^ 32)) (Some most)
 
 abbrev pub limits_from : ℕ → ℕ → ℕ → ℕ → ℕ → Limits
 limits_from blue red inbox history epoch = record { blue = blue; red = red; inbox = inbox; history = history; epoch = epoch }
 
 abbrev pub limits_of : Data → Option Limits
 limits_of d = option_and_then (λ blue. option_and_then (λ red. option_and_then (λ inbox. option_and_then (λ history. option_map (limits_from blue red inbox history)
-    (limit_of (codes "epoch") 4000000000 d))
-    (limit_of (codes "history") 100000000 d))
-    (limit_of (codes "inbox") 4096 d))
-    (limit_of (codes "red") 1000000 d))
-    (limit_of (codes "blue") 1000000 d)
+    (limit_read (codes "epoch") 4000000000 d))
+    (limit_read (codes "history") 100000000 d))
+    (limit_read (codes "inbox") 4096 d))
+    (limit_read (codes "red") 1000000 d))
+    (limit_read (codes "blue") 1000000 d)
 
 -- 1 where the object has the key, else 0
 abbrev pub has : List ℕ → Data → ℕ

@@ -15,12 +15,12 @@ abbrev pub nowhere : Place
 nowhere = record { 0 = 65535 }
 
 -- the place of an account's name
-abbrev pub place_of : Settings → List ℕ → Place
-place_of s name = unwrap_or (place_in s.names name) nowhere
+abbrev pub account_place : Settings → List ℕ → Place
+account_place s name = unwrap_or (place_in s.names name) nowhere
 
 -- the place of the account that a value names
 abbrev pub place_at : Settings → Data → Option Place
-place_at s d = option_map (place_of s) (as_str d)
+place_at s d = option_map (account_place s) (as_str d)
 
 -- what is asked of an account and a number, from the list of both
 abbrev pub asked_of : {A : Type 0} → Settings → ℕ → (Place → ℕ → A) → Data → Option A
@@ -47,7 +47,7 @@ requests_at s d = option_and_then (requests_in s) (as_array d)
 
 -- each request of a batch is read from the object that tells it
 pub record ReadsRequests (s : Settings) : Type 0 where
-  pub deposit : (amount : ℕ) (name : List ℕ) → amount < 2 ^ 64 → request_alone s (one_json (codes "deposit") (pair_json (string name) (number_json amount))) ≡ Some (Deposit (place_of s name) amount)
-  pub withdraw : (amount : ℕ) (name : List ℕ) → amount < 2 ^ 64 → request_alone s (one_json (codes "withdraw") (pair_json (string name) (number_json amount))) ≡ Some (Withdraw (place_of s name) amount)
-  pub interest : (rate : ℕ) (name : List ℕ) → rate < 2 ^ 32 → request_alone s (one_json (codes "interest") (pair_json (string name) (number_json rate))) ≡ Some (Interest (place_of s name) rate)
+  pub deposit : (amount : ℕ) (name : List ℕ) → amount < 2 ^ 64 → request_alone s (one_json (codes "deposit") (pair_json (string name) (number_json amount))) ≡ Some (Deposit (account_place s name) amount)
+  pub withdraw : (amount : ℕ) (name : List ℕ) → amount < 2 ^ 64 → request_alone s (one_json (codes "withdraw") (pair_json (string name) (number_json amount))) ≡ Some (Withdraw (account_place s name) amount)
+  pub interest : (rate : ℕ) (name : List ℕ) → rate < 2 ^ 32 → request_alone s (one_json (codes "interest") (pair_json (string name) (number_json rate))) ≡ Some (Interest (account_place s name) rate)
   pub cancel : (x : OpName) → IsName x → request_alone s (one_json (codes "cancel") (name_json x)) ≡ Some (Cancel x)

@@ -2,7 +2,7 @@
 ghost use Rattle.std.specs.Prelude.{◌≡◌, ◌≤◌, ◌^◌, codes, map, option_and_then, option_map, OnOk, ◌++◌, ◌∷◌, []};
 ghost use Rattle.serde_json.specs.Find.{get};
 ghost use Rattle.serde_json.specs.View.{view};
-ghost use Rattle.rb_history.specs.Configurations.{account_at, accounts_at, limit_of, limits_of, has, has_known_keys, is_version_one, config_from, config_in, config_of, config_at};
+ghost use Rattle.rb_history.specs.Configurations.{account_at, accounts_at, limit_read, limits_of, has, has_known_keys, is_version_one, config_from, config_in, config_of, config_at};
 ghost use Rattle.rb_money.specs.Faults.{account_of};
 ghost use Rattle.rb_history.specs.Lines.{Gives, GivesAs};
 ghost use Rattle.rb_history.specs.Values.{number_below};
@@ -57,7 +57,7 @@ fn accounts(alloc: Global, value: &Value) -> Result<Vec<(String, u64)>, LineFaul
 
 /// A limit: `most` where it is missing.
 fn limit(value: &Value, key: &str, most: u32) -> Option<u32>
-    ensures { result ≡ limit_of key.now most (view value.now) }
+    ensures { result ≡ limit_read key.now most (view value.now) }
 {
     match value.get(key) {
         Some(limit) => word(limit),

@@ -3,7 +3,7 @@ ghost use Rattle.std.specs.Prelude.{◌≡◌, ◌^◌};
 ghost use Rattle.serde_json.specs.View.{view};
 ghost use Rattle.rb_scratch.specs.declared.request.Request.TheVariants.{Deposit, Withdraw, Interest};
 ghost use Rattle.rb_history.specs.Lines.{GivesAs};
-ghost use Rattle.rb_history.specs.Requests.{place_of, place_at, asked_of, request_of, request_alone, requests_at};
+ghost use Rattle.rb_history.specs.Requests.{account_place, place_at, asked_of, request_of, request_alone, requests_at};
 
 use crate::fault::LineFault;
 use crate::values::{long, name, pair, size, word};
@@ -14,7 +14,7 @@ use std::alloc::Global;
 
 /// The place of an account's name.
 fn place(config: &Config, name: &str) -> Place
-    ensures { result ≡ place_of config.now name.now }
+    ensures { result ≡ account_place config.now name.now }
 {
     match config.accounts().place(name) {
         Some(place) => place,

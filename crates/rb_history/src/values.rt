@@ -25,6 +25,7 @@ pub fn parse(alloc: Global, line: &str) -> Result<Value, LineFault>
     }
 }
 
+/// A number below 2^8.
 pub fn byte(value: &Value) -> Option<u8>
     ensures { result ≡ number_below (2 ^ 8) (view value.now) }
 {
@@ -34,6 +35,7 @@ pub fn byte(value: &Value) -> Option<u8>
     }
 }
 
+/// A number below 2^32.
 pub fn word(value: &Value) -> Option<u32>
     ensures { result ≡ number_below (2 ^ 32) (view value.now) }
 {
@@ -43,6 +45,7 @@ pub fn word(value: &Value) -> Option<u32>
     }
 }
 
+/// A number below 2^64.
 pub fn long(value: &Value) -> Option<u64>
     ensures { result ≡ number_below (2 ^ 64) (view value.now) }
 {
@@ -52,6 +55,7 @@ pub fn long(value: &Value) -> Option<u64>
     }
 }
 
+/// An operation's name.
 pub fn name(value: &Value) -> Option<OpName>
     ensures { result ≡ name_at (view value.now) }
 {

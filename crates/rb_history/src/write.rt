@@ -107,7 +107,7 @@ fn reply_value(alloc: Global, reply: &Reply) -> Result<Value, AllocError>
     }
 }
 
-/// The line of a reply, with its line feed.
+/// The line of a reply, with its line feed. An `Err` is want of memory.
 pub fn write_reply(alloc: Global, reply: &Reply) -> Result<String, AllocError>
     ensures { IfOk result (λ s. string_bytes s ≡ line reply.now) }
 {

@@ -8,7 +8,7 @@ use Rattle.rb_script.specs.declared.fault.ScriptFault.{ScriptFault}
 use Rattle.rb_script.specs.declared.fault.ScriptFault.TheVariants.{NoConfig, BadConfig, BadLine, LongLine, Read, Write, OutOfMemory}
 use Rattle.rb_script.specs.Writes.{IsFront}
 use Rattle.rb_script.specs.Buffers.{Reads}
-use Rattle.rb_script.specs.Lines.{Outcome, lines_of, script_from, script_of, is_long, line_len, line_limit, no_outcome}
+use Rattle.rb_script.specs.Lines.{ScriptOutcome, lines_of, script_from, script_of, is_long, line_len, line_limit, no_outcome}
 use Rattle.rb_script.specs.Run.{IsFaulty, EndsAs, IsUnfinished}
 use Rattle.rb_script.specs.Session.{rest_from, rest_of, after_text, Answers, EndsAt, first_session}
 use Rattle.rb_script.proofs.Follows.{Follows, at_start, after_read, after_line, at_end, at_first, at_rest, standing}
@@ -37,10 +37,10 @@ known_line (Some all) (Some x) s s' p e t t' n f len fits st end ans = after_lin
 
 -- ---- the ends
 
-faulty : (all t : List ℕ) (n : ℕ) (f : ScriptFault) (o : Outcome) → script_from 1 (lines_of all) ≡ after_text t n o → o ≡ no_outcome f → IsFaulty all t f
+faulty : (all t : List ℕ) (n : ℕ) (f : ScriptFault) (o : ScriptOutcome) → script_from 1 (lines_of all) ≡ after_text t n o → o ≡ no_outcome f → IsFaulty all t f
 faulty all t n f o e is = let whole = e ∙ ap (after_text t n) is in record {
-  text_is = ap (λ (x : Outcome). x.text) whole ∙ append-nil t;
-  fault_is = ap (λ (x : Outcome). x.fault) whole;
+  text_is = ap (λ (x : ScriptOutcome). x.text) whole ∙ append-nil t;
+  fault_is = ap (λ (x : ScriptOutcome). x.fault) whole;
 }
 
 long_of : (m : Option SeenWorld) (n : ℕ) (l : List ℕ) (ls : List (List ℕ)) → is_long l ≡ true → rest_from m n (l ∷ ls) ≡ no_outcome (LongLine n)
@@ -54,8 +54,8 @@ known_long (Some all) (Some x) s p e t f h =
     let found = long_line p x line_limit h in
     faulty all t s.count (LongLine s.number) _ (at_first all s p x e t found.0 found.1 f found.2) (long_of s.world s.number found.0 found.1 (let longer : line_limit < length found.0 = found.3 in search rules))
 
-front : (all t : List ℕ) (n : ℕ) (o : Outcome) → script_from 1 (lines_of all) ≡ after_text t n o → IsFront t (script_of (lines_of all)).text
-front all t n o e = (o.text, ap (λ (x : Outcome). x.text) e)
+front : (all t : List ℕ) (n : ℕ) (o : ScriptOutcome) → script_from 1 (lines_of all) ≡ after_text t n o → IsFront t (script_of (lines_of all)).text
+front all t n o e = (o.text, ap (λ (x : ScriptOutcome). x.text) e)
 
 pub known_front : (a b : Option (List ℕ)) (s : Session) (p : List ℕ) (e : Bool) (t : List ℕ) → FollowsKnown a b s p e t → IfSome a (λ input. IsFront t (script_of (lines_of input)).text)
 known_front None b s p e t f = tt
@@ -80,8 +80,8 @@ known_stop (Some all) (Some x) s p e t f going none =
       record {
         taken = f.got;
         whole = f.bytes;
-        text_is = ap (λ (o : Outcome). o.text) whole ∙ ap (λ y. t ++ y) (no_text s.world s.number) ∙ append-nil t;
-        unfinished = subst IsUnfinished (sym (ap (λ (o : Outcome). o.fault) whole)) (unfinished s.world s.number);
+        text_is = ap (λ (o : ScriptOutcome). o.text) whole ∙ ap (λ y. t ++ y) (no_text s.world s.number) ∙ append-nil t;
+        unfinished = subst IsUnfinished (sym (ap (λ (o : ScriptOutcome). o.fault) whole)) (unfinished s.world s.number);
       },
     )
 

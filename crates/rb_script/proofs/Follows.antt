@@ -3,7 +3,7 @@ use Rattle.std.proofs.Common.{◌≡◌, ◌<◌, ◌≤◌, ◌+◌, ◌-◌, �
 use Rattle.std.proofs.Math.ListN.{drop_of_length-le}
 use Rattle.std.proofs.Math.Seq.{take-append_seam}
 use Rattle.rb_script.specs.declared.session.Session.{Session}
-use Rattle.rb_script.specs.Lines.{Outcome, lines_of, whole_lines, script_from, line_len}
+use Rattle.rb_script.specs.Lines.{ScriptOutcome, lines_of, whole_lines, script_from, line_len}
 use Rattle.rb_script.specs.Session.{rest_of, after_text, Answers, first_session}
 use Rattle.rb_script.proofs.LineLaws.{first_line, first_whole, last_line, last_whole}
 
@@ -19,7 +19,7 @@ pub record Follows (all : List ℕ) (s : Session) (pending rest : List ℕ) (end
   pub bytes : all ≡ got ++ rest
   pub whole : ended ≡ false → (tail : List ℕ) → whole_lines (got ++ tail) ≡ done ++ whole_lines (pending ++ tail)
 
-nothing_yet : (o : Outcome) → o ≡ after_text [] 0 o
+nothing_yet : (o : ScriptOutcome) → o ≡ after_text [] 0 o
 nothing_yet o = ap (λ n. record { text = o.text; count = n; fault = o.fault }) (sym (zero-add o.count))
 
 pub at_start : (all : List ℕ) (s : Session) → s ≡ first_session → Follows all s [] all false []
@@ -43,7 +43,7 @@ after_read all s p p' r r' e e' t f (more, at_end, taken) was = record {
   whole = λ going tail. ap whole_lines (append_assoc f.got more tail) ∙ f.whole (was going) (more ++ tail) ∙ ap (λ x. f.done ++ whole_lines x) (sym (append_assoc p more tail) ∙ ap (λ x. x ++ tail) (sym at_end));
 }
 
-twice : (t t' : List ℕ) (m n : ℕ) (o : Outcome) → m ≤ n → after_text t m (after_text t' (n - m) o) ≡ after_text (t ++ t') n o
+twice : (t t' : List ℕ) (m n : ℕ) (o : ScriptOutcome) → m ≤ n → after_text t m (after_text t' (n - m) o) ≡ after_text (t ++ t') n o
 twice t t' m n o h =
     let count : m + ((n - m) + o.count) ≡ n + o.count = omega arith in
     ap (λ c. record { text = t ++ (t' ++ o.text); count = c; fault = o.fault }) count ∙ ap (λ x. record { text = x; count = n + o.count; fault = o.fault }) (sym (append_assoc t t' o.text))

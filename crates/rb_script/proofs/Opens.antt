@@ -3,11 +3,11 @@ use Rattle.std.proofs.Common.{◌≡◌, ◌+◌, ◌-◌, ℕ, false, List, [],
 use Rattle.rb_money.specs.Settings.{Settings}
 use Rattle.rb_world.specs.Laws.{opened}
 use Rattle.rb_script.specs.declared.session.Session.{Session}
-use Rattle.rb_script.specs.Lines.{Outcome, commands_from, config_on, is_blank, is_long, outcome}
+use Rattle.rb_script.specs.Lines.{ScriptOutcome, commands_from, config_on, is_blank, is_long, outcome}
 use Rattle.rb_script.specs.Session.{Answers, after_text}
 
 -- nothing was written, and nothing counted
-nothing : (n : ℕ) (o : Outcome) → after_text [] (n - n) o ≡ o
+nothing : (n : ℕ) (o : ScriptOutcome) → after_text [] (n - n) o ≡ o
 nothing n o = let none : (n - n) + o.count ≡ o.count = omega arith in ap (λ m. record { text = o.text; count = m; fault = o.fault }) none
 
 pub opens : (s s' : Session) (l : List ℕ) (k : Settings) → s.world ≡ None → is_long l ≡ false → is_blank l ≡ false → config_on l ≡ Some k

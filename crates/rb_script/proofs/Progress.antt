@@ -2,6 +2,7 @@
 use Rattle.std.proofs.Common.{◌≡◌, ◌<◌, ◌≤◌, ◌+◌, ◌⊎◌, ℕ, Bool, true, false, List, [], ◌++◌, length, take, drop, Option, Some, None, Result, Ok, Err, sym, ap, ◌∙◌, subst, append-nil, append_assoc}
 use Rattle.std.specs.Prelude.{IfSome}
 use Rattle.std.specs.Io.KnownBytes.{Appends, IsAtEnd}
+use Rattle.std.proofs.KnownBytes.{Appends-nil, Appends-trans}
 use Rattle.rb_world.specs.Laws.{SeenWorld}
 use Rattle.rb_script.specs.declared.session.Session.{Session}
 use Rattle.rb_script.specs.declared.fault.ScriptFault.{ScriptFault}
@@ -12,7 +13,6 @@ use Rattle.rb_script.specs.Run.{EndsAs, WillEndAs}
 use Rattle.rb_script.specs.Session.{Answers, EndsAt, first_session}
 use Rattle.rb_script.specs.Writes.{AppendsFront, IsFront}
 use Rattle.rb_script.proofs.Exits.{FollowsKnown, known_end, known_fault, known_front, known_line, known_long, known_read, known_start, known_stop, known_unconfigured}
-use Rattle.rb_script.proofs.WriteLaws.{Appends-nothing, Appends-then}
 
 -- between two lines: the writer had w0 and has w, the reader had r0 and has r
 abbrev pub IsAt : Option (List ℕ) → Option (List ℕ) → Option (List ℕ) → Option (List ℕ) → Session → List ℕ → Bool → List ℕ → Type 0
@@ -29,13 +29,13 @@ both P Q (Some x) p q = (p, q)
 -- ---- between two lines
 
 pub starts : (w r : Option (List ℕ)) (s : Session) (p : List ℕ) (e : Bool) (owed : List ℕ) → s ≡ first_session → p ≡ [] → e ≡ false → owed ≡ [] → IsAt w w r r s p e owed
-starts w r s p e owed is none going nothing = ([], Appends-nothing w, subst (λ t. FollowsKnown r r s p e t) (sym nothing) (known_start r s p e is none going))
+starts w r s p e owed is none going nothing = ([], Appends-nil w, subst (λ t. FollowsKnown r r s p e t) (sym nothing) (known_start r s p e is none going))
 
 pub reads_on : (w0 w w' r0 r r' : Option (List ℕ)) (s : Session) (p p' : List ℕ) (e e' : Bool) (owed owed' : List ℕ) → IsAt w0 w r0 r s p e owed → Reads p p' r r' → (e' ≡ false → e ≡ false) → Sends w w' owed owed'
     → IsAt w0 w' r0 r' s p' e' owed'
 reads_on w0 w w' r0 r r' s p p' e e' owed owed' st read was sent = (
   st.0 ++ sent.0,
-  Appends-then w0 w w' st.0 sent.0 st.1 sent.1,
+  Appends-trans w0 w w' st.0 sent.0 st.1 sent.1,
   subst (λ t. FollowsKnown r0 r' s p' e' t) (ap (λ t. st.0 ++ t) sent.2 ∙ sym (append_assoc st.0 sent.0 owed')) (known_read r0 r r' s p p' e e' (st.0 ++ owed) st.2 read was),
 )
 
@@ -78,7 +78,7 @@ twice (Some x) text h = (h, h)
 pub ends_out_of_memory : (w0 w w' r0 r r' : Option (List ℕ)) (s : Session) (p : List ℕ) (e : Bool) (owed owed' : List ℕ) → IsAt w0 w r0 r s p e owed → Sends w w' owed owed' → IsOver w0 w' r0 r' (Err OutOfMemory) owed'
 ends_out_of_memory w0 w w' r0 r r' s p e owed owed' st sent = (
   st.0 ++ sent.0,
-  Appends-then w0 w w' st.0 sent.0 st.1 sent.1,
+  Appends-trans w0 w w' st.0 sent.0 st.1 sent.1,
   twice r0 ((st.0 ++ sent.0) ++ owed')
       (subst (λ t. IfSome r0 (λ input. IsFront t (script_of (lines_of input)).text)) (ap (λ t. st.0 ++ t) sent.2 ∙ sym (append_assoc st.0 sent.0 owed')) (known_front r0 r s p e (st.0 ++ owed) st.2)),
 )
@@ -97,7 +97,7 @@ all_shorter (Some x) text owed front rest h e = shorter text owed front rest _ h
 pub ends_unwritten : (w0 w w' r0 r r' : Option (List ℕ)) (s : Session) (p : List ℕ) (e : Bool) (owed owed' : List ℕ) → IsAt w0 w r0 r s p e owed → AppendsFront w w' owed × (owed' ≡ []) → IsOver w0 w' r0 r' (Err Write) owed'
 ends_unwritten w0 w w' r0 r r' s p e owed owed' st (front, nothing) = (
   st.0 ++ front.0,
-  Appends-then w0 w w' st.0 front.0 st.1 front.2,
+  Appends-trans w0 w w' st.0 front.0 st.1 front.2,
   twice r0 ((st.0 ++ front.0) ++ owed')
       (subst (λ t. IfSome r0 (λ input. IsFront t (script_of (lines_of input)).text)) (sym (append-nil (st.0 ++ front.0)) ∙ ap (λ t. (st.0 ++ front.0) ++ t) (sym nothing))
       (all_shorter r0 st.0 owed front.0 front.1.0 (known_front r0 r s p e (st.0 ++ owed) st.2) front.1.1)),
@@ -107,10 +107,10 @@ ends_unwritten w0 w w' r0 r r' s p e owed owed' st (front, nothing) = (
 
 -- what was owed went out
 pub over_written : (w0 w w' r0 r : Option (List ℕ)) (result : Result ℕ ScriptFault) (owed : List ℕ) → IsOver w0 w r0 r result owed → Appends w w' owed → (text : List ℕ) × Appends w0 w' text × IfSome r0 (λ input. EndsAs result input r text)
-over_written w0 w w' None r result owed st written = (st.0 ++ owed, Appends-then w0 w w' st.0 owed st.1 written, tt)
-over_written w0 w w' (Some x) r result owed st written = (st.0 ++ owed, Appends-then w0 w w' st.0 owed st.1 written, st.2.0)
+over_written w0 w w' None r result owed st written = (st.0 ++ owed, Appends-trans w0 w w' st.0 owed st.1 written, tt)
+over_written w0 w w' (Some x) r result owed st written = (st.0 ++ owed, Appends-trans w0 w w' st.0 owed st.1 written, st.2.0)
 
 -- a front of it did
 pub over_unwritten : (w0 w w' r0 r : Option (List ℕ)) (result : Result ℕ ScriptFault) (owed : List ℕ) → IsOver w0 w r0 r result owed → AppendsFront w w' owed → (text : List ℕ) × Appends w0 w' text × IfSome r0 (λ input. EndsAs (Err Write) input r text)
-over_unwritten w0 w w' None r result owed st front = (st.0 ++ front.0, Appends-then w0 w w' st.0 front.0 st.1 front.2, tt)
-over_unwritten w0 w w' (Some x) r result owed st front = (st.0 ++ front.0, Appends-then w0 w w' st.0 front.0 st.1 front.2, shorter st.0 owed front.0 front.1.0 _ st.2.1 front.1.1)
+over_unwritten w0 w w' None r result owed st front = (st.0 ++ front.0, Appends-trans w0 w w' st.0 front.0 st.1 front.2, tt)
+over_unwritten w0 w w' (Some x) r result owed st front = (st.0 ++ front.0, Appends-trans w0 w w' st.0 front.0 st.1 front.2, shorter st.0 owed front.0 front.1.0 _ st.2.1 front.1.1)

@@ -1,5 +1,6 @@
 -- What a writer holds after two writes.
-use Rattle.std.proofs.Common.{◌≡◌, List, ℕ, ◌++◌, take, drop, Option, Some, None, sym, ap, ◌∙◌, append_assoc, append-nil, [], refl, Bool, true, false}
+use Rattle.std.proofs.Common.{◌≡◌, List, ℕ, ◌++◌, take, drop, Option, sym, ap, ◌∙◌, append_assoc, append-nil, []}
+use Rattle.std.proofs.KnownBytes.{Appends-trans}
 use Rattle.std.proofs.lemmas.List.{take-append-drop}
 use Rattle.std.specs.Io.KnownBytes.{Appends}
 use Rattle.rb_script.specs.Buffers.{Sends}
@@ -9,33 +10,14 @@ use Rattle.rb_script.specs.Writes.{AppendsFront}
 pub front_more : (text front rest rest' : List ℕ) (n : ℕ) → text ≡ front ++ rest → rest' ≡ drop n rest → text ≡ (front ++ take n rest) ++ rest'
 front_more text front rest rest' n e e' = e ∙ ap (λ l. front ++ l) (sym (take-append-drop n rest)) ∙ sym (append_assoc front (take n rest) (drop n rest)) ∙ ap (λ l. (front ++ take n rest) ++ l) (sym e')
 
-pub Appends-then : (a b c : Option (List ℕ)) (bs cs : List ℕ) → Appends a b bs → Appends b c cs → Appends a c (bs ++ cs)
-Appends-then None b c bs cs p q = tt
-Appends-then (Some x) None c bs cs p q = absurd p
-Appends-then (Some x) (Some y) None bs cs p q = absurd q
-Appends-then (Some x) (Some y) (Some z) bs cs p q = q ∙ ap (λ l. l ++ cs) p ∙ append_assoc x bs cs
-
-pub Appends-nothing : (a : Option (List ℕ)) → Appends a a []
-Appends-nothing None = tt
-Appends-nothing (Some x) = sym (append-nil x)
-
 -- what is owed still goes out in two parts
 pub Sends-then : (a b c : Option (List ℕ)) (owed still left : List ℕ) → Sends a b owed still → Sends b c still left → Sends a c owed left
-Sends-then a b c owed still left p q = (p.0 ++ q.0, Appends-then a b c p.0 q.0 p.1 q.1, p.2 ∙ ap (λ l. p.0 ++ l) q.2 ∙ sym (append_assoc p.0 q.0 left))
+Sends-then a b c owed still left p q = (p.0 ++ q.0, Appends-trans a b c p.0 q.0 p.1 q.1, p.2 ∙ ap (λ l. p.0 ++ l) q.2 ∙ sym (append_assoc p.0 q.0 left))
 
 -- all of it went out
 pub Sends-all : (a b : Option (List ℕ)) (owed still : List ℕ) → Appends a b owed → still ≡ [] → Sends a b owed still
 Sends-all a b owed still p e = (owed, p, sym (append-nil owed) ∙ ap (λ l. owed ++ l) (sym e))
 
--- nothing went out
-pub Sends-nothing : (a : Option (List ℕ)) (owed : List ℕ) → Sends a a owed owed
-Sends-nothing a owed = ([], Appends-nothing a, refl)
-
 -- a front of the rest went out
 pub Sends-front : (a b c : Option (List ℕ)) (owed still : List ℕ) → Sends a b owed still → AppendsFront b c still → AppendsFront a c owed
-Sends-front a b c owed still p q = (p.0 ++ q.0, (q.1.0, p.2 ∙ ap (λ l. p.0 ++ l) q.1.1 ∙ sym (append_assoc p.0 q.0 q.1.0)), Appends-then a b c p.0 q.0 p.1 q.2)
-
--- a writer that can't have failed hasn't
-pub not_failed : (b : Bool) → (b ≡ true → ⊥) → b ≡ false
-not_failed true h = absurd (h refl)
-not_failed false h = refl
+Sends-front a b c owed still p q = (p.0 ++ q.0, (q.1.0, p.2 ∙ ap (λ l. p.0 ++ l) q.1.1 ∙ sym (append_assoc p.0 q.0 q.1.0)), Appends-trans a b c p.0 q.0 p.1 q.2)

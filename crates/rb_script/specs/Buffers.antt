@@ -2,8 +2,8 @@
 use Rattle.std.specs.Prelude.{◌≡◌, ℕ, ◌+◌, ◌*◌, ◌<◌, ◌≤◌, ◌⊎◌, Bool, true, false, List, [], ◌++◌, length, Option, Some, None}
 use Rattle.std.specs.Io.KnownBytes.{Appends, Consumes, Keeps}
 use Rattle.rb_script.specs.declared.buffers.Buffers.{Buffers}
-use Rattle.rb_script.specs.declared.buffers.NoLine.{NoLine}
-use Rattle.rb_script.specs.declared.buffers.NoLine.TheVariants.{TooLong, Read, Write, OutOfMemory}
+use Rattle.rb_script.specs.declared.no_line.NoLine.{NoLine}
+use Rattle.rb_script.specs.declared.no_line.NoLine.TheVariants.{TooLong, Read, Write, OutOfMemory}
 use Rattle.rb_script.specs.Lines.{line_len, line_limit}
 
 -- so many calls were made, and so many more may be

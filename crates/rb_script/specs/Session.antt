@@ -6,23 +6,23 @@ use Rattle.rb_history.specs.Replies.{line}
 use Rattle.rb_script.specs.declared.session.Session.{Session}
 use Rattle.rb_script.specs.declared.fault.ScriptFault.{ScriptFault}
 use Rattle.rb_script.specs.declared.fault.ScriptFault.TheVariants.{NoConfig, BadConfig, BadLine, LongLine, Read, Write, OutOfMemory}
-use Rattle.rb_script.specs.Lines.{Outcome, command_on, commands_from, no_outcome, outcome, script_from}
+use Rattle.rb_script.specs.Lines.{ScriptOutcome, command_on, commands_from, no_outcome, outcome, script_from}
 
 -- before the first line
 abbrev pub first_session : Session
 first_session = record { world = None; number = 1; count = 0 }
 
 -- the outcome of the lines to come, the first of which is line n: before the configuration and after it
-abbrev pub rest_from : Option SeenWorld → ℕ → List (List ℕ) → Outcome
+abbrev pub rest_from : Option SeenWorld → ℕ → List (List ℕ) → ScriptOutcome
 rest_from None n ls = script_from n ls
 rest_from (Some w) n ls = outcome w (commands_from w.settings n ls)
 
 -- the outcome of the lines to come of a session
-abbrev pub rest_of : Session → List (List ℕ) → Outcome
+abbrev pub rest_of : Session → List (List ℕ) → ScriptOutcome
 rest_of s ls = rest_from s.world s.number ls
 
 -- the outcome, once this text of so many replies comes before it
-abbrev pub after_text : List ℕ → ℕ → Outcome → Outcome
+abbrev pub after_text : List ℕ → ℕ → ScriptOutcome → ScriptOutcome
 after_text text count o = record { text = text ++ o.text; count = count + o.count; fault = o.fault }
 
 -- the line was answered by this text, and the session goes on with the next

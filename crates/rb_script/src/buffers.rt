@@ -1,11 +1,12 @@
 //! The bytes between a reader and a writer: no read while a whole line waits or a reply is owed.
-ghost use Rattle.std.specs.Prelude.{◌≡◌, ◌≢◌, ◌↔◌, ◌+◌, ◌<◌, ◌≤◌, ◌⊎◌, [], true, false, Some, None, Err, length, drop, MatchResult, IfOk, OnOk};
+ghost use Rattle.std.specs.Prelude.{◌≡◌, ◌≢◌, ◌↔◌, ◌+◌, ◌<◌, ◌≤◌, ◌⊎◌, [], true, false, Err, length, drop, MatchResult, IfOk, OnOk};
 ghost use Rattle.std.specs.Io.KnownBytes.{IsAtEnd};
 ghost use Rattle.rb_script.specs.Lines.{line_limit, line_len};
 ghost use Rattle.rb_script.specs.Buffers.{Counts, HasRead, IsNext, Reads, Sends, left};
 ghost use Rattle.rb_script.specs.Writes.{AppendsFront};
-ghost use Rattle.rb_script.specs.declared.buffers.NoLine.TheVariants.{TooLong, Read, Write, OutOfMemory};
+ghost use Rattle.rb_script.specs.declared.no_line.NoLine.TheVariants.{TooLong, Read, Write, OutOfMemory};
 
+use crate::no_line::NoLine;
 use crate::pending::Pending;
 use crate::sink::{Sink, WriteFailed};
 use crate::source::Source;
@@ -23,15 +24,6 @@ const LINE_LIMIT: usize = 1_048_576;
 
 /// Replies go out once they have so many bytes, also where more lines wait.
 const MOST_OWED: usize = 65_536;
-
-/// Why there is no next line.
-#[derive(Clone, Copy, PartialEq, Eq)]
-pub enum NoLine {
-    TooLong,
-    Read,
-    Write,
-    OutOfMemory,
-}
 
 /// What was read and not yet answered, what was answered and not yet written, how many reads are left, and whether the reader has come to its end.
 #[derive(Drop)]

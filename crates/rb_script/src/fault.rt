@@ -31,7 +31,7 @@ pub enum ScriptFault {
     OutOfMemory,
 }
 
-/// What a program says on standard error, without the line feed.
+/// What a program says on standard error, without the line feed. An `Err` is want of memory.
 pub fn message(alloc: Global, fault: ScriptFault) -> Result<String, AllocError>
     ensures { IfOk result (λ text. string_bytes text ≡ message_of fault) }
 {

@@ -3,6 +3,7 @@
 
 mod buffers;
 mod fault;
+mod no_line;
 mod pending;
 mod run;
 mod session;

@@ -5,8 +5,9 @@ ghost use Rattle.rb_script.specs.Run.{EndsAs, WillEndAs};
 ghost use Rattle.rb_script.specs.Session.{first_session};
 ghost use Rattle.rb_script.specs.declared.fault.ScriptFault.TheVariants.{Read, Write};
 
-use crate::buffers::{Buffers, NoLine};
+use crate::buffers::Buffers;
 use crate::fault::ScriptFault;
+use crate::no_line::NoLine;
 use crate::session::Session;
 use crate::sink::{Sink, WriteFailed};
 use crate::source::Source;

@@ -55,7 +55,7 @@ fn open_world(alloc: Global, line: &[u8]) -> Result<World, LineFault>
     }
 }
 
-/// Gives the world the command on a line, and owes its reply. An `Err` owes nothing more.
+/// Gives the world the command on a line, and owes its reply. After an `Err` nothing more is owed, and the script ends.
 #[tactic(auto, unfolding(crate::specs::Lines::command_on))]
 fn answer_command(
     alloc: Global,
@@ -108,7 +108,7 @@ impl Session {
         }
     }
 
-    /// Takes one line, which isn't too long, and owes its reply. An `Err` owes nothing more.
+    /// Takes one line, which isn't too long, and owes its reply. After an `Err` nothing more is owed, and the script ends.
     pub fn answer_line(
         &mut self,
         alloc: Global,

@@ -1,6 +1,7 @@
 //! What a command line asks for.
-ghost use Rattle.std.specs.Prelude.{◌≡◌, IfOk, IfSome, map};
-ghost use Rattle.rb_words.specs.Words.{words_of};
+ghost use Rattle.std.specs.Prelude.{◌≡◌, ◌≢◌, IfErr, IfNone, IfOk, IfSome, map};
+ghost use Rattle.clap.specs.Words.{app_of, kind_of};
+ghost use Rattle.rb_words.specs.Words.{command_line, words_of};
 
 use clap::error::ErrorKind;
 use clap::{Command, Error};
@@ -14,15 +15,19 @@ pub enum Words {
 }
 
 /// The command line that the program takes.
-fn command<'a>(alloc: Global) -> Result<Command<'a>, AllocError> {
+fn command<'a>(alloc: Global) -> Result<Command<'a>, AllocError>
+    ensures { IfOk result (λ command. app_of command ≡ command_line) }
+{
     Command::new(alloc, "rbbank")
+        .no_binary_name(true)
         .subcommand_required(true)
         .subcommand(Command::new(alloc, "script"))
 }
 
 /// What the words ask for, where they are just its words.
 fn asked_for(words: &[&str]) -> Option<Words>
-    ensures { IfSome result (λ asked. map (λ word. word.now) words.now ≡ words_of asked) }
+    ensures some { IfSome result (λ asked. map (λ word. word.now) words.now ≡ words_of asked) }
+    ensures none { IfNone result ((asked : Words) → map (λ word. word.now) words.now ≢ words_of asked) }
 {
     match words {
         ["script"] => Some(Words::Script),
@@ -32,9 +37,11 @@ fn asked_for(words: &[&str]) -> Option<Words>
 
 /// What the words after the program's name ask for. The error has the text to show: `ErrorKind::DisplayHelp` is help that was asked for.
 pub fn read_words<'a>(alloc: Global, words: &'a [&'a str]) -> Result<Words, Error>
-    ensures { IfOk result (λ asked. map (λ word. word.now) words.entry.now ≡ words_of asked) }
+    ensures ok { IfOk result (λ asked. map (λ word. word.now) words.entry.now ≡ words_of asked) }
+    // Words that ask for something fail for want of memory alone.
+    ensures err { IfErr result (λ e. (asked : Words) → map (λ word. word.now) words.entry.now ≡ words_of asked → kind_of e ≡ ErrorKind.OutOfMemory) }
 {
-    let mut command = command(alloc)?.no_binary_name(true);
+    let mut command = command(alloc)?;
     let _matches = command.try_get_matches_from_mut(words)?;
     match asked_for(words) {
         Some(asked) => Ok(asked),

@@ -15,6 +15,7 @@ pub struct FromReader<R: Read + Drop> {
 impl<R: Read + Drop> FromReader<R> {
     /// No read so far.
     pub fn new(reader: R) -> Self
+        ensures reader { result.reader ≡ reader }
         ensures calls { result.calls ≡ 0 }
         ensures fresh { result.failed ≡ false }
     {

@@ -1,6 +1,13 @@
 //! `rbbank`: the sites of a bank, driven by a script.
 #![tactic(auto)]
 
+ghost use Rattle.std.specs.Prelude.{◌≡◌, ◌⊎◌};
+ghost use Rattle.std.specs.IoError.{error_kind};
+ghost use Rattle.std.specs.Process.{exit_status};
+ghost use Rattle.clap.specs.Words.{kind_of};
+ghost use Rattle.rb_script.specs.Messages.{status_of};
+ghost use Rattle.rbbank.specs.Statuses.{IsEnd, status_of_unread, status_of_words};
+
 mod from_reader;
 #[cfg(test)]
 mod rows;
@@ -23,13 +30,18 @@ const WRONG_WORDS: u8 = 2;
 /// The status for want of memory.
 const NO_MEMORY: u8 = 4;
 
-fn out_of_memory(rt: &HostRuntime) -> ExitCode {
+fn out_of_memory(rt: &HostRuntime) -> ExitCode
+    ensures { exit_status result ≡ 4 }
+{
     let _ = rt.eprintln("rbbank: out of memory");
     ExitCode::from(NO_MEMORY)
 }
 
 /// Says why a script stopped.
-fn tell_fault(rt: &HostRuntime, fault: ScriptFault) -> ExitCode {
+fn tell_fault(rt: &HostRuntime, fault: ScriptFault) -> ExitCode
+    // 4 is for want of memory for the text.
+    ensures { (exit_status result ≡ status_of fault) ⊎ (exit_status result ≡ 4) }
+{
     match message(rt.alloc(), fault) {
         Ok(line) => {
             let _ = rt.eprintln(line.as_str());
@@ -40,7 +52,9 @@ fn tell_fault(rt: &HostRuntime, fault: ScriptFault) -> ExitCode {
 }
 
 /// Says what is wrong with the words. Help that was asked for goes to standard output, and nothing is wrong.
-fn tell_words(rt: &HostRuntime, error: clap::Error) -> ExitCode {
+fn tell_words(rt: &HostRuntime, error: clap::Error) -> ExitCode
+    ensures { exit_status result ≡ status_of_words (kind_of error) }
+{
     match error.kind() {
         ErrorKind::OutOfMemory => out_of_memory(rt),
         ErrorKind::DisplayHelp => {
@@ -55,16 +69,22 @@ fn tell_words(rt: &HostRuntime, error: clap::Error) -> ExitCode {
 }
 
 /// Says why the words can't be read: there is no memory, or one of them isn't UTF-8.
-fn tell_unread(rt: &HostRuntime, error: io::Error) -> ExitCode {
-    if error.kind() == io::ErrorKind::OutOfMemory {
-        return out_of_memory(rt);
+fn tell_unread(rt: &HostRuntime, error: io::Error) -> ExitCode
+    ensures { exit_status result ≡ status_of_unread (error_kind error) }
+{
+    match error.kind() {
+        io::ErrorKind::OutOfMemory => out_of_memory(rt),
+        _ => {
+            let _ = rt.eprintln("error: invalid UTF-8 was detected in one or more arguments");
+            ExitCode::from(WRONG_WORDS)
+        }
     }
-    let _ = rt.eprintln("error: invalid UTF-8 was detected in one or more arguments");
-    ExitCode::from(WRONG_WORDS)
 }
 
 /// Answers the script on standard input.
-fn script(rt: &HostRuntime) -> ExitCode {
+fn script(rt: &HostRuntime) -> ExitCode
+    ensures { IsEnd (exit_status result) }
+{
     let mut reader = FromReader::new(rt.reader());
     let mut writer = ToWriter::new(io::writer(rt));
     match run_script(rt.alloc(), &mut reader, &mut writer) {
@@ -73,24 +93,31 @@ fn script(rt: &HostRuntime) -> ExitCode {
     }
 }
 
-fn main(rt: HostRuntime) -> ExitCode {
+/// Does what the words ask for.
+fn run(rt: &HostRuntime) -> ExitCode
+    ensures { IsEnd (exit_status result) }
+{
     let alloc = rt.alloc();
-    let given = match env::args(&rt) {
+    let given = match env::args(rt) {
         Ok(given) => given,
-        Err(error) => return tell_unread(&rt, error),
+        Err(error) => return tell_unread(rt, error),
     };
     let Ok(words) = given.skip(1).collect::<Vec<String>>(alloc) else {
-        return out_of_memory(&rt);
+        return out_of_memory(rt);
     };
     let Ok(views) = words
         .iter()
         .map(|word| word.as_str())
         .collect::<Vec<&str>>(alloc)
     else {
-        return out_of_memory(&rt);
+        return out_of_memory(rt);
     };
     match read_words(alloc, views.as_slice()) {
-        Ok(Words::Script) => script(&rt),
-        Err(error) => tell_words(&rt, error),
+        Ok(Words::Script) => script(rt),
+        Err(error) => tell_words(rt, error),
     }
+}
+
+fn main(rt: HostRuntime) -> ExitCode {
+    run(&rt)
 }

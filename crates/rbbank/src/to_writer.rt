@@ -14,7 +14,8 @@ pub struct ToWriter<W: Write + Drop> {
 impl<W: Write + Drop> ToWriter<W> {
     /// No failed write so far.
     pub fn new(writer: W) -> Self
-        ensures { result.failed ≡ false }
+        ensures writer { result.writer ≡ writer }
+        ensures fresh { result.failed ≡ false }
     {
         ToWriter {
             writer,

@@ -1,6 +1,6 @@
 use Rattle.std.proofs.Common.{arith, ◌+◌, Err, ap, length, length-drop}
+use Rattle.std.proofs.lemmas.Bool.{false_from_ne_true}
 use Rattle.rb_script.proofs.Progress.{ends_at_fault, ends_long, ends_out_of_memory, ends_unconfigured, ends_unread, ends_unwritten, ends_whole, goes_on, reads_on, starts}
-use Rattle.rb_script.proofs.WriteLaws.{not_failed}
 use Rattle.rb_script.proofs.run.answer_lines.Goals as goal
 
 pub lines-init : goal.lines-init
@@ -55,7 +55,7 @@ lines-preserved g c =
     let rest = length-drop (c.in-Ok-Some.n + 1) c.next_line.new.self.pending in
     record {
       counted = rw c.skip_line.ensures next.counted;
-      fresh = not_failed _ (λ t. cc (next.write.1 t));
+      fresh = false_from_ne_true _ (λ t. cc (next.write.1 t));
       end = rw c.skip_line.ensures next.end;
       number = rw c.skip_line.ensures (omega (arith, rest, answered.2.number, next.left, stands.3, c.lines.invariant.number));
       count = omega (arith, answered.2.number, c.in-Ok.ensures.count, c.lines.invariant.count);

@@ -7,5 +7,5 @@ single [] d text some few is = absurd (omega arith)
 single (w ∷ []) d text some few is = ap (λ t. t ∷ []) is
 single (w ∷ x ∷ ws) d text some few is = absurd (omega arith)
 
-pub returns-in-script : goal.returns-in-script
-returns-in-script c = single c.args.words.now _ _ c.in-script.len_at_least c.in-script.len_below c.in-script.is-script
+pub returns-in-script-clause-some : goal.returns-in-script-clause-some
+returns-in-script-clause-some c = single c.args.words.now _ _ c.in-script.len_at_least c.in-script.len_below c.in-script.is-script

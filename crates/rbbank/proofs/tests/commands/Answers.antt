@@ -1,5 +1,5 @@
 -- One command more.
-use Rattle.std.proofs.Common.{◌≡◌, ◌∙◌, List, [], ◌∷◌, ◌++◌, All, Bool, true, ap, cond, subst, sym}
+use Rattle.std.proofs.Common.{List, [], All, subst, sym}
 use Rattle.std.proofs.lemmas.List.Elements.{All-append, All-cons, All-nil}
 use Rattle.rb_site.specs.Worlds.{IsCommand}
 use Rattle.rb_site.specs.declared.world_event.WorldEvent.{WorldEvent}
