@@ -162,7 +162,8 @@ impl<'a> Scratch<'a, UndoLog> {
         }
     }
 
-    /// Takes back what was run: the ledger's list is that at the opening, and the room stays.
+    /// Takes back what was run: the ledger's list is that at the opening, and there is room for
+    /// one more for each operation taken out.
     pub fn abort(self)
         requires { IsOfTheLast self.ledger.now self.undos.parts }
         ensures settings { self.exit.0.now.settings ≡ self.entry.ledger.now.settings }
