@@ -9,13 +9,13 @@ ghost use Rattle.rb_script.specs.Session.{Answers, AnswersCommand, EndsAt, first
 
 use crate::fault::ScriptFault;
 use rb_history::{LineFault, read_command, read_config, write_reply};
-use rb_world::World;
+use rb_world::LeanWorld;
 use std::alloc::Global;
 use std::str;
 
 /// Where a script stands: the world once there is a configuration, the number of the next line, and the replies so far.
 pub struct Session {
-    pub world: Option<World>,
+    pub world: Option<LeanWorld>,
     pub number: u64,
     pub count: u64,
 }
@@ -37,7 +37,7 @@ fn text_on(line: &[u8]) -> Option<&str>
 
 /// The world before any event of the configuration on a line.
 #[tactic(auto, unfolding(crate::specs::Lines::config_on))]
-fn open_world(alloc: Global, line: &[u8]) -> Result<World, LineFault>
+fn open_world(alloc: Global, line: &[u8]) -> Result<LeanWorld, LineFault>
     ensures { MatchResult result
         (λ world. (s : Settings) × (config_on line.now ≡ Some s) × (world ≡ opened s))
         (λ why. why ≡ Bad → config_on line.now ≡ None) }
@@ -49,7 +49,7 @@ fn open_world(alloc: Global, line: &[u8]) -> Result<World, LineFault>
         Ok(config) => config,
         Err(fault) => return Err(fault),
     };
-    match World::open(alloc, config) {
+    match LeanWorld::open_keeping(alloc, config) {
         Ok(world) => Ok(world),
         Err(_) => Err(LineFault::OutOfMemory),
     }
@@ -59,7 +59,7 @@ fn open_world(alloc: Global, line: &[u8]) -> Result<World, LineFault>
 #[tactic(auto, unfolding(crate::specs::Lines::command_on))]
 fn answer_command(
     alloc: Global,
-    world: &mut World,
+    world: &mut LeanWorld,
     line: &[u8],
     owed: &mut Vec<u8>,
 ) -> Result<(), LineFault>
@@ -99,12 +99,12 @@ impl Session {
         }
     }
 
-    /// The script goes on with this world. One that stood there is closed.
-    fn start(&mut self, world: World)
+    /// The script goes on with this world. One that stood there is ended.
+    fn start(&mut self, world: LeanWorld)
         ensures { self.new ≡ record self.old { world = Some world } }
     {
         if let Some(before) = self.world.replace(world) {
-            let _reports = before.close();
+            before.end();
         }
     }
 
@@ -144,7 +144,7 @@ impl Session {
         Ok(())
     }
 
-    /// Closes the world.
+    /// Ends the world.
     pub fn close(self) {
         let Session {
             world,
@@ -152,7 +152,7 @@ impl Session {
             count: _,
         } = self;
         if let Some(world) = world {
-            let _reports = world.close();
+            world.end();
         }
     }
 }

@@ -80,10 +80,10 @@ noted_in x e reply = record x { entries = x.entries ++ entry e reply ∷ [] }
 
 -- what the code did is the model's step
 pub record IsStep (x : SeenSite) (now : SiteState) (e : Event) (a : Answer) : Type 0 where
-  pub seen : noted_in x e a.noted ≡ next_site x e
+  pub seen : noted_in x e a.reply ≡ next_site x e
   pub reply : a.reply ≡ reply_to x.settings (state_of x) e
   pub sent : a.posted.items ≡ sent_at x.settings (state_of x) e
-  pub standing : IsStanding (noted_in x e a.noted) now
+  pub standing : IsStanding (noted_in x e a.reply) now
 
 pub is_step : (x : SeenSite) (old now : SiteState) (e : Event) (a : Answer) → is_full x.settings (state_of x) ≡ false → IsStanding x old → Follows old now (outcome_of old.settings old.site e) a → IsStep x now e a
 is_step x old now e a free standing follows =
@@ -119,15 +119,15 @@ is_step x old now e a free standing follows =
     told : reply_of (outcome_of old.settings old.site e) ≡ reply_to s t e
     told = ap reply_of same ∙ sym (ap (λ b. cond b (Refused HistoryFull) (reply_of o)) free)
 
-    noted_reply : a.noted ≡ reply_to s t e
-    noted_reply = follows.1.1 ∙ told
+    noted_reply : a.reply ≡ reply_to s t e
+    noted_reply = follows.1.0 ∙ told
 
 -- a site as callers see it, by its parts
 abbrev pub seen_as : Settings → ℕ → List Entry → SeenSite
 seen_as s me xs = record { settings = s; me = me; entries = xs }
 
 -- where the entry was pushed, callers see the model's step
-pub seen_now : (x : SeenSite) (now : SiteState) (e : Event) (a : Answer) (xs : List Entry) → IsStep x now e a → now.site.me ≡ x.me → xs ≡ x.entries ++ entry e a.noted ∷ [] → seen_as now.settings now.site.me xs ≡ noted_in x e a.noted
+pub seen_now : (x : SeenSite) (now : SiteState) (e : Event) (a : Answer) (xs : List Entry) → IsStep x now e a → now.site.me ≡ x.me → xs ≡ x.entries ++ entry e a.reply ∷ [] → seen_as now.settings now.site.me xs ≡ noted_in x e a.reply
 seen_now x now e a xs step me pushed =
     ap (λ s. seen_as s now.site.me xs) step.standing.settings
     ∙ ap (λ i. seen_as x.settings i xs) me

@@ -9,6 +9,7 @@ use Rattle.rb_token.specs.Seat.{TokenSeat}
 use Rattle.rb_site.specs.declared.answer.Answer.{Answer}
 use Rattle.rb_site.specs.declared.message.Message.{Message}
 use Rattle.rb_site.specs.declared.reply.Reply.{Reply}
+use Rattle.rb_site.specs.Notes.{IsNoted}
 use Rattle.rb_site.specs.Events.{ModelSite, Outcome, changed, reply_of, sent_by}
 use Rattle.rb_site.specs.Seen.{SeenSite, IsReplayed, state_of}
 
@@ -34,9 +35,9 @@ pub record IsTied (s : Settings) (inbox : Holding) (token : TokenSeat) : Type 0 
   pub limit : inbox.limit ≡ s.limits.inbox
   pub sound : (v : Shadow) → Among v inbox.held → IsSound s v
 
--- the answer has this reply, the same for the history, and sends these messages
+-- the answer has this reply, what is noted of it, and sends these messages
 abbrev pub Says : Answer → Reply → List Message → Type 0
-Says answer reply ms = (answer.reply ≡ reply) × (answer.noted ≡ reply) × (answer.posted.items ≡ ms)
+Says answer reply ms = (answer.reply ≡ reply) × IsNoted reply answer.noted × (answer.posted.items ≡ ms)
 
 -- the answer and the new state are what the event came to
 abbrev pub Follows : SiteState → SiteState → Outcome → Answer → Type 0

@@ -61,7 +61,7 @@ impl BatchRoom {
         } = self;
         Answer {
             reply: Reply::Names(OpNames::new(with_names(names, made))),
-            noted: Reply::Names(OpNames::new(with_names(noted, made))),
+            noted: Some(Reply::Names(OpNames::new(with_names(noted, made)))),
             posted: with_messages(posted, made),
         }
     }

@@ -7,6 +7,7 @@ mod batch_room;
 mod entry;
 mod event;
 mod journal;
+mod keeps_entry;
 mod message;
 mod op_names;
 mod reply;
@@ -24,6 +25,7 @@ ghost use Rattle.rb_site.specs.Histories.{StuckIsFinal};
 
 pub use entry::Entry;
 pub use event::Event;
+pub use keeps_entry::{KeepsEntry, UnkeptEntry};
 pub use message::Message;
 pub use op_names::OpNames;
 pub use reply::Reply;

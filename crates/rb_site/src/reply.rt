@@ -1,5 +1,6 @@
 //! Replies of a site.
 ghost use Rattle.std.specs.Prelude.{◌≡◌, ◌↔◌, IfOk, IsTrue};
+ghost use Rattle.rb_site.specs.Notes.{IsNoted};
 
 use crate::OpNames;
 use crate::same::{same_in, same_label, same_name, same_refusal};
@@ -61,6 +62,57 @@ impl Reply {
                 Ok(Reply::Statement(statement))
             }
             Reply::Refused(why) => Ok(Reply::Refused(*why)),
+        }
+    }
+
+    /// The same once more, where the reply holds memory. `Err` is want of memory.
+    #[inline(always)]
+    pub fn note(&self, alloc: Global) -> Result<Option<Reply>, AllocError>
+        ensures { IfOk result (λ noted. IsNoted self.now noted) }
+    {
+        match self {
+            Reply::Names(names) => {
+                let names = names.try_copy(alloc)?;
+                Ok(Some(Reply::Names(names)))
+            }
+            Reply::Statement(statement) => {
+                let statement = statement.try_copy(alloc)?;
+                Ok(Some(Reply::Statement(statement)))
+            }
+            Reply::Made { .. }
+            | Reply::Held(_)
+            | Reply::Already(_)
+            | Reply::Taken(_)
+            | Reply::Stale(_)
+            | Reply::Applied(_)
+            | Reply::Passed(_)
+            | Reply::Balance(_)
+            | Reply::Refused(_) => Ok(None),
+        }
+    }
+
+    /// An equal reply, by what was noted of this one. This takes no memory.
+    pub fn again(&self, noted: Option<Reply>) -> Reply
+        requires { IsNoted self.now noted }
+        ensures { result ≡ self.now }
+    {
+        if let Some(noted) = noted {
+            return noted;
+        }
+        match self {
+            Reply::Made { name, kind } => Reply::Made {
+                name: *name,
+                kind: *kind,
+            },
+            Reply::Held(name) => Reply::Held(*name),
+            Reply::Already(name) => Reply::Already(*name),
+            Reply::Taken(epoch) => Reply::Taken(*epoch),
+            Reply::Stale(epoch) => Reply::Stale(*epoch),
+            Reply::Applied(name) => Reply::Applied(*name),
+            Reply::Passed(epoch) => Reply::Passed(*epoch),
+            Reply::Balance(cents) => Reply::Balance(*cents),
+            Reply::Refused(why) => Reply::Refused(*why),
+            Reply::Names(_) | Reply::Statement(_) => unreachable!(),
         }
     }
 

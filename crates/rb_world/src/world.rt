@@ -8,25 +8,26 @@ ghost use Rattle.rb_site.specs.Histories.{place_of};
 ghost use Rattle.rb_site.specs.Worlds.{IsCommand, arrival, message_at};
 ghost use Rattle.rb_world.specs.Laws.{Holds, IsRunOf, next_replies, next_reply, next_world, next_worlds, opened};
 
-use crate::Stopped;
+use crate::{KeepsEvent, Stopped};
 use rb_money::{Config, Refusal};
 use rb_scratch::MOST_REQUESTS;
-use rb_site::{Event, Message, Reply, Site, SiteReport, WorldEvent};
+use rb_site::{Entry, Event, KeepsEntry, Message, Reply, Site, SiteReport, WorldEvent};
 use std::alloc::{AllocError, Global};
 use std::marker::Model;
 
 /// One site for each site number, every message that was ever sent, and the events that the sites
-/// recorded. It is always the run of its events. It can't be dropped: it is closed.
-pub struct World {
+/// recorded. It is always the run of its events. It can't be dropped: it is closed or ended. `E` is what
+/// the sites keep of each entry, and `R` is what the world keeps of each event.
+pub struct World<E: KeepsEntry = Entry, R: KeepsEvent = WorldEvent> {
     alloc: Global,
     config: Config,
-    seats: Vec<Site>,
+    seats: Vec<Site<E>>,
     sent: Vec<Message>,
-    recorded: Vec<WorldEvent>,
+    recorded: Vec<R>,
     reports: Vec<SiteReport>,
 }
 
-impl Model for World {
+impl<E: KeepsEntry, R: KeepsEvent> Model for World<E, R> {
     ghost use Rattle.std.specs.Prelude.{◌≡◌, ◌≤◌, [], All, length, map, vec_capacity};
     ghost use Rattle.rb_site.specs.Seen.{SeenSite, state_of};
     ghost use Rattle.rb_world.specs.Laws.{SeenWorld, IsRunOf};
@@ -36,13 +37,13 @@ impl Model for World {
     ghost view = { λ w. record {
       settings = w.config;
       world = record { sites = map state_of w.seats.items; messages = w.sent.items };
-      events = w.recorded.items;
+      events = map R.noted w.recorded.items;
     } };
 
     ghost invariant = { λ w. IsRunOf (record {
       settings = w.config;
       world = record { sites = map state_of w.seats.items; messages = w.sent.items };
-      events = w.recorded.items;
+      events = map R.noted w.recorded.items;
     })
         × All (λ (x : SeenSite). x.settings ≡ w.config) w.seats.items
         × (w.reports.items ≡ [])
@@ -54,41 +55,7 @@ impl World {
     pub fn open(alloc: Global, config: Config) -> Result<World, AllocError>
         ensures { IfOk result (λ world. world ≡ opened config) }
     {
-        let mut reports = Vec::new(alloc);
-        reports.reserve(config.sites() as usize)?;
-        let seats = open_sites(alloc, &config)?;
-        Ok(World {
-            alloc,
-            config,
-            seats,
-            sent: Vec::new(alloc),
-            recorded: Vec::new(alloc),
-            reports,
-        })
-    }
-
-    /// One event, and its reply. It is listed where a site recorded it. `Err` is want of memory:
-    /// the world is then as before.
-    pub fn step(&mut self, event: WorldEvent) -> Result<Reply, AllocError>
-        requires { IsCommand event }
-        ensures ok { IfOk result (λ reply. (reply ≡ next_reply self.old event) × (self.new ≡ next_world self.old event)) }
-        ensures err { OnErr result (self.new ≡ self.old) }
-    {
-        let place = event.place();
-        let Some(site) = self.site(place) else {
-            return Ok(Reply::Refused(Refusal::NoSite));
-        };
-        let full = site.is_full();
-        if !self.is_there(&event) {
-            return Ok(Reply::Refused(Refusal::NoMessage));
-        }
-        if full {
-            return Ok(Reply::Refused(Refusal::HistoryFull));
-        }
-        let Some(arrived) = self.arrival(&event)? else {
-            unreachable!()
-        };
-        self.record(place, arrived, event)
+        World::open_keeping(alloc, config)
     }
 
     /// A list of events, and their replies. After want of memory the world stands after as many
@@ -124,84 +91,6 @@ impl World {
         self.step(event)
     }
 
-    /// Whether there is what an event brings to its site: a message of the number.
-    fn is_there(&self, event: &WorldEvent) -> bool
-        ensures { result ≡ is_some (arrival self.now.world.messages event.now) }
-    {
-        match event {
-            WorldEvent::At(_, _) => true,
-            WorldEvent::Deliver(_, number) => self.message(*number).is_some(),
-        }
-    }
-
-    /// What an event brings to its site: an event of its own, or the receipt of the message. `Err` is
-    /// want of memory for a copy of the event.
-    fn arrival(&self, event: &WorldEvent) -> Result<Option<Event>, AllocError>
-        ensures { IfOk result (λ arrived. arrived ≡ arrival self.now.world.messages event.now) }
-    {
-        match event {
-            WorldEvent::At(_, event) => {
-                let event = event.try_copy(self.alloc)?;
-                Ok(Some(event))
-            }
-            WorldEvent::Deliver(_, number) => match self.message(*number) {
-                Some(message) => Ok(Some(Event::Receive(message))),
-                None => Ok(None),
-            },
-        }
-    }
-
-    /// The message of a number, from 1.
-    fn message(&self, number: u32) -> Option<Message>
-        ensures { result ≡ message_at self.now.world.messages number }
-    {
-        if number == 0 {
-            return None;
-        }
-        self.sent.get(number as usize - 1).copied()
-    }
-
-    /// A site takes an event for which its history has room.
-    fn record(&mut self, place: u8, arrived: Event, event: WorldEvent) -> Result<Reply, AllocError>
-        requires command { IsCommand event }
-        requires place { place ≡ place_of event }
-        requires arrived { arrival self.old.world.messages event ≡ Some arrived }
-        requires room { IsSomeAnd (slice_get self.old.world.sites place) (λ site. is_full self.old.settings site ≡ false) }
-        ensures ok { IfOk result (λ reply. (reply ≡ next_reply self.old event) × (self.new ≡ next_world self.old event)) }
-        ensures err { OnErr result (self.new ≡ self.old) }
-    {
-        self.recorded.reserve(1)?;
-        // An event sends at most one message for each request of a batch.
-        self.sent.reserve(MOST_REQUESTS)?;
-        let (reply, posted) = self.seats[place as usize].step(arrived)?;
-        self.recorded.push_reserved(event);
-        send(&mut self.sent, posted);
-        Ok(reply)
-    }
-
-    /// The configuration.
-    pub fn config(&self) -> &Config
-        ensures { result.now ≡ self.now.settings }
-    {
-        &self.config
-    }
-
-    /// A site, if there is one of that number.
-    pub fn site(&self, place: u8) -> Option<&Site>
-        ensures state { option_map (λ site. state_of site.now) result ≡ slice_get self.now.world.sites place }
-        ensures settings { IfSome result (λ site. site.now.settings ≡ self.now.settings) }
-    {
-        self.seats.get(place as usize)
-    }
-
-    /// Every message that was ever sent, in order. Whatever happened, the laws of a world hold.
-    pub fn messages(&self) -> &[Message]
-        ensures same { result.now ≡ self.now.world.messages }
-        ensures holds { Holds self.now.settings self.now.world }
-    {
-        self.sent.as_slice()
-    }
-
     /// The events that the sites recorded, in order. The world is the run of them.
     pub fn events(&self) -> &[WorldEvent]
         ensures same { result.now ≡ self.now.events }
@@ -231,8 +120,140 @@ impl World {
     }
 }
 
+impl<E: KeepsEntry, R: KeepsEvent> World<E, R> {
+    /// The sites of a configuration before any event, in a world that keeps an `R` of each event, and
+    /// whose sites keep an `E` of each entry. `Err` is want of memory.
+    pub fn open_keeping(alloc: Global, config: Config) -> Result<World<E, R>, AllocError>
+        ensures { IfOk result (λ world. world ≡ opened config) }
+    {
+        let mut reports = Vec::new(alloc);
+        reports.reserve(config.sites() as usize)?;
+        let seats = open_sites(alloc, &config)?;
+        Ok(World {
+            alloc,
+            config,
+            seats,
+            sent: Vec::new(alloc),
+            recorded: Vec::new(alloc),
+            reports,
+        })
+    }
+
+    /// One event, and its reply. It is listed where a site recorded it. `Err` is want of memory:
+    /// the world is then as before.
+    pub fn step(&mut self, event: WorldEvent) -> Result<Reply, AllocError>
+        requires { IsCommand event }
+        ensures ok { IfOk result (λ reply. (reply ≡ next_reply self.old event) × (self.new ≡ next_world self.old event)) }
+        ensures err { OnErr result (self.new ≡ self.old) }
+    {
+        let place = event.place();
+        let Some(site) = self.site(place) else {
+            return Ok(Reply::Refused(Refusal::NoSite));
+        };
+        let full = site.is_full();
+        if !self.is_there(&event) {
+            return Ok(Reply::Refused(Refusal::NoMessage));
+        }
+        if full {
+            return Ok(Reply::Refused(Refusal::HistoryFull));
+        }
+        let noted = R::note(self.alloc, &event)?;
+        let Some(arrived) = self.arrival(event) else {
+            unreachable!()
+        };
+        self.record(place, arrived, noted)
+    }
+
+    /// Whether there is what an event brings to its site: a message of the number.
+    fn is_there(&self, event: &WorldEvent) -> bool
+        ensures { result ≡ is_some (arrival self.now.world.messages event.now) }
+    {
+        match event {
+            WorldEvent::At(_, _) => true,
+            WorldEvent::Deliver(_, number) => self.message(*number).is_some(),
+        }
+    }
+
+    /// What an event brings to its site: an event of its own, or the receipt of the message.
+    fn arrival(&self, event: WorldEvent) -> Option<Event>
+        ensures { result ≡ arrival self.now.world.messages event }
+    {
+        match event {
+            WorldEvent::At(_, event) => Some(event),
+            WorldEvent::Deliver(_, number) => match self.message(number) {
+                Some(message) => Some(Event::Receive(message)),
+                None => None,
+            },
+        }
+    }
+
+    /// The message of a number, from 1.
+    fn message(&self, number: u32) -> Option<Message>
+        ensures { result ≡ message_at self.now.world.messages number }
+    {
+        if number == 0 {
+            return None;
+        }
+        self.sent.get(number as usize - 1).copied()
+    }
+
+    /// A site takes an event for which its history has room.
+    fn record(&mut self, place: u8, arrived: Event, noted: R) -> Result<Reply, AllocError>
+        requires command { IsCommand (R.noted noted) }
+        requires place { place ≡ place_of (R.noted noted) }
+        requires arrived { arrival self.old.world.messages (R.noted noted) ≡ Some arrived }
+        requires room { IsSomeAnd (slice_get self.old.world.sites place) (λ site. is_full self.old.settings site ≡ false) }
+        ensures ok { IfOk result (λ reply. (reply ≡ next_reply self.old (R.noted noted)) × (self.new ≡ next_world self.old (R.noted noted))) }
+        ensures err { OnErr result (self.new ≡ self.old) }
+    {
+        self.recorded.reserve(1)?;
+        // An event sends at most one message for each request of a batch.
+        self.sent.reserve(MOST_REQUESTS)?;
+        let (reply, posted) = self.seats[place as usize].step(arrived)?;
+        self.recorded.push_reserved(noted);
+        send(&mut self.sent, posted);
+        Ok(reply)
+    }
+
+    /// The configuration.
+    pub fn config(&self) -> &Config
+        ensures { result.now ≡ self.now.settings }
+    {
+        &self.config
+    }
+
+    /// A site, if there is one of that number.
+    pub fn site(&self, place: u8) -> Option<&Site<E>>
+        ensures state { option_map (λ site. state_of site.now) result ≡ slice_get self.now.world.sites place }
+        ensures settings { IfSome result (λ site. site.now.settings ≡ self.now.settings) }
+    {
+        self.seats.get(place as usize)
+    }
+
+    /// Every message that was ever sent, in order. Whatever happened, the laws of a world hold.
+    pub fn messages(&self) -> &[Message]
+        ensures same { result.now ≡ self.now.world.messages }
+        ensures holds { Holds self.now.settings self.now.world }
+    {
+        self.sent.as_slice()
+    }
+
+    /// Ends the world.
+    pub fn end(self) {
+        let World {
+            alloc: _,
+            config: _,
+            seats,
+            sent: _,
+            recorded: _,
+            reports: _,
+        } = self;
+        end_all(seats);
+    }
+}
+
 /// A site for each number of the configuration.
-fn open_sites(alloc: Global, config: &Config) -> Result<Vec<Site>, AllocError>
+fn open_sites<E: KeepsEntry>(alloc: Global, config: &Config) -> Result<Vec<Site<E>>, AllocError>
     ensures sites { IfOk result (λ seats. map state_of seats.items ≡ map first_site (range_with_len 0 config.now.sites)) }
     ensures settings { IfOk result (λ seats. All (λ x. x.settings ≡ config.now) seats.items) }
     ensures few { IfOk result (λ seats. length seats.items ≡ config.now.sites) }
@@ -244,10 +265,10 @@ fn open_sites(alloc: Global, config: &Config) -> Result<Vec<Site>, AllocError>
         return Err(AllocError);
     }
     for me in 0..sites {
-        match Site::open(alloc, config, me) {
+        match Site::open_keeping(alloc, config, me) {
             Ok(site) => seats.push_reserved(site),
             Err(refused) => {
-                close_all(seats);
+                end_all(seats);
                 return Err(refused);
             }
         }
@@ -256,9 +277,9 @@ fn open_sites(alloc: Global, config: &Config) -> Result<Vec<Site>, AllocError>
 }
 
 /// Ends sites whose reports nobody asks for.
-fn close_all(mut seats: Vec<Site>) {
+fn end_all<E: KeepsEntry>(mut seats: Vec<Site<E>>) {
     'seats: while let Some(site) = seats.pop() {
-        let _report = site.close();
+        site.end();
     }
     seats.destroy_empty();
 }

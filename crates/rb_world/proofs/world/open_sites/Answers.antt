@@ -9,7 +9,7 @@ use Rattle.rb_world.proofs.Stepping.{AreOf, one_of}
 use Rattle.rb_world.proofs.world.open_sites.Goals as goal
 
 pub loop-me-preserved : goal.loop-me-preserved
-loop-me-preserved c = (
+loop-me-preserved g c = (
   ap (map state_of) c.push_reserved.ensures.items
       ∙ map-append state_of c.loop-me.seats.items _
       ∙ ap (λ x. map state_of c.loop-me.seats.items ++ state_of x ∷ []) c.in-Ok.ensures

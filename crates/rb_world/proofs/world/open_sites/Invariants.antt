@@ -6,7 +6,7 @@ use Rattle.rb_site.specs.Seen.{SeenSite, state_of}
 use Rattle.rb_world.proofs.world.open_sites.Given as goal
 
 abbrev pub invariant-loop-me : goal.invariant-loop-me
-invariant-loop-me l =
+invariant-loop-me g l =
     (map state_of l.seats.items ≡ map first_site (range_with_len 0 l.me))
     × All (λ (x : SeenSite). x.settings ≡ l.config) l.seats.items
     × (vec_len l.seats ≡ l.me)

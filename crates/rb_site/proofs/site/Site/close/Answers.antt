@@ -1,7 +1,9 @@
 -- The report tells where the site stands.
-use Rattle.std.proofs.Common.{◌≡◌, ◌∙◌, ap, sym}
+use Rattle.std.proofs.Common.{◌≡◌, ◌∙◌, ap, refl, sym}
+use Rattle.std.specs.Prelude.{List, [], ◌∷◌, map}
 use Rattle.rb_money.specs.Settings.{Settings}
 use Rattle.rb_shadow.specs.Operations.{clock_of}
+use Rattle.rb_site.specs.declared.entry.Entry.{Entry}
 use Rattle.rb_site.specs.Events.{ModelSite}
 use Rattle.rb_site.specs.Reports.{balances_of, counts_of}
 use Rattle.rb_site.specs.Seen.{SeenSite, state_of}
@@ -16,8 +18,12 @@ settings c = (c.self.invariant.0).settings ∙ ap (λ (x : SeenSite). x.settings
 stands : (c : goal.After-close-entries) → c.self.inside.state.site ≡ without_history (state_of c.args.self)
 stands c = (c.self.invariant.0).site ∙ ap (λ (x : SeenSite). without_history (state_of x)) c.self.view_is
 
+map-id : (xs : List Entry) → map (λ x. x) xs ≡ xs
+map-id [] = refl
+map-id (x ∷ xs) = ap (λ ys. x ∷ ys) (map-id xs)
+
 history : (c : goal.After-close-entries) → c.self.inside.history.items ≡ (state_of c.args.self).history
-history c = sym (Seen.history-state _ (c.self.invariant.0).kept) ∙ ap (λ (x : SeenSite). (state_of x).history) c.self.view_is
+history c = sym (map-id c.self.inside.history.items) ∙ sym (Seen.history-state _ (c.self.invariant.0).kept) ∙ ap (λ (x : SeenSite). (state_of x).history) c.self.view_is
 
 pub returns : goal.returns
 returns c =

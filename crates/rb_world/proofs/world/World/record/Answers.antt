@@ -1,40 +1,43 @@
 -- A site's step is the world's.
 use Rattle.std.proofs.Common.{◌≡◌, ◌∙◌, ◌≤◌, [], ◌∷◌, ◌++◌, ap, arith, length, subst, sym, vec_capacity}
-use Rattle.std.proofs.lemmas.List.{length-set}
-use Rattle.std.specs.Prelude.{Some, IsSomeAnd, false, slice_get, slice_set}
+use Rattle.std.proofs.lemmas.List.{length-set, map-append}
+use Rattle.std.specs.Prelude.{Some, IsSomeAnd, false, map, slice_get, slice_set}
 use Rattle.rb_site.specs.Events.{is_full}
 use Rattle.rb_site.specs.Seen.{SeenSite, next_site}
 use Rattle.rb_site.specs.Histories.{place_of}
 use Rattle.rb_site.specs.Worlds.{arrival}
 use Rattle.rb_world.specs.Laws.{IsRunOf, SeenWorld, next_reply, next_world}
 use Rattle.rb_world.proofs.Stepping.{IsTaken, AreOf, next_run, settings_kept, shown_world, taken_at, taken_step}
+use Rattle.rb_world.proofs.world.World.record.Given.{Over}
 use Rattle.rb_world.proofs.world.World.record.Goals as goal
 
-abbrev the_world : goal.After-send → SeenWorld
-the_world c = shown_world c.self.inside.config c.self.inside.seats.items c.self.inside.sent.items c.self.inside.recorded.items
+abbrev the_world : (g : Over) → goal.After-send g → SeenWorld
+the_world g c = shown_world c.self.inside.config c.self.inside.seats.items c.self.inside.sent.items (map g.R.KeepsEvent.noted c.self.inside.recorded.items)
 
-taken : (c : goal.After-send) → IsTaken c.self.inside.config c.self.inside.seats.items c.self.inside.sent.items c.args.event c.args.arrived c.index_mut.result.now
-taken c =
-    taken_at c.self.inside.config c.self.inside.seats.items c.self.inside.sent.items c.args.event c.args.arrived c.args.place c.index_mut.result.now c.requires.place
-    (let P : SeenWorld → Type 0 = λ w. arrival w.world.messages c.args.event ≡ Some c.args.arrived in subst P (sym c.self.view_is) c.requires.arrived)
+taken : (g : Over) (c : goal.After-send g) → IsTaken c.self.inside.config c.self.inside.seats.items c.self.inside.sent.items (g.R.KeepsEvent.noted c.args.noted) c.args.arrived c.index_mut.result.now
+taken g c =
+    taken_at c.self.inside.config c.self.inside.seats.items c.self.inside.sent.items (g.R.KeepsEvent.noted c.args.noted) c.args.arrived c.args.place c.index_mut.result.now c.requires.place
+    (let P : SeenWorld → Type 0 = λ w. arrival w.world.messages (g.R.KeepsEvent.noted c.args.noted) ≡ Some c.args.arrived in subst P (sym c.self.view_is) c.requires.arrived)
     (let P : SeenWorld → Type 0 = λ w. IsSomeAnd (slice_get w.world.sites c.args.place) (λ t. is_full w.settings t ≡ false) in subst P (sym c.self.view_is) c.requires.room)
     c.self.invariant.1 c.index_mut.ensures.value
 
-the_step : (c : goal.After-send) → shown_world c.self.inside.config (slice_set c.self.inside.seats.items c.args.place c.step.new.self) c.send.new.sent.items c.push_reserved.new.self.items ≡ next_world (the_world c) c.args.event
-the_step c =
-    ap (λ i. shown_world c.self.inside.config (slice_set c.self.inside.seats.items i c.step.new.self) c.send.new.sent.items c.push_reserved.new.self.items) c.requires.place
-    ∙ ap (λ x. shown_world c.self.inside.config (slice_set c.self.inside.seats.items (place_of c.args.event) x) c.send.new.sent.items c.push_reserved.new.self.items) (c.in_ok-reply.ensures.ok).0
-    ∙ ap (λ ms. shown_world c.self.inside.config (slice_set c.self.inside.seats.items (place_of c.args.event) (next_site c.index_mut.result.now c.args.arrived)) ms c.push_reserved.new.self.items)
+the_step : (g : Over) (c : goal.After-send g) → shown_world c.self.inside.config (slice_set c.self.inside.seats.items c.args.place c.step.new.self) c.send.new.sent.items (map g.R.KeepsEvent.noted c.push_reserved.new.self.items) ≡ next_world (the_world g c) (g.R.KeepsEvent.noted c.args.noted)
+the_step g c =
+    ap (λ i. shown_world c.self.inside.config (slice_set c.self.inside.seats.items i c.step.new.self) c.send.new.sent.items (map g.R.KeepsEvent.noted c.push_reserved.new.self.items)) c.requires.place
+    ∙ ap (λ x. shown_world c.self.inside.config (slice_set c.self.inside.seats.items (place_of (g.R.KeepsEvent.noted c.args.noted)) x) c.send.new.sent.items (map g.R.KeepsEvent.noted c.push_reserved.new.self.items)) (c.in_ok-reply.ensures.ok).0
+    ∙ ap (λ ms. shown_world c.self.inside.config (slice_set c.self.inside.seats.items (place_of (g.R.KeepsEvent.noted c.args.noted)) (next_site c.index_mut.result.now c.args.arrived)) ms (map g.R.KeepsEvent.noted c.push_reserved.new.self.items))
     (c.send.ensures ∙ ap (λ ms. ms ++ c.in_ok-reply.posted.items) c.in_ok-reserve-2.ensures.items ∙ ap (λ ms. c.self.inside.sent.items ++ ms) (c.in_ok-reply.ensures.ok).2)
-    ∙ ap (shown_world c.self.inside.config (slice_set c.self.inside.seats.items (place_of c.args.event) (next_site c.index_mut.result.now c.args.arrived)) _)
-    (c.push_reserved.ensures.items ∙ ap (λ es. es ++ c.args.event ∷ []) c.in_ok-reserve.ensures.items)
-    ∙ (taken_step _ _ _ c.self.inside.recorded.items c.args.event c.args.arrived c.index_mut.result.now (taken c)).1
+    ∙ ap (shown_world c.self.inside.config (slice_set c.self.inside.seats.items (place_of (g.R.KeepsEvent.noted c.args.noted)) (next_site c.index_mut.result.now c.args.arrived)) _)
+    (ap (map g.R.KeepsEvent.noted) c.push_reserved.ensures.items
+    ∙ map-append g.R.KeepsEvent.noted c.reserve.new.self.items _
+    ∙ ap (λ es. map g.R.KeepsEvent.noted es ++ g.R.KeepsEvent.noted c.args.noted ∷ []) c.in_ok-reserve.ensures.items)
+    ∙ (taken_step _ _ _ (map g.R.KeepsEvent.noted c.self.inside.recorded.items) (g.R.KeepsEvent.noted c.args.noted) c.args.arrived c.index_mut.result.now (taken g c)).1
 
 pub invariant_of-self-2 : goal.invariant_of-self-2
-invariant_of-self-2 c = (
-  subst IsRunOf (sym (the_step c)) (next_run (the_world c) c.args.event c.self.invariant.0 c.requires.command),
+invariant_of-self-2 g c = (
+  subst IsRunOf (sym (the_step g c)) (next_run (the_world g c) (g.R.KeepsEvent.noted c.args.noted) c.self.invariant.0 c.requires.command),
   (let P : SeenSite → Type 0 = λ x. AreOf c.self.inside.config (slice_set c.self.inside.seats.items c.args.place x) in
-      subst P (sym (c.in_ok-reply.ensures.ok).0) (settings_kept c.self.inside.config c.self.inside.seats.items c.args.place c.index_mut.result.now c.args.arrived (taken c).settings c.self.invariant.1)),
+      subst P (sym (c.in_ok-reply.ensures.ok).0) (settings_kept c.self.inside.config c.self.inside.seats.items c.args.place c.index_mut.result.now c.args.arrived (taken g c).settings c.self.invariant.1)),
   c.self.invariant.2,
   (let room : length c.self.inside.seats.items ≤ vec_capacity c.self.inside.reports = c.self.invariant.3 in
       let same : length (slice_set c.self.inside.seats.items c.args.place c.step.new.self) ≡ length c.self.inside.seats.items = length-set c.self.inside.seats.items c.args.place c.step.new.self in
@@ -42,7 +45,7 @@ invariant_of-self-2 c = (
 )
 
 pub returns-clause-ok : goal.returns-clause-ok
-returns-clause-ok c = (
-  (c.in_ok-reply.ensures.ok).1 ∙ (taken_step _ _ _ c.self.inside.recorded.items c.args.event c.args.arrived c.index_mut.result.now (taken c)).0 ∙ ap (λ w. next_reply w c.args.event) c.self.view_is,
-  the_step c ∙ ap (λ w. next_world w c.args.event) c.self.view_is,
+returns-clause-ok g c = (
+  (c.in_ok-reply.ensures.ok).1 ∙ (taken_step _ _ _ (map g.R.KeepsEvent.noted c.self.inside.recorded.items) (g.R.KeepsEvent.noted c.args.noted) c.args.arrived c.index_mut.result.now (taken g c)).0 ∙ ap (λ w. next_reply w (g.R.KeepsEvent.noted c.args.noted)) c.self.view_is,
+  the_step g c ∙ ap (λ w. next_world w (g.R.KeepsEvent.noted c.args.noted)) c.self.view_is,
 )

@@ -14,7 +14,7 @@ some_there (Some e) h = (e, refl)
 some_there None h = cc
 
 pub returns-then-full-clause-ok : goal.returns-then-full-clause-ok
-returns-then-full-clause-ok c =
+returns-then-full-clause-ok g c =
     let there : (e : Event) × (arrival c.args.self.now.world.messages c.args.event ≡ Some e) = some_there _ (sym c.is_there.ensures ∙ c.if-not-is_there.false) in
     full_step c.args.self.now c.args.event there.0 (state_of c.in-Some.site.now) there.1
     (ap (slice_get c.args.self.now.world.sites) (sym c.place-place.ensures) ∙ sym c.in-Some.ensures.state)

@@ -1,6 +1,6 @@
 -- Fewer sites are left each time.
 use Rattle.std.proofs.Common.{vec_len}
-use Rattle.rb_world.proofs.world.close_all.Given as goal
+use Rattle.rb_world.proofs.world.end_all.Given as goal
 
 abbrev pub decreases-seats : goal.decreases-seats
-decreases-seats l = vec_len l.seats
+decreases-seats g l = vec_len l.seats

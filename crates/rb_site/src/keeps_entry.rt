@@ -1,0 +1,45 @@
+//! What a site's history keeps of its entries.
+ghost use Rattle.std.specs.Prelude.{◌≡◌};
+ghost use Rattle.rb_site.specs.Notes.{IsNoted};
+ghost use Rattle.rb_site.specs.declared.entry.Entry.{Entry as TheEntry};
+
+use crate::{Entry, Event, Reply};
+use rb_unkept::Unkept;
+
+/// What is kept of an entry: all of it, or nothing that takes memory.
+pub trait KeepsEntry: Drop {
+    // The entry that was noted.
+    ghost entry: { Self → TheEntry };
+
+    /// Notes an event with its reply, of which this was noted.
+    fn note(event: Event, reply: &Reply, noted: Option<Reply>) -> Self
+        requires { IsNoted reply.now noted }
+        ensures { entry result ≡ record { event = event; reply = reply.now } };
+}
+
+impl KeepsEntry for Entry {
+    ghost entry = { λ x. x };
+
+    fn note(event: Event, reply: &Reply, noted: Option<Reply>) -> Entry {
+        let reply = reply.again(noted);
+        Entry { event, reply }
+    }
+}
+
+/// An entry that isn't kept. Only proofs read it.
+#[derive(Drop)]
+pub struct UnkeptEntry {
+    event: Unkept<Event>,
+    reply: Unkept<Reply>,
+}
+
+impl KeepsEntry for UnkeptEntry {
+    ghost entry = { λ x. record { event = x.event.value; reply = x.reply.value } };
+
+    fn note(event: Event, reply: &Reply, _noted: Option<Reply>) -> UnkeptEntry {
+        UnkeptEntry {
+            event: Unkept::of(&event),
+            reply: Unkept::of(reply),
+        }
+    }
+}

@@ -1,0 +1,6 @@
+//! Values that only proofs read.
+#![tactic(auto)]
+
+mod unkept;
+
+pub use unkept::Unkept;
