@@ -2,3 +2,9 @@ pub mod Whole
 pub mod Shapes
 pub mod Back
 pub mod Fronts
+pub mod Plain
+pub mod Appended
+pub mod Numerals
+pub mod Listed
+pub mod UsualLines
+pub mod Scanned

@@ -5,3 +5,4 @@ pub mod Lines
 pub mod Requests
 pub mod Commands
 pub mod Configurations
+pub mod Adds

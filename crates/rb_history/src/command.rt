@@ -11,6 +11,7 @@ ghost use Rattle.rb_history.specs.Values.{number_below};
 
 use crate::fault::LineFault;
 use crate::request::{account, request, requests};
+use crate::usual::usual_command;
 use crate::values::{byte, name, pair, parse, size, word};
 use rb_money::Config;
 use rb_site::{Event, Requests, WorldEvent};
@@ -135,6 +136,9 @@ pub fn read_command(alloc: Global, config: &Config, line: &str) -> Result<WorldE
     ensures value { Gives result (command_at config.now line.now) }
     ensures command { IfOk result IsCommand }
 {
+    if let Some(command) = usual_command(config, line) {
+        return Ok(command);
+    }
     match parse(alloc, line) {
         Ok(value) => command(alloc, config, &value),
         Err(fault) => Err(fault),

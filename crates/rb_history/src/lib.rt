@@ -1,14 +1,18 @@
 //! Lines of text: the configuration, commands and replies as JSON.
 #![tactic(auto)]
 
+mod append;
 mod command;
 #[cfg(test)]
 mod command_tests;
 mod config_line;
 mod fault;
+mod line;
+mod lists;
 mod parts;
 mod request;
 mod statement;
+mod usual;
 mod values;
 mod write;
 
@@ -17,6 +21,7 @@ ghost use Rattle.rb_history.specs.Commands.{CommandsAreRead};
 pub use command::read_command;
 pub use config_line::read_config;
 pub use fault::LineFault;
+pub use line::append_reply;
 pub use write::write_reply;
 
 /// Each command is read from the JSON object that tells it.

@@ -13,7 +13,7 @@ use serde_json::Value;
 use std::alloc::Global;
 
 /// The place of an account's name.
-fn place(config: &Config, name: &str) -> Place
+pub fn place(config: &Config, name: &str) -> Place
     ensures { result ≡ account_place config.now name.now }
 {
     match config.accounts().place(name) {

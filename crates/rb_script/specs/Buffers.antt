@@ -12,7 +12,7 @@ Counts calls reads = calls + reads ≡ 4000000000
 
 -- how much can still come: it falls with each line that is taken
 abbrev pub left : Buffers → ℕ
-left b = length b.pending + 4096 * b.reads
+left b = length b.pending + 65536 * b.reads
 
 -- a line of n bytes stands whole at the front, with its line feed or at the end of the source
 abbrev pub Stands : Buffers → ℕ → Type 0

@@ -17,7 +17,7 @@ use std::alloc::Global;
 const MOST_READS: u64 = 4_000_000_000;
 
 /// The bytes that one read asks for.
-const READ_SIZE: usize = 4096;
+const READ_SIZE: usize = 65_536;
 
 /// The most bytes of a line.
 const LINE_LIMIT: usize = 1_048_576;

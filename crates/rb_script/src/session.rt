@@ -8,7 +8,7 @@ ghost use Rattle.rb_script.specs.Lines.{command_on, config_on, is_blank, line_li
 ghost use Rattle.rb_script.specs.Session.{Answers, AnswersCommand, EndsAt, first_session};
 
 use crate::fault::ScriptFault;
-use rb_history::{LineFault, read_command, read_config, write_reply};
+use rb_history::{LineFault, append_reply, read_command, read_config};
 use rb_world::LeanWorld;
 use std::alloc::Global;
 use std::str;
@@ -78,10 +78,7 @@ fn answer_command(
     let Ok(reply) = world.step(command) else {
         return Err(LineFault::OutOfMemory);
     };
-    let Ok(answer) = write_reply(alloc, &reply) else {
-        return Err(LineFault::OutOfMemory);
-    };
-    match owed.extend_from_slice(answer.as_bytes()) {
+    match append_reply(owed, &reply) {
         Ok(()) => Ok(()),
         Err(_) => Err(LineFault::OutOfMemory),
     }

@@ -9,7 +9,7 @@ invariant-lines g l = record {
   counted : Counts (g.S.Source.calls l.reader) l.buffers.reads;
   fresh : g.W.Sink.failed l.writer ≡ false;
   end : l.buffers.ended ≡ true → IsAtEnd (g.S.Source.remaining l.reader);
-  number : l.session.number + left l.buffers ≤ 4096 * 4000000000 + 1;
+  number : l.session.number + left l.buffers ≤ 65536 * 4000000000 + 1;
   count : l.session.count ≤ l.session.number;
   written : IsAt (g.W.Sink.contents l.fn.writer) (g.W.Sink.contents l.writer) (g.S.Source.remaining l.fn.reader) (g.S.Source.remaining l.reader) l.session l.buffers.pending l.buffers.ended l.buffers.owed.items;
 }
