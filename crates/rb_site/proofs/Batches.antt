@@ -1,7 +1,6 @@
 -- The requests of a batch, one by one.
-use Rattle.std.proofs.Common.{◌≡◌, ◌∙◌, ℕ, ◌+◌, ◌<◌, ◌≤◌, ◌⊎◌, inl, inr, List, [], ◌∷◌, ◌++◌, drop, get_or, length, take, ap, arith, refl, sym, Bool, true, false, not, ◌&&◌, Result, Ok, Err, IfOk, IfErr, OnErr, map}
+use Rattle.std.proofs.Common.{◌≡◌, ◌∙◌, ℕ, ◌+◌, ◌<◌, ◌≤◌, ◌⊎◌, inl, inr, List, [], ◌∷◌, ◌++◌, drop, get_or, length, take, ap, arith, refl, sym, Bool, true, false, not, ◌&&◌, Result, Ok, Err, IfOk, IfErr, map}
 use Rattle.std.specs.Prelude.{nat_le}
-use Rattle.std.specs.declared.alloc.AllocError.{AllocError}
 use Rattle.std.proofs.lemmas.List.{drop_more, length-take-le, take-append-drop, take_more}
 use Rattle.rb_money.specs.Settings.{Settings}
 use Rattle.rb_money.specs.declared.refusal.Refusal.{Refusal}
@@ -21,11 +20,12 @@ use Rattle.rb_scratch.specs.declared.run_fault.RunFault.{RunFault}
 use Rattle.rb_scratch.specs.declared.run_fault.RunFault.TheVariants.{Refused as RefusedFault}
 use Rattle.rb_site.specs.declared.answer.Answer.{Answer}
 use Rattle.rb_site.specs.declared.event.Event.TheVariants.{Batch}
+use Rattle.rb_site.specs.declared.message.Message.{Message}
 use Rattle.rb_site.specs.declared.message.Message.TheVariants.{Shadow as ShadowMessage}
 use Rattle.rb_site.specs.declared.reply.Reply.TheVariants.{Names as NamesMade, Refused}
 use Rattle.rb_site.specs.Events.{ModelSite, outcome_of, outcome_of_batch, refuses_if}
-use Rattle.rb_site.specs.States.{Follows, Says}
-use Rattle.rb_site.proofs.Handlers.{IsAlone, follows_as, site_as, state_as}
+use Rattle.rb_site.specs.States.{Follows, Says, SiteState}
+use Rattle.rb_site.proofs.Handlers.{AnswersAlone, answers_as, follows_as, site_as, state_as}
 
 -- what a request makes where the same list stands
 same_made : (s now : Settings) (me here : ℕ) (us them : List Shadow) (known : Token) (r : Request) → now ≡ s → here ≡ me → them ≡ us → made_in_batch s me us known r ≡ made_in_batch now here them known r
@@ -84,24 +84,19 @@ batch_comes : (s : Settings) (t : ModelSite) (rs : List Request) (b : Bool) → 
 unfolding outcome_of
 batch_comes s t rs b e = ap (λ c. refuses_if (not c) BadBatch (outcome_of_batch (batch_of s t.me t.ops t.token 0 rs))) e
 
-pub refuses_size : (s : Settings) (me : ℕ) (ops held : List Shadow) (token : Token) (rs : List Request) (a : Answer) → is_of_size rs ≡ false → IsAlone a (Refused BadBatch)
-    → Follows (state_as s me ops held token) (state_as s me ops held token) (outcome_of s (site_as me ops held token) (Batch rs)) a
-refuses_size s me ops held token rs a size is = follows_as _ _ _ _ a (batch_comes s (site_as me ops held token) rs false size) (refl, is)
+pub refuses_size : (z : SiteState) (rs : List Request) (a : Answer) → is_of_size rs ≡ false → Says true a (Refused BadBatch) → AnswersAlone z z (outcome_of z.settings z.site (Batch rs)) a
+refuses_size z rs a size is = answers_as _ _ _ _ a (batch_comes z.settings z.site rs false size) (refl, is, refl)
 
-pub makes_batch : (s : Settings) (me : ℕ) (ops held : List Shadow) (token : Token) (rs : List Request) (vs : List Shadow) (a : Answer) → is_of_size rs ≡ true → batch_of s me ops token 0 rs ≡ Ok vs → Says a (NamesMade (names_of_all vs)) (map ShadowMessage vs)
-    → Follows (state_as s me ops held token) (state_as s me (ops ++ vs) held token) (outcome_of s (site_as me ops held token) (Batch rs)) a
-makes_batch s me ops held token rs vs a size made is = follows_as _ _ _ _ a (batch_comes s (site_as me ops held token) rs true size ∙ ap outcome_of_batch made) (refl, is)
+pub makes_batch : (keeps : Bool) (s : Settings) (me : ℕ) (ops held : List Shadow) (token : Token) (rs : List Request) (vs : List Shadow) (before after : List Message) (a : Answer) → is_of_size rs ≡ true → batch_of s me ops token 0 rs ≡ Ok vs
+    → Says keeps a (NamesMade (names_of_all vs)) → after ≡ before ++ map ShadowMessage vs
+    → Follows keeps (state_as s me ops held token) (state_as s me (ops ++ vs) held token) before after (outcome_of s (site_as me ops held token) (Batch rs)) a
+makes_batch keeps s me ops held token rs vs before after a size made is posted = follows_as keeps _ _ before after _ _ a (batch_comes s (site_as me ops held token) rs true size ∙ ap outcome_of_batch made) (refl, is, posted)
 
-pub refuses_batch : (s : Settings) (me : ℕ) (ops held : List Shadow) (token : Token) (rs : List Request) (why : Refusal) (a : Answer) → is_of_size rs ≡ true → batch_of s me ops token 0 rs ≡ Err why → IsAlone a (Refused why)
-    → Follows (state_as s me ops held token) (state_as s me ops held token) (outcome_of s (site_as me ops held token) (Batch rs)) a
-refuses_batch s me ops held token rs why a size refused is = follows_as _ _ _ _ a (batch_comes s (site_as me ops held token) rs true size ∙ ap outcome_of_batch refused) (refl, is)
+pub refuses_batch : (s : Settings) (me : ℕ) (ops held : List Shadow) (token : Token) (rs : List Request) (why : Refusal) (a : Answer) → is_of_size rs ≡ true → batch_of s me ops token 0 rs ≡ Err why → Says true a (Refused why)
+    → AnswersAlone (state_as s me ops held token) (state_as s me ops held token) (outcome_of s (site_as me ops held token) (Batch rs)) a
+refuses_batch s me ops held token rs why a size refused is = answers_as _ _ _ _ a (batch_comes s (site_as me ops held token) rs true size ∙ ap outcome_of_batch refused) (refl, is, refl)
 
 -- what refused a batch, but for want of memory
 pub refused_batch : (why : Refusal) (X : Type 0) → (why ≡ OutOfMemory) ⊎ X → (why ≡ OutOfMemory → ⊥) → X
 refused_batch why X (inl e) memory = absurd (memory e)
 refused_batch why X (inr h) memory = h
-
--- what holds holds at an error
-pub at_err : (P : Type 0) (r : Result Answer AllocError) → P → OnErr r P
-at_err P (Ok a) h = tt
-at_err P (Err e) h = h

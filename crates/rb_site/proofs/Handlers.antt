@@ -1,8 +1,7 @@
 -- What each handler of a site does is what the event comes to.
-use Rattle.std.proofs.Common.{◌≡◌, ℕ, ◌≤◌, Bool, true, false, cond, not, ◌&&◌, ◌⊎◌, inl, inr, List, [], ◌∷◌, ◌++◌, length, refl, ap, sym, subst, ◌∙◌, arith, Option, Some, None, Result, Ok, Err, IfOk}
+use Rattle.std.proofs.Common.{◌≡◌, ℕ, ◌≤◌, Bool, true, false, cond, not, ◌&&◌, ◌⊎◌, inl, inr, List, [], ◌∷◌, ◌++◌, length, refl, ap, sym, subst, ◌∙◌, arith, Option, Some, None, append-nil}
 use Rattle.std.specs.Prelude.{nat_le}
 use Rattle.std.proofs.lemmas.Bool.Decides.{nat_tests}
-use Rattle.std.specs.declared.alloc.AllocError.{AllocError}
 use Rattle.rb_money.specs.Settings.{Settings, most_sites}
 use Rattle.rb_money.specs.declared.refusal.Refusal.{Refusal}
 use Rattle.rb_money.specs.declared.refusal.Refusal.TheVariants.{NotReady, InboxFull, Conflict, OutOfMemory}
@@ -24,23 +23,43 @@ use Rattle.rb_token.specs.Token.{Token, pass_message, passed_token, refusal_of_p
 use Rattle.rb_token.specs.declared.message.TokenMessage.{TokenMessage}
 use Rattle.rb_site.specs.declared.answer.Answer.{Answer}
 use Rattle.rb_site.specs.declared.reply.Reply.{Reply}
+use Rattle.rb_site.specs.Notes.{IsNoted, is_plain}
 use Rattle.rb_site.specs.declared.reply.Reply.TheVariants.{Held, Already, Applied, Passed, Refused}
+use Rattle.rb_site.specs.declared.message.Message.{Message}
 use Rattle.rb_site.specs.declared.message.Message.TheVariants.{Token as TokenOnItsWay}
-use Rattle.rb_site.specs.Events.{ModelSite, Outcome, Refuses, Drops, Answers, Holds, Passes, outcome_of_apply, outcome_of_check, outcome_of_new, outcome_of_pass, refuses_first, refuses_if, unless_known}
+use Rattle.rb_site.specs.Events.{ModelSite, Outcome, Refuses, Drops, Answers, Holds, Passes, outcome_of_apply, outcome_of_check, outcome_of_new, outcome_of_pass, refuses_first, refuses_if, reply_of, unless_known}
 use Rattle.rb_site.specs.States.{Follows, IsTied, Says, SiteState}
 
 -- what follows an outcome follows an equal one
-pub follows_as : (old now : SiteState) (o p : Outcome) (a : Answer) → o ≡ p → Follows old now p a → Follows old now o a
-follows_as old now o p a e h = let P : Outcome → Type 0 = λ q. Follows old now q a in subst P (sym e) h
+pub follows_as : (keeps : Bool) (old now : SiteState) (before after : List Message) (o p : Outcome) (a : Answer) → o ≡ p → Follows keeps old now before after p a → Follows keeps old now before after o a
+follows_as keeps old now before after o p a e h = let P : Outcome → Type 0 = λ q. Follows keeps old now before after q a in subst P (sym e) h
 
--- what follows of an answer follows of a result that may be one
-pub answered : (P Q : Answer → Type 0) (r : Result Answer AllocError) → ((a : Answer) → P a → Q a) → IfOk r P → IfOk r Q
-answered P Q (Ok a) f h = f a h
-answered P Q (Err e) f h = tt
+-- the answer is plain, and nothing is sent
+abbrev pub AnswersAlone : SiteState → SiteState → Outcome → Answer → Type 0
+AnswersAlone old now o a = Follows true old now [] [] o a
 
--- an answer that only replies
-abbrev pub IsAlone : Answer → Reply → Type 0
-IsAlone a reply = Says a reply []
+abbrev pub answers_as : (old now : SiteState) (o p : Outcome) (a : Answer) → o ≡ p → AnswersAlone old now p a → AnswersAlone old now o a
+answers_as old now o p a e h = follows_as true old now [] [] o p a e h
+
+-- what is noted for a history that keeps replies does for any
+pub noted_less : (keeps : Bool) (reply : Reply) (noted : Option Reply) → IsNoted true reply noted → IsNoted keeps reply noted
+noted_less keeps reply (Some n) h = h
+noted_less keeps reply None h = by (is_plain reply) h
+  where
+    by : (b : Bool) → (not b && true) ≡ false → (not b && keeps) ≡ false
+    by true e = refl
+    by false e = cc
+
+pub follows_less : (keeps : Bool) (old now : SiteState) (before after : List Message) (o : Outcome) (a : Answer) → Follows true old now before after o a → Follows keeps old now before after o a
+follows_less keeps old now before after o a h = (h.0, (h.1.0, noted_less keeps (reply_of o) a.noted h.1.1), h.2)
+
+-- where nothing is sent, the messages stay
+pub follows_silent : (keeps : Bool) (old now : SiteState) (before : List Message) (o : Outcome) (a : Answer) → Follows keeps old now [] [] o a → Follows keeps old now before before o a
+follows_silent keeps old now before o a h = (h.0, h.1, sym (append-nil before) ∙ ap (λ ms. before ++ ms) h.2)
+
+-- a plain answer with which nothing is sent, among any messages and for any history
+pub follows_plain : (keeps : Bool) (old now : SiteState) (before : List Message) (o : Outcome) (a : Answer) → AnswersAlone old now o a → Follows keeps old now before before o a
+follows_plain keeps old now before o a h = follows_silent keeps old now before o a (follows_less keeps old now [] [] o a h)
 
 -- a state by its parts
 abbrev pub state_as : Settings → ℕ → List Shadow → List Shadow → Token → SiteState
@@ -51,13 +70,13 @@ site_as me ops held token = record { me = me; ops = ops; held = held; token = to
 
 -- ---- the token goes to another site
 
-pub passes : (s : Settings) (me : ℕ) (ops held : List Shadow) (token later : Token) (to reds : ℕ) (m : TokenMessage) (a : Answer)
-    → refusal_of_pass s.sites s.limits me token to ≡ None → reds ≡ red_count ops → m ≡ pass_message token to reds → later ≡ passed_token token m → Says a (Passed m.epoch) (TokenOnItsWay m ∷ [])
-    → Follows (state_as s me ops held token) (state_as s me ops held later) (outcome_of_pass s (site_as me ops held token) to) a
+pub passes : (s : Settings) (me : ℕ) (ops held : List Shadow) (token later : Token) (to reds : ℕ) (m : TokenMessage) (before after : List Message) (a : Answer)
+    → refusal_of_pass s.sites s.limits me token to ≡ None → reds ≡ red_count ops → m ≡ pass_message token to reds → later ≡ passed_token token m → Says true a (Passed m.epoch) → after ≡ before ++ TokenOnItsWay m ∷ []
+    → Follows true (state_as s me ops held token) (state_as s me ops held later) before after (outcome_of_pass s (site_as me ops held token) to) a
 unfolding outcome_of_pass
-passes s me ops held token later to reds m a allowed count sent passed is =
+passes s me ops held token later to reds m before after a allowed count sent passed is posted =
     let comes : refuses_first (refusal_of_pass s.sites s.limits me token to) (Passes (pass_message token to (red_count ops))) ≡ Passes m = ap (λ r. refuses_first r (Passes (pass_message token to (red_count ops)))) allowed ∙ ap Passes (ap (pass_message token to) (sym count) ∙ sym sent) in
-    follows_as _ _ _ _ a comes (ap (state_as s me ops held) passed, is)
+    follows_as true _ _ before after _ _ a comes (ap (state_as s me ops held) passed, is, posted)
 
 -- ---- a held shadow is applied, or is let go
 
@@ -78,24 +97,24 @@ comes_to_check s t x v o found eligible sound refusal =
     ∙ ap (outcome_of_check v) (sym (refusal-sound s t.ops v sound) ∙ refusal)
 
 pub applies : (s : Settings) (me : ℕ) (ops held more less : List Shadow) (token : Token) (x : OpName) (v : Shadow) (a : Answer) → find_in held x ≡ Some v → is_eligible ops v ≡ true → IsSound s v → refusal_of s ops v ≡ None
-    → more ≡ ops ++ v ∷ [] → less ≡ without v.name held → IsAlone a (Applied v.name)
-    → Follows (state_as s me ops held token) (state_as s me more less token) (outcome_of_apply s (site_as me ops held token) (find_in held x)) a
+    → more ≡ ops ++ v ∷ [] → less ≡ without v.name held → Says true a (Applied v.name)
+    → AnswersAlone (state_as s me ops held token) (state_as s me more less token) (outcome_of_apply s (site_as me ops held token) (find_in held x)) a
 applies s me ops held more less token x v a found eligible sound refusal grown taken is =
-    follows_as _ _ _ _ a (comes_to_check s (site_as me ops held token) x v None found eligible sound refusal)
-    (ap (λ us. state_as s me us less token) grown ∙ ap (λ vs. state_as s me (ops ++ v ∷ []) vs token) taken, is)
+    answers_as _ _ _ _ a (comes_to_check s (site_as me ops held token) x v None found eligible sound refusal)
+    (ap (λ us. state_as s me us less token) grown ∙ ap (λ vs. state_as s me (ops ++ v ∷ []) vs token) taken, is, refl)
 
 pub drops : (s : Settings) (me : ℕ) (ops held less : List Shadow) (token : Token) (x : OpName) (v : Shadow) (why : Refusal) (a : Answer) → find_in held x ≡ Some v → is_eligible ops v ≡ true → IsSound s v → refusal_of s ops v ≡ Some why → (why ≡ NotReady → ⊥)
-    → less ≡ without v.name held → IsAlone a (Refused why)
-    → Follows (state_as s me ops held token) (state_as s me ops less token) (outcome_of_apply s (site_as me ops held token) (find_in held x)) a
+    → less ≡ without v.name held → Says true a (Refused why)
+    → AnswersAlone (state_as s me ops held token) (state_as s me ops less token) (outcome_of_apply s (site_as me ops held token) (find_in held x)) a
 drops s me ops held less token x v why a found eligible sound refusal other taken is =
-    follows_as _ _ _ _ a (comes_to_check s (site_as me ops held token) x v (Some why) found eligible sound refusal ∙ dropped v why other)
-    (ap (λ vs. state_as s me ops vs token) taken, is)
+    answers_as _ _ _ _ a (comes_to_check s (site_as me ops held token) x v (Some why) found eligible sound refusal ∙ dropped v why other)
+    (ap (λ vs. state_as s me ops vs token) taken, is, refl)
 
-pub waits : (s : Settings) (me : ℕ) (ops held : List Shadow) (token : Token) (x : OpName) (v : Shadow) (a : Answer) → find_in held x ≡ Some v → is_eligible ops v ≡ true → IsSound s v → refusal_of s ops v ≡ Some NotReady → IsAlone a (Refused NotReady)
-    → Follows (state_as s me ops held token) (state_as s me ops held token) (outcome_of_apply s (site_as me ops held token) (find_in held x)) a
+pub waits : (s : Settings) (me : ℕ) (ops held : List Shadow) (token : Token) (x : OpName) (v : Shadow) (a : Answer) → find_in held x ≡ Some v → is_eligible ops v ≡ true → IsSound s v → refusal_of s ops v ≡ Some NotReady → Says true a (Refused NotReady)
+    → AnswersAlone (state_as s me ops held token) (state_as s me ops held token) (outcome_of_apply s (site_as me ops held token) (find_in held x)) a
 waits s me ops held token x v a found eligible sound refusal is =
-    follows_as _ _ _ _ a (comes_to_check s (site_as me ops held token) x v (Some NotReady) found eligible sound refusal)
-    (refl, is)
+    answers_as _ _ _ _ a (comes_to_check s (site_as me ops held token) x v (Some NotReady) found eligible sound refusal)
+    (refl, is, refl)
 
 -- what a ledger's refusal is, but for want of memory
 pub refusal_is : (why : Refusal) (o : Option Refusal) → (o ≡ Some why) ⊎ ((why ≡ OutOfMemory) × (o ≡ None)) → (why ≡ OutOfMemory → ⊥) → o ≡ Some why
@@ -148,11 +167,11 @@ known_comes s t v u b found test =
     ∙ ap (λ c. cond c (Answers (Already v.name)) (Refuses Conflict)) test
 
 pub holds : (s : Settings) (me : ℕ) (ops : List Shadow) (inbox later : Holding) (token : Token) (c : Deps) (v : Shadow) (a : Answer) → s.sites ≤ most_sites → IsValid s ops → c ≡ clock_of ops → inbox.limit ≡ s.limits.inbox
-    → IsWelcome inbox c v → later ≡ record inbox { held = with_held v inbox.held } → IsAlone a (Held v.name)
-    → Follows (state_as s me ops inbox.held token) (state_as s me ops later.held token) (outcome_of_new s (site_as me ops inbox.held token) v) a
+    → IsWelcome inbox c v → later ≡ record inbox { held = with_held v inbox.held } → Says true a (Held v.name)
+    → AnswersAlone (state_as s me ops inbox.held token) (state_as s me ops later.held token) (outcome_of_new s (site_as me ops inbox.held token) v) a
 holds s me ops inbox later token c v a few valid same limit welcome grown is =
-    follows_as _ _ _ _ a (new_comes s (site_as me ops inbox.held token) v false welcome.new test)
-    (ap (λ (b : Holding). state_as s me ops b.held token) grown, is)
+    answers_as _ _ _ _ a (new_comes s (site_as me ops inbox.held token) v false welcome.new test)
+    (ap (λ (b : Holding). state_as s me ops b.held token) grown, is, refl)
   where
     by : (b : Bool) → nat_le s.limits.inbox (length inbox.held) ≡ b → (b && not (is_eligible ops v)) ≡ false
     by false e = refl
@@ -164,11 +183,11 @@ holds s me ops inbox later token c v a few valid same limit welcome grown is =
     test = by (nat_le s.limits.inbox (length inbox.held)) refl
 
 pub too_many : (s : Settings) (me : ℕ) (ops : List Shadow) (inbox : Holding) (token : Token) (c : Deps) (v : Shadow) (a : Answer) → s.sites ≤ most_sites → IsValid s ops → c ≡ clock_of ops → inbox.limit ≡ s.limits.inbox
-    → IsTooMany inbox c v → IsAlone a (Refused InboxFull)
-    → Follows (state_as s me ops inbox.held token) (state_as s me ops inbox.held token) (outcome_of_new s (site_as me ops inbox.held token) v) a
+    → IsTooMany inbox c v → Says true a (Refused InboxFull)
+    → AnswersAlone (state_as s me ops inbox.held token) (state_as s me ops inbox.held token) (outcome_of_new s (site_as me ops inbox.held token) v) a
 too_many s me ops inbox token c v a few valid same limit many is =
-    follows_as _ _ _ _ a (new_comes s (site_as me ops inbox.held token) v true many.new test)
-    (refl, is)
+    answers_as _ _ _ _ a (new_comes s (site_as me ops inbox.held token) v true many.new test)
+    (refl, is, refl)
   where
     full : s.limits.inbox ≤ length inbox.held
     full = subst (λ n. n ≤ length inbox.held) limit many.full
@@ -178,17 +197,17 @@ too_many s me ops inbox token c v a few valid same limit many is =
         let first : nat_le s.limits.inbox (length inbox.held) ≡ true = grind (arith, nat_tests, full) in
         ap (λ b. b && not (is_eligible ops v)) first ∙ ap not (waits_means s ops c v few valid same many.waits)
 
-pub already : (s : Settings) (me : ℕ) (ops held : List Shadow) (token : Token) (v : Shadow) (a : Answer) → find_in held v.name ≡ Some v → IsAlone a (Already v.name)
-    → Follows (state_as s me ops held token) (state_as s me ops held token) (outcome_of_new s (site_as me ops held token) v) a
+pub already : (s : Settings) (me : ℕ) (ops held : List Shadow) (token : Token) (v : Shadow) (a : Answer) → find_in held v.name ≡ Some v → Says true a (Already v.name)
+    → AnswersAlone (state_as s me ops held token) (state_as s me ops held token) (outcome_of_new s (site_as me ops held token) v) a
 already s me ops held token v a found is =
-    follows_as _ _ _ _ a (known_comes s (site_as me ops held token) v v true found (Same.same_shadow-refl v))
-    (refl, is)
+    answers_as _ _ _ _ a (known_comes s (site_as me ops held token) v v true found (Same.same_shadow-refl v))
+    (refl, is, refl)
 
-pub conflicts : (s : Settings) (me : ℕ) (ops : List Shadow) (inbox : Holding) (token : Token) (v : Shadow) (a : Answer) → IsInConflict inbox v → IsAlone a (Refused Conflict)
-    → Follows (state_as s me ops inbox.held token) (state_as s me ops inbox.held token) (outcome_of_new s (site_as me ops inbox.held token) v) a
+pub conflicts : (s : Settings) (me : ℕ) (ops : List Shadow) (inbox : Holding) (token : Token) (v : Shadow) (a : Answer) → IsInConflict inbox v → Says true a (Refused Conflict)
+    → AnswersAlone (state_as s me ops inbox.held token) (state_as s me ops inbox.held token) (outcome_of_new s (site_as me ops inbox.held token) v) a
 conflicts s me ops inbox token v a (u, found, other) is =
-    follows_as _ _ _ _ a (known_comes s (site_as me ops inbox.held token) v u false found (by (same_shadow u v) refl))
-    (refl, is)
+    answers_as _ _ _ _ a (known_comes s (site_as me ops inbox.held token) v u false found (by (same_shadow u v) refl))
+    (refl, is, refl)
   where
     by : (b : Bool) → same_shadow u v ≡ b → same_shadow u v ≡ false
     by false e = e
@@ -196,15 +215,15 @@ conflicts s me ops inbox token v a (u, found, other) is =
 
 -- a shadow that the inbox refuses, but for want of memory
 pub refused_put : (s : Settings) (me : ℕ) (ops : List Shadow) (inbox later : Holding) (token : Token) (c : Deps) (v : Shadow) (why : Refusal) (a : Answer) → s.sites ≤ most_sites → IsValid s ops → c ≡ clock_of ops → inbox.limit ≡ s.limits.inbox
-    → (why ≡ Conflict) ⊎ (why ≡ InboxFull) ⊎ (why ≡ OutOfMemory) → (why ≡ Conflict → IsInConflict inbox v) → (why ≡ InboxFull → IsTooMany inbox c v) → (why ≡ OutOfMemory → ⊥) → later ≡ inbox → IsAlone a (Refused why)
-    → Follows (state_as s me ops inbox.held token) (state_as s me ops later.held token) (outcome_of_new s (site_as me ops inbox.held token) v) a
+    → (why ≡ Conflict) ⊎ (why ≡ InboxFull) ⊎ (why ≡ OutOfMemory) → (why ≡ Conflict → IsInConflict inbox v) → (why ≡ InboxFull → IsTooMany inbox c v) → (why ≡ OutOfMemory → ⊥) → later ≡ inbox → Says true a (Refused why)
+    → AnswersAlone (state_as s me ops inbox.held token) (state_as s me ops later.held token) (outcome_of_new s (site_as me ops inbox.held token) v) a
 refused_put s me ops inbox later token c v why a few valid same limit refusals conflict full memory stays is =
-    let P : Holding → Type 0 = λ b. Follows (state_as s me ops inbox.held token) (state_as s me ops b.held token) (outcome_of_new s (site_as me ops inbox.held token) v) a in
+    let P : Holding → Type 0 = λ b. AnswersAlone (state_as s me ops inbox.held token) (state_as s me ops b.held token) (outcome_of_new s (site_as me ops inbox.held token) v) a in
     subst P (sym stays) (by refusals)
   where
-    by : (why ≡ Conflict) ⊎ (why ≡ InboxFull) ⊎ (why ≡ OutOfMemory) → Follows (state_as s me ops inbox.held token) (state_as s me ops inbox.held token) (outcome_of_new s (site_as me ops inbox.held token) v) a
-    by (inl e) = conflicts s me ops inbox token v a (conflict e) (subst (λ w. IsAlone a (Refused w)) e is)
-    by (inr (inl e)) = too_many s me ops inbox token c v a few valid same limit (full e) (subst (λ w. IsAlone a (Refused w)) e is)
+    by : (why ≡ Conflict) ⊎ (why ≡ InboxFull) ⊎ (why ≡ OutOfMemory) → AnswersAlone (state_as s me ops inbox.held token) (state_as s me ops inbox.held token) (outcome_of_new s (site_as me ops inbox.held token) v) a
+    by (inl e) = conflicts s me ops inbox token v a (conflict e) (subst (λ w. Says true a (Refused w)) e is)
+    by (inr (inl e)) = too_many s me ops inbox token c v a few valid same limit (full e) (subst (λ w. Says true a (Refused w)) e is)
     by (inr (inr e)) = absurd (memory e)
 
 -- with one more that is sound, what is held is still tied to the rest

@@ -10,6 +10,7 @@ use Rattle.rb_inbox.specs.Held.{stands_before, with_held}
 use Rattle.rb_site.specs.declared.answer.Answer.{Answer}
 use Rattle.rb_site.specs.declared.entry.Entry.{Entry}
 use Rattle.rb_site.specs.declared.event.Event.{Event}
+use Rattle.rb_site.specs.declared.message.Message.{Message}
 use Rattle.rb_site.specs.declared.message.Message.TheVariants.{Shadow as ShadowMessage}
 use Rattle.rb_site.specs.Events.{Answers, Applies, Drops, Holds, Makes, ModelSite, Outcome, Passes, Refuses, Takes, after_event, after_events, changed, first_site, is_full, noted, outcome_of, reply_of, sent_by}
 use Rattle.rb_site.specs.Histories.{events_of}
@@ -32,8 +33,8 @@ ops_grow t (Takes m) h = omega arith
 ops_grow t (Passes m) h = omega arith
 
 -- after an event there is still enough room
-pub still_enough : (room : RoomFor) (old now : SiteState) (o : Outcome) (a : Answer) → Follows old now o a → length (sent_by o) ≤ 16 → length old.settings.starts ≤ room.accounts → length old.site.ops + 16 ≤ room.entries → IsEnough room now
-still_enough room old now o a follows few accounts entries =
+pub still_enough : (room : RoomFor) (keeps : Bool) (old now : SiteState) (before after : List Message) (o : Outcome) (a : Answer) → Follows keeps old now before after o a → length (sent_by o) ≤ 16 → length old.settings.starts ≤ room.accounts → length old.site.ops + 16 ≤ room.entries → IsEnough room now
+still_enough room keeps old now before after o a follows few accounts entries =
     subst (IsEnough room) (sym follows.0) (record {
       accounts = accounts;
       entries = let more : length (changed old.site o).ops ≤ length old.site.ops + 16 = ops_grow old.site o few in omega arith;

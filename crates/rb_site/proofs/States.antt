@@ -22,6 +22,7 @@ use Rattle.rb_site.specs.declared.answer.Answer.{Answer}
 use Rattle.rb_site.specs.declared.entry.Entry.{Entry}
 use Rattle.rb_site.specs.declared.event.Event.{Event}
 use Rattle.rb_site.specs.declared.event.Event.TheVariants.{Submit, Batch, Receive, Apply, Pass, Balance, AsOf, Statement as AskStatement}
+use Rattle.rb_site.specs.declared.message.Message.{Message}
 use Rattle.rb_site.specs.declared.message.Message.TheVariants.{Shadow as ShadowMessage, Token as TokenOnItsWay}
 use Rattle.rb_site.specs.declared.reply.Reply.{Reply}
 use Rattle.rb_site.specs.declared.reply.Reply.TheVariants.{Refused, Already, Stale, Balance as BalanceIs, Statement as StatementIs}
@@ -79,18 +80,18 @@ abbrev pub noted_in : SeenSite → Event → Reply → SeenSite
 noted_in x e reply = record x { entries = x.entries ++ entry e reply ∷ [] }
 
 -- what the code did is the model's step
-pub record IsStep (x : SeenSite) (now : SiteState) (e : Event) (a : Answer) : Type 0 where
+pub record IsStep (x : SeenSite) (now : SiteState) (before after : List Message) (e : Event) (a : Answer) : Type 0 where
   pub seen : noted_in x e a.reply ≡ next_site x e
   pub reply : a.reply ≡ reply_to x.settings (state_of x) e
-  pub sent : a.posted.items ≡ sent_at x.settings (state_of x) e
+  pub sent : after ≡ before ++ sent_at x.settings (state_of x) e
   pub standing : IsStanding (noted_in x e a.reply) now
 
-pub is_step : (x : SeenSite) (old now : SiteState) (e : Event) (a : Answer) → is_full x.settings (state_of x) ≡ false → IsStanding x old → Follows old now (outcome_of old.settings old.site e) a → IsStep x now e a
-is_step x old now e a free standing follows =
+pub is_step : (keeps : Bool) (x : SeenSite) (old now : SiteState) (before after : List Message) (e : Event) (a : Answer) → is_full x.settings (state_of x) ≡ false → IsStanding x old → Follows keeps old now before after (outcome_of old.settings old.site e) a → IsStep x now before after e a
+is_step keeps x old now before after e a free standing follows =
     record {
       seen = ap (noted_in x e) noted_reply ∙ sym (ap (λ b. cond b x (stepped x e)) free);
       reply = follows.1.0 ∙ told;
-      sent = follows.1.2 ∙ ap sent_by same ∙ sym (ap (λ b. cond b [] (sent_by o)) free);
+      sent = follows.2 ∙ ap (λ q. before ++ sent_by q) same ∙ sym (ap (λ b. before ++ cond b [] (sent_by o)) free);
       standing = subst (λ r. IsStanding (noted_in x e r) now) (sym noted_reply) (record {
         kept = Seen.replayed-stepped x e (room_left x standing.kept free) standing.kept;
         settings = ap (λ (z : SiteState). z.settings) follows.0 ∙ standing.settings;
@@ -127,15 +128,15 @@ abbrev pub seen_as : Settings → ℕ → List Entry → SeenSite
 seen_as s me xs = record { settings = s; me = me; entries = xs }
 
 -- where the entry was pushed, callers see the model's step
-pub seen_now : (x : SeenSite) (now : SiteState) (e : Event) (a : Answer) (xs : List Entry) → IsStep x now e a → now.site.me ≡ x.me → xs ≡ x.entries ++ entry e a.reply ∷ [] → seen_as now.settings now.site.me xs ≡ noted_in x e a.reply
-seen_now x now e a xs step me pushed =
+pub seen_now : (x : SeenSite) (now : SiteState) (before after : List Message) (e : Event) (a : Answer) (xs : List Entry) → IsStep x now before after e a → now.site.me ≡ x.me → xs ≡ x.entries ++ entry e a.reply ∷ [] → seen_as now.settings now.site.me xs ≡ noted_in x e a.reply
+seen_now x now before after e a xs step me pushed =
     ap (λ s. seen_as s now.site.me xs) step.standing.settings
     ∙ ap (λ i. seen_as x.settings i xs) me
     ∙ ap (seen_as x.settings x.me) pushed
 
 -- a step keeps the site's number
-pub me_kept : (old now : SiteState) (o : Outcome) (a : Answer) → Follows old now o a → now.site.me ≡ old.site.me
-me_kept old now o a follows = ap (λ (z : SiteState). z.site.me) follows.0 ∙ Runs.same_me old.site o
+pub me_kept : (keeps : Bool) (old now : SiteState) (before after : List Message) (o : Outcome) (a : Answer) → Follows keeps old now before after o a → now.site.me ≡ old.site.me
+me_kept keeps old now before after o a follows = ap (λ (z : SiteState). z.site.me) follows.0 ∙ Runs.same_me old.site o
 
 -- ---- what is sent
 

@@ -1,5 +1,5 @@
 -- Where a site stands between two events.
-use Rattle.std.specs.Prelude.{◌≡◌, ◌<◌, List, []}
+use Rattle.std.specs.Prelude.{◌≡◌, ◌<◌, Bool, List, [], ◌++◌}
 use Rattle.rb_money.specs.Settings.{Settings}
 use Rattle.rb_inbox.specs.Held.{Holding}
 use Rattle.rb_shadow.specs.declared.shadow.Shadow.{Shadow}
@@ -35,15 +35,16 @@ pub record IsTied (s : Settings) (inbox : Holding) (token : TokenSeat) : Type 0 
   pub limit : inbox.limit ≡ s.limits.inbox
   pub sound : (v : Shadow) → Among v inbox.held → IsSound s v
 
--- the answer has this reply, what is noted of it, and sends these messages
-abbrev pub Says : Answer → Reply → List Message → Type 0
-Says answer reply ms = (answer.reply ≡ reply) × IsNoted reply answer.noted × (answer.posted.items ≡ ms)
+-- the answer has this reply, and what is noted of it for a history that keeps replies or doesn't
+abbrev pub Says : Bool → Answer → Reply → Type 0
+Says keeps answer reply = (answer.reply ≡ reply) × IsNoted keeps reply answer.noted
 
--- the answer and the new state are what the event came to
-abbrev pub Follows : SiteState → SiteState → Outcome → Answer → Type 0
-Follows old new o answer =
+-- the new state, the answer, and the messages sent before and after are what the event came to
+abbrev pub Follows : Bool → SiteState → SiteState → List Message → List Message → Outcome → Answer → Type 0
+Follows keeps old new before after o answer =
     (new ≡ record old { site = changed old.site o })
-    × Says answer (reply_of o) (sent_by o)
+    × Says keeps answer (reply_of o)
+    × (after ≡ before ++ sent_by o)
 
 -- a site's history replays, and it stands where the run of it leaves it
 pub record IsStanding (x : SeenSite) (now : SiteState) : Type 0 where

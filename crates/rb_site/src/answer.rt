@@ -1,46 +1,44 @@
 //! What a site answers to one event.
-ghost use Rattle.std.specs.Prelude.{◌∷◌, [], IfOk};
+ghost use Rattle.std.specs.Prelude.{◌≡◌, true, IfOk};
 
-use crate::{Message, Reply};
+use crate::Reply;
+use rb_statements::Statement;
 use std::alloc::{AllocError, Global};
 
-/// A reply, the same once more where it holds memory, and what is sent with it. A handler has its answer, or
-/// the room for it, before it changes anything, so that want of memory leaves the site as it was.
+/// A reply, and the same once more where it holds memory and the history keeps replies.
 #[derive(Debug, Drop)]
 pub struct Answer {
     pub reply: Reply,
     pub noted: Option<Reply>,
-    pub posted: Vec<Message>,
 }
 
 impl Answer {
+    ghost use Rattle.rb_site.specs.Notes.{is_plain};
     ghost use Rattle.rb_site.specs.States.{Says};
 
-    /// A reply with which nothing is sent. `Err` is want of memory.
+    /// A reply that holds no memory.
     #[inline(always)]
-    pub fn alone(alloc: Global, reply: Reply) -> Result<Answer, AllocError>
-        ensures { IfOk result (λ answer. Says answer reply []) }
+    pub fn plain(reply: Reply) -> Answer
+        requires { is_plain reply ≡ true }
+        ensures { Says true result reply }
     {
-        let noted = reply.note(alloc)?;
-        Ok(Answer {
-            reply,
-            noted,
-            posted: Vec::new(alloc),
-        })
+        Answer { reply, noted: None }
     }
 
-    /// A reply with which a message is sent. `Err` is want of memory.
-    #[inline(always)]
-    pub fn with(alloc: Global, reply: Reply, message: Message) -> Result<Answer, AllocError>
-        ensures { IfOk result (λ answer. Says answer reply (message ∷ [])) }
+    /// A statement, for a history that keeps replies or doesn't. `Err` is want of memory.
+    pub fn shown(alloc: Global, statement: Statement, keeps: bool) -> Result<Answer, AllocError>
+        ensures { IfOk result (λ answer. Says keeps answer (Reply.Statement statement)) }
     {
-        let noted = reply.note(alloc)?;
-        let mut posted = Vec::new(alloc);
-        posted.push(message)?;
+        if !keeps {
+            return Ok(Answer {
+                reply: Reply::Statement(statement),
+                noted: None,
+            });
+        }
+        let copy = statement.try_copy(alloc)?;
         Ok(Answer {
-            reply,
-            noted,
-            posted,
+            reply: Reply::Statement(statement),
+            noted: Some(Reply::Statement(copy)),
         })
     }
 }

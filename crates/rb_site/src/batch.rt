@@ -1,12 +1,15 @@
 //! The requests of a batch, made on a ledger with its undo log.
-ghost use Rattle.std.specs.Prelude.{◌≡◌, ◌≤◌, ◌<◌, ◌++◌, [], ◌⊎◌, List, length, Ok, Err, IfOk, IfErr, OnOk};
+ghost use Rattle.std.specs.Prelude.{◌≡◌, ◌≤◌, ◌<◌, ◌++◌, [], ◌⊎◌, List, length, Ok, Err, IfOk, IfErr, OnOk, ◌+◌, vec_len, vec_capacity};
 ghost use Rattle.rb_shadow.specs.declared.shadow.Shadow.{Shadow as TheShadow};
 ghost use Rattle.rb_ledger.specs.Records.{logged};
 ghost use Rattle.rb_token.specs.Token.{Token};
 ghost use Rattle.rb_token.specs.Seat.{Shows};
 ghost use Rattle.rb_scratch.specs.Batches.{batch_of, cause_of};
 ghost use Rattle.rb_scratch.specs.Tried.{IsTried};
+ghost use Rattle.rb_site.specs.Notes.{IsRoomFor};
 
+use crate::Message;
+use crate::batch_room::BatchRoom;
 use rb_ledger::Ledger;
 use rb_money::Refusal;
 use rb_scratch::{Request, RunFault, Scratch};
@@ -49,7 +52,8 @@ fn run_all(scratch: &mut Scratch<UndoLog>, requests: &[Request]) -> Result<(), R
 }
 
 /// Makes the requests at the site of the token's view, each after those before it: all of them or none.
-/// Their shadows are given in order, and their records are put at the log's end.
+/// Their shadows are given in order, with room for the answer and for their messages, and their records
+/// are put at the log's end.
 ///
 /// Refuses, and changes nothing: with `BatchRefused` by the first request at fault, or with `OutOfMemory`.
 pub fn run_batch(
@@ -58,12 +62,16 @@ pub fn run_batch(
     log: &mut UndoLog,
     token: TokenView,
     requests: &[Request],
-) -> Result<Vec<Shadow>, Refusal>
+    keeps: bool,
+    sent: &mut Vec<Message>,
+) -> Result<(Vec<Shadow>, BatchRoom), Refusal>
     requires site { token.me < ledger.old.settings.sites }
     requires few { length requests.now ≤ 16 }
     ensures settings { ledger.new.settings ≡ ledger.old.settings }
-    ensures made { IfOk result (λ made. (ledger.new.entries ≡ ledger.old.entries ++ made.items) × (log.new.parts ≡ log.old.parts ++ logged ledger.old.settings ledger.old.entries made.items)
-        × ((known : Token) → Shows token known → batch_of ledger.old.settings token.me ledger.old.entries known 0 requests.now ≡ Ok made.items)) }
+    ensures made { IfOk result (λ made. (ledger.new.entries ≡ ledger.old.entries ++ made.0.items) × (log.new.parts ≡ log.old.parts ++ logged ledger.old.settings ledger.old.entries made.0.items)
+        × ((known : Token) → Shows token known → batch_of ledger.old.settings token.me ledger.old.entries known 0 requests.now ≡ Ok made.0.items)) }
+    ensures room { IfOk result (λ made. IsRoomFor made.1 keeps (length requests.now) × (vec_len sent.new + length requests.now ≤ vec_capacity sent.new)) }
+    ensures sent { sent.new.items ≡ sent.old.items }
     ensures refused { IfErr result (λ why. (ledger.new.entries ≡ ledger.old.entries) × (log.new.parts ≡ log.old.parts)
         × ((why ≡ Refusal.OutOfMemory) ⊎ ((known : Token) → Shows token known → batch_of ledger.old.settings token.me ledger.old.entries known 0 requests.now ≡ Err why))) }
 {
@@ -72,8 +80,15 @@ pub fn run_batch(
         scratch.abort();
         return Err(why);
     }
+    let room = match BatchRoom::open(alloc, requests.len(), keeps, sent) {
+        Ok(room) => room,
+        Err(_) => {
+            scratch.abort();
+            return Err(Refusal::OutOfMemory);
+        }
+    };
     match scratch.commit(log) {
-        Ok(made) => Ok(made),
+        Ok(made) => Ok((made, room)),
         Err(back) => {
             back.abort();
             Err(Refusal::OutOfMemory)

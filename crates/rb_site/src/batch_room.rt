@@ -1,6 +1,7 @@
 //! Room for the answer to a batch.
-ghost use Rattle.std.specs.Prelude.{◌≡◌, ◌≤◌, [], IfOk, length, map, vec_capacity};
+ghost use Rattle.std.specs.Prelude.{◌≡◌, ◌+◌, ◌≤◌, ◌++◌, [], IfOk, length, map, vec_len, vec_capacity};
 ghost use Rattle.rb_scratch.specs.Batches.{names_of_all};
+ghost use Rattle.rb_site.specs.Notes.{IsRoomFor};
 ghost use Rattle.rb_site.specs.States.{Says};
 
 use crate::answer::Answer;
@@ -9,60 +10,75 @@ use rb_shadow::{OpName, Shadow};
 use std::alloc::{AllocError, Global};
 use std::marker::Model;
 
-/// Memory for the answer to a batch: for the names, for the same in the history, and for the messages.
-/// Callers see for how many operations there is room.
+/// Memory for the answer to a batch: for the names, and for the same in a history that keeps replies.
+/// Callers see for how many operations there is room, and whether the history keeps replies.
 #[derive(Drop)]
 pub struct BatchRoom {
     most: usize,
+    keeps: bool,
     names: Vec<OpName>,
     noted: Vec<OpName>,
-    posted: Vec<Message>,
 }
 
 impl Model for BatchRoom {
-    ghost use Rattle.std.specs.Prelude.{ℕ, ◌≡◌, ◌≤◌, [], vec_capacity};
+    ghost use Rattle.std.specs.Prelude.{◌≡◌, ◌≤◌, [], true, vec_capacity};
+    ghost use Rattle.rb_site.specs.Notes.{BatchRoomFor};
 
-    ghost Value = { ℕ };
+    ghost Value = { BatchRoomFor };
 
-    ghost view = { λ r. r.most };
+    ghost view = { λ r. record { most = r.most; keeps = r.keeps } };
 
-    ghost invariant = { λ r. (r.names.items ≡ []) × (r.noted.items ≡ []) × (r.posted.items ≡ []) × (r.most ≤ vec_capacity r.names) × (r.most ≤ vec_capacity r.noted) × (r.most ≤ vec_capacity r.posted) };
+    ghost invariant = { λ r. (r.names.items ≡ []) × (r.noted.items ≡ []) × (r.most ≤ vec_capacity r.names) × (r.keeps ≡ true → r.most ≤ vec_capacity r.noted) };
 }
 
 impl BatchRoom {
-    /// Room for so many operations. `Err` is want of memory.
-    pub fn open(alloc: Global, most: usize) -> Result<BatchRoom, AllocError>
-        ensures { IfOk result (λ room. room ≡ most) }
+    /// Room for so many operations, and for as many messages more than were sent. `Err` is want of memory.
+    pub fn open(
+        alloc: Global,
+        most: usize,
+        keeps: bool,
+        sent: &mut Vec<Message>,
+    ) -> Result<BatchRoom, AllocError>
+        ensures ok { IfOk result (λ room. IsRoomFor room keeps most × (vec_len sent.new + most ≤ vec_capacity sent.new)) }
+        ensures sent { sent.new.items ≡ sent.old.items }
     {
         let mut names = Vec::new(alloc);
         names.reserve(most)?;
         let mut noted = Vec::new(alloc);
-        noted.reserve(most)?;
-        let mut posted = Vec::new(alloc);
-        posted.reserve(most)?;
+        if keeps {
+            noted.reserve(most)?;
+        }
+        sent.reserve(most)?;
         Ok(BatchRoom {
             most,
+            keeps,
             names,
             noted,
-            posted,
         })
     }
 
-    /// The answer that names the operations and sends them, for which there is room.
-    pub fn filled(self, made: &[Shadow]) -> Answer
-        requires { length made.now ≤ self }
-        ensures { Says result (Reply.Names (names_of_all made.now)) (map Message.Shadow made.now) }
+    /// The answer that names the operations, each of which is sent. There is room for them.
+    pub fn filled(self, made: &[Shadow], sent: &mut Vec<Message>) -> Answer
+        requires few { length made.now ≤ self.most }
+        requires room { vec_len sent.old + length made.now ≤ vec_capacity sent.old }
+        ensures answer { Says self.keeps result (Reply.Names (names_of_all made.now)) }
+        ensures sent { sent.new.items ≡ sent.old.items ++ map Message.Shadow made.now }
     {
         let BatchRoom {
             most: _,
+            keeps,
             names,
             noted,
-            posted,
         } = self;
+        send(sent, made);
+        let noted = if keeps {
+            Some(Reply::Names(OpNames::new(with_names(noted, made))))
+        } else {
+            None
+        };
         Answer {
             reply: Reply::Names(OpNames::new(with_names(names, made))),
-            noted: Some(Reply::Names(OpNames::new(with_names(noted, made)))),
-            posted: with_messages(posted, made),
+            noted,
         }
     }
 }
@@ -79,14 +95,12 @@ fn with_names(mut names: Vec<OpName>, made: &[Shadow]) -> Vec<OpName>
     names
 }
 
-/// The message that sends each operation.
-fn with_messages(mut messages: Vec<Message>, made: &[Shadow]) -> Vec<Message>
-    requires empty { messages.items ≡ [] }
-    requires room { length made.now ≤ vec_capacity messages }
-    ensures { result.items ≡ map Message.Shadow made.now }
+/// Adds the message that sends each operation, where there is room for it.
+fn send(sent: &mut Vec<Message>, made: &[Shadow])
+    requires { vec_len sent.old + length made.now ≤ vec_capacity sent.old }
+    ensures { sent.new.items ≡ sent.old.items ++ map Message.Shadow made.now }
 {
     for shadow in made {
-        messages.push_reserved(Message::Shadow(*shadow));
+        sent.push_reserved(Message::Shadow(*shadow));
     }
-    messages
 }

@@ -1,5 +1,5 @@
 //! A site's ledger with its undo records.
-ghost use Rattle.std.specs.Prelude.{◌≡◌, ◌<◌, ◌≤◌, ◌++◌, ◌∷◌, ◌⊎◌, [], length, Some, None, Ok, Err, IfOk, IfErr, OnOk};
+ghost use Rattle.std.specs.Prelude.{◌≡◌, ◌<◌, ◌≤◌, ◌++◌, ◌∷◌, ◌⊎◌, [], length, Some, None, Ok, Err, IfOk, IfErr, OnOk, OnErr, option_copied, ◌+◌, vec_len, vec_capacity};
 ghost use Rattle.rb_ledger.specs.Checks.{refusal_of};
 ghost use Rattle.rb_ledger.specs.Records.{records_of};
 ghost use Rattle.rb_ledger.specs.Valid.{IsValid};
@@ -8,8 +8,11 @@ ghost use Rattle.rb_scratch.specs.Batches.{batch_of};
 ghost use Rattle.rb_statements.specs.Statements.{balance_as_of};
 ghost use Rattle.rb_token.specs.Token.{Token};
 ghost use Rattle.rb_token.specs.Seat.{Shows};
+ghost use Rattle.rb_site.specs.Notes.{IsRoomFor};
 
+use crate::Message;
 use crate::batch::run_batch;
+use crate::batch_room::BatchRoom;
 use core::mem::replace_with;
 use rb_ledger::Ledger;
 use rb_money::{Config, Place, Refusal};
@@ -83,11 +86,11 @@ impl Journal {
     }
 
     /// The applied shadow of a name.
-    pub fn applied(&self, name: &OpName) -> Option<Shadow>
-        ensures { result ≡ find_in self.now.ops name.now }
+    pub fn applied(&self, name: &OpName) -> Option<&Shadow>
+        ensures { option_copied result ≡ find_in self.now.ops name.now }
     {
         match self.ledger.find(name) {
-            Some(position) => self.ledger.entry(position).copied(),
+            Some(position) => self.ledger.entry(position),
             None => None,
         }
     }
@@ -123,8 +126,21 @@ impl Journal {
         }
     }
 
+    /// Applies a shadow that may follow the operations, and keeps the record to undo that. After want of
+    /// memory all is as before.
+    pub fn append(&mut self, shadow: Shadow) -> Result<(), AllocError>
+        requires { IsValid self.old.settings (self.old.ops ++ shadow ∷ []) }
+        ensures ok { OnOk result (self.new ≡ record self.old { ops = self.old.ops ++ shadow ∷ [] }) }
+        ensures err { OnErr result (self.new ≡ self.old) }
+    {
+        self.log.reserve(1)?;
+        let undo = self.ledger.apply_valid(shadow)?;
+        self.log.push_reserved(undo);
+        Ok(())
+    }
+
     /// Makes the requests of a batch at the site of the token's view, each after those before it: all of
-    /// them or none. Their shadows are given in order.
+    /// them or none. Their shadows are given in order, with room for the answer and for their messages.
     ///
     /// Refuses, and changes nothing: with `BatchRefused` by the first request at fault, or with
     /// `OutOfMemory`.
@@ -133,15 +149,27 @@ impl Journal {
         alloc: Global,
         token: TokenView,
         requests: &[Request],
-    ) -> Result<Vec<Shadow>, Refusal>
+        keeps: bool,
+        sent: &mut Vec<Message>,
+    ) -> Result<(Vec<Shadow>, BatchRoom), Refusal>
         requires site { token.me < self.old.settings.sites }
         requires few { length requests.now ≤ 16 }
-        ensures made { IfOk result (λ made. (self.new ≡ record self.old { ops = self.old.ops ++ made.items })
-            × ((known : Token) → Shows token known → batch_of self.old.settings token.me self.old.ops known 0 requests.now ≡ Ok made.items)) }
+        ensures made { IfOk result (λ made. (self.new ≡ record self.old { ops = self.old.ops ++ made.0.items })
+            × ((known : Token) → Shows token known → batch_of self.old.settings token.me self.old.ops known 0 requests.now ≡ Ok made.0.items)) }
+        ensures room { IfOk result (λ made. IsRoomFor made.1 keeps (length requests.now) × (vec_len sent.new + length requests.now ≤ vec_capacity sent.new)) }
+        ensures sent { sent.new.items ≡ sent.old.items }
         ensures refused { IfErr result (λ why. (self.new ≡ self.old)
             × ((why ≡ Refusal.OutOfMemory) ⊎ ((known : Token) → Shows token known → batch_of self.old.settings token.me self.old.ops known 0 requests.now ≡ Err why))) }
     {
-        run_batch(alloc, &mut self.ledger, &mut self.log, token, requests)
+        run_batch(
+            alloc,
+            &mut self.ledger,
+            &mut self.log,
+            token,
+            requests,
+            keeps,
+            sent,
+        )
     }
 
     /// The balance of an account after so many operations, in cents, or why it isn't told. This takes

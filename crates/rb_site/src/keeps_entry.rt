@@ -1,5 +1,5 @@
 //! What a site's history keeps of its entries.
-ghost use Rattle.std.specs.Prelude.{◌≡◌};
+ghost use Rattle.std.specs.Prelude.{◌≡◌, Bool, true, false};
 ghost use Rattle.rb_site.specs.Notes.{IsNoted};
 ghost use Rattle.rb_site.specs.declared.entry.Entry.{Entry as TheEntry};
 
@@ -11,14 +11,23 @@ pub trait KeepsEntry: Drop {
     // The entry that was noted.
     ghost entry: { Self → TheEntry };
 
+    ghost KEEPS: { Bool };
+
+    /// Whether the reply is kept, so that one that holds memory is needed twice.
+    const KEEPS: bool;
+
     /// Notes an event with its reply, of which this was noted.
     fn note(event: Event, reply: &Reply, noted: Option<Reply>) -> Self
-        requires { IsNoted reply.now noted }
+        requires { IsNoted KEEPS reply.now noted }
         ensures { entry result ≡ record { event = event; reply = reply.now } };
 }
 
 impl KeepsEntry for Entry {
     ghost entry = { λ x. x };
+
+    ghost KEEPS = { true };
+
+    const KEEPS: bool = true;
 
     fn note(event: Event, reply: &Reply, noted: Option<Reply>) -> Entry {
         let reply = reply.again(noted);
@@ -35,6 +44,10 @@ pub struct UnkeptEntry {
 
 impl KeepsEntry for UnkeptEntry {
     ghost entry = { λ x. record { event = x.event.value; reply = x.reply.value } };
+
+    ghost KEEPS = { false };
+
+    const KEEPS: bool = false;
 
     fn note(event: Event, reply: &Reply, _noted: Option<Reply>) -> UnkeptEntry {
         UnkeptEntry {

@@ -1,5 +1,5 @@
 //! Replies of a site.
-ghost use Rattle.std.specs.Prelude.{◌≡◌, ◌↔◌, IfOk, IsTrue};
+ghost use Rattle.std.specs.Prelude.{◌≡◌, ◌↔◌, true, IfOk, IsTrue};
 ghost use Rattle.rb_site.specs.Notes.{IsNoted};
 
 use crate::OpNames;
@@ -65,35 +65,9 @@ impl Reply {
         }
     }
 
-    /// The same once more, where the reply holds memory. `Err` is want of memory.
-    #[inline(always)]
-    pub fn note(&self, alloc: Global) -> Result<Option<Reply>, AllocError>
-        ensures { IfOk result (λ noted. IsNoted self.now noted) }
-    {
-        match self {
-            Reply::Names(names) => {
-                let names = names.try_copy(alloc)?;
-                Ok(Some(Reply::Names(names)))
-            }
-            Reply::Statement(statement) => {
-                let statement = statement.try_copy(alloc)?;
-                Ok(Some(Reply::Statement(statement)))
-            }
-            Reply::Made { .. }
-            | Reply::Held(_)
-            | Reply::Already(_)
-            | Reply::Taken(_)
-            | Reply::Stale(_)
-            | Reply::Applied(_)
-            | Reply::Passed(_)
-            | Reply::Balance(_)
-            | Reply::Refused(_) => Ok(None),
-        }
-    }
-
     /// An equal reply, by what was noted of this one. This takes no memory.
     pub fn again(&self, noted: Option<Reply>) -> Reply
-        requires { IsNoted self.now noted }
+        requires { IsNoted true self.now noted }
         ensures { result ≡ self.now }
     {
         if let Some(noted) = noted {

@@ -1,13 +1,12 @@
 //! Where a site stands between two events.
-ghost use Rattle.std.specs.Prelude.{◌≡◌, ◌<◌, ◌&&◌, nat_le, if◌then◌else◌, IfOk, OnErr};
+ghost use Rattle.std.specs.Prelude.{◌≡◌, ◌<◌, ◌&&◌, [], true, nat_le, if◌then◌else◌, IfOk, OnErr};
 ghost use Rattle.rb_shadow.specs.Operations.{clock_of, find_in, same_shadow};
 ghost use Rattle.rb_ledger.specs.Records.{records_of};
 ghost use Rattle.rb_shadow.specs.Sound.{IsSound};
 ghost use Rattle.rb_site.specs.Events.{first_site, outcome_of, outcome_of_new, outcome_of_shadow, outcome_of_token, outcome_of_apply, outcome_of_pass};
-ghost use Rattle.rb_site.specs.States.{Follows};
+ghost use Rattle.rb_site.specs.States.{Follows, Says};
 
 use crate::answer::Answer;
-use crate::batch_room::BatchRoom;
 use crate::journal::Journal;
 use crate::{Event, Message, Reply, Requests};
 use rb_inbox::{Inbox, PutAnswer};
@@ -127,82 +126,92 @@ impl State {
     }
 
     #[tactic(auto, unfolding(crate::specs::Events::outcome_of))]
-    /// One event. After want of memory the state is as before.
-    pub fn act(&mut self, event: &Event) -> Result<Answer, AllocError>
-        ensures ok { IfOk result (Follows self.old self.new (outcome_of self.old.settings self.old.site event.now)) }
-        ensures err { OnErr result (self.new ≡ self.old) }
+    /// One event, for a history that keeps replies or doesn't. What it sends goes to the end of the messages
+    /// sent. After want of memory the state and the messages are as before.
+    pub fn act(
+        &mut self,
+        event: &Event,
+        keeps: bool,
+        sent: &mut Vec<Message>,
+    ) -> Result<Answer, AllocError>
+        ensures ok { IfOk result (Follows keeps self.old self.new sent.old.items sent.new.items (outcome_of self.old.settings self.old.site event.now)) }
+        ensures err { OnErr result ((self.new ≡ self.old) × (sent.new.items ≡ sent.old.items)) }
     {
         match event {
-            Event::Submit(request) => self.submit(request),
-            Event::Batch(requests) => self.batch(requests),
+            Event::Submit(request) => self.submit(request, sent),
+            Event::Batch(requests) => self.batch(requests, keeps, sent),
             Event::Receive(Message::Shadow(shadow)) => self.receive(*shadow),
-            Event::Receive(Message::Token(message)) => self.accept(*message),
+            Event::Receive(Message::Token(message)) => Ok(self.accept(*message)),
             Event::Apply(name) => self.apply(*name),
-            Event::Pass(to) => self.pass(*to),
-            Event::Balance(place) => self.balance(*place),
-            Event::AsOf(place, position) => self.as_of(*place, *position),
-            Event::Statement(place) => self.statement(*place),
+            Event::Pass(to) => self.pass(*to, sent),
+            Event::Balance(place) => Ok(self.balance(*place)),
+            Event::AsOf(place, position) => Ok(self.as_of(*place, *position)),
+            Event::Statement(place) => self.statement(*place, keeps),
         }
     }
 
     #[tactic(auto, unfolding(crate::specs::Events::outcome_of))]
     /// A request is decided here, and its shadow is applied here and sent.
-    fn submit(&mut self, request: &Request) -> Result<Answer, AllocError>
-        ensures ok { IfOk result (Follows self.old self.new (outcome_of self.old.settings self.old.site (Event.Submit request.now))) }
-        ensures err { OnErr result (self.new ≡ self.old) }
+    fn submit(&mut self, request: &Request, sent: &mut Vec<Message>) -> Result<Answer, AllocError>
+        ensures ok { IfOk result (Follows true self.old self.new sent.old.items sent.new.items (outcome_of self.old.settings self.old.site (Event.Submit request.now))) }
+        ensures err { OnErr result ((self.new ≡ self.old) × (sent.new.items ≡ sent.old.items)) }
     {
         let shadow = match generate(self.journal.ledger(), &self.token.view(), request) {
             Ok(shadow) => shadow,
-            Err(why) => return Answer::alone(self.alloc, Reply::Refused(why)),
+            Err(why) => return Ok(Answer::plain(Reply::Refused(why))),
         };
-        let made = Reply::Made {
+        sent.reserve(1)?;
+        self.journal.append(shadow)?;
+        sent.push_reserved(Message::Shadow(shadow));
+        Ok(Answer::plain(Reply::Made {
             name: shadow.name,
             kind: shadow.kind.label(),
-        };
-        let answer = Answer::with(self.alloc, made, Message::Shadow(shadow))?;
-        match self.journal.apply(shadow) {
-            Ok(()) => Ok(answer),
-            // What was generated may follow the list, so that only memory can be wanting.
-            Err(_) => Err(AllocError),
-        }
+        }))
     }
 
     /// The requests of a batch are decided here one after another, and their shadows are applied
     /// here and sent: all of them or none.
-    fn batch(&mut self, requests: &Requests) -> Result<Answer, AllocError>
-        ensures ok { IfOk result (Follows self.old self.new (outcome_of self.old.settings self.old.site (Event.Batch requests.now))) }
-        ensures err { OnErr result (self.new ≡ self.old) }
+    fn batch(
+        &mut self,
+        requests: &Requests,
+        keeps: bool,
+        sent: &mut Vec<Message>,
+    ) -> Result<Answer, AllocError>
+        ensures ok { IfOk result (Follows keeps self.old self.new sent.old.items sent.new.items (outcome_of self.old.settings self.old.site (Event.Batch requests.now))) }
+        ensures err { OnErr result ((self.new ≡ self.old) × (sent.new.items ≡ sent.old.items)) }
     {
         let asked = requests.as_slice();
         if !is_batch(asked.len()) {
-            return Answer::alone(self.alloc, Reply::Refused(Refusal::BadBatch));
+            return Ok(Answer::plain(Reply::Refused(Refusal::BadBatch)));
         }
-        let room = BatchRoom::open(self.alloc, asked.len())?;
         let token = self.token.view();
-        let why = match self.journal.batch(self.alloc, token, asked) {
-            Ok(made) => return Ok(room.filled(made.as_slice())),
+        let why = match self
+            .journal
+            .batch(self.alloc, token, asked, keeps, &mut *sent)
+        {
+            Ok((made, room)) => return Ok(room.filled(made.as_slice(), sent)),
             Err(why) => why,
         };
-        match why {
-            Refusal::OutOfMemory => Err(AllocError),
-            why => Answer::alone(self.alloc, Reply::Refused(why)),
+        if let Refusal::OutOfMemory = why {
+            return Err(AllocError);
         }
+        Ok(Answer::plain(Reply::Refused(why)))
     }
 
     #[tactic(auto, unfolding(crate::specs::Events::outcome_of_shadow))]
     /// A shadow from another site is held until it is applied.
     fn receive(&mut self, shadow: Shadow) -> Result<Answer, AllocError>
-        ensures ok { IfOk result (Follows self.old self.new (outcome_of_shadow self.old.settings self.old.site shadow)) }
+        ensures ok { IfOk result (Follows true self.old self.new [] [] (outcome_of_shadow self.old.settings self.old.site shadow)) }
         ensures err { OnErr result (self.new ≡ self.old) }
     {
         if let Err(why) = shadow.sound(self.journal.config()) {
-            return Answer::alone(self.alloc, Reply::Refused(why));
+            return Ok(Answer::plain(Reply::Refused(why)));
         }
         if let Some(applied) = self.journal.applied(&shadow.name) {
-            return Answer::alone(self.alloc, again(&shadow, &applied));
+            return Ok(again(&shadow, applied));
         }
         if shadow.home == self.token.view().me {
-            return Answer::alone(self.alloc, Reply::Refused(Refusal::Conflict));
+            return Ok(Answer::plain(Reply::Refused(Refusal::Conflict)));
         }
         self.hold(shadow)
     }
@@ -210,119 +219,111 @@ impl State {
     /// A sound shadow that isn't applied here is held until it is.
     fn hold(&mut self, shadow: Shadow) -> Result<Answer, AllocError>
         requires { IsSound self.old.settings shadow }
-        ensures ok { IfOk result (Follows self.old self.new (outcome_of_new self.old.settings self.old.site shadow)) }
+        ensures ok { IfOk result (Follows true self.old self.new [] [] (outcome_of_new self.old.settings self.old.site shadow)) }
         ensures err { OnErr result (self.new ≡ self.old) }
     {
         let _sites = self.journal.config().sites();
-        let held = Answer::alone(self.alloc, Reply::Held(shadow.name))?;
         let why = match self.inbox.put(shadow, self.journal.clock()) {
-            Ok(PutAnswer::Held) => return Ok(held),
-            Ok(PutAnswer::Already) => {
-                return Answer::alone(self.alloc, Reply::Already(shadow.name));
-            }
+            Ok(PutAnswer::Held) => return Ok(Answer::plain(Reply::Held(shadow.name))),
+            Ok(PutAnswer::Already) => return Ok(Answer::plain(Reply::Already(shadow.name))),
             Err(why) => why,
         };
-        match why {
-            Refusal::OutOfMemory => Err(AllocError),
-            why => Answer::alone(self.alloc, Reply::Refused(why)),
+        if let Refusal::OutOfMemory = why {
+            return Err(AllocError);
         }
+        Ok(Answer::plain(Reply::Refused(why)))
     }
 
     #[tactic(auto, unfolding(crate::specs::Events::outcome_of_token))]
     /// A token message makes this site the holder, unless its epoch was seen.
-    fn accept(&mut self, message: TokenMessage) -> Result<Answer, AllocError>
-        ensures ok { IfOk result (Follows self.old self.new (outcome_of_token self.old.settings self.old.site message)) }
-        ensures err { OnErr result (self.new ≡ self.old) }
+    fn accept(&mut self, message: TokenMessage) -> Answer
+        ensures { Follows true self.old self.new [] [] (outcome_of_token self.old.settings self.old.site message) result }
     {
-        let taken = Answer::alone(self.alloc, Reply::Taken(message.epoch))?;
         match self.token.accept(message) {
-            Ok(Accepted::Taken) => Ok(taken),
-            Ok(Accepted::Stale) => Answer::alone(self.alloc, Reply::Stale(message.epoch)),
-            Err(why) => Answer::alone(self.alloc, Reply::Refused(why)),
+            Ok(Accepted::Taken) => Answer::plain(Reply::Taken(message.epoch)),
+            Ok(Accepted::Stale) => Answer::plain(Reply::Stale(message.epoch)),
+            Err(why) => Answer::plain(Reply::Refused(why)),
         }
     }
 
     #[tactic(auto, unfolding(crate::specs::Events::outcome_of_apply))]
     /// A held shadow whose past is applied is applied too, or is let go where it can't be.
     fn apply(&mut self, name: OpName) -> Result<Answer, AllocError>
-        ensures ok { IfOk result (Follows self.old self.new (outcome_of_apply self.old.settings self.old.site (find_in self.old.site.held name))) }
+        ensures ok { IfOk result (Follows true self.old self.new [] [] (outcome_of_apply self.old.settings self.old.site (find_in self.old.site.held name))) }
         ensures err { OnErr result (self.new ≡ self.old) }
     {
         let Some(held) = self.inbox.held(&name) else {
-            return Answer::alone(self.alloc, Reply::Refused(Refusal::NotHeld));
+            return Ok(Answer::plain(Reply::Refused(Refusal::NotHeld)));
         };
         let shadow = *held;
         if !self.journal.is_eligible(&shadow) {
-            return Answer::alone(self.alloc, Reply::Refused(Refusal::NotReady));
+            return Ok(Answer::plain(Reply::Refused(Refusal::NotReady)));
         }
-        let applied = Answer::alone(self.alloc, Reply::Applied(shadow.name))?;
         let why = match self.journal.apply(shadow) {
             Ok(()) => {
                 self.inbox.remove(&shadow.name);
-                return Ok(applied);
+                return Ok(Answer::plain(Reply::Applied(shadow.name)));
             }
             Err(why) => why,
         };
         match why {
             Refusal::OutOfMemory => Err(AllocError),
-            Refusal::NotReady => Answer::alone(self.alloc, Reply::Refused(Refusal::NotReady)),
+            Refusal::NotReady => Ok(Answer::plain(Reply::Refused(Refusal::NotReady))),
             why => {
-                let refused = Answer::alone(self.alloc, Reply::Refused(why))?;
                 self.inbox.remove(&shadow.name);
-                Ok(refused)
+                Ok(Answer::plain(Reply::Refused(why)))
             }
         }
     }
 
     #[tactic(auto, unfolding(crate::specs::Events::outcome_of_pass))]
     /// The token goes to another site.
-    fn pass(&mut self, to: u8) -> Result<Answer, AllocError>
-        ensures ok { IfOk result (Follows self.old self.new (outcome_of_pass self.old.settings self.old.site to)) }
-        ensures err { OnErr result (self.new ≡ self.old) }
+    fn pass(&mut self, to: u8, sent: &mut Vec<Message>) -> Result<Answer, AllocError>
+        ensures ok { IfOk result (Follows true self.old self.new sent.old.items sent.new.items (outcome_of_pass self.old.settings self.old.site to)) }
+        ensures err { OnErr result ((self.new ≡ self.old) × (sent.new.items ≡ sent.old.items)) }
     {
         let mut passed = self.token.copy();
         let message = match passed.pass(to, self.journal.clock()) {
             Ok(message) => message,
-            Err(why) => return Answer::alone(self.alloc, Reply::Refused(why)),
+            Err(why) => return Ok(Answer::plain(Reply::Refused(why))),
         };
-        let reply = Reply::Passed(message.epoch);
-        let answer = Answer::with(self.alloc, reply, Message::Token(message))?;
+        sent.reserve(1)?;
+        sent.push_reserved(Message::Token(message));
         self.token = passed;
-        Ok(answer)
+        Ok(Answer::plain(Reply::Passed(message.epoch)))
     }
 
     #[tactic(auto, unfolding(crate::specs::Events::outcome_of))]
     /// An account's balance.
-    fn balance(&self, place: Place) -> Result<Answer, AllocError>
-        ensures { IfOk result (Follows self.now self.now (outcome_of self.now.settings self.now.site (Event.Balance place))) }
+    fn balance(&self, place: Place) -> Answer
+        ensures { Follows true self.now self.now [] [] (outcome_of self.now.settings self.now.site (Event.Balance place)) result }
     {
         match self.journal.ledger().balance(place) {
-            Some(cents) => Answer::alone(self.alloc, Reply::Balance(cents)),
-            None => Answer::alone(self.alloc, Reply::Refused(Refusal::UnknownAccount)),
+            Some(cents) => Answer::plain(Reply::Balance(cents)),
+            None => Answer::plain(Reply::Refused(Refusal::UnknownAccount)),
         }
     }
 
     #[tactic(auto, unfolding(crate::specs::Events::outcome_of))]
     /// An account's balance after so many operations of the ledger.
-    fn as_of(&mut self, place: Place, position: u32) -> Result<Answer, AllocError>
-        ensures ok { IfOk result (Follows self.old self.new (outcome_of self.old.settings self.old.site (Event.AsOf place position))) }
-        ensures err { OnErr result (self.new ≡ self.old) }
+    fn as_of(&mut self, place: Place, position: u32) -> Answer
+        ensures { Follows true self.old self.new [] [] (outcome_of self.old.settings self.old.site (Event.AsOf place position)) result }
     {
         match self.journal.as_of(place, position) {
-            Ok(cents) => Answer::alone(self.alloc, Reply::Balance(cents)),
-            Err(why) => Answer::alone(self.alloc, Reply::Refused(why)),
+            Ok(cents) => Answer::plain(Reply::Balance(cents)),
+            Err(why) => Answer::plain(Reply::Refused(why)),
         }
     }
 
     #[tactic(auto, unfolding(crate::specs::Events::outcome_of))]
-    /// An account's statement.
-    fn statement(&self, place: Place) -> Result<Answer, AllocError>
-        ensures { IfOk result (Follows self.now self.now (outcome_of self.now.settings self.now.site (Event.Statement place))) }
+    /// An account's statement, for a history that keeps it or doesn't.
+    fn statement(&self, place: Place, keeps: bool) -> Result<Answer, AllocError>
+        ensures { IfOk result (Follows keeps self.now self.now [] [] (outcome_of self.now.settings self.now.site (Event.Statement place))) }
     {
         match statement(self.alloc, self.journal.ledger(), place) {
-            Ok(shown) => Answer::alone(self.alloc, Reply::Statement(shown)),
+            Ok(shown) => Answer::shown(self.alloc, shown, keeps),
             Err(Refusal::OutOfMemory) => Err(AllocError),
-            Err(why) => Answer::alone(self.alloc, Reply::Refused(why)),
+            Err(why) => Ok(Answer::plain(Reply::Refused(why))),
         }
     }
 }
@@ -335,12 +336,12 @@ fn is_batch(requests: usize) -> bool
 }
 
 /// A shadow whose name is known: the same comes again, or it is a conflict.
-fn again(shadow: &Shadow, known: &Shadow) -> Reply
-    ensures { result ≡ (if same_shadow known.now shadow.now then Reply.Already shadow.now.name else Reply.Refused Refusal.Conflict) }
+fn again(shadow: &Shadow, known: &Shadow) -> Answer
+    ensures { Says true result (if same_shadow known.now shadow.now then Reply.Already shadow.now.name else Reply.Refused Refusal.Conflict) }
 {
     if known.same(shadow) {
-        Reply::Already(shadow.name)
+        Answer::plain(Reply::Already(shadow.name))
     } else {
-        Reply::Refused(Refusal::Conflict)
+        Answer::plain(Reply::Refused(Refusal::Conflict))
     }
 }

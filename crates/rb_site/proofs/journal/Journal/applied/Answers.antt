@@ -7,7 +7,7 @@ use Rattle.rb_site.proofs.journal.Journal.applied.Goals as goal
 
 pub returns-in-Some : goal.returns-in-Some
 returns-in-Some c =
-    c.copied.ensures ∙ c.entry.ensures ∙ at_position c.self.inside.ledger.entries c.args.name.now c.in-Some.position (sym c.in-Some.ensures)
+    c.entry.ensures ∙ at_position c.self.inside.ledger.entries c.args.name.now c.in-Some.position (sym c.in-Some.ensures)
     ∙ ap (λ (z : SeenLedger). find_in z.ops c.args.name.now) c.self.view_is
 
 pub returns-in-None : goal.returns-in-None

@@ -1,11 +1,11 @@
 -- A held shadow is applied or let go as the model says.
-use Rattle.std.proofs.Common.{◌∙◌, Some, IfOk, sym, ap, subst}
+use Rattle.std.proofs.Common.{◌∙◌, Some, sym, ap, subst}
 use Rattle.rb_money.specs.Settings.{Settings}
 use Rattle.rb_inbox.specs.Held.{Holding}
 use Rattle.rb_shadow.specs.Operations.{find_in}
 use Rattle.rb_site.specs.Events.{outcome_of_apply}
-use Rattle.rb_site.specs.States.{Follows, SeenLedger, SiteState}
-use Rattle.rb_site.proofs.Handlers.{answered, applies, drops, held_sound, not_memory, refusal_is, state_as, tied_without, waits}
+use Rattle.rb_site.specs.States.{SeenLedger, SiteState}
+use Rattle.rb_site.proofs.Handlers.{AnswersAlone, applies, drops, held_sound, not_memory, refusal_is, state_as, tied_without, waits}
 use Rattle.rb_site.proofs.state.State.apply.Goals as goal
 
 pub invariant_of-self : goal.invariant_of-self
@@ -14,15 +14,15 @@ invariant_of-self c = tied_without c.self.inside.journal.settings c.apply.new.se
 pub returns-in-Ok-clause-ok : goal.returns-in-Ok-clause-ok
 returns-in-Ok-clause-ok c =
     let now : SiteState = state_as c.apply.new.self.settings c.self.inside.token.me c.apply.new.self.ops c.remove.new.self.held c.self.inside.token.token in
-    let P : SiteState → Type 0 = λ z. Follows z now (outcome_of_apply z.settings z.site (find_in z.site.held c.args.name)) c.in_ok-applied.applied in
+    let P : SiteState → Type 0 = λ z. AnswersAlone z now (outcome_of_apply z.settings z.site (find_in z.site.held c.args.name)) c.plain-in-Ok.result in
     subst P c.self.view_is
     (let old : SiteState = state_as c.self.inside.journal.settings c.self.inside.token.me c.self.inside.journal.ops c.self.inside.inbox.held c.self.inside.token.token in
-    let Q : Settings → Type 0 = λ s. Follows old (state_as s c.self.inside.token.me c.apply.new.self.ops c.remove.new.self.held c.self.inside.token.token) (outcome_of_apply old.settings old.site (find_in old.site.held c.args.name)) c.in_ok-applied.applied in
+    let Q : Settings → Type 0 = λ s. AnswersAlone old (state_as s c.self.inside.token.me c.apply.new.self.ops c.remove.new.self.held c.self.inside.token.token) (outcome_of_apply old.settings old.site (find_in old.site.held c.args.name)) c.plain-in-Ok.result in
     subst Q (sym (ap (λ (b : SeenLedger). b.settings) c.in-Ok.ensures.applied))
-    (applies c.self.inside.journal.settings c.self.inside.token.me c.self.inside.journal.ops c.self.inside.inbox.held c.apply.new.self.ops c.remove.new.self.held c.self.inside.token.token c.args.name c.in-Some.held.now c.in_ok-applied.applied
+    (applies c.self.inside.journal.settings c.self.inside.token.me c.self.inside.journal.ops c.self.inside.inbox.held c.apply.new.self.ops c.remove.new.self.held c.self.inside.token.token c.args.name c.in-Some.held.now c.plain-in-Ok.result
     (sym c.in-Some.ensures) (sym c.is_eligible.ensures ∙ c.if-not-is_eligible.false)
     (held_sound c.self.inside.journal.settings c.self.inside.inbox.held c.args.name c.in-Some.held.now c.self.invariant.sound (sym c.in-Some.ensures))
-    c.in-Ok.ensures.taken (ap (λ (b : SeenLedger). b.ops) c.in-Ok.ensures.applied) (ap (λ (b : Holding). b.held) c.remove.ensures) c.in_ok-applied.ensures))
+    c.in-Ok.ensures.taken (ap (λ (b : SeenLedger). b.ops) c.in-Ok.ensures.applied) (ap (λ (b : Holding). b.held) c.remove.ensures) c.plain-in-Ok.ensures))
 
 pub invariant_of-self-in_default-why : goal.invariant_of-self-in_default-why
 invariant_of-self-in_default-why c = tied_without c.self.inside.journal.settings c.apply.new.self.settings c.self.inside.inbox c.remove-in_default-why.new.self c.self.inside.token c.in-Some.held.now.name (ap (λ (b : SeenLedger). b.settings) c.in-Err.ensures.refused.0) c.remove-in_default-why.ensures c.self.invariant
@@ -30,26 +30,26 @@ invariant_of-self-in_default-why c = tied_without c.self.inside.journal.settings
 pub returns-in-NotReady-clause-ok : goal.returns-in-NotReady-clause-ok
 returns-in-NotReady-clause-ok c =
     let now : SiteState = state_as c.apply.new.self.settings c.self.inside.token.me c.apply.new.self.ops c.self.inside.inbox.held c.self.inside.token.token in
-    let P : SiteState → Type 0 = λ z. IfOk c.alone-in-NotReady.result (Follows z now (outcome_of_apply z.settings z.site (find_in z.site.held c.args.name))) in
+    let P : SiteState → Type 0 = λ z. AnswersAlone z now (outcome_of_apply z.settings z.site (find_in z.site.held c.args.name)) c.plain-in-NotReady.result in
     subst P c.self.view_is
     (let old : SiteState = state_as c.self.inside.journal.settings c.self.inside.token.me c.self.inside.journal.ops c.self.inside.inbox.held c.self.inside.token.token in
-    let Q : SeenLedger → Type 0 = λ b. IfOk c.alone-in-NotReady.result (Follows old (state_as b.settings c.self.inside.token.me b.ops c.self.inside.inbox.held c.self.inside.token.token) (outcome_of_apply old.settings old.site (find_in old.site.held c.args.name))) in
+    let Q : SeenLedger → Type 0 = λ b. AnswersAlone old (state_as b.settings c.self.inside.token.me b.ops c.self.inside.inbox.held c.self.inside.token.token) (outcome_of_apply old.settings old.site (find_in old.site.held c.args.name)) c.plain-in-NotReady.result in
     subst Q (sym c.in-Err.ensures.refused.0)
-    (answered _ _ c.alone-in-NotReady.result (λ a. waits c.self.inside.journal.settings c.self.inside.token.me c.self.inside.journal.ops c.self.inside.inbox.held c.self.inside.token.token c.args.name c.in-Some.held.now a
+    (waits c.self.inside.journal.settings c.self.inside.token.me c.self.inside.journal.ops c.self.inside.inbox.held c.self.inside.token.token c.args.name c.in-Some.held.now c.plain-in-NotReady.result
     (sym c.in-Some.ensures) (sym c.is_eligible.ensures ∙ c.if-not-is_eligible.false)
     (held_sound c.self.inside.journal.settings c.self.inside.inbox.held c.args.name c.in-Some.held.now c.self.invariant.sound (sym c.in-Some.ensures))
-    (refusal_is c.in-Err.why _ c.in-Err.ensures.refused.1 (not_memory c.in-Err.why c.in-NotReady.is) ∙ ap Some c.in-NotReady.is)) c.alone-in-NotReady.ensures))
+    (refusal_is c.in-Err.why _ c.in-Err.ensures.refused.1 (not_memory c.in-Err.why c.in-NotReady.is) ∙ ap Some c.in-NotReady.is) c.plain-in-NotReady.ensures))
 
-pub returns-clause-ok : goal.returns-clause-ok
-returns-clause-ok c =
+pub returns-in_default-why-clause-ok : goal.returns-in_default-why-clause-ok
+returns-in_default-why-clause-ok c =
     let now : SiteState = state_as c.apply.new.self.settings c.self.inside.token.me c.apply.new.self.ops c.remove-in_default-why.new.self.held c.self.inside.token.token in
-    let P : SiteState → Type 0 = λ z. Follows z now (outcome_of_apply z.settings z.site (find_in z.site.held c.args.name)) c.in_ok-refused-in_default-why.refused in
+    let P : SiteState → Type 0 = λ z. AnswersAlone z now (outcome_of_apply z.settings z.site (find_in z.site.held c.args.name)) c.plain-in_default-why.result in
     subst P c.self.view_is
     (let old : SiteState = state_as c.self.inside.journal.settings c.self.inside.token.me c.self.inside.journal.ops c.self.inside.inbox.held c.self.inside.token.token in
-    let Q : SeenLedger → Type 0 = λ b. Follows old (state_as b.settings c.self.inside.token.me b.ops c.remove-in_default-why.new.self.held c.self.inside.token.token) (outcome_of_apply old.settings old.site (find_in old.site.held c.args.name)) c.in_ok-refused-in_default-why.refused in
+    let Q : SeenLedger → Type 0 = λ b. AnswersAlone old (state_as b.settings c.self.inside.token.me b.ops c.remove-in_default-why.new.self.held c.self.inside.token.token) (outcome_of_apply old.settings old.site (find_in old.site.held c.args.name)) c.plain-in_default-why.result in
     subst Q (sym c.in-Err.ensures.refused.0)
-    (drops c.self.inside.journal.settings c.self.inside.token.me c.self.inside.journal.ops c.self.inside.inbox.held c.remove-in_default-why.new.self.held c.self.inside.token.token c.args.name c.in-Some.held.now c.in-Err.why c.in_ok-refused-in_default-why.refused
+    (drops c.self.inside.journal.settings c.self.inside.token.me c.self.inside.journal.ops c.self.inside.inbox.held c.remove-in_default-why.new.self.held c.self.inside.token.token c.args.name c.in-Some.held.now c.in-Err.why c.plain-in_default-why.result
     (sym c.in-Some.ensures) (sym c.is_eligible.ensures ∙ c.if-not-is_eligible.false)
     (held_sound c.self.inside.journal.settings c.self.inside.inbox.held c.args.name c.in-Some.held.now c.self.invariant.sound (sym c.in-Some.ensures))
     (refusal_is c.in-Err.why _ c.in-Err.ensures.refused.1 c.in_default-why.not-OutOfMemory) c.in_default-why.not-NotReady
-    (ap (λ (b : Holding). b.held) c.remove-in_default-why.ensures) c.in_ok-refused-in_default-why.ensures))
+    (ap (λ (b : Holding). b.held) c.remove-in_default-why.ensures) c.plain-in_default-why.ensures))
