@@ -21,7 +21,8 @@ pub unplanned : (s : Settings) (me : ℕ) (us : List Shadow) (token : Token) (r 
 unfolding made_of
 unplanned s me us token r why e = ap (λ q. and_then q (λ p. allowed s us token (operation_of me us p))) e
 
-planned : (s : Settings) (me : ℕ) (us : List Shadow) (token : Token) (r : Request) (p : Plan) → plan_of s us r ≡ Ok p → made_of s me us token r ≡ allowed s us token (operation_of me us p)
+-- where there is one, what it allows is made
+pub planned : (s : Settings) (me : ℕ) (us : List Shadow) (token : Token) (r : Request) (p : Plan) → plan_of s us r ≡ Ok p → made_of s me us token r ≡ allowed s us token (operation_of me us p)
 unfolding made_of
 planned s me us token r p e = ap (λ q. and_then q (λ p. allowed s us token (operation_of me us p))) e
 

@@ -3,35 +3,41 @@ use Rattle.std.proofs.Common.{◌≡◌, ℕ, ◌+◌, Bool, true, false, cond, 
 use Rattle.std.specs.Prelude.{Result, Ok, Err}
 use Rattle.std.proofs.lemmas.List.{append-nil}
 use Rattle.rb_money.specs.Settings.{Settings}
-use Rattle.rb_money.specs.Refusals.{and_then}
 use Rattle.rb_money.specs.declared.refusal.Refusal.{Refusal}
 use Rattle.rb_money.specs.declared.refusal.Refusal.TheVariants.{BatchRefused}
 use Rattle.rb_shadow.specs.declared.shadow.Shadow.{Shadow}
-use Rattle.rb_scratch.specs.Requests.{Plan, plan_of, allowed, operation_of, made_of}
-use Rattle.rb_scratch.specs.Batches.{stopped, planned_in_batch, made_in_batch, batch_of, with_first, then_rest, cause_of}
-use Rattle.rb_scratch.specs.Tried.{would_decline}
+use Rattle.rb_shadow.specs.declared.kind.Kind.{Kind}
+use Rattle.rb_shadow.specs.declared.kind.Kind.TheVariants.{Deposit, Withdraw, Declined, Interest, Cancel}
+use Rattle.rb_scratch.specs.Requests.{Plan, plan_of, allowed, operation_of}
+use Rattle.rb_scratch.specs.Batches.{is_declined, stopped, planned_in_batch, made_in_batch, batch_of, with_first, then_rest, cause_of}
 use Rattle.rb_scratch.specs.declared.request.Request.{Request}
 use Rattle.rb_scratch.specs.declared.run_fault.RunFault.{RunFault}
-use Rattle.rb_scratch.specs.declared.run_fault.RunFault.TheVariants.{Declined as DeclinedFault}
+use Rattle.rb_scratch.specs.declared.run_fault.RunFault.TheVariants.{Declined as DeclinedFault, Refused as RefusedFault}
 use Rattle.rb_token.specs.Token.{Token}
 
--- a withdrawal that would be declined stops the batch
-pub declined_in_batch : (s : Settings) (me : ℕ) (us : List Shadow) (token : Token) (r : Request) (b : Bool) → b ≡ would_decline (plan_of s us r) → b ≡ true → made_in_batch s me us token r ≡ Err DeclinedFault
+-- a request without a plan stops the batch
+pub refused_in_batch : (s : Settings) (me : ℕ) (us : List Shadow) (token : Token) (r : Request) (why : Refusal) → plan_of s us r ≡ Err why → made_in_batch s me us token r ≡ Err (RefusedFault why)
 unfolding made_in_batch
-declined_in_batch s me us token r b e is = at (plan_of s us r) (sym e ∙ is)
-  where
-    at : (q : Result Plan Refusal) → would_decline q ≡ true → planned_in_batch s me us token q ≡ Err DeclinedFault
-    at (Ok p) h = ap (λ b. cond b (Err DeclinedFault) (stopped (allowed s us token (operation_of me us p)))) h
-    at (Err why) h = cc
+refused_in_batch s me us token r why e = ap (planned_in_batch s me us token) e
+
+planned_test : (s : Settings) (me : ℕ) (us : List Shadow) (token : Token) (r : Request) (p : Plan) (b : Bool) → plan_of s us r ≡ Ok p → is_declined p.kind ≡ b → made_in_batch s me us token r ≡ cond b (Err DeclinedFault) (stopped (allowed s us token (operation_of me us p)))
+unfolding made_in_batch
+planned_test s me us token r p b e test = ap (planned_in_batch s me us token) e ∙ ap (λ c. cond c (Err DeclinedFault) (stopped (allowed s us token (operation_of me us p)))) test
+
+-- so does a withdrawal that would be declined
+pub declined_in_batch : (s : Settings) (me : ℕ) (us : List Shadow) (token : Token) (r : Request) (p : Plan) → plan_of s us r ≡ Ok p → p.kind ≡ Declined → made_in_batch s me us token r ≡ Err DeclinedFault
+declined_in_batch s me us token r p e kind = planned_test s me us token r p true e (ap is_declined kind)
 
 -- anything else makes what it makes by itself
-pub plain_in_batch : (s : Settings) (me : ℕ) (us : List Shadow) (token : Token) (r : Request) (b : Bool) → b ≡ would_decline (plan_of s us r) → b ≡ false → stopped (made_of s me us token r) ≡ made_in_batch s me us token r
-unfolding made_in_batch made_of
-plain_in_batch s me us token r b e is = at (plan_of s us r) (sym e ∙ is)
+pub plain_in_batch : (s : Settings) (me : ℕ) (us : List Shadow) (token : Token) (r : Request) (p : Plan) → plan_of s us r ≡ Ok p → (p.kind ≡ Declined → ⊥) → made_in_batch s me us token r ≡ stopped (allowed s us token (operation_of me us p))
+plain_in_batch s me us token r p e other = planned_test s me us token r p false e (by p.kind other)
   where
-    at : (q : Result Plan Refusal) → would_decline q ≡ false → stopped (and_then q (λ p. allowed s us token (operation_of me us p))) ≡ planned_in_batch s me us token q
-    at (Ok p) h = sym (ap (λ b. cond b (Err DeclinedFault) (stopped (allowed s us token (operation_of me us p)))) h)
-    at (Err why) h = refl
+    by : (k : Kind) → (k ≡ Declined → ⊥) → is_declined k ≡ false
+    by Declined h = absurd (h refl)
+    by Deposit h = refl
+    by Withdraw h = refl
+    by Interest h = refl
+    by (Cancel x) h = refl
 
 -- ---- a batch, request by request
 

@@ -10,16 +10,10 @@ use Rattle.rb_ledger.specs.Book.{Book}
 use Rattle.rb_ledger.specs.Records.{logged}
 use Rattle.rb_ledger.specs.Valid.{parts_of}
 use Rattle.rb_token.specs.Token.{Token}
-use Rattle.rb_scratch.specs.Requests.{Plan}
-use Rattle.rb_scratch.specs.Batches.{is_declined, made_in_batch}
+use Rattle.rb_scratch.specs.Batches.{made_in_batch}
 use Rattle.rb_scratch.specs.declared.request.Request.{Request}
 use Rattle.rb_scratch.specs.declared.run_fault.RunFault.{RunFault}
 use Rattle.rb_scratch.specs.declared.run_fault.RunFault.TheVariants.{Refused as RefusedFault}
-
--- the plan is a withdrawal that would be declined
-abbrev pub would_decline : Result Plan Refusal → Bool
-would_decline (Ok p) = is_declined p.kind
-would_decline (Err why) = false
 
 -- the list goes on with the operations that were made, and the records are theirs
 pub record IsTried (base made : List Shadow) (book : Book) (parts : List UndoParts) : Type 0 where

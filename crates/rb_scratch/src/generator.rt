@@ -8,7 +8,8 @@ ghost use Rattle.rb_ledger.specs.Checks.{refusal_of, overdraws};
 ghost use Rattle.rb_token.specs.Token.{Token};
 ghost use Rattle.rb_token.specs.Seat.{Shows};
 ghost use Rattle.rb_scratch.specs.declared.request.Request.TheVariants.{Deposit as AskDeposit, Withdraw as AskWithdraw, Interest as AskInterest, Cancel as AskCancel};
-ghost use Rattle.rb_scratch.specs.Requests.{next_name, colour_of_plan, operation_of, allowed_red, made_of};
+ghost use Rattle.rb_scratch.specs.declared.request.Request.{Request as TheRequest};
+ghost use Rattle.rb_scratch.specs.Requests.{plan_of, next_name, colour_of_plan, operation_of, allowed, allowed_red, made_of};
 ghost use Rattle.rb_scratch.specs.Effects.{IsColoured, IsDecision, plan_of_effect};
 
 use crate::effect::Effect;
@@ -189,6 +190,35 @@ fn permit_red(ledger: &Ledger, token: &TokenView, shadow: &Shadow) -> Result<(),
     }
 }
 
+/// What an effect that was decided on a request makes at the token's site. Nothing changes. It may be
+/// refused with `NumbersExhausted`, and a red one with `NeedToken` or `RedBehind`, a red cancellation then
+/// with `WouldOverdraw`.
+pub(crate) fn carry_out(
+    ledger: &Ledger,
+    token: &TokenView,
+    effect: Effect,
+) -> Result<Shadow, Refusal>
+    requires site { token.now.me < ledger.now.settings.sites }
+    requires plan { (request : TheRequest) × (plan_of ledger.now.settings ledger.now.entries request ≡ Ok (plan_of_effect effect)) }
+    requires colour { effect.colour ≡ colour_of_plan ledger.now.entries (plan_of_effect effect) }
+    ensures made { (known : Token) → Shows token.now known → result ≡ allowed ledger.now.settings ledger.now.entries known (operation_of token.now.me ledger.now.entries (plan_of_effect effect)) }
+    ensures valid { IfOk result (λ made. IsValid ledger.now.settings (ledger.now.entries ++ made ∷ [])) }
+{
+    let sites = ledger.config().sites();
+    prove!(token.me < sites);
+    let shadow = match operation(ledger, token.me, effect) {
+        Ok(shadow) => shadow,
+        Err(why) => return Err(why),
+    };
+    match effect.colour {
+        Colour::Blue => Ok(shadow),
+        Colour::Red => match permit_red(ledger, token, &shadow) {
+            Ok(()) => Ok(shadow),
+            Err(why) => Err(why),
+        },
+    }
+}
+
 /// What the request makes at the token's site, whose ledger this is: the operation that every site
 /// is to apply. Nothing changes.
 ///
@@ -203,21 +233,8 @@ pub fn generate(ledger: &Ledger, token: &TokenView, request: &Request) -> Result
     ensures made { (known : Token) → Shows token.now known → result ≡ made_of ledger.now.settings token.now.me ledger.now.entries known request.now }
     ensures valid { IfOk result (λ made. IsValid ledger.now.settings (ledger.now.entries ++ made ∷ [])) }
 {
-    let sites = ledger.config().sites();
-    prove!(token.me < sites);
-    let effect = match decide(ledger, request) {
-        Ok(effect) => effect,
-        Err(why) => return Err(why),
-    };
-    let shadow = match operation(ledger, token.me, effect) {
-        Ok(shadow) => shadow,
-        Err(why) => return Err(why),
-    };
-    match effect.colour {
-        Colour::Blue => Ok(shadow),
-        Colour::Red => match permit_red(ledger, token, &shadow) {
-            Ok(()) => Ok(shadow),
-            Err(why) => Err(why),
-        },
+    match decide(ledger, request) {
+        Ok(effect) => carry_out(ledger, token, effect),
+        Err(why) => Err(why),
     }
 }

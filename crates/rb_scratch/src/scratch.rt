@@ -77,12 +77,12 @@ fn try_one(
     if undos.reserve(1).is_err() {
         return Err(RunFault::Refused(Refusal::OutOfMemory));
     }
-    match ledger.apply(shadow) {
+    match ledger.apply_valid(shadow) {
         Ok(undo) => {
             undos.push_reserved(undo);
             Ok(shadow.name)
         }
-        Err(back) => Err(RunFault::Refused(back.1)),
+        Err(_) => Err(RunFault::Refused(Refusal::OutOfMemory)),
     }
 }
 

@@ -10,7 +10,6 @@ ghost use Rattle.rb_world.specs.Laws.{Holds, IsRunOf, next_replies, next_reply, 
 
 use crate::{KeepsEvent, Stopped};
 use rb_money::{Config, Refusal};
-use rb_scratch::MOST_REQUESTS;
 use rb_site::{Entry, Event, KeepsEntry, Message, Reply, Site, SiteReport, WorldEvent};
 use std::alloc::{AllocError, Global};
 use std::marker::Model;
@@ -207,11 +206,8 @@ impl<E: KeepsEntry, R: KeepsEvent> World<E, R> {
         ensures err { OnErr result (self.new ≡ self.old) }
     {
         self.recorded.reserve(1)?;
-        // An event sends at most one message for each request of a batch.
-        self.sent.reserve(MOST_REQUESTS)?;
-        let (reply, posted) = self.seats[place as usize].step(arrived)?;
+        let reply = self.seats[place as usize].step_onto(arrived, &mut self.sent)?;
         self.recorded.push_reserved(noted);
-        send(&mut self.sent, posted);
         Ok(reply)
     }
 
@@ -282,14 +278,4 @@ fn end_all<E: KeepsEntry>(mut seats: Vec<Site<E>>) {
         site.end();
     }
     seats.destroy_empty();
-}
-
-/// Adds messages to those that were sent, where there is room for them.
-fn send(sent: &mut Vec<Message>, posted: Vec<Message>)
-    requires { vec_len sent.old + length posted.items ≤ vec_capacity sent.old }
-    ensures { sent.new.items ≡ sent.old.items ++ posted.items }
-{
-    for message in &posted {
-        sent.push_reserved(*message);
-    }
 }

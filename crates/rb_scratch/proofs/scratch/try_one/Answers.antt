@@ -9,17 +9,17 @@ use Rattle.rb_scratch.proofs.scratch.try_one.Goals as goal
 abbrev refused : Refusal → RunFault
 refused why = RefusedFault why
 
-pub returns-in-Ok-apply-clause-ran : goal.returns-in-Ok-apply-clause-ran
-returns-in-Ok-apply-clause-ran c = (
+pub returns-in-Ok-apply_valid-clause-ran : goal.returns-in-Ok-apply_valid-clause-ran
+returns-in-Ok-apply_valid-clause-ran c = (
   c.in-Ok.shadow,
   refl,
-  Tries.added c.args.ledger.now c.apply.new.self c.args.undos.now.parts c.push_reserved.new.self.parts c.in-Ok.shadow c.in-Ok-apply.ensures.settings c.in-Ok-apply.ensures.applied.0
-      (c.push_reserved.ensures.parts ∙ ap (λ ps. ps ++ c.in-Ok-apply.undo ∷ []) c.reserve.ensures.parts ∙ ap (λ (p : UndoParts). c.args.undos.now.parts ++ p ∷ []) c.in-Ok-apply.ensures.applied.1),
+  Tries.added c.args.ledger.now c.apply_valid.new.self c.args.undos.now.parts c.push_reserved.new.self.parts c.in-Ok.shadow c.in-Ok-apply_valid.ensures.settings c.in-Ok-apply_valid.ensures.applied.0
+      (c.push_reserved.ensures.parts ∙ ap (λ ps. ps ++ c.in-Ok-apply_valid.undo ∷ []) c.reserve.ensures.parts ∙ ap (λ (p : UndoParts). c.args.undos.now.parts ++ p ∷ []) c.in-Ok-apply_valid.ensures.applied.1),
   λ known shows. sym (c.in-Ok.ensures.made known shows),
 )
 
-pub returns-in-Err-apply-clause-fault : goal.returns-in-Err-apply-clause-fault
-returns-in-Err-apply-clause-fault c = λ known shows. record {
+pub returns-in-Err-apply_valid-clause-fault : goal.returns-in-Err-apply_valid-clause-fault
+returns-in-Err-apply_valid-clause-fault c = λ known shows. record {
   many = λ h. absurd (omega arith);
-  few = λ h. inr (c.in-Ok.shadow, sym (c.in-Ok.ensures.made known shows), ap refused (Tries.no_memory _ _ _ _ _ c.in-Ok.ensures.valid c.in-Err-apply.ensures.reason));
+  few = λ h. inr (c.in-Ok.shadow, sym (c.in-Ok.ensures.made known shows), refl);
 }

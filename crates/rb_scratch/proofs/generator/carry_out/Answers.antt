@@ -1,0 +1,47 @@
+-- What was decided is carried out as the model says.
+use Rattle.std.proofs.Common.{◌≡◌, ◌≤◌, ap, sym, subst, ◌∙◌, Result, Err, ℕ}
+use Rattle.rb_money.specs.Settings.{Settings, most_sites}
+use Rattle.rb_money.specs.declared.refusal.Refusal.{Refusal}
+use Rattle.rb_shadow.specs.declared.shadow.Shadow.{Shadow}
+use Rattle.rb_scratch.specs.Effects.{plan_of_effect}
+use Rattle.rb_scratch.proofs.Generated
+use Rattle.rb_scratch.proofs.Makes
+use Rattle.rb_scratch.proofs.generator.carry_out.Goals as goal
+
+few_sites : (s t : Settings) (n : ℕ) → t ≡ s → n ≡ t.sites → n ≤ most_sites → s.sites ≤ most_sites
+few_sites s t n is same few = subst (λ (u : Settings). u.sites ≤ most_sites) is (subst (λ k. k ≤ most_sites) same few)
+
+abbrev refused : Refusal → Result Shadow Refusal
+refused why = Err why
+
+pub returns-in-Err-clause-made : goal.returns-in-Err-clause-made
+returns-in-Err-clause-made c = λ known shows. ap refused c.in-Err.ensures.0 ∙ sym (Generated.exhausted _ _ _ known _ _ (c.requires.plan).1 c.in-Err.ensures.1) ∙ Generated.planned _ _ _ known _ _ (c.requires.plan).1
+
+pub permit_red-requires : goal.permit_red-requires
+permit_red-requires c =
+    Makes.refused_for_money c.args.ledger.now.settings c.args.token.now.me c.args.ledger.now.entries (c.requires.plan).0 (plan_of_effect c.args.effect) c.in-Ok.shadow
+    (few_sites _ _ _ c.config.ensures.same c.sites-sites.ensures.same c.sites-sites.ensures.few) c.requires.site c.config.ensures.valid (c.requires.plan).1 c.in-Ok.ensures.0 c.in-Ok.ensures.1
+
+pub returns-in-Blue-clause-made : goal.returns-in-Blue-clause-made
+returns-in-Blue-clause-made c = λ known shows. sym (Generated.blue_made _ _ _ known _ _ _ (c.requires.plan).1 c.in-Ok.ensures.0 c.in-Ok.ensures.1 (sym c.requires.colour ∙ c.in-Blue.is)) ∙ Generated.planned _ _ _ known _ _ (c.requires.plan).1
+
+pub returns-in-Blue-clause-valid : goal.returns-in-Blue-clause-valid
+returns-in-Blue-clause-valid c =
+    Makes.made_is_valid _ _ _ (Generated.seen c.args.token.now) (c.requires.plan).0 _ (few_sites _ _ _ c.config.ensures.same c.sites-sites.ensures.same c.sites-sites.ensures.few) c.requires.site c.config.ensures.valid
+    (Generated.blue_made _ _ _ _ _ _ _ (c.requires.plan).1 c.in-Ok.ensures.0 c.in-Ok.ensures.1 (sym c.requires.colour ∙ c.in-Blue.is))
+
+pub returns-in-Ok-permit_red-clause-made : goal.returns-in-Ok-permit_red-clause-made
+returns-in-Ok-permit_red-clause-made c =
+    λ known shows. sym (Generated.red_made _ _ _ known _ _ _ (c.requires.plan).1 c.in-Ok.ensures.0 c.in-Ok.ensures.1 (sym c.requires.colour ∙ c.in-Red.is) ∙ c.in-Ok-permit_red.ensures known shows) ∙ Generated.planned _ _ _ known _ _ (c.requires.plan).1
+
+pub returns-in-Ok-permit_red-clause-valid : goal.returns-in-Ok-permit_red-clause-valid
+returns-in-Ok-permit_red-clause-valid c =
+    Makes.made_is_valid _ _ _ (Generated.seen c.args.token.now) (c.requires.plan).0 _ (few_sites _ _ _ c.config.ensures.same c.sites-sites.ensures.same c.sites-sites.ensures.few) c.requires.site c.config.ensures.valid
+    (
+    Generated.red_made _ _ _ _ _ _ _ (c.requires.plan).1 c.in-Ok.ensures.0 c.in-Ok.ensures.1 (sym c.requires.colour ∙ c.in-Red.is)
+    ∙ c.in-Ok-permit_red.ensures (Generated.seen c.args.token.now) (Generated.seen_shows c.args.token.now)
+    )
+
+pub returns-in-Err-permit_red-clause-made : goal.returns-in-Err-permit_red-clause-made
+returns-in-Err-permit_red-clause-made c =
+    λ known shows. sym (Generated.red_made _ _ _ known _ _ _ (c.requires.plan).1 c.in-Ok.ensures.0 c.in-Ok.ensures.1 (sym c.requires.colour ∙ c.in-Red.is) ∙ c.in-Err-permit_red.ensures known shows) ∙ Generated.planned _ _ _ known _ _ (c.requires.plan).1
