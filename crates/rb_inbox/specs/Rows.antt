@@ -28,7 +28,7 @@ abbrev pub AreRows : ℕ → List (List Shadow) → Type 0
 AreRows r [] = Unit {0}
 AreRows r (us ∷ rows) = IsRow r us × AreRows (suc r) rows
 
--- the rows, and how many operations they have
+-- the lists are rows, and have so many operations
 pub record AreCounted (rows : List (List Shadow)) (count : ℕ) : Type 0 where
-  pub rows : AreRows 0 rows
-  pub count : count ≡ length (held_of rows)
+  pub each : AreRows 0 rows
+  pub counted : count ≡ length (held_of rows)

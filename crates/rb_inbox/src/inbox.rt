@@ -163,13 +163,15 @@ impl Inbox {
     pub fn remove(&mut self, name: &OpName)
         ensures { self.new ≡ record self.old { held = without name.now self.old.held } }
     {
-        if self.held(name).is_none() {
-            return;
+        match self.held(name) {
+            None => {}
+            Some(_) => {
+                let row = row_place(*name);
+                let index = place_of(self.rows[row].as_slice(), *name);
+                self.rows[row].remove(index);
+                self.count -= 1;
+            }
         }
-        let row = row_place(*name);
-        let index = place_of(self.rows[row].as_slice(), *name);
-        self.rows[row].remove(index);
-        self.count -= 1;
     }
 
     /// How many shadows are held.
