@@ -1,6 +1,6 @@
 -- The order of the names, and lists in that order.
 use Rattle.std.proofs.Common.{◌≡◌, ℕ, suc, zero, ◌+◌, ◌<◌, ◌≤◌, Bool, true, false, cond, not, List, [], ◌∷◌, length, drop, refl, ap, sym, ◌∙◌, arith, ◌⊎◌, inl, inr, subst, get_or}
-use Rattle.std.specs.Prelude.{nat_lt, Some, None, filter, insert, remove}
+use Rattle.std.specs.Prelude.{nat_lt, Option, Some, None, filter, insert, remove}
 use Rattle.std.specs.List.Sorted.{IsPartitionedBy, IsPartitionPoint}
 use Rattle.std.proofs.lemmas.Bool.Decides.{nat_tests}
 use Rattle.std.proofs.lemmas.List.{drop_all, drop_more}
@@ -190,6 +190,11 @@ point-place (u ∷ us) x (suc i) l h =
 
 -- ---- what is held, by its name
 
+before_all-among : (x : OpName) (us : List Shadow) (u : Shadow) → StandsBeforeAll x us → Among u us → stands_before x u.name ≡ true
+before_all-among x [] u h a = elim a [ ]
+before_all-among x (v ∷ us) u h (inl e) = ap (λ (w : Shadow). stands_before x w.name) e ∙ h.0
+before_all-among x (v ∷ us) u h (inr a) = before_all-among x us u h.1 a
+
 pub Among-find : (us : List Shadow) (u : Shadow) → IsInOrder us → Among u us → find_in us u.name ≡ Some u
 Among-find [] u h a = elim a [ ]
 Among-find (w ∷ us) u h (inl e) =
@@ -197,11 +202,13 @@ Among-find (w ∷ us) u h (inl e) =
     ∙ ap (λ b. cond b (Some w) (find_in us w.name)) (Members.same_name-refl w.name) ∙ ap Some (sym e)
 Among-find (w ∷ us) u h (inr a) =
     ap (λ b. cond b (Some w) (find_in us u.name)) (before-not_same w.name u.name (before_all-among w.name us u h.0 a)) ∙ Among-find us u h.1 a
-  where
-    before_all-among : (x : OpName) (us : List Shadow) (u : Shadow) → StandsBeforeAll x us → Among u us → stands_before x u.name ≡ true
-    before_all-among x [] u h a = elim a [ ]
-    before_all-among x (v ∷ us) u h (inl e) = ap (λ (w : Shadow). stands_before x w.name) e ∙ h.0
-    before_all-among x (v ∷ us) u h (inr a) = before_all-among x us u h.1 a
+
+-- what is left from a place on is what stands there, or has a later name
+pub left_cases : (us : List Shadow) (k : ℕ) (d u : Shadow) → IsInOrder us → k < length us → Among u (drop k us) → (u ≡ get_or us k d) ⊎ (stands_before (get_or us k d).name u.name ≡ true)
+left_cases [] k d u h l a = absurd (omega arith)
+left_cases (w ∷ us) zero d u h l (inl e) = inl e
+left_cases (w ∷ us) zero d u h l (inr a) = inr (before_all-among w.name us u h.0 a)
+left_cases (w ∷ us) (suc k) d u h l a = left_cases us k d u h.1 (omega arith) a
 
 -- what stands at a place is what is held under its name
 pub find-at : (held us : List Shadow) (i : ℕ) (d : Shadow) → us ≡ held → IsInOrder us → i < length us → find_in held (get_or us i d).name ≡ Some (get_or us i d)
@@ -230,6 +237,14 @@ holding n us = record { limit = n; held = us }
 -- the value after a change of the list
 pub changed : (n : ℕ) (us vs : List Shadow) (b : Holding) (f : List Shadow → List Shadow) → us ≡ f vs → holding n vs ≡ b → holding n us ≡ holding b.limit (f b.held)
 changed n us vs b f e h = ap (holding n) e ∙ ap (λ (b : Holding). holding b.limit (f b.held)) h
+
+-- what is found in the value is found in the list
+pub found_inside : (n : ℕ) (us : List Shadow) (b : Holding) (x : OpName) (o : Option Shadow) → holding n us ≡ b → o ≡ find_in b.held x → find_in us x ≡ o
+found_inside n us b x o h e = ap (λ (b : Holding). find_in b.held x) h ∙ sym e
+
+-- the value where the list is the same
+pub unchanged : (n : ℕ) (us vs : List Shadow) (b : Holding) → us ≡ vs → holding n vs ≡ b → holding n us ≡ b
+unchanged n us vs b e h = ap (holding n) e ∙ h
 
 -- where nothing stands under the name, nothing is left out
 pub without-absent : (us : List Shadow) (x : OpName) → find_in us x ≡ None → without x us ≡ us

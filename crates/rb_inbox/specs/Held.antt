@@ -1,6 +1,7 @@
 -- The list of held operations: one for each name, in the order of the names.
-use Rattle.std.specs.Prelude.{◌≡◌, ◌≢◌, ℕ, suc, ◌≤◌, Bool, true, false, if◌then◌else◌, not, ◌&&◌, ◌||◌, nat_lt, ◌==◌, List, [], ◌∷◌, length, filter, Some, None}
-use Rattle.rb_shadow.specs.Operations.{find_in, names_of_clock, past, same_name, IsWithin}
+use Rattle.std.specs.Prelude.{◌≡◌, ◌≢◌, ℕ, suc, ◌+◌, ◌≤◌, Bool, true, false, if◌then◌else◌, not, ◌&&◌, ◌||◌, nat_lt, ◌==◌, List, [], ◌∷◌, length, filter, Some, None}
+use Rattle.rb_shadow.specs.Operations.{entry_of, find_in, names_of_clock, number_of, past, same_name, IsWithin}
+use Rattle.rb_shadow.specs.Sound.{is_foreign}
 use Rattle.rb_shadow.specs.declared.deps.Deps.{Deps}
 use Rattle.rb_shadow.specs.declared.op_name.OpName.{OpName}
 use Rattle.rb_shadow.specs.declared.op_name.OpName.TheVariants.{Blue, Red}
@@ -41,6 +42,11 @@ IsInOrder (u ∷ us) = StandsBeforeAll u.name us × IsInOrder us
 abbrev pub place_in : List Shadow → OpName → ℕ
 place_in [] x = 0
 place_in (u ∷ us) x = if stands_before u.name x then suc (place_in us x) else 0
+
+-- what can be held: a blue name's site is the home, and the number, from 1, is the next after the own entry of the past
+pub record IsNumbered (v : Shadow) : Type 0 where
+  pub home : is_foreign v.name v.home ≡ false
+  pub next : number_of v.name ≡ entry_of v.deps v.name + 1
 
 -- the operation can be applied at the clock: all of its past is counted there
 abbrev pub IsReady : Deps → Shadow → Type 0

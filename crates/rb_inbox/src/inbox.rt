@@ -1,33 +1,39 @@
 //! Inboxes.
-ghost use Rattle.std.specs.Prelude.{◌≡◌, ◌⊎◌, length, IfErr, IfNone, IfOk, IfSome, OnErr, Some, None, Ok, Err, [], ◌≤◌};
+ghost use Rattle.std.specs.Prelude.{◌≡◌, ◌⊎◌, ◌==◌, ℕ, ◌+◌, ◌<◌, ◌≤◌, List, [], ◌++◌, filter, length, replicate, IfErr, IfNone, IfOk, IfSome, OnErr, OnOk, Some, None, Ok, Err};
 ghost use Rattle.std.specs.Bool.{OnFalse, OnTrue};
 ghost use Rattle.std.specs.Option.{option_copied};
-ghost use Rattle.rb_shadow.specs.Operations.{find_in, Among};
+ghost use Rattle.rb_shadow.specs.Operations.{Among, find_in, is_blue_of, is_red};
 ghost use Rattle.rb_shadow.specs.declared.shadow.Shadow.{Shadow};
-ghost use Rattle.rb_inbox.specs.Held.{HoldsReady, HoldsWaiting, IsInConflict, IsInOrder, IsReady, IsTooMany, IsWelcome, place_in, stands_before, with_held, without};
+ghost use Rattle.rb_inbox.specs.Held.{HoldsReady, HoldsWaiting, IsInConflict, IsInOrder, IsNumbered, IsReady, IsTooMany, IsWelcome, place_in, stands_before, with_held, without};
+ghost use Rattle.rb_inbox.specs.Rows.{IsRow, row_of};
 
 use crate::PutAnswer;
+use crate::row::Row;
 use rb_money::Refusal;
 use rb_shadow::{OpName, Shadow};
 use rb_vclock::Clock;
-use std::alloc::Global;
+use std::alloc::{AllocError, Global};
 use std::marker::Model;
 
 /// The shadows that a site received and hasn't applied, at most one of each name.
 #[derive(Drop)]
 pub struct Inbox {
     limit: u32,
-    shadows: Vec<Shadow>,
+    alloc: Global,
+    /// The red ones, and then the blue ones of each site, each row in rising order of number.
+    rows: Vec<Row>,
+    count: usize,
 }
 
 impl Model for Inbox {
-    ghost use Rattle.rb_inbox.specs.Held.{Holding, IsInOrder};
+    ghost use Rattle.rb_inbox.specs.Held.{Holding};
+    ghost use Rattle.rb_inbox.specs.Rows.{AreCounted, held_of};
 
     ghost Value = { Holding };
 
-    ghost view = { λ b. record { limit = b.limit; held = b.shadows.items } };
+    ghost view = { λ b. record { limit = b.limit; held = held_of b.rows.items } };
 
-    ghost invariant = { λ b. IsInOrder b.shadows.items };
+    ghost invariant = { λ b. AreCounted b.rows.items b.count };
 }
 
 impl Inbox {
@@ -37,7 +43,9 @@ impl Inbox {
     {
         Inbox {
             limit,
-            shadows: Vec::new(alloc),
+            alloc,
+            rows: Vec::new(alloc),
+            count: 0,
         }
     }
 
@@ -46,6 +54,7 @@ impl Inbox {
     /// Errors: `Conflict` where another shadow is held under its name; `InboxFull` where the limit is
     /// reached and it isn't ready; `OutOfMemory`. Each leaves the inbox as it was.
     pub fn put(&mut self, shadow: Shadow, clock: &Clock) -> Result<PutAnswer, Refusal>
+        requires { IsNumbered shadow }
         ensures held { result ≡ Ok PutAnswer.Held → self.new ≡ record self.old { held = with_held shadow self.old.held } }
         ensures welcome { result ≡ Ok PutAnswer.Held → IsWelcome self.old clock.now shadow }
         ensures already { result ≡ Ok PutAnswer.Already → find_in self.old.held shadow.name ≡ Some shadow }
@@ -67,11 +76,26 @@ impl Inbox {
         if !self.has_room_for(&shadow, clock) {
             return Err(Refusal::InboxFull);
         }
-        let place = place_of(&self.shadows, shadow.name);
-        if self.shadows.insert(place, shadow).is_err() {
-            return Err(Refusal::OutOfMemory);
+        match self.hold(shadow) {
+            Ok(()) => Ok(PutAnswer::Held),
+            Err(_) => Err(Refusal::OutOfMemory),
         }
-        Ok(PutAnswer::Held)
+    }
+
+    /// Holds a shadow that is new.
+    fn hold(&mut self, shadow: Shadow) -> Result<(), AllocError>
+        requires new { find_in self.old.held shadow.name ≡ None }
+        requires numbered { IsNumbered shadow }
+        ensures ok { OnOk result (self.new ≡ record self.old { held = with_held shadow self.old.held }) }
+        ensures err { OnErr result (self.new ≡ self.old) }
+    {
+        let count = self.count.checked_add(1).ok_or(AllocError)?;
+        let row = row_place(shadow.name);
+        add_rows(&mut self.rows, row + 1, self.alloc)?;
+        let index = place_of(self.rows[row].as_slice(), shadow.name);
+        self.rows[row].insert(index, shadow)?;
+        self.count = count;
+        Ok(())
     }
 
     #[tactic(auto, unfolding(rb_shadow::specs::Operations::past))]
@@ -84,14 +108,14 @@ impl Inbox {
     }
 
     /// The name of a held shadow that is ready at the clock, if there is one.
-    #[tactic(auto, unfolding(rb_shadow::specs::Operations::past))]
     pub fn ready(&self, clock: &Clock) -> Option<OpName>
         ensures some { IfSome result (HoldsReady self.now clock.now) }
         ensures none { IfNone result ((shadow : Shadow) → Among shadow self.now.held → ¬ IsReady clock.now shadow) }
     {
-        for shadow in &self.shadows {
-            if clock.at_least(&shadow.deps) {
-                return Some(shadow.name);
+        for row in &self.rows {
+            let name = ready_in(row.as_slice(), clock);
+            if name.is_some() {
+                return name;
             }
         }
         None
@@ -101,8 +125,8 @@ impl Inbox {
     pub fn held(&self, name: &OpName) -> Option<&Shadow>
         ensures { option_copied result ≡ find_in self.now.held name.now }
     {
-        let shadows = self.as_slice();
-        let shadow = shadows.get(place_of(shadows, *name))?;
+        let row = self.row(row_place(*name));
+        let shadow = row.get(place_of(row, *name))?;
         if shadow.name == *name {
             Some(shadow)
         } else {
@@ -142,8 +166,10 @@ impl Inbox {
         match self.held(name) {
             None => {}
             Some(_) => {
-                let place = place_of(&self.shadows, *name);
-                self.shadows.remove(place);
+                let row = row_place(*name);
+                let index = place_of(self.rows[row].as_slice(), *name);
+                self.rows[row].remove(index);
+                self.count -= 1;
             }
         }
     }
@@ -152,16 +178,74 @@ impl Inbox {
     pub fn len(&self) -> usize
         ensures { result ≡ length self.now.held }
     {
-        self.shadows.len()
+        self.count
     }
 
-    /// The held shadows, in the order of their names: blue ones by site and number, then red ones by number.
-    pub fn as_slice(&self) -> &[Shadow]
-        ensures held { result.now ≡ self.now.held }
+    /// The held blue shadows of a site, in rising order of number: none where there is no such site.
+    pub fn blue_row(&self, site: u8) -> &[Shadow]
+        ensures held { result.now ≡ filter (λ u. is_blue_of u.name site) self.now.held }
         ensures in_order { IsInOrder result.now }
     {
-        self.shadows.as_slice()
+        self.row(usize::from(site) + 1)
     }
+
+    /// The held red shadows, in rising order of number.
+    pub fn red_row(&self) -> &[Shadow]
+        ensures held { result.now ≡ filter (λ u. is_red u.name) self.now.held }
+        ensures in_order { IsInOrder result.now }
+    {
+        self.row(0)
+    }
+
+    fn row(&self, place: usize) -> &[Shadow]
+        ensures held { result.now ≡ filter (λ u. row_of u.name == place) self.now.held }
+        ensures in_order { IsInOrder result.now }
+    {
+        match self.rows.get(place) {
+            Some(row) => row.as_slice(),
+            None => &[],
+        }
+    }
+}
+
+/// The place of a name's row.
+fn row_place(name: OpName) -> usize
+    ensures { result ≡ row_of name }
+{
+    match name {
+        OpName::Blue { site, .. } => usize::from(site) + 1,
+        OpName::Red { .. } => 0,
+    }
+}
+
+/// Adds empty rows, until there are so many.
+fn add_rows(rows: &mut Vec<Row>, count: usize, alloc: Global) -> Result<(), AllocError>
+    ensures rows { (k : ℕ) × (rows.new.items ≡ rows.old.items ++ replicate k []) }
+    ensures ok { OnOk result (count ≤ length rows.new.items) }
+{
+    while rows.len() < count {
+        rows.push(Row::open(alloc))?;
+    }
+    Ok(())
+}
+
+/// The name of a shadow of the row that is ready, if there is one: a ready one's number is at most the
+/// next after the clock's entry.
+fn ready_in(row: &[Shadow], clock: &Clock) -> Option<OpName>
+    requires { (r : ℕ) × IsRow r row.now }
+    ensures some { IfSome result (λ name. (u : Shadow) × Among u row.now × (u.name ≡ name) × IsReady clock.now u) }
+    ensures none { IfNone result ((u : Shadow) → Among u row.now → ¬ IsReady clock.now u) }
+{
+    let entries = clock.deps();
+    for shadow in row {
+        if shadow.name.number() > entries.entry(shadow.name).saturating_add(1) {
+            return None;
+        }
+        if clock.at_least(&shadow.deps) {
+            return Some(shadow.name);
+        }
+    }
+    None
 }
 
 /// Where a shadow of the name stands, or where it would.

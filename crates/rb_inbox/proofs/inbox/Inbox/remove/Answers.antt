@@ -1,32 +1,61 @@
-use Rattle.std.proofs.Common.{arith, ◌≡◌, ◌∙◌, ap, sym, subst, length, Some, not}
+use Rattle.std.proofs.Common.{arith, ◌≡◌, ◌-◌, ◌<◌, ◌∙◌, ap, sym, subst, List, [], Some, get_or, length, set}
 use Rattle.std.specs.Prelude.{remove}
-use Rattle.rb_shadow.specs.Operations.{find_in, same_name}
+use Rattle.rb_shadow.specs.Operations.{find_in}
 use Rattle.rb_shadow.specs.declared.shadow.Shadow.{Shadow}
-use Rattle.rb_inbox.specs.Held.{Holding, IsInOrder, place_in, without}
-use Rattle.rb_inbox.proofs.Order.{changed, found_within, in_order-filter, remove-place, without-absent}
+use Rattle.rb_inbox.specs.Held.{IsInOrder, place_in, without}
+use Rattle.rb_inbox.specs.Rows.{AreCounted, held_of}
+use Rattle.rb_inbox.proofs.Changes.{after_remove, changed_there, place_within, row_there, row_within}
+use Rattle.rb_inbox.proofs.Order.{changed, found_inside, without-absent}
+use Rattle.rb_inbox.proofs.Rows.{row_at}
 use Rattle.rb_inbox.proofs.inbox.Inbox.remove.Goals as goal
 
 pub returns-in-None : goal.returns-in-None
 returns-in-None c = ap (λ vs. record { limit = c.args.self.now.limit; held = vs }) (sym (without-absent c.args.self.now.held c.args.name.now (sym c.in-None.ensures)))
 
+pub index-requires : goal.index-requires
+index-requires c =
+    let found = found_inside c.self.inside.limit (held_of c.self.inside.rows.items) c.args.self.now c.args.name.now (Some c.in-Some.field-0.now) c.self.view_is c.in-Some.ensures in
+    omega (arith, row_within c.self.inside.rows.items c.args.name.now c.in-Some.field-0.now c.row_place-row.result c.row_place-row.ensures c.self.invariant.each found)
+
+pub place_of-index-requires : goal.place_of-index-requires
+place_of-index-requires c =
+    let rows : List (List Shadow) = c.self.inside.rows.items in
+    let row = c.row_place-row.result in
+    let found = found_inside c.self.inside.limit (held_of rows) c.args.self.now c.args.name.now (Some c.in-Some.field-0.now) c.self.view_is c.in-Some.ensures in
+    let within = row_within rows c.args.name.now c.in-Some.field-0.now row c.row_place-row.ensures c.self.invariant.each found in
+    subst IsInOrder (sym (c.as_slice.ensures ∙ row_there rows row c.index.result.now within c.index.ensures)) (row_at rows 0 row row (omega arith) c.self.invariant.each).in_order
+
+pub index_mut-requires : goal.index_mut-requires
+index_mut-requires c =
+    let found = found_inside c.self.inside.limit (held_of c.self.inside.rows.items) c.args.self.now c.args.name.now (Some c.in-Some.field-0.now) c.self.view_is c.in-Some.ensures in
+    omega (arith, row_within c.self.inside.rows.items c.args.name.now c.in-Some.field-0.now c.row_place-row.result c.row_place-row.ensures c.self.invariant.each found)
+
 pub remove-requires : goal.remove-requires
 remove-requires c =
-    let some : find_in c.args.self.now.held c.args.name.now ≡ Some c.in-Some.field-0.now = sym c.in-Some.ensures in
-    let found : find_in c.self.inside.shadows.items c.args.name.now ≡ Some c.in-Some.field-0.now = ap (λ (b : Holding). find_in b.held c.args.name.now) c.self.view_is ∙ some in
-    let place : c.place_of-place.result ≡ place_in c.self.inside.shadows.items c.args.name.now = c.place_of-place.ensures.place ∙ ap (λ ws. place_in ws c.args.name.now) c.deref.ensures.value in
-    omega (arith, found_within c.self.inside.shadows.items c.args.name.now c.in-Some.field-0.now c.self.invariant found, place, c.deref.ensures.len, ap length c.deref.ensures.value)
+    let rows : List (List Shadow) = c.self.inside.rows.items in
+    let row = c.row_place-row.result in
+    let found = found_inside c.self.inside.limit (held_of rows) c.args.self.now c.args.name.now (Some c.in-Some.field-0.now) c.self.view_is c.in-Some.ensures in
+    let within = row_within rows c.args.name.now c.in-Some.field-0.now row c.row_place-row.ensures c.self.invariant.each found in
+    let place : c.place_of-index.result ≡ place_in (get_or rows row []) c.args.name.now =
+        c.place_of-index.ensures.place ∙ ap (λ us. place_in us c.args.name.now) (c.as_slice.ensures ∙ row_there rows row c.index.result.now within c.index.ensures) in
+    let long = ap length (row_there rows row c.index_mut.result.now within c.index_mut.ensures.value) in
+    omega (arith, place, long, place_within rows c.args.name.now c.in-Some.field-0.now row c.row_place-row.ensures c.self.invariant.each found)
 
--- the list after the removal
-without_it : (c : goal.After-remove) → c.remove.new.self.items ≡ without c.args.name.now c.self.inside.shadows.items
+-- the rows without the name
+without_it : (c : goal.After-self-in-Some-1) → AreCounted (set c.self.inside.rows.items c.row_place-row.result c.remove.new.self) (c.self.inside.count - 1)
+    × (held_of (set c.self.inside.rows.items c.row_place-row.result c.remove.new.self) ≡ without c.args.name.now (held_of c.self.inside.rows.items))
 without_it c =
-    let some : find_in c.args.self.now.held c.args.name.now ≡ Some c.in-Some.field-0.now = sym c.in-Some.ensures in
-    let found : find_in c.self.inside.shadows.items c.args.name.now ≡ Some c.in-Some.field-0.now = ap (λ (b : Holding). find_in b.held c.args.name.now) c.self.view_is ∙ some in
-    let place : c.place_of-place.result ≡ place_in c.self.inside.shadows.items c.args.name.now = c.place_of-place.ensures.place ∙ ap (λ ws. place_in ws c.args.name.now) c.deref.ensures.value in
-    c.remove.ensures.items ∙ ap (remove c.self.inside.shadows.items) place
-    ∙ remove-place c.self.inside.shadows.items c.args.name.now c.in-Some.field-0.now c.self.invariant found
+    let rows : List (List Shadow) = c.self.inside.rows.items in
+    let row = c.row_place-row.result in
+    let found = found_inside c.self.inside.limit (held_of rows) c.args.self.now c.args.name.now (Some c.in-Some.field-0.now) c.self.view_is c.in-Some.ensures in
+    let within = row_within rows c.args.name.now c.in-Some.field-0.now row c.row_place-row.ensures c.self.invariant.each found in
+    after_remove rows c.self.inside.count c.args.name.now c.in-Some.field-0.now row c.remove.new.self c.self.invariant found c.row_place-row.ensures
+    (changed_there (λ us place. remove us place) c.remove.new.self c.index_mut.result.now c.as_slice.result.now (get_or rows row []) c.place_of-index.result c.args.name.now
+    c.remove.ensures (row_there rows row c.index_mut.result.now within c.index_mut.ensures.value) c.place_of-index.ensures.place
+    (c.as_slice.ensures ∙ row_there rows row c.index.result.now within c.index.ensures))
 
 pub invariant_of-self : goal.invariant_of-self
-invariant_of-self c = subst IsInOrder (sym (without_it c)) (in_order-filter (λ (u : Shadow). not (same_name u.name c.args.name.now)) c.self.inside.shadows.items c.self.invariant)
+invariant_of-self c = (without_it c).0
 
 pub returns-in-Some : goal.returns-in-Some
-returns-in-Some c = changed c.self.inside.limit c.remove.new.self.items c.self.inside.shadows.items c.args.self.now (without c.args.name.now) (without_it c) c.self.view_is
+returns-in-Some c = changed c.self.inside.limit _ (held_of c.self.inside.rows.items) c.args.self.now (without c.args.name.now) (without_it c).1 c.self.view_is
