@@ -29,10 +29,10 @@ bool_same true = refl
 bool_same false = refl
 
 -- a row by its fields
-abbrev of_fields : ℕ → OpName → Label → ℤ → Bool → ℕ → Row
+abbrev pub of_fields : ℕ → OpName → Label → ℤ → Bool → ℕ → Row
 of_fields position name kind moved cancelled balance = record { position = position; name = name; kind = kind; moved = moved; cancelled = cancelled; balance = balance }
 
-same_fields : (i j : ℕ) (x y : OpName) (k l : Label) (a b : ℤ) (p q : Bool) (m n : ℕ) → i ≡ j → x ≡ y → k ≡ l → a ≡ b → p ≡ q → m ≡ n → of_fields i x k a p m ≡ of_fields j y l b q n
+pub same_fields : (i j : ℕ) (x y : OpName) (k l : Label) (a b : ℤ) (p q : Bool) (m n : ℕ) → i ≡ j → x ≡ y → k ≡ l → a ≡ b → p ≡ q → m ≡ n → of_fields i x k a p m ≡ of_fields j y l b q n
 same_fields i j x y k l a b p q m n e1 e2 e3 e4 e5 e6 = cc
 
 pub rows_exact : IsExact row_test.eq

@@ -1,105 +1,170 @@
--- The step from one operation of a statement to the next.
-use Rattle.std.proofs.Common.{◌≡◌, ℕ, ◌⊎◌, inl, inr, not, ◌+◌, ◌-◌, ◌<◌, ◌≤◌, ◌||◌, Bool, true, false, cond, List, [], ◌∷◌, ◌++◌, length, take, drop, get_or, refl, ap, sym, ◌∙◌, arith, append_assoc}
+-- The rows of a statement, from one operation on the account back to the one before.
+use Rattle.std.proofs.Common.{◌≡◌, ℕ, zero, suc, ◌+◌, ◌-◌, ◌<◌, ◌≤◌, ◌||◌, Bool, true, false, cond, List, [], ◌∷◌, ◌++◌, length, take, drop, reverse, refl, ap, sym, ◌∙◌, subst, arith, append_assoc}
 use Rattle.std.specs.Borrow.{Bor}
-use Rattle.std.specs.Prelude.{ℤ, pos, neg_ℤ, ◌+ℤ◌, ◌≤ℤ◌, ◌==◌, slice_get, Option, Some, None, option_map, option_copied, option_and_then, is_some}
+use Rattle.std.specs.Prelude.{ℤ, pos, neg_ℤ, ◌+ℤ◌, ◌≤ℤ◌, ◌==◌, slice_get, Option, Some, None, option_map, option_copied, option_and_then, is_some, IsSome}
 use Rattle.std.proofs.lemmas.Int.{ints}
-use Rattle.std.proofs.lemmas.Option.{slice_get_cases, slice_get_within}
-use Rattle.std.proofs.lemmas.List.{take-append-drop, length-take-le}
 use Rattle.std.proofs.lemmas.Bool.Decides.{nat_tests}
+use Rattle.std.proofs.lemmas.List.{append-nil, length-take-le, reverse-append, take-append-drop}
+use Rattle.std.proofs.lemmas.Option.{slice_get_within}
+use Rattle.std.proofs.Math.Seq.{take-length}
 use Rattle.rb_money.specs.Amounts.{cents}
 use Rattle.rb_money.specs.Settings.{Settings, start_of}
 use Rattle.rb_money.specs.declared.place.Place.{Place}
 use Rattle.rb_shadow.specs.Labels.{label_of}
-use Rattle.rb_shadow.specs.Operations.{bal, is_cancelled}
+use Rattle.rb_shadow.specs.Operations.{bal, is_cancelled, is_on}
 use Rattle.rb_shadow.specs.declared.shadow.Shadow.{Shadow}
 use Rattle.rb_shadow.specs.declared.label.Label.{Label}
 use Rattle.rb_ledger.specs.Valid.{IsValid, entry_at, first_cancel_in, first_cancel_from}
 use Rattle.rb_ledger.specs.Changes.{moved_at}
+use Rattle.rb_ledger.specs.OnAccount.{IsOn, IsNoneAfter, IsLast}
+use Rattle.rb_ledger.proofs.ChainFacts
+use Rattle.rb_ledger.proofs.IndexLists
 use Rattle.rb_ledger.proofs.Moves
 use Rattle.rb_statements.specs.Statements.{row_of, rows_here, rows_of, statement_of}
 use Rattle.rb_statements.specs.declared.row.Row.{Row}
 use Rattle.rb_statements.specs.declared.account.Statement.{Statement}
+use Rattle.rb_statements.proofs.Same.{of_fields, same_fields}
 
--- there is an operation at an index within the list
-pub here : (us : List Shadow) (i : ℕ) → i < length us → (u : Shadow) × (slice_get us i ≡ Some u)
-here us i near = at (slice_get_cases us i).1
+-- ---- whether an operation is on the account
+
+on_account : (us : List Shadow) (u : Shadow) (a : Place) → u.account.0 ≡ a.0 → is_on us u a ≡ true
+on_account us u a own = let test : (u.account.0 == a.0) ≡ true = grind (arith, nat_tests) in ap (λ b. b || false) test
+
+off_account : (us : List Shadow) (u : Shadow) (a : Place) → (u.account.0 ≡ a.0 → ⊥) → is_on us u a ≡ false
+off_account us u a apart = at (u.account.0 == a.0) refl
   where
-    at : ((x : Shadow) × (i < length us) × (slice_get us i ≡ Some x) × (get_or us i x ≡ x)) ⊎ ((length us ≤ i) × (slice_get us i ≡ None)) → (u : Shadow) × (slice_get us i ≡ Some u)
-    at (inl (u, below, e, read)) = (u, e)
-    at (inr (above, e)) = absurd (omega arith)
+    at : (b : Bool) → (u.account.0 == a.0) ≡ b → (b || false) ≡ false
+    at true e = absurd (apart (grind (arith, nat_tests)))
+    at false e = refl
 
--- the operation at an index is at the position after it
-pub entry_here : (us : List Shadow) (i : ℕ) → entry_at us (i + 1) ≡ slice_get us i
-entry_here us i =
-    let test : (i + 1 == 0) ≡ false = grind (arith, nat_tests) in
-    let back : i + 1 - 1 ≡ i = omega arith in
-    ap (λ b. cond b None (slice_get us (i + 1 - 1))) test ∙ ap (slice_get us) back
+-- ---- what is looked up at a position on the account
 
-pub entry_value : (us : List Shadow) (i : ℕ) (o : Option (Bor Shadow)) (x : Bor Shadow) → option_copied o ≡ entry_at us (i + 1) → o ≡ Some x → slice_get us i ≡ Some x.now
-entry_value us i o x e is = sym (entry_here us i) ∙ sym e ∙ ap option_copied is
+entry_here : (us : List Shadow) (p : ℕ) → 0 < p → entry_at us p ≡ slice_get us (p - 1)
+entry_here us p some = let test : (p == 0) ≡ false = grind (arith, nat_tests) in ap (λ b. cond b None (slice_get us (p - 1))) test
 
-pub moved_here : (s : Settings) (us : List Shadow) (a : Place) (i : ℕ) → i < length us → moved_at s us a (i + 1) ≡ Some (bal s (take (i + 1) us) a +ℤ neg_ℤ (bal s (take i us) a))
-moved_here s us a i near =
-    let (u, there) = here us i near in
-    let back : i + 1 - 1 ≡ i = omega arith in
-    ap (option_map (λ (v : Shadow). bal s (take (i + 1) us) a +ℤ neg_ℤ (bal s (take (i + 1 - 1) us) a))) (entry_here us i ∙ there)
-    ∙ ap (λ k. Some (bal s (take (i + 1) us) a +ℤ neg_ℤ (bal s (take k us) a))) back
+entry_there : (us : List Shadow) (a : Place) (p : ℕ) → IsOn us a p → 0 < p → (u : Shadow) × (entry_at us p ≡ Some u)
+entry_there us a p on some = let (u, there, own) = ChainFacts.on_entry us a p on some in (u, entry_here us p some ∙ there)
 
-pub moved_value : (s : Settings) (us : List Shadow) (a : Place) (i : ℕ) (o : Option ℤ) (z : ℤ) → i < length us → o ≡ moved_at s us a (i + 1) → o ≡ Some z → z ≡ bal s (take (i + 1) us) a +ℤ neg_ℤ (bal s (take i us) a)
-moved_value s us a i o z near e is = let same : Some z ≡ Some (bal s (take (i + 1) us) a +ℤ neg_ℤ (bal s (take i us) a)) = sym is ∙ e ∙ moved_here s us a i near in cc
+pub has_entry : (us : List Shadow) (a : Place) (p : ℕ) (o : Option (Bor Shadow)) → IsOn us a p → 0 < p → option_copied o ≡ entry_at us p → IsSome o
+has_entry us a p None on some e = let (u, there) = entry_there us a p on some in let same : None ≡ Some u = e ∙ there in cc
+has_entry us a p (Some x) on some e = refl
 
--- the balance before an operation and what it moved are the balance after it
-pub moved_sum : (s : Settings) (us : List Shadow) (a : Place) (i n : ℕ) (z : ℤ) → z ≡ bal s (take (i + 1) us) a +ℤ neg_ℤ (bal s (take i us) a) → pos n ≡ bal s (take i us) a → pos n +ℤ z ≡ bal s (take (i + 1) us) a
-moved_sum s us a i n z e sum = omega (arith, ints)
+pub has_moved : (s : Settings) (us : List Shadow) (a : Place) (p : ℕ) (o : Option ℤ) → IsOn us a p → 0 < p → o ≡ moved_at s us a p → IsSome o
+has_moved s us a p None on some e =
+    let (u, there) = entry_there us a p on some in
+    let same : None ≡ Some (bal s (take p us) a +ℤ neg_ℤ (bal s (take (p - 1) us) a)) = e ∙ ap (option_map (λ (v : Shadow). bal s (take p us) a +ℤ neg_ℤ (bal s (take (p - 1) us) a))) there in
+    cc
+has_moved s us a p (Some z) on some e = refl
 
--- no balance is negative, as of any position
-pub covered_at : (s : Settings) (us : List Shadow) (a : Place) (n : ℕ) → IsValid s us → pos 0 ≤ℤ bal s (take n us) a
-covered_at s us a n valid = valid.covered (take n us) (drop n us) (sym (take-append-drop n us)) a
+-- the operation that is found there
+pub found_there : (us : List Shadow) (a : Place) (p : ℕ) (o : Option (Bor Shadow)) (x : Bor Shadow) → IsOn us a p → 0 < p → option_copied o ≡ entry_at us p → o ≡ Some x → (slice_get us (p - 1) ≡ Some x.now) × (x.now.account.0 ≡ a.0)
+found_there us a p o x on some e is =
+    let (u, there, own) = ChainFacts.on_entry us a p on some in
+    let found : slice_get us (p - 1) ≡ Some x.now = sym (entry_here us p some) ∙ sym e ∙ ap option_copied is in
+    let both : Some x.now ≡ Some u = sym found ∙ there in
+    let same : x.now ≡ u = cc in
+    (found, ap (λ (v : Shadow). v.account.0) same ∙ own)
 
--- the rows from an operation on are its own and those from the next on
-rows_step : (s : Settings) (us : List Shadow) (a : Place) (i : ℕ) (u : Shadow) → slice_get us i ≡ Some u → rows_of s us a (take i us) (drop i us) ≡ rows_here s us a (take i us) u ++ rows_of s us a (take (i + 1) us) (drop (i + 1) us)
-rows_step s us a i u e =
-    ap (rows_of s us a (take i us)) (Moves.drop_here us i u e)
-    ∙ ap (λ vs. rows_here s us a (take i us) u ++ rows_of s us a vs (drop (i + 1) us)) (sym (Moves.one_more us i u e))
+-- what it moved
+pub moved_there : (s : Settings) (us : List Shadow) (a : Place) (p : ℕ) (o : Option ℤ) (z : ℤ) → IsOn us a p → 0 < p → o ≡ moved_at s us a p → o ≡ Some z → z ≡ bal s (take p us) a +ℤ neg_ℤ (bal s (take (p - 1) us) a)
+moved_there s us a p o z on some e is =
+    let (u, there) = entry_there us a p on some in
+    let same : Some z ≡ Some (bal s (take p us) a +ℤ neg_ℤ (bal s (take (p - 1) us) a)) =
+    sym is ∙ e ∙ ap (option_map (λ (v : Shadow). bal s (take p us) a +ℤ neg_ℤ (bal s (take (p - 1) us) a))) there in
+    cc
 
-pub rows_more : (s : Settings) (us : List Shadow) (a : Place) (i : ℕ) (done now : List Row) → i < length us → rows_of s us a [] us ≡ done ++ rows_of s us a (take i us) (drop i us)
-    → ((u : Shadow) → slice_get us i ≡ Some u → now ≡ done ++ rows_here s us a (take i us) u) → rows_of s us a [] us ≡ now ++ rows_of s us a (take (i + 1) us) (drop (i + 1) us)
-rows_more s us a i done now near before added =
-    let (u, e) = here us i near in
-    let rest : List Row = rows_of s us a (take (i + 1) us) (drop (i + 1) us) in
-    before ∙ ap (λ rows. done ++ rows) (rows_step s us a i u e) ∙ sym (append_assoc done (rows_here s us a (take i us) u) rest) ∙ ap (λ rows. rows ++ rest) (sym (added u e))
+-- ---- the rows of the first operations
 
-row : Shadow → ℕ → Label → ℤ → Bool → ℕ → Row
-row u position kind moved cancelled balance = record { position = position; name = u.name; kind = kind; moved = moved; cancelled = cancelled; balance = balance }
+-- one more operation adds its own rows
+rows_push : (s : Settings) (all : List Shadow) (a : Place) (before vs : List Shadow) (u : Shadow) → rows_of s all a before (vs ++ u ∷ []) ≡ rows_of s all a before vs ++ rows_here s all a (before ++ vs) u
+rows_push s all a before [] u = append-nil (rows_here s all a before u) ∙ ap (λ ws. rows_here s all a ws u) (sym (append-nil before))
+rows_push s all a before (v ∷ vs) u =
+    let first : List Row = rows_here s all a before v in
+    let rest : List Row = rows_of s all a (before ++ v ∷ []) vs in
+    ap (λ rows. first ++ rows) (rows_push s all a (before ++ v ∷ []) vs u)
+    ∙ sym (append_assoc first rest (rows_here s all a ((before ++ v ∷ []) ++ vs) u))
+    ∙ ap (λ ws. (first ++ rest) ++ rows_here s all a ws u) (append_assoc before (v ∷ []) vs)
 
--- an operation on the account has the row that is made of what is looked up
-pub own_row : (s : Settings) (us : List Shadow) (a : Place) (i : ℕ) (u v : Shadow) (rows : List Row) (k : Label) (z : ℤ) (n : ℕ) (o : Option ℕ) (c : Bool)
-    → slice_get us i ≡ Some v → slice_get us i ≡ Some u → not (v.account.0 == a.0) ≡ false → k ≡ label_of v.kind
-    → z ≡ bal s (take (i + 1) us) a +ℤ neg_ℤ (bal s (take i us) a) → pos n ≡ bal s (take (i + 1) us) a → o ≡ option_and_then (λ (w : Shadow). first_cancel_in us w.name) (entry_at us (i + 1)) → c ≡ is_some o
-    → rows ++ record { position = i + 1; name = v.name; kind = k; moved = z; cancelled = c; balance = n } ∷ [] ≡ rows ++ rows_here s us a (take i us) u
-unfolding row
-own_row s us a i u v rows k z n o c e f own kind moved sum cancel known =
-    let same : Some v ≡ Some u = sym e ∙ f in
-    let is : v ≡ u = cc in
-    let near : i < length us = slice_get_within us i v e in
-    let position : i + 1 ≡ length (take i us) + 1 = omega (arith, length-take-le i us (omega arith)) in
-    let after : take (i + 1) us ≡ take i us ++ v ∷ [] = Moves.one_more us i v e in
-    let change : z ≡ bal s (take i us ++ v ∷ []) a +ℤ neg_ℤ (bal s (take i us) a) = moved ∙ ap (λ ws. bal s ws a +ℤ neg_ℤ (bal s (take i us) a)) after in
-    let cancelled : c ≡ is_cancelled us v.name = known ∙ ap is_some (cancel ∙ ap (option_and_then (λ (w : Shadow). first_cancel_in us w.name)) (entry_here us i ∙ e)) ∙ any (is_cancelled us v.name) in
-    let balance : n ≡ cents (bal s (take i us ++ v ∷ []) a) = ap cents (sum ∙ ap (λ ws. bal s ws a) after) in
-    let made : row v (i + 1) k z c n ≡ row_of s us a (take i us) v =
-    ap (λ p. row v p k z c n) position ∙ ap (λ l. row v (length (take i us) + 1) l z c n) kind ∙ ap (λ m. row v (length (take i us) + 1) (label_of v.kind) m c n) change
-    ∙ ap (λ b. row v (length (take i us) + 1) (label_of v.kind) (bal s (take i us ++ v ∷ []) a +ℤ neg_ℤ (bal s (take i us) a)) b n) cancelled
-    ∙ ap (λ m. row v (length (take i us) + 1) (label_of v.kind) (bal s (take i us ++ v ∷ []) a +ℤ neg_ℤ (bal s (take i us) a)) (is_cancelled us v.name) m) balance in
-    ap (λ r. rows ++ r) (ap (λ (r : Row). r ∷ []) made ∙ sym (one (v.account.0 == a.0) own) ∙ ap (λ (w : Shadow). rows_here s us a (take i us) w) is)
+rows_next : (s : Settings) (us : List Shadow) (a : Place) (i : ℕ) (u : Shadow) → slice_get us i ≡ Some u → rows_of s us a [] (take (i + 1) us) ≡ rows_of s us a [] (take i us) ++ rows_here s us a (take i us) u
+rows_next s us a i u there = ap (rows_of s us a []) (Moves.one_more us i u there) ∙ rows_push s us a [] (take i us) u
+
+-- operations on other accounts add none
+unshown : (s : Settings) (us : List Shadow) (a : Place) (p d : ℕ) → p + d ≤ length us → IsNoneAfter (take (p + d) us) a p → rows_of s us a [] (take (p + d) us) ≡ rows_of s us a [] (take p us)
+unshown s us a p zero low none = ap (λ n. rows_of s us a [] (take n us)) (let z : p + 0 ≡ p = omega arith in z)
+unshown s us a p (suc d) low none =
+    let (u, there) = ChainFacts.element us (p + d) (omega arith) in
+    let next : p + suc d ≡ (p + d) + 1 = omega arith in
+    let apart : u.account.0 ≡ a.0 → ⊥ = (λ own. omega (arith, none (p + d) u (IndexLists.get_taken (p + suc d) us (p + d) (omega arith) ∙ there) own)) in
+    let front : List Row = rows_of s us a [] (take (p + d) us) in
+    ap (λ n. rows_of s us a [] (take n us)) next ∙ rows_next s us a (p + d) u there
+    ∙ ap (λ b. front ++ cond b (row_of s us a (take (p + d) us) u ∷ []) []) (off_account (take (p + d) us) u a apart) ∙ append-nil front
+    ∙ unshown s us a p d (omega arith) (λ i v e own. let (near, here) = IndexLists.get_take (p + d) us i v e in none i v (IndexLists.get_taken (p + suc d) us i (omega arith) ∙ here) own)
+
+-- so they are those up to the last operation on the account
+last_rows : (s : Settings) (us : List Shadow) (a : Place) (n p : ℕ) → n ≤ length us → IsLast (take n us) a p → rows_of s us a [] (take n us) ≡ rows_of s us a [] (take p us)
+last_rows s us a n p low last =
+    let within : p ≤ n = ChainFacts.on_taken_within us n a p last.on in
+    let split : p + (n - p) ≡ n = omega arith in
+    ap (λ k. rows_of s us a [] (take k us)) (sym split) ∙ unshown s us a p (n - p) (omega arith) (subst (λ k. IsNoneAfter (take k us) a p) (sym split) last.after)
+
+-- the last row is made of what is looked up
+pub own_row : (s : Settings) (us : List Shadow) (a : Place) (p : ℕ) (u : Shadow) (k : Label) (z : ℤ) (o : Option ℕ) (c : Bool) (n : ℕ) → 0 < p → slice_get us (p - 1) ≡ Some u → u.account.0 ≡ a.0 → k ≡ label_of u.kind
+    → z ≡ bal s (take p us) a +ℤ neg_ℤ (bal s (take (p - 1) us) a) → o ≡ option_and_then (λ (w : Shadow). first_cancel_in us w.name) (entry_at us p) → c ≡ is_some o → pos n ≡ bal s (take p us) a
+    → rows_of s us a [] (take p us) ≡ rows_of s us a [] (take (p - 1) us) ++ of_fields p u.name k z c n ∷ []
+own_row s us a p u k z o c n some there own kind moved cancel known sum =
+    let front : List Shadow = take (p - 1) us in
+    let here : p - 1 + 1 ≡ p = omega arith in
+    let after : take p us ≡ front ++ u ∷ [] = ap (λ m. take m us) (sym here) ∙ Moves.one_more us (p - 1) u there in
+    let near : p - 1 < length us = slice_get_within us (p - 1) u there in
+    let position : p ≡ length front + 1 = omega (arith, length-take-le (p - 1) us (omega arith)) in
+    let change : z ≡ bal s (front ++ u ∷ []) a +ℤ neg_ℤ (bal s front a) = moved ∙ ap (λ ws. bal s ws a +ℤ neg_ℤ (bal s front a)) after in
+    let cancelled : c ≡ is_cancelled us u.name = known ∙ ap is_some (cancel ∙ ap (option_and_then (λ (w : Shadow). first_cancel_in us w.name)) (entry_here us p some ∙ there)) ∙ any (is_cancelled us u.name) in
+    let balance : n ≡ cents (bal s (front ++ u ∷ []) a) = ap cents (sum ∙ ap (λ ws. bal s ws a) after) in
+    let made : of_fields p u.name k z c n ≡ row_of s us a front u = same_fields _ _ _ _ _ _ _ _ _ _ _ _ position refl kind change cancelled balance in
+    ap (rows_of s us a []) after ∙ rows_push s us a [] front u
+    ∙ ap (λ b. rows_of s us a [] front ++ cond b (row_of s us a front u ∷ []) []) (on_account front u a own)
+    ∙ ap (λ (r : Row). rows_of s us a [] front ++ r ∷ []) (sym made)
   where
-    one : (b : Bool) → not b ≡ false → cond (b || false) (row_of s us a (take i us) v ∷ []) [] ≡ row_of s us a (take i us) v ∷ []
-    one true own = refl
-    one false own = cc
-
-    any : (b : Bool) → is_some (cond b (Some (first_cancel_from 1 us v.name)) None) ≡ b
+    any : (b : Bool) → is_some (cond b (Some (first_cancel_from 1 us u.name)) None) ≡ b
     any true = refl
     any false = refl
+
+-- ---- back along the account
+
+-- what an operation moved is no more than what there was after it
+pub covered : (s : Settings) (us : List Shadow) (a : Place) (p n : ℕ) (z : ℤ) → IsValid s us → pos n ≡ bal s (take p us) a +ℤ z → z ≤ℤ pos n
+covered s us a p n z valid sum =
+    let low : pos 0 ≤ℤ bal s (take p us) a = valid.covered (take p us) (drop p us) (sym (take-append-drop p us)) a in
+    omega (arith, ints, low, sum)
+
+-- at its last operation the balance is the whole one
+pub bal_start : (s : Settings) (us : List Shadow) (a : Place) (p : ℕ) → IsValid s us → IsLast us a p → bal s us a ≡ bal s (take p us) a
+bal_start s us a p valid last =
+    ap (λ vs. bal s vs a) (sym (take-length us)) ∙ ChainFacts.last_balance s us a (length us) p valid (omega arith) (subst (λ vs. IsLast vs a p) (sym (take-length us)) last)
+
+-- at its last operation no row is found yet
+pub rows_start : (s : Settings) (us : List Shadow) (a : Place) (p : ℕ) (rows : List Row) → IsLast us a p → rows ≡ [] → rows_of s us a [] us ≡ rows_of s us a [] (take p us) ++ reverse rows
+rows_start s us a p rows last none =
+    ap (rows_of s us a []) (sym (take-length us)) ∙ last_rows s us a (length us) p (omega arith) (subst (λ vs. IsLast vs a p) (sym (take-length us)) last)
+    ∙ sym (append-nil (rows_of s us a [] (take p us))) ∙ ap (λ (xs : List Row). rows_of s us a [] (take p us) ++ reverse xs) (sym none)
+
+-- before its first all are
+pub rows_end : (s : Settings) (us : List Shadow) (a : Place) (p : ℕ) (rows : List Row) → p ≤ 0 → rows_of s us a [] us ≡ rows_of s us a [] (take p us) ++ reverse rows → rows_of s us a [] us ≡ reverse rows
+rows_end s us a p rows low found = found ∙ ap (λ k. rows_of s us a [] (take k us) ++ reverse rows) (let none : p ≡ 0 = omega arith in none)
+
+-- from an operation to the one before, with the rows found so far in reverse
+pub rows_back : (s : Settings) (us : List Shadow) (a : Place) (p q : ℕ) (row : Row) (rows now : List Row) → p ≤ length us → IsLast (take (p - 1) us) a q → rows_of s us a [] us ≡ rows_of s us a [] (take p us) ++ reverse rows
+    → rows_of s us a [] (take p us) ≡ rows_of s us a [] (take (p - 1) us) ++ row ∷ [] → now ≡ rows ++ row ∷ [] → rows_of s us a [] us ≡ rows_of s us a [] (take q us) ++ reverse now
+rows_back s us a p q row rows now low last before own added =
+    let front : List Row = rows_of s us a [] (take q us) in
+    let here : rows_of s us a [] (take p us) ≡ front ++ row ∷ [] = own ∙ ap (λ xs. xs ++ row ∷ []) (last_rows s us a (p - 1) q (omega arith) last) in
+    before ∙ ap (λ xs. xs ++ reverse rows) here ∙ append_assoc front (row ∷ []) (reverse rows) ∙ ap (λ xs. front ++ xs) (sym (reverse-append rows (row ∷ [])) ∙ ap reverse (sym added))
+
+-- and the balance, with what the operation moved taken off
+pub bal_back : (s : Settings) (us : List Shadow) (a : Place) (p q n m : ℕ) (z : ℤ) → IsValid s us → p ≤ length us → IsLast (take (p - 1) us) a q → pos n ≡ bal s (take (p - 1) us) a +ℤ z → pos n ≡ pos m +ℤ z → pos m ≡ bal s (take q us) a
+bal_back s us a p q n m z valid low last after before = omega (arith, ints, ChainFacts.last_balance s us a (p - 1) q valid (omega arith) last, after, before)
+
+-- ---- the whole statement
 
 whole : ℕ → List Row → ℕ → Statement
 whole start rows balance = record { start = start; rows = rows; balance = balance }
@@ -108,8 +173,3 @@ whole start rows balance = record { start = start; rows = rows; balance = balanc
 pub shown : (s : Settings) (us : List Shadow) (a : Place) (start balance : ℕ) (rows : List Row) → start ≡ start_of s a → rows ≡ rows_of s us a [] us → pos balance ≡ bal s us a → record { start = start; rows = rows; balance = balance } ≡ statement_of s us a
 unfolding whole statement_of
 shown s us a start balance rows e f g = ap (λ n. whole n rows balance) e ∙ ap (λ r. whole (start_of s a) r balance) f ∙ ap (λ z. whole (start_of s a) (rows_of s us a [] us) (cents z)) g
-
--- no operation has moved anything at the start
-pub bal-none : (s : Settings) (a : Place) → bal s [] a ≡ pos (start_of s a)
-unfolding bal
-bal-none s a = omega (arith, ints)

@@ -90,6 +90,37 @@ fn interest_stays(rt: HostRuntime) -> Result<(), Fail> {
 }
 
 #[test]
+fn entries_between_one_another(rt: HostRuntime) -> Result<(), Fail> {
+    let mut ledger = opened(rt.alloc())?;
+    let cancel = Kind::Cancel { target: blue(1) };
+    for shadow in [
+        operation(blue(1), 0, BOB, 500, Kind::Deposit),
+        operation(blue(2), 1, ANN, 20, Kind::Deposit),
+        operation(blue(3), 2, BOB, 7, Kind::Interest),
+        operation(RED, 3, BOB, 500, cancel),
+        operation(blue(4), 3, ANN, 3, Kind::Interest),
+    ] {
+        apply(&rt, &mut ledger, shadow);
+    }
+    let shown = statement(rt.alloc(), &ledger, ANN).expect(&rt, "shown");
+    let rows = [
+        row(2, blue(2), Label::Deposit, 20, false, 1019),
+        row(5, blue(4), Label::Interest, 3, false, 1022),
+    ];
+    assert_eq!(rt; (shown.start, shown.balance), (999, 1022));
+    assert_eq!(rt; shown.rows.as_slice(), rows.as_slice());
+    let shown = statement(rt.alloc(), &ledger, BOB).expect(&rt, "shown");
+    let rows = [
+        row(1, blue(1), Label::Deposit, 500, true, 500),
+        row(3, blue(3), Label::Interest, 7, false, 507),
+        row(4, RED, Label::Cancel, -500, false, 7),
+    ];
+    assert_eq!(rt; (shown.start, shown.balance), (0, 7));
+    assert_eq!(rt; shown.rows.as_slice(), rows.as_slice());
+    Ok(())
+}
+
+#[test]
 fn unknown_account(rt: HostRuntime) -> Result<(), Fail> {
     let ledger = opened(rt.alloc())?;
     let shown = statement(rt.alloc(), &ledger, Place(2));

@@ -1,21 +1,42 @@
-use Rattle.std.proofs.Common.{ap, sym, ◌∙◌, arith, ◌<◌, length, ◌++◌, []}
-use Rattle.std.specs.Prelude.{pos}
-use Rattle.rb_statements.specs.Statements.{rows_of}
+use Rattle.std.proofs.Common.{ap, sym, ◌∙◌, subst, arith, rules, FitsSigned}
+use Rattle.std.specs.Prelude.{pos, negsuc, ◌+ℤ◌, ◌≤ℤ◌}
+use Rattle.std.specs.Int.{w64}
+use Rattle.std.proofs.lemmas.Int.{to_z-of_z}
+use Rattle.rb_ledger.proofs.ChainFacts
 use Rattle.rb_statements.proofs.Steps
 use Rattle.rb_statements.proofs.views.rows.Goals as goal
 
-pub loop-index-init : goal.loop-index-init
-loop-index-init c = record {
-  rows = ap (λ rows. rows ++ rows_of c.args.ledger.now.settings c.args.ledger.now.entries c.args.place [] c.args.ledger.now.entries) (sym c.new-rows.ensures.items);
-  sum = ap pos c.requires.start ∙ sym (Steps.bal-none _ _);
-  bounded = c.requires.bounded;
-}
-
-pub loop-index-preserved : goal.loop-index-preserved
-loop-index-preserved c =
-    let near : c.loop-index.index < length c.args.ledger.now.entries = omega arith in
+pub loop-position-init : goal.loop-position-init
+loop-position-init c =
+    let last = c.last_on-position.ensures.last in
     record {
-      rows = Steps.rows_more _ _ _ _ _ _ near c.loop-index.invariant.rows c.in_ok-next.ensures.rows;
-      sum = c.in_ok-next.ensures.sum;
-      bounded = omega (arith, c.in_ok-next.ensures.bounded);
+      on = last.on;
+      rows = Steps.rows_start _ _ _ _ _ last c.new-rows.ensures.items;
+      sum = c.requires.sum ∙ Steps.bal_start _ _ _ _ c.config-valid.ensures.valid last;
+      bounded = omega (arith, c.requires.bounded, c.last_on-position.ensures.within);
     }
+
+pub before-balance-requires : goal.before-balance-requires
+before-balance-requires c =
+    let fits : FitsSigned w64 c.row_at-row.result.moved = search rules in
+    let same = sym (to_z-of_z w64 c.row_at-row.result.moved fits) in
+    record {
+      covered = subst (λ z. z ≤ℤ pos c.loop-position.balance) same (Steps.covered _ _ _ _ _ _ c.config-valid.ensures.valid c.row_at-row.ensures.moved);
+      least = subst (λ z. negsuc 99999999999 ≤ℤ z) same c.row_at-row.ensures.least;
+      bounded = omega (arith, c.loop-position.invariant.bounded);
+    }
+
+pub loop-position-preserved : goal.loop-position-preserved
+loop-position-preserved c =
+    let fits : FitsSigned w64 c.row_at-row.result.moved = search rules in
+    let low = ChainFacts.on_within _ _ _ c.loop-position.invariant.on in
+    let last = c.earlier-position.ensures.last in
+    record {
+      on = ChainFacts.on_taken _ _ c.args.place c.args.place _ (λ i. c.args.place.0) last.on;
+      rows = Steps.rows_back _ _ _ _ _ c.row_at-row.result _ _ low last c.loop-position.invariant.rows c.row_at-row.ensures.row c.in_ok-push.ensures.items;
+      sum = Steps.bal_back _ _ _ _ _ _ _ _ c.config-valid.ensures.valid low last c.row_at-row.ensures.moved (c.before-balance.ensures.sum ∙ ap (λ z. pos c.before-balance.result +ℤ z) (to_z-of_z w64 c.row_at-row.result.moved fits));
+      bounded = omega (arith, c.loop-position.invariant.bounded, c.before-balance.ensures.bounded, c.earlier-position.ensures.before);
+    }
+
+pub returns : goal.returns
+returns c = c.reverse.ensures.items ∙ sym (Steps.rows_end _ _ _ _ c.loop-position.rows.items c.loop-position-test.false c.loop-position.invariant.rows)
