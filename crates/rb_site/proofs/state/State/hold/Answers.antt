@@ -1,12 +1,16 @@
 -- A shadow is held as the model says.
 use Rattle.std.proofs.Common.{◌∙◌, ◌≤◌, Ok, Err, sym, ap, subst}
 use Rattle.rb_money.specs.Settings.{Settings, most_sites}
+use Rattle.rb_inbox.proofs.Sound.{sound_numbered}
 use Rattle.rb_inbox.specs.Held.{Holding}
 use Rattle.rb_shadow.specs.Sound.{IsSound}
 use Rattle.rb_site.specs.Events.{outcome_of_new}
 use Rattle.rb_site.specs.States.{SiteState}
 use Rattle.rb_site.proofs.Handlers.{AnswersAlone, already, holds, refused_put, state_as, tied_with}
 use Rattle.rb_site.proofs.state.State.hold.Goals as goal
+
+pub put-requires : goal.put-requires
+put-requires c = let P : SiteState → Type 0 = λ z. IsSound z.settings c.args.shadow in sound_numbered c.self.inside.journal.settings c.args.shadow (subst P (sym c.self.view_is) c.requires)
 
 pub invariant_of-self : goal.invariant_of-self
 invariant_of-self c =
