@@ -1,5 +1,5 @@
 -- The rows of the held operations, before and after a change.
-use Rattle.std.proofs.Common.{◌≡◌, ℕ, suc, zero, ◌+◌, ◌-◌, ◌<◌, ◌≤◌, Bool, true, false, cond, not, List, [], ◌∷◌, ◌++◌, length, set, replicate, refl, ap, sym, ◌∙◌, arith, ◌⊎◌, inl, inr, subst, get_or}
+use Rattle.std.proofs.Common.{◌≡◌, ℕ, ◌+◌, ◌-◌, ◌<◌, ◌≤◌, Bool, true, false, cond, not, List, [], ◌∷◌, ◌++◌, length, set, replicate, refl, ap, sym, ◌∙◌, arith, ◌⊎◌, inl, inr, subst, get_or}
 use Rattle.std.specs.Prelude.{Some, None, filter, insert, remove, nat_lt}
 use Rattle.std.proofs.lemmas.Bool.Decides.{nat_tests}
 use Rattle.std.proofs.lemmas.List.{get_or_default, get_or_past}
@@ -92,12 +92,13 @@ with_held-length v (u ∷ us) = at (stands_before v.name u.name) (with_held-leng
 pub after_put : (rows : List (List Shadow)) (count : ℕ) (v : Shadow) (r : ℕ) (row : List Shadow) → AreCounted rows count → IsNumbered v → find_in (held_of rows) v.name ≡ None
     → r ≡ row_of v.name → r < length rows → row ≡ insert (get_or rows r []) (place_in (get_or rows r []) v.name) v
     → AreCounted (set rows r row) (count + 1) × (held_of (set rows r row) ≡ with_held v (held_of rows))
-after_put rows count v r row h numbered new e l made =
-    (record {
-      each = rows-set rows 0 r r row (omega arith) h.each (subst (IsRow r) (sym is) (row-put r v (get_or rows r []) was e numbered none));
-      counted = omega (arith, h.counted, held-length rows r row l, ap length is, with_held-length v (get_or rows r []));
-    },
-    ap (λ us. held_of (set rows r us)) is ∙ held-change v.name (with_held v) (putting v) rows r e h.each l)
+after_put rows count v r row h numbered new e l made = (
+  record {
+    each = rows-set rows 0 r r row (omega arith) h.each (subst (IsRow r) (sym is) (row-put r v (get_or rows r []) was e numbered none));
+    counted = omega (arith, h.counted, held-length rows r row l, ap length is, with_held-length v (get_or rows r []));
+  },
+  ap (λ us. held_of (set rows r us)) is ∙ held-change v.name (with_held v) (putting v) rows r e h.each l,
+)
   where
     was : IsRow r (get_or rows r [])
     was = row_at rows 0 r r (omega arith) h.each
@@ -112,12 +113,13 @@ after_put rows count v r row h numbered new e l made =
 pub after_remove : (rows : List (List Shadow)) (count : ℕ) (x : OpName) (u : Shadow) (r : ℕ) (row : List Shadow) → AreCounted rows count → find_in (held_of rows) x ≡ Some u
     → r ≡ row_of x → row ≡ remove (get_or rows r []) (place_in (get_or rows r []) x)
     → AreCounted (set rows r row) (count - 1) × (held_of (set rows r row) ≡ without x (held_of rows))
-after_remove rows count x u r row h found e made =
-    (record {
-      each = rows-set rows 0 r r row (omega arith) h.each (subst (IsRow r) (sym is) (row-without r x (get_or rows r []) was));
-      counted = omega (arith, h.counted, held-length rows r row within, ap length made, length-remove (get_or rows r []) (place_in (get_or rows r []) x) (place_within rows x u r e h.each found));
-    },
-    ap (λ us. held_of (set rows r us)) is ∙ held-change x (without x) (removing x) rows r e h.each within)
+after_remove rows count x u r row h found e made = (
+  record {
+    each = rows-set rows 0 r r row (omega arith) h.each (subst (IsRow r) (sym is) (row-without r x (get_or rows r []) was));
+    counted = omega (arith, h.counted, held-length rows r row within, ap length made, length-remove (get_or rows r []) (place_in (get_or rows r []) x) (place_within rows x u r e h.each found));
+  },
+  ap (λ us. held_of (set rows r us)) is ∙ held-change x (without x) (removing x) rows r e h.each within,
+)
   where
     within : r < length rows
     within = row_within rows x u r e h.each found

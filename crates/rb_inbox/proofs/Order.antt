@@ -9,7 +9,6 @@ use Rattle.rb_shadow.specs.declared.op_name.OpName.{OpName}
 use Rattle.rb_shadow.specs.declared.op_name.OpName.TheVariants.{Blue, Red}
 use Rattle.rb_shadow.specs.declared.shadow.Shadow.{Shadow}
 use Rattle.rb_shadow.proofs.Members
-use Rattle.rb_shadow.proofs.Lookups
 use Rattle.rb_inbox.specs.Held.{Holding, IsInOrder, StandsBeforeAll, place_in, stands_before, with_held, without}
 
 pub before-trans : (x y z : OpName) → stands_before x y ≡ true → stands_before y z ≡ true → stands_before x z ≡ true
@@ -209,10 +208,6 @@ left_cases [] k d u h l a = absurd (omega arith)
 left_cases (w ∷ us) zero d u h l (inl e) = inl e
 left_cases (w ∷ us) zero d u h l (inr a) = inr (before_all-among w.name us u h.0 a)
 left_cases (w ∷ us) (suc k) d u h l a = left_cases us k d u h.1 (omega arith) a
-
--- what stands at a place is what is held under its name
-pub find-at : (held us : List Shadow) (i : ℕ) (d : Shadow) → us ≡ held → IsInOrder us → i < length us → find_in held (get_or us i d).name ≡ Some (get_or us i d)
-find-at held us i d e h l = ap (λ (ws : List Shadow). find_in ws (get_or us i d).name) (sym e) ∙ Among-find us (get_or us i d) h (Lookups.Among-index us i d l)
 
 -- what is among the rest, and isn't the first of it, is among what is left after that
 pub Among-more : (us : List Shadow) (i : ℕ) (d u : Shadow) → i < length us → Among u (drop i us) → (u ≡ get_or us i d → ⊥) → Among u (drop (i + 1) us)

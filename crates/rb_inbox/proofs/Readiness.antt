@@ -1,9 +1,8 @@
 -- What is ready in a row.
-use Rattle.std.proofs.Common.{◌≡◌, ℕ, suc, zero, ◌+◌, ◌<◌, ◌≤◌, Bool, true, false, cond, ◌&&◌, List, [], ◌∷◌, length, drop, refl, ap, sym, ◌∙◌, arith, ◌⊎◌, inl, inr, subst, get_or}
+use Rattle.std.proofs.Common.{◌≡◌, ℕ, suc, zero, ◌+◌, ◌<◌, Bool, true, false, cond, ◌&&◌, List, [], ◌∷◌, length, drop, refl, ap, sym, ◌∙◌, arith, ◌⊎◌, inl, inr, subst, get_or}
 use Rattle.std.specs.Prelude.{Some, filter, nat_le, slice_index}
 use Rattle.std.proofs.lemmas.Bool.Decides.{nat_tests}
-use Rattle.std.proofs.lemmas.List.{get_or_past}
-use Rattle.rb_shadow.specs.Operations.{Among, entry_of, find_in, names_of_clock, number_of, past}
+use Rattle.rb_shadow.specs.Operations.{Among, entry_of, find_in, number_of, past}
 use Rattle.rb_shadow.specs.declared.deps.Deps.{Deps}
 use Rattle.rb_shadow.specs.declared.op_name.OpName.{OpName}
 use Rattle.rb_shadow.specs.declared.op_name.OpName.TheVariants.{Blue, Red}
@@ -11,7 +10,7 @@ use Rattle.rb_shadow.specs.declared.shadow.Shadow.{Shadow}
 use Rattle.rb_shadow.proofs.Lookups.{Among-index}
 use Rattle.rb_inbox.specs.Held.{IsNumbered, IsReady, stands_before}
 use Rattle.rb_inbox.specs.Rows.{AreRows, IsRow, held_of, row_of}
-use Rattle.rb_inbox.proofs.Changes.{finds_at, row_within}
+use Rattle.rb_inbox.proofs.Changes.{finds_at}
 use Rattle.rb_inbox.proofs.Order.{Among-find, left_cases}
 use Rattle.rb_inbox.proofs.Rows.{is_of, is_of-yes, row_at, row_is}
 
@@ -44,7 +43,7 @@ none_from r us k d u c row within l a left ready = waits u c (row.numbered u a) 
     at (inl e) = subst (λ (w : Shadow). entry_of c w.name + 1 < number_of w.name) (sym e) l
     at (inr e) =
         let more : (number_of (get_or us k d).name < number_of u.name) × (entry_of c (get_or us k d).name ≡ entry_of c u.name) =
-            later_number (get_or us k d).name u.name c (row.placed (get_or us k d) (Among-index us k d within) ∙ sym (row.placed u a)) e in
+        later_number (get_or us k d).name u.name c (row.placed (get_or us k d) (Among-index us k d within) ∙ sym (row.placed u a)) e in
         omega arith
 
 -- what is held is in its name's row

@@ -1,15 +1,17 @@
 -- Lists of rows, and the operations that they hold.
-use Rattle.std.proofs.Common.{◌≡◌, ℕ, suc, zero, ◌+◌, ◌-◌, ◌<◌, ◌≤◌, Bool, true, false, cond, not, List, [], ◌∷◌, ◌++◌, length, set, replicate, refl, ap, sym, ◌∙◌, arith, ◌⊎◌, inl, inr, subst, get_or, append_assoc, append-nil, length-append}
-use Rattle.std.specs.Prelude.{◌==◌, Some, None, filter, nat_lt}
+use Rattle.std.proofs.Common.{◌≡◌, ℕ, suc, zero, ◌+◌, ◌<◌, ◌≤◌, Bool, true, false, cond, not, List, [], ◌∷◌, ◌++◌, length, set, replicate, refl, ap, sym, ◌∙◌, arith, ◌⊎◌, inl, inr, subst, get_or, append-nil, length-append}
+use Rattle.std.specs.Prelude.{◌==◌, Some, filter}
 use Rattle.std.specs.List.{flat_map}
 use Rattle.std.proofs.lemmas.Bool.Decides.{nat_tests}
 use Rattle.std.proofs.lemmas.List.Concat.{flat_map-append}
+use Rattle.std.proofs.lemmas.List.Elements.{filter-append, filter_agree}
 use Rattle.rb_shadow.specs.Operations.{Among, find_in, is_blue_of, is_red, same_name}
 use Rattle.rb_shadow.specs.declared.op_name.OpName.{OpName}
 use Rattle.rb_shadow.specs.declared.op_name.OpName.TheVariants.{Blue, Red}
 use Rattle.rb_shadow.specs.declared.shadow.Shadow.{Shadow}
 use Rattle.rb_shadow.proofs.Members
-use Rattle.rb_inbox.specs.Held.{StandsBeforeAll, stands_before, with_held, without}
+use Rattle.rb_shadow.specs.Sound.{is_foreign}
+use Rattle.rb_inbox.specs.Held.{IsNumbered, StandsBeforeAll, stands_before, with_held, without}
 use Rattle.rb_inbox.specs.Rows.{AreRows, IsRow, held_of, row_of}
 use Rattle.rb_inbox.proofs.Order.{before-not_same, before-one_way, before_all-without}
 
@@ -77,14 +79,6 @@ held-more (reds ∷ blues) n =
 
 -- ---- the row at a place is what is held of that row
 
-filter_append : (p : Shadow → Bool) (us vs : List Shadow) → filter p (us ++ vs) ≡ filter p us ++ filter p vs
-filter_append p [] vs = refl
-filter_append p (u ∷ us) vs = at (p u) (filter_append p us vs)
-  where
-    at : (b : Bool) → filter p (us ++ vs) ≡ filter p us ++ filter p vs → cond b (u ∷ filter p (us ++ vs)) (filter p (us ++ vs)) ≡ cond b (u ∷ filter p us) (filter p us) ++ filter p vs
-    at true e = ap (λ ws. u ∷ ws) e
-    at false e = e
-
 filter_all : (p : Shadow → Bool) (us : List Shadow) → ((u : Shadow) → Among u us → p u ≡ true) → filter p us ≡ us
 filter_all p [] h = refl
 filter_all p (u ∷ us) h = ap (λ b. cond b (u ∷ filter p us) (filter p us)) (h u (inl refl)) ∙ ap (λ ws. u ∷ ws) (filter_all p us (λ v a. h v (inr a)))
@@ -106,12 +100,12 @@ is_of-no r u e = grind (arith, nat_tests)
 row_of_joined : (rows : List (List Shadow)) (s k : ℕ) → AreRows s rows → filter (is_of (s + k)) (joined rows) ≡ get_or rows k []
 row_of_joined [] s k h = refl
 row_of_joined (us ∷ rows) s zero h =
-    filter_append (is_of (s + 0)) us (joined rows)
+    filter-append (is_of (s + 0)) us (joined rows)
     ∙ ap (λ vs. vs ++ filter (is_of (s + 0)) (joined rows)) (filter_all (is_of (s + 0)) us (λ u a. is_of-yes (s + 0) u (let e : row_of u.name ≡ s = h.0.placed u a in omega arith)))
     ∙ ap (λ vs. us ++ vs) (filter_none (is_of (s + 0)) (joined rows) (λ u a. is_of-no (s + 0) u (let l : suc s ≤ row_of u.name = joined_from rows (suc s) u h.1 a in λ e. omega arith)))
     ∙ append-nil us
 row_of_joined (us ∷ rows) s (suc k) h =
-    filter_append (is_of (s + suc k)) us (joined rows)
+    filter-append (is_of (s + suc k)) us (joined rows)
     ∙ ap (λ vs. vs ++ filter (is_of (s + suc k)) (joined rows)) (filter_none (is_of (s + suc k)) us (λ u a. is_of-no (s + suc k) u (let e : row_of u.name ≡ s = h.0.placed u a in λ q. omega arith)))
     ∙ ap (λ (r : ℕ). filter (is_of r) (joined rows)) (let e : s + suc k ≡ suc s + k = omega arith in e)
     ∙ row_of_joined rows (suc s) k h.1
@@ -119,29 +113,40 @@ row_of_joined (us ∷ rows) s (suc k) h =
 pub row_is : (rows : List (List Shadow)) (r : ℕ) → AreRows 0 rows → get_or rows r [] ≡ filter (is_of r) (held_of rows)
 row_is [] r h = refl
 row_is (reds ∷ blues) zero h =
-    sym (filter_append (is_of 0) (joined blues) reds
+    sym (filter-append (is_of 0) (joined blues) reds
     ∙ ap (λ vs. vs ++ filter (is_of 0) reds) (filter_none (is_of 0) (joined blues) (λ u a. is_of-no 0 u (let l : 1 ≤ row_of u.name = joined_from blues 1 u h.1 a in λ e. omega arith)))
     ∙ filter_all (is_of 0) reds (λ u a. is_of-yes 0 u (h.0.placed u a)))
 row_is (reds ∷ blues) (suc k) h =
-    sym (filter_append (is_of (suc k)) (joined blues) reds
+    sym (filter-append (is_of (suc k)) (joined blues) reds
     ∙ ap (λ vs. filter (is_of (suc k)) (joined blues) ++ vs) (filter_none (is_of (suc k)) reds (λ u a. is_of-no (suc k) u (let e : row_of u.name ≡ 0 = h.0.placed u a in λ q. omega arith)))
     ∙ append-nil (filter (is_of (suc k)) (joined blues))
     ∙ ap (λ (r : ℕ). filter (is_of r) (joined blues)) (let e : suc k ≡ 1 + k = omega arith in e)
     ∙ row_of_joined blues 1 k h.1)
 
-filter_same : (p q : Shadow → Bool) → ((u : Shadow) → p u ≡ q u) → (us : List Shadow) → filter p us ≡ filter q us
-filter_same p q h [] = refl
-filter_same p q h (u ∷ us) = ap (λ b. cond b (u ∷ filter p us) (filter p us)) (h u) ∙ ap (λ ws. cond (q u) (u ∷ ws) ws) (filter_same p q h us)
-
 pub blue_of : (i : ℕ) (us : List Shadow) → filter (is_of (i + 1)) us ≡ filter (λ u. is_blue_of u.name i) us
-blue_of i us = filter_same (is_of (i + 1)) (λ u. is_blue_of u.name i) (λ u. at u.name) us
+blue_of i us = filter_agree (is_of (i + 1)) (λ u. is_blue_of u.name i) (λ u. at u.name) us
   where
     at : (x : OpName) → (row_of x == i + 1) ≡ is_blue_of x i
     at (Blue j n) = grind (arith, nat_tests)
     at (Red n) = grind (arith, nat_tests)
 
+-- and what is held under a site's names was made there
+pub of_home : (i : ℕ) (us : List Shadow) (u : Shadow) → Among u (filter (λ u. is_blue_of u.name i) us) → IsNumbered u → u.home ≡ i
+of_home i [] u a n = elim a [ ]
+of_home i (v ∷ us) u a n = at (is_blue_of v.name i) refl a (λ k. of_home i us u k n)
+  where
+    by : (x : OpName) (home : ℕ) → is_blue_of x i ≡ true → is_foreign x home ≡ false → home ≡ i
+    by (Blue j m) home e q = grind (arith, nat_tests)
+    by (Red m) home e q = absurd (cc)
+
+    at : (b : Bool) → is_blue_of v.name i ≡ b → Among u (cond b (v ∷ filter (λ u. is_blue_of u.name i) us) (filter (λ u. is_blue_of u.name i) us))
+        → (Among u (filter (λ u. is_blue_of u.name i) us) → u.home ≡ i) → u.home ≡ i
+    at true q (inl e) rest = by u.name u.home (ap (λ (w : Shadow). is_blue_of w.name i) e ∙ q) n.home
+    at true q (inr k) rest = rest k
+    at false q k rest = rest k
+
 pub red_of : (us : List Shadow) → filter (is_of 0) us ≡ filter (λ u. is_red u.name) us
-red_of us = filter_same (is_of 0) (λ u. is_red u.name) (λ u. at u.name) us
+red_of us = filter_agree (is_of 0) (λ u. is_red u.name) (λ u. at u.name) us
   where
     at : (x : OpName) → (row_of x == 0) ≡ is_red x
     at (Blue j n) = grind (arith, nat_tests)
@@ -187,16 +192,13 @@ putting v = record { later = later; sooner = sooner }
 pub removing : (x : OpName) → IsChangeAt x (without x)
 removing x = record { later = later; sooner = sooner }
   where
-    kept : Shadow → Bool
-    kept u = not (same_name u.name x)
-
     later : (us vs : List Shadow) → ((u : Shadow) → Among u us → stands_before u.name x ≡ true) → without x (us ++ vs) ≡ us ++ without x vs
     later us vs h =
-        filter_append (λ u. not (same_name u.name x)) us vs
+        filter-append (λ u. not (same_name u.name x)) us vs
         ∙ ap (λ ws. ws ++ without x vs) (filter_all (λ u. not (same_name u.name x)) us (λ u a. ap not (before-not_same u.name x (h u a))))
 
     sooner : (us vs : List Shadow) → ((u : Shadow) → Among u vs → stands_before x u.name ≡ true) → without x (us ++ vs) ≡ without x us ++ vs
-    sooner us vs h = filter_append (λ u. not (same_name u.name x)) us vs ∙ ap (λ ws. without x us ++ ws) (before_all-without x vs (before_all x vs h))
+    sooner us vs h = filter-append (λ u. not (same_name u.name x)) us vs ∙ ap (λ ws. without x us ++ ws) (before_all-without x vs (before_all x vs h))
 
 joined-change : (x : OpName) (f : List Shadow → List Shadow) → IsChangeAt x f → (rows : List (List Shadow)) (s k : ℕ) → 1 ≤ s → AreRows s rows → row_of x ≡ s + k → k < length rows
     → joined (set rows k (f (get_or rows k []))) ≡ f (joined rows)

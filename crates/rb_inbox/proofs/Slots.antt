@@ -1,7 +1,7 @@
 -- Lists behind slots that are free.
-use Rattle.std.proofs.Common.{◌≡◌, ℕ, suc, zero, ◌+◌, ◌-◌, ◌*◌, ◌≤◌, List, [], ◌∷◌, ◌++◌, length, take, drop, replicate, refl, ap, sym, ◌∙◌, arith}
+use Rattle.std.proofs.Common.{◌≡◌, ℕ, suc, zero, ◌+◌, ◌-◌, ◌*◌, ◌≤◌, List, [], ◌∷◌, ◌++◌, length, take, drop, replicate, refl, ap, ◌∙◌, arith}
 use Rattle.std.specs.Prelude.{insert, remove}
-use Rattle.std.proofs.Math.Seq.{drop-append_seam}
+use Rattle.std.proofs.Math.Seq.{drop-append_seam, take-append_seam}
 use Rattle.std.proofs.lemmas.List.{take_all}
 use Rattle.rb_shadow.specs.declared.shadow.Shadow.{Shadow}
 
@@ -31,17 +31,13 @@ drop-copies : (n : ℕ) (v : Shadow) (us : List Shadow) → drop n (replicate (s
 drop-copies zero v us = refl
 drop-copies (suc n) v us = drop-copies n v us
 
-take-front : (us vs : List Shadow) → take (length us) (us ++ vs) ≡ us
-take-front [] vs = refl
-take-front (u ∷ us) vs = ap (λ ws. u ∷ ws) (take-front us vs)
-
 -- copies of an operation, one more than a list has operations, are added at its end and then turned to its front: the last of them is the operation, behind free slots
 pub front_made : (us more turned : List Shadow) (n m k : ℕ) (v : Shadow) → n ≡ length us → m ≡ n → k ≡ n
     → more ≡ take (2 * n + 1) us ++ replicate (2 * n + 1 - k) v → turned ≡ drop m more ++ take m more → drop n turned ≡ v ∷ us
 front_made us more turned n m k v count same whole grown round =
     ap (drop n) (round ∙ ap (λ k. drop k more ++ take k more) (same ∙ count) ∙ ap (λ ws. drop (length us) ws ++ take (length us) ws) all
     ∙ ap (λ ws. ws ++ take (length us) (us ++ replicate (suc n) v)) (drop-append_seam us (replicate (suc n) v))
-    ∙ ap (λ ws. replicate (suc n) v ++ ws) (take-front us (replicate (suc n) v)))
+    ∙ ap (λ ws. replicate (suc n) v ++ ws) (take-append_seam us (replicate (suc n) v)))
     ∙ drop-copies n v us
   where
     all : more ≡ us ++ replicate (suc n) v

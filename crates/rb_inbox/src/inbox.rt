@@ -51,6 +51,8 @@ impl Inbox {
 
     /// Holds a shadow. One that is ready at the clock is held however many are held.
     ///
+    /// A sound shadow meets the condition.
+    ///
     /// Errors: `Conflict` where another shadow is held under its name; `InboxFull` where the limit is
     /// reached and it isn't ready; `OutOfMemory`. Each leaves the inbox as it was.
     pub fn put(&mut self, shadow: Shadow, clock: &Clock) -> Result<PutAnswer, Refusal>
@@ -82,7 +84,7 @@ impl Inbox {
         }
     }
 
-    /// Holds a shadow that is new.
+    /// Holds a shadow whose name is held by no other.
     fn hold(&mut self, shadow: Shadow) -> Result<(), AllocError>
         requires new { find_in self.old.held shadow.name ≡ None }
         requires numbered { IsNumbered shadow }
@@ -185,6 +187,7 @@ impl Inbox {
     pub fn blue_row(&self, site: u8) -> &[Shadow]
         ensures held { result.now ≡ filter (λ u. is_blue_of u.name site) self.now.held }
         ensures in_order { IsInOrder result.now }
+        ensures homes { (u : Shadow) → Among u result.now → u.home ≡ site }
     {
         self.row(usize::from(site) + 1)
     }
@@ -197,9 +200,11 @@ impl Inbox {
         self.row(0)
     }
 
+    /// The row at a place: the red one at 0, and then the blue ones by site.
     fn row(&self, place: usize) -> &[Shadow]
         ensures held { result.now ≡ filter (λ u. row_of u.name == place) self.now.held }
         ensures in_order { IsInOrder result.now }
+        ensures numbered { (u : Shadow) → Among u result.now → IsNumbered u }
     {
         match self.rows.get(place) {
             Some(row) => row.as_slice(),
@@ -229,8 +234,8 @@ fn add_rows(rows: &mut Vec<Row>, count: usize, alloc: Global) -> Result<(), Allo
     Ok(())
 }
 
-/// The name of a shadow of the row that is ready, if there is one: a ready one's number is at most the
-/// next after the clock's entry.
+/// The name of a shadow of the row that is ready, if there is one. It is looked for up to the number
+/// after the clock's entry: from there on none is ready.
 fn ready_in(row: &[Shadow], clock: &Clock) -> Option<OpName>
     requires { (r : ℕ) × IsRow r row.now }
     ensures some { IfSome result (λ name. (u : Shadow) × Among u row.now × (u.name ≡ name) × IsReady clock.now u) }

@@ -5,7 +5,9 @@ use rb_shadow::Shadow;
 use std::alloc::{AllocError, Global};
 use std::marker::Model;
 
-/// Shadows in a row, behind free slots: one is put in or taken out at either end at once, as a rule.
+/// Shadows in a row, behind free slots. To put one in or take one out at either end moves no other,
+/// but where slots are made or given up: so many are then, that it is a constant number of moves each
+/// in the long run.
 #[derive(Drop)]
 pub struct Row {
     slots: Vec<Shadow>,
@@ -54,7 +56,8 @@ impl Row {
         Ok(())
     }
 
-    /// Puts a shadow in before all others. Where no slot is free, as many are made as there are shadows.
+    /// Puts a shadow in before all others. Where no slot is free, as many are made as there are shadows,
+    /// each with a copy of the new one: the last of them is its own.
     fn insert_first(&mut self, shadow: Shadow) -> Result<(), AllocError>
         ensures ok { OnOk result (self.new ≡ insert self.old 0 shadow) }
         ensures err { OnErr result (self.new ≡ self.old) }

@@ -117,15 +117,15 @@ fn backwards_and_in_order(rt: HostRuntime) -> Result<(), Fail> {
         put_new(&rt, &mut inbox, &clock, withdrawal(n));
         put_new(&rt, &mut inbox, &clock, deposit(n));
     }
-    let mut ones = Vec::new(rt.alloc());
+    let mut firsts = Vec::new(rt.alloc());
     let mut others = Vec::new(rt.alloc());
     let mut reds = Vec::new(rt.alloc());
     for n in 1..=40 {
-        ones.push(deposit(n))?;
+        firsts.push(deposit(n))?;
         others.push(other_deposit(n))?;
         reds.push(withdrawal(n))?;
     }
-    assert_eq!(rt; inbox.blue_row(0), ones.as_slice());
+    assert_eq!(rt; inbox.blue_row(0), firsts.as_slice());
     assert_eq!(rt; inbox.blue_row(3), others.as_slice());
     assert_eq!(rt; inbox.red_row(), reds.as_slice());
     assert_eq!(rt; inbox.blue_row(1).len(), 0);

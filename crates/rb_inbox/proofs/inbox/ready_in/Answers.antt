@@ -1,6 +1,6 @@
-use Rattle.std.proofs.Common.{rules, arith, ◌<◌, ◌+◌, ◌≡◌, ◌∙◌, ap, sym, subst, refl, get_or}
+use Rattle.std.proofs.Common.{rules, arith, ◌≡◌, ◌∙◌, ap, subst, refl, get_or}
 use Rattle.std.proofs.lemmas.List.{get_or_default}
-use Rattle.rb_shadow.specs.Operations.{past, Among, entry_of, number_of}
+use Rattle.rb_shadow.specs.Operations.{past, entry_of, number_of}
 use Rattle.rb_shadow.specs.declared.deps.Deps.{Deps}
 use Rattle.rb_shadow.specs.declared.shadow.Shadow.{Shadow}
 use Rattle.rb_shadow.proofs.Lookups.{Among-index}
@@ -12,10 +12,10 @@ use Rattle.rb_inbox.proofs.inbox.ready_in.Goals as goal
 pub returns-then-number-saturating_add-clause-none : goal.returns-then-number-saturating_add-clause-none
 returns-then-number-saturating_add-clause-none c = λ u a r.
     let high : c.number.result ≡ number_of (get_or c.args.row.now c.loop-shadow.shadow-index u).name =
-        c.number.ensures ∙ ap (λ (w : Shadow). number_of w.name) (get_or_default c.args.row.now c.loop-shadow.shadow-index _ u c.loop-shadow-test.true) in
+    c.number.ensures ∙ ap (λ (w : Shadow). number_of w.name) (get_or_default c.args.row.now c.loop-shadow.shadow-index _ u c.loop-shadow-test.true) in
     let low : c.entry.result ≡ entry_of c.args.clock.now (get_or c.args.row.now c.loop-shadow.shadow-index u).name =
-        c.entry.ensures ∙ ap (λ (w : Shadow). entry_of c.deps-entries.result w.name) (get_or_default c.args.row.now c.loop-shadow.shadow-index _ u c.loop-shadow-test.true)
-        ∙ ap (λ (d : Deps). entry_of d (get_or c.args.row.now c.loop-shadow.shadow-index u).name) c.deps-entries.ensures in
+    c.entry.ensures ∙ ap (λ (w : Shadow). entry_of c.deps-entries.result w.name) (get_or_default c.args.row.now c.loop-shadow.shadow-index _ u c.loop-shadow-test.true)
+    ∙ ap (λ (d : Deps). entry_of d (get_or c.args.row.now c.loop-shadow.shadow-index u).name) c.deps-entries.ensures in
     none_from c.requires.0 c.args.row.now c.loop-shadow.shadow-index u u c.args.clock.now c.requires.1 (omega arith) (omega arith) a (c.loop-shadow.invariant u a r) r
 
 pub returns-then-at_least-clause-some : goal.returns-then-at_least-clause-some

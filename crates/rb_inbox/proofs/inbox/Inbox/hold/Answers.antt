@@ -53,12 +53,12 @@ with_it c =
     let within : row < length rows = omega (arith, c.in_ok-add_rows.ensures.ok) in
     let same = grown_holds c.self.inside.rows.items rows _ c.add_rows.ensures.rows.1 in
     let new : find_in (held_of rows) c.args.shadow.name ≡ None =
-        ap (λ (us : List Shadow). find_in us c.args.shadow.name) same ∙ ap (λ (b : Holding). find_in b.held c.args.shadow.name) c.self.view_is ∙ c.requires.new in
+    ap (λ (us : List Shadow). find_in us c.args.shadow.name) same ∙ ap (λ (b : Holding). find_in b.held c.args.shadow.name) c.self.view_is ∙ c.requires.new in
     let put = after_put rows c.self.inside.count c.args.shadow row c.insert.new.self (grown c.self.inside.rows.items rows c.self.inside.count _ c.add_rows.ensures.rows.1 c.self.invariant) c.requires.numbered new
-        c.row_place-row.ensures within
-        (changed_there (λ us place. insert us place c.args.shadow) c.insert.new.self c.index_mut.result.now c.as_slice.result.now (get_or rows row []) c.place_of-index.result c.args.shadow.name
-        c.in_ok-insert.ensures.ok (row_there rows row c.index_mut.result.now within c.index_mut.ensures.value) c.place_of-index.ensures.place
-        (c.as_slice.ensures ∙ row_there rows row c.index.result.now within c.index.ensures)) in
+    c.row_place-row.ensures within
+    (changed_there (λ us place. insert us place c.args.shadow) c.insert.new.self c.index_mut.result.now c.as_slice.result.now (get_or rows row []) c.place_of-index.result c.args.shadow.name
+    c.in_ok-insert.ensures.ok (row_there rows row c.index_mut.result.now within c.index_mut.ensures.value) c.place_of-index.ensures.place
+    (c.as_slice.ensures ∙ row_there rows row c.index.result.now within c.index.ensures)) in
     (put.0, put.1 ∙ ap (with_held c.args.shadow) same)
 
 pub invariant_of-self-2 : goal.invariant_of-self-2

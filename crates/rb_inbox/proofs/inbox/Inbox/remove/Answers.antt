@@ -1,6 +1,5 @@
-use Rattle.std.proofs.Common.{arith, ◌≡◌, ◌-◌, ◌<◌, ◌∙◌, ap, sym, subst, List, [], Some, get_or, length, set}
+use Rattle.std.proofs.Common.{arith, ◌≡◌, ◌-◌, ◌∙◌, ap, sym, subst, List, [], Some, get_or, length, set}
 use Rattle.std.specs.Prelude.{remove}
-use Rattle.rb_shadow.specs.Operations.{find_in}
 use Rattle.rb_shadow.specs.declared.shadow.Shadow.{Shadow}
 use Rattle.rb_inbox.specs.Held.{IsInOrder, place_in, without}
 use Rattle.rb_inbox.specs.Rows.{AreCounted, held_of}
@@ -37,7 +36,7 @@ remove-requires c =
     let found = found_inside c.self.inside.limit (held_of rows) c.args.self.now c.args.name.now (Some c.in-Some.field-0.now) c.self.view_is c.in-Some.ensures in
     let within = row_within rows c.args.name.now c.in-Some.field-0.now row c.row_place-row.ensures c.self.invariant.each found in
     let place : c.place_of-index.result ≡ place_in (get_or rows row []) c.args.name.now =
-        c.place_of-index.ensures.place ∙ ap (λ us. place_in us c.args.name.now) (c.as_slice.ensures ∙ row_there rows row c.index.result.now within c.index.ensures) in
+    c.place_of-index.ensures.place ∙ ap (λ us. place_in us c.args.name.now) (c.as_slice.ensures ∙ row_there rows row c.index.result.now within c.index.ensures) in
     let long = ap length (row_there rows row c.index_mut.result.now within c.index_mut.ensures.value) in
     omega (arith, place, long, place_within rows c.args.name.now c.in-Some.field-0.now row c.row_place-row.ensures c.self.invariant.each found)
 

@@ -1,6 +1,7 @@
 use Rattle.std.proofs.Common.{◌≡◌, ◌∙◌, ◌≤◌, [], ap, sym, subst, arith, get_or, length}
 use Rattle.std.specs.Prelude.{filter}
 use Rattle.std.proofs.lemmas.List.{get_or_past}
+use Rattle.rb_shadow.specs.Operations.{Among}
 use Rattle.rb_inbox.specs.Held.{Holding, IsInOrder}
 use Rattle.rb_inbox.proofs.Changes.{slice_there}
 use Rattle.rb_inbox.proofs.Rows.{is_of, row_at, row_is}
@@ -17,6 +18,9 @@ returns-in-Some-clause-held c =
 
 pub returns-in-Some-clause-in_order : goal.returns-in-Some-clause-in_order
 returns-in-Some-clause-in_order c = subst IsInOrder (sym (there c)) (row_at c.self.inside.rows.items 0 c.args.place c.args.place (omega arith) c.self.invariant.each).in_order
+
+pub returns-in-Some-clause-numbered : goal.returns-in-Some-clause-numbered
+returns-in-Some-clause-numbered c = λ u a. (row_at c.self.inside.rows.items 0 c.args.place c.args.place (omega arith) c.self.invariant.each).numbered u (subst (Among u) (there c) a)
 
 pub returns-in-None-clause-held : goal.returns-in-None-clause-held
 returns-in-None-clause-held c =

@@ -1,4 +1,4 @@
-use Rattle.std.proofs.Common.{◌≡◌, ◌∙◌, List, ap, arith, drop}
+use Rattle.std.proofs.Common.{◌∙◌, List, ap, arith, drop}
 use Rattle.std.specs.Prelude.{insert}
 use Rattle.rb_shadow.specs.declared.shadow.Shadow.{Shadow}
 use Rattle.rb_inbox.proofs.Slots.{insert_behind}
