@@ -49,11 +49,11 @@ pub has_entry : (us : List Shadow) (a : Place) (p : ℕ) (o : Option (Bor Shadow
 has_entry us a p None on some e = let (u, there) = entry_there us a p on some in let same : None ≡ Some u = e ∙ there in cc
 has_entry us a p (Some x) on some e = refl
 
+moved_here : (s : Settings) (us : List Shadow) (a : Place) (p : ℕ) → IsOn us a p → 0 < p → moved_at s us a p ≡ Some (bal s (take p us) a +ℤ neg_ℤ (bal s (take (p - 1) us) a))
+moved_here s us a p on some = let (u, there) = entry_there us a p on some in ap (option_map (λ (v : Shadow). bal s (take p us) a +ℤ neg_ℤ (bal s (take (p - 1) us) a))) there
+
 pub has_moved : (s : Settings) (us : List Shadow) (a : Place) (p : ℕ) (o : Option ℤ) → IsOn us a p → 0 < p → o ≡ moved_at s us a p → IsSome o
-has_moved s us a p None on some e =
-    let (u, there) = entry_there us a p on some in
-    let same : None ≡ Some (bal s (take p us) a +ℤ neg_ℤ (bal s (take (p - 1) us) a)) = e ∙ ap (option_map (λ (v : Shadow). bal s (take p us) a +ℤ neg_ℤ (bal s (take (p - 1) us) a))) there in
-    cc
+has_moved s us a p None on some e = let same : None ≡ Some (bal s (take p us) a +ℤ neg_ℤ (bal s (take (p - 1) us) a)) = e ∙ moved_here s us a p on some in cc
 has_moved s us a p (Some z) on some e = refl
 
 -- the operation that is found there
@@ -67,11 +67,7 @@ found_there us a p o x on some e is =
 
 -- what it moved
 pub moved_there : (s : Settings) (us : List Shadow) (a : Place) (p : ℕ) (o : Option ℤ) (z : ℤ) → IsOn us a p → 0 < p → o ≡ moved_at s us a p → o ≡ Some z → z ≡ bal s (take p us) a +ℤ neg_ℤ (bal s (take (p - 1) us) a)
-moved_there s us a p o z on some e is =
-    let (u, there) = entry_there us a p on some in
-    let same : Some z ≡ Some (bal s (take p us) a +ℤ neg_ℤ (bal s (take (p - 1) us) a)) =
-    sym is ∙ e ∙ ap (option_map (λ (v : Shadow). bal s (take p us) a +ℤ neg_ℤ (bal s (take (p - 1) us) a))) there in
-    cc
+moved_there s us a p o z on some e is = let same : Some z ≡ Some (bal s (take p us) a +ℤ neg_ℤ (bal s (take (p - 1) us) a)) = sym is ∙ e ∙ moved_here s us a p on some in cc
 
 -- ---- the rows of the first operations
 
@@ -137,18 +133,22 @@ covered s us a p n z valid sum =
     let low : pos 0 ≤ℤ bal s (take p us) a = valid.covered (take p us) (drop p us) (sym (take-append-drop p us)) a in
     omega (arith, ints, low, sum)
 
--- at its last operation the balance is the whole one
+-- the last operation of all is the last of the first so many
+last_whole : (us : List Shadow) (a : Place) (p : ℕ) → IsLast us a p → IsLast (take (length us) us) a p
+last_whole us a p last = subst (λ vs. IsLast vs a p) (sym (take-length us)) last
+
+-- at the last operation the balance is the whole one
 pub bal_start : (s : Settings) (us : List Shadow) (a : Place) (p : ℕ) → IsValid s us → IsLast us a p → bal s us a ≡ bal s (take p us) a
 bal_start s us a p valid last =
-    ap (λ vs. bal s vs a) (sym (take-length us)) ∙ ChainFacts.last_balance s us a (length us) p valid (omega arith) (subst (λ vs. IsLast vs a p) (sym (take-length us)) last)
+    ap (λ vs. bal s vs a) (sym (take-length us)) ∙ ChainFacts.last_balance s us a (length us) p valid (omega arith) (last_whole us a p last)
 
--- at its last operation no row is found yet
+-- no row is found yet
 pub rows_start : (s : Settings) (us : List Shadow) (a : Place) (p : ℕ) (rows : List Row) → IsLast us a p → rows ≡ [] → rows_of s us a [] us ≡ rows_of s us a [] (take p us) ++ reverse rows
 rows_start s us a p rows last none =
-    ap (rows_of s us a []) (sym (take-length us)) ∙ last_rows s us a (length us) p (omega arith) (subst (λ vs. IsLast vs a p) (sym (take-length us)) last)
+    ap (rows_of s us a []) (sym (take-length us)) ∙ last_rows s us a (length us) p (omega arith) (last_whole us a p last)
     ∙ sym (append-nil (rows_of s us a [] (take p us))) ∙ ap (λ (xs : List Row). rows_of s us a [] (take p us) ++ reverse xs) (sym none)
 
--- before its first all are
+-- before the first operation all are found
 pub rows_end : (s : Settings) (us : List Shadow) (a : Place) (p : ℕ) (rows : List Row) → p ≤ 0 → rows_of s us a [] us ≡ rows_of s us a [] (take p us) ++ reverse rows → rows_of s us a [] us ≡ reverse rows
 rows_end s us a p rows low found = found ∙ ap (λ k. rows_of s us a [] (take k us) ++ reverse rows) (let none : p ≡ 0 = omega arith in none)
 
