@@ -4,5 +4,5 @@ use Rattle.rb_ledger.proofs.ledger.Ledger.last_on.Goals as goal
 
 pub returns-in-None-clause-last : goal.returns-in-None-clause-last
 returns-in-None-clause-last c =
-    let index = Calls.seen _ _ _ _ _ _ _ _ _ c.self.invariant.index c.self.view_is in
+    let index = Calls.seen _ _ _ _ c.self.invariant.index c.self.view_is in
     Calls.last_absent c.args.self.now.settings c.args.self.now.entries _ c.args.place index.kept.valid index.heads (omega (arith, ap length c.deref.ensures.value, c.from.ensures, c.in-None.ensures.lookup.3))

@@ -1,0 +1,94 @@
+-- A ledger and its log as of a position, from one position to the next.
+use Rattle.std.proofs.Common.{◌≡◌, ℕ, ◌+◌, List, [], ◌∷◌, ◌++◌, length, take, drop, refl, ap, sym, ◌∙◌, subst, arith, Some}
+use Rattle.std.specs.Prelude.{slice_get}
+use Rattle.std.proofs.lemmas.List.{take_all, take-append-drop}
+use Rattle.std.proofs.lemmas.Option.{slice_get_within}
+use Rattle.rb_money.specs.Settings.{Settings}
+use Rattle.rb_shadow.specs.declared.shadow.Shadow.{Shadow}
+use Rattle.rb_undo.specs.declared.parts.UndoParts.{UndoParts}
+use Rattle.rb_undo.specs.Log.{Log}
+use Rattle.rb_ledger.specs.declared.marks.Link.{Link}
+use Rattle.rb_ledger.specs.declared.index.Index.{Index}
+use Rattle.rb_ledger.specs.Valid.{IsValid, parts_of}
+use Rattle.rb_ledger.specs.Records.{records_of}
+use Rattle.rb_ledger.specs.Index.{IsIndex, IsLink, AreLinks}
+use Rattle.rb_ledger.specs.Cursor.{IsAt}
+use Rattle.rb_ledger.proofs.ChainFacts
+use Rattle.rb_ledger.proofs.Legal
+use Rattle.rb_ledger.proofs.Moves
+use Rattle.rb_ledger.proofs.Records
+
+-- lists that end alike
+ends : {X : Type 0} (xs ys : List X) (x y : X) → xs ++ x ∷ [] ≡ ys ++ y ∷ [] → (xs ≡ ys) × (x ≡ y)
+ends [] [] x y e = (refl, (let a : x ≡ y = cc in a))
+ends [] (v ∷ []) x y e = cc
+ends [] (v ∷ w ∷ ys) x y e = cc
+ends (v ∷ []) [] x y e = cc
+ends (v ∷ w ∷ xs) [] x y e = cc
+ends (v ∷ xs) (w ∷ ys) x y e =
+    let (rest, same) = ends xs ys x y (let a : xs ++ x ∷ [] ≡ ys ++ y ∷ [] = cc in a) in
+    ((let first : v ≡ w = cc in let a : v ∷ xs ≡ w ∷ ys = cc in a), same)
+
+-- the last of the first operations, and its record
+pub record Latest (s : Settings) (us : List Shadow) (n : ℕ) (x : Index) (ps : List UndoParts) (r : UndoParts) : Type 0 where
+  pub last : Shadow
+  pub there : slice_get us n ≡ Some last
+  pub index : IsIndex s (take n us ++ last ∷ []) x
+  pub parts : r ≡ parts_of s (take n us) last
+  pub records : ps ≡ records_of s (take n us)
+
+pub latest : (s : Settings) (us : List Shadow) (m n : ℕ) (ls : List Link) (x : Index) (l : Log) (ps : List UndoParts) (r : UndoParts) → IsAt s us m ls x l → m ≡ n + 1 → l.parts ≡ ps ++ r ∷ [] → Latest s us n x ps r
+latest s us m n ls x l ps r at next popped =
+    let (last, there) = ChainFacts.element us n (omega (arith, at.within, next)) in
+    let more : take m us ≡ take n us ++ last ∷ [] = ap (λ k. take k us) next ∙ Moves.one_more us n last there in
+    let (front, is) = ends ps (records_of s (take n us)) r (parts_of s (take n us) last) (sym popped ∙ at.records ∙ ap (records_of s) more ∙ Records.records_of-push s (take n us) last) in
+    record { last = last; there = there; index = subst (λ vs. IsIndex s vs x) more at.index; parts = is; records = front }
+
+-- the last before it on its account
+pub linked : (s : Settings) (us : List Shadow) (ls : List Link) (n : ℕ) (u : Shadow) (k : Link) → AreLinks s us ls → slice_get us n ≡ Some u → slice_get ls n ≡ Some k → IsLink s (take n us) u k
+linked s us ls n u k are there beside = are.each n u k there beside
+
+-- back by one operation
+pub back : (s : Settings) (us : List Shadow) (m n : ℕ) (ls : List Link) (x y : Index) (l k : Log) (r : UndoParts) → IsAt s us m ls x l → m ≡ n + 1 → l.parts ≡ k.parts ++ r ∷ [] → k.room ≡ l.room + 1 → IsIndex s (take n us) y → IsAt y.config us n ls y k
+back s us m n ls x y l k r at next popped more index =
+    subst (λ t. IsAt t us n ls y k) (sym index.config) (record {
+      valid = at.valid;
+      within = omega (arith, at.within, next);
+      links = at.links;
+      index = index;
+      records = (latest s us m n ls x l k.parts r at next popped).records;
+      room = omega (arith, at.room, next, more);
+    })
+
+-- the operation after the first ones may follow them
+pub next : (s : Settings) (us : List Shadow) (n : ℕ) (u : Shadow) → IsValid s us → slice_get us n ≡ Some u → IsValid s (take n us ++ u ∷ [])
+next s us n u valid there = subst (IsValid s) (Moves.one_more us n u there) (Legal.IsValid-front s (take (n + 1) us) (drop (n + 1) us) (subst (IsValid s) (sym (take-append-drop (n + 1) us)) valid))
+
+-- on by one operation
+pub forth : (s : Settings) (us : List Shadow) (n m : ℕ) (ls : List Link) (x y : Index) (l k : Log) (u : Shadow) (r : UndoParts) → IsAt s us n ls x l → m ≡ n + 1 → slice_get us n ≡ Some u → r ≡ parts_of s (take n us) u → k.parts ≡ l.parts ++ r ∷ [] → k.room + 1 ≡ l.room → IsIndex s (take n us ++ u ∷ []) y → IsAt y.config us m ls y k
+forth s us n m ls x y l k u r at next there is pushed less index =
+    let more : take m us ≡ take n us ++ u ∷ [] = ap (λ j. take j us) next ∙ Moves.one_more us n u there in
+    subst (λ t. IsAt t us m ls y k) (sym index.config) (record {
+      valid = at.valid;
+      within = omega (arith, slice_get_within us n u there, next);
+      links = at.links;
+      index = subst (λ vs. IsIndex s vs y) (sym more) index;
+      records = pushed ∙ ap (λ ps. ps ++ r ∷ []) at.records ∙ ap (λ q. records_of s (take n us) ++ q ∷ []) is ∙ sym (Records.records_of-push s (take n us) u) ∙ ap (records_of s) (sym more);
+      room = omega (arith, at.room, next, less);
+    })
+
+-- the position of all operations
+pub all : (s : Settings) (us : List Shadow) (n : ℕ) (ls : List Link) (x : Index) (l : Log) → IsIndex s us x → AreLinks s us ls → n ≡ length us → l.parts ≡ records_of s us → IsAt s us n ls x l
+all s us n ls x l index links here parts =
+    let whole : take n us ≡ us = take_all n us (omega (arith, here)) in
+    record {
+      valid = index.kept.valid;
+      within = omega (arith, here);
+      links = links;
+      index = subst (λ vs. IsIndex s vs x) (sym whole) index;
+      records = parts ∙ ap (records_of s) (sym whole);
+      room = omega (arith, here);
+    }
+
+pub whole : (s : Settings) (us : List Shadow) (n : ℕ) (ls : List Link) (x : Index) (l : Log) → IsAt s us n ls x l → n ≡ length us → IsIndex s us x
+whole s us n ls x l at here = subst (λ vs. IsIndex s vs x) (take_all n us (omega (arith, here))) at.index

@@ -1,0 +1,90 @@
+use Rattle.std.proofs.Common.{◌≡◌, ◌<◌, ◌≤◌, ◌-◌, ◌∷◌, [], List, length, take, get_or, set, vec_len, subst, sym, ap, ◌∙◌, refl, arith, length-take-le}
+use Rattle.std.proofs.lemmas.List.{length_push}
+use Rattle.rb_shadow.specs.Operations.{HasEntry, number_of, entry_of, target_of}
+use Rattle.rb_undo.specs.declared.parts.UndoParts.{UndoParts}
+use Rattle.rb_vclock.specs.Clocks.{lowered}
+use Rattle.rb_ledger.specs.declared.marks.Cancels.{Cancels}
+use Rattle.rb_ledger.specs.declared.marks.Head.{Head}
+use Rattle.rb_ledger.specs.Valid.{position_of}
+use Rattle.rb_ledger.specs.Index.{row_of, changed_at, one_less, no_cancels}
+use Rattle.rb_ledger.proofs.Calls
+use Rattle.rb_ledger.proofs.CancelFacts
+use Rattle.rb_ledger.proofs.ChainFacts
+use Rattle.rb_ledger.proofs.Indexed
+use Rattle.rb_ledger.proofs.Legal
+use Rattle.rb_ledger.proofs.LedgerClocks
+use Rattle.rb_ledger.proofs.index.Index.pop.Goals as goal
+
+pub retreat-requires-clause-last : goal.retreat-requires-clause-last
+retreat-requires-clause-last c =
+    let (last, index, is, link) = c.requires in
+    subst (λ x. number_of x ≡ entry_of c.args.self.now.clock x) (sym (ap (λ (p : UndoParts). p.name) is)) (LedgerClocks.last_number _ c.args.before.now _ last index.kept)
+
+pub retreat-requires-clause-positive : goal.retreat-requires-clause-positive
+retreat-requires-clause-positive c =
+    let (last, index, is, link) = c.requires in
+    subst (λ x. 1 ≤ number_of x) (sym (ap (λ (p : UndoParts). p.name) is)) (LedgerClocks.last_positive _ c.args.before.now _ last index.kept)
+
+pub retreat-requires-clause-entry : goal.retreat-requires-clause-entry
+retreat-requires-clause-entry c =
+    let (last, index, is, link) = c.requires in
+    subst HasEntry (sym (ap (λ (p : UndoParts). p.name) is)) (LedgerClocks.last_entry _ c.args.before.now _ last index.kept)
+
+pub pop-requires : goal.pop-requires
+pop-requires c =
+    let (last, index, is, link) = c.requires in
+    omega (arith, c.row_of.ensures, ap (λ (p : UndoParts). row_of p.name) is, Indexed.row_within _ _ _ last index.rows (Legal.IsValid-last _ c.args.before.now last index.kept.valid).sound)
+
+pub cancel_one_less-requires-clause-within : goal.cancel_one_less-requires-clause-within
+cancel_one_less-requires-clause-within c =
+    let (last, index, is, link) = c.requires in
+    let target : c.args.parts.target ≡ position_of c.args.before.now (target_of last.kind) = ap (λ (p : UndoParts). p.target) is in
+    let kept : length (take (length c.args.before.now) c.args.self.now.cancels.items) ≡ length c.args.before.now = length-take-le (length c.args.before.now) c.args.self.now.cancels.items (omega (arith, Calls.all_counts _ _ index.cancels, length_push c.args.before.now last)) in
+    omega (arith, target, CancelFacts.target_within c.args.before.now last (Legal.IsValid-last _ c.args.before.now last index.kept.valid).target, ap length c.truncate.ensures.items, kept)
+
+pub cancel_one_less-requires-clause-some : goal.cancel_one_less-requires-clause-some
+cancel_one_less-requires-clause-some c =
+    let (last, index, is, link) = c.requires in
+    let may = Legal.IsValid-last _ c.args.before.now last index.kept.valid in
+    let before = Legal.IsValid-front _ c.args.before.now (last ∷ []) index.kept.valid in
+    let target : c.args.parts.target ≡ position_of c.args.before.now (target_of last.kind) = ap (λ (p : UndoParts). p.target) is in
+    λ i at. subst (λ (xs : List Cancels). 0 < (get_or xs i no_cancels).count) (sym c.truncate.ensures.items) (CancelFacts.counted_before c.args.before.now last _ i before.unique before.targets may.fresh may.target index.cancels (sym target ∙ at))
+
+pub index-requires : goal.index-requires
+index-requires c =
+    let (last, index, is, link) = c.requires in
+    let count : vec_len c.args.self.now.heads ≡ length c.args.self.now.heads.items = omega arith in
+    let place : c.from-place.result ≡ last.account.0 = c.from-place.ensures ∙ ap (λ (p : UndoParts). p.place.0) is in
+    Calls.own_head _ _ _ last _ _ index.heads (Legal.IsValid-last _ c.args.before.now last index.kept.valid).sound count place
+
+pub overflow_sub-count : goal.overflow_sub-count
+overflow_sub-count c =
+    let (last, index, is, link) = c.requires in
+    let count : vec_len c.args.self.now.heads ≡ length c.args.self.now.heads.items = omega arith in
+    let place : c.from-place.result ≡ last.account.0 = c.from-place.ensures ∙ ap (λ (p : UndoParts). p.place.0) is in
+    let near = Calls.own_head _ _ _ last _ _ index.heads (Legal.IsValid-last _ c.args.before.now last index.kept.valid).sound count place in
+    omega (arith, ChainFacts.head_counted _ c.args.before.now last _ _ index.heads (Calls.read_item _ _ _ _ _ count near place c.index.ensures))
+
+pub index_mut-requires : goal.index_mut-requires
+index_mut-requires c =
+    let (last, index, is, link) = c.requires in
+    let count : vec_len c.args.self.now.heads ≡ length c.args.self.now.heads.items = omega arith in
+    let place : c.from-place.result ≡ last.account.0 = c.from-place.ensures ∙ ap (λ (p : UndoParts). p.place.0) is in
+    Calls.own_head _ _ _ last _ _ index.heads (Legal.IsValid-last _ c.args.before.now last index.kept.valid).sound count place
+
+pub returns-clause-index : goal.returns-clause-index
+returns-clause-index c =
+    let (last, index, is, link) = c.requires in
+    let count : vec_len c.args.self.now.heads ≡ length c.args.self.now.heads.items = omega arith in
+    let place : c.from-place.result ≡ last.account.0 = c.from-place.ensures ∙ ap (λ (p : UndoParts). p.place.0) is in
+    let near = Calls.own_head _ _ _ last _ _ index.heads (Legal.IsValid-last _ c.args.before.now last index.kept.valid).sound count place in
+    let target : c.args.parts.target ≡ position_of c.args.before.now (target_of last.kind) = ap (λ (p : UndoParts). p.target) is in
+    let row : c.row_of.result ≡ row_of last.name = c.row_of.ensures ∙ ap (λ (p : UndoParts). row_of p.name) is in
+    let new : Head = record { last = c.args.earlier; count = c.index.result.now.count - 1; balance = c.args.parts.balance } in
+    let valid = Legal.IsValid-front _ c.args.before.now (last ∷ []) index.kept.valid in
+    Indexed.indexed_front _ c.args.before.now c.args.self.now _ last c.index.result.now new
+    index (Calls.read_item _ _ _ _ _ count near place c.index.ensures) link refl (Calls.kept_balance _ c.args.before.now last.account _ valid (ap (λ (p : UndoParts). p.balance) is))
+    refl (c.retreat.ensures.entries ∙ ap (λ (p : UndoParts). lowered c.args.self.now.clock p.name) is)
+    (c.cancel_one_less.ensures.items ∙ ap (changed_at c.args.parts.target one_less) c.truncate.ensures.items ∙ ap (λ n. changed_at n one_less (take (length c.args.before.now) c.args.self.now.cancels.items)) target)
+    (ap (λ i. set c.args.self.now.heads.items i new) place)
+    (c.pop.ensures.rows ∙ ap (λ j. set c.args.self.now.rows.rows j (take (length (get_or c.args.self.now.rows.rows j []) - 1) (get_or c.args.self.now.rows.rows j []))) row)

@@ -1,0 +1,10 @@
+use Rattle.std.proofs.Common.{◌≡◌, ℕ, vec_len, Some}
+use Rattle.std.specs.Prelude.{slice_get, slice_index}
+use Rattle.rb_ledger.specs.declared.marks.Head.{Head}
+use Rattle.rb_ledger.proofs.index.starting_heads.Given as goal
+
+abbrev pub invariant-loop-place : goal.invariant-loop-place
+invariant-loop-place l = record {
+  count : vec_len l.heads ≡ l.place;
+  each : (i : ℕ) (h : Head) → slice_get l.heads.items i ≡ Some h → (h.last ≡ 0) × (h.count ≡ 0) × (h.balance ≡ slice_index l.config.starts i);
+}

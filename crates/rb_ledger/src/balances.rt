@@ -1,0 +1,77 @@
+//! Balances of a ledger's accounts.
+ghost use Rattle.std.specs.Prelude.{◌≡◌, ◌↔◌, ◌≤◌, ◌<◌, ◌+◌, ◌+ℤ◌, ◌≤ℤ◌, length, take, pos, negsuc, IsNone, IfSome};
+ghost use Rattle.rb_shadow.specs.Operations.{bal};
+ghost use Rattle.rb_ledger.specs.Changes.{moved_at};
+ghost use Rattle.rb_ledger.specs.OnAccount.{IsOn};
+
+use crate::Ledger;
+use crate::index::start;
+use rb_money::Place;
+
+impl Ledger {
+    /// The balance of the account, in cents: what it starts with, and what the operations moved that
+    /// neither cancel nor are cancelled. `None` where there is no such account.
+    pub fn balance(&self, place: Place) -> Option<u64>
+        ensures absent { IsNone result ↔ (length self.now.settings.starts ≤ place.0) }
+        ensures sum { IfSome result (λ n. pos n ≡ bal self.now.settings self.now.entries place) }
+        ensures bounded { IfSome result (λ n. n < 1800000000000000000) }
+    {
+        let head = self.index.heads.get(usize::from(place.0))?;
+        Some(head.balance)
+    }
+
+    /// The balance of the account after the first operations, in cents. `None` where there is no such
+    /// account.
+    pub fn balance_after(&self, position: u32, place: Place) -> Option<u64>
+        requires { position ≤ length self.now.entries }
+        ensures absent { IsNone result ↔ (length self.now.settings.starts ≤ place.0) }
+        ensures sum { IfSome result (λ n. pos n ≡ bal self.now.settings (take position self.now.entries) place) }
+        ensures bounded { IfSome result (λ n. n < 1800000000000000000) }
+    {
+        let head = self.index.heads.get(usize::from(place.0))?;
+        Some(self.balance_at(self.last_within(position, head.last, place), place))
+    }
+
+    /// What the operation at the position, counted from 1, moved on an account when it was applied, in
+    /// cents: the balance as of it less the balance as of the one before. `None` where there is no such
+    /// position.
+    pub fn moved(&self, position: u32, place: Place) -> Option<i64>
+        ensures moved { result ≡ moved_at self.now.settings self.now.entries place position }
+        ensures least { IfSome result (λ n. negsuc 99999999999 ≤ℤ n) }
+        ensures most { IfSome result (λ n. n ≤ℤ pos 100000000000) }
+    {
+        let entry = self.entry(position)?;
+        let link = self.links[position as usize - 1];
+        if entry.account != place {
+            return Some(0);
+        }
+        let before = self.balance_at(link.earlier, place);
+        Some(net(link.balance, before))
+    }
+
+    /// The balance of an account just after its entry at the position, or what it starts with.
+    fn balance_at(&self, position: u32, place: Place) -> u64
+        requires on { IsOn self.now.entries place position }
+        requires account { place.0 < length self.now.settings.starts }
+        ensures sum { pos result ≡ bal self.now.settings (take position self.now.entries) place }
+        ensures bounded { result < 1800000000000000000 }
+    {
+        if position == 0 {
+            return start(self.config(), place);
+        }
+        self.links[position as usize - 1].balance
+    }
+}
+
+/// What there was after an operation less what there was before it.
+fn net(after: u64, before: u64) -> i64
+    requires after { after < 1800000000000000000 }
+    requires before { before < 1800000000000000000 }
+    requires more { after ≤ before + 100000000000 }
+    requires less { before ≤ after + 100000000000 }
+    ensures difference { pos after ≡ pos before +ℤ result }
+    ensures least { negsuc 99999999999 ≤ℤ result }
+    ensures most { result ≤ℤ pos 100000000000 }
+{
+    after as i64 - before as i64
+}

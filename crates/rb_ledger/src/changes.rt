@@ -1,0 +1,117 @@
+//! What changes a ledger.
+ghost use Rattle.std.specs.Prelude.{◌≡◌, ◌≤◌, ◌<◌, ◌+◌, length, Some, None, List, [], ◌∷◌, ◌++◌, ◌⊎◌, OnOk, OnErr, IfOk, IfErr};
+ghost use Rattle.rb_shadow.specs.declared.shadow.Shadow.{Shadow as TheShadow};
+ghost use Rattle.rb_ledger.specs.Valid.{IsValid, parts_of};
+ghost use Rattle.rb_ledger.specs.Checks.{refusal_of};
+
+use crate::Ledger;
+use rb_money::Refusal;
+use rb_shadow::Shadow;
+use rb_undo::Undo;
+use std::alloc::AllocError;
+
+impl Ledger {
+    /// Adds a shadow at the end, and gives the record to undo that. A shadow that is refused comes
+    /// back, with the refusal of `check`, or else, where there was no room, `OutOfMemory`.
+    pub fn apply(&mut self, shadow: Shadow) -> Result<Undo, (Shadow, Refusal)>
+        ensures applied { IfOk result (λ undo. (self.new.entries ≡ self.old.entries ++ shadow ∷ []) × (undo ≡ parts_of self.old.settings self.old.entries shadow)) }
+        ensures taken { OnOk result (refusal_of self.old.settings self.old.entries shadow ≡ None) }
+        ensures settings { self.new.settings ≡ self.old.settings }
+        ensures room { OnOk result (0 < self.old.room → self.new.room + 1 ≡ self.old.room) }
+
+        ensures refused { IfErr result (λ back. (self.new ≡ self.old) × (back.0 ≡ shadow)) }
+        ensures reason { IfErr result (λ back. (refusal_of self.old.settings self.old.entries shadow ≡ Some back.1)
+            ⊎ ((back.1 ≡ Refusal.OutOfMemory) × (refusal_of self.old.settings self.old.entries shadow ≡ None) × (self.old.room ≡ 0))) }
+    {
+        if let Err(refusal) = self.check(&shadow) {
+            return Err((shadow, refusal));
+        }
+        match self.apply_valid(shadow) {
+            Ok(undo) => Ok(undo),
+            Err(AllocError) => Err((shadow, Refusal::OutOfMemory)),
+        }
+    }
+
+    /// Adds a shadow that keeps the list valid at the end, without checking that again, and gives the
+    /// record to undo it. An error is want of memory.
+    pub fn apply_valid(&mut self, shadow: Shadow) -> Result<Undo, AllocError>
+        requires { IsValid self.old.settings (self.old.entries ++ shadow ∷ []) }
+        ensures applied { IfOk result (λ undo. (self.new.entries ≡ self.old.entries ++ shadow ∷ []) × (undo ≡ parts_of self.old.settings self.old.entries shadow)) }
+        ensures settings { self.new.settings ≡ self.old.settings }
+        ensures room { OnOk result (0 < self.old.room → self.new.room + 1 ≡ self.old.room) }
+        ensures err { OnErr result ((self.new ≡ self.old) × (self.old.room ≡ 0)) }
+    {
+        self.make_room()?;
+        let link = self.link(&shadow);
+        let parts = self.index.parts(&self.entries, &shadow);
+        self.index
+            .push(&self.entries, &shadow, parts.target, link.balance);
+        self.links.push_reserved(link);
+        self.entries.push_reserved(shadow);
+        Ok(Undo::new(parts))
+    }
+
+    /// Takes the last entry out again. The record is that of this entry.
+    pub fn undo(&mut self, undo: Undo)
+        requires { (front : List TheShadow) × (last : TheShadow) × (self.old.entries ≡ front ++ last ∷ []) × (undo ≡ parts_of self.old.settings front last) }
+        ensures entries { (last : TheShadow) × (self.old.entries ≡ self.new.entries ++ last ∷ []) }
+        ensures settings { self.new.settings ≡ self.old.settings }
+        ensures room { self.new.room ≡ self.old.room + 1 }
+    {
+        let parts = undo.spend();
+        let earlier = self.links[parts.position as usize - 1].earlier;
+        self.links.pop();
+        self.entries.pop();
+        self.index.pop(&self.entries, parts, earlier);
+    }
+
+    /// Makes room for so many more operations. It takes no memory where there is room.
+    pub fn reserve(&mut self, additional: usize) -> Result<(), AllocError>
+        ensures settings { self.new.settings ≡ self.old.settings }
+        ensures entries { self.new.entries ≡ self.old.entries }
+        ensures ok { OnOk result (additional ≤ self.new.room) }
+        ensures grows { self.old.room ≤ self.new.room }
+        ensures short { OnErr result (self.old.room < additional) }
+        ensures err { OnErr result (self.new ≡ self.old) }
+    {
+        let count = self.entries.len();
+        let limit = self.index.rows.limit();
+        if additional <= limit - count {
+            return Ok(());
+        }
+        match count.checked_add(additional) {
+            Some(needed) => self.grow(needed.max(limit.saturating_add(limit / 2))),
+            None => Err(AllocError),
+        }
+    }
+
+    /// Takes memory for one more entry where there is no room.
+    fn make_room(&mut self) -> Result<(), AllocError>
+        ensures settings { self.new.settings ≡ self.old.settings }
+        ensures entries { self.new.entries ≡ self.old.entries }
+        ensures ok { OnOk result (0 < self.new.room) }
+        ensures room { 0 < self.old.room → self.new ≡ self.old }
+        ensures err { OnErr result ((self.new ≡ self.old) × (self.old.room ≡ 0)) }
+    {
+        let count = self.entries.len();
+        if count < self.index.rows.limit() {
+            return Ok(());
+        }
+        self.grow(count + count / 2 + 8)
+    }
+
+    /// Takes memory for so many entries.
+    fn grow(&mut self, limit: usize) -> Result<(), AllocError>
+        requires { length self.old.entries + self.old.room ≤ limit }
+        ensures settings { self.new.settings ≡ self.old.settings }
+        ensures entries { self.new.entries ≡ self.old.entries }
+        ensures ok { OnOk result (length self.new.entries + self.new.room ≡ limit) }
+        ensures err { OnErr result (self.new ≡ self.old) }
+    {
+        let additional = limit - self.entries.len();
+        self.entries.reserve_exact(additional)?;
+        self.links.reserve_exact(additional)?;
+        self.index.cancels.reserve_exact(additional)?;
+        self.index.rows.reserve(limit)
+    }
+}

@@ -1,0 +1,206 @@
+//! The index of a list of operations.
+ghost use Rattle.std.specs.Prelude.{◌≡◌, ◌≤◌, ◌<◌, ◌+◌, length, pos, [], ◌∷◌, ◌++◌, List, IfOk, ℕ, slice_index, slice_index_or, vec_len, vec_capacity};
+ghost use Rattle.rb_shadow.specs.declared.shadow.Shadow.{Shadow as TheShadow};
+ghost use Rattle.rb_shadow.specs.Operations.{bal, target_of};
+ghost use Rattle.rb_shadow.specs.Sound.{IsSound};
+ghost use Rattle.rb_ledger.specs.Valid.{IsValid, find_position, parts_of, position_of};
+ghost use Rattle.rb_ledger.specs.OnAccount.{IsLast};
+ghost use Rattle.rb_ledger.specs.Index.{AreHeads, IsIndex, row_of, changed_at, one_more, one_less, no_cancels};
+
+use crate::marks::{Cancels, Head};
+use crate::rows::Rows;
+use rb_money::{Config, Place};
+use rb_shadow::{Kind, OpName, Shadow};
+use rb_undo::UndoParts;
+use rb_vclock::Clock;
+use std::alloc::{AllocError, Global};
+
+/// What is read of a list of operations, so that no call walks it. It changes in place with each operation
+/// that comes to the end of the list or leaves it. The list itself stands elsewhere.
+#[derive(Drop)]
+pub struct Index {
+    /// The configuration, under which the list is valid.
+    pub config: Config,
+    /// How many operations of each site there are, and how many red ones.
+    pub clock: Clock,
+    /// For each operation, how often it is cancelled.
+    pub cancels: Vec<Cancels>,
+    /// For each account, its running balance and the last operation on it.
+    pub heads: Vec<Head>,
+    /// The position of each name.
+    pub rows: Rows,
+}
+
+impl Index {
+    /// The index of no operations, without memory for any.
+    pub fn open(alloc: Global, config: &Config) -> Result<Index, AllocError>
+        ensures index { IfOk result (λ index. IsIndex config.now [] index) }
+        ensures limit { IfOk result (λ index. index.rows.limit ≡ 0) }
+    {
+        let config = config.try_copy(alloc)?;
+        let heads = starting_heads(alloc, &config)?;
+        let rows = Rows::new(alloc, usize::from(config.sites()) + 1)?;
+        Ok(Index {
+            config,
+            clock: Clock::zero(),
+            cancels: Vec::new(alloc),
+            heads,
+            rows,
+        })
+    }
+
+    /// The position of the operation of the name, counted from 1.
+    pub fn find(&self, name: &OpName) -> Option<u32>
+        ensures { (us : List TheShadow) → IsIndex self.now.config us self.now → result ≡ find_position us name.now }
+    {
+        let row = self.rows.row(row_of(*name));
+        let index = name.number().checked_sub(1)?;
+        row.get(index as usize).copied()
+    }
+
+    /// The position of what an operation of the kind cancels, or 0.
+    fn target(&self, kind: Kind) -> u32
+        ensures { (us : List TheShadow) → IsIndex self.now.config us self.now → result ≡ position_of us (target_of kind) }
+    {
+        match kind {
+            Kind::Cancel { target } => self.find(&target).unwrap_or(0),
+            _ => 0,
+        }
+    }
+
+    /// What is kept to undo a sound shadow as the next operation after those before.
+    pub fn parts(&self, before: &[Shadow], shadow: &Shadow) -> UndoParts
+        requires index { IsIndex self.now.config before.now self.now }
+        requires sound { IsSound self.now.config shadow.now }
+        ensures { result ≡ parts_of self.now.config before.now shadow.now }
+    {
+        UndoParts {
+            position: before.len() as u32 + 1,
+            name: shadow.name,
+            place: shadow.account,
+            balance: self.heads[usize::from(shadow.account.0)].balance,
+            target: self.target(shadow.kind),
+        }
+    }
+
+    /// Takes in an operation after those before, where there is room. The target is the position of what it
+    /// cancels, or 0. The balance is that of its account after it, in cents.
+    pub fn push(&mut self, before: &[Shadow], shadow: &Shadow, target: u32, balance: u64)
+        requires index { IsIndex self.old.config before.now self.old }
+        requires longer { IsValid self.old.config (before.now ++ shadow.now ∷ []) }
+        requires target { target ≡ position_of before.now (target_of shadow.now.kind) }
+        requires balance { pos balance ≡ bal self.old.config (before.now ++ shadow.now ∷ []) shadow.now.account }
+        requires rows { length before.now < self.old.rows.limit }
+        requires cancels { length before.now < vec_capacity self.old.cancels }
+        ensures index { IsIndex self.old.config (before.now ++ shadow.now ∷ []) self.new }
+        ensures limit { self.new.rows.limit ≡ self.old.rows.limit }
+        ensures capacity { vec_capacity self.new.cancels ≡ vec_capacity self.old.cancels }
+    {
+        let position = before.len() as u32 + 1;
+        cancel_one_more(&mut self.cancels, target, position);
+        self.cancels.push_reserved(Cancels { count: 0, first: 0 });
+        let place = usize::from(shadow.account.0);
+        let count = self.heads[place].count + 1;
+        self.heads[place] = Head {
+            last: position,
+            count,
+            balance,
+        };
+        self.rows.push(row_of(shadow.name), position);
+        self.clock.advance(&shadow.name);
+    }
+
+    /// Lets the operation after those before out again: the last one, of which the parts were kept. The
+    /// position is that of the one before it on its account, or 0.
+    pub fn pop(&mut self, before: &[Shadow], parts: UndoParts, earlier: u32)
+        requires { (last : TheShadow) × IsIndex self.old.config (before.now ++ last ∷ []) self.old × (parts ≡ parts_of self.old.config before.now last) × IsLast before.now last.account earlier }
+        ensures index { IsIndex self.old.config before.now self.new }
+        ensures limit { self.new.rows.limit ≡ self.old.rows.limit }
+        ensures capacity { vec_capacity self.new.cancels ≡ vec_capacity self.old.cancels }
+    {
+        self.clock.retreat(&parts.name);
+        self.rows.pop(row_of(parts.name));
+        self.cancels.truncate(before.len());
+        cancel_one_less(&mut self.cancels, parts.target);
+        let place = usize::from(parts.place.0);
+        let count = self.heads[place].count - 1;
+        self.heads[place] = Head {
+            last: earlier,
+            count,
+            balance: parts.balance,
+        };
+    }
+}
+
+/// The heads of accounts without operations.
+fn starting_heads(alloc: Global, config: &Config) -> Result<Vec<Head>, AllocError>
+    ensures { IfOk result (λ heads. AreHeads config.now [] heads.items) }
+{
+    let mut heads = Vec::new(alloc);
+    for place in 0..config.accounts().len() {
+        let balance = start(config, Place(place as u16));
+        heads.push(Head {
+            last: 0,
+            count: 0,
+            balance,
+        })?;
+    }
+    Ok(heads)
+}
+
+/// What an account starts with, in cents.
+pub fn start(config: &Config, place: Place) -> u64
+    requires { place.0 < length config.now.starts }
+    ensures { result ≡ slice_index config.now.starts place.0 }
+{
+    match config.accounts().start(place) {
+        Some(start) => start.0,
+        None => unreachable!(),
+    }
+}
+
+/// The row of a name: the red ones are row 0, the blue ones of the first site row 1, and so on.
+fn row_of(name: OpName) -> usize
+    ensures { result ≡ row_of name }
+{
+    match name {
+        OpName::Blue { site, .. } => usize::from(site) + 1,
+        OpName::Red { .. } => 0,
+    }
+}
+
+/// Counts a cancellation at a position, of the entry at the target. The target 0 is none.
+fn cancel_one_more(cancels: &mut Vec<Cancels>, target: u32, position: u32)
+    requires within { target ≤ length cancels.old.items }
+    requires fits { (i : ℕ) → (slice_index_or cancels.old.items i no_cancels).count ≤ 9000000 }
+    ensures items { cancels.new.items ≡ changed_at target (one_more position) cancels.old.items }
+    ensures len { vec_len cancels.new ≡ vec_len cancels.old }
+    ensures capacity { vec_capacity cancels.new ≡ vec_capacity cancels.old }
+{
+    if target == 0 {
+        return;
+    }
+    let old = cancels[target as usize - 1];
+    cancels[target as usize - 1] = Cancels {
+        count: old.count + 1,
+        first: if old.count == 0 { position } else { old.first },
+    };
+}
+
+/// Leaves the last cancellation of the entry at the target out again. The target 0 is none.
+fn cancel_one_less(cancels: &mut Vec<Cancels>, target: u32)
+    requires within { target ≤ length cancels.old.items }
+    requires some { (i : ℕ) → target ≡ i + 1 → 0 < (slice_index_or cancels.old.items i no_cancels).count }
+    ensures items { cancels.new.items ≡ changed_at target one_less cancels.old.items }
+    ensures len { vec_len cancels.new ≡ vec_len cancels.old }
+    ensures capacity { vec_capacity cancels.new ≡ vec_capacity cancels.old }
+{
+    if target == 0 {
+        return;
+    }
+    let old = cancels[target as usize - 1];
+    cancels[target as usize - 1] = Cancels {
+        count: old.count - 1,
+        first: if old.count == 1 { 0 } else { old.first },
+    };
+}

@@ -1,0 +1,107 @@
+//! The entries on an account, from the last back.
+ghost use Rattle.std.specs.Prelude.{◌≡◌, ◌≤◌, ◌<◌, ◌-◌, length, take, [], ◌∷◌, ◌++◌};
+ghost use Rattle.rb_ledger.specs.Valid.{IsValid};
+ghost use Rattle.rb_ledger.specs.OnAccount.{IsOn, IsLast};
+ghost use Rattle.rb_ledger.specs.Index.{IsLink};
+
+use crate::Ledger;
+use crate::marks::{Head, Link};
+use rb_money::Place;
+use rb_shadow::Shadow;
+
+impl Ledger {
+    /// The position of the last operation on the account, or 0 where none is on it.
+    pub fn last_on(&self, place: Place) -> u32
+        ensures last { IsLast self.now.entries place result }
+        ensures within { result ≤ length self.now.entries }
+    {
+        match self.index.heads.get(usize::from(place.0)) {
+            Some(head) => head.last,
+            None => 0,
+        }
+    }
+
+    /// The position of the last operation on the account before the one at the position, which is on it.
+    /// It is 0 where there is none.
+    pub fn earlier(&self, position: u32, place: Place) -> u32
+        requires on { IsOn self.now.entries place position }
+        requires some { 0 < position }
+        ensures last { IsLast (take (position - 1) self.now.entries) place result }
+        ensures before { result < position }
+    {
+        self.links[position as usize - 1].earlier
+    }
+
+    /// The position of the last of the first entries that is on the account, or 0, where the last of all
+    /// is given.
+    pub(crate) fn last_within(&self, limit: u32, last: u32, place: Place) -> u32
+        requires within { limit ≤ length self.now.entries }
+        requires last { IsLast self.now.entries place last }
+        ensures last { IsLast (take limit self.now.entries) place result }
+        ensures on { IsOn self.now.entries place result }
+    {
+        let mut at = last;
+        while at > limit {
+            let link = self.links[at as usize - 1];
+            at = if link.jump > limit {
+                link.jump
+            } else {
+                link.earlier
+            };
+        }
+        at
+    }
+
+    /// The link of a shadow as the next entry.
+    pub(crate) fn link(&self, shadow: &Shadow) -> Link
+        requires { IsValid self.now.settings (self.now.entries ++ shadow.now ∷ []) }
+        ensures { IsLink self.now.settings self.now.entries shadow.now result }
+    {
+        let head = self.index.heads[usize::from(shadow.account.0)];
+        Link {
+            balance: self.balance_with(shadow),
+            earlier: head.last,
+            jump: self.jump(head, shadow.account),
+        }
+    }
+
+    /// What the next entry on the account jumps back to.
+    fn jump(&self, head: Head, place: Place) -> u32
+        requires { IsOn self.now.entries place head.last }
+        ensures { IsOn self.now.entries place result }
+    {
+        if !joins(head.count) {
+            return head.last;
+        }
+        self.jump_from(self.jump_from(head.last, place), place)
+    }
+
+    /// What an entry on the account jumps back to.
+    fn jump_from(&self, position: u32, place: Place) -> u32
+        requires { IsOn self.now.entries place position }
+        ensures { IsOn self.now.entries place result }
+    {
+        if position == 0 {
+            return 0;
+        }
+        self.links[position as usize - 1].jump
+    }
+}
+
+/// Whether so many entries on an account end in two blocks of one size, where the blocks are of 1, 3, 7
+/// and so on entries, the largest first, and only the last two may be of one size. The next entry then jumps
+/// back over both, and otherwise to the entry before it: so every entry is reached in few jumps.
+fn joins(count: u32) -> bool {
+    let mut rest = count;
+    let mut block = u32::MAX.checked_shr(count.leading_zeros()).unwrap_or(0);
+    while block > 0 {
+        if block <= rest {
+            rest -= block;
+            if rest == block {
+                return true;
+            }
+        }
+        block /= 2;
+    }
+    false
+}
