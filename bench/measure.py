@@ -18,11 +18,14 @@ def adopt():
 def usage(program, path):
     """What a run used: seconds of processor time, user and system, and the peak of its memory in bytes.
 
-    The system counts the memory of the process that starts a program to the program's peak. So a small shell starts it.
+    The system counts the memory of the process that starts a program to the program's peak. So a small shell starts it,
+    and is gone when the program begins.
     """
-    line = '"$0" script < "$1" > /dev/null & echo $!'
-    shell = subprocess.run(["sh", "-c", line, program, path], stdout=subprocess.PIPE, check=True)
-    _, status, used = os.wait4(int(shell.stdout), 0)
+    line = 'exec 3<&0; { read go <&3; exec "$0" script < "$1" > /dev/null 3<&-; } & echo $!'
+    with subprocess.Popen(["sh", "-c", line, program, path], stdin=subprocess.PIPE, stdout=subprocess.PIPE) as shell:
+        number = int(shell.stdout.readline())
+        shell.wait()
+    _, status, used = os.wait4(number, 0)
     if status != 0:
         raise SystemExit(f"{program} script: status {os.waitstatus_to_exitcode(status)}")
     return used.ru_utime + used.ru_stime, used.ru_maxrss * 1024
