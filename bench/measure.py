@@ -7,6 +7,8 @@ import subprocess
 # Copies and clearings of any size by vector instructions: of a `rep movsb` callgrind would count each byte as an instruction.
 NO_REP = "glibc.cpu.x86_rep_movsb_threshold=1000000000000:glibc.cpu.x86_rep_stosb_threshold=1000000000000"
 SUBREAPER = 36
+# A run that takes more seconds of processor time is ended.
+LIMIT = 20
 
 
 def adopt():
@@ -16,16 +18,18 @@ def adopt():
 
 
 def usage(program, path):
-    """What a run used: seconds of processor time, user and system, and the peak of its memory in bytes.
+    """What a run used: seconds of processor time, user and system, and the peak of its memory in bytes. None over the limit.
 
     The system counts the memory of the process that starts a program to the program's peak. So a small shell starts it,
     and is gone when the program begins.
     """
-    line = 'exec 3<&0; { read go <&3; exec "$0" script < "$1" > /dev/null 3<&-; } & echo $!'
+    line = f'ulimit -t {LIMIT}; exec 3<&0; {{ read go <&3; exec "$0" script < "$1" > /dev/null 3<&-; }} & echo $!'
     with subprocess.Popen(["sh", "-c", line, program, path], stdin=subprocess.PIPE, stdout=subprocess.PIPE) as shell:
         number = int(shell.stdout.readline())
         shell.wait()
     _, status, used = os.wait4(number, 0)
+    if os.WIFSIGNALED(status) and used.ru_utime + used.ru_stime >= LIMIT - 1:
+        return None
     if status != 0:
         raise SystemExit(f"{program} script: status {os.waitstatus_to_exitcode(status)}")
     return used.ru_utime + used.ru_stime, used.ru_maxrss * 1024

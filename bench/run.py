@@ -21,8 +21,8 @@ SIZES = "1000,10000,100000,1000000"
 AT_EACH = ["mix", *kinds.LONG, "balance", "deposit"]
 # A site makes at most 1,000,000 blue operations.
 MOST = {"batches": 100_000, "pairs": 500_000}
-# Shorter scripts aren't timed, and for longer ones instructions aren't counted.
-LEAST_TIMED, MOST_COUNTED = 10_000, 100_000
+# Shorter scripts aren't timed, and for longer ones, or those that take more seconds, instructions aren't counted.
+LEAST_TIMED, MOST_COUNTED, SLOW = 10_000, 100_000, 2
 HEAD = ["Kind", "Commands", "Refused", "Commands a second", "Growth", "Instructions a command", "Peak, MB"]
 
 
@@ -52,31 +52,37 @@ def timed(program, paths, runs):
     return best
 
 
-def counted(program, paths):
-    """The instructions of each script, where valgrind is there."""
+def counted(program, paths, times):
+    """The instructions of each script that isn't too long, where valgrind is there."""
     if not shutil.which("valgrind"):
         return {}
-    return {size: measure.instructions(program, path) for size, path in paths.items() if size <= MOST_COUNTED}
+    short = [size for size in paths if size <= MOST_COUNTED and times[size][0] < SLOW]
+    return {size: measure.instructions(program, paths[size]) for size in short}
 
 
 def figures(program, kind, sizes, given):
     """For each size its refusals, seconds, growth, instructions a command and peak memory: None where it isn't measured."""
     with tempfile.TemporaryDirectory() as folder:
         paths = {size: script(folder, kind, size, given.seed) for size in [0, *sizes]}
+        paths = {size: path for size, path in paths.items() if measure.usage(program, path)}
         times = timed(program, paths, given.runs)
-        counts = counted(program, paths)
+        counts = counted(program, paths, times)
         before = None
         for size in sizes:
+            if size not in paths:
+                yield size, None, None, None, None, None
+                continue
             taken = (times[size][0] - times[0][0]) / size if size >= LEAST_TIMED else None
             growth = taken / before if taken and before else None
-            both = counts.get(size) and counts.get(0)
-            steps = (counts[size] - counts[0]) / size if both else None
+            steps = (counts[size] - counts[0]) / size if counts.get(size) and counts.get(0) else None
             yield size, measure.refused(program, paths[size]), taken, growth, steps, times[size][1]
             before = taken
 
 
 def told(kind, size, refusals, taken, growth, steps, peak):
     """A line of the table."""
+    if peak is None:
+        return [kind, f"{size:,}", f"over {measure.LIMIT} s", "", "", "", ""]
     cells = [kind, f"{size:,}", f"{refusals:,}", f"{1 / taken:,.0f}" if taken else "", f"{growth:.2f}" if growth else ""]
     return cells + [f"{steps:,.0f}" if steps else "", f"{peak / 1e6:.1f}"]
 
@@ -108,7 +114,7 @@ def main():
     for kind in given.kinds.split(","):
         for row in figures(program, kind, sizes_of(kind, [int(size) for size in given.sizes.split(",")]), given):
             print("|", " | ".join(told(kind, *row)), "|", flush=True)
-            if kind == "deposit":
+            if kind == "deposit" and row[-1]:
                 peaks[row[0]] = row[-1]
     tell_bytes(peaks)
 
