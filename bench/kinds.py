@@ -178,9 +178,12 @@ def again(line, before=(), start=0):
 KNOWN = (deposit("a0", 500), deliver(1), apply("B0.1"))
 SHORTEST = {
     "balance": again(balance("a0")),
+    "balance-turned": again('{"site":0,"balance":"a0"}'),
+    "balance-spaced": again('{"balance": "a0", "site": 0}'),
     "deliver": again(deliver(1), KNOWN),
     "deposit": again(deposit("a0", 500)),
     "withdraw": again(withdraw("a0", 500), start=RICH),
+    "withdraw-turned": again('{"site":0,"withdraw":["a0",500]}', start=RICH),
     "statement": again(statement("a0")),
     "refused-amount": again(withdraw("a0", 0)),
     "refused-token": again(withdraw("a0", 1, site=1), start=RICH),

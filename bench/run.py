@@ -9,6 +9,7 @@ import shutil
 import subprocess
 import sys
 import tempfile
+import typing
 
 sys.dont_write_bytecode = True
 import generate
@@ -23,7 +24,17 @@ AT_EACH = ["mix", *kinds.LONG, "balance", "deposit"]
 MOST = {"batches": 100_000, "pairs": 500_000}
 # Shorter scripts aren't timed, and for longer ones, or those that take more seconds, instructions aren't counted.
 LEAST_TIMED, MOST_COUNTED, SLOW = 10_000, 100_000, 2
-HEAD = ["Kind", "Commands", "Refused", "Commands a second", "Growth", "Instructions a command", "Peak, MB"]
+HEAD = ["Kind", "Commands", "Refused", "Commands a second", "Growth", "Instructions a command", "Writes", "Peak, MB"]
+
+
+class Figures(typing.NamedTuple):
+    """What is known of a script: nothing where it took too long, and None for what isn't measured."""
+    refused: int
+    seconds: float
+    growth: float
+    instructions: float
+    writes: int
+    peak: int
 
 
 def built():
@@ -61,7 +72,7 @@ def counted(program, paths, times):
 
 
 def figures(program, kind, sizes, given):
-    """For each size its refusals, seconds, growth, instructions a command and peak memory: None where it isn't measured."""
+    """Each size with its figures, or None where it takes too long. A script of no commands is taken off time and instructions."""
     with tempfile.TemporaryDirectory() as folder:
         paths = {size: script(folder, kind, size, given.seed) for size in [0, *sizes]}
         paths = {size: path for size, path in paths.items() if measure.usage(program, path)}
@@ -70,21 +81,24 @@ def figures(program, kind, sizes, given):
         before = None
         for size in sizes:
             if size not in paths:
-                yield size, None, None, None, None, None
+                yield size, None
                 continue
             taken = (times[size][0] - times[0][0]) / size if size >= LEAST_TIMED else None
             growth = taken / before if taken and before else None
             steps = (counts[size] - counts[0]) / size if counts.get(size) and counts.get(0) else None
-            yield size, measure.refused(program, paths[size]), taken, growth, steps, times[size][1]
+            writes = measure.writes(program, paths[size]) if shutil.which("strace") else None
+            yield size, Figures(measure.refused(program, paths[size]), taken, growth, steps, writes, times[size][1])
             before = taken
 
 
-def told(kind, size, refusals, taken, growth, steps, peak):
-    """A line of the table."""
-    if peak is None:
-        return [kind, f"{size:,}", f"over {measure.LIMIT} s", "", "", "", ""]
-    cells = [kind, f"{size:,}", f"{refusals:,}", f"{1 / taken:,.0f}" if taken else "", f"{growth:.2f}" if growth else ""]
-    return cells + [f"{steps:,.0f}" if steps else "", f"{peak / 1e6:.1f}"]
+def cells(found):
+    """The figures as words of the table."""
+    if found is None:
+        return [f"over {measure.LIMIT} s"] + [""] * (len(HEAD) - 3)
+    rate = 1 / found.seconds if found.seconds else None
+    told = [(found.refused, ",d"), (rate, ",.0f"), (found.growth, ".2f"), (found.instructions, ",.0f")]
+    told += [(found.writes, ",d"), (found.peak / 1e6, ".1f")]
+    return ["" if number is None else format(number, form) for number, form in told]
 
 
 def sizes_of(kind, sizes):
@@ -112,10 +126,10 @@ def main():
     print("|", " | ".join(HEAD), "|\n|" + "---|" * len(HEAD))
     peaks = {}
     for kind in given.kinds.split(","):
-        for row in figures(program, kind, sizes_of(kind, [int(size) for size in given.sizes.split(",")]), given):
-            print("|", " | ".join(told(kind, *row)), "|", flush=True)
-            if kind == "deposit" and row[-1]:
-                peaks[row[0]] = row[-1]
+        for size, found in figures(program, kind, sizes_of(kind, [int(size) for size in given.sizes.split(",")]), given):
+            print("|", " | ".join([kind, f"{size:,}", *cells(found)]), "|", flush=True)
+            if kind == "deposit" and found:
+                peaks[size] = found.peak
     tell_bytes(peaks)
 
 
