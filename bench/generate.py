@@ -14,11 +14,10 @@ import mix
 KINDS = {"mix": mix.mix} | kinds.LONG | kinds.SHORTEST
 
 
-def lines(kind, commands, seed=1, sites=2, **more):
+def lines(kind, commands, seed=1, **of_mix):
     """The lines of a script. The options of the mix may be given for the mix alone."""
-    if kind == "mix":
-        more["sites"] = sites
-    script = KINDS[kind](seed, commands, **more)
+    sites = of_mix.setdefault("sites", 3) if kind == "mix" else 2
+    script = KINDS[kind](seed, commands, **of_mix)
     yield json.dumps({"accounts": next(script), "sites": sites, "version": 1}, separators=(",", ":"))
     yield from script
 

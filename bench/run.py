@@ -46,20 +46,20 @@ def built():
 def script(folder, kind, size, seed):
     """A generated script, as a file."""
     path = os.path.join(folder, f"{size}.jsonl")
-    more = {"sites": 3} if kind == "mix" else {}
     with open(path, "w", encoding="ascii") as out:
-        generate.write(out, kind, size, seed, **more)
+        generate.write(out, kind, size, seed)
     return path
 
 
 def timed(program, paths, runs):
-    """The least time and memory of each script, the scripts one after another in each round, short ones more often."""
-    best = {}
+    """The least time and memory of each script that ends in time, one after another in each round, short ones more often."""
+    first = {size: measure.usage(program, path) for size, path in paths.items()}
+    best = {size: used for size, used in first.items() if used}
     for _ in range(runs):
-        for size, path in paths.items():
+        for size in best:
             for _ in range(max(1, min(10, MOST_COUNTED // max(size, 1)))):
-                used = measure.usage(program, path)
-                best[size] = tuple(map(min, best.get(size, used), used))
+                used = measure.usage(program, paths[size]) or best[size]
+                best[size] = tuple(map(min, best[size], used))
     return best
 
 
@@ -67,7 +67,7 @@ def counted(program, paths, times):
     """The instructions of each script that isn't too long, where valgrind is there."""
     if not shutil.which("valgrind"):
         return {}
-    short = [size for size in paths if size <= MOST_COUNTED and times[size][0] < SLOW]
+    short = [size for size, used in times.items() if size <= MOST_COUNTED and used[0] < SLOW]
     return {size: measure.instructions(program, paths[size]) for size in short}
 
 
@@ -75,12 +75,11 @@ def figures(program, kind, sizes, given):
     """Each size with its figures, or None where it takes too long. A script of no commands is taken off time and instructions."""
     with tempfile.TemporaryDirectory() as folder:
         paths = {size: script(folder, kind, size, given.seed) for size in [0, *sizes]}
-        paths = {size: path for size, path in paths.items() if measure.usage(program, path)}
         times = timed(program, paths, given.runs)
         counts = counted(program, paths, times)
         before = None
         for size in sizes:
-            if size not in paths:
+            if size not in times:
                 yield size, None
                 continue
             taken = (times[size][0] - times[0][0]) / size if size >= LEAST_TIMED else None
@@ -121,11 +120,14 @@ def main():
     words.add_argument("--runs", type=int, default=3, help="rounds, of which the best is told")
     words.add_argument("--seed", type=int, default=1)
     given = words.parse_args()
+    chosen = given.kinds.split(",")
+    if not generate.KINDS.keys() >= set(chosen):
+        words.error(f"the kinds are {', '.join(generate.KINDS)}")
     program = os.path.abspath(given.program) if given.program else built()
     measure.adopt()
     print("|", " | ".join(HEAD), "|\n|" + "---|" * len(HEAD))
     peaks = {}
-    for kind in given.kinds.split(","):
+    for kind in chosen:
         for size, found in figures(program, kind, sizes_of(kind, [int(size) for size in given.sizes.split(",")]), given):
             print("|", " | ".join([kind, f"{size:,}", *cells(found)]), "|", flush=True)
             if kind == "deposit" and found:
