@@ -4,7 +4,7 @@ import os
 import re
 import subprocess
 
-# Copies and clearings of any size by vector instructions: of a `rep movsb` callgrind would count each byte as an instruction.
+# Copies and clearings of any size by vector instructions: of a `rep movsb` callgrind would count each byte.
 NO_REP = "glibc.cpu.x86_rep_movsb_threshold=1000000000000:glibc.cpu.x86_rep_stosb_threshold=1000000000000"
 SUBREAPER = 36
 # A run that takes more seconds of processor time is ended.

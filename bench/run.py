@@ -52,7 +52,7 @@ def script(folder, kind, size, seed):
 
 
 def timed(program, paths, runs):
-    """The least time and memory of each script that ends in time, one after another in each round, short ones more often."""
+    """The least time and memory of each script that ends in time. In each round all are run, short ones more often."""
     first = {size: measure.usage(program, path) for size, path in paths.items()}
     best = {size: used for size, used in first.items() if used}
     for _ in range(runs):
@@ -72,7 +72,7 @@ def counted(program, paths, times):
 
 
 def figures(program, kind, sizes, given):
-    """Each size with its figures, or None where it takes too long. A script of no commands is taken off time and instructions."""
+    """Each size with its figures, or None where it takes too long. Time and instructions are less those of no commands."""
     with tempfile.TemporaryDirectory() as folder:
         paths = {size: script(folder, kind, size, given.seed) for size in [0, *sizes]}
         times = timed(program, paths, given.runs)
