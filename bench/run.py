@@ -1,28 +1,40 @@
 #!/usr/bin/env python3
-"""Measures `rbbank script` on generated scripts: commands a second, writes, and instructions a command.
+"""Measures `rbbank script` on generated scripts and prints a table, a line for each kind and size.
 
-usage: run.py [PROGRAM] [--commands N] [--counted N] [--seed S] [--sites K] [--accounts A]
-
-PROGRAM is a built rbbank; without it, `make build` makes it. Writes are counted by strace,
-instructions by valgrind's callgrind; what isn't installed is left out, and that is said.
+README.md tells what each kind and each number is.
 """
 import argparse
-import json
 import os
-import re
 import shutil
 import subprocess
 import sys
 import tempfile
-import time
+import typing
 
 sys.dont_write_bytecode = True
 import generate
+import kinds
+import measure
 
-HERE = os.path.dirname(os.path.abspath(__file__))
-ROOT = os.path.dirname(HERE)
-# The best of so many runs is told.
-RUNS = 3
+ROOT = os.path.dirname(os.path.dirname(os.path.abspath(__file__)))
+SIZES = "1000,10000,100000,1000000"
+# These are measured at each size, and those of the shortest ledgers that aren't here at the least size alone.
+AT_EACH = ["mix", *kinds.LONG, "balance", "deposit"]
+# A site makes at most 1,000,000 blue operations.
+MOST = {"batches": 100_000, "pairs": 500_000}
+# Shorter scripts aren't timed, and for longer ones, or those that take more seconds, instructions aren't counted.
+LEAST_TIMED, MOST_COUNTED, SLOW = 10_000, 100_000, 2
+HEAD = ["Kind", "Commands", "Refused", "Commands a second", "Growth", "Instructions a command", "Writes", "Peak, MB"]
+
+
+class Figures(typing.NamedTuple):
+    """What is known of a script: nothing where it took too long, and None for what isn't measured."""
+    refused: int
+    seconds: float
+    growth: float
+    instructions: float
+    writes: int
+    peak: int
 
 
 def built():
@@ -31,97 +43,97 @@ def built():
     return os.path.join(ROOT, "crates", "rbbank", "out", "rbbank")
 
 
-def script(folder, given, commands):
-    """A generated script of so many commands, as a file."""
-    path = os.path.join(folder, f"{commands}.jsonl")
-    with open(path, "w", encoding="utf-8") as out:
-        for line in generate.lines(seed=given.seed, commands=commands, sites=given.sites, accounts=given.accounts):
-            out.write(line + "\n")
+def script(folder, kind, size, seed):
+    """A generated script, as a file."""
+    path = os.path.join(folder, f"{size}.jsonl")
+    with open(path, "w", encoding="ascii") as out:
+        generate.write(out, kind, size, seed)
     return path
 
 
-def run(words, path):
-    """What the program writes for a script. A fault of the program ends the measurement."""
-    with open(path, "rb") as commands:
-        done = subprocess.run(words, stdin=commands, capture_output=True)
-    if done.returncode != 0:
-        sys.exit(f"{' '.join(words)}: status {done.returncode}\n{done.stderr.decode(errors='replace')}")
-    return done
-
-
-def seconds(program, path):
-    best = None
-    for _ in range(RUNS):
-        start = time.perf_counter()
-        run([program, "script"], path)
-        taken = time.perf_counter() - start
-        best = taken if best is None else min(best, taken)
+def timed(program, paths, runs):
+    """The least time and memory of each script that ends in time. In each round all are run, short ones more often."""
+    first = {size: measure.usage(program, path) for size, path in paths.items()}
+    best = {size: used for size, used in first.items() if used}
+    for _ in range(runs):
+        for size in best:
+            for _ in range(max(1, min(10, MOST_COUNTED // max(size, 1)))):
+                used = measure.usage(program, paths[size]) or best[size]
+                best[size] = tuple(map(min, best[size], used))
     return best
 
 
-def refused(text):
-    """How many replies are refusals."""
-    return sum("refused" in json.loads(line) for line in text.decode().splitlines())
-
-
-def writes(program, path, folder):
-    """How many write calls the program makes, or None where strace can't tell."""
-    counts = os.path.join(folder, "strace")
-    words = ["strace", "-f", "-c", "-e", "trace=write,writev", "-o", counts, program, "script"]
-    with open(path, "rb") as commands:
-        done = subprocess.run(words, stdin=commands, capture_output=True)
-    if done.returncode != 0:
-        return None
-    with open(counts, encoding="utf-8") as table:
-        rows = [line.split() for line in table]
-    return sum(int(row[3]) for row in rows if row and row[-1] in ("write", "writev"))
-
-
-def instructions(program, path):
-    """How many instructions the program takes, by callgrind, or None where it can't tell."""
-    words = ["valgrind", "--tool=callgrind", "--callgrind-out-file=/dev/null", program, "script"]
-    with open(path, "rb") as commands:
-        done = subprocess.run(words, stdin=commands, capture_output=True)
-    told = re.search(rb"Collected : (\d+)", done.stderr)
-    return int(told.group(1)) if told and done.returncode == 0 else None
-
-
-def tell_instructions(program, given, folder):
+def counted(program, paths, times):
+    """The instructions of each script that isn't too long, where valgrind is there."""
     if not shutil.which("valgrind"):
-        print("instructions a command     not counted: valgrind isn't there")
-        return
-    few = instructions(program, script(folder, given, given.counted))
-    none = instructions(program, script(folder, given, 0))
-    if few is None or none is None:
-        print("instructions a command     not counted: valgrind can't run the program")
-        return
-    print(f"instructions a command     {(few - none) / given.counted:.0f}  (over {given.counted} commands)")
+        return {}
+    short = [size for size, used in times.items() if size <= MOST_COUNTED and used[0] < SLOW]
+    return {size: measure.instructions(program, paths[size]) for size in short}
+
+
+def figures(program, kind, sizes, given):
+    """Each size with its figures, or None where it takes too long. Time and instructions are less those of no commands."""
+    with tempfile.TemporaryDirectory() as folder:
+        paths = {size: script(folder, kind, size, given.seed) for size in [0, *sizes]}
+        times = timed(program, paths, given.runs)
+        counts = counted(program, paths, times)
+        before = None
+        for size in sizes:
+            if size not in times:
+                yield size, None
+                continue
+            taken = (times[size][0] - times[0][0]) / size if size >= LEAST_TIMED else None
+            growth = taken / before if taken and before else None
+            steps = (counts[size] - counts[0]) / size if counts.get(size) and counts.get(0) else None
+            writes = measure.writes(program, paths[size]) if shutil.which("strace") else None
+            yield size, Figures(measure.refused(program, paths[size]), taken, growth, steps, writes, times[size][1])
+            before = taken
+
+
+def cells(found):
+    """The figures as words of the table."""
+    if found is None:
+        return [f"over {measure.LIMIT} s"] + [""] * (len(HEAD) - 3)
+    rate = 1 / found.seconds if found.seconds else None
+    told = [(found.refused, ",d"), (rate, ",.0f"), (found.growth, ".2f"), (found.instructions, ",.0f")]
+    told += [(found.writes, ",d"), (found.peak / 1e6, ".1f")]
+    return ["" if number is None else format(number, form) for number, form in told]
+
+
+def sizes_of(kind, sizes):
+    """The sizes at which a kind is measured."""
+    return [size for size in sizes if size <= MOST.get(kind, size)] if kind in AT_EACH else sizes[:1]
+
+
+def tell_bytes(peaks):
+    """Bytes for an operation at its home, from the two longest scripts of deposits alone."""
+    if len(peaks) > 1:
+        (few, low), (many, high) = sorted(peaks.items())[-2:]
+        print(f"\nBytes for an operation at its home: {(high - low) / (many - few):.0f}")
 
 
 def main():
-    words = argparse.ArgumentParser(description=__doc__, formatter_class=argparse.RawDescriptionHelpFormatter)
-    words.add_argument("program", nargs="?")
-    words.add_argument("--commands", type=int, default=10_000, help="of the script that is timed")
-    words.add_argument("--counted", type=int, default=1_000, help="of the script whose instructions are counted")
+    words = argparse.ArgumentParser(description=__doc__)
+    words.add_argument("program", nargs="?", help="a built rbbank; without it, `make build` makes it")
+    words.add_argument("--kinds", default=",".join([*AT_EACH, *(one for one in kinds.SHORTEST if one not in AT_EACH)]))
+    words.add_argument("--sizes", default=SIZES, help=f"commands, the least first, {SIZES}")
+    words.add_argument("--runs", type=int, default=3, help="rounds, of which the best is told")
     words.add_argument("--seed", type=int, default=1)
-    words.add_argument("--sites", type=int, default=3)
-    words.add_argument("--accounts", type=int, default=10)
     given = words.parse_args()
+    chosen = given.kinds.split(",")
+    if not generate.KINDS.keys() >= set(chosen):
+        words.error(f"the kinds are {', '.join(generate.KINDS)}")
     program = os.path.abspath(given.program) if given.program else built()
-    with tempfile.TemporaryDirectory() as folder:
-        timed = script(folder, given, given.commands)
-        taken = seconds(program, timed)
-        print(f"commands                   {given.commands}")
-        print(f"refused                    {refused(run([program, 'script'], timed).stdout)}")
-        print(f"seconds, best of {RUNS}         {taken:.3f}")
-        print(f"commands a second          {given.commands / taken:.0f}")
-        calls = writes(program, timed, folder) if shutil.which("strace") else None
-        if calls is None:
-            print("writes                     not counted: strace isn't there, or may not trace")
-        else:
-            print(f"writes                     {calls}")
-            print(f"writes a command           {calls / given.commands:.4f}")
-        tell_instructions(program, given, folder)
+    measure.adopt()
+    print("|", " | ".join(HEAD), "|\n|" + "---|" * len(HEAD))
+    peaks = {}
+    for kind in chosen:
+        for size, found in figures(program, kind, sizes_of(kind, [int(size) for size in given.sizes.split(",")]), given):
+            print("|", " | ".join([kind, f"{size:,}", *cells(found)]), "|", flush=True)
+            if kind == "deposit" and found:
+                peaks[size] = found.peak
+    tell_bytes(peaks)
 
 
-main()
+if __name__ == "__main__":
+    main()

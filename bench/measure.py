@@ -1,0 +1,59 @@
+"""Runs a program on a script in a file: its processor time, its peak memory, its replies, its instructions."""
+import ctypes
+import os
+import re
+import subprocess
+
+# Copies and clearings of any size by vector instructions: of a `rep movsb` callgrind would count each byte.
+NO_REP = "glibc.cpu.x86_rep_movsb_threshold=1000000000000:glibc.cpu.x86_rep_stosb_threshold=1000000000000"
+SUBREAPER = 36
+# A run that takes more seconds of processor time is ended.
+LIMIT = 20
+
+
+def adopt():
+    """Has the system hand orphans below this process to it, so that it can wait for what a shell started and left."""
+    if ctypes.CDLL(None, use_errno=True).prctl(SUBREAPER, 1, 0, 0, 0) != 0:
+        raise OSError(ctypes.get_errno(), "can't wait for programs that a shell started")
+
+
+def usage(program, path):
+    """What a run used: seconds of processor time, user and system, and the peak of its memory in bytes. None over the limit.
+
+    The system counts the memory of the process that starts a program to the program's peak. So a small shell starts it,
+    and is gone when the program begins.
+    """
+    line = f'ulimit -t {LIMIT}; exec 3<&0; {{ read go <&3; exec "$0" script < "$1" > /dev/null 3<&-; }} & echo $!'
+    with subprocess.Popen(["sh", "-c", line, program, path], stdin=subprocess.PIPE, stdout=subprocess.PIPE) as shell:
+        number = int(shell.stdout.readline())
+        shell.wait()
+    _, status, used = os.wait4(number, 0)
+    if os.WIFSIGNALED(status) and used.ru_utime + used.ru_stime >= LIMIT - 1:
+        return None
+    if status != 0:
+        raise SystemExit(f"{program} script: status {os.waitstatus_to_exitcode(status)}")
+    return used.ru_utime + used.ru_stime, used.ru_maxrss * 1024
+
+
+def refused(program, path):
+    """How many replies are refusals."""
+    with open(path, "rb") as script, subprocess.Popen([program, "script"], stdin=script, stdout=subprocess.PIPE) as run:
+        return sum(b'"refused"' in line for line in run.stdout)
+
+
+def instructions(program, path):
+    """How many instructions a run takes, by callgrind, or None where it can't tell."""
+    words = ["valgrind", "--tool=callgrind", "--callgrind-out-file=/dev/null", program, "script"]
+    with open(path, "rb") as script:
+        done = subprocess.run(words, stdin=script, capture_output=True, env=os.environ | {"GLIBC_TUNABLES": NO_REP})
+    told = re.search(rb"Collected : (\d+)", done.stderr)
+    return int(told.group(1)) if told and done.returncode == 0 else None
+
+
+def writes(program, path):
+    """How many write calls a run makes, by strace, or None where it can't tell."""
+    words = ["strace", "-f", "-c", "-e", "trace=write,writev", program, "script"]
+    with open(path, "rb") as script:
+        done = subprocess.run(words, stdin=script, stdout=subprocess.DEVNULL, stderr=subprocess.PIPE)
+    rows = [line.split() for line in done.stderr.decode().splitlines()]
+    return sum(int(row[3]) for row in rows if row and row[-1] in ("write", "writev")) if done.returncode == 0 else None

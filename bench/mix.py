@@ -1,0 +1,240 @@
+"""The mixed script: requests and questions at all sites, with their messages on the way between them.
+
+Follows the sites as it goes (what each applied and holds, balances, the token), so that every command
+is accepted but for those that repeat. A command costs the same time here however long the script is.
+"""
+import random
+
+MOST = 100_000_000_000
+VERBS = ("deposit", "withdraw", "interest", "cancel", "balance", "pass")
+DEFAULT_MIX = "deposit=6,withdraw=3,interest=1,cancel=1,balance=4,pass=1"
+# Of the deliveries, one in so many is of a message that came before.
+REPEATS = 50
+# Of the withdrawals, one in so many is of more than there is.
+DECLINED = 20
+
+
+class Operation:
+    """An operation with what it depends on: so many blue operations of each home, and so many red ones."""
+
+    __slots__ = ("name", "home", "number", "red", "clock", "reds", "kind", "account", "amount", "target")
+
+    def __init__(self, site, kind, red, account, amount, target):
+        self.home = site.number
+        self.number = (site.reds if red else site.clock[self.home]) + 1
+        self.name = f"R{self.number}" if red else f"B{self.home}.{self.number}"
+        self.red = red
+        self.clock = tuple(site.clock)
+        self.reds = site.reds
+        self.kind = kind
+        self.account = account
+        self.amount = amount
+        self.target = target
+
+
+class Site:
+    """What one site applied and holds, and the messages that haven't come to it."""
+
+    def __init__(self, number, sites, starts):
+        self.number = number
+        self.balances = list(starts)
+        self.clock = [0] * sites
+        self.reds = 0
+        self.cancelled = set()
+        self.cancellable = []
+        self.held = {}
+        self.waiting = []
+        self.has_token = number == 0
+        self.epoch = 0
+        self.needed = 0
+
+    def may_make_red(self):
+        return self.has_token and self.reds >= self.needed
+
+    def has_applied(self, operation):
+        return operation.number <= (self.reds if operation.red else self.clock[operation.home])
+
+    def next_names(self):
+        """The names that could be applied next: only the next of each home and the next red one can be ready."""
+        yield f"R{self.reds + 1}"
+        for home, count in enumerate(self.clock):
+            yield f"B{home}.{count + 1}"
+
+    def ready(self):
+        """The held operations whose past is applied here."""
+        held = [self.held[name] for name in self.next_names() if name in self.held]
+        return [one for one in held if self.reds >= one.reds and all(map(int.__ge__, self.clock, one.clock))]
+
+    def change(self, operation):
+        """What the operation would move here."""
+        if operation.kind == "declined":
+            return 0
+        if operation.kind == "withdraw":
+            return -operation.amount
+        if operation.kind != "cancel":
+            return operation.amount
+        if operation.target.name in self.cancelled:
+            return 0
+        return operation.amount if operation.target.kind == "withdraw" else -operation.amount
+
+    def apply(self, operation):
+        self.balances[operation.account] += self.change(operation)
+        if operation.kind == "cancel":
+            self.cancelled.add(operation.target.name)
+        elif operation.kind != "declined":
+            self.cancellable.append(operation)
+        if operation.red:
+            self.reds += 1
+        else:
+            self.clock[operation.home] += 1
+
+
+class Mix:
+    """A run of the sites, one command at a time."""
+
+    def __init__(self, pick, sites, accounts, weights, backlog):
+        self.pick = pick
+        self.names = [f"a{place}" for place in range(accounts)]
+        self.starts = [pick(10_000) for _ in self.names]
+        self.sites = [Site(number, sites, self.starts) for number in range(sites)]
+        self.sent = []
+        self.requests = [getattr(self, f"make_{verb}") for verb, weight in weights.items() for _ in range(weight)]
+        self.backlog = backlog
+        # How many deliveries and applications are still to come for what was made.
+        self.owed = 0
+
+    def one_of(self, items):
+        return items[self.pick(len(items))]
+
+    def command(self, left):
+        """The next command, of so many. Where much is on its way, it moves on first; at the end, all that is left."""
+        if self.owed >= left:
+            return self.moves_on()
+        site = self.one_of(self.sites)
+        ready = site.ready()
+        if ready and self.pick(10) < 7:
+            return self.applies(site, self.one_of(ready))
+        if site.waiting and self.pick(self.backlog) < max(0.4 * self.backlog, len(site.waiting)):
+            return self.delivers(site)
+        return self.one_of(self.requests)(site) or self.make_balance(site)
+
+    # ---- messages
+
+    def moves_on(self):
+        """A command that brings a site further: there is one while any is owed."""
+        for site in self.sites:
+            ready = site.ready()
+            if ready:
+                return self.applies(site, ready[0])
+        behind = next((site for site in self.sites if site.waiting), None)
+        return self.delivers(behind) if behind else self.make_balance(self.sites[0])
+
+    def send(self, message, sites, owed):
+        self.sent.append(message)
+        self.owed += owed
+        for site in sites:
+            site.waiting.append(len(self.sent))
+
+    def delivers(self, site):
+        place = self.pick(len(site.waiting))
+        site.waiting[place], site.waiting[-1] = site.waiting[-1], site.waiting[place]
+        number = site.waiting.pop()
+        message = self.sent[number - 1]
+        self.owed -= 1
+        if not isinstance(message, Operation):
+            if message[0] > site.epoch:
+                site.epoch, site.needed = message
+                site.has_token = True
+        elif not site.has_applied(message):
+            site.held[message.name] = message
+        if self.pick(REPEATS) == 0:
+            site.waiting.append(number)
+            self.owed += 1
+        return f'{{"deliver":{number},"site":{site.number}}}'
+
+    def applies(self, site, operation):
+        site.apply(site.held.pop(operation.name))
+        self.owed -= 1
+        return f'{{"apply":"{operation.name}","site":{site.number}}}'
+
+    # ---- requests
+
+    def make(self, site, kind, red, account, amount, target=None):
+        """The operation that a request makes, applied here and sent to all others."""
+        operation = Operation(site, kind, red, account, amount, target)
+        site.apply(operation)
+        others = [other for other in self.sites if other is not site]
+        self.send(operation, others, 2 * len(others))
+
+    def make_deposit(self, site):
+        account, amount = self.pick(len(self.names)), 1 + self.pick(1000)
+        self.make(site, "deposit", False, account, amount)
+        return f'{{"deposit":["{self.names[account]}",{amount}],"site":{site.number}}}'
+
+    def for_red(self, site):
+        """The site that may make red operations, if one may now, else this one."""
+        return next((other for other in self.sites if other.may_make_red()), site)
+
+    def make_withdraw(self, site):
+        site = self.for_red(site)
+        account = self.pick(len(self.names))
+        balance = site.balances[account]
+        if self.pick(DECLINED) == 0 and balance < MOST:
+            amount, kind = balance + 1, "declined"
+        elif site.may_make_red() and balance > 0:
+            amount, kind = 1 + self.pick(min(balance, 500)), "withdraw"
+        else:
+            return None
+        self.make(site, kind, kind == "withdraw", account, amount)
+        return f'{{"withdraw":["{self.names[account]}",{amount}],"site":{site.number}}}'
+
+    def make_interest(self, site):
+        account, rate = self.pick(len(self.names)), self.pick(20)
+        amount = site.balances[account] * rate // 10_000
+        if amount > MOST:
+            return None
+        self.make(site, "interest", False, account, amount)
+        return f'{{"interest":["{self.names[account]}",{rate}],"site":{site.number}}}'
+
+    def make_cancel(self, site):
+        site = self.for_red(site)
+        if not site.cancellable:
+            return None
+        target = self.one_of(site.cancellable)
+        red = target.kind != "withdraw"
+        if target.name in site.cancelled:
+            return None
+        if red and not (site.may_make_red() and site.balances[target.account] >= target.amount):
+            return None
+        self.make(site, "cancel", red, target.account, target.amount, target)
+        return f'{{"cancel":"{target.name}","site":{site.number}}}'
+
+    def make_pass(self, site):
+        """Sends the token on: a pair of its epoch and of the red operations that its next site needs first."""
+        site = self.for_red(site)
+        if not site.has_token:
+            return None
+        to = self.one_of([other for other in self.sites if other is not site])
+        site.epoch, site.has_token = site.epoch + 1, False
+        self.send((site.epoch, max(site.needed, site.reds)), [to], 1)
+        return f'{{"pass":{to.number},"site":{site.number}}}'
+
+    def make_balance(self, site):
+        return f'{{"balance":"{self.one_of(self.names)}","site":{site.number}}}'
+
+
+def weights_of(text):
+    """The weights that a text such as `deposit=6,balance=4` gives."""
+    pairs = [part.split("=") for part in text.split(",")]
+    if any(len(pair) != 2 or pair[0] not in VERBS or not pair[1].isdigit() for pair in pairs):
+        raise ValueError(f"weights of {', '.join(VERBS)} are wanted, as {DEFAULT_MIX}")
+    return {verb: int(weight) for verb, weight in pairs}
+
+
+def mix(seed, commands, sites=3, accounts=10, weights=DEFAULT_MIX, backlog=16):
+    """The accounts with their starts, and then the commands."""
+    uniform = random.Random(seed).random
+    run = Mix(lambda below: int(uniform() * below), sites, accounts, weights_of(weights), backlog)
+    yield list(zip(run.names, run.starts))
+    for done in range(commands):
+        yield run.command(commands - done)
