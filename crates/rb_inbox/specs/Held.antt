@@ -43,7 +43,7 @@ abbrev pub place_in : List Shadow → OpName → ℕ
 place_in [] x = 0
 place_in (u ∷ us) x = if stands_before u.name x then suc (place_in us x) else 0
 
--- what can be held: a blue name's site is the home, and the number, from 1, is the next after the own entry of the past
+-- an operation that may be held: a blue name's site is its home, and the name's number, so at least 1, is one more than the entry of its past for the name
 pub record IsNumbered (v : Shadow) : Type 0 where
   pub home : is_foreign v.name v.home ≡ false
   pub next : number_of v.name ≡ entry_of v.deps v.name + 1

@@ -91,6 +91,7 @@ impl Inbox {
         ensures ok { OnOk result (self.new ≡ record self.old { held = with_held shadow self.old.held }) }
         ensures err { OnErr result (self.new ≡ self.old) }
     {
+        // There is no memory for more shadows than a `usize` counts.
         let count = self.count.checked_add(1).ok_or(AllocError)?;
         let row = row_place(shadow.name);
         add_rows(&mut self.rows, row + 1, self.alloc)?;

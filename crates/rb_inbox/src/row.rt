@@ -5,9 +5,9 @@ use rb_shadow::Shadow;
 use std::alloc::{AllocError, Global};
 use std::marker::Model;
 
-/// Shadows in a row, behind free slots. To put one in or take one out at either end moves no other,
-/// but where slots are made or given up: so many are then, that it is a constant number of moves each
-/// in the long run.
+/// Shadows in a row, behind free slots: at either end one is put in or taken out without a move of the
+/// others. Slots are made and given up so many at a time that this costs a constant number of moves
+/// for each call, on average.
 #[derive(Drop)]
 pub struct Row {
     slots: Vec<Shadow>,
