@@ -1,7 +1,7 @@
 -- A ledger and its log as of a position, from one position to the next.
-use Rattle.std.proofs.Common.{◌≡◌, ℕ, ◌+◌, List, [], ◌∷◌, ◌++◌, length, take, drop, refl, ap, sym, ◌∙◌, subst, arith, Some}
+use Rattle.std.proofs.Common.{◌≡◌, ℕ, ◌+◌, List, [], ◌∷◌, ◌++◌, take, drop, ap, sym, ◌∙◌, subst, arith, Some}
 use Rattle.std.specs.Prelude.{slice_get}
-use Rattle.std.proofs.lemmas.List.{take_all, take-append-drop}
+use Rattle.std.proofs.lemmas.List.{take-append-drop}
 use Rattle.std.proofs.lemmas.Option.{slice_get_within}
 use Rattle.rb_money.specs.Settings.{Settings}
 use Rattle.rb_shadow.specs.declared.shadow.Shadow.{Shadow}
@@ -18,17 +18,6 @@ use Rattle.rb_ledger.proofs.Legal
 use Rattle.rb_ledger.proofs.Moves
 use Rattle.rb_ledger.proofs.Records
 
--- lists that end alike
-ends : {X : Type 0} (xs ys : List X) (x y : X) → xs ++ x ∷ [] ≡ ys ++ y ∷ [] → (xs ≡ ys) × (x ≡ y)
-ends [] [] x y e = (refl, (let a : x ≡ y = cc in a))
-ends [] (v ∷ []) x y e = cc
-ends [] (v ∷ w ∷ ys) x y e = cc
-ends (v ∷ []) [] x y e = cc
-ends (v ∷ w ∷ xs) [] x y e = cc
-ends (v ∷ xs) (w ∷ ys) x y e =
-    let (rest, same) = ends xs ys x y (let a : xs ++ x ∷ [] ≡ ys ++ y ∷ [] = cc in a) in
-    ((let first : v ≡ w = cc in let a : v ∷ xs ≡ w ∷ ys = cc in a), same)
-
 -- the last of the first operations, and its record
 pub record Latest (s : Settings) (us : List Shadow) (n : ℕ) (x : Index) (ps : List UndoParts) (r : UndoParts) : Type 0 where
   pub last : Shadow
@@ -41,7 +30,7 @@ pub latest : (s : Settings) (us : List Shadow) (m n : ℕ) (ls : List Link) (x :
 latest s us m n ls x l ps r at next popped =
     let (last, there) = ChainFacts.element us n (omega (arith, at.within, next)) in
     let more : take m us ≡ take n us ++ last ∷ [] = ap (λ k. take k us) next ∙ Moves.one_more us n last there in
-    let (front, is) = ends ps (records_of s (take n us)) r (parts_of s (take n us) last) (sym popped ∙ at.records ∙ ap (records_of s) more ∙ Records.records_of-push s (take n us) last) in
+    let (front, is) = Records.ends ps (records_of s (take n us)) r (parts_of s (take n us) last) (sym popped ∙ at.records ∙ ap (records_of s) more ∙ Records.records_of-push s (take n us) last) in
     record { last = last; there = there; index = subst (λ vs. IsIndex s vs x) more at.index; parts = is; records = front }
 
 -- the last before it on its account
@@ -76,19 +65,3 @@ forth s us n m ls x y l k u r at next there is pushed less index =
       records = pushed ∙ ap (λ ps. ps ++ r ∷ []) at.records ∙ ap (λ q. records_of s (take n us) ++ q ∷ []) is ∙ sym (Records.records_of-push s (take n us) u) ∙ ap (records_of s) (sym more);
       room = omega (arith, at.room, next, less);
     })
-
--- the position of all operations
-pub all : (s : Settings) (us : List Shadow) (n : ℕ) (ls : List Link) (x : Index) (l : Log) → IsIndex s us x → AreLinks s us ls → n ≡ length us → l.parts ≡ records_of s us → IsAt s us n ls x l
-all s us n ls x l index links here parts =
-    let whole : take n us ≡ us = take_all n us (omega (arith, here)) in
-    record {
-      valid = index.kept.valid;
-      within = omega (arith, here);
-      links = links;
-      index = subst (λ vs. IsIndex s vs x) (sym whole) index;
-      records = parts ∙ ap (records_of s) (sym whole);
-      room = omega (arith, here);
-    }
-
-pub whole : (s : Settings) (us : List Shadow) (n : ℕ) (ls : List Link) (x : Index) (l : Log) → IsAt s us n ls x l → n ≡ length us → IsIndex s us x
-whole s us n ls x l at here = subst (λ vs. IsIndex s vs x) (take_all n us (omega (arith, here))) at.index
