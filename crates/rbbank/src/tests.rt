@@ -3,7 +3,7 @@ ghost use Rattle.rb_ledger.specs.Records.{records_of};
 ghost use Rattle.rb_site.specs.Worlds.{IsCommand};
 
 use crate::from_reader::FromReader;
-use crate::rows::{ROWS, Row};
+use crate::rows::{ROWS, Row, two_hundred_backwards};
 use crate::to_writer::ToWriter;
 use rb_history::{LineFault, read_command, read_config, write_reply};
 use rb_ledger::Ledger;
@@ -15,14 +15,21 @@ use rb_site::{Event, OpNames, Reply, Requests, WorldEvent};
 use rb_undo::UndoLog;
 use rb_world::World;
 use std::alloc::Global;
+use std::process::Abort;
 use std::test::Fail;
 
-/// The commands on the lines after the configuration's.
-fn commands(alloc: Global, config: &Config, script: &str) -> Result<Vec<WorldEvent>, LineFault>
+/// The commands on the lines after the configuration's: past so many of them, at most so many.
+pub fn commands(
+    alloc: Global,
+    config: &Config,
+    script: &str,
+    past: usize,
+    most: usize,
+) -> Result<Vec<WorldEvent>, LineFault>
     ensures { IfOk result (λ events. All IsCommand events.items) }
 {
     let mut events = Vec::new(alloc);
-    for line in script.lines().skip(1) {
+    for line in script.lines().skip(1).skip(past).take(most) {
         let event = match read_command(alloc, config, line) {
             Ok(event) => event,
             Err(fault) => return Err(fault),
@@ -35,17 +42,29 @@ fn commands(alloc: Global, config: &Config, script: &str) -> Result<Vec<WorldEve
     Ok(events)
 }
 
+/// Runs a script as the program does. The replies are those that are wanted.
+fn answers_script(rt: &(impl Abort + AllocGlobal), name: &str, script: &str, replies: &str) {
+    let mut reader = FromReader::new(script.as_bytes());
+    let mut text = Vec::new(rt.alloc());
+    let mut writer = ToWriter::new(&mut text);
+    let result = run_script(rt.alloc(), &mut reader, &mut writer);
+    let count = replies.lines().count() as u64;
+    assert_eq!(rt; result, Ok(count), "{name}");
+    assert_eq!(rt; text.as_slice(), replies.as_bytes(), "{name}");
+}
+
 #[test]
 fn rows_as_scripts(rt: HostRuntime) -> Result<(), Fail> {
     for row in &ROWS {
-        let mut reader = FromReader::new(row.script.as_bytes());
-        let mut text = Vec::new(rt.alloc());
-        let mut writer = ToWriter::new(&mut text);
-        let result = run_script(rt.alloc(), &mut reader, &mut writer);
-        let count = row.replies.lines().count() as u64;
-        assert_eq!(rt; result, Ok(count), "{}", row.name);
-        assert_eq!(rt; text.as_slice(), row.replies.as_bytes(), "{}", row.name);
+        answers_script(&rt, row.name, row.script, row.replies);
     }
+    let (script, replies) = two_hundred_backwards(rt.alloc())?;
+    answers_script(
+        &rt,
+        "two_hundred_backwards",
+        script.as_str(),
+        replies.as_str(),
+    );
     Ok(())
 }
 
@@ -55,11 +74,19 @@ fn config_of(alloc: Global, script: &str) -> Result<Config, Fail> {
     Ok(read_config(alloc, first)?)
 }
 
+/// The world of a script before any event, and its events.
+pub fn opened(alloc: Global, script: &str) -> Result<(World, Vec<WorldEvent>), Fail>
+    ensures { IfOk result (λ it. All IsCommand it.1.items) }
+{
+    let config = config_of(alloc, script)?;
+    let events = commands(alloc, &config, script, 0, usize::MAX)?;
+    let world = World::open(alloc, config)?;
+    Ok((world, events))
+}
+
 /// The world after a script, and its replies.
 fn run(alloc: Global, script: &str) -> Result<(World, Vec<Reply>), Fail> {
-    let config = config_of(alloc, script)?;
-    let events = commands(alloc, &config, script)?;
-    let mut world = World::open(alloc, config)?;
+    let (mut world, events) = opened(alloc, script)?;
     match world.run(alloc, events.as_slice()) {
         Ok(replies) => Ok((world, replies)),
         Err(_) => {
@@ -70,7 +97,7 @@ fn run(alloc: Global, script: &str) -> Result<(World, Vec<Reply>), Fail> {
 }
 
 /// The worked row of a name.
-fn row(name: &str) -> Result<&'static Row, Fail> {
+pub fn row(name: &str) -> Result<&'static Row, Fail> {
     for row in &ROWS {
         if row.name == name {
             return Ok(row);
@@ -79,19 +106,36 @@ fn row(name: &str) -> Result<&'static Row, Fail> {
     Err(Fail::from("no such row"))
 }
 
+/// The lines of replies.
+pub fn text_of(alloc: Global, replies: &[Reply]) -> Result<String, Fail> {
+    let mut text = String::new(alloc);
+    for reply in replies {
+        text.push_str(write_reply(alloc, reply)?.as_str())?;
+    }
+    Ok(text)
+}
+
+/// Runs a script's events in a world. The replies are those that are wanted.
+fn answers_events(rt: &(impl Abort + AllocGlobal), name: &str, script: &str, replies: &str) -> Result<(), Fail> {
+    let (world, answers) = run(rt.alloc(), script)?;
+    let _reports = world.close();
+    let text = text_of(rt.alloc(), answers.as_slice())?;
+    assert_eq!(rt; text.as_str(), replies, "{name}");
+    Ok(())
+}
+
 #[test]
 fn whole_run(rt: HostRuntime) -> Result<(), Fail> {
-    let alloc = rt.alloc();
     for row in &ROWS {
-        let (world, replies) = run(alloc, row.script)?;
-        let _reports = world.close();
-        let mut text = String::new(alloc);
-        for reply in &replies {
-            text.push_str(write_reply(alloc, reply)?.as_str())?;
-        }
-        assert_eq!(rt; text.as_str(), row.replies, "{}", row.name);
+        answers_events(&rt, row.name, row.script, row.replies)?;
     }
-    Ok(())
+    let (script, replies) = two_hundred_backwards(rt.alloc())?;
+    answers_events(
+        &rt,
+        "two_hundred_backwards",
+        script.as_str(),
+        replies.as_str(),
+    )
 }
 
 #[test]
