@@ -440,7 +440,10 @@ pub const ROWS: [Row; 20] = [
 pub fn two_hundred_backwards(alloc: Global) -> Result<(String, String), AllocError> {
     let mut script = String::new(alloc);
     let mut replies = String::new(alloc);
-    writeln!(script, r#"{{"accounts":[["ann",0]],"sites":2,"version":1}}"#)?;
+    writeln!(
+        script,
+        r#"{{"accounts":[["ann",0]],"sites":2,"version":1}}"#
+    )?;
     for n in 1..=200u8 {
         writeln!(script, r#"{{"deposit":["ann",1],"site":0}}"#)?;
         writeln!(replies, r#"{{"kind":"deposit","name":"B0.{n}"}}"#)?;

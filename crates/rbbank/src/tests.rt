@@ -1,4 +1,4 @@
-ghost use Rattle.std.specs.Prelude.{◌≡◌, All, IfOk, OnOk};
+ghost use Rattle.std.specs.Prelude.{◌≡◌, ◌<◌, All, IfOk, IsTrue, OnOk, length};
 ghost use Rattle.rb_ledger.specs.Records.{records_of};
 ghost use Rattle.rb_site.specs.Worlds.{IsCommand};
 
@@ -11,10 +11,10 @@ use rb_money::{Config, Place};
 use rb_scratch::Request;
 use rb_script::run_script;
 use rb_shadow::{OpName, Shadow};
-use rb_site::{Event, OpNames, Reply, Requests, WorldEvent};
+use rb_site::{Event, OpNames, Reply, Requests, SiteReport, WorldEvent};
 use rb_undo::UndoLog;
 use rb_world::World;
-use std::alloc::Global;
+use std::alloc::{AllocError, Global};
 use std::process::Abort;
 use std::test::Fail;
 
@@ -69,19 +69,21 @@ fn rows_as_scripts(rt: HostRuntime) -> Result<(), Fail> {
 }
 
 /// The configuration on the first line.
-fn config_of(alloc: Global, script: &str) -> Result<Config, Fail> {
-    let first = script.lines().next().ok_or("no configuration")?;
-    Ok(read_config(alloc, first)?)
+pub fn config_of(alloc: Global, script: &str) -> Result<Config, LineFault> {
+    let first = script.lines().next().ok_or(LineFault::Bad)?;
+    read_config(alloc, first)
 }
 
 /// The world of a script before any event, and its events.
-pub fn opened(alloc: Global, script: &str) -> Result<(World, Vec<WorldEvent>), Fail>
+pub fn opened(alloc: Global, script: &str) -> Result<(World, Vec<WorldEvent>), LineFault>
     ensures { IfOk result (λ it. All IsCommand it.1.items) }
 {
     let config = config_of(alloc, script)?;
     let events = commands(alloc, &config, script, 0, usize::MAX)?;
-    let world = World::open(alloc, config)?;
-    Ok((world, events))
+    match World::open(alloc, config) {
+        Ok(world) => Ok((world, events)),
+        Err(_) => Err(LineFault::OutOfMemory),
+    }
 }
 
 /// The world after a script, and its replies.
@@ -107,7 +109,7 @@ pub fn row(name: &str) -> Result<&'static Row, Fail> {
 }
 
 /// The lines of replies.
-pub fn text_of(alloc: Global, replies: &[Reply]) -> Result<String, Fail> {
+pub fn text_of(alloc: Global, replies: &[Reply]) -> Result<String, AllocError> {
     let mut text = String::new(alloc);
     for reply in replies {
         text.push_str(write_reply(alloc, reply)?.as_str())?;
@@ -116,7 +118,12 @@ pub fn text_of(alloc: Global, replies: &[Reply]) -> Result<String, Fail> {
 }
 
 /// Runs a script's events in a world. The replies are those that are wanted.
-fn answers_events(rt: &(impl Abort + AllocGlobal), name: &str, script: &str, replies: &str) -> Result<(), Fail> {
+fn answers_events(
+    rt: &(impl Abort + AllocGlobal),
+    name: &str,
+    script: &str,
+    replies: &str,
+) -> Result<(), Fail> {
     let (world, answers) = run(rt.alloc(), script)?;
     let _reports = world.close();
     let text = text_of(rt.alloc(), answers.as_slice())?;
@@ -234,7 +241,7 @@ fn sites_tell_where_they_stood(rt: HostRuntime) -> Result<(), Fail> {
 }
 
 /// Whether two ledgers answer each look-up alike.
-fn same_answers(ledger: &Ledger, other: &Ledger) -> bool {
+pub fn same_answers(ledger: &Ledger, other: &Ledger) -> bool {
     let mut same = ledger.len() == other.len() && ledger.clock().deps() == other.clock().deps();
     for place in 0..3u16 {
         same = same && ledger.balance(Place(place)) == other.balance(Place(place));
@@ -270,21 +277,47 @@ fn stands_after(alloc: Global, ledger: &Ledger, shadows: &[Shadow]) -> Result<bo
     Ok(same_answers(ledger, &other))
 }
 
+/// Applies an operation, and keeps the record to undo it. Whether neither was refused.
+pub fn apply_next(ledger: &mut Ledger, log: &mut UndoLog, shadow: &Shadow) -> bool
+    requires { log.old.parts ≡ records_of ledger.old.settings ledger.old.entries }
+    ensures { IsTrue result → log.new.parts ≡ records_of ledger.new.settings ledger.new.entries }
+{
+    let Ok(undo) = ledger.apply(*shadow) else {
+        return false;
+    };
+    if let Err(undo) = log.push(undo) {
+        undo.seal();
+        return false;
+    }
+    true
+}
+
 /// Applies operations, and keeps the record to undo each.
 fn apply_all(ledger: &mut Ledger, log: &mut UndoLog, shadows: &[Shadow]) -> Result<(), Fail>
     requires { log.old.parts ≡ records_of ledger.old.settings ledger.old.entries }
     ensures { OnOk result (log.new.parts ≡ records_of ledger.new.settings ledger.new.entries) }
 {
     'shadows: for shadow in shadows {
-        let Ok(undo) = ledger.apply(*shadow) else {
+        if !apply_next(ledger, log, shadow) {
             return Err(Fail::from("refused"));
-        };
-        if let Err(undo) = log.push(undo) {
-            undo.seal();
-            return Err(Fail::from("no memory"));
         }
     }
     Ok(())
+}
+
+/// Undoes the last operation, if there is one. Whether there was.
+pub fn undo_last(ledger: &mut Ledger, log: &mut UndoLog) -> bool
+    requires { log.old.parts ≡ records_of ledger.old.settings ledger.old.entries }
+    ensures records { log.new.parts ≡ records_of ledger.new.settings ledger.new.entries }
+    ensures shorter { IsTrue result → length log.new.parts < length log.old.parts }
+{
+    match log.pop() {
+        Some(undo) => {
+            ledger.undo(undo);
+            true
+        }
+        None => false,
+    }
 }
 
 /// Undoes all operations backwards. Whether at each length the ledger answers as one that applied no
@@ -298,8 +331,7 @@ fn undo_all(
     requires { log.old.parts ≡ records_of ledger.old.settings ledger.old.entries }
 {
     let mut same = true;
-    'undos: while let Some(undo) = log.pop() {
-        ledger.undo(undo);
+    'undos: while undo_last(ledger, log) {
         let here = stands_after(alloc, ledger, shadows)?;
         same = same & here;
     }
@@ -320,6 +352,18 @@ fn there_and_back(alloc: Global, config: &Config, shadows: &[Shadow]) -> Result<
     Ok(same? & ledger.is_empty())
 }
 
+/// What the sites tell after a script.
+pub fn reports_of(alloc: Global, script: &str) -> Result<Vec<SiteReport>, LineFault> {
+    let (mut world, events) = opened(alloc, script)?;
+    let ran = world.run(alloc, events.as_slice()).is_ok();
+    let reports = world.close();
+    if ran {
+        Ok(reports)
+    } else {
+        Err(LineFault::OutOfMemory)
+    }
+}
+
 #[test]
 fn tail_back(rt: HostRuntime) -> Result<(), Fail> {
     let alloc = rt.alloc();
@@ -330,8 +374,7 @@ fn tail_back(rt: HostRuntime) -> Result<(), Fail> {
         "interest_stays",
     ] {
         let script = row(name)?.script;
-        let (world, _replies) = run(alloc, script)?;
-        let reports = world.close();
+        let reports = reports_of(alloc, script)?;
         let applied = &reports.get(0).ok_or("no report")?.entries;
         let config = config_of(alloc, script)?;
         assert!(rt; there_and_back(alloc, &config, applied.as_slice())?);
