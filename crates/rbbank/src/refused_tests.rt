@@ -14,7 +14,7 @@ use rb_ledger::Ledger;
 use rb_money::{Config, Place};
 use rb_script::{ScriptFault, run_script};
 use rb_shadow::Shadow;
-use rb_site::{Reply, Site, WorldEvent};
+use rb_site::{Message, Reply, Site, WorldEvent};
 use rb_undo::UndoLog;
 use rb_world::{Stopped, World};
 use std::alloc::{AllocError, Global};
@@ -31,14 +31,25 @@ macro_rules! twice {
     };
 }
 
-/// Whether two sites stand alike: their operations, balances, counts and clocks, their tokens, how many
-/// shadows wait, and their histories.
+/// Whether two sites hold the same of the shadows that these messages bring.
+fn same_held(site: &Site, other: &Site, messages: &[Message]) -> bool {
+    let mut same = site.inbox().len() == other.inbox().len();
+    for message in messages {
+        if let Message::Shadow(shadow) = message {
+            let name = &shadow.name;
+            same = same && site.inbox().held(name) == other.inbox().held(name);
+        }
+    }
+    same
+}
+
+/// Whether two sites stand alike: their operations, balances, counts and clocks, their tokens and their
+/// histories.
 fn same_sites(site: &Site, other: &Site) -> bool {
     let mut same = same_answers(site.ledger(), other.ledger())
         && site.log().len() == other.log().len()
         && site.token().view() == other.token().view()
         && site.token().epoch() == other.token().epoch()
-        && site.inbox().len() == other.inbox().len()
         && site.history().len() == other.history().len();
     for (entry, it) in site.history().iter().zip(other.history()) {
         same = same && entry.same(it);
@@ -56,7 +67,9 @@ fn same_worlds(world: &World, other: &World) -> bool {
     for place in 0..world.config().sites() {
         same = same
             && match (world.site(place), other.site(place)) {
-                (Some(site), Some(it)) => same_sites(site, it),
+                (Some(site), Some(it)) => {
+                    same_sites(site, it) && same_held(site, it, world.messages())
+                }
                 _ => false,
             };
     }

@@ -240,17 +240,35 @@ fn sites_tell_where_they_stood(rt: HostRuntime) -> Result<(), Fail> {
     Ok(())
 }
 
+/// Whether two ledgers answer each look-up of a position alike.
+fn same_at(ledger: &Ledger, other: &Ledger, position: u32) -> bool {
+    let mut same = ledger.entry(position) == other.entry(position)
+        && ledger.count(position) == other.count(position)
+        && ledger.first_cancel(position) == other.first_cancel(position);
+    for place in 0..3u16 {
+        let place = Place(place);
+        same = same && ledger.moved(position, place) == other.moved(position, place);
+        if position <= ledger.len() && position <= other.len() {
+            let then = ledger.balance_after(position, place);
+            same = same && then == other.balance_after(position, place);
+        }
+    }
+    same
+}
+
 /// Whether two ledgers answer each look-up alike.
 pub fn same_answers(ledger: &Ledger, other: &Ledger) -> bool {
-    let mut same = ledger.len() == other.len() && ledger.clock().deps() == other.clock().deps();
-    for place in 0..3u16 {
-        same = same && ledger.balance(Place(place)) == other.balance(Place(place));
+    let mut same = ledger.len() == other.len()
+        && ledger.clock().deps() == other.clock().deps()
+        && ledger.red_row() == other.red_row();
+    for number in 0..3u8 {
+        let place = Place(u16::from(number));
+        same = same
+            && ledger.balance(place) == other.balance(place)
+            && ledger.blue_row(number) == other.blue_row(number);
     }
     for position in 0..ledger.len() + 2 {
-        same = same
-            && ledger.entry(position) == other.entry(position)
-            && ledger.count(position) == other.count(position)
-            && ledger.first_cancel(position) == other.first_cancel(position);
+        same = same && same_at(ledger, other, position);
     }
     for shadow in ledger.entries() {
         same = same && ledger.find(&shadow.name) == other.find(&shadow.name);
