@@ -1,4 +1,4 @@
-.PHONY: demo build test check
+.PHONY: demo build test check refuse
 
 # The stored run, each command beside its reply.
 demo:
@@ -16,3 +16,8 @@ test:
 # Every crate, over what earlier checks kept.
 check:
 	rt all check
+
+# Each allocation of the program and of three tests refused in turn (docs/GATE.md, "Beside the gate").
+refuse: build
+	@cd crates/rbbank && rt test
+	@tests/refuse.py crates/rbbank/out/rbbank crates/rbbank/out/rbbank_tests

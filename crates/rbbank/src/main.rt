@@ -10,6 +10,8 @@ ghost use Rattle.rbbank.specs.Statuses.{IsEnd, status_of_unread, status_of_words
 
 mod from_reader;
 #[cfg(test)]
+mod refused_tests;
+#[cfg(test)]
 mod rows;
 #[cfg(test)]
 mod tests;

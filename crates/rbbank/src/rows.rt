@@ -1,5 +1,7 @@
 //! The worked rows: scripts and what they are answered.
 
+use std::alloc::{AllocError, Global};
+
 /// A script by its name, and its replies.
 pub struct Row {
     pub name: &'static str,
@@ -432,3 +434,31 @@ pub const ROWS: [Row; 20] = [
 "#,
     },
 ];
+
+/// A script and its replies: 200 deposits of 1 cent at site 0, whose messages reach site 1 last to first. Each
+/// is held there until all before it are applied.
+pub fn two_hundred_backwards(alloc: Global) -> Result<(String, String), AllocError> {
+    let mut script = String::new(alloc);
+    let mut replies = String::new(alloc);
+    writeln!(
+        script,
+        r#"{{"accounts":[["ann",0]],"sites":2,"version":1}}"#
+    )?;
+    for n in 1..=200u8 {
+        writeln!(script, r#"{{"deposit":["ann",1],"site":0}}"#)?;
+        writeln!(replies, r#"{{"kind":"deposit","name":"B0.{n}"}}"#)?;
+    }
+    for n in (1..=200u8).rev() {
+        writeln!(script, r#"{{"deliver":{n},"site":1}}"#)?;
+        writeln!(replies, r#"{{"held":"B0.{n}"}}"#)?;
+    }
+    writeln!(script, r#"{{"apply":"B0.2","site":1}}"#)?;
+    writeln!(replies, r#"{{"refused":15}}"#)?;
+    for n in 1..=200u8 {
+        writeln!(script, r#"{{"apply":"B0.{n}","site":1}}"#)?;
+        writeln!(replies, r#"{{"applied":"B0.{n}"}}"#)?;
+    }
+    writeln!(script, r#"{{"balance":"ann","site":1}}"#)?;
+    writeln!(replies, r#"{{"balance":200}}"#)?;
+    Ok((script, replies))
+}

@@ -1,9 +1,9 @@
-ghost use Rattle.std.specs.Prelude.{◌≡◌, All, IfOk, OnOk};
+ghost use Rattle.std.specs.Prelude.{◌≡◌, ◌<◌, All, IfOk, IsTrue, OnOk, length};
 ghost use Rattle.rb_ledger.specs.Records.{records_of};
 ghost use Rattle.rb_site.specs.Worlds.{IsCommand};
 
 use crate::from_reader::FromReader;
-use crate::rows::{ROWS, Row};
+use crate::rows::{ROWS, Row, two_hundred_backwards};
 use crate::to_writer::ToWriter;
 use rb_history::{LineFault, read_command, read_config, write_reply};
 use rb_ledger::Ledger;
@@ -11,18 +11,25 @@ use rb_money::{Config, Place};
 use rb_scratch::Request;
 use rb_script::run_script;
 use rb_shadow::{OpName, Shadow};
-use rb_site::{Event, OpNames, Reply, Requests, WorldEvent};
+use rb_site::{Event, OpNames, Reply, Requests, SiteReport, WorldEvent};
 use rb_undo::UndoLog;
 use rb_world::World;
-use std::alloc::Global;
+use std::alloc::{AllocError, Global};
+use std::process::Abort;
 use std::test::Fail;
 
-/// The commands on the lines after the configuration's.
-fn commands(alloc: Global, config: &Config, script: &str) -> Result<Vec<WorldEvent>, LineFault>
+/// The commands on the lines after the configuration's: past so many of them, at most so many.
+pub fn commands(
+    alloc: Global,
+    config: &Config,
+    script: &str,
+    past: usize,
+    most: usize,
+) -> Result<Vec<WorldEvent>, LineFault>
     ensures { IfOk result (λ events. All IsCommand events.items) }
 {
     let mut events = Vec::new(alloc);
-    for line in script.lines().skip(1) {
+    for line in script.lines().skip(1).skip(past).take(most) {
         let event = match read_command(alloc, config, line) {
             Ok(event) => event,
             Err(fault) => return Err(fault),
@@ -35,31 +42,53 @@ fn commands(alloc: Global, config: &Config, script: &str) -> Result<Vec<WorldEve
     Ok(events)
 }
 
+/// Runs a script as the program does. The replies are those that are wanted.
+fn answers_script(rt: &(impl Abort + AllocGlobal), name: &str, script: &str, replies: &str) {
+    let mut reader = FromReader::new(script.as_bytes());
+    let mut text = Vec::new(rt.alloc());
+    let mut writer = ToWriter::new(&mut text);
+    let result = run_script(rt.alloc(), &mut reader, &mut writer);
+    let count = replies.lines().count() as u64;
+    assert_eq!(rt; result, Ok(count), "{name}");
+    assert_eq!(rt; text.as_slice(), replies.as_bytes(), "{name}");
+}
+
 #[test]
 fn rows_as_scripts(rt: HostRuntime) -> Result<(), Fail> {
     for row in &ROWS {
-        let mut reader = FromReader::new(row.script.as_bytes());
-        let mut text = Vec::new(rt.alloc());
-        let mut writer = ToWriter::new(&mut text);
-        let result = run_script(rt.alloc(), &mut reader, &mut writer);
-        let count = row.replies.lines().count() as u64;
-        assert_eq!(rt; result, Ok(count), "{}", row.name);
-        assert_eq!(rt; text.as_slice(), row.replies.as_bytes(), "{}", row.name);
+        answers_script(&rt, row.name, row.script, row.replies);
     }
+    let (script, replies) = two_hundred_backwards(rt.alloc())?;
+    answers_script(
+        &rt,
+        "two_hundred_backwards",
+        script.as_str(),
+        replies.as_str(),
+    );
     Ok(())
 }
 
 /// The configuration on the first line.
-fn config_of(alloc: Global, script: &str) -> Result<Config, Fail> {
-    let first = script.lines().next().ok_or("no configuration")?;
-    Ok(read_config(alloc, first)?)
+pub fn config_of(alloc: Global, script: &str) -> Result<Config, LineFault> {
+    let first = script.lines().next().ok_or(LineFault::Bad)?;
+    read_config(alloc, first)
+}
+
+/// The world of a script before any event, and its events.
+pub fn opened(alloc: Global, script: &str) -> Result<(World, Vec<WorldEvent>), LineFault>
+    ensures { IfOk result (λ it. All IsCommand it.1.items) }
+{
+    let config = config_of(alloc, script)?;
+    let events = commands(alloc, &config, script, 0, usize::MAX)?;
+    match World::open(alloc, config) {
+        Ok(world) => Ok((world, events)),
+        Err(_) => Err(LineFault::OutOfMemory),
+    }
 }
 
 /// The world after a script, and its replies.
 fn run(alloc: Global, script: &str) -> Result<(World, Vec<Reply>), Fail> {
-    let config = config_of(alloc, script)?;
-    let events = commands(alloc, &config, script)?;
-    let mut world = World::open(alloc, config)?;
+    let (mut world, events) = opened(alloc, script)?;
     match world.run(alloc, events.as_slice()) {
         Ok(replies) => Ok((world, replies)),
         Err(_) => {
@@ -70,7 +99,7 @@ fn run(alloc: Global, script: &str) -> Result<(World, Vec<Reply>), Fail> {
 }
 
 /// The worked row of a name.
-fn row(name: &str) -> Result<&'static Row, Fail> {
+pub fn row(name: &str) -> Result<&'static Row, Fail> {
     for row in &ROWS {
         if row.name == name {
             return Ok(row);
@@ -79,19 +108,41 @@ fn row(name: &str) -> Result<&'static Row, Fail> {
     Err(Fail::from("no such row"))
 }
 
+/// The lines of replies.
+pub fn text_of(alloc: Global, replies: &[Reply]) -> Result<String, AllocError> {
+    let mut text = String::new(alloc);
+    for reply in replies {
+        text.push_str(write_reply(alloc, reply)?.as_str())?;
+    }
+    Ok(text)
+}
+
+/// Runs a script's events in a world. The replies are those that are wanted.
+fn answers_events(
+    rt: &(impl Abort + AllocGlobal),
+    name: &str,
+    script: &str,
+    replies: &str,
+) -> Result<(), Fail> {
+    let (world, answers) = run(rt.alloc(), script)?;
+    let _reports = world.close();
+    let text = text_of(rt.alloc(), answers.as_slice())?;
+    assert_eq!(rt; text.as_str(), replies, "{name}");
+    Ok(())
+}
+
 #[test]
 fn whole_run(rt: HostRuntime) -> Result<(), Fail> {
-    let alloc = rt.alloc();
     for row in &ROWS {
-        let (world, replies) = run(alloc, row.script)?;
-        let _reports = world.close();
-        let mut text = String::new(alloc);
-        for reply in &replies {
-            text.push_str(write_reply(alloc, reply)?.as_str())?;
-        }
-        assert_eq!(rt; text.as_str(), row.replies, "{}", row.name);
+        answers_events(&rt, row.name, row.script, row.replies)?;
     }
-    Ok(())
+    let (script, replies) = two_hundred_backwards(rt.alloc())?;
+    answers_events(
+        &rt,
+        "two_hundred_backwards",
+        script.as_str(),
+        replies.as_str(),
+    )
 }
 
 #[test]
@@ -189,17 +240,35 @@ fn sites_tell_where_they_stood(rt: HostRuntime) -> Result<(), Fail> {
     Ok(())
 }
 
-/// Whether two ledgers answer each look-up alike.
-fn same_answers(ledger: &Ledger, other: &Ledger) -> bool {
-    let mut same = ledger.len() == other.len() && ledger.clock().deps() == other.clock().deps();
+/// Whether two ledgers answer each look-up of a position alike.
+fn same_at(ledger: &Ledger, other: &Ledger, position: u32) -> bool {
+    let mut same = ledger.entry(position) == other.entry(position)
+        && ledger.count(position) == other.count(position)
+        && ledger.first_cancel(position) == other.first_cancel(position);
     for place in 0..3u16 {
-        same = same && ledger.balance(Place(place)) == other.balance(Place(place));
+        let place = Place(place);
+        same = same && ledger.moved(position, place) == other.moved(position, place);
+        if position <= ledger.len() && position <= other.len() {
+            let then = ledger.balance_after(position, place);
+            same = same && then == other.balance_after(position, place);
+        }
+    }
+    same
+}
+
+/// Whether two ledgers answer each look-up alike.
+pub fn same_answers(ledger: &Ledger, other: &Ledger) -> bool {
+    let mut same = ledger.len() == other.len()
+        && ledger.clock().deps() == other.clock().deps()
+        && ledger.red_row() == other.red_row();
+    for number in 0..3u8 {
+        let place = Place(u16::from(number));
+        same = same
+            && ledger.balance(place) == other.balance(place)
+            && ledger.blue_row(number) == other.blue_row(number);
     }
     for position in 0..ledger.len() + 2 {
-        same = same
-            && ledger.entry(position) == other.entry(position)
-            && ledger.count(position) == other.count(position)
-            && ledger.first_cancel(position) == other.first_cancel(position);
+        same = same && same_at(ledger, other, position);
     }
     for shadow in ledger.entries() {
         same = same && ledger.find(&shadow.name) == other.find(&shadow.name);
@@ -226,21 +295,47 @@ fn stands_after(alloc: Global, ledger: &Ledger, shadows: &[Shadow]) -> Result<bo
     Ok(same_answers(ledger, &other))
 }
 
+/// Applies an operation, and keeps the record to undo it. Whether neither was refused.
+pub fn apply_next(ledger: &mut Ledger, log: &mut UndoLog, shadow: &Shadow) -> bool
+    requires { log.old.parts ≡ records_of ledger.old.settings ledger.old.entries }
+    ensures { IsTrue result → log.new.parts ≡ records_of ledger.new.settings ledger.new.entries }
+{
+    let Ok(undo) = ledger.apply(*shadow) else {
+        return false;
+    };
+    if let Err(undo) = log.push(undo) {
+        undo.seal();
+        return false;
+    }
+    true
+}
+
 /// Applies operations, and keeps the record to undo each.
 fn apply_all(ledger: &mut Ledger, log: &mut UndoLog, shadows: &[Shadow]) -> Result<(), Fail>
     requires { log.old.parts ≡ records_of ledger.old.settings ledger.old.entries }
     ensures { OnOk result (log.new.parts ≡ records_of ledger.new.settings ledger.new.entries) }
 {
     'shadows: for shadow in shadows {
-        let Ok(undo) = ledger.apply(*shadow) else {
+        if !apply_next(ledger, log, shadow) {
             return Err(Fail::from("refused"));
-        };
-        if let Err(undo) = log.push(undo) {
-            undo.seal();
-            return Err(Fail::from("no memory"));
         }
     }
     Ok(())
+}
+
+/// Undoes the last operation, if there is one. Whether there was.
+pub fn undo_last(ledger: &mut Ledger, log: &mut UndoLog) -> bool
+    requires { log.old.parts ≡ records_of ledger.old.settings ledger.old.entries }
+    ensures records { log.new.parts ≡ records_of ledger.new.settings ledger.new.entries }
+    ensures shorter { IsTrue result → length log.new.parts < length log.old.parts }
+{
+    match log.pop() {
+        Some(undo) => {
+            ledger.undo(undo);
+            true
+        }
+        None => false,
+    }
 }
 
 /// Undoes all operations backwards. Whether at each length the ledger answers as one that applied no
@@ -254,8 +349,7 @@ fn undo_all(
     requires { log.old.parts ≡ records_of ledger.old.settings ledger.old.entries }
 {
     let mut same = true;
-    'undos: while let Some(undo) = log.pop() {
-        ledger.undo(undo);
+    'undos: while undo_last(ledger, log) {
         let here = stands_after(alloc, ledger, shadows)?;
         same = same & here;
     }
@@ -276,6 +370,18 @@ fn there_and_back(alloc: Global, config: &Config, shadows: &[Shadow]) -> Result<
     Ok(same? & ledger.is_empty())
 }
 
+/// What the sites tell after a script.
+pub fn reports_of(alloc: Global, script: &str) -> Result<Vec<SiteReport>, LineFault> {
+    let (mut world, events) = opened(alloc, script)?;
+    let ran = world.run(alloc, events.as_slice()).is_ok();
+    let reports = world.close();
+    if ran {
+        Ok(reports)
+    } else {
+        Err(LineFault::OutOfMemory)
+    }
+}
+
 #[test]
 fn tail_back(rt: HostRuntime) -> Result<(), Fail> {
     let alloc = rt.alloc();
@@ -286,8 +392,7 @@ fn tail_back(rt: HostRuntime) -> Result<(), Fail> {
         "interest_stays",
     ] {
         let script = row(name)?.script;
-        let (world, _replies) = run(alloc, script)?;
-        let reports = world.close();
+        let reports = reports_of(alloc, script)?;
         let applied = &reports.get(0).ok_or("no report")?.entries;
         let config = config_of(alloc, script)?;
         assert!(rt; there_and_back(alloc, &config, applied.as_slice())?);

@@ -5,7 +5,7 @@ use Rattle.rb_ledger.proofs.Records
 use Rattle.rb_ledger.specs.Records.{records_of}
 use Rattle.rb_shadow.proofs.Members
 use Rattle.rb_shadow.specs.declared.shadow.Shadow.{Shadow}
-use Rattle.rbbank.proofs.tests.undo_all.Goals as goal
+use Rattle.rbbank.proofs.tests.undo_last.Goals as goal
 
 -- lists with one more each are the same without it
 same_front : (us ws : List Shadow) (v w : Shadow) → us ++ v ∷ [] ≡ ws ++ w ∷ [] → ws ≡ us
@@ -16,12 +16,12 @@ same_front us ws v w e = elim (Members.push_split us ws [] v w e) [
 
 pub undo-requires : goal.undo-requires
 undo-requires c =
-    let (front, last, longer, is, rest) = Records.records_of-last c.undos.ledger.settings c.undos.ledger.entries c.pop.new.self.parts c.in-Some.undo (sym c.undos.invariant ∙ c.in-Some.ensures.0) in
+    let (front, last, longer, is, rest) = Records.records_of-last c.args.ledger.now.settings c.args.ledger.now.entries c.pop.new.self.parts c.in-Some.undo (sym c.requires ∙ c.in-Some.ensures.0) in
     (front, last, longer, is)
 
-pub undos-preserved : goal.undos-preserved
-undos-preserved c =
-    let (front, last, longer, is, rest) = Records.records_of-last c.undos.ledger.settings c.undos.ledger.entries c.pop.new.self.parts c.in-Some.undo (sym c.undos.invariant ∙ c.in-Some.ensures.0) in
+pub returns-in-Some-clause-records : goal.returns-in-Some-clause-records
+returns-in-Some-clause-records c =
+    let (front, last, longer, is, rest) = Records.records_of-last c.args.ledger.now.settings c.args.ledger.now.entries c.pop.new.self.parts c.in-Some.undo (sym c.requires ∙ c.in-Some.ensures.0) in
     let (taken, same) = c.undo.ensures.entries in
-    rest ∙ ap (records_of c.undos.ledger.settings) (sym (same_front front c.undo.new.self.entries last taken (sym longer ∙ same)))
+    rest ∙ ap (records_of c.args.ledger.now.settings) (sym (same_front front c.undo.new.self.entries last taken (sym longer ∙ same)))
     ∙ ap (λ (s : Settings). records_of s c.undo.new.self.entries) (sym c.undo.ensures.settings)

@@ -1,6 +1,0 @@
--- The record of the new operation is the last.
-use Rattle.rb_ledger.proofs.Records
-use Rattle.rbbank.proofs.tests.apply_all.Goals as goal
-
-pub shadows-preserved : goal.shadows-preserved
-shadows-preserved c = Records.records_of-pushed _ _ _ _ _ _ _ _ c.shadows.invariant c.in-Ok.ensures.applied.1 c.in-Ok.ensures.applied.0 c.apply.ensures.settings c.in_default-push.ensures.added

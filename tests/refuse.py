@@ -1,0 +1,128 @@
+#!/usr/bin/env python3
+"""Refuses each allocation in turn: of the program on four scripts, and of three tests.
+
+usage: refuse.py PROGRAM TESTS      (what `rt run` and `rt test` built in crates/rbbank/out)
+
+A process is run with its first allocation refused, another with its second, and so on until a run meets
+no refusal. The program has to write a front of the script's replies and end in status 4, or all of them
+in status 0; a test (crates/rbbank/src/refused_tests.rt) has to pass. Ends in status 1 where a run does
+otherwise, and where no run of a script was stopped on the way, or none inside a batch.
+"""
+import itertools
+import os
+import re
+import subprocess
+import sys
+import tempfile
+
+HERE = os.path.dirname(os.path.abspath(__file__))
+EXAMPLES = os.path.join(os.path.dirname(HERE), "examples")
+ROWS = [
+    "deposit_reaches_the_other_site",
+    "two_cancels_of_one_withdrawal",
+    "batch_all_or_nothing",
+    "as_of_each_position",
+]
+SECONDS = 60
+
+
+class Refuser:
+    """Runs commands with one of their allocations refused."""
+
+    def __init__(self, folder):
+        self.library = os.path.join(folder, "refuse_nth.so")
+        self.mark = os.path.join(folder, "refused")
+        source = os.path.join(HERE, "refuse_nth.c")
+        build = ["cc", "-shared", "-fPIC", "-O1", "-o", self.library, source, "-ldl"]
+        subprocess.run(build, check=True)
+
+    def runs(self, command, text=b""):
+        """What each run ended with, the first allocation refused, then the second and so on. The last
+        run met no refusal."""
+        for nth in itertools.count(1):
+            env = {"LD_PRELOAD": self.library, "REFUSE_NTH": str(nth), "REFUSE_MARK": self.mark}
+            try:
+                run = subprocess.run(
+                    command, input=text, capture_output=True, env=env, timeout=SECONDS
+                )
+            except subprocess.TimeoutExpired:
+                sys.exit(f"refuse: {' '.join(command)}: allocation {nth}: no end in {SECONDS} s")
+            if not os.path.exists(self.mark):
+                yield nth, run, False
+                return
+            os.remove(self.mark)
+            yield nth, run, True
+
+
+def fail(what, nth, run):
+    text = (run.stdout + run.stderr).decode(errors="replace")
+    sys.exit(f"refuse: {what}: allocation {nth}: status {run.returncode}\n{text}")
+
+
+def script(refuser, program, name):
+    """The program on a script. The number of refusals."""
+    with open(os.path.join(EXAMPLES, name + ".jsonl"), "rb") as file:
+        text = file.read()
+    with open(os.path.join(EXAMPLES, name + ".expected"), "rb") as file:
+        whole = file.read()
+    refusals = stopped = midway = 0
+    for nth, run, refused in refuser.runs([program, "script"], text):
+        wrote_all = run.returncode == 0 and run.stdout == whole and run.stderr == b""
+        gave_up = run.returncode == 4 and run.stderr == b"rbbank: out of memory\n"
+        if not wrote_all and not (refused and gave_up and whole.startswith(run.stdout)):
+            fail(name, nth, run)
+        refusals += refused
+        stopped += gave_up
+        midway += gave_up and b"" != run.stdout != whole
+    print(f"{name}: {refusals} refusals, {stopped} runs stopped, {midway} of them midway in the text")
+    if midway == 0:
+        sys.exit(f"refuse: {name}: no run was stopped midway")
+    return refusals
+
+
+def test(refuser, tests, name):
+    """A test. The number of refusals, and where they stopped it, as it says: a row, and what came there."""
+    refusals, stops = 0, []
+    for nth, run, refused in refuser.runs([tests, name]):
+        said = re.findall(r"^(\w+) stopped where it (.*)$", run.stdout.decode(), re.M)
+        passed = run.returncode == 0 and run.stdout.endswith(b"test result: ok\n")
+        if not passed or len(said) > refused:
+            fail(name, nth, run)
+        refusals += refused
+        stops += said
+    print(f"{name}: {refusals} refusals, {len(stops)} runs stopped")
+    return refusals, stops
+
+
+def all_tests(refuser, tests):
+    """The tests. The number of refusals."""
+    each, stops = test(refuser, tests, "refused_tests::refuse_each")
+    for name in ROWS:
+        count = sum(row == name for row, _ in stops)
+        print(f"  {name}: {count} runs stopped")
+        if count == 0:
+            sys.exit(f"refuse: no run of {name} was stopped")
+    inside = sum('{"names":' in what for _, what in stops)
+    print(f"  inside a batch that is made: {inside} runs stopped")
+    if inside == 0:
+        sys.exit("refuse: no run was stopped inside a batch")
+    text, stops = test(refuser, tests, "refused_tests::refuse_script")
+    if not stops:
+        sys.exit("refuse: no script was stopped")
+    # It is never stopped: it needs no memory beyond the room that it makes first.
+    room, _ = test(refuser, tests, "refused_tests::reserved")
+    return each + text + room
+
+
+def main():
+    if len(sys.argv) != 3:
+        sys.exit(__doc__)
+    program, tests = map(os.path.abspath, sys.argv[1:])
+    with tempfile.TemporaryDirectory() as folder:
+        refuser = Refuser(folder)
+        refusals = sum(script(refuser, program, name) for name in ROWS)
+        refusals += all_tests(refuser, tests)
+    print(f"{refusals} refusals tried, and all is as it has to be")
+
+
+main()
