@@ -36,7 +36,7 @@ row_within rows x u r e h found = at (nat_lt r (length rows)) refl
 -- the place of a held name is one of its row
 pub place_within : (rows : List (List Shadow)) (x : OpName) (u : Shadow) (r : ℕ) → r ≡ row_of x → AreRows 0 rows → find_in (held_of rows) x ≡ Some u
     → place_in (get_or rows r []) x < length (get_or rows r [])
-place_within rows x u r e h found = found_within (get_or rows r []) x u (row_at rows 0 r r (omega arith) h).in_order (finds_at rows x r e h ∙ found)
+place_within rows x u r e h found = found_within (get_or rows r []) x u (row_at rows r h).in_order (finds_at rows x r e h ∙ found)
 
 -- a row that was read at its place
 pub row_there : (rows : List (List Shadow)) (r : ℕ) (row : List Shadow) → r < length rows → row ≡ get_or rows r row → row ≡ get_or rows r []
@@ -53,7 +53,7 @@ changed_there f row old looked there place x made o p l = made ∙ ap (λ us. f 
 -- ---- the rows after a change
 
 pub grown : (rows more : List (List Shadow)) (count n : ℕ) → more ≡ rows ++ replicate n [] → AreCounted rows count → AreCounted more count
-grown rows more count n e h = subst (λ ws. AreCounted ws count) (sym e) (record { each = rows-more rows 0 n h.each; counted = h.counted ∙ ap length (sym (held-more rows n)) })
+grown rows more count n e h = subst (λ ws. AreCounted ws count) (sym e) (record { each = rows-more 0 n rows h.each; counted = h.counted ∙ ap length (sym (held-more rows n)) })
 
 pub grown_holds : (rows more : List (List Shadow)) (n : ℕ) → more ≡ rows ++ replicate n [] → held_of more ≡ held_of rows
 grown_holds rows more n e = ap held_of e ∙ held-more rows n
@@ -94,14 +94,14 @@ pub after_put : (rows : List (List Shadow)) (count : ℕ) (v : Shadow) (r : ℕ)
     → AreCounted (set rows r row) (count + 1) × (held_of (set rows r row) ≡ with_held v (held_of rows))
 after_put rows count v r row h numbered new e l made = (
   record {
-    each = rows-set rows 0 r r row (omega arith) h.each (subst (IsRow r) (sym is) (row-put r v (get_or rows r []) was e numbered none));
+    each = rows-set rows r row h.each (subst (IsRow r) (sym is) (row-put r v (get_or rows r []) was e numbered none));
     counted = omega (arith, h.counted, held-length rows r row l, ap length is, with_held-length v (get_or rows r []));
   },
   ap (λ us. held_of (set rows r us)) is ∙ held-change v.name (with_held v) (putting v) rows r e h.each l,
 )
   where
     was : IsRow r (get_or rows r [])
-    was = row_at rows 0 r r (omega arith) h.each
+    was = row_at rows r h.each
 
     none : find_in (get_or rows r []) v.name ≡ None
     none = finds_at rows v.name r e h.each ∙ new
@@ -115,7 +115,7 @@ pub after_remove : (rows : List (List Shadow)) (count : ℕ) (x : OpName) (u : S
     → AreCounted (set rows r row) (count - 1) × (held_of (set rows r row) ≡ without x (held_of rows))
 after_remove rows count x u r row h found e made = (
   record {
-    each = rows-set rows 0 r r row (omega arith) h.each (subst (IsRow r) (sym is) (row-without r x (get_or rows r []) was));
+    each = rows-set rows r row h.each (subst (IsRow r) (sym is) (row-without r x (get_or rows r []) was));
     counted = omega (arith, h.counted, held-length rows r row within, ap length made, length-remove (get_or rows r []) (place_in (get_or rows r []) x) (place_within rows x u r e h.each found));
   },
   ap (λ us. held_of (set rows r us)) is ∙ held-change x (without x) (removing x) rows r e h.each within,
@@ -125,7 +125,7 @@ after_remove rows count x u r row h found e made = (
     within = row_within rows x u r e h.each found
 
     was : IsRow r (get_or rows r [])
-    was = row_at rows 0 r r (omega arith) h.each
+    was = row_at rows r h.each
 
     is : row ≡ without x (get_or rows r [])
     is = made ∙ remove-place (get_or rows r []) x u was.in_order (finds_at rows x r e h.each ∙ found)

@@ -62,5 +62,5 @@ among_row rows u h a = subst (Among u) (sym (row_is rows (row_of u.name) h)) (Am
 -- what is in a row is held
 pub held_there : (rows : List (List Shadow)) (r : ℕ) (u : Shadow) → AreRows 0 rows → Among u (get_or rows r []) → find_in (held_of rows) u.name ≡ Some u
 held_there rows r u h a =
-    let row : IsRow r (get_or rows r []) = row_at rows 0 r r (omega arith) h in
+    let row : IsRow r (get_or rows r []) = row_at rows r h in
     sym (finds_at rows u.name r (sym (row.placed u a)) h) ∙ Among-find (get_or rows r []) u row.in_order a

@@ -41,20 +41,26 @@ empty : (r : ℕ) → IsRow r []
 empty r = record { placed = λ u a. elim a [ ]; in_order = tt; numbered = λ u a. elim a [ ] }
 
 -- a row past the last is empty
-pub row_at : (rows : List (List Shadow)) (s k r : ℕ) → r ≡ s + k → AreRows s rows → IsRow r (get_or rows k [])
-row_at [] s k r e h = empty r
-row_at (us ∷ rows) s zero r e h = subst (λ n. IsRow n us) (omega arith) h.0
-row_at (us ∷ rows) s (suc k) r e h = row_at rows (suc s) k r (omega arith) h.1
+row_from : (s k r : ℕ) (rows : List (List Shadow)) → r ≡ s + k → AreRows s rows → IsRow r (get_or rows k [])
+row_from s k r [] e h = empty r
+row_from s zero r (us ∷ rows) e h = subst (λ n. IsRow n us) (omega arith) h.0
+row_from s (suc k) r (us ∷ rows) e h = row_from (suc s) k r rows (omega arith) h.1
 
-pub rows-set : (rows : List (List Shadow)) (s k r : ℕ) (us : List Shadow) → r ≡ s + k → AreRows s rows → IsRow r us → AreRows s (set rows k us)
-rows-set [] s k r us e h row = tt
-rows-set (vs ∷ rows) s zero r us e h row = (subst (λ n. IsRow n us) (omega arith) row, h.1)
-rows-set (vs ∷ rows) s (suc k) r us e h row = (h.0, rows-set rows (suc s) k r us (omega arith) h.1 row)
+pub row_at : (rows : List (List Shadow)) (r : ℕ) → AreRows 0 rows → IsRow r (get_or rows r [])
+row_at rows r h = row_from 0 r r rows (omega arith) h
 
-pub rows-more : (rows : List (List Shadow)) (s n : ℕ) → AreRows s rows → AreRows s (rows ++ replicate n [])
-rows-more [] s zero h = tt
-rows-more [] s (suc n) h = (empty s, rows-more [] (suc s) n tt)
-rows-more (us ∷ rows) s n h = (h.0, rows-more rows (suc s) n h.1)
+set_from : (s k r : ℕ) (rows : List (List Shadow)) (us : List Shadow) → r ≡ s + k → AreRows s rows → IsRow r us → AreRows s (set rows k us)
+set_from s k r [] us e h row = tt
+set_from s zero r (vs ∷ rows) us e h row = (subst (λ n. IsRow n us) (omega arith) row, h.1)
+set_from s (suc k) r (vs ∷ rows) us e h row = (h.0, set_from (suc s) k r rows us (omega arith) h.1 row)
+
+pub rows-set : (rows : List (List Shadow)) (r : ℕ) (us : List Shadow) → AreRows 0 rows → IsRow r us → AreRows 0 (set rows r us)
+rows-set rows r us h row = set_from 0 r r rows us (omega arith) h row
+
+pub rows-more : (s n : ℕ) (rows : List (List Shadow)) → AreRows s rows → AreRows s (rows ++ replicate n [])
+rows-more s zero [] h = tt
+rows-more s (suc n) [] h = (empty s, rows-more (suc s) n [] tt)
+rows-more s n (us ∷ rows) h = (h.0, rows-more (suc s) n rows h.1)
 
 -- what is held is of no row before the first
 joined_from : (rows : List (List Shadow)) (s : ℕ) (u : Shadow) → AreRows s rows → Among u (joined rows) → s ≤ row_of u.name

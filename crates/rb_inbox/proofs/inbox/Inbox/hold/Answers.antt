@@ -27,7 +27,7 @@ place_of-index-requires c =
     let within : c.row_place-row.result < length c.add_rows.new.rows.items = omega (arith, c.in_ok-add_rows.ensures.ok) in
     let all = grown c.self.inside.rows.items c.add_rows.new.rows.items c.self.inside.count _ c.add_rows.ensures.rows.1 c.self.invariant in
     subst IsInOrder (sym (c.as_slice.ensures ∙ row_there c.add_rows.new.rows.items c.row_place-row.result c.index.result.now within c.index.ensures))
-    (row_at c.add_rows.new.rows.items 0 c.row_place-row.result c.row_place-row.result (omega arith) all.each).in_order
+    (row_at c.add_rows.new.rows.items c.row_place-row.result all.each).in_order
 
 -- where the row couldn't grow, the rows are as before
 as_before : (c : goal.After-from_residual-in_err-insert) → set c.add_rows.new.rows.items c.row_place-row.result c.insert.new.self ≡ c.add_rows.new.rows.items

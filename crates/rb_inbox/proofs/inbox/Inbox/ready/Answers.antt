@@ -21,7 +21,7 @@ ready_in-name-requires c = (
   c.loop-row.row-index,
   subst (IsRow c.loop-row.row-index)
       (sym (slice_there c.self.inside.rows.items c.deref-row-items.result.now c.loop-row.row-index c.row-item.result c.as_slice.result.now c.deref-row-items.ensures.value (omega arith) c.row-item.is c.as_slice.ensures))
-      (row_at c.self.inside.rows.items 0 c.loop-row.row-index c.loop-row.row-index (omega arith) c.self.invariant.each),
+      (row_at c.self.inside.rows.items c.loop-row.row-index c.self.invariant.each),
 )
 
 pub returns-then-is_some-clause-some : goal.returns-then-is_some-clause-some

@@ -22,7 +22,7 @@ place_of-index-requires c =
     let row = c.row_place-row.result in
     let found = found_inside c.self.inside.limit (held_of rows) c.args.self.now c.args.name.now (Some c.in-Some.field-0.now) c.self.view_is c.in-Some.ensures in
     let within = row_within rows c.args.name.now c.in-Some.field-0.now row c.row_place-row.ensures c.self.invariant.each found in
-    subst IsInOrder (sym (c.as_slice.ensures ∙ row_there rows row c.index.result.now within c.index.ensures)) (row_at rows 0 row row (omega arith) c.self.invariant.each).in_order
+    subst IsInOrder (sym (c.as_slice.ensures ∙ row_there rows row c.index.result.now within c.index.ensures)) (row_at rows row c.self.invariant.each).in_order
 
 pub index_mut-requires : goal.index_mut-requires
 index_mut-requires c =

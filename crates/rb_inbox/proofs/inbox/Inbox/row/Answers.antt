@@ -17,10 +17,10 @@ returns-in-Some-clause-held c =
     there c ∙ row_is c.self.inside.rows.items c.args.place c.self.invariant.each ∙ ap (λ (b : Holding). filter (is_of c.args.place) b.held) c.self.view_is
 
 pub returns-in-Some-clause-in_order : goal.returns-in-Some-clause-in_order
-returns-in-Some-clause-in_order c = subst IsInOrder (sym (there c)) (row_at c.self.inside.rows.items 0 c.args.place c.args.place (omega arith) c.self.invariant.each).in_order
+returns-in-Some-clause-in_order c = subst IsInOrder (sym (there c)) (row_at c.self.inside.rows.items c.args.place c.self.invariant.each).in_order
 
 pub returns-in-Some-clause-numbered : goal.returns-in-Some-clause-numbered
-returns-in-Some-clause-numbered c = λ u a. (row_at c.self.inside.rows.items 0 c.args.place c.args.place (omega arith) c.self.invariant.each).numbered u (subst (Among u) (there c) a)
+returns-in-Some-clause-numbered c = λ u a. (row_at c.self.inside.rows.items c.args.place c.self.invariant.each).numbered u (subst (Among u) (there c) a)
 
 pub returns-in-None-clause-held : goal.returns-in-None-clause-held
 returns-in-None-clause-held c =
