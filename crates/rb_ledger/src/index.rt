@@ -159,7 +159,7 @@ pub fn start(config: &Config, place: Place) -> u64
     }
 }
 
-/// The row of a name: the red ones are row 0, the blue ones of the first site row 1, and so on.
+/// The row of a name: first that of the red ones, then that of the first site's blue ones, and so on.
 fn row_of(name: OpName) -> usize
     ensures { result ≡ row_of name }
 {
