@@ -23,7 +23,7 @@ use Rattle.rb_site.specs.declared.event.Event.TheVariants.{Submit, Apply, Pass, 
 use Rattle.rb_site.specs.declared.world_event.WorldEvent.{WorldEvent}
 use Rattle.rb_history.specs.Commands.{command_at, command_of, sited_json}
 use Rattle.rb_history.specs.Requests.{account_place}
-use Rattle.rb_history.specs.Spelled.{IsRead, IsToldBy, Tells, Asks, told_at}
+use Rattle.rb_history.specs.Spelled.{IsRead, Tells, Asks, told_at}
 use Rattle.rb_history.specs.Values.{number_json, pair_json}
 use Rattle.rb_history.specs.declared.usual.Told.{Told}
 use Rattle.rb_history.specs.declared.usual.Told.TheVariants.{Event as ToldEvent, Message as ToldMessage}
@@ -93,6 +93,7 @@ deposit_asked s amount name rest h plain = record {
   read = pair_read name amount (omega arith);
   is = record { first = λ site k. (reads_commands s).deposit site amount name k h; last = λ site k. (reads_commands s).deposit site amount name k h; command = λ site. tt };
   alone = (reads_commands s).alone.deposit amount name h;
+  flat = omega arith;
 }
 
 pub withdraw_asked : (s : Settings) (amount : ℕ) (name rest : List ℕ) → amount < 2 ^ 64 → escape name ≡ name → Asks s (Withdraw (account_place s name) amount) (codes "withdraw\":[\"" ++ (name ++ (codes "\"," ++ (decimal amount ++ (codes "]" ++ rest))))) rest
@@ -104,6 +105,7 @@ withdraw_asked s amount name rest h plain = record {
   read = pair_read name amount (omega arith);
   is = record { first = λ site k. (reads_commands s).withdraw site amount name k h; last = λ site k. (reads_commands s).withdraw site amount name k h; command = λ site. tt };
   alone = (reads_commands s).alone.withdraw amount name h;
+  flat = omega arith;
 }
 
 pub interest_asked : (s : Settings) (rate : ℕ) (name rest : List ℕ) → rate < 2 ^ 32 → escape name ≡ name → Asks s (Interest (account_place s name) rate) (codes "interest\":[\"" ++ (name ++ (codes "\"," ++ (decimal rate ++ (codes "]" ++ rest))))) rest
@@ -115,6 +117,7 @@ interest_asked s rate name rest h plain = record {
   read = pair_read name rate (omega arith);
   is = record { first = λ site k. (reads_commands s).interest site rate name k h; last = λ site k. (reads_commands s).interest site rate name k h; command = λ site. tt };
   alone = (reads_commands s).alone.interest rate name h;
+  flat = omega arith;
 }
 
 pub cancel_asked : (s : Settings) (text rest : List ℕ) (x : OpName) → escape text ≡ text → name_of text ≡ Some x → Asks s (Cancel x) (codes "cancel\":\"" ++ (text ++ (codes "\"" ++ rest))) rest
@@ -128,6 +131,7 @@ cancel_asked s text rest x plain e =
       read = string_read text;
       is = record { first = is; last = is; command = λ site. tt };
       alone = rw e refl;
+      flat = omega arith;
     }
 
 pub submit_told : (s : Settings) (r : Request) (text rest : List ℕ) → Asks s r text rest → Tells s (ToldEvent (Submit r)) text rest

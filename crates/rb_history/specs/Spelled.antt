@@ -1,11 +1,12 @@
 -- Commands as programs spell them: with no space.
-use Rattle.std.specs.Prelude.{◌≡◌, ℕ, ◌<◌, ◌≤◌, ◌^◌, List, ◌++◌, Some, codes}
+use Rattle.std.specs.Prelude.{◌≡◌, ℕ, ◌<◌, ◌≤◌, ◌^◌, List, ◌++◌, Some, codes, false, map}
 use Rattle.json.specs.Print.{quoted}
-use Rattle.json.specs.Tree.{HasNumbers}
+use Rattle.json.specs.Tree.{HasNumbers, ItemsHaveNumbers}
 use Rattle.json.specs.Tree as tree
 use Rattle.serde_json.specs.Data.{Data, object, put, member, no_members}
-use Rattle.serde_json.specs.Read.{of_json}
-use Rattle.serde_json.specs.Written.{compact_text, outline}
+use Rattle.serde_json.specs.Read.{of_json, of_items}
+use Rattle.serde_json.specs.View.{items_of}
+use Rattle.serde_json.specs.Written.{compact_text, items_text, outline, items_outline}
 use Rattle.rb_money.specs.Settings.{Settings}
 use Rattle.rb_scratch.specs.declared.request.Request.{Request}
 use Rattle.rb_site.specs.Worlds.{IsCommand}
@@ -26,7 +27,7 @@ told_at site (ToldMessage message) = Deliver site message
 -- a value that is read from its own text
 pub record IsRead (value : Data) : Type 0 where
   pub numbers : HasNumbers (outline value)
-  pub shallow : tree.depth (outline value) ≤ 2
+  pub shallow : tree.depth (outline value) ≤ 3
   pub same : of_json (outline value) ≡ Some value
 
 -- a member of an object, where the first quote of its key is read
@@ -55,3 +56,13 @@ pub record Asks (s : Settings) (r : Request) (text rest : List ℕ) : Type 0 whe
   pub read : IsRead value
   pub is : IsToldBy s (ToldEvent (Submit r)) key value
   pub alone : request_alone s (one_json key value) ≡ Some r
+  pub flat : tree.depth (outline value) ≤ 1
+
+-- the text begins with the objects of a list that asks these, and its closing bracket, and then the rest follows
+pub record AsksEach (s : Settings) (rs : List Request) (text rest : List ℕ) : Type 0 where
+  pub list : List Data
+  pub each : map (request_alone s) list ≡ map Some rs
+  pub spelled : text ≡ items_text false (items_of list) ++ rest
+  pub numbers : ItemsHaveNumbers (items_outline (items_of list))
+  pub shallow : tree.items_depth (items_outline (items_of list)) ≤ 2
+  pub same : of_items (items_outline (items_of list)) ≡ Some (items_of list)

@@ -115,6 +115,11 @@ fn batches(rt: HostRuntime) -> Result<(), Fail> {
     ];
     assert_eq!(rt; site, 1);
     assert_eq!(rt; asked.as_slice(), requests.as_slice());
+    let line = "{\"site\":0,\"batch\":[{\"cancel\":\"R1\"},{\"deposit\":[\"bob\",7]}]}";
+    let (site, asked) = batched(rt.alloc(), &config, line).ok_or("no batch")?;
+    let requests = [cancel(1), deposit(Place(1), 7)];
+    assert_eq!(rt; site, 0);
+    assert_eq!(rt; asked.as_slice(), requests.as_slice());
     let line = "{\"batch\":[],\"site\":0}";
     let (_site, asked) = batched(rt.alloc(), &config, line).ok_or("no batch")?;
     assert!(rt; asked.as_slice().is_empty());
@@ -223,6 +228,10 @@ fn bad_batches_and_views(rt: HostRuntime) -> Result<(), Fail> {
         "{\"batch\":[{\"deposit\":[\"ann\",1],\"site\":0}],\"site\":0}",
         "{\"batch\":[{\"deposit\":[\"ann\",1]},{\"apply\":\"B0.1\"}],\"site\":0}",
         "{\"batch\":[{\"batch\":[]}],\"site\":0}",
+        "{\"batch\":[{\"deposit\":[\"ann\",1]},],\"site\":0}",
+        "{\"batch\":[{\"deposit\":[\"ann\",1]},\"site\":0}",
+        "{\"batch\":[{\"deposit\":[\"ann\",1],\"cancel\":\"R1\"}],\"site\":0}",
+        "{\"site\":0,\"batch\":[{\"deposit\":[\"ann\",1]}}]}",
         "{\"asof\":\"ann\",\"site\":0}",
         "{\"asof\":[\"ann\"],\"site\":0}",
         "{\"asof\":[\"ann\",-1],\"site\":0}",

@@ -3,13 +3,14 @@ ghost use Rattle.std.specs.Prelude.{◌≡◌, ◌<◌, ◌^◌, ◌++◌, Some,
 ghost use Rattle.json.specs.Print.{escape};
 ghost use Rattle.rb_site.specs.Worlds.{IsCommand};
 ghost use Rattle.rb_history.specs.Commands.{command_at};
-ghost use Rattle.rb_history.specs.Spelled.{Asks, Tells, told_at};
+ghost use Rattle.rb_history.specs.Spelled.{Asks, AsksEach, Tells, told_at};
 
 use crate::request::place;
 use rb_money::Config;
 use rb_scratch::Request;
 use rb_shadow::read_name;
-use rb_site::{Event, WorldEvent};
+use rb_site::{Event, Requests, WorldEvent};
+use std::alloc::Global;
 use std::str;
 
 /// What follows these bytes.
@@ -214,8 +215,34 @@ fn deliver<'a>(config: &Config, text: &'a [u8]) -> Option<(Told, &'a [u8])>
     Some((Told::Message(message as u32), rest))
 }
 
+/// The requests of a batch, behind its bracket: at least one.
+fn requests<'a>(alloc: Global, config: &Config, text: &'a [u8]) -> Option<(Vec<Request>, &'a [u8])>
+    ensures { IfSome result (λ p. AsksEach config.now p.0.items text.now p.1.now) }
+{
+    let mut requests = Vec::new(alloc);
+    let mut left = text;
+    'items: loop {
+        let (asked, rest) = request(config, after(left, b"{\"")?)?;
+        if requests.push(asked).is_err() {
+            return None;
+        }
+        let rest = after(rest, b"}")?;
+        match after(rest, b",") {
+            Some(more) => left = more,
+            None => return Some((requests, after(rest, b"]")?)),
+        }
+    }
+}
+
+fn batch<'a>(alloc: Global, config: &Config, text: &'a [u8]) -> Option<(Told, &'a [u8])>
+    ensures { IfSome result (λ p. Tells config.now p.0 (codes "batch\":[" ++ text.now) p.1.now) }
+{
+    let (requests, rest) = requests(alloc, config, text)?;
+    Some((Told::Event(Event::Batch(Requests::new(requests))), rest))
+}
+
 /// The member that tells a command beside its site, from its key on.
-fn member<'a>(config: &Config, text: &'a [u8]) -> Option<(Told, &'a [u8])>
+fn member<'a>(alloc: Global, config: &Config, text: &'a [u8]) -> Option<(Told, &'a [u8])>
     ensures { IfSome result (λ p. Tells config.now p.0 text.now p.1.now) }
 {
     match text.first() {
@@ -223,7 +250,10 @@ fn member<'a>(config: &Config, text: &'a [u8]) -> Option<(Told, &'a [u8])>
             Some(rest) => apply(config, rest),
             None => as_of(config, after(text, b"asof\":[\"")?),
         },
-        Some(b'b') => balance(config, after(text, b"balance\":\"")?),
+        Some(b'b') => match after(text, b"balance\":\"") {
+            Some(rest) => balance(config, rest),
+            None => batch(alloc, config, after(text, b"batch\":[")?),
+        },
         Some(b'p') => pass(config, after(text, b"pass\":")?),
         Some(b's') => statement(config, after(text, b"statement\":\"")?),
         _ => match after(text, b"deliver\":") {
@@ -234,12 +264,12 @@ fn member<'a>(config: &Config, text: &'a [u8]) -> Option<(Told, &'a [u8])>
 }
 
 /// A command whose site comes first, from its number on.
-fn site_first(config: &Config, text: &[u8]) -> Option<WorldEvent>
+fn site_first(alloc: Global, config: &Config, text: &[u8]) -> Option<WorldEvent>
     ensures value { IfSome result (λ c. command_at config.now (codes "{\"site\":" ++ text.now) ≡ Some c) }
     ensures command { IfSome result IsCommand }
 {
     let (site, rest) = number(text)?;
-    let (told, rest) = member(config, after(rest, b",\"")?)?;
+    let (told, rest) = member(alloc, config, after(rest, b",\"")?)?;
     if site >= 256 || rest != b"}".as_slice() {
         return None;
     }
@@ -247,23 +277,23 @@ fn site_first(config: &Config, text: &[u8]) -> Option<WorldEvent>
 }
 
 /// A command whose site comes last, from its key on.
-fn site_last(config: &Config, text: &[u8]) -> Option<WorldEvent>
+fn site_last(alloc: Global, config: &Config, text: &[u8]) -> Option<WorldEvent>
     ensures value { IfSome result (λ c. command_at config.now (codes "{\"" ++ text.now) ≡ Some c) }
     ensures command { IfSome result IsCommand }
 {
-    let (told, rest) = member(config, text)?;
+    let (told, rest) = member(alloc, config, text)?;
     let site = last_site(rest)?;
     Some(at(told, site))
 }
 
 /// The command of a line in the usual spelling.
-pub fn usual_command(config: &Config, line: &str) -> Option<WorldEvent>
+pub fn usual_command(alloc: Global, config: &Config, line: &str) -> Option<WorldEvent>
     ensures value { IfSome result (λ c. command_at config.now line.now ≡ Some c) }
     ensures command { IfSome result IsCommand }
 {
     let text = after(line.as_bytes(), b"{\"")?;
     match after(text, b"site\":") {
-        Some(rest) => site_first(config, rest),
-        None => site_last(config, text),
+        Some(rest) => site_first(alloc, config, rest),
+        None => site_last(alloc, config, text),
     }
 }
