@@ -256,10 +256,11 @@ fn member<'a>(alloc: Global, config: &Config, text: &'a [u8]) -> Option<(Told, &
         },
         Some(b'p') => pass(config, after(text, b"pass\":")?),
         Some(b's') => statement(config, after(text, b"statement\":\"")?),
-        _ => match after(text, b"deliver\":") {
+        Some(b'd') => match after(text, b"deliver\":") {
             Some(rest) => deliver(config, rest),
             None => submit(config, text),
         },
+        _ => submit(config, text),
     }
 }
 
