@@ -8,3 +8,4 @@ pub mod Numerals
 pub mod Listed
 pub mod UsualLines
 pub mod Scanned
+pub mod Batches

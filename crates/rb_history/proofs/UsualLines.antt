@@ -3,13 +3,13 @@ use Rattle.std.proofs.Common.{◌≡◌, ◌<◌, ◌≤◌, ◌^◌, ℕ, List,
 use Rattle.std.specs.Prelude.{option_and_then, nat_lt}
 use Rattle.json.specs.Json as json
 use Rattle.json.specs.Lex.{tokens}
-use Rattle.json.specs.Print.{escape, escape_byte}
+use Rattle.json.specs.Print.{escape, escape_byte, quoted}
 use Rattle.json.specs.Tree.{json_tokens, HasNumbers}
 use Rattle.json.specs.Tree as tree
 use Rattle.json.proofs.Printed.Decimals.{IsNumber-decimal}
 use Rattle.json.proofs.Printed.Tokens.{tokens-print}
 use Rattle.json.proofs.Printed.Trees.{ArePrintable-json_tokens, value-json_tokens}
-use Rattle.serde_json.specs.Data.{Data, string}
+use Rattle.serde_json.specs.Data.{Data, string, object, put, member, no_members}
 use Rattle.serde_json.specs.Read.{read, of_json, max_depth}
 use Rattle.serde_json.specs.Written.{compact_text, outline}
 use Rattle.serde_json.proofs.Numbers.{number_of-decimal}
@@ -17,30 +17,65 @@ use Rattle.serde_json.proofs.Texts.{print-outline}
 use Rattle.rb_money.specs.Settings.{Settings}
 use Rattle.rb_shadow.specs.NameText.{name_of}
 use Rattle.rb_shadow.specs.declared.op_name.OpName.{OpName}
+use Rattle.rb_scratch.specs.declared.request.Request.{Request}
 use Rattle.rb_scratch.specs.declared.request.Request.TheVariants.{Deposit, Withdraw, Interest, Cancel}
 use Rattle.rb_site.specs.declared.event.Event.TheVariants.{Submit, Apply, Pass, Balance, AsOf, Statement}
 use Rattle.rb_site.specs.declared.world_event.WorldEvent.{WorldEvent}
-use Rattle.rb_site.specs.declared.world_event.WorldEvent.TheVariants.{At, Deliver}
 use Rattle.rb_history.specs.Commands.{command_at, command_of, sited_json}
 use Rattle.rb_history.specs.Requests.{account_place}
+use Rattle.rb_history.specs.Spelled.{IsRead, Tells, Asks, told_at}
 use Rattle.rb_history.specs.Values.{number_json, pair_json}
+use Rattle.rb_history.specs.declared.usual.Told.{Told}
+use Rattle.rb_history.specs.declared.usual.Told.TheVariants.{Event as ToldEvent, Message as ToldMessage}
 use Rattle.rb_history.proofs.Back.{reads_commands}
 
--- a value's compact text is read as the value
-compact_read : (d : Data) → HasNumbers (outline d) → tree.depth (outline d) ≤ max_depth → of_json (outline d) ≡ Some d → read (compact_text d) ≡ Some d
-compact_read d numbers shallow same =
-    let j = outline d in
-    let text : tokens (compact_text d) ≡ json_tokens j ++ [] = ap tokens (sym (print-outline d)) ∙ tokens-print (json_tokens j) (ArePrintable-json_tokens j numbers) ∙ sym (append-nil (json_tokens j)) in
+-- an object's text, its keys in any order, is read as the object with its keys in byte order
+compact_read : (turned d : Data) → HasNumbers (outline turned) → tree.depth (outline turned) ≤ max_depth → of_json (outline turned) ≡ Some d → read (compact_text turned) ≡ Some d
+compact_read turned d numbers shallow same =
+    let j = outline turned in
+    let text : tokens (compact_text turned) ≡ json_tokens j ++ [] = ap tokens (sym (print-outline turned)) ∙ tokens-print (json_tokens j) (ArePrintable-json_tokens j numbers) ∙ sym (append-nil (json_tokens j)) in
     ap (λ ts. option_and_then of_json (option_and_then (λ p. json.if_last p.0 p.1) (json.value max_depth ts))) text
     ∙ ap (λ o. option_and_then of_json (option_and_then (λ p. json.if_last p.0 p.1) o)) (value-json_tokens j max_depth [] shallow) ∙ same
 
-told : (s : Settings) (d : Data) (c : WorldEvent) (line : List ℕ) → line ≡ compact_text d → HasNumbers (outline d) → tree.depth (outline d) ≤ max_depth → of_json (outline d) ≡ Some d → command_of s d ≡ Some c → command_at s line ≡ Some c
-told s d c line text numbers shallow same is = ap (command_at s) text ∙ ap (option_and_then (command_of s)) (compact_read d numbers shallow same) ∙ is
+command_read : (s : Settings) (turned d : Data) (c : WorldEvent) (line : List ℕ) → line ≡ compact_text turned → HasNumbers (outline turned) → tree.depth (outline turned) ≤ max_depth → of_json (outline turned) ≡ Some d → command_of s d ≡ Some c → command_at s line ≡ Some c
+command_read s turned d c line text numbers shallow same is = ap (command_at s) text ∙ ap (option_and_then (command_of s)) (compact_read turned d numbers shallow same) ∙ is
 
 short : (n : ℕ) → n < 2 ^ 8 → n < 2 ^ 64
 short n h = omega arith
 
--- a string with no escape, and a list of one and a number, as they stand before the rest of a line
+-- the site last
+pub last_line : (s : Settings) (told : Told) (site : ℕ) (text rest : List ℕ) → Tells s told text rest → site < 2 ^ 8 → rest ≡ codes ",\"site\":" ++ (decimal site ++ codes "}") → command_at s (codes "{\"" ++ text) ≡ Some (told_at site told)
+unfolding escape_byte
+last_line s told site text rest t h e =
+    let k = short site h in
+    let is = t.read in
+    let turned = object (member t.key t.value (member (codes "site") (number_json site) no_members)) in
+    let line : codes "{\"" ++ text ≡ compact_text turned = ap (λ l. codes "{" ++ l) (t.member ∙ ap (λ l. quoted t.key ++ (codes ":" ++ (compact_text t.value ++ l))) e) in
+    let shallow = is.shallow in
+    command_read s turned (object (put (codes "site") (number_json site) (member t.key t.value no_members))) (told_at site told) (codes "{\"" ++ text) line (is.numbers, (IsNumber-decimal site k, tt)) (omega arith) (rw (is.same, number_of-decimal site k) refl) (t.is.last site h)
+
+-- the site first
+pub first_line : (s : Settings) (told : Told) (site : ℕ) (text rest : List ℕ) → Tells s told text rest → site < 2 ^ 8 → rest ≡ codes "}" → command_at s (codes "{\"site\":" ++ (decimal site ++ (codes ",\"" ++ text))) ≡ Some (told_at site told)
+unfolding escape_byte
+first_line s told site text rest t h e =
+    let k = short site h in
+    let is = t.read in
+    let turned = object (member (codes "site") (number_json site) (member t.key t.value no_members)) in
+    let line : codes "{\"site\":" ++ (decimal site ++ (codes ",\"" ++ text)) ≡ compact_text turned = ap (λ l. codes "{\"site\":" ++ (decimal site ++ (codes "," ++ l))) (t.member ∙ ap (λ l. quoted t.key ++ (codes ":" ++ (compact_text t.value ++ l))) e) in
+    let shallow = is.shallow in
+    command_read s turned (sited_json t.key t.value site) (told_at site told) (codes "{\"site\":" ++ (decimal site ++ (codes ",\"" ++ text))) line (IsNumber-decimal site k, (is.numbers, tt)) (omega arith) (rw (number_of-decimal site k, is.same) refl) (t.is.first site h)
+
+-- a string, a number, and a list of both, are read from their own texts
+string_read : (name : List ℕ) → IsRead (string name)
+string_read name = record { numbers = tt; shallow = omega arith; same = refl }
+
+number_read : (n : ℕ) → n < 2 ^ 64 → IsRead (number_json n)
+number_read n h = record { numbers = IsNumber-decimal n h; shallow = omega arith; same = rw (number_of-decimal n h) refl }
+
+pair_read : (name : List ℕ) (n : ℕ) → n < 2 ^ 64 → IsRead (pair_json (string name) (number_json n))
+pair_read name n h = record { numbers = (tt, (IsNumber-decimal n h, tt)); shallow = omega arith; same = rw (number_of-decimal n h) refl }
+
+-- a string with no escape, and a list of one and a number, as they stand before what follows
 string_text : (name rest : List ℕ) → escape name ≡ name → name ++ (codes "\"" ++ rest) ≡ (escape name ++ codes "\"") ++ rest
 string_text name rest plain = sym (append_assoc name (codes "\"") rest) ∙ ap (λ l. (l ++ codes "\"") ++ rest) (sym plain)
 
@@ -49,78 +84,117 @@ pair_text name digits rest plain =
     let regrouped : name ++ (codes "\"," ++ (digits ++ (codes "]" ++ rest))) ≡ ((name ++ codes "\"") ++ (codes "," ++ (digits ++ codes "]"))) ++ rest = simp append_assoc in
     regrouped ∙ ap (λ l. ((l ++ codes "\"") ++ (codes "," ++ (digits ++ codes "]"))) ++ rest) (sym plain)
 
-pub balance_line : (s : Settings) (site : ℕ) (name : List ℕ) → site < 2 ^ 8 → escape name ≡ name
-    → command_at s (codes "{\"balance\":\"" ++ (name ++ (codes "\"" ++ (codes ",\"site\":" ++ (decimal site ++ codes "}"))))) ≡ Some (At site (Balance (account_place s name)))
+pub deposit_asked : (s : Settings) (amount : ℕ) (name rest : List ℕ) → amount < 2 ^ 64 → escape name ≡ name → Asks s (Deposit (account_place s name) amount) (codes "deposit\":[\"" ++ (name ++ (codes "\"," ++ (decimal amount ++ (codes "]" ++ rest))))) rest
 unfolding escape_byte
-balance_line s site name h plain =
-    let k = short site h in
-    told s (sited_json (codes "balance") (string name) site) _ _ (ap (λ l. codes "{\"balance\":\"" ++ l) (string_text name (codes ",\"site\":" ++ (decimal site ++ codes "}")) plain)) (tt, (IsNumber-decimal site k, tt)) (omega arith) (rw (number_of-decimal site k) refl) ((reads_commands s).balance site name h)
+deposit_asked s amount name rest h plain = record {
+  key = codes "deposit";
+  value = pair_json (string name) (number_json amount);
+  member = ap (λ l. codes "\"deposit\":[\"" ++ l) (pair_text name (decimal amount) rest plain);
+  read = pair_read name amount (omega arith);
+  is = record { first = λ site k. (reads_commands s).deposit site amount name k h; last = λ site k. (reads_commands s).deposit site amount name k h; command = λ site. tt };
+  alone = (reads_commands s).alone.deposit amount name h;
+  flat = omega arith;
+}
 
-pub deposit_line : (s : Settings) (site amount : ℕ) (name : List ℕ) → site < 2 ^ 8 → amount < 2 ^ 64 → escape name ≡ name
-    → command_at s (codes "{\"deposit\":[\"" ++ (name ++ (codes "\"," ++ (decimal amount ++ (codes "]" ++ (codes ",\"site\":" ++ (decimal site ++ codes "}"))))))) ≡ Some (At site (Submit (Deposit (account_place s name) amount)))
+pub withdraw_asked : (s : Settings) (amount : ℕ) (name rest : List ℕ) → amount < 2 ^ 64 → escape name ≡ name → Asks s (Withdraw (account_place s name) amount) (codes "withdraw\":[\"" ++ (name ++ (codes "\"," ++ (decimal amount ++ (codes "]" ++ rest))))) rest
 unfolding escape_byte
-deposit_line s site amount name h a plain =
-    let k = short site h in
-    told s (sited_json (codes "deposit") (pair_json (string name) (number_json amount)) site) _ _ (ap (λ l. codes "{\"deposit\":[\"" ++ l) (pair_text name (decimal amount) (codes ",\"site\":" ++ (decimal site ++ codes "}")) plain)) ((tt, (IsNumber-decimal amount a, tt)), (IsNumber-decimal site k, tt)) (omega arith) (rw (number_of-decimal amount a, number_of-decimal site k) refl) ((reads_commands s).deposit site amount name h a)
+withdraw_asked s amount name rest h plain = record {
+  key = codes "withdraw";
+  value = pair_json (string name) (number_json amount);
+  member = ap (λ l. codes "\"withdraw\":[\"" ++ l) (pair_text name (decimal amount) rest plain);
+  read = pair_read name amount (omega arith);
+  is = record { first = λ site k. (reads_commands s).withdraw site amount name k h; last = λ site k. (reads_commands s).withdraw site amount name k h; command = λ site. tt };
+  alone = (reads_commands s).alone.withdraw amount name h;
+  flat = omega arith;
+}
 
-pub withdraw_line : (s : Settings) (site amount : ℕ) (name : List ℕ) → site < 2 ^ 8 → amount < 2 ^ 64 → escape name ≡ name
-    → command_at s (codes "{\"site\":" ++ (decimal site ++ (codes ",\"withdraw\":[\"" ++ (name ++ (codes "\"," ++ (decimal amount ++ (codes "]" ++ codes "}"))))))) ≡ Some (At site (Submit (Withdraw (account_place s name) amount)))
+pub interest_asked : (s : Settings) (rate : ℕ) (name rest : List ℕ) → rate < 2 ^ 32 → escape name ≡ name → Asks s (Interest (account_place s name) rate) (codes "interest\":[\"" ++ (name ++ (codes "\"," ++ (decimal rate ++ (codes "]" ++ rest))))) rest
 unfolding escape_byte
-withdraw_line s site amount name h a plain =
-    let k = short site h in
-    told s (sited_json (codes "withdraw") (pair_json (string name) (number_json amount)) site) _ _ (ap (λ l. codes "{\"site\":" ++ (decimal site ++ (codes ",\"withdraw\":[\"" ++ l))) (pair_text name (decimal amount) (codes "}") plain)) (IsNumber-decimal site k, ((tt, (IsNumber-decimal amount a, tt)), tt)) (omega arith) (rw (number_of-decimal amount a, number_of-decimal site k) refl) ((reads_commands s).withdraw site amount name h a)
+interest_asked s rate name rest h plain = record {
+  key = codes "interest";
+  value = pair_json (string name) (number_json rate);
+  member = ap (λ l. codes "\"interest\":[\"" ++ l) (pair_text name (decimal rate) rest plain);
+  read = pair_read name rate (omega arith);
+  is = record { first = λ site k. (reads_commands s).interest site rate name k h; last = λ site k. (reads_commands s).interest site rate name k h; command = λ site. tt };
+  alone = (reads_commands s).alone.interest rate name h;
+  flat = omega arith;
+}
 
-pub deliver_line : (s : Settings) (site m : ℕ) → site < 2 ^ 8 → m < 2 ^ 32
-    → command_at s (codes "{\"deliver\":" ++ (decimal m ++ (codes ",\"site\":" ++ (decimal site ++ codes "}")))) ≡ Some (Deliver site m)
+pub cancel_asked : (s : Settings) (text rest : List ℕ) (x : OpName) → escape text ≡ text → name_of text ≡ Some x → Asks s (Cancel x) (codes "cancel\":\"" ++ (text ++ (codes "\"" ++ rest))) rest
 unfolding escape_byte
-deliver_line s site m h a =
-    let k = short site h in
-    let l : m < 2 ^ 64 = omega arith in
-    told s (sited_json (codes "deliver") (number_json m) site) _ _ (simp append_assoc) (IsNumber-decimal m l, (IsNumber-decimal site k, tt)) (omega arith) (rw (number_of-decimal m l, number_of-decimal site k) refl) ((reads_commands s).deliver site m h a)
+cancel_asked s text rest x plain e =
+    let is : (site : ℕ) → site < 2 ^ 8 → command_of s (sited_json (codes "cancel") (string text) site) ≡ Some (told_at site (ToldEvent (Submit (Cancel x)))) = λ site k. let small : nat_lt site (2 ^ 8) ≡ true = search rules in rw (small, e) refl in
+    record {
+      key = codes "cancel";
+      value = string text;
+      member = ap (λ l. codes "\"cancel\":\"" ++ l) (string_text text rest plain);
+      read = string_read text;
+      is = record { first = is; last = is; command = λ site. tt };
+      alone = rw e refl;
+      flat = omega arith;
+    }
 
-pub pass_line : (s : Settings) (site to : ℕ) → site < 2 ^ 8 → to < 2 ^ 8
-    → command_at s (codes "{\"pass\":" ++ (decimal to ++ (codes ",\"site\":" ++ (decimal site ++ codes "}")))) ≡ Some (At site (Pass to))
-unfolding escape_byte
-pass_line s site to h a =
-    let k = short site h in
-    let l = short to a in
-    told s (sited_json (codes "pass") (number_json to) site) _ _ (simp append_assoc) (IsNumber-decimal to l, (IsNumber-decimal site k, tt)) (omega arith) (rw (number_of-decimal to l, number_of-decimal site k) refl) ((reads_commands s).pass site to h a)
+pub submit_told : (s : Settings) (r : Request) (text rest : List ℕ) → Asks s r text rest → Tells s (ToldEvent (Submit r)) text rest
+submit_told s r text rest a = record { key = a.key; value = a.value; member = a.member; read = a.read; is = a.is }
 
-pub apply_line : (s : Settings) (site : ℕ) (text : List ℕ) (x : OpName) → site < 2 ^ 8 → escape text ≡ text → name_of text ≡ Some x
-    → command_at s (codes "{\"apply\":\"" ++ (text ++ (codes "\"" ++ (codes ",\"site\":" ++ (decimal site ++ codes "}"))))) ≡ Some (At site (Apply x))
+pub balance_told : (s : Settings) (name rest : List ℕ) → escape name ≡ name → Tells s (ToldEvent (Balance (account_place s name))) (codes "balance\":\"" ++ (name ++ (codes "\"" ++ rest))) rest
 unfolding escape_byte
-apply_line s site text x h plain e =
-    let k = short site h in
-    let small : nat_lt site (2 ^ 8) ≡ true = search rules in
-    told s (sited_json (codes "apply") (string text) site) _ _ (ap (λ l. codes "{\"apply\":\"" ++ l) (string_text text (codes ",\"site\":" ++ (decimal site ++ codes "}")) plain)) (tt, (IsNumber-decimal site k, tt)) (omega arith) (rw (number_of-decimal site k) refl) (rw (small, e) refl)
+balance_told s name rest plain = record {
+  key = codes "balance";
+  value = string name;
+  member = ap (λ l. codes "\"balance\":\"" ++ l) (string_text name rest plain);
+  read = string_read name;
+  is = record { first = λ site k. (reads_commands s).balance site name k; last = λ site k. (reads_commands s).balance site name k; command = λ site. tt };
+}
 
-pub interest_line : (s : Settings) (site rate : ℕ) (name : List ℕ) → site < 2 ^ 8 → rate < 2 ^ 32 → escape name ≡ name
-    → command_at s (codes "{\"interest\":[\"" ++ (name ++ (codes "\"," ++ (decimal rate ++ (codes "]" ++ (codes ",\"site\":" ++ (decimal site ++ codes "}"))))))) ≡ Some (At site (Submit (Interest (account_place s name) rate)))
+pub statement_told : (s : Settings) (name rest : List ℕ) → escape name ≡ name → Tells s (ToldEvent (Statement (account_place s name))) (codes "statement\":\"" ++ (name ++ (codes "\"" ++ rest))) rest
 unfolding escape_byte
-interest_line s site rate name h a plain =
-    let k = short site h in
-    let l : rate < 2 ^ 64 = omega arith in
-    told s (sited_json (codes "interest") (pair_json (string name) (number_json rate)) site) _ _ (ap (λ l. codes "{\"interest\":[\"" ++ l) (pair_text name (decimal rate) (codes ",\"site\":" ++ (decimal site ++ codes "}")) plain)) ((tt, (IsNumber-decimal rate l, tt)), (IsNumber-decimal site k, tt)) (omega arith) (rw (number_of-decimal rate l, number_of-decimal site k) refl) ((reads_commands s).interest site rate name h a)
+statement_told s name rest plain = record {
+  key = codes "statement";
+  value = string name;
+  member = ap (λ l. codes "\"statement\":\"" ++ l) (string_text name rest plain);
+  read = string_read name;
+  is = record { first = λ site k. (reads_commands s).statement site name k; last = λ site k. (reads_commands s).statement site name k; command = λ site. tt };
+}
 
-pub asof_line : (s : Settings) (site n : ℕ) (name : List ℕ) → site < 2 ^ 8 → n < 2 ^ 32 → escape name ≡ name
-    → command_at s (codes "{\"asof\":[\"" ++ (name ++ (codes "\"," ++ (decimal n ++ (codes "]" ++ (codes ",\"site\":" ++ (decimal site ++ codes "}"))))))) ≡ Some (At site (AsOf (account_place s name) n))
+pub asof_told : (s : Settings) (n : ℕ) (name rest : List ℕ) → n < 2 ^ 32 → escape name ≡ name → Tells s (ToldEvent (AsOf (account_place s name) n)) (codes "asof\":[\"" ++ (name ++ (codes "\"," ++ (decimal n ++ (codes "]" ++ rest))))) rest
 unfolding escape_byte
-asof_line s site n name h a plain =
-    let k = short site h in
-    let l : n < 2 ^ 64 = omega arith in
-    told s (sited_json (codes "asof") (pair_json (string name) (number_json n)) site) _ _ (ap (λ l. codes "{\"asof\":[\"" ++ l) (pair_text name (decimal n) (codes ",\"site\":" ++ (decimal site ++ codes "}")) plain)) ((tt, (IsNumber-decimal n l, tt)), (IsNumber-decimal site k, tt)) (omega arith) (rw (number_of-decimal n l, number_of-decimal site k) refl) ((reads_commands s).asof site n name h a)
+asof_told s n name rest h plain = record {
+  key = codes "asof";
+  value = pair_json (string name) (number_json n);
+  member = ap (λ l. codes "\"asof\":[\"" ++ l) (pair_text name (decimal n) rest plain);
+  read = pair_read name n (omega arith);
+  is = record { first = λ site k. (reads_commands s).asof site n name k h; last = λ site k. (reads_commands s).asof site n name k h; command = λ site. tt };
+}
 
-pub cancel_line : (s : Settings) (site : ℕ) (text : List ℕ) (x : OpName) → site < 2 ^ 8 → escape text ≡ text → name_of text ≡ Some x
-    → command_at s (codes "{\"cancel\":\"" ++ (text ++ (codes "\"" ++ (codes ",\"site\":" ++ (decimal site ++ codes "}"))))) ≡ Some (At site (Submit (Cancel x)))
+pub apply_told : (s : Settings) (text rest : List ℕ) (x : OpName) → escape text ≡ text → name_of text ≡ Some x → Tells s (ToldEvent (Apply x)) (codes "apply\":\"" ++ (text ++ (codes "\"" ++ rest))) rest
 unfolding escape_byte
-cancel_line s site text x h plain e =
-    let k = short site h in
-    let small : nat_lt site (2 ^ 8) ≡ true = search rules in
-    told s (sited_json (codes "cancel") (string text) site) _ _ (ap (λ l. codes "{\"cancel\":\"" ++ l) (string_text text (codes ",\"site\":" ++ (decimal site ++ codes "}")) plain)) (tt, (IsNumber-decimal site k, tt)) (omega arith) (rw (number_of-decimal site k) refl) (rw (small, e) refl)
+apply_told s text rest x plain e =
+    let is : (site : ℕ) → site < 2 ^ 8 → command_of s (sited_json (codes "apply") (string text) site) ≡ Some (told_at site (ToldEvent (Apply x))) = λ site k. let small : nat_lt site (2 ^ 8) ≡ true = search rules in rw (small, e) refl in
+    record {
+      key = codes "apply";
+      value = string text;
+      member = ap (λ l. codes "\"apply\":\"" ++ l) (string_text text rest plain);
+      read = string_read text;
+      is = record { first = is; last = is; command = λ site. tt };
+    }
 
-pub statement_line : (s : Settings) (site : ℕ) (name : List ℕ) → site < 2 ^ 8 → escape name ≡ name
-    → command_at s (codes "{\"site\":" ++ (decimal site ++ (codes ",\"statement\":\"" ++ (name ++ (codes "\"" ++ codes "}"))))) ≡ Some (At site (Statement (account_place s name)))
+pub pass_told : (s : Settings) (to : ℕ) (rest : List ℕ) → to < 2 ^ 8 → Tells s (ToldEvent (Pass to)) (codes "pass\":" ++ (decimal to ++ rest)) rest
 unfolding escape_byte
-statement_line s site name h plain =
-    let k = short site h in
-    told s (sited_json (codes "statement") (string name) site) _ _ (ap (λ l. codes "{\"site\":" ++ (decimal site ++ (codes ",\"statement\":\"" ++ l))) (string_text name (codes "}") plain)) (IsNumber-decimal site k, (tt, tt)) (omega arith) (rw (number_of-decimal site k) refl) ((reads_commands s).statement site name h)
+pass_told s to rest h = record {
+  key = codes "pass";
+  value = number_json to;
+  member = refl;
+  read = number_read to (omega arith);
+  is = record { first = λ site k. (reads_commands s).pass site to k h; last = λ site k. (reads_commands s).pass site to k h; command = λ site. tt };
+}
+
+pub deliver_told : (s : Settings) (m : ℕ) (rest : List ℕ) → m < 2 ^ 32 → Tells s (ToldMessage m) (codes "deliver\":" ++ (decimal m ++ rest)) rest
+unfolding escape_byte
+deliver_told s m rest h = record {
+  key = codes "deliver";
+  value = number_json m;
+  member = refl;
+  read = number_read m (omega arith);
+  is = record { first = λ site k. (reads_commands s).deliver site m k h; last = λ site k. (reads_commands s).deliver site m k h; command = λ site. tt };
+}

@@ -6,3 +6,4 @@ pub mod Requests
 pub mod Commands
 pub mod Configurations
 pub mod Adds
+pub mod Spelled

@@ -136,7 +136,7 @@ pub fn read_command(alloc: Global, config: &Config, line: &str) -> Result<WorldE
     ensures value { Gives result (command_at config.now line.now) }
     ensures command { IfOk result IsCommand }
 {
-    if let Some(command) = usual_command(config, line) {
+    if let Some(command) = usual_command(alloc, config, line) {
         return Ok(command);
     }
     match parse(alloc, line) {

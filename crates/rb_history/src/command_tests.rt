@@ -50,6 +50,32 @@ fn requests(rt: HostRuntime) -> Result<(), Fail> {
             withdraw(Place(1), 200),
         ),
         (
+            "{\"withdraw\":[\"ann\",200],\"site\":0}",
+            0,
+            withdraw(Place(0), 200),
+        ),
+        (
+            "{\"site\":255,\"deposit\":[\"bob\",0]}",
+            255,
+            deposit(Place(1), 0),
+        ),
+        (
+            "{\"site\":1,\"interest\":[\"ann\",4294967295]}",
+            1,
+            interest(Place(0), 4294967295),
+        ),
+        ("{\"site\":7,\"cancel\":\"R1\"}", 7, cancel(1)),
+        (
+            "{\"deposit\": [\"ann\", 500], \"site\": 0}",
+            0,
+            deposit(Place(0), 500),
+        ),
+        (
+            "{\"site\":0,\"deposit\":[\"\\u0061nn\",500]}",
+            0,
+            deposit(Place(0), 500),
+        ),
+        (
             " { \"interest\" : [ \"bob\", 150 ], \"site\" : 0 } ",
             0,
             interest(Place(1), 150),
@@ -89,6 +115,11 @@ fn batches(rt: HostRuntime) -> Result<(), Fail> {
     ];
     assert_eq!(rt; site, 1);
     assert_eq!(rt; asked.as_slice(), requests.as_slice());
+    let line = "{\"site\":0,\"batch\":[{\"cancel\":\"R1\"},{\"deposit\":[\"bob\",7]}]}";
+    let (site, asked) = batched(rt.alloc(), &config, line).ok_or("no batch")?;
+    let requests = [cancel(1), deposit(Place(1), 7)];
+    assert_eq!(rt; site, 0);
+    assert_eq!(rt; asked.as_slice(), requests.as_slice());
     let line = "{\"batch\":[],\"site\":0}";
     let (_site, asked) = batched(rt.alloc(), &config, line).ok_or("no batch")?;
     assert!(rt; asked.as_slice().is_empty());
@@ -119,6 +150,29 @@ fn other_commands(rt: HostRuntime) -> Result<(), Fail> {
 }
 
 #[test]
+fn other_commands_site_first(rt: HostRuntime) -> Result<(), Fail> {
+    let config = read_config(rt.alloc(), TWO_ACCOUNTS)?;
+    let apply = read_command(rt.alloc(), &config, "{\"site\":1,\"apply\":\"R3\"}")?;
+    assert!(rt;
+        matches!(
+            &apply,
+            WorldEvent::At(1, Event::Apply(OpName::Red { n: 3 }))
+        )
+    );
+    let pass = read_command(rt.alloc(), &config, "{\"site\":0,\"pass\":1}")?;
+    assert!(rt; matches!(&pass, WorldEvent::At(0, Event::Pass(1))));
+    let balance = read_command(rt.alloc(), &config, "{\"site\":2,\"balance\":\"bob\"}")?;
+    assert!(rt; matches!(&balance, WorldEvent::At(2, Event::Balance(Place(1)))));
+    let as_of = read_command(rt.alloc(), &config, "{\"site\":1,\"asof\":[\"bob\",3]}")?;
+    assert!(rt; matches!(&as_of, WorldEvent::At(1, Event::AsOf(Place(1), 3))));
+    let statement = read_command(rt.alloc(), &config, "{\"site\":0,\"statement\":\"ann\"}")?;
+    assert!(rt; matches!(&statement, WorldEvent::At(0, Event::Statement(Place(0)))));
+    let deliver = read_command(rt.alloc(), &config, "{\"site\":1,\"deliver\":2}")?;
+    assert!(rt; matches!(&deliver, WorldEvent::Deliver(1, 2)));
+    Ok(())
+}
+
+#[test]
 fn bad_commands(rt: HostRuntime) -> Result<(), Fail> {
     let config = read_config(rt.alloc(), TWO_ACCOUNTS)?;
     for line in [
@@ -143,6 +197,15 @@ fn bad_commands(rt: HostRuntime) -> Result<(), Fail> {
         "{\"pass\":256,\"site\":0}",
         "{\"pass\":1,\"site\":256}",
         "{\"pass\":1,\"site\":\"0\"}",
+        "{\"site\":256,\"pass\":1}",
+        "{\"site\":1,\"pass\":256}",
+        "{\"site\":01,\"pass\":1}",
+        "{\"site\":1,\"pass\":1}}",
+        "{\"site\":1,\"pass\":1,\"site\":1,\"balance\":\"ann\"}",
+        "{\"site\":1,\"site\":2}",
+        "{\"site\":1,\"deliver\":4294967296}",
+        "{\"site\":1,\"asof\":[\"ann\",4294967296]}",
+        "{\"site\":1,\"deposit\":[\"ann\",18446744073709551616]}",
         "{\"apply\":\"B00.1\",\"site\":0}",
         "{\"cancel\":\"r1\",\"site\":0}",
         "{\"lend\":[\"ann\",1],\"site\":0}",
@@ -165,6 +228,10 @@ fn bad_batches_and_views(rt: HostRuntime) -> Result<(), Fail> {
         "{\"batch\":[{\"deposit\":[\"ann\",1],\"site\":0}],\"site\":0}",
         "{\"batch\":[{\"deposit\":[\"ann\",1]},{\"apply\":\"B0.1\"}],\"site\":0}",
         "{\"batch\":[{\"batch\":[]}],\"site\":0}",
+        "{\"batch\":[{\"deposit\":[\"ann\",1]},],\"site\":0}",
+        "{\"batch\":[{\"deposit\":[\"ann\",1]},\"site\":0}",
+        "{\"batch\":[{\"deposit\":[\"ann\",1],\"cancel\":\"R1\"}],\"site\":0}",
+        "{\"site\":0,\"batch\":[{\"deposit\":[\"ann\",1]}}]}",
         "{\"asof\":\"ann\",\"site\":0}",
         "{\"asof\":[\"ann\"],\"site\":0}",
         "{\"asof\":[\"ann\",-1],\"site\":0}",

@@ -1,14 +1,16 @@
-//! Lines of commands as they are usually spelled, read in one pass: no space, the keys in byte order, no escape. `None` says nothing of a line: it is read by `serde_json`.
+//! Lines of commands as they are usually spelled, read in one pass: no space, no escape, the site first or last. `None` says nothing of a line: it is read by `serde_json`.
 ghost use Rattle.std.specs.Prelude.{◌≡◌, ◌<◌, ◌^◌, ◌++◌, Some, IfSome, codes, decimal};
 ghost use Rattle.json.specs.Print.{escape};
 ghost use Rattle.rb_site.specs.Worlds.{IsCommand};
 ghost use Rattle.rb_history.specs.Commands.{command_at};
+ghost use Rattle.rb_history.specs.Spelled.{Asks, AsksEach, Tells, told_at};
 
 use crate::request::place;
 use rb_money::Config;
 use rb_scratch::Request;
 use rb_shadow::read_name;
-use rb_site::{Event, WorldEvent};
+use rb_site::{Event, Requests, WorldEvent};
+use std::alloc::Global;
 use std::str;
 
 /// What follows these bytes.
@@ -86,154 +88,213 @@ fn pair(text: &[u8]) -> Option<(&str, u64, &[u8])>
     Some((name, n, after(rest, b"]")?))
 }
 
-fn balance(config: &Config, text: &[u8]) -> Option<WorldEvent>
-    ensures value { IfSome result (λ c. command_at config.now (codes "{\"balance\":\"" ++ text.now) ≡ Some c) }
-    ensures command { IfSome result IsCommand }
-{
-    let (name, rest) = plain(text)?;
-    let site = last_site(rest)?;
-    Some(WorldEvent::At(site, Event::Balance(place(config, name))))
+/// What a command tells beside its site.
+#[derive(Drop)]
+enum Told {
+    Event(Event),
+    Message(u32),
 }
 
-fn deposit(config: &Config, text: &[u8]) -> Option<WorldEvent>
-    ensures value { IfSome result (λ c. command_at config.now (codes "{\"deposit\":[\"" ++ text.now) ≡ Some c) }
-    ensures command { IfSome result IsCommand }
+/// The command for a site.
+#[inline(always)]
+fn at(told: Told, site: u8) -> WorldEvent
+    ensures { result ≡ told_at site told }
+{
+    match told {
+        Told::Event(event) => WorldEvent::At(site, event),
+        Told::Message(message) => WorldEvent::Deliver(site, message),
+    }
+}
+
+fn deposit<'a>(config: &Config, text: &'a [u8]) -> Option<(Request, &'a [u8])>
+    ensures { IfSome result (λ p. Asks config.now p.0 (codes "deposit\":[\"" ++ text.now) p.1.now) }
 {
     let (name, amount, rest) = pair(text)?;
-    let site = last_site(rest)?;
     let account = place(config, name);
-    Some(WorldEvent::At(site, Event::Submit(Request::Deposit { account, amount })))
+    Some((Request::Deposit { account, amount }, rest))
 }
 
-fn deliver(config: &Config, text: &[u8]) -> Option<WorldEvent>
-    ensures value { IfSome result (λ c. command_at config.now (codes "{\"deliver\":" ++ text.now) ≡ Some c) }
-    ensures command { IfSome result IsCommand }
+fn withdraw<'a>(config: &Config, text: &'a [u8]) -> Option<(Request, &'a [u8])>
+    ensures { IfSome result (λ p. Asks config.now p.0 (codes "withdraw\":[\"" ++ text.now) p.1.now) }
 {
-    let (message, rest) = number(text)?;
-    let site = last_site(rest)?;
-    if message >= 0x1_0000_0000 {
-        return None;
-    }
-    Some(WorldEvent::Deliver(site, message as u32))
-}
-
-fn apply(config: &Config, text: &[u8]) -> Option<WorldEvent>
-    ensures value { IfSome result (λ c. command_at config.now (codes "{\"apply\":\"" ++ text.now) ≡ Some c) }
-    ensures command { IfSome result IsCommand }
-{
-    let (name, rest) = plain(text)?;
-    let site = last_site(rest)?;
-    Some(WorldEvent::At(site, Event::Apply(read_name(name)?)))
-}
-
-fn pass(config: &Config, text: &[u8]) -> Option<WorldEvent>
-    ensures value { IfSome result (λ c. command_at config.now (codes "{\"pass\":" ++ text.now) ≡ Some c) }
-    ensures command { IfSome result IsCommand }
-{
-    let (to, rest) = number(text)?;
-    let site = last_site(rest)?;
-    if to >= 256 {
-        return None;
-    }
-    Some(WorldEvent::At(site, Event::Pass(to as u8)))
-}
-
-fn as_of(config: &Config, text: &[u8]) -> Option<WorldEvent>
-    ensures value { IfSome result (λ c. command_at config.now (codes "{\"asof\":[\"" ++ text.now) ≡ Some c) }
-    ensures command { IfSome result IsCommand }
-{
-    let (name, position, rest) = pair(text)?;
-    let site = last_site(rest)?;
-    if position >= 0x1_0000_0000 {
-        return None;
-    }
+    let (name, amount, rest) = pair(text)?;
     let account = place(config, name);
-    Some(WorldEvent::At(site, Event::AsOf(account, position as u32)))
+    Some((Request::Withdraw { account, amount }, rest))
 }
 
-fn interest(config: &Config, text: &[u8]) -> Option<WorldEvent>
-    ensures value { IfSome result (λ c. command_at config.now (codes "{\"interest\":[\"" ++ text.now) ≡ Some c) }
-    ensures command { IfSome result IsCommand }
+fn interest<'a>(config: &Config, text: &'a [u8]) -> Option<(Request, &'a [u8])>
+    ensures { IfSome result (λ p. Asks config.now p.0 (codes "interest\":[\"" ++ text.now) p.1.now) }
 {
     let (name, rate, rest) = pair(text)?;
-    let site = last_site(rest)?;
     if rate >= 0x1_0000_0000 {
         return None;
     }
     let account = place(config, name);
     let rate = rate as u32;
-    Some(WorldEvent::At(site, Event::Submit(Request::Interest { account, rate })))
+    Some((Request::Interest { account, rate }, rest))
 }
 
-fn cancel(config: &Config, text: &[u8]) -> Option<WorldEvent>
-    ensures value { IfSome result (λ c. command_at config.now (codes "{\"cancel\":\"" ++ text.now) ≡ Some c) }
-    ensures command { IfSome result IsCommand }
+fn cancel<'a>(config: &Config, text: &'a [u8]) -> Option<(Request, &'a [u8])>
+    ensures { IfSome result (λ p. Asks config.now p.0 (codes "cancel\":\"" ++ text.now) p.1.now) }
 {
     let (name, rest) = plain(text)?;
-    let site = last_site(rest)?;
     let target = read_name(name)?;
-    Some(WorldEvent::At(site, Event::Submit(Request::Cancel { target })))
+    Some((Request::Cancel { target }, rest))
 }
 
-fn withdraw(config: &Config, site: u8, text: &[u8]) -> Option<WorldEvent>
-    ensures value { IfSome result (λ c. command_at config.now (codes "{\"site\":" ++ (decimal site ++ (codes ",\"withdraw\":[\"" ++ text.now))) ≡ Some c) }
-    ensures command { IfSome result IsCommand }
+/// A request, from its key on.
+fn request<'a>(config: &Config, text: &'a [u8]) -> Option<(Request, &'a [u8])>
+    ensures { IfSome result (λ p. Asks config.now p.0 text.now p.1.now) }
 {
-    let (name, amount, rest) = pair(text)?;
-    if rest != b"}".as_slice() {
+    match text.first() {
+        Some(b'd') => deposit(config, after(text, b"deposit\":[\"")?),
+        Some(b'w') => withdraw(config, after(text, b"withdraw\":[\"")?),
+        Some(b'i') => interest(config, after(text, b"interest\":[\"")?),
+        _ => cancel(config, after(text, b"cancel\":\"")?),
+    }
+}
+
+fn submit<'a>(config: &Config, text: &'a [u8]) -> Option<(Told, &'a [u8])>
+    ensures { IfSome result (λ p. Tells config.now p.0 text.now p.1.now) }
+{
+    let (request, rest) = request(config, text)?;
+    Some((Told::Event(Event::Submit(request)), rest))
+}
+
+fn balance<'a>(config: &Config, text: &'a [u8]) -> Option<(Told, &'a [u8])>
+    ensures { IfSome result (λ p. Tells config.now p.0 (codes "balance\":\"" ++ text.now) p.1.now) }
+{
+    let (name, rest) = plain(text)?;
+    let account = place(config, name);
+    Some((Told::Event(Event::Balance(account)), rest))
+}
+
+fn statement<'a>(config: &Config, text: &'a [u8]) -> Option<(Told, &'a [u8])>
+    ensures { IfSome result (λ p. Tells config.now p.0 (codes "statement\":\"" ++ text.now) p.1.now) }
+{
+    let (name, rest) = plain(text)?;
+    let account = place(config, name);
+    Some((Told::Event(Event::Statement(account)), rest))
+}
+
+fn as_of<'a>(config: &Config, text: &'a [u8]) -> Option<(Told, &'a [u8])>
+    ensures { IfSome result (λ p. Tells config.now p.0 (codes "asof\":[\"" ++ text.now) p.1.now) }
+{
+    let (name, position, rest) = pair(text)?;
+    if position >= 0x1_0000_0000 {
         return None;
     }
     let account = place(config, name);
-    Some(WorldEvent::At(site, Event::Submit(Request::Withdraw { account, amount })))
+    Some((Told::Event(Event::AsOf(account, position as u32)), rest))
 }
 
-fn statement(config: &Config, site: u8, text: &[u8]) -> Option<WorldEvent>
-    ensures value { IfSome result (λ c. command_at config.now (codes "{\"site\":" ++ (decimal site ++ (codes ",\"statement\":\"" ++ text.now))) ≡ Some c) }
-    ensures command { IfSome result IsCommand }
+fn apply<'a>(config: &Config, text: &'a [u8]) -> Option<(Told, &'a [u8])>
+    ensures { IfSome result (λ p. Tells config.now p.0 (codes "apply\":\"" ++ text.now) p.1.now) }
 {
     let (name, rest) = plain(text)?;
-    if rest != b"}".as_slice() {
-        return None;
-    }
-    Some(WorldEvent::At(site, Event::Statement(place(config, name))))
+    Some((Told::Event(Event::Apply(read_name(name)?)), rest))
 }
 
-/// A withdrawal or a statement, whose keys come behind the site's.
-fn site_first(config: &Config, text: &[u8]) -> Option<WorldEvent>
+fn pass<'a>(config: &Config, text: &'a [u8]) -> Option<(Told, &'a [u8])>
+    ensures { IfSome result (λ p. Tells config.now p.0 (codes "pass\":" ++ text.now) p.1.now) }
+{
+    let (to, rest) = number(text)?;
+    if to >= 256 {
+        return None;
+    }
+    Some((Told::Event(Event::Pass(to as u8)), rest))
+}
+
+fn deliver<'a>(config: &Config, text: &'a [u8]) -> Option<(Told, &'a [u8])>
+    ensures { IfSome result (λ p. Tells config.now p.0 (codes "deliver\":" ++ text.now) p.1.now) }
+{
+    let (message, rest) = number(text)?;
+    if message >= 0x1_0000_0000 {
+        return None;
+    }
+    Some((Told::Message(message as u32), rest))
+}
+
+/// The requests of a batch, behind its bracket: at least one.
+fn requests<'a>(alloc: Global, config: &Config, text: &'a [u8]) -> Option<(Vec<Request>, &'a [u8])>
+    ensures { IfSome result (λ p. AsksEach config.now p.0.items text.now p.1.now) }
+{
+    let mut requests = Vec::new(alloc);
+    let mut left = text;
+    'items: loop {
+        let (asked, rest) = request(config, after(left, b"{\"")?)?;
+        if requests.push(asked).is_err() {
+            return None;
+        }
+        let rest = after(rest, b"}")?;
+        match after(rest, b",") {
+            Some(more) => left = more,
+            None => return Some((requests, after(rest, b"]")?)),
+        }
+    }
+}
+
+fn batch<'a>(alloc: Global, config: &Config, text: &'a [u8]) -> Option<(Told, &'a [u8])>
+    ensures { IfSome result (λ p. Tells config.now p.0 (codes "batch\":[" ++ text.now) p.1.now) }
+{
+    let (requests, rest) = requests(alloc, config, text)?;
+    Some((Told::Event(Event::Batch(Requests::new(requests))), rest))
+}
+
+/// The member that tells a command beside its site, from its key on.
+fn member<'a>(alloc: Global, config: &Config, text: &'a [u8]) -> Option<(Told, &'a [u8])>
+    ensures { IfSome result (λ p. Tells config.now p.0 text.now p.1.now) }
+{
+    match text.first() {
+        Some(b'a') => match after(text, b"apply\":\"") {
+            Some(rest) => apply(config, rest),
+            None => as_of(config, after(text, b"asof\":[\"")?),
+        },
+        Some(b'b') => match after(text, b"balance\":\"") {
+            Some(rest) => balance(config, rest),
+            None => batch(alloc, config, after(text, b"batch\":[")?),
+        },
+        Some(b'p') => pass(config, after(text, b"pass\":")?),
+        Some(b's') => statement(config, after(text, b"statement\":\"")?),
+        Some(b'd') => match after(text, b"deliver\":") {
+            Some(rest) => deliver(config, rest),
+            None => submit(config, text),
+        },
+        _ => submit(config, text),
+    }
+}
+
+/// A command whose site comes first, from its number on.
+fn site_first(alloc: Global, config: &Config, text: &[u8]) -> Option<WorldEvent>
     ensures value { IfSome result (λ c. command_at config.now (codes "{\"site\":" ++ text.now) ≡ Some c) }
     ensures command { IfSome result IsCommand }
 {
     let (site, rest) = number(text)?;
-    if site >= 256 {
+    let (told, rest) = member(alloc, config, after(rest, b",\"")?)?;
+    if site >= 256 || rest != b"}".as_slice() {
         return None;
     }
-    let site = site as u8;
-    match after(rest, b",\"withdraw\":[\"") {
-        Some(rest) => withdraw(config, site, rest),
-        None => statement(config, site, after(rest, b",\"statement\":\"")?),
-    }
+    Some(at(told, site as u8))
+}
+
+/// A command whose site comes last, from its key on.
+fn site_last(alloc: Global, config: &Config, text: &[u8]) -> Option<WorldEvent>
+    ensures value { IfSome result (λ c. command_at config.now (codes "{\"" ++ text.now) ≡ Some c) }
+    ensures command { IfSome result IsCommand }
+{
+    let (told, rest) = member(alloc, config, text)?;
+    let site = last_site(rest)?;
+    Some(at(told, site))
 }
 
 /// The command of a line in the usual spelling.
-pub fn usual_command(config: &Config, line: &str) -> Option<WorldEvent>
+pub fn usual_command(alloc: Global, config: &Config, line: &str) -> Option<WorldEvent>
     ensures value { IfSome result (λ c. command_at config.now line.now ≡ Some c) }
     ensures command { IfSome result IsCommand }
 {
-    let line = line.as_bytes();
-    let key = after(line, b"{\"")?;
-    match key.first() {
-        Some(b'a') => match after(key, b"apply\":\"") {
-            Some(rest) => apply(config, rest),
-            None => as_of(config, after(key, b"asof\":[\"")?),
-        },
-        Some(b'b') => balance(config, after(key, b"balance\":\"")?),
-        Some(b'c') => cancel(config, after(key, b"cancel\":\"")?),
-        Some(b'd') => match after(key, b"deposit\":[\"") {
-            Some(rest) => deposit(config, rest),
-            None => deliver(config, after(key, b"deliver\":")?),
-        },
-        Some(b'i') => interest(config, after(key, b"interest\":[\"")?),
-        Some(b'p') => pass(config, after(key, b"pass\":")?),
-        _ => site_first(config, after(key, b"site\":")?),
+    let text = after(line.as_bytes(), b"{\"")?;
+    match after(text, b"site\":") {
+        Some(rest) => site_first(alloc, config, rest),
+        None => site_last(alloc, config, text),
     }
 }

@@ -1,10 +1,6 @@
-use Rattle.std.proofs.Common.{◌++◌, codes, decimal, ap, ◌∙◌, arith}
-use Rattle.rb_history.specs.Commands.{command_at}
-use Rattle.rb_history.proofs.UsualLines.{interest_line}
+use Rattle.std.proofs.Common.{arith}
+use Rattle.rb_history.proofs.UsualLines.{interest_asked}
 use Rattle.rb_history.proofs.usual.interest.Goals as goal
 
-pub returns-clause-value : goal.returns-clause-value
-returns-clause-value c =
-    let name = c.in_ok-name.name.now in
-    let rate = c.in_ok-name.rate in
-    ap (λ l. command_at c.args.config.now (codes "{\"interest\":[\"" ++ l)) (c.in_ok-name.ensures.2 ∙ ap (λ l. name ++ (codes "\"," ++ (decimal rate ++ (codes "]" ++ l)))) c.in_ok-site.ensures) ∙ rw c.place-account.ensures (interest_line c.args.config.now c.in_ok-site.site rate name (omega arith) (omega arith) c.in_ok-name.ensures.1)
+pub returns : goal.returns
+returns c = rw (c.in_ok-name.ensures.2, c.place-account.ensures) (interest_asked c.args.config.now c.in_ok-name.rate c.in_ok-name.name.now c.in_ok-name.rest.now (omega arith) c.in_ok-name.ensures.1)

@@ -1,8 +1,15 @@
-use Rattle.std.proofs.Common.{ap, ◌∙◌, ◌++◌, decimal}
+use Rattle.std.proofs.Common.{◌≡◌, ◌++◌, codes, decimal, ap, ◌∙◌, arith, rules}
+use Rattle.rb_history.specs.Commands.{command_at}
+use Rattle.rb_history.proofs.UsualLines.{first_line}
 use Rattle.rb_history.proofs.usual.site_first.Goals as goal
 
-pub returns-in-Some-clause-value : goal.returns-in-Some-clause-value
-returns-in-Some-clause-value c = rw (c.in_ok-site.ensures.1 ∙ ap (λ l. decimal c.in_ok-site.site ++ l) c.in-Some.ensures) c.withdraw.ensures.value
+pub returns-clause-value : goal.returns-clause-value
+returns-clause-value c =
+    let site = c.in_ok-site.site in
+    let text = c.in_ok-after.field-0.now in
+    let last : c.in_ok-told.rest.now ≡ codes "}" = search rules in
+    ap (λ l. command_at c.args.config.now (codes "{\"site\":" ++ l)) (c.in_ok-site.ensures.1 ∙ ap (λ l. decimal site ++ l) c.in_ok-after.ensures)
+    ∙ rw c.at.ensures (first_line c.args.config.now c.in_ok-told.told site text c.in_ok-told.rest.now c.in_ok-told.ensures (omega arith) last)
 
-pub returns-in_ok-after-in-None-clause-value : goal.returns-in_ok-after-in-None-clause-value
-returns-in_ok-after-in-None-clause-value c = rw (c.in_ok-site.ensures.1 ∙ ap (λ l. decimal c.in_ok-site.site ++ l) c.in_ok-after-in-None.ensures) c.statement.ensures.value
+pub returns-clause-command : goal.returns-clause-command
+returns-clause-command c = rw c.at.ensures (c.in_ok-told.ensures.is.command c.in_ok-site.site)
