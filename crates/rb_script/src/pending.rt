@@ -2,6 +2,7 @@
 ghost use Rattle.std.specs.Prelude.{◌≡◌, ◌≤◌, [], ◌++◌, length, drop, OnOk, OnErr};
 ghost use Rattle.rb_script.specs.Lines.{line_len};
 
+use memchr::memchr;
 use std::alloc::{AllocError, Global};
 use std::marker::Model;
 
@@ -30,12 +31,10 @@ fn line_length(bytes: &[u8]) -> usize
     ensures length { result ≡ line_len bytes.now }
     ensures within { result ≤ length bytes.now }
 {
-    for (i, b) in bytes.iter().enumerate() {
-        if *b == b'\n' {
-            return i;
-        }
+    match memchr(b'\n', bytes) {
+        Some(found) => found,
+        None => bytes.len(),
     }
-    bytes.len()
 }
 
 impl Pending {
