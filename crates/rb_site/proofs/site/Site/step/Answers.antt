@@ -11,5 +11,5 @@ few_at true ms h = lit≤ tt
 few_at false ms h = h
 
 pub returns-clause-few : goal.returns-clause-few
-returns-clause-few g c = subst (λ ms. length ms ≤ 16) (sym ((c.in_ok-reply.ensures.ok).2 ∙ ap (λ ms. ms ++ sent_at c.args.self.now.settings (state_of c.args.self.now) c.args.event) c.new-posted.ensures.items)) 
+returns-clause-few g c = subst (λ ms. length ms ≤ 16) (sym ((c.in_ok-reply.ensures.ok).2 ∙ ap (λ ms. ms ++ sent_at c.args.self.now.settings (state_of c.args.self.now) c.args.event) c.new-posted.ensures.items))
     (few_at (is_full c.args.self.now.settings (state_of c.args.self.now)) (sent_by (outcome_of c.args.self.now.settings (state_of c.args.self.now) c.args.event)) (sends_few c.args.self.now.settings (state_of c.args.self.now) c.args.event))
