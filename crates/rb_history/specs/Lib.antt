@@ -2,6 +2,7 @@ pub mod Values
 pub mod Statements
 pub mod Replies
 pub mod Lines
+pub mod OnLines
 pub mod Requests
 pub mod Commands
 pub mod Configurations

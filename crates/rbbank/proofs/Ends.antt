@@ -4,9 +4,9 @@ use Rattle.std.specs.declared.io.ErrorKind.{ErrorKind as IoErrorKind}
 use Rattle.std.specs.declared.io.ErrorKind.TheVariants.{OutOfMemory as IoOutOfMemory}
 use Rattle.clap.specs.declared.error.kind.ErrorKind.{ErrorKind}
 use Rattle.clap.specs.declared.error.kind.ErrorKind.TheVariants.{DisplayHelp, OutOfMemory as NoMemory}
-use Rattle.rb_script.specs.declared.fault.ScriptFault.{ScriptFault}
-use Rattle.rb_script.specs.declared.fault.ScriptFault.TheVariants.{NoConfig, OutOfMemory}
-use Rattle.rb_script.specs.Messages.{status_of}
+use Rattle.rb_lines.specs.declared.fault.ScriptFault.{ScriptFault}
+use Rattle.rb_lines.specs.declared.fault.ScriptFault.TheVariants.{NoConfig, OutOfMemory}
+use Rattle.rb_lines.specs.Messages.{status_of}
 use Rattle.rbbank.specs.Statuses.{IsEnd, status_of_unread, status_of_words}
 
 pub no_memory : (n : ℕ) → n ≡ 4 → IsEnd n

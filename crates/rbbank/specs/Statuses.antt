@@ -4,8 +4,8 @@ use Rattle.std.specs.declared.io.ErrorKind.{ErrorKind as IoErrorKind}
 use Rattle.std.specs.declared.io.ErrorKind.TheVariants.{OutOfMemory as IoOutOfMemory}
 use Rattle.clap.specs.declared.error.kind.ErrorKind.{ErrorKind}
 use Rattle.clap.specs.declared.error.kind.ErrorKind.TheVariants.{DisplayHelp, OutOfMemory}
-use Rattle.rb_script.specs.declared.fault.ScriptFault.{ScriptFault}
-use Rattle.rb_script.specs.Messages.{status_of}
+use Rattle.rb_lines.specs.declared.fault.ScriptFault.{ScriptFault}
+use Rattle.rb_lines.specs.Messages.{status_of}
 
 -- where the words ask for no script: help that was asked for is no fault
 abbrev pub status_of_words : ErrorKind → ℕ

@@ -5,7 +5,7 @@ ghost use Rattle.std.specs.Prelude.{◌≡◌, ◌⊎◌};
 ghost use Rattle.std.specs.IoError.{error_kind};
 ghost use Rattle.std.specs.Process.{exit_status};
 ghost use Rattle.clap.specs.Words.{kind_of};
-ghost use Rattle.rb_script.specs.Messages.{status_of};
+ghost use Rattle.rb_lines.specs.Messages.{status_of};
 ghost use Rattle.rbbank.specs.Statuses.{IsEnd, status_of_unread, status_of_words};
 
 mod from_reader;
@@ -19,7 +19,8 @@ mod to_writer;
 
 use clap::error::ErrorKind;
 use from_reader::FromReader;
-use rb_script::{ScriptFault, message, run_script, status};
+use rb_lines::{ScriptFault, message, status};
+use rb_script::run_script;
 use rb_words::{Words, read_words};
 use std::alloc::AllocError;
 use std::process::ExitCode;

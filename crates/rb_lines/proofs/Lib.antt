@@ -1,0 +1,4 @@
+pub mod LineLaws
+pub mod ReadLaws
+pub mod Walks
+pub mod WriteLaws
