@@ -7,4 +7,5 @@ pub mod Requests
 pub mod Commands
 pub mod Configurations
 pub mod Adds
+pub mod Answers
 pub mod Spelled

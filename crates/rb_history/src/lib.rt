@@ -1,6 +1,7 @@
 //! Lines of text: the configuration, commands and replies as JSON.
 #![tactic(auto)]
 
+mod answers;
 mod append;
 mod command;
 #[cfg(test)]
@@ -18,6 +19,7 @@ mod write;
 
 ghost use Rattle.rb_history.specs.Commands.{CommandsAreRead};
 
+pub use answers::{order_line, stuck_line, wrong_reply_line};
 pub use command::read_command;
 pub use config_line::read_config;
 pub use fault::LineFault;

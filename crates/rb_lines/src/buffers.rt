@@ -116,6 +116,7 @@ impl Buffers {
         ensures long { result ≡ Err TooLong → line_limit < line_len self.new.pending }
         ensures read { result ≡ Err Read → (self.new.ended ≡ false) × (line_len self.new.pending ≡ length self.new.pending) × ((S.failed reader.new ≡ true) ⊎ (S.calls reader.new ≡ 4000000000)) }
         ensures write { (result ≡ Err Write) ↔ (W.failed writer.new ≡ true) }
+        ensures nothing { result ≡ Err Write → 0 < length self.old.owed.items }
         ensures front { result ≡ Err Write → AppendsFront (W.contents writer.old) (W.contents writer.new) self.old.owed.items × (self.new.owed.items ≡ []) }
     {
         if self.owed.len() >= MOST_OWED && flush(writer, &mut self.owed).is_err() {
