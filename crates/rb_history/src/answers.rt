@@ -16,7 +16,7 @@ fn append_listed(out: &mut Vec<u8>, comma: &str, n: u64) -> Result<(), AllocErro
 }
 
 fn append_order(out: &mut Vec<u8>, order: &[u8]) -> Result<(), AllocError>
-    ensures { Adds result out.old.items out.new.items (answer_line (order_json order.now)) }
+    ensures { Adds result out.old.items out.new.items (compact_text (order_json order.now)) }
 {
     append(out, "{\"order\":[")?;
     let mut comma = "";
@@ -24,11 +24,11 @@ fn append_order(out: &mut Vec<u8>, order: &[u8]) -> Result<(), AllocError>
         append_listed(out, comma, *site as u64)?;
         comma = ",";
     }
-    append(out, "]}\n")
+    append(out, "]}")
 }
 
 fn append_stuck(out: &mut Vec<u8>, next: &[u32]) -> Result<(), AllocError>
-    ensures { Adds result out.old.items out.new.items (answer_line (stuck_json next.now)) }
+    ensures { Adds result out.old.items out.new.items (compact_text (stuck_json next.now)) }
 {
     append(out, "{\"fault\":\"stuck\",\"next\":[")?;
     let mut comma = "";
@@ -36,14 +36,19 @@ fn append_stuck(out: &mut Vec<u8>, next: &[u32]) -> Result<(), AllocError>
         append_listed(out, comma, *number as u64)?;
         comma = ",";
     }
-    append(out, "]}\n")
+    append(out, "]}")
 }
 
 fn append_wrong_reply(out: &mut Vec<u8>, site: u8, event: u32) -> Result<(), AllocError>
-    ensures { Adds result out.old.items out.new.items (answer_line (wrong_reply_json site event)) }
+    ensures { Adds result out.old.items out.new.items (compact_text (wrong_reply_json site event)) }
 {
-    append_number(out, "{\"event\":", event as u64, ",\"fault\":\"reply\"")?;
-    append_number(out, ",\"site\":", site as u64, "}\n")
+    append_number(
+        out,
+        "{\"event\":",
+        event as u64,
+        ",\"fault\":\"reply\",\"site\":",
+    )?;
+    append_number(out, "", site as u64, "}")
 }
 
 /// The line of an order: the sites, from 0, in the order in which their entries were taken. With its
@@ -53,6 +58,7 @@ pub fn order_line(alloc: Global, order: &[u8]) -> Result<Vec<u8>, AllocError>
 {
     let mut line = Vec::new(alloc);
     append_order(&mut line, order)?;
+    append(&mut line, "\n")?;
     Ok(line)
 }
 
@@ -63,6 +69,7 @@ pub fn stuck_line(alloc: Global, next: &[u32]) -> Result<Vec<u8>, AllocError>
 {
     let mut line = Vec::new(alloc);
     append_stuck(&mut line, next)?;
+    append(&mut line, "\n")?;
     Ok(line)
 }
 
@@ -73,5 +80,6 @@ pub fn wrong_reply_line(alloc: Global, site: u8, event: u32) -> Result<Vec<u8>, 
 {
     let mut line = Vec::new(alloc);
     append_wrong_reply(&mut line, site, event)?;
+    append(&mut line, "\n")?;
     Ok(line)
 }

@@ -17,4 +17,4 @@ pub use no_line::NoLine;
 pub use pending::Pending;
 pub use sink::{Sink, WriteFailed};
 pub use source::{ReadFailed, Source};
-pub use write::flush;
+pub use write::{flush, write_all};

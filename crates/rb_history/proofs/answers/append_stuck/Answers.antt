@@ -26,5 +26,5 @@ returns c =
     let list = rest_text [] (map number_json c.args.next.now) in
     let front = codes "{\"fault\":\"stuck\",\"next\":[" in
     let all = items_written number_json out c.loop-number.comma.now ((old ++ front) ++ list) c.args.next.now c.loop-number.number-index (omega arith) c.loop-number.invariant.written ∙ append_assoc old front list in
-    then c.append-2.result old out c.append-2.new.out.items (front ++ list) (codes "]}\n") _ all c.append-2.ensures
-    (append_assoc front list (codes "]}\n") ∙ ap (λ l. front ++ l) (sym (append_assoc list (codes "]") (codes "}\n")) ∙ ap (λ l. l ++ codes "}\n") (whole_text (map number_json c.args.next.now))))
+    then c.append-2.result old out c.append-2.new.out.items (front ++ list) (codes "]}") _ all c.append-2.ensures
+    (append_assoc front list (codes "]}") ∙ ap (λ l. front ++ l) (sym (append_assoc list (codes "]") (codes "}")) ∙ ap (λ l. l ++ codes "}") (whole_text (map number_json c.args.next.now))))
