@@ -1,5 +1,5 @@
 -- Where a run stands between two lines.
-use Rattle.std.proofs.Common.{◌≡◌, ◌<◌, ◌≤◌, ◌+◌, ◌-◌, ◌⊎◌, ℕ, Bool, true, false, List, [], ◌∷◌, ◌++◌, length, take, drop, refl, sym, ap, ◌∙◌, arith, subst, append-nil, append_assoc, zero-add}
+use Rattle.std.proofs.Common.{◌≡◌, ◌<◌, ◌≤◌, ◌+◌, ◌-◌, ◌⊎◌, ℕ, Bool, true, false, List, [], ◌∷◌, ◌++◌, length, take, drop, sym, ap, ◌∙◌, arith, subst, append-nil, append_assoc, zero-add}
 use Rattle.rb_lines.specs.Lines.{lines_of, whole_lines, line_len}
 use Rattle.rb_lines.proofs.Walks.{Walks}
 use Rattle.rb_lines.proofs.Walks as walk
