@@ -16,9 +16,6 @@ use std::alloc::Global;
 /// The most reads of one script.
 const MOST_READS: u64 = 4_000_000_000;
 
-/// The bytes that one read asks for.
-const READ_SIZE: usize = 65_536;
-
 /// The most bytes of a line.
 const LINE_LIMIT: usize = 1_048_576;
 
@@ -77,18 +74,17 @@ impl Buffers {
         if self.reads == 0 {
             return Err(NoLine::Read);
         }
+        let Ok(read) = self.pending.read(reader) else {
+            return Err(NoLine::OutOfMemory);
+        };
         self.reads -= 1;
-        let mut chunk = [0u8; READ_SIZE];
-        match reader.read(&mut chunk) {
-            Ok(0) => self.ended = true,
+        match read {
             Ok(n) => {
-                if self.pending.extend(&chunk[..n]).is_err() {
-                    return Err(NoLine::OutOfMemory);
-                }
+                self.ended = n == 0;
+                Ok(())
             }
-            Err(_) => return Err(NoLine::Read),
+            Err(_) => Err(NoLine::Read),
         }
-        Ok(())
     }
 
     /// Makes the next line stand at the front, and says how long it is: `None` at the end. What is owed goes out before a read, and where it is much.
