@@ -11,18 +11,15 @@ mod line;
 mod lists;
 mod parts;
 mod request;
-mod statement;
 mod usual;
 mod values;
-mod write;
 
 ghost use Rattle.rb_history.specs.Commands.{CommandsAreRead};
 
 pub use command::read_command;
 pub use config_line::read_config;
 pub use fault::LineFault;
-pub use line::append_reply;
-pub use write::write_reply;
+pub use line::{append_reply, write_reply};
 
 /// Each command is read from the JSON object that tells it.
 pub fn commands_are_read()
