@@ -1,4 +1,4 @@
-pub mod Whole
+pub mod Utf8
 pub mod Shapes
 pub mod Back
 pub mod Fronts

@@ -1,6 +1,6 @@
 -- A command in the usual spelling is the compact text of the object that tells it, and so is read as the command.
-use Rattle.std.proofs.Common.{◌≡◌, ◌<◌, ◌≤◌, ◌^◌, ℕ, List, [], ◌++◌, Some, codes, decimal, refl, sym, ap, ◌∙◌, append_assoc, append-nil, arith, rules, true}
-use Rattle.std.specs.Prelude.{option_and_then, nat_lt}
+use Rattle.std.proofs.Common.{◌≡◌, ◌<◌, ◌≤◌, ◌^◌, ℕ, List, [], ◌++◌, Some, codes, decimal, refl, sym, ap, ◌∙◌, append_assoc, append-nil, arith}
+use Rattle.std.specs.Prelude.{option_and_then}
 use Rattle.json.specs.Json as json
 use Rattle.json.specs.Lex.{tokens}
 use Rattle.json.specs.Print.{escape, escape_byte, quoted}
@@ -15,7 +15,7 @@ use Rattle.serde_json.specs.Written.{compact_text, outline}
 use Rattle.serde_json.proofs.Numbers.{number_of-decimal}
 use Rattle.serde_json.proofs.Texts.{print-outline}
 use Rattle.rb_money.specs.Settings.{Settings}
-use Rattle.rb_shadow.specs.NameText.{name_of}
+use Rattle.rb_shadow.specs.NameText.{IsName, name_text}
 use Rattle.rb_shadow.specs.declared.op_name.OpName.{OpName}
 use Rattle.rb_scratch.specs.declared.request.Request.{Request}
 use Rattle.rb_scratch.specs.declared.request.Request.TheVariants.{Deposit, Withdraw, Interest, Cancel}
@@ -24,10 +24,11 @@ use Rattle.rb_site.specs.declared.world_event.WorldEvent.{WorldEvent}
 use Rattle.rb_history.specs.Commands.{command_at, command_of, sited_json}
 use Rattle.rb_history.specs.Requests.{account_place}
 use Rattle.rb_history.specs.Spelled.{IsRead, Tells, Asks, told_at}
-use Rattle.rb_history.specs.Values.{number_json, pair_json}
+use Rattle.rb_history.specs.Values.{number_json, name_json, pair_json}
 use Rattle.rb_history.specs.declared.usual.Told.{Told}
 use Rattle.rb_history.specs.declared.usual.Told.TheVariants.{Event as ToldEvent, Message as ToldMessage}
 use Rattle.rb_history.proofs.Back.{reads_commands}
+use Rattle.rb_history.proofs.Plain.{escape_plain, plain_name}
 
 -- an object's text, its keys in any order, is read as the object with its keys in byte order
 compact_read : (turned d : Data) → HasNumbers (outline turned) → tree.depth (outline turned) ≤ max_depth → of_json (outline turned) ≡ Some d → read (compact_text turned) ≡ Some d
@@ -79,6 +80,9 @@ pair_read name n h = record { numbers = (tt, (IsNumber-decimal n h, tt)); shallo
 string_text : (name rest : List ℕ) → escape name ≡ name → name ++ (codes "\"" ++ rest) ≡ (escape name ++ codes "\"") ++ rest
 string_text name rest plain = sym (append_assoc name (codes "\"") rest) ∙ ap (λ l. (l ++ codes "\"") ++ rest) (sym plain)
 
+operation_text : (x : OpName) (rest : List ℕ) → IsName x → name_text x ++ (codes "\"" ++ rest) ≡ (escape (name_text x) ++ codes "\"") ++ rest
+operation_text x rest h = string_text (name_text x) rest (escape_plain (name_text x) (plain_name x h))
+
 pair_text : (name digits rest : List ℕ) → escape name ≡ name → name ++ (codes "\"," ++ (digits ++ (codes "]" ++ rest))) ≡ ((escape name ++ codes "\"") ++ (codes "," ++ (digits ++ codes "]"))) ++ rest
 pair_text name digits rest plain =
     let regrouped : name ++ (codes "\"," ++ (digits ++ (codes "]" ++ rest))) ≡ ((name ++ codes "\"") ++ (codes "," ++ (digits ++ codes "]"))) ++ rest = simp append_assoc in
@@ -120,19 +124,17 @@ interest_asked s rate name rest h plain = record {
   flat = omega arith;
 }
 
-pub cancel_asked : (s : Settings) (text rest : List ℕ) (x : OpName) → escape text ≡ text → name_of text ≡ Some x → Asks s (Cancel x) (codes "cancel\":\"" ++ (text ++ (codes "\"" ++ rest))) rest
+pub cancel_asked : (s : Settings) (x : OpName) (rest : List ℕ) → IsName x → Asks s (Cancel x) (codes "cancel\":\"" ++ (name_text x ++ (codes "\"" ++ rest))) rest
 unfolding escape_byte
-cancel_asked s text rest x plain e =
-    let is : (site : ℕ) → site < 2 ^ 8 → command_of s (sited_json (codes "cancel") (string text) site) ≡ Some (told_at site (ToldEvent (Submit (Cancel x)))) = λ site k. let small : nat_lt site (2 ^ 8) ≡ true = search rules in rw (small, e) refl in
-    record {
-      key = codes "cancel";
-      value = string text;
-      member = ap (λ l. codes "\"cancel\":\"" ++ l) (string_text text rest plain);
-      read = string_read text;
-      is = record { first = is; last = is; command = λ site. tt };
-      alone = rw e refl;
-      flat = omega arith;
-    }
+cancel_asked s x rest h = record {
+  key = codes "cancel";
+  value = name_json x;
+  member = ap (λ l. codes "\"cancel\":\"" ++ l) (operation_text x rest h);
+  read = string_read (name_text x);
+  is = record { first = λ site k. (reads_commands s).cancel site x k h; last = λ site k. (reads_commands s).cancel site x k h; command = λ site. tt };
+  alone = (reads_commands s).alone.cancel x h;
+  flat = omega arith;
+}
 
 pub submit_told : (s : Settings) (r : Request) (text rest : List ℕ) → Asks s r text rest → Tells s (ToldEvent (Submit r)) text rest
 submit_told s r text rest a = record { key = a.key; value = a.value; member = a.member; read = a.read; is = a.is }
@@ -167,17 +169,15 @@ asof_told s n name rest h plain = record {
   is = record { first = λ site k. (reads_commands s).asof site n name k h; last = λ site k. (reads_commands s).asof site n name k h; command = λ site. tt };
 }
 
-pub apply_told : (s : Settings) (text rest : List ℕ) (x : OpName) → escape text ≡ text → name_of text ≡ Some x → Tells s (ToldEvent (Apply x)) (codes "apply\":\"" ++ (text ++ (codes "\"" ++ rest))) rest
+pub apply_told : (s : Settings) (x : OpName) (rest : List ℕ) → IsName x → Tells s (ToldEvent (Apply x)) (codes "apply\":\"" ++ (name_text x ++ (codes "\"" ++ rest))) rest
 unfolding escape_byte
-apply_told s text rest x plain e =
-    let is : (site : ℕ) → site < 2 ^ 8 → command_of s (sited_json (codes "apply") (string text) site) ≡ Some (told_at site (ToldEvent (Apply x))) = λ site k. let small : nat_lt site (2 ^ 8) ≡ true = search rules in rw (small, e) refl in
-    record {
-      key = codes "apply";
-      value = string text;
-      member = ap (λ l. codes "\"apply\":\"" ++ l) (string_text text rest plain);
-      read = string_read text;
-      is = record { first = is; last = is; command = λ site. tt };
-    }
+apply_told s x rest h = record {
+  key = codes "apply";
+  value = name_json x;
+  member = ap (λ l. codes "\"apply\":\"" ++ l) (operation_text x rest h);
+  read = string_read (name_text x);
+  is = record { first = λ site k. (reads_commands s).apply site x k h; last = λ site k. (reads_commands s).apply site x k h; command = λ site. tt };
+}
 
 pub pass_told : (s : Settings) (to : ℕ) (rest : List ℕ) → to < 2 ^ 8 → Tells s (ToldEvent (Pass to)) (codes "pass\":" ++ (decimal to ++ rest)) rest
 unfolding escape_byte

@@ -12,10 +12,8 @@ mod line;
 mod lists;
 mod parts;
 mod request;
-mod statement;
 mod usual;
 mod values;
-mod write;
 
 ghost use Rattle.rb_history.specs.Commands.{CommandsAreRead};
 
@@ -23,8 +21,7 @@ pub use answers::{order_line, stuck_line, wrong_reply_line};
 pub use command::read_command;
 pub use config_line::read_config;
 pub use fault::LineFault;
-pub use line::append_reply;
-pub use write::write_reply;
+pub use line::{append_reply, write_reply};
 
 /// Each command is read from the JSON object that tells it.
 pub fn commands_are_read()

@@ -1,5 +1,5 @@
-//! Lines of replies, written straight onto bytes.
-ghost use Rattle.std.specs.Prelude.{◌≡◌, ◌++◌, codes, OnOk, OnErr};
+//! Lines of replies.
+ghost use Rattle.std.specs.Prelude.{◌≡◌, ◌++◌, codes, IfOk, OnOk, OnErr, string_bytes};
 ghost use Rattle.serde_json.specs.Written.{compact_text};
 ghost use Rattle.rb_history.specs.Adds.{Adds};
 ghost use Rattle.rb_history.specs.Replies.{line, reply_json, refusal_json, made_json, behind_json, batch_json, cause_json};
@@ -9,7 +9,7 @@ use crate::lists::{append_names, append_statement};
 use rb_money::{Cause, Refusal};
 use rb_shadow::{Label, OpName};
 use rb_site::Reply;
-use std::alloc::AllocError;
+use std::alloc::{AllocError, Global};
 
 /// An operation that was made: its kind and its name.
 #[tactic(auto, unfolding(json::specs::Print::escape_byte))]
@@ -120,4 +120,16 @@ fn append_line(out: &mut Vec<u8>, reply: &Reply) -> Result<(), AllocError>
 {
     append_value(out, reply)?;
     append(out, "\n")
+}
+
+/// The line of a reply, with its line feed. An `Err` is want of memory.
+pub fn write_reply(alloc: Global, reply: &Reply) -> Result<String, AllocError>
+    ensures { IfOk result (λ s. string_bytes s ≡ line reply.now) }
+{
+    let mut bytes = Vec::new(alloc);
+    append_reply(&mut bytes, reply)?;
+    match String::from_utf8(bytes) {
+        Ok(text) => Ok(text),
+        Err(_) => unreachable!(),
+    }
 }

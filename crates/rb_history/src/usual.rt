@@ -1,6 +1,7 @@
 //! Lines of commands as they are usually spelled, read in one pass: no space, no escape, the site first or last. `None` says nothing of a line: it is read by `serde_json`.
 ghost use Rattle.std.specs.Prelude.{◌≡◌, ◌<◌, ◌^◌, ◌++◌, Some, IfSome, codes, decimal};
 ghost use Rattle.json.specs.Print.{escape};
+ghost use Rattle.rb_shadow.specs.NameText.{IsName, name_text};
 ghost use Rattle.rb_site.specs.Worlds.{IsCommand};
 ghost use Rattle.rb_history.specs.Commands.{command_at};
 ghost use Rattle.rb_history.specs.Spelled.{Asks, AsksEach, Tells, told_at};
@@ -8,7 +9,7 @@ ghost use Rattle.rb_history.specs.Spelled.{Asks, AsksEach, Tells, told_at};
 use crate::request::place;
 use rb_money::Config;
 use rb_scratch::Request;
-use rb_shadow::read_name;
+use rb_shadow::OpName;
 use rb_site::{Event, Requests, WorldEvent};
 use std::alloc::Global;
 use std::str;
@@ -45,6 +46,46 @@ fn number(text: &[u8]) -> Option<(u64, &[u8])>
     Some((n, &text[len..]))
 }
 
+/// The number below 2^32 at the front, and what follows it.
+#[inline(always)]
+fn word(text: &[u8]) -> Option<(u32, &[u8])>
+    ensures { IfSome result (λ p. (p.0 < 2 ^ 32) × (text.now ≡ decimal p.0 ++ p.1.now)) }
+{
+    let (n, rest) = number(text)?;
+    if n < 0x1_0000_0000 {
+        Some((n as u32, rest))
+    } else {
+        None
+    }
+}
+
+/// The number below 2^8 at the front, and what follows it.
+#[inline(always)]
+fn byte(text: &[u8]) -> Option<(u8, &[u8])>
+    ensures { IfSome result (λ p. (p.0 < 2 ^ 8) × (text.now ≡ decimal p.0 ++ p.1.now)) }
+{
+    let (n, rest) = number(text)?;
+    if n < 256 {
+        Some((n as u8, rest))
+    } else {
+        None
+    }
+}
+
+/// The operation's name before a quote, and what follows the quote.
+#[inline(always)]
+fn operation(text: &[u8]) -> Option<(OpName, &[u8])>
+    ensures { IfSome result (λ p. IsName p.0 × (text.now ≡ name_text p.0 ++ (codes "\"" ++ p.1.now))) }
+{
+    if let Some(number) = after(text, b"R") {
+        let (n, rest) = word(number)?;
+        return Some((OpName::Red { n }, after(rest, b"\"")?));
+    }
+    let (site, rest) = byte(after(text, b"B")?)?;
+    let (n, rest) = word(after(rest, b".")?)?;
+    Some((OpName::Blue { site, n }, after(rest, b"\"")?))
+}
+
 /// The text before a quote, where it has no escape, and what follows the quote.
 #[inline(always)]
 fn plain(text: &[u8]) -> Option<(&str, &[u8])>
@@ -70,9 +111,9 @@ fn plain(text: &[u8]) -> Option<(&str, &[u8])>
 fn last_site(text: &[u8]) -> Option<u8>
     ensures { IfSome result (λ site. text.now ≡ codes ",\"site\":" ++ (decimal site ++ codes "}")) }
 {
-    let (site, rest) = number(after(text, b",\"site\":")?)?;
-    if site < 256 && rest == b"}".as_slice() {
-        Some(site as u8)
+    let (site, rest) = byte(after(text, b",\"site\":")?)?;
+    if rest == b"}".as_slice() {
+        Some(site)
     } else {
         None
     }
@@ -137,8 +178,7 @@ fn interest<'a>(config: &Config, text: &'a [u8]) -> Option<(Request, &'a [u8])>
 fn cancel<'a>(config: &Config, text: &'a [u8]) -> Option<(Request, &'a [u8])>
     ensures { IfSome result (λ p. Asks config.now p.0 (codes "cancel\":\"" ++ text.now) p.1.now) }
 {
-    let (name, rest) = plain(text)?;
-    let target = read_name(name)?;
+    let (target, rest) = operation(text)?;
     Some((Request::Cancel { target }, rest))
 }
 
@@ -191,28 +231,22 @@ fn as_of<'a>(config: &Config, text: &'a [u8]) -> Option<(Told, &'a [u8])>
 fn apply<'a>(config: &Config, text: &'a [u8]) -> Option<(Told, &'a [u8])>
     ensures { IfSome result (λ p. Tells config.now p.0 (codes "apply\":\"" ++ text.now) p.1.now) }
 {
-    let (name, rest) = plain(text)?;
-    Some((Told::Event(Event::Apply(read_name(name)?)), rest))
+    let (name, rest) = operation(text)?;
+    Some((Told::Event(Event::Apply(name)), rest))
 }
 
 fn pass<'a>(config: &Config, text: &'a [u8]) -> Option<(Told, &'a [u8])>
     ensures { IfSome result (λ p. Tells config.now p.0 (codes "pass\":" ++ text.now) p.1.now) }
 {
-    let (to, rest) = number(text)?;
-    if to >= 256 {
-        return None;
-    }
-    Some((Told::Event(Event::Pass(to as u8)), rest))
+    let (to, rest) = byte(text)?;
+    Some((Told::Event(Event::Pass(to)), rest))
 }
 
 fn deliver<'a>(config: &Config, text: &'a [u8]) -> Option<(Told, &'a [u8])>
     ensures { IfSome result (λ p. Tells config.now p.0 (codes "deliver\":" ++ text.now) p.1.now) }
 {
-    let (message, rest) = number(text)?;
-    if message >= 0x1_0000_0000 {
-        return None;
-    }
-    Some((Told::Message(message as u32), rest))
+    let (message, rest) = word(text)?;
+    Some((Told::Message(message), rest))
 }
 
 /// The requests of a batch, behind its bracket: at least one.
@@ -269,12 +303,12 @@ fn site_first(alloc: Global, config: &Config, text: &[u8]) -> Option<WorldEvent>
     ensures value { IfSome result (λ c. command_at config.now (codes "{\"site\":" ++ text.now) ≡ Some c) }
     ensures command { IfSome result IsCommand }
 {
-    let (site, rest) = number(text)?;
+    let (site, rest) = byte(text)?;
     let (told, rest) = member(alloc, config, after(rest, b",\"")?)?;
-    if site >= 256 || rest != b"}".as_slice() {
+    if rest != b"}".as_slice() {
         return None;
     }
-    Some(at(told, site as u8))
+    Some(at(told, site))
 }
 
 /// A command whose site comes last, from its key on.

@@ -1,4 +1,4 @@
-use Rattle.std.proofs.Common.{◌≡◌, ◌++◌, codes, decimal, ap, ◌∙◌, arith, rules}
+use Rattle.std.proofs.Common.{◌≡◌, ◌++◌, codes, decimal, ap, ◌∙◌, rules}
 use Rattle.rb_history.specs.Commands.{command_at}
 use Rattle.rb_history.proofs.UsualLines.{first_line}
 use Rattle.rb_history.proofs.usual.site_first.Goals as goal
@@ -9,7 +9,7 @@ returns-clause-value c =
     let text = c.in_ok-after.field-0.now in
     let last : c.in_ok-told.rest.now ≡ codes "}" = search rules in
     ap (λ l. command_at c.args.config.now (codes "{\"site\":" ++ l)) (c.in_ok-site.ensures.1 ∙ ap (λ l. decimal site ++ l) c.in_ok-after.ensures)
-    ∙ rw c.at.ensures (first_line c.args.config.now c.in_ok-told.told site text c.in_ok-told.rest.now c.in_ok-told.ensures (omega arith) last)
+    ∙ rw c.at.ensures (first_line c.args.config.now c.in_ok-told.told site text c.in_ok-told.rest.now c.in_ok-told.ensures c.in_ok-site.ensures.0 last)
 
 pub returns-clause-command : goal.returns-clause-command
 returns-clause-command c = rw c.at.ensures (c.in_ok-told.ensures.is.command c.in_ok-site.site)
