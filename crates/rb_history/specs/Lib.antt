@@ -7,3 +7,7 @@ pub mod Commands
 pub mod Configurations
 pub mod Adds
 pub mod Spelled
+pub mod Recorded
+pub mod RepliesRead
+pub mod Entries
+pub mod Fits
