@@ -3,7 +3,7 @@ use Rattle.std.specs.Prelude.{◌≡◌, ℕ, Bool, true, false, List, [], ◌++
 use Rattle.rb_auditor.specs.Certificates.{Certifies}
 use Rattle.rb_auditor.specs.Findings.{IsFirstWrong, IsStuckAt}
 use Rattle.rb_site.specs.Histories.{AreOneWorlds}
-use Rattle.rb_history.specs.Answers.{answer_line, order_json, stuck_json, wrong_reply_json}
+use Rattle.rb_history.specs.Verdicts.{verdict_line, order_json, stuck_json, wrong_reply_json}
 use Rattle.rb_lines.specs.Lines.{lines_of, whole_lines}
 use Rattle.rb_lines.specs.Writes.{IsFront}
 use Rattle.rb_lines.specs.declared.fault.ScriptFault.{ScriptFault}
@@ -16,20 +16,20 @@ use Rattle.rb_audit.specs.declared.collected.Collected.{Collected}
 pub record TellsOrder (x : Input) (line : List ℕ) : Type 0 where
   pub order : List ℕ
   pub certifies : Certifies x.settings x.histories order
-  pub line_is : line ≡ answer_line (order_json order)
+  pub line_is : line ≡ verdict_line (order_json order)
 
 -- the line has the first entry that its site doesn't record
 pub record TellsWrongReply (x : Input) (line : List ℕ) : Type 0 where
   pub site : ℕ
   pub event : ℕ
   pub first : IsFirstWrong x.settings x.histories site event
-  pub line_is : line ≡ answer_line (wrong_reply_json site event)
+  pub line_is : line ≡ verdict_line (wrong_reply_json site event)
 
 -- the line has a cut that no world passes
 pub record TellsStuck (x : Input) (line : List ℕ) : Type 0 where
   pub next : List ℕ
   pub stuck : IsStuckAt x.settings x.histories next
-  pub line_is : line ≡ answer_line (stuck_json next)
+  pub line_is : line ≡ verdict_line (stuck_json next)
 
 -- the line that an audit of these histories answers, and whether it has an order: where it has none, no world has the histories
 abbrev pub Tells : Bool → Input → List ℕ → Type 0

@@ -11,10 +11,10 @@ use Rattle.rb_scratch.specs.declared.request.Request.{Request}
 use Rattle.rb_history.specs.Commands.{ReadsCommands}
 use Rattle.rb_history.specs.Requests.{ReadsRequests, request_alone, requests_in}
 
-below : (n bound : ℕ) → n < bound → nat_lt n bound ≡ true
+pub below : (n bound : ℕ) → n < bound → nat_lt n bound ≡ true
 below n bound h = search rules
 
-back : (x : OpName) → IsName x → name_of (name_text x) ≡ Some x
+pub back : (x : OpName) → IsName x → name_of (name_text x) ≡ Some x
 back x h = sym (value_is (name_text x) (Some x) refl h (λ y k e. ap Some (sym (candidate_is x h) ∙ ap candidate e ∙ candidate_is y k)))
 
 reads_requests : (s : Settings) → ReadsRequests s

@@ -9,3 +9,9 @@ pub mod Listed
 pub mod UsualLines
 pub mod Scanned
 pub mod Batches
+pub mod Counts
+pub mod KnownPlaces
+pub mod ReplyBack
+pub mod EntryBack
+pub mod EntrySites
+pub mod EntryText

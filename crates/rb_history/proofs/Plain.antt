@@ -1,11 +1,15 @@
 -- Bytes that stand in a string as they are.
-use Rattle.std.proofs.Common.{◌≡◌, ◌<◌, ◌≤◌, ◌^◌, ℕ, suc, List, [], ◌∷◌, ◌++◌, length, get_or, decimal, codes, refl, ◌∙◌, append_assoc, arith}
-use Rattle.std.specs.Prelude.{⊤}
+use Rattle.std.proofs.Common.{◌≡◌, ◌<◌, ◌≤◌, ◌^◌, ℕ, suc, List, [], ◌∷◌, ◌++◌, length, get_or, decimal, codes, refl, sym, true, ◌∙◌, append_assoc, arith}
+use Rattle.std.specs.Prelude.{⊤, ◌&&◌, nat_le}
+use Rattle.std.specs.List.{list_all}
+use Rattle.std.proofs.lemmas.Bool.{and_parts}
+use Rattle.std.proofs.lemmas.Bool.Decides.{nat_tests}
 use Rattle.std.proofs.lemmas.Fmt.{digits_decimal}
 use Rattle.std.proofs.lemmas.Str.Parse.{IsNumeralModel, numerals_by_value, tells_digits, digit_at}
 use Rattle.std.specs.Str.Parse.{AllDigits, digits_value}
 use Rattle.json.proofs.Printed.Strings.{escape_byte_plain}
 use Rattle.json.specs.Print.{escape, escape_byte, quoted}
+use Rattle.rb_money.specs.Settings.{is_account_name, is_name_byte}
 use Rattle.rb_shadow.specs.NameText.{name_text, IsName}
 use Rattle.rb_shadow.specs.declared.op_name.OpName.{OpName}
 use Rattle.rb_shadow.specs.declared.op_name.OpName.TheVariants.{Blue, Red}
@@ -59,3 +63,15 @@ quoted_blue s n h k = quoted_plain (name_text (Blue s n)) (plain_name (Blue s n)
 
 pub quoted_red : (n : ℕ) → n < 2 ^ 32 → quoted (name_text (Red n)) ≡ codes "\"R" ++ (decimal n ++ codes "\"")
 quoted_red n h = quoted_plain (name_text (Red n)) (plain_name (Red n) h) ∙ simp append_assoc
+
+-- a byte of an account's name
+byte_plain : (b : ℕ) → is_name_byte b ≡ true → escape_byte b ≡ b ∷ []
+byte_plain b h = escape_byte_plain b (λ e. let f : is_name_byte 34 ≡ true = (λ j. is_name_byte (sym e j)) ∙ h in cc) (λ e. let f : is_name_byte 92 ≡ true = (λ j. is_name_byte (sym e j)) ∙ h in cc) (grind (arith, nat_tests))
+
+bytes_plain : (name : List ℕ) → list_all is_name_byte name ≡ true → ArePlain name
+bytes_plain [] h = tt
+bytes_plain (b ∷ bs) h = let p = and_parts (is_name_byte b) (list_all is_name_byte bs) h in (byte_plain b p.0, bytes_plain bs p.1)
+
+-- an account's name stands in quotes as it is
+pub account_plain : (name : List ℕ) → is_account_name name ≡ true → escape name ≡ name
+account_plain name h = escape_plain name (bytes_plain name (and_parts (nat_le 1 (length name) && nat_le (length name) 32) _ h).1)

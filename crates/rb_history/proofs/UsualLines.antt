@@ -31,7 +31,7 @@ use Rattle.rb_history.proofs.Back.{reads_commands}
 use Rattle.rb_history.proofs.Plain.{escape_plain, plain_name}
 
 -- an object's text, its keys in any order, is read as the object with its keys in byte order
-compact_read : (turned d : Data) → HasNumbers (outline turned) → tree.depth (outline turned) ≤ max_depth → of_json (outline turned) ≡ Some d → read (compact_text turned) ≡ Some d
+pub compact_read : (turned d : Data) → HasNumbers (outline turned) → tree.depth (outline turned) ≤ max_depth → of_json (outline turned) ≡ Some d → read (compact_text turned) ≡ Some d
 compact_read turned d numbers shallow same =
     let j = outline turned in
     let text : tokens (compact_text turned) ≡ json_tokens j ++ [] = ap tokens (sym (print-outline turned)) ∙ tokens-print (json_tokens j) (ArePrintable-json_tokens j numbers) ∙ sym (append-nil (json_tokens j)) in

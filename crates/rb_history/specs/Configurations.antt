@@ -1,13 +1,13 @@
--- Which configuration a line is.
+-- Which configuration a line is, and the line of a configuration.
 use Rattle.std.specs.Prelude.{ℕ, ◌+◌, ◌^◌, ◌==◌, ◌&&◌, Bool, false, List, [], ◌∷◌, Option, Some, None, is_none, is_some, codes, if◌then◌else◌, option_and_then, option_map}
 use Rattle.std.specs.Option.{option_map_or}
-use Rattle.serde_json.specs.Data.{Data, Items, no_items, item}
+use Rattle.serde_json.specs.Data.{Data, string, object, Items, no_items, item, member, no_members}
 use Rattle.serde_json.specs.Find.{get, as_array, as_str}
 use Rattle.serde_json.specs.Read.{read}
 use Rattle.rb_money.specs.Faults.{Account, config_fault, settings_of}
 use Rattle.rb_money.specs.Settings.{Settings}
 use Rattle.rb_money.specs.declared.limits.Limits.{Limits}
-use Rattle.rb_history.specs.Values.{number_below, pair_of, size_of, either}
+use Rattle.rb_history.specs.Values.{number_json, list_json, pair_json, number_below, pair_of, size_of, either}
 
 -- an account's name and starting balance, from the list of both
 abbrev pub account_at : Data → Option Account
@@ -66,3 +66,27 @@ config_of d = if is_version_one d && has_known_keys d then config_in d else None
 -- the configuration that a line is
 abbrev pub config_at : List ℕ → Option Settings
 config_at line = option_and_then config_of (read line)
+
+-- ---- what is written
+
+-- an account: its name and its starting balance
+abbrev pub start_json : Account → Data
+start_json a = pair_json (string a.0) (number_json a.1)
+
+-- accounts, from their names and their starting balances
+abbrev pub accounts_of : List (List ℕ) → List ℕ → List Account
+accounts_of [] starts = []
+accounts_of (name ∷ names) [] = []
+accounts_of (name ∷ names) (start ∷ starts) = (name, start) ∷ accounts_of names starts
+
+-- a configuration: all its keys, in byte order
+abbrev pub config_json : Settings → Data
+config_json s = object
+    (member (codes "accounts") (list_json start_json (accounts_of s.names s.starts))
+    (member (codes "blue") (number_json s.limits.blue)
+    (member (codes "epoch") (number_json s.limits.epoch)
+    (member (codes "history") (number_json s.limits.history)
+    (member (codes "inbox") (number_json s.limits.inbox)
+    (member (codes "red") (number_json s.limits.red)
+    (member (codes "sites") (number_json s.sites)
+    (member (codes "version") (number_json 1) no_members))))))))

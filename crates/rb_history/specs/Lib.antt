@@ -7,5 +7,9 @@ pub mod Requests
 pub mod Commands
 pub mod Configurations
 pub mod Adds
-pub mod Answers
+pub mod Verdicts
 pub mod Spelled
+pub mod Recorded
+pub mod RepliesRead
+pub mod Entries
+pub mod Fits

@@ -1,8 +1,8 @@
 -- JSON values: how numbers, names and the shapes of lines are written, and what is read from them.
-use Rattle.std.specs.Prelude.{ℕ, ℤ, List, codes, map, Option, Some, None, nat_lt, if◌then◌else◌, option_and_then}
+use Rattle.std.specs.Prelude.{ℕ, ℤ, List, bytes_eq, codes, map, Option, Some, None, nat_lt, if◌then◌else◌, option_and_then}
 use Rattle.serde_json.specs.Data.{Data, null, boolean, number, string, array, object, unsigned, Items, no_items, item, member, no_members}
 use Rattle.serde_json.specs.Events.{members_len}
-use Rattle.serde_json.specs.Find.{as_number, as_str, as_u64, of_integer}
+use Rattle.serde_json.specs.Find.{as_array, as_number, as_str, as_u64, get, of_integer}
 use Rattle.serde_json.specs.View.{items_of}
 use Rattle.rb_shadow.specs.declared.op_name.OpName.{OpName}
 use Rattle.rb_shadow.specs.declared.label.Label.{Label}
@@ -24,6 +24,15 @@ label_text Withdraw = codes "withdraw"
 label_text Declined = codes "declined"
 label_text Interest = codes "interest"
 label_text Cancel = codes "cancel"
+
+-- the kind that a word is
+abbrev pub label_of_word : List ℕ → Option Label
+label_of_word word =
+    if bytes_eq word (codes "deposit") then Some Deposit
+    else (if bytes_eq word (codes "withdraw") then Some Withdraw
+    else (if bytes_eq word (codes "declined") then Some Declined
+    else (if bytes_eq word (codes "interest") then Some Interest
+    else (if bytes_eq word (codes "cancel") then Some Cancel else None))))
 
 -- an operation's name
 abbrev pub name_json : OpName → Data
@@ -49,6 +58,10 @@ number_below bound d = option_and_then (λ n. if nat_lt n bound then Some n else
 abbrev pub name_at : Data → Option OpName
 name_at d = option_and_then name_of (as_str d)
 
+-- the kind that a value is
+abbrev pub label_at : Data → Option Label
+label_at d = option_and_then label_of_word (as_str d)
+
 -- the two items of a list of two
 abbrev pub pair_in : Items → Option (Data × Data)
 pair_in no_items = None
@@ -64,6 +77,31 @@ pair_of (string s) = None
 pair_of (array ds) = pair_in ds
 pair_of (object ms) = None
 
+-- the three items of a list of three
+abbrev pub three_in : Items → Option (Data × Data × Data)
+three_in no_items = None
+three_in (item a no_items) = None
+three_in (item a (item b no_items)) = None
+three_in (item a (item b (item c no_items))) = Some (a, b, c)
+three_in (item a (item b (item c (item d ds)))) = None
+
+abbrev pub three_of : Data → Option (Data × Data × Data)
+three_of d = option_and_then three_in (as_array d)
+
+-- the six items of a list of six
+abbrev pub six_in : Items → Option (Data × Data × Data × Data × Data × Data)
+six_in no_items = None
+six_in (item a no_items) = None
+six_in (item a (item b no_items)) = None
+six_in (item a (item b (item c no_items))) = None
+six_in (item a (item b (item c (item d no_items)))) = None
+six_in (item a (item b (item c (item d (item e no_items))))) = None
+six_in (item a (item b (item c (item d (item e (item f no_items)))))) = Some (a, b, c, d, e, f)
+six_in (item a (item b (item c (item d (item e (item f (item g ds))))))) = None
+
+abbrev pub six_of : Data → Option (Data × Data × Data × Data × Data × Data)
+six_of d = option_and_then six_in (as_array d)
+
 -- how many members an object has
 abbrev pub size_of : Data → ℕ
 size_of null = 0
@@ -77,3 +115,7 @@ size_of (object ms) = members_len ms
 abbrev pub either : {A : Type 0} → Option Data → (Data → Option A) → Option A → Option A
 either None f next = next
 either (Some d) f next = f d
+
+-- what the value of a key gives
+abbrev pub field : {A : Type 0} → List ℕ → (Data → Option A) → Data → Option A
+field key f d = option_and_then f (get key d)

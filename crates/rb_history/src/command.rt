@@ -61,7 +61,7 @@ fn batch(alloc: Global, config: &Config, list: &Value) -> Result<Event, LineFaul
 }
 
 /// An event of a site, by a key of an object that may have others.
-fn event(alloc: Global, config: &Config, value: &Value) -> Result<Event, LineFault>
+pub(crate) fn event(alloc: Global, config: &Config, value: &Value) -> Result<Event, LineFault>
     ensures value { Gives result (event_of config.now (view value.now)) }
     ensures own { IfOk result IsOwn }
 {

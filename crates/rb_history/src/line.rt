@@ -82,7 +82,7 @@ fn append_refusal(out: &mut Vec<u8>, refusal: Refusal) -> Result<(), AllocError>
 
 /// The JSON object of a reply, on one line.
 #[tactic(auto, unfolding(json::specs::Print::escape_byte))]
-fn append_value(out: &mut Vec<u8>, reply: &Reply) -> Result<(), AllocError>
+pub(crate) fn append_value(out: &mut Vec<u8>, reply: &Reply) -> Result<(), AllocError>
     ensures { Adds result out.old.items out.new.items (compact_text (reply_json reply.now)) }
 {
     match reply {

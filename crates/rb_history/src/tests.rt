@@ -126,6 +126,7 @@ fn refusals(rt: HostRuntime) -> Result<(), Fail> {
     for (refusal, line) in [
         (Refusal::UnknownAccount, "{\"refused\":1}\n"),
         (Refusal::HistoryFull, "{\"refused\":23}\n"),
+        (Refusal::SameAccount, "{\"refused\":24}\n"),
         (
             Refusal::AlreadyCancelled { position: 3 },
             "{\"position\":3,\"refused\":6}\n",

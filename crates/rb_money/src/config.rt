@@ -94,6 +94,7 @@ impl Config {
     pub fn accounts(&self) -> &Accounts
         ensures names { result.now.names ≡ self.now.names }
         ensures starts { result.now.starts ≡ self.now.starts }
+        ensures configured { IsConfigured self.now }
     {
         &self.accounts
     }
