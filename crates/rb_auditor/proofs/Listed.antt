@@ -7,7 +7,6 @@ use Rattle.std.proofs.lemmas.List.{length-take-le, take_more}
 use Rattle.std.proofs.lemmas.Option.{slice_get-map, slice_get_read}
 use Rattle.rb_auditor.specs.Findings.{lists_of}
 use Rattle.rb_site.specs.declared.message.Message.{Message}
-use Rattle.rb_site.specs.Histories.{IsAmong}
 use Rattle.rb_site.proofs.Places
 use Rattle.rb_site.proofs.Places.{same_number}
 use Rattle.rb_auditor.specs.Sent.{AreListed, IsListed, row_of, slot_of}

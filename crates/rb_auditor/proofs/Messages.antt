@@ -1,5 +1,5 @@
 -- Messages that were sent.
-use Rattle.std.proofs.Common.{◌≡◌, ℕ, zero, suc, List, [], ◌∷◌, ◌++◌, refl, ap, sym, ◌∙◌, ◌⊎◌, inl, inr, subst, Some, append_assoc}
+use Rattle.std.proofs.Common.{◌≡◌, ℕ, suc, List, [], ◌∷◌, ◌++◌, ap, sym, ◌∙◌, inl, inr, subst, Some}
 use Rattle.std.specs.Prelude.{slice_get}
 use Rattle.std.proofs.lemmas.List.{append-nil}
 use Rattle.rb_money.specs.Settings.{Settings}
@@ -7,9 +7,8 @@ use Rattle.rb_site.specs.declared.entry.Entry.{Entry}
 use Rattle.rb_site.specs.declared.event.Event.{Event}
 use Rattle.rb_site.specs.declared.event.Event.TheVariants.{Submit, Batch, Receive, Apply, Pass, Balance, AsOf, Statement as AskStatement}
 use Rattle.rb_site.specs.declared.message.Message.{Message}
-use Rattle.rb_site.specs.Events.{ModelSite, after_event, after_events, sent_at}
+use Rattle.rb_site.specs.Events.{ModelSite, after_events, sent_at}
 use Rattle.rb_site.specs.Histories.{IsAmong, events_of, sends_of}
-use Rattle.rb_site.specs.Worlds.{message_at}
 use Rattle.rb_site.proofs.Recorded.{IsFrom}
 use Rattle.rb_site.proofs.Runs
 use Rattle.rb_site.proofs.Stuck

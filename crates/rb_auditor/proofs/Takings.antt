@@ -120,11 +120,11 @@ taken_after p i k h x g n come = record {
           let q : l ≡ k + 1 = here l (ap (slice_get (slice_set p.taken i (k + 1))) (sym e) ∙ place) in
           let r : f ≡ h = same_history f (ap (slice_get p.histories) (sym e) ∙ there) in
           let a : IsAmong m (sends_of s (first_site i) (events_of (take (k + 1) h))) =
-              subst (λ z. IsAmong m (sends_of s (first_site i) (events_of (take (k + 1) z)))) r
-              (subst (λ z. IsAmong m (sends_of s (first_site i) (events_of (take z f)))) q
-              (subst (λ z. IsAmong m (sends_of s (first_site z) (events_of (take l f)))) e among)) in
+          subst (λ z. IsAmong m (sends_of s (first_site i) (events_of (take (k + 1) z)))) r
+          (subst (λ z. IsAmong m (sends_of s (first_site i) (events_of (take z f)))) q
+          (subst (λ z. IsAmong m (sends_of s (first_site z) (events_of (take l f)))) e among)) in
           let b : IsAmong m (sends_of s (first_site i) (events_of (take k h)) ++ sends) =
-              subst (IsAmong m) (ap (λ z. sends_of s (first_site i) (events_of z)) sp.more ∙ Messages.sends_more s (first_site i) (take k h) x) a in
+          subst (IsAmong m) (ap (λ z. sends_of s (first_site i) (events_of z)) sp.more ∙ Messages.sends_more s (first_site i) (take k h) x) a in
           elim (Stuck.among-cases m (sends_of s (first_site i) (events_of (take k h))) sends b) [
             | inl c ↦ Stuck.among-left m p.messages sends (g.sent i k h n.there n.place m c)
             | inr c ↦ Stuck.among-right m p.messages sends c

@@ -1,7 +1,7 @@
 -- The order, or what shows that there is none.
-use Rattle.std.proofs.Common.{◌∙◌, ap, subst}
+use Rattle.std.proofs.Common.{◌∙◌, ap}
 use Rattle.rb_auditor.specs.Findings.{IsStuckAt, lists_of}
-use Rattle.rb_auditor.specs.Progress.{IsWrongFound, Progress}
+use Rattle.rb_auditor.specs.Progress.{Progress}
 use Rattle.rb_auditor.proofs.Refuting
 use Rattle.rb_auditor.proofs.Takings
 use Rattle.rb_auditor.proofs.auditing.audit.Goals as goal

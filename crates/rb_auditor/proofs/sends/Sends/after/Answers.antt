@@ -38,6 +38,6 @@ slice_bounds-result-end c =
 pub returns : goal.returns
 returns c =
     let known : IsPart c.self.inside.messages.items c.self.inside.ends.items c.args.entries c.index.result.now c.index-2.result.now =
-        Ends.part c.self.inside.messages.items c.self.inside.ends.items c.args.entries c.index.result.now c.index-2.result.now c.self.invariant (subst (λ (ss : List (List Message)). c.args.entries < length ss) (sym c.self.view_is) c.requires) c.index.ensures c.index-2.ensures in
+    Ends.part c.self.inside.messages.items c.self.inside.ends.items c.args.entries c.index.result.now c.index-2.result.now c.self.invariant (subst (λ (ss : List (List Message)). c.args.entries < length ss) (sym c.self.view_is) c.requires) c.index.ensures c.index-2.ensures in
     ap (λ (ss : List (List Message)). slice_get ss c.args.entries) (sym c.self.view_is) ∙ known.is
     ∙ ap (λ (ms : List Message). Some (take (c.index-2.result.now - c.index.result.now) (drop c.index.result.now ms))) (sym c.deref.ensures.value)
