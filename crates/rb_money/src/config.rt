@@ -79,6 +79,7 @@ impl Config {
         ensures same { result ≡ self.now.sites }
         ensures some { 2 ≤ result }
         ensures few { result ≤ most_sites }
+        ensures configured { IsConfigured self.now }
     {
         self.sites
     }
