@@ -185,11 +185,8 @@ impl State {
             return Ok(Answer::plain(Reply::Refused(Refusal::BadBatch)));
         }
         let token = self.token.view();
-        let why = match self
-            .journal
-            .batch(self.alloc, token, asked, keeps, &mut *sent)
-        {
-            Ok((made, room)) => return Ok(room.filled(made.as_slice(), sent)),
+        let why = match self.journal.batch(self.alloc, token, asked, keeps, sent) {
+            Ok(answer) => return Ok(answer),
             Err(why) => why,
         };
         if let Refusal::OutOfMemory = why {
