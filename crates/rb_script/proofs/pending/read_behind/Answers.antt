@@ -1,4 +1,4 @@
-use Rattle.std.proofs.Common.{arith, rules, ◌≡◌, ◌≤◌, ◌+◌, ◌-◌, ℕ, length, take}
+use Rattle.std.proofs.Common.{arith, rules, ◌≡◌, ◌≤◌, ◌+◌, ◌-◌, length, take}
 use Rattle.rb_script.proofs.Ranges.{over_part_of}
 use Rattle.rb_script.proofs.pending.read_behind.Goals as goal
 

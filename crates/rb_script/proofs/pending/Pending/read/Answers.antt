@@ -1,6 +1,5 @@
-use Rattle.std.proofs.Common.{arith, rules, ◌≡◌, ◌≤◌, ◌+◌, ℕ, List, length, slice_range, add-zero, ap, subst, ◌∙◌}
+use Rattle.std.proofs.Common.{arith, rules, ◌≡◌, ◌≤◌, ◌+◌, slice_range, ap, ◌∙◌}
 use Rattle.rb_script.specs.Lines.{line_len}
-use Rattle.rb_script.specs.Buffers.{Reads}
 use Rattle.rb_script.proofs.LineLaws.{grows_longer}
 use Rattle.rb_script.proofs.Ranges.{same_part}
 use Rattle.rb_script.proofs.ReadLaws.{Reads-part}
