@@ -28,7 +28,8 @@ fn is_skipped(line: &[u8]) -> bool
         .all(|b| *b == b' ' || *b == b'\t' || *b == b'\r')
 }
 
-/// The text of a line, where it is UTF-8.
+/// The text of a line, where it is UTF-8. Most lines are ASCII, which is seen at once.
+#[inline(always)]
 fn text_on(line: &[u8]) -> Option<&str>
     ensures { MatchOption result (is_utf8 line.now ≡ false) (λ text. (text.now ≡ line.now) × (is_utf8 line.now ≡ true)) }
 {
@@ -74,11 +75,11 @@ fn answer_command(
     let Some(text) = text_on(line) else {
         return Err(LineFault::Bad);
     };
-    let command = match read_command(alloc, world.config(), text) {
-        Ok(command) => command,
+    let stepped = match read_command(alloc, world.config(), text) {
+        Ok(command) => world.step(command),
         Err(fault) => return Err(fault),
     };
-    let Ok(reply) = world.step(command) else {
+    let Ok(reply) = stepped else {
         return Err(LineFault::OutOfMemory);
     };
     match append_reply(owed, &reply) {
