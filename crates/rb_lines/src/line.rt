@@ -6,6 +6,7 @@ ghost use Rattle.rb_lines.specs.Lines.{is_blank as blank};
 use std::str;
 
 /// Whether a line is to be skipped: spaces, tabs and carriage returns alone.
+#[inline(always)]
 pub fn is_blank(line: &[u8]) -> bool
     ensures { result ≡ blank line.now }
 {
@@ -13,7 +14,8 @@ pub fn is_blank(line: &[u8]) -> bool
         .all(|b| *b == b' ' || *b == b'\t' || *b == b'\r')
 }
 
-/// The text of a line, where it is UTF-8.
+/// The text of a line, where it is UTF-8. Most lines are ASCII, which is seen at once.
+#[inline(always)]
 pub fn text_on(line: &[u8]) -> Option<&str>
     ensures { MatchOption result (is_utf8 line.now ≡ false) (λ text. (text.now ≡ line.now) × (is_utf8 line.now ≡ true)) }
 {

@@ -56,11 +56,11 @@ fn answer_command(
     let Some(text) = text_on(line) else {
         return Err(LineFault::Bad);
     };
-    let command = match read_command(alloc, world.config(), text) {
-        Ok(command) => command,
+    let stepped = match read_command(alloc, world.config(), text) {
+        Ok(command) => world.step(command),
         Err(fault) => return Err(fault),
     };
-    let Ok(reply) = world.step(command) else {
+    let Ok(reply) = stepped else {
         return Err(LineFault::OutOfMemory);
     };
     match append_reply(owed, &reply) {
