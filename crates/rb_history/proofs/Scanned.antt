@@ -1,8 +1,7 @@
 -- What a scan of a line's bytes finds.
-use Rattle.std.proofs.Common.{◌≡◌, ◌<◌, ◌≤◌, ◌+◌, ◌-◌, ◌*◌, ◌/◌, ◌%◌, ◌^◌, decimal, ℕ, List, [], ◌∷◌, ◌++◌, length, take, drop, get_or, Option, Some, None, sym, ap, ◌∙◌, arith, take-append-drop, add-one, drop-cons, subst}
+use Rattle.std.proofs.Common.{◌≡◌, ◌<◌, ◌≤◌, ◌+◌, ◌-◌, ◌*◌, ◌/◌, ◌%◌, ◌^◌, decimal, ℕ, List, [], ◌∷◌, ◌++◌, length, take, get_or, sym, ap, ◌∙◌, arith, subst}
 use Rattle.std.specs.Str.{IsUtf8, IsCharBoundary}
 use Rattle.std.proofs.lemmas.Str.{IsCharBoundary-from_take, IsCharBoundary-after_ascii}
-use Rattle.std.specs.Prelude.{IfSome, MatchOption}
 use Rattle.std.proofs.lemmas.List.{take_more}
 use Rattle.std.proofs.lemmas.List.Concat.{flat_map-append}
 use Rattle.std.proofs.lemmas.Fmt.{decimal_digit, decimal_step}
@@ -15,10 +14,6 @@ one_more text i h e quote backslash control =
     let x = get_or text i 0 in
     let more : take (i + 1) text ≡ take i text ++ x ∷ [] = take_more text i 0 h in
     ap escape more ∙ flat_map-append escape_byte (take i text) (x ∷ []) ∙ (λ j. e j ++ (escape_byte_plain x quote backslash control j ++ [])) ∙ sym more
-
--- a text cut at a byte
-pub cut_at : (text : List ℕ) (i b : ℕ) → i < length text → get_or text i 0 ≡ b → text ≡ take i text ++ (b ∷ drop (i + 1) text)
-cut_at text i b h e = sym (take-append-drop i text) ∙ ap (λ l. take i text ++ l) (rw (add-one, ← e) (drop-cons text i 0 h))
 
 -- the first digit of a number
 pub one_digit : (text : List ℕ) → 0 < length text → 48 ≤ get_or text 0 0 → get_or text 0 0 ≤ 57 → take 1 text ≡ decimal (get_or text 0 0 - 48)
