@@ -17,9 +17,8 @@ use Rattle.serde_json.proofs.Texts.{print-outline}
 use Rattle.rb_money.specs.Settings.{Settings}
 use Rattle.rb_shadow.specs.NameText.{IsName, name_text}
 use Rattle.rb_shadow.specs.declared.op_name.OpName.{OpName}
-use Rattle.rb_scratch.specs.declared.request.Request.{Request}
 use Rattle.rb_scratch.specs.declared.request.Request.TheVariants.{Deposit, Withdraw, Interest, Cancel}
-use Rattle.rb_site.specs.declared.event.Event.TheVariants.{Submit, Apply, Pass, Balance, AsOf, Statement}
+use Rattle.rb_site.specs.declared.event.Event.TheVariants.{Apply, Pass, Balance, AsOf, Statement}
 use Rattle.rb_site.specs.declared.world_event.WorldEvent.{WorldEvent}
 use Rattle.rb_history.specs.Commands.{command_at, command_of, sited_json}
 use Rattle.rb_history.specs.Requests.{account_place}
@@ -135,9 +134,6 @@ cancel_asked s x rest h = record {
   alone = (reads_commands s).alone.cancel x h;
   flat = omega arith;
 }
-
-pub submit_told : (s : Settings) (r : Request) (text rest : List ℕ) → Asks s r text rest → Tells s (ToldEvent (Submit r)) text rest
-submit_told s r text rest a = record { key = a.key; value = a.value; member = a.member; read = a.read; is = a.is }
 
 pub balance_told : (s : Settings) (name rest : List ℕ) → escape name ≡ name → Tells s (ToldEvent (Balance (account_place s name))) (codes "balance\":\"" ++ (name ++ (codes "\"" ++ rest))) rest
 unfolding escape_byte

@@ -1,5 +1,5 @@
 //! Lines of commands as they are usually spelled, read in one pass: no space, no escape, the site first or last. `None` says nothing of a line: it is read by `serde_json`.
-ghost use Rattle.std.specs.Prelude.{◌≡◌, ◌<◌, ◌^◌, ◌++◌, Some, IfSome, codes, decimal};
+ghost use Rattle.std.specs.Prelude.{◌≡◌, ◌<◌, ◌≤◌, ◌^◌, ◌++◌, Some, IfSome, codes, decimal, length, slice_index, take};
 ghost use Rattle.json.specs.Print.{escape};
 ghost use Rattle.rb_shadow.specs.NameText.{IsName, name_text};
 ghost use Rattle.rb_site.specs.Worlds.{IsCommand};
@@ -12,23 +12,26 @@ use rb_scratch::Request;
 use rb_shadow::OpName;
 use rb_site::{Event, Requests, WorldEvent};
 use std::alloc::Global;
-use std::str;
 
-/// What follows these bytes.
+/// What follows this text.
 #[inline(always)]
-fn after<'a>(text: &'a [u8], front: &[u8]) -> Option<&'a [u8]>
+fn after<'a>(text: &'a str, front: &str) -> Option<&'a str>
     ensures { IfSome result (λ rest. text.now ≡ front.now ++ rest.now) }
 {
-    text.strip_prefix(front)
+    let len = front.len();
+    if text.len() < len || &text.as_bytes()[..len] != front.as_bytes() {
+        return None;
+    }
+    Some(&text[len..])
 }
 
 /// The most that is read of a number, so that one more digit fits.
 const MOST: u64 = 1_000_000_000_000_000_000;
 
-/// The number at the front, and what follows it. A zero is a number by itself.
+/// The number at the front, and how many digits it has. A zero is a number by itself.
 #[inline(always)]
-fn number(text: &[u8]) -> Option<(u64, &[u8])>
-    ensures { IfSome result (λ p. (p.0 < 2 ^ 64) × (text.now ≡ decimal p.0 ++ p.1.now)) }
+fn digits(text: &[u8]) -> Option<(u64, usize)>
+    ensures { IfSome result (λ p. (p.0 < 2 ^ 64) × (p.1 ≤ length text.now) × (take p.1 text.now ≡ decimal p.0)) }
 {
     if text.len() == 0 || text[0] < b'0' || b'9' < text[0] {
         return None;
@@ -43,12 +46,21 @@ fn number(text: &[u8]) -> Option<(u64, &[u8])>
         n = n * 10 + (digit - b'0') as u64;
         len += 1;
     }
+    Some((n, len))
+}
+
+/// The number at the front, and what follows it.
+#[inline(always)]
+fn number(text: &str) -> Option<(u64, &str)>
+    ensures { IfSome result (λ p. (p.0 < 2 ^ 64) × (text.now ≡ decimal p.0 ++ p.1.now)) }
+{
+    let (n, len) = digits(text.as_bytes())?;
     Some((n, &text[len..]))
 }
 
 /// The number below 2^32 at the front, and what follows it.
 #[inline(always)]
-fn word(text: &[u8]) -> Option<(u32, &[u8])>
+fn word(text: &str) -> Option<(u32, &str)>
     ensures { IfSome result (λ p. (p.0 < 2 ^ 32) × (text.now ≡ decimal p.0 ++ p.1.now)) }
 {
     let (n, rest) = number(text)?;
@@ -61,42 +73,37 @@ fn word(text: &[u8]) -> Option<(u32, &[u8])>
 
 /// The number below 2^8 at the front, and what follows it.
 #[inline(always)]
-fn byte(text: &[u8]) -> Option<(u8, &[u8])>
+fn byte(text: &str) -> Option<(u8, &str)>
     ensures { IfSome result (λ p. (p.0 < 2 ^ 8) × (text.now ≡ decimal p.0 ++ p.1.now)) }
 {
     let (n, rest) = number(text)?;
-    if n < 256 {
-        Some((n as u8, rest))
-    } else {
-        None
-    }
+    if n < 256 { Some((n as u8, rest)) } else { None }
 }
 
 /// The operation's name before a quote, and what follows the quote.
 #[inline(always)]
-fn operation(text: &[u8]) -> Option<(OpName, &[u8])>
+fn operation(text: &str) -> Option<(OpName, &str)>
     ensures { IfSome result (λ p. IsName p.0 × (text.now ≡ name_text p.0 ++ (codes "\"" ++ p.1.now))) }
 {
-    if let Some(number) = after(text, b"R") {
+    if let Some(number) = after(text, "R") {
         let (n, rest) = word(number)?;
-        return Some((OpName::Red { n }, after(rest, b"\"")?));
+        return Some((OpName::Red { n }, after(rest, "\"")?));
     }
-    let (site, rest) = byte(after(text, b"B")?)?;
-    let (n, rest) = word(after(rest, b".")?)?;
-    Some((OpName::Blue { site, n }, after(rest, b"\"")?))
+    let (site, rest) = byte(after(text, "B")?)?;
+    let (n, rest) = word(after(rest, ".")?)?;
+    Some((OpName::Blue { site, n }, after(rest, "\"")?))
 }
 
-/// The text before a quote, where it has no escape, and what follows the quote.
+/// How many bytes stand before a quote, where none is part of an escape.
 #[inline(always)]
-fn plain(text: &[u8]) -> Option<(&str, &[u8])>
-    ensures { IfSome result (λ p. (escape p.0.now ≡ p.0.now) × (text.now ≡ p.0.now ++ (codes "\"" ++ p.1.now))) }
+fn quote(text: &[u8]) -> Option<usize>
+    ensures { IfSome result (λ len. (len < length text.now) × (slice_index text.now len ≡ 34) × (escape (take len text.now) ≡ take len text.now)) }
 {
     let mut len = 0;
     while len < text.len() {
         let b = text[len];
         if b == b'"' {
-            let name = str::from_utf8(&text[..len]).ok()?;
-            return Some((name, &text[len + 1..]));
+            return Some(len);
         }
         if b == b'\\' || b < b' ' {
             return None;
@@ -106,27 +113,32 @@ fn plain(text: &[u8]) -> Option<(&str, &[u8])>
     None
 }
 
+/// The text before a quote, where it has no escape, and what follows the quote.
+#[inline(always)]
+fn plain(text: &str) -> Option<(&str, &str)>
+    ensures { IfSome result (λ p. (escape p.0.now ≡ p.0.now) × (text.now ≡ p.0.now ++ (codes "\"" ++ p.1.now))) }
+{
+    let len = quote(text.as_bytes())?;
+    Some((&text[..len], &text[len + 1..]))
+}
+
 /// The site's number, as the last member of an object.
 #[inline(always)]
-fn last_site(text: &[u8]) -> Option<u8>
+fn last_site(text: &str) -> Option<u8>
     ensures { IfSome result (λ site. text.now ≡ codes ",\"site\":" ++ (decimal site ++ codes "}")) }
 {
-    let (site, rest) = byte(after(text, b",\"site\":")?)?;
-    if rest == b"}".as_slice() {
-        Some(site)
-    } else {
-        None
-    }
+    let (site, rest) = byte(after(text, ",\"site\":")?)?;
+    if rest == "}" { Some(site) } else { None }
 }
 
 /// An account's name and a number, in a list of two.
 #[inline(always)]
-fn pair(text: &[u8]) -> Option<(&str, u64, &[u8])>
+fn pair(text: &str) -> Option<(&str, u64, &str)>
     ensures { IfSome result (λ p. (p.1 < 2 ^ 64) × (escape p.0.now ≡ p.0.now) × (text.now ≡ p.0.now ++ (codes "\"," ++ (decimal p.1 ++ (codes "]" ++ p.2.now))))) }
 {
     let (name, rest) = plain(text)?;
-    let (n, rest) = number(after(rest, b",")?)?;
-    Some((name, n, after(rest, b"]")?))
+    let (n, rest) = number(after(rest, ",")?)?;
+    Some((name, n, after(rest, "]")?))
 }
 
 /// What a command tells beside its site.
@@ -147,7 +159,7 @@ fn at(told: Told, site: u8) -> WorldEvent
     }
 }
 
-fn deposit<'a>(config: &Config, text: &'a [u8]) -> Option<(Request, &'a [u8])>
+fn deposit<'a>(config: &Config, text: &'a str) -> Option<(Request, &'a str)>
     ensures { IfSome result (λ p. Asks config.now p.0 (codes "deposit\":[\"" ++ text.now) p.1.now) }
 {
     let (name, amount, rest) = pair(text)?;
@@ -155,7 +167,7 @@ fn deposit<'a>(config: &Config, text: &'a [u8]) -> Option<(Request, &'a [u8])>
     Some((Request::Deposit { account, amount }, rest))
 }
 
-fn withdraw<'a>(config: &Config, text: &'a [u8]) -> Option<(Request, &'a [u8])>
+fn withdraw<'a>(config: &Config, text: &'a str) -> Option<(Request, &'a str)>
     ensures { IfSome result (λ p. Asks config.now p.0 (codes "withdraw\":[\"" ++ text.now) p.1.now) }
 {
     let (name, amount, rest) = pair(text)?;
@@ -163,7 +175,7 @@ fn withdraw<'a>(config: &Config, text: &'a [u8]) -> Option<(Request, &'a [u8])>
     Some((Request::Withdraw { account, amount }, rest))
 }
 
-fn interest<'a>(config: &Config, text: &'a [u8]) -> Option<(Request, &'a [u8])>
+fn interest<'a>(config: &Config, text: &'a str) -> Option<(Request, &'a str)>
     ensures { IfSome result (λ p. Asks config.now p.0 (codes "interest\":[\"" ++ text.now) p.1.now) }
 {
     let (name, rate, rest) = pair(text)?;
@@ -175,7 +187,7 @@ fn interest<'a>(config: &Config, text: &'a [u8]) -> Option<(Request, &'a [u8])>
     Some((Request::Interest { account, rate }, rest))
 }
 
-fn cancel<'a>(config: &Config, text: &'a [u8]) -> Option<(Request, &'a [u8])>
+fn cancel<'a>(config: &Config, text: &'a str) -> Option<(Request, &'a str)>
     ensures { IfSome result (λ p. Asks config.now p.0 (codes "cancel\":\"" ++ text.now) p.1.now) }
 {
     let (target, rest) = operation(text)?;
@@ -183,25 +195,25 @@ fn cancel<'a>(config: &Config, text: &'a [u8]) -> Option<(Request, &'a [u8])>
 }
 
 /// A request, from its key on.
-fn request<'a>(config: &Config, text: &'a [u8]) -> Option<(Request, &'a [u8])>
+fn request<'a>(config: &Config, text: &'a str) -> Option<(Request, &'a str)>
     ensures { IfSome result (λ p. Asks config.now p.0 text.now p.1.now) }
 {
-    match text.first() {
-        Some(b'd') => deposit(config, after(text, b"deposit\":[\"")?),
-        Some(b'w') => withdraw(config, after(text, b"withdraw\":[\"")?),
-        Some(b'i') => interest(config, after(text, b"interest\":[\"")?),
-        _ => cancel(config, after(text, b"cancel\":\"")?),
+    match text.as_bytes().first() {
+        Some(b'd') => deposit(config, after(text, "deposit\":[\"")?),
+        Some(b'w') => withdraw(config, after(text, "withdraw\":[\"")?),
+        Some(b'i') => interest(config, after(text, "interest\":[\"")?),
+        _ => cancel(config, after(text, "cancel\":\"")?),
     }
 }
 
-fn submit<'a>(config: &Config, text: &'a [u8]) -> Option<(Told, &'a [u8])>
+fn submit<'a>(config: &Config, text: &'a str) -> Option<(Told, &'a str)>
     ensures { IfSome result (λ p. Tells config.now p.0 text.now p.1.now) }
 {
     let (request, rest) = request(config, text)?;
     Some((Told::Event(Event::Submit(request)), rest))
 }
 
-fn balance<'a>(config: &Config, text: &'a [u8]) -> Option<(Told, &'a [u8])>
+fn balance<'a>(config: &Config, text: &'a str) -> Option<(Told, &'a str)>
     ensures { IfSome result (λ p. Tells config.now p.0 (codes "balance\":\"" ++ text.now) p.1.now) }
 {
     let (name, rest) = plain(text)?;
@@ -209,7 +221,7 @@ fn balance<'a>(config: &Config, text: &'a [u8]) -> Option<(Told, &'a [u8])>
     Some((Told::Event(Event::Balance(account)), rest))
 }
 
-fn statement<'a>(config: &Config, text: &'a [u8]) -> Option<(Told, &'a [u8])>
+fn statement<'a>(config: &Config, text: &'a str) -> Option<(Told, &'a str)>
     ensures { IfSome result (λ p. Tells config.now p.0 (codes "statement\":\"" ++ text.now) p.1.now) }
 {
     let (name, rest) = plain(text)?;
@@ -217,7 +229,7 @@ fn statement<'a>(config: &Config, text: &'a [u8]) -> Option<(Told, &'a [u8])>
     Some((Told::Event(Event::Statement(account)), rest))
 }
 
-fn as_of<'a>(config: &Config, text: &'a [u8]) -> Option<(Told, &'a [u8])>
+fn as_of<'a>(config: &Config, text: &'a str) -> Option<(Told, &'a str)>
     ensures { IfSome result (λ p. Tells config.now p.0 (codes "asof\":[\"" ++ text.now) p.1.now) }
 {
     let (name, position, rest) = pair(text)?;
@@ -228,21 +240,21 @@ fn as_of<'a>(config: &Config, text: &'a [u8]) -> Option<(Told, &'a [u8])>
     Some((Told::Event(Event::AsOf(account, position as u32)), rest))
 }
 
-fn apply<'a>(config: &Config, text: &'a [u8]) -> Option<(Told, &'a [u8])>
+fn apply<'a>(config: &Config, text: &'a str) -> Option<(Told, &'a str)>
     ensures { IfSome result (λ p. Tells config.now p.0 (codes "apply\":\"" ++ text.now) p.1.now) }
 {
     let (name, rest) = operation(text)?;
     Some((Told::Event(Event::Apply(name)), rest))
 }
 
-fn pass<'a>(config: &Config, text: &'a [u8]) -> Option<(Told, &'a [u8])>
+fn pass<'a>(config: &Config, text: &'a str) -> Option<(Told, &'a str)>
     ensures { IfSome result (λ p. Tells config.now p.0 (codes "pass\":" ++ text.now) p.1.now) }
 {
     let (to, rest) = byte(text)?;
     Some((Told::Event(Event::Pass(to)), rest))
 }
 
-fn deliver<'a>(config: &Config, text: &'a [u8]) -> Option<(Told, &'a [u8])>
+fn deliver<'a>(config: &Config, text: &'a str) -> Option<(Told, &'a str)>
     ensures { IfSome result (λ p. Tells config.now p.0 (codes "deliver\":" ++ text.now) p.1.now) }
 {
     let (message, rest) = word(text)?;
@@ -250,25 +262,25 @@ fn deliver<'a>(config: &Config, text: &'a [u8]) -> Option<(Told, &'a [u8])>
 }
 
 /// The requests of a batch, behind its bracket: at least one.
-fn requests<'a>(alloc: Global, config: &Config, text: &'a [u8]) -> Option<(Vec<Request>, &'a [u8])>
+fn requests<'a>(alloc: Global, config: &Config, text: &'a str) -> Option<(Vec<Request>, &'a str)>
     ensures { IfSome result (λ p. AsksEach config.now p.0.items text.now p.1.now) }
 {
     let mut requests = Vec::new(alloc);
     let mut left = text;
     'items: loop {
-        let (asked, rest) = request(config, after(left, b"{\"")?)?;
+        let (asked, rest) = request(config, after(left, "{\"")?)?;
         if requests.push(asked).is_err() {
             return None;
         }
-        let rest = after(rest, b"}")?;
-        match after(rest, b",") {
+        let rest = after(rest, "}")?;
+        match after(rest, ",") {
             Some(more) => left = more,
-            None => return Some((requests, after(rest, b"]")?)),
+            None => return Some((requests, after(rest, "]")?)),
         }
     }
 }
 
-fn batch<'a>(alloc: Global, config: &Config, text: &'a [u8]) -> Option<(Told, &'a [u8])>
+fn batch<'a>(alloc: Global, config: &Config, text: &'a str) -> Option<(Told, &'a str)>
     ensures { IfSome result (λ p. Tells config.now p.0 (codes "batch\":[" ++ text.now) p.1.now) }
 {
     let (requests, rest) = requests(alloc, config, text)?;
@@ -276,21 +288,21 @@ fn batch<'a>(alloc: Global, config: &Config, text: &'a [u8]) -> Option<(Told, &'
 }
 
 /// The member that tells a command beside its site, from its key on.
-fn member<'a>(alloc: Global, config: &Config, text: &'a [u8]) -> Option<(Told, &'a [u8])>
+fn member<'a>(alloc: Global, config: &Config, text: &'a str) -> Option<(Told, &'a str)>
     ensures { IfSome result (λ p. Tells config.now p.0 text.now p.1.now) }
 {
-    match text.first() {
-        Some(b'a') => match after(text, b"apply\":\"") {
+    match text.as_bytes().first() {
+        Some(b'a') => match after(text, "apply\":\"") {
             Some(rest) => apply(config, rest),
-            None => as_of(config, after(text, b"asof\":[\"")?),
+            None => as_of(config, after(text, "asof\":[\"")?),
         },
-        Some(b'b') => match after(text, b"balance\":\"") {
+        Some(b'b') => match after(text, "balance\":\"") {
             Some(rest) => balance(config, rest),
-            None => batch(alloc, config, after(text, b"batch\":[")?),
+            None => batch(alloc, config, after(text, "batch\":[")?),
         },
-        Some(b'p') => pass(config, after(text, b"pass\":")?),
-        Some(b's') => statement(config, after(text, b"statement\":\"")?),
-        Some(b'd') => match after(text, b"deliver\":") {
+        Some(b'p') => pass(config, after(text, "pass\":")?),
+        Some(b's') => statement(config, after(text, "statement\":\"")?),
+        Some(b'd') => match after(text, "deliver\":") {
             Some(rest) => deliver(config, rest),
             None => submit(config, text),
         },
@@ -299,20 +311,20 @@ fn member<'a>(alloc: Global, config: &Config, text: &'a [u8]) -> Option<(Told, &
 }
 
 /// A command whose site comes first, from its number on.
-fn site_first(alloc: Global, config: &Config, text: &[u8]) -> Option<WorldEvent>
+fn site_first(alloc: Global, config: &Config, text: &str) -> Option<WorldEvent>
     ensures value { IfSome result (λ c. command_at config.now (codes "{\"site\":" ++ text.now) ≡ Some c) }
     ensures command { IfSome result IsCommand }
 {
     let (site, rest) = byte(text)?;
-    let (told, rest) = member(alloc, config, after(rest, b",\"")?)?;
-    if rest != b"}".as_slice() {
+    let (told, rest) = member(alloc, config, after(rest, ",\"")?)?;
+    if rest != "}" {
         return None;
     }
     Some(at(told, site))
 }
 
 /// A command whose site comes last, from its key on.
-fn site_last(alloc: Global, config: &Config, text: &[u8]) -> Option<WorldEvent>
+fn site_last(alloc: Global, config: &Config, text: &str) -> Option<WorldEvent>
     ensures value { IfSome result (λ c. command_at config.now (codes "{\"" ++ text.now) ≡ Some c) }
     ensures command { IfSome result IsCommand }
 {
@@ -326,8 +338,8 @@ pub fn usual_command(alloc: Global, config: &Config, line: &str) -> Option<World
     ensures value { IfSome result (λ c. command_at config.now line.now ≡ Some c) }
     ensures command { IfSome result IsCommand }
 {
-    let text = after(line.as_bytes(), b"{\"")?;
-    match after(text, b"site\":") {
+    let text = after(line, "{\"")?;
+    match after(text, "site\":") {
         Some(rest) => site_first(alloc, config, rest),
         None => site_last(alloc, config, text),
     }

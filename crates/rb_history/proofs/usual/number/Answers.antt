@@ -1,17 +1,9 @@
-use Rattle.std.proofs.Common.{arith}
-use Rattle.rb_history.proofs.Scanned.{one_digit, digit_more}
+use Rattle.std.proofs.Common.{decimal}
+use Rattle.rb_history.proofs.Scanned.{cut_behind}
+use Rattle.rb_history.proofs.Utf8.{decimal_utf8}
 use Rattle.rb_history.proofs.usual.number.Goals as goal
 
-pub digits-init : goal.digits-init
-digits-init c = record {
-  within = omega arith;
-  small = omega arith;
-  read = one_digit c.args.text.now (omega arith) (omega arith) (omega arith);
-}
-
-pub digits-preserved : goal.digits-preserved
-digits-preserved c = record {
-  within = omega arith;
-  small = omega arith;
-  read = digit_more c.args.text.now c.digits.len c.digits.n (omega arith) (omega arith) (omega arith) (omega arith) (omega arith) c.digits.invariant.read;
-}
+pub range_from-requires : goal.range_from-requires
+range_from-requires c = λ some.
+    let n = c.in_ok-n.n in
+    cut_behind c.args.text.now c.as_bytes.result.now (decimal n) c.in_ok-n.len c.as_bytes.ensures.value c.utf8.text c.in_ok-n.ensures.1 c.in_ok-n.ensures.2 (decimal_utf8 n)

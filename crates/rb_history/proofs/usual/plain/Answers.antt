@@ -1,9 +1,5 @@
-use Rattle.std.proofs.Common.{arith}
-use Rattle.rb_history.proofs.Scanned.{one_more}
+use Rattle.rb_history.proofs.Scanned.{cut_after_quote}
 use Rattle.rb_history.proofs.usual.plain.Goals as goal
 
-pub loop-len-preserved : goal.loop-len-preserved
-loop-len-preserved c = record {
-  within = omega arith;
-  plain = one_more c.args.text.now c.loop-len.len (omega arith) c.loop-len.invariant.plain (λ e. omega arith) (λ e. omega arith) (omega arith);
-}
+pub range_from-requires : goal.range_from-requires
+range_from-requires c = λ some. cut_after_quote c.args.text.now c.as_bytes.result.now c.in_ok-len.len c.as_bytes.ensures.value c.utf8.text c.in_ok-len.ensures.0 c.in_ok-len.ensures.1

@@ -4,14 +4,17 @@ use Rattle.rb_history.proofs.Batches.{last_asked, more_asked, as_listed, shorter
 use Rattle.rb_history.proofs.usual.requests.Goals as goal
 
 pub items-preserved : goal.items-preserved
-items-preserved c = λ r rs rest a.
-    let s = c.args.config.now in
-    let done = c.items.requests.items in
-    let asked = c.in_ok-asked.asked in
-    let pushed : c.push.new.self.items ≡ done ++ (asked ∷ []) = search rules in
-    let closed = c.in_ok-rest.ensures ∙ ap (λ l. codes "}" ++ l) c.in-Some.ensures in
-    let more : AsksEach s (asked ∷ r ∷ rs) c.items.left.now rest = rw c.in_ok-after.ensures (more_asked s asked r rs c.in_ok-after.field-0.now c.in_ok-asked.rest.now c.in-Some.more.now rest c.in_ok-asked.ensures closed a) in
-    as_listed s (c.push.new.self.items ++ (r ∷ rs)) (done ++ (asked ∷ r ∷ rs)) c.args.text.now rest (ap (λ l. l ++ (r ∷ rs)) pushed ∙ append_assoc done (asked ∷ []) (r ∷ rs)) (c.items.invariant asked (r ∷ rs) rest more)
+items-preserved c = (
+  search rules,
+  λ r rs rest a.
+      let s = c.args.config.now in
+      let done = c.items.requests.items in
+      let asked = c.in_ok-asked.asked in
+      let pushed : c.push.new.self.items ≡ done ++ (asked ∷ []) = search rules in
+      let closed = c.in_ok-rest.ensures ∙ ap (λ l. codes "}" ++ l) c.in-Some.ensures in
+      let more : AsksEach s (asked ∷ r ∷ rs) c.items.left.now rest = rw c.in_ok-after.ensures (more_asked s asked r rs c.in_ok-after.field-0.now c.in_ok-asked.rest.now c.in-Some.more.now rest c.in_ok-asked.ensures closed a) in
+      as_listed s (c.push.new.self.items ++ (r ∷ rs)) (done ++ (asked ∷ r ∷ rs)) c.args.text.now rest (ap (λ l. l ++ (r ∷ rs)) pushed ∙ append_assoc done (asked ∷ []) (r ∷ rs)) (c.items.invariant.1 asked (r ∷ rs) rest more),
+)
 
 pub items-smaller : goal.items-smaller
 items-smaller c =
@@ -27,4 +30,4 @@ returns-in-None c =
     let pushed : c.push.new.self.items ≡ done ++ (asked ∷ []) = search rules in
     let closed = c.in_ok-rest.ensures ∙ ap (λ l. codes "}" ++ l) c.in_ok-after-in-None.ensures in
     let last : AsksEach s (asked ∷ []) c.items.left.now rest = rw c.in_ok-after.ensures (last_asked s asked c.in_ok-after.field-0.now c.in_ok-asked.rest.now rest c.in_ok-asked.ensures closed) in
-    as_listed s c.push.new.self.items (done ++ (asked ∷ [])) c.args.text.now rest pushed (c.items.invariant asked [] rest last)
+    as_listed s c.push.new.self.items (done ++ (asked ∷ [])) c.args.text.now rest pushed (c.items.invariant.1 asked [] rest last)

@@ -1,5 +1,5 @@
 use Rattle.std.proofs.Common.{◌≡◌, ◌<◌, ◌≤◌, ◌^◌, ◌-◌, length, take, decimal}
-use Rattle.rb_history.proofs.usual.number.Given as goal
+use Rattle.rb_history.proofs.usual.digits.Given as goal
 
 abbrev pub invariant-digits : goal.invariant-digits
 invariant-digits l = record { within : l.len ≤ length l.text; small : l.n < 2 ^ 64; read : take l.len l.text ≡ decimal l.n }
