@@ -41,6 +41,7 @@ fn open_world(alloc: Global, line: &[u8]) -> Result<LeanWorld, LineFault>
 }
 
 /// Gives the world the command on a line, and owes its reply. After an `Err` nothing more is owed, and the script ends.
+#[inline(always)]
 #[tactic(auto, unfolding(crate::specs::Script::command_on))]
 fn answer_command(
     alloc: Global,
