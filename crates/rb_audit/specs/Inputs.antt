@@ -1,5 +1,5 @@
 -- What the lines of an audit say: a configuration and the histories of its sites, or the first line that is bad.
-use Rattle.std.specs.Prelude.{ℕ, zero, suc, ◌+◌, ◌×◌, List, [], ◌∷◌, ◌++◌, Option, Result, Ok, Err, if◌then◌else◌}
+use Rattle.std.specs.Prelude.{ℕ, zero, suc, ◌+◌, ◌×◌, List, [], ◌∷◌, ◌++◌, Option, Result, Ok, Err, replicate, if◌then◌else◌}
 use Rattle.std.specs.Option.{option_map_or}
 use Rattle.rb_money.specs.Settings.{Settings}
 use Rattle.rb_site.specs.declared.entry.Entry.{Entry}
@@ -13,11 +13,6 @@ pub record Input : Type 0 where
   pub settings : Settings
   pub histories : List (List Entry)
 
--- so many sites that recorded nothing
-abbrev pub no_histories : ℕ → List (List Entry)
-no_histories zero = []
-no_histories (suc n) = [] ∷ no_histories n
-
 -- an entry more at the end of this site's history
 abbrev pub with_entry : ℕ → Entry → List (List Entry) → List (List Entry)
 with_entry site x [] = []
@@ -30,11 +25,11 @@ input_after s hs n [] = Ok (record { settings = s; histories = hs })
 input_after s hs n (l ∷ ls) = if is_long l then Err (LongLine n) else (if is_blank l then input_after s hs (n + 1) ls
     else option_map_or (λ (x : ℕ × Entry). input_after s (with_entry x.0 x.1 hs) (n + 1) ls) (entry_on s l) (Err (BadLine n)))
 
--- the first line that isn't skipped is the configuration, and entries follow
+-- the first line that isn't skipped is the configuration, and entries follow: at first no site has any
 abbrev pub input_from : ℕ → List (List ℕ) → Result Input ScriptFault
 input_from n [] = Err NoConfig
 input_from n (l ∷ ls) = if is_long l then Err (LongLine n) else (if is_blank l then input_from (n + 1) ls
-    else option_map_or (λ s. input_after s (no_histories s.sites) (n + 1) ls) (config_on l) (Err (BadConfig n)))
+    else option_map_or (λ s. input_after s (replicate s.sites []) (n + 1) ls) (config_on l) (Err (BadConfig n)))
 
 -- what these lines say
 abbrev pub input_of : List (List ℕ) → Result Input ScriptFault

@@ -1,12 +1,12 @@
 //! The lines of an audit, one at a time.
-ghost use Rattle.std.specs.Prelude.{◌≡◌, ◌^◌, ◌<◌, ◌≤◌, ◌⊎◌, None, Some, length, IfOk, MatchResult};
+ghost use Rattle.std.specs.Prelude.{◌≡◌, ◌^◌, ◌<◌, ◌≤◌, ◌⊎◌, [], None, Some, length, replicate, IfOk, MatchResult};
 ghost use Rattle.rb_money.specs.Settings.{Settings};
 ghost use Rattle.rb_auditor.specs.Findings.{lists_of};
 ghost use Rattle.rb_history.specs.OnLines.{config_on, entry_on};
 ghost use Rattle.rb_history.specs.declared.fault.LineFault.TheVariants.{Bad};
 ghost use Rattle.rb_lines.specs.Lines.{line_limit};
 ghost use Rattle.rb_audit.specs.Collects.{EndsAt, HasEachSite, Takes};
-ghost use Rattle.rb_audit.specs.Inputs.{no_histories, with_entry};
+ghost use Rattle.rb_audit.specs.Inputs.{with_entry};
 
 use rb_history::{LineFault, read_config, read_line};
 use rb_lines::{ScriptFault, is_blank, text_on};
@@ -50,11 +50,11 @@ fn entry_of(alloc: Global, config: &Config, line: &[u8]) -> Result<(u8, Entry), 
 
 /// Histories without entries, so many.
 fn none_recorded(alloc: Global, sites: u8) -> Result<Vec<History>, AllocError>
-    ensures { IfOk result (λ histories. lists_of histories.items ≡ no_histories sites) }
+    ensures { IfOk result (λ histories. lists_of histories.items ≡ replicate sites []) }
 {
     let mut histories = Vec::new(alloc);
     histories.reserve(sites as usize)?;
-    for _ in 0..sites {
+    for _site in 0..sites {
         histories.push_reserved(Vec::new(alloc));
     }
     Ok(histories)
@@ -82,7 +82,7 @@ impl Collected {
     ) -> Result<(), ScriptFault>
         ensures number { self.new.number ≡ self.old.number }
         ensures taken { MatchResult result
-            (λ _. (s : Settings) × (config_on line.now ≡ Some s) × (self.new.config ≡ Some s) × (lists_of self.new.histories.items ≡ no_histories s.sites))
+            (λ _. (s : Settings) × (config_on line.now ≡ Some s) × (self.new.config ≡ Some s) × (lists_of self.new.histories.items ≡ replicate s.sites []))
             (λ fault. (fault ≡ ScriptFault.OutOfMemory) ⊎ ((fault ≡ ScriptFault.BadConfig number) × (config_on line.now ≡ None))) }
     {
         let config = match config_of(alloc, line) {
