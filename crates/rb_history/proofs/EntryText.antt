@@ -1,5 +1,5 @@
 -- The text of an entry is read as the entry's JSON object.
-use Rattle.std.proofs.Common.{◌≡◌, ◌<◌, ◌≤◌, ◌^◌, ℕ, suc, ℤ, pos, negsuc, List, [], ◌∷◌, Some, Bool, true, false, refl, arith}
+use Rattle.std.proofs.Common.{◌≡◌, ◌<◌, ◌≤◌, ◌^◌, ℕ, suc, ℤ, pos, negsuc, List, [], ◌∷◌, Some, Bool, refl, arith}
 use Rattle.std.specs.Prelude.{map}
 use Rattle.json.specs.Tree.{HasNumbers, ItemsHaveNumbers}
 use Rattle.json.specs.Tree as tree
@@ -35,10 +35,10 @@ use Rattle.rb_history.specs.Values.{integer_json, list_json, name_json, number_j
 use Rattle.rb_history.proofs.UsualLines.{compact_read}
 
 -- a value that is read from its own text, and nests at most so deep
-record IsText (d : Data) (most : ℕ) : Type 0 where
-  numbers : HasNumbers (outline d)
-  shallow : tree.depth (outline d) ≤ most
-  same : of_json (outline d) ≡ Some d
+pub record IsText (d : Data) (most : ℕ) : Type 0 where
+  pub numbers : HasNumbers (outline d)
+  pub shallow : tree.depth (outline d) ≤ most
+  pub same : of_json (outline d) ≡ Some d
 
 -- the same of a list's values
 record AreTexts (ds : List Data) (most : ℕ) : Type 0 where
@@ -48,13 +48,13 @@ record AreTexts (ds : List Data) (most : ℕ) : Type 0 where
 
 -- ---- values by their shapes
 
-string_text : (text : List ℕ) → IsText (string text) 0
+pub string_text : (text : List ℕ) → IsText (string text) 0
 string_text text = record { numbers = tt; shallow = omega arith; same = refl }
 
 boolean_text : (b : Bool) → IsText (boolean b) 0
 boolean_text b = record { numbers = tt; shallow = omega arith; same = refl }
 
-number_text : (n : ℕ) → n < 2 ^ 64 → IsText (number_json n) 0
+pub number_text : (n : ℕ) → n < 2 ^ 64 → IsText (number_json n) 0
 number_text n h = record { numbers = IsNumber-decimal n h; shallow = omega arith; same = rw (number_of-decimal n h) refl }
 
 integer_text : (z : ℤ) → IsMoved z → IsText (integer_json z) 0
@@ -70,7 +70,7 @@ texts written P most each (x ∷ xs) h =
     let b = later.shallow in
     record { numbers = (first.numbers, later.numbers); shallow = omega arith; same = rw (first.same, later.same) refl }
 
-list_text : {A : Type 0} (written : A → Data) (P : A → Type 0) (most : ℕ) → ((x : A) → P x → IsText (written x) most) → (xs : List A) → Each P xs → IsText (list_json written xs) (suc most)
+pub list_text : {A : Type 0} (written : A → Data) (P : A → Type 0) (most : ℕ) → ((x : A) → P x → IsText (written x) most) → (xs : List A) → Each P xs → IsText (list_json written xs) (suc most)
 list_text written P most each xs h =
     let all = texts written P most each xs h in
     let a = all.shallow in
@@ -81,7 +81,7 @@ one_text key value most v =
     let a = v.shallow in
     record { numbers = (v.numbers, tt); shallow = omega arith; same = rw v.same refl }
 
-pair_text : (a b : Data) (most : ℕ) → IsText a most → IsText b most → IsText (pair_json a b) (suc most)
+pub pair_text : (a b : Data) (most : ℕ) → IsText a most → IsText b most → IsText (pair_json a b) (suc most)
 pair_text a b most x y =
     let d = x.shallow in
     let e = y.shallow in

@@ -1,6 +1,6 @@
 -- An account's name leads back to its place.
-use Rattle.std.proofs.Common.{◌≡◌, ◌<◌, ◌≤◌, ◌+◌, ℕ, zero, suc, List, [], ◌∷◌, length, get_or, Some, None, Option, Bool, true, false, cond, refl, sym, ap, ◌∙◌, ◌⊎◌, inl, inr, arith, subst}
-use Rattle.std.specs.Prelude.{codes, unwrap_or, slice_get, bytes_eq, position, option_map}
+use Rattle.std.proofs.Common.{◌≡◌, ◌≤◌, ◌+◌, ℕ, zero, suc, List, [], ◌∷◌, length, get_or, Some, None, Option, Bool, true, false, cond, refl, sym, ap, ◌∙◌, inl, inr, arith}
+use Rattle.std.specs.Prelude.{codes, unwrap_or, slice_get, bytes_eq, option_map}
 use Rattle.std.specs.Bool.{Decides}
 use Rattle.std.specs.List.{position_from}
 use Rattle.std.proofs.lemmas.Iterator.Adapters.{position_from-zero}
@@ -15,7 +15,7 @@ passes : (b : Bool) (P : Type 0) → Decides b P → P → b ≡ true
 passes true P d p = refl
 passes false P d p = d.1 p
 
-fails : (b : Bool) (P : Type 0) → Decides b P → ¬ P → b ≡ false
+pub fails : (b : Bool) (P : Type 0) → Decides b P → ¬ P → b ≡ false
 fails true P d p = absurd (p (d.0 refl))
 fails false P d p = refl
 

@@ -11,7 +11,9 @@ pub mod Scanned
 pub mod Batches
 pub mod Counts
 pub mod KnownPlaces
+pub mod Starts
 pub mod ReplyBack
 pub mod EntryBack
 pub mod EntrySites
 pub mod EntryText
+pub mod ConfigBack

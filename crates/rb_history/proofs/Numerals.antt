@@ -1,6 +1,10 @@
--- The numbers of refusals that tell more, in digits.
+-- The numbers of refusals that tell more, and of the format's version, in digits.
 use Rattle.std.proofs.Common.{◌≡◌, codes, decimal, refl}
 use Rattle.std.specs.Fmt.{digits}
+
+pub one : decimal 1 ≡ codes "1"
+unfolding digits
+one = refl
 
 pub six : decimal 6 ≡ codes "6"
 unfolding digits

@@ -1,11 +1,12 @@
 -- Which configuration a line is, and the line of a configuration.
-use Rattle.std.specs.Prelude.{ℕ, ◌+◌, ◌^◌, ◌==◌, ◌&&◌, Bool, false, List, [], ◌∷◌, Option, Some, None, is_none, is_some, codes, if◌then◌else◌, option_and_then, option_map}
+use Rattle.std.specs.Prelude.{◌≡◌, ℕ, ◌+◌, ◌^◌, ◌==◌, ◌&&◌, Bool, false, List, [], ◌∷◌, Option, Some, None, is_none, is_some, codes, if◌then◌else◌, option_and_then, option_map}
 use Rattle.std.specs.Option.{option_map_or}
 use Rattle.serde_json.specs.Data.{Data, string, object, Items, no_items, item, member, no_members}
 use Rattle.serde_json.specs.Find.{get, as_array, as_str}
 use Rattle.serde_json.specs.Read.{read}
+use Rattle.serde_json.specs.Written.{compact_text}
 use Rattle.rb_money.specs.Faults.{Account, config_fault, settings_of}
-use Rattle.rb_money.specs.Settings.{Settings}
+use Rattle.rb_money.specs.Settings.{IsConfigured, Settings}
 use Rattle.rb_money.specs.declared.limits.Limits.{Limits}
 use Rattle.rb_history.specs.Values.{number_json, list_json, pair_json, number_below, pair_of, size_of, either}
 
@@ -90,3 +91,7 @@ config_json s = object
     (member (codes "red") (number_json s.limits.red)
     (member (codes "sites") (number_json s.sites)
     (member (codes "version") (number_json 1) no_members))))))))
+
+-- the line of each configuration is read as it
+abbrev pub ConfigsAreRead : Type 0
+ConfigsAreRead = (s : Settings) → IsConfigured s → config_at (compact_text (config_json s)) ≡ Some s

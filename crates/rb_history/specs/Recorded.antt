@@ -44,7 +44,7 @@ kind_at d = option_and_then (kind_of d) (field (codes "kind") label_at d)
 abbrev pub shadow_at : Settings → Data → Option Shadow
 shadow_at s d =
     option_and_then (λ account. option_and_then (λ amount. option_and_then (λ deps. option_and_then (λ home. option_and_then (λ kind. option_map (λ name.
-      record { name = name; home = home; deps = deps; account = account; amount = amount; kind = kind })
+    record { name = name; home = home; deps = deps; account = account; amount = amount; kind = kind })
     (field (codes "name") name_at d))
     (kind_at d))
     (field (codes "home") (number_below (2 ^ 8)) d))

@@ -74,7 +74,7 @@ moved_at d = option_and_then as_i64 (as_number d)
 abbrev pub row_at : Data → Option Row
 row_at d =
     option_and_then (λ p. option_and_then (λ position. option_and_then (λ name. option_and_then (λ kind. option_and_then (λ moved. option_and_then (λ cancelled. option_map (λ balance.
-      record { position = position; name = name; kind = kind; moved = moved; cancelled = cancelled; balance = balance })
+    record { position = position; name = name; kind = kind; moved = moved; cancelled = cancelled; balance = balance })
     (number_below (2 ^ 64) p.5))
     (as_bool p.4))
     (moved_at p.3))
@@ -112,7 +112,7 @@ made_of d = option_and_then (λ name. option_map (Made name) (field (codes "kind
 -- a statement, of three members
 abbrev pub statement_of : Data → Option Reply
 statement_of d = option_and_then (λ start. option_and_then (λ balance. option_map (λ rows.
-      Statement (record { start = start; rows = rows; balance = balance }))
+    Statement (record { start = start; rows = rows; balance = balance }))
     (field (codes "rows") rows_at d))
     (field (codes "balance") (number_below (2 ^ 64)) d))
     (field (codes "start") (number_below (2 ^ 64)) d)

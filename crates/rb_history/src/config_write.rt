@@ -40,15 +40,15 @@ fn append_accounts(out: &mut Vec<u8>, config: &Config) -> Result<(), AllocError>
     append(out, "]")
 }
 
-/// The limits, each with its key.
+/// The limits, each behind its key, and the key of the sites.
 fn append_limits(out: &mut Vec<u8>, limits: Limits) -> Result<(), AllocError>
-    ensures { Adds result out.old.items out.new.items (codes ",\"blue\":" ++ (decimal limits.blue ++ (codes ",\"epoch\":" ++ (decimal limits.epoch ++ (codes ",\"history\":" ++ (decimal limits.history ++ (codes ",\"inbox\":" ++ (decimal limits.inbox ++ (codes ",\"red\":" ++ decimal limits.red))))))))) }
+    ensures { Adds result out.old.items out.new.items (codes ",\"blue\":" ++ (decimal limits.blue ++ (codes ",\"epoch\":" ++ (decimal limits.epoch ++ (codes ",\"history\":" ++ (decimal limits.history ++ (codes ",\"inbox\":" ++ (decimal limits.inbox ++ (codes ",\"red\":" ++ (decimal limits.red ++ codes ",\"sites\":")))))))))) }
 {
-    append_number(out, ",\"blue\":", limits.blue as u64, "")?;
-    append_number(out, ",\"epoch\":", limits.epoch as u64, "")?;
-    append_number(out, ",\"history\":", limits.history as u64, "")?;
-    append_number(out, ",\"inbox\":", limits.inbox as u64, "")?;
-    append_number(out, ",\"red\":", limits.red as u64, "")
+    append_number(out, ",\"blue\":", limits.blue as u64, ",\"epoch\":")?;
+    append_number(out, "", limits.epoch as u64, ",\"history\":")?;
+    append_number(out, "", limits.history as u64, ",\"inbox\":")?;
+    append_number(out, "", limits.inbox as u64, ",\"red\":")?;
+    append_number(out, "", limits.red as u64, ",\"sites\":")
 }
 
 /// The JSON object of a configuration, on one line.
@@ -58,7 +58,7 @@ fn append_config(out: &mut Vec<u8>, config: &Config) -> Result<(), AllocError>
     append(out, "{\"accounts\":[")?;
     append_accounts(out, config)?;
     append_limits(out, config.limits())?;
-    append_number(out, ",\"sites\":", config.sites() as u64, ",\"version\":1}")
+    append_number(out, "", config.sites() as u64, ",\"version\":1}")
 }
 
 /// The line of a configuration, without a line feed. An `Err` is want of memory.

@@ -27,8 +27,7 @@ fn is_of_entry(alloc: Global, config: &Config, line: &str, entry: &Entry) -> Res
 
 /// Whether the line of an event with a reply of no cents is read as the entry, and written for it.
 fn is_of_event(alloc: Global, config: &Config, text: &str, event: Event) -> Result<bool, Fail> {
-    let line =
-        format!(in alloc; "{{\"event\":{text},\"reply\":{{\"balance\":0}},\"site\":1}}")?;
+    let line = format!(in alloc; "{{\"event\":{text},\"reply\":{{\"balance\":0}},\"site\":1}}")?;
     let reply = Reply::Balance(0);
     is_of_entry(alloc, config, line.as_str(), &Entry { event, reply })
 }
@@ -271,6 +270,28 @@ fn places_past_the_accounts(rt: HostRuntime) -> Result<(), Fail> {
     Ok(())
 }
 
+#[test]
+fn configurations_both_ways(rt: HostRuntime) -> Result<(), Fail> {
+    for (given, line) in [
+        (
+            "{\"accounts\":[[\"ann\",0]],\"sites\":2,\"version\":1}",
+            "{\"accounts\":[[\"ann\",0]],\"blue\":1000000,\"epoch\":4000000000,\"history\":100000000,\"inbox\":4096,\"red\":1000000,\"sites\":2,\"version\":1}",
+        ),
+        (
+            "{\"accounts\":[[\"ann\",0],[\"bob.1\",100000000000]],\"blue\":1,\"epoch\":2,\"history\":3,\"inbox\":4,\"red\":5,\"sites\":8,\"version\":1}",
+            "{\"accounts\":[[\"ann\",0],[\"bob.1\",100000000000]],\"blue\":1,\"epoch\":2,\"history\":3,\"inbox\":4,\"red\":5,\"sites\":8,\"version\":1}",
+        ),
+    ] {
+        let config = read_config(rt.alloc(), given)?;
+        let text = write_config(rt.alloc(), &config)?;
+        assert_eq!(rt; text.as_str(), line);
+        let again = read_config(rt.alloc(), line)?;
+        let text = write_config(rt.alloc(), &again)?;
+        assert_eq!(rt; text.as_str(), line);
+    }
+    Ok(())
+}
+
 /// Whether the line of the event and the reply is bad.
 fn is_bad(alloc: Global, config: &Config, event: &str, reply: &str) -> Result<bool, Fail> {
     let line = format!(in alloc; "{{\"event\":{event},\"reply\":{reply},\"site\":0}}")?;
@@ -308,7 +329,10 @@ fn bad_events(rt: HostRuntime) -> Result<(), Fail> {
         "{\"shadow\":{\"account\":\"ann\",\"amount\":5,\"deps\":[[0,0,0,0,0,0,0,0],0],\"home\":0,\"kind\":\"cancel\",\"name\":\"B0.1\"}}",
         "{\"shadow\":{\"account\":\"ann\",\"amount\":5,\"deps\":[[0,0,0,0,0,0,0,0],0],\"home\":0,\"kind\":\"deposit\",\"label\":\"B0.1\"}}",
     ] {
-        assert!(rt; is_bad(rt.alloc(), &config, event, "{\"balance\":0}")?, "at {event}");
+        assert!(rt;
+            is_bad(rt.alloc(), &config, event, "{\"balance\":0}")?,
+            "at {event}"
+        );
     }
     Ok(())
 }
@@ -337,7 +361,10 @@ fn bad_replies(rt: HostRuntime) -> Result<(), Fail> {
         "{\"names\":[\"R1\",1]}",
         "{\"taken\":4294967296}",
     ] {
-        assert!(rt; is_bad(rt.alloc(), &config, "{\"apply\":\"R1\"}", reply)?, "at {reply}");
+        assert!(rt;
+            is_bad(rt.alloc(), &config, "{\"apply\":\"R1\"}", reply)?,
+            "at {reply}"
+        );
     }
     Ok(())
 }

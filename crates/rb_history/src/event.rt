@@ -58,11 +58,7 @@ fn append_asked(
 
 /// A request, as a command tells it.
 #[tactic(auto, unfolding(json::specs::Print::escape_byte))]
-fn append_request(
-    out: &mut Vec<u8>,
-    config: &Config,
-    request: Request,
-) -> Result<(), AllocError>
+fn append_request(out: &mut Vec<u8>, config: &Config, request: Request) -> Result<(), AllocError>
     ensures { Adds result out.old.items out.new.items (compact_text (request_json config.now request)) }
 {
     match request {
@@ -120,11 +116,7 @@ fn append_token(out: &mut Vec<u8>, token: TokenMessage) -> Result<(), AllocError
 
 /// The JSON object of an event, on one line.
 #[tactic(auto, unfolding(json::specs::Print::escape_byte))]
-pub fn append_event(
-    out: &mut Vec<u8>,
-    config: &Config,
-    event: &Event,
-) -> Result<(), AllocError>
+pub fn append_event(out: &mut Vec<u8>, config: &Config, event: &Event) -> Result<(), AllocError>
     ensures { Adds result out.old.items out.new.items (compact_text (event_json config.now event.now)) }
 {
     match event {

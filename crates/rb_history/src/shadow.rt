@@ -74,7 +74,12 @@ fn append_front(out: &mut Vec<u8>, config: &Config, shadow: &Shadow) -> Result<(
 fn append_back(out: &mut Vec<u8>, shadow: Shadow) -> Result<(), AllocError>
     ensures { Adds result out.old.items out.new.items (codes ",\"home\":" ++ (decimal shadow.home ++ (codes ",\"kind\":\"" ++ (label_text (label_of shadow.kind) ++ (codes "\",\"name\":" ++ (compact_text (name_json shadow.name) ++ members_text true (target_json shadow.kind))))))) }
 {
-    append_number(out, ",\"home\":", shadow.home as u64, kind_text(shadow.kind))?;
+    append_number(
+        out,
+        ",\"home\":",
+        shadow.home as u64,
+        kind_text(shadow.kind),
+    )?;
     append_named(out, "", shadow.name, "")?;
     append_target(out, shadow.kind)
 }

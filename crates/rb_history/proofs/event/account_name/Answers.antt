@@ -1,4 +1,4 @@
-use Rattle.std.proofs.Common.{◌≡◌, Some, codes, refl, rules}
+use Rattle.std.proofs.Common.{◌≡◌, Some, refl, rules}
 use Rattle.std.specs.Prelude.{slice_get}
 use Rattle.json.specs.Print.{escape_byte}
 use Rattle.rb_history.proofs.Plain.{account_plain}

@@ -10,5 +10,6 @@ pub returns-then-len-ne-MOST_SITES : goal.returns-then-len-ne-MOST_SITES
 returns-then-len-ne-MOST_SITES c =
     let items = c.in_ok-items.items.now.items in
     let found : Some (items_view items) ≡ as_array (view c.args.value.now) = search rules in
-    sym (other_length items 8 (λ e. c.if-len-ne-MOST_SITES.true (c.len.ensures ∙ e)))
+    let long : c.len.result ≡ length items = search rules in
+    sym (other_length items 8 (λ e. c.if-len-ne-MOST_SITES.true (long ∙ e)))
     ∙ ap (λ o. option_and_then (λ (ns : List ℕ). if length ns == 8 then Some ns else None) (option_and_then counts_in o)) found

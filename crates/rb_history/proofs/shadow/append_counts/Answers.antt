@@ -1,4 +1,4 @@
-use Rattle.std.proofs.Common.{◌++◌, codes, [], ap, sym, ◌∙◌, append_assoc, append-nil, add-one, decimal, drop-cons, arith, rules, get_or}
+use Rattle.std.proofs.Common.{◌++◌, codes, [], ap, ◌∙◌, append_assoc, append-nil, add-one, decimal, drop-cons, arith, rules, get_or}
 use Rattle.std.specs.Prelude.{map}
 use Rattle.rb_history.specs.Values.{number_json}
 use Rattle.rb_history.proofs.Appended.{front_of_front, front_of_sum, then}

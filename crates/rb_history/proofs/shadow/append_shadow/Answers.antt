@@ -1,5 +1,5 @@
 use Rattle.std.proofs.Common.{◌≡◌, ◌++◌, List, ℕ, true, codes, decimal, append_assoc, ap, sym, ◌∙◌}
-use Rattle.json.specs.Print.{escape_byte, quoted}
+use Rattle.json.specs.Print.{escape_byte}
 use Rattle.serde_json.specs.Written.{compact_text, members_text}
 use Rattle.rb_shadow.specs.Labels.{label_of}
 use Rattle.rb_history.specs.Entries.{account_json, deps_json, target_json}
