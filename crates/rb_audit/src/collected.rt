@@ -74,12 +74,7 @@ impl Collected {
     }
 
     /// Takes the line of the configuration: the histories of its sites come next.
-    fn take_config(
-        &mut self,
-        alloc: Global,
-        number: u64,
-        line: &[u8],
-    ) -> Result<(), ScriptFault>
+    fn take_config(&mut self, alloc: Global, number: u64, line: &[u8]) -> Result<(), ScriptFault>
         ensures number { self.new.number ≡ self.old.number }
         ensures taken { MatchResult result
             (λ _. (s : Settings) × (config_on line.now ≡ Some s) × (self.new.config ≡ Some s) × (lists_of self.new.histories.items ≡ replicate s.sites []))
@@ -99,11 +94,7 @@ impl Collected {
     }
 
     /// Takes the line of an entry: it comes to the end of its site's history.
-    fn take_entry(
-        &mut self,
-        site: u8,
-        entry: Entry,
-    ) -> Result<(), ScriptFault>
+    fn take_entry(&mut self, site: u8, entry: Entry) -> Result<(), ScriptFault>
         requires { site < length self.old.histories.items }
         ensures config { self.new.config ≡ self.old.config }
         ensures number { self.new.number ≡ self.old.number }

@@ -10,7 +10,8 @@ const CONFIGURATION: &str = r#"{"accounts":[["ann",0]],"sites":2,"version":1}
 "#;
 
 /// Site 0 makes a deposit and asks for the balance.
-const MADE: &str = r#"{"event":{"deposit":["ann",500]},"reply":{"kind":"deposit","name":"B0.1"},"site":0}
+const MADE: &str =
+    r#"{"event":{"deposit":["ann",500]},"reply":{"kind":"deposit","name":"B0.1"},"site":0}
 {"event":{"balance":"ann"},"reply":{"balance":500},"site":0}
 "#;
 
@@ -131,8 +132,14 @@ fn finds_an_order(rt: HostRuntime) -> Result<(), Fail> {
         ([].as_slice(), "{\"order\":[]}\n"),
         ([MADE, HEARD].as_slice(), "{\"order\":[0,0,1,1,1,1]}\n"),
         ([HEARD, MADE].as_slice(), "{\"order\":[0,0,1,1,1,1]}\n"),
-        ([MADE, "\n \t\r\n", HEARD].as_slice(), "{\"order\":[0,0,1,1,1,1]}\n"),
-        ([MADE, HEARD, last].as_slice(), "{\"order\":[0,0,1,1,1,1,1]}\n"),
+        (
+            [MADE, "\n \t\r\n", HEARD].as_slice(),
+            "{\"order\":[0,0,1,1,1,1]}\n",
+        ),
+        (
+            [MADE, HEARD, last].as_slice(),
+            "{\"order\":[0,0,1,1,1,1,1]}\n",
+        ),
         ([unknown].as_slice(), "{\"order\":[0]}\n"),
     ];
     for (parts, line) in cases {
@@ -149,16 +156,30 @@ fn finds_a_fault(rt: HostRuntime) -> Result<(), Fail> {
 "#;
     let no_message = r#"{"event":{"balance":"ann"},"reply":{"refused":19},"site":0}
 "#;
-    let from_nowhere = r#"{"event":{"shadow":{"account":"ann","amount":5,"deps":[[0,0,0,0,0,0,0,0],0],"home":2,"kind":"deposit","name":"B2.1"}},"reply":{"refused":17,"why":1},"site":0}
+    let from_nowhere =
+        r#"{"event":{"shadow":{"account":"ann","amount":5,"deps":[[0,0,0,0,0,0,0,0],0],"home":2,"kind":"deposit","name":"B2.1"}},"reply":{"refused":17,"why":1},"site":0}
 "#;
-    let of_another_amount = r#"{"event":{"shadow":{"account":"ann","amount":501,"deps":[[0,0,0,0,0,0,0,0],0],"home":0,"kind":"deposit","name":"B0.1"}},"reply":{"held":"B0.1"},"site":1}
+    let of_another_amount =
+        r#"{"event":{"shadow":{"account":"ann","amount":501,"deps":[[0,0,0,0,0,0,0,0],0],"home":0,"kind":"deposit","name":"B0.1"}},"reply":{"held":"B0.1"},"site":1}
 "#;
     let cases: [(&[&str], &str); 5] = [
-        ([full].as_slice(), "{\"event\":1,\"fault\":\"reply\",\"site\":0}\n"),
-        ([MADE, no_message].as_slice(), "{\"event\":3,\"fault\":\"reply\",\"site\":0}\n"),
-        ([from_nowhere].as_slice(), "{\"fault\":\"stuck\",\"next\":[1,1]}\n"),
+        (
+            [full].as_slice(),
+            "{\"event\":1,\"fault\":\"reply\",\"site\":0}\n",
+        ),
+        (
+            [MADE, no_message].as_slice(),
+            "{\"event\":3,\"fault\":\"reply\",\"site\":0}\n",
+        ),
+        (
+            [from_nowhere].as_slice(),
+            "{\"fault\":\"stuck\",\"next\":[1,1]}\n",
+        ),
         ([HEARD].as_slice(), "{\"fault\":\"stuck\",\"next\":[1,2]}\n"),
-        ([MADE, of_another_amount].as_slice(), "{\"fault\":\"stuck\",\"next\":[3,1]}\n"),
+        (
+            [MADE, of_another_amount].as_slice(),
+            "{\"fault\":\"stuck\",\"next\":[3,1]}\n",
+        ),
     ];
     for (parts, line) in cases {
         let (result, text) = audited(rt.alloc(), parts)?;

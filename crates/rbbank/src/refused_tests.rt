@@ -11,8 +11,8 @@ use crate::tests::{
 };
 use crate::to_writer::ToWriter;
 use rb_ledger::Ledger;
-use rb_money::{Config, Place};
 use rb_lines::ScriptFault;
+use rb_money::{Config, Place};
 use rb_script::run_script;
 use rb_shadow::Shadow;
 use rb_site::{Message, Reply, Site, WorldEvent};
