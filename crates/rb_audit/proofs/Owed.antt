@@ -1,5 +1,5 @@
 -- Where nothing is owed, nothing is sent.
-use Rattle.std.proofs.Common.{◌≡◌, ◌×◌, ℕ, List, [], ◌∷◌, ◌++◌, Option, refl, sym, subst, ◌∙◌}
+use Rattle.std.proofs.Common.{◌≡◌, ℕ, List, [], ◌∷◌, ◌++◌, Option, refl, sym, subst, ◌∙◌}
 use Rattle.std.specs.Io.KnownBytes.{Appends}
 use Rattle.std.proofs.KnownBytes.{Appends-trans}
 use Rattle.rb_lines.specs.Buffers.{Sends}

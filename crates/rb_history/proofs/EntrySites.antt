@@ -1,5 +1,5 @@
 -- The site of an entry that is read is one of the configuration's.
-use Rattle.std.proofs.Common.{◌≡◌, ◌<◌, ◌×◌, ◌==◌, ℕ, Bool, true, false, List, Option, Some, None, refl, sym, ap, ◌∙◌, subst, rules}
+use Rattle.std.proofs.Common.{◌≡◌, ◌<◌, ◌==◌, ℕ, Bool, true, false, List, Option, Some, None, refl, sym, ap, ◌∙◌, subst, rules}
 use Rattle.std.specs.Prelude.{nat_lt, codes, option_and_then, option_map, if◌then◌else◌}
 use Rattle.std.proofs.lemmas.Option.{none-some, option_and_then_some}
 use Rattle.json.proofs.Found.{Some_inj}

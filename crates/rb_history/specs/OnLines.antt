@@ -1,5 +1,5 @@
 -- What a line of bytes says.
-use Rattle.std.specs.Prelude.{ℕ, ◌×◌, List, Option, None, if◌then◌else◌}
+use Rattle.std.specs.Prelude.{ℕ, List, Option, None, if◌then◌else◌}
 use Rattle.std.specs.Str.{is_utf8}
 use Rattle.rb_money.specs.Settings.{Settings}
 use Rattle.rb_site.specs.declared.entry.Entry.{Entry}

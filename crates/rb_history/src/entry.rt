@@ -1,5 +1,5 @@
 //! Lines of histories.
-ghost use Rattle.std.specs.Prelude.{◌≡◌, ◌++◌, codes, string_bytes, IfOk, OnErr, OnOk};
+ghost use Rattle.std.specs.Prelude.{◌≡◌, ◌<◌, ◌++◌, codes, string_bytes, IfOk, OnErr, OnOk};
 ghost use Rattle.serde_json.specs.View.{view};
 ghost use Rattle.serde_json.specs.Written.{compact_text};
 ghost use Rattle.rb_history.specs.Adds.{Adds};
@@ -104,6 +104,7 @@ fn entry(alloc: Global, config: &Config, value: &Value) -> Result<(u8, Entry), L
 /// An account that the configuration doesn't have is read as `Place::NOWHERE`. The reply may be one that no
 /// site gives, and `why` and the number that stopped a batch may be any byte; but a line that tells want of
 /// memory is bad, as is one of a site that the configuration doesn't have.
+#[tactic(auto, using(crate::proofs::EntrySites::site_below))]
 pub fn read_line(alloc: Global, config: &Config, line: &str) -> Result<(u8, Entry), LineFault>
     ensures read { Gives result (entry_at config.now line.now) }
     ensures site { IfOk result (λ x. x.0 < config.now.sites) }
