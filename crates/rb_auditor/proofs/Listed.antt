@@ -48,10 +48,6 @@ kept_apart rows others more j m (inr (k, at)) = inr (k, get_left others more k j
 pub listed_apart : (rows : List (List ℕ)) (others : List ℕ) (place : ℕ) (m : Message) → IsListed rows (others ++ place ∷ []) place m
 listed_apart rows others place m = inr (length others, get_end others (length others) place refl)
 
--- of messages that are listed, the first ones are
-pub listed_front : (rows : List (List ℕ)) (others : List ℕ) (ms ns : List Message) → AreListed rows others (ms ++ ns) → AreListed rows others ms
-listed_front rows others ms ns all j m at = all j m (get_left ms ns j m at)
-
 -- one message more
 pub listed_more : (rows new_rows : List (List ℕ)) (others new_others : List ℕ) (ms : List Message) (n : Message) (place : ℕ) → place ≡ length ms → ((j : ℕ) (m : Message) → IsListed rows others j m → IsListed new_rows new_others j m) → IsListed new_rows new_others place n → AreListed rows others ms → AreListed new_rows new_others (ms ++ n ∷ [])
 listed_more rows new_rows others new_others ms n place is kept here all j m at = elim (at_end ms j at) [

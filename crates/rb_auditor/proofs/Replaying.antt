@@ -2,7 +2,7 @@
 use Rattle.std.proofs.Common.{◌≡◌, ℕ, zero, suc, Bool, IsTrue, MatchBool, ◌↔◌, cond, ◌+◌, ◌*◌, ◌<◌, ◌≤◌, true, false, List, [], ◌∷◌, ◌++◌, length, take, drop, get_or, refl, ap, sym, subst, ◌∙◌, arith, Some, length-append}
 use Rattle.std.specs.Prelude.{map, slice_get, nat_le}
 use Rattle.std.proofs.lemmas.Bool.Decides.{nat_tests}
-use Rattle.std.proofs.lemmas.List.{length-take-le, take-append-drop, take_all, take_more}
+use Rattle.std.proofs.lemmas.List.{length-take-le, take-append-drop, take_more}
 use Rattle.rb_money.specs.Settings.{IsConfigured, Settings}
 use Rattle.rb_site.specs.declared.entry.Entry.{Entry}
 use Rattle.rb_site.specs.Events.{ModelSite, after_event, after_events, first_site, is_full, outcome_of, reply_to, sent_at, sent_by}
@@ -10,7 +10,7 @@ use Rattle.rb_site.specs.Histories.{events_of}
 use Rattle.rb_site.specs.declared.event.Event.{Event}
 use Rattle.rb_site.specs.declared.message.Message.{Message}
 use Rattle.rb_site.specs.declared.reply.Reply.{Reply}
-use Rattle.rb_site.specs.Seen.{IsReplayed, Replays, SeenSite, entry, first_seen, next_site, state_of, stepped}
+use Rattle.rb_site.specs.Seen.{IsReplayed, Replays, SeenSite, entry, next_site, state_of, stepped}
 use Rattle.rb_auditor.specs.Replays.{IsNoted, seen_at, sends_by}
 use Rattle.rb_site.proofs.Runs
 use Rattle.rb_site.proofs.Seen
@@ -138,17 +138,6 @@ pub record IsReplaying (s : Settings) (me : ℕ) (h : List Entry) (k : ℕ) (sit
   pub sends : between messages ends ≡ sends_by s (first_site me) (take k h)
   pub few : length messages ≤ 16 * k
 
--- before any entry
-pub replaying_first : (s : Settings) (me : ℕ) (h : List Entry) (site : SeenSite) (messages : List Message) (ends : List ℕ) → me < s.sites → site ≡ first_seen s me → messages ≡ [] → ends ≡ 0 ∷ [] → IsReplaying s me h 0 site messages ends
-replaying_first s me h site messages ends less at none first =
-    subst (λ es. IsReplaying s me h 0 site messages es) (sym first) (subst (λ ms. IsReplaying s me h 0 site ms (0 ∷ [])) (sym none) (record {
-      site_is = at;
-      replays = record { place = less; replays = tt; room = omega arith };
-      ends_are = refl;
-      sends = refl;
-      few = omega arith;
-    }))
-
 -- an entry more
 pub replaying_more : (s : Settings) (me : ℕ) (h : List Entry) (k : ℕ) (x : Entry) (site new : SeenSite) (before after : List Message) (ends : List ℕ) → k < length h → x ≡ get_or h k x → IsReplaying s me h k site before ends → IsNoted site new x before after → IsReplaying s me h (k + 1) new after (ends ++ length after ∷ [])
 replaying_more s me h k x site new before after ends less at r n = record {
@@ -179,10 +168,6 @@ replaying_more s me h k x site new before after ends less at r n = record {
 
     now : new ≡ seen_at s me (take (k + 1) h)
     now = n.is ∙ ap (λ (z : SeenSite). record z { entries = z.entries ++ x ∷ [] }) r.site_is ∙ ap (seen_at s me) longer
-
--- at the end
-pub replayed_whole : (s : Settings) (me : ℕ) (h : List Entry) (k : ℕ) (site : SeenSite) (messages : List Message) (ends : List ℕ) → length h ≤ k → IsReplaying s me h k site messages ends → IsReplay s me h × (between messages ends ≡ sends_by s (first_site me) h)
-replayed_whole s me h k site messages ends all r = (subst (IsReplay s me) (take_all k h all) r.replays, r.sends ∙ ap (sends_by s (first_site me)) (take_all k h all))
 
 -- the numbers of entries and messages so far
 pub counts_fit : (s : Settings) (me : ℕ) (h : List Entry) (k : ℕ) (site : SeenSite) (messages : List Message) (ends : List ℕ) → IsConfigured s → k ≤ length h → IsReplaying s me h k site messages ends → (k ≤ 100000000) × (length messages ≤ 1600000000)
