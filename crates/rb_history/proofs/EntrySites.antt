@@ -1,16 +1,17 @@
 -- The site of an entry that is read is one of the configuration's.
-use Rattle.std.proofs.Common.{◌≡◌, ◌<◌, ◌==◌, ℕ, Bool, true, false, List, Option, Some, None, refl, sym, ap, ◌∙◌, subst, rules}
-use Rattle.std.specs.Prelude.{nat_lt, codes, option_and_then, option_map, if◌then◌else◌}
+use Rattle.std.proofs.Common.{◌≡◌, ◌<◌, ◌==◌, ℕ, Bool, true, false, List, Option, Some, None, Result, Ok, Err, refl, sym, ap, ◌∙◌, subst, rules}
+use Rattle.std.specs.Prelude.{nat_lt, codes, option_and_then, option_map, if◌then◌else◌, IfOk}
 use Rattle.std.proofs.lemmas.Option.{none-some, option_and_then_some}
 use Rattle.json.proofs.Found.{Some_inj}
 use Rattle.serde_json.specs.Data.{Data}
 use Rattle.serde_json.specs.Find.{as_number, as_u64, get}
-use Rattle.serde_json.specs.Read.{read}
 use Rattle.rb_money.specs.Settings.{Settings}
 use Rattle.rb_site.specs.declared.entry.Entry.{Entry}
 use Rattle.rb_site.specs.declared.event.Event.{Event}
 use Rattle.rb_site.specs.declared.reply.Reply.{Reply}
-use Rattle.rb_history.specs.Entries.{entry_at, entry_in, entry_of}
+use Rattle.rb_history.specs.Entries.{entry_in, entry_of}
+use Rattle.rb_history.specs.Lines.{Gives}
+use Rattle.rb_history.specs.declared.fault.LineFault.{LineFault}
 use Rattle.rb_history.specs.Recorded.{event_at}
 use Rattle.rb_history.specs.RepliesRead.{reply_of}
 use Rattle.rb_history.specs.Values.{field, number_below, size_of}
@@ -36,5 +37,6 @@ of_below : (t : Bool) (s : Settings) (d : Data) (x : ℕ × Entry) → (if t the
 of_below true s d x e = in_below s d x e
 of_below false s d x e = absurd (none-some x e)
 
-pub site_below : (s : Settings) (line : List ℕ) (x : ℕ × Entry) → entry_at s line ≡ Some x → x.0 < s.sites
-site_below s line x e = option_and_then_some (entry_of s) (read line) x e (λ d there is. of_below (size_of d == 3) s d x is)
+pub site_below : (s : Settings) (d : Data) (r : Result (ℕ × Entry) LineFault) → Gives r (entry_of s d) → IfOk r (λ x. x.0 < s.sites)
+site_below s d (Ok x) given = of_below (size_of d == 3) s d x given
+site_below s d (Err fault) given = tt

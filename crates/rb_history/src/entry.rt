@@ -104,7 +104,6 @@ fn entry(alloc: Global, config: &Config, value: &Value) -> Result<(u8, Entry), L
 /// An account that the configuration doesn't have is read as `Place::NOWHERE`. The reply may be one that no
 /// site gives, and `why` and the number that stopped a batch may be any byte; but a line that tells want of
 /// memory is bad, as is one of a site that the configuration doesn't have.
-#[tactic(auto, using(crate::proofs::EntrySites::site_below))]
 pub fn read_line(alloc: Global, config: &Config, line: &str) -> Result<(u8, Entry), LineFault>
     ensures read { Gives result (entry_at config.now line.now) }
     ensures site { IfOk result (λ x. x.0 < config.now.sites) }
