@@ -1,19 +1,19 @@
 -- Where an audit stands between two lines, for a source whose bytes are known.
-use Rattle.std.proofs.Common.{◌≡◌, ◌<◌, ◌≤◌, ◌+◌, ◌⊎◌, ℕ, Bool, true, false, List, [], ◌∷◌, ◌++◌, length, take, drop, Option, Some, None, Result, Ok, Err, refl, sym, ap, ◌∙◌, rules, subst, append-nil, append_assoc}
+use Rattle.std.proofs.Common.{◌≡◌, ◌<◌, ◌≤◌, ◌+◌, ◌⊎◌, ℕ, Bool, true, false, List, [], ◌∷◌, ◌++◌, length, take, drop, Option, Some, None, Ok, Err, refl, sym, ap, ◌∙◌, rules, subst, append-nil, append_assoc}
 use Rattle.std.specs.Prelude.{IfSome}
 use Rattle.std.specs.Io.KnownBytes.{IsAtEnd}
 use Rattle.rb_money.specs.Settings.{Settings}
 use Rattle.rb_site.specs.declared.entry.Entry.{Entry}
 use Rattle.rb_auditor.specs.Findings.{lists_of}
 use Rattle.rb_lines.specs.Buffers.{Reads}
-use Rattle.rb_lines.specs.Lines.{lines_of, whole_lines, is_long, line_len, line_limit}
+use Rattle.rb_lines.specs.Lines.{lines_of, is_long, line_len, line_limit}
 use Rattle.rb_lines.specs.declared.fault.ScriptFault.{ScriptFault}
 use Rattle.rb_lines.specs.declared.fault.ScriptFault.TheVariants.{NoConfig, BadConfig, BadLine, LongLine, Read, Write, OutOfMemory}
 use Rattle.rb_lines.proofs.LineLaws.{long_line}
 use Rattle.rb_lines.proofs.Walks.{Walks, standing}
 use Rattle.rb_lines.proofs.Walks as walk
 use Rattle.rb_audit.specs.declared.collected.Collected.{Collected}
-use Rattle.rb_audit.specs.Inputs.{Input, input_from, input_of}
+use Rattle.rb_audit.specs.Inputs.{input_from, input_of}
 use Rattle.rb_audit.specs.Collects.{EndsAt, Takes, rest_from, rest_of}
 use Rattle.rb_audit.specs.Run.{CollectsAs, EndsAs, IsUnfinished}
 

@@ -1,5 +1,5 @@
 -- How an audit ends, and what was written by then.
-use Rattle.std.specs.Prelude.{◌≡◌, ℕ, Bool, true, false, List, [], ◌++◌, Option, Some, Result, Ok, Err}
+use Rattle.std.specs.Prelude.{◌≡◌, ◌⊎◌, ℕ, Bool, true, false, List, [], ◌++◌, Option, Some, Result, Ok, Err}
 use Rattle.rb_auditor.specs.Certificates.{Certifies}
 use Rattle.rb_auditor.specs.Findings.{IsFirstWrong, IsStuckAt}
 use Rattle.rb_site.specs.Histories.{AreOneWorlds}
@@ -59,13 +59,13 @@ IsFaulty input text f = (input_of (lines_of input) ≡ Err f) × (text ≡ [])
 
 -- the result of an audit of this input, of which the second part is left, where the text was written
 abbrev pub EndsAs : Result Bool ScriptFault → List ℕ → Option (List ℕ) → List ℕ → Type 0
-EndsAs (Ok yes) input left text = (x : Input) × (input_of (lines_of input) ≡ Ok x) × Tells yes x text × (left ≡ Some [])
+EndsAs (Ok found) input left text = (x : Input) × (input_of (lines_of input) ≡ Ok x) × Tells found x text × (left ≡ Some [])
 EndsAs (Err NoConfig) input left text = IsFaulty input text NoConfig
 EndsAs (Err (BadConfig n)) input left text = IsFaulty input text (BadConfig n)
 EndsAs (Err (BadLine n)) input left text = IsFaulty input text (BadLine n)
 EndsAs (Err (LongLine n)) input left text = IsFaulty input text (LongLine n)
 EndsAs (Err Read) input left text = (rest : List ℕ) × (left ≡ Some rest) × IsCollected input rest × (text ≡ [])
-EndsAs (Err Write) input left text = (x : Input) × (yes : Bool) × (line : List ℕ) × (input_of (lines_of input) ≡ Ok x) × Tells yes x line × IsFront text line
+EndsAs (Err Write) input left text = (x : Input) × (found : Bool) × (line : List ℕ) × (input_of (lines_of input) ≡ Ok x) × Tells found x line × IsFront text line
 EndsAs (Err OutOfMemory) input left text = text ≡ []
 
 -- how the collecting of this input's lines ends, before anything is answered

@@ -100,10 +100,12 @@ impl Collected {
         ensures number { self.new.number ≡ self.old.number }
         ensures noted { MatchResult result (λ _. lists_of self.new.histories.items ≡ with_entry site entry (lists_of self.old.histories.items)) (λ fault. fault ≡ ScriptFault.OutOfMemory) }
     {
-        match self.histories[site as usize].push(entry) {
-            Ok(()) => Ok(()),
-            Err(_) => Err(ScriptFault::OutOfMemory),
-        }
+        let history = &mut self.histories[site as usize];
+        let Ok(()) = history.reserve(1) else {
+            return Err(ScriptFault::OutOfMemory);
+        };
+        history.push_reserved(entry);
+        Ok(())
     }
 
     /// Takes one line, which isn't too long.

@@ -4,8 +4,8 @@ use Rattle.std.specs.Prelude.{replicate}
 use Rattle.rb_auditor.specs.Findings.{lists_of}
 use Rattle.rb_audit.proofs.collected.none_recorded.Given as goal
 
-abbrev pub invariant-loop-_site : goal.invariant-loop-_site
-invariant-loop-_site l = record {
+abbrev pub invariant-loop-site : goal.invariant-loop-site
+invariant-loop-site l = record {
   made : lists_of l.histories.items ≡ replicate l._site [];
   len : vec_len l.histories ≡ l._site;
   room : l.sites ≤ vec_capacity l.histories;
