@@ -128,22 +128,16 @@ fn finds_an_order(rt: HostRuntime) -> Result<(), Fail> {
     let unknown = r#"{"event":{"balance":"zed"},"reply":{"refused":1},"site":0}
 "#;
     let last = r#"{"event":{"balance":"ann"},"reply":{"balance":500},"site":1}"#;
-    let cases: [(&[&str], &str); 6] = [
-        ([].as_slice(), "{\"order\":[]}\n"),
-        ([MADE, HEARD].as_slice(), "{\"order\":[0,0,1,1,1,1]}\n"),
-        ([HEARD, MADE].as_slice(), "{\"order\":[0,0,1,1,1,1]}\n"),
-        (
-            [MADE, "\n \t\r\n", HEARD].as_slice(),
-            "{\"order\":[0,0,1,1,1,1]}\n",
-        ),
-        (
-            [MADE, HEARD, last].as_slice(),
-            "{\"order\":[0,0,1,1,1,1,1]}\n",
-        ),
-        ([unknown].as_slice(), "{\"order\":[0]}\n"),
+    let cases: [([&str; 3], &str); 6] = [
+        (["", "", ""], "{\"order\":[]}\n"),
+        ([MADE, HEARD, ""], "{\"order\":[0,0,1,1,1,1]}\n"),
+        ([HEARD, MADE, ""], "{\"order\":[0,0,1,1,1,1]}\n"),
+        ([MADE, "\n \t\r\n", HEARD], "{\"order\":[0,0,1,1,1,1]}\n"),
+        ([MADE, HEARD, last], "{\"order\":[0,0,1,1,1,1,1]}\n"),
+        ([unknown, "", ""], "{\"order\":[0]}\n"),
     ];
     for (parts, line) in cases {
-        let (result, text) = audited(rt.alloc(), parts)?;
+        let (result, text) = audited(rt.alloc(), parts.as_slice())?;
         assert_eq!(rt; result, Ok(true));
         assert_eq!(rt; text.as_slice(), line.as_bytes());
     }
@@ -162,27 +156,27 @@ fn finds_a_fault(rt: HostRuntime) -> Result<(), Fail> {
     let of_another_amount =
         r#"{"event":{"shadow":{"account":"ann","amount":501,"deps":[[0,0,0,0,0,0,0,0],0],"home":0,"kind":"deposit","name":"B0.1"}},"reply":{"held":"B0.1"},"site":1}
 "#;
-    let cases: [(&[&str], &str); 5] = [
+    let cases: [([&str; 3], &str); 5] = [
         (
-            [full].as_slice(),
+            [full, "", ""],
             "{\"event\":1,\"fault\":\"reply\",\"site\":0}\n",
         ),
         (
-            [MADE, no_message].as_slice(),
+            [MADE, no_message, ""],
             "{\"event\":3,\"fault\":\"reply\",\"site\":0}\n",
         ),
         (
-            [from_nowhere].as_slice(),
+            [from_nowhere, "", ""],
             "{\"fault\":\"stuck\",\"next\":[1,1]}\n",
         ),
-        ([HEARD].as_slice(), "{\"fault\":\"stuck\",\"next\":[1,2]}\n"),
+        ([HEARD, "", ""], "{\"fault\":\"stuck\",\"next\":[1,2]}\n"),
         (
-            [MADE, of_another_amount].as_slice(),
+            [MADE, of_another_amount, ""],
             "{\"fault\":\"stuck\",\"next\":[3,1]}\n",
         ),
     ];
     for (parts, line) in cases {
-        let (result, text) = audited(rt.alloc(), parts)?;
+        let (result, text) = audited(rt.alloc(), parts.as_slice())?;
         assert_eq!(rt; result, Ok(false));
         assert_eq!(rt; text.as_slice(), line.as_bytes());
     }
@@ -197,16 +191,16 @@ fn stops_at_bad_lines(rt: HostRuntime) -> Result<(), Fail> {
     // A wrong reply before it isn't told.
     let wrong = r#"{"event":{"balance":"ann"},"reply":{"balance":1},"site":0}
 "#;
-    let cases: [(&[&str], u64); 6] = [
-        ([want_of_memory].as_slice(), 2),
-        ([no_site].as_slice(), 2),
-        ([CONFIGURATION].as_slice(), 2),
-        ([MADE, cut].as_slice(), 4),
-        ([wrong, "\n", cut].as_slice(), 4),
-        ([wrong, MADE, "{}"].as_slice(), 5),
+    let cases: [([&str; 3], u64); 6] = [
+        ([want_of_memory, "", ""], 2),
+        ([no_site, "", ""], 2),
+        ([CONFIGURATION, "", ""], 2),
+        ([MADE, cut, ""], 4),
+        ([wrong, "\n", cut], 4),
+        ([wrong, MADE, "{}"], 5),
     ];
     for (parts, line) in cases {
-        let (result, text) = audited(rt.alloc(), parts)?;
+        let (result, text) = audited(rt.alloc(), parts.as_slice())?;
         assert_eq!(rt; result, Err(ScriptFault::BadLine { line }));
         assert!(rt; text.is_empty(), "at line {line}");
     }
