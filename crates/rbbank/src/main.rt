@@ -7,6 +7,8 @@ ghost use Rattle.std.specs.Process.{exit_status};
 ghost use Rattle.clap.specs.Words.{kind_of};
 ghost use Rattle.rbbank.specs.Statuses.{IsEnd, IsEndOfAudit, IsEndOfScript, IsToldFault, status_of_unread, status_of_words};
 
+#[cfg(test)]
+mod forged_tests;
 mod from_reader;
 #[cfg(test)]
 mod refused_tests;
