@@ -226,6 +226,24 @@ fn stops_at_other_faults(rt: HostRuntime) -> Result<(), Fail> {
 }
 
 #[test]
+fn longest_line(rt: HostRuntime) -> Result<(), Fail> {
+    let longest = 1_048_576usize;
+    let line = CONFIGURATION.len().saturating_sub(1);
+    for (length, want) in [
+        (longest, Ok(true)),
+        (longest + 1, Err(ScriptFault::LongLine { line: 1 })),
+    ] {
+        let mut input = Vec::new(rt.alloc());
+        input.resize(length.saturating_sub(line), b' ')?;
+        input.extend_from_slice(CONFIGURATION.as_bytes())?;
+        let mut reader = Pieces::new(input.as_slice(), false);
+        let mut writer = Room::new(rt.alloc(), usize::MAX);
+        assert_eq!(rt; run_audit(rt.alloc(), &mut reader, &mut writer), want);
+    }
+    Ok(())
+}
+
+#[test]
 fn writer_fails_midway(rt: HostRuntime) -> Result<(), Fail> {
     let mut reader = Pieces::new(CONFIGURATION.as_bytes(), false);
     let mut writer = Room::new(rt.alloc(), 5);
