@@ -9,8 +9,6 @@ mod command_tests;
 mod config_line;
 mod config_write;
 mod entry;
-#[cfg(test)]
-mod entry_tests;
 mod event;
 mod fault;
 mod items;

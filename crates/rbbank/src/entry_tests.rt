@@ -1,4 +1,4 @@
-use super::*;
+use rb_history::{LineFault, read_config, read_line, write_config, write_line};
 use rb_money::{Cause, Config, Place, Refusal};
 use rb_scratch::Request;
 use rb_shadow::{Deps, Kind, Label, OpName, Shadow};
