@@ -10,12 +10,13 @@ use Rattle.serde_json.specs.Written.{compact_text}
 use Rattle.rb_money.specs.Amounts.{most_cents}
 use Rattle.rb_money.specs.Faults.{Account, account_fault, config_fault, is_among}
 use Rattle.rb_money.specs.Settings.{IsConfigured, Settings, is_account_name, most_sites}
-use Rattle.rb_history.specs.Configurations.{accounts_in, accounts_of, config_at, config_json, config_of, start_json}
+use Rattle.rb_commands.specs.Configurations.{accounts_in, config_at, config_of}
+use Rattle.rb_history.specs.ConfigLines.{accounts_of, config_json, start_json}
 use Rattle.rb_history.specs.Fits.{Each}
-use Rattle.rb_history.proofs.Back.{below}
+use Rattle.rb_commands.proofs.Back.{below}
 use Rattle.rb_history.proofs.EntryText.{list_text, number_text, pair_text, string_text}
 use Rattle.rb_history.proofs.KnownPlaces.{fails}
-use Rattle.rb_history.proofs.UsualLines.{compact_read}
+use Rattle.rb_commands.proofs.UsualLines.{compact_read}
 
 -- names and starting balances, from the accounts that they make
 names_back : (names : List (List ℕ)) (starts : List ℕ) → length starts ≡ length names → map (λ a. a.0) (accounts_of names starts) ≡ names

@@ -18,9 +18,9 @@ use Rattle.rb_site.specs.declared.message.Message.TheVariants.{Shadow as ShadowM
 use Rattle.rb_history.specs.Entries.{entry_json, entry_of, event_json, request_json, shadow_json}
 use Rattle.rb_history.specs.Fits.{Each, IsEvent, IsKind, IsReply, IsRequest, IsShadow}
 use Rattle.rb_history.specs.Recorded.{counts_in, event_at, kind_at, shadow_at}
-use Rattle.rb_history.specs.Requests.{request_alone, requests_in}
-use Rattle.rb_history.specs.Values.{number_json}
-use Rattle.rb_history.proofs.Back.{back, below}
+use Rattle.rb_commands.specs.Requests.{request_alone, requests_in}
+use Rattle.rb_commands.specs.Values.{number_json}
+use Rattle.rb_commands.proofs.Back.{back, below}
 use Rattle.rb_history.proofs.KnownPlaces.{known_place}
 use Rattle.rb_history.proofs.ReplyBack.{reply_back}
 

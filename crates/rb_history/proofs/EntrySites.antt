@@ -1,5 +1,5 @@
 -- The site of an entry that is read is one of the configuration's.
-use Rattle.std.proofs.Common.{◌≡◌, ◌<◌, ◌==◌, ℕ, Bool, true, false, List, Option, Some, None, Result, Ok, Err, refl, sym, ap, ◌∙◌, subst, rules}
+use Rattle.std.proofs.Common.{◌≡◌, ◌<◌, ◌==◌, ℕ, Bool, true, false, Option, Some, None, Result, Ok, Err, refl, ap, subst, rules}
 use Rattle.std.specs.Prelude.{nat_lt, codes, option_and_then, option_map, if◌then◌else◌, IfOk}
 use Rattle.std.proofs.lemmas.Option.{none-some, option_and_then_some}
 use Rattle.json.proofs.Found.{Some_inj}
@@ -10,11 +10,12 @@ use Rattle.rb_site.specs.declared.entry.Entry.{Entry}
 use Rattle.rb_site.specs.declared.event.Event.{Event}
 use Rattle.rb_site.specs.declared.reply.Reply.{Reply}
 use Rattle.rb_history.specs.Entries.{entry_in, entry_of}
-use Rattle.rb_history.specs.Lines.{Gives}
-use Rattle.rb_history.specs.declared.fault.LineFault.{LineFault}
+use Rattle.rb_commands.specs.Lines.{Gives}
+use Rattle.rb_commands.specs.declared.fault.LineFault.{LineFault}
 use Rattle.rb_history.specs.Recorded.{event_at}
 use Rattle.rb_history.specs.RepliesRead.{reply_of}
-use Rattle.rb_history.specs.Values.{field, number_below, size_of}
+use Rattle.rb_commands.specs.Values.{number_below, size_of}
+use Rattle.rb_history.specs.Fields.{field}
 
 cut : (t : Bool) (n m bound : ℕ) → nat_lt n bound ≡ t → (if t then Some n else None) ≡ Some m → m < bound
 cut true n m bound less e = let below : n < bound = search rules in subst (λ k. k < bound) (Some_inj n m e) below

@@ -29,10 +29,10 @@ use Rattle.rb_site.specs.declared.reply.Reply.TheVariants.{Made, Names, Held, Al
 use Rattle.rb_statements.specs.declared.row.Row.{Row}
 use Rattle.rb_history.specs.Entries.{asked_json, deps_json, entry_json, event_json, request_json, shadow_json}
 use Rattle.rb_history.specs.Fits.{Each, IsEvent, IsMoved, IsRefusal, IsReply, IsRequest, IsRow, IsShadow}
-use Rattle.rb_history.specs.Replies.{refusal_json, reply_json}
-use Rattle.rb_history.specs.Statements.{row_json}
-use Rattle.rb_history.specs.Values.{integer_json, list_json, name_json, number_json, one_json, pair_json}
-use Rattle.rb_history.proofs.UsualLines.{compact_read}
+use Rattle.rb_commands.specs.Replies.{refusal_json, reply_json}
+use Rattle.rb_commands.specs.Statements.{row_json}
+use Rattle.rb_commands.specs.Values.{integer_json, list_json, name_json, number_json, one_json, pair_json}
+use Rattle.rb_commands.proofs.UsualLines.{compact_read}
 
 -- a value that is read from its own text, and nests at most so deep
 pub record IsText (d : Data) (most : ℕ) : Type 0 where

@@ -9,7 +9,7 @@ use Rattle.std.proofs.lemmas.Slice.Eq.{bytes_eq-Decides}
 use Rattle.rb_money.specs.Settings.{IsConfigured, Settings, is_account_name}
 use Rattle.rb_money.specs.declared.place.Place.{Place}
 use Rattle.rb_history.specs.Fits.{IsKnown}
-use Rattle.rb_history.specs.Requests.{account_place, nowhere}
+use Rattle.rb_commands.specs.Requests.{account_place, nowhere}
 
 passes : (b : Bool) (P : Type 0) → Decides b P → P → b ≡ true
 passes true P d p = refl

@@ -1,14 +1,4 @@
-pub mod Utf8
 pub mod Shapes
-pub mod Back
-pub mod Fronts
-pub mod Plain
-pub mod Appended
-pub mod Numerals
-pub mod Listed
-pub mod UsualLines
-pub mod Scanned
-pub mod Batches
 pub mod Counts
 pub mod KnownPlaces
 pub mod Starts
@@ -17,3 +7,9 @@ pub mod EntryBack
 pub mod EntrySites
 pub mod EntryText
 pub mod ConfigBack
+pub mod Texts
+pub mod Told
+pub mod ListRead
+pub mod PlainRefusals
+pub mod PlacesRead
+pub mod EntryLine

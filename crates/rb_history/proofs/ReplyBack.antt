@@ -13,11 +13,12 @@ use Rattle.rb_site.specs.declared.reply.Reply.{Reply}
 use Rattle.rb_site.specs.declared.reply.Reply.TheVariants.{Made, Names, Held, Already, Taken, Stale, Applied, Passed, Balance, Statement, Refused}
 use Rattle.rb_statements.specs.declared.row.Row.{Row}
 use Rattle.rb_history.specs.Fits.{Each, IsMoved, IsRefusal, IsReply, IsRow}
-use Rattle.rb_history.specs.Replies.{refusal_json, reply_json}
+use Rattle.rb_commands.specs.Replies.{refusal_json, reply_json}
 use Rattle.rb_history.specs.RepliesRead.{moved_at, names_in, reply_of, row_at, rows_in}
-use Rattle.rb_history.specs.Statements.{row_json}
-use Rattle.rb_history.specs.Values.{integer_json, label_of_word, label_text, name_json}
-use Rattle.rb_history.proofs.Back.{back, below}
+use Rattle.rb_commands.specs.Statements.{row_json}
+use Rattle.rb_commands.specs.Values.{integer_json, label_text, name_json}
+use Rattle.rb_history.specs.Fields.{label_of_word}
+use Rattle.rb_commands.proofs.Back.{back, below}
 
 label_back : (k : Label) → label_of_word (label_text k) ≡ Some k
 label_back Deposit = refl

@@ -1,6 +1,6 @@
 -- Accounts, from their names and their starting balances.
 use Rattle.std.proofs.Common.{◌≡◌, ◌<◌, ◌≤◌, ℕ, zero, suc, List, [], ◌∷◌, length, drop, get_or, refl, arith}
-use Rattle.rb_history.specs.Configurations.{accounts_of}
+use Rattle.rb_history.specs.ConfigLines.{accounts_of}
 
 pub drop_accounts : (names : List (List ℕ)) (starts : List ℕ) (i : ℕ) → i < length names → i < length starts → drop i (accounts_of names starts) ≡ (get_or names i [], get_or starts i 0) ∷ drop (suc i) (accounts_of names starts)
 drop_accounts [] starts i h k = absurd (omega arith)

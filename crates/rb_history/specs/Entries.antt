@@ -1,5 +1,6 @@
 -- Lines of histories: a JSON object of an event, its reply and the site's number.
 use Rattle.std.specs.Prelude.{ℕ, ◌==◌, List, Option, None, codes, unwrap_or, if◌then◌else◌, option_and_then, option_map, slice_get}
+use Rattle.std.specs.Str.{is_utf8}
 use Rattle.serde_json.specs.Data.{Data, string, array, object, Members, no_items, item, member, no_members}
 use Rattle.serde_json.specs.Read.{read}
 use Rattle.rb_money.specs.Settings.{Settings}
@@ -18,8 +19,9 @@ use Rattle.rb_site.specs.declared.message.Message.TheVariants.{Shadow as ShadowM
 use Rattle.rb_token.specs.declared.message.TokenMessage.{TokenMessage}
 use Rattle.rb_history.specs.Recorded.{event_at}
 use Rattle.rb_history.specs.RepliesRead.{reply_of}
-use Rattle.rb_history.specs.Replies.{reply_json}
-use Rattle.rb_history.specs.Values.{field, label_text, list_json, name_json, number_below, number_json, one_json, pair_json, size_of}
+use Rattle.rb_commands.specs.Replies.{reply_json}
+use Rattle.rb_commands.specs.Values.{label_text, list_json, name_json, number_below, number_json, one_json, pair_json, size_of}
+use Rattle.rb_history.specs.Fields.{field}
 
 -- ---- what is written
 
@@ -98,3 +100,7 @@ entry_of s d = if size_of d == 3 then entry_in s d else None
 -- the entry that a line is
 abbrev pub entry_at : Settings → List ℕ → Option (ℕ × Entry)
 entry_at s line = option_and_then (entry_of s) (read line)
+
+-- the entry on a line with its site, at these settings
+unfoldable pub entry_on : Settings → List ℕ → Option (ℕ × Entry)
+entry_on s l = if is_utf8 l then entry_at s l else None

@@ -21,7 +21,7 @@ use Rattle.rb_site.specs.declared.reply.Reply.{Reply}
 use Rattle.rb_site.specs.declared.reply.Reply.TheVariants.{Made, Names, Held, Already, Taken, Stale, Applied, Passed, Balance as BalanceIs, Statement as StatementIs, Refused}
 use Rattle.rb_statements.specs.declared.row.Row.{Row}
 use Rattle.rb_history.specs.Entries.{entry_at, entry_json}
-use Rattle.rb_history.specs.Requests.{nowhere}
+use Rattle.rb_commands.specs.Requests.{nowhere}
 
 -- the place of one of the configuration's accounts, or the one that no configuration has
 abbrev pub IsKnown : Settings → Place → Type 0

@@ -11,7 +11,8 @@ use Rattle.rb_shadow.specs.declared.op_name.OpName.{OpName}
 use Rattle.rb_site.specs.declared.reply.Reply.{Reply}
 use Rattle.rb_site.specs.declared.reply.Reply.TheVariants.{Made, Names, Held, Already, Taken, Stale, Applied, Passed, Balance, Statement, Refused}
 use Rattle.rb_statements.specs.declared.row.Row.{Row}
-use Rattle.rb_history.specs.Values.{either, field, label_at, name_at, number_below, six_of, size_of}
+use Rattle.rb_commands.specs.Values.{either, name_at, number_below, size_of}
+use Rattle.rb_history.specs.Fields.{field, label_at, six_of}
 
 -- ---- refusals
 

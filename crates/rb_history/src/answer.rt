@@ -2,15 +2,16 @@
 ghost use Rattle.std.specs.Prelude.{◌≡◌, ◌^◌, option_and_then, option_map};
 ghost use Rattle.serde_json.specs.View.{view};
 ghost use Rattle.rb_site.specs.declared.reply.Reply.TheVariants.{Names, Refused};
-ghost use Rattle.rb_history.specs.Lines.{Gives};
+ghost use Rattle.rb_commands.specs.Lines.{Gives};
 ghost use Rattle.rb_history.specs.RepliesRead.{answer_of, made_of, names_at, refusal_of, reply_of, short_of, simple_of, statement_of};
-ghost use Rattle.rb_history.specs.Values.{field, number_below};
+ghost use Rattle.rb_commands.specs.Values.{number_below};
+ghost use Rattle.rb_history.specs.Fields.{field};
 
-use crate::fault::LineFault;
 use crate::label::label;
 use crate::refusal::refusal;
 use crate::shown::{names, rows};
-use crate::values::{byte, long, name, size, word};
+use rb_commands::LineFault;
+use rb_commands::values::{byte, long, name, size, word};
 use rb_shadow::OpName;
 use rb_site::{OpNames, Reply};
 use rb_statements::{Rows, Statement};

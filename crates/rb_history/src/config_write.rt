@@ -2,11 +2,11 @@
 ghost use Rattle.std.specs.Prelude.{◌≡◌, ◌<◌, ◌++◌, codes, decimal, false, get_or, length, map, string_bytes, IfOk, []};
 ghost use Rattle.serde_json.specs.View.{items_of};
 ghost use Rattle.serde_json.specs.Written.{compact_text, items_text};
-ghost use Rattle.rb_history.specs.Adds.{Adds};
-ghost use Rattle.rb_history.specs.Configurations.{accounts_of, config_json, start_json};
+ghost use Rattle.rb_commands.specs.Adds.{Adds};
+ghost use Rattle.rb_history.specs.ConfigLines.{accounts_of, config_json, start_json};
 
-use crate::append::{append, append_number};
 use crate::event::append_account;
+use rb_commands::append::{append, append_number};
 use rb_money::{Cents, Config, Limits, Place};
 use std::alloc::{AllocError, Global};
 
@@ -65,10 +65,12 @@ fn append_config(out: &mut Vec<u8>, config: &Config) -> Result<(), AllocError>
 pub fn write_config(alloc: Global, config: &Config) -> Result<String, AllocError>
     ensures { IfOk result (λ s. string_bytes s ≡ compact_text (config_json config.now)) }
 {
+    // Its names are those of a configuration.
+    let _sites = config.sites();
     let mut bytes = Vec::new(alloc);
     append_config(&mut bytes, config)?;
     match String::from_utf8(bytes) {
         Ok(text) => Ok(text),
-        Err(_) => Err(AllocError),
+        Err(_) => unreachable!(),
     }
 }

@@ -2,21 +2,21 @@
 ghost use Rattle.std.specs.Prelude.{◌≡◌, ◌<◌, ◌++◌, codes, string_bytes, IfOk, OnErr, OnOk};
 ghost use Rattle.serde_json.specs.View.{view};
 ghost use Rattle.serde_json.specs.Written.{compact_text};
-ghost use Rattle.rb_history.specs.Adds.{Adds};
+ghost use Rattle.rb_commands.specs.Adds.{Adds};
 ghost use Rattle.rb_history.specs.Entries.{entry_at, entry_json, entry_of};
-ghost use Rattle.rb_history.specs.Lines.{Gives};
+ghost use Rattle.rb_commands.specs.Lines.{Gives};
 ghost use Rattle.rb_history.specs.Recorded.{event_at, recorded_of};
 ghost use Rattle.rb_history.specs.RepliesRead.{reply_of};
-ghost use Rattle.rb_history.specs.Values.{field, number_below};
+ghost use Rattle.rb_commands.specs.Values.{number_below};
+ghost use Rattle.rb_history.specs.Fields.{field};
 
 use crate::answer::reply;
-use crate::append::{append, append_number};
-use crate::command::event as told;
 use crate::event::append_event;
-use crate::fault::LineFault;
-use crate::line::append_value;
 use crate::receipt::{shadow, token};
-use crate::values::{parse, size};
+use crate::usual_line::usual_entry;
+use rb_commands::append::{append, append_number};
+use rb_commands::values::{parse, size};
+use rb_commands::{LineFault, append_value, event as told};
 use rb_money::Config;
 use rb_site::{Entry, Event, Message, Reply};
 use serde_json::Value;
@@ -108,6 +108,9 @@ pub fn read_line(alloc: Global, config: &Config, line: &str) -> Result<(u8, Entr
     ensures read { Gives result (entry_at config.now line.now) }
     ensures site { IfOk result (λ x. x.0 < config.now.sites) }
 {
+    if let Some(read) = usual_entry(alloc, config, line) {
+        return Ok(read);
+    }
     match parse(alloc, line) {
         Ok(value) => entry(alloc, config, &value),
         Err(fault) => Err(fault),
@@ -163,10 +166,12 @@ pub fn write_line(
 ) -> Result<String, AllocError>
     ensures { IfOk result (λ s. string_bytes s ≡ compact_text (entry_json config.now site entry.now)) }
 {
+    // Its names are those of a configuration.
+    let _sites = config.sites();
     let mut bytes = Vec::new(alloc);
     append_line(&mut bytes, config, site, entry)?;
     match String::from_utf8(bytes) {
         Ok(text) => Ok(text),
-        Err(_) => Err(AllocError),
+        Err(_) => unreachable!(),
     }
 }

@@ -2,12 +2,12 @@
 ghost use Rattle.std.specs.Prelude.{◌≡◌, ◌++◌, codes, decimal, slice_get, unwrap_or};
 ghost use Rattle.json.specs.Print.{escape};
 ghost use Rattle.serde_json.specs.Written.{compact_text};
-ghost use Rattle.rb_history.specs.Adds.{Adds};
+ghost use Rattle.rb_commands.specs.Adds.{Adds};
 ghost use Rattle.rb_history.specs.Entries.{account_json, asked_json, event_json, request_json, token_json};
-ghost use Rattle.rb_history.specs.Values.{list_json, one_json};
+ghost use Rattle.rb_commands.specs.Values.{list_json, one_json};
 
-use crate::append::{append, append_named, append_number, append_three};
 use crate::shadow::append_shadow;
+use rb_commands::append::{append, append_named, append_number, append_three};
 use rb_money::{Config, Place};
 use rb_scratch::Request;
 use rb_site::{Event, Message};

@@ -1,7 +1,7 @@
 //! Lists of three and of six.
 ghost use Rattle.std.specs.Prelude.{◌≡◌, option_map};
 ghost use Rattle.serde_json.specs.View.{view};
-ghost use Rattle.rb_history.specs.Values.{six_of, three_of};
+ghost use Rattle.rb_history.specs.Fields.{six_of, three_of};
 
 use serde_json::Value;
 

@@ -1,7 +1,7 @@
 //! Kinds, read from their words.
 ghost use Rattle.std.specs.Prelude.{◌≡◌};
 ghost use Rattle.serde_json.specs.View.{view};
-ghost use Rattle.rb_history.specs.Values.{label_at, label_of_word};
+ghost use Rattle.rb_history.specs.Fields.{label_at, label_of_word};
 
 use rb_shadow::Label;
 use serde_json::Value;

@@ -5,8 +5,8 @@ ghost use Rattle.rb_history.specs.Recorded.{blue_at, deps_at, kind_at, kind_of, 
 
 use crate::items::three;
 use crate::label::label;
-use crate::request::account;
-use crate::values::{byte, long, name, pair, size, word};
+use rb_commands::account;
+use rb_commands::values::{byte, long, name, pair, size, word};
 use rb_money::{Config, MOST_SITES};
 use rb_shadow::{Deps, Kind, Label, Shadow};
 use rb_token::TokenMessage;

@@ -3,7 +3,7 @@ ghost use Rattle.std.specs.Prelude.{◌≡◌, option_and_then};
 ghost use Rattle.serde_json.specs.View.{view};
 ghost use Rattle.rb_history.specs.RepliesRead.{batch_of, behind_of, cancelled_of, cause_at, find_refusal, is_declined, message_of, plain_of, plain_refusals, refusal_of};
 
-use crate::values::{byte, size, word};
+use rb_commands::values::{byte, size, word};
 use rb_money::{Cause, Refusal};
 use serde_json::Value;
 
@@ -108,13 +108,20 @@ fn find_refusal(number: u8, refusals: &[Refusal]) -> Option<Refusal>
     None
 }
 
+/// The refusal that its number alone tells.
+pub fn plain_refusal(number: u8) -> Option<Refusal>
+    ensures { result ≡ find_refusal number plain_refusals }
+{
+    find_refusal(number, &PLAIN)
+}
+
 fn plain(value: &Value, number: u8) -> Option<Refusal>
     ensures { result ≡ plain_of (view value.now) number }
 {
     if size(value) != 1 {
         return None;
     }
-    find_refusal(number, &PLAIN)
+    plain_refusal(number)
 }
 
 /// The refusal of this number that an object tells.

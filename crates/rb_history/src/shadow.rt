@@ -2,12 +2,12 @@
 ghost use Rattle.std.specs.Prelude.{◌≡◌, ◌++◌, codes, decimal, true};
 ghost use Rattle.serde_json.specs.Written.{compact_text, members_text};
 ghost use Rattle.rb_shadow.specs.Labels.{label_of};
-ghost use Rattle.rb_history.specs.Adds.{Adds};
+ghost use Rattle.rb_commands.specs.Adds.{Adds};
 ghost use Rattle.rb_history.specs.Entries.{account_json, deps_json, shadow_json, target_json};
-ghost use Rattle.rb_history.specs.Values.{label_text, list_json, name_json, number_json, one_json};
+ghost use Rattle.rb_commands.specs.Values.{label_text, list_json, name_json, number_json, one_json};
 
-use crate::append::{append, append_named, append_number};
 use crate::event::append_account;
+use rb_commands::append::{append, append_named, append_number};
 use rb_money::Config;
 use rb_shadow::{Deps, Kind, Shadow};
 use std::alloc::AllocError;

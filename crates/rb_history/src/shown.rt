@@ -1,13 +1,13 @@
 //! Statements and lists of names, read from a history's line.
 ghost use Rattle.std.specs.Prelude.{◌≡◌};
 ghost use Rattle.serde_json.specs.View.{view};
-ghost use Rattle.rb_history.specs.Lines.{GivesAs};
+ghost use Rattle.rb_commands.specs.Lines.{GivesAs};
 ghost use Rattle.rb_history.specs.RepliesRead.{names_at, row_at, rows_at};
 
-use crate::fault::LineFault;
 use crate::items::six;
 use crate::label::label;
-use crate::values::{long, name, word};
+use rb_commands::LineFault;
+use rb_commands::values::{long, name, word};
 use rb_shadow::OpName;
 use rb_statements::Row;
 use serde_json::Value;

@@ -1,11 +1,11 @@
 //! The verdict: the line that an audit answers.
 ghost use Rattle.std.specs.Prelude.{◌≡◌, ◌++◌, IfOk};
 ghost use Rattle.serde_json.specs.Written.{compact_text};
-ghost use Rattle.rb_history.specs.Adds.{Adds};
+ghost use Rattle.rb_commands.specs.Adds.{Adds};
 ghost use Rattle.rb_history.specs.Verdicts.{verdict_line, order_json, stuck_json, wrong_reply_json};
-ghost use Rattle.rb_history.specs.Values.{number_json};
+ghost use Rattle.rb_commands.specs.Values.{number_json};
 
-use crate::append::{append, append_number};
+use rb_commands::append::{append, append_number};
 use std::alloc::{AllocError, Global};
 
 /// A number, behind a text.

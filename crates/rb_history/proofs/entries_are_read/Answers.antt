@@ -1,11 +1,5 @@
-use Rattle.std.proofs.Common.{ap, ◌∙◌, arith}
-use Rattle.std.specs.Prelude.{option_and_then}
-use Rattle.rb_history.specs.Entries.{entry_of}
-use Rattle.rb_history.proofs.EntryBack.{entry_back}
-use Rattle.rb_history.proofs.EntryText.{entry_text}
+use Rattle.rb_history.proofs.EntryLine.{entry_line}
 use Rattle.rb_history.proofs.entries_are_read.Goals as goal
 
 pub returns : goal.returns
-returns c = λ s configured site x within event reply.
-    let few = configured.few_sites in
-    ap (option_and_then (entry_of s)) (entry_text s site x (omega arith) event reply) ∙ entry_back s configured site x within event reply
+returns c = entry_line

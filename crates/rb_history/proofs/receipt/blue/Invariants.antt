@@ -1,7 +1,7 @@
 use Rattle.std.proofs.Common.{◌≡◌, length, take, drop}
 use Rattle.serde_json.specs.View.{items_view}
 use Rattle.rb_history.specs.Recorded.{counts_in}
-use Rattle.rb_history.proofs.Fronts.{with_front}
+use Rattle.rb_commands.proofs.Fronts.{with_front}
 use Rattle.rb_history.proofs.receipt.blue.Given as goal
 
 abbrev pub invariant-loop-site : goal.invariant-loop-site

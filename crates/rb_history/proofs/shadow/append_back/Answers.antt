@@ -3,8 +3,8 @@ use Rattle.serde_json.specs.Written.{compact_text, members_text}
 use Rattle.std.proofs.Common.{true}
 use Rattle.rb_shadow.specs.Labels.{label_of}
 use Rattle.rb_history.specs.Entries.{target_json}
-use Rattle.rb_history.specs.Values.{label_text, name_json}
-use Rattle.rb_history.proofs.Appended.{both, failed, then}
+use Rattle.rb_commands.specs.Values.{label_text, name_json}
+use Rattle.rb_commands.proofs.Appended.{both, failed, then}
 use Rattle.rb_history.proofs.shadow.append_back.Goals as goal
 
 back_text : (home kind name target : List ℕ) → ((codes ",\"home\":" ++ (home ++ (codes ",\"kind\":\"" ++ (kind ++ codes "\",\"name\":")))) ++ (name ++ [])) ++ target ≡ codes ",\"home\":" ++ (home ++ (codes ",\"kind\":\"" ++ (kind ++ (codes "\",\"name\":" ++ (name ++ target)))))
