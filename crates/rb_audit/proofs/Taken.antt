@@ -4,7 +4,7 @@ use Rattle.std.specs.Prelude.{MatchResult}
 use Rattle.rb_money.specs.Settings.{Settings}
 use Rattle.rb_site.specs.declared.entry.Entry.{Entry}
 use Rattle.rb_auditor.specs.Findings.{lists_of}
-use Rattle.rb_history.specs.OnLines.{entry_on}
+use Rattle.rb_history.specs.Entries.{entry_on}
 use Rattle.rb_lines.specs.Lines.{is_blank, is_long}
 use Rattle.rb_lines.specs.declared.fault.ScriptFault.{ScriptFault}
 use Rattle.rb_lines.specs.declared.fault.ScriptFault.TheVariants.{OutOfMemory}

@@ -2,13 +2,15 @@
 ghost use Rattle.std.specs.Prelude.{◌≡◌, ◌^◌, ◌<◌, ◌≤◌, ◌⊎◌, [], None, Some, length, replicate, IfOk, MatchResult};
 ghost use Rattle.rb_money.specs.Settings.{Settings};
 ghost use Rattle.rb_auditor.specs.Findings.{lists_of};
-ghost use Rattle.rb_history.specs.OnLines.{config_on, entry_on};
-ghost use Rattle.rb_history.specs.declared.fault.LineFault.TheVariants.{Bad};
+ghost use Rattle.rb_commands.specs.Configurations.{config_on};
+ghost use Rattle.rb_history.specs.Entries.{entry_on};
+ghost use Rattle.rb_commands.specs.declared.fault.LineFault.TheVariants.{Bad};
 ghost use Rattle.rb_lines.specs.Lines.{line_limit};
 ghost use Rattle.rb_audit.specs.Collects.{EndsAt, HasEachSite, Takes};
 ghost use Rattle.rb_audit.specs.Inputs.{with_entry};
 
-use rb_history::{LineFault, read_config, read_line};
+use rb_commands::{LineFault, read_config};
+use rb_history::read_line;
 use rb_lines::{ScriptFault, is_blank, text_on};
 use rb_money::Config;
 use rb_site::{Entry, History};
@@ -23,7 +25,7 @@ pub struct Collected {
 }
 
 /// The configuration on a line.
-#[tactic(auto, unfolding(rb_history::specs::OnLines::config_on))]
+#[tactic(auto, unfolding(rb_commands::specs::Configurations::config_on))]
 fn config_of(alloc: Global, line: &[u8]) -> Result<Config, LineFault>
     ensures { MatchResult result
         (λ config. config_on line.now ≡ Some config)
@@ -36,7 +38,7 @@ fn config_of(alloc: Global, line: &[u8]) -> Result<Config, LineFault>
 }
 
 /// The entry on a line, and its site.
-#[tactic(auto, unfolding(rb_history::specs::OnLines::entry_on))]
+#[tactic(auto, unfolding(rb_history::specs::Entries::entry_on))]
 fn entry_of(alloc: Global, config: &Config, line: &[u8]) -> Result<(u8, Entry), LineFault>
     ensures { MatchResult result
         (λ x. (entry_on config.now line.now ≡ Some x) × (x.0 < config.now.sites))

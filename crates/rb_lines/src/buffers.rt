@@ -88,6 +88,7 @@ impl Buffers {
     }
 
     /// Makes the next line stand at the front, and says how long it is: `None` at the end. What is owed goes out before a read, and where it is much.
+    #[inline(always)]
     pub fn next_line<S: Source, W: Sink>(
         &mut self,
         reader: &mut S,

@@ -101,6 +101,7 @@ impl Pending {
     }
 
     /// The length of the line at the front: the bytes before the first line feed, or all of them.
+    #[inline(always)]
     pub fn first_line(&mut self) -> usize
         ensures length { result ≡ line_len self.old }
         ensures within { result ≤ length self.old }

@@ -4,7 +4,7 @@ use Rattle.rb_money.specs.Settings.{Settings}
 use Rattle.rb_world.specs.Laws.{opened}
 use Rattle.rb_script.specs.declared.session.Session.{Session}
 use Rattle.rb_lines.specs.Lines.{is_blank, is_long}
-use Rattle.rb_history.specs.OnLines.{config_on}
+use Rattle.rb_commands.specs.Configurations.{config_on}
 use Rattle.rb_script.specs.Script.{ScriptOutcome, commands_from, outcome}
 use Rattle.rb_script.specs.Session.{Answers, after_text}
 

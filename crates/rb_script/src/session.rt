@@ -2,13 +2,13 @@
 ghost use Rattle.std.specs.Prelude.{◌≡◌, ◌+◌, ◌++◌, ◌^◌, ◌<◌, ◌≤◌, ℕ, List, None, Some, length, MatchResult, OnOk, OnErr};
 ghost use Rattle.rb_money.specs.Settings.{Settings};
 ghost use Rattle.rb_world.specs.Laws.{opened};
-ghost use Rattle.rb_history.specs.declared.fault.LineFault.TheVariants.{Bad};
-ghost use Rattle.rb_history.specs.OnLines.{config_on};
+ghost use Rattle.rb_commands.specs.declared.fault.LineFault.TheVariants.{Bad};
+ghost use Rattle.rb_commands.specs.Configurations.{config_on};
 ghost use Rattle.rb_lines.specs.Lines.{line_limit};
 ghost use Rattle.rb_script.specs.Script.{command_on};
 ghost use Rattle.rb_script.specs.Session.{Answers, AnswersCommand, EndsAt, first_session};
 
-use rb_history::{LineFault, append_reply, read_command, read_config};
+use rb_commands::{LineFault, append_reply, read_command, read_config};
 use rb_lines::{ScriptFault, is_blank, text_on};
 use rb_world::LeanWorld;
 use std::alloc::Global;
@@ -21,7 +21,7 @@ pub struct Session {
 }
 
 /// The world before any event of the configuration on a line.
-#[tactic(auto, unfolding(rb_history::specs::OnLines::config_on))]
+#[tactic(auto, unfolding(rb_commands::specs::Configurations::config_on))]
 fn open_world(alloc: Global, line: &[u8]) -> Result<LeanWorld, LineFault>
     ensures { MatchResult result
         (λ world. (s : Settings) × (config_on line.now ≡ Some s) × (world ≡ opened s))
