@@ -7,7 +7,7 @@ use Rattle.clap.specs.declared.error.kind.ErrorKind.TheVariants.{DisplayHelp, Ou
 use Rattle.rb_lines.specs.declared.fault.ScriptFault.{ScriptFault}
 use Rattle.rb_lines.specs.Messages.{status_of}
 
--- where the words ask for no script: help that was asked for is no fault
+-- where the words ask for nothing: help that was asked for is no fault
 abbrev pub status_of_words : ErrorKind → ℕ
 status_of_words OutOfMemory = 4
 status_of_words DisplayHelp = 0

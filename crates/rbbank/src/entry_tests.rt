@@ -1,4 +1,5 @@
-use rb_history::{LineFault, read_config, read_line, write_config, write_line};
+use rb_commands::{LineFault, read_config};
+use rb_history::{append_line, read_line, write_config, write_line};
 use rb_money::{Cause, Config, Place, Refusal};
 use rb_scratch::Request;
 use rb_shadow::{Deps, Kind, Label, OpName, Shadow};
@@ -18,11 +19,21 @@ const BLUE: OpName = OpName::Blue { site: 0, n: 1 };
 
 const RED: OpName = OpName::Red { n: 1 };
 
-/// Whether the line is read as the entry, and written for it.
+/// Whether the line is read as this entry of site 1.
+fn is_read(alloc: Global, config: &Config, line: &str, entry: &Entry) -> Result<bool, Fail> {
+    let (site, back) = read_line(alloc, config, line)?;
+    Ok(site == 1 && back.same(entry))
+}
+
+/// Whether the line is written for the entry and read as it, in one pass, and behind a space by `serde_json`.
 fn is_of_entry(alloc: Global, config: &Config, line: &str, entry: &Entry) -> Result<bool, Fail> {
     let text = write_line(alloc, config, 1, entry)?;
-    let (site, back) = read_line(alloc, config, line)?;
-    Ok(text.as_str() == line && site == 1 && back.same(entry))
+    let spaced = format!(in alloc; " {line}")?;
+    Ok(
+        text.as_str() == line
+            && is_read(alloc, config, line, entry)?
+            && is_read(alloc, config, spaced.as_str(), entry)?,
+    )
 }
 
 /// Whether the line of an event with a reply of no cents is read as the entry, and written for it.
@@ -246,6 +257,8 @@ fn other_spellings(rt: HostRuntime) -> Result<(), Fail> {
     };
     for line in [
         "{\"event\":{\"balance\":\"?\"},\"reply\":{\"refused\":1},\"site\":0}",
+        "{\"event\":{\"balance\":\"eve\"},\"reply\":{\"refused\":1},\"site\":0}",
+        "{\"event\":{\"balance\":\"\\u003f\"},\"reply\":{\"refused\":1},\"site\":0}",
         " {\"site\" : 0, \"reply\": {\"refused\": 1}, \"event\": {\"balance\": \"eve\"} } ",
     ] {
         let (site, back) = read_line(rt.alloc(), &config, line)?;

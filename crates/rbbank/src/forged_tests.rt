@@ -1,7 +1,8 @@
 ghost use Rattle.std.specs.Prelude.{◌≡◌, ◌<◌, IfOk};
 
 use crate::tests::same_answers;
-use rb_history::{LineFault, read_line};
+use rb_commands::LineFault;
+use rb_history::read_line;
 use rb_inbox::Inbox;
 use rb_money::{Config, Limits, Refusal};
 use rb_site::{Event, Reply, Site};
@@ -89,7 +90,7 @@ fn is_answered(before: &Site, after: &Site, wanted: &Reply) -> bool {
         return last.reply.same(wanted);
     }
     let kept = if lets_go(&last.event, wanted) {
-        after.inbox().len() + 1 == before.inbox().len()
+        before.inbox().len().checked_sub(1) == Some(after.inbox().len())
     } else {
         same_held(before.inbox(), after.inbox())
     };

@@ -8,10 +8,14 @@ ghost use Rattle.clap.specs.Words.{kind_of};
 ghost use Rattle.rbbank.specs.Statuses.{IsEnd, IsEndOfAudit, IsEndOfScript, IsToldFault, status_of_unread, status_of_words};
 
 #[cfg(test)]
+mod command_tests;
+#[cfg(test)]
 mod entry_tests;
 #[cfg(test)]
 mod forged_tests;
 mod from_reader;
+#[cfg(test)]
+mod line_tests;
 #[cfg(test)]
 mod refused_tests;
 #[cfg(test)]
