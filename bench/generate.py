@@ -1,5 +1,5 @@
 #!/usr/bin/env python3
-"""Writes a script for `rbbank script`: a configuration line and so many commands, the same for the same seed.
+"""Writes a script for `rbbank script`, or histories for `rbbank audit`: a configuration line and so many lines, the same for the same seed.
 
 README.md tells what each kind is.
 """
@@ -8,22 +8,24 @@ import json
 import sys
 
 sys.dont_write_bytecode = True
+import histories
 import kinds
 import mix
 
-KINDS = {"mix": mix.mix} | kinds.LONG | kinds.SHORTEST
+MIXED = {"mix": mix.mix, "histories": histories.histories}
+KINDS = MIXED | kinds.LONG | kinds.SHORTEST
 
 
 def lines(kind, commands, seed=1, **of_mix):
-    """The lines of a script. The options of the mix may be given for the mix alone."""
-    sites = of_mix.setdefault("sites", 3) if kind == "mix" else 2
+    """The lines of an input. The options of the mix may be given for what is mixed alone."""
+    sites = of_mix.setdefault("sites", 3) if kind in MIXED else 2
     script = KINDS[kind](seed, commands, **of_mix)
     yield json.dumps({"accounts": next(script), "sites": sites, "version": 1}, separators=(",", ":"))
     yield from script
 
 
 def write(out, *given, **more):
-    """Writes a script to a text file that is open."""
+    """Writes an input to a text file that is open."""
     out.writelines(line + "\n" for line in lines(*given, **more))
 
 
@@ -39,7 +41,7 @@ def main():
     of_mix.add_argument("--backlog", type=int, default=16, help="how many messages may wait for a site before they come first")
     given = words.parse_args()
     more = {}
-    if given.kind == "mix":
+    if given.kind in MIXED:
         more = {name: getattr(given, name) for name in ("sites", "accounts", "weights", "backlog")}
     try:
         write(sys.stdout, given.kind, given.commands, given.seed, **more)

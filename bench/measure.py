@@ -1,4 +1,4 @@
-"""Runs a program on a script in a file: its processor time, its peak memory, its replies, its instructions."""
+"""Runs a command of a program on an input in a file: its processor time, its peak memory, its replies, its instructions."""
 import ctypes
 import os
 import re
@@ -17,42 +17,42 @@ def adopt():
         raise OSError(ctypes.get_errno(), "can't wait for programs that a shell started")
 
 
-def usage(program, path):
+def usage(program, word, path):
     """What a run used: seconds of processor time, user and system, and the peak of its memory in bytes. None over the limit.
 
     The system counts the memory of the process that starts a program to the program's peak. So a small shell starts it,
     and is gone when the program begins.
     """
-    line = f'ulimit -t {LIMIT}; exec 3<&0; {{ read go <&3; exec "$0" script < "$1" > /dev/null 3<&-; }} & echo $!'
-    with subprocess.Popen(["sh", "-c", line, program, path], stdin=subprocess.PIPE, stdout=subprocess.PIPE) as shell:
+    line = f'ulimit -t {LIMIT}; exec 3<&0; {{ read go <&3; exec "$0" "$1" < "$2" > /dev/null 3<&-; }} & echo $!'
+    with subprocess.Popen(["sh", "-c", line, program, word, path], stdin=subprocess.PIPE, stdout=subprocess.PIPE) as shell:
         number = int(shell.stdout.readline())
         shell.wait()
     _, status, used = os.wait4(number, 0)
     if os.WIFSIGNALED(status) and used.ru_utime + used.ru_stime >= LIMIT - 1:
         return None
     if status != 0:
-        raise SystemExit(f"{program} script: status {os.waitstatus_to_exitcode(status)}")
+        raise SystemExit(f"{program} {word}: status {os.waitstatus_to_exitcode(status)}")
     return used.ru_utime + used.ru_stime, used.ru_maxrss * 1024
 
 
-def refused(program, path):
-    """How many replies are refusals."""
-    with open(path, "rb") as script, subprocess.Popen([program, "script"], stdin=script, stdout=subprocess.PIPE) as run:
-        return sum(b'"refused"' in line for line in run.stdout)
+def refused(program, word, path):
+    """How many lines of the answer are refusals, or an audit's fault."""
+    with open(path, "rb") as script, subprocess.Popen([program, word], stdin=script, stdout=subprocess.PIPE) as run:
+        return sum(b'"refused"' in line or b'"fault"' in line for line in run.stdout)
 
 
-def instructions(program, path):
+def instructions(program, word, path):
     """How many instructions a run takes, by callgrind, or None where it can't tell."""
-    words = ["valgrind", "--tool=callgrind", "--callgrind-out-file=/dev/null", program, "script"]
+    words = ["valgrind", "--tool=callgrind", "--callgrind-out-file=/dev/null", program, word]
     with open(path, "rb") as script:
         done = subprocess.run(words, stdin=script, capture_output=True, env=os.environ | {"GLIBC_TUNABLES": NO_REP})
     told = re.search(rb"Collected : (\d+)", done.stderr)
     return int(told.group(1)) if told and done.returncode == 0 else None
 
 
-def writes(program, path):
+def writes(program, word, path):
     """How many write calls a run makes, by strace, or None where it can't tell."""
-    words = ["strace", "-f", "-c", "-e", "trace=write,writev", program, "script"]
+    words = ["strace", "-f", "-c", "-e", "trace=write,writev", program, word]
     with open(path, "rb") as script:
         done = subprocess.run(words, stdin=script, stdout=subprocess.DEVNULL, stderr=subprocess.PIPE)
     rows = [line.split() for line in done.stderr.decode().splitlines()]

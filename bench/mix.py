@@ -231,10 +231,16 @@ def weights_of(text):
     return {verb: int(weight) for verb, weight in pairs}
 
 
-def mix(seed, commands, sites=3, accounts=10, weights=DEFAULT_MIX, backlog=16):
-    """The accounts with their starts, and then the commands."""
+def opened(seed, sites=3, accounts=10, weights=DEFAULT_MIX, backlog=16):
+    """A run before its first command, and the accounts with their starts."""
     uniform = random.Random(seed).random
     run = Mix(lambda below: int(uniform() * below), sites, accounts, weights_of(weights), backlog)
-    yield list(zip(run.names, run.starts))
+    return run, list(zip(run.names, run.starts))
+
+
+def mix(seed, commands, **of_mix):
+    """The accounts with their starts, and then the commands."""
+    run, accounts = opened(seed, **of_mix)
+    yield accounts
     for done in range(commands):
         yield run.command(commands - done)

@@ -1,12 +1,13 @@
 #!/usr/bin/env python3
-"""Compares the two ways in which `rbbank script` reads a command: in one pass, and by JSON values.
+"""Compares the two ways in which `rbbank` reads a command and an entry of a history: in one pass, and by JSON values.
 
 Odd lines go through the program as they are, and again with a space in front of each, which changes no line's meaning
 and which the reading in one pass doesn't know. What is written, the message and the status have to be the same.
-A script ends at its first bad line, so the lines behind it go into the next script.
+A script or an audit ends at its first bad line, so the lines behind it go into the next.
 """
 import argparse
 import random
+import re
 import subprocess
 import sys
 
@@ -19,6 +20,14 @@ OPERATIONS = ["B0.1", "B0.2", "B1.1", "R1", "R2", "B00.1", "r1", "B255.429496729
 PAIRS = ["deposit", "withdraw", "interest", "asof"]
 REQUESTS = ["deposit", "withdraw", "interest", "cancel"]
 KEYS = PAIRS + ["cancel", "apply", "balance", "statement", "pass", "deliver", "batch"]
+LABELS = ["deposit", "withdraw", "declined", "interest", "cancel", "transfer"]
+# What replies tell: the kinds of their members' values, by their keys.
+REPLIES = [{"kind": "label", "name": "name"}, {"held": "name"}, {"already": "name"}, {"applied": "name"}, {"names": "names"},
+           {"taken": "number"}, {"stale": "number"}, {"passed": "number"}, {"balance": "number"}, {"refused": "refusal"},
+           {"balance": "number", "rows": "rows", "start": "number"}, {"position": "number", "refused": "6"},
+           {"needed": "number", "refused": "9", "seen": "number"}, {"cause": "cause", "index": "number", "refused": "13"},
+           {"refused": "17", "why": "number"}]
+SHADOW = {"account": "account", "amount": "number", "deps": "deps", "home": "number", "kind": "label", "name": "name"}
 
 
 class Odd:
@@ -63,6 +72,45 @@ class Odd:
     def member(self, key):
         return key, self.value(self.random.choice(KEYS) if self.one_in(60) else key)
 
+    def part(self, kind):
+        """A value of this kind, or else the number that the kind is."""
+        parts = {
+            "number": lambda: self.number() if self.one_in(20) else self.random.choice(NUMBERS[:5]),
+            "name": lambda: self.text(self.random.choice(OPERATIONS if self.one_in(20) else OPERATIONS[:5])),
+            "names": lambda: self.listed([self.part("name") for _ in range(self.random.randrange(3))]),
+            "account": lambda: self.text(self.random.choice(NAMES + ["?"])),
+            "label": lambda: self.text(self.random.choice(LABELS if self.one_in(20) else LABELS[:5])),
+            "refusal": lambda: str(self.random.randrange(26)),
+            "cause": lambda: self.part("label" if self.one_in(2) else "number"),
+            "deps": lambda: self.listed([self.listed([self.part("number") for _ in range(7 if self.one_in(20) else 8)]), self.part("number")]),
+            "token": lambda: self.listed([self.part("number") for _ in range(3)]),
+            "moved": lambda: ("-" if self.one_in(2) else "") + self.part("number"),
+            "cancelled": lambda: "null" if self.one_in(20) else self.random.choice(["true", "false"]),
+            "row": lambda: self.listed([self.part(k) for k in ["number", "name", "label", "moved", "cancelled", "number"]]),
+            "rows": lambda: self.listed([self.part("row") for _ in range(self.random.randrange(3))]),
+        }
+        return parts[kind]() if kind in parts else kind
+
+    def told(self, kinds):
+        members = [(key, self.part(kind)) for key, kind in kinds.items()]
+        if self.one_in(40):
+            self.random.shuffle(members)
+        return self.members(members)
+
+    def event(self):
+        key = self.random.choice(KEYS + ["shadow", "token"] * 3)
+        if key == "shadow":
+            return self.members([(key, self.told(SHADOW | ({"target": "name"} if self.one_in(3) else {})))])
+        return self.told({key: "token"}) if key == "token" else self.members([self.member(key)])
+
+    def entry(self):
+        """A line of a history, mostly as it is written."""
+        self.spaced = self.one_in(8)
+        members = [("event", self.event()), ("reply", self.told(self.random.choice(REPLIES))), ("site", self.random.choice("0123"))]
+        if self.one_in(40):
+            self.random.shuffle(members)
+        return self.spoilt(self.members(members))
+
     def line(self):
         self.spaced = self.one_in(4)
         site = self.random.choice(["0", "1", "2"]) if self.random.randrange(8) else self.number()
@@ -88,30 +136,33 @@ class Odd:
         return line
 
 
-def answer(program, lines, front):
+def answer(args, lines, front):
     told = CONFIG + b"".join(front + line + b"\n" for line in lines)
-    done = subprocess.run([program, "script"], input=told, capture_output=True)
+    done = subprocess.run([args.program, args.command], input=told, capture_output=True)
     return done.stdout, done.stderr, done.returncode
 
 
 def main():
     parser = argparse.ArgumentParser(description=__doc__)
     parser.add_argument("program")
+    parser.add_argument("command", choices=["script", "audit"], nargs="?", default="script")
     parser.add_argument("--lines", type=int, default=100_000)
     parser.add_argument("--seed", type=int, default=1)
     args = parser.parse_args()
     odd = Odd(args.seed)
-    lines = [odd.line().encode() for _ in range(args.lines)]
-    at = scripts = 0
+    lines = [(odd.entry() if args.command == "audit" else odd.line()).encode() for _ in range(args.lines)]
+    at = runs = bad = 0
     while at < len(lines):
         some = lines[at:at + 200]
-        usual, values = answer(args.program, some, b""), answer(args.program, some, b" ")
-        scripts += 1
-        taken = usual[0].count(b"\n")
+        usual, values = answer(args, some, b""), answer(args, some, b" ")
+        runs += 1
         if usual != values:
-            sys.exit(f"different from line {at} on, behind {taken} replies: {some[taken:taken + 1]}\n{usual}\n{values}")
-        at += len(some) if usual[2] == 0 else taken + 1
-    print(f"{len(lines)} lines in {scripts} scripts: no difference")
+            sys.exit(f"different in lines {at} to {at + len(some)}:\n{usual}\n{values}")
+        # The configuration is line 1.
+        stopped = re.search(rb"line (\d+)", usual[1])
+        bad += stopped is not None
+        at += int(stopped[1]) - 1 if stopped else len(some)
+    print(f"{len(lines)} lines, {bad} of them bad, in {runs} runs: no difference")
 
 
 if __name__ == "__main__":

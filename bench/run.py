@@ -1,5 +1,5 @@
 #!/usr/bin/env python3
-"""Measures `rbbank script` on generated scripts and prints a table, a line for each kind and size.
+"""Measures `rbbank script` on generated scripts, and `rbbank audit` on generated histories, and prints a table, a line for each kind and size.
 
 README.md tells what each kind and each number is.
 """
@@ -19,7 +19,7 @@ import measure
 ROOT = os.path.dirname(os.path.dirname(os.path.abspath(__file__)))
 SIZES = "1000,10000,100000,1000000"
 # These are measured at each size, and those of the shortest ledgers that aren't here at the least size alone.
-AT_EACH = ["mix", *kinds.LONG, "balance", "deposit"]
+AT_EACH = [*generate.MIXED, *kinds.LONG, "balance", "deposit"]
 # A site makes at most 1,000,000 blue operations.
 MOST = {"batches": 100_000, "pairs": 500_000}
 # Shorter scripts aren't timed, and for longer ones, or those that take more seconds, instructions aren't counted.
@@ -43,6 +43,11 @@ def built():
     return os.path.join(ROOT, "crates", "rbbank", "out", "rbbank")
 
 
+def word(kind):
+    """The command of the program that reads a kind."""
+    return "audit" if kind == "histories" else "script"
+
+
 def script(folder, kind, size, seed):
     """A generated script, as a file."""
     path = os.path.join(folder, f"{size}.jsonl")
@@ -51,32 +56,33 @@ def script(folder, kind, size, seed):
     return path
 
 
-def timed(program, paths, runs):
+def timed(program, asked, paths, runs):
     """The least time and memory of each script that ends in time. In each round all are run, short ones more often."""
-    first = {size: measure.usage(program, path) for size, path in paths.items()}
+    first = {size: measure.usage(program, asked, path) for size, path in paths.items()}
     best = {size: used for size, used in first.items() if used}
     for _ in range(runs):
         for size in best:
             for _ in range(max(1, min(10, MOST_COUNTED // max(size, 1)))):
-                used = measure.usage(program, paths[size]) or best[size]
+                used = measure.usage(program, asked, paths[size]) or best[size]
                 best[size] = tuple(map(min, best[size], used))
     return best
 
 
-def counted(program, paths, times):
+def counted(program, asked, paths, times):
     """The instructions of each script that isn't too long, where valgrind is there."""
     if not shutil.which("valgrind"):
         return {}
     short = [size for size, used in times.items() if size <= MOST_COUNTED and used[0] < SLOW]
-    return {size: measure.instructions(program, paths[size]) for size in short}
+    return {size: measure.instructions(program, asked, paths[size]) for size in short}
 
 
 def figures(program, kind, sizes, given):
     """Each size with its figures, or None where it takes too long. Time and instructions are less those of no commands."""
     with tempfile.TemporaryDirectory() as folder:
         paths = {size: script(folder, kind, size, given.seed) for size in [0, *sizes]}
-        times = timed(program, paths, given.runs)
-        counts = counted(program, paths, times)
+        asked = word(kind)
+        times = timed(program, asked, paths, given.runs)
+        counts = counted(program, asked, paths, times)
         before = None
         for size in sizes:
             if size not in times:
@@ -85,8 +91,8 @@ def figures(program, kind, sizes, given):
             taken = (times[size][0] - times[0][0]) / size if size >= LEAST_TIMED else None
             growth = taken / before if taken and before else None
             steps = (counts[size] - counts[0]) / size if counts.get(size) and counts.get(0) else None
-            writes = measure.writes(program, paths[size]) if shutil.which("strace") else None
-            yield size, Figures(measure.refused(program, paths[size]), taken, growth, steps, writes, times[size][1])
+            writes = measure.writes(program, asked, paths[size]) if shutil.which("strace") else None
+            yield size, Figures(measure.refused(program, asked, paths[size]), taken, growth, steps, writes, times[size][1])
             before = taken
 
 

@@ -1,9 +1,8 @@
-pub mod Values
-pub mod Statements
-pub mod Replies
-pub mod Lines
-pub mod Requests
-pub mod Commands
-pub mod Configurations
-pub mod Adds
-pub mod Spelled
+pub mod Fields
+pub mod ConfigLines
+pub mod Recorded
+pub mod RepliesRead
+pub mod Entries
+pub mod Fits
+pub mod Tells
+pub mod Verdicts

@@ -1,33 +1,39 @@
-//! Lines of text: the configuration, commands and replies as JSON.
+//! Lines of histories as JSON: the configuration written, entries written and read, and the verdicts of an audit.
 #![tactic(auto)]
 
-mod append;
-mod command;
-#[cfg(test)]
-mod command_tests;
-mod config_line;
-mod fault;
-mod line;
-mod lists;
-mod parts;
-mod request;
-mod statement;
-mod usual;
-mod values;
-mod write;
+mod answer;
+mod config_write;
+mod entry;
+mod event;
+mod items;
+mod label;
+mod receipt;
+mod refusal;
+mod shadow;
+mod shown;
+mod usual_event;
+mod usual_line;
+mod usual_part;
+mod usual_refusal;
+mod usual_reply;
+mod usual_shadow;
+mod usual_shown;
+mod verdict;
 
-ghost use Rattle.rb_history.specs.Commands.{CommandsAreRead};
+ghost use Rattle.rb_history.specs.ConfigLines.{ConfigsAreRead};
+ghost use Rattle.rb_history.specs.Fits.{EntriesAreRead};
 
-pub use command::read_command;
-pub use config_line::read_config;
-pub use fault::LineFault;
-pub use line::append_reply;
-pub use write::write_reply;
+pub use config_write::write_config;
+pub use entry::{append_line, read_line, write_line};
+pub use verdict::{order_line, stuck_line, wrong_reply_line};
 
-/// Each command is read from the JSON object that tells it.
-pub fn commands_are_read()
-    ensures { CommandsAreRead }
+/// The line that is written for a configuration is read as the configuration.
+pub fn configs_are_read()
+    ensures { ConfigsAreRead }
 {}
 
-#[cfg(test)]
-mod tests;
+/// The line that is written for an entry of a site is read as the entry: where each of its places is that of an
+/// account of the configuration or `Place::NOWHERE`, and its reply isn't want of memory.
+pub fn entries_are_read()
+    ensures { EntriesAreRead }
+{}

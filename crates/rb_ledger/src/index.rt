@@ -15,8 +15,9 @@ use rb_undo::UndoParts;
 use rb_vclock::Clock;
 use std::alloc::{AllocError, Global};
 
-/// What is read of a list of operations, so that no call walks it. It changes in place with each operation
-/// that comes to the end of the list or leaves it. The list itself stands elsewhere.
+/// What is read of a list of operations, so that no look-up, check, application or undo walks it. It changes
+/// in place with each operation that comes to the end of the list or leaves it. The list itself stands
+/// elsewhere.
 #[derive(Drop)]
 pub struct Index {
     /// The configuration, under which the list is valid.

@@ -79,6 +79,7 @@ impl Config {
         ensures same { result ≡ self.now.sites }
         ensures some { 2 ≤ result }
         ensures few { result ≤ most_sites }
+        ensures configured { IsConfigured self.now }
     {
         self.sites
     }
@@ -94,6 +95,7 @@ impl Config {
     pub fn accounts(&self) -> &Accounts
         ensures names { result.now.names ≡ self.now.names }
         ensures starts { result.now.starts ≡ self.now.starts }
+        ensures configured { IsConfigured self.now }
     {
         &self.accounts
     }

@@ -59,12 +59,15 @@ pub enum Refusal {
     PositionBeyond,
     /// The site's history is full.
     HistoryFull,
+    /// A transfer would go to the account that it comes from. No site answers it, since there are no
+    /// transfers; a line that tells it is read and written as any other.
+    SameAccount,
 }
 
 impl Refusal {
     ghost use Rattle.rb_money.specs.Refusals.{number_of_refusal};
 
-    /// The number by which lines name the refusal: 1 to 23, and 0 for want of memory, which no line tells.
+    /// The number by which lines name the refusal: 1 to 24, and 0 for want of memory, which no line tells.
     pub fn number(&self) -> u8
         ensures { result ≡ number_of_refusal self.now }
     {
@@ -93,6 +96,7 @@ impl Refusal {
             Refusal::NotYours => 21,
             Refusal::PositionBeyond => 22,
             Refusal::HistoryFull => 23,
+            Refusal::SameAccount => 24,
         }
     }
 }

@@ -153,6 +153,7 @@ fn refusals_by_number(rt: HostRuntime) {
         (Refusal::BatchRefused { index: 1, cause }, 13),
         (Refusal::Conflict, 18),
         (Refusal::HistoryFull, 23),
+        (Refusal::SameAccount, 24),
     ] {
         assert_eq!(rt; refusal.number(), number);
     }

@@ -16,7 +16,7 @@ use Rattle.rb_shadow.specs.declared.kind.Kind.TheVariants.{Deposit, Withdraw, De
 use Rattle.rb_shadow.specs.declared.colour.Colour.{Colour}
 use Rattle.rb_shadow.specs.declared.colour.Colour.TheVariants.{Blue as BlueColour, Red as RedColour}
 use Rattle.rb_shadow.specs.Operations.{names, past, IsWithin, is_eligible, colour_in, number_of, entry_of, red_count, blue_count, clock_of, colour_of, shown_colour, kind_in, target_of, is_cancel, is_cancelled, bal}
-use Rattle.rb_shadow.specs.Sound.{fault_of, IsSound, is_foreign, limit_of, may_be_nothing, is_miscoloured, cancels_unseen}
+use Rattle.rb_shadow.specs.Sound.{fault_of, IsSound, is_absent, is_foreign, limit_of, may_be_nothing, is_miscoloured, cancels_unseen}
 use Rattle.rb_shadow.proofs.Members
 use Rattle.rb_shadow.proofs.Clocks
 use Rattle.rb_shadow.proofs.SoundFacts
@@ -95,8 +95,10 @@ next_entry me us RedColour few = same (red_count us + 1)
     same : (n : ℕ) → (n == n) ≡ true
     same n = grind (arith, nat_tests)
 
-all_seen : (s : Settings) (us : List Shadow) (h : Shadow) (k : Kind) → s.sites ≤ most_sites → IsValid s us → HasTarget us h k → cancels_unseen k (clock_of us) ≡ false
-all_seen s us h (Cancel x) few valid (t, there, named, right) = ap not (sym (ValidClocks.valid_clock s us few valid x) ∙ ap (names us) (sym named) ∙ Members.named us t there)
+all_seen : (s : Settings) (us : List Shadow) (h : Shadow) (k : Kind) → s.sites ≤ most_sites → IsValid s us → HasTarget us h k → cancels_unseen s.sites k (clock_of us) ≡ false
+all_seen s us h (Cancel x) few valid (t, there, named, right) =
+    Members.false-or _ _ (ap (is_absent s.sites) (sym named) ∙ SoundFacts.is_present s t (ValidClocks.member_sound s us t valid there))
+    (ap not (sym (ValidClocks.valid_clock s us few valid x) ∙ ap (names us) (sym named) ∙ Members.named us t there))
 all_seen s us h Deposit few valid t = refl
 all_seen s us h Withdraw few valid t = refl
 all_seen s us h Declined few valid t = refl
@@ -116,7 +118,7 @@ plan_sound s me us p few here valid fit =
     within : (m n : ℕ) → n < m → nat_le m n ≡ false
     within m n h = grind (arith, nat_tests)
 
-fresh_name : (s : Settings) (me : ℕ) (us : List Shadow) (c : Colour) → IsValid s us → names us (next_name me us c) ≡ false
+pub fresh_name : (s : Settings) (me : ℕ) (us : List Shadow) (c : Colour) → IsValid s us → names us (next_name me us c) ≡ false
 fresh_name s me us BlueColour valid = ValidClocks.valid_counted s us valid (Blue me (blue_count us me + 1)) ∙ past_end (blue_count us me)
   where
     past_end : (n : ℕ) → (nat_le 1 (n + 1) && nat_le (n + 1) n) ≡ false

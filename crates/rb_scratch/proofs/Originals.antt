@@ -1,12 +1,23 @@
 -- What an operation does to every balance is what the published bank does.
-use Rattle.std.proofs.Common.{◌≡◌, ℕ, Bool, true, false, cond, not, ◌&&◌, List, refl, ap, ◌∙◌}
-use Rattle.std.specs.Prelude.{pos, neg_ℤ, ◌+ℤ◌, ◌==◌, int_lt}
-use Rattle.rb_money.specs.Settings.{Settings}
-use Rattle.rb_shadow.specs.declared.kind.Kind.TheVariants.{Withdraw, Declined}
+use Rattle.std.proofs.Common.{◌≡◌, ℕ, Bool, true, false, cond, not, ◌&&◌, List, refl, ap, sym, ◌∙◌, Result, Ok, Err}
+use Rattle.std.specs.Prelude.{IfOk, pos, neg_ℤ, ◌+ℤ◌, ◌==◌, int_lt, nat_lt}
+use Rattle.rb_money.specs.Amounts.{is_amount}
+use Rattle.rb_money.specs.Settings.{Settings, is_account}
+use Rattle.rb_money.specs.declared.place.Place.{Place}
+use Rattle.rb_money.specs.declared.refusal.Refusal.{Refusal}
+use Rattle.rb_shadow.specs.declared.kind.Kind.{Kind}
+use Rattle.rb_shadow.specs.declared.kind.Kind.TheVariants.{Deposit, Withdraw, Declined, Interest}
 use Rattle.rb_shadow.specs.declared.shadow.Shadow.{Shadow}
 use Rattle.rb_shadow.specs.Operations.{bal, is_cancel, is_cancelled, moved}
 use Rattle.rb_ledger.proofs.Pushes
-use Rattle.rb_scratch.specs.Originals.{IsOriginal}
+use Rattle.rb_ledger.specs.Valid.{IsValid}
+use Rattle.rb_ledger.proofs.Legal
+use Rattle.rb_scratch.specs.declared.request.Request.{Request}
+use Rattle.rb_scratch.specs.declared.request.Request.TheVariants.{Deposit as AskDeposit, Withdraw as AskWithdraw, Interest as AskInterest, Cancel as AskCancel}
+use Rattle.rb_scratch.specs.Originals.{DoesOriginal, IsOriginal, after_accrue, after_deposit, after_withdraw}
+use Rattle.rb_scratch.specs.Requests.{Plan, colour_of_plan, interest_on, next_name, operation_of, plan_of, withdrawal}
+use Rattle.rb_scratch.proofs.Made
+use Rattle.rb_scratch.proofs.Makes
 
 not_cancel : (b : Bool) → is_cancel (cond b Declined Withdraw) ≡ false
 not_cancel true = refl
@@ -28,3 +39,74 @@ is_original s us v free = record {
       ∙ ap (λ k. bal s us q +ℤ cond (v.account.0 == q.0) (moved k v.amount) (pos 0)) e
       ∙ ap (λ n. bal s us q +ℤ cond (v.account.0 == q.0) (pos n) (pos 0)) a;
 }
+
+-- ---- what a request makes
+
+abbrev the_plan : Plan → Result Plan Refusal
+the_plan p = Ok p
+
+-- an accepted plan is the only one
+accepted : (p q : Plan) → the_plan q ≡ the_plan p → q ≡ p
+accepted p q e = cc
+
+plan_of_deposit : (s : Settings) (us : List Shadow) (a : Place) (n : ℕ) (p : Plan) → plan_of s us (AskDeposit a n) ≡ Ok p → record { account = a; amount = n; kind = Deposit } ≡ p
+unfolding plan_of
+plan_of_deposit s us a n p e =
+    let (_, e1) = Made.passed_by (not (is_account s a)) _ _ p e in
+    let (_, e2) = Made.passed_by (not (is_amount n)) _ _ p e1 in
+    accepted p _ e2
+
+plan_of_withdraw : (s : Settings) (us : List Shadow) (a : Place) (n : ℕ) (p : Plan) → plan_of s us (AskWithdraw a n) ≡ Ok p → record { account = a; amount = n; kind = withdrawal s us a n } ≡ p
+unfolding plan_of
+plan_of_withdraw s us a n p e =
+    let (_, e1) = Made.passed_by (not (is_account s a)) _ _ p e in
+    let (_, e2) = Made.passed_by (not (is_amount n)) _ _ p e1 in
+    accepted p _ e2
+
+plan_of_interest : (s : Settings) (us : List Shadow) (a : Place) (rate : ℕ) (p : Plan) → plan_of s us (AskInterest a rate) ≡ Ok p → record { account = a; amount = interest_on s us a rate; kind = Interest } ≡ p
+unfolding plan_of
+plan_of_interest s us a rate p e =
+    let (_, e1) = Made.passed_by (not (is_account s a)) _ _ p e in
+    let (_, e2) = Made.passed_by (nat_lt 10000 rate) _ _ p e1 in
+    let (_, e3) = Made.passed_by (nat_lt 100000000000 (interest_on s us a rate)) _ _ p e2 in
+    accepted p _ e3
+
+-- the parts of what a plan makes
+record HasParts (v : Shadow) (a : Place) (n : ℕ) (k : Kind) : Type 0 where
+  account : v.account ≡ a
+  amount : v.amount ≡ n
+  kind : v.kind ≡ k
+
+parts_of : (me : ℕ) (us : List Shadow) (v : Shadow) (p : Plan) (a : Place) (n : ℕ) (k : Kind) → v ≡ operation_of me us p → record { account = a; amount = n; kind = k } ≡ p → HasParts v a n k
+unfolding operation_of
+parts_of me us v p a n k is plan = record {
+  account = ap (λ (x : Shadow). x.account) is ∙ sym (ap (λ (q : Plan). q.account) plan);
+  amount = ap (λ (x : Shadow). x.amount) is ∙ sym (ap (λ (q : Plan). q.amount) plan);
+  kind = ap (λ (x : Shadow). x.kind) is ∙ sym (ap (λ (q : Plan). q.kind) plan);
+}
+
+uncancelled : (s : Settings) (me : ℕ) (us : List Shadow) (v : Shadow) (p : Plan) → IsValid s us → v ≡ operation_of me us p → is_cancelled us v.name ≡ false
+unfolding operation_of
+uncancelled s me us v p valid is =
+    let x = next_name me us (colour_of_plan us p) in
+    ap (λ (u : Shadow). is_cancelled us u.name) is ∙ Legal.fresh_uncancelled us x valid.targets (Makes.fresh_name s me us (colour_of_plan us p) valid)
+
+pub plan_original : (s : Settings) (me : ℕ) (us : List Shadow) (p : Plan) (v : Shadow) (r : Request) → IsValid s us → v ≡ operation_of me us p → plan_of s us r ≡ Ok p → DoesOriginal s us r v
+plan_original s me us p v (AskDeposit a n) valid is planned =
+    let h = parts_of me us v p a n Deposit is (plan_of_deposit s us a n p planned) in
+    λ q. (is_original s us v (uncancelled s me us v p valid is)).deposit h.kind q
+    ∙ ap (λ x. after_deposit (bal s us) x v.amount q) h.account ∙ ap (λ m. after_deposit (bal s us) a m q) h.amount
+plan_original s me us p v (AskWithdraw a n) valid is planned =
+    let h = parts_of me us v p a n (withdrawal s us a n) is (plan_of_withdraw s us a n p planned) in
+    λ q. (is_original s us v (uncancelled s me us v p valid is)).withdraw (h.kind ∙ sym (ap (λ x. withdrawal s us x v.amount) h.account ∙ ap (withdrawal s us a) h.amount)) q
+    ∙ ap (λ x. after_withdraw (bal s us) x v.amount q) h.account ∙ ap (λ m. after_withdraw (bal s us) a m q) h.amount
+plan_original s me us p v (AskInterest a rate) valid is planned =
+    let h = parts_of me us v p a (interest_on s us a rate) Interest is (plan_of_interest s us a rate p planned) in
+    λ q. (is_original s us v (uncancelled s me us v p valid is)).accrue rate h.kind (h.amount ∙ sym (ap (λ x. interest_on s us x rate) h.account)) q
+    ∙ ap (λ x. after_accrue (bal s us) x rate q) h.account
+plan_original s me us p v (AskCancel x) valid is planned = tt
+
+-- what holds for each request of the plan holds for this one
+pub of_request : (s : Settings) (us : List Shadow) (p : Plan) (r : Request) (made : Result Shadow Refusal) → IfOk made (λ v. (q : Request) → plan_of s us q ≡ Ok p → DoesOriginal s us q v) → plan_of s us r ≡ Ok p → IfOk made (DoesOriginal s us r)
+of_request s us p r (Ok v) h e = h r e
+of_request s us p r (Err why) h e = tt

@@ -3,3 +3,4 @@ pub mod Originals
 pub mod Effects
 pub mod Batches
 pub mod Tried
+pub mod Records

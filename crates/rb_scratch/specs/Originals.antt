@@ -1,12 +1,14 @@
 -- The bank of the published paper: what each operation does to a map from accounts to balances.
 use Rattle.std.specs.Prelude.{ℕ, ◌*◌, Bool, if◌then◌else◌, not, ◌&&◌, ◌==◌, ℤ, pos, ◌+ℤ◌, neg_ℤ, ◌/◌, int_lt}
 use Rattle.rb_money.specs.Amounts.{cents}
-use Rattle.std.specs.Prelude.{◌≡◌, List, [], ◌∷◌, ◌++◌, false}
+use Rattle.std.specs.Prelude.{◌≡◌, List, [], ◌∷◌, ◌++◌, false, ⊤}
 use Rattle.rb_money.specs.Settings.{Settings}
 use Rattle.rb_money.specs.declared.place.Place.{Place}
 use Rattle.rb_shadow.specs.declared.shadow.Shadow.{Shadow}
 use Rattle.rb_shadow.specs.declared.kind.Kind.TheVariants.{Deposit, Interest}
 use Rattle.rb_shadow.specs.Operations.{bal, is_cancelled}
+use Rattle.rb_scratch.specs.declared.request.Request.{Request}
+use Rattle.rb_scratch.specs.declared.request.Request.TheVariants.{Deposit as AskDeposit, Withdraw as AskWithdraw, Interest as AskInterest, Cancel as AskCancel}
 use Rattle.rb_scratch.specs.Requests.{withdrawal, interest_on}
 
 -- so much is added to an account
@@ -34,3 +36,10 @@ pub record IsOriginal (s : Settings) (us : List Shadow) (v : Shadow) : Type 0 wh
 -- so it is for every operation whose name none of them cancels
 abbrev pub EachIsOriginal : Type 0
 EachIsOriginal = (s : Settings) (us : List Shadow) (v : Shadow) → is_cancelled us v.name ≡ false → IsOriginal s us v
+
+-- the operation that a request makes does to every balance, at the end of a list, what the published bank does on that request; it has no cancellation
+abbrev pub DoesOriginal : Settings → List Shadow → Request → Shadow → Type 0
+DoesOriginal s us (AskDeposit a n) v = (q : Place) → bal s (us ++ v ∷ []) q ≡ after_deposit (bal s us) a n q
+DoesOriginal s us (AskWithdraw a n) v = (q : Place) → bal s (us ++ v ∷ []) q ≡ after_withdraw (bal s us) a n q
+DoesOriginal s us (AskInterest a rate) v = (q : Place) → bal s (us ++ v ∷ []) q ≡ after_accrue (bal s us) a rate q
+DoesOriginal s us (AskCancel x) v = ⊤

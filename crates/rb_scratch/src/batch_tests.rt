@@ -4,7 +4,7 @@ use rb_ledger::Ledger;
 use rb_money::{Config, Limits, Place, Refusal};
 use rb_shadow::OpName;
 use rb_token::TokenView;
-use rb_undo::UndoLog;
+use rb_undo::{Undo, UndoLog};
 use std::alloc::Global;
 use std::process::Abort;
 use std::test::Fail;
@@ -107,5 +107,36 @@ fn a_seventeenth_is_refused(rt: HostRuntime) -> Result<(), Fail> {
         (16, Err(RunFault::Refused(Refusal::BadBatch)))
     );
     assert_eq!(rt; ledger.len(), 0);
+    Ok(())
+}
+
+#[test]
+fn records_alone_are_kept(rt: HostRuntime) -> Result<(), Fail> {
+    let mut ledger = opened(rt.alloc())?;
+    make_deposit(&rt, &mut ledger, 7);
+    let mut log = UndoLog::new(rt.alloc());
+    let sites = ledger.config().sites();
+    prove!(0 < sites);
+    let mut scratch = Scratch::open(rt.alloc(), &mut ledger, HOLDER);
+    let first = scratch.run(&deposit(50));
+    let second = scratch.run(&withdraw(57));
+    let kept = match scratch.keep(&mut log) {
+        Ok(kept) => kept,
+        Err(back) => {
+            back.abort();
+            0
+        }
+    };
+    let last = log.pop().map(Undo::spend);
+    let records = log.len();
+    log.close();
+    assert_eq!(rt; first, Ok(OpName::Blue { site: 0, n: 2 }));
+    assert_eq!(rt; second, Ok(OpName::Red { n: 1 }));
+    assert_eq!(rt; (kept, records), (2, 1));
+    assert_eq!(rt;
+        last.map(|parts| (parts.position, parts.name)),
+        Some((3, OpName::Red { n: 1 }))
+    );
+    assert_eq!(rt; (ledger.len(), ledger.balance(ANN)), (3, Some(0)));
     Ok(())
 }

@@ -11,6 +11,7 @@ ghost use Rattle.rb_scratch.specs.declared.request.Request.TheVariants.{Deposit 
 ghost use Rattle.rb_scratch.specs.declared.request.Request.{Request as TheRequest};
 ghost use Rattle.rb_scratch.specs.Requests.{plan_of, next_name, colour_of_plan, operation_of, allowed, allowed_red, made_of};
 ghost use Rattle.rb_scratch.specs.Effects.{IsColoured, IsDecision, plan_of_effect};
+ghost use Rattle.rb_scratch.specs.Originals.{DoesOriginal};
 
 use crate::effect::Effect;
 use crate::plan::cancel_of;
@@ -107,6 +108,7 @@ fn cancellation(ledger: &Ledger, target: OpName) -> Result<Effect, Refusal>
 }
 
 /// What the request would do, decided on the ledger as it is.
+#[inline(always)]
 pub(crate) fn decide(ledger: &Ledger, request: &Request) -> Result<Effect, Refusal>
     ensures plan { IsDecision ledger.now.settings ledger.now.entries request.now result }
     ensures colour { IsColoured ledger.now.entries result }
@@ -193,6 +195,7 @@ fn permit_red(ledger: &Ledger, token: &TokenView, shadow: &Shadow) -> Result<(),
 /// What an effect that was decided on a request makes at the token's site. Nothing changes. It may be
 /// refused with `NumbersExhausted`, and a red one with `NeedToken` or `RedBehind`, a red cancellation then
 /// with `WouldOverdraw`.
+#[inline(always)]
 pub(crate) fn carry_out(
     ledger: &Ledger,
     token: &TokenView,
@@ -203,6 +206,7 @@ pub(crate) fn carry_out(
     requires colour { effect.colour ≡ colour_of_plan ledger.now.entries (plan_of_effect effect) }
     ensures made { (known : Token) → Shows token.now known → result ≡ allowed ledger.now.settings ledger.now.entries known (operation_of token.now.me ledger.now.entries (plan_of_effect effect)) }
     ensures valid { IfOk result (λ made. IsValid ledger.now.settings (ledger.now.entries ++ made ∷ [])) }
+    ensures original { IfOk result (λ made. (request : TheRequest) → plan_of ledger.now.settings ledger.now.entries request ≡ Ok (plan_of_effect effect) → DoesOriginal ledger.now.settings ledger.now.entries request made) }
 {
     let sites = ledger.config().sites();
     prove!(token.me < sites);
@@ -232,6 +236,7 @@ pub fn generate(ledger: &Ledger, token: &TokenView, request: &Request) -> Result
     requires { token.now.me < ledger.now.settings.sites }
     ensures made { (known : Token) → Shows token.now known → result ≡ made_of ledger.now.settings token.now.me ledger.now.entries known request.now }
     ensures valid { IfOk result (λ made. IsValid ledger.now.settings (ledger.now.entries ++ made ∷ [])) }
+    ensures original { IfOk result (λ made. DoesOriginal ledger.now.settings ledger.now.entries request.now made) }
 {
     match decide(ledger, request) {
         Ok(effect) => carry_out(ledger, token, effect),

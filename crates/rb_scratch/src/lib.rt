@@ -10,6 +10,7 @@ mod effect;
 mod generator;
 mod in_batch;
 mod plan;
+mod records;
 mod request;
 mod run_fault;
 mod scratch;

@@ -9,6 +9,7 @@ ghost use Rattle.rb_scratch.specs.Batches.{made_in_batch};
 ghost use Rattle.rb_scratch.specs.Tried.{IsTried, IsOfTheLast, IsAdded, IsFault, RestsIfOk};
 
 use crate::in_batch::generate_in_batch;
+use crate::records::Records;
 use crate::request::{MOST_REQUESTS, Request};
 use crate::run_fault::RunFault;
 use rb_ledger::Ledger;
@@ -18,18 +19,18 @@ use rb_token::TokenView;
 use rb_undo::UndoLog;
 use std::alloc::{AllocError, Global};
 
-/// A ledger on which requests are tried, to be kept all or not at all: it must be spent by `commit` or
-/// `abort`. It has the ledger alone meanwhile. That its records are those of the ledger's last entries
-/// is a condition of its calls, and each of them keeps it. `L` is the type of the log of its records.
-pub struct Scratch<'a, L = UndoLog> {
+/// A ledger on which requests are tried, to be kept all or not at all: it must be spent by `commit`, `keep`
+/// or `abort`. It has the ledger alone meanwhile. That its records are those of the ledger's last entries
+/// is a condition of its calls, and each of them keeps it.
+pub struct Scratch<'a> {
     ledger: &'a mut Ledger,
     token: TokenView,
-    undos: L,
+    undos: Records,
     alloc: Global,
 }
 
 /// Takes the last entries out again, backwards, as many as there are records.
-fn undo_all(ledger: &mut Ledger, undos: UndoLog)
+fn undo_all(ledger: &mut Ledger, undos: Records)
     requires { IsOfTheLast ledger.old undos.parts }
     ensures settings { ledger.new.settings ≡ ledger.old.settings }
     ensures entries { (base made : List TheShadow) → IsTried base made ledger.old undos.parts → ledger.new.entries ≡ base }
@@ -43,7 +44,7 @@ fn undo_all(ledger: &mut Ledger, undos: UndoLog)
 }
 
 /// The last entries of a ledger, as many as there are records.
-fn last_entries(alloc: Global, ledger: &Ledger, undos: &UndoLog) -> Result<Vec<Shadow>, AllocError>
+fn last_entries(alloc: Global, ledger: &Ledger, undos: &Records) -> Result<Vec<Shadow>, AllocError>
     requires { IsOfTheLast ledger.now undos.now.parts }
     ensures { IfOk result (λ shadows. (base made : List TheShadow) → IsTried base made ledger.now undos.now.parts → shadows.items ≡ made) }
 {
@@ -56,7 +57,7 @@ fn last_entries(alloc: Global, ledger: &Ledger, undos: &UndoLog) -> Result<Vec<S
 /// Runs a request on a ledger, at the site of the token's view, unless there are too many records.
 fn try_one(
     ledger: &mut Ledger,
-    undos: &mut UndoLog,
+    undos: &mut Records,
     token: TokenView,
     request: &Request,
 ) -> Result<OpName, RunFault>
@@ -74,21 +75,18 @@ fn try_one(
         Ok(shadow) => shadow,
         Err(fault) => return Err(fault),
     };
-    if undos.reserve(1).is_err() {
-        return Err(RunFault::Refused(Refusal::OutOfMemory));
-    }
     match ledger.apply_valid(shadow) {
         Ok(undo) => {
-            undos.push_reserved(undo);
+            undos.push(undo);
             Ok(shadow.name)
         }
         Err(_) => Err(RunFault::Refused(Refusal::OutOfMemory)),
     }
 }
 
-impl<'a> Scratch<'a, UndoLog> {
+impl<'a> Scratch<'a> {
     /// A scratch on the ledger, at the site of the token's view.
-    pub fn open(alloc: Global, ledger: &'a mut Ledger, token: TokenView) -> Scratch<'a, UndoLog>
+    pub fn open(alloc: Global, ledger: &'a mut Ledger, token: TokenView) -> Scratch<'a>
         requires { token.me < ledger.old.settings.sites }
         ensures same_reference { result.ledger.ghost_name ≡ ledger.entry.ghost_name }
         ensures ledger { result.ledger.now ≡ ledger.old }
@@ -96,7 +94,7 @@ impl<'a> Scratch<'a, UndoLog> {
         ensures records { result.undos.parts ≡ [] }
         ensures tried { IsTried ledger.old.entries [] ledger.old result.undos.parts }
     {
-        let undos = UndoLog::new(alloc);
+        let undos = Records::new();
         Scratch {
             ledger,
             token,
@@ -133,7 +131,7 @@ impl<'a> Scratch<'a, UndoLog> {
 
     /// Keeps what was run: gives the shadows in order, and puts their records at the log's end. For
     /// want of memory the scratch comes back, and nothing changes but that the log may have more room.
-    pub fn commit(self, log: &mut UndoLog) -> Result<Vec<Shadow>, Scratch<'a, UndoLog>>
+    pub fn commit(self, log: &mut UndoLog) -> Result<Vec<Shadow>, Scratch<'a>>
         requires { IsOfTheLast self.ledger.now self.undos.parts }
         ensures* ledger { sem 𝓛 (RestsIfOk the_row self.entry.ledger (λ scratch. scratch.ledger.ghost_name) result (λ book. book ≡ self.entry.ledger.now)) }
         ensures made { IfOk result (λ shadows. (base made : List TheShadow) → IsTried base made self.entry.ledger.now self.entry.undos.parts → shadows.items ≡ made) }
@@ -148,12 +146,48 @@ impl<'a> Scratch<'a, UndoLog> {
             undos,
             alloc,
         } = self;
-        match kept(alloc, ledger, &undos, log) {
-            Ok(shadows) => {
-                log.append(undos);
-                Ok(shadows)
+        let shadows = match last_entries(alloc, ledger, &undos) {
+            Ok(shadows) => shadows,
+            Err(_) => {
+                return Err(Scratch {
+                    ledger,
+                    token,
+                    undos,
+                    alloc,
+                });
             }
-            Err(_) => Err(Scratch {
+        };
+        match undos.append_to(log) {
+            Ok(_) => Ok(shadows),
+            Err(undos) => Err(Scratch {
+                ledger,
+                token,
+                undos,
+                alloc,
+            }),
+        }
+    }
+
+    /// Keeps what was run: puts the records at the log's end, and answers how many operations that are,
+    /// the ledger's last. It takes memory only where the log has no room for them. For want of memory the
+    /// scratch comes back, and nothing changes but that the log may have more room.
+    pub fn keep(self, log: &mut UndoLog) -> Result<usize, Scratch<'a>>
+        ensures* ledger { sem 𝓛 (RestsIfOk the_row self.entry.ledger (λ scratch. scratch.ledger.ghost_name) result (λ book. book ≡ self.entry.ledger.now)) }
+        ensures count { IfOk result (λ count. count ≡ length self.entry.undos.parts) }
+        ensures log { OnOk result (log.new.parts ≡ log.old.parts ++ self.entry.undos.parts) }
+        ensures back { IfErr result (λ back. (back.ledger.ghost_name ≡ self.entry.ledger.ghost_name) × (back.ledger.now ≡ self.entry.ledger.now) × (back.token ≡ self.entry.token) × (back.undos ≡ self.entry.undos)) }
+        ensures unchanged { OnErr result (log.new.parts ≡ log.old.parts) }
+        ensures grows { OnErr result (log.old.room ≤ log.new.room) }
+    {
+        let Scratch {
+            ledger,
+            token,
+            undos,
+            alloc,
+        } = self;
+        match undos.append_to(log) {
+            Ok(count) => Ok(count),
+            Err(undos) => Err(Scratch {
                 ledger,
                 token,
                 undos,
@@ -178,21 +212,4 @@ impl<'a> Scratch<'a, UndoLog> {
         } = self;
         undo_all(ledger, undos);
     }
-}
-
-/// What is needed to keep what was run: the shadows, and room for their records in the log.
-fn kept(
-    alloc: Global,
-    ledger: &Ledger,
-    undos: &UndoLog,
-    log: &mut UndoLog,
-) -> Result<Vec<Shadow>, AllocError>
-    requires { IsOfTheLast ledger.now undos.now.parts }
-    ensures shadows { IfOk result (λ shadows. (base made : List TheShadow) → IsTried base made ledger.now undos.now.parts → shadows.items ≡ made) }
-    ensures parts { log.new.parts ≡ log.old.parts }
-    ensures grows { log.old.room ≤ log.new.room }
-    ensures room { OnOk result (length undos.now.parts ≤ log.new.room) }
-{
-    log.reserve(undos.len())?;
-    last_entries(alloc, ledger, undos)
 }

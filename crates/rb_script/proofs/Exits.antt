@@ -4,15 +4,17 @@ use Rattle.std.specs.Prelude.{IfSome}
 use Rattle.std.specs.Io.KnownBytes.{IsAtEnd}
 use Rattle.rb_world.specs.Laws.{SeenWorld}
 use Rattle.rb_script.specs.declared.session.Session.{Session}
-use Rattle.rb_script.specs.declared.fault.ScriptFault.{ScriptFault}
-use Rattle.rb_script.specs.declared.fault.ScriptFault.TheVariants.{NoConfig, BadConfig, BadLine, LongLine, Read, Write, OutOfMemory}
-use Rattle.rb_script.specs.Writes.{IsFront}
-use Rattle.rb_script.specs.Buffers.{Reads}
-use Rattle.rb_script.specs.Lines.{ScriptOutcome, lines_of, script_from, script_of, is_long, line_len, line_limit, no_outcome}
+use Rattle.rb_lines.specs.declared.fault.ScriptFault.{ScriptFault}
+use Rattle.rb_lines.specs.declared.fault.ScriptFault.TheVariants.{NoConfig, BadConfig, BadLine, LongLine, Read, Write, OutOfMemory}
+use Rattle.rb_lines.specs.Writes.{IsFront}
+use Rattle.rb_lines.specs.Buffers.{Reads}
+use Rattle.rb_lines.specs.Lines.{lines_of, is_long, line_len, line_limit}
+use Rattle.rb_script.specs.Script.{ScriptOutcome, script_from, script_of, no_outcome}
 use Rattle.rb_script.specs.Run.{IsFaulty, EndsAs, IsUnfinished}
 use Rattle.rb_script.specs.Session.{rest_from, rest_of, after_text, Answers, EndsAt, first_session}
-use Rattle.rb_script.proofs.Follows.{Follows, at_start, after_read, after_line, at_end, at_first, at_rest, standing}
-use Rattle.rb_script.proofs.LineLaws.{long_line}
+use Rattle.rb_script.proofs.Follows.{Follows, at_start, after_read, after_line, at_end, at_first, at_rest}
+use Rattle.rb_lines.proofs.LineLaws.{long_line}
+use Rattle.rb_lines.proofs.Walks.{standing}
 
 abbrev pub FollowsKnown : Option (List ℕ) → Option (List ℕ) → Session → List ℕ → Bool → List ℕ → Type 0
 FollowsKnown None now s p e t = Unit {0}
@@ -60,7 +62,7 @@ front all t n o e = (o.text, ap (λ (x : ScriptOutcome). x.text) e)
 pub known_front : (a b : Option (List ℕ)) (s : Session) (p : List ℕ) (e : Bool) (t : List ℕ) → FollowsKnown a b s p e t → IfSome a (λ input. IsFront t (script_of (lines_of input)).text)
 known_front None b s p e t f = tt
 known_front (Some all) None s p e t f = absurd f
-known_front (Some all) (Some x) s p e t f = front all t s.count _ (ap (script_from 1) f.lines ∙ f.outcome (lines_of (p ++ x)))
+known_front (Some all) (Some x) s p e t f = front all t s.count _ (ap (script_from 1) f.walks.lines ∙ f.outcome (lines_of (p ++ x)))
 
 unfinished : (m : Option SeenWorld) (n : ℕ) → IsUnfinished (rest_from m n []).fault
 unfinished None n = tt
@@ -78,8 +80,8 @@ known_stop (Some all) (Some x) s p e t f going none =
       x,
       refl,
       record {
-        taken = f.got;
-        whole = f.bytes;
+        taken = f.walks.got;
+        whole = f.walks.bytes;
         text_is = ap (λ (o : ScriptOutcome). o.text) whole ∙ ap (λ y. t ++ y) (no_text s.world s.number) ∙ append-nil t;
         unfinished = subst IsUnfinished (sym (ap (λ (o : ScriptOutcome). o.fault) whole)) (unfinished s.world s.number);
       },

@@ -1,7 +1,4 @@
 pub mod Exits
 pub mod Follows
-pub mod LineLaws
 pub mod Opens
 pub mod Progress
-pub mod ReadLaws
-pub mod WriteLaws

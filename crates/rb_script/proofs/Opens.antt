@@ -3,7 +3,9 @@ use Rattle.std.proofs.Common.{◌≡◌, ◌+◌, ◌-◌, ℕ, false, List, [],
 use Rattle.rb_money.specs.Settings.{Settings}
 use Rattle.rb_world.specs.Laws.{opened}
 use Rattle.rb_script.specs.declared.session.Session.{Session}
-use Rattle.rb_script.specs.Lines.{ScriptOutcome, commands_from, config_on, is_blank, is_long, outcome}
+use Rattle.rb_lines.specs.Lines.{is_blank, is_long}
+use Rattle.rb_commands.specs.Configurations.{config_on}
+use Rattle.rb_script.specs.Script.{ScriptOutcome, commands_from, outcome}
 use Rattle.rb_script.specs.Session.{Answers, after_text}
 
 -- nothing was written, and nothing counted

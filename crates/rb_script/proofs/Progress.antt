@@ -5,13 +5,14 @@ use Rattle.std.specs.Io.KnownBytes.{Appends, IsAtEnd}
 use Rattle.std.proofs.KnownBytes.{Appends-nil, Appends-trans}
 use Rattle.rb_world.specs.Laws.{SeenWorld}
 use Rattle.rb_script.specs.declared.session.Session.{Session}
-use Rattle.rb_script.specs.declared.fault.ScriptFault.{ScriptFault}
-use Rattle.rb_script.specs.declared.fault.ScriptFault.TheVariants.{NoConfig, LongLine, Read, Write, OutOfMemory}
-use Rattle.rb_script.specs.Buffers.{Reads, Sends}
-use Rattle.rb_script.specs.Lines.{line_len, line_limit, lines_of, script_of}
+use Rattle.rb_lines.specs.declared.fault.ScriptFault.{ScriptFault}
+use Rattle.rb_lines.specs.declared.fault.ScriptFault.TheVariants.{NoConfig, LongLine, Read, Write, OutOfMemory}
+use Rattle.rb_lines.specs.Buffers.{Reads, Sends}
+use Rattle.rb_lines.specs.Lines.{line_len, line_limit, lines_of}
+use Rattle.rb_script.specs.Script.{script_of}
 use Rattle.rb_script.specs.Run.{EndsAs, WillEndAs}
 use Rattle.rb_script.specs.Session.{Answers, EndsAt, first_session}
-use Rattle.rb_script.specs.Writes.{AppendsFront, IsFront}
+use Rattle.rb_lines.specs.Writes.{AppendsFront, IsFront}
 use Rattle.rb_script.proofs.Exits.{FollowsKnown, known_end, known_fault, known_front, known_line, known_long, known_read, known_start, known_stop, known_unconfigured}
 
 -- between two lines: the writer had w0 and has w, the reader had r0 and has r

@@ -1,6 +1,3 @@
-pub mod Buffers
-pub mod Lines
-pub mod Messages
 pub mod Run
+pub mod Script
 pub mod Session
-pub mod Writes

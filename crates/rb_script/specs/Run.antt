@@ -1,9 +1,10 @@
 -- How a run ends, and what was written by then.
 use Rattle.std.specs.Prelude.{◌≡◌, ℕ, List, [], ◌++◌, Option, Some, None, Result, Ok, Err}
-use Rattle.rb_script.specs.declared.fault.ScriptFault.{ScriptFault}
-use Rattle.rb_script.specs.declared.fault.ScriptFault.TheVariants.{NoConfig, BadConfig, BadLine, LongLine, Read, Write, OutOfMemory}
-use Rattle.rb_script.specs.Writes.{IsFront}
-use Rattle.rb_script.specs.Lines.{lines_of, whole_lines, script_of}
+use Rattle.rb_lines.specs.declared.fault.ScriptFault.{ScriptFault}
+use Rattle.rb_lines.specs.declared.fault.ScriptFault.TheVariants.{NoConfig, BadConfig, BadLine, LongLine, Read, Write, OutOfMemory}
+use Rattle.rb_lines.specs.Writes.{IsFront}
+use Rattle.rb_lines.specs.Lines.{lines_of, whole_lines}
+use Rattle.rb_script.specs.Script.{script_of}
 
 -- the script of these bytes ends at a line with this fault, and this is the text of the lines before
 pub record IsFaulty (input text : List ℕ) (f : ScriptFault) : Type 0 where

@@ -2,11 +2,11 @@
 use Rattle.std.specs.Prelude.{◌≡◌, ℕ, ◌+◌, ◌-◌, ◌≤◌, List, ◌∷◌, ◌++◌, Option, Some, None}
 use Rattle.rb_site.specs.declared.world_event.WorldEvent.{WorldEvent}
 use Rattle.rb_world.specs.Laws.{SeenWorld, next_reply, next_world}
-use Rattle.rb_history.specs.Replies.{line}
+use Rattle.rb_commands.specs.Replies.{line}
 use Rattle.rb_script.specs.declared.session.Session.{Session}
-use Rattle.rb_script.specs.declared.fault.ScriptFault.{ScriptFault}
-use Rattle.rb_script.specs.declared.fault.ScriptFault.TheVariants.{NoConfig, BadConfig, BadLine, LongLine, Read, Write, OutOfMemory}
-use Rattle.rb_script.specs.Lines.{ScriptOutcome, command_on, commands_from, no_outcome, outcome, script_from}
+use Rattle.rb_lines.specs.declared.fault.ScriptFault.{ScriptFault}
+use Rattle.rb_lines.specs.declared.fault.ScriptFault.TheVariants.{NoConfig, BadConfig, BadLine, LongLine, Read, Write, OutOfMemory}
+use Rattle.rb_script.specs.Script.{ScriptOutcome, command_on, commands_from, no_outcome, outcome, script_from}
 
 -- before the first line
 abbrev pub first_session : Session

@@ -3,15 +3,10 @@ ghost use Rattle.std.specs.Prelude.{◌≡◌, ◌↔◌, ◌++◌, ◌⊎◌, L
 ghost use Rattle.std.specs.Io.KnownBytes.{Appends};
 ghost use Rattle.rb_script.specs.Run.{EndsAs, WillEndAs};
 ghost use Rattle.rb_script.specs.Session.{first_session};
-ghost use Rattle.rb_script.specs.declared.fault.ScriptFault.TheVariants.{Read, Write};
+ghost use Rattle.rb_lines.specs.declared.fault.ScriptFault.TheVariants.{Read, Write};
 
-use crate::buffers::Buffers;
-use crate::fault::ScriptFault;
-use crate::no_line::NoLine;
 use crate::session::Session;
-use crate::sink::{Sink, WriteFailed};
-use crate::source::Source;
-use crate::write::flush;
+use rb_lines::{Buffers, NoLine, ScriptFault, Sink, Source, WriteFailed, flush};
 use std::alloc::Global;
 
 /// Answers each line, and says how many replies there were. What is owed at the end, or at a fault, is still to be written; after a failed write nothing is.

@@ -1,17 +1,17 @@
 //! The lines of a script, one at a time.
-ghost use Rattle.std.specs.Prelude.{◌≡◌, ◌+◌, ◌++◌, ◌^◌, ◌<◌, ◌≤◌, ℕ, List, true, false, None, Some, length, MatchOption, MatchResult, OnOk, OnErr};
-ghost use Rattle.std.specs.Str.{is_utf8};
+ghost use Rattle.std.specs.Prelude.{◌≡◌, ◌+◌, ◌++◌, ◌^◌, ◌<◌, ◌≤◌, ℕ, List, None, Some, length, MatchResult, OnOk, OnErr};
 ghost use Rattle.rb_money.specs.Settings.{Settings};
 ghost use Rattle.rb_world.specs.Laws.{opened};
-ghost use Rattle.rb_history.specs.declared.fault.LineFault.TheVariants.{Bad};
-ghost use Rattle.rb_script.specs.Lines.{command_on, config_on, is_blank, line_limit};
+ghost use Rattle.rb_commands.specs.declared.fault.LineFault.TheVariants.{Bad};
+ghost use Rattle.rb_commands.specs.Configurations.{config_on};
+ghost use Rattle.rb_lines.specs.Lines.{line_limit};
+ghost use Rattle.rb_script.specs.Script.{command_on};
 ghost use Rattle.rb_script.specs.Session.{Answers, AnswersCommand, EndsAt, first_session};
 
-use crate::fault::ScriptFault;
-use rb_history::{LineFault, append_reply, read_command, read_config};
+use rb_commands::{LineFault, append_reply, read_command, read_config};
+use rb_lines::{ScriptFault, is_blank, text_on};
 use rb_world::LeanWorld;
 use std::alloc::Global;
-use std::str;
 
 /// Where a script stands: the world once there is a configuration, the number of the next line, and the replies so far.
 pub struct Session {
@@ -20,23 +20,8 @@ pub struct Session {
     pub count: u64,
 }
 
-/// Whether a line is to be skipped: spaces, tabs and carriage returns alone.
-fn is_skipped(line: &[u8]) -> bool
-    ensures { result ≡ is_blank line.now }
-{
-    line.iter()
-        .all(|b| *b == b' ' || *b == b'\t' || *b == b'\r')
-}
-
-/// The text of a line, where it is UTF-8.
-fn text_on(line: &[u8]) -> Option<&str>
-    ensures { MatchOption result (is_utf8 line.now ≡ false) (λ text. (text.now ≡ line.now) × (is_utf8 line.now ≡ true)) }
-{
-    str::from_utf8(line).ok()
-}
-
 /// The world before any event of the configuration on a line.
-#[tactic(auto, unfolding(crate::specs::Lines::config_on))]
+#[tactic(auto, unfolding(rb_commands::specs::Configurations::config_on))]
 fn open_world(alloc: Global, line: &[u8]) -> Result<LeanWorld, LineFault>
     ensures { MatchResult result
         (λ world. (s : Settings) × (config_on line.now ≡ Some s) × (world ≡ opened s))
@@ -56,7 +41,8 @@ fn open_world(alloc: Global, line: &[u8]) -> Result<LeanWorld, LineFault>
 }
 
 /// Gives the world the command on a line, and owes its reply. After an `Err` nothing more is owed, and the script ends.
-#[tactic(auto, unfolding(crate::specs::Lines::command_on))]
+#[inline(always)]
+#[tactic(auto, unfolding(crate::specs::Script::command_on))]
 fn answer_command(
     alloc: Global,
     world: &mut LeanWorld,
@@ -71,11 +57,11 @@ fn answer_command(
     let Some(text) = text_on(line) else {
         return Err(LineFault::Bad);
     };
-    let command = match read_command(alloc, world.config(), text) {
-        Ok(command) => command,
+    let stepped = match read_command(alloc, world.config(), text) {
+        Ok(command) => world.step(command),
         Err(fault) => return Err(fault),
     };
-    let Ok(reply) = world.step(command) else {
+    let Ok(reply) = stepped else {
         return Err(LineFault::OutOfMemory);
     };
     match append_reply(owed, &reply) {
@@ -122,7 +108,7 @@ impl Session {
     {
         let number = self.number;
         self.number = number + 1;
-        if is_skipped(line) {
+        if is_blank(line) {
             return Ok(());
         }
         let Some(world) = &mut self.world else {

@@ -1,6 +1,7 @@
 ghost use Rattle.std.specs.Prelude.{◌≡◌, false, None};
 
-use crate::{ReadFailed, ScriptFault, Sink, Source, WriteFailed, message, run_script, status};
+use crate::run_script;
+use rb_lines::{ReadFailed, ScriptFault, Sink, Source, WriteFailed, message, status};
 use std::alloc::{AllocError, Global};
 use std::cell::RefCell;
 use std::test::Fail;

@@ -237,7 +237,7 @@ funded s all vs a unique line trans irreflexive covered part uv closed = at (las
     )
     at (inr (r, there, red, last)) =
         let (before, inside, ub, is_past, ok) = covered.checked r (part r there) red in
-        inr (r, there, red, before, inside, is_past, ok a, above_last s all vs before r a unique covered (irreflexive r (part r there)) part uv closed there last inside ub is_past)
+        inr (r, there, red, last, before, inside, ub, is_past, ok a, above_last s all vs before r a unique covered (irreflexive r (part r there)) part uv closed there last inside ub is_past)
 
 -- no balance of a closed part is negative
 pub never_negative : (s : Settings) (all vs : List Shadow) (a : Place)
@@ -247,4 +247,4 @@ never_negative s all vs a unique line trans irreflexive covered part uv closed =
   where
     at : IsFunded s all vs a → pos 0 ≤ℤ bal s vs a
     at (inl (none, enough)) = let start : pos 0 ≤ℤ pos (start_of s a) = omega (arith, ints) in omega (arith, ints, start, enough)
-    at (inr (r, there, red, before, inside, is_past, ok, more)) = omega (arith, ints, ok, more)
+    at (inr (r, there, red, last, before, inside, ub, is_past, ok, more)) = omega (arith, ints, ok, more)

@@ -7,7 +7,7 @@ use Rattle.rb_shadow.specs.declared.shadow.Shadow.{Shadow}
 use Rattle.rb_shadow.specs.declared.op_name.OpName.{OpName}
 use Rattle.rb_shadow.specs.declared.op_name.OpName.TheVariants.{Blue, Red}
 use Rattle.rb_shadow.specs.Operations.{number_of, entry_of}
-use Rattle.rb_shadow.specs.Sound.{fault_of, IsSound, is_foreign, limit_of, may_be_nothing, is_miscoloured, cancels_unseen, is_clock}
+use Rattle.rb_shadow.specs.Sound.{fault_of, IsSound, is_absent, is_foreign, limit_of, may_be_nothing, is_miscoloured, cancels_unseen, is_clock}
 use Rattle.rb_shadow.proofs.Members
 use Rattle.rb_shadow.proofs.Clocks.{IsNext, IsHoused}
 
@@ -21,7 +21,7 @@ pub record SoundFacts (s : Settings) (v : Shadow) : Type 0 where
   pub amount : nat_lt 100000000000 v.amount ≡ false
   pub something : (v.amount == 0 && not (may_be_nothing v.kind)) ≡ false
   pub coloured : is_miscoloured v.kind v.name ≡ false
-  pub seen : cancels_unseen v.kind v.deps ≡ false
+  pub seen : cancels_unseen s.sites v.kind v.deps ≡ false
   pub clock : not (is_clock s.sites s.limits v.deps) ≡ false
   pub entry : not (entry_of v.deps v.name + 1 == number_of v.name) ≡ false
 
@@ -68,3 +68,11 @@ is_housed s v few h = let f = sound_facts s v h in at v.name s.sites v.home few 
     at : (x : OpName) (sites home : ℕ) → sites ≤ most_sites → nat_le sites home ≡ false → is_foreign x home ≡ false → IsHoused x
     at (Blue i n) sites home few near e = grind (arith, nat_tests)
     at (Red n) sites home few near e = tt
+
+-- its name is of one of the sites
+pub is_present : (s : Settings) (v : Shadow) → SoundFacts s v → is_absent s.sites v.name ≡ false
+is_present s v f = at v.name s.sites v.home f.home f.own
+  where
+    at : (x : OpName) (sites home : ℕ) → nat_le sites home ≡ false → is_foreign x home ≡ false → is_absent sites x ≡ false
+    at (Blue i n) sites home near e = grind (arith, nat_tests)
+    at (Red n) sites home near e = refl

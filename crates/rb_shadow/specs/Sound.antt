@@ -15,6 +15,11 @@ abbrev pub is_foreign : OpName → ℕ → Bool
 is_foreign (Blue i n) home = not (i == home)
 is_foreign (Red n) home = false
 
+-- a blue name of a site past so many
+abbrev pub is_absent : ℕ → OpName → Bool
+is_absent sites (Blue i n) = nat_le sites i
+is_absent sites (Red n) = false
+
 -- how many names of its colour there may be
 abbrev pub limit_of : Limits → OpName → ℕ
 limit_of l (Blue i n) = l.blue
@@ -41,13 +46,13 @@ is_miscoloured Interest (Blue i n) = false
 is_miscoloured (Cancel x) (Blue i n) = false
 is_miscoloured (Cancel x) (Red n) = false
 
--- it cancels what its home hadn't applied
-abbrev pub cancels_unseen : Kind → Deps → Bool
-cancels_unseen (Cancel x) c = not (names_of_clock c x)
-cancels_unseen Deposit c = false
-cancels_unseen Withdraw c = false
-cancels_unseen Declined c = false
-cancels_unseen Interest c = false
+-- it cancels what its home can't have applied: an operation of none of so many sites, or one that its clock doesn't count
+abbrev pub cancels_unseen : ℕ → Kind → Deps → Bool
+cancels_unseen sites (Cancel x) c = is_absent sites x || not (names_of_clock c x)
+cancels_unseen sites Deposit c = false
+cancels_unseen sites Withdraw c = false
+cancels_unseen sites Declined c = false
+cancels_unseen sites Interest c = false
 
 -- each entry is within the limit, and 0 past the sites
 abbrev pub are_entries : ℕ → ℕ → List ℕ → Bool
@@ -66,7 +71,7 @@ fault_of sites accounts l v =
     else (if nat_le accounts v.account.0 then Some 3
     else (if nat_lt 100000000000 v.amount || (v.amount == 0 && not (may_be_nothing v.kind)) then Some 4
     else (if is_miscoloured v.kind v.name then Some 5
-    else (if cancels_unseen v.kind v.deps then Some 6
+    else (if cancels_unseen sites v.kind v.deps then Some 6
     else (if not (is_clock sites l v.deps) || not (entry_of v.deps v.name + 1 == number_of v.name) then Some 7
     else None))))))
 

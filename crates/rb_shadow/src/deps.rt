@@ -33,6 +33,7 @@ impl Deps {
     }
 
     /// Whether the entries are within their limits, and 0 past so many sites.
+    #[inline(always)]
     pub(crate) fn is_clock(&self, sites: u8, limits: Limits) -> bool
         ensures { result ≡ is_clock sites limits self.now }
     {
@@ -40,6 +41,7 @@ impl Deps {
     }
 }
 
+#[inline(always)]
 fn are_within(entries: &[u32], sites: u8, limit: u32) -> bool
     ensures { result ≡ are_entries sites limit entries.now }
 {

@@ -85,12 +85,12 @@ impl Kind {
         }
     }
 
-    /// Whether it cancels an operation that isn't counted there.
-    pub(crate) fn cancels_unseen(self, deps: &Deps) -> bool
-        ensures { result ≡ cancels_unseen self deps.now }
+    /// Whether it cancels an operation of none of so many sites, or one that isn't counted there.
+    pub(crate) fn cancels_unseen(self, sites: u8, deps: &Deps) -> bool
+        ensures { result ≡ cancels_unseen sites self deps.now }
     {
         match self {
-            Kind::Cancel { target } => !deps.covers(target),
+            Kind::Cancel { target } => target.is_absent(sites) || !deps.covers(target),
             _ => false,
         }
     }

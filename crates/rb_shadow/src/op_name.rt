@@ -1,7 +1,7 @@
 //! Names of operations.
 ghost use Rattle.std.specs.Prelude.{◌≡◌};
 ghost use Rattle.rb_shadow.specs.Operations.{number_of};
-ghost use Rattle.rb_shadow.specs.Sound.{is_foreign, limit_of};
+ghost use Rattle.rb_shadow.specs.Sound.{is_absent, is_foreign, limit_of};
 
 use rb_money::Limits;
 
@@ -30,6 +30,16 @@ impl OpName {
     {
         match self {
             OpName::Blue { site, .. } => site != home,
+            OpName::Red { .. } => false,
+        }
+    }
+
+    /// Whether it is a blue name of none of so many sites.
+    pub(crate) fn is_absent(self, sites: u8) -> bool
+        ensures { result ≡ is_absent sites self }
+    {
+        match self {
+            OpName::Blue { site, .. } => site >= sites,
             OpName::Red { .. } => false,
         }
     }

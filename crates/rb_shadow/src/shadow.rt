@@ -33,6 +33,7 @@ impl Shadow {
     /// 6. a Cancel's target is none of the operations that the home had applied;
     /// 7. an entry of `deps` is over its limit, one past the sites isn't 0, or the one of the own
     ///    name isn't that name's number less 1.
+    #[inline(always)]
     pub fn sound(&self, config: &Config) -> Result<(), Refusal>
         ensures sound { OnOk result (fault_in config.now self.now ≡ None) }
         ensures faulty { IfErr result (λ refusal. (why : ℕ) × (refusal ≡ Refusal.BadMessage why) × (fault_in config.now self.now ≡ Some why)) }
@@ -45,6 +46,7 @@ impl Shadow {
     }
 
     #[tactic(auto, unfolding(crate::specs::Sound::fault_of))]
+    #[inline(always)]
     fn fault(&self, sites: u8, accounts: usize, limits: Limits) -> Option<u8>
         ensures { result ≡ fault_of sites accounts limits self.now }
     {
@@ -64,7 +66,7 @@ impl Shadow {
         if self.kind.is_miscoloured(self.name) {
             return Some(5);
         }
-        if self.kind.cancels_unseen(&self.deps) {
+        if self.kind.cancels_unseen(sites, &self.deps) {
             return Some(6);
         }
         if !self.deps.is_clock(sites, limits) || self.deps.entry(self.name) != n - 1 {
@@ -74,6 +76,7 @@ impl Shadow {
     }
 
     /// Whether the two are equal, field by field.
+    #[inline(always)]
     pub fn same(&self, other: &Shadow) -> bool
         ensures same { result ≡ same_shadow self.now other.now }
         ensures equal { IsTrue result ↔ (self.now ≡ other.now) }

@@ -1,5 +1,5 @@
 -- The requests of a batch, one by one.
-use Rattle.std.proofs.Common.{◌≡◌, ◌∙◌, ℕ, ◌+◌, ◌<◌, ◌≤◌, ◌⊎◌, inl, inr, List, [], ◌∷◌, ◌++◌, drop, get_or, length, take, ap, arith, refl, sym, Bool, true, false, not, ◌&&◌, Result, Ok, Err, IfOk, IfErr, map}
+use Rattle.std.proofs.Common.{◌≡◌, ◌∙◌, ℕ, ◌+◌, ◌<◌, ◌≤◌, ◌⊎◌, inl, inr, List, [], ◌∷◌, ◌++◌, drop, get_or, length, take, ap, arith, refl, subst, sym, Bool, true, false, not, ◌&&◌, Result, Ok, Err, IfOk, IfErr, map}
 use Rattle.std.specs.Prelude.{nat_le}
 use Rattle.std.proofs.lemmas.List.{drop_more, length-take-le, take-append-drop, take_more}
 use Rattle.rb_money.specs.Settings.{Settings}
@@ -11,7 +11,11 @@ use Rattle.rb_ledger.specs.Book.{Book}
 use Rattle.rb_ledger.proofs.Records.{records_of-append}
 use Rattle.rb_ledger.specs.Records.{logged, records_of}
 use Rattle.rb_token.specs.Token.{Token}
+use Rattle.rb_token.specs.Seat.{Shows}
+use Rattle.rb_token.specs.declared.view.TokenView.{TokenView}
+use Rattle.rb_scratch.proofs.Generated.{seen, seen_shows}
 use Rattle.rb_scratch.proofs.InBatch.{batch_more, batch_stopped}
+use Rattle.rb_scratch.proofs.Made.{batch_length}
 use Rattle.rb_scratch.proofs.Tries.{tried_length}
 use Rattle.rb_scratch.specs.Batches.{batch_of, cause_of, made_in_batch, names_of_all}
 use Rattle.rb_scratch.specs.Tried.{IsFault, IsTried}
@@ -61,17 +65,36 @@ fault_made base vs book parts me known rs r fault tried more few is other = by (
     by (inl e) = e
     by (inr (v, made, e)) = absurd (other e)
 
+-- there are as many records as requests
+pub as_many : (s : Settings) (me : ℕ) (base vs : List Shadow) (view : TokenView) (book : Book) (parts : List UndoParts) (rs : List Request) → IsTried base vs book parts
+    → ((known : Token) → Shows view known → batch_of s me base known 0 rs ≡ Ok vs) → length parts ≡ length rs
+as_many s me base vs view book parts rs tried runs = tried_length base vs book parts tried ∙ batch_length s me base (seen view) 0 rs vs (runs (seen view) (seen_shows view))
+
+-- what was tried on a scratch stands in the ledger that it was opened on
+pub tried_here : (old opened book : Book) (view seat : TokenView) (parts before after : List UndoParts) (rs : List Request) (vs : List Shadow) → opened ≡ old → seat ≡ view → book.settings ≡ opened.settings
+    → IsTried opened.entries vs book parts → after ≡ before ++ parts → ((known : Token) → Shows seat known → batch_of opened.settings seat.me opened.entries known 0 rs ≡ Ok vs)
+    → (book.entries ≡ old.entries ++ vs) × (after ≡ before ++ logged old.settings old.entries vs) × ((known : Token) → Shows view known → batch_of old.settings view.me old.entries known 0 rs ≡ Ok vs)
+tried_here old opened book view seat parts before after rs vs is sees same tried grown runs =
+    let B : Book → Type 0 = λ b. (known : Token) → Shows view known → batch_of b.settings view.me b.entries known 0 rs ≡ Ok vs in
+    let V : TokenView → Type 0 = λ t. (known : Token) → Shows t known → batch_of opened.settings t.me opened.entries known 0 rs ≡ Ok vs in (
+      tried.entries ∙ ap (λ (b : Book). b.entries ++ vs) is,
+      grown ∙ ap (λ ps. before ++ ps) (tried.records ∙ ap (λ s. logged s opened.entries vs) same ∙ ap (λ (b : Book). logged b.settings b.entries vs) is),
+      subst B is (subst V sees runs),
+    )
+
 -- ---- the records of a batch
 
 -- the log has the list's records, whether a batch was made or refused
-pub journaled : {A : Type 0} (items : A → List Shadow) (X : A → Type 0) (Y : Refusal → Type 0) (r : Result A Refusal) (s now : Settings) (us later : List Shadow) (ps qs : List UndoParts) → now ≡ s → ps ≡ records_of s us
-    → IfOk r (λ made. (later ≡ us ++ items made) × (qs ≡ ps ++ logged s us (items made)) × X made) → IfErr r (λ why. (later ≡ us) × (qs ≡ ps) × Y why) → qs ≡ records_of now later
-journaled items X Y (Ok made) s now us later ps qs same kept ok err =
-    ok.1 ∙ ap (λ rs. rs ++ logged s us (items made)) kept ∙ sym (records_of-append s us (items made))
-    ∙ ap (records_of s) (sym ok.0)
+pub journaled : {A : Type 0} (X : A → Type 0) (Y : Refusal → Type 0) (r : Result A Refusal) (s now : Settings) (us later : List Shadow) (ps qs : List UndoParts) → now ≡ s → ps ≡ records_of s us
+    → ((a : A) → X a → (made : List Shadow) × (later ≡ us ++ made) × (qs ≡ ps ++ logged s us made)) → ((why : Refusal) → Y why → (later ≡ us) × (qs ≡ ps)) → IfOk r X → IfErr r Y → qs ≡ records_of now later
+journaled X Y (Ok a) s now us later ps qs same kept more less ok err =
+    let (made, grown, noted) = more a ok in
+    noted ∙ ap (λ rs. rs ++ logged s us made) kept ∙ sym (records_of-append s us made)
+    ∙ ap (records_of s) (sym grown)
     ∙ ap (λ z. records_of z later) (sym same)
-journaled items X Y (Err why) s now us later ps qs same kept ok err =
-    err.1 ∙ kept ∙ ap (records_of s) (sym err.0)
+journaled X Y (Err why) s now us later ps qs same kept more less ok err =
+    let (back, noted) = less why err in
+    noted ∙ kept ∙ ap (records_of s) (sym back)
     ∙ ap (λ z. records_of z later) (sym same)
 
 -- ---- what a batch comes to

@@ -23,30 +23,30 @@ use Rattle.rb_site.proofs.Places.{get_set_other, get_set_same, same_number}
 
 -- ---- messages
 
-among-left : (m : Message) (ms ns : List Message) → IsAmong m ms → IsAmong m (ms ++ ns)
+pub among-left : (m : Message) (ms ns : List Message) → IsAmong m ms → IsAmong m (ms ++ ns)
 among-left m [] ns h = elim h [ ]
 among-left m (n ∷ ms) ns (inl e) = inl e
 among-left m (n ∷ ms) ns (inr h) = inr (among-left m ms ns h)
 
-among-right : (m : Message) (ms ns : List Message) → IsAmong m ns → IsAmong m (ms ++ ns)
+pub among-right : (m : Message) (ms ns : List Message) → IsAmong m ns → IsAmong m (ms ++ ns)
 among-right m [] ns h = h
 among-right m (n ∷ ms) ns h = inr (among-right m ms ns h)
 
-among-cases : (m : Message) (ms ns : List Message) → IsAmong m (ms ++ ns) → IsAmong m ms ⊎ IsAmong m ns
+pub among-cases : (m : Message) (ms ns : List Message) → IsAmong m (ms ++ ns) → IsAmong m ms ⊎ IsAmong m ns
 among-cases m [] ns h = inr h
 among-cases m (n ∷ ms) ns (inl e) = inl (inl e)
 among-cases m (n ∷ ms) ns (inr h) = elim (among-cases m ms ns h) [ inl k ↦ inl (inr k) | inr k ↦ inr k ]
 
-at_place : (ms : List Message) (k : ℕ) (m : Message) → slice_get ms k ≡ Some m → IsAmong m ms
+pub at_place : (ms : List Message) (k : ℕ) (m : Message) → slice_get ms k ≡ Some m → IsAmong m ms
 at_place [] k m h = cc
 at_place (n ∷ ms) zero m h = inl (let e : m ≡ n = cc in e)
 at_place (n ∷ ms) (suc k) m h = inr (at_place ms k m h)
 
-placed : (ms : List Message) (k : ℕ) (m : Message) → message_at ms k ≡ Some m → IsAmong m ms
+pub placed : (ms : List Message) (k : ℕ) (m : Message) → message_at ms k ≡ Some m → IsAmong m ms
 placed ms zero m h = cc
 placed ms (suc k) m h = at_place ms k m h
 
-sends-append : (s : Settings) (es fs : List Event) (t : ModelSite) → sends_of s t (es ++ fs) ≡ sends_of s t es ++ sends_of s (after_events s t es) fs
+pub sends-append : (s : Settings) (es fs : List Event) (t : ModelSite) → sends_of s t (es ++ fs) ≡ sends_of s t es ++ sends_of s (after_events s t es) fs
 sends-append s [] fs t = refl
 sends-append s (e ∷ es) fs t = ap (λ ms. sent_at s t e ++ ms) (sends-append s es fs (after_event s t e)) ∙ sym (append_assoc (sent_at s t e) (sends_of s (after_event s t e) es) (sends_of s (after_events s (after_event s t e) es) fs))
 
@@ -190,7 +190,7 @@ within_all s hs fronts (e ∷ es) w cut own gives g =
       | inr h ↦ subst (IsWithinFronts s fronts) (sym (Runs.unrecorded s w e h)) g
     ])
 
-first_sites : (a n i : ℕ) (t : ModelSite) → slice_get (map first_site (range_with_len a n)) i ≡ Some t → t ≡ first_site (a + i)
+pub first_sites : (a n i : ℕ) (t : ModelSite) → slice_get (map first_site (range_with_len a n)) i ≡ Some t → t ≡ first_site (a + i)
 first_sites a zero i t h = cc
 first_sites a (suc n) zero t h = let e : t ≡ first_site a = cc in e ∙ ap first_site (let q : a ≡ a + 0 = omega arith in q)
 first_sites a (suc n) (suc i) t h = first_sites (a + 1) n i t h ∙ ap first_site (let q : (a + 1) + i ≡ a + suc i = omega arith in q)

@@ -1,19 +1,19 @@
 //! The requests of a batch, made on a ledger with its undo log.
-ghost use Rattle.std.specs.Prelude.{◌≡◌, ◌≤◌, ◌<◌, ◌++◌, [], ◌⊎◌, List, length, Ok, Err, IfOk, IfErr, OnOk, ◌+◌, vec_len, vec_capacity};
+ghost use Rattle.std.specs.Prelude.{◌≡◌, ◌≤◌, ◌<◌, ◌++◌, [], ◌⊎◌, List, length, map, Ok, Err, IfOk, IfErr, OnOk, ◌+◌, vec_len, vec_capacity};
 ghost use Rattle.rb_shadow.specs.declared.shadow.Shadow.{Shadow as TheShadow};
 ghost use Rattle.rb_ledger.specs.Records.{logged};
 ghost use Rattle.rb_token.specs.Token.{Token};
 ghost use Rattle.rb_token.specs.Seat.{Shows};
-ghost use Rattle.rb_scratch.specs.Batches.{batch_of, cause_of};
+ghost use Rattle.rb_scratch.specs.Batches.{batch_of, cause_of, names_of_all};
 ghost use Rattle.rb_scratch.specs.Tried.{IsTried};
-ghost use Rattle.rb_site.specs.Notes.{IsRoomFor};
+ghost use Rattle.rb_site.specs.States.{Says};
 
-use crate::Message;
+use crate::answer::Answer;
 use crate::batch_room::BatchRoom;
+use crate::{Message, Reply};
 use rb_ledger::Ledger;
 use rb_money::Refusal;
 use rb_scratch::{Request, RunFault, Scratch};
-use rb_shadow::Shadow;
 use rb_token::TokenView;
 use rb_undo::UndoLog;
 use std::alloc::Global;
@@ -31,7 +31,7 @@ fn why_stopped(index: u8, fault: RunFault) -> Refusal
 }
 
 /// Runs the requests in order. Where one is at fault, those before it stand in the scratch.
-fn run_all(scratch: &mut Scratch<UndoLog>, requests: &[Request]) -> Result<(), Refusal>
+fn run_all(scratch: &mut Scratch, requests: &[Request]) -> Result<(), Refusal>
     requires here { scratch.old.token.me < scratch.old.ledger.now.settings.sites }
     requires none { IsTried scratch.old.ledger.now.entries [] scratch.old.ledger.now scratch.old.undos.parts }
     requires few { length requests.now ≤ 16 }
@@ -51,9 +51,23 @@ fn run_all(scratch: &mut Scratch<UndoLog>, requests: &[Request]) -> Result<(), R
     Ok(())
 }
 
+/// The answer that names the ledger's last operations, so many, each of which is sent. There is room for
+/// them.
+fn answer_of_last(ledger: &Ledger, count: usize, room: BatchRoom, sent: &mut Vec<Message>) -> Answer
+    requires there { count ≤ length ledger.now.entries }
+    requires few { count ≤ room.most }
+    requires room { vec_len sent.old + count ≤ vec_capacity sent.old }
+    ensures answer { (base made : List TheShadow) → ledger.now.entries ≡ base ++ made → length made ≡ count → Says room.keeps result (Reply.Names (names_of_all made)) }
+    ensures sent { (base made : List TheShadow) → ledger.now.entries ≡ base ++ made → length made ≡ count → sent.new.items ≡ sent.old.items ++ map Message.Shadow made }
+{
+    let entries = ledger.entries();
+    let first = entries.len() - count;
+    room.filled(&entries[first..], sent)
+}
+
 /// Makes the requests at the site of the token's view, each after those before it: all of them or none.
-/// Their shadows are given in order, with room for the answer and for their messages, and their records
-/// are put at the log's end.
+/// The answer names the operations, their messages are put at the end of what was sent, and their
+/// records at the log's end.
 ///
 /// Refuses, and changes nothing: with `BatchRefused` by the first request at fault, or with `OutOfMemory`.
 pub fn run_batch(
@@ -64,15 +78,14 @@ pub fn run_batch(
     requests: &[Request],
     keeps: bool,
     sent: &mut Vec<Message>,
-) -> Result<(Vec<Shadow>, BatchRoom), Refusal>
+) -> Result<Answer, Refusal>
     requires site { token.me < ledger.old.settings.sites }
     requires few { length requests.now ≤ 16 }
     ensures settings { ledger.new.settings ≡ ledger.old.settings }
-    ensures made { IfOk result (λ made. (ledger.new.entries ≡ ledger.old.entries ++ made.0.items) × (log.new.parts ≡ log.old.parts ++ logged ledger.old.settings ledger.old.entries made.0.items)
-        × ((known : Token) → Shows token known → batch_of ledger.old.settings token.me ledger.old.entries known 0 requests.now ≡ Ok made.0.items)) }
-    ensures room { IfOk result (λ made. IsRoomFor made.1 keeps (length requests.now) × (vec_len sent.new + length requests.now ≤ vec_capacity sent.new)) }
-    ensures sent { sent.new.items ≡ sent.old.items }
-    ensures refused { IfErr result (λ why. (ledger.new.entries ≡ ledger.old.entries) × (log.new.parts ≡ log.old.parts)
+    ensures made { IfOk result (λ answer. (made : List TheShadow) × (ledger.new.entries ≡ ledger.old.entries ++ made) × (log.new.parts ≡ log.old.parts ++ logged ledger.old.settings ledger.old.entries made)
+        × Says keeps answer (Reply.Names (names_of_all made)) × (sent.new.items ≡ sent.old.items ++ map Message.Shadow made)
+        × ((known : Token) → Shows token known → batch_of ledger.old.settings token.me ledger.old.entries known 0 requests.now ≡ Ok made)) }
+    ensures refused { IfErr result (λ why. (ledger.new.entries ≡ ledger.old.entries) × (log.new.parts ≡ log.old.parts) × (sent.new.items ≡ sent.old.items)
         × ((why ≡ Refusal.OutOfMemory) ⊎ ((known : Token) → Shows token known → batch_of ledger.old.settings token.me ledger.old.entries known 0 requests.now ≡ Err why))) }
 {
     let mut scratch = Scratch::open(alloc, ledger, token);
@@ -87,11 +100,12 @@ pub fn run_batch(
             return Err(Refusal::OutOfMemory);
         }
     };
-    match scratch.commit(log) {
-        Ok(made) => Ok((made, room)),
+    let count = match scratch.keep(log) {
+        Ok(count) => count,
         Err(back) => {
             back.abort();
-            Err(Refusal::OutOfMemory)
+            return Err(Refusal::OutOfMemory);
         }
-    }
+    };
+    Ok(answer_of_last(ledger, count, room, sent))
 }

@@ -1,7 +1,7 @@
 //! Room for the answer to a batch.
 ghost use Rattle.std.specs.Prelude.{◌≡◌, ◌+◌, ◌≤◌, ◌++◌, [], IfOk, length, map, vec_len, vec_capacity};
 ghost use Rattle.rb_scratch.specs.Batches.{names_of_all};
-ghost use Rattle.rb_site.specs.Notes.{IsRoomFor};
+ghost use Rattle.rb_site.specs.Rooms.{IsRoomFor};
 ghost use Rattle.rb_site.specs.States.{Says};
 
 use crate::answer::Answer;
@@ -22,7 +22,7 @@ pub struct BatchRoom {
 
 impl Model for BatchRoom {
     ghost use Rattle.std.specs.Prelude.{◌≡◌, ◌≤◌, [], true, vec_capacity};
-    ghost use Rattle.rb_site.specs.Notes.{BatchRoomFor};
+    ghost use Rattle.rb_site.specs.Rooms.{BatchRoomFor};
 
     ghost Value = { BatchRoomFor };
 

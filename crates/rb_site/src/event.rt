@@ -1,7 +1,7 @@
 //! Events of a site.
 ghost use Rattle.std.specs.Prelude.{◌≡◌, ◌↔◌, IfOk, IsTrue};
 
-use crate::same::{same_in, same_message, same_name, same_place, same_request};
+use crate::same::{same_in, same_name, same_place, same_request};
 use crate::{Message, Requests};
 use rb_money::Place;
 use rb_scratch::Request;
@@ -58,9 +58,7 @@ impl Event {
                 same_in!(other, Event::Submit(it) => same_request(request, it))
             }
             Event::Batch(requests) => same_in!(other, Event::Batch(it) => requests.same(it)),
-            Event::Receive(message) => {
-                same_in!(other, Event::Receive(it) => same_message(message, it))
-            }
+            Event::Receive(message) => same_in!(other, Event::Receive(it) => message.same(it)),
             Event::Apply(name) => same_in!(other, Event::Apply(it) => same_name(name, it)),
             Event::Pass(to) => same_in!(other, Event::Pass(it) => *to == *it),
             Event::Balance(place) => same_in!(other, Event::Balance(it) => same_place(place, it)),

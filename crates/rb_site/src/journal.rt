@@ -1,18 +1,19 @@
 //! A site's ledger with its undo records.
-ghost use Rattle.std.specs.Prelude.{◌≡◌, ◌<◌, ◌≤◌, ◌++◌, ◌∷◌, ◌⊎◌, [], length, Some, None, Ok, Err, IfOk, IfErr, OnOk, OnErr, option_copied, ◌+◌, vec_len, vec_capacity};
+ghost use Rattle.std.specs.Prelude.{◌≡◌, ◌<◌, ◌≤◌, ◌++◌, ◌∷◌, ◌⊎◌, [], List, length, map, Some, None, Ok, Err, IfOk, IfErr, OnOk, OnErr, option_copied};
 ghost use Rattle.rb_ledger.specs.Checks.{refusal_of};
 ghost use Rattle.rb_ledger.specs.Records.{records_of};
 ghost use Rattle.rb_ledger.specs.Valid.{IsValid};
 ghost use Rattle.rb_shadow.specs.Operations.{clock_of, find_in, is_eligible};
-ghost use Rattle.rb_scratch.specs.Batches.{batch_of};
+ghost use Rattle.rb_shadow.specs.declared.shadow.Shadow.{Shadow as TheShadow};
+ghost use Rattle.rb_scratch.specs.Batches.{batch_of, names_of_all};
 ghost use Rattle.rb_statements.specs.Statements.{balance_as_of};
 ghost use Rattle.rb_token.specs.Token.{Token};
 ghost use Rattle.rb_token.specs.Seat.{Shows};
-ghost use Rattle.rb_site.specs.Notes.{IsRoomFor};
+ghost use Rattle.rb_site.specs.States.{Says};
 
-use crate::Message;
+use crate::answer::Answer;
 use crate::batch::run_batch;
-use crate::batch_room::BatchRoom;
+use crate::{Message, Reply};
 use core::mem::replace_with;
 use rb_ledger::Ledger;
 use rb_money::{Config, Place, Refusal};
@@ -140,7 +141,8 @@ impl Journal {
     }
 
     /// Makes the requests of a batch at the site of the token's view, each after those before it: all of
-    /// them or none. Their shadows are given in order, with room for the answer and for their messages.
+    /// them or none. The answer names the operations, and their messages are put at the end of what was
+    /// sent.
     ///
     /// Refuses, and changes nothing: with `BatchRefused` by the first request at fault, or with
     /// `OutOfMemory`.
@@ -151,14 +153,13 @@ impl Journal {
         requests: &[Request],
         keeps: bool,
         sent: &mut Vec<Message>,
-    ) -> Result<(Vec<Shadow>, BatchRoom), Refusal>
+    ) -> Result<Answer, Refusal>
         requires site { token.me < self.old.settings.sites }
         requires few { length requests.now ≤ 16 }
-        ensures made { IfOk result (λ made. (self.new ≡ record self.old { ops = self.old.ops ++ made.0.items })
-            × ((known : Token) → Shows token known → batch_of self.old.settings token.me self.old.ops known 0 requests.now ≡ Ok made.0.items)) }
-        ensures room { IfOk result (λ made. IsRoomFor made.1 keeps (length requests.now) × (vec_len sent.new + length requests.now ≤ vec_capacity sent.new)) }
-        ensures sent { sent.new.items ≡ sent.old.items }
-        ensures refused { IfErr result (λ why. (self.new ≡ self.old)
+        ensures made { IfOk result (λ answer. (made : List TheShadow) × (self.new ≡ record self.old { ops = self.old.ops ++ made })
+            × Says keeps answer (Reply.Names (names_of_all made)) × (sent.new.items ≡ sent.old.items ++ map Message.Shadow made)
+            × ((known : Token) → Shows token known → batch_of self.old.settings token.me self.old.ops known 0 requests.now ≡ Ok made)) }
+        ensures refused { IfErr result (λ why. (self.new ≡ self.old) × (sent.new.items ≡ sent.old.items)
             × ((why ≡ Refusal.OutOfMemory) ⊎ ((known : Token) → Shows token known → batch_of self.old.settings token.me self.old.ops known 0 requests.now ≡ Err why))) }
     {
         run_batch(

@@ -1,7 +1,6 @@
 //! Comparison of what events and replies hold.
 ghost use Rattle.std.specs.Prelude.{◌≡◌, ◌↔◌, IsTrue};
 
-use crate::Message;
 use rb_money::{Place, Refusal};
 use rb_scratch::Request;
 use rb_shadow::{Label, OpName};
@@ -59,14 +58,4 @@ pub fn same_token(first: &TokenMessage, second: &TokenMessage) -> bool
     ensures { IsTrue result ↔ (first.now ≡ second.now) }
 {
     first.epoch == second.epoch && first.to == second.to && first.red == second.red
-}
-
-/// Whether two messages are equal.
-pub fn same_message(first: &Message, second: &Message) -> bool
-    ensures { IsTrue result ↔ (first.now ≡ second.now) }
-{
-    match first {
-        Message::Shadow(shadow) => same_in!(second, Message::Shadow(it) => shadow.same(it)),
-        Message::Token(token) => same_in!(second, Message::Token(it) => same_token(token, it)),
-    }
 }

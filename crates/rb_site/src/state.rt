@@ -125,6 +125,7 @@ impl State {
         (entries, clock, token)
     }
 
+    #[inline(always)]
     #[tactic(auto, unfolding(crate::specs::Events::outcome_of))]
     /// One event, for a history that keeps replies or doesn't. What it sends goes to the end of the messages
     /// sent. After want of memory the state and the messages are as before.
@@ -140,7 +141,7 @@ impl State {
         match event {
             Event::Submit(request) => self.submit(request, sent),
             Event::Batch(requests) => self.batch(requests, keeps, sent),
-            Event::Receive(Message::Shadow(shadow)) => self.receive(*shadow),
+            Event::Receive(Message::Shadow(shadow)) => self.receive(shadow),
             Event::Receive(Message::Token(message)) => Ok(self.accept(*message)),
             Event::Apply(name) => self.apply(*name),
             Event::Pass(to) => self.pass(*to, sent),
@@ -185,11 +186,8 @@ impl State {
             return Ok(Answer::plain(Reply::Refused(Refusal::BadBatch)));
         }
         let token = self.token.view();
-        let why = match self
-            .journal
-            .batch(self.alloc, token, asked, keeps, &mut *sent)
-        {
-            Ok((made, room)) => return Ok(room.filled(made.as_slice(), sent)),
+        let why = match self.journal.batch(self.alloc, token, asked, keeps, sent) {
+            Ok(answer) => return Ok(answer),
             Err(why) => why,
         };
         if let Refusal::OutOfMemory = why {
@@ -198,22 +196,23 @@ impl State {
         Ok(Answer::plain(Reply::Refused(why)))
     }
 
+    #[inline(always)]
     #[tactic(auto, unfolding(crate::specs::Events::outcome_of_shadow))]
     /// A shadow from another site is held until it is applied.
-    fn receive(&mut self, shadow: Shadow) -> Result<Answer, AllocError>
-        ensures ok { IfOk result (Follows true self.old self.new [] [] (outcome_of_shadow self.old.settings self.old.site shadow)) }
+    fn receive(&mut self, shadow: &Shadow) -> Result<Answer, AllocError>
+        ensures ok { IfOk result (Follows true self.old self.new [] [] (outcome_of_shadow self.old.settings self.old.site shadow.now)) }
         ensures err { OnErr result (self.new ≡ self.old) }
     {
         if let Err(why) = shadow.sound(self.journal.config()) {
             return Ok(Answer::plain(Reply::Refused(why)));
         }
         if let Some(applied) = self.journal.applied(&shadow.name) {
-            return Ok(again(&shadow, applied));
+            return Ok(again(shadow, applied));
         }
         if shadow.home == self.token.view().me {
             return Ok(Answer::plain(Reply::Refused(Refusal::Conflict)));
         }
-        self.hold(shadow)
+        self.hold(*shadow)
     }
 
     /// A sound shadow that isn't applied here is held until it is.

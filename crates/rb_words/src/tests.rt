@@ -4,9 +4,11 @@ use std::alloc::Global;
 use std::test::Fail;
 
 #[test]
-fn reads_script(rt: HostRuntime) -> Result<(), Fail> {
+fn reads_each_command(rt: HostRuntime) -> Result<(), Fail> {
     let words = read_words(rt.alloc(), ["script"].as_slice());
     assert_eq!(rt; words.ok(), Some(Words::Script));
+    let words = read_words(rt.alloc(), ["audit"].as_slice());
+    assert_eq!(rt; words.ok(), Some(Words::Audit));
     Ok(())
 }
 
@@ -30,6 +32,7 @@ fn refuses_other_words(rt: HostRuntime) {
     assert!(rt; are_wrong(alloc, ["Script"].as_slice()));
     assert!(rt; are_wrong(alloc, ["scripts"].as_slice()));
     assert!(rt; are_wrong(alloc, ["script", "script"].as_slice()));
+    assert!(rt; are_wrong(alloc, ["script", "audit"].as_slice()));
     assert!(rt; are_wrong(alloc, ["--", "script"].as_slice()));
     assert!(rt; are_wrong(alloc, ["script", "--sites", "2"].as_slice()));
 }

@@ -12,6 +12,8 @@ use std::alloc::{AllocError, Global};
 pub enum Words {
     /// To answer the script on standard input.
     Script,
+    /// To audit the histories on standard input.
+    Audit,
 }
 
 /// The command line that the program takes.
@@ -21,7 +23,8 @@ fn command<'a>(alloc: Global) -> Result<Command<'a>, AllocError>
     Command::new(alloc, "rbbank")
         .no_binary_name(true)
         .subcommand_required(true)
-        .subcommand(Command::new(alloc, "script"))
+        .subcommand(Command::new(alloc, "script"))?
+        .subcommand(Command::new(alloc, "audit"))
 }
 
 /// What the words ask for, where they are just its words.
@@ -31,6 +34,7 @@ fn asked_for(words: &[&str]) -> Option<Words>
 {
     match words {
         ["script"] => Some(Words::Script),
+        ["audit"] => Some(Words::Audit),
         _ => None,
     }
 }

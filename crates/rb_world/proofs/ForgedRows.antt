@@ -74,6 +74,12 @@ cancel_of_a_missing_site : replies_to_events (record { sites = 2; names = codes 
 unfolding place bal past clock_of is_eligible same_shadow names_listed fault_of plan_of operation_of allowed made_of outcome_of outcome_of_shadow outcome_of_token outcome_of_apply outcome_of_pass made_in_batch batch_of statement_of
 cancel_of_a_missing_site = refl
 
+cancel_of_a_missing_site_that_is_counted : replies_to_events (record { sites = 2; names = codes "ann" ∷ []; starts = (100) ∷ []; limits = record { blue = 1000000; red = 1000000; inbox = 4096; history = 100000000; epoch = 4000000000 } }) (first_site 1)
+    ((Receive (ShadowMessage (record { name = (Blue 0 2); home = 0; deps = record { blue = (1) ∷ (0) ∷ (1) ∷ (0) ∷ (0) ∷ (0) ∷ (0) ∷ (0) ∷ []; red = 0 }; account = (place 0); amount = 5; kind = (Cancel (Blue 2 1)) }))) ∷ [])
+    ≡ (Refused (BadMessage 6)) ∷ []
+unfolding place bal past clock_of is_eligible same_shadow names_listed fault_of plan_of operation_of allowed made_of outcome_of outcome_of_shadow outcome_of_token outcome_of_apply outcome_of_pass made_in_batch batch_of statement_of
+cancel_of_a_missing_site_that_is_counted = refl
+
 cancel_of_number_nothing : replies_to_events (record { sites = 2; names = codes "ann" ∷ []; starts = (100) ∷ []; limits = record { blue = 1000000; red = 1000000; inbox = 4096; history = 100000000; epoch = 4000000000 } }) (first_site 1)
     ((Receive (ShadowMessage (record { name = (Blue 0 2); home = 0; deps = record { blue = (1) ∷ (0) ∷ (0) ∷ (0) ∷ (0) ∷ (0) ∷ (0) ∷ (0) ∷ []; red = 0 }; account = (place 0); amount = 5; kind = (Cancel (Blue 0 0)) }))) ∷ [])
     ≡ (Refused (BadMessage 6)) ∷ []

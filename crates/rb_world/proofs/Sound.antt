@@ -16,7 +16,7 @@ use Rattle.rb_shadow.specs.declared.kind.Kind.{Kind}
 use Rattle.rb_shadow.specs.declared.kind.Kind.TheVariants.{Deposit, Withdraw, Declined, Interest, Cancel}
 use Rattle.rb_shadow.specs.declared.shadow.Shadow.{Shadow}
 use Rattle.rb_shadow.specs.Operations.{Among, blue_count, clock_of, entry_of, is_red, names_of_clock, number_of, past, red_count}
-use Rattle.rb_shadow.specs.Sound.{IsSound, are_entries, cancels_unseen, fault_of, is_clock, is_foreign, is_miscoloured, limit_of, may_be_nothing}
+use Rattle.rb_shadow.specs.Sound.{IsSound, are_entries, cancels_unseen, fault_of, is_absent, is_clock, is_foreign, is_miscoloured, limit_of, may_be_nothing}
 use Rattle.rb_shadow.proofs.Members
 use Rattle.rb_shadow.proofs.Clocks
 use Rattle.rb_shadow.proofs.Clocks.{IsCounted}
@@ -117,7 +117,7 @@ is_sound : (s : Settings) (v : Shadow)
     → nat_le (length s.starts) v.account.0 ≡ false
     → (nat_lt 100000000000 v.amount || (v.amount == 0 && not (may_be_nothing v.kind))) ≡ false
     → is_miscoloured v.kind v.name ≡ false
-    → cancels_unseen v.kind v.deps ≡ false
+    → cancels_unseen s.sites v.kind v.deps ≡ false
     → (not (is_clock s.sites s.limits v.deps) || not (entry_of v.deps v.name + 1 == number_of v.name)) ≡ false
     → IsSound s v
 unfolding fault_of
@@ -143,12 +143,14 @@ clock_has : (v : Shadow) (x : OpName) → past v x ≡ true → names_of_clock v
 unfolding past
 clock_has v x h = h
 
-seen : (all : List Shadow) (v : Shadow) (k : Kind) → HasKind all v k → cancels_unseen k v.deps ≡ false
-seen all v Deposit h = refl
-seen all v Withdraw h = refl
-seen all v Declined h = refl
-seen all v Interest h = refl
-seen all v (Cancel x) h = ap not (clock_has v x h.seen)
+seen : (s : Settings) (all us : List Shadow) (v : Shadow) (p : Plan) (k : Kind) → ((u : Shadow) → Among u us → IsSound s u) → HasKind all v k → IsPlanned s us p k → cancels_unseen s.sites k v.deps ≡ false
+seen s all us v p Deposit sound h planned = refl
+seen s all us v p Withdraw sound h planned = refl
+seen s all us v p Declined sound h planned = refl
+seen s all us v p Interest sound h planned = refl
+seen s all us v p (Cancel x) sound h planned =
+    let t = planned.target in
+    Members.false-or _ _ (ap (is_absent s.sites) (sym planned.named) ∙ SoundFacts.is_present s t (SoundFacts.sound_facts s t (sound t planned.there))) (ap not (clock_has v x h.seen))
 
 -- the account and the amount of what is made
 pub record IsMeasured (s : Settings) (p : Plan) (k : Kind) : Type 0 where
@@ -196,7 +198,7 @@ sound_made s all us me token v low o right l sound n made =
     (ap (λ (a : Place). nat_le (length s.starts) a.0) m.account ∙ size.account)
     (ap (λ a. nat_lt 100000000000 a || (a == 0 && not (may_be_nothing v.kind))) m.amount ∙ ap (λ k. nat_lt 100000000000 made.plan.amount || (made.plan.amount == 0 && not (may_be_nothing k))) m.kind ∙ Members.false-or _ _ size.amount size.something)
     (right_colour (all ++ v ∷ []) v v.kind v.name refl kind)
-    (seen (all ++ v ∷ []) v v.kind kind)
+    (seen s (all ++ v ∷ []) us v made.plan v.kind in_list kind (subst (IsPlanned s us made.plan) (sym m.kind) plan))
     (Members.false-or _ _ (ap not (ap (is_clock s.sites s.limits) deps ∙ clock_sound s us (Order.counted all us o l) in_list)) (same (entry_of v.deps v.name + 1) (number_of v.name) n.next.own))
   where
     in_list : (u : Shadow) → Among u us → IsSound s u

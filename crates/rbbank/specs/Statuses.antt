@@ -1,13 +1,13 @@
 -- The statuses that the program ends with.
-use Rattle.std.specs.Prelude.{◌≡◌, ◌⊎◌, ℕ}
+use Rattle.std.specs.Prelude.{◌≡◌, ◌⊎◌, ℕ, Bool, true, false, Result, Ok, Err}
 use Rattle.std.specs.declared.io.ErrorKind.{ErrorKind as IoErrorKind}
 use Rattle.std.specs.declared.io.ErrorKind.TheVariants.{OutOfMemory as IoOutOfMemory}
 use Rattle.clap.specs.declared.error.kind.ErrorKind.{ErrorKind}
 use Rattle.clap.specs.declared.error.kind.ErrorKind.TheVariants.{DisplayHelp, OutOfMemory}
-use Rattle.rb_script.specs.declared.fault.ScriptFault.{ScriptFault}
-use Rattle.rb_script.specs.Messages.{status_of}
+use Rattle.rb_lines.specs.declared.fault.ScriptFault.{ScriptFault}
+use Rattle.rb_lines.specs.Messages.{status_of}
 
--- where the words ask for no script: help that was asked for is no fault
+-- where the words ask for nothing: help that was asked for is no fault
 abbrev pub status_of_words : ErrorKind → ℕ
 status_of_words OutOfMemory = 4
 status_of_words DisplayHelp = 0
@@ -18,6 +18,21 @@ abbrev pub status_of_unread : IoErrorKind → ℕ
 status_of_unread IoOutOfMemory = 4
 status_of_unread _ = 2
 
--- 0, or the status of a fault
+-- the status of a fault, or 4 for want of memory for its text
+abbrev pub IsToldFault : ScriptFault → ℕ → Type 0
+IsToldFault fault n = (n ≡ status_of fault) ⊎ (n ≡ 4)
+
+-- a script that was answered whole is no fault
+abbrev pub IsEndOfScript : Result ℕ ScriptFault → ℕ → Type 0
+IsEndOfScript (Ok count) n = n ≡ 0
+IsEndOfScript (Err fault) n = IsToldFault fault n
+
+-- an audit ends in 0 where it found an order, and in 1 where it found that no world has the histories
+abbrev pub IsEndOfAudit : Result Bool ScriptFault → ℕ → Type 0
+IsEndOfAudit (Ok true) n = n ≡ 0
+IsEndOfAudit (Ok false) n = n ≡ 1
+IsEndOfAudit (Err fault) n = IsToldFault fault n
+
+-- 0, 1, or the status of a fault
 abbrev pub IsEnd : ℕ → Type 0
-IsEnd n = (n ≡ 0) ⊎ ((fault : ScriptFault) × (n ≡ status_of fault))
+IsEnd n = (n ≡ 0) ⊎ ((n ≡ 1) ⊎ ((fault : ScriptFault) × (n ≡ status_of fault)))

@@ -1,14 +1,21 @@
-//! `rbbank`: the sites of a bank, driven by a script.
+//! `rbbank`: the sites of a bank, driven by a script, and audits of their histories.
 #![tactic(auto)]
 
-ghost use Rattle.std.specs.Prelude.{◌≡◌, ◌⊎◌};
+ghost use Rattle.std.specs.Prelude.{◌≡◌};
 ghost use Rattle.std.specs.IoError.{error_kind};
 ghost use Rattle.std.specs.Process.{exit_status};
 ghost use Rattle.clap.specs.Words.{kind_of};
-ghost use Rattle.rb_script.specs.Messages.{status_of};
-ghost use Rattle.rbbank.specs.Statuses.{IsEnd, status_of_unread, status_of_words};
+ghost use Rattle.rbbank.specs.Statuses.{IsEnd, IsEndOfAudit, IsEndOfScript, IsToldFault, status_of_unread, status_of_words};
 
+#[cfg(test)]
+mod command_tests;
+#[cfg(test)]
+mod entry_tests;
+#[cfg(test)]
+mod forged_tests;
 mod from_reader;
+#[cfg(test)]
+mod line_tests;
 #[cfg(test)]
 mod refused_tests;
 #[cfg(test)]
@@ -19,12 +26,17 @@ mod to_writer;
 
 use clap::error::ErrorKind;
 use from_reader::FromReader;
-use rb_script::{ScriptFault, message, run_script, status};
+use rb_audit::run_audit;
+use rb_lines::{ScriptFault, message, status};
+use rb_script::run_script;
 use rb_words::{Words, read_words};
 use std::alloc::AllocError;
 use std::process::ExitCode;
 use std::{env, io};
 use to_writer::ToWriter;
+
+/// The status where histories are no world's.
+const FAULT_FOUND: u8 = 1;
 
 /// The status where the words are wrong.
 const WRONG_WORDS: u8 = 2;
@@ -39,10 +51,9 @@ fn out_of_memory(rt: &HostRuntime) -> ExitCode
     ExitCode::from(NO_MEMORY)
 }
 
-/// Says why a script stopped.
+/// Says why a script or an audit stopped.
 fn tell_fault(rt: &HostRuntime, fault: ScriptFault) -> ExitCode
-    // 4 is for want of memory for the text.
-    ensures { (exit_status result ≡ status_of fault) ⊎ (exit_status result ≡ 4) }
+    ensures { IsToldFault fault (exit_status result) }
 {
     match message(rt.alloc(), fault) {
         Ok(line) => {
@@ -83,16 +94,45 @@ fn tell_unread(rt: &HostRuntime, error: io::Error) -> ExitCode
     }
 }
 
+/// How a script ends the program.
+fn end_of_script(rt: &HostRuntime, answered: Result<u64, ScriptFault>) -> ExitCode
+    ensures { IsEndOfScript answered (exit_status result) }
+{
+    match answered {
+        Ok(_) => ExitCode::SUCCESS,
+        Err(fault) => tell_fault(rt, fault),
+    }
+}
+
+/// How an audit ends the program.
+fn end_of_audit(rt: &HostRuntime, answered: Result<bool, ScriptFault>) -> ExitCode
+    ensures { IsEndOfAudit answered (exit_status result) }
+{
+    match answered {
+        Ok(true) => ExitCode::SUCCESS,
+        Ok(false) => ExitCode::from(FAULT_FOUND),
+        Err(fault) => tell_fault(rt, fault),
+    }
+}
+
 /// Answers the script on standard input.
 fn script(rt: &HostRuntime) -> ExitCode
     ensures { IsEnd (exit_status result) }
 {
     let mut reader = FromReader::new(rt.reader());
     let mut writer = ToWriter::new(io::writer(rt));
-    match run_script(rt.alloc(), &mut reader, &mut writer) {
-        Ok(_) => ExitCode::SUCCESS,
-        Err(fault) => tell_fault(rt, fault),
-    }
+    let answered = run_script(rt.alloc(), &mut reader, &mut writer);
+    end_of_script(rt, answered)
+}
+
+/// Audits the histories on standard input.
+fn audit(rt: &HostRuntime) -> ExitCode
+    ensures { IsEnd (exit_status result) }
+{
+    let mut reader = FromReader::new(rt.reader());
+    let mut writer = ToWriter::new(io::writer(rt));
+    let answered = run_audit(rt.alloc(), &mut reader, &mut writer);
+    end_of_audit(rt, answered)
 }
 
 /// Does what the words ask for.
@@ -116,6 +156,7 @@ fn run(rt: &HostRuntime) -> ExitCode
     };
     match read_words(alloc, views.as_slice()) {
         Ok(Words::Script) => script(rt),
+        Ok(Words::Audit) => audit(rt),
         Err(error) => tell_words(rt, error),
     }
 }

@@ -11,8 +11,9 @@ use crate::tests::{
 };
 use crate::to_writer::ToWriter;
 use rb_ledger::Ledger;
+use rb_lines::ScriptFault;
 use rb_money::{Config, Place};
-use rb_script::{ScriptFault, run_script};
+use rb_script::run_script;
 use rb_shadow::Shadow;
 use rb_site::{Message, Reply, Site, WorldEvent};
 use rb_undo::UndoLog;

@@ -5,7 +5,7 @@ ghost use Rattle.rb_site.specs.Worlds.{IsCommand};
 use crate::from_reader::FromReader;
 use crate::rows::{ROWS, Row, two_hundred_backwards};
 use crate::to_writer::ToWriter;
-use rb_history::{LineFault, read_command, read_config, write_reply};
+use rb_commands::{LineFault, read_command, read_config, write_reply};
 use rb_ledger::Ledger;
 use rb_money::{Config, Place};
 use rb_scratch::Request;

@@ -6,6 +6,7 @@ use Rattle.rb_shadow.specs.declared.shadow.Shadow.{Shadow}
 use Rattle.rb_scratch.specs.Effects.{plan_of_effect}
 use Rattle.rb_scratch.proofs.Generated
 use Rattle.rb_scratch.proofs.Makes
+use Rattle.rb_scratch.proofs.Originals
 use Rattle.rb_scratch.proofs.generator.carry_out.Goals as goal
 
 few_sites : (s t : Settings) (n : ℕ) → t ≡ s → n ≡ t.sites → n ≤ most_sites → s.sites ≤ most_sites
@@ -45,3 +46,9 @@ returns-in-Ok-permit_red-clause-valid c =
 pub returns-in-Err-permit_red-clause-made : goal.returns-in-Err-permit_red-clause-made
 returns-in-Err-permit_red-clause-made c =
     λ known shows. sym (Generated.red_made _ _ _ known _ _ _ (c.requires.plan).1 c.in-Ok.ensures.0 c.in-Ok.ensures.1 (sym c.requires.colour ∙ c.in-Red.is) ∙ c.in-Err-permit_red.ensures known shows) ∙ Generated.planned _ _ _ known _ _ (c.requires.plan).1
+
+pub returns-in-Blue-clause-original : goal.returns-in-Blue-clause-original
+returns-in-Blue-clause-original c = λ request planned. Originals.plan_original _ c.args.token.now.me _ _ _ request c.config.ensures.valid c.in-Ok.ensures.0 planned
+
+pub returns-in-Ok-permit_red-clause-original : goal.returns-in-Ok-permit_red-clause-original
+returns-in-Ok-permit_red-clause-original c = λ request planned. Originals.plan_original _ c.args.token.now.me _ _ _ request c.config.ensures.valid c.in-Ok.ensures.0 planned

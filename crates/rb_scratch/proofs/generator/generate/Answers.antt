@@ -1,6 +1,7 @@
 -- A request makes what its decision comes to.
 use Rattle.std.proofs.Common.{◌∙◌, sym}
 use Rattle.rb_scratch.proofs.Generated
+use Rattle.rb_scratch.proofs.Originals
 use Rattle.rb_scratch.proofs.generator.generate.Goals as goal
 
 pub carry_out-requires-clause-plan : goal.carry_out-requires-clause-plan
@@ -11,3 +12,6 @@ returns-in-Ok-clause-made c = λ known shows. c.carry_out.ensures.made known sho
 
 pub returns-in-Err-clause-made : goal.returns-in-Err-clause-made
 returns-in-Err-clause-made c = λ known shows. sym (Generated.unplanned _ _ _ known _ _ c.in-Err.ensures.plan)
+
+pub returns-in-Ok-clause-original : goal.returns-in-Ok-clause-original
+returns-in-Ok-clause-original c = Originals.of_request _ _ _ _ c.carry_out.result c.carry_out.ensures.original c.in-Ok.ensures.plan

@@ -13,8 +13,8 @@ pub returns-in-Ok-apply_valid-clause-ran : goal.returns-in-Ok-apply_valid-clause
 returns-in-Ok-apply_valid-clause-ran c = (
   c.in-Ok.shadow,
   refl,
-  Tries.added c.args.ledger.now c.apply_valid.new.self c.args.undos.now.parts c.push_reserved.new.self.parts c.in-Ok.shadow c.in-Ok-apply_valid.ensures.settings c.in-Ok-apply_valid.ensures.applied.0
-      (c.push_reserved.ensures.parts ∙ ap (λ ps. ps ++ c.in-Ok-apply_valid.undo ∷ []) c.reserve.ensures.parts ∙ ap (λ (p : UndoParts). c.args.undos.now.parts ++ p ∷ []) c.in-Ok-apply_valid.ensures.applied.1),
+  Tries.added c.args.ledger.now c.apply_valid.new.self c.args.undos.now.parts c.push.new.self.parts c.in-Ok.shadow c.in-Ok-apply_valid.ensures.settings c.in-Ok-apply_valid.ensures.applied.0
+      (c.push.ensures ∙ ap (λ (p : UndoParts). c.args.undos.now.parts ++ p ∷ []) c.in-Ok-apply_valid.ensures.applied.1),
   λ known shows. sym (c.in-Ok.ensures.made known shows),
 )
 

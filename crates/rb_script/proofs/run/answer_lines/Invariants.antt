@@ -1,6 +1,6 @@
 use Rattle.std.proofs.Common.{◌≡◌, ◌≤◌, ◌+◌, ◌*◌, true, false}
 use Rattle.std.specs.Io.KnownBytes.{IsAtEnd}
-use Rattle.rb_script.specs.Buffers.{Counts, left}
+use Rattle.rb_lines.specs.Buffers.{Counts, left}
 use Rattle.rb_script.proofs.Progress.{IsAt}
 use Rattle.rb_script.proofs.run.answer_lines.Given as goal
 

@@ -9,3 +9,6 @@ single (w ∷ x ∷ ws) d text some few is = absurd (omega arith)
 
 pub returns-in-script-clause-some : goal.returns-in-script-clause-some
 returns-in-script-clause-some c = single c.args.words.now _ _ c.in-script.len_at_least c.in-script.len_below c.in-script.is-script
+
+pub returns-in-audit-clause-some : goal.returns-in-audit-clause-some
+returns-in-audit-clause-some c = single c.args.words.now _ _ c.in-audit.len_at_least c.in-audit.len_below c.in-audit.is-audit

@@ -5,12 +5,13 @@ use Rattle.clap.specs.Words.{takes}
 use Rattle.clap.proofs.OnLiterals.{clap_on_literals}
 use Rattle.rb_words.specs.Words.{command_line, words_of}
 use Rattle.rb_words.specs.declared.words.Words.{Words}
-use Rattle.rb_words.specs.declared.words.Words.TheVariants.{Script}
+use Rattle.rb_words.specs.declared.words.Words.TheVariants.{Script, Audit}
 use Rattle.rb_words.proofs.words.read_words.Goals as goal
 
 are_taken : (asked : Words) → takes command_line (words_of asked) ≡ true
 unfolding clap_on_literals
 are_taken Script = refl
+are_taken Audit = refl
 
 pub returns-in_err-_matches-clause-err : goal.returns-in_err-_matches-clause-err
 returns-in_err-_matches-clause-err c =

@@ -1,5 +1,5 @@
 use Rattle.std.proofs.Common.{rules, ◌≡◌, ◌∙◌, ◌+◌, [], false, Some, ap, sym, append-nil}
-use Rattle.rb_script.specs.Lines.{is_blank, is_long}
+use Rattle.rb_lines.specs.Lines.{is_blank, is_long}
 use Rattle.rb_script.proofs.Opens.{opens}
 use Rattle.rb_script.proofs.session.Session.answer_line.Goals as goal
 

@@ -1,0 +1,89 @@
+"""The histories of a mixed run: what each site recorded, as `rbbank audit` reads it.
+
+Follows the mix as it goes and keeps beside it what each site knows, for the replies of deliveries.
+"""
+import json
+
+import mix
+
+# A shadow's clock is written with as many sites.
+MOST_SITES = 8
+
+
+def written(value):
+    """A JSON value as the program writes it."""
+    return json.dumps(value, separators=(",", ":"), sort_keys=True)
+
+
+def shadow(run, operation):
+    """An operation as it travels."""
+    blue = list(operation.clock) + [0] * (MOST_SITES - len(operation.clock))
+    told = {
+        "account": run.names[operation.account],
+        "amount": operation.amount,
+        "deps": [blue, operation.reds],
+        "home": operation.home,
+        "kind": operation.kind,
+        "name": operation.name,
+    }
+    return told | ({"target": operation.target.name} if operation.kind == "cancel" else {})
+
+
+class Known:
+    """What each site has heard of: operations by name, and its greatest epoch."""
+
+    def __init__(self, sites):
+        self.names = [set() for _ in range(sites)]
+        self.epochs = [0] * sites
+
+    def hears(self, site, name):
+        """Whether the operation is new to the site."""
+        new = name not in self.names[site]
+        self.names[site].add(name)
+        return new
+
+    def sees(self, site, epoch):
+        """Whether the epoch is above all that the site has seen."""
+        new = epoch > self.epochs[site]
+        self.epochs[site] = max(epoch, self.epochs[site])
+        return new
+
+
+def delivered(run, known, site, number, to_token):
+    """The event and the reply of a delivery. A token message has its addressee beside it."""
+    message = run.sent[number - 1]
+    if isinstance(message, mix.Operation):
+        reply = "held" if known.hears(site, message.name) else "already"
+        return {"shadow": shadow(run, message)}, {reply: message.name}
+    epoch, needed = message
+    return {"token": [epoch, to_token[number], needed]}, {"taken" if known.sees(site, epoch) else "stale": epoch}
+
+
+def recorded(run, known, to_token, event, site):
+    """The event and its reply as the site records them, after the run went on by the command."""
+    verb, asked = next(iter(event.items()))
+    if verb == "deliver":
+        return delivered(run, known, site, asked, to_token)
+    if verb == "apply":
+        return event, {"applied": asked}
+    if verb == "balance":
+        return event, {"balance": run.sites[site].balances[run.names.index(asked)]}
+    if verb == "pass":
+        to_token[len(run.sent)] = asked
+        known.sees(site, run.sites[site].epoch)
+        return event, {"passed": run.sites[site].epoch}
+    made = run.sent[-1]
+    known.hears(site, made.name)
+    return event, {"kind": made.kind, "name": made.name}
+
+
+def histories(seed, entries, **of_mix):
+    """The accounts with their starts, and then so many lines of histories."""
+    run, picked = mix.opened(seed, **of_mix)
+    known, to_token = Known(len(run.sites)), {}
+    yield picked
+    for done in range(entries):
+        event = json.loads(run.command(entries - done))
+        site = event.pop("site")
+        event, reply = recorded(run, known, to_token, event, site)
+        yield written({"event": event, "reply": reply, "site": site})

@@ -1,0 +1,5 @@
+pub mod Follows
+pub mod Histories
+pub mod Owed
+pub mod Taken
+pub mod Told

@@ -1,0 +1,3 @@
+pub mod Collects
+pub mod Inputs
+pub mod Run

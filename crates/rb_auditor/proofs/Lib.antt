@@ -1,0 +1,10 @@
+pub mod Ends
+pub mod Lists
+pub mod Replaying
+pub mod Messages
+pub mod Runs
+pub mod Takings
+pub mod Following
+pub mod Refuting
+pub mod Listed
+pub mod Stepping

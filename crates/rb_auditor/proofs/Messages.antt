@@ -1,0 +1,50 @@
+-- Messages that were sent.
+use Rattle.std.proofs.Common.{◌≡◌, ℕ, suc, List, [], ◌∷◌, ◌++◌, ap, sym, ◌∙◌, inl, inr, subst, Some}
+use Rattle.std.specs.Prelude.{slice_get}
+use Rattle.std.proofs.lemmas.List.{append-nil}
+use Rattle.rb_money.specs.Settings.{Settings}
+use Rattle.rb_site.specs.declared.entry.Entry.{Entry}
+use Rattle.rb_site.specs.declared.event.Event.{Event}
+use Rattle.rb_site.specs.declared.event.Event.TheVariants.{Submit, Batch, Receive, Apply, Pass, Balance, AsOf, Statement as AskStatement}
+use Rattle.rb_site.specs.declared.message.Message.{Message}
+use Rattle.rb_site.specs.Events.{ModelSite, after_events, sent_at}
+use Rattle.rb_site.specs.Histories.{IsAmong, events_of, sends_of}
+use Rattle.rb_site.proofs.Recorded.{IsFrom}
+use Rattle.rb_site.proofs.Runs
+use Rattle.rb_site.proofs.Stuck
+use Rattle.rb_auditor.specs.Progress.{IsHeldUp, MayCome}
+
+-- the number of a message that was sent
+pub numbered : (m : Message) (ms : List Message) → IsAmong m ms → (k : ℕ) × (slice_get ms k ≡ Some m)
+numbered m [] h = elim h [ ]
+numbered m (n ∷ ms) (inl e) = (0, ap Some (sym e))
+numbered m (n ∷ ms) (inr h) = let (k, at) = numbered m ms h in (suc k, at)
+
+-- what comes from the messages may come
+pub may_come : (ms : List Message) (e : Event) → IsFrom ms e → MayCome ms e
+may_come ms (Receive m) (k, at) = Stuck.placed ms k m at
+may_come ms (Submit r) h = tt
+may_come ms (Batch rs) h = tt
+may_come ms (Apply x) h = tt
+may_come ms (Pass to) h = tt
+may_come ms (Balance a) h = tt
+may_come ms (AsOf a n) h = tt
+may_come ms (AskStatement a) h = tt
+
+-- what is held up can't come
+pub held_up : (ms : List Message) (xs rest : List Entry) (x : Entry) → IsHeldUp ms xs → xs ≡ x ∷ rest → MayCome ms x.event → ⊥
+held_up ms [] rest x h e come = cc
+held_up ms (y ∷ ys) rest x (m, is, not) e come =
+    let same : y ≡ x = cc in
+    let event : x.event ≡ Receive m = ap (λ (z : Entry). z.event) (sym same) ∙ is in
+    not (the (subst (MayCome ms) event come))
+  where
+    the : MayCome ms (Receive m) → IsAmong m ms
+    the h = h
+
+-- what one entry more sends
+pub sends_more : (s : Settings) (t : ModelSite) (xs : List Entry) (x : Entry) → sends_of s t (events_of (xs ++ x ∷ [])) ≡ sends_of s t (events_of xs) ++ sent_at s (after_events s t (events_of xs)) x.event
+sends_more s t xs x =
+    ap (sends_of s t) (Runs.map-append (λ (y : Entry). y.event) xs (x ∷ []))
+    ∙ Stuck.sends-append s (events_of xs) (x.event ∷ []) t
+    ∙ ap (λ ms. sends_of s t (events_of xs) ++ ms) (append-nil (sent_at s (after_events s t (events_of xs)) x.event))

@@ -1,0 +1,117 @@
+-- What an audit finds shows that no world has the histories.
+use Rattle.std.proofs.Common.{◌≡◌, ℕ, ◌+◌, ◌<◌, List, [], ◌∷◌, ◌++◌, length, refl, ap, sym, subst, ◌∙◌, inl, inr, arith, Option, Some, None, false}
+use Rattle.std.specs.Prelude.{slice_get, slice_set}
+use Rattle.std.specs.Option.{option_map}
+use Rattle.std.specs.List.{range_with_len}
+use Rattle.std.proofs.lemmas.Bool.Decides.{nat_tests}
+use Rattle.std.proofs.lemmas.Option.{slice_get-map, slice_get_within}
+use Rattle.rb_money.specs.Settings.{Settings}
+use Rattle.rb_shadow.proofs.Members
+use Rattle.rb_site.specs.declared.entry.Entry.{Entry}
+use Rattle.rb_site.specs.declared.world_event.WorldEvent.{WorldEvent}
+use Rattle.rb_site.specs.Events.{ModelSite, after_event, first_site, is_full, reply_to}
+use Rattle.rb_site.specs.Histories.{AreOneWorlds, place_of}
+use Rattle.rb_site.specs.Seen.{entry}
+use Rattle.rb_site.specs.Worlds.{AreOwn, World, first_world, is_recorded, world_after, world_after_all, world_at, world_of_run}
+use Rattle.rb_site.proofs.Places
+use Rattle.rb_site.proofs.Recorded
+use Rattle.rb_site.proofs.Recorded.{IsRecorded}
+use Rattle.rb_site.proofs.Runs as SiteRuns
+use Rattle.rb_site.proofs.Seen
+use Rattle.rb_site.proofs.Stuck
+use Rattle.std.proofs.lemmas.List.{length-map}
+use Rattle.std.proofs.lemmas.List.FromFn.{length-range_with_len}
+use Rattle.rb_auditor.specs.declared.audit_fault.AuditFault.{AuditFault}
+use Rattle.rb_auditor.specs.declared.audit_fault.AuditFault.TheVariants.{WrongReply, Stuck, OutOfMemory}
+use Rattle.rb_auditor.specs.Certificates.{Certifies}
+use Rattle.rb_auditor.specs.Findings.{IsFirstWrong, IsReplay, IsStuckAt, Refutes}
+use Rattle.rb_auditor.specs.Progress.{IsWrongFound, site_after}
+use Rattle.rb_auditor.proofs.Replaying
+use Rattle.rb_auditor.proofs.Runs
+
+-- a site stands where its history leaves it, and that replays
+pub record IsAtItsHistory (s : Settings) (i : ℕ) (t : ModelSite) : Type 0 where
+  pub stands : site_after s i t.history ≡ t
+  pub replays : IsReplay s i t.history
+
+abbrev AllAtTheirs : Settings → World → Type 0
+AllAtTheirs s w = (i : ℕ) (t : ModelSite) → slice_get w.sites i ≡ Some t → IsAtItsHistory s i t
+
+room_below : (s : Settings) (t : ModelSite) → is_full s t ≡ false → length t.history < s.limits.history
+room_below s t free = grind (arith, nat_tests)
+
+goes_on : (s : Settings) (i : ℕ) (t : ModelSite) (x : Entry) → is_full s t ≡ false → x.reply ≡ reply_to s t x.event → IsAtItsHistory s i t → IsAtItsHistory s i (after_event s t x.event)
+goes_on s i t x free reply a = record {
+  stands = ap (site_after s i) grown ∙ Replaying.after_more s (first_site i) t.history x ∙ ap (λ u. after_event s u x.event) a.stands;
+  replays = subst (IsReplay s i) (sym grown) (subst (λ e. IsReplay s i (t.history ++ e ∷ [])) noted (Seen.replayed-stepped (record { settings = s; me = i; entries = t.history }) x.event (room_below s t free) a.replays));
+}
+  where
+    grown : (after_event s t x.event).history ≡ t.history ++ x ∷ []
+    grown = Recorded.noted_history s t x.event free ∙ ap (λ r. t.history ++ entry x.event r ∷ []) (sym reply)
+
+    noted : entry x.event (reply_to s (site_after s i t.history) x.event) ≡ x
+    noted = ap (λ u. entry x.event (reply_to s u x.event)) a.stands ∙ ap (entry x.event) (sym reply)
+
+recorded_at : (s : Settings) (w : World) (e : WorldEvent) → IsRecorded s w e → AllAtTheirs s w → AllAtTheirs s (world_after s w e)
+recorded_at s w e r all = subst (AllAtTheirs s) (sym r.is) each
+  where
+    t1 : ModelSite
+    t1 = after_event s r.site r.event
+
+    each : AllAtTheirs s (world_at s w (place_of e) r.event (Some r.site))
+    each j u at = elim (Places.same_number (place_of e) j) [
+      | inl q ↦
+          let k : Some t1 ≡ Some u = sym (Places.get_set_same w.sites (place_of e) r.site t1 r.at) ∙ ap (slice_get (slice_set w.sites (place_of e) t1)) (sym q) ∙ at in
+          subst (IsAtItsHistory s j) (let z : t1 ≡ u = cc in z)
+          (goes_on s j r.site (record { event = r.event; reply = reply_to s r.site r.event }) r.room refl (all j r.site (ap (slice_get w.sites) q ∙ r.at)))
+      | inr ne ↦ all j u (sym (Places.get_set_other w.sites (place_of e) j t1 ne) ∙ at)
+    ]
+
+run_at : (s : Settings) (es : List WorldEvent) (w : World) → AreOwn es → AllAtTheirs s w → AllAtTheirs s (world_after_all s w es)
+run_at s [] w own all = all
+run_at s (e ∷ es) w own all =
+    let owns : AreOwn (e ∷ []) × AreOwn es = Recorded.split_own e es own in
+    run_at s es (world_after s w e) owns.1 (elim (Members.bool_cases (is_recorded s w e)) [
+      | inl h ↦ recorded_at s w e (Recorded.is_recorded_event s w e owns.0 h) all
+      | inr h ↦ subst (AllAtTheirs s) (sym (SiteRuns.unrecorded s w e h)) all
+    ])
+
+first_all : (s : Settings) → AllAtTheirs s (first_world s)
+first_all s i t at =
+    let is : t ≡ first_site i = Stuck.first_sites 0 s.sites i t at ∙ ap first_site (let q : 0 + i ≡ i = omega arith in q) in
+    let less : i < s.sites = subst (λ n. i < n) (length-map (range_with_len 0 s.sites) first_site ∙ length-range_with_len 0 s.sites) (slice_get_within (first_world s).sites i t at) in
+    subst (IsAtItsHistory s i) (sym is) (record { stands = refl; replays = record { place = less; replays = tt; room = omega arith } })
+
+-- the histories of one world replay
+pub one_worlds_replay : (s : Settings) (hs : List (List Entry)) (i : ℕ) (h : List Entry) → AreOneWorlds s hs → slice_get hs i ≡ Some h → IsReplay s i h
+one_worlds_replay s hs i h one at = by (slice_get (world_of_run s one.events).sites i) refl (sym (slice_get-map (λ (t : ModelSite). t.history) (world_of_run s one.events).sites i) ∙ ap (λ ks. slice_get ks i) one.gives ∙ at)
+  where
+    by : (o : Option ModelSite) → slice_get (world_of_run s one.events).sites i ≡ o → option_map (λ (t : ModelSite). t.history) o ≡ Some h → IsReplay s i h
+    by None e k = cc
+    by (Some t) e k = let is : t.history ≡ h = cc in subst (IsReplay s i) is (run_at s one.events (first_world s) one.own (first_all s) i t e).replays
+
+-- an entry that its site doesn't record
+pub wrong_is_final : (s : Settings) (hs : List (List Entry)) (site event : ℕ) → IsFirstWrong s hs site event → ¬ AreOneWorlds s hs
+wrong_is_final s hs site event f one = f.wrong (Replaying.replay-take s site event f.history (one_worlds_replay s hs site f.history one f.there))
+
+-- receipts of messages that no entry before sent
+pub stuck_is_final : (s : Settings) (hs : List (List Entry)) (next : List ℕ) → IsStuckAt s hs next → ¬ AreOneWorlds s hs
+stuck_is_final s hs next f one = Stuck.stuck_final s hs f.fronts f.stuck one
+
+pub wrong_refutes : (s : Settings) (hs : List (List Entry)) (fault : AuditFault) → IsWrongFound s hs fault → Refutes s hs fault
+wrong_refutes s hs (WrongReply site event) w = wrong_is_final s hs site event w
+wrong_refutes s hs (Stuck next) w = absurd w
+wrong_refutes s hs OutOfMemory w = tt
+
+-- what is certified is one world's
+pub one_worlds : (s : Settings) (hs : List (List Entry)) (order : List ℕ) → Certifies s hs order → AreOneWorlds s hs
+one_worlds s hs order c = record { events = c.events; own = c.own; gives = c.gives }
+
+-- and there is one history for each site
+pub one_for_each : (s : Settings) (hs : List (List Entry)) (order : List ℕ) → Certifies s hs order → length hs ≡ s.sites
+one_for_each s hs order c =
+    ap length (sym c.gives)
+    ∙ length-map (world_of_run s c.events).sites (λ (t : ModelSite). t.history)
+    ∙ Runs.same_sites s c.events (first_world s)
+    ∙ length-map (range_with_len 0 s.sites) first_site
+    ∙ length-range_with_len 0 s.sites

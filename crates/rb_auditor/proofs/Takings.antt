@@ -1,0 +1,225 @@
+-- Entries taken one after another, as a world could have recorded them.
+use Rattle.std.proofs.Common.{◌≡◌, ℕ, ◌+◌, ◌<◌, ◌≤◌, List, [], ◌∷◌, ◌++◌, length, take, drop, refl, ap, sym, subst, ◌∙◌, inl, inr, arith, Some}
+use Rattle.std.specs.Prelude.{map, slice_get, slice_set}
+use Rattle.std.specs.List.{range_with_len}
+use Rattle.std.proofs.lemmas.List.{length-replicate, length-set, length-take-le, take-append-drop, take_all}
+use Rattle.std.proofs.Common.{Bool, true, false, MatchBool}
+use Rattle.std.proofs.lemmas.Option.{slice_get_within}
+use Rattle.rb_money.specs.Settings.{Settings}
+use Rattle.rb_site.specs.declared.entry.Entry.{Entry}
+use Rattle.rb_site.specs.declared.message.Message.{Message}
+use Rattle.rb_site.specs.Events.{ModelSite, after_event, first_site, sent_at}
+use Rattle.rb_site.specs.Histories.{IsAmong, IsBlocked, IsCut, IsUnsent, events_of, histories_of, sends_of}
+use Rattle.rb_site.specs.Worlds.{World, first_world, world_at}
+use Rattle.rb_site.proofs.Places
+use Rattle.rb_site.proofs.Places.{same_number}
+use Rattle.rb_site.proofs.Stuck
+use Rattle.rb_auditor.specs.Certificates.{Certifies}
+use Rattle.rb_auditor.specs.Findings.{IsReplay, IsStuckAt}
+use Rattle.rb_auditor.specs.Progress.{AllRest, IsDone, IsFurther, IsLeft, left_of, IsHeldUp, MayCome, IsNext, IsReached, IsTaking, Rests, Progress, Took, first_progress, fronts_of, site_after, sites_after, taken_next, world_of}
+use Rattle.rb_auditor.proofs.Lists
+use Rattle.rb_auditor.proofs.Lists.{IsFront, IsSplit}
+use Rattle.rb_auditor.proofs.Messages
+use Rattle.rb_auditor.proofs.Replaying
+use Rattle.rb_auditor.proofs.Replaying.{IsReplayedAt}
+use Rattle.rb_auditor.proofs.Runs
+use Rattle.rb_auditor.proofs.Runs.{Brings}
+
+-- ---- the start
+
+pub first_is : (s : Settings) (hs : List (List Entry)) → length hs ≡ s.sites → world_of (first_progress s hs) ≡ first_world s
+first_is s hs n = ap (λ ts. as_world ts) (Lists.first_sites s 0 hs ∙ ap (λ k. map first_site (range_with_len 0 k)) n)
+  where
+    as_world : List ModelSite → World
+    as_world ts = record { sites = ts; messages = [] }
+
+pub first_taken : (s : Settings) (hs : List (List Entry)) → length hs ≡ s.sites → ((i : ℕ) (h : List Entry) → slice_get hs i ≡ Some h → IsReplay s i h) → IsTaking (first_progress s hs)
+first_taken s hs n replays = record {
+  sites = n;
+  counts = length-replicate (length hs) 0;
+  replays = replays;
+  within = λ i k h there place. (let z : k ≡ 0 = Lists.get_zero (length hs) i k place in omega arith);
+  sent = λ i k h there place m among. elim (subst (λ j. IsAmong m (sends_of s (first_site i) (events_of (take j h)))) (Lists.get_zero (length hs) i k place) among) [ ];
+  reached = record {
+    events = [];
+    own = tt;
+    places = refl;
+    recorded = tt;
+    gives = sym (first_is s hs n);
+  };
+}
+
+-- ---- one entry more
+
+site_now : (s : Settings) (i k : ℕ) (h : List Entry) → site_after s (0 + i) (take k h) ≡ site_after s i (take k h)
+site_now s i k h = ap (λ j. site_after s j (take k h)) (let q : 0 + i ≡ i = omega arith in q)
+
+-- where the site stands that takes its next entry
+pub site_next : (p : Progress) (i k : ℕ) (h : List Entry) (x : Entry) → IsNext p i k h x → slice_get (world_of p).sites i ≡ Some (site_after p.settings i (take k h))
+site_next p i k h x n = Lists.get_site p.settings 0 p.histories p.taken i k h n.there n.place ∙ ap Some (site_now p.settings i k h)
+
+-- the world goes on by the entry
+pub world_next : (p : Progress) (i k : ℕ) (h : List Entry) (x : Entry) → IsTaking p → IsNext p i k h x → world_of (taken_next p i k h x) ≡ world_at p.settings (world_of p) i x.event (Some (site_after p.settings i (take k h)))
+world_next p i k h x g n = ap (λ ts. as_world ts) same
+  where
+    s : Settings
+    s = p.settings
+
+    as_world : List ModelSite → World
+    as_world ts = record { sites = ts; messages = p.messages ++ sent_at p.settings (site_after p.settings i (take k h)) x.event }
+
+    same : sites_after s 0 p.histories (slice_set p.taken i (k + 1)) ≡ slice_set (sites_after s 0 p.histories p.taken) i (after_event s (site_after s i (take k h)) x.event)
+    same =
+        Lists.set_site s 0 p.histories p.taken i (k + 1) h n.there
+        ∙ ap (slice_set (sites_after s 0 p.histories p.taken) i) (site_now s i (k + 1) h ∙ (Replaying.replayed_at s i h k x (g.replays i h n.there) n.next).more)
+
+taken_after : (p : Progress) (i k : ℕ) (h : List Entry) (x : Entry) → IsTaking p → IsNext p i k h x → MayCome p.messages x.event → IsTaking (taken_next p i k h x)
+taken_after p i k h x g n come = record {
+  sites = g.sites;
+  counts = length-set p.taken i (k + 1) ∙ g.counts;
+  replays = g.replays;
+  within = within;
+  sent = sent;
+  reached = subst (IsReached s (p.order ++ i ∷ [])) (sym (world_next p i k h x g n)) (Runs.reached_more s p.order (world_of p) i (site_after s i (take k h)) x.event g.reached brought);
+}
+  where
+    s : Settings
+    s = p.settings
+
+    at : IsReplayedAt s i h k x
+    at = Replaying.replayed_at s i h k x (g.replays i h n.there) n.next
+
+    sp : IsSplit h k x
+    sp = Lists.split_at h k x n.next
+
+    brought : Brings s (world_of p) i (site_after s i (take k h)) x.event
+    brought = Runs.brings s (world_of p) i (site_after s i (take k h)) x.event come (site_next p i k h x n) at.room
+
+    here : (l : ℕ) → slice_get (slice_set p.taken i (k + 1)) i ≡ Some l → l ≡ k + 1
+    here l e = Lists.same_item (slice_get (slice_set p.taken i (k + 1)) i) l (k + 1) e (Places.get_set_same p.taken i k (k + 1) n.place)
+
+    same_history : (f : List Entry) → slice_get p.histories i ≡ Some f → f ≡ h
+    same_history f e = Lists.same_item (slice_get p.histories i) f h e n.there
+
+    within : (j l : ℕ) (f : List Entry) → slice_get p.histories j ≡ Some f → slice_get (slice_set p.taken i (k + 1)) j ≡ Some l → l ≤ length f
+    within j l f there place = elim (same_number i j) [
+      | inl e ↦
+          let q : l ≡ k + 1 = here l (ap (slice_get (slice_set p.taken i (k + 1))) (sym e) ∙ place) in
+          let r : length f ≡ length h = ap length (same_history f (ap (slice_get p.histories) (sym e) ∙ there)) in
+          let b : k < length h = sp.place in
+          omega arith
+      | inr ne ↦ g.within j l f there (sym (Places.get_set_other p.taken i j (k + 1) ne) ∙ place)
+    ]
+
+    sends : List Message
+    sends = sent_at s (site_after s i (take k h)) x.event
+
+    sent : (j l : ℕ) (f : List Entry) → slice_get p.histories j ≡ Some f → slice_get (slice_set p.taken i (k + 1)) j ≡ Some l → (m : Message) → IsAmong m (sends_of s (first_site j) (events_of (take l f))) → IsAmong m (p.messages ++ sends)
+    sent j l f there place m among = elim (same_number i j) [
+      | inl e ↦
+          let q : l ≡ k + 1 = here l (ap (slice_get (slice_set p.taken i (k + 1))) (sym e) ∙ place) in
+          let r : f ≡ h = same_history f (ap (slice_get p.histories) (sym e) ∙ there) in
+          let a : IsAmong m (sends_of s (first_site i) (events_of (take (k + 1) h))) =
+          subst (λ z. IsAmong m (sends_of s (first_site i) (events_of (take (k + 1) z)))) r
+          (subst (λ z. IsAmong m (sends_of s (first_site i) (events_of (take z f)))) q
+          (subst (λ z. IsAmong m (sends_of s (first_site z) (events_of (take l f)))) e among)) in
+          let b : IsAmong m (sends_of s (first_site i) (events_of (take k h)) ++ sends) =
+          subst (IsAmong m) (ap (λ z. sends_of s (first_site i) (events_of z)) sp.more ∙ Messages.sends_more s (first_site i) (take k h) x) a in
+          elim (Stuck.among-cases m (sends_of s (first_site i) (events_of (take k h))) sends b) [
+            | inl c ↦ Stuck.among-left m p.messages sends (g.sent i k h n.there n.place m c)
+            | inr c ↦ Stuck.among-right m p.messages sends c
+          ]
+      | inr ne ↦ Stuck.among-left m p.messages sends (g.sent j l f there (sym (Places.get_set_other p.taken i j (k + 1) ne) ∙ place) m among)
+    ]
+
+-- after one entry more they still are
+pub took_one : (p q : Progress) (i : ℕ) → IsTaking p → Took p q i → IsTaking q
+took_one p q i g t = subst IsTaking (sym t.is) (taken_after p i t.taken t.history t.entry g t.next t.source)
+
+-- ---- the end
+
+-- the entries that were taken are certified
+pub certified : (p : Progress) → IsTaking p → Certifies p.settings (fronts_of p.histories p.taken) p.order
+certified p g = record {
+  events = g.reached.events;
+  own = g.reached.own;
+  places = g.reached.places;
+  recorded = g.reached.recorded;
+  gives = ap histories_of g.reached.gives ∙ Replaying.histories_after p.settings 0 p.histories p.taken (λ i h at. subst (λ j. IsReplay p.settings j h) (let q : i ≡ 0 + i = omega arith in q) (g.replays i h at));
+}
+
+pub whole : (p : Progress) → IsTaking p → IsDone p → fronts_of p.histories p.taken ≡ p.histories
+whole p g done = Lists.whole_fronts p.histories p.taken g.counts (λ i k h there place. take_all k h (let e : k ≡ length h = done i k h there place in omega arith))
+
+pub all_certified : (p : Progress) → IsTaking p → IsDone p → Certifies p.settings p.histories p.order
+all_certified p g done = subst (λ hs. Certifies p.settings hs p.order) (whole p g done) (certified p g)
+
+pub stuck : (p : Progress) → IsTaking p → ((i : ℕ) (h : List Entry) → slice_get p.histories i ≡ Some h → Rests p i) → IsLeft p → IsStuckAt p.settings p.histories (map (λ (k : ℕ). k + 1) p.taken)
+stuck p g rests left = record {
+  fronts = fronts_of p.histories p.taken;
+  numbers = Lists.next_numbers p.histories p.taken g.counts g.within;
+  order = p.order;
+  certified = certified p g;
+  stuck = record {
+    cut = cut;
+    place = left.place;
+    history = left.history;
+    at = left.there;
+    left = λ e. not_whole left.taken left.history left.less (Lists.same_item (slice_get (fronts_of p.histories p.taken) left.place) (take left.taken left.history) left.history (Lists.get_front p.histories p.taken left.place left.taken left.history left.there left.at) e);
+  };
+}
+  where
+    s : Settings
+    s = p.settings
+
+    not_whole : (k : ℕ) (h : List Entry) → k < length h → take k h ≡ h → ⊥
+    not_whole k h less e = let shorter : length (take k h) ≡ k = length-take-le k h (omega arith) in let q : length (take k h) ≡ length h = ap length e in absurd (omega arith)
+
+    unsent : (m : Message) → ¬ IsAmong m p.messages → IsUnsent s (fronts_of p.histories p.taken) m
+    unsent m not j f at among =
+        let o : IsFront p.histories p.taken j f = Lists.from_front p.histories p.taken j f at in
+        not (g.sent j o.taken o.history o.there o.place m (subst (λ z. IsAmong m (sends_of s (first_site j) (events_of z))) o.is among))
+
+    blocked : (xs : List Entry) → IsHeldUp p.messages xs → IsBlocked s (fronts_of p.histories p.taken) xs
+    blocked [] h = tt
+    blocked (x ∷ xs) (m, is, not) = (m, is, unsent m not)
+
+    cut : (i : ℕ) (h : List Entry) → slice_get p.histories i ≡ Some h → IsCut s (fronts_of p.histories p.taken) i h
+    cut i h at =
+        let r : Rests p i = rests i h at in
+        let same : r.history ≡ h = Lists.same_item (slice_get p.histories i) r.history h r.there at in
+        record {
+          front = take r.taken h;
+          there = Lists.get_front p.histories p.taken i r.taken h at r.place;
+          rest = drop r.taken h;
+          goes_on = sym (take-append-drop r.taken h);
+          blocked = blocked (drop r.taken h) (subst (λ z. IsHeldUp p.messages (drop r.taken z)) same r.held);
+        }
+
+-- ---- how far it is
+
+pub took_further : (p q : Progress) (i : ℕ) → Took p q i → IsFurther p q
+took_further p q i t = record {
+  settings = ap (λ (r : Progress). r.settings) t.is;
+  histories = ap (λ (r : Progress). r.histories) t.is;
+  less = subst (λ (r : Progress). left_of r.histories r.taken < left_of p.histories p.taken) (sym t.is) (Lists.left_less p.histories p.taken i t.taken t.history t.next.there t.next.place (Lists.split_at t.history t.taken t.entry t.next.next).place);
+}
+
+pub further_more : (b : Bool) (p q r : Progress) → MatchBool b (IsFurther p q) (q ≡ p) → IsFurther q r → IsFurther p r
+further_more true p q r f g = record {
+  settings = g.settings ∙ f.settings;
+  histories = g.histories ∙ f.histories;
+  less = let a : left_of q.histories q.taken < left_of p.histories p.taken = f.less in let b : left_of r.histories r.taken < left_of q.histories q.taken = g.less in omega arith;
+}
+further_more false p q r e g = subst (λ o. IsFurther o r) e g
+
+-- ---- what is said of the histories
+
+pub certified_as : (p : Progress) (s : Settings) (hs : List (List Entry)) (order : List ℕ) → p.settings ≡ s → p.histories ≡ hs → order ≡ p.order → Certifies p.settings p.histories p.order → Certifies s hs order
+certified_as p s hs order e f g c = subst (Certifies s hs) (sym g) (subst (λ gs. Certifies s gs p.order) f (subst (λ r. Certifies r p.histories p.order) e c))
+
+pub stuck_as : (p : Progress) (s : Settings) (hs : List (List Entry)) (next : List ℕ) → p.settings ≡ s → p.histories ≡ hs → next ≡ map (λ (k : ℕ). k + 1) p.taken → IsTaking p → AllRest p → IsLeft p → IsStuckAt s hs next
+stuck_as p s hs next e f g v rests left = subst (IsStuckAt s hs) (sym g) (subst (λ gs. IsStuckAt s gs numbers) f (subst (λ r. IsStuckAt r p.histories numbers) e (stuck p v (λ i h at. rests i (slice_get_within p.histories i h at)) left)))
+  where
+    numbers : List ℕ
+    numbers = map (λ (k : ℕ). k + 1) p.taken

@@ -1,0 +1,79 @@
+//! The search for an order.
+ghost use Rattle.std.specs.Prelude.{◌≡◌, ◌<◌, ◌≤◌, IfOk, IfErr, OnOk, MatchBool, length};
+ghost use Rattle.rb_auditor.specs.Certificates.{Certifies};
+ghost use Rattle.rb_auditor.specs.Findings.{IsFound, Refutes, lists_of};
+ghost use Rattle.rb_auditor.specs.Progress.{AllRest, IsFurther, Rests};
+
+use crate::taking::Taking;
+use crate::{AuditFault, Certificate};
+use rb_money::Config;
+use rb_site::History;
+use std::alloc::{AllocError, Global};
+
+/// An order in which a world could have recorded these histories, one for each site. Entries are taken
+/// in rounds from site 0, from each site as many as possible; where a site doesn't record an entry, or
+/// no entry can be taken any more, no world has the histories.
+pub fn audit(
+    alloc: Global,
+    config: &Config,
+    histories: &[History],
+) -> Result<Certificate, AuditFault>
+    requires { length histories.now ≡ config.now.sites }
+    ensures certified { IfOk result (Certifies config.now (lists_of histories.now)) }
+    ensures found { IfErr result (IsFound config.now (lists_of histories.now)) }
+    ensures refuted { IfErr result (Refutes config.now (lists_of histories.now)) }
+{
+    let mut taking = match Taking::open(alloc, config, histories) {
+        Ok(taking) => taking,
+        Err(fault) => return Err(fault),
+    };
+    let Ok(()) = take_all(&mut taking) else {
+        return Err(AuditFault::OutOfMemory);
+    };
+    if taking.is_done() {
+        return Ok(taking.close());
+    }
+    match taking.next(alloc) {
+        Ok(next) => Err(AuditFault::Stuck { next }),
+        Err(_) => Err(AuditFault::OutOfMemory),
+    }
+}
+
+/// Takes entries until none can be taken.
+fn take_all(taking: &mut Taking<'_>) -> Result<(), AllocError>
+    ensures same { OnOk result ((taking.new.settings ≡ taking.old.settings) × (taking.new.histories ≡ taking.old.histories)) }
+    ensures rest { OnOk result (AllRest taking.new) }
+{
+    'rounds: loop {
+        if !take_round(taking)? {
+            return Ok(());
+        }
+    }
+}
+
+/// One round: from each site, from 0, as many entries as can be taken. It tells whether any was.
+fn take_round(taking: &mut Taking<'_>) -> Result<bool, AllocError>
+    ensures { IfOk result (λ took. MatchBool took (IsFurther taking.old taking.new) ((taking.new ≡ taking.old) × AllRest taking.old)) }
+{
+    let mut took = false;
+    for place in 0..taking.sites() {
+        if take_site(taking, place)? {
+            took = true;
+        }
+    }
+    Ok(took)
+}
+
+/// From one site as many entries as can be taken. It tells whether any was.
+fn take_site(taking: &mut Taking<'_>, place: usize) -> Result<bool, AllocError>
+    requires { place < length taking.old.histories }
+    ensures { IfOk result (λ took. MatchBool took (IsFurther taking.old taking.new) ((taking.new ≡ taking.old) × Rests taking.old place)) }
+{
+    let mut took = false;
+    'entries: loop {
+        if !taking.take(place)? {
+            return Ok(took);
+        }
+        took = true;
+    }
+}

@@ -1,0 +1,50 @@
+//! The check of an order.
+ghost use Rattle.std.specs.Prelude.{◌≡◌, ◌↔◌, IsTrue, IfOk, length};
+ghost use Rattle.rb_auditor.specs.Progress.{first_progress};
+ghost use Rattle.rb_auditor.specs.Certificates.{Certifies};
+ghost use Rattle.rb_auditor.specs.Findings.{lists_of};
+
+use crate::taking::Taking;
+use crate::{AuditFault, Certificate};
+use rb_money::Config;
+use rb_site::History;
+use std::alloc::{AllocError, Global};
+
+/// Whether a world could have recorded these histories in this order.
+pub fn check(
+    alloc: Global,
+    config: &Config,
+    histories: &[History],
+    certificate: &Certificate,
+) -> Result<bool, AllocError>
+    ensures { IfOk result (λ yes. IsTrue yes ↔ Certifies config.now (lists_of histories.now) certificate.now) }
+{
+    if histories.len() != config.sites() as usize {
+        return Ok(false);
+    }
+    match Taking::open(alloc, config, histories) {
+        Ok(mut taking) => follow(&mut taking, certificate.as_slice()),
+        Err(AuditFault::WrongReply { site: _, event: _ }) => Ok(false),
+        Err(AuditFault::Stuck { next: _ }) => Ok(false),
+        Err(AuditFault::OutOfMemory) => Err(AllocError),
+    }
+}
+
+/// Whether entries can be taken in this order until none is left.
+fn follow(taking: &mut Taking<'_>, order: &[u8]) -> Result<bool, AllocError>
+    requires { taking.old ≡ first_progress taking.old.settings taking.old.histories }
+    ensures { IfOk result (λ yes. IsTrue yes ↔ Certifies taking.old.settings taking.old.histories order.now) }
+{
+    // Whatever was taken is in an order that certifies it.
+    let _none = taking.is_done();
+    for place in order {
+        let _done = taking.is_done();
+        if *place as usize >= taking.sites() {
+            return Ok(false);
+        }
+        if !taking.take(*place as usize)? {
+            return Ok(false);
+        }
+    }
+    Ok(taking.is_done())
+}

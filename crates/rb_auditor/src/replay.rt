@@ -1,0 +1,90 @@
+//! Histories, replayed by their sites.
+ghost use Rattle.std.specs.Prelude.{◌≡◌, ◌<◌, ◌++◌, ◌∷◌, [], IfOk, IfErr, MatchBool};
+ghost use Rattle.rb_money.specs.Settings.{IsConfigured};
+ghost use Rattle.rb_site.specs.Events.{first_site};
+ghost use Rattle.rb_site.specs.Seen.{IsReplayed, first_seen};
+ghost use Rattle.rb_auditor.specs.Findings.{IsReplay};
+ghost use Rattle.rb_auditor.specs.Replays.{IsNoted, IsWrongIn, sends_by, seen_at};
+
+use crate::AuditFault;
+use crate::sends::Sends;
+use rb_money::Config;
+use rb_site::{Entry, Message, Site, UnkeptEntry};
+use std::alloc::{AllocError, Global};
+
+/// What each entry of a history sends, if the site of this number records them all.
+pub fn replay(
+    alloc: Global,
+    config: &Config,
+    me: u8,
+    history: &[Entry],
+) -> Result<Sends, AuditFault>
+    requires me { me < config.now.sites }
+    requires configured { IsConfigured config.now }
+    ensures replays { IfOk result (λ sends. IsReplay config.now me history.now) }
+    ensures sends { IfOk result (λ sends. sends ≡ sends_by config.now (first_site me) history.now) }
+    ensures wrong { IfErr result (λ fault. IsWrongIn config.now me history.now fault) }
+{
+    let mut site = match Site::open_keeping(alloc, config, me) {
+        Ok(site) => site,
+        Err(_) => return Err(AuditFault::OutOfMemory),
+    };
+    let sends = note_all(alloc, config, &mut site, history);
+    site.end();
+    sends
+}
+
+/// What each entry sends, if the site records them all.
+fn note_all(
+    alloc: Global,
+    config: &Config,
+    site: &mut Site<UnkeptEntry>,
+    history: &[Entry],
+) -> Result<Sends, AuditFault>
+    requires site { site.old ≡ first_seen config.now site.old.me }
+    requires configured { IsConfigured config.now }
+    ensures replays { IfOk result (λ sends. IsReplay config.now site.old.me history.now) }
+    ensures sends { IfOk result (λ sends. sends ≡ sends_by config.now (first_site site.old.me) history.now) }
+    ensures wrong { IfErr result (λ fault. IsWrongIn config.now site.old.me history.now fault) }
+{
+    let me = site.me();
+    let mut messages = Vec::new(alloc);
+    let mut ends = Vec::new(alloc);
+    if ends.reserve(history.len() + 1).is_err() {
+        return Err(AuditFault::OutOfMemory);
+    }
+    ends.push_reserved(0);
+    for (k, entry) in history.iter().enumerate() {
+        let Ok(noted) = note(alloc, site, entry, &mut messages) else {
+            return Err(AuditFault::OutOfMemory);
+        };
+        if !noted {
+            return Err(AuditFault::WrongReply {
+                site: me,
+                event: k as u32 + 1,
+            });
+        }
+        ends.push_reserved(messages.len() as u32);
+    }
+    Ok(Sends::new(messages, ends))
+}
+
+/// Whether the site records the entry. What it sends goes to the end of the messages.
+fn note(
+    alloc: Global,
+    site: &mut Site<UnkeptEntry>,
+    entry: &Entry,
+    messages: &mut Vec<Message>,
+) -> Result<bool, AllocError>
+    requires { IsReplayed site.old }
+    ensures { IfOk result (λ noted. MatchBool noted
+        (IsNoted site.old site.new entry.now messages.old.items messages.new.items)
+        (¬ IsReplayed (seen_at site.old.settings site.old.me (site.old.entries ++ entry.now ∷ [])))) }
+{
+    if site.is_full() {
+        return Ok(false);
+    }
+    let event = entry.event.try_copy(alloc)?;
+    let reply = site.step_onto(event, messages)?;
+    Ok(reply.same(&entry.reply))
+}

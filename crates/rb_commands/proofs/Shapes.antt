@@ -1,0 +1,24 @@
+-- Lists of two, and how many members an object has.
+use Rattle.std.proofs.Common.{◌≡◌, List, [], ◌∷◌, length, None, Some, refl, ap, arith}
+use Rattle.serde_json.specs.Data.{Data, null, boolean, number, string, array, object, Members}
+use Rattle.serde_json.specs.Events.{members_len}
+use Rattle.serde_json.specs.Find.{as_object}
+use Rattle.serde_json.specs.View.{items_view}
+use Rattle.serde_json.specs.declared.value.Value.{Value}
+use Rattle.rb_commands.specs.Values.{pair_in, size_of}
+
+-- a list of another length is no list of two
+pub no_pair : (vs : List Value) → (length vs ≡ 2 → ⊥) → pair_in (items_view vs) ≡ None
+no_pair [] h = refl
+no_pair (a ∷ []) h = refl
+no_pair (a ∷ b ∷ []) h = absurd (h (omega arith))
+no_pair (a ∷ b ∷ c ∷ vs) h = refl
+
+-- an object's size
+pub size_is : (d : Data) (ms : Members) → as_object d ≡ Some ms → size_of d ≡ members_len ms
+size_is null ms e = absurd (cc)
+size_is (boolean b) ms e = absurd (cc)
+size_is (number n) ms e = absurd (cc)
+size_is (string s) ms e = absurd (cc)
+size_is (array ds) ms e = absurd (cc)
+size_is (object m) ms e = ap members_len (cc)

@@ -1,0 +1,12 @@
+use Rattle.std.proofs.Common.{◌++◌, codes, decimal, append_assoc}
+use Rattle.json.specs.Print.{escape_byte}
+use Rattle.serde_json.specs.Written.{compact_text}
+use Rattle.rb_commands.specs.Replies.{cause_json}
+use Rattle.rb_commands.proofs.Appended.{then}
+use Rattle.rb_commands.proofs.Numerals.{thirteen}
+use Rattle.rb_commands.proofs.line.append_batch.Goals as goal
+
+pub returns : goal.returns
+unfolding escape_byte
+returns c =
+    then c.append_number.result c.args.out.now.items c.append_cause.new.out.items c.append_number.new.out.items (codes "{\"cause\":" ++ (compact_text (cause_json c.args.cause) ++ codes ",\"index\":")) (decimal c.args.index ++ codes ",\"refused\":13}") _ c.in_ok-append_cause.ensures c.append_number.ensures (rw thirteen (simp append_assoc))

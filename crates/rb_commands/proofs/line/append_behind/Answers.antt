@@ -1,0 +1,10 @@
+use Rattle.std.proofs.Common.{◌++◌, codes, decimal, append_assoc}
+use Rattle.json.specs.Print.{escape_byte}
+use Rattle.rb_commands.proofs.Appended.{then}
+use Rattle.rb_commands.proofs.Numerals.{nine}
+use Rattle.rb_commands.proofs.line.append_behind.Goals as goal
+
+pub returns : goal.returns
+unfolding escape_byte
+returns c =
+    then c.append_number-2.result c.args.out.now.items c.append_number.new.out.items c.append_number-2.new.out.items (codes "{\"needed\":" ++ (decimal c.args.needed ++ codes ",\"refused\":9,\"seen\":")) (decimal c.args.seen ++ codes "}") _ c.in_ok-append_number.ensures c.append_number-2.ensures (rw nine (simp append_assoc))

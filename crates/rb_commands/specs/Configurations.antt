@@ -1,0 +1,73 @@
+-- Which configuration a line is.
+use Rattle.std.specs.Prelude.{ℕ, ◌+◌, ◌^◌, ◌==◌, ◌&&◌, Bool, false, List, [], ◌∷◌, Option, Some, None, is_none, is_some, codes, if◌then◌else◌, option_and_then, option_map}
+use Rattle.std.specs.Option.{option_map_or}
+use Rattle.std.specs.Str.{is_utf8}
+use Rattle.serde_json.specs.Data.{Data, Items, no_items, item}
+use Rattle.serde_json.specs.Find.{get, as_array, as_str}
+use Rattle.serde_json.specs.Read.{read}
+use Rattle.rb_money.specs.Faults.{Account, config_fault, settings_of}
+use Rattle.rb_money.specs.Settings.{Settings}
+use Rattle.rb_money.specs.declared.limits.Limits.{Limits}
+use Rattle.rb_commands.specs.Values.{number_below, pair_of, size_of, either}
+
+-- an account's name and starting balance, from the list of both
+abbrev pub account_at : Data → Option Account
+account_at d = option_and_then (λ p. option_and_then (λ name. option_map (λ start. (name, start)) (number_below (2 ^ 64) p.1)) (as_str p.0)) (pair_of d)
+
+-- the accounts of a list, in its order
+abbrev pub accounts_in : Items → Option (List Account)
+accounts_in no_items = Some []
+accounts_in (item d ds) = option_and_then (λ a. option_map (λ later. a ∷ later) (accounts_in ds)) (account_at d)
+
+abbrev pub accounts_at : Data → Option (List Account)
+accounts_at d = option_and_then accounts_in (as_array d)
+
+-- a limit: the most that it may be where its key is missing
+abbrev pub limit_read : List ℕ → ℕ → Data → Option ℕ
+limit_read key most d = either (get key d) (number_below (2 ^ 32)) (Some most)
+
+abbrev pub limits_from : ℕ → ℕ → ℕ → ℕ → ℕ → Limits
+limits_from blue red inbox history epoch = record { blue = blue; red = red; inbox = inbox; history = history; epoch = epoch }
+
+abbrev pub limits_of : Data → Option Limits
+limits_of d = option_and_then (λ blue. option_and_then (λ red. option_and_then (λ inbox. option_and_then (λ history. option_map (limits_from blue red inbox history)
+    (limit_read (codes "epoch") 4000000000 d))
+    (limit_read (codes "history") 100000000 d))
+    (limit_read (codes "inbox") 4096 d))
+    (limit_read (codes "red") 1000000 d))
+    (limit_read (codes "blue") 1000000 d)
+
+-- 1 where the object has the key, else 0
+abbrev pub has : List ℕ → Data → ℕ
+has key d = if is_some (get key d) then 1 else 0
+
+-- no key but the three that are required and the five of the limits
+abbrev pub has_known_keys : Data → Bool
+has_known_keys d = size_of d == 3 + has (codes "blue") d + has (codes "red") d + has (codes "inbox") d + has (codes "history") d + has (codes "epoch") d
+
+-- the version of the format is 1
+abbrev pub is_version_one : Data → Bool
+is_version_one d = option_map_or (λ n. n == 1) (option_and_then (number_below (2 ^ 32)) (get (codes "version") d)) false
+
+-- the configuration of these parts, where nothing is wrong with it
+abbrev pub config_from : ℕ → Limits → List Account → Option Settings
+config_from sites limits accounts = if is_none (config_fault sites accounts limits) then Some (settings_of sites accounts limits) else None
+
+-- the configuration that the values of an object's keys come to
+abbrev pub config_in : Data → Option Settings
+config_in d = option_and_then (λ sites. option_and_then (λ limits. option_and_then (config_from sites limits)
+    (option_and_then accounts_at (get (codes "accounts") d)))
+    (limits_of d))
+    (option_and_then (number_below (2 ^ 8)) (get (codes "sites") d))
+
+-- the configuration that an object is
+abbrev pub config_of : Data → Option Settings
+config_of d = if is_version_one d && has_known_keys d then config_in d else None
+
+-- the configuration that a line is
+abbrev pub config_at : List ℕ → Option Settings
+config_at line = option_and_then config_of (read line)
+
+-- the configuration on a line: it has to be UTF-8
+unfoldable pub config_on : List ℕ → Option Settings
+config_on l = if is_utf8 l then config_at l else None

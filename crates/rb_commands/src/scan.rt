@@ -1,0 +1,125 @@
+//! What stands at the front of a text as this program spells it, and what follows it: no space, no escape. `None` says nothing of a text.
+ghost use Rattle.std.specs.Prelude.{◌≡◌, ◌<◌, ◌≤◌, ◌^◌, ◌++◌, IfSome, codes, decimal, length, slice_index, take};
+ghost use Rattle.json.specs.Print.{escape};
+ghost use Rattle.rb_shadow.specs.NameText.{IsName, name_text};
+
+use rb_shadow::OpName;
+
+/// What follows this text.
+#[inline(always)]
+pub fn after<'a>(text: &'a str, front: &str) -> Option<&'a str>
+    ensures { IfSome result (λ rest. text.now ≡ front.now ++ rest.now) }
+{
+    let len = front.len();
+    if text.len() < len || &text.as_bytes()[..len] != front.as_bytes() {
+        return None;
+    }
+    Some(&text[len..])
+}
+
+/// The most that is read of a number, so that one more digit fits.
+const MOST: u64 = 1_000_000_000_000_000_000;
+
+/// The number at the front, and how many digits it has. A zero is a number by itself.
+#[inline(always)]
+fn digits(text: &[u8]) -> Option<(u64, usize)>
+    ensures { IfSome result (λ p. (p.0 < 2 ^ 64) × (p.1 ≤ length text.now) × (take p.1 text.now ≡ decimal p.0)) }
+{
+    if text.len() == 0 || text[0] < b'0' || b'9' < text[0] {
+        return None;
+    }
+    let mut n = (text[0] - b'0') as u64;
+    let mut len = 1;
+    'digits: while len < text.len() && 0 < n && n < MOST {
+        let digit = text[len];
+        if digit < b'0' || b'9' < digit {
+            break 'digits;
+        }
+        n = n * 10 + (digit - b'0') as u64;
+        len += 1;
+    }
+    Some((n, len))
+}
+
+/// The number at the front, and what follows it.
+#[inline(always)]
+pub fn number(text: &str) -> Option<(u64, &str)>
+    ensures { IfSome result (λ p. (p.0 < 2 ^ 64) × (text.now ≡ decimal p.0 ++ p.1.now)) }
+{
+    let (n, len) = digits(text.as_bytes())?;
+    Some((n, &text[len..]))
+}
+
+/// The number below 2^32 at the front, and what follows it.
+#[inline(always)]
+pub fn word(text: &str) -> Option<(u32, &str)>
+    ensures { IfSome result (λ p. (p.0 < 2 ^ 32) × (text.now ≡ decimal p.0 ++ p.1.now)) }
+{
+    let (n, rest) = number(text)?;
+    if n < 0x1_0000_0000 {
+        Some((n as u32, rest))
+    } else {
+        None
+    }
+}
+
+/// The number below 2^8 at the front, and what follows it.
+#[inline(always)]
+pub fn byte(text: &str) -> Option<(u8, &str)>
+    ensures { IfSome result (λ p. (p.0 < 2 ^ 8) × (text.now ≡ decimal p.0 ++ p.1.now)) }
+{
+    let (n, rest) = number(text)?;
+    if n < 256 { Some((n as u8, rest)) } else { None }
+}
+
+/// The operation's name before a quote, and what follows the quote.
+#[inline(always)]
+pub fn operation(text: &str) -> Option<(OpName, &str)>
+    ensures { IfSome result (λ p. IsName p.0 × (text.now ≡ name_text p.0 ++ (codes "\"" ++ p.1.now))) }
+{
+    if let Some(number) = after(text, "R") {
+        let (n, rest) = word(number)?;
+        return Some((OpName::Red { n }, after(rest, "\"")?));
+    }
+    let (site, rest) = byte(after(text, "B")?)?;
+    let (n, rest) = word(after(rest, ".")?)?;
+    Some((OpName::Blue { site, n }, after(rest, "\"")?))
+}
+
+/// How many bytes stand before a quote, where none is part of an escape.
+#[inline(always)]
+fn quote(text: &[u8]) -> Option<usize>
+    ensures { IfSome result (λ len. (len < length text.now) × (slice_index text.now len ≡ 34) × (escape (take len text.now) ≡ take len text.now)) }
+{
+    let mut len = 0;
+    while len < text.len() {
+        let b = text[len];
+        if b == b'"' {
+            return Some(len);
+        }
+        if b == b'\\' || b < b' ' {
+            return None;
+        }
+        len += 1;
+    }
+    None
+}
+
+/// The text before a quote, where it has no escape, and what follows the quote.
+#[inline(always)]
+pub fn plain(text: &str) -> Option<(&str, &str)>
+    ensures { IfSome result (λ p. (escape p.0.now ≡ p.0.now) × (text.now ≡ p.0.now ++ (codes "\"" ++ p.1.now))) }
+{
+    let len = quote(text.as_bytes())?;
+    Some((&text[..len], &text[len + 1..]))
+}
+
+/// An account's name and a number, in a list of two.
+#[inline(always)]
+pub fn pair(text: &str) -> Option<(&str, u64, &str)>
+    ensures { IfSome result (λ p. (p.1 < 2 ^ 64) × (escape p.0.now ≡ p.0.now) × (text.now ≡ p.0.now ++ (codes "\"," ++ (decimal p.1 ++ (codes "]" ++ p.2.now))))) }
+{
+    let (name, rest) = plain(text)?;
+    let (n, rest) = number(after(rest, ",")?)?;
+    Some((name, n, after(rest, "]")?))
+}

@@ -1,0 +1,139 @@
+-- The line of a configuration is read as the configuration.
+use Rattle.std.proofs.Common.{◌≡◌, ◌<◌, ◌≤◌, ◌+◌, ◌^◌, ℕ, suc, List, [], ◌∷◌, ◌++◌, length, Some, None, true, false, refl, sym, ap, ◌∙◌, arith}
+use Rattle.std.specs.Prelude.{map, nat_lt, bytes_eq, slice_get, option_and_then}
+use Rattle.std.proofs.lemmas.Bool.{le-leb, or_parts}
+use Rattle.std.proofs.lemmas.Bool.Decides.{nat_tests}
+use Rattle.std.proofs.lemmas.Slice.Eq.{bytes_eq-Decides}
+use Rattle.serde_json.specs.Read.{read}
+use Rattle.serde_json.specs.View.{items_of}
+use Rattle.serde_json.specs.Written.{compact_text}
+use Rattle.rb_money.specs.Amounts.{most_cents}
+use Rattle.rb_money.specs.Faults.{Account, account_fault, config_fault, is_among}
+use Rattle.rb_money.specs.Settings.{IsConfigured, Settings, is_account_name, most_sites}
+use Rattle.rb_commands.specs.Configurations.{accounts_in, config_at, config_of}
+use Rattle.rb_history.specs.ConfigLines.{accounts_of, config_json, start_json}
+use Rattle.rb_history.specs.Fits.{Each}
+use Rattle.rb_commands.proofs.Back.{below}
+use Rattle.rb_history.proofs.EntryText.{list_text, number_text, pair_text, string_text}
+use Rattle.rb_history.proofs.KnownPlaces.{fails}
+use Rattle.rb_commands.proofs.UsualLines.{compact_read}
+
+-- names and starting balances, from the accounts that they make
+names_back : (names : List (List ℕ)) (starts : List ℕ) → length starts ≡ length names → map (λ a. a.0) (accounts_of names starts) ≡ names
+names_back [] starts e = refl
+names_back (name ∷ names) [] e = absurd (omega arith)
+names_back (name ∷ names) (start ∷ starts) e = ap (λ l. name ∷ l) (names_back names starts (omega arith))
+
+starts_back : (names : List (List ℕ)) (starts : List ℕ) → length starts ≡ length names → map (λ a. a.1) (accounts_of names starts) ≡ starts
+starts_back [] [] e = refl
+starts_back [] (start ∷ starts) e = absurd (omega arith)
+starts_back (name ∷ names) [] e = absurd (omega arith)
+starts_back (name ∷ names) (start ∷ starts) e = ap (λ l. start ∷ l) (starts_back names starts (omega arith))
+
+accounts_length : (names : List (List ℕ)) (starts : List ℕ) → length starts ≡ length names → length (accounts_of names starts) ≡ length names
+accounts_length [] starts e = refl
+accounts_length (name ∷ names) [] e = absurd (omega arith)
+accounts_length (name ∷ names) (start ∷ starts) e = ap suc (accounts_length names starts (omega arith))
+
+small_starts : (names : List (List ℕ)) (starts : List ℕ) → ((i n : ℕ) → slice_get starts i ≡ Some n → n ≤ 100000000000) → Each (λ (a : Account). a.1 < 2 ^ 64) (accounts_of names starts)
+small_starts [] starts most = tt
+small_starts (name ∷ names) [] most = tt
+small_starts (name ∷ names) (start ∷ starts) most = let small : start ≤ 100000000000 = most 0 start refl in (omega arith, small_starts names starts (λ i. most (suc i)))
+
+accounts_back : (accounts : List Account) → Each (λ (a : Account). a.1 < 2 ^ 64) accounts → accounts_in (items_of (map start_json accounts)) ≡ Some accounts
+accounts_back [] h = refl
+accounts_back (a ∷ accounts) h = rw (below a.1 (2 ^ 64) h.0, accounts_back accounts h.1) refl
+
+-- ---- nothing is wrong with what a configuration keeps
+
+among_more : (before : List (List ℕ)) (a n : List ℕ) → is_among before n ≡ false → (n ≡ a → ⊥) → is_among (before ++ a ∷ []) n ≡ false
+among_more [] a n e apart = rw (fails (bytes_eq n a) (n ≡ a) (bytes_eq-Decides n a) apart) refl
+among_more (b ∷ before) a n e apart = let p = or_parts (bytes_eq n b) (is_among before n) e in rw (p.0, among_more before a n p.1 apart) refl
+
+at_most : (n : ℕ) → n ≤ 100000000000 → nat_lt most_cents n ≡ false
+at_most n h = grind (arith, nat_tests)
+
+no_account_fault : (before : List (List ℕ)) (i : ℕ) (names : List (List ℕ)) (starts : List ℕ) → length starts ≡ length names
+    → ((j : ℕ) (name : List ℕ) → slice_get names j ≡ Some name → is_account_name name ≡ true) → ((j n : ℕ) → slice_get starts j ≡ Some n → n ≤ 100000000000)
+    → ((j : ℕ) (name : List ℕ) → slice_get names j ≡ Some name → is_among before name ≡ false)
+    → ((j k : ℕ) (name : List ℕ) → slice_get names j ≡ Some name → slice_get names k ≡ Some name → j ≡ k)
+    → account_fault before i (accounts_of names starts) ≡ None
+no_account_fault before i [] starts e proper most fresh once = refl
+no_account_fault before i (name ∷ names) [] e proper most fresh once = absurd (omega arith)
+no_account_fault before i (name ∷ names) (start ∷ starts) e proper most fresh once =
+    rw (proper 0 name refl, fresh 0 name refl, at_most start (most 0 start refl))
+    (no_account_fault (before ++ name ∷ []) (i + 1) names starts (omega arith) (λ j. proper (suc j)) (λ j. most (suc j))
+    (λ j n there. among_more before name n (fresh (suc j) n there) (λ same. first_alone j (once 0 (suc j) n (ap Some (sym same)) there)))
+    (λ j k n here there. let f = once (suc j) (suc k) n here there in omega arith))
+  where
+    first_alone : (j : ℕ) → 0 ≡ suc j → ⊥
+    first_alone j f = omega arith
+
+no_fault : (s : Settings) → IsConfigured s → config_fault s.sites (accounts_of s.names s.starts) s.limits ≡ None
+no_fault s c =
+    let many = accounts_length s.names s.starts c.starts_of_all in
+    let some_accounts = c.some_accounts in
+    let few_accounts = c.few_accounts in
+    let l = s.limits in
+    let accounts = accounts_of s.names s.starts in
+    rw (
+      le-leb 2 s.sites c.some_sites,
+      le-leb s.sites most_sites c.few_sites,
+      le-leb 1 (length accounts) (omega arith),
+      le-leb (length accounts) 1000 (omega arith),
+      no_account_fault [] 0 s.names s.starts c.starts_of_all c.names c.starts (λ j name at. refl) c.unique,
+      le-leb 1 l.blue c.blue.0,
+      le-leb l.blue 1000000 c.blue.1,
+      le-leb 1 l.red c.red.0,
+      le-leb l.red 1000000 c.red.1,
+      le-leb 1 l.inbox c.inbox.0,
+      le-leb l.inbox 4096 c.inbox.1,
+      le-leb 1 l.history c.history.0,
+      le-leb l.history 100000000 c.history.1,
+      le-leb 1 l.epoch c.epoch.0,
+      le-leb l.epoch 4000000000 c.epoch.1,
+    ) refl
+
+config_back : (s : Settings) → IsConfigured s → config_of (config_json s) ≡ Some s
+config_back s c =
+    let l = s.limits in
+    let few = c.few_sites in
+    let blue = c.blue.1 in
+    let red = c.red.1 in
+    let inbox = c.inbox.1 in
+    let history = c.history.1 in
+    let epoch = c.epoch.1 in
+    let names = names_back s.names s.starts c.starts_of_all in
+    let starts = starts_back s.names s.starts c.starts_of_all in
+    rw (
+      below s.sites (2 ^ 8) (omega arith),
+      below l.blue (2 ^ 32) (omega arith),
+      below l.red (2 ^ 32) (omega arith),
+      below l.inbox (2 ^ 32) (omega arith),
+      below l.history (2 ^ 32) (omega arith),
+      below l.epoch (2 ^ 32) (omega arith),
+      accounts_back (accounts_of s.names s.starts) (small_starts s.names s.starts c.starts),
+      no_fault s c,
+    )
+    (λ j. Some (record { sites = s.sites; names = names j; starts = starts j; limits = l }))
+
+-- ---- the text
+
+config_text : (s : Settings) → IsConfigured s → read (compact_text (config_json s)) ≡ Some (config_json s)
+config_text s c =
+    let few = c.few_sites in
+    let accounts = list_text start_json (λ a. a.1 < 2 ^ 64) 1 (λ a small. pair_text _ _ 0 (string_text a.0) (number_text a.1 small)) (accounts_of s.names s.starts) (small_starts s.names s.starts c.starts) in
+    let blue = number_text s.limits.blue (omega (arith, c.blue.1)) in
+    let epoch = number_text s.limits.epoch (omega (arith, c.epoch.1)) in
+    let history = number_text s.limits.history (omega (arith, c.history.1)) in
+    let inbox = number_text s.limits.inbox (omega (arith, c.inbox.1)) in
+    let red = number_text s.limits.red (omega (arith, c.red.1)) in
+    let sites = number_text s.sites (omega arith) in
+    let version = number_text 1 (omega arith) in
+    let depth = accounts.shallow in
+    let line = config_json s in
+    compact_read line line (accounts.numbers, (blue.numbers, (epoch.numbers, (history.numbers, (inbox.numbers, (red.numbers, (sites.numbers, (version.numbers, tt))))))))
+    (omega arith) (rw (accounts.same, blue.same, epoch.same, history.same, inbox.same, red.same, sites.same, version.same) refl)
+
+pub config_line : (s : Settings) → IsConfigured s → config_at (compact_text (config_json s)) ≡ Some s
+config_line s c = ap (option_and_then config_of) (config_text s c) ∙ config_back s c

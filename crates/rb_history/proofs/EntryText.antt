@@ -1,0 +1,235 @@
+-- The text of an entry is read as the entry's JSON object.
+use Rattle.std.proofs.Common.{◌≡◌, ◌<◌, ◌≤◌, ◌^◌, ℕ, suc, ℤ, pos, negsuc, List, [], ◌∷◌, Some, Bool, refl, arith}
+use Rattle.std.specs.Prelude.{map}
+use Rattle.json.specs.Tree.{HasNumbers, ItemsHaveNumbers}
+use Rattle.json.specs.Tree as tree
+use Rattle.json.proofs.Printed.Decimals.{IsNumber-decimal, IsNumber-signed_decimal}
+use Rattle.serde_json.specs.Data.{Data, boolean, string}
+use Rattle.serde_json.specs.Read.{of_items, of_json, read}
+use Rattle.serde_json.specs.View.{items_of}
+use Rattle.serde_json.specs.Written.{compact_text, items_outline, outline}
+use Rattle.serde_json.proofs.Numbers.{number_of-decimal, number_of-negative}
+use Rattle.rb_money.specs.Settings.{Settings}
+use Rattle.rb_money.specs.declared.place.Place.{Place}
+use Rattle.rb_money.specs.declared.refusal.Cause.TheVariants.{Declined as CauseDeclined, Refused as CauseRefused}
+use Rattle.rb_money.specs.declared.refusal.Refusal.{Refusal}
+use Rattle.rb_money.specs.declared.refusal.Refusal.TheVariants.{OutOfMemory, UnknownAccount, BadAmount, BadRate, UnknownOperation, NotCancellable, AlreadyCancelled, NumbersExhausted, NeedToken, RedBehind, WouldOverdraw, DeltaTooLarge, BadBatch, BatchRefused, NotHeld, NotReady, InboxFull, BadMessage, Conflict, NoMessage, NoSite, NotYours, PositionBeyond, HistoryFull, SameAccount}
+use Rattle.rb_scratch.specs.declared.request.Request.{Request}
+use Rattle.rb_scratch.specs.declared.request.Request.TheVariants.{Deposit, Withdraw, Interest, Cancel}
+use Rattle.rb_shadow.specs.NameText.{IsName}
+use Rattle.rb_shadow.specs.declared.kind.Kind.{Kind}
+use Rattle.rb_shadow.specs.declared.kind.Kind.TheVariants.{Deposit as DepositKind, Withdraw as WithdrawKind, Declined as DeclinedKind, Interest as InterestKind, Cancel as CancelKind}
+use Rattle.rb_shadow.specs.declared.shadow.Shadow.{Shadow}
+use Rattle.rb_site.specs.declared.entry.Entry.{Entry}
+use Rattle.rb_site.specs.declared.event.Event.{Event}
+use Rattle.rb_site.specs.declared.event.Event.TheVariants.{Submit, Batch, Receive, Apply, Pass, Balance, AsOf, Statement}
+use Rattle.rb_site.specs.declared.message.Message.TheVariants.{Shadow as ShadowMessage, Token as TokenOnItsWay}
+use Rattle.rb_site.specs.declared.reply.Reply.{Reply}
+use Rattle.rb_site.specs.declared.reply.Reply.TheVariants.{Made, Names, Held, Already, Taken, Stale, Applied, Passed, Balance as BalanceIs, Statement as StatementIs, Refused}
+use Rattle.rb_statements.specs.declared.row.Row.{Row}
+use Rattle.rb_history.specs.Entries.{asked_json, deps_json, entry_json, event_json, request_json, shadow_json}
+use Rattle.rb_history.specs.Fits.{Each, IsEvent, IsMoved, IsRefusal, IsReply, IsRequest, IsRow, IsShadow}
+use Rattle.rb_commands.specs.Replies.{refusal_json, reply_json}
+use Rattle.rb_commands.specs.Statements.{row_json}
+use Rattle.rb_commands.specs.Values.{integer_json, list_json, name_json, number_json, one_json, pair_json}
+use Rattle.rb_commands.proofs.UsualLines.{compact_read}
+
+-- a value that is read from its own text, and nests at most so deep
+pub record IsText (d : Data) (most : ℕ) : Type 0 where
+  pub numbers : HasNumbers (outline d)
+  pub shallow : tree.depth (outline d) ≤ most
+  pub same : of_json (outline d) ≡ Some d
+
+-- the same of a list's values
+record AreTexts (ds : List Data) (most : ℕ) : Type 0 where
+  numbers : ItemsHaveNumbers (items_outline (items_of ds))
+  shallow : tree.items_depth (items_outline (items_of ds)) ≤ most
+  same : of_items (items_outline (items_of ds)) ≡ Some (items_of ds)
+
+-- ---- values by their shapes
+
+pub string_text : (text : List ℕ) → IsText (string text) 0
+string_text text = record { numbers = tt; shallow = omega arith; same = refl }
+
+boolean_text : (b : Bool) → IsText (boolean b) 0
+boolean_text b = record { numbers = tt; shallow = omega arith; same = refl }
+
+pub number_text : (n : ℕ) → n < 2 ^ 64 → IsText (number_json n) 0
+number_text n h = record { numbers = IsNumber-decimal n h; shallow = omega arith; same = rw (number_of-decimal n h) refl }
+
+integer_text : (z : ℤ) → IsMoved z → IsText (integer_json z) 0
+integer_text (pos n) h = number_text n (omega arith)
+integer_text (negsuc n) h = record { numbers = IsNumber-signed_decimal (negsuc n) h; shallow = omega arith; same = rw (number_of-negative n h) refl }
+
+texts : {A : Type 0} (written : A → Data) (P : A → Type 0) (most : ℕ) → ((x : A) → P x → IsText (written x) most) → (xs : List A) → Each P xs → AreTexts (map written xs) most
+texts written P most each [] h = record { numbers = tt; shallow = omega arith; same = refl }
+texts written P most each (x ∷ xs) h =
+    let first = each x h.0 in
+    let later = texts written P most each xs h.1 in
+    let a = first.shallow in
+    let b = later.shallow in
+    record { numbers = (first.numbers, later.numbers); shallow = omega arith; same = rw (first.same, later.same) refl }
+
+pub list_text : {A : Type 0} (written : A → Data) (P : A → Type 0) (most : ℕ) → ((x : A) → P x → IsText (written x) most) → (xs : List A) → Each P xs → IsText (list_json written xs) (suc most)
+list_text written P most each xs h =
+    let all = texts written P most each xs h in
+    let a = all.shallow in
+    record { numbers = all.numbers; shallow = omega arith; same = rw all.same refl }
+
+one_text : (key : List ℕ) (value : Data) (most : ℕ) → IsText value most → IsText (one_json key value) (suc most)
+one_text key value most v =
+    let a = v.shallow in
+    record { numbers = (v.numbers, tt); shallow = omega arith; same = rw v.same refl }
+
+pub pair_text : (a b : Data) (most : ℕ) → IsText a most → IsText b most → IsText (pair_json a b) (suc most)
+pair_text a b most x y =
+    let d = x.shallow in
+    let e = y.shallow in
+    record { numbers = (x.numbers, (y.numbers, tt)); shallow = omega arith; same = rw (x.same, y.same) refl }
+
+deeper : (d : Data) (few most : ℕ) → IsText d few → few ≤ most → IsText d most
+deeper d few most t h =
+    let a = t.shallow in
+    record { numbers = t.numbers; shallow = omega arith; same = t.same }
+
+-- ---- events
+
+asked_text : (s : Settings) (a : Place) (n : ℕ) → n < 2 ^ 64 → IsText (asked_json s a n) 1
+asked_text s a n h = pair_text _ (number_json n) 0 (string_text _) (number_text n h)
+
+request_text : (s : Settings) (r : Request) → IsRequest s r → IsText (request_json s r) 2
+request_text s (Deposit a amount) (known, fits) = one_text _ _ 1 (asked_text s a amount fits)
+request_text s (Withdraw a amount) (known, fits) = one_text _ _ 1 (asked_text s a amount fits)
+request_text s (Interest a rate) (known, fits) = one_text _ _ 1 (asked_text s a rate (omega arith))
+request_text s (Cancel x) h = deeper (request_json s (Cancel x)) 1 2 (one_text _ (name_json x) 0 (string_text _)) (omega arith)
+
+deps_text : (blue : List ℕ) (red : ℕ) → Each (λ n. n < 2 ^ 32) blue → red < 2 ^ 32 → IsText (deps_json (record { blue = blue; red = red })) 2
+deps_text blue red h k = pair_text (list_json number_json blue) (number_json red) 1 (list_text number_json (λ n. n < 2 ^ 32) 0 (λ n small. number_text n (omega arith)) blue h) (deeper (number_json red) 0 1 (number_text red (omega arith)) (omega arith))
+
+abbrev with_kind : Shadow → Kind → Shadow
+with_kind v kind = record { name = v.name; home = v.home; deps = v.deps; account = v.account; amount = v.amount; kind = kind }
+
+shadow_text : (s : Settings) (v : Shadow) → IsShadow s v → IsText (shadow_json s v) 3
+shadow_text s v h = of_kind v.kind
+  where
+    deps : IsText (deps_json v.deps) 2
+    deps = deps_text v.deps.blue v.deps.red h.blue h.red
+
+    amount : IsText (number_json v.amount) 0
+    amount = number_text v.amount h.amount
+
+    home : IsText (number_json v.home) 0
+    home = let small = h.home in number_text v.home (omega arith)
+
+    of_kind : (kind : Kind) → IsText (shadow_json s (with_kind v kind)) 3
+    of_kind DepositKind = let d = deps.shallow in record { numbers = (tt, (amount.numbers, (deps.numbers, (home.numbers, (tt, (tt, tt)))))); shallow = omega arith; same = rw (amount.same, deps.same, home.same) refl }
+    of_kind WithdrawKind = let d = deps.shallow in record { numbers = (tt, (amount.numbers, (deps.numbers, (home.numbers, (tt, (tt, tt)))))); shallow = omega arith; same = rw (amount.same, deps.same, home.same) refl }
+    of_kind DeclinedKind = let d = deps.shallow in record { numbers = (tt, (amount.numbers, (deps.numbers, (home.numbers, (tt, (tt, tt)))))); shallow = omega arith; same = rw (amount.same, deps.same, home.same) refl }
+    of_kind InterestKind = let d = deps.shallow in record { numbers = (tt, (amount.numbers, (deps.numbers, (home.numbers, (tt, (tt, tt)))))); shallow = omega arith; same = rw (amount.same, deps.same, home.same) refl }
+    of_kind (CancelKind x) = let d = deps.shallow in record { numbers = (tt, (amount.numbers, (deps.numbers, (home.numbers, (tt, (tt, (tt, tt))))))); shallow = omega arith; same = rw (amount.same, deps.same, home.same) refl }
+
+event_text : (s : Settings) (e : Event) → IsEvent s e → IsText (event_json s e) 4
+event_text s (Submit r) h = deeper (request_json s r) 2 4 (request_text s r h) (omega arith)
+event_text s (Batch rs) h = one_text _ _ 3 (list_text (request_json s) (IsRequest s) 2 (request_text s) rs h)
+event_text s (Receive (ShadowMessage v)) h = one_text _ _ 3 (shadow_text s v h)
+event_text s (Receive (TokenOnItsWay m)) (epoch, to, red) =
+    let a = number_text m.epoch (omega arith) in
+    let b = number_text m.to (omega arith) in
+    let c = number_text m.red (omega arith) in
+    record { numbers = ((a.numbers, (b.numbers, (c.numbers, tt))), tt); shallow = omega arith; same = rw (a.same, b.same, c.same) refl }
+event_text s (Apply x) h = deeper (event_json s (Apply x)) 1 4 (one_text _ (name_json x) 0 (string_text _)) (omega arith)
+event_text s (Pass to) h = deeper (event_json s (Pass to)) 1 4 (one_text _ (number_json to) 0 (number_text to (omega arith))) (omega arith)
+event_text s (Balance a) h = deeper (event_json s (Balance a)) 1 4 (one_text _ _ 0 (string_text _)) (omega arith)
+event_text s (AsOf a n) (known, fits) = deeper (event_json s (AsOf a n)) 2 4 (one_text _ _ 1 (asked_text s a n (omega arith))) (omega arith)
+event_text s (Statement a) h = deeper (event_json s (Statement a)) 1 4 (one_text _ _ 0 (string_text _)) (omega arith)
+
+-- ---- replies
+
+row_text : (r : Row) → IsRow r → IsText (row_json r) 1
+row_text r (position, name, moved, balance) =
+    let a = number_text r.position (omega arith) in
+    let b = integer_text r.moved moved in
+    let c = number_text r.balance balance in
+    let depth = b.shallow in
+    record { numbers = (a.numbers, (tt, (tt, (b.numbers, (tt, (c.numbers, tt)))))); shallow = omega arith; same = rw (a.same, b.same, c.same) refl }
+
+number_told : (key : List ℕ) (n : ℕ) → n < 2 ^ 64 → IsText (one_json key (number_json n)) 4
+number_told key n h = deeper (one_json key (number_json n)) 1 4 (one_text key (number_json n) 0 (number_text n h)) (omega arith)
+
+string_told : (key text : List ℕ) → IsText (one_json key (string text)) 4
+string_told key text = deeper (one_json key (string text)) 1 4 (one_text key (string text) 0 (string_text text)) (omega arith)
+
+refusal_text : (r : Refusal) → IsRefusal r → IsText (refusal_json r) 4
+refusal_text OutOfMemory h = absurd h
+refusal_text UnknownAccount h = number_told _ 1 (omega arith)
+refusal_text BadAmount h = number_told _ 2 (omega arith)
+refusal_text BadRate h = number_told _ 3 (omega arith)
+refusal_text UnknownOperation h = number_told _ 4 (omega arith)
+refusal_text NotCancellable h = number_told _ 5 (omega arith)
+refusal_text (AlreadyCancelled position) h =
+    let a = number_text position (omega arith) in
+    let b = number_text 6 (omega arith) in
+    record { numbers = (a.numbers, (b.numbers, tt)); shallow = omega arith; same = rw (a.same, b.same) refl }
+refusal_text NumbersExhausted h = number_told _ 7 (omega arith)
+refusal_text NeedToken h = number_told _ 8 (omega arith)
+refusal_text (RedBehind seen needed) (h, k) =
+    let a = number_text needed (omega arith) in
+    let b = number_text 9 (omega arith) in
+    let c = number_text seen (omega arith) in
+    record { numbers = (a.numbers, (b.numbers, (c.numbers, tt))); shallow = omega arith; same = rw (a.same, b.same, c.same) refl }
+refusal_text WouldOverdraw h = number_told _ 10 (omega arith)
+refusal_text DeltaTooLarge h = number_told _ 11 (omega arith)
+refusal_text BadBatch h = number_told _ 12 (omega arith)
+refusal_text (BatchRefused index CauseDeclined) (h, k) =
+    let a = number_text index (omega arith) in
+    let b = number_text 13 (omega arith) in
+    record { numbers = (tt, (a.numbers, (b.numbers, tt))); shallow = omega arith; same = rw (a.same, b.same) refl }
+refusal_text (BatchRefused index (CauseRefused n)) (h, k) =
+    let a = number_text index (omega arith) in
+    let b = number_text 13 (omega arith) in
+    let c = number_text n (omega arith) in
+    record { numbers = (c.numbers, (a.numbers, (b.numbers, tt))); shallow = omega arith; same = rw (c.same, a.same, b.same) refl }
+refusal_text NotHeld h = number_told _ 14 (omega arith)
+refusal_text NotReady h = number_told _ 15 (omega arith)
+refusal_text InboxFull h = number_told _ 16 (omega arith)
+refusal_text (BadMessage why) h =
+    let a = number_text why (omega arith) in
+    let b = number_text 17 (omega arith) in
+    record { numbers = (b.numbers, (a.numbers, tt)); shallow = omega arith; same = rw (b.same, a.same) refl }
+refusal_text Conflict h = number_told _ 18 (omega arith)
+refusal_text NoMessage h = number_told _ 19 (omega arith)
+refusal_text NoSite h = number_told _ 20 (omega arith)
+refusal_text NotYours h = number_told _ 21 (omega arith)
+refusal_text PositionBeyond h = number_told _ 22 (omega arith)
+refusal_text HistoryFull h = number_told _ 23 (omega arith)
+refusal_text SameAccount h = number_told _ 24 (omega arith)
+
+reply_text : (r : Reply) → IsReply r → IsText (reply_json r) 4
+reply_text (Made x kind) h = record { numbers = (tt, (tt, tt)); shallow = omega arith; same = refl }
+reply_text (Names xs) h = deeper (reply_json (Names xs)) 2 4 (one_text _ _ 1 (list_text name_json IsName 0 (λ x k. string_text _) xs h)) (omega arith)
+reply_text (Held x) h = string_told _ _
+reply_text (Already x) h = string_told _ _
+reply_text (Taken n) h = number_told _ n (omega arith)
+reply_text (Stale n) h = number_told _ n (omega arith)
+reply_text (Applied x) h = string_told _ _
+reply_text (Passed n) h = number_told _ n (omega arith)
+reply_text (BalanceIs n) h = number_told _ n h
+reply_text (StatementIs t) (start, rows, balance) =
+    let a = number_text t.balance balance in
+    let b = list_text row_json IsRow 1 row_text t.rows rows in
+    let c = number_text t.start start in
+    let depth = b.shallow in
+    record { numbers = (a.numbers, (b.numbers, (c.numbers, tt))); shallow = omega arith; same = rw (a.same, b.same, c.same) refl }
+reply_text (Refused why) h = refusal_text why h
+
+-- ---- the line
+
+pub entry_text : (s : Settings) (site : ℕ) (x : Entry) → site < 2 ^ 8 → IsEvent s x.event → IsReply x.reply → read (compact_text (entry_json s site x)) ≡ Some (entry_json s site x)
+entry_text s site x h e r =
+    let a = event_text s x.event e in
+    let b = reply_text x.reply r in
+    let c = number_text site (omega arith) in
+    let d = a.shallow in
+    let f = b.shallow in
+    let line = entry_json s site x in
+    compact_read line line (a.numbers, (b.numbers, (c.numbers, tt))) (omega arith) (rw (a.same, b.same, c.same) refl)

@@ -1,0 +1,83 @@
+-- The lines of entries and of configurations are UTF-8.
+use Rattle.std.proofs.Common.{◌≡◌, ℕ, suc, List, [], ◌∷◌, true, codes, IsUtf8, refl, Option, Some, None, arith}
+use Rattle.std.specs.Prelude.{map, nat_lt, slice_get, unwrap_or}
+use Rattle.std.specs.List.{list_all}
+use Rattle.std.proofs.lemmas.Bool.{and_parts}
+use Rattle.std.proofs.lemmas.Bool.Decides.{nat_tests}
+use Rattle.json.proofs.Printed.Utf8.{are_ascii, IsUtf8-are_ascii}
+use Rattle.serde_json.specs.View.{items_of}
+use Rattle.serde_json.specs.Written.{compact_text}
+use Rattle.rb_money.specs.Settings.{IsConfigured, Settings, is_account_name, is_name_byte}
+use Rattle.rb_money.specs.declared.place.Place.{Place}
+use Rattle.rb_scratch.specs.declared.request.Request.{Request}
+use Rattle.rb_scratch.specs.declared.request.Request.TheVariants.{Deposit, Withdraw, Interest, Cancel}
+use Rattle.rb_shadow.specs.Labels.{label_of}
+use Rattle.rb_shadow.specs.declared.kind.Kind.{Kind}
+use Rattle.rb_shadow.specs.declared.kind.Kind.TheVariants.{Deposit as DepositKind, Withdraw as WithdrawKind, Declined as DeclinedKind, Interest as InterestKind, Cancel as CancelKind}
+use Rattle.rb_shadow.specs.declared.shadow.Shadow.{Shadow}
+use Rattle.rb_site.specs.declared.entry.Entry.{Entry}
+use Rattle.rb_site.specs.declared.event.Event.{Event}
+use Rattle.rb_site.specs.declared.event.Event.TheVariants.{Submit, Batch, Receive, Apply, Pass, Balance, AsOf, Statement}
+use Rattle.rb_site.specs.declared.message.Message.TheVariants.{Shadow as ShadowMessage, Token as TokenOnItsWay}
+use Rattle.rb_commands.specs.Values.{number_json}
+use Rattle.rb_commands.proofs.Utf8.{HasTexts, ItemsHaveTexts, MembersHaveTexts, label_utf8, list_texts, name_utf8, reply_texts, text_utf8}
+use Rattle.rb_history.specs.ConfigLines.{accounts_of, config_json, start_json}
+use Rattle.rb_history.specs.Entries.{account_json, deps_json, entry_json, event_json, request_json, shadow_json, target_json}
+
+-- an account's name is ASCII
+byte_ascii : (b : ℕ) → is_name_byte b ≡ true → nat_lt b 128 ≡ true
+byte_ascii b h = grind (arith, nat_tests)
+
+bytes_ascii : (name : List ℕ) → list_all is_name_byte name ≡ true → are_ascii name ≡ true
+bytes_ascii [] h = refl
+bytes_ascii (b ∷ bs) h = let p = and_parts (is_name_byte b) (list_all is_name_byte bs) h in rw (byte_ascii b p.0, bytes_ascii bs p.1) refl
+
+name_text : (name : List ℕ) → is_account_name name ≡ true → IsUtf8 name
+name_text name h = IsUtf8-are_ascii name (bytes_ascii name (and_parts _ (list_all is_name_byte name) h).1)
+
+account_texts : (s : Settings) → IsConfigured s → (a : Place) → HasTexts (account_json s a)
+account_texts s c a = at (slice_get s.names a.0) refl
+  where
+    at : (o : Option (List ℕ)) → slice_get s.names a.0 ≡ o → IsUtf8 (unwrap_or o (codes "?"))
+    at None e = IsUtf8-are_ascii _ refl
+    at (Some name) e = name_text name (c.names a.0 name e)
+
+request_texts : (s : Settings) → IsConfigured s → (r : Request) → HasTexts (request_json s r)
+request_texts s c (Deposit a n) = (refl, (account_texts s c a, (tt, tt)), tt)
+request_texts s c (Withdraw a n) = (refl, (account_texts s c a, (tt, tt)), tt)
+request_texts s c (Interest a n) = (refl, (account_texts s c a, (tt, tt)), tt)
+request_texts s c (Cancel x) = (refl, name_utf8 x, tt)
+
+target_texts : (k : Kind) → MembersHaveTexts (target_json k)
+target_texts DepositKind = tt
+target_texts WithdrawKind = tt
+target_texts DeclinedKind = tt
+target_texts InterestKind = tt
+target_texts (CancelKind x) = (refl, name_utf8 x, tt)
+
+shadow_texts : (s : Settings) → IsConfigured s → (v : Shadow) → HasTexts (shadow_json s v)
+shadow_texts s c v =
+    let deps : HasTexts (deps_json v.deps) = (list_texts number_json (λ n. tt) v.deps.blue, (tt, tt)) in
+    (refl, account_texts s c v.account, (refl, tt, (refl, deps, (refl, tt, (refl, label_utf8 (label_of v.kind), (refl, name_utf8 v.name, target_texts v.kind))))))
+
+event_texts : (s : Settings) → IsConfigured s → (e : Event) → HasTexts (event_json s e)
+event_texts s c (Submit r) = request_texts s c r
+event_texts s c (Batch rs) = (refl, list_texts (request_json s) (request_texts s c) rs, tt)
+event_texts s c (Receive (ShadowMessage v)) = (refl, shadow_texts s c v, tt)
+event_texts s c (Receive (TokenOnItsWay m)) = (refl, (tt, (tt, (tt, tt))), tt)
+event_texts s c (Apply x) = (refl, name_utf8 x, tt)
+event_texts s c (Pass to) = (refl, tt, tt)
+event_texts s c (Balance a) = (refl, account_texts s c a, tt)
+event_texts s c (AsOf a n) = (refl, (account_texts s c a, (tt, tt)), tt)
+event_texts s c (Statement a) = (refl, account_texts s c a, tt)
+
+pub entry_utf8 : (s : Settings) (site : ℕ) (x : Entry) → IsConfigured s → IsUtf8 (compact_text (entry_json s site x))
+entry_utf8 s site x c = text_utf8 (entry_json s site x) (refl, event_texts s c x.event, (refl, reply_texts x.reply, (refl, tt, tt)))
+
+starts_texts : (names : List (List ℕ)) (starts : List ℕ) → ((i : ℕ) (name : List ℕ) → slice_get names i ≡ Some name → is_account_name name ≡ true) → ItemsHaveTexts (items_of (map start_json (accounts_of names starts)))
+starts_texts [] starts h = tt
+starts_texts (name ∷ names) [] h = tt
+starts_texts (name ∷ names) (start ∷ starts) h = ((name_text name (h 0 name refl), (tt, tt)), starts_texts names starts (λ i. h (suc i)))
+
+pub config_utf8 : (s : Settings) → IsConfigured s → IsUtf8 (compact_text (config_json s))
+config_utf8 s c = text_utf8 (config_json s) (refl, starts_texts s.names s.starts c.names, (refl, tt, (refl, tt, (refl, tt, (refl, tt, (refl, tt, (refl, tt, (refl, tt, tt))))))))

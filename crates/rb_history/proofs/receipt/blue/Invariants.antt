@@ -1,0 +1,11 @@
+use Rattle.std.proofs.Common.{◌≡◌, length, take, drop}
+use Rattle.serde_json.specs.View.{items_view}
+use Rattle.rb_history.specs.Recorded.{counts_in}
+use Rattle.rb_commands.proofs.Fronts.{with_front}
+use Rattle.rb_history.proofs.receipt.blue.Given as goal
+
+abbrev pub invariant-loop-site : goal.invariant-loop-site
+invariant-loop-site l = record {
+  sites : length l.counts ≡ 8;
+  read : with_front (take l.site l.counts) (counts_in (items_view (drop l.site l.items.items))) ≡ counts_in (items_view l.items.items);
+}

@@ -1,9 +1,0 @@
-use Rattle.std.proofs.Common.{arith}
-use Rattle.rb_history.proofs.Scanned.{one_more}
-use Rattle.rb_history.proofs.usual.plain.Goals as goal
-
-pub loop-len-preserved : goal.loop-len-preserved
-loop-len-preserved c = record {
-  within = omega arith;
-  plain = one_more c.args.text.now c.loop-len.len (omega arith) c.loop-len.invariant.plain c.if-b-eq34.false c.if-b-eq92.false c.if-b-lt32.false;
-}

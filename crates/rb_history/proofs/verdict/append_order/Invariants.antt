@@ -1,0 +1,14 @@
+use Rattle.std.proofs.Common.{◌≡◌, ◌++◌, codes, length, take, drop, []}
+use Rattle.std.specs.Prelude.{map}
+use denote.Text.{Utf8}
+use denote.Shadow.{shadow}
+use Rattle.rb_commands.specs.Values.{number_json}
+use Rattle.rb_commands.proofs.Listed.{rest_text}
+use Rattle.rb_history.proofs.verdict.append_order.Given as goal
+
+abbrev pub invariant-loop-site : goal.invariant-loop-site
+invariant-loop-site l = record {
+  utf8 : shadow (Utf8 l.comma);
+  front : take (length l.fn.out.items) l.out.items ≡ l.fn.out.items;
+  written : l.out.items ++ rest_text l.comma (map number_json (drop l.site-index l.order)) ≡ (l.fn.out.items ++ codes "{\"order\":[") ++ rest_text [] (map number_json l.order);
+}

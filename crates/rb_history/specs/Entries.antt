@@ -1,0 +1,106 @@
+-- Lines of histories: a JSON object of an event, its reply and the site's number.
+use Rattle.std.specs.Prelude.{ℕ, ◌==◌, List, Option, None, codes, unwrap_or, if◌then◌else◌, option_and_then, option_map, slice_get}
+use Rattle.std.specs.Str.{is_utf8}
+use Rattle.serde_json.specs.Data.{Data, string, array, object, Members, no_items, item, member, no_members}
+use Rattle.serde_json.specs.Read.{read}
+use Rattle.rb_money.specs.Settings.{Settings}
+use Rattle.rb_money.specs.declared.place.Place.{Place}
+use Rattle.rb_scratch.specs.declared.request.Request.{Request}
+use Rattle.rb_scratch.specs.declared.request.Request.TheVariants.{Deposit, Withdraw, Interest, Cancel}
+use Rattle.rb_shadow.specs.Labels.{label_of}
+use Rattle.rb_shadow.specs.declared.deps.Deps.{Deps}
+use Rattle.rb_shadow.specs.declared.kind.Kind.{Kind}
+use Rattle.rb_shadow.specs.declared.kind.Kind.TheVariants.{Deposit as DepositKind, Withdraw as WithdrawKind, Declined as DeclinedKind, Interest as InterestKind, Cancel as CancelKind}
+use Rattle.rb_shadow.specs.declared.shadow.Shadow.{Shadow}
+use Rattle.rb_site.specs.declared.entry.Entry.{Entry}
+use Rattle.rb_site.specs.declared.event.Event.{Event}
+use Rattle.rb_site.specs.declared.event.Event.TheVariants.{Submit, Batch, Receive, Apply, Pass, Balance, AsOf, Statement}
+use Rattle.rb_site.specs.declared.message.Message.TheVariants.{Shadow as ShadowMessage, Token as TokenOnItsWay}
+use Rattle.rb_token.specs.declared.message.TokenMessage.{TokenMessage}
+use Rattle.rb_history.specs.Recorded.{event_at}
+use Rattle.rb_history.specs.RepliesRead.{reply_of}
+use Rattle.rb_commands.specs.Replies.{reply_json}
+use Rattle.rb_commands.specs.Values.{label_text, list_json, name_json, number_below, number_json, one_json, pair_json, size_of}
+use Rattle.rb_history.specs.Fields.{field}
+
+-- ---- what is written
+
+-- an account's name, or "?" where the configuration has no account at the place
+abbrev pub account_json : Settings → Place → Data
+account_json s a = string (unwrap_or (slice_get s.names a.0) (codes "?"))
+
+-- an account and a number
+abbrev pub asked_json : Settings → Place → ℕ → Data
+asked_json s a n = pair_json (account_json s a) (number_json n)
+
+abbrev pub request_json : Settings → Request → Data
+request_json s (Deposit a amount) = one_json (codes "deposit") (asked_json s a amount)
+request_json s (Withdraw a amount) = one_json (codes "withdraw") (asked_json s a amount)
+request_json s (Interest a rate) = one_json (codes "interest") (asked_json s a rate)
+request_json s (Cancel x) = one_json (codes "cancel") (name_json x)
+
+-- what the home had applied: how many of each site's blue operations, and how many red ones
+abbrev pub deps_json : Deps → Data
+deps_json d = pair_json (list_json number_json d.blue) (number_json d.red)
+
+-- the target, of a cancellation alone
+abbrev pub target_json : Kind → Members
+target_json DepositKind = no_members
+target_json WithdrawKind = no_members
+target_json DeclinedKind = no_members
+target_json InterestKind = no_members
+target_json (CancelKind x) = member (codes "target") (name_json x) no_members
+
+abbrev pub shadow_json : Settings → Shadow → Data
+shadow_json s v = object
+    (member (codes "account") (account_json s v.account)
+    (member (codes "amount") (number_json v.amount)
+    (member (codes "deps") (deps_json v.deps)
+    (member (codes "home") (number_json v.home)
+    (member (codes "kind") (string (label_text (label_of v.kind)))
+    (member (codes "name") (name_json v.name)
+    (target_json v.kind)))))))
+
+-- the token on its way: its epoch, the site that it goes to, and the red operations before it
+abbrev pub token_json : TokenMessage → Data
+token_json m = array (item (number_json m.epoch) (item (number_json m.to) (item (number_json m.red) no_items)))
+
+abbrev pub event_json : Settings → Event → Data
+event_json s (Submit r) = request_json s r
+event_json s (Batch rs) = one_json (codes "batch") (list_json (request_json s) rs)
+event_json s (Receive (ShadowMessage v)) = one_json (codes "shadow") (shadow_json s v)
+event_json s (Receive (TokenOnItsWay m)) = one_json (codes "token") (token_json m)
+event_json s (Apply x) = one_json (codes "apply") (name_json x)
+event_json s (Pass to) = one_json (codes "pass") (number_json to)
+event_json s (Balance a) = one_json (codes "balance") (account_json s a)
+event_json s (AsOf a n) = one_json (codes "asof") (asked_json s a n)
+event_json s (Statement a) = one_json (codes "statement") (account_json s a)
+
+-- an entry of a site's history, the keys in byte order
+abbrev pub entry_json : Settings → ℕ → Entry → Data
+entry_json s site x = object
+    (member (codes "event") (event_json s x.event)
+    (member (codes "reply") (reply_json x.reply)
+    (member (codes "site") (number_json site) no_members)))
+
+-- ---- what is read
+
+-- the number of a site of the configuration, and its entry, that the values of an object's keys come to
+abbrev pub entry_in : Settings → Data → Option (ℕ × Entry)
+entry_in s d =
+    option_and_then (λ site. option_and_then (λ event. option_map (λ reply. (site, record { event = event; reply = reply }))
+    (field (codes "reply") reply_of d))
+    (field (codes "event") (event_at s) d))
+    (field (codes "site") (number_below s.sites) d)
+
+-- an entry is an object of three members
+abbrev pub entry_of : Settings → Data → Option (ℕ × Entry)
+entry_of s d = if size_of d == 3 then entry_in s d else None
+
+-- the entry that a line is
+abbrev pub entry_at : Settings → List ℕ → Option (ℕ × Entry)
+entry_at s line = option_and_then (entry_of s) (read line)
+
+-- the entry on a line with its site, at these settings
+unfoldable pub entry_on : Settings → List ℕ → Option (ℕ × Entry)
+entry_on s l = if is_utf8 l then entry_at s l else None

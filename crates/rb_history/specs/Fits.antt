@@ -1,0 +1,105 @@
+-- Entries that a line tells whole: their numbers fit their types, and their places are known.
+use Rattle.std.specs.Prelude.{◌≡◌, ◌⊎◌, ℕ, ℤ, pos, negsuc, ◌<◌, ◌^◌, List, [], ◌∷◌, length, Some, ⊤}
+use Rattle.serde_json.specs.Written.{compact_text}
+use Rattle.rb_money.specs.Settings.{IsConfigured, Settings, most_sites}
+use Rattle.rb_money.specs.declared.place.Place.{Place}
+use Rattle.rb_money.specs.declared.refusal.Cause.{Cause}
+use Rattle.rb_money.specs.declared.refusal.Cause.TheVariants.{Declined as CauseDeclined, Refused as CauseRefused}
+use Rattle.rb_money.specs.declared.refusal.Refusal.{Refusal}
+use Rattle.rb_money.specs.declared.refusal.Refusal.TheVariants.{OutOfMemory, AlreadyCancelled, RedBehind, BatchRefused, BadMessage}
+use Rattle.rb_scratch.specs.declared.request.Request.{Request}
+use Rattle.rb_scratch.specs.declared.request.Request.TheVariants.{Deposit, Withdraw, Interest, Cancel}
+use Rattle.rb_shadow.specs.NameText.{IsName}
+use Rattle.rb_shadow.specs.declared.kind.Kind.{Kind}
+use Rattle.rb_shadow.specs.declared.kind.Kind.TheVariants.{Deposit as DepositKind, Withdraw as WithdrawKind, Declined as DeclinedKind, Interest as InterestKind, Cancel as CancelKind}
+use Rattle.rb_shadow.specs.declared.shadow.Shadow.{Shadow}
+use Rattle.rb_site.specs.declared.entry.Entry.{Entry}
+use Rattle.rb_site.specs.declared.event.Event.{Event}
+use Rattle.rb_site.specs.declared.event.Event.TheVariants.{Submit, Batch, Receive, Apply, Pass, Balance, AsOf, Statement}
+use Rattle.rb_site.specs.declared.message.Message.TheVariants.{Shadow as ShadowMessage, Token as TokenOnItsWay}
+use Rattle.rb_site.specs.declared.reply.Reply.{Reply}
+use Rattle.rb_site.specs.declared.reply.Reply.TheVariants.{Made, Names, Held, Already, Taken, Stale, Applied, Passed, Balance as BalanceIs, Statement as StatementIs, Refused}
+use Rattle.rb_statements.specs.declared.row.Row.{Row}
+use Rattle.rb_history.specs.Entries.{entry_at, entry_json}
+use Rattle.rb_commands.specs.Requests.{nowhere}
+
+-- the place of one of the configuration's accounts, or the one that no configuration has
+abbrev pub IsKnown : Settings → Place → Type 0
+IsKnown s a = (a.0 < length s.names) ⊎ (a ≡ nowhere)
+
+-- each of the list is such
+abbrev pub Each : {A : Type 0} → (A → Type 0) → List A → Type 0
+Each P [] = ⊤
+Each P (x ∷ xs) = P x × Each P xs
+
+abbrev pub IsRequest : Settings → Request → Type 0
+IsRequest s (Deposit a amount) = IsKnown s a × (amount < 2 ^ 64)
+IsRequest s (Withdraw a amount) = IsKnown s a × (amount < 2 ^ 64)
+IsRequest s (Interest a rate) = IsKnown s a × (rate < 2 ^ 32)
+IsRequest s (Cancel x) = IsName x
+
+abbrev pub IsKind : Kind → Type 0
+IsKind DepositKind = ⊤
+IsKind WithdrawKind = ⊤
+IsKind DeclinedKind = ⊤
+IsKind InterestKind = ⊤
+IsKind (CancelKind x) = IsName x
+
+pub record IsShadow (s : Settings) (v : Shadow) : Type 0 where
+  pub name : IsName v.name
+  pub home : v.home < 2 ^ 8
+  pub sites : length v.deps.blue ≡ most_sites
+  pub blue : Each (λ n. n < 2 ^ 32) v.deps.blue
+  pub red : v.deps.red < 2 ^ 32
+  pub account : IsKnown s v.account
+  pub amount : v.amount < 2 ^ 64
+  pub kind : IsKind v.kind
+
+abbrev pub IsEvent : Settings → Event → Type 0
+IsEvent s (Submit r) = IsRequest s r
+IsEvent s (Batch rs) = Each (IsRequest s) rs
+IsEvent s (Receive (ShadowMessage v)) = IsShadow s v
+IsEvent s (Receive (TokenOnItsWay m)) = (m.epoch < 2 ^ 32) × (m.to < 2 ^ 8) × (m.red < 2 ^ 32)
+IsEvent s (Apply x) = IsName x
+IsEvent s (Pass to) = to < 2 ^ 8
+IsEvent s (Balance a) = IsKnown s a
+IsEvent s (AsOf a n) = IsKnown s a × (n < 2 ^ 32)
+IsEvent s (Statement a) = IsKnown s a
+
+-- what an i64 may be
+abbrev pub IsMoved : ℤ → Type 0
+IsMoved (pos n) = n < 2 ^ 63
+IsMoved (negsuc n) = n < 2 ^ 63
+
+abbrev pub IsRow : Row → Type 0
+IsRow r = (r.position < 2 ^ 32) × IsName r.name × IsMoved r.moved × (r.balance < 2 ^ 64)
+
+abbrev pub IsCause : Cause → Type 0
+IsCause CauseDeclined = ⊤
+IsCause (CauseRefused n) = n < 2 ^ 8
+
+-- of want of memory no line tells
+abbrev pub IsRefusal : Refusal → Type 0
+IsRefusal OutOfMemory = ⊥
+IsRefusal (AlreadyCancelled position) = position < 2 ^ 32
+IsRefusal (RedBehind seen needed) = (seen < 2 ^ 32) × (needed < 2 ^ 32)
+IsRefusal (BatchRefused index cause) = (index < 2 ^ 8) × IsCause cause
+IsRefusal (BadMessage why) = why < 2 ^ 8
+IsRefusal r = ⊤
+
+abbrev pub IsReply : Reply → Type 0
+IsReply (Made x kind) = IsName x
+IsReply (Names xs) = Each IsName xs
+IsReply (Held x) = IsName x
+IsReply (Already x) = IsName x
+IsReply (Taken n) = n < 2 ^ 32
+IsReply (Stale n) = n < 2 ^ 32
+IsReply (Applied x) = IsName x
+IsReply (Passed n) = n < 2 ^ 32
+IsReply (BalanceIs n) = n < 2 ^ 64
+IsReply (StatementIs t) = (t.start < 2 ^ 64) × Each IsRow t.rows × (t.balance < 2 ^ 64)
+IsReply (Refused why) = IsRefusal why
+
+-- the line of each such entry of a site of the configuration is read as the entry
+abbrev pub EntriesAreRead : Type 0
+EntriesAreRead = (s : Settings) → IsConfigured s → (site : ℕ) (x : Entry) → site < s.sites → IsEvent s x.event → IsReply x.reply → entry_at s (compact_text (entry_json s site x)) ≡ Some (site, x)

@@ -1,0 +1,49 @@
+-- Texts that begin with what is written for a part of a history's line, and then the rest follows: of parts that a line tells whole.
+use Rattle.std.specs.Prelude.{◌≡◌, ℕ, ◌<◌, ◌^◌, List, ◌++◌, codes, false, length, map, unwrap_or, slice_get}
+use Rattle.json.specs.Print.{escape}
+use Rattle.serde_json.specs.Data.{Data}
+use Rattle.serde_json.specs.View.{items_of}
+use Rattle.serde_json.specs.Written.{compact_text, items_text}
+use Rattle.rb_money.specs.Settings.{Settings, most_sites}
+use Rattle.rb_money.specs.declared.place.Place.{Place}
+use Rattle.rb_scratch.specs.declared.request.Request.{Request}
+use Rattle.rb_shadow.specs.declared.deps.Deps.{Deps}
+use Rattle.rb_shadow.specs.declared.shadow.Shadow.{Shadow}
+use Rattle.rb_site.specs.declared.event.Event.{Event}
+use Rattle.rb_site.specs.declared.reply.Reply.{Reply}
+use Rattle.rb_commands.specs.Replies.{reply_json}
+use Rattle.rb_commands.specs.Values.{one_json}
+use Rattle.rb_history.specs.Entries.{deps_json, event_json, request_json, shadow_json}
+use Rattle.rb_history.specs.Fits.{Each, IsEvent, IsReply, IsRequest, IsShadow}
+
+-- a string behind its first quote
+abbrev pub behind_quote : List ℕ → List ℕ
+behind_quote text = escape text ++ codes "\""
+
+-- an account's name behind its first quote, or "?" where the configuration has no account at the place
+abbrev pub account_behind_quote : Settings → Place → List ℕ
+account_behind_quote s a = behind_quote (unwrap_or (slice_get s.names a.0) (codes "?"))
+
+-- two texts, this one between them, and the rest
+abbrev pub IsBetween : List ℕ → List ℕ → List ℕ → List ℕ → List ℕ → Type 0
+IsBetween middle text front back rest = text ≡ (front ++ (middle ++ back)) ++ rest
+
+abbrev pub TellsRequest : Settings → Request → List ℕ → List ℕ → Type 0
+TellsRequest s r text rest = IsRequest s r × (text ≡ compact_text (request_json s r) ++ rest)
+
+-- the items of a list, and its closing bracket
+abbrev pub TellsEach : {A : Type 0} → (A → Data) → (A → Type 0) → List A → List ℕ → List ℕ → Type 0
+TellsEach written P xs text rest = Each P xs × (text ≡ items_text false (items_of (map written xs)) ++ rest)
+
+-- what a home had applied, as many counts as there may be sites
+abbrev pub TellsDeps : Deps → List ℕ → List ℕ → Type 0
+TellsDeps d text rest = (length d.blue ≡ most_sites) × Each (λ n. n < 2 ^ 32) d.blue × (d.red < 2 ^ 32) × (text ≡ compact_text (deps_json d) ++ rest)
+
+abbrev pub TellsShadow : Settings → Shadow → List ℕ → List ℕ → Type 0
+TellsShadow s v text rest = IsShadow s v × (text ≡ compact_text (one_json (codes "shadow") (shadow_json s v)) ++ rest)
+
+abbrev pub TellsEvent : Settings → Event → List ℕ → List ℕ → Type 0
+TellsEvent s e text rest = IsEvent s e × (text ≡ compact_text (event_json s e) ++ rest)
+
+abbrev pub TellsReply : Reply → List ℕ → List ℕ → Type 0
+TellsReply r text rest = IsReply r × (text ≡ compact_text (reply_json r) ++ rest)

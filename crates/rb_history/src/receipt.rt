@@ -1,0 +1,104 @@
+//! Receipts, read from a history's line: shadows and tokens.
+ghost use Rattle.std.specs.Prelude.{◌≡◌};
+ghost use Rattle.serde_json.specs.View.{view};
+ghost use Rattle.rb_history.specs.Recorded.{blue_at, deps_at, kind_at, kind_of, shadow_at, token_at};
+
+use crate::items::three;
+use crate::label::label;
+use rb_commands::account;
+use rb_commands::values::{byte, long, name, pair, size, word};
+use rb_money::{Config, MOST_SITES};
+use rb_shadow::{Deps, Kind, Label, Shadow};
+use rb_token::TokenMessage;
+use serde_json::Value;
+
+/// A count for each site that there may be.
+fn blue(value: &Value) -> Option<[u32; MOST_SITES]>
+    ensures { result ≡ blue_at (view value.now) }
+{
+    let items = value.as_array()?;
+    if items.len() != MOST_SITES {
+        return None;
+    }
+    let mut counts = [0; MOST_SITES];
+    for site in 0..MOST_SITES {
+        counts[site] = word(&items[site])?;
+    }
+    Some(counts)
+}
+
+/// What the home had applied.
+fn deps(value: &Value) -> Option<Deps>
+    ensures { result ≡ deps_at (view value.now) }
+{
+    let (counts, red) = pair(value)?;
+    let blue = blue(counts)?;
+    let red = word(red)?;
+    Some(Deps { blue, red })
+}
+
+/// A cancellation, of its target.
+fn cancel(value: &Value) -> Option<Kind>
+    ensures { result ≡ kind_of (view value.now) Label.Cancel }
+{
+    if size(value) != 7 {
+        return None;
+    }
+    let target = name(value.get("target")?)?;
+    Some(Kind::Cancel { target })
+}
+
+/// The kind of a shadow of this label.
+fn kind_of(value: &Value, label: Label) -> Option<Kind>
+    ensures { result ≡ kind_of (view value.now) label }
+{
+    let kind = match label {
+        Label::Deposit => Kind::Deposit,
+        Label::Withdraw => Kind::Withdraw,
+        Label::Declined => Kind::Declined,
+        Label::Interest => Kind::Interest,
+        Label::Cancel => return cancel(value),
+    };
+    if size(value) != 6 {
+        return None;
+    }
+    Some(kind)
+}
+
+fn kind(value: &Value) -> Option<Kind>
+    ensures { result ≡ kind_at (view value.now) }
+{
+    let label = label(value.get("kind")?)?;
+    kind_of(value, label)
+}
+
+/// An operation that another site made.
+pub fn shadow(config: &Config, value: &Value) -> Option<Shadow>
+    ensures { result ≡ shadow_at config.now (view value.now) }
+{
+    let account = account(config, value.get("account")?)?;
+    let amount = long(value.get("amount")?)?;
+    let deps = deps(value.get("deps")?)?;
+    let home = byte(value.get("home")?)?;
+    let kind = kind(value)?;
+    let name = name(value.get("name")?)?;
+    Some(Shadow {
+        name,
+        home,
+        deps,
+        account,
+        amount,
+        kind,
+    })
+}
+
+/// The token on its way.
+pub fn token(value: &Value) -> Option<TokenMessage>
+    ensures { result ≡ token_at (view value.now) }
+{
+    let (epoch, to, red) = three(value)?;
+    let epoch = word(epoch)?;
+    let to = byte(to)?;
+    let red = word(red)?;
+    Some(TokenMessage { epoch, to, red })
+}

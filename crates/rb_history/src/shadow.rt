@@ -1,0 +1,94 @@
+//! Shadows of a history's line, added at the end of bytes.
+ghost use Rattle.std.specs.Prelude.{◌≡◌, ◌++◌, codes, decimal, true};
+ghost use Rattle.serde_json.specs.Written.{compact_text, members_text};
+ghost use Rattle.rb_shadow.specs.Labels.{label_of};
+ghost use Rattle.rb_commands.specs.Adds.{Adds};
+ghost use Rattle.rb_history.specs.Entries.{account_json, deps_json, shadow_json, target_json};
+ghost use Rattle.rb_commands.specs.Values.{label_text, list_json, name_json, number_json, one_json};
+
+use crate::event::append_account;
+use rb_commands::append::{append, append_named, append_number};
+use rb_money::Config;
+use rb_shadow::{Deps, Kind, Shadow};
+use std::alloc::AllocError;
+
+/// A list of counts.
+fn append_counts(out: &mut Vec<u8>, counts: &[u32]) -> Result<(), AllocError>
+    ensures { Adds result out.old.items out.new.items (compact_text (list_json number_json counts.now)) }
+{
+    append(out, "[")?;
+    let mut comma = "";
+    for count in counts {
+        append_number(out, comma, *count as u64, "")?;
+        comma = ",";
+    }
+    append(out, "]")
+}
+
+/// What a shadow's home had applied.
+fn append_deps(out: &mut Vec<u8>, deps: &Deps) -> Result<(), AllocError>
+    ensures { Adds result out.old.items out.new.items (compact_text (deps_json deps.now)) }
+{
+    append(out, "[")?;
+    append_counts(out, &deps.blue)?;
+    append_number(out, ",", deps.red as u64, "]")
+}
+
+/// The key and the word of a kind, behind a number, and the key of the name.
+fn kind_text(kind: Kind) -> &'static str
+    ensures { result.now ≡ codes ",\"kind\":\"" ++ (label_text (label_of kind) ++ codes "\",\"name\":") }
+{
+    match kind {
+        Kind::Deposit => ",\"kind\":\"deposit\",\"name\":",
+        Kind::Withdraw => ",\"kind\":\"withdraw\",\"name\":",
+        Kind::Declined => ",\"kind\":\"declined\",\"name\":",
+        Kind::Interest => ",\"kind\":\"interest\",\"name\":",
+        Kind::Cancel { .. } => ",\"kind\":\"cancel\",\"name\":",
+    }
+}
+
+/// The last member of a shadow where it is a cancellation, and the end of the object.
+#[tactic(auto, unfolding(json::specs::Print::escape_byte))]
+fn append_target(out: &mut Vec<u8>, kind: Kind) -> Result<(), AllocError>
+    ensures { Adds result out.old.items out.new.items (members_text true (target_json kind)) }
+{
+    match kind {
+        Kind::Cancel { target } => append_named(out, ",\"target\":", target, "}"),
+        Kind::Deposit => append(out, "}"),
+        Kind::Withdraw => append(out, "}"),
+        Kind::Declined => append(out, "}"),
+        Kind::Interest => append(out, "}"),
+    }
+}
+
+/// The front of a shadow: its account, its amount and what its home had applied.
+fn append_front(out: &mut Vec<u8>, config: &Config, shadow: &Shadow) -> Result<(), AllocError>
+    ensures { Adds result out.old.items out.new.items (codes "{\"shadow\":{\"account\":" ++ (compact_text (account_json config.now shadow.now.account) ++ (codes ",\"amount\":" ++ (decimal shadow.now.amount ++ (codes ",\"deps\":" ++ compact_text (deps_json shadow.now.deps)))))) }
+{
+    append_account(out, "{\"shadow\":{\"account\":", config, shadow.account, "")?;
+    append_number(out, ",\"amount\":", shadow.amount, ",\"deps\":")?;
+    append_deps(out, &shadow.deps)
+}
+
+/// The rest of a shadow: its home, its kind, its name and its target.
+fn append_back(out: &mut Vec<u8>, shadow: Shadow) -> Result<(), AllocError>
+    ensures { Adds result out.old.items out.new.items (codes ",\"home\":" ++ (decimal shadow.home ++ (codes ",\"kind\":\"" ++ (label_text (label_of shadow.kind) ++ (codes "\",\"name\":" ++ (compact_text (name_json shadow.name) ++ members_text true (target_json shadow.kind))))))) }
+{
+    append_number(
+        out,
+        ",\"home\":",
+        shadow.home as u64,
+        kind_text(shadow.kind),
+    )?;
+    append_named(out, "", shadow.name, "")?;
+    append_target(out, shadow.kind)
+}
+
+/// A shadow, as the one member of an object.
+pub fn append_shadow(out: &mut Vec<u8>, config: &Config, shadow: Shadow) -> Result<(), AllocError>
+    ensures { Adds result out.old.items out.new.items (compact_text (one_json (codes "shadow") (shadow_json config.now shadow))) }
+{
+    append_front(out, config, &shadow)?;
+    append_back(out, shadow)?;
+    append(out, "}")
+}

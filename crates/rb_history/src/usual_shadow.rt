@@ -1,0 +1,80 @@
+//! Shadows of a history's line as this program writes them, read in one pass. `None` says nothing of a text.
+ghost use Rattle.std.specs.Prelude.{◌≡◌, ◌<◌, ◌^◌, ◌++◌, IfSome, true};
+ghost use Rattle.serde_json.specs.Written.{members_text};
+ghost use Rattle.rb_shadow.specs.Labels.{label_of};
+ghost use Rattle.rb_commands.specs.Values.{number_json};
+ghost use Rattle.rb_history.specs.Entries.{target_json};
+ghost use Rattle.rb_history.specs.Fits.{IsKind};
+ghost use Rattle.rb_history.specs.Tells.{TellsDeps, TellsEach, TellsShadow};
+
+use crate::usual_part::{
+    account_between, byte_between, label, long_between, name, name_between, word_between,
+};
+use rb_commands::scan::{after, word};
+use rb_money::{Config, MOST_SITES};
+use rb_shadow::{Deps, Kind, Label, Shadow};
+
+/// A count for each site that there may be, and the closing bracket.
+fn blue(text: &str) -> Option<([u32; MOST_SITES], &str)>
+    ensures { IfSome result (λ p. TellsEach number_json (λ n. n < 2 ^ 32) p.0 text.now p.1.now) }
+{
+    let mut counts = [0; MOST_SITES];
+    let mut left = text;
+    let mut comma = "";
+    for site in 0..MOST_SITES {
+        let (count, rest) = word(after(left, comma)?)?;
+        counts[site] = count;
+        left = rest;
+        comma = ",";
+    }
+    Some((counts, after(left, "]")?))
+}
+
+/// What a home had applied.
+fn deps(text: &str) -> Option<(Deps, &str)>
+    ensures { IfSome result (λ p. TellsDeps p.0 text.now p.1.now) }
+{
+    let (blue, rest) = blue(after(text, "[[")?)?;
+    let (red, rest) = word_between(rest, ",", "]")?;
+    Some((Deps { blue, red }, rest))
+}
+
+/// The kind of this label, with the target of a cancellation, and the end of the object.
+#[tactic(auto, unfolding(json::specs::Print::escape_byte))]
+fn kind(label: Label, text: &str) -> Option<(Kind, &str)>
+    ensures kind { IfSome result (λ p. IsKind p.0 × (label_of p.0 ≡ label)) }
+    ensures text { IfSome result (λ p. text.now ≡ members_text true (target_json p.0) ++ p.1.now) }
+{
+    match label {
+        Label::Deposit => Some((Kind::Deposit, after(text, "}")?)),
+        Label::Withdraw => Some((Kind::Withdraw, after(text, "}")?)),
+        Label::Declined => Some((Kind::Declined, after(text, "}")?)),
+        Label::Interest => Some((Kind::Interest, after(text, "}")?)),
+        Label::Cancel => {
+            let (target, rest) = name_between(text, ",\"target\":\"", "}")?;
+            Some((Kind::Cancel { target }, rest))
+        }
+    }
+}
+
+/// A shadow, as the one member of an object.
+pub fn usual_shadow<'a>(config: &Config, text: &'a str) -> Option<(Shadow, &'a str)>
+    ensures { IfSome result (λ p. TellsShadow config.now p.0 text.now p.1.now) }
+{
+    let (account, rest) = account_between(config, text, "{\"shadow\":{\"account\":\"", ",")?;
+    let (amount, rest) = long_between(rest, "\"amount\":", ",\"deps\":")?;
+    let (deps, rest) = deps(rest)?;
+    let (home, rest) = byte_between(rest, ",\"home\":", ",\"kind\":\"")?;
+    let (label, rest) = label(rest)?;
+    let (name, rest) = name(after(rest, ",\"name\":\"")?)?;
+    let (kind, rest) = kind(label, rest)?;
+    let shadow = Shadow {
+        name,
+        home,
+        deps,
+        account,
+        amount,
+        kind,
+    };
+    Some((shadow, after(rest, "}")?))
+}

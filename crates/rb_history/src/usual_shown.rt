@@ -1,0 +1,132 @@
+//! Names and statements of a history's line as this program writes them, read in one pass. `None` says nothing of a text.
+ghost use Rattle.std.specs.Prelude.{◌≡◌, ◌++◌, IfSome};
+ghost use Rattle.std.specs.Fmt.{signed_decimal};
+ghost use Rattle.json.specs.Print.{token_text};
+ghost use Rattle.json.specs.Token.{boolean};
+ghost use Rattle.serde_json.specs.Written.{compact_text};
+ghost use Rattle.rb_shadow.specs.NameText.{IsName};
+ghost use Rattle.rb_commands.specs.Statements.{row_json};
+ghost use Rattle.rb_commands.specs.Values.{name_json};
+ghost use Rattle.rb_history.specs.Fits.{IsMoved, IsRow};
+ghost use Rattle.rb_history.specs.Tells.{TellsEach, TellsReply};
+
+use crate::usual_part::{label, long_between, name, word_between};
+use rb_commands::scan::{after, number};
+use rb_shadow::OpName;
+use rb_site::{OpNames, Reply};
+use rb_statements::{Row, Rows, Statement};
+use std::alloc::Global;
+
+/// The names of a list, and its closing bracket.
+fn list<'a>(alloc: Global, text: &'a str) -> Option<(Vec<OpName>, &'a str)>
+    ensures { IfSome result (λ p. TellsEach name_json IsName p.0.items text.now p.1.now) }
+{
+    let mut names = Vec::new(alloc);
+    let mut left = text;
+    let mut comma = "";
+    for _ in 0..text.len() {
+        if let Some(rest) = after(left, "]") {
+            return Some((names, rest));
+        }
+        let (name, rest) = name(after(after(left, comma)?, "\"")?)?;
+        if names.push(name).is_err() {
+            return None;
+        }
+        left = rest;
+        comma = ",";
+    }
+    None
+}
+
+/// What a batch made.
+pub fn names<'a>(alloc: Global, text: &'a str) -> Option<(Reply, &'a str)>
+    ensures { IfSome result (λ p. TellsReply p.0 text.now p.1.now) }
+{
+    let (names, rest) = list(alloc, after(text, "{\"names\":[")?)?;
+    Some((Reply::Names(OpNames::new(names)), after(rest, "}")?))
+}
+
+/// What an entry moved, with its sign where it is negative.
+fn moved(text: &str) -> Option<(i64, &str)>
+    ensures { IfSome result (λ p. IsMoved p.0 × (text.now ≡ signed_decimal p.0 ++ p.1.now)) }
+{
+    let Some(digits) = after(text, "-") else {
+        let (n, rest) = number(text)?;
+        if n >= 1 << 63 {
+            return None;
+        }
+        return Some((n as i64, rest));
+    };
+    let (n, rest) = number(digits)?;
+    if n == 0 || n >= 1 << 63 {
+        return None;
+    }
+    Some((-(n as i64), rest))
+}
+
+/// Whether a row is cancelled.
+fn cancelled(text: &str) -> Option<(bool, &str)>
+    ensures { IfSome result (λ p. text.now ≡ token_text (boolean p.0) ++ p.1.now) }
+{
+    match after(text, "true") {
+        Some(rest) => Some((true, rest)),
+        None => Some((false, after(text, "false")?)),
+    }
+}
+
+/// A row, in the list of its parts.
+fn row(text: &str) -> Option<(Row, &str)>
+    ensures { IfSome result (λ p. IsRow p.0 × (text.now ≡ compact_text (row_json p.0) ++ p.1.now)) }
+{
+    let (position, rest) = word_between(text, "[", ",\"")?;
+    let (name, rest) = name(rest)?;
+    let (kind, rest) = label(after(rest, ",\"")?)?;
+    let (moved, rest) = moved(after(rest, ",")?)?;
+    let (cancelled, rest) = cancelled(after(rest, ",")?)?;
+    let (balance, rest) = long_between(rest, ",", "]")?;
+    let row = Row {
+        position,
+        name,
+        kind,
+        moved,
+        cancelled,
+        balance,
+    };
+    Some((row, rest))
+}
+
+/// The rows of a list, and its closing bracket.
+fn rows<'a>(alloc: Global, text: &'a str) -> Option<(Vec<Row>, &'a str)>
+    ensures { IfSome result (λ p. TellsEach row_json IsRow p.0.items text.now p.1.now) }
+{
+    let mut rows = Vec::new(alloc);
+    let mut left = text;
+    let mut comma = "";
+    for _ in 0..text.len() {
+        if let Some(rest) = after(left, "]") {
+            return Some((rows, rest));
+        }
+        let (row, rest) = row(after(left, comma)?)?;
+        if rows.push(row).is_err() {
+            return None;
+        }
+        left = rest;
+        comma = ",";
+    }
+    None
+}
+
+/// A statement.
+pub fn statement<'a>(alloc: Global, text: &'a str) -> Option<(Reply, &'a str)>
+    ensures { IfSome result (λ p. TellsReply p.0 text.now p.1.now) }
+{
+    let (balance, rest) = long_between(text, "{\"balance\":", ",\"rows\":[")?;
+    let (rows, rest) = rows(alloc, rest)?;
+    let (start, rest) = long_between(rest, ",\"start\":", "}")?;
+    let shown = Statement {
+        start,
+        rows: Rows::new(rows),
+        balance,
+    };
+    Some((Reply::Statement(shown), rest))
+}

@@ -1,0 +1,5 @@
+pub mod LineLaws
+pub mod Ranges
+pub mod ReadLaws
+pub mod Walks
+pub mod WriteLaws

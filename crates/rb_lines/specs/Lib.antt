@@ -1,0 +1,4 @@
+pub mod Buffers
+pub mod Lines
+pub mod Messages
+pub mod Writes

@@ -1,0 +1,143 @@
+//! The bytes between a reader and a writer: no read while a whole line waits or a reply is owed.
+ghost use Rattle.std.specs.Prelude.{◌≡◌, ◌≢◌, ◌↔◌, ◌+◌, ◌<◌, ◌≤◌, ◌⊎◌, [], true, false, Err, length, drop, MatchResult, IfOk, OnOk};
+ghost use Rattle.std.specs.Io.KnownBytes.{IsAtEnd};
+ghost use Rattle.rb_lines.specs.Lines.{line_limit, line_len};
+ghost use Rattle.rb_lines.specs.Buffers.{Counts, HasRead, IsNext, Reads, Sends, left};
+ghost use Rattle.rb_lines.specs.Writes.{AppendsFront};
+ghost use Rattle.rb_lines.specs.declared.no_line.NoLine.TheVariants.{TooLong, Read, Write, OutOfMemory};
+
+use crate::no_line::NoLine;
+use crate::pending::Pending;
+use crate::sink::{Sink, WriteFailed};
+use crate::source::Source;
+use crate::write::flush;
+use std::alloc::Global;
+
+/// The most reads of one script.
+const MOST_READS: u64 = 4_000_000_000;
+
+/// The most bytes of a line.
+const LINE_LIMIT: usize = 1_048_576;
+
+/// Replies go out once they have so many bytes, also where more lines wait.
+const MOST_OWED: usize = 65_536;
+
+/// What was read and not yet answered, what was answered and not yet written, how many reads are left, and whether the reader has come to its end.
+#[derive(Drop)]
+pub struct Buffers {
+    pub pending: Pending,
+    pub owed: Vec<u8>,
+    pub reads: u64,
+    pub ended: bool,
+}
+
+impl Buffers {
+    /// Nothing was read, and nothing is owed.
+    pub fn new(alloc: Global) -> Buffers
+        ensures pending { result.pending ≡ [] }
+        ensures owed { result.owed.items ≡ [] }
+        ensures reads { result.reads ≡ 4000000000 }
+        ensures going { result.ended ≡ false }
+    {
+        Buffers {
+            pending: Pending::new(alloc),
+            owed: Vec::new(alloc),
+            reads: MOST_READS,
+            ended: false,
+        }
+    }
+
+    /// Takes the line at the front, of so many bytes, with its line feed.
+    pub fn skip_line(&mut self, n: usize)
+        requires { n ≤ length self.old.pending }
+        ensures { self.new ≡ record self.old { pending = drop (n + 1) self.old.pending } }
+    {
+        let len = self.pending.as_slice().len();
+        self.pending.skip(if n < len { n + 1 } else { n });
+    }
+
+    /// Reads once more. Each whole line was answered before, and each answer written.
+    fn read_more<S: Source>(&mut self, reader: &mut S) -> Result<(), NoLine>
+        requires counted { Counts (S.calls reader.old) self.old.reads }
+        requires going { self.old.ended ≡ false }
+        requires no_line_waits { line_len self.old.pending ≡ length self.old.pending }
+        requires nothing_owed { self.old.owed.items ≡ [] }
+        ensures counted { Counts (S.calls reader.new) self.new.reads }
+        ensures fewer { OnOk result (self.new.reads < self.old.reads) }
+        ensures left { OnOk result (left self.new ≤ left self.old) }
+        ensures owed { self.new.owed ≡ self.old.owed }
+        ensures read { MatchResult result
+            (λ _. Reads self.old.pending self.new.pending (S.remaining reader.old) (S.remaining reader.new))
+            (HasRead self.old self.new (S.remaining reader.old) (S.remaining reader.new) (S.failed reader.new) (S.calls reader.new)) }
+        ensures end { OnOk result (self.new.ended ≡ true → (self.new.pending ≡ self.old.pending) × IsAtEnd (S.remaining reader.new)) }
+    {
+        if self.reads == 0 {
+            return Err(NoLine::Read);
+        }
+        let Ok(read) = self.pending.read(reader) else {
+            return Err(NoLine::OutOfMemory);
+        };
+        self.reads -= 1;
+        match read {
+            Ok(n) => {
+                self.ended = n == 0;
+                Ok(())
+            }
+            Err(_) => Err(NoLine::Read),
+        }
+    }
+
+    /// Makes the next line stand at the front, and says how long it is: `None` at the end. What is owed goes out before a read, and where it is much.
+    #[inline(always)]
+    pub fn next_line<S: Source, W: Sink>(
+        &mut self,
+        reader: &mut S,
+        writer: &mut W,
+    ) -> Result<Option<usize>, NoLine>
+        requires counted { Counts (S.calls reader.old) self.old.reads }
+        requires end { self.old.ended ≡ true → IsAtEnd (S.remaining reader.old) }
+        requires fresh { W.failed writer.old ≡ false }
+        ensures counted { Counts (S.calls reader.new) self.new.reads }
+        ensures left { OnOk result (left self.new ≤ left self.old) }
+        ensures end { self.new.ended ≡ true → IsAtEnd (S.remaining reader.new) }
+        ensures was_going { self.new.ended ≡ false → self.old.ended ≡ false }
+        ensures kept { MatchResult result
+            (λ _. Reads self.old.pending self.new.pending (S.remaining reader.old) (S.remaining reader.new))
+            (λ why. why ≢ OutOfMemory → Reads self.old.pending self.new.pending (S.remaining reader.old) (S.remaining reader.new)) }
+        ensures sent { MatchResult result
+            (λ _. Sends (W.contents writer.old) (W.contents writer.new) self.old.owed.items self.new.owed.items)
+            (λ why. why ≢ Write → Sends (W.contents writer.old) (W.contents writer.new) self.old.owed.items self.new.owed.items) }
+
+        // Each reason.
+        ensures line { IfOk result (IsNext self.new) }
+        ensures long { result ≡ Err TooLong → line_limit < line_len self.new.pending }
+        ensures read { result ≡ Err Read → (self.new.ended ≡ false) × (line_len self.new.pending ≡ length self.new.pending) × ((S.failed reader.new ≡ true) ⊎ (S.calls reader.new ≡ 4000000000)) }
+        ensures write { (result ≡ Err Write) ↔ (W.failed writer.new ≡ true) }
+        ensures nothing { result ≡ Err Write → 0 < length self.old.owed.items }
+        ensures front { result ≡ Err Write → AppendsFront (W.contents writer.old) (W.contents writer.new) self.old.owed.items × (self.new.owed.items ≡ []) }
+    {
+        if self.owed.len() >= MOST_OWED && flush(writer, &mut self.owed).is_err() {
+            return Err(NoLine::Write);
+        }
+        'reads: loop {
+            let n = self.pending.first_line();
+            if n > LINE_LIMIT {
+                return Err(NoLine::TooLong);
+            }
+            if n < self.pending.as_slice().len() {
+                return Ok(Some(n));
+            }
+            if self.ended {
+                return Ok(if n == 0 { None } else { Some(n) });
+            }
+            match flush(writer, &mut self.owed) {
+                Ok(()) => {}
+                Err(WriteFailed) => return Err(NoLine::Write),
+            }
+            match self.read_more(reader) {
+                Ok(()) => {}
+                Err(why) => return Err(why),
+            }
+        }
+    }
+}

@@ -1,0 +1,23 @@
+//! What a script's replies are written to.
+ghost use Rattle.std.specs.Prelude.{◌≡◌, ◌≤◌, ◌||◌, ℕ, Bool, List, Option, length, IfOk};
+ghost use Rattle.std.specs.Io.KnownBytes.{WriteAppends};
+ghost use Rattle.rb_lines.specs.Writes.{moved_nothing};
+
+/// A write failed.
+#[derive(Clone, Copy, Debug, PartialEq, Eq)]
+pub struct WriteFailed;
+
+/// Where bytes go.
+pub trait Sink {
+    // The bytes that were written, where they are known.
+    ghost contents: { Self → Option (List ℕ) };
+
+    // Whether a write has failed, or has taken nothing.
+    ghost failed: { Self → Bool };
+
+    /// Takes bytes off the front of the buffer, and says how many.
+    fn write(&mut self, buf: &[u8]) -> Result<usize, WriteFailed>
+        ensures bound { IfOk result (λ n. n ≤ length buf.now) }
+        ensures bytes { WriteAppends (contents self.old) (contents self.new) result buf.now }
+        ensures failed { failed self.new ≡ (failed self.old || moved_nothing result) };
+}

@@ -1,0 +1,37 @@
+//! Writes of a whole text, in as many calls as it takes.
+ghost use Rattle.std.specs.Prelude.{◌≡◌, ◌<◌, [], true, length, MatchResult, OnErr};
+ghost use Rattle.std.specs.Io.KnownBytes.{Appends};
+ghost use Rattle.rb_lines.specs.Writes.{AppendsFront};
+
+use crate::sink::{Sink, WriteFailed};
+
+/// Writes the text. After an `Err` a front of it went out.
+pub fn write_all<W: Sink>(writer: &mut W, text: &[u8]) -> Result<(), WriteFailed>
+    ensures written { MatchResult result
+        (λ _. Appends (W.contents writer.old) (W.contents writer.new) text.now × (W.failed writer.new ≡ W.failed writer.old))
+        (λ _. AppendsFront (W.contents writer.old) (W.contents writer.new) text.now × (W.failed writer.new ≡ true)) }
+    ensures nothing { OnErr result (0 < length text.now) }
+{
+    let mut rest = text;
+    while !rest.is_empty() {
+        let n = match writer.write(rest) {
+            Ok(n) if n > 0 => n,
+            _ => return Err(WriteFailed),
+        };
+        rest = &rest[n..];
+    }
+    Ok(())
+}
+
+/// Writes what is owed, and keeps the room. Nothing is owed afterwards: after an `Err` a front of it went out.
+pub fn flush<W: Sink>(writer: &mut W, owed: &mut Vec<u8>) -> Result<(), WriteFailed>
+    ensures written { MatchResult result
+        (λ _. Appends (W.contents writer.old) (W.contents writer.new) owed.old.items × (W.failed writer.new ≡ W.failed writer.old))
+        (λ _. AppendsFront (W.contents writer.old) (W.contents writer.new) owed.old.items × (W.failed writer.new ≡ true)) }
+    ensures emptied { owed.new.items ≡ [] }
+    ensures nothing { OnErr result (0 < length owed.old.items) }
+{
+    let written = write_all(writer, owed.as_slice());
+    owed.clear();
+    written
+}

@@ -1,0 +1,97 @@
+//! The records of what is tried.
+ghost use Rattle.std.specs.Prelude.{◌≡◌, ◌<◌, ◌≤◌, [], ◌∷◌, ◌++◌, length, MatchOption, IfOk, IfErr, OnOk, OnErr};
+
+use crate::request::MOST_REQUESTS;
+use rb_money::Place;
+use rb_shadow::OpName;
+use rb_undo::{Undo, UndoLog, UndoParts};
+use std::marker::Model;
+
+/// What stands in the places that no record has yet.
+const BLANK: UndoParts = UndoParts {
+    position: 0,
+    name: OpName::Red { n: 0 },
+    place: Place(0),
+    balance: 0,
+    target: 0,
+};
+
+/// Undo records in order, at most as many as a batch has requests, each of which is still to be spent or
+/// sealed. They stand in the value itself and take no memory: a record is spent into its parts, and made
+/// anew from them. Callers see the parts. They can't be dropped: they go to the end of a log, or are closed.
+pub struct Records {
+    parts: [UndoParts; MOST_REQUESTS],
+    len: usize,
+}
+
+impl Model for Records {
+    ghost use Rattle.std.specs.Prelude.{◌≡◌, ◌≤◌, length, take};
+    ghost use Rattle.rb_scratch.specs.Records.{RecordList};
+
+    ghost Value = { RecordList };
+
+    ghost view = { λ r. record { parts = take r.len r.parts } };
+
+    ghost invariant = { λ r. (length r.parts ≡ 16) × (r.len ≤ 16) };
+}
+
+impl Records {
+    /// No records.
+    pub fn new() -> Records
+        ensures { result.parts ≡ [] }
+    {
+        Records {
+            parts: [BLANK; MOST_REQUESTS],
+            len: 0,
+        }
+    }
+
+    /// How many records there are.
+    pub fn len(&self) -> usize
+        ensures { result ≡ length self.now.parts }
+    {
+        self.len
+    }
+
+    /// Adds a record at the end, where there are fewer than the most.
+    pub fn push(&mut self, undo: Undo)
+        requires { length self.old.parts < 16 }
+        ensures { self.new.parts ≡ self.old.parts ++ undo ∷ [] }
+    {
+        self.parts[self.len] = undo.spend();
+        self.len += 1;
+    }
+
+    /// Takes the last record out.
+    pub fn pop(&mut self) -> Option<Undo>
+        ensures { MatchOption result ((self.old.parts ≡ []) × (self.new ≡ self.old)) (λ undo. self.old.parts ≡ self.new.parts ++ undo ∷ []) }
+    {
+        let last = self.len.checked_sub(1)?;
+        self.len = last;
+        Some(Undo::new(self.parts[last]))
+    }
+
+    /// Moves the records to the end of a log, and answers how many they are. For want of memory they come
+    /// back, and nothing changes but that the log may have more room.
+    pub fn append_to(self, log: &mut UndoLog) -> Result<usize, Records>
+        ensures count { IfOk result (λ count. count ≡ length self.parts) }
+        ensures log { OnOk result (log.new.parts ≡ log.old.parts ++ self.parts) }
+        ensures back { IfErr result (λ back. back ≡ self) }
+        ensures unchanged { OnErr result (log.new.parts ≡ log.old.parts) }
+        ensures grows { OnErr result (log.old.room ≤ log.new.room) }
+    {
+        if log.reserve(self.len).is_err() {
+            return Err(self);
+        }
+        let Records { parts, len } = self;
+        'records: for index in 0..len {
+            log.push_reserved(Undo::new(parts[index]));
+        }
+        Ok(len)
+    }
+
+    /// Seals all records.
+    pub fn close(self) {
+        let Records { parts: _, len: _ } = self;
+    }
+}

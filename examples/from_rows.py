@@ -1,0 +1,68 @@
+#!/usr/bin/env python3
+"""Makes the scripts of this folder, with their replies, from the worked rows of the tests, which stand in crates/rbbank/src/rows.rt.
+
+usage: from_rows.py [--check]
+
+With --check nothing is written: it ends in 1 where an example isn't the row of its name, or a computed run of
+crates/rb_world/proofs/WorkedRows.antt is missing for a row.
+"""
+import glob
+import os
+import re
+import sys
+
+HERE = os.path.dirname(os.path.abspath(__file__))
+CRATES = os.path.join(os.path.dirname(HERE), "crates")
+ROW = re.compile(r'Row \{\s*name: "(\w+)",\s*script: r#"(.*?)"#,\s*replies: r#"(.*?)"#,', re.DOTALL)
+
+
+def read(path):
+    with open(path, encoding="utf-8") as text:
+        return text.read()
+
+
+def rows():
+    """Each row's script and replies, by its name."""
+    source = read(os.path.join(CRATES, "rbbank", "src", "rows.rt"))
+    return {name: (script, replies) for name, script, replies in ROW.findall(source)}
+
+
+def examples():
+    """The names of the scripts of this folder that are answered whole."""
+    stems = (os.path.basename(path).removesuffix(".jsonl") for path in glob.glob(os.path.join(HERE, "*.jsonl")))
+    return sorted(stem for stem in stems if not stem.endswith(".histories") and not os.path.exists(os.path.join(HERE, stem + ".status")))
+
+
+def faults():
+    """What isn't as it has to be."""
+    known = rows()
+    computed = read(os.path.join(CRATES, "rb_world", "proofs", "WorkedRows.antt"))
+    for name in known:
+        if f"\n{name} : replies_of_run " not in computed:
+            yield f"WorkedRows.antt computes no run {name}"
+    for name in examples():
+        stem = os.path.join(HERE, name)
+        if known.get(name) != (read(stem + ".jsonl"), read(stem + ".expected")):
+            yield f"examples/{name} isn't the row of its name"
+
+
+def write():
+    known = rows()
+    for name in examples():
+        for ending, text in zip((".jsonl", ".expected"), known[name]):
+            with open(os.path.join(HERE, name + ending), "w", encoding="utf-8") as example:
+                example.write(text)
+
+
+def main():
+    if sys.argv[1:] not in ([], ["--check"]):
+        sys.exit(__doc__)
+    if not sys.argv[1:]:
+        write()
+    wrong = list(faults())
+    for fault in wrong:
+        print(fault, file=sys.stderr)
+    sys.exit(1 if wrong else 0)
+
+
+main()
