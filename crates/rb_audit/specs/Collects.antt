@@ -4,7 +4,7 @@ use Rattle.rb_money.specs.Settings.{Settings}
 use Rattle.rb_site.specs.declared.entry.Entry.{Entry}
 use Rattle.rb_auditor.specs.Findings.{lists_of}
 use Rattle.rb_lines.specs.declared.fault.ScriptFault.{ScriptFault}
-use Rattle.rb_lines.specs.declared.fault.ScriptFault.TheVariants.{NoConfig, BadConfig, BadLine, LongLine, Read, Write, OutOfMemory}
+use Rattle.rb_lines.specs.declared.fault.ScriptFault.TheVariants.{NoConfig, BadConfig, BadLine, LongLine, Read, Write, OutOfMemory, Gather}
 use Rattle.rb_audit.specs.declared.collected.Collected.{Collected}
 use Rattle.rb_audit.specs.Inputs.{Input, input_after, input_from}
 
@@ -35,3 +35,4 @@ EndsAt c l NoConfig = ⊥
 EndsAt c l (LongLine n) = ⊥
 EndsAt c l Read = ⊥
 EndsAt c l Write = ⊥
+EndsAt c l Gather = ⊥
