@@ -1,13 +1,31 @@
 -- The words that ask for each thing, and the command line that takes them.
-use Rattle.std.specs.Prelude.{ℕ, List, [], ◌∷◌, codes, true}
+use Rattle.std.specs.Prelude.{◌≡◌, ◌<◌, ◌≤◌, ◌+◌, ◌*◌, ℕ, List, [], ◌∷◌, ◌^◌, length, codes, decimal, true, Some, slice_get}
 use Rattle.clap.specs.Words.{App, Shape, new_app, with_subcommand}
 use Rattle.rb_words.specs.declared.words.Words.{Words}
-use Rattle.rb_words.specs.declared.words.Words.TheVariants.{Script, Audit}
+use Rattle.rb_words.specs.declared.words.Words.TheVariants.{Script, Audit, Threads}
 
--- the words after the program's name
-abbrev pub words_of : Words → List (List ℕ)
-words_of Script = codes "script" ∷ []
-words_of Audit = codes "audit" ∷ []
+-- one of the three options behind the first word has this name, and the number's digits behind it
+abbrev pub IsGiven : List (List ℕ) → List ℕ → ℕ → Type 0
+IsGiven words name n = (i : ℕ) × (i < 3) × (slice_get words (2 * i + 1) ≡ Some name) × (slice_get words (2 * i + 2) ≡ Some (decimal n))
+
+-- the words ask for a run of threads: they are its name and three options, in any order, with numbers in their ranges
+pub record AskForThreads (words : List (List ℕ)) (sites tellers seed : ℕ) : Type 0 where
+  pub count : length words ≡ 7
+  pub first : slice_get words 0 ≡ Some (codes "threads")
+  pub sites : IsGiven words (codes "--sites") sites
+  pub some_sites : 2 ≤ sites
+  pub few_sites : sites ≤ 8
+  pub tellers : IsGiven words (codes "--tellers") tellers
+  pub some_tellers : 1 ≤ tellers
+  pub few_tellers : tellers ≤ 64
+  pub seed : IsGiven words (codes "--seed") seed
+  pub few_seeds : seed < 2 ^ 32
+
+-- what the words after the program's name ask for
+abbrev pub Ask : List (List ℕ) → Words → Type 0
+Ask words Script = words ≡ codes "script" ∷ []
+Ask words Audit = words ≡ codes "audit" ∷ []
+Ask words (Threads sites tellers seed) = AskForThreads words sites tellers seed
 
 -- the command line before its subcommand: the words don't begin with the program's name
 abbrev pub top_line : Shape

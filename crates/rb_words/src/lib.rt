@@ -1,6 +1,7 @@
 //! The words of the command line.
 #![tactic(auto)]
 
+mod options;
 #[cfg(test)]
 mod tests;
 mod words;

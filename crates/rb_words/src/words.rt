@@ -1,8 +1,9 @@
 //! What a command line asks for.
-ghost use Rattle.std.specs.Prelude.{◌≡◌, ◌≢◌, IfErr, IfNone, IfOk, IfSome, map};
-ghost use Rattle.clap.specs.Words.{app_of, kind_of};
-ghost use Rattle.rb_words.specs.Words.{command_line, words_of};
+ghost use Rattle.std.specs.Prelude.{◌≡◌, codes, length, slice_get, IfErr, IfNone, IfOk, IfSome, Some, map};
+ghost use Rattle.clap.specs.Words.{app_of};
+ghost use Rattle.rb_words.specs.Words.{Ask, command_line};
 
+use crate::options::number_of;
 use clap::error::ErrorKind;
 use clap::{Command, Error};
 use std::alloc::{AllocError, Global};
@@ -14,6 +15,8 @@ pub enum Words {
     Script,
     /// To audit the histories on standard input.
     Audit,
+    /// To run so many tellers, 1 to 64, at so many sites, 2 to 8. The first teller's numbers begin with the seed.
+    Threads { sites: u8, tellers: u8, seed: u32 },
 }
 
 /// The command line that the program takes.
@@ -27,28 +30,46 @@ fn command<'a>(alloc: Global) -> Result<Command<'a>, AllocError>
         .subcommand(Command::new(alloc, "audit"))
 }
 
+/// The run of threads that seven words ask for: the name of the command, and its options.
+fn threads(words: &[&str]) -> Option<Words>
+    requires count { length words.now ≡ 7 }
+    requires first { slice_get (map (λ word. word.now) words.now) 0 ≡ Some (codes "threads") }
+    ensures some { IfSome result (Ask (map (λ word. word.now) words.now)) }
+    ensures none { IfNone result ((asked : Words) → ¬ Ask (map (λ word. word.now) words.now) asked) }
+{
+    let sites = number_of(words, "--sites", 2, 8)?;
+    let tellers = number_of(words, "--tellers", 1, 64)?;
+    let seed = number_of(words, "--seed", 0, u32::MAX)?;
+    Some(Words::Threads {
+        sites: sites as u8,
+        tellers: tellers as u8,
+        seed,
+    })
+}
+
 /// What the words ask for, where they are just its words.
 fn asked_for(words: &[&str]) -> Option<Words>
-    ensures some { IfSome result (λ asked. map (λ word. word.now) words.now ≡ words_of asked) }
-    ensures none { IfNone result ((asked : Words) → map (λ word. word.now) words.now ≢ words_of asked) }
+    ensures some { IfSome result (Ask (map (λ word. word.now) words.now)) }
+    ensures none { IfNone result ((asked : Words) → ¬ Ask (map (λ word. word.now) words.now) asked) }
 {
     match words {
         ["script"] => Some(Words::Script),
         ["audit"] => Some(Words::Audit),
+        ["threads", _, _, _, _, _, _] => threads(words),
         _ => None,
     }
 }
 
 /// What the words after the program's name ask for. The error has the text to show: `ErrorKind::DisplayHelp` is help that was asked for.
 pub fn read_words<'a>(alloc: Global, words: &'a [&'a str]) -> Result<Words, Error>
-    ensures ok { IfOk result (λ asked. map (λ word. word.now) words.entry.now ≡ words_of asked) }
-    // Words that ask for something fail for want of memory alone.
-    ensures err { IfErr result (λ e. (asked : Words) → map (λ word. word.now) words.entry.now ≡ words_of asked → kind_of e ≡ ErrorKind.OutOfMemory) }
+    ensures ok { IfOk result (Ask (map (λ word. word.now) words.entry.now)) }
+    // Words that ask for something never fail.
+    ensures err { IfErr result (λ _. (asked : Words) → ¬ Ask (map (λ word. word.now) words.entry.now) asked) }
 {
+    if let Some(asked) = asked_for(words) {
+        return Ok(asked);
+    }
     let mut command = command(alloc)?;
     let _matches = command.try_get_matches_from_mut(words)?;
-    match asked_for(words) {
-        Some(asked) => Ok(asked),
-        None => Err(command.error(ErrorKind::InvalidSubcommand, "no such command")?),
-    }
+    Err(command.error(ErrorKind::InvalidSubcommand, "no such command")?)
 }

@@ -1,0 +1,3 @@
+pub mod Bank
+pub mod Texts
+pub mod Writing
