@@ -12,14 +12,14 @@ IsGiven words name n = (i : ℕ) × (i < 3) × (slice_get words (2 * i + 1) ≡ 
 pub record AskForThreads (words : List (List ℕ)) (sites tellers seed : ℕ) : Type 0 where
   pub count : length words ≡ 7
   pub first : slice_get words 0 ≡ Some (codes "threads")
-  pub sites : IsGiven words (codes "--sites") sites
+  pub sites_given : IsGiven words (codes "--sites") sites
   pub some_sites : 2 ≤ sites
   pub few_sites : sites ≤ 8
-  pub tellers : IsGiven words (codes "--tellers") tellers
+  pub tellers_given : IsGiven words (codes "--tellers") tellers
   pub some_tellers : 1 ≤ tellers
   pub few_tellers : tellers ≤ 64
-  pub seed : IsGiven words (codes "--seed") seed
-  pub few_seeds : seed < 2 ^ 32
+  pub seed_given : IsGiven words (codes "--seed") seed
+  pub seed_fits : seed < 2 ^ 32
 
 -- what the words after the program's name ask for
 abbrev pub Ask : List (List ℕ) → Words → Type 0
