@@ -1,8 +1,13 @@
 -- The words that ask for each thing, and the command line that takes them.
-use Rattle.std.specs.Prelude.{◌≡◌, ◌<◌, ◌≤◌, ◌+◌, ◌*◌, ℕ, List, [], ◌∷◌, ◌^◌, length, codes, decimal, true, Some, slice_get}
-use Rattle.clap.specs.Words.{App, Shape, new_app, with_subcommand}
+use Rattle.std.specs.Prelude.{◌≡◌, ◌<◌, ◌≤◌, ◌+◌, ◌*◌, ◌^◌, ℕ, pos, List, [], ◌∷◌, length, codes, decimal, true, Some, slice_get}
+use Rattle.clap.specs.Words.{App, Kinds, Rule, Shape, fault_of, new_app, new_rule, with_rule, with_subcommand}
+use Rattle.clap.specs.Kinds.{or_else}
+use Rattle.clap.specs.declared.builder.value_parser.ValueParser.TheVariants.{Signed}
+use Rattle.clap.specs.declared.error.kind.ErrorKind.TheVariants.{InvalidSubcommand}
 use Rattle.rb_words.specs.declared.words.Words.{Words}
 use Rattle.rb_words.specs.declared.words.Words.TheVariants.{Script, Audit, Threads}
+
+-- ---- what the words ask for
 
 -- one of the three options behind the first word has this name, and the number's digits behind it
 abbrev pub IsGiven : List (List ℕ) → List ℕ → ℕ → Type 0
@@ -27,10 +32,24 @@ Ask words Script = words ≡ codes "script" ∷ []
 Ask words Audit = words ≡ codes "audit" ∷ []
 Ask words (Threads sites tellers seed) = AskForThreads words sites tellers seed
 
--- the command line before its subcommand: the words don't begin with the program's name
+-- ---- the command line, which tells what is wrong with other words
+
+-- the command line before its subcommand: the words don't begin with the program's name, and it tells its version
 abbrev pub top_line : Shape
-top_line = record (new_app (codes "rbbank")).top { no_binary_name = true; subcommand_required = true }
+top_line = record (new_app (codes "rbbank")).top { no_binary_name = true; subcommand_required = true; has_version = true }
+
+-- an option that must be given, with a number from the first to the second
+abbrev pub option_rule : List ℕ → ℕ → ℕ → Rule
+option_rule name least most = record (new_rule name) { long = Some name; value_names = 1; parser = Some (Signed (pos least) (pos most)); required = true }
+
+-- a run of threads, with its options
+abbrev pub threads_line : App
+threads_line = with_rule (with_rule (with_rule (new_app (codes "threads")) (option_rule (codes "sites") 2 8)) (option_rule (codes "tellers") 1 64)) (option_rule (codes "seed") 0 4294967295)
 
 -- the command line: a subcommand for each thing
 abbrev pub command_line : App
-command_line = with_subcommand (with_subcommand (record { top = top_line; subs = [] }) (new_app (codes "script")).top) (new_app (codes "audit")).top
+command_line = with_subcommand (with_subcommand (with_subcommand (record { top = top_line; subs = [] }) (new_app (codes "script")).top) (new_app (codes "audit")).top) threads_line.top
+
+-- the kinds of error that words may end in, want of memory aside: those of the first word that the command line doesn't take, and where it takes all, that they ask for nothing
+abbrev pub kinds_of : List (List ℕ) → Kinds
+kinds_of words = or_else (fault_of command_line words) (InvalidSubcommand ∷ [])

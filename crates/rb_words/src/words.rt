@@ -1,12 +1,13 @@
 //! What a command line asks for.
-ghost use Rattle.std.specs.Prelude.{◌≡◌, codes, length, slice_get, IfErr, IfNone, IfOk, IfSome, Some, map};
-ghost use Rattle.clap.specs.Words.{app_of};
-ghost use Rattle.rb_words.specs.Words.{Ask, command_line};
+ghost use Rattle.std.specs.Prelude.{◌≡◌, codes, length, map, slice_get, IfErr, IfNone, IfOk, IfSome, Some};
+ghost use Rattle.clap.specs.Words.{HasKind};
+ghost use Rattle.rb_words.specs.Words.{Ask, kinds_of};
 
+use crate::command_line::command_line;
 use crate::options::number_of;
+use clap::Error;
 use clap::error::ErrorKind;
-use clap::{Command, Error};
-use std::alloc::{AllocError, Global};
+use std::alloc::Global;
 
 /// What the program is asked to do.
 #[derive(Clone, Copy, Debug, PartialEq, Eq)]
@@ -15,22 +16,11 @@ pub enum Words {
     Script,
     /// To audit the histories on standard input.
     Audit,
-    /// To run so many tellers, 1 to 64, at so many sites, 2 to 8. The first teller's numbers begin with the seed.
+    /// To run so many tellers, 1 to 64, at so many sites, 2 to 8. The first numbers of the tellers begin at the seed.
     Threads { sites: u8, tellers: u8, seed: u32 },
 }
 
-/// The command line that the program takes.
-fn command<'a>(alloc: Global) -> Result<Command<'a>, AllocError>
-    ensures { IfOk result (λ command. app_of command ≡ command_line) }
-{
-    Command::new(alloc, "rbbank")
-        .no_binary_name(true)
-        .subcommand_required(true)
-        .subcommand(Command::new(alloc, "script"))?
-        .subcommand(Command::new(alloc, "audit"))
-}
-
-/// The run of threads that seven words ask for: the name of the command, and its options.
+/// The run of threads that seven words ask for, the first of which is its name.
 fn threads(words: &[&str]) -> Option<Words>
     requires count { length words.now ≡ 7 }
     requires first { slice_get (map (λ word. word.now) words.now) 0 ≡ Some (codes "threads") }
@@ -60,16 +50,18 @@ fn asked_for(words: &[&str]) -> Option<Words>
     }
 }
 
-/// What the words after the program's name ask for. The error has the text to show: `ErrorKind::DisplayHelp` is help that was asked for.
+/// What the words after the program's name ask for. The error has the text to show: `ErrorKind::DisplayHelp` is help that was asked for, `ErrorKind::DisplayVersion` the version.
 pub fn read_words<'a>(alloc: Global, words: &'a [&'a str]) -> Result<Words, Error>
     ensures ok { IfOk result (Ask (map (λ word. word.now) words.entry.now)) }
     // Words that ask for something never fail.
     ensures err { IfErr result (λ _. (asked : Words) → ¬ Ask (map (λ word. word.now) words.entry.now) asked) }
+    // An error tells what the words are for: help and the version only where they ask for it.
+    ensures kinds { IfErr result (HasKind (kinds_of (map (λ word. word.now) words.entry.now))) }
 {
     if let Some(asked) = asked_for(words) {
         return Ok(asked);
     }
-    let mut command = command(alloc)?;
+    let mut command = command_line(alloc)?;
     let _matches = command.try_get_matches_from_mut(words)?;
     Err(command.error(ErrorKind::InvalidSubcommand, "no such command")?)
 }
