@@ -34,6 +34,11 @@ IsEndOfAudit (Ok true) n = n ≡ 0
 IsEndOfAudit (Ok false) n = n ≡ 1
 IsEndOfAudit (Err fault) n = IsToldFault fault n
 
+-- a run of threads whose histories were written is no fault
+abbrev pub IsEndOfThreads : Result Unit ScriptFault → ℕ → Type 0
+IsEndOfThreads (Ok u) n = n ≡ 0
+IsEndOfThreads (Err fault) n = IsToldFault fault n
+
 -- 0, 1, or the status of a fault
 abbrev pub IsEnd : ℕ → Type 0
 IsEnd n = (n ≡ 0) ⊎ ((n ≡ 1) ⊎ ((fault : ScriptFault) × (n ≡ status_of fault)))
