@@ -1,61 +1,26 @@
-ghost use Rattle.std.specs.Prelude.{◌≡◌, List, ◌++◌, ◌∷◌, ◌+◌, ◌<◌, ◌≤◌, ◌↔◌, [], IfOk, OnErr, IsSome, IfSome, OnSome, Err, length, vec_len};
+//! Desks, seats, and the one call that makes a receipt.
+ghost use Rattle.std.specs.Prelude.{◌≡◌, ◌<◌, ◌≤◌, [], IfOk, OnErr, Err, length};
 ghost use Rattle.std.specs.Option.{option_copied};
 ghost use Rattle.rb_site.specs.Events.{first_site};
-ghost use Rattle.rb_site.specs.Seen.{Replays, state_of};
-ghost use Rattle.rb_branch.specs.Report.{IsClosed};
-ghost use Rattle.rb_branch.specs.Calls.{Records, SetsUnsent, CannotRecord, receipt_at};
-ghost use Rattle.rb_branch.specs.declared.desk.CallFault.TheVariants.{HistoryFull};
+ghost use Rattle.rb_site.specs.Seen.{Replays, first_seen};
+ghost use Rattle.rb_branch.specs.Gathered.{IsClosed};
+ghost use Rattle.rb_branch.specs.Seats.{Records, SetsUnsent, CannotRecord, receipt_at};
+ghost use Rattle.rb_branch.specs.declared.call_fault.CallFault.TheVariants.{HistoryFull};
 
-use crate::merge::Given;
+use crate::given::Given;
+use crate::{Books, CallFault, Entries, Receipt};
 use rb_shadow::OpName;
-use rb_site::{Event, Posted, Reply, Site, SiteReport};
-use std::alloc::{AllocError, Global};
-use std::marker::{Brand, Model, PhantomData};
-use std::sync::ledger::{Blank, Book, Ledger, Share};
+use rb_site::{Event, Posted, Site, SiteReport};
+use std::alloc::Global;
+use std::marker::{Model, PhantomData};
+use std::sync::ledger::{Ledger, Share};
 use std::sync::{Mutex, Wait};
 
-/// The ledger of a branch's entries, which names the branch's configuration.
-pub trait Entries: Ledger {
-    ghost use Rattle.rb_money.specs.Settings.{Settings};
+/// How many receipts a seat has at most, so that their numbers fit 32 bits.
+const MOST_RECEIPTS: usize = 4_000_000_000;
 
-    ghost setup: { Settings };
-}
-
-impl Entries for Brand {
-    ghost use Rattle.std.specs.Prelude.{[]};
-    ghost use Rattle.rb_money.specs.Settings.{Settings};
-
-    ghost setup = { record { sites = 0; names = []; starts = []; limits = record { blue = 0; red = 0; inbox = 0; history = 0; epoch = 0 } } };
-}
-
-/// Why a call did nothing.
-#[derive(Clone, Copy, Debug, PartialEq, Eq)]
-pub enum CallFault {
-    OutOfMemory,
-    HistoryFull,
-}
-
-impl From<AllocError> for CallFault {
-    ghost use Rattle.std.specs.Prelude.{◌≡◌};
-    ghost use Rattle.rb_branch.specs.declared.desk.CallFault.TheVariants.{OutOfMemory};
-
-    ghost from_gives = { λ _ e. e ≡ OutOfMemory };
-
-    fn from(_: AllocError) -> CallFault {
-        CallFault::OutOfMemory
-    }
-}
-
-/// One event of a caller, with its place in the site's history, from 1, and how many links its messages missed.
-#[derive(Drop)]
-pub struct Receipt {
-    pub number: u32,
-    pub event: Event,
-    pub reply: Reply,
-    pub unsent: u32,
-}
-
-/// What lies behind a site's lock: the site, and its share of the entries. It ends as its site does.
+/// What lies behind a site's lock: the site, and its share of the entries. Callers see the site. It can't be
+/// dropped.
 pub struct Desk<E: Entries> {
     site: Site,
     share: Share<E>,
@@ -63,16 +28,17 @@ pub struct Desk<E: Entries> {
 
 impl<E: Entries> Model for Desk<E> {
     ghost use Rattle.rb_site.specs.Seen.{SeenSite};
-    ghost use Rattle.rb_branch.specs.Calls.{IsDesk};
+    ghost use Rattle.rb_branch.specs.Seats.{IsDesk};
 
     ghost Value = { SeenSite };
 
     ghost view = { λ d. d.site };
 
-    ghost invariant = { λ d. IsDesk E.setup d.site d.share.parts d.share.amount };
+    ghost invariant = { λ d. IsDesk E.settings d.site d.share.parts d.share.amount };
 }
 
-/// A caller at one site: its receipts, and its share of them.
+/// One caller at one site: what it was answered, and its share of the receipts. Callers see the site's number
+/// and the receipts.
 #[derive(Drop)]
 pub struct Seat<E: Entries, R: Ledger> {
     site: u8,
@@ -82,115 +48,20 @@ pub struct Seat<E: Entries, R: Ledger> {
 }
 
 impl<E: Entries, R: Ledger> Model for Seat<E, R> {
-    ghost use Rattle.rb_branch.specs.Calls.{Caller, IsSeat};
+    ghost use Rattle.rb_branch.specs.Seats.{SeenSeat, IsSeat};
 
-    ghost Value = { Caller };
+    ghost Value = { SeenSeat };
 
     ghost view = { λ s. record { site = s.site; receipts = s.receipts.items } };
 
-    ghost invariant = { λ s. IsSeat E.setup s.site s.receipts.items s.share.parts s.share.amount };
+    ghost invariant = { λ s. IsSeat E.settings s.site s.receipts.items s.share.parts s.share.amount };
 }
 
-/// Both books, and the parts that no seat has yet. As many entries were counted as receipts.
-#[derive(Drop)]
-pub struct Books<E: Entries, R: Ledger> {
-    entries: Book<E>,
-    receipts: Book<R>,
-    rest: Share<R>,
-    left: u32,
-    spare: Share<E>,
-    ghost same: { entries.total ≡ receipts.total },
-    ghost parts: { rest.parts ≡ left + 1 },
-    ghost none: { rest.amount ≡ 0 },
-}
-
-impl<E: Entries, R: Ledger> Books<E, R> {
-    /// New books, and all parts of the entries' ledger.
-    pub(crate) fn open(entries: Blank, receipts: Blank) -> (Books<E, R>, Share<E>)
-        requires entries { (entries.name ≡ E.name) × (entries.parts ≡ E.parts) }
-        requires receipts { (receipts.name ≡ R.name) × (receipts.parts ≡ R.parts) × (receipts.parts ≡ 1025) }
-        ensures all { (result.1.parts ≡ E.parts) × (result.1.amount ≡ 0) }
-    {
-        let (entries, mut all) = entries.open::<E>();
-        let spare = all.empty();
-        let (receipts, rest) = receipts.open::<R>();
-        (
-            Books {
-                entries,
-                receipts,
-                rest,
-                left: 1024,
-                spare,
-            },
-            all,
-        )
-    }
-
-    /// Both books, and the parts that no seat has.
-    pub(crate) fn apart(self) -> (Book<E>, Book<R>, Share<R>)
-        ensures same { result.0.total ≡ result.1.total }
-        ensures rest { (result.2.parts ≡ self.left + 1) × (result.2.amount ≡ 0) }
-    {
-        let Books {
-            entries,
-            receipts,
-            rest,
-            left: _,
-            spare,
-        } = self;
-        drop(spare);
-        (entries, receipts, rest)
-    }
-
-    /// An empty share of the entries.
-    pub(crate) fn empty(&mut self) -> Share<E>
-        ensures none { (result.parts ≡ 0) × (result.amount ≡ 0) }
-        ensures left { self.new.left ≡ self.old.left }
-    {
-        self.spare.empty()
-    }
-
-    /// A seat at a site, unless all are given out.
-    pub(crate) fn seat(&mut self, alloc: Global, site: u8) -> Option<Seat<E, R>>
-        requires { site < E.setup.sites }
-        ensures some { IsSome result ↔ (0 < self.old.left) }
-        ensures seat { IfSome result (λ s. (s.site ≡ site) × (s.receipts ≡ [])) }
-        ensures left { OnSome result (self.new.left + 1 ≡ self.old.left) }
-    {
-        if self.left == 0 {
-            return None;
-        }
-        let Books { rest, left, .. } = self;
-        let share = rest.split_off(1, 0);
-        *left -= 1;
-        Some(Seat {
-            site,
-            receipts: Vec::new(alloc),
-            share,
-            of: PhantomData,
-        })
-    }
-
-    /// Counts an entry and its receipt.
-    fn count(&mut self, entry: &mut Share<E>, receipt: &mut Share<R>)
-        requires entry { 0 < entry.old.parts }
-        requires receipt { 0 < receipt.old.parts }
-        ensures entry { (entry.new.amount ≡ entry.old.amount + 1) × (entry.new.parts ≡ entry.old.parts) }
-        ensures receipt { (receipt.new.amount ≡ receipt.old.amount + 1) × (receipt.new.parts ≡ receipt.old.parts) }
-    {
-        let Books {
-            entries,
-            receipts,
-            ..
-        } = self;
-        entries.add(entry, 1);
-        receipts.add(receipt, 1);
-    }
-}
-
-const MOST: usize = 4_000_000_000;
-
-/// Runs one event at the desk, and gives the seat its receipt.
+/// One event at the desk, and its receipt at the end of the seat: its number there, from 1, and what is to be
+/// sent. Nothing else makes a receipt. Its room is made before the step.
+///
+/// `Err` is want of memory, or a full history, a full seat, or a seat of another site; desk and seat are
+/// then as before.
 pub fn record<E: Entries, R: Ledger, W: Wait>(
     rt: &W,
     alloc: Global,
@@ -203,7 +74,7 @@ pub fn record<E: Entries, R: Ledger, W: Wait>(
     ensures err { OnErr result ((desk.new ≡ desk.old) × (seat.new ≡ seat.old)) }
     ensures full { result ≡ Err HistoryFull → CannotRecord desk.old seat.old }
 {
-    if desk.site.me() != seat.site || desk.site.is_full() || seat.receipts.len() >= MOST {
+    if desk.site.me() != seat.site || desk.site.is_full() || seat.receipts.len() >= MOST_RECEIPTS {
         return Err(CallFault::HistoryFull);
     }
     seat.receipts.reserve(1)?;
@@ -222,35 +93,36 @@ pub fn record<E: Entries, R: Ledger, W: Wait>(
 }
 
 impl<E: Entries> Desk<E> {
-    /// A fresh site's desk.
+    /// The desk of a site before any event.
     pub(crate) fn open(site: Site, share: Share<E>) -> Desk<E>
-        requires site { (site.settings ≡ E.setup) × (site.entries ≡ []) × (site.me < E.setup.sites) }
+        requires site { site ≡ first_seen E.settings site.me }
+        requires place { site.me < E.settings.sites }
         requires share { (share.parts ≡ 1) × (share.amount ≡ 0) }
         ensures { result ≡ site }
     {
         Desk { site, share }
     }
 
-    /// The site. Whenever its lock is got, it is one of the branch's configuration, and its history replays.
+    /// The site. Whenever its lock is got it is one of the branch's configuration, and its history replays.
     pub fn site(&self) -> &Site
         ensures same { result.now ≡ self.now }
-        ensures setup { self.now.settings ≡ E.setup }
-        ensures place { self.now.me < E.setup.sites }
-        ensures replays { Replays E.setup (first_site self.now.me) self.now.entries }
+        ensures settings { self.now.settings ≡ E.settings }
+        ensures place { self.now.me < E.settings.sites }
+        ensures replays { Replays E.settings (first_site self.now.me) self.now.entries }
+        ensures room { length self.now.entries ≤ E.settings.limits.history }
     {
         &self.site
     }
 
-    /// The name of a held operation whose past is applied, if there is one.
+    /// The name of a held operation whose past the site applied, by the site's own clock, if there is one.
     pub(crate) fn ready(&self) -> Option<OpName> {
         self.site.inbox().ready(self.site.ledger().clock())
     }
 
-    /// Closes the site, and gives up its share.
+    /// Closes the site, and gives its share back.
     pub(crate) fn close(self) -> (SiteReport, Share<E>)
-        ensures report { IsClosed E.setup result.0 }
-        ensures same { (result.0.me ≡ self.me) × (result.0.history.items ≡ self.entries) }
-        ensures share { (result.1.parts ≡ 1) × (result.1.amount ≡ vec_len result.0.history) }
+        ensures report { IsClosed E.settings result.0 }
+        ensures share { (result.1.parts ≡ 1) × (result.1.amount ≡ length result.0.history.items) }
     {
         let Desk { site, share } = self;
         let _len = site.len();
@@ -258,24 +130,67 @@ impl<E: Entries> Desk<E> {
         (site.close(), share)
     }
 
-    /// Closes the site, and gives up its history.
-    pub(crate) fn discard(self) {
+    /// Ends the site.
+    pub(crate) fn end(self) {
         let Desk { site, share } = self;
         drop(share);
-        drop(site.close());
+        site.end();
     }
 }
 
 impl<E: Entries, R: Ledger> Seat<E, R> {
+    /// A seat at a site, without receipts.
+    pub(crate) fn open(alloc: Global, site: u8, share: Share<R>) -> Seat<E, R>
+        requires place { site < E.settings.sites }
+        requires share { (share.parts ≡ 1) × (share.amount ≡ 0) }
+        ensures { result ≡ record { site = site; receipts = [] } }
+    {
+        Seat {
+            site,
+            receipts: Vec::new(alloc),
+            share,
+            of: PhantomData,
+        }
+    }
+
+    /// The number of its site.
     pub fn site(&self) -> u8
         ensures same { result ≡ self.now.site }
-        ensures place { result < E.setup.sites }
+        ensures place { result < E.settings.sites }
     {
         self.site
     }
 
-    /// Gives up the seat for its receipts and its share.
-    pub(crate) fn give_up(self) -> (Given, Share<R>)
+    /// The receipts, in the order of the calls.
+    pub fn receipts(&self) -> &[Receipt]
+        ensures same { result.now ≡ self.now.receipts }
+        ensures few { length self.now.receipts ≤ 4000000000 }
+    {
+        self.receipts.as_slice()
+    }
+
+    /// The receipt of this number, from 1, if there is one.
+    pub fn receipt(&self, number: u32) -> Option<&Receipt>
+        ensures { option_copied result ≡ receipt_at self.now.receipts number }
+    {
+        if number == 0 {
+            return None;
+        }
+        self.receipts.get(number as usize - 1)
+    }
+
+    /// Notes how many links refused a message of the last receipt.
+    pub(crate) fn set_unsent(&mut self, count: u32)
+        requires { 0 < length self.old.receipts }
+        ensures { SetsUnsent self.old self.new count }
+    {
+        let last = self.receipts.len() - 1;
+        let receipt = &mut self.receipts[last];
+        receipt.unsent = count;
+    }
+
+    /// Gives the seat's receipts and its share back.
+    pub(crate) fn give_back(self) -> (Given, Share<R>)
         ensures given { result.0 ≡ self }
         ensures share { (result.1.parts ≡ 1) × (result.1.amount ≡ length self.receipts) }
     {
@@ -286,33 +201,5 @@ impl<E: Entries, R: Ledger> Seat<E, R> {
             of: _,
         } = self;
         (Given::new(site, receipts), share)
-    }
-
-    /// The receipts.
-    pub fn receipts(&self) -> &[Receipt]
-        ensures same { result.now ≡ self.now.receipts }
-        ensures few { length self.now.receipts ≤ 4000000000 }
-    {
-        self.receipts.as_slice()
-    }
-
-    /// The receipt of a number, from 1.
-    pub fn receipt(&self, number: u32) -> Option<&Receipt>
-        ensures { option_copied result ≡ receipt_at self.now.receipts number }
-    {
-        if number == 0 {
-            return None;
-        }
-        self.receipts.get(number as usize - 1)
-    }
-
-    /// Notes how many links the last receipt's messages missed.
-    pub(crate) fn set_unsent(&mut self, count: u32)
-        requires { 0 < length self.old.receipts }
-        ensures { SetsUnsent self.old self.new count }
-    {
-        let last = self.receipts.len() - 1;
-        let receipt = &mut self.receipts[last];
-        receipt.unsent = count;
     }
 }
