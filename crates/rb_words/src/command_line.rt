@@ -9,12 +9,21 @@ use clap::builder::ValueParser;
 use clap::{Arg, Command};
 use std::alloc::{AllocError, Global};
 
-/// A command of the program: its name, what it does in a line, and what its help ends with.
-fn part<'a>(alloc: Global, name: &'a str, about: &'a str, help: &'a str) -> Command<'a>
+/// A command of the program: its name, how it is used, what it does in a line, and what its help ends with.
+fn part<'a>(
+    alloc: Global,
+    name: &'a str,
+    usage: &'a str,
+    about: &'a str,
+    help: &'a str,
+) -> Command<'a>
     ensures shape { app_of result ≡ new_app name.entry.now }
     ensures local { (out-Command result).has_globals ≡ false }
 {
-    Command::new(alloc, name).about(about).after_help(help)
+    Command::new(alloc, name)
+        .override_usage(usage)
+        .about(about)
+        .after_help(help)
 }
 
 /// An option that must be given, with one number.
@@ -47,7 +56,14 @@ fn threads<'a>(alloc: Global) -> Result<Command<'a>, AllocError>
     let sites = option(alloc, "sites", "K", texts::SITES, sites);
     let tellers = option(alloc, "tellers", "T", texts::TELLERS, tellers);
     let seed = option(alloc, "seed", "S", texts::SEED, seed);
-    part(alloc, "threads", texts::THREADS, texts::THREADS_HELP)
+    let command = part(
+        alloc,
+        "threads",
+        texts::THREADS_USAGE,
+        texts::THREADS,
+        texts::THREADS_HELP,
+    );
+    command
         .arg(sites)?
         .arg(tellers)?
         .arg(seed)
@@ -57,8 +73,20 @@ fn threads<'a>(alloc: Global) -> Result<Command<'a>, AllocError>
 pub fn command_line<'a>(alloc: Global) -> Result<Command<'a>, AllocError>
     ensures { IfOk result (λ command. app_of command ≡ line) }
 {
-    let script = part(alloc, "script", texts::SCRIPT, texts::SCRIPT_HELP);
-    let audit = part(alloc, "audit", texts::AUDIT, texts::AUDIT_HELP);
+    let script = part(
+        alloc,
+        "script",
+        texts::SCRIPT_USAGE,
+        texts::SCRIPT,
+        texts::SCRIPT_HELP,
+    );
+    let audit = part(
+        alloc,
+        "audit",
+        texts::AUDIT_USAGE,
+        texts::AUDIT,
+        texts::AUDIT_HELP,
+    );
     let threads = threads(alloc)?;
     Command::new(alloc, "rbbank")
         .about(texts::ABOUT)
