@@ -1,5 +1,5 @@
 -- Texts that go out one after the other.
-use Rattle.std.proofs.Common.{◌≡◌, ℕ, List, [], ◌++◌, Option, sym, ap, ◌∙◌, append-nil, append_assoc}
+use Rattle.std.proofs.Common.{ℕ, List, [], ◌++◌, Option, sym, ap, ◌∙◌, append-nil, append_assoc}
 use Rattle.std.specs.Io.KnownBytes.{Appends}
 use Rattle.std.proofs.KnownBytes.{Appends-trans}
 use Rattle.rb_lines.specs.Buffers.{Sends}
@@ -20,7 +20,7 @@ sends_front w0 w w' owed text now line rest before front = (
   (
     front.1.0 ++ rest,
     sym (append_assoc owed text (line ++ rest)) ∙ ap (λ t. t ++ (line ++ rest)) before.2 ∙ append_assoc before.0 now (line ++ rest)
-    ∙ ap (λ t. before.0 ++ t) (sym (append_assoc now line rest) ∙ ap (λ t. t ++ rest) front.1.1 ∙ append_assoc front.0 front.1.0 rest) ∙ sym (append_assoc before.0 front.0 (front.1.0 ++ rest)),
+        ∙ ap (λ t. before.0 ++ t) (sym (append_assoc now line rest) ∙ ap (λ t. t ++ rest) front.1.1 ∙ append_assoc front.0 front.1.0 rest) ∙ sym (append_assoc before.0 front.0 (front.1.0 ++ rest)),
   ),
   Appends-trans w0 w w' before.0 front.0 before.1 front.2,
 )

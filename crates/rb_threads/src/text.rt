@@ -28,12 +28,7 @@ fn owe_config(alloc: Global, owed: &mut Vec<u8>, config: &Config) -> Result<(), 
 
 /// Owes the line of an entry.
 #[tactic(auto, unfolding(crate::specs::Texts::entry_line))]
-fn owe_entry(
-    owed: &mut Vec<u8>,
-    config: &Config,
-    site: u8,
-    entry: &Entry,
-) -> Result<(), AllocError>
+fn owe_entry(owed: &mut Vec<u8>, config: &Config, site: u8, entry: &Entry) -> Result<(), AllocError>
     ensures { OnOk result (owed.new.items ≡ owed.old.items ++ entry_line config.now site entry.now) }
 {
     append_line(owed, config, site, entry)?;

@@ -1,9 +1,4 @@
-use Rattle.std.proofs.Common.{ℕ, List, ◌++◌, subst, ◌≡◌}
 use Rattle.std.proofs.lemmas.Bool.{false_from_ne_true}
-use Rattle.rb_lines.specs.Buffers.{Sends}
-use Rattle.rb_lines.specs.Writes.{AppendsFront}
-use Rattle.rb_site.specs.declared.entry.Entry.{Entry}
-use Rattle.rb_threads.specs.Texts.{history_text}
 use Rattle.rb_threads.proofs.Lines.{histories_go_on, histories_stop}
 use Rattle.rb_threads.proofs.text.write_histories.Goals as goal
 

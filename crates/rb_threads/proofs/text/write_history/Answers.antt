@@ -1,4 +1,3 @@
-use Rattle.std.proofs.Common.{false, ap, ◌≡◌}
 use Rattle.std.proofs.lemmas.Bool.{false_from_ne_true}
 use Rattle.rb_threads.proofs.Lines.{history_goes_on, history_stops}
 use Rattle.rb_threads.proofs.text.write_history.Goals as goal
