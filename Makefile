@@ -26,6 +26,7 @@ examples: build
 # The gate: everything from nothing. The last line is 'N passed, 0 failed', or an example that is answered otherwise.
 test:
 	examples/from_rows.py --check
+	tests/closure.py --check
 	rt ci
 	@examples/check.py --quiet crates/rbbank/out/rbbank
 

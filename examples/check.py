@@ -1,11 +1,13 @@
 #!/usr/bin/env python3
 """Runs every script and all histories of this folder through a built program, and compares what it writes, what
-it says on standard error, and its status.
+it says on standard error, and its status. What the program's own help shows is run as well, and its version is
+looked at.
 
 usage: check.py [--quiet] PROGRAM      (--quiet tells only what is different)
 """
 import glob
 import os
+import re
 import subprocess
 import sys
 
@@ -32,17 +34,38 @@ def answered(program, path):
     return run.stdout, run.stderr, run.returncode
 
 
+def shown(program, command):
+    """The parts of a command's help that stand further in: its worked input, the answer, and the statuses."""
+    text = subprocess.run([program, command, "--help"], capture_output=True, text=True).stdout
+    return [part for part in re.findall(r"(?m)(?:^  \S.*\n)+", text) if "{" in part]
+
+
+def helps(program, command):
+    """Whether the input that help shows is answered as it shows. An audit's answer is the first of those it lists."""
+    given, told = shown(program, command)
+    run = subprocess.run([program, command], input=given.replace("\n  ", "\n")[2:], capture_output=True, text=True)
+    if command == "audit":
+        told = told.split("   ")[0] + "\n"
+    return (run.stdout, run.stderr, run.returncode) == (told.replace("\n  ", "\n")[2:], "", 0)
+
+
+def tells_version(program):
+    run = subprocess.run([program, "--version"], capture_output=True)
+    return (run.stdout, run.stderr, run.returncode) == (b"rbbank 1\n", b"", 0)
+
+
 def main():
     words = [word for word in sys.argv[1:] if word != "--quiet"]
     if len(words) != 1:
         sys.exit(__doc__)
-    wrong = 0
-    for path in sorted(glob.glob(os.path.join(HERE, "*.jsonl"))):
-        same = answered(words[0], path) == expected(path.removesuffix(".jsonl"))
+    paths = sorted(glob.glob(os.path.join(HERE, "*.jsonl")))
+    results = [(os.path.basename(path), answered(words[0], path) == expected(path.removesuffix(".jsonl"))) for path in paths]
+    results += [(command + " --help", helps(words[0], command)) for command in ["script", "audit"]]
+    results.append(("--version", tells_version(words[0])))
+    for name, same in results:
         if not same or "--quiet" not in sys.argv[1:]:
-            print(f"{'same' if same else 'DIFFERENT'}  {os.path.basename(path)}")
-        wrong += not same
-    sys.exit(1 if wrong else 0)
+            print(f"{'same' if same else 'DIFFERENT'}  {name}")
+    sys.exit(0 if all(same for _, same in results) else 1)
 
 
 main()

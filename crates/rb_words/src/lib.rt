@@ -3,6 +3,7 @@
 
 #[cfg(test)]
 mod tests;
+mod texts;
 mod words;
 
 pub use words::{Words, read_words};

@@ -1,6 +1,6 @@
-use crate::{Words, read_words};
+use crate::{Words, read_words, texts};
 use clap::error::ErrorKind;
-use std::alloc::Global;
+use std::alloc::{AllocError, Global};
 use std::test::Fail;
 
 #[test]
@@ -17,10 +17,11 @@ fn kind_of(alloc: Global, words: &[&str]) -> Option<ErrorKind> {
     read_words(alloc, words).err().map(|error| error.kind())
 }
 
-/// The words are wrong, and help wasn't asked for.
+/// The words are wrong, and neither help nor the version was asked for.
 fn are_wrong(alloc: Global, words: &[&str]) -> bool {
     match kind_of(alloc, words) {
-        Some(ErrorKind::DisplayHelp | ErrorKind::OutOfMemory) | None => false,
+        Some(ErrorKind::DisplayHelp | ErrorKind::DisplayVersion | ErrorKind::OutOfMemory) | None =>
+            { false }
         Some(_) => true,
     }
 }
@@ -52,4 +53,46 @@ fn gives_help(rt: HostRuntime) {
         kind_of(alloc, ["script", "--help"].as_slice()),
         Some(ErrorKind::DisplayHelp)
     );
+    assert_eq!(rt;
+        kind_of(alloc, ["help", "audit"].as_slice()),
+        Some(ErrorKind::DisplayHelp)
+    );
+}
+
+/// The text of what the words ask to be shown.
+fn text_of(alloc: Global, words: &[&str]) -> Result<String, AllocError> {
+    match read_words(alloc, words) {
+        Ok(_) => Ok(String::new(alloc)),
+        Err(error) => error.to_string(alloc),
+    }
+}
+
+#[test]
+fn tells_each_command(rt: HostRuntime) -> Result<(), Fail> {
+    let text = text_of(rt.alloc(), ["--help"].as_slice())?;
+    assert!(rt; text.contains(texts::ABOUT));
+    assert!(rt; text.contains("  script  Answers the commands "));
+    assert!(rt; text.contains("  audit   Tells whether one world "));
+    Ok(())
+}
+
+#[test]
+fn ends_help_in_a_worked_command(rt: HostRuntime) -> Result<(), Fail> {
+    let text = text_of(rt.alloc(), ["script", "--help"].as_slice())?;
+    assert!(rt; text.trim_end().ends_with(texts::SCRIPT_HELP));
+    let text = text_of(rt.alloc(), ["audit", "--help"].as_slice())?;
+    assert!(rt; text.trim_end().ends_with(texts::AUDIT_HELP));
+    Ok(())
+}
+
+#[test]
+fn tells_its_version(rt: HostRuntime) -> Result<(), Fail> {
+    let alloc = rt.alloc();
+    assert_eq!(rt;
+        kind_of(alloc, ["--version"].as_slice()),
+        Some(ErrorKind::DisplayVersion)
+    );
+    let text = text_of(alloc, ["-V"].as_slice())?;
+    assert_eq!(rt; text.as_str(), "rbbank 1\n");
+    Ok(())
 }

@@ -3,7 +3,7 @@ use Rattle.std.proofs.Common.{◌≡◌, ◌⊎◌, ℕ, Bool, true, false, Resu
 use Rattle.std.specs.declared.io.ErrorKind.{ErrorKind as IoErrorKind}
 use Rattle.std.specs.declared.io.ErrorKind.TheVariants.{OutOfMemory as IoOutOfMemory}
 use Rattle.clap.specs.declared.error.kind.ErrorKind.{ErrorKind}
-use Rattle.clap.specs.declared.error.kind.ErrorKind.TheVariants.{DisplayHelp, OutOfMemory as NoMemory}
+use Rattle.clap.specs.declared.error.kind.ErrorKind.TheVariants.{DisplayHelp, DisplayVersion, OutOfMemory as NoMemory}
 use Rattle.rb_lines.specs.declared.fault.ScriptFault.{ScriptFault}
 use Rattle.rb_lines.specs.declared.fault.ScriptFault.TheVariants.{NoConfig, OutOfMemory}
 use Rattle.rb_lines.specs.Messages.{status_of}
@@ -28,6 +28,7 @@ audit_end n (Err fault) e = fault_end n fault e
 pub words_end : (n : ℕ) (kind : ErrorKind) → n ≡ status_of_words kind → IsEnd n
 words_end n NoMemory e = no_memory n e
 words_end n DisplayHelp e = inl e
+words_end n DisplayVersion e = inl e
 words_end n kind e = inr (inr (NoConfig, e))
 
 pub unread_end : (n : ℕ) (kind : IoErrorKind) → n ≡ status_of_unread kind → IsEnd n

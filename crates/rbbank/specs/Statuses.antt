@@ -3,14 +3,15 @@ use Rattle.std.specs.Prelude.{◌≡◌, ◌⊎◌, ℕ, Bool, true, false, Resu
 use Rattle.std.specs.declared.io.ErrorKind.{ErrorKind as IoErrorKind}
 use Rattle.std.specs.declared.io.ErrorKind.TheVariants.{OutOfMemory as IoOutOfMemory}
 use Rattle.clap.specs.declared.error.kind.ErrorKind.{ErrorKind}
-use Rattle.clap.specs.declared.error.kind.ErrorKind.TheVariants.{DisplayHelp, OutOfMemory}
+use Rattle.clap.specs.declared.error.kind.ErrorKind.TheVariants.{DisplayHelp, DisplayVersion, OutOfMemory}
 use Rattle.rb_lines.specs.declared.fault.ScriptFault.{ScriptFault}
 use Rattle.rb_lines.specs.Messages.{status_of}
 
--- where the words ask for nothing: help that was asked for is no fault
+-- where the words ask for nothing: help or the version that was asked for is no fault
 abbrev pub status_of_words : ErrorKind → ℕ
 status_of_words OutOfMemory = 4
 status_of_words DisplayHelp = 0
+status_of_words DisplayVersion = 0
 status_of_words _ = 2
 
 -- where the words can't be read

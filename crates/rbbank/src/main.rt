@@ -64,13 +64,13 @@ fn tell_fault(rt: &HostRuntime, fault: ScriptFault) -> ExitCode
     }
 }
 
-/// Says what is wrong with the words. Help that was asked for goes to standard output, and nothing is wrong.
+/// Says what is wrong with the words. Help or the version that was asked for goes to standard output, and nothing is wrong.
 fn tell_words(rt: &HostRuntime, error: clap::Error) -> ExitCode
     ensures { exit_status result ≡ status_of_words (kind_of error) }
 {
     match error.kind() {
         ErrorKind::OutOfMemory => out_of_memory(rt),
-        ErrorKind::DisplayHelp => {
+        ErrorKind::DisplayHelp | ErrorKind::DisplayVersion => {
             let _ = rt.print(&error);
             ExitCode::SUCCESS
         }

@@ -1,0 +1,306 @@
+#!/usr/bin/env python3
+"""Prints what a statement rests on: the definitions that it names, those that these name, and so on, until only the
+toolchain's own are left. A statement is a function with a contract, as World::run or one_token, or a definition.
+
+usage: closure.py                  the headline's: the functions and laws of README.md's table
+       closure.py STATEMENT..      that of others, as Ledger::apply, rb_site::Site::open, run_script, HasFunds
+       closure.py --rooms          the four rooms of docs/MODEL.md: the headline, the program's text, what contracts of
+                                   other public functions rest on, and what only ties inner code to proofs
+       closure.py --check          whether docs/MODEL.md tells each definition in its room and names none that there
+                                   isn't, and whether the clauses of README.md's table are there; this is silent where
+                                   all is well
+
+Words are resolved by the 'use' lines of their file. A type of the code stands for the types of its fields, and one that
+callers see as a value of a model for that value.
+"""
+import collections
+import glob
+import os
+import re
+import sys
+
+ROOT = os.path.dirname(os.path.dirname(os.path.abspath(__file__)))
+ROOMS = ["The headline", "The program's text", "Other public contracts", "Inner contracts"]
+PROGRAM = ["rb_script::run_script", "rb_audit::run_audit", "rb_words::read_words"]
+WORD = re.compile(r"[^\W\d]\w*")
+
+# a type of the code with its fields, and a trait with its functions
+TYPE = re.compile(r"(?ms)^(?:pub(?:\([^)]*\))? )?(struct|enum|trait|type) (\w+)(?:[^\n]*;$|.*?^})")
+
+# the head or the end of an impl, or a function with its signature and contract
+IMPL = r"^impl(?:<[^\n]*?>)? (?:[\w:<>]+ for )?(\w+)|^(}) *$"
+FUNCTION = re.compile(r"(?ms)" + IMPL + r"|^( *)(pub(?:\([^)]*\))? )?fn (\w+)(.*?)(?=^\3\{|^\3    \{\}|\{\n|;\n)")
+
+# a function and its clauses in README.md's table
+CALL = re.compile(r"`(\w+::\w+)`:? ?((?:(?:, )?`\w+`)*)")
+
+# a definition of specs/, a type of the code, or a function with a contract; `scope` tells what its words stand for
+Thing = collections.namedtuple("Thing", "kind crate file name text scope public")
+
+
+def read(*path):
+    with open(os.path.join(ROOT, *path), encoding="utf-8") as text:
+        return text.read()
+
+
+def without(text, comment):
+    """A text without comments, strings, and names after a dot that follows a word."""
+    text = re.sub(r'"[^"\n]*"', " ", text)
+    text = re.sub(r"(?m)(^|\s)" + comment + r".*$", " ", text)
+    return re.sub(r"(?<=[\w)])\.[^\W\d]\w*", " ", text)
+
+
+def imports(text):
+    """What each word of the 'use' lines of proofs stands for: its module and its name there."""
+    scope = {}
+    for module, items in re.findall(r"(?m)^\s*(?:pub |ghost )?use ([\w.]+)\.\{(.*?)\}", text):
+        for item in items.split(","):
+            name, _, alias = item.strip().partition(" as ")
+            scope[alias.strip() or name] = (module, name)
+    return scope
+
+
+def files(crate, folder, kind):
+    top = os.path.join(ROOT, "crates", crate)
+    return [os.path.relpath(path, top) for path in sorted(glob.glob(f"{top}/{folder}/**/*.{kind}", recursive=True))]
+
+
+def blocks(text, start):
+    """The parts of a text that begin where a pattern is found."""
+    found = list(re.finditer(start, text, re.MULTILINE))
+    ends = [at.start() for at in found[1:]] + [len(text)]
+    return [(at, text[at.start():end]) for at, end in zip(found, ends)]
+
+
+def definitions(crate):
+    """The definitions of a crate's specs/."""
+    for file in files(crate, "specs", "antt"):
+        text = read("crates", crate, file)
+        scope = imports(text)
+        parts = blocks(text, r"^(?:module|(?:  )?abbrev pub|unfoldable pub|pub record|pub data) +([^\W\d]\w*)")
+        parts = [(at.group(1), part) for at, part in parts if not at.group(0).startswith("module")]
+        scope.update({name: (f"{crate}/{file}", name) for name, _ in parts})
+        for name, part in parts:
+            yield Thing("definition", crate, file, name, without(part, "--"), scope, True)
+
+
+def value_of(text, name):
+    """The value of the model as which callers see a type, if they do, and the 'use' lines that it stands beside."""
+    found = re.search(r"(?ms)^impl[^\n]*\bModel for " + name + r"\b.*?^}", text)
+    value = found and re.search(r"ghost Value = \{(.*?)\};", found.group(0), re.DOTALL)
+    return (value.group(1), found.group(0)) if value else None
+
+
+def types(crate):
+    """The structs, enums and traits of a crate."""
+    for file in files(crate, "src", "rt"):
+        text = read("crates", crate, file)
+        for found in TYPE.finditer(text):
+            value = value_of(text, found.group(2))
+            part, beside = value if value else (found.group(0), "")
+            if found.group(1) == "trait":
+                part = " ".join(clause for clause in re.findall(r"(?:requires|ensures|ghost)\b[^{]*\{(.*)\}", part))
+            part = re.sub(r"(?m)^\s*(?:pub )?(?:ghost )?\w+:", " ", part)
+            yield Thing("type", crate, file, found.group(2), without(part, "//"), imports(text) | imports(beside), True)
+
+
+def exported(crate):
+    """The names that a crate's root hands to other crates."""
+    roots = [read("crates", crate, file) for file in files(crate, "src", "rt") if file in ("src/lib.rt", "src/main.rt")]
+    found = re.findall(r"(?ms)^pub use (.*?);|^pub (?:type|fn) (\w+)", "".join(roots))
+    return set(WORD.findall(" ".join(part for parts in found for part in parts)))
+
+
+def functions(crate):
+    """The functions of a crate with their signatures and contracts. Those are public that other crates may call."""
+    handed = exported(crate)
+    for file in files(crate, "src", "rt"):
+        if file.endswith("tests.rt") or (crate, file) == ("rbbank", "src/rows.rt"):
+            continue
+        text, owner = read("crates", crate, file), None
+        for found in FUNCTION.finditer(text):
+            if found.group(1):
+                owner = found.group(1)
+            elif found.group(2):
+                owner = None
+            else:
+                name = (f"{owner}::" if owner and found.group(3) else "") + found.group(5)
+                public = found.group(4) == "pub " and name.split("::")[0] in handed
+                signature = name.split("::")[0] + found.group(6)
+                yield Thing("function", crate, file, name, signature, imports(text), public)
+
+
+class Things:
+    def __init__(self):
+        self.crates = sorted(os.path.basename(os.path.dirname(path)) for path in glob.glob(f"{ROOT}/crates/*/src"))
+        self.definitions, self.types, self.functions = {}, collections.defaultdict(list), collections.defaultdict(list)
+        for crate in self.crates:
+            for it in definitions(crate):
+                self.definitions[it.crate, it.file, it.name] = it
+            for it in types(crate):
+                self.types[it.name].append(it)
+            for it in functions(crate):
+                self.functions[it.name].append(it)
+
+    def type_named(self, crate, name):
+        """The type of a name: the crate's own, or else the first."""
+        named = self.types.get(name, [])
+        return next((it for it in named if it.crate == crate), named[0] if named else None)
+
+    def imported(self, module, name):
+        """What a name of a module is, if it is one of the repository's."""
+        if "/" in module:
+            crate, _, file = module.partition("/")
+            return self.definitions.get((crate, file, name))
+        path = module.split(".")
+        if len(path) < 3 or path[1] not in self.crates:
+            return None
+        if "declared" not in path:
+            return self.definitions.get((path[1], "/".join(path[2:]) + ".antt", name))
+        names = [part for part in path if not part.startswith("The")]
+        return self.type_named(path[1], names[-1])
+
+    def named_by(self, it):
+        """The definitions and types that one names."""
+        for word in dict.fromkeys(WORD.findall(it.text)):
+            if word in it.scope:
+                thing = self.imported(*it.scope[word])
+            else:
+                thing = None if it.kind == "definition" else self.type_named(it.crate, word)
+            if thing and thing is not it:
+                yield thing
+
+    def closure(self, statements):
+        """All that statements rest on, themselves left out where they are functions."""
+        found, waiting = {}, list(statements)
+        while waiting:
+            it = waiting.pop()
+            if id(it) not in found:
+                found[id(it)] = it
+                waiting.extend(self.named_by(it))
+        return [it for it in found.values() if it.kind != "function"]
+
+    def statements(self, name):
+        """The functions, types or definitions of a name, with its crate before it or without."""
+        crate, _, rest = name.partition("::")
+        within = crate if crate in self.crates else None
+        rest = rest if within else name
+        found = self.functions.get(rest, []) + self.types.get(rest, [])
+        found += [it for it in self.definitions.values() if it.name == rest]
+        return [it for it in found if within in (None, it.crate)]
+
+
+def headline():
+    """The functions with the clauses, and the laws, of README.md's table."""
+    table = re.search(r"(?ms)^\| The sentence.*?\n\n", read("README.md")).group(0)
+    called = [(name, re.findall(r"`(\w+)`", clauses)) for name, clauses in CALL.findall(table)]
+    laws = re.findall(r"`(\w+)`", " ".join(re.findall(r"laws? ((?:(?:, )?`\w+`)+)", table)))
+    return called, laws
+
+
+def rooms(things):
+    """Each definition's room, the first that it belongs to."""
+    called, laws = headline()
+    roots = [[it for name, _ in called for it in things.statements(name)], [], [], []]
+    roots[0] += [it for law in laws for it in things.statements("rb_world::" + law)]
+    roots[1] += [it for name in PROGRAM for it in things.statements(name)]
+    roots[1] += [it for its in things.functions.values() for it in its if it.crate == "rbbank"]
+    roots[2] += [it for its in things.functions.values() for it in its if it.public]
+    roots[3] += list(things.definitions.values())
+    room = {}
+    for at, statements in enumerate(roots):
+        for it in things.closure(statements):
+            if it.kind == "definition":
+                room.setdefault((it.crate, it.file, it.name), at)
+    return room
+
+
+def tell(found):
+    """Definitions by file, with their number."""
+    by_file = collections.defaultdict(list)
+    for it in found:
+        by_file[f"crates/{it.crate}/{it.file}"].append(it.name)
+    for file in sorted(by_file):
+        print(f"{file}: {len(by_file[file])}")
+        print("    " + " ".join(sorted(by_file[file])))
+
+
+def tell_closure(things, names):
+    called, laws = headline()
+    names = names or [name for name, _ in called] + ["rb_world::" + law for law in laws]
+    statements = []
+    for name in names:
+        found = things.statements(name)
+        if not found:
+            sys.exit(f"closure.py: nothing is named {name}")
+        statements += found
+    found = things.closure(statements)
+    tell([it for it in found if it.kind == "definition"])
+    print("types of the code: " + " ".join(sorted({f"{it.crate}::{it.name}" for it in found if it.kind == "type"})))
+    print(f"{sum(it.kind == 'definition' for it in found)} definitions")
+
+
+def tell_rooms(things):
+    room = rooms(things)
+    for at, name in enumerate(ROOMS):
+        found = [things.definitions[key] for key in room if room[key] == at]
+        print(f"{name}: {len(found)} definitions")
+        tell(found)
+        print()
+
+
+def told(text):
+    """The names that each room of a text tells, by crate."""
+    names = collections.defaultdict(set)
+    for at, part in blocks(text, r"^## (.*)$"):
+        for head, section in blocks(part, r"^### .*$"):
+            for crate in re.findall(r"crates/(\w+)/specs", head.group(0)):
+                names[at.group(1), crate].update(re.findall(r"`(\w+)`", section))
+    return names
+
+
+def known(things):
+    """Every name that a definition, type or function of the repository has, or a case of a type."""
+    names = {it.name for it in things.definitions.values()} | set(things.types)
+    names.update(part for name in things.functions for part in name.split("::"))
+    return names.union(*(WORD.findall(it.text) for its in things.types.values() for it in its))
+
+
+def check(things):
+    """Says what docs/MODEL.md lacks or has too much, and which clauses of README.md aren't there; how many."""
+    wrong, room, text = [], rooms(things), read("docs/MODEL.md")
+    names, there = told(text), known(things)
+    belongs = collections.defaultdict(set)
+    for (crate, file, name), at in sorted(room.items()):
+        belongs[crate, name].add(ROOMS[at])
+        if name not in names[ROOMS[at], crate]:
+            wrong.append(f"docs/MODEL.md: {name} of crates/{crate}/{file} isn't told under '{ROOMS[at]}'")
+    for (where, crate), its in sorted(names.items()):
+        wrong += [f"docs/MODEL.md: {name} of {crate} doesn't belong under '{where}'" for name in sorted(its)
+                  if where not in belongs.get((crate, name), {where})]
+    for name in sorted(set(re.findall(r"`(\w*(?:[a-z]_|[a-z][A-Z])\w*)`", text)) - there):
+        wrong.append(f"docs/MODEL.md: there is no {name}")
+    called, laws = headline()
+    for name, clauses in called + [("rb_world::" + law, []) for law in laws]:
+        found = "".join(it.text for it in things.statements(name))
+        if not found:
+            wrong.append(f"README.md: there is no {name}")
+        wrong += [f"README.md: {name} has no clause {it}" for it in clauses if f"ensures {it} " not in found]
+    print("\n".join(wrong), end="\n" if wrong else "")
+    return len(wrong)
+
+
+def main():
+    things, words = Things(), sys.argv[1:]
+    if words == ["--rooms"]:
+        tell_rooms(things)
+    elif words and words[0].startswith("--") and words != ["--check"]:
+        sys.exit(__doc__)
+    elif words == ["--check"]:
+        sys.exit(1 if check(things) else 0)
+    else:
+        tell_closure(things, words)
+
+
+if __name__ == "__main__":
+    main()
