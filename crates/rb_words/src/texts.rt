@@ -7,6 +7,12 @@ pub const VERSION: &str = "1";
 pub const ABOUT: &str =
     "A replicated bank of two to eight sites, whose operations can be undone exactly";
 
+/// How `script` is used.
+pub const SCRIPT_USAGE: &str = "rbbank script < COMMANDS";
+
+/// How `audit` is used.
+pub const AUDIT_USAGE: &str = "rbbank audit < HISTORIES";
+
 /// What `script` does.
 pub const SCRIPT: &str = "Answers the commands on standard input, a line of JSON each";
 

@@ -18,20 +18,41 @@ pub enum Words {
     Audit,
 }
 
-/// A command of the program: its name, what it does in a line, and what its help ends with.
-fn part<'a>(alloc: Global, name: &'a str, about: &'a str, help: &'a str) -> Command<'a>
+/// A command of the program: its name, how it is used, what it does in a line, and what its help ends with.
+fn part<'a>(
+    alloc: Global,
+    name: &'a str,
+    usage: &'a str,
+    about: &'a str,
+    help: &'a str,
+) -> Command<'a>
     ensures shape { app_of result ≡ new_app name.entry.now }
     ensures local { (out-Command result).has_globals ≡ false }
 {
-    Command::new(alloc, name).about(about).after_help(help)
+    Command::new(alloc, name)
+        .override_usage(usage)
+        .about(about)
+        .after_help(help)
 }
 
 /// The command line that the program takes.
 fn command<'a>(alloc: Global) -> Result<Command<'a>, AllocError>
     ensures { IfOk result (λ command. app_of command ≡ command_line) }
 {
-    let script = part(alloc, "script", texts::SCRIPT, texts::SCRIPT_HELP);
-    let audit = part(alloc, "audit", texts::AUDIT, texts::AUDIT_HELP);
+    let script = part(
+        alloc,
+        "script",
+        texts::SCRIPT_USAGE,
+        texts::SCRIPT,
+        texts::SCRIPT_HELP,
+    );
+    let audit = part(
+        alloc,
+        "audit",
+        texts::AUDIT_USAGE,
+        texts::AUDIT,
+        texts::AUDIT_HELP,
+    );
     Command::new(alloc, "rbbank")
         .about(texts::ABOUT)
         .version(texts::VERSION)
