@@ -59,7 +59,8 @@ def main():
     if len(words) != 1:
         sys.exit(__doc__)
     paths = sorted(glob.glob(os.path.join(HERE, "*.jsonl")))
-    results = [(os.path.basename(path), answered(words[0], path) == expected(path.removesuffix(".jsonl"))) for path in paths]
+    same = [answered(words[0], path) == expected(path.removesuffix(".jsonl")) for path in paths]
+    results = list(zip(map(os.path.basename, paths), same))
     results += [(command + " --help", helps(words[0], command)) for command in ["script", "audit"]]
     results.append(("--version", tells_version(words[0])))
     for name, same in results:

@@ -192,7 +192,10 @@ class Things:
 
 def headline():
     """The functions with the clauses, and the laws, of README.md's table."""
-    table = re.search(r"(?ms)^\| The sentence.*?\n\n", read("README.md")).group(0)
+    found = re.search(r"(?ms)^\| The sentence.*?\n\n", read("README.md"))
+    if not found:
+        sys.exit("closure.py: README.md has no table that begins with '| The sentence'")
+    table = found.group(0)
     called = [(name, re.findall(r"`(\w+)`", clauses)) for name, clauses in CALL.findall(table)]
     laws = re.findall(r"`(\w+)`", " ".join(re.findall(r"laws? ((?:(?:, )?`\w+`)+)", table)))
     return called, laws
