@@ -11,6 +11,7 @@ sys.dont_write_bytecode = True
 import histories
 import kinds
 import mix
+from limits import LIMITS
 
 MIXED = {"mix": mix.mix, "histories": histories.histories}
 KINDS = MIXED | kinds.LONG | kinds.SHORTEST
@@ -35,7 +36,7 @@ def main():
     words.add_argument("--commands", type=int, default=1000)
     words.add_argument("--seed", type=int, default=1)
     of_mix = words.add_argument_group("for the mix")
-    of_mix.add_argument("--sites", type=int, default=3, choices=range(2, 9))
+    of_mix.add_argument("--sites", type=int, default=3, choices=range(2, LIMITS["MOST_SITES"] + 1))
     of_mix.add_argument("--accounts", type=int, default=10)
     of_mix.add_argument("--weights", default=mix.DEFAULT_MIX, help=f"of requests and questions, {mix.DEFAULT_MIX}")
     of_mix.add_argument("--backlog", type=int, default=16, help="how many messages may wait for a site before they come first")

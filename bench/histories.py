@@ -5,9 +5,7 @@ Follows the mix as it goes and keeps beside it what each site knows, for the rep
 import json
 
 import mix
-
-# A shadow's clock is written with as many sites.
-MOST_SITES = 8
+from limits import LIMITS
 
 
 def written(value):
@@ -17,7 +15,8 @@ def written(value):
 
 def shadow(run, operation):
     """An operation as it travels."""
-    blue = list(operation.clock) + [0] * (MOST_SITES - len(operation.clock))
+    # A clock is written with as many sites as there may be.
+    blue = list(operation.clock) + [0] * (LIMITS["MOST_SITES"] - len(operation.clock))
     told = {
         "account": run.names[operation.account],
         "amount": operation.amount,

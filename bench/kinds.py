@@ -6,10 +6,12 @@ site 0 makes is B0.n, the n-th red one R.n without the dot. So a command costs t
 import itertools
 import random
 
-RICH = 100_000_000_000
+from limits import LIMITS
+
+RICH = LIMITS["MOST_CENTS"]
 FEW = [f"a{place}" for place in range(10)]
 # As many operations as an inbox holds.
-DEPTH = 4096
+DEPTH = LIMITS["MOST_INBOX"]
 # Of the cancellations: so many operations are there before the first, and may be cancelled at any time after.
 POOL = 256
 
@@ -121,7 +123,7 @@ def rows(seed, shown):
 
 
 def inbox(seed, commands):
-    """Rounds of up to 4,096 deposits, each round delivered backwards and then applied in order."""
+    """Rounds of deposits, at most as many as an inbox holds, each round delivered backwards and then applied in order."""
     pick = picker(seed)
     yield [(name, 0) for name in FEW]
     first = 1

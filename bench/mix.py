@@ -5,7 +5,9 @@ is accepted but for those that repeat. A command costs the same time here howeve
 """
 import random
 
-MOST = 100_000_000_000
+from limits import LIMITS
+
+MOST = LIMITS["MOST_CENTS"]
 VERBS = ("deposit", "withdraw", "interest", "cancel", "balance", "pass")
 DEFAULT_MIX = "deposit=6,withdraw=3,interest=1,cancel=1,balance=4,pass=1"
 # Of the deliveries, one in so many is of a message that came before.
@@ -190,7 +192,7 @@ class Mix:
 
     def make_interest(self, site):
         account, rate = self.pick(len(self.names)), self.pick(20)
-        amount = site.balances[account] * rate // 10_000
+        amount = site.balances[account] * rate // LIMITS["BASIS_POINTS_OF_ALL"]
         if amount > MOST:
             return None
         self.make(site, "interest", False, account, amount)

@@ -11,8 +11,11 @@ import re
 import subprocess
 import sys
 
+sys.dont_write_bytecode = True
+from limits import LIMITS
+
 CONFIG = b'{"accounts":[["ann",500],["bob",0]],"sites":3,"version":1}\n'
-NUMBERS = ["0", "1", "2", "7", "50", "255", "256", "4294967295", "4294967296", "100000000000", "100000000001",
+NUMBERS = ["0", "1", "2", "7", "50", "255", "256", "4294967295", "4294967296", str(LIMITS["MOST_CENTS"]), str(LIMITS["MOST_CENTS"] + 1),
            "999999999999999999", "1000000000000000000", "18446744073709551615", "18446744073709551616"]
 ODD_NUMBERS = ["-1", "-0", "01", "1.0", "1e2", "1E0", "+1", "0x1", "", "null", "true", '"1"', "[1]"]
 NAMES = ["ann", "bob", "eve", "", "a b", "\u00e9", "B0.1", "R1", "\u007f"]

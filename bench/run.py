@@ -15,13 +15,14 @@ sys.dont_write_bytecode = True
 import generate
 import kinds
 import measure
+from limits import LIMITS
 
 ROOT = os.path.dirname(os.path.dirname(os.path.abspath(__file__)))
 SIZES = "1000,10000,100000,1000000"
 # These are measured at each size, and those of the shortest ledgers that aren't here at the least size alone.
 AT_EACH = [*generate.MIXED, *kinds.LONG, "balance", "deposit"]
-# A site makes at most 1,000,000 blue operations.
-MOST = {"batches": 100_000, "pairs": 500_000}
+# A site makes at most so many blue operations: three of each batch, two of each pair.
+MOST = {"batches": LIMITS["MOST_BLUE"] // 3, "pairs": LIMITS["MOST_BLUE"] // 2}
 # Shorter scripts aren't timed, and for longer ones, or those that take more seconds, instructions aren't counted.
 LEAST_TIMED, MOST_COUNTED, SLOW = 10_000, 100_000, 2
 HEAD = ["Kind", "Commands", "Refused", "Commands a second", "Growth", "Instructions a command", "Writes", "Peak, MB"]

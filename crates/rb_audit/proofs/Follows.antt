@@ -6,7 +6,8 @@ use Rattle.rb_money.specs.Settings.{Settings}
 use Rattle.rb_site.specs.declared.entry.Entry.{Entry}
 use Rattle.rb_auditor.specs.Findings.{lists_of}
 use Rattle.rb_lines.specs.Buffers.{Reads}
-use Rattle.rb_lines.specs.Lines.{lines_of, is_long, line_len, line_limit}
+use Rattle.rb_lines.specs.Lines.{lines_of, is_long, line_len}
+use Rattle.rb_lines.specs.declared.limits.TheConstants.{LINE_LIMIT}
 use Rattle.rb_lines.specs.declared.fault.ScriptFault.{ScriptFault}
 use Rattle.rb_lines.specs.declared.fault.ScriptFault.TheVariants.{NoConfig, BadConfig, BadLine, LongLine, Read, Write, OutOfMemory, Gather}
 use Rattle.rb_lines.proofs.LineLaws.{long_line}
@@ -72,11 +73,11 @@ long_of : (m : Option Settings) (hs : List (List Entry)) (n : ℕ) (l : List ℕ
 long_of None hs n l ls h = rw h refl
 long_of (Some m) hs n l ls h = rw h refl
 
-pub known_long : (a b : Option (List ℕ)) (c : Collected) (p : List ℕ) (e : Bool) → FollowsKnown a b c p e → line_limit < line_len p → IfSome a (λ input. CollectsAs (Err (LongLine c.number)) c input b)
+pub known_long : (a b : Option (List ℕ)) (c : Collected) (p : List ℕ) (e : Bool) → FollowsKnown a b c p e → LINE_LIMIT < line_len p → IfSome a (λ input. CollectsAs (Err (LongLine c.number)) c input b)
 known_long None b c p e f h = tt
 known_long (Some all) None c p e f h = absurd f
 known_long (Some all) (Some x) c p e f h =
-    let (l, more, first, longer) = long_line p x line_limit h in
+    let (l, more, first, longer) = long_line p x LINE_LIMIT h in
     let is : is_long l ≡ true = search rules in
     (input_is f.done (l ∷ more) _ c f.input (f.walks.lines ∙ ap (λ y. f.done ++ y) first) ∙ long_of c.config (lists_of c.histories.items) c.number l more is, refl)
 

@@ -5,7 +5,7 @@ ghost use Rattle.rb_auditor.specs.Findings.{lists_of};
 ghost use Rattle.rb_commands.specs.Configurations.{config_on};
 ghost use Rattle.rb_history.specs.Entries.{entry_on};
 ghost use Rattle.rb_commands.specs.declared.fault.LineFault.TheVariants.{Bad};
-ghost use Rattle.rb_lines.specs.Lines.{line_limit};
+ghost use Rattle.rb_lines.specs.declared.limits.TheConstants.{LINE_LIMIT};
 ghost use Rattle.rb_audit.specs.Collects.{EndsAt, HasEachSite, Takes};
 ghost use Rattle.rb_audit.specs.Inputs.{with_entry};
 
@@ -114,7 +114,7 @@ impl Collected {
     ///
     /// Refuses with `BadConfig` or `BadLine`, by the line's number, or `OutOfMemory`; the audit ends then.
     pub fn take_line(&mut self, alloc: Global, line: &[u8]) -> Result<(), ScriptFault>
-        requires short { length line.now ≤ line_limit }
+        requires short { length line.now ≤ LINE_LIMIT }
         requires number { self.old.number < 2 ^ 63 }
         requires each { HasEachSite self.old }
         ensures { MatchResult result (λ _. Takes self.old self.new line.now) (EndsAt self.old line.now) }

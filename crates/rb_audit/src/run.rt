@@ -2,6 +2,7 @@
 ghost use Rattle.std.specs.Prelude.{◌≡◌, ◌↔◌, ◌≢◌, ◌⊎◌, List, [], ℕ, true, false, Err, None, IfSome, IfOk, OnErr, OnOk};
 ghost use Rattle.std.specs.Io.KnownBytes.{Appends};
 ghost use Rattle.rb_lines.specs.declared.fault.ScriptFault.TheVariants.{Read, Write};
+ghost use Rattle.rb_lines.specs.declared.limits.TheConstants.{MOST_READS};
 ghost use Rattle.rb_audit.specs.Collects.{HasEachSite};
 ghost use Rattle.rb_audit.specs.Run.{CollectsAs, EndsAs};
 
@@ -24,7 +25,7 @@ fn collect<S: Source, W: Sink>(
     ensures fresh { W.failed writer.new ≡ false }
     ensures each { OnOk result (HasEachSite collected.new) }
     ensures input { IfSome (S.remaining reader.old) (λ input. CollectsAs result collected.new input (S.remaining reader.new)) }
-    ensures read { result ≡ Err Read → (S.failed reader.new ≡ true) ⊎ (S.calls reader.new ≡ 4000000000) }
+    ensures read { result ≡ Err Read → (S.failed reader.new ≡ true) ⊎ (S.calls reader.new ≡ MOST_READS) }
     ensures write { result ≢ Err Write }
 {
     let mut buffers = Buffers::new(alloc);
@@ -63,7 +64,7 @@ pub fn run_audit<S: Source, W: Sink>(
     // What is written is what the audit of all histories of the input tells.
     ensures written { (text : List ℕ) × Appends (W.contents writer.old) (W.contents writer.new) text
         × IfSome (S.remaining reader.old) (λ input. EndsAs result input (S.remaining reader.new) text) }
-    ensures read { result ≡ Err Read → (S.failed reader.new ≡ true) ⊎ (S.calls reader.new ≡ 4000000000) }
+    ensures read { result ≡ Err Read → (S.failed reader.new ≡ true) ⊎ (S.calls reader.new ≡ MOST_READS) }
     ensures write { (result ≡ Err Write) ↔ (W.failed writer.new ≡ true) }
 {
     let mut collected = Collected::new(alloc);

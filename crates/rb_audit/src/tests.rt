@@ -1,7 +1,7 @@
 ghost use Rattle.std.specs.Prelude.{◌≡◌, false, None};
 
 use crate::run_audit;
-use rb_lines::{ReadFailed, ScriptFault, Sink, Source, WriteFailed};
+use rb_lines::{LINE_LIMIT, ReadFailed, ScriptFault, Sink, Source, WriteFailed};
 use std::alloc::{AllocError, Global};
 use std::test::Fail;
 
@@ -227,7 +227,7 @@ fn stops_at_other_faults(rt: HostRuntime) -> Result<(), Fail> {
 
 #[test]
 fn longest_line(rt: HostRuntime) -> Result<(), Fail> {
-    let longest = 1_048_576usize;
+    let longest = LINE_LIMIT;
     let line = CONFIGURATION.len().saturating_sub(1);
     for (length, want) in [
         (longest, Ok(true)),

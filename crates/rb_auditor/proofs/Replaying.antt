@@ -3,6 +3,8 @@ use Rattle.std.proofs.Common.{◌≡◌, ℕ, zero, suc, Bool, IsTrue, MatchBool
 use Rattle.std.specs.Prelude.{map, slice_get, nat_le}
 use Rattle.std.proofs.lemmas.Bool.Decides.{nat_tests}
 use Rattle.std.proofs.lemmas.List.{length-take-le, take-append-drop, take_more}
+use Rattle.rb_scratch.specs.declared.request.TheConstants.{MOST_REQUESTS}
+use Rattle.rb_money.specs.declared.limits.TheConstants.{MOST_HISTORY}
 use Rattle.rb_money.specs.Settings.{IsConfigured, Settings}
 use Rattle.rb_site.specs.declared.entry.Entry.{Entry}
 use Rattle.rb_site.specs.Events.{ModelSite, after_event, after_events, first_site, is_full, outcome_of, reply_to, sent_at, sent_by}
@@ -91,12 +93,12 @@ sends_at s t [] k x h = cc
 sends_at s t (y ∷ xs) zero x h = let e : y ≡ x = cc in ap (λ (z : Entry). Some (sent_at s t z.event)) e
 sends_at s t (y ∷ xs) (suc k) x h = sends_at s (after_event s t y.event) xs k x h
 
--- an event sends at most 16 messages
-few : (b : Bool) (ms : List Message) → length ms ≤ 16 → length (cond b [] ms) ≤ 16
+-- an event sends at most as many messages as a batch may have requests
+few : (b : Bool) (ms : List Message) → length ms ≤ MOST_REQUESTS → length (cond b [] ms) ≤ MOST_REQUESTS
 few true ms h = omega arith
 few false ms h = h
 
-sent_few : (s : Settings) (t : ModelSite) (e : Event) → length (sent_at s t e) ≤ 16
+sent_few : (s : Settings) (t : ModelSite) (e : Event) → length (sent_at s t e) ≤ MOST_REQUESTS
 sent_few s t e = few (is_full s t) (sent_by (outcome_of s t e)) (States.sends_few s t e)
 
 -- where the history is full, one more is wrong
@@ -136,7 +138,7 @@ pub record IsReplaying (s : Settings) (me : ℕ) (h : List Entry) (k : ℕ) (sit
   pub replays : IsReplay s me (take k h)
   pub ends_are : AreEnds ends (length messages)
   pub sends : between messages ends ≡ sends_by s (first_site me) (take k h)
-  pub few : length messages ≤ 16 * k
+  pub few : length messages ≤ MOST_REQUESTS * k
 
 -- an entry more
 pub replaying_more : (s : Settings) (me : ℕ) (h : List Entry) (k : ℕ) (x : Entry) (site new : SeenSite) (before after : List Message) (ends : List ℕ) → k < length h → x ≡ get_or h k x → IsReplaying s me h k site before ends → IsNoted site new x before after → IsReplaying s me h (k + 1) new after (ends ++ length after ∷ [])
@@ -151,7 +153,7 @@ replaying_more s me h k x site new before after ends less at r n = record {
       ∙ ap (λ m. sends_by s (first_site me) (take k h) ++ m ∷ []) (ap (λ (z : SeenSite). sent_at z.settings (state_of z) x.event) r.site_is)
       ∙ sym (sends_by_more s (first_site me) (take k h) x)
       ∙ ap (sends_by s (first_site me)) longer;
-  few = let old : length before ≤ 16 * k = r.few in omega (arith, sizes, most);
+  few = let old : length before ≤ MOST_REQUESTS * k = r.few in omega (arith, sizes, most);
 }
   where
     sent : List Message
@@ -160,7 +162,7 @@ replaying_more s me h k x site new before after ends less at r n = record {
     sizes : length after ≡ length before + length sent
     sizes = ap length n.sends ∙ length-append before sent
 
-    most : length sent ≤ 16
+    most : length sent ≤ MOST_REQUESTS
     most = sent_few site.settings (state_of site) x.event
 
     longer : take k h ++ x ∷ [] ≡ take (k + 1) h
@@ -170,10 +172,10 @@ replaying_more s me h k x site new before after ends less at r n = record {
     now = n.is ∙ ap (λ (z : SeenSite). record z { entries = z.entries ++ x ∷ [] }) r.site_is ∙ ap (seen_at s me) longer
 
 -- the numbers of entries and messages so far
-pub counts_fit : (s : Settings) (me : ℕ) (h : List Entry) (k : ℕ) (site : SeenSite) (messages : List Message) (ends : List ℕ) → IsConfigured s → k ≤ length h → IsReplaying s me h k site messages ends → (k ≤ 100000000) × (length messages ≤ 1600000000)
+pub counts_fit : (s : Settings) (me : ℕ) (h : List Entry) (k : ℕ) (site : SeenSite) (messages : List Message) (ends : List ℕ) → IsConfigured s → k ≤ length h → IsReplaying s me h k site messages ends → (k ≤ MOST_HISTORY) × (length messages ≤ MOST_REQUESTS * MOST_HISTORY)
 counts_fit s me h k site messages ends c less r =
     let taken : length (take k h) ≡ k = length-take-le k h less in
     let room : length (take k h) ≤ s.limits.history = r.replays.room in
-    let most : s.limits.history ≤ 100000000 = c.history.1 in
-    let all : length messages ≤ 16 * k = r.few in
+    let most : s.limits.history ≤ MOST_HISTORY = c.history.1 in
+    let all : length messages ≤ MOST_REQUESTS * k = r.few in
     (omega arith, omega arith)

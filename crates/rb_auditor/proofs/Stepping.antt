@@ -4,6 +4,7 @@ use Rattle.std.specs.Prelude.{replicate, slice_get}
 use Rattle.std.proofs.lemmas.Option.{slice_get-get_or, slice_get_read, slice_get_within}
 use Rattle.std.proofs.lemmas.List.{length-map}
 use Rattle.std.proofs.Common.{Vec}
+use Rattle.rb_money.specs.declared.limits.TheConstants.{MOST_HISTORY}
 use Rattle.rb_money.specs.Settings.{IsConfigured, Settings}
 use Rattle.rb_site.specs.declared.entry.Entry.{Entry}
 use Rattle.rb_site.specs.declared.event.Event.{Event}
@@ -104,14 +105,14 @@ done_more p v j t g there place past old i k h less at taken = elim (same_number
 ]
 
 -- numbers of entries are below the limit
-pub taken_fits : (p : Progress) → IsTaking p → IsConfigured p.settings → (i : ℕ) → i < length p.taken → get_or p.taken i 0 ≤ 100000000
+pub taken_fits : (p : Progress) → IsTaking p → IsConfigured p.settings → (i : ℕ) → i < length p.taken → get_or p.taken i 0 ≤ MOST_HISTORY
 taken_fits p v c i less =
     let at : slice_get p.taken i ≡ Some (get_or p.taken i 0) = slice_get-get_or p.taken i 0 less in
     let n : length p.taken ≡ length p.histories = v.counts in
     let there : slice_get p.histories i ≡ Some (get_or p.histories i []) = slice_get-get_or p.histories i [] (omega arith) in
     let within : get_or p.taken i 0 ≤ length (get_or p.histories i []) = v.within i (get_or p.taken i 0) (get_or p.histories i []) there at in
     let room : length (get_or p.histories i []) ≤ p.settings.limits.history = (v.replays i (get_or p.histories i []) there).room in
-    let most : p.settings.limits.history ≤ 100000000 = c.history.1 in
+    let most : p.settings.limits.history ≤ MOST_HISTORY = c.history.1 in
     omega arith
 
 -- ---- lists of the code

@@ -7,6 +7,7 @@ use Rattle.std.proofs.lemmas.Bool.Decides.{nat_tests}
 use Rattle.std.proofs.lemmas.Fmt.{digits_decimal}
 use Rattle.std.proofs.lemmas.Str.Parse.{IsNumeralModel, numerals_by_value, tells_digits, digit_at}
 use Rattle.std.specs.Str.Parse.{AllDigits, digits_value}
+use Rattle.rb_money.specs.declared.accounts.TheConstants.{LONGEST_NAME}
 use Rattle.json.proofs.Printed.Strings.{escape_byte_plain}
 use Rattle.json.specs.Print.{escape, escape_byte, quoted}
 use Rattle.rb_money.specs.Settings.{is_account_name, is_name_byte}
@@ -74,4 +75,4 @@ bytes_plain (b ∷ bs) h = let p = and_parts (is_name_byte b) (list_all is_name_
 
 -- an account's name stands in quotes as it is
 pub account_plain : (name : List ℕ) → is_account_name name ≡ true → escape name ≡ name
-account_plain name h = escape_plain name (bytes_plain name (and_parts (nat_le 1 (length name) && nat_le (length name) 32) _ h).1)
+account_plain name h = escape_plain name (bytes_plain name (and_parts (nat_le 1 (length name) && nat_le (length name) LONGEST_NAME) _ h).1)

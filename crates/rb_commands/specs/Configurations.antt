@@ -8,6 +8,7 @@ use Rattle.serde_json.specs.Read.{read}
 use Rattle.rb_money.specs.Faults.{Account, config_fault, settings_of}
 use Rattle.rb_money.specs.Settings.{Settings}
 use Rattle.rb_money.specs.declared.limits.Limits.{Limits}
+use Rattle.rb_money.specs.declared.limits.TheConstants.{MOST_BLUE, MOST_RED, MOST_INBOX, MOST_HISTORY, MOST_EPOCH}
 use Rattle.rb_commands.specs.Values.{number_below, pair_of, size_of, either}
 
 -- an account's name and starting balance, from the list of both
@@ -31,11 +32,11 @@ limits_from blue red inbox history epoch = record { blue = blue; red = red; inbo
 
 abbrev pub limits_of : Data → Option Limits
 limits_of d = option_and_then (λ blue. option_and_then (λ red. option_and_then (λ inbox. option_and_then (λ history. option_map (limits_from blue red inbox history)
-    (limit_read (codes "epoch") 4000000000 d))
-    (limit_read (codes "history") 100000000 d))
-    (limit_read (codes "inbox") 4096 d))
-    (limit_read (codes "red") 1000000 d))
-    (limit_read (codes "blue") 1000000 d)
+    (limit_read (codes "epoch") MOST_EPOCH d))
+    (limit_read (codes "history") MOST_HISTORY d))
+    (limit_read (codes "inbox") MOST_INBOX d))
+    (limit_read (codes "red") MOST_RED d))
+    (limit_read (codes "blue") MOST_BLUE d)
 
 -- 1 where the object has the key, else 0
 abbrev pub has : List ℕ → Data → ℕ

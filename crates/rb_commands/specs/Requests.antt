@@ -4,19 +4,16 @@ use Rattle.serde_json.specs.Data.{Data, string, Items, no_items, item}
 use Rattle.serde_json.specs.Find.{get, as_array, as_str}
 use Rattle.rb_money.specs.Settings.{Settings, place_in}
 use Rattle.rb_money.specs.declared.place.Place.{Place}
+use Rattle.rb_money.specs.declared.place.TheConstants.Place.{NOWHERE}
 use Rattle.rb_shadow.specs.declared.op_name.OpName.{OpName}
 use Rattle.rb_shadow.specs.NameText.{IsName}
 use Rattle.rb_scratch.specs.declared.request.Request.{Request}
 use Rattle.rb_scratch.specs.declared.request.Request.TheVariants.{Deposit, Withdraw, Interest, Cancel}
 use Rattle.rb_commands.specs.Values.{number_json, name_json, pair_json, one_json, number_below, name_at, pair_of, size_of, either}
 
--- the place that no configuration has
-abbrev pub nowhere : Place
-nowhere = record { 0 = 65535 }
-
--- the place of an account's name
+-- the place of an account's name: nowhere where no account has it
 abbrev pub account_place : Settings → List ℕ → Place
-account_place s name = unwrap_or (place_in s.names name) nowhere
+account_place s name = unwrap_or (place_in s.names name) NOWHERE
 
 -- the place of the account that a value names
 abbrev pub place_at : Settings → Data → Option Place

@@ -7,9 +7,10 @@ use Rattle.std.proofs.lemmas.Slice.Eq.{bytes_eq-Decides}
 use Rattle.serde_json.specs.Read.{read}
 use Rattle.serde_json.specs.View.{items_of}
 use Rattle.serde_json.specs.Written.{compact_text}
-use Rattle.rb_money.specs.Amounts.{most_cents}
+use Rattle.rb_money.specs.declared.cents.TheConstants.{MOST_CENTS}
 use Rattle.rb_money.specs.Faults.{Account, account_fault, config_fault, is_among}
-use Rattle.rb_money.specs.Settings.{IsConfigured, Settings, is_account_name, most_sites}
+use Rattle.rb_money.specs.Settings.{IsConfigured, Settings, is_account_name}
+use Rattle.rb_money.specs.declared.limits.TheConstants.{MOST_SITES, MOST_ACCOUNTS, MOST_BLUE, MOST_RED, MOST_INBOX, MOST_HISTORY, MOST_EPOCH}
 use Rattle.rb_commands.specs.Configurations.{accounts_in, config_at, config_of}
 use Rattle.rb_history.specs.ConfigLines.{accounts_of, config_json, start_json}
 use Rattle.rb_history.specs.Fits.{Each}
@@ -35,10 +36,10 @@ accounts_length [] starts e = refl
 accounts_length (name ∷ names) [] e = absurd (omega arith)
 accounts_length (name ∷ names) (start ∷ starts) e = ap suc (accounts_length names starts (omega arith))
 
-small_starts : (names : List (List ℕ)) (starts : List ℕ) → ((i n : ℕ) → slice_get starts i ≡ Some n → n ≤ 100000000000) → Each (λ (a : Account). a.1 < 2 ^ 64) (accounts_of names starts)
+small_starts : (names : List (List ℕ)) (starts : List ℕ) → ((i n : ℕ) → slice_get starts i ≡ Some n → n ≤ MOST_CENTS) → Each (λ (a : Account). a.1 < 2 ^ 64) (accounts_of names starts)
 small_starts [] starts most = tt
 small_starts (name ∷ names) [] most = tt
-small_starts (name ∷ names) (start ∷ starts) most = let small : start ≤ 100000000000 = most 0 start refl in (omega arith, small_starts names starts (λ i. most (suc i)))
+small_starts (name ∷ names) (start ∷ starts) most = let small : start ≤ MOST_CENTS = most 0 start refl in (omega arith, small_starts names starts (λ i. most (suc i)))
 
 accounts_back : (accounts : List Account) → Each (λ (a : Account). a.1 < 2 ^ 64) accounts → accounts_in (items_of (map start_json accounts)) ≡ Some accounts
 accounts_back [] h = refl
@@ -50,11 +51,11 @@ among_more : (before : List (List ℕ)) (a n : List ℕ) → is_among before n �
 among_more [] a n e apart = rw (fails (bytes_eq n a) (n ≡ a) (bytes_eq-Decides n a) apart) refl
 among_more (b ∷ before) a n e apart = let p = or_parts (bytes_eq n b) (is_among before n) e in rw (p.0, among_more before a n p.1 apart) refl
 
-at_most : (n : ℕ) → n ≤ 100000000000 → nat_lt most_cents n ≡ false
+at_most : (n : ℕ) → n ≤ MOST_CENTS → nat_lt MOST_CENTS n ≡ false
 at_most n h = grind (arith, nat_tests)
 
 no_account_fault : (before : List (List ℕ)) (i : ℕ) (names : List (List ℕ)) (starts : List ℕ) → length starts ≡ length names
-    → ((j : ℕ) (name : List ℕ) → slice_get names j ≡ Some name → is_account_name name ≡ true) → ((j n : ℕ) → slice_get starts j ≡ Some n → n ≤ 100000000000)
+    → ((j : ℕ) (name : List ℕ) → slice_get names j ≡ Some name → is_account_name name ≡ true) → ((j n : ℕ) → slice_get starts j ≡ Some n → n ≤ MOST_CENTS)
     → ((j : ℕ) (name : List ℕ) → slice_get names j ≡ Some name → is_among before name ≡ false)
     → ((j k : ℕ) (name : List ℕ) → slice_get names j ≡ Some name → slice_get names k ≡ Some name → j ≡ k)
     → account_fault before i (accounts_of names starts) ≡ None
@@ -78,20 +79,20 @@ no_fault s c =
     let accounts = accounts_of s.names s.starts in
     rw (
       le-leb 2 s.sites c.some_sites,
-      le-leb s.sites most_sites c.few_sites,
+      le-leb s.sites MOST_SITES c.few_sites,
       le-leb 1 (length accounts) (omega arith),
-      le-leb (length accounts) 1000 (omega arith),
+      le-leb (length accounts) MOST_ACCOUNTS (omega arith),
       no_account_fault [] 0 s.names s.starts c.starts_of_all c.names c.starts (λ j name at. refl) c.unique,
       le-leb 1 l.blue c.blue.0,
-      le-leb l.blue 1000000 c.blue.1,
+      le-leb l.blue MOST_BLUE c.blue.1,
       le-leb 1 l.red c.red.0,
-      le-leb l.red 1000000 c.red.1,
+      le-leb l.red MOST_RED c.red.1,
       le-leb 1 l.inbox c.inbox.0,
-      le-leb l.inbox 4096 c.inbox.1,
+      le-leb l.inbox MOST_INBOX c.inbox.1,
       le-leb 1 l.history c.history.0,
-      le-leb l.history 100000000 c.history.1,
+      le-leb l.history MOST_HISTORY c.history.1,
       le-leb 1 l.epoch c.epoch.0,
-      le-leb l.epoch 4000000000 c.epoch.1,
+      le-leb l.epoch MOST_EPOCH c.epoch.1,
     ) refl
 
 config_back : (s : Settings) → IsConfigured s → config_of (config_json s) ≡ Some s

@@ -3,7 +3,8 @@ use Rattle.std.proofs.Common.{◌≡◌, ◌<◌, ◌^◌, ℕ, List, [], ◌∷
 use Rattle.std.specs.Prelude.{map, ◌==◌}
 use Rattle.std.proofs.lemmas.Bool.Decides.{nat_tests}
 use Rattle.serde_json.specs.View.{items_of}
-use Rattle.rb_money.specs.Settings.{IsConfigured, Settings, most_sites}
+use Rattle.rb_money.specs.Settings.{IsConfigured, Settings}
+use Rattle.rb_money.specs.declared.limits.TheConstants.{MOST_SITES}
 use Rattle.rb_money.specs.declared.place.Place.{Place}
 use Rattle.rb_scratch.specs.declared.request.Request.{Request}
 use Rattle.rb_scratch.specs.declared.request.Request.TheVariants.{Deposit, Withdraw, Interest, Cancel}
@@ -53,7 +54,7 @@ kind_back s name home blue red account amount (CancelKind x) h = rw (back x h) r
 
 shadow_by : (s : Settings) → IsConfigured s → (name : OpName) (home : ℕ) (blue : List ℕ) (red : ℕ) (account : Place) (amount : ℕ) (kind : Kind) → IsShadow s (shadow_with name home blue red account amount kind) → shadow_at s (shadow_json s (shadow_with name home blue red account amount kind)) ≡ Some (shadow_with name home blue red account amount kind)
 shadow_by s c name home blue red account amount kind h =
-    rw (below amount (2 ^ 64) h.amount, counts_back blue h.blue, equal (length blue) most_sites h.sites, below red (2 ^ 32) h.red, below home (2 ^ 8) h.home, kind_back s name home blue red account amount kind h.kind, back name h.name)
+    rw (below amount (2 ^ 64) h.amount, counts_back blue h.blue, equal (length blue) MOST_SITES h.sites, below red (2 ^ 32) h.red, below home (2 ^ 8) h.home, kind_back s name home blue red account amount kind h.kind, back name h.name)
     (ap (λ p. Some (shadow_with name home blue red p amount kind)) (known_place s account c h.account))
 
 shadow_back : (s : Settings) → IsConfigured s → (v : Shadow) → IsShadow s v → shadow_at s (shadow_json s v) ≡ Some v

@@ -9,7 +9,9 @@ use Rattle.std.proofs.lemmas.Slice.Eq.{bytes_eq-Decides}
 use Rattle.rb_money.specs.Settings.{IsConfigured, Settings, is_account_name}
 use Rattle.rb_money.specs.declared.place.Place.{Place}
 use Rattle.rb_history.specs.Fits.{IsKnown}
-use Rattle.rb_commands.specs.Requests.{account_place, nowhere}
+use Rattle.rb_commands.specs.Requests.{account_place}
+use Rattle.rb_money.specs.declared.place.TheConstants.Place.{NOWHERE}
+use Rattle.rb_money.specs.declared.limits.TheConstants.{MOST_ACCOUNTS}
 
 passes : (b : Bool) (P : Type 0) → Decides b P → P → b ≡ true
 passes true P d p = refl
@@ -44,7 +46,7 @@ missing_from (n ∷ ns) name k none =
     ∙ missing_from ns name (k + 1) (λ j. none (suc j))
 
 abbrev place_of : Option ℕ → Place
-place_of o = unwrap_or (option_map (λ i. record { 0 = i }) o) nowhere
+place_of o = unwrap_or (option_map (λ i. record { 0 = i }) o) NOWHERE
 
 -- places of the configuration's accounts, and the place that no configuration has, are known
 pub known_place : (s : Settings) (a : Place) → IsConfigured s → IsKnown s a → account_place s (unwrap_or (slice_get s.names a.0) (codes "?")) ≡ a
@@ -54,8 +56,8 @@ known_place s a c (inl less) =
     ap (λ o. account_place s (unwrap_or o (codes "?"))) at
     ∙ ap (λ o. place_of o) (position_from-zero (λ n. bytes_eq (get_or s.names a.0 []) n) s.names ∙ found_from s.names (get_or s.names a.0 []) 0 a.0 at (λ j there. c.unique a.0 j (get_or s.names a.0 []) at there) ∙ ap (λ m. Some m) (let e : 0 + a.0 ≡ a.0 = omega arith in e))
 known_place s a c (inr e) =
-    let few : length s.names ≤ 1000 = c.few_accounts in
-    let past : slice_get s.names 65535 ≡ None = slice_get_past s.names 65535 (omega arith) in
+    let few : length s.names ≤ MOST_ACCOUNTS = c.few_accounts in
+    let past : slice_get s.names NOWHERE.0 ≡ None = slice_get_past s.names NOWHERE.0 (omega arith) in
     ap (λ (p : Place). account_place s (unwrap_or (slice_get s.names p.0) (codes "?"))) e
     ∙ ap (λ o. account_place s (unwrap_or o (codes "?"))) past
     ∙ ap (λ o. place_of o) (position_from-zero (λ n. bytes_eq (codes "?") n) s.names ∙ missing_from s.names (codes "?") 0 (λ j n there same. no_name n (c.names j n there) same))

@@ -7,7 +7,7 @@ use Rattle.std.proofs.lemmas.Option.{slice_get-get_or, slice_get_past}
 use Rattle.std.proofs.lemmas.Slice.Eq.{bytes_eq-Decides}
 use Rattle.rb_money.specs.Settings.{IsConfigured, Settings, place_in}
 use Rattle.rb_money.specs.declared.place.Place.{Place}
-use Rattle.rb_commands.specs.Requests.{nowhere}
+use Rattle.rb_money.specs.declared.place.TheConstants.Place.{NOWHERE}
 
 same : (xs ys : List ℕ) → bytes_eq xs ys ≡ true → xs ≡ ys
 same xs ys e = (bytes_eq-Decides xs ys).0 e
@@ -27,7 +27,7 @@ name_there names name place e = by_position (position (λ n. bytes_eq name n) na
         index i f = cc
 
 -- no name stands at the place that no configuration has
-pub nobody_there : (s : Settings) → IsConfigured s → unwrap_or (slice_get s.names nowhere.0) (codes "?") ≡ codes "?"
+pub nobody_there : (s : Settings) → IsConfigured s → unwrap_or (slice_get s.names NOWHERE.0) (codes "?") ≡ codes "?"
 nobody_there s c =
     let few = c.few_accounts in
-    ap (λ o. unwrap_or o (codes "?")) (slice_get_past s.names 65535 (omega arith))
+    ap (λ o. unwrap_or o (codes "?")) (slice_get_past s.names NOWHERE.0 (omega arith))

@@ -1,7 +1,8 @@
 -- Entries that a line tells whole: their numbers fit their types, and their places are known.
 use Rattle.std.specs.Prelude.{◌≡◌, ◌⊎◌, ℕ, ℤ, pos, negsuc, ◌<◌, ◌^◌, List, [], ◌∷◌, length, Some, ⊤}
 use Rattle.serde_json.specs.Written.{compact_text}
-use Rattle.rb_money.specs.Settings.{IsConfigured, Settings, most_sites}
+use Rattle.rb_money.specs.Settings.{IsConfigured, Settings}
+use Rattle.rb_money.specs.declared.limits.TheConstants.{MOST_SITES}
 use Rattle.rb_money.specs.declared.place.Place.{Place}
 use Rattle.rb_money.specs.declared.refusal.Cause.{Cause}
 use Rattle.rb_money.specs.declared.refusal.Cause.TheVariants.{Declined as CauseDeclined, Refused as CauseRefused}
@@ -21,11 +22,11 @@ use Rattle.rb_site.specs.declared.reply.Reply.{Reply}
 use Rattle.rb_site.specs.declared.reply.Reply.TheVariants.{Made, Names, Held, Already, Taken, Stale, Applied, Passed, Balance as BalanceIs, Statement as StatementIs, Refused}
 use Rattle.rb_statements.specs.declared.row.Row.{Row}
 use Rattle.rb_history.specs.Entries.{entry_at, entry_json}
-use Rattle.rb_commands.specs.Requests.{nowhere}
+use Rattle.rb_money.specs.declared.place.TheConstants.Place.{NOWHERE}
 
 -- the place of one of the configuration's accounts, or the one that no configuration has
 abbrev pub IsKnown : Settings → Place → Type 0
-IsKnown s a = (a.0 < length s.names) ⊎ (a ≡ nowhere)
+IsKnown s a = (a.0 < length s.names) ⊎ (a ≡ NOWHERE)
 
 -- each of the list is such
 abbrev pub Each : {A : Type 0} → (A → Type 0) → List A → Type 0
@@ -48,7 +49,7 @@ IsKind (CancelKind x) = IsName x
 pub record IsShadow (s : Settings) (v : Shadow) : Type 0 where
   pub name : IsName v.name
   pub home : v.home < 2 ^ 8
-  pub sites : length v.deps.blue ≡ most_sites
+  pub sites : length v.deps.blue ≡ MOST_SITES
   pub blue : Each (λ n. n < 2 ^ 32) v.deps.blue
   pub red : v.deps.red < 2 ^ 32
   pub account : IsKnown s v.account

@@ -2,7 +2,8 @@
 use Rattle.std.specs.Prelude.{ℕ, ◌^◌, ◌==◌, List, [], ◌∷◌, length, Option, Some, None, codes, if◌then◌else◌, option_and_then, option_map}
 use Rattle.serde_json.specs.Data.{Data, Items, no_items, item}
 use Rattle.serde_json.specs.Find.{get, as_array}
-use Rattle.rb_money.specs.Settings.{Settings, most_sites}
+use Rattle.rb_money.specs.Settings.{Settings}
+use Rattle.rb_money.specs.declared.limits.TheConstants.{MOST_SITES}
 use Rattle.rb_shadow.specs.declared.deps.Deps.{Deps}
 use Rattle.rb_shadow.specs.declared.kind.Kind.{Kind}
 use Rattle.rb_shadow.specs.declared.kind.Kind.TheVariants.{Deposit as DepositKind, Withdraw as WithdrawKind, Declined as DeclinedKind, Interest as InterestKind, Cancel as CancelKind}
@@ -25,7 +26,7 @@ counts_in (item d ds) = option_and_then (λ n. option_map (λ later. n ∷ later
 
 -- a count for each site that there may be
 abbrev pub blue_at : Data → Option (List ℕ)
-blue_at d = option_and_then (λ ns. if length ns == most_sites then Some ns else None) (option_and_then counts_in (as_array d))
+blue_at d = option_and_then (λ ns. if length ns == MOST_SITES then Some ns else None) (option_and_then counts_in (as_array d))
 
 -- what the home had applied, from the list of its blue counts and its red one
 abbrev pub deps_at : Data → Option Deps

@@ -4,7 +4,8 @@ use Rattle.json.specs.Print.{escape}
 use Rattle.serde_json.specs.Data.{Data}
 use Rattle.serde_json.specs.View.{items_of}
 use Rattle.serde_json.specs.Written.{compact_text, items_text}
-use Rattle.rb_money.specs.Settings.{Settings, most_sites}
+use Rattle.rb_money.specs.Settings.{Settings}
+use Rattle.rb_money.specs.declared.limits.TheConstants.{MOST_SITES}
 use Rattle.rb_money.specs.declared.place.Place.{Place}
 use Rattle.rb_scratch.specs.declared.request.Request.{Request}
 use Rattle.rb_shadow.specs.declared.deps.Deps.{Deps}
@@ -37,7 +38,7 @@ TellsEach written P xs text rest = Each P xs × (text ≡ items_text false (item
 
 -- what a home had applied, as many counts as there may be sites
 abbrev pub TellsDeps : Deps → List ℕ → List ℕ → Type 0
-TellsDeps d text rest = (length d.blue ≡ most_sites) × Each (λ n. n < 2 ^ 32) d.blue × (d.red < 2 ^ 32) × (text ≡ compact_text (deps_json d) ++ rest)
+TellsDeps d text rest = (length d.blue ≡ MOST_SITES) × Each (λ n. n < 2 ^ 32) d.blue × (d.red < 2 ^ 32) × (text ≡ compact_text (deps_json d) ++ rest)
 
 abbrev pub TellsShadow : Settings → Shadow → List ℕ → List ℕ → Type 0
 TellsShadow s v text rest = IsShadow s v × (text ≡ compact_text (one_json (codes "shadow") (shadow_json s v)) ++ rest)

@@ -1,5 +1,7 @@
 //! Balances of a ledger's accounts.
-ghost use Rattle.std.specs.Prelude.{◌≡◌, ◌↔◌, ◌≤◌, ◌<◌, ◌+◌, ◌+ℤ◌, ◌≤ℤ◌, length, take, pos, negsuc, IsNone, IfSome};
+ghost use Rattle.std.specs.Prelude.{◌≡◌, ◌↔◌, ◌≤◌, ◌<◌, ◌+◌, ◌+ℤ◌, ◌≤ℤ◌, length, take, pos, neg_ℤ, IsNone, IfSome};
+ghost use Rattle.rb_money.specs.declared.limits.TheConstants.{MOST_BALANCE};
+ghost use Rattle.rb_money.specs.declared.cents.TheConstants.{MOST_CENTS};
 ghost use Rattle.rb_shadow.specs.Operations.{bal};
 ghost use Rattle.rb_ledger.specs.Changes.{moved_at};
 ghost use Rattle.rb_ledger.specs.OnAccount.{IsOn};
@@ -14,7 +16,7 @@ impl Ledger {
     pub fn balance(&self, place: Place) -> Option<u64>
         ensures absent { IsNone result ↔ (length self.now.settings.starts ≤ place.0) }
         ensures sum { IfSome result (λ n. pos n ≡ bal self.now.settings self.now.entries place) }
-        ensures bounded { IfSome result (λ n. n < 1800000000000000000) }
+        ensures bounded { IfSome result (λ n. n ≤ MOST_BALANCE) }
     {
         let head = self.index.heads.get(usize::from(place.0))?;
         Some(head.balance)
@@ -26,7 +28,7 @@ impl Ledger {
         requires { position ≤ length self.now.entries }
         ensures absent { IsNone result ↔ (length self.now.settings.starts ≤ place.0) }
         ensures sum { IfSome result (λ n. pos n ≡ bal self.now.settings (take position self.now.entries) place) }
-        ensures bounded { IfSome result (λ n. n < 1800000000000000000) }
+        ensures bounded { IfSome result (λ n. n ≤ MOST_BALANCE) }
     {
         let head = self.index.heads.get(usize::from(place.0))?;
         Some(self.balance_at(self.last_within(position, head.last, place), place))
@@ -37,8 +39,8 @@ impl Ledger {
     /// position.
     pub fn moved(&self, position: u32, place: Place) -> Option<i64>
         ensures moved { result ≡ moved_at self.now.settings self.now.entries place position }
-        ensures least { IfSome result (λ n. negsuc 99999999999 ≤ℤ n) }
-        ensures most { IfSome result (λ n. n ≤ℤ pos 100000000000) }
+        ensures least { IfSome result (λ n. neg_ℤ (pos MOST_CENTS) ≤ℤ n) }
+        ensures most { IfSome result (λ n. n ≤ℤ pos MOST_CENTS) }
     {
         let entry = self.entry(position)?;
         let link = self.links[position as usize - 1];
@@ -54,7 +56,7 @@ impl Ledger {
         requires on { IsOn self.now.entries place position }
         requires account { place.0 < length self.now.settings.starts }
         ensures sum { pos result ≡ bal self.now.settings (take position self.now.entries) place }
-        ensures bounded { result < 1800000000000000000 }
+        ensures bounded { result ≤ MOST_BALANCE }
     {
         if position == 0 {
             return start(self.config(), place);
@@ -65,13 +67,13 @@ impl Ledger {
 
 /// What there was after an operation less what there was before it.
 fn net(after: u64, before: u64) -> i64
-    requires after { after < 1800000000000000000 }
-    requires before { before < 1800000000000000000 }
-    requires more { after ≤ before + 100000000000 }
-    requires less { before ≤ after + 100000000000 }
+    requires after { after ≤ MOST_BALANCE }
+    requires before { before ≤ MOST_BALANCE }
+    requires more { after ≤ before + MOST_CENTS }
+    requires less { before ≤ after + MOST_CENTS }
     ensures difference { pos after ≡ pos before +ℤ result }
-    ensures least { negsuc 99999999999 ≤ℤ result }
-    ensures most { result ≤ℤ pos 100000000000 }
+    ensures least { neg_ℤ (pos MOST_CENTS) ≤ℤ result }
+    ensures most { result ≤ℤ pos MOST_CENTS }
 {
     after as i64 - before as i64
 }

@@ -1,5 +1,6 @@
 //! The index of a list of operations.
 ghost use Rattle.std.specs.Prelude.{◌≡◌, ◌≤◌, ◌<◌, ◌+◌, length, pos, [], ◌∷◌, ◌++◌, List, IfOk, ℕ, slice_index, slice_index_or, vec_len, vec_capacity};
+ghost use Rattle.rb_money.specs.declared.limits.TheConstants.{MOST_OPERATIONS};
 ghost use Rattle.rb_shadow.specs.declared.shadow.Shadow.{Shadow as TheShadow};
 ghost use Rattle.rb_shadow.specs.Operations.{bal, target_of};
 ghost use Rattle.rb_shadow.specs.Sound.{IsSound};
@@ -173,7 +174,7 @@ fn row_of(name: OpName) -> usize
 /// Counts a cancellation at a position, of the entry at the target. The target 0 is none.
 fn cancel_one_more(cancels: &mut Vec<Cancels>, target: u32, position: u32)
     requires within { target ≤ length cancels.old.items }
-    requires fits { (i : ℕ) → (slice_index_or cancels.old.items i no_cancels).count ≤ 9000000 }
+    requires fits { (i : ℕ) → (slice_index_or cancels.old.items i no_cancels).count ≤ MOST_OPERATIONS }
     ensures items { cancels.new.items ≡ changed_at target (one_more position) cancels.old.items }
     ensures len { vec_len cancels.new ≡ vec_len cancels.old }
     ensures capacity { vec_capacity cancels.new ≡ vec_capacity cancels.old }

@@ -4,19 +4,20 @@ use Rattle.std.specs.Io.KnownBytes.{Appends, Consumes, Keeps}
 use Rattle.rb_lines.specs.declared.buffers.Buffers.{Buffers}
 use Rattle.rb_lines.specs.declared.no_line.NoLine.{NoLine}
 use Rattle.rb_lines.specs.declared.no_line.NoLine.TheVariants.{TooLong, Read, Write, OutOfMemory}
-use Rattle.rb_lines.specs.Lines.{line_len, line_limit}
+use Rattle.rb_lines.specs.Lines.{line_len}
+use Rattle.rb_lines.specs.declared.limits.TheConstants.{LINE_LIMIT, READ_SIZE, MOST_READS}
 
 -- so many calls were made, and so many more may be
 abbrev pub Counts : ℕ → ℕ → Type 0
-Counts calls reads = calls + reads ≡ 4000000000
+Counts calls reads = calls + reads ≡ MOST_READS
 
 -- how much can still come: it falls with each line that is taken
 abbrev pub left : Buffers → ℕ
-left b = length b.pending + 65536 * b.reads
+left b = length b.pending + READ_SIZE * b.reads
 
 -- a line of n bytes stands whole at the front, with its line feed or at the end of the source
 abbrev pub Stands : Buffers → ℕ → Type 0
-Stands b n = (n ≡ line_len b.pending) × (n ≤ line_limit) × (n ≤ length b.pending) × ((n < length b.pending) ⊎ ((n ≡ length b.pending) × (0 < n) × (b.ended ≡ true)))
+Stands b n = (n ≡ line_len b.pending) × (n ≤ LINE_LIMIT) × (n ≤ length b.pending) × ((n < length b.pending) ⊎ ((n ≡ length b.pending) × (0 < n) × (b.ended ≡ true)))
 
 -- the next line, or the end
 abbrev pub IsNext : Buffers → Option ℕ → Type 0
@@ -33,7 +34,7 @@ Sends had has owed still = (sent : List ℕ) × Appends had has sent × (owed �
 
 -- a read failed, or there were as many as there may be: nothing else changed
 abbrev pub HasRead : Buffers → Buffers → Option (List ℕ) → Option (List ℕ) → Bool → ℕ → NoLine → Type 0
-HasRead old new had has failed calls Read = (new.pending ≡ old.pending) × (new.ended ≡ false) × Keeps had has × ((failed ≡ true) ⊎ (calls ≡ 4000000000))
+HasRead old new had has failed calls Read = (new.pending ≡ old.pending) × (new.ended ≡ false) × Keeps had has × ((failed ≡ true) ⊎ (calls ≡ MOST_READS))
 HasRead old new had has failed calls OutOfMemory = new.ended ≡ false
 HasRead old new had has failed calls TooLong = ⊥
 HasRead old new had has failed calls Write = ⊥

@@ -1,6 +1,7 @@
 -- The lines of some bytes.
 use Rattle.std.specs.Prelude.{ℕ, ◌==◌, ◌||◌, Bool, List, [], ◌∷◌, length, nat_lt, if◌then◌else◌}
 use Rattle.std.specs.List.{onto_first, list_all, position_or_len}
+use Rattle.rb_lines.specs.declared.limits.TheConstants.{LINE_LIMIT}
 
 -- a line feed ends a line, and what follows the last one is a line where there is anything
 abbrev pub lines_of : List ℕ → List (List ℕ)
@@ -21,12 +22,9 @@ whole_lines (b ∷ bs) = if b == 10 then [] ∷ whole_lines bs else onto_whole b
 abbrev pub line_len : List ℕ → ℕ
 line_len bs = position_or_len (λ b. b == 10) bs
 
--- a line has at most so many bytes
-abbrev pub line_limit : ℕ
-line_limit = 1048576
-
+-- it has more bytes than a line may have
 abbrev pub is_long : List ℕ → Bool
-is_long l = nat_lt line_limit (length l)
+is_long l = nat_lt LINE_LIMIT (length l)
 
 -- spaces, tabs and carriage returns alone
 abbrev pub is_blank : List ℕ → Bool

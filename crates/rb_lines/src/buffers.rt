@@ -1,26 +1,19 @@
 //! The bytes between a reader and a writer: no read while a whole line waits or a reply is owed.
 ghost use Rattle.std.specs.Prelude.{◌≡◌, ◌≢◌, ◌↔◌, ◌+◌, ◌<◌, ◌≤◌, ◌⊎◌, [], true, false, Err, length, drop, MatchResult, IfOk, OnOk};
 ghost use Rattle.std.specs.Io.KnownBytes.{IsAtEnd};
-ghost use Rattle.rb_lines.specs.Lines.{line_limit, line_len};
+ghost use Rattle.rb_lines.specs.Lines.{line_len};
+ghost use Rattle.rb_lines.specs.declared.limits.TheConstants.{LINE_LIMIT, MOST_READS};
 ghost use Rattle.rb_lines.specs.Buffers.{Counts, HasRead, IsNext, Reads, Sends, left};
 ghost use Rattle.rb_lines.specs.Writes.{AppendsFront};
 ghost use Rattle.rb_lines.specs.declared.no_line.NoLine.TheVariants.{TooLong, Read, Write, OutOfMemory};
 
+use crate::limits::{LINE_LIMIT, MOST_OWED, MOST_READS};
 use crate::no_line::NoLine;
 use crate::pending::Pending;
 use crate::sink::{Sink, WriteFailed};
 use crate::source::Source;
 use crate::write::flush;
 use std::alloc::Global;
-
-/// The most reads of one script.
-const MOST_READS: u64 = 4_000_000_000;
-
-/// The most bytes of a line.
-const LINE_LIMIT: usize = 1_048_576;
-
-/// Replies go out once they have so many bytes, also where more lines wait.
-const MOST_OWED: usize = 65_536;
 
 /// What was read and not yet answered, what was answered and not yet written, how many reads are left, and whether the reader has come to its end.
 #[derive(Drop)]
@@ -36,7 +29,7 @@ impl Buffers {
     pub fn new(alloc: Global) -> Buffers
         ensures pending { result.pending ≡ [] }
         ensures owed { result.owed.items ≡ [] }
-        ensures reads { result.reads ≡ 4000000000 }
+        ensures reads { result.reads ≡ MOST_READS }
         ensures going { result.ended ≡ false }
     {
         Buffers {
@@ -110,8 +103,8 @@ impl Buffers {
 
         // Each reason.
         ensures line { IfOk result (IsNext self.new) }
-        ensures long { result ≡ Err TooLong → line_limit < line_len self.new.pending }
-        ensures read { result ≡ Err Read → (self.new.ended ≡ false) × (line_len self.new.pending ≡ length self.new.pending) × ((S.failed reader.new ≡ true) ⊎ (S.calls reader.new ≡ 4000000000)) }
+        ensures long { result ≡ Err TooLong → LINE_LIMIT < line_len self.new.pending }
+        ensures read { result ≡ Err Read → (self.new.ended ≡ false) × (line_len self.new.pending ≡ length self.new.pending) × ((S.failed reader.new ≡ true) ⊎ (S.calls reader.new ≡ MOST_READS)) }
         ensures write { (result ≡ Err Write) ↔ (W.failed writer.new ≡ true) }
         ensures nothing { result ≡ Err Write → 0 < length self.old.owed.items }
         ensures front { result ≡ Err Write → AppendsFront (W.contents writer.old) (W.contents writer.new) self.old.owed.items × (self.new.owed.items ≡ []) }

@@ -17,10 +17,10 @@ pub enum ScriptFault {
     /// A later line is no command.
     #[error("line {line}: bad line")]
     BadLine { line: u64 },
-    /// A line has more than 1,048,576 bytes before its line feed.
+    /// A line has more than `LINE_LIMIT` bytes before its line feed.
     #[error("line {line}: line too long")]
     LongLine { line: u64 },
-    /// A read failed, or more than 4,000,000,000 were needed.
+    /// A read failed, or more than `MOST_READS` were needed.
     #[error("read failed")]
     Read,
     /// A write failed or took nothing, whatever else there was to say.

@@ -3,6 +3,7 @@
 
 mod buffers;
 mod fault;
+mod limits;
 mod line;
 mod no_line;
 mod pending;
@@ -12,6 +13,7 @@ mod write;
 
 pub use buffers::Buffers;
 pub use fault::{ScriptFault, message, status};
+pub use limits::{LINE_LIMIT, MOST_OWED, MOST_READS, READ_SIZE};
 pub use line::{is_blank, text_on};
 pub use no_line::NoLine;
 pub use pending::Pending;

@@ -3,14 +3,13 @@ ghost use Rattle.std.specs.Prelude.{◌≡◌, ◌+◌, ◌-◌, ◌^◌, ◌≤
 ghost use Rattle.std.specs.Io.KnownBytes.{IsAtEnd, Keeps};
 ghost use Rattle.rb_lines.specs.Lines.{line_len};
 ghost use Rattle.rb_lines.specs.Buffers.{Reads};
+ghost use Rattle.rb_lines.specs.declared.limits.TheConstants.{READ_SIZE};
 
+use crate::limits::READ_SIZE;
 use crate::source::{ReadFailed, Source};
 use memchr::memchr;
 use std::alloc::{AllocError, Global};
 use std::marker::Model;
-
-/// The bytes that one read asks for.
-const READ_SIZE: usize = 65_536;
 
 /// A queue of bytes that is read as one slice, from `start` to `end`; what stands behind them is room for reads. It knows how far it was searched for a line feed, so each byte is looked at once.
 #[derive(Drop)]
@@ -48,7 +47,7 @@ fn line_length(bytes: &[u8]) -> usize
 fn make_room(bytes: &mut Vec<u8>, end: usize) -> Result<(), AllocError>
     requires { end ≤ length bytes.old.items }
     ensures front { take end bytes.new.items ≡ take end bytes.old.items }
-    ensures room { OnOk result (end + 65536 ≤ length bytes.new.items) }
+    ensures room { OnOk result (end + READ_SIZE ≤ length bytes.new.items) }
     ensures within { end ≤ length bytes.new.items }
 {
     if bytes.len() - end >= READ_SIZE {
@@ -63,13 +62,13 @@ fn read_behind<S: Source>(
     end: usize,
     reader: &mut S,
 ) -> Result<usize, ReadFailed>
-    requires { end + 65536 ≤ length bytes.old.items }
+    requires { end + READ_SIZE ≤ length bytes.old.items }
     ensures front { take end bytes.new.items ≡ take end bytes.old.items }
     ensures bytes { MatchResult result
         (λ n. Reads (take end bytes.old.items) (take (end + n) bytes.new.items) (S.remaining reader.old) (S.remaining reader.new))
         (λ _. Keeps (S.remaining reader.old) (S.remaining reader.new)) }
-    ensures bound { IfOk result (λ n. n ≤ 65536) }
-    ensures room { end + 65536 ≤ length bytes.new.items }
+    ensures bound { IfOk result (λ n. n ≤ READ_SIZE) }
+    ensures room { end + READ_SIZE ≤ length bytes.new.items }
     ensures end { result ≡ Ok 0 → IsAtEnd (S.remaining reader.new) }
     ensures failed { S.failed reader.new ≡ (S.failed reader.old || is_err result) }
     ensures calls { S.calls reader.new ≡ min (S.calls reader.old + 1) (2 ^ 64 - 1) }
@@ -143,7 +142,7 @@ impl Pending {
         ensures bytes { IfOk result (λ read. MatchResult read
             (λ _. Reads self.old self.new (S.remaining reader.old) (S.remaining reader.new))
             (λ _. (self.new ≡ self.old) × Keeps (S.remaining reader.old) (S.remaining reader.new))) }
-        ensures count { IfOk result (λ read. IfOk read (λ n. (n ≤ 65536) × (length self.new ≡ length self.old + n))) }
+        ensures count { IfOk result (λ read. IfOk read (λ n. (n ≤ READ_SIZE) × (length self.new ≡ length self.old + n))) }
         ensures end { result ≡ Ok (Ok 0) → (self.new ≡ self.old) × IsAtEnd (S.remaining reader.new) }
         ensures failed { IfOk result (λ read. S.failed reader.new ≡ (S.failed reader.old || is_err read)) }
         ensures calls { OnOk result (S.calls reader.new ≡ min (S.calls reader.old + 1) (2 ^ 64 - 1)) }

@@ -9,8 +9,9 @@ use Rattle.std.proofs.lemmas.Slice.Eq.{bytes_eq-Decides}
 use Rattle.rb_money.specs.declared.fault.ConfigFault.{ConfigFault}
 use Rattle.rb_money.specs.declared.fault.ConfigFault.TheVariants.{Sites, Accounts, Name, Twice, Start, Limit}
 use Rattle.rb_money.specs.declared.limits.Limits.{Limits}
-use Rattle.rb_money.specs.Amounts.{most_cents}
-use Rattle.rb_money.specs.Settings.{IsConfigured, IsLimit, is_account_name, most_sites, most_accounts}
+use Rattle.rb_money.specs.declared.cents.TheConstants.{MOST_CENTS}
+use Rattle.rb_money.specs.Settings.{IsConfigured, IsLimit, is_account_name}
+use Rattle.rb_money.specs.declared.limits.TheConstants.{MOST_SITES, MOST_ACCOUNTS, MOST_BLUE, MOST_RED, MOST_INBOX, MOST_HISTORY, MOST_EPOCH}
 use Rattle.rb_money.specs.Faults.{Account, settings_of, is_among, account_fault, is_limit, are_limits, config_fault}
 
 -- the first of two faults is not there, so the test fails and the second is not there
@@ -30,17 +31,17 @@ holds false h = absurd (cc)
 pub record IsFine (before : List (List ℕ)) (i : ℕ) (a : Account) (later : List Account) : Type 0 where
   pub named : is_account_name a.0 ≡ true
   pub fresh : is_among before a.0 ≡ false
-  pub small : nat_lt most_cents a.1 ≡ false
+  pub small : nat_lt MOST_CENTS a.1 ≡ false
   pub rest : account_fault (before ++ a.0 ∷ []) (i + 1) later ≡ None
 
 pub fine : (before : List (List ℕ)) (i : ℕ) (a : Account) (later : List Account) → account_fault before i (a ∷ later) ≡ None → IsFine before i a later
 fine before i a later h =
     let third = account_fault (before ++ a.0 ∷ []) (i + 1) later in
-    let second : Option ConfigFault = if nat_lt most_cents a.1 then Some (Start i) else third in
+    let second : Option ConfigFault = if nat_lt MOST_CENTS a.1 then Some (Start i) else third in
     let first : Option ConfigFault = if is_among before a.0 then Some (Twice i) else second in
     let p = past (not (is_account_name a.0)) (Name i) first h in
     let q = past (is_among before a.0) (Twice i) second p.1 in
-    let r = past (nat_lt most_cents a.1) (Start i) third q.1 in
+    let r = past (nat_lt MOST_CENTS a.1) (Start i) third q.1 in
     record { named = not-false (is_account_name a.0) p.0; fresh = q.0; small = r.0; rest = r.1 }
 
 abbrev names : List Account → List (List ℕ)
@@ -59,11 +60,11 @@ proper_name before i (a ∷ later) none zero name at =
     subst P (same_some a.0 name at) (fine before i a later none).named
 proper_name before i (a ∷ later) none (suc k) name at = proper_name (before ++ a.0 ∷ []) (i + 1) later (fine before i a later none).rest k name at
 
-small_start : (before : List (List ℕ)) (i : ℕ) (accounts : List Account) → account_fault before i accounts ≡ None → (k n : ℕ) → slice_get (starts accounts) k ≡ Some n → n ≤ most_cents
+small_start : (before : List (List ℕ)) (i : ℕ) (accounts : List Account) → account_fault before i accounts ≡ None → (k n : ℕ) → slice_get (starts accounts) k ≡ Some n → n ≤ MOST_CENTS
 small_start before i [] none k n at = absurd (cc)
 small_start before i (a ∷ later) none zero n at =
-    let P : ℕ → Type 0 = λ m. m ≤ most_cents in
-    subst P (same_some a.1 n at) (ltb-false most_cents a.1 (fine before i a later none).small)
+    let P : ℕ → Type 0 = λ m. m ≤ MOST_CENTS in
+    subst P (same_some a.1 n at) (ltb-false MOST_CENTS a.1 (fine before i a later none).small)
 small_start before i (a ∷ later) none (suc k) n at = small_start (before ++ a.0 ∷ []) (i + 1) later (fine before i a later none).rest k n at
 
 -- no name is among the earlier ones
@@ -106,9 +107,9 @@ length_starts (a ∷ later) = ap suc (length_starts later)
 -- what is looked at, where nothing is wrong
 pub record IsProper (sites : ℕ) (accounts : List Account) (limits : Limits) : Type 0 where
   pub some_sites : 2 ≤ sites
-  pub few_sites : sites ≤ most_sites
+  pub few_sites : sites ≤ MOST_SITES
   pub some_accounts : 1 ≤ length accounts
-  pub few_accounts : length accounts ≤ most_accounts
+  pub few_accounts : length accounts ≤ MOST_ACCOUNTS
   pub each_account : account_fault [] 0 accounts ≡ None
   pub each_limit : are_limits limits ≡ true
 
@@ -116,18 +117,18 @@ pub proper : (sites : ℕ) (accounts : List Account) (limits : Limits) → confi
 proper sites accounts limits none =
     let last : Option ConfigFault = if are_limits limits then None else Some Limit in
     let third = option_or (account_fault [] 0 accounts) last in
-    let count = nat_le 1 (length accounts) && nat_le (length accounts) most_accounts in
+    let count = nat_le 1 (length accounts) && nat_le (length accounts) MOST_ACCOUNTS in
     let second : Option ConfigFault = if not count then Some Accounts else third in
-    let p = past (not (nat_le 2 sites && nat_le sites most_sites)) Sites second none in
+    let p = past (not (nat_le 2 sites && nat_le sites MOST_SITES)) Sites second none in
     let q = past (not count) Accounts third p.1 in
     let r = neither (account_fault [] 0 accounts) last q.1 in
-    let s = and_parts (nat_le 2 sites) (nat_le sites most_sites) (not-false _ p.0) in
-    let t = and_parts (nat_le 1 (length accounts)) (nat_le (length accounts) most_accounts) (not-false _ q.0) in
+    let s = and_parts (nat_le 2 sites) (nat_le sites MOST_SITES) (not-false _ p.0) in
+    let t = and_parts (nat_le 1 (length accounts)) (nat_le (length accounts) MOST_ACCOUNTS) (not-false _ q.0) in
     record {
       some_sites = leb-true 2 sites s.0;
-      few_sites = leb-true sites most_sites s.1;
+      few_sites = leb-true sites MOST_SITES s.1;
       some_accounts = leb-true 1 (length accounts) t.0;
-      few_accounts = leb-true (length accounts) most_accounts t.1;
+      few_accounts = leb-true (length accounts) MOST_ACCOUNTS t.1;
       each_account = r.0;
       each_limit = holds (are_limits limits) r.1;
     }
@@ -136,11 +137,11 @@ proper sites accounts limits none =
 pub configured : (sites : ℕ) (accounts : List Account) (limits : Limits) → config_fault sites accounts limits ≡ None → IsConfigured (settings_of sites accounts limits)
 configured sites accounts limits none =
     let p = proper sites accounts limits none in
-    let blue = is_limit limits.blue 1000000 in
-    let red = is_limit limits.red 1000000 in
-    let inbox = is_limit limits.inbox 4096 in
-    let history = is_limit limits.history 100000000 in
-    let epoch = is_limit limits.epoch 4000000000 in
+    let blue = is_limit limits.blue MOST_BLUE in
+    let red = is_limit limits.red MOST_RED in
+    let inbox = is_limit limits.inbox MOST_INBOX in
+    let history = is_limit limits.history MOST_HISTORY in
+    let epoch = is_limit limits.epoch MOST_EPOCH in
     let a = and_parts (blue && red && inbox && history) epoch p.each_limit in
     let b = and_parts (blue && red && inbox) history a.0 in
     let c = and_parts (blue && red) inbox b.0 in
@@ -155,9 +156,9 @@ configured sites accounts limits none =
       names = proper_name [] 0 accounts p.each_account;
       unique = one_place [] 0 accounts p.each_account;
       starts = small_start [] 0 accounts p.each_account;
-      blue = in_range limits.blue 1000000 d.0;
-      red = in_range limits.red 1000000 d.1;
-      inbox = in_range limits.inbox 4096 c.1;
-      history = in_range limits.history 100000000 b.1;
-      epoch = in_range limits.epoch 4000000000 a.1;
+      blue = in_range limits.blue MOST_BLUE d.0;
+      red = in_range limits.red MOST_RED d.1;
+      inbox = in_range limits.inbox MOST_INBOX c.1;
+      history = in_range limits.history MOST_HISTORY b.1;
+      epoch = in_range limits.epoch MOST_EPOCH a.1;
     }

@@ -9,7 +9,8 @@ use Rattle.std.specs.declared.alloc.Global.{Global}
 use Rattle.std.proofs.lemmas.Bool.{or_from}
 use Rattle.std.proofs.lemmas.List.Folds.{list_any-append}
 use Rattle.rb_money.specs.Faults.{account_fault, account_of, is_among}
-use Rattle.rb_money.specs.Settings.{AccountList, most_accounts}
+use Rattle.rb_money.specs.Settings.{AccountList}
+use Rattle.rb_money.specs.declared.limits.TheConstants.{MOST_ACCOUNTS}
 use Rattle.rb_money.proofs.Entries.{Entries, names_of, starts_of}
 use Rattle.rb_money.proofs.Faults.{fine}
 
@@ -54,10 +55,10 @@ pub record IsFilling (names : List (List ℕ)) (starts : List ℕ) (rest : Entri
   pub all_names : names ++ names_of rest ≡ all.names
   pub all_starts : starts ++ starts_of rest ≡ all.starts
   pub fresh : AllFresh names rest
-  pub room : length names + length rest ≤ most_accounts
+  pub room : length names + length rest ≤ MOST_ACCOUNTS
 
 -- it begins with none
-pub filling : (list : AccountList) (rest : Entries) (all : AccountList) → list.names ≡ [] → list.starts ≡ [] → names_of rest ≡ all.names → starts_of rest ≡ all.starts → AllFresh [] rest → length rest ≤ most_accounts → IsFilling list.names list.starts rest all
+pub filling : (list : AccountList) (rest : Entries) (all : AccountList) → list.names ≡ [] → list.starts ≡ [] → names_of rest ≡ all.names → starts_of rest ≡ all.starts → AllFresh [] rest → length rest ≤ MOST_ACCOUNTS → IsFilling list.names list.starts rest all
 filling list rest all no_names no_starts same_names same_starts fresh few = record {
   all_names = rw no_names same_names;
   all_starts = rw no_starts same_starts;

@@ -7,8 +7,9 @@ use Rattle.std.specs.declared.alloc.Global.{Global}
 use Rattle.rb_money.specs.declared.fault.ConfigFault.{ConfigFault}
 use Rattle.rb_money.specs.declared.fault.ConfigFault.TheVariants.{Sites, Accounts, Name, Twice, Start, Limit}
 use Rattle.rb_money.specs.declared.limits.Limits.{Limits}
-use Rattle.rb_money.specs.Amounts.{most_cents}
-use Rattle.rb_money.specs.Settings.{AccountList, Settings, most_sites, most_accounts, is_account_name}
+use Rattle.rb_money.specs.declared.cents.TheConstants.{MOST_CENTS}
+use Rattle.rb_money.specs.Settings.{AccountList, Settings, is_account_name}
+use Rattle.rb_money.specs.declared.limits.TheConstants.{MOST_SITES, MOST_ACCOUNTS, MOST_BLUE, MOST_RED, MOST_INBOX, MOST_HISTORY, MOST_EPOCH}
 
 -- an account that is asked for: its name, and what it is to start with
 abbrev pub Account : Type 0
@@ -36,7 +37,7 @@ account_fault before i [] = None
 account_fault before i (a ∷ later) =
     if not (is_account_name a.0) then Some (Name i)
     else (if is_among before a.0 then Some (Twice i)
-    else (if nat_lt most_cents a.1 then Some (Start i)
+    else (if nat_lt MOST_CENTS a.1 then Some (Start i)
     else account_fault (before ++ a.0 ∷ []) (i + 1) later))
 
 -- the number is from 1 to the most
@@ -45,11 +46,11 @@ is_limit n most = nat_le 1 n && nat_le n most
 
 -- each limit is in its range
 abbrev pub are_limits : Limits → Bool
-are_limits l = is_limit l.blue 1000000 && is_limit l.red 1000000 && is_limit l.inbox 4096 && is_limit l.history 100000000 && is_limit l.epoch 4000000000
+are_limits l = is_limit l.blue MOST_BLUE && is_limit l.red MOST_RED && is_limit l.inbox MOST_INBOX && is_limit l.history MOST_HISTORY && is_limit l.epoch MOST_EPOCH
 
 -- the first thing that is wrong
 abbrev pub config_fault : ℕ → List Account → Limits → Option ConfigFault
 config_fault sites accounts limits =
-    if not (nat_le 2 sites && nat_le sites most_sites) then Some Sites
-    else (if not (nat_le 1 (length accounts) && nat_le (length accounts) most_accounts) then Some Accounts
+    if not (nat_le 2 sites && nat_le sites MOST_SITES) then Some Sites
+    else (if not (nat_le 1 (length accounts) && nat_le (length accounts) MOST_ACCOUNTS) then Some Accounts
     else option_or (account_fault [] 0 accounts) (if are_limits limits then None else Some Limit))

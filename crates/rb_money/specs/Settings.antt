@@ -2,12 +2,11 @@
 use Rattle.std.specs.List.{list_all}
 use Rattle.std.specs.Prelude.{◌≡◌, ℕ, Bool, true, ◌&&◌, ◌||◌, nat_le, nat_lt, ◌==◌, List, length, Option, Some, option_map, position, slice_get, slice_index, ◌≤◌}
 use Rattle.std.specs.Str.{bytes_eq}
+use Rattle.rb_money.specs.declared.accounts.TheConstants.{LONGEST_NAME}
+use Rattle.rb_money.specs.declared.cents.TheConstants.{MOST_CENTS}
 use Rattle.rb_money.specs.declared.limits.Limits.{Limits}
+use Rattle.rb_money.specs.declared.limits.TheConstants.{MOST_SITES, MOST_ACCOUNTS, MOST_BLUE, MOST_RED, MOST_INBOX, MOST_HISTORY, MOST_EPOCH}
 use Rattle.rb_money.specs.declared.place.Place.{Place}
-
--- how many sites there may be: a clock has an entry for each
-abbrev pub most_sites : ℕ
-most_sites = 8
 
 -- the sites, the name and the starting balance of each account in order of place, and the limits
 pub record Settings : Type 0 where
@@ -20,10 +19,6 @@ pub record Settings : Type 0 where
 pub record AccountList : Type 0 where
   pub names : List (List ℕ)
   pub starts : List ℕ
-
--- how many accounts there may be
-abbrev pub most_accounts : ℕ
-most_accounts = 1000
 
 -- the first place whose name that is
 abbrev pub place_in : List (List ℕ) → List ℕ → Option Place
@@ -41,9 +36,9 @@ is_account s a = nat_lt a.0 (length s.starts)
 abbrev pub is_name_byte : ℕ → Bool
 is_name_byte b = (nat_le 97 b && nat_le b 122) || (nat_le 48 b && nat_le b 57) || (b == 46) || (b == 95) || (b == 45)
 
--- an account's name has from 1 to 32 such bytes
+-- an account's name has such bytes, from 1 to the most
 abbrev pub is_account_name : List ℕ → Bool
-is_account_name name = nat_le 1 (length name) && nat_le (length name) 32 && list_all is_name_byte name
+is_account_name name = nat_le 1 (length name) && nat_le (length name) LONGEST_NAME && list_all is_name_byte name
 
 -- the number is from 1 to the most that a limit may be
 abbrev pub IsLimit : ℕ → ℕ → Type 0
@@ -52,16 +47,16 @@ IsLimit n most = (1 ≤ n) × (n ≤ most)
 -- what every configuration keeps
 pub record IsConfigured (s : Settings) : Type 0 where
   pub some_sites : 2 ≤ s.sites
-  pub few_sites : s.sites ≤ most_sites
+  pub few_sites : s.sites ≤ MOST_SITES
   pub some_accounts : 1 ≤ length s.names
-  pub few_accounts : length s.names ≤ 1000
+  pub few_accounts : length s.names ≤ MOST_ACCOUNTS
   pub starts_of_all : length s.starts ≡ length s.names
   pub names : (i : ℕ) (name : List ℕ) → slice_get s.names i ≡ Some name → is_account_name name ≡ true
   -- no name stands twice
   pub unique : (i j : ℕ) (name : List ℕ) → slice_get s.names i ≡ Some name → slice_get s.names j ≡ Some name → i ≡ j
-  pub starts : (i n : ℕ) → slice_get s.starts i ≡ Some n → n ≤ 100000000000
-  pub blue : IsLimit s.limits.blue 1000000
-  pub red : IsLimit s.limits.red 1000000
-  pub inbox : IsLimit s.limits.inbox 4096
-  pub history : IsLimit s.limits.history 100000000
-  pub epoch : IsLimit s.limits.epoch 4000000000
+  pub starts : (i n : ℕ) → slice_get s.starts i ≡ Some n → n ≤ MOST_CENTS
+  pub blue : IsLimit s.limits.blue MOST_BLUE
+  pub red : IsLimit s.limits.red MOST_RED
+  pub inbox : IsLimit s.limits.inbox MOST_INBOX
+  pub history : IsLimit s.limits.history MOST_HISTORY
+  pub epoch : IsLimit s.limits.epoch MOST_EPOCH

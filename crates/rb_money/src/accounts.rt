@@ -1,13 +1,17 @@
 //! The accounts of a bank.
 ghost use Rattle.std.specs.Prelude.{◌≡◌, ◌<◌, ◌≤◌, ◌++◌, ◌∷◌, [], false, length, map, nat_lt, is_some, option_map, slice_get, slice_index, string_bytes, None, IfOk, IfSome, OnOk};
 ghost use Rattle.rb_money.specs.Faults.{account_fault, account_of, is_among, listed};
-ghost use Rattle.rb_money.specs.Settings.{most_accounts, place_in};
+ghost use Rattle.rb_money.specs.Settings.{place_in};
+ghost use Rattle.rb_money.specs.declared.limits.TheConstants.{MOST_ACCOUNTS};
 
 use crate::cents::Cents;
 use crate::place::Place;
 use indexmap::IndexMap;
 use std::alloc::{AllocError, Global};
 use std::marker::Model;
+
+/// The most bytes of an account's name.
+pub const LONGEST_NAME: usize = 32;
 
 /// The accounts in order of the configuration: an account's place is its index.
 #[derive(Drop)]
@@ -17,13 +21,14 @@ pub struct Accounts {
 
 impl Model for Accounts {
     ghost use Rattle.std.specs.Prelude.{◌≤◌, length, map, string_bytes};
-    ghost use Rattle.rb_money.specs.Settings.{AccountList, most_accounts};
+    ghost use Rattle.rb_money.specs.Settings.{AccountList};
+    ghost use Rattle.rb_money.specs.declared.limits.TheConstants.{MOST_ACCOUNTS};
 
     ghost Value = { AccountList };
 
     ghost view = { λ a. record { names = map (λ e. string_bytes e.0) a.by_name.entries; starts = map (λ e. e.1) a.by_name.entries } };
 
-    ghost invariant = { λ a. length a.by_name.entries ≤ most_accounts };
+    ghost invariant = { λ a. length a.by_name.entries ≤ MOST_ACCOUNTS };
 }
 
 impl Accounts {
@@ -38,7 +43,7 @@ impl Accounts {
 
     /// Adds an account behind the others.
     fn push(&mut self, name: String, start: u64) -> Result<(), AllocError>
-        requires room { length self.old.names < most_accounts }
+        requires room { length self.old.names < MOST_ACCOUNTS }
         requires fresh { is_among self.old.names (string_bytes name) ≡ false }
         ensures names { OnOk result (self.new.names ≡ self.old.names ++ string_bytes name ∷ []) }
         ensures starts { OnOk result (self.new.starts ≡ self.old.starts ++ start ∷ []) }
@@ -52,7 +57,7 @@ impl Accounts {
         alloc: Global,
         accounts: Vec<(String, u64)>,
     ) -> Result<Accounts, AllocError>
-        requires few { length accounts.items ≤ most_accounts }
+        requires few { length accounts.items ≤ MOST_ACCOUNTS }
         requires proper { account_fault [] 0 (map account_of accounts.items) ≡ None }
         ensures { IfOk result (λ list. list ≡ listed (map account_of accounts.items)) }
     {
@@ -78,7 +83,7 @@ impl Accounts {
     pub fn len(&self) -> usize
         ensures names { result ≡ length self.now.names }
         ensures starts { result ≡ length self.now.starts }
-        ensures few { result ≤ most_accounts }
+        ensures few { result ≤ MOST_ACCOUNTS }
     {
         self.by_name.len()
     }

@@ -6,7 +6,7 @@ use crate::cents::{Cents, MOST_CENTS};
 use crate::refusal::Refusal;
 use std::marker::Model;
 
-/// What a deposit or a withdrawal moves: 1 to 100,000,000,000 cents.
+/// What a deposit or a withdrawal moves: 1 to `MOST_CENTS` cents.
 #[derive(Clone, Copy, Debug, PartialEq, Eq)]
 pub struct Amount {
     cents: u64,
@@ -26,7 +26,7 @@ impl Model for Amount {
 }
 
 impl Amount {
-    /// The amount of so many cents, or `BadAmount` where they are not 1 to 100,000,000,000.
+    /// The amount of so many cents, or `BadAmount` where they are not 1 to `MOST_CENTS`.
     pub fn new(cents: u64) -> Result<Amount, Refusal>
         ensures value { IfOk result (λ amount. amount ≡ cents) }
         ensures proper { OnOk result (is_amount cents ≡ true) }

@@ -1,15 +1,13 @@
 //! What is looked at before a configuration is made.
 ghost use Rattle.std.specs.Prelude.{◌≡◌, ◌≢◌, ◌≤◌, [], length, map};
 ghost use Rattle.rb_money.specs.Faults.{account_fault, account_of, are_limits, config_fault, is_among, is_limit};
-ghost use Rattle.rb_money.specs.Settings.{is_account_name, is_name_byte, most_accounts};
+ghost use Rattle.rb_money.specs.Settings.{is_account_name, is_name_byte};
+ghost use Rattle.rb_money.specs.declared.limits.TheConstants.{MOST_ACCOUNTS};
 
+use crate::accounts::LONGEST_NAME;
 use crate::cents::MOST_CENTS;
-use crate::config::{MOST_ACCOUNTS, MOST_SITES};
 use crate::fault::ConfigFault;
-use crate::limits::Limits;
-
-/// The most bytes of an account's name.
-const LONGEST_NAME: usize = 32;
+use crate::limits::{Limits, MOST_ACCOUNTS, MOST_SITES};
 
 fn is_name_byte(byte: u8) -> bool
     ensures { result ≡ is_name_byte byte }
@@ -48,7 +46,7 @@ fn has_name(accounts: &[(String, u64)], name: &str) -> bool
 
 /// The first account that is wrong, and how.
 fn account_fault(accounts: &[(String, u64)]) -> Option<ConfigFault>
-    requires { length accounts.now ≤ most_accounts }
+    requires { length accounts.now ≤ MOST_ACCOUNTS }
     ensures first { result ≡ account_fault [] 0 (map account_of accounts.now) }
     ensures no_memory { result ≢ Some ConfigFault.OutOfMemory }
 {

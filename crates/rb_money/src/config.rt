@@ -1,7 +1,8 @@
 //! The configuration of a bank.
 ghost use Rattle.std.specs.Prelude.{◌≡◌, ◌≢◌, ◌≤◌, map, None, IfErr, IfOk, OnOk};
 ghost use Rattle.rb_money.specs.Faults.{account_of, config_fault, settings_of};
-ghost use Rattle.rb_money.specs.Settings.{most_sites, IsConfigured};
+ghost use Rattle.rb_money.specs.Settings.{IsConfigured};
+ghost use Rattle.rb_money.specs.declared.limits.TheConstants.{MOST_SITES};
 
 use crate::accounts::Accounts;
 use crate::checks;
@@ -9,12 +10,6 @@ use crate::fault::ConfigFault;
 use crate::limits::Limits;
 use std::alloc::{AllocError, Global};
 use std::marker::Model;
-
-/// How many sites there may be.
-pub const MOST_SITES: usize = 8;
-
-/// How many accounts there may be.
-pub const MOST_ACCOUNTS: usize = 1000;
 
 /// The sites, the accounts with their starting balances, and the limits.
 #[derive(Drop)]
@@ -78,7 +73,7 @@ impl Config {
     pub fn sites(&self) -> u8
         ensures same { result ≡ self.now.sites }
         ensures some { 2 ≤ result }
-        ensures few { result ≤ most_sites }
+        ensures few { result ≤ MOST_SITES }
         ensures configured { IsConfigured self.now }
     {
         self.sites

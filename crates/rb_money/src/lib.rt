@@ -13,15 +13,18 @@ mod place;
 mod rate;
 mod refusal;
 
-pub use accounts::Accounts;
+pub use accounts::{Accounts, LONGEST_NAME};
 pub use amount::Amount;
 pub use cents::{Cents, MOST_CENTS};
-pub use config::{Config, MOST_ACCOUNTS, MOST_SITES};
+pub use config::Config;
 pub use fault::ConfigFault;
 pub use interest::interest_of;
-pub use limits::Limits;
+pub use limits::{
+    Limits, MOST_ACCOUNTS, MOST_BALANCE, MOST_BLUE, MOST_EPOCH, MOST_HISTORY, MOST_INBOX,
+    MOST_OPERATIONS, MOST_RED, MOST_SITES,
+};
 pub use place::Place;
-pub use rate::Rate;
+pub use rate::{BASIS_POINTS_OF_ALL, MOST_RATE, Rate};
 pub use refusal::{Cause, Refusal};
 
 #[cfg(test)]

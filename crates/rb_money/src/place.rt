@@ -6,5 +6,5 @@ pub struct Place(pub u16);
 
 impl Place {
     /// A place that no configuration has: that of a name that is no account's.
-    pub const NOWHERE: Place = Place(65535);
+    pub const NOWHERE: Place = Place(u16::MAX);
 }

@@ -15,9 +15,9 @@ pub enum Refusal {
     OutOfMemory,
     /// The configuration has no such account.
     UnknownAccount,
-    /// The amount isn't 1 to 100,000,000,000 cents.
+    /// The amount isn't 1 to `MOST_CENTS`.
     BadAmount,
-    /// The rate is over 10,000 basis points.
+    /// The rate is over `MOST_RATE`.
     BadRate,
     /// The operation to cancel isn't applied here.
     UnknownOperation,
@@ -33,9 +33,9 @@ pub enum Refusal {
     RedBehind { seen: u32, needed: u32 },
     /// It would leave a balance below zero.
     WouldOverdraw,
-    /// The interest would be over 100,000,000,000 cents.
+    /// The interest would be over `MOST_CENTS`.
     DeltaTooLarge,
-    /// The batch has no request, or more than 16.
+    /// The batch has no request, or more than a batch may have.
     BadBatch,
     /// A request of the batch, by its index from 0, and what stopped it.
     BatchRefused { index: u8, cause: Cause },

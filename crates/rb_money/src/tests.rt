@@ -1,4 +1,7 @@
-use crate::{Amount, Cause, Cents, Config, ConfigFault, Limits, Place, Rate, Refusal, interest_of};
+use crate::{
+    Amount, Cause, Cents, Config, ConfigFault, Limits, MOST_ACCOUNTS, MOST_CENTS, MOST_EPOCH,
+    MOST_INBOX, MOST_RATE, MOST_SITES, Place, Rate, Refusal, interest_of,
+};
 use std::alloc::{AllocError, Global};
 use std::test::Fail;
 
@@ -31,20 +34,20 @@ fn config_faults(rt: HostRuntime) -> Result<(), Fail> {
     let long: &[(&str, u64)] = &[("abcdefghijklmnopqrstuvwxyz0123456", 0)];
     let empty: &[(&str, u64)] = &[("", 0)];
     let twice: &[(&str, u64)] = &[("ann", 0), ("ann", 0)];
-    let rich: &[(&str, u64)] = &[("ann", 100_000_000_001)];
+    let rich: &[(&str, u64)] = &[("ann", MOST_CENTS + 1)];
     let most = Limits::largest();
     let wide_inbox = Limits {
-        inbox: 4_097,
+        inbox: MOST_INBOX + 1,
         ..most
     };
     let no_blue = Limits { blue: 0, ..most };
     let late_epoch = Limits {
-        epoch: 4_000_000_001,
+        epoch: MOST_EPOCH + 1,
         ..most
     };
     for (sites, accounts, limits, fault) in [
         (1, ann, most, ConfigFault::Sites),
-        (9, ann, most, ConfigFault::Sites),
+        (MOST_SITES as u8 + 1, ann, most, ConfigFault::Sites),
         (1, no_account, most, ConfigFault::Sites),
         (2, no_account, most, ConfigFault::Accounts),
         (2, capital, most, ConfigFault::Name(0)),
@@ -65,12 +68,18 @@ fn config_faults(rt: HostRuntime) -> Result<(), Fail> {
 #[test]
 fn a_thousand_accounts(rt: HostRuntime) -> Result<(), Fail> {
     let alloc = rt.alloc();
-    for (count, fault) in [(1000u32, None), (1001, Some(ConfigFault::Accounts))] {
+    for (count, fault) in [
+        (MOST_ACCOUNTS, None),
+        (MOST_ACCOUNTS + 1, Some(ConfigFault::Accounts)),
+    ] {
         let mut accounts = Vec::new(alloc);
         for i in 0..count {
             accounts.push((format!(in alloc; "a{i}")?, 0))?;
         }
-        assert_eq!(rt; fault_of(alloc, 8, accounts, Limits::largest()), fault);
+        assert_eq!(rt;
+            fault_of(alloc, MOST_SITES as u8, accounts, Limits::largest()),
+            fault
+        );
     }
     Ok(())
 }
@@ -116,22 +125,22 @@ fn memory_is_looked_at_last(rt: HostRuntime) {
 
 #[test]
 fn amounts_and_interest(rt: HostRuntime) -> Result<(), Fail> {
-    for cents in [0, 100_000_000_001] {
+    for cents in [0, MOST_CENTS + 1] {
         assert_eq!(rt; Amount::new(cents), Err(Refusal::BadAmount));
     }
-    for cents in [1, 100_000_000_000] {
+    for cents in [1, MOST_CENTS] {
         let Ok(amount) = Amount::new(cents) else {
             return Err(Fail::from("an amount"));
         };
         assert_eq!(rt; amount.cents(), Cents(cents));
     }
-    assert_eq!(rt; Rate::new(10_001), Err(Refusal::BadRate));
+    assert_eq!(rt; Rate::new(MOST_RATE + 1), Err(Refusal::BadRate));
     for (balance, basis_points, interest) in [
         (999, 150, Ok(Cents(14))),
         (1_000, 100, Ok(Cents(10))),
-        (100_000_000_001, 0, Ok(Cents(0))),
-        (100_000_000_000, 10_000, Ok(Cents(100_000_000_000))),
-        (100_000_000_001, 10_000, Err(Refusal::DeltaTooLarge)),
+        (MOST_CENTS + 1, 0, Ok(Cents(0))),
+        (MOST_CENTS, MOST_RATE, Ok(Cents(MOST_CENTS))),
+        (MOST_CENTS + 1, MOST_RATE, Err(Refusal::DeltaTooLarge)),
     ] {
         let Ok(rate) = Rate::new(basis_points) else {
             return Err(Fail::from("a rate"));

@@ -6,7 +6,8 @@ use Rattle.std.proofs.lemmas.Int.{ints}
 use Rattle.std.proofs.lemmas.Bool.Decides.{nat_tests}
 use Rattle.std.proofs.lemmas.List.FromFn.{get_or-map-range_with_len}
 use Rattle.rb_money.specs.Amounts.{is_amount}
-use Rattle.rb_money.specs.Settings.{Settings, is_account, most_sites}
+use Rattle.rb_money.specs.Settings.{Settings, is_account}
+use Rattle.rb_money.specs.declared.limits.TheConstants.{MOST_SITES}
 use Rattle.rb_money.specs.declared.place.Place.{Place}
 use Rattle.rb_shadow.specs.declared.shadow.Shadow.{Shadow}
 use Rattle.rb_shadow.specs.declared.op_name.OpName.{OpName}
@@ -23,6 +24,7 @@ use Rattle.rb_shadow.proofs.SoundFacts
 use Rattle.rb_ledger.specs.Valid.{IsValid, HasTarget}
 use Rattle.rb_ledger.specs.Checks.{overdraws, refusal_of, refusal_after, has_wrong_target, same_colour}
 use Rattle.rb_money.specs.declared.refusal.Refusal.TheVariants.{WouldOverdraw}
+use Rattle.rb_money.specs.declared.cents.TheConstants.{MOST_CENTS}
 use Rattle.rb_shadow.proofs.Eligible
 use Rattle.rb_ledger.proofs.Legal
 use Rattle.rb_ledger.proofs.Pushes
@@ -47,7 +49,7 @@ operation_is me us p = refl
 -- what a plan has to meet, but for the money
 pub record IsFit (s : Settings) (me : ℕ) (us : List Shadow) (p : Plan) : Type 0 where
   pub account : nat_le (length s.starts) p.account.0 ≡ false
-  pub amount : nat_lt 100000000000 p.amount ≡ false
+  pub amount : nat_lt MOST_CENTS p.amount ≡ false
   pub something : (p.amount == 0 && not (may_be_nothing p.kind)) ≡ false
   pub target : HasTarget us (shadow_of me us p) p.kind
   pub within : number_of (next_name me us (colour_of_plan us p)) ≤ limit_of s.limits (next_name me us (colour_of_plan us p))
@@ -84,9 +86,9 @@ well_coloured me us (Cancel x) o = at (colour_of (Cancel x) o)
     at BlueColour = refl
     at RedColour = refl
 
-next_entry : (me : ℕ) (us : List Shadow) (c : Colour) → me < most_sites → (entry_of (clock_of us) (next_name me us c) + 1 == number_of (next_name me us c)) ≡ true
+next_entry : (me : ℕ) (us : List Shadow) (c : Colour) → me < MOST_SITES → (entry_of (clock_of us) (next_name me us c) + 1 == number_of (next_name me us c)) ≡ true
 unfolding clock_of
-next_entry me us BlueColour few = ap (λ n. n + 1 == blue_count us me + 1) (get_or-map-range_with_len (blue_count us) 0 most_sites me me 0 few (omega arith)) ∙ same (blue_count us me + 1)
+next_entry me us BlueColour few = ap (λ n. n + 1 == blue_count us me + 1) (get_or-map-range_with_len (blue_count us) 0 MOST_SITES me me 0 few (omega arith)) ∙ same (blue_count us me + 1)
   where
     same : (n : ℕ) → (n == n) ≡ true
     same n = grind (arith, nat_tests)
@@ -95,7 +97,7 @@ next_entry me us RedColour few = same (red_count us + 1)
     same : (n : ℕ) → (n == n) ≡ true
     same n = grind (arith, nat_tests)
 
-all_seen : (s : Settings) (us : List Shadow) (h : Shadow) (k : Kind) → s.sites ≤ most_sites → IsValid s us → HasTarget us h k → cancels_unseen s.sites k (clock_of us) ≡ false
+all_seen : (s : Settings) (us : List Shadow) (h : Shadow) (k : Kind) → s.sites ≤ MOST_SITES → IsValid s us → HasTarget us h k → cancels_unseen s.sites k (clock_of us) ≡ false
 all_seen s us h (Cancel x) few valid (t, there, named, right) =
     Members.false-or _ _ (ap (is_absent s.sites) (sym named) ∙ SoundFacts.is_present s t (ValidClocks.member_sound s us t valid there))
     (ap not (sym (ValidClocks.valid_clock s us few valid x) ∙ ap (names us) (sym named) ∙ Members.named us t there))
@@ -104,7 +106,7 @@ all_seen s us h Withdraw few valid t = refl
 all_seen s us h Declined few valid t = refl
 all_seen s us h Interest few valid t = refl
 
-plan_sound : (s : Settings) (me : ℕ) (us : List Shadow) (p : Plan) → s.sites ≤ most_sites → me < s.sites → IsValid s us → IsFit s me us p → IsSound s (shadow_of me us p)
+plan_sound : (s : Settings) (me : ℕ) (us : List Shadow) (p : Plan) → s.sites ≤ MOST_SITES → me < s.sites → IsValid s us → IsFit s me us p → IsSound s (shadow_of me us p)
 unfolding fault_of
 plan_sound s me us p few here valid fit =
     on _ 1 _ (Members.false-or _ _ (within s.sites me here) (own_name me us (colour_of_plan us p)))
@@ -132,10 +134,10 @@ pub shows : (me : ℕ) (us : List Shadow) (c : Colour) → shown_colour (next_na
 shows me us BlueColour = refl
 shows me us RedColour = refl
 
-seen_past : (s : Settings) (me : ℕ) (us : List Shadow) (p : Plan) → s.sites ≤ most_sites → IsValid s us → IsWithin (past (shadow_of me us p)) (names us)
+seen_past : (s : Settings) (me : ℕ) (us : List Shadow) (p : Plan) → s.sites ≤ MOST_SITES → IsValid s us → IsWithin (past (shadow_of me us p)) (names us)
 seen_past s me us p few valid x h = sym (ValidClocks.clock_past s us (shadow_of me us p) few valid refl x) ∙ h
 
-pub plan_follows : (s : Settings) (me : ℕ) (us : List Shadow) (p : Plan) → s.sites ≤ most_sites → me < s.sites → IsValid s us → IsFit s me us p → pos 0 ≤ℤ bal s (us ++ shadow_of me us p ∷ []) p.account → Legal.MayFollow s us (shadow_of me us p)
+pub plan_follows : (s : Settings) (me : ℕ) (us : List Shadow) (p : Plan) → s.sites ≤ MOST_SITES → me < s.sites → IsValid s us → IsFit s me us p → pos 0 ≤ℤ bal s (us ++ shadow_of me us p ∷ []) p.account → Legal.MayFollow s us (shadow_of me us p)
 plan_follows s me us p few here valid fit covered = record {
   sound = plan_sound s me us p few here valid fit;
   fresh = fresh_name s me us (colour_of_plan us p) valid;
@@ -169,8 +171,8 @@ pub enough : (z : ℤ) (n : ℕ) → int_lt z (pos n) ≡ false → pos n ≤ℤ
 enough (pos m) n h = let low : n ≤ m = grind (arith, nat_tests) in omega (arith, ints)
 enough (negsuc m) n h = cc
 
-measure : (n : ℕ) (b : Bool) → is_amount n ≡ true → (nat_lt 100000000000 n ≡ false) × ((n == 0 && b) ≡ false)
-measure n b h = let q : (1 ≤ n) × (n ≤ 100000000000) = Clocks.in_range-true n 100000000000 h in let low = q.0 in let high = q.1 in
+measure : (n : ℕ) (b : Bool) → is_amount n ≡ true → (nat_lt MOST_CENTS n ≡ false) × ((n == 0 && b) ≡ false)
+measure n b h = let q : (1 ≤ n) × (n ≤ MOST_CENTS) = Clocks.in_range-true n MOST_CENTS h in let low = q.0 in let high = q.1 in
     (grind (arith, nat_tests), ap (λ c. c && b) (let z : (n == 0) ≡ false = grind (arith, nat_tests) in z))
 
 housed : (a n : ℕ) → nat_lt a n ≡ true → nat_le n a ≡ false
@@ -183,7 +185,7 @@ not_overdrawn s me us token v RedColour e fair = fair.2
 
 -- a plan of the kind, for an account and an amount of the configuration
 fit_plain : (s : Settings) (me : ℕ) (us : List Shadow) (p : Plan) (k : Kind) → p.kind ≡ k
-    → is_account s p.account ≡ true → nat_lt 100000000000 p.amount ≡ false → (p.amount == 0 && not (may_be_nothing k)) ≡ false → HasTarget us (shadow_of me us p) k
+    → is_account s p.account ≡ true → nat_lt MOST_CENTS p.amount ≡ false → (p.amount == 0 && not (may_be_nothing k)) ≡ false → HasTarget us (shadow_of me us p) k
     → number_of (next_name me us (colour_of_plan us p)) ≤ limit_of s.limits (next_name me us (colour_of_plan us p))
     → IsFit s me us p
 fit_plain s me us p k e known low some target within = record {
@@ -199,7 +201,7 @@ fit_cancel : (s : Settings) (me : ℕ) (us : List Shadow) (p : Plan) (x : OpName
     → IsFit s me us p
 fit_cancel s me us p x valid e c within = record {
   account = ap (λ (a : Place). nat_le (length s.starts) a.0) (sym c.account) ∙ facts.account;
-  amount = ap (nat_lt 100000000000) (sym c.amount) ∙ facts.amount;
+  amount = ap (nat_lt MOST_CENTS) (sym c.amount) ∙ facts.amount;
   something = ap (λ j. p.amount == 0 && not (may_be_nothing j)) e ∙ and-false (p.amount == 0);
   target = subst (HasTarget us (shadow_of me us p)) (sym e) (c.target, c.there, c.named, record { kind = c.kind; account = c.account; amount = c.amount });
   within = within;
@@ -257,7 +259,7 @@ covered s me us token p Interest valid e h target fair = covered_plain s me us p
 covered s me us token p (Cancel x) valid e h target fair = covered_cancel s me us token p x valid e h target fair
 
 -- what a site makes at a valid list may follow it
-pub made_follows : (s : Settings) (me : ℕ) (us : List Shadow) (token : Token) (v : Shadow) → s.sites ≤ most_sites → me < s.sites → IsValid s us → IsMadeAt s me us token v → Legal.MayFollow s us v
+pub made_follows : (s : Settings) (me : ℕ) (us : List Shadow) (token : Token) (v : Shadow) → s.sites ≤ MOST_SITES → me < s.sites → IsValid s us → IsMadeAt s me us token v → Legal.MayFollow s us v
 made_follows s me us token v few here valid m =
     let is : v ≡ shadow_of me us m.plan = m.is ∙ operation_is me us m.plan in
     let planned : IsPlanned s us m.plan m.plan.kind = Planned.planned s us m.request m.plan m.planned in
@@ -266,11 +268,11 @@ made_follows s me us token v few here valid m =
     (plan_follows s me us m.plan few here valid fits
     (covered s me us token m.plan m.plan.kind valid refl planned fits.target (subst (λ (u : Shadow). IsAllowed s us token u u.name) is m.fair)))
 
-pub made_is_valid : (s : Settings) (me : ℕ) (us : List Shadow) (token : Token) (r : Request) (v : Shadow) → s.sites ≤ most_sites → me < s.sites → IsValid s us → made_of s me us token r ≡ Ok v → IsValid s (us ++ v ∷ [])
+pub made_is_valid : (s : Settings) (me : ℕ) (us : List Shadow) (token : Token) (r : Request) (v : Shadow) → s.sites ≤ MOST_SITES → me < s.sites → IsValid s us → made_of s me us token r ≡ Ok v → IsValid s (us ++ v ∷ [])
 made_is_valid s me us token r v few here valid e = Legal.IsValid-push s us v valid (made_follows s me us token v few here valid (Made.made_is s me us token r v e))
 
 -- what a site would make is refused by its ledger for want of money alone
-pub refused_for_money : (s : Settings) (me : ℕ) (us : List Shadow) (r : Request) (p : Plan) (v : Shadow) → s.sites ≤ most_sites → me < s.sites → IsValid s us
+pub refused_for_money : (s : Settings) (me : ℕ) (us : List Shadow) (r : Request) (p : Plan) (v : Shadow) → s.sites ≤ MOST_SITES → me < s.sites → IsValid s us
     → plan_of s us r ≡ Ok p → v ≡ operation_of me us p → number_of v.name ≤ limit_of s.limits v.name
     → refusal_of s us v ≡ cond (overdraws s us v) (Some WouldOverdraw) None
 refused_for_money s me us r p v few here valid planned made within =

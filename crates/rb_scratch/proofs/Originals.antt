@@ -5,6 +5,8 @@ use Rattle.rb_money.specs.Amounts.{is_amount}
 use Rattle.rb_money.specs.Settings.{Settings, is_account}
 use Rattle.rb_money.specs.declared.place.Place.{Place}
 use Rattle.rb_money.specs.declared.refusal.Refusal.{Refusal}
+use Rattle.rb_money.specs.declared.cents.TheConstants.{MOST_CENTS}
+use Rattle.rb_money.specs.declared.rate.TheConstants.{MOST_RATE}
 use Rattle.rb_shadow.specs.declared.kind.Kind.{Kind}
 use Rattle.rb_shadow.specs.declared.kind.Kind.TheVariants.{Deposit, Withdraw, Declined, Interest}
 use Rattle.rb_shadow.specs.declared.shadow.Shadow.{Shadow}
@@ -67,8 +69,8 @@ plan_of_interest : (s : Settings) (us : List Shadow) (a : Place) (rate : ℕ) (p
 unfolding plan_of
 plan_of_interest s us a rate p e =
     let (_, e1) = Made.passed_by (not (is_account s a)) _ _ p e in
-    let (_, e2) = Made.passed_by (nat_lt 10000 rate) _ _ p e1 in
-    let (_, e3) = Made.passed_by (nat_lt 100000000000 (interest_on s us a rate)) _ _ p e2 in
+    let (_, e2) = Made.passed_by (nat_lt MOST_RATE rate) _ _ p e1 in
+    let (_, e3) = Made.passed_by (nat_lt MOST_CENTS (interest_on s us a rate)) _ _ p e2 in
     accepted p _ e3
 
 -- the parts of what a plan makes

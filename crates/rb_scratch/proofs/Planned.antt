@@ -4,6 +4,8 @@ use Rattle.std.specs.Prelude.{nat_lt, pos, int_lt}
 use Rattle.rb_money.specs.Settings.{Settings, is_account}
 use Rattle.rb_money.specs.declared.place.Place.{Place}
 use Rattle.rb_money.specs.declared.refusal.Refusal.{Refusal}
+use Rattle.rb_money.specs.declared.cents.TheConstants.{MOST_CENTS}
+use Rattle.rb_money.specs.declared.rate.TheConstants.{MOST_RATE}
 use Rattle.rb_shadow.specs.declared.op_name.OpName.{OpName}
 use Rattle.rb_shadow.specs.declared.kind.Kind.{Kind}
 use Rattle.rb_shadow.specs.declared.kind.Kind.TheVariants.{Deposit, Withdraw, Declined, Interest, Cancel}
@@ -34,7 +36,7 @@ abbrev pub IsPlanned : Settings → List Shadow → Plan → Kind → Type 0
 IsPlanned s us p Deposit = IsFor s p
 IsPlanned s us p Withdraw = IsFor s p × (int_lt (bal s us p.account) (pos p.amount) ≡ false)
 IsPlanned s us p Declined = IsFor s p
-IsPlanned s us p Interest = (is_account s p.account ≡ true) × (nat_lt 100000000000 p.amount ≡ false)
+IsPlanned s us p Interest = (is_account s p.account ≡ true) × (nat_lt MOST_CENTS p.amount ≡ false)
 IsPlanned s us p (Cancel x) = Cancels us x p
 
 -- an accepted plan
@@ -68,7 +70,7 @@ planned s us (AskWithdraw a n) p e =
     subst (λ (q : Plan). IsPlanned s us q q.kind) (at_ok p _ e2) (planned_withdraw s us a n (int_lt (bal s us a) (pos n)) refl (not_true _ h) (not_true _ k))
 planned s us (AskInterest a rate) p e =
     let (h, e1) = passed_by (not (is_account s a)) _ _ p e in
-    let (k, e2) = passed_by (nat_lt 10000 rate) _ _ p e1 in
-    let (l, e3) = passed_by (nat_lt 100000000000 (interest_on s us a rate)) _ _ p e2 in
+    let (k, e2) = passed_by (nat_lt MOST_RATE rate) _ _ p e1 in
+    let (l, e3) = passed_by (nat_lt MOST_CENTS (interest_on s us a rate)) _ _ p e2 in
     subst (λ (q : Plan). IsPlanned s us q q.kind) (at_ok p _ e3) (not_true _ h, l)
 planned s us (AskCancel x) p e = planned_cancel s us x (find_in us x) p refl e

@@ -1,6 +1,6 @@
 -- The bank of the published paper: what each operation does to a map from accounts to balances.
-use Rattle.std.specs.Prelude.{ℕ, ◌*◌, Bool, if◌then◌else◌, not, ◌&&◌, ◌==◌, ℤ, pos, ◌+ℤ◌, neg_ℤ, ◌/◌, int_lt}
-use Rattle.rb_money.specs.Amounts.{cents}
+use Rattle.std.specs.Prelude.{ℕ, Bool, if◌then◌else◌, not, ◌&&◌, ◌==◌, ℤ, pos, ◌+ℤ◌, neg_ℤ, int_lt}
+use Rattle.rb_money.specs.Amounts.{cents, interest}
 use Rattle.std.specs.Prelude.{◌≡◌, List, [], ◌∷◌, ◌++◌, false, ⊤}
 use Rattle.rb_money.specs.Settings.{Settings}
 use Rattle.rb_money.specs.declared.place.Place.{Place}
@@ -25,7 +25,7 @@ after_withdraw b a x = λ q. b q +ℤ (if grants b a x && (a.0 == q.0) then neg_
 
 -- an account gets the floor of its share, the rate in basis points
 abbrev pub after_accrue : (Place → ℤ) → Place → ℕ → Place → ℤ
-after_accrue b a rate = λ q. b q +ℤ (if a.0 == q.0 then pos (cents (b a) * rate / 10000) else pos 0)
+after_accrue b a rate = λ q. b q +ℤ (if a.0 == q.0 then pos (interest (cents (b a)) rate) else pos 0)
 
 -- an operation at the end of a list does to every balance what the published bank does
 pub record IsOriginal (s : Settings) (us : List Shadow) (v : Shadow) : Type 0 where

@@ -1,13 +1,16 @@
 -- What a request makes.
-use Rattle.std.specs.Prelude.{ℕ, ◌+◌, ◌*◌, if◌then◌else◌, not, ◌&&◌, nat_lt, List, Option, Some, None, Result, Ok, Err, pos, ◌/◌, int_lt, option_and_then}
-use Rattle.rb_money.specs.Amounts.{cents, is_amount}
+use Rattle.std.specs.Prelude.{ℕ, ◌+◌, if◌then◌else◌, not, ◌&&◌, nat_lt, List, Option, Some, None, Result, Ok, Err, pos, int_lt, option_and_then}
+use Rattle.rb_money.specs.Amounts.{cents, is_amount, interest}
 use Rattle.rb_money.specs.Refusals.{refused_if, and_then, unless_refused}
 use Rattle.std.specs.Prelude.{◌≡◌, ℕ, ◌<◌, ◌≤◌, [], ◌∷◌, ◌++◌}
 use Rattle.rb_ledger.specs.Valid.{IsValid}
-use Rattle.rb_money.specs.Settings.{Settings, is_account, most_sites}
+use Rattle.rb_money.specs.Settings.{Settings, is_account}
+use Rattle.rb_money.specs.declared.limits.TheConstants.{MOST_SITES}
 use Rattle.rb_money.specs.declared.place.Place.{Place}
 use Rattle.rb_money.specs.declared.refusal.Refusal.{Refusal}
 use Rattle.rb_money.specs.declared.refusal.Refusal.TheVariants.{UnknownAccount, BadAmount, BadRate, UnknownOperation, NotCancellable, AlreadyCancelled, NumbersExhausted, WouldOverdraw, DeltaTooLarge}
+use Rattle.rb_money.specs.declared.cents.TheConstants.{MOST_CENTS}
+use Rattle.rb_money.specs.declared.rate.TheConstants.{MOST_RATE}
 use Rattle.rb_shadow.specs.Operations.{is_cancelled, bal, red_count, find_in, may_be_cancelled, is_cancel, colour_of, kind_in, target_of, blue_count, clock_of, number_of}
 use Rattle.rb_shadow.specs.Sound.{limit_of}
 use Rattle.rb_shadow.specs.declared.colour.Colour.{Colour}
@@ -35,7 +38,7 @@ withdrawal s us a n = if int_lt (bal s us a) (pos n) then Declined else Withdraw
 
 -- the floor of the balance's share, the rate in basis points
 abbrev pub interest_on : Settings → List Shadow → Place → ℕ → ℕ
-interest_on s us a rate = cents (bal s us a) * rate / 10000
+interest_on s us a rate = interest (cents (bal s us a)) rate
 
 -- what a request to cancel would make, by the operation of its target's name
 abbrev pub plan_of_cancel : List Shadow → OpName → Option Shadow → Result Plan Refusal
@@ -57,8 +60,8 @@ plan_of s us (AskWithdraw a n) =
     (Ok (record { account = a; amount = n; kind = withdrawal s us a n })))
 plan_of s us (AskInterest a rate) =
     refused_if (not (is_account s a)) UnknownAccount
-    (refused_if (nat_lt 10000 rate) BadRate
-    (refused_if (nat_lt 100000000000 (interest_on s us a rate)) DeltaTooLarge
+    (refused_if (nat_lt MOST_RATE rate) BadRate
+    (refused_if (nat_lt MOST_CENTS (interest_on s us a rate)) DeltaTooLarge
     (Ok (record { account = a; amount = interest_on s us a rate; kind = Interest }))))
 plan_of s us (AskCancel x) = plan_of_cancel us x (find_in us x)
 
@@ -107,4 +110,4 @@ made_of s me us token r = and_then (plan_of s us r) (λ p. allowed s us token (o
 
 -- what a request makes at a valid list may be added to it
 abbrev pub MadeIsValid : Type 0
-MadeIsValid = (s : Settings) (me : ℕ) (us : List Shadow) (token : Token) (r : Request) (v : Shadow) → s.sites ≤ most_sites → me < s.sites → IsValid s us → made_of s me us token r ≡ Ok v → IsValid s (us ++ v ∷ [])
+MadeIsValid = (s : Settings) (me : ℕ) (us : List Shadow) (token : Token) (r : Request) (v : Shadow) → s.sites ≤ MOST_SITES → me < s.sites → IsValid s us → made_of s me us token r ≡ Ok v → IsValid s (us ++ v ∷ [])

@@ -1,5 +1,5 @@
 //! Tests of requests that are tried together.
-use crate::{Request, RunFault, Scratch, generate};
+use crate::{MOST_REQUESTS, Request, RunFault, Scratch, generate};
 use rb_ledger::Ledger;
 use rb_money::{Config, Limits, Place, Refusal};
 use rb_shadow::OpName;
@@ -91,20 +91,20 @@ fn all_are_kept(rt: HostRuntime) -> Result<(), Fail> {
 }
 
 #[test]
-fn a_seventeenth_is_refused(rt: HostRuntime) -> Result<(), Fail> {
+fn one_more_than_a_batch_may_have_is_refused(rt: HostRuntime) -> Result<(), Fail> {
     let mut ledger = opened(rt.alloc())?;
     let sites = ledger.config().sites();
     prove!(0 < sites);
     let mut scratch = Scratch::open(rt.alloc(), &mut ledger, HOLDER);
     let mut last = Err(RunFault::Declined);
-    'requests: for _ in 0..17 {
+    'requests: for _ in 0..MOST_REQUESTS + 1 {
         last = scratch.run(&deposit(1));
     }
     let len = scratch.len();
     scratch.abort();
     assert_eq!(rt;
         (len, last),
-        (16, Err(RunFault::Refused(Refusal::BadBatch)))
+        (MOST_REQUESTS, Err(RunFault::Refused(Refusal::BadBatch)))
     );
     assert_eq!(rt; ledger.len(), 0);
     Ok(())

@@ -1,6 +1,6 @@
 //! The generator: what a request makes at a site.
 ghost use Rattle.std.specs.Prelude.{◌≡◌, ◌+◌, ◌<◌, ◌≤◌, ◌∷◌, ◌++◌, [], if◌then◌else◌, Some, None, Ok, Err, MatchResult, IfOk};
-ghost use Rattle.rb_money.specs.Settings.{most_sites};
+ghost use Rattle.rb_money.specs.declared.limits.TheConstants.{MOST_SITES};
 ghost use Rattle.rb_shadow.specs.Sound.{limit_of};
 ghost use Rattle.rb_shadow.specs.Operations.{number_of};
 ghost use Rattle.rb_ledger.specs.Valid.{IsValid};
@@ -134,7 +134,7 @@ fn number_after(count: u32, limit: u32) -> Result<u32, Refusal>
 /// The next name of the colour at site `me`.
 #[tactic(auto, using(crate::proofs::Counts::counts_blue, crate::proofs::Counts::counts_red))]
 fn name_after(ledger: &Ledger, me: u8, colour: Colour) -> Result<OpName, Refusal>
-    requires { me < most_sites }
+    requires { me < MOST_SITES }
     ensures { MatchResult result
         (λ name. (name ≡ next_name me ledger.now.entries colour) × (number_of name ≤ limit_of ledger.now.settings.limits name))
         (λ why. (why ≡ Refusal.NumbersExhausted) × (limit_of ledger.now.settings.limits (next_name me ledger.now.entries colour) < number_of (next_name me ledger.now.entries colour))) }
@@ -156,7 +156,7 @@ fn name_after(ledger: &Ledger, me: u8, colour: Colour) -> Result<OpName, Refusal
 /// The operation that the effect makes at site `me`.
 #[tactic(auto, unfolding(crate::specs::Requests::operation_of))]
 fn operation(ledger: &Ledger, me: u8, effect: Effect) -> Result<Shadow, Refusal>
-    requires here { me < most_sites }
+    requires here { me < MOST_SITES }
     requires colour { effect.colour ≡ colour_of_plan ledger.now.entries (plan_of_effect effect) }
     ensures { MatchResult result
         (λ made. (made ≡ operation_of me ledger.now.entries (plan_of_effect effect)) × (number_of made.name ≤ limit_of ledger.now.settings.limits made.name))

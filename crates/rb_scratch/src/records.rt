@@ -1,5 +1,6 @@
 //! The records of what is tried.
 ghost use Rattle.std.specs.Prelude.{◌≡◌, ◌<◌, ◌≤◌, [], ◌∷◌, ◌++◌, length, MatchOption, IfOk, IfErr, OnOk, OnErr};
+ghost use Rattle.rb_scratch.specs.declared.request.TheConstants.{MOST_REQUESTS};
 
 use crate::request::MOST_REQUESTS;
 use rb_money::Place;
@@ -26,13 +27,14 @@ pub struct Records {
 
 impl Model for Records {
     ghost use Rattle.std.specs.Prelude.{◌≡◌, ◌≤◌, length, take};
+    ghost use Rattle.rb_scratch.specs.declared.request.TheConstants.{MOST_REQUESTS};
     ghost use Rattle.rb_scratch.specs.Records.{RecordList};
 
     ghost Value = { RecordList };
 
     ghost view = { λ r. record { parts = take r.len r.parts } };
 
-    ghost invariant = { λ r. (length r.parts ≡ 16) × (r.len ≤ 16) };
+    ghost invariant = { λ r. (length r.parts ≡ MOST_REQUESTS) × (r.len ≤ MOST_REQUESTS) };
 }
 
 impl Records {
@@ -55,7 +57,7 @@ impl Records {
 
     /// Adds a record at the end, where there are fewer than the most.
     pub fn push(&mut self, undo: Undo)
-        requires { length self.old.parts < 16 }
+        requires { length self.old.parts < MOST_REQUESTS }
         ensures { self.new.parts ≡ self.old.parts ++ undo ∷ [] }
     {
         self.parts[self.len] = undo.spend();

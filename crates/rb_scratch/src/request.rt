@@ -9,11 +9,11 @@ pub const MOST_REQUESTS: usize = 16;
 /// What a teller asks for. Any numbers may be asked for: what is out of range is refused.
 #[derive(Clone, Copy, Debug, PartialEq, Eq)]
 pub enum Request {
-    /// To add an amount in cents, 1 to 100,000,000,000.
+    /// To add an amount in cents, 1 to `MOST_CENTS`.
     Deposit { account: Place, amount: u64 },
-    /// To take an amount in cents, 1 to 100,000,000,000; it is declined where the balance is less.
+    /// To take an amount in cents, 1 to `MOST_CENTS`; it is declined where the balance is less.
     Withdraw { account: Place, amount: u64 },
-    /// To add a share of the balance, rounded down: a rate of 0 to 10,000 basis points.
+    /// To add a share of the balance, rounded down: a rate of 0 to `MOST_RATE` basis points.
     Interest { account: Place, rate: u32 },
     /// To undo what an operation did, a deposit, a withdrawal or interest.
     Cancel { target: OpName },

@@ -7,6 +7,7 @@ ghost use Rattle.rb_token.specs.Token.{Token};
 ghost use Rattle.rb_token.specs.Seat.{Shows};
 ghost use Rattle.rb_scratch.specs.Batches.{made_in_batch};
 ghost use Rattle.rb_scratch.specs.Tried.{IsTried, IsOfTheLast, IsAdded, IsFault, RestsIfOk};
+ghost use Rattle.rb_scratch.specs.declared.request.TheConstants.{MOST_REQUESTS};
 
 use crate::in_batch::generate_in_batch;
 use crate::records::Records;
@@ -62,7 +63,7 @@ fn try_one(
     request: &Request,
 ) -> Result<OpName, RunFault>
     requires { token.me < ledger.old.settings.sites }
-    ensures few { OnOk result (length undos.old.parts < 16) }
+    ensures few { OnOk result (length undos.old.parts < MOST_REQUESTS) }
     ensures ran { IfOk result (λ name. (v : TheShadow) × (name ≡ v.name) × IsAdded ledger.old ledger.new undos.old.parts undos.new.parts v
         × ((known : Token) → Shows token known → made_in_batch ledger.old.settings token.me ledger.old.entries known request.now ≡ Ok v)) }
     ensures fault { IfErr result (λ fault. (known : Token) → Shows token known → IsFault ledger.old undos.old.parts token.me known request.now fault) }
@@ -111,7 +112,7 @@ impl<'a> Scratch<'a> {
     }
 
     /// Runs a request: what it makes in a batch stands at the ledger's end, and its name is answered.
-    /// After a fault all is as before. The fault is `Refused(BadBatch)` for a seventeenth request, else
+    /// After a fault all is as before. The fault is `Refused(BadBatch)` for one request more than `MOST_REQUESTS`, else
     /// `Declined` or what refuses the request, else `Refused(OutOfMemory)`.
     pub fn run(&mut self, request: &Request) -> Result<OpName, RunFault>
         requires { self.old.token.me < self.old.ledger.now.settings.sites }
@@ -119,7 +120,7 @@ impl<'a> Scratch<'a> {
         ensures token { self.new.token ≡ self.old.token }
         ensures settings { self.new.ledger.now.settings ≡ self.old.ledger.now.settings }
         ensures last { IsOfTheLast self.old.ledger.now self.old.undos.parts → IsOfTheLast self.new.ledger.now self.new.undos.parts }
-        ensures few { OnOk result (length self.old.undos.parts < 16) }
+        ensures few { OnOk result (length self.old.undos.parts < MOST_REQUESTS) }
         ensures ran { IfOk result (λ name. (v : TheShadow) × (name ≡ v.name) × IsAdded self.old.ledger.now self.new.ledger.now self.old.undos.parts self.new.undos.parts v
             × ((known : Token) → Shows self.old.token known → made_in_batch self.old.ledger.now.settings self.old.token.me self.old.ledger.now.entries known request.now ≡ Ok v)) }
         ensures fault { IfErr result (λ fault. (known : Token) → Shows self.old.token known → IsFault self.old.ledger.now self.old.undos.parts self.old.token.me known request.now fault) }

@@ -1,6 +1,6 @@
 use crate::{CancelPlan, Request, cancel_of, generate};
 use rb_ledger::Ledger;
-use rb_money::{Config, Limits, Place, Refusal};
+use rb_money::{Config, Limits, MOST_CENTS, MOST_RATE, Place, Refusal};
 use rb_shadow::{Colour, Kind, OpName, Shadow};
 use rb_token::TokenView;
 use std::alloc::Global;
@@ -20,7 +20,7 @@ const HOLDER: TokenView = TokenView {
 /// at most four blue operations.
 fn open(alloc: Global) -> Result<Ledger, Fail> {
     let ann = (String::from_str(alloc, "ann")?, 100);
-    let rich = (String::from_str(alloc, "rich")?, 100_000_000_000);
+    let rich = (String::from_str(alloc, "rich")?, MOST_CENTS);
     let accounts = vec![in alloc; ann, rich]?;
     let limits = Limits {
         blue: 4,
@@ -116,7 +116,7 @@ fn what_is_refused(rt: HostRuntime) -> Result<(), Fail> {
     for (token, request, why) in [
         (HOLDER, deposit(Place(2), 0), Refusal::UnknownAccount),
         (HOLDER, withdraw(ANN, 0), Refusal::BadAmount),
-        (HOLDER, interest(RICH, 10_001), Refusal::BadRate),
+        (HOLDER, interest(RICH, MOST_RATE + 1), Refusal::BadRate),
         (HOLDER, cancel(red(3)), Refusal::UnknownOperation),
         (HOLDER, cancel(blue(2)), Refusal::NotCancellable),
         (
@@ -124,7 +124,7 @@ fn what_is_refused(rt: HostRuntime) -> Result<(), Fail> {
             cancel(blue(1)),
             Refusal::AlreadyCancelled { position: 3 },
         ),
-        (HOLDER, interest(RICH, 10_000), Refusal::DeltaTooLarge),
+        (HOLDER, interest(RICH, MOST_RATE), Refusal::DeltaTooLarge),
         (HOLDER, deposit(ANN, 1), Refusal::NumbersExhausted),
         (without, withdraw(RICH, 1), Refusal::NeedToken),
         (

@@ -8,7 +8,8 @@ use Rattle.rb_lines.specs.declared.fault.ScriptFault.{ScriptFault}
 use Rattle.rb_lines.specs.declared.fault.ScriptFault.TheVariants.{NoConfig, BadConfig, BadLine, LongLine, Read, Write, OutOfMemory, Gather}
 use Rattle.rb_lines.specs.Writes.{IsFront}
 use Rattle.rb_lines.specs.Buffers.{Reads}
-use Rattle.rb_lines.specs.Lines.{lines_of, is_long, line_len, line_limit}
+use Rattle.rb_lines.specs.Lines.{lines_of, is_long, line_len}
+use Rattle.rb_lines.specs.declared.limits.TheConstants.{LINE_LIMIT}
 use Rattle.rb_script.specs.Script.{ScriptOutcome, script_from, script_of, no_outcome}
 use Rattle.rb_script.specs.Run.{IsFaulty, EndsAs, IsUnfinished}
 use Rattle.rb_script.specs.Session.{rest_from, rest_of, after_text, Answers, EndsAt, first_session}
@@ -49,12 +50,12 @@ long_of : (m : Option SeenWorld) (n : ℕ) (l : List ℕ) (ls : List (List ℕ))
 long_of None n l ls h = rw h refl
 long_of (Some m) n l ls h = rw h refl
 
-pub known_long : (a b : Option (List ℕ)) (s : Session) (p : List ℕ) (e : Bool) (t : List ℕ) → FollowsKnown a b s p e t → line_limit < line_len p → IfSome a (λ input. IsFaulty input t (LongLine s.number))
+pub known_long : (a b : Option (List ℕ)) (s : Session) (p : List ℕ) (e : Bool) (t : List ℕ) → FollowsKnown a b s p e t → LINE_LIMIT < line_len p → IfSome a (λ input. IsFaulty input t (LongLine s.number))
 known_long None b s p e t f h = tt
 known_long (Some all) None s p e t f h = absurd f
 known_long (Some all) (Some x) s p e t f h =
-    let found = long_line p x line_limit h in
-    faulty all t s.count (LongLine s.number) _ (at_first all s p x e t found.0 found.1 f found.2) (long_of s.world s.number found.0 found.1 (let longer : line_limit < length found.0 = found.3 in search rules))
+    let found = long_line p x LINE_LIMIT h in
+    faulty all t s.count (LongLine s.number) _ (at_first all s p x e t found.0 found.1 f found.2) (long_of s.world s.number found.0 found.1 (let longer : LINE_LIMIT < length found.0 = found.3 in search rules))
 
 front : (all t : List ℕ) (n : ℕ) (o : ScriptOutcome) → script_from 1 (lines_of all) ≡ after_text t n o → IsFront t (script_of (lines_of all)).text
 front all t n o e = (o.text, ap (λ (x : ScriptOutcome). x.text) e)

@@ -8,7 +8,8 @@ use Rattle.rb_script.specs.declared.session.Session.{Session}
 use Rattle.rb_lines.specs.declared.fault.ScriptFault.{ScriptFault}
 use Rattle.rb_lines.specs.declared.fault.ScriptFault.TheVariants.{NoConfig, LongLine, Read, Write, OutOfMemory}
 use Rattle.rb_lines.specs.Buffers.{Reads, Sends}
-use Rattle.rb_lines.specs.Lines.{line_len, line_limit, lines_of}
+use Rattle.rb_lines.specs.Lines.{line_len, lines_of}
+use Rattle.rb_lines.specs.declared.limits.TheConstants.{LINE_LIMIT}
 use Rattle.rb_script.specs.Script.{script_of}
 use Rattle.rb_script.specs.Run.{EndsAs, WillEndAs}
 use Rattle.rb_script.specs.Session.{Answers, EndsAt, first_session}
@@ -54,7 +55,7 @@ with_front : (w0 w r0 r : Option (List ℕ)) (s : Session) (p : List ℕ) (e : B
     → IsOver w0 w r0 r result owed
 with_front w0 w r0 r s p e owed result st ends = (st.0, st.1, both _ _ r0 ends (known_front r0 r s p e (st.0 ++ owed) st.2))
 
-pub ends_long : (w0 w r0 r : Option (List ℕ)) (s : Session) (p : List ℕ) (e : Bool) (owed : List ℕ) → IsAt w0 w r0 r s p e owed → line_limit < line_len p → IsOver w0 w r0 r (Err (LongLine s.number)) owed
+pub ends_long : (w0 w r0 r : Option (List ℕ)) (s : Session) (p : List ℕ) (e : Bool) (owed : List ℕ) → IsAt w0 w r0 r s p e owed → LINE_LIMIT < line_len p → IsOver w0 w r0 r (Err (LongLine s.number)) owed
 ends_long w0 w r0 r s p e owed st long = with_front w0 w r0 r s p e owed (Err (LongLine s.number)) st (known_long r0 r s p e (st.0 ++ owed) st.2 long)
 
 pub ends_unread : (w0 w r0 r : Option (List ℕ)) (s : Session) (p : List ℕ) (e : Bool) (owed : List ℕ) → IsAt w0 w r0 r s p e owed → e ≡ false → line_len p ≡ length p → IsOver w0 w r0 r (Err Read) owed

@@ -4,6 +4,7 @@ ghost use Rattle.std.specs.Io.KnownBytes.{Appends};
 ghost use Rattle.rb_script.specs.Run.{EndsAs, WillEndAs};
 ghost use Rattle.rb_script.specs.Session.{first_session};
 ghost use Rattle.rb_lines.specs.declared.fault.ScriptFault.TheVariants.{Read, Write};
+ghost use Rattle.rb_lines.specs.declared.limits.TheConstants.{MOST_READS};
 
 use crate::session::Session;
 use rb_lines::{Buffers, NoLine, ScriptFault, Sink, Source, WriteFailed, flush};
@@ -22,11 +23,11 @@ fn answer_lines<S: Source, W: Sink>(
     requires session { session.old ≡ first_session }
     requires pending { buffers.old.pending ≡ [] }
     requires owed { buffers.old.owed.items ≡ [] }
-    requires reads { buffers.old.reads ≡ 4000000000 }
+    requires reads { buffers.old.reads ≡ MOST_READS }
     requires going { buffers.old.ended ≡ false }
     ensures written { (text : List ℕ) × Appends (W.contents writer.old) (W.contents writer.new) text
         × IfSome (S.remaining reader.old) (λ input. WillEndAs result input (S.remaining reader.new) (text ++ buffers.new.owed.items)) }
-    ensures read { result ≡ Err Read → (S.failed reader.new ≡ true) ⊎ (S.calls reader.new ≡ 4000000000) }
+    ensures read { result ≡ Err Read → (S.failed reader.new ≡ true) ⊎ (S.calls reader.new ≡ MOST_READS) }
     ensures write { (result ≡ Err Write) ↔ (W.failed writer.new ≡ true) }
 {
     'lines: loop {
@@ -68,7 +69,7 @@ pub fn run_script<S: Source, W: Sink>(
     // What is written is what the script asks for, and nothing else.
     ensures written { (text : List ℕ) × Appends (W.contents writer.old) (W.contents writer.new) text
         × IfSome (S.remaining reader.old) (λ input. EndsAs result input (S.remaining reader.new) text) }
-    ensures read { result ≡ Err Read → (S.failed reader.new ≡ true) ⊎ (S.calls reader.new ≡ 4000000000) }
+    ensures read { result ≡ Err Read → (S.failed reader.new ≡ true) ⊎ (S.calls reader.new ≡ MOST_READS) }
     ensures write { (result ≡ Err Write) ↔ (W.failed writer.new ≡ true) }
     ensures whole { IfOk result (λ _. W.failed writer.new ≡ false) }
 {

@@ -4,7 +4,7 @@ ghost use Rattle.rb_money.specs.Settings.{Settings};
 ghost use Rattle.rb_world.specs.Laws.{opened};
 ghost use Rattle.rb_commands.specs.declared.fault.LineFault.TheVariants.{Bad};
 ghost use Rattle.rb_commands.specs.Configurations.{config_on};
-ghost use Rattle.rb_lines.specs.Lines.{line_limit};
+ghost use Rattle.rb_lines.specs.declared.limits.TheConstants.{LINE_LIMIT};
 ghost use Rattle.rb_script.specs.Script.{command_on};
 ghost use Rattle.rb_script.specs.Session.{Answers, AnswersCommand, EndsAt, first_session};
 
@@ -98,7 +98,7 @@ impl Session {
         line: &[u8],
         owed: &mut Vec<u8>,
     ) -> Result<(), ScriptFault>
-        requires short { length line.now ≤ line_limit }
+        requires short { length line.now ≤ LINE_LIMIT }
         requires number { self.old.number < 2 ^ 63 }
         requires count { self.old.count < 2 ^ 63 }
         ensures answered { MatchResult result

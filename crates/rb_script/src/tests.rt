@@ -1,7 +1,7 @@
 ghost use Rattle.std.specs.Prelude.{◌≡◌, false, None};
 
 use crate::run_script;
-use rb_lines::{ReadFailed, ScriptFault, Sink, Source, WriteFailed, message, status};
+use rb_lines::{LINE_LIMIT, ReadFailed, ScriptFault, Sink, Source, WriteFailed, message, status};
 use std::alloc::{AllocError, Global};
 use std::cell::RefCell;
 use std::test::Fail;
@@ -257,7 +257,7 @@ fn receive_is_no_command(rt: HostRuntime) -> Result<(), Fail> {
 
 #[test]
 fn longest_line(rt: HostRuntime) -> Result<(), Fail> {
-    let longest = 1_048_576usize;
+    let longest = LINE_LIMIT;
     for (length, want, text) in [
         (longest, Ok(1), "{\"balance\":0}\n"),
         (longest + 1, Err(ScriptFault::LongLine { line: 1 }), ""),

@@ -6,7 +6,7 @@ use Rattle.std.proofs.lemmas.Bool.Decides.{nat_tests}
 use Rattle.std.proofs.lemmas.List.FromFn.{get_or-map-range_with_len}
 use Rattle.std.proofs.lemmas.List.{append-nil, get_or_past}
 use Rattle.std.proofs.lemmas.List.Sums.{sum_by-append}
-use Rattle.rb_money.specs.Settings.{most_sites}
+use Rattle.rb_money.specs.declared.limits.TheConstants.{MOST_SITES}
 use Rattle.rb_shadow.specs.declared.shadow.Shadow.{Shadow}
 use Rattle.rb_shadow.specs.declared.op_name.OpName.{OpName}
 use Rattle.rb_shadow.specs.declared.op_name.OpName.TheVariants.{Blue, Red}
@@ -136,16 +136,16 @@ nothing n = grind (arith, nat_tests)
 pub names_are_clock : (us : List Shadow) → EachEntry us (λ before v. IsNext v) → EachEntry us (λ before v. IsHoused v.name) → IsUnique us → EachEntry us (λ before v. IsWithin (past v) (names before)) → AreSame (names us) (names_of_clock (clock_of us))
 unfolding clock_of
 names_are_clock us next each unique past_before (Red n) = counted_all us next unique past_before (Red n)
-names_are_clock us next each unique past_before (Blue i n) = at (Members.bool_cases (nat_le most_sites i))
+names_are_clock us next each unique past_before (Blue i n) = at (Members.bool_cases (nat_le MOST_SITES i))
   where
     here : names us (Blue i n) ≡ (nat_le 1 n && nat_le n (blue_count us i))
     here = counted_all us next unique past_before (Blue i n)
 
-    at : (nat_le most_sites i ≡ true) ⊎ (nat_le most_sites i ≡ false) → names us (Blue i n) ≡ (nat_le 1 n && nat_le n (get_or (map (blue_count us) (range_with_len 0 most_sites)) i 0))
+    at : (nat_le MOST_SITES i ≡ true) ⊎ (nat_le MOST_SITES i ≡ false) → names us (Blue i n) ≡ (nat_le 1 n && nat_le n (get_or (map (blue_count us) (range_with_len 0 MOST_SITES)) i 0))
     at (inl q) = none (Members.bool_cases (names us (Blue i n)))
-        ∙ ap (λ k. nat_le 1 n && nat_le n k) (sym (get_or_past (map (blue_count us) (range_with_len 0 most_sites)) i 0 (let far : most_sites ≤ i = grind (arith, nat_tests) in far)))
+        ∙ ap (λ k. nat_le 1 n && nat_le n k) (sym (get_or_past (map (blue_count us) (range_with_len 0 MOST_SITES)) i 0 (let far : MOST_SITES ≤ i = grind (arith, nat_tests) in far)))
       where
         none : (names us (Blue i n) ≡ true) ⊎ (names us (Blue i n) ≡ false) → names us (Blue i n) ≡ (nat_le 1 n && nat_le n 0)
-        none (inl t) = absurd (let near : i < most_sites = housed us (Blue i n) each t in let far : most_sites ≤ i = grind (arith, nat_tests) in omega arith)
+        none (inl t) = absurd (let near : i < MOST_SITES = housed us (Blue i n) each t in let far : MOST_SITES ≤ i = grind (arith, nat_tests) in omega arith)
         none (inr t) = t ∙ nothing n
-    at (inr q) = here ∙ ap (λ k. nat_le 1 n && nat_le n k) (sym (get_or-map-range_with_len (blue_count us) 0 most_sites i i 0 (grind (arith, nat_tests)) (omega arith)))
+    at (inr q) = here ∙ ap (λ k. nat_le 1 n && nat_le n k) (sym (get_or-map-range_with_len (blue_count us) 0 MOST_SITES i i 0 (grind (arith, nat_tests)) (omega arith)))

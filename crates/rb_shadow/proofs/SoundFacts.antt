@@ -2,7 +2,9 @@
 use Rattle.std.proofs.Common.{◌≡◌, ℕ, ◌+◌, ◌≤◌, Bool, true, false, cond, not, ◌&&◌, length, refl, arith}
 use Rattle.std.specs.Prelude.{nat_le, nat_lt, ◌==◌, Option, Some, None}
 use Rattle.std.proofs.lemmas.Bool.Decides.{nat_tests}
-use Rattle.rb_money.specs.Settings.{Settings, most_sites}
+use Rattle.rb_money.specs.Settings.{Settings}
+use Rattle.rb_money.specs.declared.limits.TheConstants.{MOST_SITES}
+use Rattle.rb_money.specs.declared.cents.TheConstants.{MOST_CENTS}
 use Rattle.rb_shadow.specs.declared.shadow.Shadow.{Shadow}
 use Rattle.rb_shadow.specs.declared.op_name.OpName.{OpName}
 use Rattle.rb_shadow.specs.declared.op_name.OpName.TheVariants.{Blue, Red}
@@ -18,7 +20,7 @@ pub record SoundFacts (s : Settings) (v : Shadow) : Type 0 where
   pub numbered : (number_of v.name == 0) ≡ false
   pub within : nat_lt (limit_of s.limits v.name) (number_of v.name) ≡ false
   pub account : nat_le (length s.starts) v.account.0 ≡ false
-  pub amount : nat_lt 100000000000 v.amount ≡ false
+  pub amount : nat_lt MOST_CENTS v.amount ≡ false
   pub something : (v.amount == 0 && not (may_be_nothing v.kind)) ≡ false
   pub coloured : is_miscoloured v.kind v.name ≡ false
   pub seen : cancels_unseen s.sites v.kind v.deps ≡ false
@@ -62,10 +64,10 @@ is_next s v h = let f = sound_facts s v h in record { positive = positive (numbe
     same : (m n : ℕ) → not (m == n) ≡ false → m ≡ n
     same m n e = grind (arith, nat_tests)
 
-pub is_housed : (s : Settings) (v : Shadow) → s.sites ≤ most_sites → IsSound s v → IsHoused v.name
+pub is_housed : (s : Settings) (v : Shadow) → s.sites ≤ MOST_SITES → IsSound s v → IsHoused v.name
 is_housed s v few h = let f = sound_facts s v h in at v.name s.sites v.home few f.home f.own
   where
-    at : (x : OpName) (sites home : ℕ) → sites ≤ most_sites → nat_le sites home ≡ false → is_foreign x home ≡ false → IsHoused x
+    at : (x : OpName) (sites home : ℕ) → sites ≤ MOST_SITES → nat_le sites home ≡ false → is_foreign x home ≡ false → IsHoused x
     at (Blue i n) sites home few near e = grind (arith, nat_tests)
     at (Red n) sites home few near e = tt
 

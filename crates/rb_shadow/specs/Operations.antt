@@ -1,7 +1,8 @@
 -- Operations, their order, serializations and balances.
 use Rattle.std.specs.Prelude.{◌≡◌, ◌≢◌, ℕ, ◌+◌, ◌<◌, Bool, true, false, if◌then◌else◌, not, ◌&&◌, nat_le, ◌==◌, List, [], ◌∷◌, ◌++◌, Option, Some, None, option_and_then, slice_index, ◌⊎◌, ℤ, pos, neg_ℤ, ◌+ℤ◌, filter, map, find, count_by}
 use Rattle.std.specs.List.{range_with_len, list_all, list_any}
-use Rattle.rb_money.specs.Settings.{Settings, most_sites, start_of}
+use Rattle.rb_money.specs.Settings.{Settings, start_of}
+use Rattle.rb_money.specs.declared.limits.TheConstants.{MOST_SITES}
 use Rattle.rb_money.specs.declared.place.Place.{Place}
 use Rattle.rb_shadow.specs.declared.op_name.OpName.{OpName}
 use Rattle.rb_shadow.specs.declared.op_name.OpName.TheVariants.{Blue, Red}
@@ -195,7 +196,7 @@ entry_of c (Red n) = c.red
 
 -- a clock has an entry for the name: a blue one's site is one of those that there may be
 abbrev pub HasEntry : OpName → Type 0
-HasEntry (Blue i n) = i < most_sites
+HasEntry (Blue i n) = i < MOST_SITES
 HasEntry (Red n) = Unit {0}
 
 -- a Deposit, a Withdraw or an Interest may be cancelled
@@ -226,7 +227,7 @@ red_count us = count_by (λ u. is_red u.name) us
 
 -- those numbers, as a shadow made now would carry them
 unfoldable pub clock_of : List Shadow → Deps
-clock_of us = record { blue = map (blue_count us) (range_with_len 0 most_sites); red = red_count us }
+clock_of us = record { blue = map (blue_count us) (range_with_len 0 MOST_SITES); red = red_count us }
 
 -- the blue names that a clock counts, from a site on
 abbrev pub blue_listed : ℕ → List ℕ → List OpName

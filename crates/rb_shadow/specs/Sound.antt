@@ -2,6 +2,7 @@
 use Rattle.std.specs.Prelude.{◌≡◌, ℕ, ◌+◌, ◌-◌, Bool, true, false, if◌then◌else◌, not, ◌&&◌, ◌||◌, nat_le, nat_lt, ◌==◌, List, [], ◌∷◌, length, Option, Some, None}
 use Rattle.rb_money.specs.Settings.{Settings}
 use Rattle.rb_money.specs.declared.limits.Limits.{Limits}
+use Rattle.rb_money.specs.declared.cents.TheConstants.{MOST_CENTS}
 use Rattle.rb_shadow.specs.declared.op_name.OpName.{OpName}
 use Rattle.rb_shadow.specs.declared.op_name.OpName.TheVariants.{Blue, Red}
 use Rattle.rb_shadow.specs.declared.kind.Kind.{Kind}
@@ -69,7 +70,7 @@ fault_of sites accounts l v =
     if nat_le sites v.home || is_foreign v.name v.home then Some 1
     else (if number_of v.name == 0 || nat_lt (limit_of l v.name) (number_of v.name) then Some 2
     else (if nat_le accounts v.account.0 then Some 3
-    else (if nat_lt 100000000000 v.amount || (v.amount == 0 && not (may_be_nothing v.kind)) then Some 4
+    else (if nat_lt MOST_CENTS v.amount || (v.amount == 0 && not (may_be_nothing v.kind)) then Some 4
     else (if is_miscoloured v.kind v.name then Some 5
     else (if cancels_unseen sites v.kind v.deps then Some 6
     else (if not (is_clock sites l v.deps) || not (entry_of v.deps v.name + 1 == number_of v.name) then Some 7

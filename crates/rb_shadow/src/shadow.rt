@@ -28,7 +28,7 @@ impl Shadow {
     /// 1. the home is no site, or a blue name is of another site than the home;
     /// 2. the name's number is 0, or over the limit of its colour;
     /// 3. the account is none of the configuration's;
-    /// 4. the amount is over 100,000,000,000 cents, or 0 for a Deposit, a Withdraw or a Declined;
+    /// 4. the amount is over `MOST_CENTS`, or 0 for a Deposit, a Withdraw or a Declined;
     /// 5. a Withdraw has a blue name, or a Deposit, a Declined or an Interest a red one;
     /// 6. a Cancel's target is none of the operations that the home had applied;
     /// 7. an entry of `deps` is over its limit, one past the sites isn't 0, or the one of the own

@@ -22,6 +22,7 @@ use Rattle.rb_scratch.specs.Tried.{IsFault, IsTried}
 use Rattle.rb_scratch.specs.declared.request.Request.{Request}
 use Rattle.rb_scratch.specs.declared.run_fault.RunFault.{RunFault}
 use Rattle.rb_scratch.specs.declared.run_fault.RunFault.TheVariants.{Refused as RefusedFault}
+use Rattle.rb_scratch.specs.declared.request.TheConstants.{MOST_REQUESTS}
 use Rattle.rb_site.specs.declared.answer.Answer.{Answer}
 use Rattle.rb_site.specs.declared.event.Event.TheVariants.{Batch}
 use Rattle.rb_site.specs.declared.message.Message.{Message}
@@ -57,7 +58,7 @@ run_stopped s now me here us them vs known rs k d fault there same at list far m
     ∙ ap (λ n. Err (BatchRefused n (cause_of fault))) index
 
 -- among the first requests, what isn't want of memory is the request's own fault
-pub fault_made : (base vs : List Shadow) (book : Book) (parts : List UndoParts) (me : ℕ) (known : Token) (rs : List Request) (r : Request) (fault : RunFault) → IsTried base vs book parts → length vs < length rs → length rs ≤ 16
+pub fault_made : (base vs : List Shadow) (book : Book) (parts : List UndoParts) (me : ℕ) (known : Token) (rs : List Request) (r : Request) (fault : RunFault) → IsTried base vs book parts → length vs < length rs → length rs ≤ MOST_REQUESTS
     → IsFault book parts me known r fault → (fault ≡ RefusedFault OutOfMemory → ⊥) → made_in_batch book.settings me book.entries known r ≡ Err fault
 fault_made base vs book parts me known rs r fault tried more few is other = by (is.few (omega (arith, tried_length base vs book parts tried, more, few)))
   where
@@ -101,7 +102,7 @@ journaled X Y (Err why) s now us later ps qs same kept more less ok err =
 
 -- whether a batch has as many requests as it may
 abbrev pub is_of_size : List Request → Bool
-is_of_size rs = nat_le 1 (length rs) && nat_le (length rs) 16
+is_of_size rs = nat_le 1 (length rs) && nat_le (length rs) MOST_REQUESTS
 
 batch_comes : (s : Settings) (t : ModelSite) (rs : List Request) (b : Bool) → is_of_size rs ≡ b → outcome_of s t (Batch rs) ≡ refuses_if (not b) BadBatch (outcome_of_batch (batch_of s t.me t.ops t.token 0 rs))
 unfolding outcome_of

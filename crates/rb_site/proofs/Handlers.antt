@@ -2,7 +2,8 @@
 use Rattle.std.proofs.Common.{◌≡◌, ℕ, ◌≤◌, Bool, true, false, cond, not, ◌&&◌, ◌⊎◌, inl, inr, List, [], ◌∷◌, ◌++◌, length, refl, ap, sym, subst, ◌∙◌, arith, Option, Some, None, append-nil}
 use Rattle.std.specs.Prelude.{nat_le}
 use Rattle.std.proofs.lemmas.Bool.Decides.{nat_tests}
-use Rattle.rb_money.specs.Settings.{Settings, most_sites}
+use Rattle.rb_money.specs.Settings.{Settings}
+use Rattle.rb_money.specs.declared.limits.TheConstants.{MOST_SITES}
 use Rattle.rb_money.specs.declared.refusal.Refusal.{Refusal}
 use Rattle.rb_money.specs.declared.refusal.Refusal.TheVariants.{NotReady, InboxFull, Conflict, OutOfMemory}
 use Rattle.rb_shadow.proofs.Eligible
@@ -139,11 +140,11 @@ tied_without s now inbox later token x same taken tied =
 -- ---- a shadow is held
 
 -- the clock counts the names of a valid list
-pub ready_means : (s : Settings) (us : List Shadow) (c : Deps) (v : Shadow) → s.sites ≤ most_sites → IsValid s us → c ≡ clock_of us → IsReady c v → is_eligible us v ≡ true
+pub ready_means : (s : Settings) (us : List Shadow) (c : Deps) (v : Shadow) → s.sites ≤ MOST_SITES → IsValid s us → c ≡ clock_of us → IsReady c v → is_eligible us v ≡ true
 ready_means s us c v few valid same ready =
     Eligible.eligible_from us v (λ x h. ValidClocks.valid_clock s us few valid x ∙ ap (λ d. names_of_clock d x) (sym same) ∙ ready x h)
 
-pub waits_means : (s : Settings) (us : List Shadow) (c : Deps) (v : Shadow) → s.sites ≤ most_sites → IsValid s us → c ≡ clock_of us → ¬ IsReady c v → is_eligible us v ≡ false
+pub waits_means : (s : Settings) (us : List Shadow) (c : Deps) (v : Shadow) → s.sites ≤ MOST_SITES → IsValid s us → c ≡ clock_of us → ¬ IsReady c v → is_eligible us v ≡ false
 waits_means s us c v few valid same waits = by (is_eligible us v) refl
   where
     by : (b : Bool) → is_eligible us v ≡ b → is_eligible us v ≡ false
@@ -166,7 +167,7 @@ known_comes s t v u b found test =
     ap (λ o. unless_known v o (refuses_if (is_too_many s t v) InboxFull (Holds v))) found
     ∙ ap (λ c. cond c (Answers (Already v.name)) (Refuses Conflict)) test
 
-pub holds : (s : Settings) (me : ℕ) (ops : List Shadow) (inbox later : Holding) (token : Token) (c : Deps) (v : Shadow) (a : Answer) → s.sites ≤ most_sites → IsValid s ops → c ≡ clock_of ops → inbox.limit ≡ s.limits.inbox
+pub holds : (s : Settings) (me : ℕ) (ops : List Shadow) (inbox later : Holding) (token : Token) (c : Deps) (v : Shadow) (a : Answer) → s.sites ≤ MOST_SITES → IsValid s ops → c ≡ clock_of ops → inbox.limit ≡ s.limits.inbox
     → IsWelcome inbox c v → later ≡ record inbox { held = with_held v inbox.held } → Says true a (Held v.name)
     → AnswersAlone (state_as s me ops inbox.held token) (state_as s me ops later.held token) (outcome_of_new s (site_as me ops inbox.held token) v) a
 holds s me ops inbox later token c v a few valid same limit welcome grown is =
@@ -182,7 +183,7 @@ holds s me ops inbox later token c v a few valid same limit welcome grown is =
     test : is_too_many s (site_as me ops inbox.held token) v ≡ false
     test = by (nat_le s.limits.inbox (length inbox.held)) refl
 
-pub too_many : (s : Settings) (me : ℕ) (ops : List Shadow) (inbox : Holding) (token : Token) (c : Deps) (v : Shadow) (a : Answer) → s.sites ≤ most_sites → IsValid s ops → c ≡ clock_of ops → inbox.limit ≡ s.limits.inbox
+pub too_many : (s : Settings) (me : ℕ) (ops : List Shadow) (inbox : Holding) (token : Token) (c : Deps) (v : Shadow) (a : Answer) → s.sites ≤ MOST_SITES → IsValid s ops → c ≡ clock_of ops → inbox.limit ≡ s.limits.inbox
     → IsTooMany inbox c v → Says true a (Refused InboxFull)
     → AnswersAlone (state_as s me ops inbox.held token) (state_as s me ops inbox.held token) (outcome_of_new s (site_as me ops inbox.held token) v) a
 too_many s me ops inbox token c v a few valid same limit many is =
@@ -214,7 +215,7 @@ conflicts s me ops inbox token v a (u, found, other) is =
     by true e = absurd (other (Same.same_shadow-true u v e))
 
 -- a shadow that the inbox refuses, but for want of memory
-pub refused_put : (s : Settings) (me : ℕ) (ops : List Shadow) (inbox later : Holding) (token : Token) (c : Deps) (v : Shadow) (why : Refusal) (a : Answer) → s.sites ≤ most_sites → IsValid s ops → c ≡ clock_of ops → inbox.limit ≡ s.limits.inbox
+pub refused_put : (s : Settings) (me : ℕ) (ops : List Shadow) (inbox later : Holding) (token : Token) (c : Deps) (v : Shadow) (why : Refusal) (a : Answer) → s.sites ≤ MOST_SITES → IsValid s ops → c ≡ clock_of ops → inbox.limit ≡ s.limits.inbox
     → (why ≡ Conflict) ⊎ (why ≡ InboxFull) ⊎ (why ≡ OutOfMemory) → (why ≡ Conflict → IsInConflict inbox v) → (why ≡ InboxFull → IsTooMany inbox c v) → (why ≡ OutOfMemory → ⊥) → later ≡ inbox → Says true a (Refused why)
     → AnswersAlone (state_as s me ops inbox.held token) (state_as s me ops later.held token) (outcome_of_new s (site_as me ops inbox.held token) v) a
 refused_put s me ops inbox later token c v why a few valid same limit refusals conflict full memory stays is =

@@ -3,6 +3,7 @@ use Rattle.std.proofs.Common.{◌≡◌, ◌∙◌, ℕ, ◌+◌, ◌<◌, ◌�
 use Rattle.std.specs.Prelude.{zero, suc, Some, map, option_map, slice_get}
 use Rattle.std.proofs.lemmas.List.{length-map, take_more}
 use Rattle.std.proofs.lemmas.List.Sums.{length-filter, count_by-le-length}
+use Rattle.rb_scratch.specs.declared.request.TheConstants.{MOST_REQUESTS}
 use Rattle.rb_money.specs.Settings.{Settings}
 use Rattle.rb_shadow.specs.Operations.{same_name}
 use Rattle.rb_shadow.specs.declared.shadow.Shadow.{Shadow}
@@ -22,7 +23,7 @@ use Rattle.rb_site.proofs.Runs
 -- ---- what is applied grows by what is sent at most
 
 -- what sends few messages makes few operations
-ops_grow : (t : ModelSite) (o : Outcome) → length (sent_by o) ≤ 16 → length (changed t o).ops ≤ length t.ops + 16
+ops_grow : (t : ModelSite) (o : Outcome) → length (sent_by o) ≤ MOST_REQUESTS → length (changed t o).ops ≤ length t.ops + MOST_REQUESTS
 ops_grow t (Refuses why) h = omega arith
 ops_grow t (Answers r) h = omega arith
 ops_grow t (Drops x why) h = omega arith
@@ -33,11 +34,11 @@ ops_grow t (Takes m) h = omega arith
 ops_grow t (Passes m) h = omega arith
 
 -- after an event there is still enough room
-pub still_enough : (room : RoomFor) (keeps : Bool) (old now : SiteState) (before after : List Message) (o : Outcome) (a : Answer) → Follows keeps old now before after o a → length (sent_by o) ≤ 16 → length old.settings.starts ≤ room.accounts → length old.site.ops + 16 ≤ room.entries → IsEnough room now
+pub still_enough : (room : RoomFor) (keeps : Bool) (old now : SiteState) (before after : List Message) (o : Outcome) (a : Answer) → Follows keeps old now before after o a → length (sent_by o) ≤ MOST_REQUESTS → length old.settings.starts ≤ room.accounts → length old.site.ops + MOST_REQUESTS ≤ room.entries → IsEnough room now
 still_enough room keeps old now before after o a follows few accounts entries =
     subst (IsEnough room) (sym follows.0) (record {
       accounts = accounts;
-      entries = let more : length (changed old.site o).ops ≤ length old.site.ops + 16 = ops_grow old.site o few in omega arith;
+      entries = let more : length (changed old.site o).ops ≤ length old.site.ops + MOST_REQUESTS = ops_grow old.site o few in omega arith;
     })
 
 -- ---- what is held

@@ -13,6 +13,7 @@ use Rattle.rb_shadow.specs.Sound.{fault_in}
 use Rattle.rb_scratch.specs.Batches.{batch_of}
 use Rattle.rb_scratch.specs.Requests.{made_of}
 use Rattle.rb_scratch.specs.declared.request.Request.{Request}
+use Rattle.rb_scratch.specs.declared.request.TheConstants.{MOST_REQUESTS}
 use Rattle.rb_scratch.proofs.Made.{batch_length}
 use Rattle.rb_statements.specs.Statements.{statement_of}
 use Rattle.rb_token.specs.Token.{pass_message, refusal_of_pass, refusal_of_token}
@@ -140,9 +141,9 @@ me_kept keeps old now before after o a follows = ap (λ (z : SiteState). z.site.
 
 -- ---- what is sent
 
--- the outcome sends at most 16 messages
+-- the outcome sends at most as many messages as a batch may have requests
 abbrev SendsFew : Outcome → Type 0
-SendsFew o = length (sent_by o) ≤ 16
+SendsFew o = length (sent_by o) ≤ MOST_REQUESTS
 
 few_if : (b : Bool) (why : Refusal) (next : Outcome) → SendsFew next → SendsFew (refuses_if b why next)
 few_if true why next h = lit≤ tt
@@ -177,22 +178,22 @@ few_made : (q : Result Shadow Refusal) → SendsFew (outcome_of_made q)
 few_made (Ok v) = lit≤ tt
 few_made (Err why) = lit≤ tt
 
--- a batch of at most 16 requests makes as many operations
+-- a batch makes as many operations as it has requests, at most
 few_batch : (s : Settings) (t : ModelSite) (rs : List Request) → SendsFew (outcome_of s t (Batch rs))
 unfolding outcome_of
-few_batch s t rs = by (nat_le 1 (length rs)) (nat_le (length rs) 16) refl
+few_batch s t rs = by (nat_le 1 (length rs)) (nat_le (length rs) MOST_REQUESTS) refl
   where
-    made : length rs ≤ 16 → (q : Result (List Shadow) Refusal) → batch_of s t.me t.ops t.token 0 rs ≡ q → SendsFew (outcome_of_batch q)
-    made few (Ok vs) e = subst (λ n. n ≤ 16) (sym (length-map vs ShadowMessage ∙ batch_length s t.me t.ops t.token 0 rs vs e)) few
+    made : length rs ≤ MOST_REQUESTS → (q : Result (List Shadow) Refusal) → batch_of s t.me t.ops t.token 0 rs ≡ q → SendsFew (outcome_of_batch q)
+    made few (Ok vs) e = subst (λ n. n ≤ MOST_REQUESTS) (sym (length-map vs ShadowMessage ∙ batch_length s t.me t.ops t.token 0 rs vs e)) few
     made few (Err why) e = lit≤ tt
 
-    by : (b c : Bool) → nat_le (length rs) 16 ≡ c → SendsFew (refuses_if (not (b && c)) BadBatch (outcome_of_batch (batch_of s t.me t.ops t.token 0 rs)))
+    by : (b c : Bool) → nat_le (length rs) MOST_REQUESTS ≡ c → SendsFew (refuses_if (not (b && c)) BadBatch (outcome_of_batch (batch_of s t.me t.ops t.token 0 rs)))
     by false c e = lit≤ tt
     by true false e = lit≤ tt
     by true true e = made (grind (arith, nat_tests)) (batch_of s t.me t.ops t.token 0 rs) refl
 
--- an event sends at most 16 messages
-pub sends_few : (s : Settings) (t : ModelSite) (e : Event) → length (sent_by (outcome_of s t e)) ≤ 16
+-- an event sends at most as many messages as a batch may have requests
+pub sends_few : (s : Settings) (t : ModelSite) (e : Event) → length (sent_by (outcome_of s t e)) ≤ MOST_REQUESTS
 unfolding outcome_of outcome_of_shadow outcome_of_token outcome_of_apply outcome_of_pass
 sends_few s t (Submit r) = few_made (made_of s t.me t.ops t.token r)
 sends_few s t (Batch rs) = few_batch s t rs

@@ -1,5 +1,6 @@
 -- One event of a site.
 use Rattle.std.specs.Prelude.{ℕ, Bool, true, false, if◌then◌else◌, not, ◌&&◌, nat_le, nat_lt, ◌==◌, List, [], ◌∷◌, ◌++◌, length, map, take, Option, Some, None, Result, Ok, Err}
+use Rattle.rb_scratch.specs.declared.request.TheConstants.{MOST_REQUESTS}
 use Rattle.rb_money.specs.Amounts.{cents}
 use Rattle.rb_money.specs.Settings.{Settings, is_account}
 use Rattle.rb_money.specs.declared.refusal.Refusal.{Refusal}
@@ -131,7 +132,7 @@ outcome_of_pass s t to =
 unfoldable pub outcome_of : Settings → ModelSite → Event → Outcome
 outcome_of s t (Submit r) = outcome_of_made (made_of s t.me t.ops t.token r)
 outcome_of s t (Batch rs) =
-    refuses_if (not (nat_le 1 (length rs) && nat_le (length rs) 16)) BadBatch
+    refuses_if (not (nat_le 1 (length rs) && nat_le (length rs) MOST_REQUESTS)) BadBatch
     (outcome_of_batch (batch_of s t.me t.ops t.token 0 rs))
 outcome_of s t (Receive (ShadowMessage v)) = outcome_of_shadow s t v
 outcome_of s t (Receive (TokenOnItsWay m)) = outcome_of_token s t m

@@ -6,6 +6,7 @@ ghost use Rattle.rb_token.specs.Token.{Token};
 ghost use Rattle.rb_token.specs.Seat.{Shows};
 ghost use Rattle.rb_scratch.specs.Batches.{batch_of, cause_of, names_of_all};
 ghost use Rattle.rb_scratch.specs.Tried.{IsTried};
+ghost use Rattle.rb_scratch.specs.declared.request.TheConstants.{MOST_REQUESTS};
 ghost use Rattle.rb_site.specs.States.{Says};
 
 use crate::answer::Answer;
@@ -34,7 +35,7 @@ fn why_stopped(index: u8, fault: RunFault) -> Refusal
 fn run_all(scratch: &mut Scratch, requests: &[Request]) -> Result<(), Refusal>
     requires here { scratch.old.token.me < scratch.old.ledger.now.settings.sites }
     requires none { IsTried scratch.old.ledger.now.entries [] scratch.old.ledger.now scratch.old.undos.parts }
-    requires few { length requests.now ≤ 16 }
+    requires few { length requests.now ≤ MOST_REQUESTS }
     ensures same_reference { scratch.new.ledger.ghost_name ≡ scratch.old.ledger.ghost_name }
     ensures settings { scratch.new.ledger.now.settings ≡ scratch.old.ledger.now.settings }
     ensures tried { (made : List TheShadow) × IsTried scratch.old.ledger.now.entries made scratch.new.ledger.now scratch.new.undos.parts
@@ -80,7 +81,7 @@ pub fn run_batch(
     sent: &mut Vec<Message>,
 ) -> Result<Answer, Refusal>
     requires site { token.me < ledger.old.settings.sites }
-    requires few { length requests.now ≤ 16 }
+    requires few { length requests.now ≤ MOST_REQUESTS }
     ensures settings { ledger.new.settings ≡ ledger.old.settings }
     ensures made { IfOk result (λ answer. (made : List TheShadow) × (ledger.new.entries ≡ ledger.old.entries ++ made) × (log.new.parts ≡ log.old.parts ++ logged ledger.old.settings ledger.old.entries made)
         × Says keeps answer (Reply.Names (names_of_all made)) × (sent.new.items ≡ sent.old.items ++ map Message.Shadow made)

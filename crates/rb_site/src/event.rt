@@ -13,7 +13,7 @@ use std::alloc::{AllocError, Global};
 pub enum Event {
     /// A teller asks for one operation.
     Submit(Request),
-    /// A teller asks for 1 to 16 operations, of which all are made or none.
+    /// A teller asks for 1 to `MOST_REQUESTS` operations, of which all are made or none.
     Batch(Requests),
     /// A message comes.
     Receive(Message),

@@ -9,6 +9,7 @@ ghost use Rattle.rb_scratch.specs.Batches.{batch_of, names_of_all};
 ghost use Rattle.rb_statements.specs.Statements.{balance_as_of};
 ghost use Rattle.rb_token.specs.Token.{Token};
 ghost use Rattle.rb_token.specs.Seat.{Shows};
+ghost use Rattle.rb_scratch.specs.declared.request.TheConstants.{MOST_REQUESTS};
 ghost use Rattle.rb_site.specs.States.{Says};
 
 use crate::answer::Answer;
@@ -155,7 +156,7 @@ impl Journal {
         sent: &mut Vec<Message>,
     ) -> Result<Answer, Refusal>
         requires site { token.me < self.old.settings.sites }
-        requires few { length requests.now ≤ 16 }
+        requires few { length requests.now ≤ MOST_REQUESTS }
         ensures made { IfOk result (λ answer. (made : List TheShadow) × (self.new ≡ record self.old { ops = self.old.ops ++ made })
             × Says keeps answer (Reply.Names (names_of_all made)) × (sent.new.items ≡ sent.old.items ++ map Message.Shadow made)
             × ((known : Token) → Shows token known → batch_of self.old.settings token.me self.old.ops known 0 requests.now ≡ Ok made)) }

@@ -35,6 +35,14 @@ impl OpNames {
         self.items.as_slice()
     }
 
+    /// The names themselves. This takes no memory.
+    pub fn into_vec(self) -> Vec<OpName>
+        ensures { result.items ≡ self }
+    {
+        let OpNames { items } = self;
+        items
+    }
+
     /// The same once more. `Err` is want of memory.
     pub fn try_copy(&self, alloc: Global) -> Result<OpNames, AllocError>
         ensures { IfOk result (λ copy. copy ≡ self.now) }

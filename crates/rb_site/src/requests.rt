@@ -35,6 +35,14 @@ impl Requests {
         self.items.as_slice()
     }
 
+    /// The requests themselves. This takes no memory.
+    pub fn into_vec(self) -> Vec<Request>
+        ensures { result.items ≡ self }
+    {
+        let Requests { items } = self;
+        items
+    }
+
     /// The same once more. `Err` is want of memory.
     pub fn try_copy(&self, alloc: Global) -> Result<Requests, AllocError>
         ensures { IfOk result (λ copy. copy ≡ self.now) }

@@ -3,6 +3,7 @@ ghost use Rattle.std.specs.Prelude.{◌≡◌, ◌<◌, ◌&&◌, [], true, nat_
 ghost use Rattle.rb_shadow.specs.Operations.{clock_of, find_in, same_shadow};
 ghost use Rattle.rb_ledger.specs.Records.{records_of};
 ghost use Rattle.rb_shadow.specs.Sound.{IsSound};
+ghost use Rattle.rb_scratch.specs.declared.request.TheConstants.{MOST_REQUESTS};
 ghost use Rattle.rb_site.specs.Events.{first_site, outcome_of, outcome_of_new, outcome_of_shadow, outcome_of_token, outcome_of_apply, outcome_of_pass};
 ghost use Rattle.rb_site.specs.States.{Follows, Says};
 
@@ -329,7 +330,7 @@ impl State {
 
 /// Whether a batch may have so many requests.
 fn is_batch(requests: usize) -> bool
-    ensures { result ≡ (nat_le 1 requests && nat_le requests 16) }
+    ensures { result ≡ (nat_le 1 requests && nat_le requests MOST_REQUESTS) }
 {
     1 <= requests && requests <= MOST_REQUESTS
 }

@@ -35,6 +35,14 @@ impl Rows {
         self.items.as_slice()
     }
 
+    /// The rows themselves. This takes no memory.
+    pub fn into_vec(self) -> Vec<Row>
+        ensures { result.items ≡ self }
+    {
+        let Rows { items } = self;
+        items
+    }
+
     /// The same once more. `Err` is want of memory.
     pub fn try_copy(&self, alloc: Global) -> Result<Rows, AllocError>
         ensures { IfOk result (λ copy. copy ≡ self.now) }

@@ -116,7 +116,7 @@ fn entries_between_one_another(rt: HostRuntime) -> Result<(), Fail> {
         row(4, RED, Label::Cancel, -500, false, 7),
     ];
     assert_eq!(rt; (shown.start, shown.balance), (0, 7));
-    assert_eq!(rt; shown.rows.as_slice(), rows.as_slice());
+    assert_eq!(rt; shown.rows.into_vec().as_slice(), rows.as_slice());
     Ok(())
 }
 

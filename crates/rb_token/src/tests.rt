@@ -1,5 +1,5 @@
 use crate::{Accepted, TokenMessage, TokenState};
-use rb_money::{Config, Limits, Refusal};
+use rb_money::{Config, Limits, MOST_RED, Refusal};
 use rb_shadow::OpName;
 use rb_vclock::Clock;
 use std::alloc::Global;
@@ -74,7 +74,7 @@ fn what_is_refused(rt: HostRuntime) -> Result<(), Fail> {
     for forged in [
         TokenMessage { epoch: 3, ..FIRST },
         TokenMessage {
-            red: 1_000_001,
+            red: MOST_RED + 1,
             ..FIRST
         },
     ] {

@@ -31,7 +31,7 @@ pub fn bank_after(alloc: Global, events: &[WorldEvent]) -> Result<World, AllocEr
     ensures { IfOk result (λ world. world ≡ next_worlds (opened bank) events.now) }
 {
     let mut world = open_bank(alloc)?;
-    match world.run(alloc, events) {
+    match world.run(events) {
         Ok(_) => Ok(world),
         Err(_) => {
             world.end();

@@ -1,6 +1,6 @@
 -- Clocks, entry by entry.
 use Rattle.std.specs.Prelude.{ℕ, ◌-◌, ◌≤◌, replicate, slice_index, slice_set, ◌↔◌}
-use Rattle.rb_money.specs.Settings.{most_sites}
+use Rattle.rb_money.specs.declared.limits.TheConstants.{MOST_SITES}
 use Rattle.rb_shadow.specs.declared.deps.Deps.{Deps}
 use Rattle.rb_shadow.specs.declared.op_name.OpName.{OpName}
 use Rattle.rb_shadow.specs.declared.op_name.OpName.TheVariants.{Blue, Red}
@@ -17,7 +17,7 @@ AtLeastMeansWithin = (c d : Deps) → IsAtLeast c d ↔ IsWithin (names_of_clock
 
 -- the clock before any operation
 abbrev pub zero_clock : Deps
-zero_clock = record { blue = replicate most_sites 0; red = 0 }
+zero_clock = record { blue = replicate MOST_SITES 0; red = 0 }
 
 -- the clock with the entry of the name at its number
 abbrev pub raised : Deps → OpName → Deps

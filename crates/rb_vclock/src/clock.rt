@@ -58,11 +58,12 @@ impl Clock {
         are_at_least(&self.entries.blue, &deps.blue) && self.entries.red >= deps.red
     }
 
-    /// Whether the shadow's name has the next number of its entry.
+    /// Whether the clock has an entry for the shadow's name, which has its next number: what `advance` asks for.
     pub fn is_next(&self, shadow: &Shadow) -> bool
-        ensures { IsTrue result ↔ (number_of shadow.now.name ≡ entry_of self.now shadow.now.name + 1) }
+        ensures { IsTrue result ↔ (HasEntry shadow.now.name × (number_of shadow.now.name ≡ entry_of self.now shadow.now.name + 1)) }
     {
-        self.entries.entry(shadow.name).checked_add(1) == Some(shadow.name.number())
+        has_entry(shadow.name)
+            && self.entries.entry(shadow.name).checked_add(1) == Some(shadow.name.number())
     }
 
     /// Counts the name, which is the next of its entry.
@@ -90,6 +91,15 @@ impl Clock {
             OpName::Blue { site, n } => self.entries.blue[usize::from(site)] = n - 1,
             OpName::Red { n } => self.entries.red = n - 1,
         }
+    }
+}
+
+fn has_entry(name: OpName) -> bool
+    ensures { IsTrue result ↔ HasEntry name }
+{
+    match name {
+        OpName::Blue { site, .. } => usize::from(site) < MOST_SITES,
+        OpName::Red { .. } => true,
     }
 }
 

@@ -25,6 +25,12 @@ fn counts_names(rt: HostRuntime) {
     assert_eq!(rt; clock.deps(), deps);
     assert!(rt; clock.at_least(&deps));
     assert!(rt; clock.is_next(&next));
+    assert!(rt;
+        !clock.is_next(&Shadow {
+            name: OpName::Blue { site: 8, n: 1 },
+            ..next
+        })
+    );
     assert!(rt; clock.covers(&first));
     assert!(rt; !clock.covers(&second));
     clock.retreat(&first);

@@ -1,7 +1,8 @@
 -- What holds of the world after every run.
 use Rattle.std.proofs.Common.{◌≡◌, ℕ, ◌≤◌, Bool, true, false, cond, not, List, [], ◌∷◌, ◌++◌, refl, ap, sym, ◌∙◌, inl, inr, subst, Some}
 use Rattle.std.specs.Prelude.{option_and_then, slice_get}
-use Rattle.rb_money.specs.Settings.{Settings, most_sites}
+use Rattle.rb_money.specs.Settings.{Settings}
+use Rattle.rb_money.specs.declared.limits.TheConstants.{MOST_SITES}
 use Rattle.rb_shadow.specs.declared.op_name.OpName.{OpName}
 use Rattle.rb_shadow.specs.declared.shadow.Shadow.{Shadow}
 use Rattle.rb_shadow.specs.declared.kind.Kind.{Kind}
@@ -85,7 +86,7 @@ keeps_good s = record {
   passes = λ w i t m g at may. let o = (Order.keeps_order s).passes w i t m (g.place, g.order) at may in record { place = o.0; order = o.1; right = subst (AreRight s) (sym (Token.made_same w.messages m)) g.right; inbox = same_inbox w i t _ w.messages g.inbox at (g.inbox i t at) };
 }
 
-pub first_good : (s : Settings) → 1 ≤ s.sites → s.sites ≤ most_sites → IsGood s (first_world s)
+pub first_good : (s : Settings) → 1 ≤ s.sites → s.sites ≤ MOST_SITES → IsGood s (first_world s)
 first_good s some few = record {
   place = Token.first_place s some;
   order = Order.first_order s few;
@@ -93,7 +94,7 @@ first_good s some few = record {
   inbox = λ i t h. subst (IsInbox i) (sym (Token.first_is s i t h)) (λ u k. elim k [ ]);
 }
 
-pub good_run : (s : Settings) (es : List WorldEvent) → 1 ≤ s.sites → s.sites ≤ most_sites → AreOwn es → IsGood s (world_of_run s es)
+pub good_run : (s : Settings) (es : List WorldEvent) → 1 ≤ s.sites → s.sites ≤ MOST_SITES → AreOwn es → IsGood s (world_of_run s es)
 good_run s es some few own = Steps.after_all s (IsGood s) (keeps_good s) es (first_world s) own (first_good s some few)
 
 -- ---- the laws

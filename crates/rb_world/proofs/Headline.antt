@@ -1,7 +1,8 @@
 -- All laws, of every run, and of every world that is the run of its events.
 use Rattle.std.proofs.Common.{◌≤◌, ℕ, zero, suc, List, [], ◌∷◌, All, take, sym, subst, arith}
 use Rattle.std.proofs.lemmas.List.Elements.{All-head, All-tail}
-use Rattle.rb_money.specs.Settings.{Settings, most_sites}
+use Rattle.rb_money.specs.Settings.{Settings}
+use Rattle.rb_money.specs.declared.limits.TheConstants.{MOST_SITES}
 use Rattle.rb_site.specs.declared.reply.Reply.{Reply}
 use Rattle.rb_site.specs.declared.world_event.WorldEvent.{WorldEvent}
 use Rattle.rb_site.specs.Worlds.{AreOwn, IsCommand, world_of_run}
@@ -14,7 +15,7 @@ use Rattle.rb_world.proofs.Stepping.{IsRunSoFar, next_run}
 use Rattle.rb_world.proofs.Token
 use Rattle.rb_world.proofs.Valid
 
-pub holds : (s : Settings) (es : List WorldEvent) → 1 ≤ s.sites → s.sites ≤ most_sites → AreOwn es → Holds s (world_of_run s es)
+pub holds : (s : Settings) (es : List WorldEvent) → 1 ≤ s.sites → s.sites ≤ MOST_SITES → AreOwn es → Holds s (world_of_run s es)
 holds s es some few own =
     let g = Sound.bounded_run s es some few own in
     record {

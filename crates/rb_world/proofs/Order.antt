@@ -2,7 +2,8 @@
 use Rattle.std.proofs.Common.{◌≡◌, ◌≢◌, ℕ, ◌+◌, ◌<◌, ◌≤◌, Bool, true, false, cond, not, ◌||◌, List, [], ◌∷◌, ◌++◌, refl, ap, sym, ◌∙◌, arith, ◌⊎◌, inl, inr, subst, Some, None}
 use Rattle.std.specs.Prelude.{slice_get, max}
 use Rattle.std.proofs.lemmas.List.FromFn.{get_or-map-range_with_len}
-use Rattle.rb_money.specs.Settings.{Settings, most_sites}
+use Rattle.rb_money.specs.Settings.{Settings}
+use Rattle.rb_money.specs.declared.limits.TheConstants.{MOST_SITES}
 use Rattle.rb_money.specs.declared.refusal.Refusal.TheVariants.{NotReady, Conflict}
 use Rattle.rb_scratch.proofs.Made.{IsAllowed, IsMadeAt}
 use Rattle.rb_shadow.specs.declared.op_name.OpName.{OpName}
@@ -59,7 +60,7 @@ pub record IsOrderedSet (all : List Shadow) : Type 0 where
 
 -- what is known of a site's list and of what it holds
 pub record IsInOrder (all : List Shadow) (i : ℕ) (t : ModelSite) : Type 0 where
-  pub low : i < most_sites
+  pub low : i < MOST_SITES
   pub serial : IsSerialization i t.ops
   pub part : IsPart t.ops all
   pub own : (v : Shadow) → Among v all → v.home ≡ i → Among v t.ops
@@ -211,16 +212,16 @@ unfolding past
 clock_past us v e x = ap (λ d. names_of_clock d x) e
 
 -- the entry of the clock for the next name
-next_entry : (me : ℕ) (us : List Shadow) (c : Colour) → me < most_sites → entry_of (clock_of us) (next_name me us c) + 1 ≡ number_of (next_name me us c)
+next_entry : (me : ℕ) (us : List Shadow) (c : Colour) → me < MOST_SITES → entry_of (clock_of us) (next_name me us c) + 1 ≡ number_of (next_name me us c)
 unfolding clock_of
-next_entry me us BlueColour low = ap (λ k. k + 1) (get_or-map-range_with_len (blue_count us) 0 most_sites me me 0 low (omega arith))
+next_entry me us BlueColour low = ap (λ k. k + 1) (get_or-map-range_with_len (blue_count us) 0 MOST_SITES me me 0 low (omega arith))
 next_entry me us RedColour low = refl
 
 next_positive : (me : ℕ) (us : List Shadow) (c : Colour) → 1 ≤ number_of (next_name me us c)
 next_positive me us BlueColour = omega arith
 next_positive me us RedColour = omega arith
 
-next_housed : (me : ℕ) (us : List Shadow) (c : Colour) → me < most_sites → IsHoused (next_name me us c)
+next_housed : (me : ℕ) (us : List Shadow) (c : Colour) → me < MOST_SITES → IsHoused (next_name me us c)
 next_housed me us BlueColour low = low
 next_housed me us RedColour low = tt
 
@@ -291,8 +292,8 @@ new_made s w i t v p o at made = record {
     deps : v.deps ≡ clock_of t.ops
     deps = ap (λ (x : Shadow). x.deps) made.is ∙ deps_of t.me t.ops made.plan
 
-    low : t.me < most_sites
-    low = let a : t.me ≡ i = p.numbered i t at in let b : i < most_sites = here.low in omega arith
+    low : t.me < MOST_SITES
+    low = let a : t.me ≡ i = p.numbered i t at in let b : i < MOST_SITES = here.low in omega arith
 
     reds : is_red v.name ≡ true → (u : Shadow) → Among u all → is_red u.name ≡ true → names t.ops u.name ≡ true
     reds e u h k = by v.name e made.fair
@@ -423,7 +424,7 @@ keeps_order s = record {
 pub no_entry : (P : List Shadow → Shadow → Type 0) → EachEntry [] P
 no_entry P before v after e = absurd (Members.never_empty before after v (sym e))
 
-pub first_order : (s : Settings) → s.sites ≤ most_sites → IsOrdered (first_world s)
+pub first_order : (s : Settings) → s.sites ≤ MOST_SITES → IsOrdered (first_world s)
 first_order s few = record {
   order = record { unique = tt; in_turn = no_entry _; each = λ v h. elim h [ ]; transitive = λ u v h. elim h [ ]; reds = λ u v h. elim h [ ]; homes = λ u v h. elim h [ ] };
   sites = λ i t h.

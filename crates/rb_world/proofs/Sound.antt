@@ -6,8 +6,10 @@ use Rattle.std.proofs.Math.Bool.{and-false}
 use Rattle.std.proofs.lemmas.Bool.{cond-false}
 use Rattle.std.proofs.lemmas.Bool.Decides.{nat_tests}
 use Rattle.std.proofs.lemmas.Option.{slice_get_within}
-use Rattle.rb_money.specs.Settings.{Settings, most_sites}
+use Rattle.rb_money.specs.Settings.{Settings}
+use Rattle.rb_money.specs.declared.limits.TheConstants.{MOST_SITES}
 use Rattle.rb_money.specs.declared.place.Place.{Place}
+use Rattle.rb_money.specs.declared.cents.TheConstants.{MOST_CENTS}
 use Rattle.rb_scratch.proofs.Planned.{IsFor, IsPlanned, planned}
 use Rattle.rb_scratch.proofs.Made.{IsMadeAt}
 use Rattle.rb_shadow.specs.declared.op_name.OpName.{OpName}
@@ -103,7 +105,7 @@ entries_are f limit a k (suc m) low none = both _ _ (first k refl) (entries_are 
 
 clock_sound : (s : Settings) (us : List Shadow) → IsCounted us → ((u : Shadow) → Among u us → IsSound s u) → is_clock s.sites s.limits (clock_of us) ≡ true
 unfolding clock_of
-clock_sound s us counted sound = both _ _ (entries_are (blue_count us) s.limits.blue 0 s.sites most_sites (λ j. few_blue s us j counted sound) (λ j h. no_blue s us j (omega arith) counted sound)) (let q : red_count us ≤ s.limits.red = few_red s us counted sound in grind (arith, nat_tests))
+clock_sound s us counted sound = both _ _ (entries_are (blue_count us) s.limits.blue 0 s.sites MOST_SITES (λ j. few_blue s us j counted sound) (λ j h. no_blue s us j (omega arith) counted sound)) (let q : red_count us ≤ s.limits.red = few_red s us counted sound in grind (arith, nat_tests))
   where
     both : (b c : Bool) → b ≡ true → c ≡ true → (b && c) ≡ true
     both true c e h = h
@@ -115,7 +117,7 @@ is_sound : (s : Settings) (v : Shadow)
     → (nat_le s.sites v.home || is_foreign v.name v.home) ≡ false
     → (number_of v.name == 0 || nat_lt (limit_of s.limits v.name) (number_of v.name)) ≡ false
     → nat_le (length s.starts) v.account.0 ≡ false
-    → (nat_lt 100000000000 v.amount || (v.amount == 0 && not (may_be_nothing v.kind))) ≡ false
+    → (nat_lt MOST_CENTS v.amount || (v.amount == 0 && not (may_be_nothing v.kind))) ≡ false
     → is_miscoloured v.kind v.name ≡ false
     → cancels_unseen s.sites v.kind v.deps ≡ false
     → (not (is_clock s.sites s.limits v.deps) || not (entry_of v.deps v.name + 1 == number_of v.name)) ≡ false
@@ -155,7 +157,7 @@ seen s all us v p (Cancel x) sound h planned =
 -- the account and the amount of what is made
 pub record IsMeasured (s : Settings) (p : Plan) (k : Kind) : Type 0 where
   pub account : nat_le (length s.starts) p.account.0 ≡ false
-  pub amount : nat_lt 100000000000 p.amount ≡ false
+  pub amount : nat_lt MOST_CENTS p.amount ≡ false
   pub something : (p.amount == 0 && not (may_be_nothing k)) ≡ false
 
 measured_for : (s : Settings) (p : Plan) (k : Kind) → IsFor s p → IsMeasured s p k
@@ -168,8 +170,8 @@ measured_for s p k h = let a = h.account in let b = h.amount in record {
     account : (a : ℕ) → nat_lt a (length s.starts) ≡ true → nat_le (length s.starts) a ≡ false
     account a h = grind (arith, nat_tests)
 
-    amount : (n : ℕ) → (nat_le 1 n && nat_le n 100000000000) ≡ true → (nat_lt 100000000000 n ≡ false) × (1 ≤ n)
-    amount n h = let q : (1 ≤ n) × (n ≤ 100000000000) = Clocks.in_range-true n 100000000000 h in let r = q.0 in let t = q.1 in (grind (arith, nat_tests), r)
+    amount : (n : ℕ) → (nat_le 1 n && nat_le n MOST_CENTS) ≡ true → (nat_lt MOST_CENTS n ≡ false) × (1 ≤ n)
+    amount n h = let q : (1 ≤ n) × (n ≤ MOST_CENTS) = Clocks.in_range-true n MOST_CENTS h in let r = q.0 in let t = q.1 in (grind (arith, nat_tests), r)
 
     some : (n : ℕ) (b : Bool) → 1 ≤ n → (n == 0 && b) ≡ false
     some n b h = ap (λ c. c && b) (let z : (n == 0) ≡ false = grind (arith, nat_tests) in z)
@@ -186,7 +188,7 @@ measured s us p (Cancel x) sound h =
     let f = SoundFacts.sound_facts s h.target (sound h.target h.there) in
     record {
       account = ap (λ (a : Place). nat_le (length s.starts) a.0) (sym h.account) ∙ f.account;
-      amount = ap (λ n. nat_lt 100000000000 n) (sym h.amount) ∙ f.amount;
+      amount = ap (λ n. nat_lt MOST_CENTS n) (sym h.amount) ∙ f.amount;
       something = and-false (p.amount == 0);
     }
 
@@ -196,7 +198,7 @@ sound_made s all us me token v low o right l sound n made =
     (Members.false-or _ _ (home v.home at_home) (own_name v.name v.home n.homely))
     (Members.false-or _ _ (positive (number_of v.name) n.next.positive) (let q = made.within in grind (arith, nat_tests)))
     (ap (λ (a : Place). nat_le (length s.starts) a.0) m.account ∙ size.account)
-    (ap (λ a. nat_lt 100000000000 a || (a == 0 && not (may_be_nothing v.kind))) m.amount ∙ ap (λ k. nat_lt 100000000000 made.plan.amount || (made.plan.amount == 0 && not (may_be_nothing k))) m.kind ∙ Members.false-or _ _ size.amount size.something)
+    (ap (λ a. nat_lt MOST_CENTS a || (a == 0 && not (may_be_nothing v.kind))) m.amount ∙ ap (λ k. nat_lt MOST_CENTS made.plan.amount || (made.plan.amount == 0 && not (may_be_nothing k))) m.kind ∙ Members.false-or _ _ size.amount size.something)
     (right_colour (all ++ v ∷ []) v v.kind v.name refl kind)
     (seen s (all ++ v ∷ []) us v made.plan v.kind in_list kind (subst (IsPlanned s us made.plan) (sym m.kind) plan))
     (Members.false-or _ _ (ap not (ap (is_clock s.sites s.limits) deps ∙ clock_sound s us (Order.counted all us o l) in_list)) (same (entry_of v.deps v.name + 1) (number_of v.name) n.next.own))
@@ -320,5 +322,5 @@ first_bounded s = record {
   needed = λ i t h. let e : t.token.needed ≡ 0 = ap (λ (u : ModelSite). u.token.needed) (Token.first_is s i t h) in omega arith;
 }
 
-pub bounded_run : (s : Settings) (es : List WorldEvent) → 1 ≤ s.sites → s.sites ≤ most_sites → AreOwn es → IsGood s (world_of_run s es) × IsBounded s (world_of_run s es)
+pub bounded_run : (s : Settings) (es : List WorldEvent) → 1 ≤ s.sites → s.sites ≤ MOST_SITES → AreOwn es → IsGood s (world_of_run s es) × IsBounded s (world_of_run s es)
 bounded_run s es some few own = Steps.after_all s (λ w. IsGood s w × IsBounded s w) (keeps_bounded s) es (first_world s) own (Good.first_good s some few, first_bounded s)

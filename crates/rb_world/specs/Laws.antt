@@ -1,6 +1,7 @@
 -- Laws over every run.
 use Rattle.std.specs.Prelude.{◌≡◌, ℕ, ◌+◌, if◌then◌else◌, ◌≤◌, Bool, true, false, List, [], ◌∷◌, ◌++◌, length, Some, slice_get, ◌⊎◌, ◌&&◌, pos, ◌≤ℤ◌}
-use Rattle.rb_money.specs.Settings.{Settings, most_sites}
+use Rattle.rb_money.specs.Settings.{Settings}
+use Rattle.rb_money.specs.declared.limits.TheConstants.{MOST_SITES}
 use Rattle.rb_money.specs.declared.place.Place.{Place}
 use Rattle.rb_money.specs.declared.refusal.Refusal.TheVariants.{BadMessage, Conflict}
 use Rattle.rb_shadow.specs.declared.shadow.Shadow.{Shadow}
@@ -24,7 +25,7 @@ EachSite w P = (i : ℕ) (t : ModelSite) → slice_get w.sites i ≡ Some t → 
 
 -- a law of the world that any events of its own lead to, at any configuration of no more sites than there may be
 abbrev pub Always : (Settings → World → Type 0) → Type 0
-Always P = (s : Settings) (es : List WorldEvent) → 1 ≤ s.sites → s.sites ≤ most_sites → AreOwn es → P s (world_of_run s es)
+Always P = (s : Settings) (es : List WorldEvent) → 1 ≤ s.sites → s.sites ≤ MOST_SITES → AreOwn es → P s (world_of_run s es)
 
 -- at most one site has the token
 abbrev pub HasOneToken : Settings → World → Type 0
@@ -186,6 +187,6 @@ next_replies w (e ∷ es) = next_reply w e ∷ next_replies (next_world w e) es
 -- the world is the run of its own events
 pub record IsRunOf (x : SeenWorld) : Type 0 where
   pub some_sites : 2 ≤ x.settings.sites
-  pub few_sites : x.settings.sites ≤ most_sites
+  pub few_sites : x.settings.sites ≤ MOST_SITES
   pub own : AreOwn x.events
   pub is : x.world ≡ world_of_run x.settings x.events

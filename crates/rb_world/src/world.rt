@@ -59,7 +59,7 @@ impl World {
 
     /// A list of events, and their replies. After want of memory the world stands after as many
     /// events as `Stopped` says.
-    pub fn run(&mut self, alloc: Global, events: &[WorldEvent]) -> Result<Vec<Reply>, Stopped>
+    pub fn run(&mut self, events: &[WorldEvent]) -> Result<Vec<Reply>, Stopped>
         requires { All IsCommand events.now }
         ensures ok { IfOk result (λ replies. (replies.items ≡ next_replies self.old events.now) × (self.new ≡ next_worlds self.old events.now)) }
         ensures stopped { IfErr result (λ stopped. (stopped.answered ≤ length events.now) × (self.new ≡ next_worlds self.old (take stopped.answered events.now))) }
@@ -67,7 +67,7 @@ impl World {
     {
         // What every world keeps: it is the run of its events.
         let _ = &self.config;
-        let mut replies = Vec::new(alloc);
+        let mut replies = Vec::new(self.alloc);
         if replies.reserve(events.len()).is_err() {
             return Err(Stopped { answered: 0 });
         }

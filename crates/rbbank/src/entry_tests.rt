@@ -1,6 +1,6 @@
 use rb_commands::{LineFault, read_config};
 use rb_history::{append_line, read_line, write_config, write_line};
-use rb_money::{Cause, Config, Place, Refusal};
+use rb_money::{Cause, Config, MOST_SITES, Place, Refusal};
 use rb_scratch::Request;
 use rb_shadow::{Deps, Kind, Label, OpName, Shadow};
 use rb_site::{Entry, Event, Message, OpNames, Reply, Requests};
@@ -98,7 +98,7 @@ fn shadow(name: OpName, amount: u64, kind: Kind) -> Message {
         name,
         home: 0,
         deps: Deps {
-            blue: [0; 8],
+            blue: [0; MOST_SITES],
             red: 0,
         },
         account: ANN,

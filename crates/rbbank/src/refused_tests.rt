@@ -83,7 +83,7 @@ fn stands_after(alloc: Global, world: &World, events: &[WorldEvent]) -> Result<b
 {
     let config = world.config().try_copy(alloc)?;
     let mut other = World::open(alloc, config)?;
-    let same = other.run(alloc, events).is_ok() && same_worlds(world, &other);
+    let same = other.run(events).is_ok() && same_worlds(world, &other);
     let _reports = other.close();
     Ok(same)
 }
@@ -108,7 +108,7 @@ fn goes_on(alloc: Global, world: &mut World, row: &Row, answered: usize) -> Resu
     if before.len() != answered || !stands_after(alloc, world, before.as_slice())? {
         return Ok(false);
     }
-    match world.run(alloc, rest.as_slice()) {
+    match world.run(rest.as_slice()) {
         Ok(replies) => Ok(answers_rest(alloc, row, answered, replies.as_slice())?),
         Err(_) => Ok(false),
     }
@@ -123,7 +123,7 @@ fn answers_all(alloc: Global, row: &Row, replies: &[Reply]) -> Result<bool, Fail
 fn stopped_at(rt: &(impl Abort + AllocGlobal), row: &Row) -> Result<Option<usize>, Fail> {
     let alloc = rt.alloc();
     let (mut world, events) = twice!(opened(alloc, row.script));
-    let (right, stopped) = match world.run(alloc, events.as_slice()) {
+    let (right, stopped) = match world.run(events.as_slice()) {
         Ok(replies) => (answers_all(alloc, row, replies.as_slice()), None),
         Err(Stopped { answered }) => (goes_on(alloc, &mut world, row, answered), Some(answered)),
     };

@@ -89,7 +89,7 @@ pub fn opened(alloc: Global, script: &str) -> Result<(World, Vec<WorldEvent>), L
 /// The world after a script, and its replies.
 fn run(alloc: Global, script: &str) -> Result<(World, Vec<Reply>), Fail> {
     let (mut world, events) = opened(alloc, script)?;
-    match world.run(alloc, events.as_slice()) {
+    match world.run(events.as_slice()) {
         Ok(replies) => Ok((world, replies)),
         Err(_) => {
             let _reports = world.close();
@@ -208,14 +208,14 @@ fn copies_of_lists(rt: HostRuntime) -> Result<(), Fail> {
     let Event::Batch(requests) = copy else {
         return Err(Fail::from("no batch"));
     };
-    assert_eq!(rt; requests.as_slice(), asked.as_slice());
+    assert_eq!(rt; requests.into_vec().as_slice(), asked.as_slice());
     let made = [OpName::Blue { site: 0, n: 1 }, OpName::Red { n: 1 }];
     let names = Reply::Names(OpNames::new(Vec::from_array(alloc, made)?));
     let copy = names.try_copy(alloc)?;
     let Reply::Names(names) = copy else {
         return Err(Fail::from("no names"));
     };
-    assert_eq!(rt; names.as_slice(), made.as_slice());
+    assert_eq!(rt; names.into_vec().as_slice(), made.as_slice());
     Ok(())
 }
 
@@ -373,7 +373,7 @@ fn there_and_back(alloc: Global, config: &Config, shadows: &[Shadow]) -> Result<
 /// What the sites tell after a script.
 pub fn reports_of(alloc: Global, script: &str) -> Result<Vec<SiteReport>, LineFault> {
     let (mut world, events) = opened(alloc, script)?;
-    let ran = world.run(alloc, events.as_slice()).is_ok();
+    let ran = world.run(events.as_slice()).is_ok();
     let reports = world.close();
     if ran {
         Ok(reports)

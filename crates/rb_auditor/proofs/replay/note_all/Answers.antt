@@ -1,5 +1,7 @@
 -- One entry more.
-use Rattle.std.proofs.Common.{◌≡◌, ◌∙◌, ◌+◌, ◌<◌, ◌≤◌, ◌++◌, ◌∷◌, [], ap, sym, subst, arith, length}
+use Rattle.std.proofs.Common.{◌≡◌, ◌∙◌, ◌+◌, ◌*◌, ◌<◌, ◌≤◌, ◌++◌, ◌∷◌, [], ap, sym, subst, arith, length}
+use Rattle.rb_scratch.specs.declared.request.TheConstants.{MOST_REQUESTS}
+use Rattle.rb_money.specs.declared.limits.TheConstants.{MOST_HISTORY}
 use Rattle.rb_auditor.specs.Replays.{IsNoted}
 use Rattle.rb_auditor.proofs.Replaying
 use Rattle.rb_auditor.proofs.Replaying.{IsReplaying}
@@ -11,7 +13,7 @@ overflow_cast-len c =
     let more = Replaying.replaying_more c.args.config.now c.me-me.result c.args.history.now c.loop-k.k c.index-history-k.result c.loop-k.site c.note.new.site c.loop-k.messages.items c.note.new.messages.items c.loop-k.ends.items c.loop-k-test.true c.index-history-k.is c.loop-k.invariant.replaying noted in
     let less : c.loop-k.k < length c.args.history.now = c.loop-k-test.true in
     let fits = Replaying.counts_fit c.args.config.now c.me-me.result c.args.history.now (c.loop-k.k + 1) c.note.new.site c.note.new.messages.items (c.loop-k.ends.items ++ length c.note.new.messages.items ∷ []) c.requires.configured (omega arith) more in
-    let few : length c.note.new.messages.items ≤ 1600000000 = fits.1 in
+    let few : length c.note.new.messages.items ≤ MOST_REQUESTS * MOST_HISTORY = fits.1 in
     let size : c.len.result ≡ length c.note.new.messages.items = c.len.ensures ∙ c.note.new.messages.ok.0 in
     omega arith
 

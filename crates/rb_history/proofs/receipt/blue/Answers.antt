@@ -1,5 +1,6 @@
 use Rattle.std.proofs.Common.{◌≡◌, ℕ, List, Some, None, length, ap, sym, ◌∙◌, rules}
 use Rattle.std.specs.Prelude.{◌==◌, if◌then◌else◌, option_and_then}
+use Rattle.rb_money.specs.declared.limits.TheConstants.{MOST_SITES}
 use Rattle.serde_json.specs.Find.{as_array}
 use Rattle.serde_json.specs.View.{items_view, view}
 use Rattle.rb_history.specs.Recorded.{counts_in}
@@ -11,5 +12,5 @@ returns-then-len-ne-MOST_SITES c =
     let items = c.in_ok-items.items.now.items in
     let found : Some (items_view items) ≡ as_array (view c.args.value.now) = search rules in
     let long : c.len.result ≡ length items = search rules in
-    sym (other_length items 8 (λ e. c.if-len-ne-MOST_SITES.true (long ∙ e)))
-    ∙ ap (λ o. option_and_then (λ (ns : List ℕ). if length ns == 8 then Some ns else None) (option_and_then counts_in o)) found
+    sym (other_length items MOST_SITES (λ e. c.if-len-ne-MOST_SITES.true (long ∙ e)))
+    ∙ ap (λ o. option_and_then (λ (ns : List ℕ). if length ns == MOST_SITES then Some ns else None) (option_and_then counts_in o)) found

@@ -1,6 +1,7 @@
 -- What was decided is carried out as the model says.
 use Rattle.std.proofs.Common.{◌≡◌, ◌≤◌, ap, sym, subst, ◌∙◌, Result, Err, ℕ}
-use Rattle.rb_money.specs.Settings.{Settings, most_sites}
+use Rattle.rb_money.specs.Settings.{Settings}
+use Rattle.rb_money.specs.declared.limits.TheConstants.{MOST_SITES}
 use Rattle.rb_money.specs.declared.refusal.Refusal.{Refusal}
 use Rattle.rb_shadow.specs.declared.shadow.Shadow.{Shadow}
 use Rattle.rb_scratch.specs.Effects.{plan_of_effect}
@@ -9,8 +10,8 @@ use Rattle.rb_scratch.proofs.Makes
 use Rattle.rb_scratch.proofs.Originals
 use Rattle.rb_scratch.proofs.generator.carry_out.Goals as goal
 
-few_sites : (s t : Settings) (n : ℕ) → t ≡ s → n ≡ t.sites → n ≤ most_sites → s.sites ≤ most_sites
-few_sites s t n is same few = subst (λ (u : Settings). u.sites ≤ most_sites) is (subst (λ k. k ≤ most_sites) same few)
+few_sites : (s t : Settings) (n : ℕ) → t ≡ s → n ≡ t.sites → n ≤ MOST_SITES → s.sites ≤ MOST_SITES
+few_sites s t n is same few = subst (λ (u : Settings). u.sites ≤ MOST_SITES) is (subst (λ k. k ≤ MOST_SITES) same few)
 
 abbrev refused : Refusal → Result Shadow Refusal
 refused why = Err why

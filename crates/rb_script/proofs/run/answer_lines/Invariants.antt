@@ -1,5 +1,6 @@
 use Rattle.std.proofs.Common.{◌≡◌, ◌≤◌, ◌+◌, ◌*◌, true, false}
 use Rattle.std.specs.Io.KnownBytes.{IsAtEnd}
+use Rattle.rb_lines.specs.declared.limits.TheConstants.{READ_SIZE, MOST_READS}
 use Rattle.rb_lines.specs.Buffers.{Counts, left}
 use Rattle.rb_script.proofs.Progress.{IsAt}
 use Rattle.rb_script.proofs.run.answer_lines.Given as goal
@@ -9,7 +10,7 @@ invariant-lines g l = record {
   counted : Counts (g.S.Source.calls l.reader) l.buffers.reads;
   fresh : g.W.Sink.failed l.writer ≡ false;
   end : l.buffers.ended ≡ true → IsAtEnd (g.S.Source.remaining l.reader);
-  number : l.session.number + left l.buffers ≤ 65536 * 4000000000 + 1;
+  number : l.session.number + left l.buffers ≤ READ_SIZE * MOST_READS + 1;
   count : l.session.count ≤ l.session.number;
   written : IsAt (g.W.Sink.contents l.fn.writer) (g.W.Sink.contents l.writer) (g.S.Source.remaining l.fn.reader) (g.S.Source.remaining l.reader) l.session l.buffers.pending l.buffers.ended l.buffers.owed.items;
 }

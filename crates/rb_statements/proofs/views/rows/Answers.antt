@@ -1,7 +1,8 @@
 use Rattle.std.proofs.Common.{ap, sym, ◌∙◌, subst, arith, rules, FitsSigned}
-use Rattle.std.specs.Prelude.{pos, negsuc, ◌+ℤ◌, ◌≤ℤ◌}
+use Rattle.std.specs.Prelude.{pos, neg_ℤ, ◌+ℤ◌, ◌≤ℤ◌}
 use Rattle.std.specs.Int.{w64}
 use Rattle.std.proofs.lemmas.Int.{to_z-of_z}
+use Rattle.rb_money.specs.declared.cents.TheConstants.{MOST_CENTS}
 use Rattle.rb_ledger.proofs.ChainFacts
 use Rattle.rb_statements.proofs.Steps
 use Rattle.rb_statements.proofs.views.rows.Goals as goal
@@ -22,7 +23,7 @@ before-balance-requires c =
     let same = sym (to_z-of_z w64 c.row_at-row.result.moved fits) in
     record {
       covered = subst (λ z. z ≤ℤ pos c.loop-position.balance) same (Steps.covered _ _ _ _ _ _ c.config-valid.ensures.valid c.row_at-row.ensures.moved);
-      least = subst (λ z. negsuc 99999999999 ≤ℤ z) same c.row_at-row.ensures.least;
+      least = subst (λ z. neg_ℤ (pos MOST_CENTS) ≤ℤ z) same c.row_at-row.ensures.least;
       bounded = omega (arith, c.loop-position.invariant.bounded);
     }
 

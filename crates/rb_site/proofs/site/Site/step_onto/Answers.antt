@@ -2,6 +2,7 @@
 use Rattle.std.proofs.Common.{append-nil, ◌≡◌, ◌∙◌, ◌+◌, ◌≤◌, [], ◌∷◌, ◌++◌, true, cond, length, ap, subst, sym}
 use Rattle.std.specs.Prelude.{map}
 use Rattle.std.proofs.lemmas.List.{map-append}
+use Rattle.rb_scratch.specs.declared.request.TheConstants.{MOST_REQUESTS}
 use Rattle.rb_money.specs.declared.refusal.Refusal.TheVariants.{HistoryFull}
 use Rattle.rb_site.specs.declared.reply.Reply.TheVariants.{Refused}
 use Rattle.rb_site.specs.Events.{is_full, outcome_of, reply_of, reply_to, sent_at, sent_by}
@@ -43,7 +44,7 @@ invariant_of-self-2 g c = (
   still_enough c.grow.new.self c.KEEPS.result c.self.inside.state c.act.new.self c.args.sent.now.items c.act.new.sent.items (outcome_of c.self.inside.state.settings c.self.inside.state.site c.args.event) c.in_ok-answer.answer c.in_ok-answer.ensures.ok
       (sends_few c.self.inside.state.settings c.self.inside.state.site c.args.event)
       (subst (λ n. length c.self.inside.state.settings.starts ≤ n) (sym c.grow.ensures.accounts) (c.self.invariant.1).accounts)
-      (subst (λ n. n + 16 ≤ c.grow.new.self.entries) (c.len.ensures.same ∙ ap length c.ledger.ensures.entries) c.in_ok-grow.ensures.ok),
+      (subst (λ n. n + MOST_REQUESTS ≤ c.grow.new.self.entries) (c.len.ensures.same ∙ ap length c.ledger.ensures.entries) c.in_ok-grow.ensures.ok),
 )
 
 pub returns-clause-ok : goal.returns-clause-ok

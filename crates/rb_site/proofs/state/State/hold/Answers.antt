@@ -1,6 +1,7 @@
 -- A shadow is held as the model says.
 use Rattle.std.proofs.Common.{◌∙◌, ◌≤◌, Ok, Err, sym, ap, subst}
-use Rattle.rb_money.specs.Settings.{Settings, most_sites}
+use Rattle.rb_money.specs.Settings.{Settings}
+use Rattle.rb_money.specs.declared.limits.TheConstants.{MOST_SITES}
 use Rattle.rb_inbox.proofs.Sound.{sound_numbered}
 use Rattle.rb_inbox.specs.Held.{Holding}
 use Rattle.rb_shadow.specs.Sound.{IsSound}
@@ -18,7 +19,7 @@ invariant_of-self c =
 
 pub returns-in-Ok-Held-clause-ok : goal.returns-in-Ok-Held-clause-ok
 returns-in-Ok-Held-clause-ok c =
-    let few : c.self.inside.journal.settings.sites ≤ most_sites = subst (λ n. n ≤ most_sites) (c.sites-sites.ensures.same ∙ ap (λ (z : Settings). z.sites) c.config.ensures.same) c.sites-sites.ensures.few in
+    let few : c.self.inside.journal.settings.sites ≤ MOST_SITES = subst (λ n. n ≤ MOST_SITES) (c.sites-sites.ensures.same ∙ ap (λ (z : Settings). z.sites) c.config.ensures.same) c.sites-sites.ensures.few in
     let P : SiteState → Type 0 = λ z. AnswersAlone z (state_as c.self.inside.journal.settings c.self.inside.token.me c.self.inside.journal.ops c.put.new.self.held c.self.inside.token.token) (outcome_of_new z.settings z.site c.args.shadow) c.plain.result in
     subst P c.self.view_is
     (holds c.self.inside.journal.settings c.self.inside.token.me c.self.inside.journal.ops c.self.inside.inbox c.put.new.self c.self.inside.token.token c.clock.result.now c.args.shadow c.plain.result few c.config.ensures.valid c.clock.ensures c.self.invariant.limit
@@ -36,7 +37,7 @@ returns-in-Ok-Already-clause-ok c =
 
 pub returns-clause-ok : goal.returns-clause-ok
 returns-clause-ok c =
-    let few : c.self.inside.journal.settings.sites ≤ most_sites = subst (λ n. n ≤ most_sites) (c.sites-sites.ensures.same ∙ ap (λ (z : Settings). z.sites) c.config.ensures.same) c.sites-sites.ensures.few in
+    let few : c.self.inside.journal.settings.sites ≤ MOST_SITES = subst (λ n. n ≤ MOST_SITES) (c.sites-sites.ensures.same ∙ ap (λ (z : Settings). z.sites) c.config.ensures.same) c.sites-sites.ensures.few in
     let now : SiteState = state_as c.self.inside.journal.settings c.self.inside.token.me c.self.inside.journal.ops c.put.new.self.held c.self.inside.token.token in
     let P : SiteState → Type 0 = λ z. AnswersAlone z now (outcome_of_new z.settings z.site c.args.shadow) c.plain-2.result in
     subst P c.self.view_is

@@ -1,6 +1,6 @@
 use Rattle.std.proofs.Common.{◌≡◌, ◌<◌}
 use Rattle.rb_scratch.specs.Tried.{IsOfTheLast}
-use Rattle.rb_scratch.proofs.batch_tests.a_seventeenth_is_refused.Given as goal
+use Rattle.rb_scratch.proofs.batch_tests.one_more_than_a_batch_may_have_is_refused.Given as goal
 
 abbrev pub invariant-requests : goal.invariant-requests
 invariant-requests g l = record {

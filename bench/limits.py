@@ -1,0 +1,8 @@
+"""The limits, by the names of the constants in the Rust sources, which have their units."""
+import pathlib
+import re
+
+CRATES = pathlib.Path(__file__).resolve().parent.parent / "crates"
+FILES = ("rb_money/src/limits.rt", "rb_money/src/cents.rt", "rb_money/src/rate.rt")
+CONSTANT = re.compile(r"^pub const (\w+): \w+ = ([\d_]+);", re.MULTILINE)
+LIMITS = {name: int(value) for file in FILES for name, value in CONSTANT.findall((CRATES / file).read_text())}

@@ -1,0 +1,13 @@
+//! Limits of lines, and of what is read and owed.
+
+/// The most reads of one input.
+pub const MOST_READS: u64 = 4_000_000_000;
+
+/// The most bytes of a line, without its line feed.
+pub const LINE_LIMIT: usize = 1_048_576;
+
+/// The bytes that one read asks for.
+pub const READ_SIZE: usize = 65_536;
+
+/// Replies go out once they have so many bytes, also where more lines wait.
+pub const MOST_OWED: usize = 65_536;
