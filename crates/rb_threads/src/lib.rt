@@ -2,7 +2,15 @@
 #![tactic(auto)]
 
 mod opening;
+#[cfg(test)]
+mod rows;
 mod run;
+#[cfg(test)]
+mod run_tests;
+#[cfg(test)]
+mod seat_tests;
+#[cfg(test)]
+mod tests;
 mod text;
 mod unwritten;
 
