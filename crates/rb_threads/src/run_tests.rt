@@ -126,7 +126,12 @@ fn writer_fails_midway(rt: HostRuntime) -> Result<(), Fail> {
     let mut writer = Room::new(rt.alloc(), 100);
     let run = run_threads(&rt, rt.alloc(), 2, 1, 0, NoGate, &mut writer);
     assert_eq!(rt; run, Err(ScriptFault::Write));
-    assert!(rt; writer.taken.as_slice().starts_with(br#"{"accounts":[["a0",1000],"#));
+    assert!(rt;
+        writer
+            .taken
+            .as_slice()
+            .starts_with(br#"{"accounts":[["a0",1000],"#)
+    );
     assert_eq!(rt; writer.taken.len(), 100);
     Ok(())
 }

@@ -6,7 +6,9 @@
 
 use crate::rows::{ROWS, Row};
 use crate::tests::{Case, gathered};
-use rb_branch::{Branch, CallFault, Entries, Gate, GatherFault, Inlet, NoGate, Outbox, Seat, links};
+use rb_branch::{
+    Branch, CallFault, Entries, Gate, GatherFault, Inlet, NoGate, Outbox, Seat, links,
+};
 use rb_commands::{LineFault, read_command, read_config, write_reply};
 use rb_money::Config;
 use rb_scratch::Request;
@@ -180,12 +182,7 @@ impl Case for Through<'_> {
         R: Ledger + Send + Sync,
         G: Gate + Drop + Sync,
         W: Threads + Wait + Abort + Print + Sync,
-    >(
-        &self,
-        rt: &W,
-        alloc: Global,
-        branch: &Branch<E, R, G>,
-    ) -> Result<Vec<Seat<E, R>>, Fail> {
+    >(&self, rt: &W, alloc: Global, branch: &Branch<E, R, G>) -> Result<Vec<Seat<E, R>>, Fail> {
         let mut desks = Desks::open(rt, alloc, branch)?;
         let commands = self.row.script.lines().skip(1);
         for (line, wanted) in commands.zip(self.row.replies.lines()) {
@@ -211,7 +208,7 @@ fn config_of(alloc: Global, row: &Row) -> Result<Config, LineFault> {
 }
 
 /// A row through the seats of a branch, which is gathered then.
-fn through<W: Threads + Wait + Abort + Print + Sync>(
+fn row_through<W: Threads + Wait + Abort + Print + Sync>(
     rt: &W,
     alloc: Global,
     row: &Row,
@@ -228,7 +225,7 @@ fn through<W: Threads + Wait + Abort + Print + Sync>(
 #[test]
 fn seat_calls(rt: HostRuntime) -> Result<(), Fail> {
     for row in &ROWS {
-        let reports = through(&rt, rt.alloc(), row)??;
+        let reports = row_through(&rt, rt.alloc(), row)??;
         assert_eq!(rt; reports.len(), 2, "{}", row.name);
     }
     Ok(())
@@ -237,7 +234,7 @@ fn seat_calls(rt: HostRuntime) -> Result<(), Fail> {
 #[test]
 fn refuse_seats(rt: HostRuntime) -> Result<(), Fail> {
     let row = ROWS.last().ok_or("no row")?;
-    match through(&rt, rt.alloc(), row)? {
+    match row_through(&rt, rt.alloc(), row)? {
         Ok(reports) => assert_eq!(rt; reports.len(), 2),
         Err(fault) => assert_eq!(rt; fault, GatherFault::OutOfMemory),
     }

@@ -27,12 +27,7 @@ pub trait Case {
         R: Ledger + Send + Sync,
         G: Gate + Drop + Sync,
         W: Threads + Wait + Abort + Print + Sync,
-    >(
-        &self,
-        rt: &W,
-        alloc: Global,
-        branch: &Branch<E, R, G>,
-    ) -> Result<Vec<Seat<E, R>>, Fail>;
+    >(&self, rt: &W, alloc: Global, branch: &Branch<E, R, G>) -> Result<Vec<Seat<E, R>>, Fail>;
 }
 
 fn gathered_over<
@@ -54,7 +49,9 @@ fn gathered_over<
     requires entries { (entries.name ≡ E.name) × (entries.parts ≡ E.parts) × (entries.parts ≡ config.sites) }
     requires receipts { (receipts.name ≡ R.name) × (receipts.parts ≡ R.parts) × (receipts.parts ≡ 1025) }
 {
-    let opened: Result<Branch<E, R, G>, AllocError> = Branch::open(alloc, config, gate, entries, receipts);
+    let opened: Result<Branch<E, R, G>, AllocError> = Branch::open(
+        alloc, config, gate, entries, receipts,
+    );
     let Ok(branch) = opened else {
         return Ok(Err(GatherFault::OutOfMemory));
     };
@@ -125,12 +122,7 @@ impl Case for TwoTellers {
         R: Ledger + Send + Sync,
         G: Gate + Drop + Sync,
         W: Threads + Wait + Abort + Print + Sync,
-    >(
-        &self,
-        rt: &W,
-        alloc: Global,
-        branch: &Branch<E, R, G>,
-    ) -> Result<Vec<Seat<E, R>>, Fail> {
+    >(&self, rt: &W, alloc: Global, branch: &Branch<E, R, G>) -> Result<Vec<Seat<E, R>>, Fail> {
         let (outbox, _inlets) = links(alloc, 2)?;
         let one = branch.seat(rt, 0)?;
         let two = branch.seat(rt, 0)?;
@@ -165,15 +157,13 @@ impl Case for ReadBack {
         R: Ledger + Send + Sync,
         G: Gate + Drop + Sync,
         W: Threads + Wait + Abort + Print + Sync,
-    >(
-        &self,
-        rt: &W,
-        alloc: Global,
-        branch: &Branch<E, R, G>,
-    ) -> Result<Vec<Seat<E, R>>, Fail> {
+    >(&self, rt: &W, alloc: Global, branch: &Branch<E, R, G>) -> Result<Vec<Seat<E, R>>, Fail> {
         let (outbox, _inlets) = links(alloc, 2)?;
         let mut seat = branch.seat(rt, 0)?;
-        assert_eq!(rt; branch.submit(rt, &mut seat, &outbox, deposit(5)).ok(), Some(1));
+        assert_eq!(rt;
+            branch.submit(rt, &mut seat, &outbox, deposit(5)).ok(),
+            Some(1)
+        );
         assert_eq!(rt; branch.balance(rt, &mut seat, Place(0)).ok(), Some(2));
         assert_eq!(rt; seat.receipt(1).map(|receipt| receipt.number), Some(1));
         let second = seat.receipt(2).ok_or("no receipt")?;
@@ -254,12 +244,7 @@ impl<C: Clock + Sync> Case for BesideOne<'_, C> {
         R: Ledger + Send + Sync,
         G: Gate + Drop + Sync,
         W: Threads + Wait + Abort + Print + Sync,
-    >(
-        &self,
-        rt: &W,
-        alloc: Global,
-        branch: &Branch<E, R, G>,
-    ) -> Result<Vec<Seat<E, R>>, Fail> {
+    >(&self, rt: &W, alloc: Global, branch: &Branch<E, R, G>) -> Result<Vec<Seat<E, R>>, Fail> {
         let held = branch.seat(rt, 0)?;
         let other = branch.seat(rt, 1)?;
         let (held, other) = join(
@@ -303,20 +288,15 @@ fn gate(rt: HostRuntime) -> Result<(), Fail> {
 }
 
 /// A deposit at site 0, and a server at site 1.
-struct Served;
+struct OneServed;
 
-impl Case for Served {
+impl Case for OneServed {
     fn calls<
         E: Entries + Send + Sync,
         R: Ledger + Send + Sync,
         G: Gate + Drop + Sync,
         W: Threads + Wait + Abort + Print + Sync,
-    >(
-        &self,
-        rt: &W,
-        alloc: Global,
-        branch: &Branch<E, R, G>,
-    ) -> Result<Vec<Seat<E, R>>, Fail> {
+    >(&self, rt: &W, alloc: Global, branch: &Branch<E, R, G>) -> Result<Vec<Seat<E, R>>, Fail> {
         let (outbox, mut inlets) = links(alloc, 2)?;
         let copy = outbox.try_copy(alloc)?;
         let mut teller = branch.seat(rt, 0)?;
@@ -340,7 +320,7 @@ impl Case for Served {
 #[test]
 fn served(rt: HostRuntime) -> Result<(), Fail> {
     let config = two_sites(rt.alloc(), Limits::largest())?;
-    let reports = gathered(&rt, rt.alloc(), config, NoGate, &Served)??;
+    let reports = gathered(&rt, rt.alloc(), config, NoGate, &OneServed)??;
     for report in &reports {
         assert_eq!(rt; report.balances.first().copied(), Some(5));
     }
@@ -356,12 +336,7 @@ impl Case for Seats {
         R: Ledger + Send + Sync,
         G: Gate + Drop + Sync,
         W: Threads + Wait + Abort + Print + Sync,
-    >(
-        &self,
-        rt: &W,
-        alloc: Global,
-        branch: &Branch<E, R, G>,
-    ) -> Result<Vec<Seat<E, R>>, Fail> {
+    >(&self, rt: &W, alloc: Global, branch: &Branch<E, R, G>) -> Result<Vec<Seat<E, R>>, Fail> {
         assert_eq!(rt; branch.seat(rt, 2).err(), Some(SeatFault::NoSite));
         let mut seats = Vec::new(alloc);
         for _i in 0..1024 {
@@ -384,12 +359,7 @@ impl Case for Full {
         R: Ledger + Send + Sync,
         G: Gate + Drop + Sync,
         W: Threads + Wait + Abort + Print + Sync,
-    >(
-        &self,
-        rt: &W,
-        alloc: Global,
-        branch: &Branch<E, R, G>,
-    ) -> Result<Vec<Seat<E, R>>, Fail> {
+    >(&self, rt: &W, alloc: Global, branch: &Branch<E, R, G>) -> Result<Vec<Seat<E, R>>, Fail> {
         let mut seat = branch.seat(rt, 0)?;
         assert_eq!(rt; branch.apply_ready(rt, &mut seat).ok(), Some(None));
         assert_eq!(rt; seat.receipts().len(), 0);
@@ -412,18 +382,16 @@ impl Case for OneMissing {
         R: Ledger + Send + Sync,
         G: Gate + Drop + Sync,
         W: Threads + Wait + Abort + Print + Sync,
-    >(
-        &self,
-        rt: &W,
-        alloc: Global,
-        branch: &Branch<E, R, G>,
-    ) -> Result<Vec<Seat<E, R>>, Fail> {
+    >(&self, rt: &W, alloc: Global, branch: &Branch<E, R, G>) -> Result<Vec<Seat<E, R>>, Fail> {
         let (outbox, inlets) = links(alloc, 2)?;
         drop(inlets);
         let mut first = branch.seat(rt, 0)?;
         let mut second = branch.seat(rt, 0)?;
         let number = branch.submit(rt, &mut first, &outbox, deposit(1))?;
-        assert_eq!(rt; first.receipt(number).map(|receipt| receipt.unsent), Some(1));
+        assert_eq!(rt;
+            first.receipt(number).map(|receipt| receipt.unsent),
+            Some(1)
+        );
         let _number = branch.submit(rt, &mut second, &outbox, deposit(1))?;
         let mut seats = Vec::with_capacity(alloc, 1)?;
         seats.push_reserved(first);
