@@ -67,12 +67,13 @@ fn ask<'a>(config: &Config, verb: Verb, text: &'a str) -> Option<(Request, &'a s
 fn request<'a>(config: &Config, text: &'a str) -> Option<(Request, &'a str)>
     ensures { IfSome result (λ p. Asks config.now p.0 text.now p.1.now) }
 {
-    match text.as_bytes().first() {
-        Some(b'd') => ask(config, Verb::Pair(OnPair::Deposit), text),
-        Some(b'w') => ask(config, Verb::Pair(OnPair::Withdraw), text),
-        Some(b'i') => ask(config, Verb::Pair(OnPair::Interest), text),
-        _ => ask(config, Verb::Operation(OnOperation::Cancel), text),
-    }
+    let verb = match text.as_bytes().first() {
+        Some(b'd') => Verb::Pair(OnPair::Deposit),
+        Some(b'w') => Verb::Pair(OnPair::Withdraw),
+        Some(b'i') => Verb::Pair(OnPair::Interest),
+        _ => Verb::Operation(OnOperation::Cancel),
+    };
+    ask(config, verb, text)
 }
 
 /// A request that is submitted alone, from its key on.
