@@ -1,9 +1,9 @@
 import subprocess,sys,os,time,re
-root='/work/wt/threads/crates'
+root='threads/crates'
 crate=sys.argv[1]; d=sys.argv[2]
 # name -> function for --only
 F=dict(a.split('=') for a in sys.argv[3:])
-log=open(f'/work/notes/T1/edits-{crate}.log','a')
+log=open(f'T1/edits-{crate}.log','a')
 for name,fn in F.items():
     lines=open(f'{root}/{crate}/{d}/{name}.edit').read().split('\n')
     file=None; keep={}; old=None
@@ -18,6 +18,6 @@ for name,fn in F.items():
     finally:
         for f,t in keep.items(): open(f,'w').write(t)
     out=r.stdout
-    open(f'/work/notes/T1/edit-{crate}-{name}.out','w').write(out)
+    open(f'T1/edit-{crate}-{name}.out','w').write(out)
     why=[l for l in out.split('\n') if 'no proof' in l or 'is not proved that' in l or 'error' in l and 'thiserror' not in l or 'logic=' in l]
     print(time.strftime('%H:%M:%S'),name,fn,'rc',r.returncode,int(time.time()-t0),'s',[w[:170] for w in why[:4]],file=log,flush=True)
