@@ -26,7 +26,7 @@ pub record Takes (old new : Collected) (l : List ℕ) : Type 0 where
   pub number : new.number ≡ old.number + 1
   pub each : HasEachSite new
 
--- whatever follows, the input ends at this line; of want of memory nothing is said
+-- whatever follows, the input ends at this line; nothing is said of running out of memory
 abbrev pub EndsAt : Collected → List ℕ → ScriptFault → Type 0
 EndsAt c l OutOfMemory = Unit {0}
 EndsAt c l (BadConfig n) = (ls : List (List ℕ)) → rest_of c (l ∷ ls) ≡ Err (BadConfig n)

@@ -72,7 +72,7 @@ pub record IsClosed (s : Settings) (r : SiteReport) : Type 0 where
   pub stands : IsReport s (state_of (seen s r.me r.history.items)) r
   pub few : vec_len r.history < 2 ^ 32
 
--- a branch whose sites are closed, as callers see it: the reports, and how many seats were given
+-- a branch whose sites are closed, as clients see it: the reports, and how many seats were given
 pub record SeenClosed : Type 0 where
   pub reports : List SiteReport
   pub seats : ℕ
@@ -92,7 +92,7 @@ abbrev pub AllGathered : List SiteReport → List SeenSeat → Type 0
 AllGathered reports seats =
     (k : ℕ) (r : SiteReport) → slice_get reports k ≡ Some r → (r.me ≡ k) × IsGathered k r.history.items seats
 
--- what a fault says: there are fewer receipts than entries, at that site and in all; or its history isn't its seats' receipts, interleaved. Want of memory says nothing
+-- what a fault says: there are fewer receipts than entries, at that site and in all; or its history isn't its seats' receipts, interleaved. Out of memory says nothing
 abbrev pub Explains : List SiteReport → List SeenSeat → GatherFault → Type 0
 Explains reports seats (Missing site) =
     (r : SiteReport) × (slice_get reports site ≡ Some r) × (receipts_at site seats < vec_len r.history) × (receipts_in seats < entries_in reports)

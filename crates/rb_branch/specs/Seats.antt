@@ -11,7 +11,7 @@ use Rattle.rb_site.specs.Seen.{SeenSite, Replays, state_of, stepped}
 
 -- ---- what is behind the locks
 
--- a seat, as callers see it: its site's number and its receipts
+-- a seat, as clients see it: its site's number and its receipts
 pub record SeenSeat : Type 0 where
   pub site : ℕ
   pub receipts : List Receipt
@@ -64,7 +64,7 @@ pub record Records (old new : SeenSite) (event : Event) (before now : SeenSeat) 
   pub number_is : number ≡ length now.receipts
   pub posted_is : posted ≡ sent_at old.settings (state_of old) event
 
--- why nothing is recorded, but for want of memory: the seat is of another site, the history is full, or the seat is
+-- why nothing is recorded, but for running out of memory: the seat is of another site, the history is full, or the seat is
 abbrev pub CannotRecord : SeenSite → SeenSeat → Type 0
 CannotRecord desk seat = (seat.site ≢ desk.me) ⊎ ((is_full desk.settings (state_of desk) ≡ true) ⊎ (4000000000 ≤ length seat.receipts))
 

@@ -10,7 +10,7 @@ use std::sync::ledger::{Blank, Book, Ledger, Share};
 const MOST_SEATS: u32 = 1024;
 
 /// What lies behind the one lock that all sites share: how many entries and how many receipts there are,
-/// which is one number, and the parts of the receipts that no seat has. Callers see how many seats were given.
+/// which is one number, and the parts of the receipts that no seat has. Clients see how many seats were given.
 #[derive(Drop)]
 pub struct Books<E: Entries, R: Ledger> {
     entries: Book<E>,

@@ -12,7 +12,7 @@ use std::alloc::Global;
 use std::marker::Model;
 use std::sync::ledger::{Ledger, Share};
 
-/// The reports of a branch's sites, once they are closed, and its books. Callers see the reports, one for each
+/// The reports of a branch's sites, once they are closed, and its books. Clients see the reports, one for each
 /// site, and how many seats were given.
 #[derive(Drop)]
 pub struct Closed<E: Entries, R: Ledger> {

@@ -19,7 +19,7 @@ use std::sync::{Mutex, Wait};
 /// How many receipts a seat has at most, so that their numbers fit 32 bits.
 const MOST_RECEIPTS: usize = 4_000_000_000;
 
-/// What lies behind a site's lock: the site, and its share of the entries. Callers see the site. It can't be
+/// What lies behind a site's lock: the site, and its share of the entries. Clients see the site. It can't be
 /// dropped.
 pub struct Desk<E: Entries> {
     site: Site,
@@ -37,7 +37,7 @@ impl<E: Entries> Model for Desk<E> {
     ghost invariant = { λ d. IsDesk E.settings d.site d.share.parts d.share.amount };
 }
 
-/// One caller at one site: what it was answered, and its share of the receipts. Callers see the site's number
+/// One client at one site: what it was answered, and its share of the receipts. Clients see the site's number
 /// and the receipts.
 #[derive(Drop)]
 pub struct Seat<E: Entries, R: Ledger> {
@@ -60,7 +60,7 @@ impl<E: Entries, R: Ledger> Model for Seat<E, R> {
 /// One event at the desk, and its receipt at the end of the seat: its number there, from 1, and what is to be
 /// sent. Nothing else makes a receipt. Its room is made before the step.
 ///
-/// `Err` is want of memory, or a full history, a full seat, or a seat of another site; desk and seat are
+/// `Err` means out of memory, or a full history, a full seat, or a seat of another site; desk and seat are
 /// then as before.
 pub fn record<E: Entries, R: Ledger, W: Wait>(
     rt: &W,

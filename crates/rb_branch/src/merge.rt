@@ -11,7 +11,7 @@ use rb_site::Entry;
 use std::alloc::{AllocError, Global};
 
 /// Whether the history of a site is the receipts of these seats, interleaved. Each entry is looked at once,
-/// and each receipt, for any number of seats. `Err` is want of memory.
+/// and each receipt, for any number of seats. `Err` means out of memory.
 pub(crate) fn merges(
     alloc: Global,
     site: u8,

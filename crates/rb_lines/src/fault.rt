@@ -29,12 +29,12 @@ pub enum ScriptFault {
     /// There was no memory to go on.
     #[error("out of memory")]
     OutOfMemory,
-    /// What threads did at the sites can't be told whole: a site's history was full, or is no interleaving of its callers' receipts.
+    /// What threads did at the sites can't be told whole: a site's history was full, or is no interleaving of its clients' receipts.
     #[error("gather failed")]
     Gather,
 }
 
-/// What a program says on standard error, without the line feed. An `Err` is want of memory.
+/// What a program says on standard error, without the line feed. An `Err` means out of memory.
 pub fn message(alloc: Global, fault: ScriptFault) -> Result<String, AllocError>
     ensures { IfOk result (λ text. string_bytes text ≡ message_of fault) }
 {
@@ -52,7 +52,7 @@ pub fn message(alloc: Global, fault: ScriptFault) -> Result<String, AllocError>
     }
 }
 
-/// A program's exit status: 2 where the script is wrong, 3 where its ends are, 4 for want of memory, 5 where threads can't be told.
+/// A program's exit status: 2 where the script is wrong, 3 where its ends are, 4 where memory runs out, 5 where threads can't be told.
 pub fn status(fault: ScriptFault) -> u8
     ensures { result ≡ status_of fault }
 {

@@ -22,7 +22,7 @@ fn accounts(alloc: Global) -> Result<Vec<(String, u64)>, AllocError>
     Ok(accounts)
 }
 
-/// The configuration of so many sites. `Err` is want of memory.
+/// The configuration of so many sites. `Err` means out of memory.
 pub fn bank(alloc: Global, sites: u8) -> Result<Config, AllocError>
     requires some { 2 ≤ sites }
     requires few { sites ≤ 8 }

@@ -20,7 +20,7 @@ use std::thread;
 use std::thread::{Threads, join};
 use std::time::Duration;
 
-/// What callers do at a branch, and the seats that they give back.
+/// What clients do at a branch, and the seats that they give back.
 pub trait Case {
     fn calls<
         E: Entries + Send + Sync,

@@ -50,6 +50,6 @@ threads_line = with_rule (with_rule (with_rule (new_app (codes "threads")) (opti
 abbrev pub command_line : App
 command_line = with_subcommand (with_subcommand (with_subcommand (record { top = top_line; subs = [] }) (new_app (codes "script")).top) (new_app (codes "audit")).top) threads_line.top
 
--- the kinds of error that words may end in, want of memory aside: those of the first word that the command line doesn't take, and where it takes all, that they ask for nothing
+-- the kinds of error that words may end in, out of memory aside: those of the first word that the command line doesn't take, and where it takes all, that they ask for nothing
 abbrev pub kinds_of : List (List ℕ) → Kinds
 kinds_of words = or_else (fault_of command_line words) (InvalidSubcommand ∷ [])

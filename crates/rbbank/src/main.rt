@@ -45,7 +45,7 @@ const FAULT_FOUND: u8 = 1;
 /// The status where the words are wrong.
 const WRONG_WORDS: u8 = 2;
 
-/// The status for want of memory.
+/// The status where memory runs out.
 const NO_MEMORY: u8 = 4;
 
 fn out_of_memory(rt: &HostRuntime) -> ExitCode
@@ -189,11 +189,13 @@ fn run<W: Threads + Wait + Sync>(rt: &HostRuntime, handle: &W) -> ExitCode
     match read_words(alloc, views.as_slice()) {
         Ok(Words::Script) => script(rt),
         Ok(Words::Audit) => audit(rt),
-        Ok(Words::Threads {
-            sites,
-            tellers,
-            seed,
-        }) => threads(rt, handle, sites, tellers, seed),
+        Ok(
+            Words::Threads {
+                sites,
+                tellers,
+                seed,
+            },
+        ) => threads(rt, handle, sites, tellers, seed),
         Err(error) => tell_words(rt, error),
     }
 }
