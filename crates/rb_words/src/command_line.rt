@@ -63,10 +63,7 @@ fn threads<'a>(alloc: Global) -> Result<Command<'a>, AllocError>
         texts::THREADS,
         texts::THREADS_HELP,
     );
-    command
-        .arg(sites)?
-        .arg(tellers)?
-        .arg(seed)
+    command.arg(sites)?.arg(tellers)?.arg(seed)
 }
 
 /// The command line that the program takes.

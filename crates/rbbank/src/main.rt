@@ -189,11 +189,13 @@ fn run<W: Threads + Wait + Sync>(rt: &HostRuntime, handle: &W) -> ExitCode
     match read_words(alloc, views.as_slice()) {
         Ok(Words::Script) => script(rt),
         Ok(Words::Audit) => audit(rt),
-        Ok(Words::Threads {
-            sites,
-            tellers,
-            seed,
-        }) => threads(rt, handle, sites, tellers, seed),
+        Ok(
+            Words::Threads {
+                sites,
+                tellers,
+                seed,
+            },
+        ) => threads(rt, handle, sites, tellers, seed),
         Err(error) => tell_words(rt, error),
     }
 }
