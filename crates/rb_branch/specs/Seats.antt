@@ -1,6 +1,7 @@
 -- What a call does to a desk and to a seat.
 use Rattle.std.specs.Prelude.{◌≡◌, ◌≢◌, ◌⊎◌, ℕ, ◌+◌, ◌≤◌, ◌<◌, true, Option, None, zero, suc, slice_get, List, [], ◌∷◌, ◌++◌, length, All}
 use Rattle.rb_money.specs.Settings.{Settings}
+use Rattle.rb_money.specs.declared.limits.TheConstants.{MOST_SITES}
 use Rattle.rb_branch.specs.declared.receipt.Receipt.{Receipt}
 use Rattle.rb_site.specs.declared.event.Event.{Event}
 use Rattle.rb_site.specs.declared.event.Event.TheVariants.{Submit, Batch, Receive, Apply, Pass, Balance, AsOf, Statement as AskStatement}
@@ -44,7 +45,7 @@ pub record AreBooks (all seats entries receipts parts amount : ℕ) : Type 0 whe
 pub record IsBranch (s : Settings) (parts count : ℕ) : Type 0 where
   pub all : count ≡ s.sites
   pub all_parts : parts ≡ s.sites
-  pub few : count ≤ 255
+  pub few : count ≤ MOST_SITES
 
 -- ---- receipts
 

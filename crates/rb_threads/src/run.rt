@@ -2,6 +2,7 @@
 ghost use Rattle.std.specs.Prelude.{◌≡◌, ◌↔◌, ◌≤◌, List, ℕ, true, false, Err};
 ghost use Rattle.std.specs.Io.KnownBytes.{Appends};
 ghost use Rattle.rb_lines.specs.declared.fault.ScriptFault.TheVariants.{Write};
+ghost use Rattle.rb_money.specs.declared.limits.TheConstants.{MOST_SITES};
 ghost use Rattle.rb_threads.specs.Runs.{EndsAs};
 
 use crate::opening::bank;
@@ -27,7 +28,7 @@ pub fn run_threads<G: Gate + Drop + Sync, K: Sink, W: Threads + Wait + Sync>(
     writer: &mut K,
 ) -> Result<(), ScriptFault>
     requires some_sites { 2 ≤ sites }
-    requires few_sites { sites ≤ 8 }
+    requires few_sites { sites ≤ MOST_SITES }
     requires fresh { K.failed writer.old ≡ false }
     // What is written is the configuration and histories that the tellers made.
     ensures written { (text : List ℕ) × Appends (K.contents writer.old) (K.contents writer.new) text × EndsAs result sites tellers seed text }
