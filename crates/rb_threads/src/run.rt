@@ -15,7 +15,7 @@ use std::alloc::Global;
 use std::sync::Wait;
 use std::thread::Threads;
 
-/// Runs tellers at the sites of a bank, each a hundred calls in a thread of its own, and writes the bank's configuration and the sites' histories, which an audit reads.
+/// Runs tellers at the sites of a bank, each in a thread of its own for `rb_crew::CALLS` calls, and writes the bank's configuration and the sites' histories, which an audit reads.
 ///
 /// Teller `t`, from 0, is at site `t % sites`; its calls come from its own numbers, the first of which is `seed + t`. One more thread at each site receives what the others send, and applies what is ready. All threads have ended before anything is written. Refuses with `OutOfMemory`, also where a thread can't be made; with `Gather` where a site's history was full, or is no interleaving of the callers' receipts; and with `Write`.
 pub fn run_threads<G: Gate + Drop + Sync, K: Sink, W: Threads + Wait + Sync>(
