@@ -7,7 +7,7 @@ help:
 	@echo 'make check     proves every crate, over what earlier checks kept'
 	@echo 'make test      the gate: everything from nothing (docs/GATE.md)'
 	@echo 'make bench     the measurements of bench/README.md, some ten minutes'
-	@echo 'make refuse    each allocation of the program and of three tests refused in turn'
+	@echo 'make refuse    each allocation of the program and of four tests refused in turn'
 	@echo 'make wrong-bodies  the wrong bodies that the gate leaves out'
 
 # The stored run, drawn, each command beside its reply.
@@ -38,10 +38,11 @@ check:
 bench: build
 	@bench/run.py crates/rbbank/out/rbbank
 
-# Each allocation of the program and of three tests refused in turn (docs/GATE.md, "Beside the gate").
+# Each allocation of the program and of four tests refused in turn (docs/GATE.md, "Beside the gate").
 refuse: build
 	@cd crates/rbbank && rt test
-	@tests/refuse.py crates/rbbank/out/rbbank crates/rbbank/out/rbbank_tests
+	@cd crates/rb_threads && rt test
+	@tests/refuse.py crates/rbbank/out/rbbank crates/rbbank/out/rbbank_tests crates/rb_threads/out/rb_threads_tests
 
 # The wrong bodies that the gate leaves out for its time.
 wrong-bodies:

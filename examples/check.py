@@ -1,7 +1,7 @@
 #!/usr/bin/env python3
 """Runs every script and all histories of this folder through a built program, and compares what it writes, what
-it says on standard error, and its status. What the program's own help shows is run as well, and its version is
-looked at.
+it says on standard error, and its status. What the program's own help shows is run as well, its version is
+looked at, and a run of tellers is audited.
 
 usage: check.py [--quiet] PROGRAM      (--quiet tells only what is different)
 """
@@ -54,6 +54,16 @@ def tells_version(program):
     return (run.stdout, run.stderr, run.returncode) == (b"rbbank 1\n", b"", 0)
 
 
+def tellers(program, sites, count):
+    """Whether an audit finds an order of what a run of tellers wrote, in which each of them made its hundred calls."""
+    words = ["threads", "--sites", str(sites), "--tellers", str(count), "--seed", "7"]
+    run = subprocess.run([program, *words], capture_output=True, text=True)
+    audit = subprocess.run([program, "audit"], input=run.stdout, capture_output=True, text=True)
+    calls = [line for line in run.stdout.splitlines()[1:] if not re.match(r'{"event":{"(shadow|token|apply)"', line)]
+    fine = (run.stderr, run.returncode, audit.stderr, audit.returncode) == ("", 0, "", 0)
+    return fine and audit.stdout.startswith('{"order":[') and len(calls) == 100 * count
+
+
 def main():
     words = [word for word in sys.argv[1:] if word != "--quiet"]
     if len(words) != 1:
@@ -63,6 +73,7 @@ def main():
     results = list(zip(map(os.path.basename, paths), same))
     results += [(command + " --help", helps(words[0], command)) for command in ["script", "audit"]]
     results.append(("--version", tells_version(words[0])))
+    results += [(f"threads at {sites} sites, audited", tellers(words[0], sites, count)) for sites, count in [(2, 1), (3, 4), (8, 16)]]
     for name, same in results:
         if not same or "--quiet" not in sys.argv[1:]:
             print(f"{'same' if same else 'DIFFERENT'}  {name}")

@@ -11,7 +11,7 @@ usage: closure.py                  the headline's: the functions and laws of REA
                                    all is well
 
 Words are resolved by the 'use' lines of their file. A type of the code stands for the types of its fields, and one that
-callers see as a value of a model for that value.
+clients see as a value of a model for that value.
 """
 import collections
 import glob
@@ -21,7 +21,7 @@ import sys
 
 ROOT = os.path.dirname(os.path.dirname(os.path.abspath(__file__)))
 ROOMS = ["The headline", "The program's text", "Other public contracts", "Inner contracts"]
-PROGRAM = ["rb_script::run_script", "rb_audit::run_audit", "rb_words::read_words"]
+PROGRAM = ["rb_script::run_script", "rb_audit::run_audit", "rb_threads::run_threads", "rb_words::read_words"]
 WORD = re.compile(r"[^\W\d]\w*")
 
 # a type of the code with its fields, and a trait with its functions
@@ -85,7 +85,7 @@ def definitions(crate):
 
 
 def value_of(text, name):
-    """The value of the model as which callers see a type, if they do, and the 'use' lines that it stands beside."""
+    """The value of the model as which clients see a type, if they do, and the 'use' lines that it stands beside."""
     found = re.search(r"(?ms)^impl[^\n]*\bModel for " + name + r"\b.*?^}", text)
     value = found and re.search(r"ghost Value = \{(.*?)\};", found.group(0), re.DOTALL)
     return (value.group(1), found.group(0)) if value else None

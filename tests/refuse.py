@@ -1,11 +1,11 @@
 #!/usr/bin/env python3
-"""Refuses each allocation in turn: of the program on four scripts, and of three tests.
+"""Refuses each allocation in turn: of the program on four scripts, and of four tests.
 
-usage: refuse.py PROGRAM TESTS      (what `rt run` and `rt test` built in crates/rbbank/out)
+usage: refuse.py PROGRAM TESTS SEATS      (what `rt run` and `rt test` built in crates/rbbank/out, and `rt test` in crates/rb_threads/out)
 
 A process is run with its first allocation refused, another with its second, and so on until a run meets
 no refusal. The program has to write a front of the script's replies and end in status 4, or all of them
-in status 0; a test (crates/rbbank/src/refused_tests.rt) has to pass. Ends in status 1 where a run does
+in status 0; a test (crates/rbbank/src/refused_tests.rt, crates/rb_threads/src/seat_tests.rt) has to pass. Ends in status 1 where a run does
 otherwise, and where no run of a script was stopped on the way, or none inside a batch.
 """
 import itertools
@@ -94,7 +94,7 @@ def test(refuser, tests, name):
     return refusals, stops
 
 
-def all_tests(refuser, tests):
+def all_tests(refuser, tests, seats):
     """The tests. The number of refusals."""
     each, stops = test(refuser, tests, "refused_tests::refuse_each")
     for name in ROWS:
@@ -111,17 +111,20 @@ def all_tests(refuser, tests):
         sys.exit("refuse: no script was stopped")
     # It is never stopped: it needs no memory beyond the room that it makes first.
     room, _ = test(refuser, tests, "refused_tests::reserved")
-    return each + text + room
+    calls, stops = test(refuser, seats, "seat_tests::refuse_seats")
+    if not stops:
+        sys.exit("refuse: no call of a seat was refused")
+    return each + text + room + calls
 
 
 def main():
-    if len(sys.argv) != 3:
+    if len(sys.argv) != 4:
         sys.exit(__doc__)
-    program, tests = map(os.path.abspath, sys.argv[1:])
+    program, tests, seats = map(os.path.abspath, sys.argv[1:])
     with tempfile.TemporaryDirectory() as folder:
         refuser = Refuser(folder)
         refusals = sum(script(refuser, program, name) for name in ROWS)
-        refusals += all_tests(refuser, tests)
+        refusals += all_tests(refuser, tests, seats)
     print(f"{refusals} refusals tried, and all is as it has to be")
 
 

@@ -9,7 +9,7 @@ use Rattle.rb_lines.specs.Buffers.{Reads}
 use Rattle.rb_lines.specs.Lines.{lines_of, is_long, line_len}
 use Rattle.rb_lines.specs.declared.limits.TheConstants.{LINE_LIMIT}
 use Rattle.rb_lines.specs.declared.fault.ScriptFault.{ScriptFault}
-use Rattle.rb_lines.specs.declared.fault.ScriptFault.TheVariants.{NoConfig, BadConfig, BadLine, LongLine, Read, Write, OutOfMemory}
+use Rattle.rb_lines.specs.declared.fault.ScriptFault.TheVariants.{NoConfig, BadConfig, BadLine, LongLine, Read, Write, OutOfMemory, Gather}
 use Rattle.rb_lines.proofs.LineLaws.{long_line}
 use Rattle.rb_lines.proofs.Walks.{Walks, standing}
 use Rattle.rb_lines.proofs.Walks as walk
@@ -107,6 +107,7 @@ at_fault all b c l more NoConfig e h = absurd h
 at_fault all b c l more (LongLine n) e h = absurd h
 at_fault all b c l more Read e h = absurd h
 at_fault all b c l more Write e h = absurd h
+at_fault all b c l more Gather e h = absurd h
 
 pub known_fault : (a b : Option (List ℕ)) (c c' : Collected) (p : List ℕ) (e : Bool) (n : ℕ) (f : ScriptFault) → FollowsKnown a b c p e → n ≡ line_len p → n ≤ length p
     → (n < length p) ⊎ ((n ≡ length p) × (0 < n) × (e ≡ true)) → (e ≡ true → IsAtEnd b) → EndsAt c (take n p) f → IfSome a (λ input. CollectsAs (Err f) c' input b)

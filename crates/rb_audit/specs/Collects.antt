@@ -4,7 +4,7 @@ use Rattle.rb_money.specs.Settings.{Settings}
 use Rattle.rb_site.specs.declared.entry.Entry.{Entry}
 use Rattle.rb_auditor.specs.Findings.{lists_of}
 use Rattle.rb_lines.specs.declared.fault.ScriptFault.{ScriptFault}
-use Rattle.rb_lines.specs.declared.fault.ScriptFault.TheVariants.{NoConfig, BadConfig, BadLine, LongLine, Read, Write, OutOfMemory}
+use Rattle.rb_lines.specs.declared.fault.ScriptFault.TheVariants.{NoConfig, BadConfig, BadLine, LongLine, Read, Write, OutOfMemory, Gather}
 use Rattle.rb_audit.specs.declared.collected.Collected.{Collected}
 use Rattle.rb_audit.specs.Inputs.{Input, input_after, input_from}
 
@@ -26,7 +26,7 @@ pub record Takes (old new : Collected) (l : List ℕ) : Type 0 where
   pub number : new.number ≡ old.number + 1
   pub each : HasEachSite new
 
--- whatever follows, the input ends at this line; of want of memory nothing is said
+-- whatever follows, the input ends at this line; nothing is said of running out of memory
 abbrev pub EndsAt : Collected → List ℕ → ScriptFault → Type 0
 EndsAt c l OutOfMemory = Unit {0}
 EndsAt c l (BadConfig n) = (ls : List (List ℕ)) → rest_of c (l ∷ ls) ≡ Err (BadConfig n)
@@ -35,3 +35,4 @@ EndsAt c l NoConfig = ⊥
 EndsAt c l (LongLine n) = ⊥
 EndsAt c l Read = ⊥
 EndsAt c l Write = ⊥
+EndsAt c l Gather = ⊥

@@ -7,7 +7,7 @@ use Rattle.rb_history.specs.Verdicts.{verdict_line, order_json, stuck_json, wron
 use Rattle.rb_lines.specs.Lines.{lines_of, whole_lines}
 use Rattle.rb_lines.specs.Writes.{IsFront}
 use Rattle.rb_lines.specs.declared.fault.ScriptFault.{ScriptFault}
-use Rattle.rb_lines.specs.declared.fault.ScriptFault.TheVariants.{NoConfig, BadConfig, BadLine, LongLine, Read, Write, OutOfMemory}
+use Rattle.rb_lines.specs.declared.fault.ScriptFault.TheVariants.{NoConfig, BadConfig, BadLine, LongLine, Read, Write, OutOfMemory, Gather}
 use Rattle.rb_audit.specs.Inputs.{Input, input_of}
 use Rattle.rb_audit.specs.Collects.{rest_of}
 use Rattle.rb_audit.specs.declared.collected.Collected.{Collected}
@@ -46,6 +46,7 @@ IsUnfinished (Err (LongLine n)) = ⊥
 IsUnfinished (Err Read) = ⊥
 IsUnfinished (Err Write) = ⊥
 IsUnfinished (Err OutOfMemory) = ⊥
+IsUnfinished (Err Gather) = ⊥
 
 -- these bytes of the input were read, and no whole line of them is bad
 pub record IsCollected (input rest : List ℕ) : Type 0 where
@@ -67,6 +68,7 @@ EndsAs (Err (LongLine n)) input left text = IsFaulty input text (LongLine n)
 EndsAs (Err Read) input left text = (rest : List ℕ) × (left ≡ Some rest) × IsCollected input rest × (text ≡ [])
 EndsAs (Err Write) input left text = (x : Input) × (found : Bool) × (line : List ℕ) × (input_of (lines_of input) ≡ Ok x) × Tells found x line × IsFront text line
 EndsAs (Err OutOfMemory) input left text = text ≡ []
+EndsAs (Err Gather) input left text = ⊥
 
 -- how the collecting of this input's lines ends, before anything is answered
 abbrev pub CollectsAs : Result Unit ScriptFault → Collected → List ℕ → Option (List ℕ) → Type 0

@@ -9,7 +9,7 @@ use rb_money::Config;
 use rb_site::History;
 use std::alloc::{AllocError, Global};
 
-/// The line that tells what an audit found, and whether it has an order. `Err` is want of memory.
+/// The line that tells what an audit found, and whether it has an order. `Err` means out of memory.
 pub fn answer(
     alloc: Global,
     config: &Config,

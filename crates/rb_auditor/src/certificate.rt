@@ -4,7 +4,7 @@ ghost use Rattle.std.specs.Prelude.{◌≡◌};
 use std::marker::Model;
 
 /// An order in which a world could have recorded histories: for each entry in turn its site, from 0.
-/// Callers see the sites. Each is listed as often as its history has entries.
+/// Clients see the sites. Each is listed as often as its history has entries.
 #[derive(Debug, Drop)]
 pub struct Certificate {
     places: Vec<u8>,

@@ -91,7 +91,7 @@ impl<'a> Taking<'a> {
     }
 
     /// Takes the next entry of a site, if one is left, and it isn't the receipt of a message that
-    /// wasn't sent. `Err` is want of memory: nothing is taken then.
+    /// wasn't sent. `Err` means out of memory: nothing is taken then.
     pub fn take(&mut self, place: usize) -> Result<bool, AllocError>
         requires { place < length self.old.histories }
         ensures ok { IfOk result (λ took. MatchBool took (Took self.old self.new place) ((self.new ≡ self.old) × Rests self.old place)) }

@@ -7,10 +7,10 @@ use Rattle.serde_json.specs.View.{items_of}
 use Rattle.serde_json.specs.Written.{compact_text, items_text}
 use Rattle.rb_money.specs.Settings.{Settings}
 use Rattle.rb_scratch.specs.declared.request.Request.{Request}
-use Rattle.rb_site.specs.declared.event.Event.TheVariants.{Batch, Submit}
 use Rattle.rb_commands.specs.Requests.{request_alone}
 use Rattle.rb_commands.specs.Spelled.{Asks, AsksEach, Tells}
 use Rattle.rb_commands.specs.Values.{one_json}
+use Rattle.rb_commands.specs.declared.own_event.OwnEvent.TheVariants.{Batch, Submit}
 use Rattle.rb_commands.specs.declared.told.Told.TheVariants.{Event as ToldEvent}
 use Rattle.rb_commands.proofs.Back.{list_back}
 use Rattle.rb_commands.proofs.Verbs.{submitted_request, told_event}

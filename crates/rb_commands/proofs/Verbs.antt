@@ -9,12 +9,14 @@ use Rattle.rb_shadow.specs.declared.op_name.OpName.{OpName}
 use Rattle.rb_scratch.specs.declared.request.Request.{Request}
 use Rattle.rb_site.specs.Worlds.{IsCommand, IsOwn}
 use Rattle.rb_site.specs.declared.event.Event.{Event}
-use Rattle.rb_site.specs.declared.event.Event.TheVariants.{Submit, Batch, Apply as ToApply, Pass as ToPass, Balance as OfBalance, AsOf as OfPosition, Statement as OfStatement}
+use Rattle.rb_site.specs.declared.event.Event.TheVariants.{Submit, Batch, Receive, Apply as ToApply, Pass as ToPass, Balance as OfBalance, AsOf as OfPosition, Statement as OfStatement}
 use Rattle.rb_site.specs.declared.world_event.WorldEvent.TheVariants.{At, Deliver as ToDeliver}
 use Rattle.rb_commands.specs.Commands.{command_for, event_of}
 use Rattle.rb_commands.specs.Requests.{asked_of, place_at, request_of}
 use Rattle.rb_commands.specs.Values.{either, number_below, pair_of}
-use Rattle.rb_commands.specs.Verbs.{told_at, told_of}
+use Rattle.rb_commands.specs.Verbs.{event_told, own_of, told_at, told_of}
+use Rattle.rb_commands.specs.declared.own_event.OwnEvent.{OwnEvent}
+use Rattle.rb_commands.specs.declared.own_event.OwnEvent.TheVariants.{Submit as OwnSubmit, Batch as OwnBatch, Apply as OwnApply, Pass as OwnPass, Balance as OwnBalance, AsOf as OwnAsOf, Statement as OwnStatement}
 use Rattle.rb_commands.specs.declared.told.Told.{Told}
 use Rattle.rb_commands.specs.declared.told.Told.TheVariants.{Event as ToldEvent, Message as ToldMessage}
 
@@ -45,7 +47,7 @@ event_at P s d batch apply pass balance asof statement submit =
     (either_at P (get (codes "statement") d) _ _ (λ x. mapped P OfStatement _ (λ a _. statement a))
     (mapped P Submit (request_of s d) submit))))))
 
-pub own_event : (s : Settings) (d : Data) (e : Event) → event_of s d ≡ Some e → IsOwn e
+own_event : (s : Settings) (d : Data) (e : Event) → event_of s d ≡ Some e → IsOwn e
 own_event s d = event_at IsOwn s d (λ rs. tt) (λ x. tt) (λ to. tt) (λ a. tt) (λ a n. tt) (λ a. tt) (λ r _. tt)
 
 pub submitted_request : (s : Settings) (d : Data) (r : Request) → event_of s d ≡ Some (Submit r) → request_of s d ≡ Some r
@@ -53,25 +55,59 @@ submitted_request s d r h =
     let P : Event → Type 0 = λ e. e ≡ Submit r → request_of s d ≡ Some r in
     event_at P s d (λ rs e. absurd (cc)) (λ x e. absurd (cc)) (λ to e. absurd (cc)) (λ a e. absurd (cc)) (λ a n e. absurd (cc)) (λ a e. absurd (cc)) (λ q is e. let same : q ≡ r = cc in is ∙ ap Some same) (Submit r) h refl
 
--- an event that an object tells, and a command of it
-pub told_event : (s : Settings) (d : Data) (e : Event) → told_of s d ≡ Some (ToldEvent e) → event_of s d ≡ Some e
-told_event s d e h =
-    let P : Told → Type 0 = λ t. t ≡ ToldEvent e → event_of s d ≡ Some e in
-    either_at P (get (codes "deliver") d) _ _ (λ m. mapped P ToldMessage _ (λ n _ same. absurd (cc))) (mapped P ToldEvent (event_of s d) (λ f is same. let this : f ≡ e = cc in is ∙ ap Some this)) (ToldEvent e) h refl
+-- an event that is one of a site's own, from the one that it is
+own_back : (e : Event) (own : OwnEvent) → own_of e ≡ Some own → e ≡ event_told own
+own_back (Receive m) own h = absurd (cc)
+own_back (Submit r) own h = let same : OwnSubmit r ≡ own = cc in ap event_told same
+own_back (Batch rs) own h = let same : OwnBatch rs ≡ own = cc in ap event_told same
+own_back (ToApply x) own h = let same : OwnApply x ≡ own = cc in ap event_told same
+own_back (ToPass to) own h = let same : OwnPass to ≡ own = cc in ap event_told same
+own_back (OfBalance a) own h = let same : OwnBalance a ≡ own = cc in ap event_told same
+own_back (OfPosition a n) own h = let same : OwnAsOf a n ≡ own = cc in ap event_told same
+own_back (OfStatement a) own h = let same : OwnStatement a ≡ own = cc in ap event_told same
 
-pub told_command : (s : Settings) (d : Data) (told : Told) (site : ℕ) → told_of s d ≡ Some told → IsCommand (told_at site told)
-told_command s d told site =
-    let P : Told → Type 0 = λ t. IsCommand (told_at site t) in
-    either_at P (get (codes "deliver") d) _ _ (λ m. mapped P ToldMessage _ (λ n _. tt)) (mapped P ToldEvent (event_of s d) (λ e is. own_event s d e is)) told
+owned : (e : Option Event) (own : OwnEvent) → option_and_then own_of e ≡ Some own → e ≡ Some (event_told own)
+owned None own h = absurd (cc)
+owned (Some e) own h = ap Some (own_back e own h)
+
+-- an event that an object tells
+pub told_event : (s : Settings) (d : Data) (own : OwnEvent) → told_of s d ≡ Some (ToldEvent own) → event_of s d ≡ Some (event_told own)
+told_event s d own h =
+    let P : Told → Type 0 = λ t. t ≡ ToldEvent own → event_of s d ≡ Some (event_told own) in
+    either_at P (get (codes "deliver") d) _ _ (λ m. mapped P ToldMessage _ (λ n _ same. absurd (cc))) (mapped P ToldEvent (option_and_then own_of (event_of s d)) (λ o is same. let this : o ≡ own = cc in owned (event_of s d) own (is ∙ ap Some this))) (ToldEvent own) h refl
+
+-- all that is told is an event of a site's own, or a delivery
+pub is_own : (own : OwnEvent) → IsOwn (event_told own)
+is_own (OwnSubmit r) = tt
+is_own (OwnBatch rs) = tt
+is_own (OwnApply x) = tt
+is_own (OwnPass to) = tt
+is_own (OwnBalance a) = tt
+is_own (OwnAsOf a n) = tt
+is_own (OwnStatement a) = tt
+
+pub told_command : (told : Told) (site : ℕ) → IsCommand (told_at site told)
+told_command (ToldEvent own) site = is_own own
+told_command (ToldMessage m) site = tt
 
 delivered : (site : ℕ) (m : Option ℕ) → option_map (ToDeliver site) m ≡ option_map (told_at site) (option_map ToldMessage m)
 delivered site None = refl
 delivered site (Some m) = refl
 
-sited : (site : ℕ) (message : Option Data) (event : Option Event) → either message (λ m. option_map (ToDeliver site) (number_below (2 ^ 32) m)) (option_map (At site) event) ≡ option_map (told_at site) (either message (λ m. option_map ToldMessage (number_below (2 ^ 32) m)) (option_map ToldEvent event))
-sited site None None = refl
-sited site None (Some e) = refl
-sited site (Some m) event = delivered site (number_below (2 ^ 32) m)
+placed : (site : ℕ) (e : Event) → IsOwn e → Some (At site e) ≡ option_map (told_at site) (option_map ToldEvent (own_of e))
+placed site (Receive m) own = absurd own
+placed site (Submit r) own = refl
+placed site (Batch rs) own = refl
+placed site (ToApply x) own = refl
+placed site (ToPass to) own = refl
+placed site (OfBalance a) own = refl
+placed site (OfPosition a n) own = refl
+placed site (OfStatement a) own = refl
+
+sited : (site : ℕ) (message : Option Data) (event : Option Event) → ((e : Event) → event ≡ Some e → IsOwn e) → either message (λ m. option_map (ToDeliver site) (number_below (2 ^ 32) m)) (option_map (At site) event) ≡ option_map (told_at site) (either message (λ m. option_map ToldMessage (number_below (2 ^ 32) m)) (option_map ToldEvent (option_and_then own_of event)))
+sited site None None own = refl
+sited site None (Some e) own = placed site e (own e refl)
+sited site (Some m) event own = delivered site (number_below (2 ^ 32) m)
 
 pub command_told : (s : Settings) (d : Data) (site : ℕ) → command_for s d site ≡ option_map (told_at site) (told_of s d)
-command_told s d site = sited site (get (codes "deliver") d) (event_of s d)
+command_told s d site = sited site (get (codes "deliver") d) (event_of s d) (own_event s d)

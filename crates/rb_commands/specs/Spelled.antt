@@ -9,10 +9,10 @@ use Rattle.serde_json.specs.View.{items_of}
 use Rattle.serde_json.specs.Written.{compact_text, items_text, outline, items_outline}
 use Rattle.rb_money.specs.Settings.{Settings}
 use Rattle.rb_scratch.specs.declared.request.Request.{Request}
-use Rattle.rb_site.specs.declared.event.Event.TheVariants.{Submit}
 use Rattle.rb_commands.specs.Requests.{request_alone}
 use Rattle.rb_commands.specs.Values.{one_json}
 use Rattle.rb_commands.specs.Verbs.{told_of}
+use Rattle.rb_commands.specs.declared.own_event.OwnEvent.TheVariants.{Submit}
 use Rattle.rb_commands.specs.declared.told.Told.{Told}
 use Rattle.rb_commands.specs.declared.told.Told.TheVariants.{Event as ToldEvent}
 

@@ -1,4 +1,4 @@
-//! Pieces of a line, added at the end of bytes. After an `Err`, which is want of memory, a front of a piece may stand there.
+//! Pieces of a line, added at the end of bytes. After an `Err`, which means out of memory, a front of a piece may stand there.
 ghost use Rattle.std.specs.Prelude.{◌++◌, codes, decimal};
 ghost use Rattle.std.specs.Fmt.{signed_decimal};
 ghost use Rattle.json.specs.Print.{quoted};

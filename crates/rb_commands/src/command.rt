@@ -27,7 +27,7 @@ fn event_by(config: &Config, verb: Verb, value: &Value) -> Result<Event, LineFau
     ensures own { IfOk result IsOwn }
 {
     match told(config, verb, value) {
-        Some(Told::Event(event)) => Ok(event),
+        Some(Told::Event(own)) => Ok(own.event()),
         _ => Err(LineFault::Bad),
     }
 }
@@ -61,7 +61,7 @@ fn batch(alloc: Global, config: &Config, list: &Value) -> Result<Event, LineFaul
     ensures own { IfOk result IsOwn }
 {
     match requests(alloc, config, list) {
-        Ok(requests) => Ok(of_requests(requests)),
+        Ok(requests) => Ok(of_requests(requests).event()),
         Err(fault) => Err(fault),
     }
 }

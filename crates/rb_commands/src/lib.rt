@@ -10,6 +10,7 @@ mod config_line;
 mod fault;
 mod line;
 mod lists;
+mod own_event;
 mod parts;
 mod request;
 pub mod scan;

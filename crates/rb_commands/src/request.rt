@@ -7,12 +7,12 @@ ghost use Rattle.rb_commands.specs.Values.{one_json};
 ghost use Rattle.rb_commands.specs.Verbs.{key_of, told_of};
 
 use crate::fault::LineFault;
+use crate::own_event::OwnEvent;
 use crate::told::Told;
 use crate::values::{long, name, pair, size};
 use crate::verb::{OnOperation, OnPair, Verb, key, of_account, of_number, of_operation, of_pair};
 use rb_money::{Config, Place};
 use rb_scratch::Request;
-use rb_site::Event;
 use serde_json::Value;
 use std::alloc::Global;
 
@@ -67,7 +67,7 @@ fn asked(config: &Config, verb: Verb, value: &Value) -> Option<Request>
     ensures { result ≡ request_of config.now (one_json (key_of verb) (view value.now)) }
 {
     match told(config, verb, value)? {
-        Told::Event(Event::Submit(request)) => Some(request),
+        Told::Event(OwnEvent::Submit(request)) => Some(request),
         _ => None,
     }
 }

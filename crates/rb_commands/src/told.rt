@@ -2,13 +2,14 @@
 ghost use Rattle.std.specs.Prelude.{◌≡◌};
 ghost use Rattle.rb_commands.specs.Verbs.{told_at};
 
-use rb_site::{Event, WorldEvent};
+use crate::own_event::OwnEvent;
+use rb_site::WorldEvent;
 
 /// What a command tells beside its site.
 #[derive(Drop)]
 pub enum Told {
     /// An event of the site.
-    Event(Event),
+    Event(OwnEvent),
     /// The number of a message that is delivered to the site.
     Message(u32),
 }
@@ -19,7 +20,7 @@ pub fn at(told: Told, site: u8) -> WorldEvent
     ensures { result ≡ told_at site told }
 {
     match told {
-        Told::Event(event) => WorldEvent::At(site, event),
+        Told::Event(own) => WorldEvent::At(site, own.event()),
         Told::Message(message) => WorldEvent::Deliver(site, message),
     }
 }

@@ -4,6 +4,7 @@ ghost use Rattle.rb_site.specs.Worlds.{IsCommand};
 ghost use Rattle.rb_commands.specs.Commands.{command_at};
 ghost use Rattle.rb_commands.specs.Spelled.{Asks, AsksEach, Tells};
 
+use crate::own_event::OwnEvent;
 use crate::scan::{after, byte, number, operation, pair, plain};
 use crate::told::{Told, at};
 use crate::verb::{
@@ -12,7 +13,7 @@ use crate::verb::{
 };
 use rb_money::Config;
 use rb_scratch::Request;
-use rb_site::{Event, WorldEvent};
+use rb_site::WorldEvent;
 use std::alloc::Global;
 
 /// The site's number, as the last member of an object.
@@ -57,7 +58,7 @@ fn ask<'a>(config: &Config, verb: Verb, text: &'a str) -> Option<(Request, &'a s
 {
     let (told, rest) = tell(config, verb, text)?;
     match told {
-        Told::Event(Event::Submit(request)) => Some((request, rest)),
+        Told::Event(OwnEvent::Submit(request)) => Some((request, rest)),
         _ => None,
     }
 }
@@ -66,12 +67,13 @@ fn ask<'a>(config: &Config, verb: Verb, text: &'a str) -> Option<(Request, &'a s
 fn request<'a>(config: &Config, text: &'a str) -> Option<(Request, &'a str)>
     ensures { IfSome result (λ p. Asks config.now p.0 text.now p.1.now) }
 {
-    match text.as_bytes().first() {
-        Some(b'd') => ask(config, Verb::Pair(OnPair::Deposit), text),
-        Some(b'w') => ask(config, Verb::Pair(OnPair::Withdraw), text),
-        Some(b'i') => ask(config, Verb::Pair(OnPair::Interest), text),
-        _ => ask(config, Verb::Operation(OnOperation::Cancel), text),
-    }
+    let verb = match text.as_bytes().first() {
+        Some(b'd') => Verb::Pair(OnPair::Deposit),
+        Some(b'w') => Verb::Pair(OnPair::Withdraw),
+        Some(b'i') => Verb::Pair(OnPair::Interest),
+        _ => Verb::Operation(OnOperation::Cancel),
+    };
+    ask(config, verb, text)
 }
 
 /// A request that is submitted alone, from its key on.

@@ -2,18 +2,19 @@
 ghost use Rattle.std.specs.Prelude.{◌≡◌, Some, nat_lt, ◌^◌, if◌then◌else◌, None};
 ghost use Rattle.serde_json.specs.Data.{Data, string};
 ghost use Rattle.rb_money.specs.Settings.{Settings};
-ghost use Rattle.rb_site.specs.declared.event.Event.TheVariants.{Batch, Submit};
 ghost use Rattle.rb_commands.specs.Values.{name_at, number_json, one_json, pair_json};
 ghost use Rattle.rb_commands.specs.Verbs.{key_of, told_of};
+ghost use Rattle.rb_commands.specs.declared.own_event.OwnEvent.TheVariants.{Batch, Submit};
 ghost use Rattle.rb_commands.specs.declared.verb.Verb.TheVariants.{Account, Number, Operation, Pair};
 ghost use Rattle.rb_commands.specs.declared.told.Told.TheVariants.{Event as ToldEvent};
 
+use crate::own_event::OwnEvent;
 use crate::request::place;
 use crate::told::Told;
 use rb_money::Config;
 use rb_scratch::Request;
 use rb_shadow::OpName;
-use rb_site::{Event, Requests};
+use rb_site::Requests;
 
 /// The verbs on an account.
 #[derive(Clone, Copy)]
@@ -83,8 +84,8 @@ pub fn of_account(config: &Config, verb: OnAccount, name: &str) -> Told
 {
     let account = place(config, name);
     match verb {
-        OnAccount::Balance => Told::Event(Event::Balance(account)),
-        OnAccount::Statement => Told::Event(Event::Statement(account)),
+        OnAccount::Balance => Told::Event(OwnEvent::Balance(account)),
+        OnAccount::Statement => Told::Event(OwnEvent::Statement(account)),
     }
 }
 
@@ -105,7 +106,7 @@ fn narrow(n: u64) -> Option<u32>
 pub fn submit(request: Request) -> Told
     ensures { result ≡ ToldEvent (Submit request) }
 {
-    Told::Event(Event::Submit(request))
+    Told::Event(OwnEvent::Submit(request))
 }
 
 /// What a verb tells of an account and a number: an amount in cents, a rate in basis points, or a position.
@@ -123,7 +124,7 @@ pub fn of_pair(config: &Config, verb: OnPair, name: &str, n: u64) -> Option<Told
         }
         OnPair::AsOf => {
             let position = narrow(n)?;
-            Some(Told::Event(Event::AsOf(account, position)))
+            Some(Told::Event(OwnEvent::AsOf(account, position)))
         }
     }
 }
@@ -135,7 +136,7 @@ pub fn of_operation(verb: OnOperation, name: OpName) -> Told
 {
     match verb {
         OnOperation::Cancel => submit(Request::Cancel { target: name }),
-        OnOperation::Apply => Told::Event(Event::Apply(name)),
+        OnOperation::Apply => Told::Event(OwnEvent::Apply(name)),
     }
 }
 
@@ -147,7 +148,7 @@ pub fn of_number(verb: OnNumber, n: u64) -> Option<Told>
     match verb {
         OnNumber::Pass => {
             if n < 256 {
-                Some(Told::Event(Event::Pass(n as u8)))
+                Some(Told::Event(OwnEvent::Pass(n as u8)))
             } else {
                 None
             }
@@ -161,8 +162,8 @@ pub fn of_number(verb: OnNumber, n: u64) -> Option<Told>
 
 /// What is told by a list of requests.
 #[inline(always)]
-pub fn of_requests(requests: Vec<Request>) -> Event
+pub fn of_requests(requests: Vec<Request>) -> OwnEvent
     ensures { result ≡ Batch requests.items }
 {
-    Event::Batch(Requests::new(requests))
+    OwnEvent::Batch(Requests::new(requests))
 }

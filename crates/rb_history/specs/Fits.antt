@@ -79,7 +79,7 @@ abbrev pub IsCause : Cause → Type 0
 IsCause CauseDeclined = ⊤
 IsCause (CauseRefused n) = n < 2 ^ 8
 
--- of want of memory no line tells
+-- of running out of memory no line tells
 abbrev pub IsRefusal : Refusal → Type 0
 IsRefusal OutOfMemory = ⊥
 IsRefusal (AlreadyCancelled position) = position < 2 ^ 32

@@ -40,7 +40,7 @@ batch_of d = if size_of d == 3 then option_and_then (λ index. option_map (Batch
 abbrev pub message_of : Data → Option Refusal
 message_of d = if size_of d == 2 then option_map BadMessage (field (codes "why") (number_below (2 ^ 8)) d) else None
 
--- the refusals that their numbers alone tell; of want of memory no line tells
+-- the refusals that their numbers alone tell; of running out of memory no line tells
 abbrev pub plain_refusals : List Refusal
 plain_refusals = UnknownAccount ∷ BadAmount ∷ BadRate ∷ UnknownOperation ∷ NotCancellable ∷ NumbersExhausted ∷ NeedToken ∷ WouldOverdraw ∷ DeltaTooLarge ∷ BadBatch ∷ NotHeld ∷ NotReady ∷ InboxFull ∷ Conflict ∷ NoMessage ∷ NoSite ∷ NotYours ∷ PositionBeyond ∷ HistoryFull ∷ SameAccount ∷ []
 

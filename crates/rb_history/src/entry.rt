@@ -133,7 +133,7 @@ fn append_entry(
     append_number(out, ",\"site\":", site as u64, "}")
 }
 
-/// Adds the line of an entry of a site's history, without a line feed. An `Err` is want of memory, and adds
+/// Adds the line of an entry of a site's history, without a line feed. An `Err` means out of memory, and adds
 /// nothing.
 ///
 /// A place past the accounts is written "?". A line has no limit: one that tells a long statement may be longer
@@ -157,7 +157,7 @@ pub fn append_line(
     }
 }
 
-/// The line of an entry of a site's history, without a line feed. An `Err` is want of memory.
+/// The line of an entry of a site's history, without a line feed. An `Err` means out of memory.
 pub fn write_line(
     alloc: Global,
     config: &Config,

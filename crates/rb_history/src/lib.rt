@@ -33,7 +33,7 @@ pub fn configs_are_read()
 {}
 
 /// The line that is written for an entry of a site is read as the entry: where each of its places is that of an
-/// account of the configuration or `Place::NOWHERE`, and its reply isn't want of memory.
+/// account of the configuration or `Place::NOWHERE`, and its reply isn't *out of memory*.
 pub fn entries_are_read()
     ensures { EntriesAreRead }
 {}

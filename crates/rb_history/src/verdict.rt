@@ -52,7 +52,7 @@ fn append_wrong_reply(out: &mut Vec<u8>, site: u8, event: u32) -> Result<(), All
 }
 
 /// The line of an order: the sites, from 0, in the order in which their entries were taken. With its
-/// line feed. `Err` is want of memory.
+/// line feed. `Err` means out of memory.
 pub fn order_line(alloc: Global, order: &[u8]) -> Result<Vec<u8>, AllocError>
     ensures { IfOk result (λ line. line.items ≡ verdict_line (order_json order.now)) }
 {
@@ -63,7 +63,7 @@ pub fn order_line(alloc: Global, order: &[u8]) -> Result<Vec<u8>, AllocError>
 }
 
 /// The line that tells the number, from 1, of each site's next entry, where none of them can be taken.
-/// With its line feed. `Err` is want of memory.
+/// With its line feed. `Err` means out of memory.
 pub fn stuck_line(alloc: Global, next: &[u32]) -> Result<Vec<u8>, AllocError>
     ensures { IfOk result (λ line. line.items ≡ verdict_line (stuck_json next.now)) }
 {
@@ -74,7 +74,7 @@ pub fn stuck_line(alloc: Global, next: &[u32]) -> Result<Vec<u8>, AllocError>
 }
 
 /// The line that tells the first wrong reply, by its site, from 0, and the entry's number, from 1. With
-/// its line feed. `Err` is want of memory.
+/// its line feed. `Err` means out of memory.
 pub fn wrong_reply_line(alloc: Global, site: u8, event: u32) -> Result<Vec<u8>, AllocError>
     ensures { IfOk result (λ line. line.items ≡ verdict_line (wrong_reply_json site event)) }
 {

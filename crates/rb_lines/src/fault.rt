@@ -29,9 +29,12 @@ pub enum ScriptFault {
     /// There was no memory to go on.
     #[error("out of memory")]
     OutOfMemory,
+    /// What threads did at the sites can't be told whole: a site's history was full, or is no interleaving of its clients' receipts.
+    #[error("gather failed")]
+    Gather,
 }
 
-/// What a program says on standard error, without the line feed. An `Err` is want of memory.
+/// What a program says on standard error, without the line feed. An `Err` means out of memory.
 pub fn message(alloc: Global, fault: ScriptFault) -> Result<String, AllocError>
     ensures { IfOk result (λ text. string_bytes text ≡ message_of fault) }
 {
@@ -45,10 +48,11 @@ pub fn message(alloc: Global, fault: ScriptFault) -> Result<String, AllocError>
         ScriptFault::Read => String::from_str(alloc, "rbbank: read failed"),
         ScriptFault::Write => String::from_str(alloc, "rbbank: write failed"),
         ScriptFault::OutOfMemory => String::from_str(alloc, "rbbank: out of memory"),
+        ScriptFault::Gather => String::from_str(alloc, "rbbank: gather failed"),
     }
 }
 
-/// A program's exit status: 2 where the script is wrong, 3 where its ends are, 4 for want of memory.
+/// A program's exit status: 2 where the script is wrong, 3 where its ends are, 4 where memory runs out, 5 where threads can't be told.
 pub fn status(fault: ScriptFault) -> u8
     ensures { result ≡ status_of fault }
 {
@@ -60,5 +64,6 @@ pub fn status(fault: ScriptFault) -> u8
         ScriptFault::Read => 3,
         ScriptFault::Write => 3,
         ScriptFault::OutOfMemory => 4,
+        ScriptFault::Gather => 5,
     }
 }

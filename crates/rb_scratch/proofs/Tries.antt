@@ -122,7 +122,7 @@ last_made base made book records n tried e =
 pub tried_within : (base made : List Shadow) (book : Book) (records : List UndoParts) → IsTried base made book records → length records ≤ length book.entries
 tried_within base made book records tried = omega (arith, tried_length base made book records tried, ap length tried.entries, length-append base made)
 
--- what may be added is refused for want of memory alone
+-- what may be added is refused only where memory runs out
 pub no_memory : (s : Settings) (us : List Shadow) (h : Shadow) (why : Refusal) (n : ℕ) → IsValid s (us ++ h ∷ []) → (refusal_of s us h ≡ Some why) ⊎ ((why ≡ OutOfMemory) × (refusal_of s us h ≡ None) × (n ≡ 0)) → why ≡ OutOfMemory
 no_memory s us h why n valid (inl e) =
     let fine : refusal_of s us h ≡ None = (Legal.refuses_rightly s us h (Legal.IsValid-front s us (h ∷ []) valid)).1 valid in

@@ -5,7 +5,7 @@ use Rattle.std.specs.Io.KnownBytes.{IsAtEnd}
 use Rattle.rb_world.specs.Laws.{SeenWorld}
 use Rattle.rb_script.specs.declared.session.Session.{Session}
 use Rattle.rb_lines.specs.declared.fault.ScriptFault.{ScriptFault}
-use Rattle.rb_lines.specs.declared.fault.ScriptFault.TheVariants.{NoConfig, BadConfig, BadLine, LongLine, Read, Write, OutOfMemory}
+use Rattle.rb_lines.specs.declared.fault.ScriptFault.TheVariants.{NoConfig, BadConfig, BadLine, LongLine, Read, Write, OutOfMemory, Gather}
 use Rattle.rb_lines.specs.Writes.{IsFront}
 use Rattle.rb_lines.specs.Buffers.{Reads}
 use Rattle.rb_lines.specs.Lines.{lines_of, is_long, line_len}
@@ -112,6 +112,7 @@ at_fault all b s t l more NoConfig e h = absurd h
 at_fault all b s t l more (LongLine n) e h = absurd h
 at_fault all b s t l more Read e h = absurd h
 at_fault all b s t l more Write e h = absurd h
+at_fault all b s t l more Gather e h = absurd h
 
 pub known_fault : (a b : Option (List ℕ)) (s : Session) (p : List ℕ) (e : Bool) (t : List ℕ) (n : ℕ) (f : ScriptFault) → FollowsKnown a b s p e t → n ≡ line_len p → n ≤ length p
     → (n < length p) ⊎ ((n ≡ length p) × (0 < n) × (e ≡ true)) → (e ≡ true → IsAtEnd b) → EndsAt s (take n p) f → IfSome a (λ input. EndsAs (Err f) input b t)

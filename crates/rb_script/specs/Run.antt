@@ -1,7 +1,7 @@
 -- How a run ends, and what was written by then.
 use Rattle.std.specs.Prelude.{◌≡◌, ℕ, List, [], ◌++◌, Option, Some, None, Result, Ok, Err}
 use Rattle.rb_lines.specs.declared.fault.ScriptFault.{ScriptFault}
-use Rattle.rb_lines.specs.declared.fault.ScriptFault.TheVariants.{NoConfig, BadConfig, BadLine, LongLine, Read, Write, OutOfMemory}
+use Rattle.rb_lines.specs.declared.fault.ScriptFault.TheVariants.{NoConfig, BadConfig, BadLine, LongLine, Read, Write, OutOfMemory, Gather}
 use Rattle.rb_lines.specs.Writes.{IsFront}
 use Rattle.rb_lines.specs.Lines.{lines_of, whole_lines}
 use Rattle.rb_script.specs.Script.{script_of}
@@ -21,6 +21,7 @@ IsUnfinished (Some (LongLine n)) = ⊥
 IsUnfinished (Some Read) = ⊥
 IsUnfinished (Some Write) = ⊥
 IsUnfinished (Some OutOfMemory) = ⊥
+IsUnfinished (Some Gather) = ⊥
 
 -- these bytes of the input were read, and each line of them that has its line feed was answered
 pub record IsAnswered (input rest text : List ℕ) : Type 0 where
@@ -39,6 +40,7 @@ EndsAs (Err (LongLine n)) input left text = IsFaulty input text (LongLine n)
 EndsAs (Err Read) input left text = (rest : List ℕ) × (left ≡ Some rest) × IsAnswered input rest text
 EndsAs (Err Write) input left text = IsFront text (script_of (lines_of input)).text
 EndsAs (Err OutOfMemory) input left text = IsFront text (script_of (lines_of input)).text
+EndsAs (Err Gather) input left text = ⊥
 
 -- the same where some of the text is still owed: whatever front of it goes out is a front of the script's
 abbrev pub WillEndAs : Result ℕ ScriptFault → List ℕ → Option (List ℕ) → List ℕ → Type 0

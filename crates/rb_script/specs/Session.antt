@@ -5,7 +5,7 @@ use Rattle.rb_world.specs.Laws.{SeenWorld, next_reply, next_world}
 use Rattle.rb_commands.specs.Replies.{line}
 use Rattle.rb_script.specs.declared.session.Session.{Session}
 use Rattle.rb_lines.specs.declared.fault.ScriptFault.{ScriptFault}
-use Rattle.rb_lines.specs.declared.fault.ScriptFault.TheVariants.{NoConfig, BadConfig, BadLine, LongLine, Read, Write, OutOfMemory}
+use Rattle.rb_lines.specs.declared.fault.ScriptFault.TheVariants.{NoConfig, BadConfig, BadLine, LongLine, Read, Write, OutOfMemory, Gather}
 use Rattle.rb_script.specs.Script.{ScriptOutcome, command_on, commands_from, no_outcome, outcome, script_from}
 
 -- before the first line
@@ -40,6 +40,7 @@ EndsAt old l NoConfig = ⊥
 EndsAt old l (LongLine n) = ⊥
 EndsAt old l Read = ⊥
 EndsAt old l Write = ⊥
+EndsAt old l Gather = ⊥
 
 -- the line is a command, the world took it, and the line of its reply is owed
 pub record AnswersCommand (old new : SeenWorld) (l owed owed' : List ℕ) : Type 0 where

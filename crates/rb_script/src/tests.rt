@@ -358,6 +358,7 @@ fn tells_faults(rt: HostRuntime) -> Result<(), Fail> {
         ),
         (ScriptFault::Write, "rbbank: write failed", 3),
         (ScriptFault::OutOfMemory, "rbbank: out of memory", 4),
+        (ScriptFault::Gather, "rbbank: gather failed", 5),
     ];
     for (fault, text, number) in cases {
         assert_eq!(rt; message(rt.alloc(), fault)?.as_str(), text);

@@ -117,7 +117,7 @@ waits s me ops held token x v a found eligible sound refusal is =
     answers_as _ _ _ _ a (comes_to_check s (site_as me ops held token) x v (Some NotReady) found eligible sound refusal)
     (refl, is, refl)
 
--- what a ledger's refusal is, but for want of memory
+-- what a ledger's refusal is, but for running out of memory
 pub refusal_is : (why : Refusal) (o : Option Refusal) → (o ≡ Some why) ⊎ ((why ≡ OutOfMemory) × (o ≡ None)) → (why ≡ OutOfMemory → ⊥) → o ≡ Some why
 refusal_is why o (inl e) memory = e
 refusal_is why o (inr h) memory = absurd (memory h.0)
@@ -214,7 +214,7 @@ conflicts s me ops inbox token v a (u, found, other) is =
     by false e = e
     by true e = absurd (other (Same.same_shadow-true u v e))
 
--- a shadow that the inbox refuses, but for want of memory
+-- a shadow that the inbox refuses, but for running out of memory
 pub refused_put : (s : Settings) (me : ℕ) (ops : List Shadow) (inbox later : Holding) (token : Token) (c : Deps) (v : Shadow) (why : Refusal) (a : Answer) → s.sites ≤ MOST_SITES → IsValid s ops → c ≡ clock_of ops → inbox.limit ≡ s.limits.inbox
     → (why ≡ Conflict) ⊎ (why ≡ InboxFull) ⊎ (why ≡ OutOfMemory) → (why ≡ Conflict → IsInConflict inbox v) → (why ≡ InboxFull → IsTooMany inbox c v) → (why ≡ OutOfMemory → ⊥) → later ≡ inbox → Says true a (Refused why)
     → AnswersAlone (state_as s me ops inbox.held token) (state_as s me ops later.held token) (outcome_of_new s (site_as me ops inbox.held token) v) a

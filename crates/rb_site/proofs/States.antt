@@ -124,11 +124,11 @@ is_step keeps x old now before after e a free standing follows =
     noted_reply : a.reply ≡ reply_to s t e
     noted_reply = follows.1.0 ∙ told
 
--- a site as callers see it, by its parts
+-- a site as clients see it, by its parts
 abbrev pub seen_as : Settings → ℕ → List Entry → SeenSite
 seen_as s me xs = record { settings = s; me = me; entries = xs }
 
--- where the entry was pushed, callers see the model's step
+-- where the entry was pushed, clients see the model's step
 pub seen_now : (x : SeenSite) (now : SiteState) (before after : List Message) (e : Event) (a : Answer) (xs : List Entry) → IsStep x now before after e a → now.site.me ≡ x.me → xs ≡ x.entries ++ entry e a.reply ∷ [] → seen_as now.settings now.site.me xs ≡ noted_in x e a.reply
 seen_now x now before after e a xs step me pushed =
     ap (λ s. seen_as s now.site.me xs) step.standing.settings

@@ -1,4 +1,4 @@
--- A site as callers see it: its configuration, its number and its history. All else is the run of the history.
+-- A site as clients see it: its configuration, its number and its history. All else is the run of the history.
 use Rattle.std.specs.Prelude.{◌≡◌, ℕ, ◌<◌, ◌≤◌, if◌then◌else◌, List, [], ◌∷◌, ◌++◌, length}
 use Rattle.rb_money.specs.Settings.{Settings}
 use Rattle.rb_site.specs.declared.entry.Entry.{Entry}

@@ -11,7 +11,7 @@ use std::alloc::{AllocError, Global};
 use std::marker::Model;
 
 /// Memory for the answer to a batch: for the names, and for the same in a history that keeps replies.
-/// Callers see for how many operations there is room, and whether the history keeps replies.
+/// Clients see for how many operations there is room, and whether the history keeps replies.
 #[derive(Drop)]
 pub struct BatchRoom {
     most: usize,
@@ -32,7 +32,7 @@ impl Model for BatchRoom {
 }
 
 impl BatchRoom {
-    /// Room for so many operations, and for as many messages more than were sent. `Err` is want of memory.
+    /// Room for so many operations, and for as many messages more than were sent. `Err` means out of memory.
     pub fn open(
         alloc: Global,
         most: usize,

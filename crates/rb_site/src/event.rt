@@ -30,7 +30,7 @@ pub enum Event {
 }
 
 impl Event {
-    /// An equal event. `Err` is want of memory.
+    /// An equal event. `Err` means out of memory.
     pub fn try_copy(&self, alloc: Global) -> Result<Event, AllocError>
         ensures { IfOk result (λ copy. copy ≡ self.now) }
     {

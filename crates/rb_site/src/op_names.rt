@@ -5,7 +5,7 @@ use rb_shadow::OpName;
 use std::alloc::{AllocError, Global};
 use std::marker::Model;
 
-/// The names of what a batch made, in order. Callers see the names.
+/// The names of what a batch made, in order. Clients see the names.
 #[derive(Debug, Drop)]
 pub struct OpNames {
     items: Vec<OpName>,
@@ -43,7 +43,7 @@ impl OpNames {
         items
     }
 
-    /// The same once more. `Err` is want of memory.
+    /// The same once more. `Err` means out of memory.
     pub fn try_copy(&self, alloc: Global) -> Result<OpNames, AllocError>
         ensures { IfOk result (λ copy. copy ≡ self.now) }
     {

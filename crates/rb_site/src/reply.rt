@@ -37,7 +37,7 @@ pub enum Reply {
 }
 
 impl Reply {
-    /// An equal reply. `Err` is want of memory.
+    /// An equal reply. `Err` means out of memory.
     pub fn try_copy(&self, alloc: Global) -> Result<Reply, AllocError>
         ensures { IfOk result (λ copy. copy ≡ self.now) }
     {

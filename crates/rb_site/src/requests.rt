@@ -5,7 +5,7 @@ use rb_scratch::Request;
 use std::alloc::{AllocError, Global};
 use std::marker::Model;
 
-/// The requests of a batch, in order. Callers see the requests.
+/// The requests of a batch, in order. Clients see the requests.
 #[derive(Debug, Drop)]
 pub struct Requests {
     items: Vec<Request>,
@@ -43,7 +43,7 @@ impl Requests {
         items
     }
 
-    /// The same once more. `Err` is want of memory.
+    /// The same once more. `Err` means out of memory.
     pub fn try_copy(&self, alloc: Global) -> Result<Requests, AllocError>
         ensures { IfOk result (λ copy. copy ≡ self.now) }
     {

@@ -129,7 +129,7 @@ impl State {
     #[inline(always)]
     #[tactic(auto, unfolding(crate::specs::Events::outcome_of))]
     /// One event, for a history that keeps replies or doesn't. What it sends goes to the end of the messages
-    /// sent. After want of memory the state and the messages are as before.
+    /// sent. After running out of memory the state and the messages are as before.
     pub fn act(
         &mut self,
         event: &Event,

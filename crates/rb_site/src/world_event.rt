@@ -26,7 +26,7 @@ impl WorldEvent {
         }
     }
 
-    /// An equal event. `Err` is want of memory.
+    /// An equal event. `Err` means out of memory.
     pub fn try_copy(&self, alloc: Global) -> Result<WorldEvent, AllocError>
         ensures { IfOk result (λ copy. copy ≡ self.now) }
     {

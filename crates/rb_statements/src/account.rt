@@ -16,7 +16,7 @@ pub struct Statement {
 }
 
 impl Statement {
-    /// The same once more. `Err` is want of memory.
+    /// The same once more. `Err` means out of memory.
     pub fn try_copy(&self, alloc: Global) -> Result<Statement, AllocError>
         ensures { IfOk result (λ copy. copy ≡ self.now) }
     {

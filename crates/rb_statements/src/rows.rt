@@ -5,7 +5,7 @@ use crate::Row;
 use std::alloc::{AllocError, Global};
 use std::marker::Model;
 
-/// A list of rows. Callers see the rows.
+/// A list of rows. Clients see the rows.
 #[derive(Debug, Drop)]
 pub struct Rows {
     items: Vec<Row>,
@@ -43,7 +43,7 @@ impl Rows {
         items
     }
 
-    /// The same once more. `Err` is want of memory.
+    /// The same once more. `Err` means out of memory.
     pub fn try_copy(&self, alloc: Global) -> Result<Rows, AllocError>
         ensures { IfOk result (λ copy. copy ≡ self.now) }
     {

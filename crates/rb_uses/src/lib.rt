@@ -1,4 +1,4 @@
-//! Uses of the sites of a bank, as a caller writes them. The first is the one to read.
+//! Uses of the sites of a bank, as a client writes them. The first is the one to read.
 #![tactic(auto)]
 
 mod bank;

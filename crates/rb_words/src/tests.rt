@@ -1,5 +1,6 @@
-use crate::{Words, read_words, texts};
+use crate::{MOST_TELLERS, Words, read_words, texts};
 use clap::error::ErrorKind;
+use rb_money::MOST_SITES;
 use std::alloc::{AllocError, Global};
 use std::test::Fail;
 
@@ -10,6 +11,65 @@ fn reads_each_command(rt: HostRuntime) -> Result<(), Fail> {
     let words = read_words(rt.alloc(), ["audit"].as_slice());
     assert_eq!(rt; words.ok(), Some(Words::Audit));
     Ok(())
+}
+
+#[test]
+fn reads_a_run_of_threads(rt: HostRuntime) {
+    let run = Words::Threads {
+        sites: 3,
+        tellers: 64,
+        seed: 4294967295,
+    };
+    for words in [
+        [
+            "threads",
+            "--sites",
+            "3",
+            "--tellers",
+            "64",
+            "--seed",
+            "4294967295",
+        ],
+        [
+            "threads",
+            "--seed",
+            "4294967295",
+            "--tellers",
+            "64",
+            "--sites",
+            "3",
+        ],
+    ] {
+        assert_eq!(rt; read_words(rt.alloc(), words.as_slice()).ok(), Some(run));
+    }
+}
+
+#[test]
+fn refuses_other_runs_of_threads(rt: HostRuntime) {
+    let alloc = rt.alloc();
+    for words in [
+        ["threads", "--sites", "1", "--tellers", "1", "--seed", "0"],
+        ["threads", "--sites", "9", "--tellers", "1", "--seed", "0"],
+        ["threads", "--sites", "2", "--tellers", "0", "--seed", "0"],
+        ["threads", "--sites", "2", "--tellers", "65", "--seed", "0"],
+        [
+            "threads",
+            "--sites",
+            "2",
+            "--tellers",
+            "1",
+            "--seed",
+            "4294967296",
+        ],
+        ["threads", "--sites", "2", "--tellers", "1", "--seed", "-1"],
+        ["threads", "--sites", "02", "--tellers", "1", "--seed", "0"],
+        ["threads", "--sites", "2", "--sites", "2", "--seed", "0"],
+        ["threads", "--sites", "2", "--seed", "0", "--seed", "0"],
+    ] {
+        assert!(rt; are_wrong(alloc, words.as_slice()));
+    }
+    assert!(rt; are_wrong(alloc, ["threads"].as_slice()));
+    assert!(rt; are_wrong(alloc, ["threads", "--sites", "2"].as_slice()));
 }
 
 /// What kind of error the words are.
@@ -71,8 +131,19 @@ fn text_of(alloc: Global, words: &[&str]) -> Result<String, AllocError> {
 fn tells_each_command(rt: HostRuntime) -> Result<(), Fail> {
     let text = text_of(rt.alloc(), ["--help"].as_slice())?;
     assert!(rt; text.contains(texts::ABOUT));
-    assert!(rt; text.contains("  script  Answers the commands "));
-    assert!(rt; text.contains("  audit   Tells whether one world "));
+    assert!(rt; text.contains("  script   Answers the commands "));
+    assert!(rt; text.contains("  audit    Tells whether one world "));
+    assert!(rt; text.contains("  threads  Runs tellers in threads "));
+    Ok(())
+}
+
+#[test]
+fn tells_its_limits(rt: HostRuntime) -> Result<(), Fail> {
+    let alloc = rt.alloc();
+    let sites = format!(in alloc; "How many sites there are, 2 to {MOST_SITES}")?;
+    let tellers = format!(in alloc; "How many tellers there are, 1 to {MOST_TELLERS}")?;
+    assert_eq!(rt; texts::SITES, sites.as_str());
+    assert_eq!(rt; texts::TELLERS, tellers.as_str());
     Ok(())
 }
 
@@ -82,6 +153,8 @@ fn ends_help_in_a_worked_command(rt: HostRuntime) -> Result<(), Fail> {
     assert!(rt; text.trim_end().ends_with(texts::SCRIPT_HELP));
     let text = text_of(rt.alloc(), ["audit", "--help"].as_slice())?;
     assert!(rt; text.trim_end().ends_with(texts::AUDIT_HELP));
+    let text = text_of(rt.alloc(), ["threads", "--help"].as_slice())?;
+    assert!(rt; text.trim_end().ends_with(texts::THREADS_HELP));
     Ok(())
 }
 

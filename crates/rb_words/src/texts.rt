@@ -13,12 +13,28 @@ pub const SCRIPT_USAGE: &str = "rbbank script < COMMANDS";
 /// How `audit` is used.
 pub const AUDIT_USAGE: &str = "rbbank audit < HISTORIES";
 
+/// How `threads` is used.
+pub const THREADS_USAGE: &str = "rbbank threads --sites K --tellers T --seed S";
+
 /// What `script` does.
 pub const SCRIPT: &str = "Answers the commands on standard input, a line of JSON each";
 
 /// What `audit` does.
 pub const AUDIT: &str =
     "Tells whether one world can have recorded the sites' histories on standard input";
+
+/// What `threads` does.
+pub const THREADS: &str =
+    "Runs tellers in threads at the sites of a bank, and writes the sites' histories";
+
+/// What `--sites` is.
+pub const SITES: &str = "How many sites there are, 2 to 8";
+
+/// What `--tellers` is.
+pub const TELLERS: &str = "How many tellers there are, 1 to 64";
+
+/// What `--seed` is.
+pub const SEED: &str = "What the tellers' numbers begin with, 0 to 4294967295";
 
 /// A script with its replies, and the statuses.
 pub const SCRIPT_HELP: &str =
@@ -67,3 +83,21 @@ Statuses:
   2  a bad line, no configuration, or wrong words
   3  a read or a write failed
   4  out of memory"#;
+
+/// A run with its audit, and the statuses.
+pub const THREADS_HELP: &str =
+    r#"Each teller makes a hundred calls, by numbers of its own, at a site that it shares with others; one more
+thread at each site applies what the others sent. Then the configuration and the histories are written,
+as the lines that an audit reads:
+
+  rbbank threads --sites 3 --tellers 4 --seed 7 | rbbank audit
+
+Each option is wanted, in any order, its number in a word of its own. Which histories come out differs
+from run to run.
+
+Statuses:
+  0  the histories were written
+  2  wrong words
+  3  a write failed
+  4  out of memory, or a thread couldn't be made
+  5  a site's history is full, or isn't what its clients were told"#;

@@ -50,14 +50,14 @@ impl<E: KeepsEntry, R: KeepsEvent> Model for World<E, R> {
 }
 
 impl World {
-    /// The sites of a configuration before any event. `Err` is want of memory.
+    /// The sites of a configuration before any event. `Err` means out of memory.
     pub fn open(alloc: Global, config: Config) -> Result<World, AllocError>
         ensures { IfOk result (λ world. world ≡ opened config) }
     {
         World::open_keeping(alloc, config)
     }
 
-    /// A list of events, and their replies. After want of memory the world stands after as many
+    /// A list of events, and their replies. After running out of memory the world stands after as many
     /// events as `Stopped` says.
     pub fn run(&mut self, events: &[WorldEvent]) -> Result<Vec<Reply>, Stopped>
         requires { All IsCommand events.now }
@@ -121,7 +121,7 @@ impl World {
 
 impl<E: KeepsEntry, R: KeepsEvent> World<E, R> {
     /// The sites of a configuration before any event, in a world that keeps an `R` of each event, and
-    /// whose sites keep an `E` of each entry. `Err` is want of memory.
+    /// whose sites keep an `E` of each entry. `Err` means out of memory.
     pub fn open_keeping(alloc: Global, config: Config) -> Result<World<E, R>, AllocError>
         ensures { IfOk result (λ world. world ≡ opened config) }
     {
@@ -138,7 +138,7 @@ impl<E: KeepsEntry, R: KeepsEvent> World<E, R> {
         })
     }
 
-    /// One event, and its reply. It is listed where a site recorded it. `Err` is want of memory:
+    /// One event, and its reply. It is listed where a site recorded it. `Err` means out of memory:
     /// the world is then as before.
     pub fn step(&mut self, event: WorldEvent) -> Result<Reply, AllocError>
         requires { IsCommand event }

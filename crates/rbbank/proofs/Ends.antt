@@ -7,7 +7,7 @@ use Rattle.clap.specs.declared.error.kind.ErrorKind.TheVariants.{DisplayHelp, Di
 use Rattle.rb_lines.specs.declared.fault.ScriptFault.{ScriptFault}
 use Rattle.rb_lines.specs.declared.fault.ScriptFault.TheVariants.{NoConfig, OutOfMemory}
 use Rattle.rb_lines.specs.Messages.{status_of}
-use Rattle.rbbank.specs.Statuses.{IsEnd, IsEndOfAudit, IsEndOfScript, IsToldFault, status_of_unread, status_of_words}
+use Rattle.rbbank.specs.Statuses.{IsEnd, IsEndOfAudit, IsEndOfScript, IsEndOfThreads, IsToldFault, status_of_unread, status_of_words}
 
 pub no_memory : (n : ℕ) → n ≡ 4 → IsEnd n
 no_memory n e = inr (inr (OutOfMemory, e))
@@ -24,6 +24,10 @@ pub audit_end : (n : ℕ) (answered : Result Bool ScriptFault) → IsEndOfAudit 
 audit_end n (Ok true) e = inl e
 audit_end n (Ok false) e = inr (inl e)
 audit_end n (Err fault) e = fault_end n fault e
+
+pub threads_end : (n : ℕ) (ran : Result Unit ScriptFault) → IsEndOfThreads ran n → IsEnd n
+threads_end n (Ok u) e = inl e
+threads_end n (Err fault) e = fault_end n fault e
 
 pub words_end : (n : ℕ) (kind : ErrorKind) → n ≡ status_of_words kind → IsEnd n
 words_end n NoMemory e = no_memory n e

@@ -19,7 +19,7 @@ abbrev pub status_of_unread : IoErrorKind → ℕ
 status_of_unread IoOutOfMemory = 4
 status_of_unread _ = 2
 
--- the status of a fault, or 4 for want of memory for its text
+-- the status of a fault, or 4 where memory runs out for its text
 abbrev pub IsToldFault : ScriptFault → ℕ → Type 0
 IsToldFault fault n = (n ≡ status_of fault) ⊎ (n ≡ 4)
 
@@ -33,6 +33,11 @@ abbrev pub IsEndOfAudit : Result Bool ScriptFault → ℕ → Type 0
 IsEndOfAudit (Ok true) n = n ≡ 0
 IsEndOfAudit (Ok false) n = n ≡ 1
 IsEndOfAudit (Err fault) n = IsToldFault fault n
+
+-- a run of threads whose histories were written is no fault
+abbrev pub IsEndOfThreads : Result Unit ScriptFault → ℕ → Type 0
+IsEndOfThreads (Ok u) n = n ≡ 0
+IsEndOfThreads (Err fault) n = IsToldFault fault n
 
 -- 0, 1, or the status of a fault
 abbrev pub IsEnd : ℕ → Type 0

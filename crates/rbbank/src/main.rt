@@ -1,11 +1,12 @@
-//! `rbbank`: the sites of a bank, driven by a script, and audits of their histories.
+//! `rbbank`: the sites of a bank, driven by a script or by tellers in threads, and audits of their histories.
 #![tactic(auto)]
 
-ghost use Rattle.std.specs.Prelude.{◌≡◌};
+ghost use Rattle.std.specs.Prelude.{◌≡◌, ◌≤◌};
 ghost use Rattle.std.specs.IoError.{error_kind};
 ghost use Rattle.std.specs.Process.{exit_status};
 ghost use Rattle.clap.specs.Words.{kind_of};
-ghost use Rattle.rbbank.specs.Statuses.{IsEnd, IsEndOfAudit, IsEndOfScript, IsToldFault, status_of_unread, status_of_words};
+ghost use Rattle.rb_money.specs.declared.limits.TheConstants.{MOST_SITES};
+ghost use Rattle.rbbank.specs.Statuses.{IsEnd, IsEndOfAudit, IsEndOfScript, IsEndOfThreads, IsToldFault, status_of_unread, status_of_words};
 
 #[cfg(test)]
 mod command_tests;
@@ -27,11 +28,15 @@ mod to_writer;
 use clap::error::ErrorKind;
 use from_reader::FromReader;
 use rb_audit::run_audit;
+use rb_branch::NoGate;
 use rb_lines::{ScriptFault, message, status};
 use rb_script::run_script;
+use rb_threads::run_threads;
 use rb_words::{Words, read_words};
 use std::alloc::AllocError;
 use std::process::ExitCode;
+use std::sync::Wait;
+use std::thread::Threads;
 use std::{env, io};
 use to_writer::ToWriter;
 
@@ -41,7 +46,7 @@ const FAULT_FOUND: u8 = 1;
 /// The status where the words are wrong.
 const WRONG_WORDS: u8 = 2;
 
-/// The status for want of memory.
+/// The status where memory runs out.
 const NO_MEMORY: u8 = 4;
 
 fn out_of_memory(rt: &HostRuntime) -> ExitCode
@@ -51,7 +56,7 @@ fn out_of_memory(rt: &HostRuntime) -> ExitCode
     ExitCode::from(NO_MEMORY)
 }
 
-/// Says why a script or an audit stopped.
+/// Says why a script, an audit or a run of threads stopped.
 fn tell_fault(rt: &HostRuntime, fault: ScriptFault) -> ExitCode
     ensures { IsToldFault fault (exit_status result) }
 {
@@ -115,6 +120,16 @@ fn end_of_audit(rt: &HostRuntime, answered: Result<bool, ScriptFault>) -> ExitCo
     }
 }
 
+/// How a run of threads ends the program.
+fn end_of_threads(rt: &HostRuntime, ran: Result<(), ScriptFault>) -> ExitCode
+    ensures { IsEndOfThreads ran (exit_status result) }
+{
+    match ran {
+        Ok(()) => ExitCode::SUCCESS,
+        Err(fault) => tell_fault(rt, fault),
+    }
+}
+
 /// Answers the script on standard input.
 fn script(rt: &HostRuntime) -> ExitCode
     ensures { IsEnd (exit_status result) }
@@ -135,8 +150,26 @@ fn audit(rt: &HostRuntime) -> ExitCode
     end_of_audit(rt, answered)
 }
 
-/// Does what the words ask for.
-fn run(rt: &HostRuntime) -> ExitCode
+/// Runs tellers at the sites, and writes their histories.
+fn threads<W: Threads + Wait + Sync>(
+    rt: &HostRuntime,
+    handle: &W,
+    sites: u8,
+    tellers: u8,
+    seed: u32,
+) -> ExitCode
+    requires some_sites { 2 ≤ sites }
+    requires few_sites { sites ≤ MOST_SITES }
+    ensures { IsEnd (exit_status result) }
+{
+    let alloc = rt.alloc();
+    let mut writer = ToWriter::new(io::writer(rt));
+    let ran = run_threads(handle, alloc, sites, tellers, seed, NoGate, &mut writer);
+    end_of_threads(rt, ran)
+}
+
+/// Does what the words ask for. The handle starts threads, and waits for them.
+fn run<W: Threads + Wait + Sync>(rt: &HostRuntime, handle: &W) -> ExitCode
     ensures { IsEnd (exit_status result) }
 {
     let alloc = rt.alloc();
@@ -157,10 +190,17 @@ fn run(rt: &HostRuntime) -> ExitCode
     match read_words(alloc, views.as_slice()) {
         Ok(Words::Script) => script(rt),
         Ok(Words::Audit) => audit(rt),
+        Ok(
+            Words::Threads {
+                sites,
+                tellers,
+                seed,
+            },
+        ) => threads(rt, handle, sites, tellers, seed),
         Err(error) => tell_words(rt, error),
     }
 }
 
 fn main(rt: HostRuntime) -> ExitCode {
-    run(&rt)
+    run(&rt, &rt)
 }

@@ -2,13 +2,13 @@ use Rattle.rbbank.proofs.Ends.{no_memory, unread_end, words_end}
 use Rattle.rbbank.proofs.run.Goals as goal
 
 pub returns-in-Err : goal.returns-in-Err
-returns-in-Err c = unread_end _ _ c.tell_unread.ensures
+returns-in-Err g c = unread_end _ _ c.tell_unread.ensures
 
 pub returns-in_default : goal.returns-in_default
-returns-in_default c = no_memory _ c.out_of_memory.ensures
+returns-in_default g c = no_memory _ c.out_of_memory.ensures
 
 pub returns-in_default-collect : goal.returns-in_default-collect
-returns-in_default-collect c = no_memory _ c.out_of_memory-in_default-collect.ensures
+returns-in_default-collect g c = no_memory _ c.out_of_memory-in_default-collect.ensures
 
 pub returns : goal.returns
-returns c = words_end _ _ c.tell_words.ensures
+returns g c = words_end _ _ c.tell_words.ensures

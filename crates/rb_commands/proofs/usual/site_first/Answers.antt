@@ -1,6 +1,5 @@
 use Rattle.std.proofs.Common.{◌≡◌, ◌++◌, codes, decimal, ap, ◌∙◌, rules}
 use Rattle.rb_commands.specs.Commands.{command_at}
-use Rattle.rb_commands.specs.Values.{one_json}
 use Rattle.rb_commands.proofs.Verbs.{told_command}
 use Rattle.rb_commands.proofs.UsualLines.{first_line}
 use Rattle.rb_commands.proofs.usual.site_first.Goals as goal
@@ -14,6 +13,4 @@ returns-clause-value c =
     ∙ rw c.at.ensures (first_line c.args.config.now c.in_ok-told.told site text c.in_ok-told.rest.now c.in_ok-told.ensures c.in_ok-site.ensures.0 last)
 
 pub returns-clause-command : goal.returns-clause-command
-returns-clause-command c =
-    let told = c.in_ok-told.ensures in
-    rw c.at.ensures (told_command c.args.config.now (one_json told.key told.value) c.in_ok-told.told c.in_ok-site.site told.is.alone)
+returns-clause-command c = rw c.at.ensures (told_command c.in_ok-told.told c.in_ok-site.site)

@@ -1,0 +1,94 @@
+#!/usr/bin/env python3
+"""Measures `rbbank threads`, and beside it the very same events in one thread, as a script. Prints a table, a line for each number of sites and of tellers.
+
+README.md tells what each number is.
+"""
+import argparse
+import json
+import os
+import subprocess
+import sys
+import time
+
+sys.dont_write_bytecode = True
+import run
+
+HEAD = ["Sites", "Tellers", "Events", "Threads, events a second", "One thread, events a second", "Ratio"]
+
+
+def written(value):
+    """A JSON value as the program writes it."""
+    return json.dumps(value, separators=(",", ":"), sort_keys=True)
+
+
+def timed(words, given, runs):
+    """The least wall time of some runs in seconds, and what the last one wrote."""
+    best, text = None, b""
+    for _ in range(runs):
+        began = time.perf_counter()
+        text = subprocess.run(words, input=given, stdout=subprocess.PIPE, check=True).stdout
+        taken = time.perf_counter() - began
+        best = min(taken, best or taken)
+    return best, text
+
+
+def sent_by(reply):
+    """The keys of the messages that an entry sends, in order: names of operations, or a token's epoch."""
+    if "kind" in reply:
+        return [reply["name"]]
+    return reply.get("names") or ([reply["passed"]] if "passed" in reply else [])
+
+
+def as_script(text, order):
+    """Histories as one world's script, in an order that certifies them, and the replies that it has to give."""
+    config, *lines = text.decode().splitlines()
+    entries = [[] for _ in range(json.loads(config)["sites"])]
+    for line in lines:
+        entry = json.loads(line)
+        entries[entry["site"]].append(entry)
+    nexts, numbers = [iter(of_site) for of_site in entries], {}
+    commands, replies = [config], []
+    for site in order:
+        entry = next(nexts[site])
+        event = entry["event"]
+        if "shadow" in event:
+            event = {"deliver": numbers[event["shadow"]["name"]]}
+        elif "token" in event:
+            event = {"deliver": numbers[event["token"][0]]}
+        for key in sent_by(entry["reply"]):
+            numbers[key] = len(numbers) + 1
+        commands.append(written(event | {"site": site}))
+        replies.append(written(entry["reply"]))
+    return "\n".join(commands).encode() + b"\n", "\n".join(replies).encode() + b"\n"
+
+
+def row(program, sites, tellers, given):
+    """The numbers of one line. The script of a run has to answer what the run's sites answered."""
+    words = [program, "threads", "--sites", str(sites), "--tellers", str(tellers), "--seed", str(given.seed)]
+    threads, text = timed(words, b"", given.runs)
+    _, verdict = timed([program, "audit"], text, 1)
+    script, replies = as_script(text, json.loads(verdict)["order"])
+    alone, answered = timed([program, "script"], script, given.runs)
+    if answered != replies:
+        sys.exit(f"{' '.join(words)}: the script of its events is answered otherwise")
+    events = replies.count(b"\n")
+    return [sites, tellers, f"{events:,}", f"{events / threads:,.0f}", f"{events / alone:,.0f}", f"{alone / threads:.2f}"]
+
+
+def main():
+    words = argparse.ArgumentParser(description=__doc__)
+    words.add_argument("program", nargs="?", help="a built rbbank; without it, `make build` makes it")
+    words.add_argument("--sites", default="2,4,8")
+    words.add_argument("--tellers", default="1,8,64")
+    words.add_argument("--runs", type=int, default=5, help="runs, of which the best is told")
+    words.add_argument("--seed", type=int, default=1)
+    given = words.parse_args()
+    program = os.path.abspath(given.program) if given.program else run.built()
+    print("|", " | ".join(HEAD), "|\n|" + "---|" * len(HEAD))
+    for sites in map(int, given.sites.split(",")):
+        for tellers in map(int, given.tellers.split(",")):
+            print("|", " | ".join(map(str, row(program, sites, tellers, given))), "|", flush=True)
+
+
+if __name__ == "__main__":
+    main()

@@ -1,0 +1,111 @@
+-- What a call does to a desk and to a seat.
+use Rattle.std.specs.Prelude.{◌≡◌, ◌≢◌, ◌⊎◌, ℕ, ◌+◌, ◌≤◌, ◌<◌, true, Option, None, zero, suc, slice_get, List, [], ◌∷◌, ◌++◌, length, All}
+use Rattle.rb_money.specs.Settings.{Settings}
+use Rattle.rb_money.specs.declared.limits.TheConstants.{MOST_SITES}
+use Rattle.rb_branch.specs.declared.limits.TheConstants.{MOST_RECEIPTS, MOST_SEATS, RECEIPT_PARTS}
+use Rattle.rb_branch.specs.declared.receipt.Receipt.{Receipt}
+use Rattle.rb_site.specs.declared.event.Event.{Event}
+use Rattle.rb_site.specs.declared.event.Event.TheVariants.{Submit, Batch, Receive, Apply, Pass, Balance, AsOf, Statement as AskStatement}
+use Rattle.rb_site.specs.declared.message.Message.{Message}
+use Rattle.rb_site.specs.declared.reply.Reply.{Reply}
+use Rattle.rb_site.specs.Events.{first_site, is_full, reply_to, sent_at}
+use Rattle.rb_site.specs.Seen.{SeenSite, Replays, state_of, stepped}
+
+-- ---- what is behind the locks
+
+-- a seat, as clients see it: its site's number and its receipts
+pub record SeenSeat : Type 0 where
+  pub site : ℕ
+  pub receipts : List Receipt
+
+-- a desk's site is one of the branch's configuration, its history replays and is within its limit; its share of the entries is one part, whose amount is their number
+pub record IsDesk (s : Settings) (site : SeenSite) (parts amount : ℕ) : Type 0 where
+  pub settings : site.settings ≡ s
+  pub place : site.me < s.sites
+  pub replays : Replays s (first_site site.me) site.entries
+  pub room : length site.entries ≤ s.limits.history
+  pub one_part : parts ≡ 1
+  pub counted : amount ≡ length site.entries
+
+-- a seat's site is one of the configuration's; its share of the receipts is one part, whose amount is their number
+pub record IsSeat (s : Settings) (site : ℕ) (receipts : List Receipt) (parts amount : ℕ) : Type 0 where
+  pub place : site < s.sites
+  pub one_part : parts ≡ 1
+  pub counted : amount ≡ length receipts
+  pub few : length receipts ≤ MOST_RECEIPTS
+
+-- there are as many entries as receipts; of the parts of the receipts each seat that was given has one, and the rest counts nothing
+pub record AreBooks (all seats entries receipts parts amount : ℕ) : Type 0 where
+  pub same : entries ≡ receipts
+  pub all_parts : all ≡ RECEIPT_PARTS
+  pub rest : parts + seats ≡ all
+  pub few : seats ≤ MOST_SEATS
+  pub none : amount ≡ 0
+
+-- a branch has a lock for each site of its configuration, and the entries a part for each
+pub record IsBranch (s : Settings) (parts count : ℕ) : Type 0 where
+  pub all : count ≡ s.sites
+  pub all_parts : parts ≡ s.sites
+  pub few : count ≤ MOST_SITES
+
+-- ---- receipts
+
+abbrev pub receipt : ℕ → Event → Reply → ℕ → Receipt
+receipt n e r unsent = record { number = n; event = e; reply = r; unsent = unsent }
+
+-- the receipt of a number, from 1
+abbrev pub receipt_at : List Receipt → ℕ → Option Receipt
+receipt_at rs zero = None
+receipt_at rs (suc k) = slice_get rs k
+
+-- one event at the desk, the given one. The seat has its receipt at the end: the new entry's number, the event and the reply
+pub record Records (old new : SeenSite) (event : Event) (before now : SeenSeat) (number : ℕ) (posted : List Message) : Type 0 where
+  pub here : before.site ≡ old.me
+  pub run : new ≡ stepped old event
+  pub seat : now ≡ record before { receipts = before.receipts ++ receipt (length new.entries) event (reply_to old.settings (state_of old) event) 0 ∷ [] }
+  pub number_is : number ≡ length now.receipts
+  pub posted_is : posted ≡ sent_at old.settings (state_of old) event
+
+-- why nothing is recorded, but for running out of memory: the seat is of another site, the history is full, or the seat is
+abbrev pub CannotRecord : SeenSite → SeenSeat → Type 0
+CannotRecord desk seat = (seat.site ≢ desk.me) ⊎ ((is_full desk.settings (state_of desk) ≡ true) ⊎ (MOST_RECEIPTS ≤ length seat.receipts))
+
+-- the seat has one receipt more, at its end, of such an event; the number is its place, from 1
+pub record HasOneMore (old new : SeenSeat) (P : Event → Type 0) (number : ℕ) : Type 0 where
+  pub last : Receipt
+  pub seat : new ≡ record old { receipts = old.receipts ++ last ∷ [] }
+  pub event_is : P last.event
+  pub number_is : number ≡ length new.receipts
+
+-- a held operation is to be applied
+abbrev pub IsApply : Event → Type 0
+IsApply (Apply x) = Unit {0}
+IsApply (Submit r) = ⊥
+IsApply (Batch rs) = ⊥
+IsApply (Receive m) = ⊥
+IsApply (Pass to) = ⊥
+IsApply (Balance a) = ⊥
+IsApply (AsOf a n) = ⊥
+IsApply (AskStatement a) = ⊥
+
+-- an event that serves a site: a message comes, or a held operation is to be applied
+abbrev pub IsServed : Event → Type 0
+IsServed (Receive m) = Unit {0}
+IsServed (Apply x) = Unit {0}
+IsServed (Submit r) = ⊥
+IsServed (Batch rs) = ⊥
+IsServed (Pass to) = ⊥
+IsServed (Balance a) = ⊥
+IsServed (AsOf a n) = ⊥
+IsServed (AskStatement a) = ⊥
+
+-- the seat has so many receipts more, at its end, all of events that serve its site
+pub record HasServed (old new : SeenSeat) (count : ℕ) : Type 0 where
+  pub more : List Receipt
+  pub seat : new ≡ record old { receipts = old.receipts ++ more }
+  pub served : All (λ (r : Receipt). IsServed r.event) more
+  pub count_is : count ≡ length more
+
+-- the last receipt's messages were refused by so many links, and all else is as before
+abbrev pub SetsUnsent : SeenSeat → SeenSeat → ℕ → Type 0
+SetsUnsent old new count = (xs : List Receipt) (r : Receipt) → old.receipts ≡ xs ++ r ∷ [] → new ≡ record old { receipts = xs ++ record r { unsent = count } ∷ [] }

@@ -1,0 +1,145 @@
+//! What a seat asks of its site.
+ghost use Rattle.std.specs.Prelude.{◌≡◌, IfOk, OnErr};
+ghost use Rattle.rb_branch.specs.Seats.{HasOneMore};
+
+use crate::{Branch, CallFault, Entries, Gate, Outbox, Seat};
+use rb_money::Place;
+use rb_scratch::Request;
+use rb_shadow::OpName;
+use rb_site::{Event, Message, Requests};
+use std::sync::Wait;
+use std::sync::ledger::Ledger;
+
+/// Each call is one event at the seat's site, and tells the number of its receipt in the seat, from 1. After
+/// an `Err` site and seat are as before.
+impl<E: Entries, R: Ledger, G: Gate + Drop> Branch<E, R, G> {
+    /// A request for one operation.
+    pub fn submit<W: Wait>(
+        &self,
+        rt: &W,
+        seat: &mut Seat<E, R>,
+        outbox: &Outbox,
+        request: Request,
+    ) -> Result<u32, CallFault>
+        ensures ok { IfOk result (λ n. HasOneMore seat.old seat.new (λ e. e ≡ Event.Submit request) n) }
+        ensures err { OnErr result (seat.new ≡ seat.old) }
+    {
+        self.send(rt, seat, outbox, Event::Submit(request))
+    }
+
+    /// A request to cancel an operation.
+    pub fn cancel<W: Wait>(
+        &self,
+        rt: &W,
+        seat: &mut Seat<E, R>,
+        outbox: &Outbox,
+        target: OpName,
+    ) -> Result<u32, CallFault>
+        ensures ok { IfOk result (λ n. HasOneMore seat.old seat.new (λ e. e ≡ Event.Submit (Request.Cancel target)) n) }
+        ensures err { OnErr result (seat.new ≡ seat.old) }
+    {
+        self.send(rt, seat, outbox, Event::Submit(Request::Cancel { target }))
+    }
+
+    /// 1 to `MOST_REQUESTS` requests, of which all are made or none.
+    pub fn batch<W: Wait>(
+        &self,
+        rt: &W,
+        seat: &mut Seat<E, R>,
+        outbox: &Outbox,
+        requests: Requests,
+    ) -> Result<u32, CallFault>
+        ensures ok { IfOk result (λ n. HasOneMore seat.old seat.new (λ e. e ≡ Event.Batch requests) n) }
+        ensures err { OnErr result (seat.new ≡ seat.old) }
+    {
+        self.send(rt, seat, outbox, Event::Batch(requests))
+    }
+
+    /// The token is to go to the site of this number.
+    pub fn pass<W: Wait>(
+        &self,
+        rt: &W,
+        seat: &mut Seat<E, R>,
+        outbox: &Outbox,
+        to: u8,
+    ) -> Result<u32, CallFault>
+        ensures ok { IfOk result (λ n. HasOneMore seat.old seat.new (λ e. e ≡ Event.Pass to) n) }
+        ensures err { OnErr result (seat.new ≡ seat.old) }
+    {
+        self.send(rt, seat, outbox, Event::Pass(to))
+    }
+
+    /// One event. What it sends goes out by the outbox once the site's lock is released.
+    pub fn send<W: Wait>(
+        &self,
+        rt: &W,
+        seat: &mut Seat<E, R>,
+        outbox: &Outbox,
+        event: Event,
+    ) -> Result<u32, CallFault>
+        ensures ok { IfOk result (λ n. HasOneMore seat.old seat.new (λ e. e ≡ event) n) }
+        ensures err { OnErr result (seat.new ≡ seat.old) }
+    {
+        let (number, posted) = self.call(rt, seat, event)?;
+        let unsent = outbox.post(rt, seat.site(), self.sites(), posted.as_slice());
+        seat.set_unsent(unsent);
+        Ok(number)
+    }
+
+    /// A message comes.
+    pub fn receive<W: Wait>(
+        &self,
+        rt: &W,
+        seat: &mut Seat<E, R>,
+        message: Message,
+    ) -> Result<u32, CallFault>
+        ensures ok { IfOk result (λ n. HasOneMore seat.old seat.new (λ e. e ≡ Event.Receive message) n) }
+        ensures err { OnErr result (seat.new ≡ seat.old) }
+    {
+        let (number, _posted) = self.call(rt, seat, Event::Receive(message))?;
+        Ok(number)
+    }
+
+    /// A question for an account's balance.
+    pub fn balance<W: Wait>(
+        &self,
+        rt: &W,
+        seat: &mut Seat<E, R>,
+        place: Place,
+    ) -> Result<u32, CallFault>
+        ensures ok { IfOk result (λ n. HasOneMore seat.old seat.new (λ e. e ≡ Event.Balance place) n) }
+        ensures err { OnErr result (seat.new ≡ seat.old) }
+    {
+        let (number, _posted) = self.call(rt, seat, Event::Balance(place))?;
+        Ok(number)
+    }
+
+    /// A question for an account's balance after so many of the site's operations.
+    pub fn as_of<W: Wait>(
+        &self,
+        rt: &W,
+        seat: &mut Seat<E, R>,
+        place: Place,
+        position: u32,
+    ) -> Result<u32, CallFault>
+        ensures ok { IfOk result (λ n. HasOneMore seat.old seat.new (λ e. e ≡ Event.AsOf place position) n) }
+        ensures err { OnErr result (seat.new ≡ seat.old) }
+    {
+        let (number, _posted) = self.call(rt, seat, Event::AsOf(place, position))?;
+        Ok(number)
+    }
+
+    /// A question for an account's statement.
+    pub fn statement<W: Wait>(
+        &self,
+        rt: &W,
+        seat: &mut Seat<E, R>,
+        place: Place,
+    ) -> Result<u32, CallFault>
+        ensures ok { IfOk result (λ n. HasOneMore seat.old seat.new (λ e. e ≡ Event.Statement place) n) }
+        ensures err { OnErr result (seat.new ≡ seat.old) }
+    {
+        let (number, _posted) = self.call(rt, seat, Event::Statement(place))?;
+        Ok(number)
+    }
+}

@@ -1,0 +1,184 @@
+//! The closed sites of a branch, and the seats that are given back to them.
+ghost use Rattle.std.specs.Prelude.{◌≡◌, ◌≢◌, ◌+◌, ◌^◌, ◌<◌, ◌≤◌, ℕ, All, IfOk, IfErr, OnOk, IsTrue, Err, length, vec_len};
+ghost use Rattle.rb_branch.specs.Gathered.{AllGathered, Explains, IsClosed, IsGathered, entries_in, receipts_at, receipts_in};
+ghost use Rattle.rb_branch.specs.declared.gather_fault.GatherFault.TheVariants.{Missing, Mixed};
+ghost use Rattle.rb_money.specs.declared.limits.TheConstants.{MOST_SITES};
+
+use crate::closing::take_back;
+use crate::given::Given;
+use crate::merge::merges;
+use crate::{Books, Entries, GatherFault, Seat};
+use rb_site::SiteReport;
+use std::alloc::Global;
+use std::marker::Model;
+use std::sync::ledger::{Ledger, Share};
+
+/// The reports of a branch's sites, once they are closed, and its books. Clients see the reports, one for each
+/// site, and how many seats were given.
+#[derive(Drop)]
+pub struct Closed<E: Entries, R: Ledger> {
+    alloc: Global,
+    books: Books<E, R>,
+    reports: Vec<SiteReport>,
+    share: Share<E>,
+}
+
+impl<E: Entries, R: Ledger> Model for Closed<E, R> {
+    ghost use Rattle.std.specs.Prelude.{vec_len};
+    ghost use Rattle.rb_branch.specs.Gathered.{AreClosed, SeenClosed};
+
+    ghost Value = { SeenClosed };
+
+    ghost view = { λ c. record { reports = c.reports.items; seats = c.books } };
+
+    ghost invariant = { λ c. AreClosed E.settings E.parts c.reports.items c.share.parts c.share.amount };
+}
+
+impl<E: Entries, R: Ledger> Closed<E, R> {
+    /// The closed sites' reports and merged shares.
+    pub(crate) fn new(
+        alloc: Global,
+        books: Books<E, R>,
+        reports: Vec<SiteReport>,
+        share: Share<E>,
+    ) -> Closed<E, R>
+        requires reports { All (IsClosed E.settings) reports.items }
+        requires all { (vec_len reports ≡ E.settings.sites) × (vec_len reports ≤ MOST_SITES) }
+        requires share { (share.parts ≡ E.parts) × (share.amount ≡ entries_in reports.items) }
+        ensures { result ≡ record { reports = reports.items; seats = books } }
+    {
+        Closed {
+            alloc,
+            books,
+            reports,
+            share,
+        }
+    }
+
+    /// The reports, in the order of the sites.
+    pub fn reports(&self) -> &[SiteReport]
+        ensures same { result.now ≡ self.now.reports }
+        ensures all { length self.now.reports ≡ E.settings.sites }
+        ensures closed { All (IsClosed E.settings) self.now.reports }
+    {
+        self.reports.as_slice()
+    }
+
+    /// The reports, where each history is the receipts of the seats given back for it, interleaved. Else the
+    /// first site where it isn't so: where receipts are missing in all, the first where they are missing or
+    /// are others. Where every seat is given back, none is missing.
+    pub fn settle(self, seats: Vec<Seat<E, R>>) -> Result<Vec<SiteReport>, GatherFault>
+        ensures ok { IfOk result (λ reports. (reports.items ≡ self.reports) × AllGathered reports.items seats.items) }
+        ensures err { IfErr result (Explains self.reports seats.items) }
+        ensures every { vec_len seats ≡ self.seats → (site : ℕ) → result ≢ Err (Missing site) }
+    {
+        let Closed {
+            alloc,
+            books,
+            reports,
+            mut share,
+        } = self;
+        let (mut entries, mut receipts, rest) = books.apart();
+        let Ok((given, mut mine)) = take_back(alloc, seats, rest) else {
+            return Err(GatherFault::OutOfMemory);
+        };
+        entries.audit(&mut share);
+        receipts.audit(&mut mine);
+        let total = count_entries(reports.as_slice());
+        let missing = count_receipts(given.as_slice()) < total;
+        if let Err(fault) = look_at_all(alloc, reports.as_slice(), given.as_slice(), missing) {
+            return Err(fault);
+        }
+        Ok(reports)
+    }
+}
+
+/// Looks at all sites, from the first. `missing` tells whether there are fewer receipts than entries.
+fn look_at_all(
+    alloc: Global,
+    reports: &[SiteReport],
+    seats: &[Given],
+    missing: bool,
+) -> Result<(), GatherFault>
+    requires fits { receipts_in seats.now < 2 ^ 64 }
+    requires few { length seats.now < 2 ^ 16 }
+    requires missing { IsTrue missing → receipts_in seats.now < entries_in reports.now }
+    ensures ok { OnOk result (AllGathered reports.now seats.now) }
+    ensures err { IfErr result (Explains reports.now seats.now) }
+{
+    for k in 0..reports.len() {
+        let report = &reports[k];
+        if let Err(fault) = look_at(alloc, report, k, seats, missing) {
+            return Err(fault);
+        }
+    }
+    Ok(())
+}
+
+/// Looks at the site of this place.
+fn look_at(
+    alloc: Global,
+    report: &SiteReport,
+    place: usize,
+    seats: &[Given],
+    missing: bool,
+) -> Result<(), GatherFault>
+    requires fits { receipts_in seats.now < 2 ^ 64 }
+    requires few { length seats.now < 2 ^ 16 }
+    ensures ok { OnOk result ((report.now.me ≡ place) × IsGathered place report.now.history.items seats.now) }
+    ensures missing { (s : ℕ) → result ≡ Err (Missing s) → (s ≡ place) × (report.now.me ≡ place) × IsTrue missing × (receipts_at s seats.now < vec_len report.now.history) }
+    ensures mixed { (s : ℕ) → result ≡ Err (Mixed s) → (s ≡ place) × ¬ IsGathered s report.now.history.items seats.now }
+{
+    let site = report.me;
+    if usize::from(site) != place {
+        // No type can say that each lock's site stands at its place, where `Branch::open` puts it.
+        return Err(GatherFault::OutOfMemory);
+    }
+    if missing && count_at(site, seats) < report.history.len() as u64 {
+        return Err(GatherFault::Missing { site });
+    }
+    match merges(alloc, site, report.history.as_slice(), seats) {
+        Ok(true) => Ok(()),
+        Ok(false) => Err(GatherFault::Mixed { site }),
+        Err(_) => Err(GatherFault::OutOfMemory),
+    }
+}
+
+/// How many entries there are.
+fn count_entries(reports: &[SiteReport]) -> u64
+    requires few { length reports.now ≤ MOST_SITES }
+    requires short { All (λ r. vec_len r.history < 2 ^ 32) reports.now }
+    ensures { result ≡ entries_in reports.now }
+{
+    let mut count: u64 = 0;
+    for report in reports {
+        count += report.history.len() as u64;
+    }
+    count
+}
+
+/// How many receipts there are.
+fn count_receipts(seats: &[Given]) -> u64
+    requires { receipts_in seats.now < 2 ^ 64 }
+    ensures { result ≡ receipts_in seats.now }
+{
+    let mut count: u64 = 0;
+    for seat in seats {
+        count += seat.receipts().len() as u64;
+    }
+    count
+}
+
+/// How many receipts there are of a site.
+fn count_at(site: u8, seats: &[Given]) -> u64
+    requires { receipts_in seats.now < 2 ^ 64 }
+    ensures { result ≡ receipts_at site seats.now }
+{
+    let mut count: u64 = 0;
+    for seat in seats {
+        if seat.site() == site {
+            count += seat.receipts().len() as u64;
+        }
+    }
+    count
+}

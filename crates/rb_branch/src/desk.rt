@@ -1,0 +1,203 @@
+//! Desks, seats, and the one call that makes a receipt.
+ghost use Rattle.std.specs.Prelude.{◌≡◌, ◌<◌, ◌≤◌, [], IfOk, OnErr, Err, length};
+ghost use Rattle.std.specs.Option.{option_copied};
+ghost use Rattle.rb_site.specs.Events.{first_site};
+ghost use Rattle.rb_site.specs.Seen.{Replays, first_seen};
+ghost use Rattle.rb_branch.specs.Gathered.{IsClosed};
+ghost use Rattle.rb_branch.specs.Seats.{Records, SetsUnsent, CannotRecord, receipt_at};
+ghost use Rattle.rb_branch.specs.declared.call_fault.CallFault.TheVariants.{HistoryFull};
+ghost use Rattle.rb_branch.specs.declared.limits.TheConstants.{MOST_RECEIPTS};
+
+use crate::given::Given;
+use crate::{Books, CallFault, Entries, MOST_RECEIPTS, Receipt};
+use rb_shadow::OpName;
+use rb_site::{Event, Posted, Site, SiteReport};
+use std::alloc::Global;
+use std::marker::{Model, PhantomData};
+use std::sync::ledger::{Ledger, Share};
+use std::sync::{Mutex, Wait};
+
+/// What lies behind a site's lock: the site, and its share of the entries. Clients see the site. It can't be
+/// dropped.
+pub struct Desk<E: Entries> {
+    site: Site,
+    share: Share<E>,
+}
+
+impl<E: Entries> Model for Desk<E> {
+    ghost use Rattle.rb_site.specs.Seen.{SeenSite};
+    ghost use Rattle.rb_branch.specs.Seats.{IsDesk};
+
+    ghost Value = { SeenSite };
+
+    ghost view = { λ d. d.site };
+
+    ghost invariant = { λ d. IsDesk E.settings d.site d.share.parts d.share.amount };
+}
+
+/// One client at one site: what it was answered, and its share of the receipts. Clients see the site's number
+/// and the receipts.
+#[derive(Drop)]
+pub struct Seat<E: Entries, R: Ledger> {
+    site: u8,
+    receipts: Vec<Receipt>,
+    share: Share<R>,
+    of: PhantomData<E>,
+}
+
+impl<E: Entries, R: Ledger> Model for Seat<E, R> {
+    ghost use Rattle.rb_branch.specs.Seats.{SeenSeat, IsSeat};
+
+    ghost Value = { SeenSeat };
+
+    ghost view = { λ s. record { site = s.site; receipts = s.receipts.items } };
+
+    ghost invariant = { λ s. IsSeat E.settings s.site s.receipts.items s.share.parts s.share.amount };
+}
+
+/// One event at the desk, and its receipt at the end of the seat: its number there, from 1, and what is to be
+/// sent. Nothing else makes a receipt. Its room is made before the step.
+///
+/// `Err` means out of memory, or a full history, a full seat, or a seat of another site; desk and seat are
+/// then as before.
+pub fn record<E: Entries, R: Ledger, W: Wait>(
+    rt: &W,
+    alloc: Global,
+    desk: &mut Desk<E>,
+    seat: &mut Seat<E, R>,
+    books: &Mutex<Books<E, R>>,
+    event: Event,
+) -> Result<(u32, Posted), CallFault>
+    ensures ok { IfOk result (λ r. Records desk.old desk.new event seat.old seat.new r.0 r.1.items) }
+    ensures err { OnErr result ((desk.new ≡ desk.old) × (seat.new ≡ seat.old)) }
+    ensures full { result ≡ Err HistoryFull → CannotRecord desk.old seat.old }
+{
+    if desk.site.me() != seat.site || desk.site.is_full() || seat.receipts.len() >= MOST_RECEIPTS {
+        return Err(CallFault::HistoryFull);
+    }
+    seat.receipts.reserve(1)?;
+    let copy = event.try_copy(alloc)?;
+    let (reply, posted) = desk.site.step(event)?;
+    let _replays = desk.site.history();
+    let number = desk.site.len();
+    books.lock(rt).count(&mut desk.share, &mut seat.share);
+    seat.receipts.push_reserved(Receipt {
+        number,
+        event: copy,
+        reply,
+        unsent: 0,
+    });
+    Ok((seat.receipts.len() as u32, posted))
+}
+
+impl<E: Entries> Desk<E> {
+    /// The desk of a site before any event.
+    pub(crate) fn open(site: Site, share: Share<E>) -> Desk<E>
+        requires site { site ≡ first_seen E.settings site.me }
+        requires place { site.me < E.settings.sites }
+        requires share { (share.parts ≡ 1) × (share.amount ≡ 0) }
+        ensures { result ≡ site }
+    {
+        Desk { site, share }
+    }
+
+    /// The site. Whenever its lock is got it is one of the branch's configuration, and its history replays.
+    pub fn site(&self) -> &Site
+        ensures same { result.now ≡ self.now }
+        ensures settings { self.now.settings ≡ E.settings }
+        ensures place { self.now.me < E.settings.sites }
+        ensures replays { Replays E.settings (first_site self.now.me) self.now.entries }
+        ensures room { length self.now.entries ≤ E.settings.limits.history }
+    {
+        &self.site
+    }
+
+    /// The name of a held operation whose past the site applied, by the site's own clock, if there is one.
+    pub(crate) fn ready(&self) -> Option<OpName> {
+        self.site.inbox().ready(self.site.ledger().clock())
+    }
+
+    /// Closes the site, and gives its share back.
+    pub(crate) fn close(self) -> (SiteReport, Share<E>)
+        ensures report { IsClosed E.settings result.0 }
+        ensures share { (result.1.parts ≡ 1) × (result.1.amount ≡ length result.0.history.items) }
+    {
+        let Desk { site, share } = self;
+        let _len = site.len();
+        let _history = site.history();
+        (site.close(), share)
+    }
+
+    /// Ends the site.
+    pub(crate) fn end(self) {
+        let Desk { site, share } = self;
+        drop(share);
+        site.end();
+    }
+}
+
+impl<E: Entries, R: Ledger> Seat<E, R> {
+    /// A seat at a site, without receipts.
+    pub(crate) fn open(alloc: Global, site: u8, share: Share<R>) -> Seat<E, R>
+        requires place { site < E.settings.sites }
+        requires share { (share.parts ≡ 1) × (share.amount ≡ 0) }
+        ensures { result ≡ record { site = site; receipts = [] } }
+    {
+        Seat {
+            site,
+            receipts: Vec::new(alloc),
+            share,
+            of: PhantomData,
+        }
+    }
+
+    /// The number of its site.
+    pub fn site(&self) -> u8
+        ensures same { result ≡ self.now.site }
+        ensures place { result < E.settings.sites }
+    {
+        self.site
+    }
+
+    /// The receipts, in the order of the calls.
+    pub fn receipts(&self) -> &[Receipt]
+        ensures same { result.now ≡ self.now.receipts }
+        ensures few { length self.now.receipts ≤ MOST_RECEIPTS }
+    {
+        self.receipts.as_slice()
+    }
+
+    /// The receipt of this number, from 1, if there is one.
+    pub fn receipt(&self, number: u32) -> Option<&Receipt>
+        ensures { option_copied result ≡ receipt_at self.now.receipts number }
+    {
+        if number == 0 {
+            return None;
+        }
+        self.receipts.get(number as usize - 1)
+    }
+
+    /// Notes how many links refused a message of the last receipt.
+    pub(crate) fn set_unsent(&mut self, count: u32)
+        requires { 0 < length self.old.receipts }
+        ensures { SetsUnsent self.old self.new count }
+    {
+        let last = self.receipts.len() - 1;
+        let receipt = &mut self.receipts[last];
+        receipt.unsent = count;
+    }
+
+    /// Gives the seat's receipts and its share back.
+    pub(crate) fn give_back(self) -> (Given, Share<R>)
+        ensures given { result.0 ≡ self }
+        ensures share { (result.1.parts ≡ 1) × (result.1.amount ≡ length self.receipts) }
+    {
+        let Seat {
+            site,
+            receipts,
+            share,
+            of: _,
+        } = self;
+        (Given::new(site, receipts), share)
+    }
+}

@@ -1,0 +1,19 @@
+//! The ledger of a branch's entries.
+
+use std::marker::Brand;
+use std::sync::ledger::Ledger;
+
+/// The ledger that counts the entries of a branch's histories. It names the branch's configuration,
+/// which contracts alone read.
+pub trait Entries: Ledger {
+    ghost use Rattle.rb_money.specs.Settings.{Settings};
+
+    ghost settings: { Settings };
+}
+
+impl Entries for Brand {
+    ghost use Rattle.std.specs.Prelude.{[]};
+    ghost use Rattle.rb_money.specs.Settings.{Settings};
+
+    ghost settings = { record { sites = 0; names = []; starts = []; limits = record { blue = 0; red = 0; inbox = 0; history = 0; epoch = 0 } } };
+}

@@ -1,0 +1,4 @@
+pub mod Bank
+pub mod Runs
+pub mod Texts
+pub mod Writing

@@ -1,0 +1,51 @@
+//! The words of the options of a run of threads.
+ghost use Rattle.std.specs.Prelude.{◌≡◌, ◌≤◌, ◌<◌, ◌^◌, ℕ, length, map, decimal, IfNone, IfSome, Some};
+ghost use Rattle.rb_words.specs.Words.{IsGiven};
+
+use itoa::Buffer;
+
+/// The number that these digits are the text of, with no sign and no zero in front.
+fn read_number(text: &str) -> Option<u32>
+    ensures found { IfSome result (λ n. text.now ≡ decimal n) }
+    ensures only { (n : ℕ) → n < 2 ^ 32 → text.now ≡ decimal n → result ≡ Some n }
+{
+    match text.parse::<u32>() {
+        Ok(n) => {
+            if Buffer::new().format(n) == text {
+                Some(n)
+            } else {
+                None
+            }
+        }
+        Err(_) => None,
+    }
+}
+
+/// The number within these bounds, if there is one, that is the text of these digits.
+fn number_within(text: &str, least: u32, most: u32) -> Option<u32>
+    ensures found { IfSome result (λ n. (text.now ≡ decimal n) × (least ≤ n) × (n ≤ most)) }
+    ensures none { IfNone result ((n : ℕ) → least ≤ n → n ≤ most → ¬ (text.now ≡ decimal n)) }
+{
+    let n = read_number(text)?;
+    if least <= n && n <= most {
+        Some(n)
+    } else {
+        None
+    }
+}
+
+/// The number of an option among the words after the first: they are three options, each with its number, in any order.
+pub fn number_of(words: &[&str], name: &str, least: u32, most: u32) -> Option<u32>
+    requires { length words.now ≡ 7 }
+    ensures found { IfSome result (λ n. IsGiven (map (λ word. word.now) words.now) name.now n × (least ≤ n) × (n ≤ most)) }
+    ensures none { IfNone result ((n : ℕ) → least ≤ n → n ≤ most → ¬ IsGiven (map (λ word. word.now) words.now) name.now n) }
+{
+    for i in 0..3 {
+        if words[2 * i + 1] == name {
+            if let Some(n) = number_within(words[2 * i + 2], least, most) {
+                return Some(n);
+            }
+        }
+    }
+    None
+}
