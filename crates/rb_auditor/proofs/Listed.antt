@@ -1,14 +1,13 @@
 -- Where messages are listed.
-use Rattle.std.proofs.Common.{◌≡◌, ℕ, zero, suc, ◌+◌, ◌<◌, List, [], ◌∷◌, ◌++◌, length, take, refl, ap, sym, subst, ◌∙◌, ◌⊎◌, inl, inr, arith, length-append, Some, IsTrue, Bool, true, false, append_assoc}
-use Rattle.std.proofs.Common.{Vec, get_or}
+use Rattle.std.proofs.Common.{◌≡◌, ℕ, zero, suc, ◌+◌, ◌<◌, List, [], ◌∷◌, ◌++◌, length, take, refl, ap, sym, subst, ◌∙◌, ◌⊎◌, inl, inr, arith, length-append, Some, IsTrue, Bool, true, false, append_assoc, Vec, get_or}
 use Rattle.std.specs.Prelude.{slice_get, slice_set}
 use Rattle.std.specs.Option.{option_map}
 use Rattle.std.proofs.lemmas.List.{length-take-le, take_more}
 use Rattle.std.proofs.lemmas.Option.{slice_get-map, slice_get_read}
 use Rattle.rb_auditor.specs.Findings.{lists_of}
 use Rattle.rb_site.specs.declared.message.Message.{Message}
-use Rattle.rb_site.proofs.Places
-use Rattle.rb_site.proofs.Places.{same_number}
+use Rattle.rb_site.proofs.Public.Places
+use Rattle.rb_site.proofs.Public.Places.{same_number}
 use Rattle.rb_auditor.specs.Sent.{AreListed, IsListed, row_of, slot_of}
 use Rattle.rb_auditor.proofs.Lists
 

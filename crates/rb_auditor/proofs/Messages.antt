@@ -9,9 +9,9 @@ use Rattle.rb_site.specs.declared.event.Event.TheVariants.{Submit, Batch, Receiv
 use Rattle.rb_site.specs.declared.message.Message.{Message}
 use Rattle.rb_site.specs.Events.{ModelSite, after_events, sent_at}
 use Rattle.rb_site.specs.Histories.{IsAmong, events_of, sends_of}
-use Rattle.rb_site.proofs.Recorded.{IsFrom}
-use Rattle.rb_site.proofs.Runs
-use Rattle.rb_site.proofs.Stuck
+use Rattle.rb_site.proofs.Public.Recorded.{IsFrom}
+use Rattle.rb_site.proofs.Public.Runs
+use Rattle.rb_site.proofs.Public.Stuck
 use Rattle.rb_auditor.specs.Progress.{IsHeldUp, MayCome}
 
 -- the number of a message that was sent

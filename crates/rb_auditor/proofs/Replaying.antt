@@ -14,9 +14,9 @@ use Rattle.rb_site.specs.declared.message.Message.{Message}
 use Rattle.rb_site.specs.declared.reply.Reply.{Reply}
 use Rattle.rb_site.specs.Seen.{IsReplayed, Replays, SeenSite, entry, next_site, state_of, stepped}
 use Rattle.rb_auditor.specs.Replays.{IsNoted, seen_at, sends_by}
-use Rattle.rb_site.proofs.Runs
-use Rattle.rb_site.proofs.Seen
-use Rattle.rb_site.proofs.States
+use Rattle.rb_site.proofs.Public.Runs
+use Rattle.rb_site.proofs.Public.Seen
+use Rattle.rb_site.proofs.Public.Outcomes
 use Rattle.rb_auditor.specs.Findings.{IsReplay}
 use Rattle.rb_auditor.specs.Progress.{fronts_of, site_after, sites_after}
 use Rattle.rb_auditor.specs.Sends.{AreEnds, between}
@@ -99,14 +99,14 @@ few true ms h = omega arith
 few false ms h = h
 
 sent_few : (s : Settings) (t : ModelSite) (e : Event) → length (sent_at s t e) ≤ MOST_REQUESTS
-sent_few s t e = few (is_full s t) (sent_by (outcome_of s t e)) (States.sends_few s t e)
+sent_few s t e = few (is_full s t) (sent_by (outcome_of s t e)) (Outcomes.sends_few s t e)
 
 -- where the history is full, one more is wrong
 pub full_is_wrong : (x : SeenSite) (y : Entry) → IsReplayed x → is_full x.settings (state_of x) ≡ true → ¬ IsReplayed (seen_at x.settings x.me (x.entries ++ y ∷ []))
 full_is_wrong x y old full new =
     let longer : length (x.entries ++ y ∷ []) ≡ length x.entries + 1 = length-append x.entries (y ∷ []) in
     let within : length (x.entries ++ y ∷ []) ≤ x.settings.limits.history = new.room in
-    let test : nat_le x.settings.limits.history (length x.entries) ≡ true = States.is_full-state x old ∙ full in
+    let test : nat_le x.settings.limits.history (length x.entries) ≡ true = Outcomes.is_full-state x old ∙ full in
     let most : x.settings.limits.history ≤ length x.entries = grind (arith, nat_tests) in
     omega arith
 
@@ -119,7 +119,7 @@ pub noted : (x new : SeenSite) (e : Event) (y : Entry) (r : Reply) (before after
 noted x new e y r before after old free is reply same event sends = record {
   free = free;
   is = step ∙ ap (λ z. record x { entries = x.entries ++ z ∷ [] }) (ap (entry e) (sym reply ∙ same) ∙ ap (λ f. entry f y.reply) event);
-  replays = subst IsReplayed (sym step) (Seen.replayed-stepped x e (States.room_left x old free) old);
+  replays = subst IsReplayed (sym step) (Seen.replayed-stepped x e (Outcomes.room_left x old free) old);
   sends = sends ∙ ap (λ f. before ++ sent_at x.settings (state_of x) f) event;
 }
   where

@@ -21,7 +21,7 @@ use Rattle.rb_history.specs.Fits.{Each, IsEvent, IsKind, IsReply, IsRequest, IsS
 use Rattle.rb_history.specs.Recorded.{counts_in, event_at, kind_at, shadow_at}
 use Rattle.rb_commands.specs.Requests.{request_alone, requests_in}
 use Rattle.rb_commands.specs.Values.{number_json}
-use Rattle.rb_commands.proofs.Back.{back, below}
+use Rattle.rb_commands.proofs.Public.Reading.{back, below}
 use Rattle.rb_history.proofs.KnownPlaces.{known_place}
 use Rattle.rb_history.proofs.ReplyBack.{reply_back}
 

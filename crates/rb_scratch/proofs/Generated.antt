@@ -1,5 +1,5 @@
 -- What is made, step by step.
-use Rattle.std.proofs.Common.{◌≡◌, ℕ, ◌≤◌, ◌<◌, true, false, List, refl, ap, sym, ◌∙◌, arith, Ok, Err}
+use Rattle.std.proofs.Common.{◌≡◌, ℕ, ◌≤◌, ◌<◌, true, false, List, ap, sym, ◌∙◌, arith, Ok, Err}
 use Rattle.std.specs.Prelude.{nat_lt}
 use Rattle.std.proofs.lemmas.Bool.Decides.{nat_tests}
 use Rattle.rb_money.specs.Settings.{Settings}
@@ -11,8 +11,6 @@ use Rattle.rb_shadow.specs.declared.shadow.Shadow.{Shadow}
 use Rattle.rb_shadow.specs.Operations.{number_of}
 use Rattle.rb_shadow.specs.Sound.{limit_of}
 use Rattle.rb_token.specs.Token.{Token}
-use Rattle.rb_token.specs.Seat.{Shows}
-use Rattle.rb_token.specs.declared.view.TokenView.{TokenView}
 use Rattle.rb_scratch.specs.declared.request.Request.{Request}
 use Rattle.rb_scratch.specs.Requests.{Plan, plan_of, next_name, colour_of_plan, operation_of, allowed, allowed_by_colour, allowed_red, made_of}
 
@@ -61,10 +59,3 @@ blue_made s me us token r p v e is low blue = within s me us token r p v e is lo
 pub red_made : (s : Settings) (me : ℕ) (us : List Shadow) (token : Token) (r : Request) (p : Plan) (v : Shadow) → plan_of s us r ≡ Ok p → v ≡ operation_of me us p
     → number_of v.name ≤ limit_of s.limits v.name → colour_of_plan us p ≡ RedColour → made_of s me us token r ≡ allowed_red s us token v
 red_made s me us token r p v e is low red = within s me us token r p v e is low ∙ ap (allowed_by_colour s us token v) (named me us p v is ∙ ap (next_name me us) red)
-
--- a token that a view shows
-abbrev pub seen : TokenView → Token
-seen w = record { epoch = 0; held = w.held; needed = w.needed }
-
-pub seen_shows : (w : TokenView) → Shows w (seen w)
-seen_shows w = record { held = refl; needed = refl }

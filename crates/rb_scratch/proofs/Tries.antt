@@ -1,5 +1,5 @@
 -- What is tried on a ledger, operation by operation.
-use Rattle.std.proofs.Common.{◌≡◌, ℕ, ◌-◌, ◌≤◌, List, [], ◌∷◌, ◌++◌, length, drop, refl, ap, sym, ◌∙◌, arith, append_assoc, length-append, ◌⊎◌, inl, inr}
+use Rattle.std.proofs.Common.{◌≡◌, ℕ, ◌-◌, List, [], ◌∷◌, ◌++◌, length, drop, refl, ap, sym, ◌∙◌, arith, append_assoc, length-append, ◌⊎◌, inl, inr}
 use Rattle.std.proofs.lemmas.List.{append-nil}
 use Rattle.std.proofs.Math.Seq.{drop-append_seam}
 use Rattle.rb_money.specs.Settings.{Settings}
@@ -7,19 +7,15 @@ use Rattle.rb_shadow.specs.declared.shadow.Shadow.{Shadow}
 use Rattle.rb_undo.specs.declared.parts.UndoParts.{UndoParts}
 use Rattle.rb_ledger.specs.Book.{Book}
 use Rattle.rb_ledger.specs.Records.{logged}
-use Rattle.rb_ledger.specs.Valid.{parts_of}
+use Rattle.rb_ledger.specs.Valid.{parts_of, IsValid}
 use Rattle.rb_money.specs.declared.refusal.Refusal.{Refusal}
 use Rattle.rb_money.specs.declared.refusal.Refusal.TheVariants.{OutOfMemory}
 use Rattle.std.specs.Prelude.{Some, None}
 use Rattle.rb_ledger.specs.Checks.{refusal_of}
-use Rattle.rb_ledger.specs.Valid.{IsValid}
-use Rattle.rb_ledger.proofs.Legal
-use Rattle.rb_ledger.proofs.Records
+use Rattle.rb_ledger.proofs.Public.Legal
+use Rattle.rb_ledger.proofs.Public.Records
 use Rattle.rb_scratch.specs.Tried.{IsTried, IsAdded}
-
--- there are as many records as operations
-pub tried_length : (base made : List Shadow) (book : Book) (records : List UndoParts) → IsTried base made book records → length records ≡ length made
-tried_length base made book records tried = ap length tried.records ∙ Records.logged-length book.settings base made
+use Rattle.rb_scratch.proofs.Public.Batches.{tried_length}
 
 -- one operation more
 pub added : (was now : Book) (records more : List UndoParts) (v : Shadow) → now.settings ≡ was.settings → now.entries ≡ was.entries ++ v ∷ [] → more ≡ records ++ parts_of was.settings was.entries v ∷ [] → IsAdded was now records more v
@@ -117,10 +113,6 @@ pub last_made : (base made : List Shadow) (book : Book) (records : List UndoPart
 last_made base made book records n tried e =
     let at : n ≡ length base = omega (arith, tried_length base made book records tried, ap length tried.entries, length-append base made, e) in
     ap (drop n) tried.entries ∙ ap (λ k. drop k (base ++ made)) at ∙ drop-append_seam base made
-
--- there are no more records than operations
-pub tried_within : (base made : List Shadow) (book : Book) (records : List UndoParts) → IsTried base made book records → length records ≤ length book.entries
-tried_within base made book records tried = omega (arith, tried_length base made book records tried, ap length tried.entries, length-append base made)
 
 -- what may be added is refused for want of memory alone
 pub no_memory : (s : Settings) (us : List Shadow) (h : Shadow) (why : Refusal) (n : ℕ) → IsValid s (us ++ h ∷ []) → (refusal_of s us h ≡ Some why) ⊎ ((why ≡ OutOfMemory) × (refusal_of s us h ≡ None) × (n ≡ 0)) → why ≡ OutOfMemory

@@ -3,8 +3,8 @@ use Rattle.std.specs.Prelude.{map}
 use Rattle.json.specs.Print.{escape_byte}
 use Rattle.rb_shadow.specs.declared.op_name.OpName.TheVariants.{Blue}
 use Rattle.rb_commands.specs.Values.{name_json}
-use Rattle.rb_commands.proofs.Appended.{front_of_front, front_of_sum, then}
-use Rattle.rb_commands.proofs.Listed.{rest_text, whole_text, item_written, items_written}
+use Rattle.rb_commands.proofs.Public.Appended.{front_of_front, front_of_sum, then}
+use Rattle.rb_commands.proofs.Public.Listed.{rest_text, whole_text, item_written, items_written}
 use Rattle.rb_commands.proofs.lists.append_names.Goals as goal
 
 pub loop-name-preserved : goal.loop-name-preserved

@@ -6,8 +6,8 @@ use Rattle.serde_json.specs.Find.{of_integer}
 use Rattle.serde_json.specs.Written.{number_text}
 use Rattle.rb_shadow.specs.NameText.{name_text}
 use Rattle.rb_commands.specs.Values.{label_text}
-use Rattle.rb_commands.proofs.Appended.{then}
-use Rattle.rb_commands.proofs.Plain.{quoted_label}
+use Rattle.rb_commands.proofs.Public.Appended.{then}
+use Rattle.rb_commands.proofs.Public.Plain.{quoted_label}
 use Rattle.rb_commands.proofs.lists.append_row.Goals as goal
 
 integer_text : (z : ℤ) → number_text (of_integer z) ≡ signed_decimal z

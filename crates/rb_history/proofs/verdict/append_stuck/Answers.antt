@@ -2,8 +2,8 @@ use Rattle.std.proofs.Common.{◌++◌, codes, [], ap, sym, ◌∙◌, append_as
 use Rattle.std.specs.Prelude.{map}
 use Rattle.json.specs.Print.{escape_byte}
 use Rattle.rb_commands.specs.Values.{number_json}
-use Rattle.rb_commands.proofs.Appended.{front_of_front, front_of_sum, then}
-use Rattle.rb_commands.proofs.Listed.{rest_text, whole_text, item_written, items_written}
+use Rattle.rb_commands.proofs.Public.Appended.{front_of_front, front_of_sum, then}
+use Rattle.rb_commands.proofs.Public.Listed.{rest_text, whole_text, item_written, items_written}
 use Rattle.rb_history.proofs.verdict.append_stuck.Goals as goal
 
 pub loop-number-preserved : goal.loop-number-preserved

@@ -4,7 +4,7 @@ use Rattle.rb_scratch.specs.declared.request.TheConstants.{MOST_REQUESTS}
 use Rattle.rb_site.specs.declared.message.Message.{Message}
 use Rattle.rb_site.specs.Events.{is_full, outcome_of, sent_at, sent_by}
 use Rattle.rb_site.specs.Seen.{state_of}
-use Rattle.rb_site.proofs.States.{sends_few}
+use Rattle.rb_site.proofs.Public.Outcomes.{sends_few}
 use Rattle.rb_site.proofs.site.Site.step.Goals as goal
 
 few_at : (b : Bool) (ms : List Message) → length ms ≤ MOST_REQUESTS → length (cond b [] ms) ≤ MOST_REQUESTS

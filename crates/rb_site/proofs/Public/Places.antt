@@ -2,7 +2,7 @@
 use Rattle.std.proofs.Common.{◌≡◌, ◌≢◌, ℕ, zero, suc, List, [], ◌∷◌, refl, ap, arith, ◌⊎◌, inl, inr, Some}
 use Rattle.std.specs.Prelude.{slice_get, slice_set, ◌==◌}
 use Rattle.std.proofs.lemmas.Bool.Decides.{nat_tests}
-use Rattle.rb_shadow.proofs.Members
+use Rattle.rb_shadow.proofs.Public.Members
 
 pub get_set_same : {A : Type 0} (ts : List A) (i : ℕ) (t n : A) → slice_get ts i ≡ Some t → slice_get (slice_set ts i n) i ≡ Some n
 get_set_same [] i t n h = cc

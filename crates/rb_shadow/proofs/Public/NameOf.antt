@@ -5,8 +5,7 @@ use Rattle.std.specs.List.{before_first, after_first}
 use Rattle.std.specs.Str.Parse.{digits_value}
 use Rattle.std.proofs.lemmas.Fmt.{decimal_is_IsNumeral}
 use Rattle.std.proofs.lemmas.Slice.Eq.{bytes_eq-Decides}
-use Rattle.std.proofs.lemmas.Bool.{eqb-true, false_from_ne_true}
-use Rattle.std.proofs.lemmas.Bool.{and_parts as both}
+use Rattle.std.proofs.lemmas.Bool.{eqb-true, false_from_ne_true, and_parts as both}
 use borrow.Author.Tests.{ltb-true}
 use Rattle.rb_shadow.specs.NameText.{name_text, name_of, candidate, is_name, IsName}
 use Rattle.rb_shadow.specs.declared.op_name.OpName.{OpName}

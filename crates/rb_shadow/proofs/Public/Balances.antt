@@ -9,8 +9,8 @@ use Rattle.rb_shadow.specs.declared.shadow.Shadow.{Shadow}
 use Rattle.rb_shadow.specs.declared.op_name.OpName.{OpName}
 use Rattle.rb_shadow.specs.Operations.{Among, same_name, names, IsUnique, IsWithin, AreSame, total, delta, bal, is_kept, is_cancelled, is_cancel, cancels, cancel_count, Agree, IsLawful}
 use Rattle.rb_shadow.specs.Laws.{IsPart}
-use Rattle.rb_shadow.proofs.Members
-use Rattle.rb_shadow.proofs.Totals
+use Rattle.rb_shadow.proofs.Public.Members
+use Rattle.rb_shadow.proofs.Public.Totals
 
 -- what an operation of the list adds to the balance
 abbrev pub worth : List Shadow → Place → Shadow → ℤ

@@ -12,7 +12,7 @@ use Rattle.rb_shadow.specs.declared.op_name.OpName.{OpName}
 use Rattle.rb_shadow.specs.declared.op_name.OpName.TheVariants.{Blue, Red}
 use Rattle.rb_shadow.specs.declared.deps.Deps.{Deps}
 use Rattle.rb_shadow.specs.Operations.{Among, same_name, names, past, names_of_clock, IsUnique, IsWithin, AreSame, EachEntry, number_of, entry_of, HasEntry, is_blue_of, is_red, blue_count, red_count, clock_of}
-use Rattle.rb_shadow.proofs.Members
+use Rattle.rb_shadow.proofs.Public.Members
 
 -- how many of the operations have a name of the same row: blue of the same site, or red
 abbrev pub row_count : List Shadow → OpName → ℕ

@@ -9,8 +9,8 @@ use Rattle.rb_shadow.specs.declared.op_name.OpName.{OpName}
 use Rattle.rb_shadow.specs.declared.op_name.OpName.TheVariants.{Blue, Red}
 use Rattle.rb_shadow.specs.declared.deps.Deps.{Deps}
 use Rattle.rb_shadow.specs.Operations.{names, past, names_of_clock, IsWithin, blue_listed, names_listed, is_eligible}
-use Rattle.rb_shadow.proofs.Members
-use Rattle.rb_shadow.proofs.Clocks
+use Rattle.rb_shadow.proofs.Public.Members
+use Rattle.rb_shadow.proofs.Public.Clocks
 
 -- a name of the list
 abbrev pub Listed : OpName → List OpName → Type 0

@@ -10,8 +10,8 @@ use Rattle.rb_shadow.specs.declared.op_name.OpName.{OpName}
 use Rattle.rb_shadow.specs.declared.op_name.OpName.TheVariants.{Blue, Red}
 use Rattle.rb_shadow.specs.Operations.{number_of, entry_of}
 use Rattle.rb_shadow.specs.Sound.{fault_of, IsSound, is_absent, is_foreign, limit_of, may_be_nothing, is_miscoloured, cancels_unseen, is_clock}
-use Rattle.rb_shadow.proofs.Members
-use Rattle.rb_shadow.proofs.Clocks.{IsNext, IsHoused}
+use Rattle.rb_shadow.proofs.Public.Members
+use Rattle.rb_shadow.proofs.Public.Clocks.{IsNext, IsHoused}
 
 -- the tests of `fault_of`, each passed
 pub record SoundFacts (s : Settings) (v : Shadow) : Type 0 where

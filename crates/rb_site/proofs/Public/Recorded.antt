@@ -2,12 +2,12 @@
 use Rattle.std.proofs.Common.{◌≡◌, ℕ, Bool, true, false, cond, not, ◌&&◌, List, [], ◌∷◌, ◌++◌, refl, ap, sym, ◌∙◌, inl, inr, Option, Some, None, append_assoc}
 use Rattle.std.specs.Prelude.{slice_get, slice_set, is_some}
 use Rattle.std.proofs.lemmas.List.{append-nil}
-use Rattle.rb_site.proofs.Places.{get_set_other, get_set_same, same_number}
+use Rattle.rb_site.proofs.Public.Places.{get_set_other, get_set_same, same_number}
 use Rattle.rb_money.specs.Settings.{Settings}
-use Rattle.rb_shadow.proofs.Members
+use Rattle.rb_shadow.proofs.Public.Members
 use Rattle.rb_money.specs.declared.refusal.Refusal.TheVariants.{HistoryFull}
 use Rattle.rb_site.specs.declared.reply.Reply.TheVariants.{Refused}
-use Rattle.rb_site.proofs.Runs
+use Rattle.rb_site.proofs.Public.Runs
 use Rattle.rb_site.specs.declared.entry.Entry.{Entry}
 use Rattle.rb_site.specs.declared.event.Event.{Event}
 use Rattle.rb_site.specs.declared.event.Event.TheVariants.{Submit, Batch, Receive, Apply, Pass, Balance, AsOf, Statement as AskStatement}

@@ -10,9 +10,9 @@ use Rattle.rb_shadow.specs.declared.kind.Kind.{Kind}
 use Rattle.rb_shadow.specs.declared.kind.Kind.TheVariants.{Deposit, Withdraw, Declined, Interest, Cancel}
 use Rattle.rb_shadow.specs.Operations.{Among, same_name, names, past, Precedes, IsUnique, IsWithin, AreSame, delta, moved, bal, is_kept, is_cancelled, is_cancel, cancels, is_red}
 use Rattle.rb_shadow.specs.Laws.{IsClosed, IsFunded, IsPart}
-use Rattle.rb_shadow.proofs.Members
-use Rattle.rb_shadow.proofs.Totals
-use Rattle.rb_shadow.proofs.Balances
+use Rattle.rb_shadow.proofs.Public.Members
+use Rattle.rb_shadow.proofs.Public.Totals
+use Rattle.rb_shadow.proofs.Public.Balances
 
 abbrev pub is_withdraw : Kind → Bool
 is_withdraw Deposit = false

@@ -10,7 +10,7 @@ use Rattle.rb_money.specs.declared.refusal.Refusal.TheVariants.{HistoryFull}
 use Rattle.rb_site.specs.Events.{ModelSite, Outcome, after_event, after_events, changed, first_site, is_full, noted, outcome_of, reply_of, reply_to}
 use Rattle.rb_site.specs.Histories.{events_of}
 use Rattle.rb_site.specs.Seen.{IsReplayed, Replays, SeenSite, entry, next_site, state_of, stepped}
-use Rattle.rb_site.proofs.Runs
+use Rattle.rb_site.proofs.Public.Runs
 
 -- the state after one event more
 pub state-stepped : (x : SeenSite) (e : Event) → state_of (stepped x e) ≡ after_event x.settings (state_of x) e

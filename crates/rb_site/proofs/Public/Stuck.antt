@@ -6,7 +6,7 @@ use Rattle.std.specs.List.{range_with_len}
 use Rattle.std.proofs.lemmas.Option.{slice_get-map}
 use Rattle.std.proofs.lemmas.List.{append-nil}
 use Rattle.rb_money.specs.Settings.{Settings}
-use Rattle.rb_shadow.proofs.Members
+use Rattle.rb_shadow.proofs.Public.Members
 use Rattle.rb_site.specs.declared.entry.Entry.{Entry}
 use Rattle.rb_site.specs.declared.event.Event.{Event}
 use Rattle.rb_site.specs.declared.event.Event.TheVariants.{Receive}
@@ -15,11 +15,11 @@ use Rattle.rb_site.specs.declared.world_event.WorldEvent.{WorldEvent}
 use Rattle.rb_site.specs.Events.{ModelSite, after_event, after_events, changed, first_site, is_full, noted, outcome_of, reply_of, reply_to, sent_at}
 use Rattle.rb_site.specs.Worlds.{AreOwn, World, first_world, is_recorded, message_at, world_after, world_after_all, world_of_run}
 use Rattle.rb_site.specs.Histories.{IsAmong, IsBlocked, IsCut, StuckIsFinal, events_of, histories_of, place_of, sends_of}
-use Rattle.rb_site.proofs.Runs
-use Rattle.rb_site.proofs.Runs.{IsRunOfItsHistory}
-use Rattle.rb_site.proofs.Recorded
-use Rattle.rb_site.proofs.Recorded.{IsFrom, IsRecorded, Later}
-use Rattle.rb_site.proofs.Places.{get_set_other, get_set_same, same_number}
+use Rattle.rb_site.proofs.Public.Runs
+use Rattle.rb_site.proofs.Public.Runs.{IsRunOfItsHistory}
+use Rattle.rb_site.proofs.Public.Recorded
+use Rattle.rb_site.proofs.Public.Recorded.{IsFrom, IsRecorded, Later}
+use Rattle.rb_site.proofs.Public.Places.{get_set_other, get_set_same, same_number}
 
 -- ---- messages
 

@@ -1,0 +1,7 @@
+-- What other crates cite.
+pub mod Outcomes
+pub mod Places
+pub mod Recorded
+pub mod Runs
+pub mod Seen
+pub mod Stuck
