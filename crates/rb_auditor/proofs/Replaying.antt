@@ -2,12 +2,12 @@
 use Rattle.std.proofs.Common.{◌≡◌, ℕ, zero, suc, Bool, IsTrue, MatchBool, ◌↔◌, cond, ◌+◌, ◌*◌, ◌<◌, ◌≤◌, true, false, List, [], ◌∷◌, ◌++◌, length, take, drop, get_or, refl, ap, sym, subst, ◌∙◌, arith, Some, length-append}
 use Rattle.std.specs.Prelude.{map, slice_get, nat_le}
 use Rattle.std.proofs.lemmas.Bool.Decides.{nat_tests}
-use Rattle.std.proofs.lemmas.List.{length-take-le, take-append-drop, take_more}
+use Rattle.std.proofs.lemmas.List.{length-take-le, take-append-drop, take_more, map-append}
 use Rattle.rb_scratch.specs.declared.request.TheConstants.{MOST_REQUESTS}
 use Rattle.rb_money.specs.declared.limits.TheConstants.{MOST_HISTORY}
 use Rattle.rb_money.specs.Settings.{IsConfigured, Settings}
 use Rattle.rb_site.specs.declared.entry.Entry.{Entry}
-use Rattle.rb_site.specs.Events.{ModelSite, after_event, after_events, first_site, is_full, outcome_of, reply_to, sent_at, sent_by}
+use Rattle.rb_site.specs.Events.{ModelSite, after_event, after_events, first_site, is_full, reply_to, sent_at}
 use Rattle.rb_site.specs.Histories.{events_of}
 use Rattle.rb_site.specs.declared.event.Event.{Event}
 use Rattle.rb_site.specs.declared.message.Message.{Message}
@@ -54,7 +54,7 @@ pub record IsReplayedAt (s : Settings) (i : ℕ) (h : List Entry) (k : ℕ) (x :
   pub more : site_after s i (take (k + 1) h) ≡ after_event s (site_after s i (take k h)) x.event
 
 pub after_more : (s : Settings) (t : ModelSite) (xs : List Entry) (x : Entry) → after_events s t (events_of (xs ++ x ∷ [])) ≡ after_event s (after_events s t (events_of xs)) x.event
-after_more s t xs x = ap (after_events s t) (Runs.map-append (λ (y : Entry). y.event) xs (x ∷ [])) ∙ Runs.after_events-append s (events_of xs) (x.event ∷ []) t
+after_more s t xs x = ap (after_events s t) (map-append (λ (y : Entry). y.event) xs (x ∷ [])) ∙ Runs.after_events-append s (events_of xs) (x.event ∷ []) t
 
 not_full : (s : Settings) (t : ModelSite) (k : ℕ) → length t.history ≡ k → k < s.limits.history → is_full s t ≡ false
 not_full s t k e lt = grind (arith, nat_tests)
@@ -92,14 +92,6 @@ pub sends_at : (s : Settings) (t : ModelSite) (xs : List Entry) (k : ℕ) (x : E
 sends_at s t [] k x h = cc
 sends_at s t (y ∷ xs) zero x h = let e : y ≡ x = cc in ap (λ (z : Entry). Some (sent_at s t z.event)) e
 sends_at s t (y ∷ xs) (suc k) x h = sends_at s (after_event s t y.event) xs k x h
-
--- an event sends at most as many messages as a batch may have requests
-few : (b : Bool) (ms : List Message) → length ms ≤ MOST_REQUESTS → length (cond b [] ms) ≤ MOST_REQUESTS
-few true ms h = omega arith
-few false ms h = h
-
-sent_few : (s : Settings) (t : ModelSite) (e : Event) → length (sent_at s t e) ≤ MOST_REQUESTS
-sent_few s t e = few (is_full s t) (sent_by (outcome_of s t e)) (Outcomes.sends_few s t e)
 
 -- where the history is full, one more is wrong
 pub full_is_wrong : (x : SeenSite) (y : Entry) → IsReplayed x → is_full x.settings (state_of x) ≡ true → ¬ IsReplayed (seen_at x.settings x.me (x.entries ++ y ∷ []))
@@ -163,7 +155,7 @@ replaying_more s me h k x site new before after ends less at r n = record {
     sizes = ap length n.sends ∙ length-append before sent
 
     most : length sent ≤ MOST_REQUESTS
-    most = sent_few site.settings (state_of site) x.event
+    most = Outcomes.sent_few site.settings (state_of site) x.event
 
     longer : take k h ++ x ∷ [] ≡ take (k + 1) h
     longer = ap (λ y. take k h ++ y ∷ []) at ∙ sym (take_more h k x less)

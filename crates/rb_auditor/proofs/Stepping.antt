@@ -11,6 +11,7 @@ use Rattle.rb_site.specs.declared.message.Message.{Message}
 use Rattle.rb_site.specs.Events.{first_site, sent_at}
 use Rattle.rb_site.specs.Histories.{IsAmong}
 use Rattle.rb_site.proofs.Public.Places.{same_number}
+use Rattle.rb_site.proofs.Public.Lists.{get_front}
 use Rattle.rb_auditor.specs.declared.audit_fault.AuditFault.{AuditFault}
 use Rattle.rb_auditor.specs.declared.audit_fault.AuditFault.TheVariants.{WrongReply, Stuck, OutOfMemory}
 use Rattle.rb_auditor.specs.Findings.{IsReplay, lists_of}
@@ -47,7 +48,7 @@ sends_more s hs ss place h ms n at is old i g less there = elim (same_number pla
   | inl e ↦
       let same : h ≡ g = Lists.same_item (slice_get hs i) h g (ap (slice_get hs) e ∙ at) there in
       Listed.get_end ss i ms (n ∙ sym e) ∙ ap Some (is ∙ ap (λ j. sends_by s (first_site j) h) (sym e) ∙ ap (sends_by s (first_site i)) same)
-  | inr ne ↦ Listed.get_left ss (ms ∷ []) i (sends_by s (first_site i) g) (old i g (let q : i < place + 1 = less in omega (arith, ne)) there)
+  | inr ne ↦ get_front ss (ms ∷ []) i (sends_by s (first_site i) g) (old i g (let q : i < place + 1 = less in omega (arith, ne)) there)
 ]
 
 -- nothing was taken yet

@@ -7,7 +7,8 @@ use Rattle.rb_money.specs.Settings.{Settings}
 use Rattle.rb_scratch.specs.declared.request.Request.{Request}
 use Rattle.rb_commands.specs.Commands.{ReadsCommands}
 use Rattle.rb_commands.specs.Requests.{ReadsRequests, request_alone, requests_in}
-use Rattle.rb_commands.proofs.Public.Reading.{below, back}
+use Rattle.rb_money.proofs.Public.Tests.{is_below as below}
+use Rattle.rb_commands.proofs.Public.Reading.{back}
 
 reads_requests : (s : Settings) → ReadsRequests s
 reads_requests s = record {

@@ -2,4 +2,3 @@ pub mod Public
 mod LineLaws
 mod Ranges
 mod ReadLaws
-mod WriteLaws

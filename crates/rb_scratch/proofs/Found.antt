@@ -1,9 +1,9 @@
 -- What is found by its name.
-use Rattle.std.proofs.Common.{◌≡◌, ℕ, Bool, true, false, cond, not, List, [], ◌∷◌, refl, ap, sym, ◌∙◌, Option, Some, None, Result, Ok, Err, Bor, rules}
+use Rattle.std.proofs.Common.{◌≡◌, ℕ, Bool, true, false, cond, not, List, refl, ap, sym, ◌∙◌, Option, Some, None, Result, Ok, Err, Bor, rules}
 use Rattle.std.specs.Prelude.{option_map, option_and_then, IsSome, option_copied}
 use Rattle.rb_shadow.specs.declared.shadow.Shadow.{Shadow}
 use Rattle.rb_shadow.specs.declared.op_name.OpName.{OpName}
-use Rattle.rb_shadow.specs.Operations.{same_name, names, find_in, kind_in, may_be_cancelled, is_cancelled}
+use Rattle.rb_shadow.specs.Operations.{names, find_in, kind_in, may_be_cancelled, is_cancelled}
 use Rattle.rb_shadow.specs.declared.kind.Kind.TheVariants.{Cancel}
 use Rattle.rb_shadow.proofs.Public.Lookups
 use Rattle.rb_money.specs.declared.refusal.Refusal.{Refusal}
@@ -12,15 +12,6 @@ use Rattle.rb_money.specs.Refusals.{refused_if}
 use Rattle.rb_ledger.specs.Valid.{entry_at, find_position, first_cancel_in, position_from, first_cancel_from}
 use Rattle.rb_scratch.specs.Requests.{Plan, plan_of_cancel}
 use Rattle.rb_scratch.proofs.Public.Positions.{no_position, at_position}
-
--- the kind of a name is that of what is found
-pub kind_in-found : (us : List Shadow) (x : OpName) → kind_in us x ≡ option_map (λ (t : Shadow). t.kind) (find_in us x)
-kind_in-found [] x = refl
-kind_in-found (u ∷ us) x = at (same_name u.name x) (kind_in-found us x)
-  where
-    at : (b : Bool) → kind_in us x ≡ option_map (λ (t : Shadow). t.kind) (find_in us x) → cond b (Some u.kind) (kind_in us x) ≡ option_map (λ (t : Shadow). t.kind) (cond b (Some u) (find_in us x))
-    at true more = refl
-    at false more = more
 
 pub found_there : (us : List Shadow) (x : OpName) (p : ℕ) → find_position us x ≡ Some p → (t : Shadow) × (find_in us x ≡ Some t)
 found_there us x p h = at (names us x) refl h
@@ -87,4 +78,4 @@ planned_to_cancel us x p t o is kind e none = past_kind us x t is.found kind ∙
 
 -- the kind of what is found
 pub kind_is : (us : List Shadow) (x : OpName) (p : ℕ) (t : Shadow) → IsFound us x p t → kind_in us x ≡ Some t.kind
-kind_is us x p t is = kind_in-found us x ∙ ap (option_map (λ (u : Shadow). u.kind)) is.found
+kind_is us x p t is = Lookups.kind_found us x ∙ ap (option_map (λ (u : Shadow). u.kind)) is.found

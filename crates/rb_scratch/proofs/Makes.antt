@@ -25,6 +25,7 @@ use Rattle.rb_ledger.specs.Valid.{IsValid, HasTarget}
 use Rattle.rb_ledger.specs.Checks.{overdraws, refusal_of, refusal_after, has_wrong_target, same_colour}
 use Rattle.rb_money.specs.declared.refusal.Refusal.TheVariants.{WouldOverdraw}
 use Rattle.rb_money.specs.declared.cents.TheConstants.{MOST_CENTS}
+use Rattle.rb_money.proofs.Public.Tests.{number_same}
 use Rattle.rb_shadow.proofs.Public.Eligible
 use Rattle.rb_ledger.proofs.Public.Legal
 use Rattle.rb_ledger.proofs.Public.Pushes
@@ -88,14 +89,8 @@ well_coloured me us (Cancel x) o = at (colour_of (Cancel x) o)
 
 next_entry : (me : ℕ) (us : List Shadow) (c : Colour) → me < MOST_SITES → (entry_of (clock_of us) (next_name me us c) + 1 == number_of (next_name me us c)) ≡ true
 unfolding clock_of
-next_entry me us BlueColour few = ap (λ n. n + 1 == blue_count us me + 1) (get_or-map-range_with_len (blue_count us) 0 MOST_SITES me me 0 few (omega arith)) ∙ same (blue_count us me + 1)
-  where
-    same : (n : ℕ) → (n == n) ≡ true
-    same n = grind (arith, nat_tests)
-next_entry me us RedColour few = same (red_count us + 1)
-  where
-    same : (n : ℕ) → (n == n) ≡ true
-    same n = grind (arith, nat_tests)
+next_entry me us BlueColour few = ap (λ n. n + 1 == blue_count us me + 1) (get_or-map-range_with_len (blue_count us) 0 MOST_SITES me me 0 few (omega arith)) ∙ number_same (blue_count us me + 1)
+next_entry me us RedColour few = number_same (red_count us + 1)
 
 all_seen : (s : Settings) (us : List Shadow) (h : Shadow) (k : Kind) → s.sites ≤ MOST_SITES → IsValid s us → HasTarget us h k → cancels_unseen s.sites k (clock_of us) ≡ false
 all_seen s us h (Cancel x) few valid (t, there, named, right) =
@@ -146,11 +141,8 @@ plan_follows s me us p few here valid fit covered = record {
 covered_after : (s : Settings) (me : ℕ) (us : List Shadow) (p : Plan) (z : ℤ) → IsValid s us → HasTarget us (shadow_of me us p) p.kind → Pushes.change_of us p.kind p.amount ≡ z → pos 0 ≤ℤ (bal s us p.account +ℤ z) → pos 0 ≤ℤ bal s (us ++ shadow_of me us p ∷ []) p.account
 covered_after s me us p z valid target is ok =
     let h = shadow_of me us p in
-    let change : Pushes.change us h p.account ≡ z = ap (λ b. cond b (Pushes.change_of us p.kind p.amount) (pos 0)) (same p.account.0) ∙ is in
+    let change : Pushes.change us h p.account ≡ z = ap (λ b. cond b (Pushes.change_of us p.kind p.amount) (pos 0)) (number_same p.account.0) ∙ is in
     omega (arith, ints, ok, change, Pushes.bal-push s us h p.account valid.unique (Legal.fresh_uncancelled us h.name valid.targets (fresh_name s me us (colour_of_plan us p) valid)) target)
-  where
-    same : (n : ℕ) → (n == n) ≡ true
-    same n = grind (arith, nat_tests)
 
 blue_gives : (x : OpName) (k : Kind) (n : ℕ) → colour_of (Cancel x) (Some k) ≡ BlueColour → pos 0 ≤ℤ Pushes.given_back (Some k) n
 blue_gives x Withdraw n h = omega (arith, ints)
@@ -271,11 +263,7 @@ refused_for_money s me us r p v few here valid planned made within =
     let is : v ≡ shadow_of me us p = made ∙ operation_is me us p in
     let fits : IsFit s me us p = fit s me us p p.kind valid refl (Planned.planned s us r p planned) (subst (λ (u : Shadow). number_of u.name ≤ limit_of s.limits u.name) is within) in
     subst (λ (u : Shadow). refusal_of s us u ≡ cond (overdraws s us u) (Some WouldOverdraw) None) (sym is) (at (shadow_of me us p) (plan_sound s me us p few here valid fits) (fresh_name s me us (colour_of_plan us p) valid) (Eligible.eligible_from us (shadow_of me us p) (seen_past s me us p few valid))
-    (Legal.no_wrong_target us (shadow_of me us p) p.kind valid.unique fits.target) (ap (λ c. same_colour c (colour_of_plan us p)) (shows me us (colour_of_plan us p)) ∙ same (colour_of_plan us p)))
+    (Legal.no_wrong_target us (shadow_of me us p) p.kind valid.unique fits.target) (ap (λ c. same_colour c (colour_of_plan us p)) (shows me us (colour_of_plan us p)) ∙ Legal.same_colour-refl (colour_of_plan us p)))
   where
-    same : (c : Colour) → same_colour c c ≡ true
-    same BlueColour = refl
-    same RedColour = refl
-
     at : (u : Shadow) → IsSound s u → names us u.name ≡ false → is_eligible us u ≡ true → has_wrong_target us u u.kind ≡ false → same_colour (shown_colour u.name) (colour_in us u) ≡ true → refusal_of s us u ≡ cond (overdraws s us u) (Some WouldOverdraw) None
     at u sound fresh eligible target colour = ap (refusal_after s us u) sound ∙ (rw (fresh, eligible, target, colour) refl)

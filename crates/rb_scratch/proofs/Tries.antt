@@ -34,25 +34,6 @@ added was now records more v same longer recorded =
       };
     }
 
--- two lists with an element at their ends
-same_snoc : {A : Type 0} (xs ys : List A) (x y : A) → xs ++ x ∷ [] ≡ ys ++ y ∷ [] → (xs ≡ ys) × (x ≡ y)
-same_snoc [] [] x y e = (refl, (let a : x ≡ y = cc in a))
-same_snoc [] (b ∷ ys) x y e = absurd (never ys y (let a : [] ≡ ys ++ y ∷ [] = cc in a))
-  where
-    never : {A : Type 0} (ys : List A) (y : A) → [] ≡ ys ++ y ∷ [] → ⊥
-    never [] y e = cc
-    never (b ∷ ys) y e = cc
-same_snoc (a ∷ xs) [] x y e = absurd (never xs x (let a : xs ++ x ∷ [] ≡ [] = cc in a))
-  where
-    never : {A : Type 0} (ys : List A) (y : A) → ys ++ y ∷ [] ≡ [] → ⊥
-    never [] y e = cc
-    never (b ∷ ys) y e = cc
-same_snoc (a ∷ xs) (b ∷ ys) x y e =
-    let heads : a ≡ b = cc in
-    let rest : xs ++ x ∷ [] ≡ ys ++ y ∷ [] = cc in
-    let (tails, lasts) = same_snoc xs ys x y rest in
-    (ap (λ c. c ∷ xs) heads ∙ ap (λ zs. b ∷ zs) tails, lasts)
-
 -- a list is empty, or has a last element
 last_of : {A : Type 0} (xs : List A) → (xs ≡ []) ⊎ ((ys : List A) × (y : A) × (xs ≡ ys ++ y ∷ []))
 last_of [] = inl refl
@@ -80,7 +61,7 @@ last_record base made book records rest p tried e = at (last_of made)
     at : (made ≡ []) ⊎ ((ys : List Shadow) × (y : Shadow) × (made ≡ ys ++ y ∷ [])) → IsLastOf base book rest p
     at (inl none) = absurd (never rest p (sym e ∙ tried.records ∙ ap (logged book.settings base) none))
     at (inr (left, last, is)) =
-        let same = same_snoc rest (logged book.settings base left) p (parts_of book.settings (base ++ left) last)
+        let same = Records.ends rest (logged book.settings base left) p (parts_of book.settings (base ++ left) last)
         (sym e ∙ tried.records ∙ ap (logged book.settings base) is ∙ Records.logged-append book.settings base left (last ∷ [])) in
         record {
           left = left;
@@ -94,7 +75,7 @@ last_record base made book records rest p tried e = at (last_of made)
 pub tried_less : (base : List Shadow) (book now : Book) (rest : List UndoParts) (p : UndoParts) (v : Shadow) → (last : IsLastOf base book rest p) → book.entries ≡ now.entries ++ v ∷ [] → now.settings ≡ book.settings → IsTried base last.left now rest
 tried_less base book now rest p v last e same =
     record {
-      entries = (same_snoc now.entries (base ++ last.left) v last.last (sym e ∙ last.entries)).0;
+      entries = (Records.ends now.entries (base ++ last.left) v last.last (sym e ∙ last.entries)).0;
       records = last.records ∙ ap (λ s. logged s base last.left) (sym same);
     }
 

@@ -2,6 +2,7 @@
 pub mod Balances
 pub mod Clocks
 pub mod Covered
+pub mod Digits
 pub mod Eligible
 pub mod Lookups
 pub mod Members

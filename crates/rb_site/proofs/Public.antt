@@ -1,4 +1,5 @@
 -- What other crates cite.
+pub mod Lists
 pub mod Outcomes
 pub mod Places
 pub mod Recorded

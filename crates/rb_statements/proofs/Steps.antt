@@ -1,5 +1,5 @@
 -- The rows of a statement, from one operation on the account back to the one before.
-use Rattle.std.proofs.Common.{◌≡◌, ℕ, zero, suc, ◌+◌, ◌-◌, ◌<◌, ◌≤◌, ◌||◌, Bool, true, false, cond, List, [], ◌∷◌, ◌++◌, length, take, drop, reverse, refl, ap, sym, ◌∙◌, subst, arith, append_assoc}
+use Rattle.std.proofs.Common.{◌≡◌, ℕ, ◌+◌, ◌-◌, ◌<◌, ◌≤◌, ◌||◌, Bool, true, false, cond, List, [], ◌∷◌, ◌++◌, length, take, drop, reverse, refl, ap, sym, ◌∙◌, subst, arith, append_assoc}
 use Rattle.std.specs.Borrow.{Bor}
 use Rattle.std.specs.Prelude.{ℤ, pos, neg_ℤ, ◌+ℤ◌, ◌≤ℤ◌, ◌==◌, slice_get, Option, Some, None, option_map, option_copied, option_and_then, is_some, IsSome}
 use Rattle.std.proofs.lemmas.Int.{ints}
@@ -16,7 +16,7 @@ use Rattle.rb_shadow.specs.declared.shadow.Shadow.{Shadow}
 use Rattle.rb_shadow.specs.declared.label.Label.{Label}
 use Rattle.rb_ledger.specs.Valid.{IsValid, entry_at, first_cancel_in, first_cancel_from}
 use Rattle.rb_ledger.specs.Changes.{moved_at}
-use Rattle.rb_ledger.specs.OnAccount.{IsOn, IsNoneAfter, IsLast}
+use Rattle.rb_ledger.specs.OnAccount.{IsOn, IsLast}
 use Rattle.rb_ledger.proofs.Public.OnAccount
 use Rattle.rb_ledger.proofs.Public.Fronts
 use Rattle.rb_statements.specs.Statements.{row_of, rows_here, rows_of, statement_of}
@@ -83,24 +83,15 @@ rows_push s all a before (v ∷ vs) u =
 rows_next : (s : Settings) (us : List Shadow) (a : Place) (i : ℕ) (u : Shadow) → slice_get us i ≡ Some u → rows_of s us a [] (take (i + 1) us) ≡ rows_of s us a [] (take i us) ++ rows_here s us a (take i us) u
 rows_next s us a i u there = ap (rows_of s us a []) (Fronts.one_more us i u there) ∙ rows_push s us a [] (take i us) u
 
--- operations on other accounts add none
-unshown : (s : Settings) (us : List Shadow) (a : Place) (p d : ℕ) → p + d ≤ length us → IsNoneAfter (take (p + d) us) a p → rows_of s us a [] (take (p + d) us) ≡ rows_of s us a [] (take p us)
-unshown s us a p zero low none = ap (λ n. rows_of s us a [] (take n us)) (let z : p + 0 ≡ p = omega arith in z)
-unshown s us a p (suc d) low none =
-    let (u, there) = OnAccount.element us (p + d) (omega arith) in
-    let next : p + suc d ≡ (p + d) + 1 = omega arith in
-    let apart : u.account.0 ≡ a.0 → ⊥ = (λ own. omega (arith, none (p + d) u (Fronts.get_taken (p + suc d) us (p + d) (omega arith) ∙ there) own)) in
-    let front : List Row = rows_of s us a [] (take (p + d) us) in
-    ap (λ n. rows_of s us a [] (take n us)) next ∙ rows_next s us a (p + d) u there
-    ∙ ap (λ b. front ++ cond b (row_of s us a (take (p + d) us) u ∷ []) []) (off_account (take (p + d) us) u a apart) ∙ append-nil front
-    ∙ unshown s us a p d (omega arith) (λ i v e own. let (near, here) = Fronts.get_take (p + d) us i v e in none i v (Fronts.get_taken (p + suc d) us i (omega arith) ∙ here) own)
+-- an operation on another account adds none
+unshown : (s : Settings) (us : List Shadow) (a : Place) (i : ℕ) (u : Shadow) → slice_get us i ≡ Some u → (u.account.0 ≡ a.0 → ⊥) → rows_of s us a [] (take (i + 1) us) ≡ rows_of s us a [] (take i us)
+unshown s us a i u there apart =
+    let front : List Row = rows_of s us a [] (take i us) in
+    rows_next s us a i u there ∙ ap (λ b. front ++ cond b (row_of s us a (take i us) u ∷ []) []) (off_account (take i us) u a apart) ∙ append-nil front
 
--- so they are those up to the last operation on the account
+-- so the rows are those up to the last operation on the account
 last_rows : (s : Settings) (us : List Shadow) (a : Place) (n p : ℕ) → n ≤ length us → IsLast (take n us) a p → rows_of s us a [] (take n us) ≡ rows_of s us a [] (take p us)
-last_rows s us a n p low last =
-    let within : p ≤ n = OnAccount.on_taken_within us n a p last.on in
-    let split : p + (n - p) ≡ n = omega arith in
-    ap (λ k. rows_of s us a [] (take k us)) (sym split) ∙ unshown s us a p (n - p) (omega arith) (subst (λ k. IsNoneAfter (take k us) a p) (sym split) last.after)
+last_rows s us a n p low last = OnAccount.as_of_last (rows_of s us a []) us a n p (unshown s us a) low last
 
 -- the last row is made of what is looked up
 pub own_row : (s : Settings) (us : List Shadow) (a : Place) (p : ℕ) (u : Shadow) (k : Label) (z : ℤ) (o : Option ℕ) (c : Bool) (n : ℕ) → 0 < p → slice_get us (p - 1) ≡ Some u → u.account.0 ≡ a.0 → k ≡ label_of u.kind

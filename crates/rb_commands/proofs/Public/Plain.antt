@@ -5,8 +5,7 @@ use Rattle.std.specs.List.{list_all}
 use Rattle.std.proofs.lemmas.Bool.{and_parts}
 use Rattle.std.proofs.lemmas.Bool.Decides.{nat_tests}
 use Rattle.std.proofs.lemmas.Fmt.{digits_decimal}
-use Rattle.std.proofs.lemmas.Str.Parse.{IsNumeralModel, numerals_by_value, tells_digits, digit_at}
-use Rattle.std.specs.Str.Parse.{AllDigits, digits_value}
+use Rattle.std.proofs.lemmas.Str.Parse.{digit_at}
 use Rattle.rb_money.specs.declared.accounts.TheConstants.{LONGEST_NAME}
 use Rattle.json.proofs.Printed.Strings.{escape_byte_plain}
 use Rattle.json.specs.Print.{escape, escape_byte, quoted}
@@ -17,6 +16,7 @@ use Rattle.rb_shadow.specs.declared.op_name.OpName.TheVariants.{Blue, Red}
 use Rattle.rb_commands.specs.Values.{label_text}
 use Rattle.rb_shadow.specs.declared.label.Label.{Label}
 use Rattle.rb_shadow.specs.declared.label.Label.TheVariants.{Deposit, Withdraw, Declined, Interest, Cancel}
+use Rattle.rb_shadow.proofs.Public.Digits.{in_digits}
 
 -- no byte of the list needs an escape
 abbrev pub ArePlain : List ℕ → Type 0
@@ -37,11 +37,8 @@ plain_by (x ∷ xs) h =
     let first = h 0 (omega arith) in
     (escape_byte_plain x (λ e. omega arith) (λ e. omega arith) (omega arith), plain_by xs (λ i k. h (suc i) (omega arith)))
 
-abbrev own : IsNumeralModel (AllDigits 10) (digits_value 10)
-own = numerals_by_value (AllDigits 10) tells_digits
-
 pub plain_decimal : (n : ℕ) → n < 2 ^ 64 → ArePlain (decimal n)
-plain_decimal n h = plain_by (decimal n) (λ i k. let d = digit_at (decimal n) i (digits_decimal own n h) k in (omega arith, omega arith))
+plain_decimal n h = plain_by (decimal n) (λ i k. let d = digit_at (decimal n) i (digits_decimal in_digits n h) k in (omega arith, omega arith))
 
 pub plain_name : (x : OpName) → IsName x → ArePlain (name_text x)
 unfolding escape_byte

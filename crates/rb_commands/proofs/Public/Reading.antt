@@ -1,6 +1,6 @@
 -- What is read is what was written.
-use Rattle.std.proofs.Common.{List, ◌++◌, Option, ◌≡◌, ◌<◌, ℕ, [], Some, true, refl, sym, ap, ◌∙◌, rules, ◌≤◌, append-nil}
-use Rattle.std.specs.Prelude.{option_map, nat_lt, option_and_then}
+use Rattle.std.proofs.Common.{List, ◌++◌, Option, ◌≡◌, [], Some, refl, sym, ap, ◌∙◌, ◌≤◌, append-nil}
+use Rattle.std.specs.Prelude.{option_map, option_and_then}
 use Rattle.serde_json.specs.Data.{Data}
 use Rattle.rb_shadow.proofs.Public.NameOf.{value_is, candidate_is}
 use Rattle.rb_shadow.specs.NameText.{IsName, candidate, name_of, name_text}
@@ -18,9 +18,6 @@ use Rattle.serde_json.proofs.Texts.{print-outline}
 -- what is read so far, and then what is still to be read
 abbrev pub with_front : {A : Type 0} → List A → Option (List A) → Option (List A)
 with_front front o = option_map (λ later. front ++ later) o
-
-pub below : (n bound : ℕ) → n < bound → nat_lt n bound ≡ true
-below n bound h = search rules
 
 pub back : (x : OpName) → IsName x → name_of (name_text x) ≡ Some x
 back x h = sym (value_is (name_text x) (Some x) refl h (λ y k e. ap Some (sym (candidate_is x h) ∙ ap candidate e ∙ candidate_is y k)))

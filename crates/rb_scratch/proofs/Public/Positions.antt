@@ -1,7 +1,7 @@
 -- Where an operation is found.
 use Rattle.std.proofs.Common.{◌≡◌, ℕ, ◌+◌, ◌≤◌, Bool, true, false, cond, ◌||◌, List, [], ◌∷◌, refl, suc, ap, ◌∙◌, arith, Some, None, subst}
-use Rattle.std.specs.Prelude.{◌-◌, ◌==◌, slice_get}
-use Rattle.std.proofs.lemmas.Bool.Decides.{nat_tests}
+use Rattle.std.specs.Prelude.{◌-◌, slice_get}
+use Rattle.rb_money.proofs.Public.Tests.{positive}
 use Rattle.rb_shadow.specs.declared.shadow.Shadow.{Shadow}
 use Rattle.rb_shadow.specs.declared.op_name.OpName.{OpName}
 use Rattle.rb_shadow.specs.Operations.{same_name, names, find_in}
@@ -43,9 +43,6 @@ no_position us x h = at (names us x) refl h
 pub at_position : (us : List Shadow) (x : OpName) (p : ℕ) → find_position us x ≡ Some p → entry_at us p ≡ find_in us x
 at_position us x p h = at (names us x) refl h
   where
-    positive : (n : ℕ) → 1 ≤ n → (n == 0) ≡ false
-    positive n low = grind (arith, nat_tests)
-
     at : (b : Bool) → names us x ≡ b → cond b (Some (position_from 1 us x)) None ≡ Some p → entry_at us p ≡ find_in us x
     at true e h =
         let q : (1 ≤ position_from 1 us x) × (slice_get us (position_from 1 us x - 1) ≡ find_in us x) = position-found us x 1 e in

@@ -1,8 +1,9 @@
 -- What is found in a list of operations.
 use Rattle.std.proofs.Common.{◌≡◌, ℕ, zero, suc, ◌<◌, Bool, true, false, cond, ◌||◌, List, [], ◌∷◌, length, get_or, refl, ap, ◌∙◌, arith, inl, inr, Some, None}
+use Rattle.std.specs.Prelude.{option_map}
 use Rattle.rb_shadow.specs.declared.shadow.Shadow.{Shadow}
 use Rattle.rb_shadow.specs.declared.op_name.OpName.{OpName}
-use Rattle.rb_shadow.specs.Operations.{Among, find_in, names, same_name}
+use Rattle.rb_shadow.specs.Operations.{Among, find_in, kind_in, names, same_name}
 use Rattle.rb_shadow.proofs.Public.Members
 
 -- what is found under a name stands in the list and has the name
@@ -31,6 +32,15 @@ found_named (u ∷ us) x h = at (same_name u.name x) h (found_named us x)
     at : (b : Bool) → (b || names us x) ≡ true → (names us x ≡ true → (t : Shadow) × (find_in us x ≡ Some t)) → (t : Shadow) × (cond b (Some u) (find_in us x) ≡ Some t)
     at true h more = (u, refl)
     at false h more = more h
+
+-- the kind of a name is that of what is found
+pub kind_found : (us : List Shadow) (x : OpName) → kind_in us x ≡ option_map (λ (t : Shadow). t.kind) (find_in us x)
+kind_found [] x = refl
+kind_found (u ∷ us) x = at (same_name u.name x) (kind_found us x)
+  where
+    at : (b : Bool) → kind_in us x ≡ option_map (λ (t : Shadow). t.kind) (find_in us x) → cond b (Some u.kind) (kind_in us x) ≡ option_map (λ (t : Shadow). t.kind) (cond b (Some u) (find_in us x))
+    at true more = refl
+    at false more = more
 
 -- what stands at an index stands in the list
 pub Among-index : (us : List Shadow) (k : ℕ) (d : Shadow) → k < length us → Among (get_or us k d) us

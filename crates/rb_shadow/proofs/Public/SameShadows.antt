@@ -1,8 +1,7 @@
 -- The test of equal shadows.
-use Rattle.std.proofs.Common.{◌≡◌, ℕ, true, List, [], ◌∷◌, refl, ap, arith}
-use Rattle.std.specs.Prelude.{◌==◌}
-use Rattle.std.proofs.lemmas.Bool.Decides.{nat_tests}
+use Rattle.std.proofs.Common.{◌≡◌, ℕ, true, List, [], ◌∷◌, refl, ap}
 use Rattle.std.proofs.lemmas.Bool.{and_from as both, and_parts as each}
+use Rattle.rb_money.proofs.Public.Tests.{number_same, number_sound}
 use Rattle.rb_shadow.specs.declared.op_name.OpName.{OpName}
 use Rattle.rb_shadow.specs.declared.kind.Kind.{Kind}
 use Rattle.rb_shadow.specs.declared.kind.Kind.TheVariants.{Deposit, Withdraw, Declined, Interest, Cancel}
@@ -10,15 +9,9 @@ use Rattle.rb_shadow.specs.declared.shadow.Shadow.{Shadow}
 use Rattle.rb_shadow.specs.Operations.{same_kind, same_numbers, same_shadow}
 use Rattle.rb_shadow.proofs.Public.Members
 
-same_number-refl : (n : ℕ) → (n == n) ≡ true
-same_number-refl n = grind (arith, nat_tests)
-
-same_number-true : (m n : ℕ) → (m == n) ≡ true → m ≡ n
-same_number-true m n h = grind (arith, nat_tests)
-
 pub same_numbers-refl : (ns : List ℕ) → same_numbers ns ns ≡ true
 same_numbers-refl [] = refl
-same_numbers-refl (n ∷ ns) = both _ _ (same_number-refl n) (same_numbers-refl ns)
+same_numbers-refl (n ∷ ns) = both _ _ (number_same n) (same_numbers-refl ns)
 
 pub same_numbers-true : (ms ns : List ℕ) → same_numbers ms ns ≡ true → ms ≡ ns
 same_numbers-true [] [] h = refl
@@ -26,7 +19,7 @@ same_numbers-true [] (n ∷ ns) h = cc
 same_numbers-true (m ∷ ms) [] h = cc
 same_numbers-true (m ∷ ms) (n ∷ ns) h =
     let (first, rest) = each _ _ h in
-    let e : m ≡ n = same_number-true m n first in
+    let e : m ≡ n = number_sound m n first in
     let k : ms ≡ ns = same_numbers-true ms ns rest in
     cc
 
@@ -68,8 +61,8 @@ pub same_shadow-refl : (v : Shadow) → same_shadow v v ≡ true
 unfolding same_shadow
 same_shadow-refl v =
     both _ _ (both _ _ (both _ _ (both _ _ (both _ _ (both _ _
-    (Members.same_name-refl v.name) (same_number-refl v.home)) (same_numbers-refl v.deps.blue)) (same_number-refl v.deps.red))
-    (same_number-refl v.account.0)) (same_number-refl v.amount)) (same_kind-refl v.kind)
+    (Members.same_name-refl v.name) (number_same v.home)) (same_numbers-refl v.deps.blue)) (number_same v.deps.red))
+    (number_same v.account.0)) (number_same v.amount)) (same_kind-refl v.kind)
 
 -- a shadow by its fields
 abbrev of_fields : OpName → ℕ → List ℕ → ℕ → ℕ → ℕ → Kind → Shadow
@@ -88,6 +81,6 @@ same_shadow-true u v h =
     let (h2, blue) = each _ _ h3 in
     let (name, home) = each _ _ h2 in
     same_fields _ _ _ _ _ _ _ _ _ _ _ _ _ _
-    (Members.same_name-true u.name v.name name) (same_number-true u.home v.home home) (same_numbers-true u.deps.blue v.deps.blue blue)
-    (same_number-true u.deps.red v.deps.red red) (same_number-true u.account.0 v.account.0 account) (same_number-true u.amount v.amount amount)
+    (Members.same_name-true u.name v.name name) (number_sound u.home v.home home) (same_numbers-true u.deps.blue v.deps.blue blue)
+    (number_sound u.deps.red v.deps.red red) (number_sound u.account.0 v.account.0 account) (number_sound u.amount v.amount amount)
     (same_kind-true u.kind v.kind kind)

@@ -5,6 +5,7 @@ use Rattle.std.proofs.lemmas.Bool.Decides.{nat_tests}
 use Rattle.rb_money.specs.Settings.{Settings}
 use Rattle.rb_money.specs.declared.limits.TheConstants.{MOST_SITES}
 use Rattle.rb_money.specs.declared.cents.TheConstants.{MOST_CENTS}
+use Rattle.rb_money.proofs.Public.Tests.{alike}
 use Rattle.rb_shadow.specs.declared.shadow.Shadow.{Shadow}
 use Rattle.rb_shadow.specs.declared.op_name.OpName.{OpName}
 use Rattle.rb_shadow.specs.declared.op_name.OpName.TheVariants.{Blue, Red}
@@ -56,13 +57,10 @@ sound_facts s v h =
     }
 
 pub is_next : (s : Settings) (v : Shadow) → IsSound s v → IsNext v
-is_next s v h = let f = sound_facts s v h in record { positive = positive (number_of v.name) f.numbered; own = same (entry_of v.deps v.name + 1) (number_of v.name) f.entry }
+is_next s v h = let f = sound_facts s v h in record { positive = positive (number_of v.name) f.numbered; own = alike (entry_of v.deps v.name + 1) (number_of v.name) f.entry }
   where
     positive : (n : ℕ) → (n == 0) ≡ false → 1 ≤ n
     positive n e = grind (arith, nat_tests)
-
-    same : (m n : ℕ) → not (m == n) ≡ false → m ≡ n
-    same m n e = grind (arith, nat_tests)
 
 pub is_housed : (s : Settings) (v : Shadow) → s.sites ≤ MOST_SITES → IsSound s v → IsHoused v.name
 is_housed s v few h = let f = sound_facts s v h in at v.name s.sites v.home few f.home f.own

@@ -1,5 +1,5 @@
 -- What an event makes of a site.
-use Rattle.std.proofs.Common.{◌≡◌, ℕ, not, ◌&&◌, ◌==◌, nat_le, nat_lt, ◌<◌, ◌≤◌, Bool, true, false, cond, List, length, lit≤, take, refl, ap, sym, subst, ◌∙◌, arith, Option, Some, None, Result, Ok, Err}
+use Rattle.std.proofs.Common.{◌≡◌, ℕ, not, ◌&&◌, ◌==◌, nat_le, nat_lt, ◌<◌, ◌≤◌, Bool, true, false, cond, List, [], length, lit≤, take, refl, ap, sym, subst, ◌∙◌, arith, Option, Some, None, Result, Ok, Err}
 use Rattle.std.proofs.lemmas.Bool.Decides.{nat_tests}
 use Rattle.std.proofs.lemmas.List.{length-map}
 use Rattle.rb_money.specs.Settings.{Settings, is_account}
@@ -20,9 +20,10 @@ use Rattle.rb_shadow.specs.declared.shadow.Shadow.{Shadow}
 use Rattle.rb_site.specs.declared.entry.Entry.{Entry}
 use Rattle.rb_site.specs.declared.event.Event.{Event}
 use Rattle.rb_site.specs.declared.event.Event.TheVariants.{Submit, Batch, Receive, Apply, Pass, Balance, AsOf, Statement as AskStatement}
+use Rattle.rb_site.specs.declared.message.Message.{Message}
 use Rattle.rb_site.specs.declared.message.Message.TheVariants.{Shadow as ShadowMessage, Token as TokenOnItsWay}
 use Rattle.rb_site.specs.declared.reply.Reply.TheVariants.{Already, Stale, Balance as BalanceIs, Statement as StatementIs}
-use Rattle.rb_site.specs.Events.{ModelSite, Outcome, Refuses, Drops, Answers, Makes, Holds, Applies, Takes, Passes, changed, is_full, outcome_of, outcome_of_apply, outcome_of_batch, outcome_of_check, outcome_of_made, outcome_of_pass, outcome_of_shadow, outcome_of_token, refuses_first, refuses_if, sent_by, unless_faulty, unless_known}
+use Rattle.rb_site.specs.Events.{ModelSite, Outcome, Refuses, Drops, Answers, Makes, Holds, Applies, Takes, Passes, changed, is_full, outcome_of, outcome_of_apply, outcome_of_batch, outcome_of_check, outcome_of_made, outcome_of_pass, outcome_of_shadow, outcome_of_token, refuses_first, refuses_if, sent_at, sent_by, unless_faulty, unless_known}
 use Rattle.rb_site.specs.Seen.{SeenSite, IsReplayed, state_of}
 use Rattle.rb_site.proofs.Public.Seen
 
@@ -139,3 +140,10 @@ sends_few s t (Pass to) = few_first (refusal_of_pass s.sites s.limits t.me t.tok
 sends_few s t (Balance a) = few_if (not (is_account s a)) UnknownAccount (Answers (BalanceIs (cents (bal s t.ops a)))) (lit≤ tt)
 sends_few s t (AsOf a n) = few_if (not (is_account s a)) UnknownAccount _ (few_if (nat_lt (length t.ops) n) PositionBeyond (Answers (BalanceIs (cents (bal s (take n t.ops) a)))) (lit≤ tt))
 sends_few s t (AskStatement a) = few_if (not (is_account s a)) UnknownAccount (Answers (StatementIs (statement_of s t.ops a))) (lit≤ tt)
+
+pub sent_few : (s : Settings) (t : ModelSite) (e : Event) → length (sent_at s t e) ≤ MOST_REQUESTS
+sent_few s t e = few (is_full s t) (sent_by (outcome_of s t e)) (sends_few s t e)
+  where
+    few : (b : Bool) (ms : List Message) → length ms ≤ MOST_REQUESTS → length (cond b [] ms) ≤ MOST_REQUESTS
+    few true ms h = lit≤ tt
+    few false ms h = h

@@ -2,6 +2,7 @@
 use Rattle.std.proofs.Common.{◌≡◌, ℕ, zero, suc, Bool, true, false, cond, not, ◌&&◌, List, [], ◌∷◌, ◌++◌, refl, ap, ◌∙◌, Option, Some, None}
 use Rattle.std.specs.Prelude.{map, slice_get, slice_set, is_some}
 use Rattle.std.proofs.lemmas.List.{append-nil}
+use Rattle.std.proofs.lemmas.List.{map-append}
 use Rattle.rb_money.specs.Settings.{Settings}
 use Rattle.rb_site.specs.declared.entry.Entry.{Entry}
 use Rattle.rb_site.specs.declared.event.Event.{Event}
@@ -19,10 +20,6 @@ after_events-append s (e ∷ es) fs t = after_events-append s es fs (after_event
 pub world-append : (s : Settings) (es fs : List WorldEvent) (w : World) → world_after_all s w (es ++ fs) ≡ world_after_all s (world_after_all s w es) fs
 world-append s [] fs w = refl
 world-append s (e ∷ es) fs w = world-append s es fs (world_after s w e)
-
-pub map-append : (f : Entry → Event) (xs ys : List Entry) → map f (xs ++ ys) ≡ map f xs ++ map f ys
-map-append f [] ys = refl
-map-append f (x ∷ xs) ys = ap (λ zs. f x ∷ zs) (map-append f xs ys)
 
 pub same_me : (t : ModelSite) (o : Outcome) → (changed t o).me ≡ t.me
 same_me t (Refuses why) = refl

@@ -1,7 +1,7 @@
 -- A site stays the run of its history.
 use Rattle.std.proofs.Common.{◌≡◌, ◌+◌, ◌<◌, ◌≤◌, Bool, true, false, cond, List, [], ◌∷◌, ◌++◌, length, refl, ap, sym, ◌∙◌, arith, length-append, append_assoc}
 use Rattle.std.proofs.lemmas.Bool.Decides.{nat_tests}
-use Rattle.std.proofs.lemmas.List.{append-nil}
+use Rattle.std.proofs.lemmas.List.{append-nil, map-append}
 use Rattle.rb_money.specs.Settings.{Settings}
 use Rattle.rb_site.specs.declared.entry.Entry.{Entry}
 use Rattle.rb_site.specs.declared.event.Event.{Event}
@@ -15,7 +15,7 @@ use Rattle.rb_site.proofs.Public.Runs
 -- the state after one event more
 pub state-stepped : (x : SeenSite) (e : Event) → state_of (stepped x e) ≡ after_event x.settings (state_of x) e
 state-stepped x e =
-    ap (after_events x.settings (first_site x.me)) (Runs.map-append (λ (y : Entry). y.event) x.entries _)
+    ap (after_events x.settings (first_site x.me)) (map-append (λ (y : Entry). y.event) x.entries _)
     ∙ Runs.after_events-append x.settings (events_of x.entries) (e ∷ []) (first_site x.me)
 
 -- the same at a site whose history may be full

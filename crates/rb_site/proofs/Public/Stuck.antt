@@ -4,7 +4,7 @@ use Rattle.std.specs.Prelude.{map, slice_get, slice_set}
 use Rattle.std.specs.Option.{option_map}
 use Rattle.std.specs.List.{range_with_len}
 use Rattle.std.proofs.lemmas.Option.{slice_get-map}
-use Rattle.std.proofs.lemmas.List.{append-nil}
+use Rattle.std.proofs.lemmas.List.{append-nil, map-append}
 use Rattle.rb_money.specs.Settings.{Settings}
 use Rattle.rb_shadow.proofs.Public.Members
 use Rattle.rb_site.specs.declared.entry.Entry.{Entry}
@@ -52,7 +52,7 @@ sends-append s (e ∷ es) fs t = ap (λ ms. sent_at s t e ++ ms) (sends-append s
 
 -- a front sends no more
 front_sends : (s : Settings) (t : ModelSite) (h more : List Entry) (m : Message) → IsAmong m (sends_of s t (events_of h)) → IsAmong m (sends_of s t (events_of (h ++ more)))
-front_sends s t h more m k = subst (IsAmong m) (sym (ap (sends_of s t) (Runs.map-append (λ (x : Entry). x.event) h more) ∙ sends-append s (events_of h) (events_of more) t)) (among-left m (sends_of s t (events_of h)) _ k)
+front_sends s t h more m k = subst (IsAmong m) (sym (ap (sends_of s t) (map-append (λ (x : Entry). x.event) h more) ∙ sends-append s (events_of h) (events_of more) t)) (among-left m (sends_of s t (events_of h)) _ k)
 
 -- ---- a world within the fronts
 
@@ -73,7 +73,7 @@ sent_in_front : (s : Settings) (t t1 : ModelSite) (i : ℕ) (e : Event) (x : Ent
 sent_in_front s t t1 i e x front more m me run ev is h =
     subst (λ f. IsAmong m (sends_of s (first_site i) (events_of f))) (sym is)
     (front_sends s (first_site i) (t.history ++ x ∷ []) more m
-    (subst (IsAmong m) (sym (ap (sends_of s (first_site i)) (Runs.map-append (λ (x : Entry). x.event) t.history (x ∷ [])) ∙ sends-append s (events_of t.history) (x.event ∷ []) (first_site i)))
+    (subst (IsAmong m) (sym (ap (sends_of s (first_site i)) (map-append (λ (x : Entry). x.event) t.history (x ∷ [])) ∙ sends-append s (events_of t.history) (x.event ∷ []) (first_site i)))
     (among-right m (sends_of s (first_site i) (events_of t.history)) _
     (subst (λ u. IsAmong m (sends_of s u (x.event ∷ []))) (sym (ap (λ j. after_events s (first_site j) (events_of t.history)) (sym me) ∙ run))
     (subst (IsAmong m) (sym (append-nil (sent_at s t x.event))) (subst (λ e. IsAmong m (sent_at s t e)) (sym ev) h))))))
