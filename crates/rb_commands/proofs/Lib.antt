@@ -1,5 +1,4 @@
 pub mod Public
-mod Utf8
 mod Shapes
 mod Back
 mod Sited

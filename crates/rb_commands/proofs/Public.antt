@@ -4,3 +4,4 @@ pub mod Listed
 pub mod Numerals
 pub mod Plain
 pub mod Reading
+pub mod Utf8

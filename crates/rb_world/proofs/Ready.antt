@@ -22,7 +22,7 @@ use Rattle.rb_shadow.proofs.Public.SameShadows.{same_shadow-refl}
 use Rattle.rb_ledger.specs.Checks.{has_wrong_target, is_wrong_target, refusal_of_sound, same_colour}
 use Rattle.rb_ledger.proofs.Public.Legal
 use Rattle.rb_ledger.proofs.Public.Pushes
-use Rattle.rb_statements.proofs.Exact.{number_same}
+use Rattle.rb_money.proofs.Public.Tests.{number_same}
 use Rattle.rb_token.specs.declared.message.TokenMessage.{TokenMessage}
 use Rattle.rb_money.specs.Refusals.{first_if}
 use Rattle.rb_site.specs.declared.message.Message.{Message}

@@ -26,7 +26,7 @@ use Rattle.rb_token.specs.Token.{Token}
 use Rattle.rb_scratch.proofs.Public.Planned.{IsPlanned, planned}
 use Rattle.rb_scratch.proofs.Public.Made.{IsAllowed, IsMadeAt}
 use Rattle.rb_scratch.proofs.Public.Tokens
-use Rattle.rb_site.proofs.Exact.{place_sound}
+use Rattle.rb_shadow.specs.Exact.{place_sound}
 use Rattle.rb_world.proofs.Order
 use Rattle.rb_world.proofs.Order.{IsNew, IsOrderedSet, IsSerial}
 
