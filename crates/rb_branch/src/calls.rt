@@ -3,10 +3,10 @@ ghost use Rattle.std.specs.Prelude.{◌≡◌, IfOk, OnErr};
 ghost use Rattle.rb_branch.specs.Seats.{HasOneMore};
 
 use crate::{Branch, CallFault, Entries, Gate, Outbox, Seat};
+use rb_list::List;
 use rb_money::Place;
 use rb_scratch::Request;
 use rb_shadow::OpName;
-use rb_list::List;
 use rb_site::{Event, Message};
 use std::sync::Wait;
 use std::sync::ledger::Ledger;

@@ -1,8 +1,8 @@
 //! Events of a site.
 ghost use Rattle.std.specs.Prelude.{◌≡◌, ◌↔◌, IfOk, IsTrue};
 
-use crate::same::{same_in, same_name, same_place, same_request};
 use crate::Message;
+use crate::same::{same_in, same_name, same_place, same_request};
 use rb_list::List;
 use rb_money::Place;
 use rb_scratch::Request;

@@ -1,8 +1,8 @@
 use crate::{Entry, Event, Message, Reply, Site, WorldEvent};
+use rb_list::List;
 use rb_money::{Config, Limits, Place, Refusal};
 use rb_scratch::Request;
 use rb_shadow::{Label, OpName};
-use rb_list::List;
 use rb_statements::{Row, Statement};
 use rb_token::TokenMessage;
 use std::alloc::{AllocError, Global};

@@ -9,9 +9,9 @@ ghost use Rattle.rb_money.specs.declared.refusal.Cause.TheVariants.{Declined};
 ghost use Rattle.rb_site.specs.declared.reply.Reply.TheVariants.{Refused};
 
 pub use bank::{ANN, balance, bank_after, open_bank};
+use rb_list::List;
 use rb_scratch::Request;
 use rb_shadow::OpName;
-use rb_list::List;
 use rb_site::{Event, Reply, WorldEvent};
 use std::alloc::{AllocError, Global};
 

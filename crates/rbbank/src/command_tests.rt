@@ -1,8 +1,8 @@
 use rb_commands::{LineFault, read_command, read_config};
+use rb_list::List;
 use rb_money::{Config, Place};
 use rb_scratch::Request;
 use rb_shadow::OpName;
-use rb_list::List;
 use rb_site::{Event, WorldEvent};
 use std::alloc::Global;
 use std::test::Fail;

@@ -1,9 +1,9 @@
 use rb_commands::{LineFault, read_config};
 use rb_history::{append_line, read_line, write_config, write_line};
+use rb_list::List;
 use rb_money::{Cause, Config, MOST_SITES, Place, Refusal};
 use rb_scratch::Request;
 use rb_shadow::{Deps, Kind, Label, OpName, Shadow};
-use rb_list::List;
 use rb_site::{Entry, Event, Message, Reply};
 use rb_statements::{Row, Statement};
 use rb_token::TokenMessage;

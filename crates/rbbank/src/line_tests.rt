@@ -1,7 +1,7 @@
 use rb_commands::{LineFault, read_config, write_reply};
+use rb_list::List;
 use rb_money::{Cause, Limits, Place, Refusal};
 use rb_shadow::{Label, OpName};
-use rb_list::List;
 use rb_site::Reply;
 use rb_statements::{Row, Statement};
 use std::test::Fail;
