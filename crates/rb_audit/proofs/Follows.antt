@@ -10,9 +10,9 @@ use Rattle.rb_lines.specs.Lines.{lines_of, is_long, line_len}
 use Rattle.rb_lines.specs.declared.limits.TheConstants.{LINE_LIMIT}
 use Rattle.rb_lines.specs.declared.fault.ScriptFault.{ScriptFault}
 use Rattle.rb_lines.specs.declared.fault.ScriptFault.TheVariants.{NoConfig, BadConfig, BadLine, LongLine, Read, Write, OutOfMemory, Gather}
-use Rattle.rb_lines.proofs.LineLaws.{long_line}
-use Rattle.rb_lines.proofs.Walks.{Walks, standing}
-use Rattle.rb_lines.proofs.Walks as walk
+use Rattle.rb_lines.proofs.Public.LongLines.{long_line}
+use Rattle.rb_lines.proofs.Public.Walks.{Walks, standing}
+use Rattle.rb_lines.proofs.Public.Walks as walk
 use Rattle.rb_audit.specs.declared.collected.Collected.{Collected}
 use Rattle.rb_audit.specs.Inputs.{input_from, input_of}
 use Rattle.rb_audit.specs.Collects.{EndsAt, Takes, rest_from, rest_of}

@@ -11,7 +11,7 @@ use Rattle.rb_lines.specs.declared.fault.ScriptFault.TheVariants.{OutOfMemory}
 use Rattle.rb_audit.specs.declared.collected.Collected.{Collected}
 use Rattle.rb_audit.specs.Inputs.{input_after, with_entry}
 use Rattle.rb_audit.specs.Collects.{EndsAt, HasEachSite, Takes, rest_from, rest_of}
-use Rattle.rb_auditor.proofs.Stepping.{length_lists}
+use Rattle.rb_auditor.proofs.Public.Lengths.{length_lists}
 use Rattle.rb_audit.proofs.Histories.{as_many}
 
 -- what is to come, by its parts

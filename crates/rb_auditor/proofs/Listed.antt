@@ -1,25 +1,20 @@
 -- Where messages are listed.
-use Rattle.std.proofs.Common.{◌≡◌, ℕ, zero, suc, ◌+◌, ◌<◌, List, [], ◌∷◌, ◌++◌, length, take, refl, ap, sym, subst, ◌∙◌, ◌⊎◌, inl, inr, arith, length-append, Some, IsTrue, Bool, true, false, append_assoc}
-use Rattle.std.proofs.Common.{Vec, get_or}
+use Rattle.std.proofs.Common.{◌≡◌, ℕ, zero, suc, ◌+◌, ◌<◌, List, [], ◌∷◌, ◌++◌, length, take, refl, ap, sym, subst, ◌∙◌, ◌⊎◌, inl, inr, arith, length-append, Some, IsTrue, Bool, true, false, append_assoc, Vec, get_or}
 use Rattle.std.specs.Prelude.{slice_get, slice_set}
 use Rattle.std.specs.Option.{option_map}
 use Rattle.std.proofs.lemmas.List.{length-take-le, take_more}
 use Rattle.std.proofs.lemmas.Option.{slice_get-map, slice_get_read}
 use Rattle.rb_auditor.specs.Findings.{lists_of}
 use Rattle.rb_site.specs.declared.message.Message.{Message}
-use Rattle.rb_site.proofs.Places
-use Rattle.rb_site.proofs.Places.{same_number}
+use Rattle.rb_site.proofs.Public.Places
+use Rattle.rb_site.proofs.Public.Places.{same_number}
+use Rattle.rb_site.proofs.Public.Lists.{get_front}
 use Rattle.rb_auditor.specs.Sent.{AreListed, IsListed, row_of, slot_of}
 use Rattle.rb_auditor.proofs.Lists
 
 -- a row of the rows
 pub row_at : {X Z : Type 0} (rows : List (Vec X Z)) (r : ℕ) (v : Vec X Z) → r < length rows → v ≡ get_or rows r v → slice_get (lists_of rows) r ≡ Some v.items
 row_at {X} {Z} rows r v less is = slice_get-map (λ (v : Vec X Z). v.items) rows r ∙ ap (option_map (λ (v : Vec X Z). v.items)) (slice_get_read rows (length rows) r v refl less is)
-
-pub get_left : {A : Type 0} (xs ys : List A) (k : ℕ) (x : A) → slice_get xs k ≡ Some x → slice_get (xs ++ ys) k ≡ Some x
-get_left [] ys k x h = cc
-get_left (z ∷ xs) ys zero x h = h
-get_left (z ∷ xs) ys (suc k) x h = get_left xs ys k x h
 
 pub get_end : {A : Type 0} (xs : List A) (k : ℕ) (x : A) → length xs ≡ k → slice_get (xs ++ x ∷ []) k ≡ Some x
 get_end [] zero x e = refl
@@ -33,7 +28,7 @@ kept_in_row rows others r row more at j m (inr h) = inr h
 kept_in_row rows others r row more at j m (inl (places, there, place)) = elim (same_number r (row_of m)) [
   | inl e ↦
       let same : places ≡ row = Lists.same_item (slice_get rows r) places row (ap (slice_get rows) (sym e) ∙ there) at in
-      inl (row ++ more, ap (slice_get (slice_set rows r (row ++ more))) e ∙ Places.get_set_same rows r row (row ++ more) at, get_left row more (slot_of m) j (ap (λ p. slice_get p (slot_of m)) (sym same) ∙ place))
+      inl (row ++ more, ap (slice_get (slice_set rows r (row ++ more))) e ∙ Places.get_set_same rows r row (row ++ more) at, get_front row more (slot_of m) j (ap (λ p. slice_get p (slot_of m)) (sym same) ∙ place))
   | inr ne ↦ inl (places, Places.get_set_other rows r (row_of m) (row ++ more) ne ∙ there, place)
 ]
 
@@ -43,7 +38,7 @@ listed_in_row rows others row place m at e = inl (row ++ place ∷ [], Places.ge
 -- a list of others that grows at its end
 pub kept_apart : (rows : List (List ℕ)) (others more : List ℕ) (j : ℕ) (m : Message) → IsListed rows others j m → IsListed rows (others ++ more) j m
 kept_apart rows others more j m (inl h) = inl h
-kept_apart rows others more j m (inr (k, at)) = inr (k, get_left others more k j at)
+kept_apart rows others more j m (inr (k, at)) = inr (k, get_front others more k j at)
 
 pub listed_apart : (rows : List (List ℕ)) (others : List ℕ) (place : ℕ) (m : Message) → IsListed rows (others ++ place ∷ []) place m
 listed_apart rows others place m = inr (length others, get_end others (length others) place refl)

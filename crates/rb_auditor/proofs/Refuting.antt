@@ -6,19 +6,19 @@ use Rattle.std.specs.List.{range_with_len}
 use Rattle.std.proofs.lemmas.Bool.Decides.{nat_tests}
 use Rattle.std.proofs.lemmas.Option.{slice_get-map, slice_get_within}
 use Rattle.rb_money.specs.Settings.{Settings}
-use Rattle.rb_shadow.proofs.Members
+use Rattle.rb_shadow.proofs.Public.Members
 use Rattle.rb_site.specs.declared.entry.Entry.{Entry}
 use Rattle.rb_site.specs.declared.world_event.WorldEvent.{WorldEvent}
 use Rattle.rb_site.specs.Events.{ModelSite, after_event, first_site, is_full, reply_to}
 use Rattle.rb_site.specs.Histories.{AreOneWorlds, place_of}
 use Rattle.rb_site.specs.Seen.{entry}
 use Rattle.rb_site.specs.Worlds.{AreOwn, World, first_world, is_recorded, world_after, world_after_all, world_at, world_of_run}
-use Rattle.rb_site.proofs.Places
-use Rattle.rb_site.proofs.Recorded
-use Rattle.rb_site.proofs.Recorded.{IsRecorded}
-use Rattle.rb_site.proofs.Runs as SiteRuns
-use Rattle.rb_site.proofs.Seen
-use Rattle.rb_site.proofs.Stuck
+use Rattle.rb_site.proofs.Public.Places
+use Rattle.rb_site.proofs.Public.Recorded
+use Rattle.rb_site.proofs.Public.Recorded.{IsRecorded}
+use Rattle.rb_site.proofs.Public.Runs as SiteRuns
+use Rattle.rb_site.proofs.Public.Seen
+use Rattle.rb_site.proofs.Public.Stuck
 use Rattle.std.proofs.lemmas.List.{length-map}
 use Rattle.std.proofs.lemmas.List.FromFn.{length-range_with_len}
 use Rattle.rb_auditor.specs.declared.audit_fault.AuditFault.{AuditFault}

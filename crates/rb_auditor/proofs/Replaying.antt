@@ -2,21 +2,21 @@
 use Rattle.std.proofs.Common.{◌≡◌, ℕ, zero, suc, Bool, IsTrue, MatchBool, ◌↔◌, cond, ◌+◌, ◌*◌, ◌<◌, ◌≤◌, true, false, List, [], ◌∷◌, ◌++◌, length, take, drop, get_or, refl, ap, sym, subst, ◌∙◌, arith, Some, length-append}
 use Rattle.std.specs.Prelude.{map, slice_get, nat_le}
 use Rattle.std.proofs.lemmas.Bool.Decides.{nat_tests}
-use Rattle.std.proofs.lemmas.List.{length-take-le, take-append-drop, take_more}
+use Rattle.std.proofs.lemmas.List.{length-take-le, take-append-drop, take_more, map-append}
 use Rattle.rb_scratch.specs.declared.request.TheConstants.{MOST_REQUESTS}
 use Rattle.rb_money.specs.declared.limits.TheConstants.{MOST_HISTORY}
 use Rattle.rb_money.specs.Settings.{IsConfigured, Settings}
 use Rattle.rb_site.specs.declared.entry.Entry.{Entry}
-use Rattle.rb_site.specs.Events.{ModelSite, after_event, after_events, first_site, is_full, outcome_of, reply_to, sent_at, sent_by}
+use Rattle.rb_site.specs.Events.{ModelSite, after_event, after_events, first_site, is_full, reply_to, sent_at}
 use Rattle.rb_site.specs.Histories.{events_of}
 use Rattle.rb_site.specs.declared.event.Event.{Event}
 use Rattle.rb_site.specs.declared.message.Message.{Message}
 use Rattle.rb_site.specs.declared.reply.Reply.{Reply}
 use Rattle.rb_site.specs.Seen.{IsReplayed, Replays, SeenSite, entry, next_site, state_of, stepped}
 use Rattle.rb_auditor.specs.Replays.{IsNoted, seen_at, sends_by}
-use Rattle.rb_site.proofs.Runs
-use Rattle.rb_site.proofs.Seen
-use Rattle.rb_site.proofs.States
+use Rattle.rb_site.proofs.Public.Runs
+use Rattle.rb_site.proofs.Public.Seen
+use Rattle.rb_site.proofs.Public.Outcomes
 use Rattle.rb_auditor.specs.Findings.{IsReplay}
 use Rattle.rb_auditor.specs.Progress.{fronts_of, site_after, sites_after}
 use Rattle.rb_auditor.specs.Sends.{AreEnds, between}
@@ -54,7 +54,7 @@ pub record IsReplayedAt (s : Settings) (i : ℕ) (h : List Entry) (k : ℕ) (x :
   pub more : site_after s i (take (k + 1) h) ≡ after_event s (site_after s i (take k h)) x.event
 
 pub after_more : (s : Settings) (t : ModelSite) (xs : List Entry) (x : Entry) → after_events s t (events_of (xs ++ x ∷ [])) ≡ after_event s (after_events s t (events_of xs)) x.event
-after_more s t xs x = ap (after_events s t) (Runs.map-append (λ (y : Entry). y.event) xs (x ∷ [])) ∙ Runs.after_events-append s (events_of xs) (x.event ∷ []) t
+after_more s t xs x = ap (after_events s t) (map-append (λ (y : Entry). y.event) xs (x ∷ [])) ∙ Runs.after_events-append s (events_of xs) (x.event ∷ []) t
 
 not_full : (s : Settings) (t : ModelSite) (k : ℕ) → length t.history ≡ k → k < s.limits.history → is_full s t ≡ false
 not_full s t k e lt = grind (arith, nat_tests)
@@ -93,20 +93,12 @@ sends_at s t [] k x h = cc
 sends_at s t (y ∷ xs) zero x h = let e : y ≡ x = cc in ap (λ (z : Entry). Some (sent_at s t z.event)) e
 sends_at s t (y ∷ xs) (suc k) x h = sends_at s (after_event s t y.event) xs k x h
 
--- an event sends at most as many messages as a batch may have requests
-few : (b : Bool) (ms : List Message) → length ms ≤ MOST_REQUESTS → length (cond b [] ms) ≤ MOST_REQUESTS
-few true ms h = omega arith
-few false ms h = h
-
-sent_few : (s : Settings) (t : ModelSite) (e : Event) → length (sent_at s t e) ≤ MOST_REQUESTS
-sent_few s t e = few (is_full s t) (sent_by (outcome_of s t e)) (States.sends_few s t e)
-
 -- where the history is full, one more is wrong
 pub full_is_wrong : (x : SeenSite) (y : Entry) → IsReplayed x → is_full x.settings (state_of x) ≡ true → ¬ IsReplayed (seen_at x.settings x.me (x.entries ++ y ∷ []))
 full_is_wrong x y old full new =
     let longer : length (x.entries ++ y ∷ []) ≡ length x.entries + 1 = length-append x.entries (y ∷ []) in
     let within : length (x.entries ++ y ∷ []) ≤ x.settings.limits.history = new.room in
-    let test : nat_le x.settings.limits.history (length x.entries) ≡ true = States.is_full-state x old ∙ full in
+    let test : nat_le x.settings.limits.history (length x.entries) ≡ true = Outcomes.is_full-state x old ∙ full in
     let most : x.settings.limits.history ≤ length x.entries = grind (arith, nat_tests) in
     omega arith
 
@@ -119,7 +111,7 @@ pub noted : (x new : SeenSite) (e : Event) (y : Entry) (r : Reply) (before after
 noted x new e y r before after old free is reply same event sends = record {
   free = free;
   is = step ∙ ap (λ z. record x { entries = x.entries ++ z ∷ [] }) (ap (entry e) (sym reply ∙ same) ∙ ap (λ f. entry f y.reply) event);
-  replays = subst IsReplayed (sym step) (Seen.replayed-stepped x e (States.room_left x old free) old);
+  replays = subst IsReplayed (sym step) (Seen.replayed-stepped x e (Outcomes.room_left x old free) old);
   sends = sends ∙ ap (λ f. before ++ sent_at x.settings (state_of x) f) event;
 }
   where
@@ -163,7 +155,7 @@ replaying_more s me h k x site new before after ends less at r n = record {
     sizes = ap length n.sends ∙ length-append before sent
 
     most : length sent ≤ MOST_REQUESTS
-    most = sent_few site.settings (state_of site) x.event
+    most = Outcomes.sent_few site.settings (state_of site) x.event
 
     longer : take k h ++ x ∷ [] ≡ take (k + 1) h
     longer = ap (λ y. take k h ++ y ∷ []) at ∙ sym (take_more h k x less)

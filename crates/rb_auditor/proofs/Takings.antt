@@ -1,9 +1,8 @@
 -- Entries taken one after another, as a world could have recorded them.
-use Rattle.std.proofs.Common.{◌≡◌, ℕ, ◌+◌, ◌<◌, ◌≤◌, List, [], ◌∷◌, ◌++◌, length, take, drop, refl, ap, sym, subst, ◌∙◌, inl, inr, arith, Some}
+use Rattle.std.proofs.Common.{◌≡◌, ℕ, ◌+◌, ◌<◌, ◌≤◌, List, [], ◌∷◌, ◌++◌, length, take, drop, refl, ap, sym, subst, ◌∙◌, inl, inr, arith, Some, Bool, true, false, MatchBool}
 use Rattle.std.specs.Prelude.{map, slice_get, slice_set}
 use Rattle.std.specs.List.{range_with_len}
 use Rattle.std.proofs.lemmas.List.{length-replicate, length-set, length-take-le, take-append-drop, take_all}
-use Rattle.std.proofs.Common.{Bool, true, false, MatchBool}
 use Rattle.std.proofs.lemmas.Option.{slice_get_within}
 use Rattle.rb_money.specs.Settings.{Settings}
 use Rattle.rb_site.specs.declared.entry.Entry.{Entry}
@@ -11,9 +10,9 @@ use Rattle.rb_site.specs.declared.message.Message.{Message}
 use Rattle.rb_site.specs.Events.{ModelSite, after_event, first_site, sent_at}
 use Rattle.rb_site.specs.Histories.{IsAmong, IsBlocked, IsCut, IsUnsent, events_of, histories_of, sends_of}
 use Rattle.rb_site.specs.Worlds.{World, first_world, world_at}
-use Rattle.rb_site.proofs.Places
-use Rattle.rb_site.proofs.Places.{same_number}
-use Rattle.rb_site.proofs.Stuck
+use Rattle.rb_site.proofs.Public.Places
+use Rattle.rb_site.proofs.Public.Places.{same_number}
+use Rattle.rb_site.proofs.Public.Stuck
 use Rattle.rb_auditor.specs.Certificates.{Certifies}
 use Rattle.rb_auditor.specs.Findings.{IsReplay, IsStuckAt}
 use Rattle.rb_auditor.specs.Progress.{AllRest, IsDone, IsFurther, IsLeft, left_of, IsHeldUp, MayCome, IsNext, IsReached, IsTaking, Rests, Progress, Took, first_progress, fronts_of, site_after, sites_after, taken_next, world_of}

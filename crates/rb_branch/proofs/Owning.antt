@@ -9,7 +9,8 @@ use Rattle.rb_branch.specs.declared.receipt.Receipt.{Receipt}
 use Rattle.rb_branch.specs.Gathered.{IsGathered, IsInterleaving, claim, claims, claims_at, numbered}
 use Rattle.rb_branch.specs.Owners.{AreDistinct, AreOwners, Claims, HasWithin, IsHolder, OwnedWithin, PutsAll, has_number, is_next}
 use Rattle.rb_branch.specs.Seats.{SeenSeat}
-use Rattle.rb_branch.proofs.Merging.{get_set_other, map_at}
+use Rattle.rb_site.proofs.Public.Lists.{map_at}
+use Rattle.rb_branch.proofs.Merging.{get_set_other}
 
 -- ---- the table with one seat more
 

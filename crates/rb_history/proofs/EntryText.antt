@@ -32,7 +32,7 @@ use Rattle.rb_history.specs.Fits.{Each, IsEvent, IsMoved, IsRefusal, IsReply, Is
 use Rattle.rb_commands.specs.Replies.{refusal_json, reply_json}
 use Rattle.rb_commands.specs.Statements.{row_json}
 use Rattle.rb_commands.specs.Values.{integer_json, list_json, name_json, number_json, one_json, pair_json}
-use Rattle.rb_commands.proofs.UsualLines.{compact_read}
+use Rattle.rb_commands.proofs.Public.Reading.{compact_read}
 
 -- a value that is read from its own text, and nests at most so deep
 pub record IsText (d : Data) (most : ℕ) : Type 0 where

@@ -18,7 +18,8 @@ use Rattle.rb_history.specs.RepliesRead.{moved_at, names_in, reply_of, row_at, r
 use Rattle.rb_commands.specs.Statements.{row_json}
 use Rattle.rb_commands.specs.Values.{integer_json, label_text, name_json}
 use Rattle.rb_history.specs.Fields.{label_of_word}
-use Rattle.rb_commands.proofs.Back.{back, below}
+use Rattle.rb_money.proofs.Public.Tests.{is_below as below}
+use Rattle.rb_commands.proofs.Public.Reading.{back}
 
 label_back : (k : Label) → label_of_word (label_text k) ≡ Some k
 label_back Deposit = refl

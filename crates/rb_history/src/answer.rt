@@ -12,9 +12,10 @@ use crate::refusal::refusal;
 use crate::shown::{names, rows};
 use rb_commands::LineFault;
 use rb_commands::values::{byte, long, name, size, word};
+use rb_list::List;
 use rb_shadow::OpName;
-use rb_site::{OpNames, Reply};
-use rb_statements::{Rows, Statement};
+use rb_site::Reply;
+use rb_statements::Statement;
 use serde_json::Value;
 use std::alloc::Global;
 
@@ -49,7 +50,7 @@ fn made_by_batch(alloc: Global, list: &Value) -> Result<Reply, LineFault>
     ensures { Gives result (option_map Names (names_at (view list.now))) }
 {
     match names(alloc, list) {
-        Ok(names) => Ok(Reply::Names(OpNames::new(names))),
+        Ok(names) => Ok(Reply::Names(List::new(names))),
         Err(fault) => Err(fault),
     }
 }
@@ -92,7 +93,7 @@ fn statement(alloc: Global, value: &Value) -> Result<Reply, LineFault>
     match rows(alloc, list) {
         Ok(rows) => Ok(Reply::Statement(Statement {
             start,
-            rows: Rows::new(rows),
+            rows: List::new(rows),
             balance,
         })),
         Err(fault) => Err(fault),

@@ -12,9 +12,10 @@ ghost use Rattle.rb_history.specs.Tells.{TellsEach, TellsReply};
 
 use crate::usual_part::{label, long_between, name, word_between};
 use rb_commands::scan::{after, number};
+use rb_list::List;
 use rb_shadow::OpName;
-use rb_site::{OpNames, Reply};
-use rb_statements::{Row, Rows, Statement};
+use rb_site::Reply;
+use rb_statements::{Row, Statement};
 use std::alloc::Global;
 
 /// The names of a list, and its closing bracket.
@@ -43,7 +44,7 @@ pub fn names<'a>(alloc: Global, text: &'a str) -> Option<(Reply, &'a str)>
     ensures { IfSome result (λ p. TellsReply p.0 text.now p.1.now) }
 {
     let (names, rest) = list(alloc, after(text, "{\"names\":[")?)?;
-    Some((Reply::Names(OpNames::new(names)), after(rest, "}")?))
+    Some((Reply::Names(List::new(names)), after(rest, "}")?))
 }
 
 /// What an entry moved, with its sign where it is negative.
@@ -125,7 +126,7 @@ pub fn statement<'a>(alloc: Global, text: &'a str) -> Option<(Reply, &'a str)>
     let (start, rest) = long_between(rest, ",\"start\":", "}")?;
     let shown = Statement {
         start,
-        rows: Rows::new(rows),
+        rows: List::new(rows),
         balance,
     };
     Some((Reply::Statement(shown), rest))

@@ -9,7 +9,8 @@ use Rattle.rb_shadow.specs.declared.op_name.OpName.{OpName}
 use Rattle.rb_shadow.specs.declared.shadow.Shadow.{Shadow}
 use Rattle.rb_inbox.specs.Held.{IsNumbered, place_in, stands_before, with_held, without}
 use Rattle.rb_inbox.specs.Rows.{AreCounted, AreRows, IsRow, held_of, row_of}
-use Rattle.rb_inbox.proofs.Order.{found_within, held_cases, in_order-filter, in_order-with_held, insert-place, kept_among, remove-place}
+use Rattle.rb_inbox.proofs.Order.{found_within, in_order-filter, in_order-with_held, insert-place, remove-place}
+use Rattle.rb_inbox.proofs.Public.Holding.{held_cases, kept_among}
 use Rattle.rb_inbox.proofs.Rows.{find_in_row, held-change, held-length, held-more, is_of, putting, removing, row_at, row_is, rows-more, rows-set}
 
 -- ---- the row of a name

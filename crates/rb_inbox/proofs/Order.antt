@@ -8,7 +8,7 @@ use Rattle.rb_shadow.specs.Operations.{Among, find_in, same_name}
 use Rattle.rb_shadow.specs.declared.op_name.OpName.{OpName}
 use Rattle.rb_shadow.specs.declared.op_name.OpName.TheVariants.{Blue, Red}
 use Rattle.rb_shadow.specs.declared.shadow.Shadow.{Shadow}
-use Rattle.rb_shadow.proofs.Members
+use Rattle.rb_shadow.proofs.Public.Members
 use Rattle.rb_inbox.specs.Held.{Holding, IsInOrder, StandsBeforeAll, place_in, stands_before, with_held, without}
 
 pub before-trans : (x y z : OpName) → stands_before x y ≡ true → stands_before y z ≡ true → stands_before x z ≡ true
@@ -249,25 +249,3 @@ without-absent (u ∷ us) x h = by (same_name u.name x) h (without-absent us x)
     by : (b : Bool) → cond b (Some u) (find_in us x) ≡ None → (find_in us x ≡ None → without x us ≡ us) → cond (not b) (u ∷ without x us) (without x us) ≡ u ∷ us
     by true k rest = cc
     by false k rest = ap (λ vs. u ∷ vs) (rest k)
-
--- what is kept of a list is of the list
-pub kept_among : (p : Shadow → Bool) (us : List Shadow) (u : Shadow) → Among u (filter p us) → Among u us
-kept_among p [] u h = elim h [ ]
-kept_among p (v ∷ us) u h = at (p v) h (kept_among p us u)
-  where
-    at : (b : Bool) → Among u (cond b (v ∷ filter p us) (filter p us)) → (Among u (filter p us) → Among u us) → Among u (v ∷ us)
-    at true (inl e) rest = inl e
-    at true (inr k) rest = inr (rest k)
-    at false k rest = inr (rest k)
-
--- what is held after one more is that or was held
-pub held_cases : (v : Shadow) (us : List Shadow) (u : Shadow) → Among u (with_held v us) → (u ≡ v) ⊎ Among u us
-held_cases v [] u (inl e) = inl e
-held_cases v [] u (inr h) = elim h [ ]
-held_cases v (w ∷ us) u h = at (stands_before v.name w.name) h (held_cases v us u)
-  where
-    at : (b : Bool) → Among u (cond b (v ∷ w ∷ us) (w ∷ with_held v us)) → (Among u (with_held v us) → (u ≡ v) ⊎ Among u us) → (u ≡ v) ⊎ Among u (w ∷ us)
-    at true (inl e) rest = inl e
-    at true (inr k) rest = inr k
-    at false (inl e) rest = inr (inl e)
-    at false (inr k) rest = elim (rest k) [ inl e ↦ inl e | inr q ↦ inr (inr q) ]

@@ -7,7 +7,7 @@ use Rattle.rb_shadow.specs.declared.deps.Deps.{Deps}
 use Rattle.rb_shadow.specs.declared.op_name.OpName.{OpName}
 use Rattle.rb_shadow.specs.declared.op_name.OpName.TheVariants.{Blue, Red}
 use Rattle.rb_shadow.specs.declared.shadow.Shadow.{Shadow}
-use Rattle.rb_shadow.proofs.Lookups.{Among-index}
+use Rattle.rb_shadow.proofs.Public.Lookups.{Among-index}
 use Rattle.rb_inbox.specs.Held.{IsNumbered, IsReady, stands_before}
 use Rattle.rb_inbox.specs.Rows.{AreRows, IsRow, held_of, row_of}
 use Rattle.rb_inbox.proofs.Changes.{finds_at}

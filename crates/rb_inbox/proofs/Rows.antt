@@ -9,7 +9,7 @@ use Rattle.rb_shadow.specs.Operations.{Among, find_in, is_blue_of, is_red, same_
 use Rattle.rb_shadow.specs.declared.op_name.OpName.{OpName}
 use Rattle.rb_shadow.specs.declared.op_name.OpName.TheVariants.{Blue, Red}
 use Rattle.rb_shadow.specs.declared.shadow.Shadow.{Shadow}
-use Rattle.rb_shadow.proofs.Members
+use Rattle.rb_shadow.proofs.Public.Members
 use Rattle.rb_shadow.specs.Sound.{is_foreign}
 use Rattle.rb_inbox.specs.Held.{IsNumbered, StandsBeforeAll, stands_before, with_held, without}
 use Rattle.rb_inbox.specs.Rows.{AreRows, IsRow, held_of, row_of}

@@ -1,6 +1,6 @@
 -- What a request makes at a valid list may follow it.
 use Rattle.std.proofs.Common.{◌≡◌, ℕ, ◌+◌, ◌<◌, ◌≤◌, Bool, true, false, cond, not, ◌&&◌, ◌||◌, List, [], ◌∷◌, ◌++◌, length, refl, ap, sym, ◌∙◌, arith, subst, Option, Some, None, Ok}
-use Rattle.std.specs.Prelude.{ℤ, pos, negsuc, neg_ℤ, ◌+ℤ◌, ◌≤ℤ◌, nat_le, nat_lt, ◌==◌, option_and_then, int_lt}
+use Rattle.std.specs.Prelude.{ℤ, pos, neg_ℤ, ◌+ℤ◌, ◌≤ℤ◌, nat_le, nat_lt, ◌==◌, option_and_then}
 use Rattle.std.proofs.Math.Bool.{and-false}
 use Rattle.std.proofs.lemmas.Int.{ints}
 use Rattle.std.proofs.lemmas.Bool.Decides.{nat_tests}
@@ -18,25 +18,26 @@ use Rattle.rb_shadow.specs.declared.colour.Colour.{Colour}
 use Rattle.rb_shadow.specs.declared.colour.Colour.TheVariants.{Blue as BlueColour, Red as RedColour}
 use Rattle.rb_shadow.specs.Operations.{names, past, IsWithin, is_eligible, colour_in, number_of, entry_of, red_count, blue_count, clock_of, colour_of, shown_colour, kind_in, target_of, is_cancel, is_cancelled, bal}
 use Rattle.rb_shadow.specs.Sound.{fault_of, IsSound, is_absent, is_foreign, limit_of, may_be_nothing, is_miscoloured, cancels_unseen}
-use Rattle.rb_shadow.proofs.Members
-use Rattle.rb_shadow.proofs.Clocks
-use Rattle.rb_shadow.proofs.SoundFacts
+use Rattle.rb_shadow.proofs.Public.Members
+use Rattle.rb_shadow.proofs.Public.Clocks
+use Rattle.rb_shadow.proofs.Public.SoundFacts
 use Rattle.rb_ledger.specs.Valid.{IsValid, HasTarget}
 use Rattle.rb_ledger.specs.Checks.{overdraws, refusal_of, refusal_after, has_wrong_target, same_colour}
 use Rattle.rb_money.specs.declared.refusal.Refusal.TheVariants.{WouldOverdraw}
 use Rattle.rb_money.specs.declared.cents.TheConstants.{MOST_CENTS}
-use Rattle.rb_shadow.proofs.Eligible
-use Rattle.rb_ledger.proofs.Legal
-use Rattle.rb_ledger.proofs.Pushes
-use Rattle.rb_ledger.proofs.ValidClocks
-use Rattle.rb_ledger.proofs.Walks
+use Rattle.rb_money.proofs.Public.Tests.{number_same}
+use Rattle.rb_shadow.proofs.Public.Eligible
+use Rattle.rb_ledger.proofs.Public.Legal
+use Rattle.rb_ledger.proofs.Public.Pushes
+use Rattle.rb_ledger.proofs.Public.ValidClocks
 use Rattle.rb_token.specs.Token.{Token}
 use Rattle.rb_scratch.specs.declared.request.Request.{Request}
 use Rattle.rb_scratch.specs.Requests.{Plan, next_name, colour_of_plan, operation_of, plan_of, made_of}
-use Rattle.rb_scratch.proofs.Made
-use Rattle.rb_scratch.proofs.Made.{IsAllowed, IsMadeAt}
-use Rattle.rb_scratch.proofs.Planned
-use Rattle.rb_scratch.proofs.Planned.{Cancels, IsPlanned}
+use Rattle.rb_scratch.proofs.Public.Made
+use Rattle.rb_scratch.proofs.Public.Made.{IsAllowed, IsMadeAt}
+use Rattle.rb_scratch.proofs.Public.Planned
+use Rattle.rb_scratch.proofs.Public.Planned.{Cancels, IsPlanned}
+use Rattle.rb_scratch.proofs.Public.Tokens.{shows, enough}
 
 -- what a plan makes at a site that applied us
 abbrev pub shadow_of : ℕ → List Shadow → Plan → Shadow
@@ -88,14 +89,8 @@ well_coloured me us (Cancel x) o = at (colour_of (Cancel x) o)
 
 next_entry : (me : ℕ) (us : List Shadow) (c : Colour) → me < MOST_SITES → (entry_of (clock_of us) (next_name me us c) + 1 == number_of (next_name me us c)) ≡ true
 unfolding clock_of
-next_entry me us BlueColour few = ap (λ n. n + 1 == blue_count us me + 1) (get_or-map-range_with_len (blue_count us) 0 MOST_SITES me me 0 few (omega arith)) ∙ same (blue_count us me + 1)
-  where
-    same : (n : ℕ) → (n == n) ≡ true
-    same n = grind (arith, nat_tests)
-next_entry me us RedColour few = same (red_count us + 1)
-  where
-    same : (n : ℕ) → (n == n) ≡ true
-    same n = grind (arith, nat_tests)
+next_entry me us BlueColour few = ap (λ n. n + 1 == blue_count us me + 1) (get_or-map-range_with_len (blue_count us) 0 MOST_SITES me me 0 few (omega arith)) ∙ number_same (blue_count us me + 1)
+next_entry me us RedColour few = number_same (red_count us + 1)
 
 all_seen : (s : Settings) (us : List Shadow) (h : Shadow) (k : Kind) → s.sites ≤ MOST_SITES → IsValid s us → HasTarget us h k → cancels_unseen s.sites k (clock_of us) ≡ false
 all_seen s us h (Cancel x) few valid (t, there, named, right) =
@@ -130,10 +125,6 @@ fresh_name s me us RedColour valid = ValidClocks.valid_counted s us valid (Red (
     past_end : (n : ℕ) → (nat_le 1 (n + 1) && nat_le (n + 1) n) ≡ false
     past_end n = grind (arith, nat_tests)
 
-pub shows : (me : ℕ) (us : List Shadow) (c : Colour) → shown_colour (next_name me us c) ≡ c
-shows me us BlueColour = refl
-shows me us RedColour = refl
-
 seen_past : (s : Settings) (me : ℕ) (us : List Shadow) (p : Plan) → s.sites ≤ MOST_SITES → IsValid s us → IsWithin (past (shadow_of me us p)) (names us)
 seen_past s me us p few valid x h = sym (ValidClocks.clock_past s us (shadow_of me us p) few valid refl x) ∙ h
 
@@ -150,11 +141,8 @@ plan_follows s me us p few here valid fit covered = record {
 covered_after : (s : Settings) (me : ℕ) (us : List Shadow) (p : Plan) (z : ℤ) → IsValid s us → HasTarget us (shadow_of me us p) p.kind → Pushes.change_of us p.kind p.amount ≡ z → pos 0 ≤ℤ (bal s us p.account +ℤ z) → pos 0 ≤ℤ bal s (us ++ shadow_of me us p ∷ []) p.account
 covered_after s me us p z valid target is ok =
     let h = shadow_of me us p in
-    let change : Pushes.change us h p.account ≡ z = ap (λ b. cond b (Pushes.change_of us p.kind p.amount) (pos 0)) (same p.account.0) ∙ is in
+    let change : Pushes.change us h p.account ≡ z = ap (λ b. cond b (Pushes.change_of us p.kind p.amount) (pos 0)) (number_same p.account.0) ∙ is in
     omega (arith, ints, ok, change, Pushes.bal-push s us h p.account valid.unique (Legal.fresh_uncancelled us h.name valid.targets (fresh_name s me us (colour_of_plan us p) valid)) target)
-  where
-    same : (n : ℕ) → (n == n) ≡ true
-    same n = grind (arith, nat_tests)
 
 blue_gives : (x : OpName) (k : Kind) (n : ℕ) → colour_of (Cancel x) (Some k) ≡ BlueColour → pos 0 ≤ℤ Pushes.given_back (Some k) n
 blue_gives x Withdraw n h = omega (arith, ints)
@@ -166,10 +154,6 @@ blue_gives x (Cancel y) n h = cc
 cond_least : (b : Bool) (z : ℤ) → pos 0 ≤ℤ z → pos 0 ≤ℤ cond b (pos 0) z
 cond_least true z h = omega (arith, ints)
 cond_least false z h = h
-
-pub enough : (z : ℤ) (n : ℕ) → int_lt z (pos n) ≡ false → pos n ≤ℤ z
-enough (pos m) n h = let low : n ≤ m = grind (arith, nat_tests) in omega (arith, ints)
-enough (negsuc m) n h = cc
 
 measure : (n : ℕ) (b : Bool) → is_amount n ≡ true → (nat_lt MOST_CENTS n ≡ false) × ((n == 0 && b) ≡ false)
 measure n b h = let q : (1 ≤ n) × (n ≤ MOST_CENTS) = Clocks.in_range-true n MOST_CENTS h in let low = q.0 in let high = q.1 in
@@ -246,16 +230,16 @@ covered_cancel s me us token p x valid e c target fair = at (colour_of_plan us p
         let change : Pushes.change_of us p.kind p.amount ≡ cond (is_cancelled us x) (pos 0) (Pushes.given_back (Some c.target.kind) p.amount) =
         ap (λ j. Pushes.change_of us j p.amount) e ∙ ap (λ o. cond (is_cancelled us x) (pos 0) (Pushes.given_back o p.amount)) kind_is in
         let least : pos 0 ≤ℤ cond (is_cancelled us x) (pos 0) (Pushes.given_back (Some c.target.kind) p.amount) = cond_least (is_cancelled us x) _ gives in
-        covered_after s me us p _ valid target change (omega (arith, ints, least, Walks.covers s us p.account valid))
+        covered_after s me us p _ valid target change (omega (arith, ints, least, Legal.covers s us p.account valid))
 
 -- what is planned and allowed leaves its account no less than nothing
 covered : (s : Settings) (me : ℕ) (us : List Shadow) (token : Token) (p : Plan) (k : Kind) → IsValid s us → p.kind ≡ k → IsPlanned s us p k → HasTarget us (shadow_of me us p) p.kind
     → IsAllowed s us token (shadow_of me us p) (next_name me us (colour_of_plan us p))
     → pos 0 ≤ℤ bal s (us ++ shadow_of me us p ∷ []) p.account
-covered s me us token p Deposit valid e h target fair = covered_plain s me us p Deposit (pos p.amount) valid e target refl (omega (arith, ints, Walks.covers s us p.account valid))
+covered s me us token p Deposit valid e h target fair = covered_plain s me us p Deposit (pos p.amount) valid e target refl (omega (arith, ints, Legal.covers s us p.account valid))
 covered s me us token p Withdraw valid e h target fair = covered_plain s me us p Withdraw (neg_ℤ (pos p.amount)) valid e target refl (let some : pos p.amount ≤ℤ bal s us p.account = enough (bal s us p.account) p.amount h.1 in omega (arith, ints, some))
-covered s me us token p Declined valid e h target fair = covered_plain s me us p Declined (pos 0) valid e target refl (omega (arith, ints, Walks.covers s us p.account valid))
-covered s me us token p Interest valid e h target fair = covered_plain s me us p Interest (pos p.amount) valid e target refl (omega (arith, ints, Walks.covers s us p.account valid))
+covered s me us token p Declined valid e h target fair = covered_plain s me us p Declined (pos 0) valid e target refl (omega (arith, ints, Legal.covers s us p.account valid))
+covered s me us token p Interest valid e h target fair = covered_plain s me us p Interest (pos p.amount) valid e target refl (omega (arith, ints, Legal.covers s us p.account valid))
 covered s me us token p (Cancel x) valid e h target fair = covered_cancel s me us token p x valid e h target fair
 
 -- what a site makes at a valid list may follow it
@@ -279,11 +263,7 @@ refused_for_money s me us r p v few here valid planned made within =
     let is : v ≡ shadow_of me us p = made ∙ operation_is me us p in
     let fits : IsFit s me us p = fit s me us p p.kind valid refl (Planned.planned s us r p planned) (subst (λ (u : Shadow). number_of u.name ≤ limit_of s.limits u.name) is within) in
     subst (λ (u : Shadow). refusal_of s us u ≡ cond (overdraws s us u) (Some WouldOverdraw) None) (sym is) (at (shadow_of me us p) (plan_sound s me us p few here valid fits) (fresh_name s me us (colour_of_plan us p) valid) (Eligible.eligible_from us (shadow_of me us p) (seen_past s me us p few valid))
-    (Legal.no_wrong_target us (shadow_of me us p) p.kind valid.unique fits.target) (ap (λ c. same_colour c (colour_of_plan us p)) (shows me us (colour_of_plan us p)) ∙ same (colour_of_plan us p)))
+    (Legal.no_wrong_target us (shadow_of me us p) p.kind valid.unique fits.target) (ap (λ c. same_colour c (colour_of_plan us p)) (shows me us (colour_of_plan us p)) ∙ Legal.same_colour-refl (colour_of_plan us p)))
   where
-    same : (c : Colour) → same_colour c c ≡ true
-    same BlueColour = refl
-    same RedColour = refl
-
     at : (u : Shadow) → IsSound s u → names us u.name ≡ false → is_eligible us u ≡ true → has_wrong_target us u u.kind ≡ false → same_colour (shown_colour u.name) (colour_in us u) ≡ true → refusal_of s us u ≡ cond (overdraws s us u) (Some WouldOverdraw) None
     at u sound fresh eligible target colour = ap (refusal_after s us u) sound ∙ (rw (fresh, eligible, target, colour) refl)

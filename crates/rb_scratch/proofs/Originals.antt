@@ -11,14 +11,14 @@ use Rattle.rb_shadow.specs.declared.kind.Kind.{Kind}
 use Rattle.rb_shadow.specs.declared.kind.Kind.TheVariants.{Deposit, Withdraw, Declined, Interest}
 use Rattle.rb_shadow.specs.declared.shadow.Shadow.{Shadow}
 use Rattle.rb_shadow.specs.Operations.{bal, is_cancel, is_cancelled, moved}
-use Rattle.rb_ledger.proofs.Pushes
+use Rattle.rb_ledger.proofs.Public.Pushes
 use Rattle.rb_ledger.specs.Valid.{IsValid}
-use Rattle.rb_ledger.proofs.Legal
+use Rattle.rb_ledger.proofs.Public.Legal
 use Rattle.rb_scratch.specs.declared.request.Request.{Request}
 use Rattle.rb_scratch.specs.declared.request.Request.TheVariants.{Deposit as AskDeposit, Withdraw as AskWithdraw, Interest as AskInterest, Cancel as AskCancel}
 use Rattle.rb_scratch.specs.Originals.{DoesOriginal, IsOriginal, after_accrue, after_deposit, after_withdraw}
 use Rattle.rb_scratch.specs.Requests.{Plan, colour_of_plan, interest_on, next_name, operation_of, plan_of, withdrawal}
-use Rattle.rb_scratch.proofs.Made
+use Rattle.rb_scratch.proofs.Public.Made
 use Rattle.rb_scratch.proofs.Makes
 
 not_cancel : (b : Bool) → is_cancel (cond b Declined Withdraw) ≡ false

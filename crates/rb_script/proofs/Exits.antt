@@ -14,8 +14,8 @@ use Rattle.rb_script.specs.Script.{ScriptOutcome, script_from, script_of, no_out
 use Rattle.rb_script.specs.Run.{IsFaulty, EndsAs, IsUnfinished}
 use Rattle.rb_script.specs.Session.{rest_from, rest_of, after_text, Answers, EndsAt, first_session}
 use Rattle.rb_script.proofs.Follows.{Follows, at_start, after_read, after_line, at_end, at_first, at_rest}
-use Rattle.rb_lines.proofs.LineLaws.{long_line}
-use Rattle.rb_lines.proofs.Walks.{standing}
+use Rattle.rb_lines.proofs.Public.LongLines.{long_line}
+use Rattle.rb_lines.proofs.Public.Walks.{standing}
 
 abbrev pub FollowsKnown : Option (List ℕ) → Option (List ℕ) → Session → List ℕ → Bool → List ℕ → Type 0
 FollowsKnown None now s p e t = Unit {0}

@@ -1,8 +1,8 @@
 -- Where a run stands between two lines.
 use Rattle.std.proofs.Common.{◌≡◌, ◌<◌, ◌≤◌, ◌+◌, ◌-◌, ◌⊎◌, ℕ, Bool, true, false, List, [], ◌∷◌, ◌++◌, length, take, drop, sym, ap, ◌∙◌, arith, subst, append-nil, append_assoc, zero-add}
 use Rattle.rb_lines.specs.Lines.{lines_of, whole_lines, line_len}
-use Rattle.rb_lines.proofs.Walks.{Walks}
-use Rattle.rb_lines.proofs.Walks as walk
+use Rattle.rb_lines.proofs.Public.Walks.{Walks}
+use Rattle.rb_lines.proofs.Public.Walks as walk
 use Rattle.rb_script.specs.declared.session.Session.{Session}
 use Rattle.rb_script.specs.Script.{ScriptOutcome, script_from}
 use Rattle.rb_script.specs.Session.{rest_of, after_text, Answers, first_session}

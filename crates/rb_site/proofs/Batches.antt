@@ -8,15 +8,14 @@ use Rattle.rb_money.specs.declared.refusal.Refusal.TheVariants.{BadBatch, BatchR
 use Rattle.rb_shadow.specs.declared.shadow.Shadow.{Shadow}
 use Rattle.rb_undo.specs.declared.parts.UndoParts.{UndoParts}
 use Rattle.rb_ledger.specs.Book.{Book}
-use Rattle.rb_ledger.proofs.Records.{records_of-append}
+use Rattle.rb_ledger.proofs.Public.Records.{records_of-append}
 use Rattle.rb_ledger.specs.Records.{logged, records_of}
 use Rattle.rb_token.specs.Token.{Token}
 use Rattle.rb_token.specs.Seat.{Shows}
 use Rattle.rb_token.specs.declared.view.TokenView.{TokenView}
-use Rattle.rb_scratch.proofs.Generated.{seen, seen_shows}
-use Rattle.rb_scratch.proofs.InBatch.{batch_more, batch_stopped}
-use Rattle.rb_scratch.proofs.Made.{batch_length}
-use Rattle.rb_scratch.proofs.Tries.{tried_length}
+use Rattle.rb_scratch.proofs.Public.Tokens.{seen, seen_shows}
+use Rattle.rb_scratch.proofs.Public.Batches.{batch_more, batch_stopped, tried_length}
+use Rattle.rb_scratch.proofs.Public.Made.{batch_length}
 use Rattle.rb_scratch.specs.Batches.{batch_of, cause_of, made_in_batch, names_of_all}
 use Rattle.rb_scratch.specs.Tried.{IsFault, IsTried}
 use Rattle.rb_scratch.specs.declared.request.Request.{Request}

@@ -1,5 +1,5 @@
 -- The histories of a run, and their text.
-use Rattle.std.proofs.Common.{◌≡◌, ℕ, zero, suc, List, [], ◌∷◌, length, map, All, Option, Some, refl, sym, ap, ◌∙◌, subst, append-nil}
+use Rattle.std.proofs.Common.{◌≡◌, ℕ, List, [], length, map, All, Option, Some, sym, ap, ◌∙◌, subst, append-nil}
 use Rattle.std.specs.Prelude.{slice_get}
 use Rattle.std.specs.Io.KnownBytes.{Appends}
 use Rattle.std.proofs.lemmas.List.{length-map}
@@ -8,6 +8,7 @@ use Rattle.rb_money.specs.Settings.{Settings}
 use Rattle.rb_site.specs.declared.entry.Entry.{Entry}
 use Rattle.rb_site.specs.declared.report.SiteReport.{SiteReport}
 use Rattle.rb_site.specs.Seen.{IsReplayed}
+use Rattle.rb_site.proofs.Public.Lists.{map_back}
 use Rattle.rb_branch.specs.Gathered.{IsClosed}
 use Rattle.rb_crew.specs.Tellers.{TellersAt}
 use Rattle.rb_lines.specs.Buffers.{Sends}
@@ -18,11 +19,6 @@ use Rattle.rb_threads.specs.Texts.{text_of}
 
 abbrev history_of : SiteReport → List Entry
 history_of r = r.history.items
-
-map_back : {A B : Type 0} (f : A → B) (xs : List A) (k : ℕ) (y : B) → slice_get (map f xs) k ≡ Some y → (x : A) × (slice_get xs k ≡ Some x) × (y ≡ f x)
-map_back f [] k y at = cc
-map_back f (x ∷ xs) zero y at = (x, refl, (cc))
-map_back f (x ∷ xs) (suc k) y at = map_back f xs k y at
 
 replayed : (s : Settings) (r : SiteReport) (k : ℕ) (h : List Entry) → IsClosed s r → r.me ≡ k → h ≡ history_of r → IsReplayed (record { settings = s; me = k; entries = h })
 replayed s r k h closed here is =

@@ -7,8 +7,8 @@ use Rattle.rb_money.specs.Settings.{Settings}
 use Rattle.rb_shadow.specs.declared.op_name.OpName.{OpName}
 use Rattle.rb_shadow.specs.declared.shadow.Shadow.{Shadow}
 use Rattle.rb_shadow.specs.Operations.{Among, IsWithin, names, past, same_name}
-use Rattle.rb_shadow.proofs.Members
-use Rattle.rb_shadow.proofs.Eligible
+use Rattle.rb_shadow.proofs.Public.Members
+use Rattle.rb_shadow.proofs.Public.Eligible
 use Rattle.rb_site.specs.declared.message.Message.{Message}
 use Rattle.rb_site.specs.declared.message.Message.TheVariants.{Shadow as ShadowMessage, Token as TokenOnItsWay}
 use Rattle.rb_site.specs.declared.event.Event.{Event}
@@ -21,8 +21,8 @@ use Rattle.rb_inbox.specs.Held.{stands_before, with_held}
 use Rattle.rb_site.specs.Worlds.{AreOwn, World, made_in, message_at, shadows_in, world_after, world_after_all, world_at, world_delivered}
 use Rattle.rb_world.specs.Laws.{CanCatchUp, catching_up}
 use Rattle.rb_world.proofs.Steps
-use Rattle.rb_site.proofs.Places.{get_set_same}
-use Rattle.rb_site.proofs.Runs
+use Rattle.rb_site.proofs.Public.Places.{get_set_same}
+use Rattle.rb_site.proofs.Public.Runs
 use Rattle.rb_world.proofs.Token
 use Rattle.rb_world.proofs.Good.{IsGood}
 use Rattle.rb_world.proofs.Ready

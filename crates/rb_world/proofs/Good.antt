@@ -9,10 +9,10 @@ use Rattle.rb_shadow.specs.declared.kind.Kind.{Kind}
 use Rattle.rb_shadow.specs.declared.kind.Kind.TheVariants.{Deposit, Withdraw, Declined, Interest, Cancel}
 use Rattle.rb_shadow.specs.declared.colour.Colour.TheVariants.{Red as RedColour}
 use Rattle.rb_shadow.specs.Operations.{Among, IsUnique, colour_of, is_red, kind_in, names, same_name, target_of}
-use Rattle.rb_shadow.proofs.Members
-use Rattle.rb_shadow.proofs.Balances
-use Rattle.rb_ledger.proofs.Pushes
-use Rattle.rb_inbox.proofs.Order.{kept_among, held_cases}
+use Rattle.rb_shadow.proofs.Public.Members
+use Rattle.rb_shadow.proofs.Public.Balances
+use Rattle.rb_ledger.proofs.Public.Pushes
+use Rattle.rb_inbox.proofs.Public.Holding.{kept_among, held_cases}
 use Rattle.rb_site.specs.declared.message.Message.{Message}
 use Rattle.rb_site.specs.declared.world_event.WorldEvent.{WorldEvent}
 use Rattle.rb_site.specs.Events.{ModelSite}

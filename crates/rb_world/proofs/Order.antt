@@ -5,23 +5,23 @@ use Rattle.std.proofs.lemmas.List.FromFn.{get_or-map-range_with_len}
 use Rattle.rb_money.specs.Settings.{Settings}
 use Rattle.rb_money.specs.declared.limits.TheConstants.{MOST_SITES}
 use Rattle.rb_money.specs.declared.refusal.Refusal.TheVariants.{NotReady, Conflict}
-use Rattle.rb_scratch.proofs.Made.{IsAllowed, IsMadeAt}
+use Rattle.rb_scratch.proofs.Public.Made.{IsAllowed, IsMadeAt}
 use Rattle.rb_shadow.specs.declared.op_name.OpName.{OpName}
 use Rattle.rb_shadow.specs.declared.op_name.OpName.TheVariants.{Blue, Red}
 use Rattle.rb_shadow.specs.declared.colour.Colour.{Colour}
 use Rattle.rb_shadow.specs.declared.colour.Colour.TheVariants.{Blue as BlueColour, Red as RedColour}
 use Rattle.rb_shadow.specs.declared.shadow.Shadow.{Shadow}
 use Rattle.rb_shadow.specs.Operations.{Among, AreOrdered, AreSame, EachEntry, IsSerialization, IsUnique, IsWithin, Precedes, blue_count, clock_of, entry_of, find_in, is_red, names, names_of_clock, number_of, past, red_count, same_name}
-use Rattle.rb_shadow.proofs.Members
-use Rattle.rb_shadow.proofs.Balances
+use Rattle.rb_shadow.proofs.Public.Members
+use Rattle.rb_shadow.proofs.Public.Balances
 use Rattle.rb_shadow.specs.Laws.{IsPart}
-use Rattle.rb_shadow.proofs.Clocks
-use Rattle.rb_shadow.proofs.Clocks.{IsCounted, IsHoused, IsNext}
-use Rattle.rb_shadow.proofs.Eligible
+use Rattle.rb_shadow.proofs.Public.Clocks
+use Rattle.rb_shadow.proofs.Public.Clocks.{IsCounted, IsHoused, IsNext}
+use Rattle.rb_shadow.proofs.Public.Eligible
 use Rattle.rb_ledger.specs.Checks.{is_applied, refusal_of_sound}
-use Rattle.rb_ledger.proofs.Legal
+use Rattle.rb_ledger.proofs.Public.Legal
 use Rattle.rb_token.specs.declared.message.TokenMessage.{TokenMessage}
-use Rattle.rb_inbox.proofs.Order.{kept_among, held_cases}
+use Rattle.rb_inbox.proofs.Public.Holding.{kept_among, held_cases}
 use Rattle.rb_site.specs.declared.message.Message.{Message}
 use Rattle.rb_site.specs.declared.message.Message.TheVariants.{Shadow as ShadowMessage}
 use Rattle.rb_site.specs.declared.entry.Entry.{Entry}
@@ -31,7 +31,7 @@ use Rattle.rb_site.specs.Events.{ModelSite}
 use Rattle.rb_inbox.specs.Held.{with_held, without}
 use Rattle.rb_site.specs.Worlds.{World, first_world, made_in, shadows_in}
 use Rattle.rb_world.specs.Laws.{EachSite}
-use Rattle.rb_site.proofs.Places.{same_number}
+use Rattle.rb_site.proofs.Public.Places.{same_number}
 use Rattle.rb_world.proofs.Steps.{Keeps, MayApply, each_moved, moved}
 use Rattle.rb_world.proofs.Token
 use Rattle.rb_world.proofs.Token.{IsHeldAt, IsInOnePlace, IsOnItsWay, red_number}

@@ -14,15 +14,15 @@ use Rattle.rb_shadow.specs.declared.colour.Colour.{Colour}
 use Rattle.rb_shadow.specs.declared.colour.Colour.TheVariants.{Blue as BlueColour, Red as RedColour}
 use Rattle.rb_shadow.specs.declared.shadow.Shadow.{Shadow}
 use Rattle.rb_shadow.specs.Operations.{Among, IsUnique, IsWithin, bal, colour_in, colour_of, find_in, is_eligible, is_red, kind_in, names, past, same_shadow, shown_colour, target_of}
-use Rattle.rb_shadow.proofs.Members
-use Rattle.rb_shadow.proofs.Lookups
+use Rattle.rb_shadow.proofs.Public.Members
+use Rattle.rb_shadow.proofs.Public.Lookups
 use Rattle.rb_shadow.specs.Laws.{IsClosed, IsPart}
-use Rattle.rb_shadow.proofs.Eligible
-use Rattle.rb_shadow.proofs.Same.{same_shadow-refl}
+use Rattle.rb_shadow.proofs.Public.Eligible
+use Rattle.rb_shadow.proofs.Public.SameShadows.{same_shadow-refl}
 use Rattle.rb_ledger.specs.Checks.{has_wrong_target, is_wrong_target, refusal_of_sound, same_colour}
-use Rattle.rb_ledger.proofs.Legal
-use Rattle.rb_ledger.proofs.Pushes
-use Rattle.rb_statements.proofs.Exact.{number_same}
+use Rattle.rb_ledger.proofs.Public.Legal
+use Rattle.rb_ledger.proofs.Public.Pushes
+use Rattle.rb_money.proofs.Public.Tests.{number_same}
 use Rattle.rb_token.specs.declared.message.TokenMessage.{TokenMessage}
 use Rattle.rb_money.specs.Refusals.{first_if}
 use Rattle.rb_site.specs.declared.message.Message.{Message}

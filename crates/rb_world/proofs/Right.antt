@@ -12,21 +12,21 @@ use Rattle.rb_shadow.specs.declared.colour.Colour.{Colour}
 use Rattle.rb_shadow.specs.declared.colour.Colour.TheVariants.{Blue as BlueColour, Red as RedColour}
 use Rattle.rb_shadow.specs.declared.shadow.Shadow.{Shadow}
 use Rattle.rb_shadow.specs.Operations.{Among, AreSame, IsUnique, bal, cancels, colour_of, is_cancel, is_cancelled, is_red, kind_in, names, past, shown_colour, target_of}
-use Rattle.rb_shadow.proofs.Members
-use Rattle.rb_shadow.proofs.Balances
+use Rattle.rb_shadow.proofs.Public.Members
+use Rattle.rb_shadow.proofs.Public.Balances
 use Rattle.rb_shadow.specs.Laws.{IsClosed, IsFunded, IsPart}
-use Rattle.rb_shadow.proofs.Covered
-use Rattle.rb_shadow.proofs.Covered.{IsCovered, adds, is_withdraw}
+use Rattle.rb_shadow.proofs.Public.Covered
+use Rattle.rb_shadow.proofs.Public.Covered.{IsCovered, adds, is_withdraw}
 use Rattle.rb_ledger.specs.Valid.{HasTarget, IsTargetOf}
 use Rattle.rb_ledger.specs.Checks.{overdraws}
-use Rattle.rb_ledger.proofs.Legal
-use Rattle.rb_ledger.proofs.Pushes
+use Rattle.rb_ledger.proofs.Public.Legal
+use Rattle.rb_ledger.proofs.Public.Pushes
 use Rattle.rb_scratch.specs.Requests.{Plan, colour_of_plan, next_name, operation_of}
 use Rattle.rb_token.specs.Token.{Token}
-use Rattle.rb_scratch.proofs.Planned.{IsPlanned, planned}
-use Rattle.rb_scratch.proofs.Made.{IsAllowed, IsMadeAt}
-use Rattle.rb_scratch.proofs.Makes
-use Rattle.rb_site.proofs.Exact.{place_sound}
+use Rattle.rb_scratch.proofs.Public.Planned.{IsPlanned, planned}
+use Rattle.rb_scratch.proofs.Public.Made.{IsAllowed, IsMadeAt}
+use Rattle.rb_scratch.proofs.Public.Tokens
+use Rattle.rb_shadow.specs.Exact.{place_sound}
 use Rattle.rb_world.proofs.Order
 use Rattle.rb_world.proofs.Order.{IsNew, IsOrderedSet, IsSerial}
 
@@ -153,7 +153,7 @@ kind_made s all us me v p (Cancel x) unique part is_past m e h = record {
   named = h.named;
   seen = is_past x ∙ ap (names us) (sym h.named) ∙ Members.named us h.target h.there;
   right = record { kind = h.kind; account = h.account ∙ sym m.account; amount = h.amount ∙ sym m.amount };
-  colour = ap shown_colour m.name ∙ Makes.shows me us (colour_of_plan us p) ∙ plan_colour us p (Cancel x) e ∙ ap (colour_of (Cancel x)) (ap (kind_in us) (sym h.named) ∙ Pushes.kind_in-named us h.target unique h.there);
+  colour = ap shown_colour m.name ∙ Tokens.shows me us (colour_of_plan us p) ∙ plan_colour us p (Cancel x) e ∙ ap (colour_of (Cancel x)) (ap (kind_in us) (sym h.named) ∙ Pushes.kind_in-named us h.target unique h.there);
 }
 
 -- what is made has its target in the list
@@ -201,7 +201,7 @@ covered_made s us me token v p k a m e h base push red fair kind = elim (Members
     own Declined e h kind q z = absurd (Members.true≢false (sym red ∙ kind))
     own Interest e h kind q z = absurd (Members.true≢false (sym red ∙ kind))
     own Withdraw e h kind q z =
-        let enough : pos p.amount ≤ℤ bal s us p.account = Makes.enough _ _ h.1 in
+        let enough : pos p.amount ≤ℤ bal s us p.account = Tokens.enough _ _ h.1 in
         let here : bal s us p.account ≡ bal s us a = ap (bal s us) (sym m.account ∙ q) in
         let takes : Pushes.change us v a ≡ neg_ℤ (pos p.amount) = z ∙ ap (λ k. Pushes.change_of us k v.amount) (m.kind ∙ e) ∙ ap (λ n. neg_ℤ (pos n)) m.amount in
         omega (arith, ints, enough, here, takes, push)

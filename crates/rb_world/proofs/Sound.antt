@@ -10,8 +10,8 @@ use Rattle.rb_money.specs.Settings.{Settings}
 use Rattle.rb_money.specs.declared.limits.TheConstants.{MOST_SITES}
 use Rattle.rb_money.specs.declared.place.Place.{Place}
 use Rattle.rb_money.specs.declared.cents.TheConstants.{MOST_CENTS}
-use Rattle.rb_scratch.proofs.Planned.{IsFor, IsPlanned, planned}
-use Rattle.rb_scratch.proofs.Made.{IsMadeAt}
+use Rattle.rb_scratch.proofs.Public.Planned.{IsFor, IsPlanned, planned}
+use Rattle.rb_scratch.proofs.Public.Made.{IsMadeAt}
 use Rattle.rb_shadow.specs.declared.op_name.OpName.{OpName}
 use Rattle.rb_shadow.specs.declared.op_name.OpName.TheVariants.{Blue, Red}
 use Rattle.rb_shadow.specs.declared.kind.Kind.{Kind}
@@ -19,11 +19,11 @@ use Rattle.rb_shadow.specs.declared.kind.Kind.TheVariants.{Deposit, Withdraw, De
 use Rattle.rb_shadow.specs.declared.shadow.Shadow.{Shadow}
 use Rattle.rb_shadow.specs.Operations.{Among, blue_count, clock_of, entry_of, is_red, names_of_clock, number_of, past, red_count}
 use Rattle.rb_shadow.specs.Sound.{IsSound, are_entries, cancels_unseen, fault_of, is_absent, is_clock, is_foreign, is_miscoloured, limit_of, may_be_nothing}
-use Rattle.rb_shadow.proofs.Members
-use Rattle.rb_shadow.proofs.Clocks
-use Rattle.rb_shadow.proofs.Clocks.{IsCounted}
-use Rattle.rb_shadow.proofs.SoundFacts
-use Rattle.rb_shadow.proofs.SoundFacts.{SoundFacts}
+use Rattle.rb_shadow.proofs.Public.Members
+use Rattle.rb_shadow.proofs.Public.Clocks
+use Rattle.rb_shadow.proofs.Public.Clocks.{IsCounted}
+use Rattle.rb_shadow.proofs.Public.SoundFacts
+use Rattle.rb_shadow.proofs.Public.SoundFacts.{SoundFacts}
 use Rattle.rb_token.specs.declared.message.TokenMessage.{TokenMessage}
 use Rattle.rb_site.specs.declared.message.Message.{Message}
 use Rattle.rb_site.specs.declared.message.Message.TheVariants.{Shadow as ShadowMessage, Token as TokenOnItsWay}

@@ -17,8 +17,8 @@ use Rattle.rb_site.specs.Events.{ModelSite, after_event, is_full, outcome_of, re
 use Rattle.rb_site.specs.Histories.{place_of}
 use Rattle.rb_site.specs.Seen.{SeenSite, next_site, state_of}
 use Rattle.rb_site.specs.Worlds.{AreOwn, IsCommand, World, arrival, first_world, is_recorded, is_recorded_at, message_at, reply_at, reply_delivered, reply_in, world_after, world_at, world_delivered}
-use Rattle.rb_site.proofs.Runs
-use Rattle.rb_site.proofs.Seen
+use Rattle.rb_site.proofs.Public.Runs
+use Rattle.rb_site.proofs.Public.Seen
 use Rattle.rb_world.specs.Laws.{IsRunOf, SeenWorld, next_replies, next_reply, next_world, next_worlds}
 
 -- ---- an event and the site that it is for

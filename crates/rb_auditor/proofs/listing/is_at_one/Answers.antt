@@ -1,8 +1,8 @@
 -- Each place is looked at.
 use Rattle.std.proofs.Common.{◌≡◌, ◌∙◌, ◌<◌, IsTrue, ap, sym, subst, arith, slice_get, get_or, length, inl, inr}
 use Rattle.std.proofs.lemmas.Option.{get_or_from_slice_get, slice_get_within}
-use Rattle.rb_site.proofs.Places.{same_number}
-use Rattle.rb_site.proofs.Stuck
+use Rattle.rb_site.proofs.Public.Places.{same_number}
+use Rattle.rb_site.proofs.Public.Stuck
 use Rattle.rb_auditor.proofs.Listed
 use Rattle.rb_auditor.proofs.listing.is_at_one.Goals as goal
 

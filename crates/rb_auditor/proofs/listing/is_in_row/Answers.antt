@@ -2,7 +2,7 @@
 use Rattle.std.proofs.Common.{◌≡◌, ◌∙◌, ℕ, ◌≤◌, ap, sym, subst, slice_get, Some, None, length, refl, Global, Vec}
 use Rattle.std.specs.Option.{option_map}
 use Rattle.std.proofs.lemmas.Option.{slice_get-map, slice_get_past, slice_get_read}
-use Rattle.rb_site.proofs.Stuck
+use Rattle.rb_site.proofs.Public.Stuck
 use Rattle.rb_auditor.specs.Findings.{lists_of}
 use Rattle.rb_auditor.specs.Sent.{row_of, slot_of}
 use Rattle.rb_auditor.proofs.Listed

@@ -9,6 +9,7 @@ use Rattle.rb_auditor.specs.Progress.{IsTaking}
 use Rattle.rb_auditor.specs.Replays.{IsWrongIn, sends_by}
 use Rattle.rb_auditor.proofs.Listed
 use Rattle.rb_auditor.proofs.Stepping
+use Rattle.rb_auditor.proofs.Public.Lengths
 use Rattle.rb_auditor.proofs.Takings
 use Rattle.rb_auditor.proofs.taking.Taking.open.Goals as goal
 
@@ -41,7 +42,7 @@ loop-place-preserved c =
 
 pub invariant_of-result : goal.invariant_of-result
 invariant_of-result c =
-    let n : length (lists_of c.args.histories.now) ≡ length c.args.histories.now = Stepping.length_lists c.args.histories.now in
+    let n : length (lists_of c.args.histories.now) ≡ length c.args.histories.now = Lengths.length_lists c.args.histories.now in
     let a : c.sites-sites.result ≡ c.args.config.now.sites = c.sites-sites.ensures.same in
     let b : length c.args.histories.now ≡ c.args.config.now.sites = c.requires in
     let all : c.loop-place.place ≡ length (lists_of c.args.histories.now) = (let d : c.sites-sites.result ≤ c.loop-place.place = c.loop-place-test.false in let e : c.loop-place.place ≤ c.sites-sites.result = c.loop-place.auto.place-end in omega arith) in

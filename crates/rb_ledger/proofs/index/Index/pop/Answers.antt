@@ -11,7 +11,7 @@ use Rattle.rb_ledger.proofs.Calls
 use Rattle.rb_ledger.proofs.CancelFacts
 use Rattle.rb_ledger.proofs.ChainFacts
 use Rattle.rb_ledger.proofs.Indexed
-use Rattle.rb_ledger.proofs.Legal
+use Rattle.rb_ledger.proofs.Public.Legal
 use Rattle.rb_ledger.proofs.LedgerClocks
 use Rattle.rb_ledger.proofs.index.Index.pop.Goals as goal
 

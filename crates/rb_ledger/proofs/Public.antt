@@ -1,0 +1,7 @@
+-- What other crates cite.
+pub mod Fronts
+pub mod Legal
+pub mod OnAccount
+pub mod Pushes
+pub mod Records
+pub mod ValidClocks
