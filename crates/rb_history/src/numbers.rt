@@ -39,7 +39,7 @@ pub fn append_numbers<N: Number>(out: &mut Vec<u8>, numbers: &[N]) -> Result<(),
     append(out, "[")?;
     let mut comma = "";
     for number in numbers {
-        append_number(out, comma, number.wide(), "")?;
+        append_number(out, comma, (*number).wide(), "")?;
         comma = ",";
     }
     append(out, "]")
