@@ -19,7 +19,7 @@ use Rattle.rb_scratch.specs.declared.request.Request.TheVariants.{Deposit as Ask
 use Rattle.rb_scratch.specs.Originals.{DoesOriginal, IsOriginal, after_accrue, after_deposit, after_withdraw}
 use Rattle.rb_scratch.specs.Requests.{Plan, colour_of_plan, interest_on, next_name, operation_of, plan_of, withdrawal}
 use Rattle.rb_scratch.proofs.Public.Made
-use Rattle.rb_scratch.proofs.Makes
+use Rattle.rb_scratch.proofs.Public.Makes
 
 not_cancel : (b : Bool) → is_cancel (cond b Declined Withdraw) ≡ false
 not_cancel true = refl

@@ -319,9 +319,6 @@ first_place s some = record {
 
 -- ---- the law
 
-pub in_one_place : (s : Settings) (es : List WorldEvent) → 1 ≤ s.sites → AreOwn es → IsInOnePlace (world_of_run s es)
-in_one_place s es some own = Steps.after_all s IsInOnePlace (keeps_place s) es (first_world s) own (first_place s some)
-
 pub one_holder : (s : Settings) (w : World) → IsInOnePlace w → HasOneToken s w
 one_holder s w p i t at held j u at' held' = by p.place
   where

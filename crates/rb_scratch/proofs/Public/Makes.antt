@@ -35,8 +35,8 @@ use Rattle.rb_scratch.specs.declared.request.Request.{Request}
 use Rattle.rb_scratch.specs.Requests.{Plan, next_name, colour_of_plan, operation_of, plan_of, made_of}
 use Rattle.rb_scratch.proofs.Public.Made
 use Rattle.rb_scratch.proofs.Public.Made.{IsAllowed, IsMadeAt}
-use Rattle.rb_scratch.proofs.Public.Planned
-use Rattle.rb_scratch.proofs.Public.Planned.{Cancels, IsPlanned}
+use Rattle.rb_scratch.proofs.Planned
+use Rattle.rb_scratch.proofs.Planned.{Cancels, IsPlanned}
 use Rattle.rb_scratch.proofs.Public.Tokens.{shows, enough}
 
 -- what a plan makes at a site that applied us
