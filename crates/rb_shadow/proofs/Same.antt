@@ -36,38 +36,16 @@ same_numbers-true (m ∷ ms) (n ∷ ns) h =
     cc
 
 pub same_kind-refl : (k : Kind) → same_kind k k ≡ true
-same_kind-refl Deposit = refl
-same_kind-refl Withdraw = refl
-same_kind-refl Declined = refl
-same_kind-refl Interest = refl
 same_kind-refl (Cancel x) = Members.same_name-refl x
+same_kind-refl _ = refl
 
 pub same_kind-true : (j k : Kind) → same_kind j k ≡ true → j ≡ k
 same_kind-true Deposit Deposit h = refl
-same_kind-true Deposit Withdraw h = cc
-same_kind-true Deposit Declined h = cc
-same_kind-true Deposit Interest h = cc
-same_kind-true Deposit (Cancel y) h = cc
-same_kind-true Withdraw Deposit h = cc
 same_kind-true Withdraw Withdraw h = refl
-same_kind-true Withdraw Declined h = cc
-same_kind-true Withdraw Interest h = cc
-same_kind-true Withdraw (Cancel y) h = cc
-same_kind-true Declined Deposit h = cc
-same_kind-true Declined Withdraw h = cc
 same_kind-true Declined Declined h = refl
-same_kind-true Declined Interest h = cc
-same_kind-true Declined (Cancel y) h = cc
-same_kind-true Interest Deposit h = cc
-same_kind-true Interest Withdraw h = cc
-same_kind-true Interest Declined h = cc
 same_kind-true Interest Interest h = refl
-same_kind-true Interest (Cancel y) h = cc
-same_kind-true (Cancel x) Deposit h = cc
-same_kind-true (Cancel x) Withdraw h = cc
-same_kind-true (Cancel x) Declined h = cc
-same_kind-true (Cancel x) Interest h = cc
 same_kind-true (Cancel x) (Cancel y) h = ap Cancel (Members.same_name-true x y h)
+same_kind-true _ _ h = cc
 
 pub same_shadow-refl : (v : Shadow) → same_shadow v v ≡ true
 unfolding same_shadow
@@ -107,30 +85,11 @@ name_tested (Red m) (Red n) = refl
 
 kind_tested : (j k : Kind) → kind_test.eq j k ≡ same_kind j k
 kind_tested Deposit Deposit = refl
-kind_tested Deposit Withdraw = refl
-kind_tested Deposit Declined = refl
-kind_tested Deposit Interest = refl
-kind_tested Deposit (Cancel y) = refl
-kind_tested Withdraw Deposit = refl
 kind_tested Withdraw Withdraw = refl
-kind_tested Withdraw Declined = refl
-kind_tested Withdraw Interest = refl
-kind_tested Withdraw (Cancel y) = refl
-kind_tested Declined Deposit = refl
-kind_tested Declined Withdraw = refl
 kind_tested Declined Declined = refl
-kind_tested Declined Interest = refl
-kind_tested Declined (Cancel y) = refl
-kind_tested Interest Deposit = refl
-kind_tested Interest Withdraw = refl
-kind_tested Interest Declined = refl
 kind_tested Interest Interest = refl
-kind_tested Interest (Cancel y) = refl
-kind_tested (Cancel x) Deposit = refl
-kind_tested (Cancel x) Withdraw = refl
-kind_tested (Cancel x) Declined = refl
-kind_tested (Cancel x) Interest = refl
 kind_tested (Cancel x) (Cancel y) = name_tested x y
+kind_tested _ _ = refl
 
 numbers_tested : (ms ns : List ℕ) → pointwise nat_eq ms ns ≡ same_numbers ms ns
 numbers_tested [] [] = refl
