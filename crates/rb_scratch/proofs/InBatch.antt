@@ -7,7 +7,7 @@ use Rattle.rb_money.specs.declared.refusal.Refusal.{Refusal}
 use Rattle.rb_money.specs.declared.refusal.Refusal.TheVariants.{BatchRefused}
 use Rattle.rb_shadow.specs.declared.shadow.Shadow.{Shadow}
 use Rattle.rb_shadow.specs.declared.kind.Kind.{Kind}
-use Rattle.rb_shadow.specs.declared.kind.Kind.TheVariants.{Deposit, Withdraw, Declined, Interest, Cancel}
+use Rattle.rb_shadow.specs.declared.kind.Kind.TheVariants.{Declined}
 use Rattle.rb_scratch.specs.Requests.{Plan, plan_of, allowed, operation_of}
 use Rattle.rb_scratch.specs.Batches.{is_declined, stopped, planned_in_batch, made_in_batch, batch_of, with_first, then_rest, cause_of}
 use Rattle.rb_scratch.specs.declared.request.Request.{Request}
@@ -34,10 +34,7 @@ plain_in_batch s me us token r p e other = planned_test s me us token r p false 
   where
     by : (k : Kind) → (k ≡ Declined → ⊥) → is_declined k ≡ false
     by Declined h = absurd (h refl)
-    by Deposit h = refl
-    by Withdraw h = refl
-    by Interest h = refl
-    by (Cancel x) h = refl
+    by _ h = refl
 
 -- ---- a batch, request by request
 

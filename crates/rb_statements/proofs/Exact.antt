@@ -69,19 +69,12 @@ labels_exact = record { sound = sound; same = same }
   where
     sound : (x y : Label) → label_test.eq x y ≡ true → x ≡ y
     sound Deposit Deposit h = refl
-    sound Deposit y h = cc
     sound Withdraw Withdraw h = refl
-    sound Withdraw y h = cc
     sound Declined Declined h = refl
-    sound Declined y h = cc
     sound Interest Interest h = refl
-    sound Interest y h = cc
     sound Cancel Cancel h = refl
-    sound Cancel y h = cc
+    sound _ _ h = cc
 
     same : (x : Label) → label_test.eq x x ≡ true
     same Deposit = refl
-    same Withdraw = refl
-    same Declined = refl
-    same Interest = refl
-    same Cancel = refl
+    same _ = refl
