@@ -64,9 +64,9 @@ impl Index {
     fn target(&self, kind: Kind) -> u32
         ensures { (us : List TheShadow) → IsIndex self.now.config us self.now → result ≡ position_of us (target_of kind) }
     {
-        match kind {
-            Kind::Cancel { target } => self.find(&target).unwrap_or(0),
-            _ => 0,
+        match kind.target() {
+            Some(target) => self.find(&target).unwrap_or(0),
+            None => 0,
         }
     }
 

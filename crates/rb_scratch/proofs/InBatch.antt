@@ -5,7 +5,7 @@ use Rattle.rb_money.specs.Settings.{Settings}
 use Rattle.rb_money.specs.declared.refusal.Refusal.{Refusal}
 use Rattle.rb_shadow.specs.declared.shadow.Shadow.{Shadow}
 use Rattle.rb_shadow.specs.declared.kind.Kind.{Kind}
-use Rattle.rb_shadow.specs.declared.kind.Kind.TheVariants.{Deposit, Withdraw, Declined, Interest, Cancel}
+use Rattle.rb_shadow.specs.declared.kind.Kind.TheVariants.{Declined}
 use Rattle.rb_scratch.specs.Requests.{Plan, plan_of, allowed, operation_of}
 use Rattle.rb_scratch.specs.Batches.{is_declined, stopped, planned_in_batch, made_in_batch}
 use Rattle.rb_scratch.specs.declared.request.Request.{Request}
@@ -31,7 +31,4 @@ plain_in_batch s me us token r p e other = planned_test s me us token r p false 
   where
     by : (k : Kind) → (k ≡ Declined → ⊥) → is_declined k ≡ false
     by Declined h = absurd (h refl)
-    by Deposit h = refl
-    by Withdraw h = refl
-    by Interest h = refl
-    by (Cancel x) h = refl
+    by _ h = refl

@@ -11,13 +11,10 @@ use Rattle.rb_scratch.specs.declared.request.Request.TheVariants.{Deposit, Withd
 
 request_sound : (x y : Request) → request_test.eq x y ≡ true → x ≡ y
 request_sound (Deposit a m) (Deposit b n) h = let (places, numbers) = each _ _ h in λ t. Deposit (place_sound a b places t) (number_sound m n numbers t)
-request_sound (Deposit a m) y h = absurd (true≢false (sym h))
 request_sound (Withdraw a m) (Withdraw b n) h = let (places, numbers) = each _ _ h in λ t. Withdraw (place_sound a b places t) (number_sound m n numbers t)
-request_sound (Withdraw a m) y h = absurd (true≢false (sym h))
 request_sound (Interest a m) (Interest b n) h = let (places, numbers) = each _ _ h in λ t. Interest (place_sound a b places t) (number_sound m n numbers t)
-request_sound (Interest a m) y h = absurd (true≢false (sym h))
 request_sound (Cancel a) (Cancel b) h = λ t. Cancel ((names_exact a b).0 h t)
-request_sound (Cancel a) y h = absurd (true≢false (sym h))
+request_sound _ _ h = absurd (true≢false (sym h))
 
 request_same : (x : Request) → request_test.eq x x ≡ true
 request_same (Deposit a m) = both _ _ (number_same a.0) (number_same m)

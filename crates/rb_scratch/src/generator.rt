@@ -186,9 +186,9 @@ fn permit_red(ledger: &Ledger, token: &TokenView, shadow: &Shadow) -> Result<(),
     if let Err(why) = token.may_red(ledger.clock()) {
         return Err(why);
     }
-    match shadow.kind {
-        Kind::Cancel { .. } => ledger.check(shadow),
-        _ => Ok(()),
+    match shadow.kind.target() {
+        Some(_) => ledger.check(shadow),
+        None => Ok(()),
     }
 }
 

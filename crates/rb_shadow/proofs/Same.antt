@@ -23,30 +23,11 @@ name_tested (Red m) (Red n) = refl
 
 kind_tested : (j k : Kind) → kind_test.eq j k ≡ same_kind j k
 kind_tested Deposit Deposit = refl
-kind_tested Deposit Withdraw = refl
-kind_tested Deposit Declined = refl
-kind_tested Deposit Interest = refl
-kind_tested Deposit (Cancel y) = refl
-kind_tested Withdraw Deposit = refl
 kind_tested Withdraw Withdraw = refl
-kind_tested Withdraw Declined = refl
-kind_tested Withdraw Interest = refl
-kind_tested Withdraw (Cancel y) = refl
-kind_tested Declined Deposit = refl
-kind_tested Declined Withdraw = refl
 kind_tested Declined Declined = refl
-kind_tested Declined Interest = refl
-kind_tested Declined (Cancel y) = refl
-kind_tested Interest Deposit = refl
-kind_tested Interest Withdraw = refl
-kind_tested Interest Declined = refl
 kind_tested Interest Interest = refl
-kind_tested Interest (Cancel y) = refl
-kind_tested (Cancel x) Deposit = refl
-kind_tested (Cancel x) Withdraw = refl
-kind_tested (Cancel x) Declined = refl
-kind_tested (Cancel x) Interest = refl
 kind_tested (Cancel x) (Cancel y) = name_tested x y
+kind_tested _ _ = refl
 
 numbers_tested : (ms ns : List ℕ) → pointwise nat_eq ms ns ≡ same_numbers ms ns
 numbers_tested [] [] = refl

@@ -33,22 +33,15 @@ names_exact = exact_if name_test.eq name_sound name_same
 -- equality of labels
 label_sound : (x y : Label) → label_test.eq x y ≡ true → x ≡ y
 label_sound Deposit Deposit h = refl
-label_sound Deposit y h = absurd (true≢false (sym h))
 label_sound Withdraw Withdraw h = refl
-label_sound Withdraw y h = absurd (true≢false (sym h))
 label_sound Declined Declined h = refl
-label_sound Declined y h = absurd (true≢false (sym h))
 label_sound Interest Interest h = refl
-label_sound Interest y h = absurd (true≢false (sym h))
 label_sound Cancel Cancel h = refl
-label_sound Cancel y h = absurd (true≢false (sym h))
+label_sound _ _ h = absurd (true≢false (sym h))
 
 label_same : (x : Label) → label_test.eq x x ≡ true
 label_same Deposit = refl
-label_same Withdraw = refl
-label_same Declined = refl
-label_same Interest = refl
-label_same Cancel = refl
+label_same _ = refl
 
 pub labels_exact : (x y : Label) → IsTrue (label_test.eq x y) ↔ (x ≡ y)
 labels_exact = exact_if label_test.eq label_sound label_same

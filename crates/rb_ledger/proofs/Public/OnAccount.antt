@@ -1,5 +1,5 @@
 -- The entries on an account, and the balance as of the last of them.
-use Rattle.std.proofs.Common.{◌≡◌, ℕ, zero, suc, ◌+◌, ◌-◌, ◌<◌, ◌≤◌, cond, List, [], ◌∷◌, length, take, refl, ap, sym, ◌∙◌, subst, arith, inl, inr, Some}
+use Rattle.std.proofs.Common.{◌≡◌, ℕ, zero, suc, ◌+◌, ◌-◌, ◌<◌, ◌≤◌, List, [], ◌∷◌, length, take, refl, ap, sym, ◌∙◌, subst, arith, inl, inr, Some}
 use Rattle.std.specs.Prelude.{slice_get, pos}
 use Rattle.std.proofs.lemmas.Int.{ints}
 use Rattle.std.proofs.lemmas.Option.{slice_get_within}
@@ -9,9 +9,10 @@ use Rattle.rb_money.proofs.Public.Tests.{unequal}
 use Rattle.rb_shadow.specs.declared.shadow.Shadow.{Shadow}
 use Rattle.rb_shadow.specs.Operations.{bal}
 use Rattle.rb_ledger.specs.Valid.{IsValid}
-use Rattle.rb_ledger.specs.Changes.{change, change_of}
+use Rattle.rb_ledger.specs.Changes.{change}
 use Rattle.rb_ledger.specs.OnAccount.{IsOn, IsNoneAfter, IsLast}
 use Rattle.rb_ledger.proofs.Public.Fronts
+use Rattle.rb_ledger.proofs.Public.Pushes
 use Rattle.rb_ledger.proofs.Moves
 
 -- an index within the list has an element
@@ -60,10 +61,12 @@ as_of_last f us a n p still low last =
     let split : p + (n - p) ≡ n = omega arith in
     ap (λ k. f (take k us)) (sym split) ∙ unmoved f us a p (n - p) still (omega arith) (subst (λ k. IsNoneAfter (take k us) a p) (sym split) last.after)
 
-pub unchanged : (us : List Shadow) (u : Shadow) (a : Place) → (u.account.0 ≡ a.0 → ⊥) → change us u a ≡ pos 0
-unchanged us u a apart = ap (λ b. cond b (change_of us u.kind u.amount) (pos 0)) (unequal u.account.0 a.0 apart)
+pub unchanged : (s : Settings) (us : List Shadow) (a : Place) (i : ℕ) (u : Shadow) → IsValid s us → slice_get us i ≡ Some u → (u.account.0 ≡ a.0 → ⊥) → change (take i us) u a ≡ pos 0
+unchanged s us a i u valid there apart =
+    let (front, target) = Moves.target_there s us i u valid there in
+    Pushes.change_elsewhere (take i us) u a front.unique target (unequal u.account.0 a.0 apart)
 
 -- the balance is one such
 pub last_balance : (s : Settings) (us : List Shadow) (a : Place) (n p : ℕ) → IsValid s us → n ≤ length us → IsLast (take n us) a p → bal s (take n us) a ≡ bal s (take p us) a
 last_balance s us a n p valid low last =
-    as_of_last (λ vs. bal s vs a) us a n p (λ i u there apart. omega (arith, ints, Moves.moved_on s us a i u valid there, unchanged (take i us) u a apart)) low last
+    as_of_last (λ vs. bal s vs a) us a n p (λ i u there apart. omega (arith, ints, Moves.moved_on s us a i u valid there, unchanged s us a i u valid there apart)) low last

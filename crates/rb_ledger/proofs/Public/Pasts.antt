@@ -71,15 +71,17 @@ transitive s all u v unique h p before x k =
 
 -- ---- the colour
 
-target_more : (us vs : List Shadow) (v : Shadow) (k : Kind) → IsPart us vs → HasTarget us v k → HasTarget vs v k
-target_more us vs v (Cancel x) part (t, there, named, right) = (t, part t there, named, right)
-target_more us vs v k part h = tt
+target_more : (us vs : List Shadow) (v : Shadow) (o : Option OpName) → IsPart us vs → HasTarget us v o → HasTarget vs v o
+target_more us vs v None part h = tt
+target_more us vs v (Some x) part (t, there, named, right) = (t, part t there, named, right)
 
-colour_more : (us vs : List Shadow) (v : Shadow) (k : Kind) → IsUnique us → IsUnique vs → IsPart us vs → HasTarget us v k
+colour_more : (us vs : List Shadow) (v : Shadow) (k : Kind) → IsUnique us → IsUnique vs → IsPart us vs → HasTarget us v (target_of k)
     → colour_of k (option_and_then (kind_in us) (target_of k)) ≡ colour_of k (option_and_then (kind_in vs) (target_of k))
-colour_more us vs v (Cancel x) uu uv part (t, there, named, right) =
-    ap (colour_of (Cancel x)) (ap (kind_in us) (sym named) ∙ Pushes.kind_in-named us t uu there ∙ sym (Pushes.kind_in-named vs t uv (part t there)) ∙ ap (kind_in vs) named)
-colour_more us vs v k uu uv part h = refl
+colour_more us vs v k uu uv part h = ap (colour_of k) (at (target_of k) h)
+  where
+    at : (o : Option OpName) → HasTarget us v o → option_and_then (kind_in us) o ≡ option_and_then (kind_in vs) o
+    at None h = refl
+    at (Some x) (t, there, named, right) = ap (kind_in us) (sym named) ∙ Pushes.kind_in-named us t uu there ∙ sym (Pushes.kind_in-named vs t uv (part t there)) ∙ ap (kind_in vs) named
 
 -- the name shows the colour that the operation has among all
 pub shown : (s : Settings) (all : List Shadow) (v : Shadow) → IsUnique all → HasValidPast s all v → shown_colour v.name ≡ colour_in all v
@@ -131,7 +133,7 @@ passes s all us v unique p uu part fresh within money = sym (ap (refusal_after s
       sound = f.sound;
       fresh = fresh;
       eligible = within;
-      target = target_more p.before us v v.kind inside f.target;
+      target = target_more p.before us v (target_of v.kind) inside f.target;
       colour = f.colour ∙ colour_more p.before us v v.kind (unique_past s all v p) uu inside f.target;
       covered = money v.account;
     }

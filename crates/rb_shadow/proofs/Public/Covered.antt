@@ -7,7 +7,7 @@ use Rattle.rb_money.specs.declared.place.Place.{Place}
 use Rattle.rb_shadow.specs.declared.shadow.Shadow.{Shadow}
 use Rattle.rb_shadow.specs.declared.op_name.OpName.{OpName}
 use Rattle.rb_shadow.specs.declared.kind.Kind.{Kind}
-use Rattle.rb_shadow.specs.declared.kind.Kind.TheVariants.{Deposit, Withdraw, Declined, Interest, Cancel}
+use Rattle.rb_shadow.specs.declared.kind.Kind.TheVariants.{Deposit, Withdraw, Interest}
 use Rattle.rb_shadow.specs.Operations.{Among, same_name, names, past, Precedes, IsUnique, IsWithin, AreSame, delta, moved, bal, is_kept, is_cancelled, is_cancel, cancels, is_red}
 use Rattle.rb_shadow.specs.Laws.{IsClosed, IsFunded, IsPart}
 use Rattle.rb_shadow.proofs.Public.Members
@@ -15,18 +15,13 @@ use Rattle.rb_shadow.proofs.Public.Totals
 use Rattle.rb_shadow.proofs.Public.Balances
 
 abbrev pub is_withdraw : Kind → Bool
-is_withdraw Deposit = false
 is_withdraw Withdraw = true
-is_withdraw Declined = false
-is_withdraw Interest = false
-is_withdraw (Cancel x) = false
+is_withdraw _ = false
 
 abbrev pub adds : Kind → Bool
 adds Deposit = true
-adds Withdraw = false
-adds Declined = false
 adds Interest = true
-adds (Cancel x) = false
+adds _ = false
 
 -- only a Withdraw takes
 delta-none_taken : (u : Shadow) (a : Place) → is_withdraw u.kind ≡ false → pos 0 ≤ℤ delta u a
@@ -34,11 +29,8 @@ delta-none_taken u a e = at (u.account.0 == a.0) u.kind e
   where
     at : (b : Bool) (k : Kind) → is_withdraw k ≡ false → pos 0 ≤ℤ cond b (moved k u.amount) (pos 0)
     at false k e = omega (arith, ints)
-    at true Deposit e = omega (arith, ints)
     at true Withdraw e = absurd (Members.true≢false e)
-    at true Declined e = omega (arith, ints)
-    at true Interest e = omega (arith, ints)
-    at true (Cancel x) e = omega (arith, ints)
+    at true _ e = omega (arith, ints)
 
 worth-none_taken : (us : List Shadow) (a : Place) (u : Shadow) → is_withdraw u.kind ≡ false → pos 0 ≤ℤ Balances.worth us a u
 worth-none_taken us a u e = at (is_kept us u) (delta-none_taken u a e)
@@ -61,10 +53,8 @@ adds_same p b c z e = let same : cond (p && not b) z (pos 0) ≡ cond (p && not 
 takes : (k : Kind) (n : ℕ) (d : Bool) → adds k ≡ false → cond d (moved k n) (pos 0) ≤ℤ pos 0
 takes k n false e = omega (arith, ints)
 takes Deposit n true e = absurd (Members.true≢false e)
-takes Withdraw n true e = omega (arith, ints)
-takes Declined n true e = omega (arith, ints)
 takes Interest n true e = absurd (Members.true≢false e)
-takes (Cancel x) n true e = omega (arith, ints)
+takes _ n true e = omega (arith, ints)
 
 -- an operation is worth no less where nothing but a withdrawal is cancelled besides
 worth-more : (us vs : List Shadow) (a : Place) (u : Shadow) → (is_cancelled us u.name ≡ true → is_cancelled vs u.name ≡ true) → (adds u.kind ≡ true → is_cancelled vs u.name ≡ true → is_cancelled us u.name ≡ true) → Balances.worth us a u ≤ℤ Balances.worth vs a u

@@ -24,38 +24,16 @@ same_numbers-true (m ∷ ms) (n ∷ ns) h =
     cc
 
 pub same_kind-refl : (k : Kind) → same_kind k k ≡ true
-same_kind-refl Deposit = refl
-same_kind-refl Withdraw = refl
-same_kind-refl Declined = refl
-same_kind-refl Interest = refl
 same_kind-refl (Cancel x) = Members.same_name-refl x
+same_kind-refl _ = refl
 
 pub same_kind-true : (j k : Kind) → same_kind j k ≡ true → j ≡ k
 same_kind-true Deposit Deposit h = refl
-same_kind-true Deposit Withdraw h = cc
-same_kind-true Deposit Declined h = cc
-same_kind-true Deposit Interest h = cc
-same_kind-true Deposit (Cancel y) h = cc
-same_kind-true Withdraw Deposit h = cc
 same_kind-true Withdraw Withdraw h = refl
-same_kind-true Withdraw Declined h = cc
-same_kind-true Withdraw Interest h = cc
-same_kind-true Withdraw (Cancel y) h = cc
-same_kind-true Declined Deposit h = cc
-same_kind-true Declined Withdraw h = cc
 same_kind-true Declined Declined h = refl
-same_kind-true Declined Interest h = cc
-same_kind-true Declined (Cancel y) h = cc
-same_kind-true Interest Deposit h = cc
-same_kind-true Interest Withdraw h = cc
-same_kind-true Interest Declined h = cc
 same_kind-true Interest Interest h = refl
-same_kind-true Interest (Cancel y) h = cc
-same_kind-true (Cancel x) Deposit h = cc
-same_kind-true (Cancel x) Withdraw h = cc
-same_kind-true (Cancel x) Declined h = cc
-same_kind-true (Cancel x) Interest h = cc
 same_kind-true (Cancel x) (Cancel y) h = ap Cancel (Members.same_name-true x y h)
+same_kind-true _ _ h = cc
 
 pub same_shadow-refl : (v : Shadow) → same_shadow v v ≡ true
 unfolding same_shadow
