@@ -66,4 +66,7 @@ unchanged us u a apart = ap (λ b. cond b (change_of us u.kind u.amount) (pos 0)
 -- the balance is one such
 pub last_balance : (s : Settings) (us : List Shadow) (a : Place) (n p : ℕ) → IsValid s us → n ≤ length us → IsLast (take n us) a p → bal s (take n us) a ≡ bal s (take p us) a
 last_balance s us a n p valid low last =
-    as_of_last (λ vs. bal s vs a) us a n p (λ i u there apart. omega (arith, ints, Moves.moved_on s us a i u valid there, unchanged (take i us) u a apart)) low last
+    as_of_last (λ vs. bal s vs a) us a n p still low last
+  where
+    still : (i : ℕ) (u : Shadow) → slice_get us i ≡ Some u → (u.account.0 ≡ a.0 → ⊥) → bal s (take (i + 1) us) a ≡ bal s (take i us) a
+    still i u there apart = omega (arith, ints, Moves.moved_on s us a i u valid there, unchanged (take i us) u a apart)
