@@ -4,7 +4,7 @@ use Rattle.std.specs.Prelude.{◌==◌, if◌then◌else◌, option_and_then, op
 use Rattle.std.proofs.lemmas.Bool.{ne_eqb}
 use Rattle.serde_json.specs.View.{items_view, view}
 use Rattle.serde_json.specs.declared.value.Value.{Value}
-use Rattle.rb_history.specs.Recorded.{counts_in}
+use Rattle.rb_history.specs.Counts.{counts_in}
 use Rattle.rb_commands.specs.Values.{number_below}
 
 -- the list of counts, where there is one, is as long as the list

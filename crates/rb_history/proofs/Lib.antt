@@ -1,5 +1,7 @@
 pub mod Shapes
 pub mod Counts
+pub mod Numbered
+pub mod CountsBack
 pub mod KnownPlaces
 pub mod Starts
 pub mod ReplyBack

@@ -1,11 +1,11 @@
 -- Texts that begin with what is written for a part of a history's line, and then the rest follows: of parts that a line tells whole.
-use Rattle.std.specs.Prelude.{◌≡◌, ℕ, ◌<◌, ◌^◌, List, ◌++◌, codes, false, length, map, unwrap_or, slice_get}
+use Rattle.std.specs.Prelude.{◌≡◌, ℕ, ◌<◌, ◌^◌, List, ◌++◌, codes, false, drop, length, map, unwrap_or, slice_get}
 use Rattle.json.specs.Print.{escape}
 use Rattle.serde_json.specs.Data.{Data}
 use Rattle.serde_json.specs.View.{items_of}
 use Rattle.serde_json.specs.Written.{compact_text, items_text}
 use Rattle.rb_money.specs.Settings.{Settings}
-use Rattle.rb_money.specs.declared.limits.TheConstants.{MOST_SITES}
+use Rattle.rb_money.specs.declared.limits.TheConstants.{MOST_SITES, MOST_SITES_OF_VERSION_1}
 use Rattle.rb_money.specs.declared.place.Place.{Place}
 use Rattle.rb_scratch.specs.declared.request.Request.{Request}
 use Rattle.rb_shadow.specs.declared.deps.Deps.{Deps}
@@ -36,9 +36,13 @@ TellsRequest s r text rest = IsRequest s r × (text ≡ compact_text (request_js
 abbrev pub TellsEach : {A : Type 0} → (A → Data) → (A → Type 0) → List A → List ℕ → List ℕ → Type 0
 TellsEach written P xs text rest = Each P xs × (text ≡ items_text false (items_of (map written xs)) ++ rest)
 
--- what a home had applied, as many counts as there may be sites
-abbrev pub TellsDeps : Deps → List ℕ → List ℕ → Type 0
-TellsDeps d text rest = (length d.blue ≡ MOST_SITES) × Each (λ n. n < 2 ^ 32) d.blue × (d.red < 2 ^ 32) × (text ≡ compact_text (deps_json d) ++ rest)
+-- what a home had applied, in version 1 of the format
+pub record TellsDeps (d : Deps) (text rest : List ℕ) : Type 0 where
+  pub sites : length d.blue ≡ MOST_SITES
+  pub blue : Each (λ n. n < 2 ^ 32) d.blue
+  pub further : Each (λ n. n ≡ 0) (drop MOST_SITES_OF_VERSION_1 d.blue)
+  pub red : d.red < 2 ^ 32
+  pub text : text ≡ compact_text (deps_json 1 d) ++ rest
 
 abbrev pub TellsShadow : Settings → Shadow → List ℕ → List ℕ → Type 0
 TellsShadow s v text rest = IsShadow s v × (text ≡ compact_text (one_json (codes "shadow") (shadow_json s v)) ++ rest)

@@ -3,6 +3,7 @@
 
 mod answer;
 mod config_write;
+mod counts;
 mod entry;
 mod event;
 mod items;

@@ -7,21 +7,22 @@ ghost use Rattle.rb_history.specs.Entries.{target_json};
 ghost use Rattle.rb_history.specs.Fits.{IsKind};
 ghost use Rattle.rb_history.specs.Tells.{TellsDeps, TellsEach, TellsShadow};
 
+use crate::counts::widened;
 use crate::usual_part::{
     account_between, byte_between, label, long_between, name, name_between, word_between,
 };
 use rb_commands::scan::{after, word};
-use rb_money::{Config, MOST_SITES};
+use rb_money::{Config, MOST_SITES_OF_VERSION_1};
 use rb_shadow::{Deps, Kind, Label, Shadow};
 
-/// A count for each site that there may be, and the closing bracket.
-fn blue(text: &str) -> Option<([u32; MOST_SITES], &str)>
+/// A count for each site that version 1 may have, and the closing bracket.
+fn blue(text: &str) -> Option<([u32; MOST_SITES_OF_VERSION_1], &str)>
     ensures { IfSome result (λ p. TellsEach number_json (λ n. n < 2 ^ 32) p.0 text.now p.1.now) }
 {
-    let mut counts = [0; MOST_SITES];
+    let mut counts = [0; MOST_SITES_OF_VERSION_1];
     let mut left = text;
     let mut comma = "";
-    for site in 0..MOST_SITES {
+    for site in 0..MOST_SITES_OF_VERSION_1 {
         let (count, rest) = word(after(left, comma)?)?;
         counts[site] = count;
         left = rest;
@@ -30,12 +31,13 @@ fn blue(text: &str) -> Option<([u32; MOST_SITES], &str)>
     Some((counts, after(left, "]")?))
 }
 
-/// What a home had applied.
+/// What a home had applied, in version 1 of the format.
 fn deps(text: &str) -> Option<(Deps, &str)>
     ensures { IfSome result (λ p. TellsDeps p.0 text.now p.1.now) }
 {
-    let (blue, rest) = blue(after(text, "[[")?)?;
+    let (first, rest) = blue(after(text, "[[")?)?;
     let (red, rest) = word_between(rest, ",", "]")?;
+    let blue = widened(&first);
     Some((Deps { blue, red }, rest))
 }
 
@@ -57,10 +59,13 @@ fn kind(label: Label, text: &str) -> Option<(Kind, &str)>
     }
 }
 
-/// A shadow, as the one member of an object.
+/// A shadow in version 1 of the format, as the one member of an object.
 pub fn usual_shadow<'a>(config: &Config, text: &'a str) -> Option<(Shadow, &'a str)>
     ensures { IfSome result (λ p. TellsShadow config.now p.0 text.now p.1.now) }
 {
+    if config.version() != 1 {
+        return None;
+    }
     let (account, rest) = account_between(config, text, "{\"shadow\":{\"account\":\"", ",")?;
     let (amount, rest) = long_between(rest, "\"amount\":", ",\"deps\":")?;
     let (deps, rest) = deps(rest)?;

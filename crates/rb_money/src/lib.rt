@@ -21,7 +21,7 @@ pub use fault::ConfigFault;
 pub use interest::interest_of;
 pub use limits::{
     Limits, MOST_ACCOUNTS, MOST_BALANCE, MOST_BLUE, MOST_EPOCH, MOST_HISTORY, MOST_INBOX,
-    MOST_OPERATIONS, MOST_RED, MOST_SITES,
+    MOST_OPERATIONS, MOST_RED, MOST_SITES, MOST_SITES_OF_VERSION_1,
 };
 pub use place::Place;
 pub use rate::{BASIS_POINTS_OF_ALL, MOST_RATE, Rate};

@@ -8,7 +8,7 @@ use Rattle.rb_world.specs.Laws.{SeenWorld}
 
 -- two sites, one account that starts with 1,000 cents, and the largest limits
 abbrev pub bank : Settings
-bank = record { sites = 2; names = codes "ann" ∷ []; starts = 1000 ∷ []; limits = record { blue = 1000000; red = 1000000; inbox = 4096; history = 100000000; epoch = 4000000000 } }
+bank = record { sites = 2; names = codes "ann" ∷ []; starts = 1000 ∷ []; limits = record { blue = 1000000; red = 1000000; inbox = 4096; history = 100000000; epoch = 4000000000 }; version = 1 }
 
 -- what a site of a world has for an account, in cents, if there is such a site
 abbrev pub balance_in : SeenWorld → ℕ → Place → Option ℕ

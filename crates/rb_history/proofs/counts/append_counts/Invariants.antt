@@ -4,7 +4,7 @@ use denote.Text.{Utf8}
 use denote.Shadow.{shadow}
 use Rattle.rb_commands.specs.Values.{number_json}
 use Rattle.rb_commands.proofs.Listed.{rest_text}
-use Rattle.rb_history.proofs.shadow.append_counts.Given as goal
+use Rattle.rb_history.proofs.counts.append_counts.Given as goal
 
 abbrev pub invariant-loop-count : goal.invariant-loop-count
 invariant-loop-count l = record {

@@ -3,7 +3,7 @@ use Rattle.std.specs.Prelude.{map}
 use Rattle.rb_commands.specs.Values.{number_json}
 use Rattle.rb_commands.proofs.Appended.{front_of_front, front_of_sum, then}
 use Rattle.rb_commands.proofs.Listed.{rest_text, whole_text, item_written, items_written}
-use Rattle.rb_history.proofs.shadow.append_counts.Goals as goal
+use Rattle.rb_history.proofs.counts.append_counts.Goals as goal
 
 pub loop-count-preserved : goal.loop-count-preserved
 loop-count-preserved c =

@@ -1,0 +1,111 @@
+-- The counts above 0, each behind its site's number: written one by one, and read back.
+use Rattle.std.proofs.Common.{◌≡◌, ◌<◌, ◌≤◌, ◌+◌, ◌-◌, ◌^◌, ℕ, List, [], ◌∷◌, ◌++◌, length, take, drop, set, Bool, true, false, Option, Some, None, refl, sym, ap, ◌∙◌, arith, append_assoc, append-nil}
+use Rattle.std.specs.Prelude.{◌==◌, ◌&&◌, map, nat_le, nat_lt, replicate, if◌then◌else◌, option_and_then, option_map}
+use Rattle.std.proofs.lemmas.Bool.Decides.{nat_tests}
+use Rattle.std.proofs.lemmas.List.{drop-drop, drop-replicate, drop-set-lt, drop_all, replicate_more, take-append-drop, take-replicate, take_more_set}
+use Rattle.std.proofs.Math.Seq.{take-add}
+use Rattle.serde_json.specs.Data.{Data, Items, item}
+use Rattle.serde_json.specs.View.{items_of}
+use Rattle.rb_money.specs.declared.limits.TheConstants.{MOST_SITES}
+use Rattle.rb_commands.specs.Values.{number_json}
+use Rattle.rb_commands.proofs.Back.{below}
+use Rattle.rb_commands.proofs.Fronts.{with_front}
+use Rattle.rb_history.specs.Counts.{numbered, numbered_at, numbered_in, numbered_json}
+use Rattle.rb_history.specs.Fits.{Each}
+
+-- ---- written
+
+pub numbered_none : (ns : List ℕ) (i n : ℕ) → drop i ns ≡ n ∷ drop (i + 1) ns → n ≡ 0 → numbered i (drop i ns) ≡ numbered (i + 1) (drop (i + 1) ns)
+numbered_none ns i n is zero =
+    let test : (n == 0) ≡ true = grind (arith, nat_tests) in
+    ap (numbered i) is ∙ rw test refl
+
+pub numbered_some : (ns : List ℕ) (i n : ℕ) → drop i ns ≡ n ∷ drop (i + 1) ns → 0 < n → numbered i (drop i ns) ≡ (i, n) ∷ numbered (i + 1) (drop (i + 1) ns)
+numbered_some ns i n is some =
+    let test : (n == 0) ≡ false = grind (arith, nat_tests) in
+    ap (numbered i) is ∙ rw test refl
+
+pub numbered_end : (ns : List ℕ) (i : ℕ) → length ns ≤ i → numbered i (drop i ns) ≡ []
+numbered_end ns i past = ap (numbered i) (drop_all i ns past)
+
+-- the numbers of sites and the counts fit
+pub numbered_fit : (i : ℕ) (ns : List ℕ) → i + length ns ≤ MOST_SITES → Each (λ n. n < 2 ^ 32) ns → Each (λ p. (p.0 < 2 ^ 64) × (p.1 < 2 ^ 64)) (numbered i ns)
+numbered_fit i [] within h = tt
+numbered_fit i (n ∷ ns) within h = at (n == 0)
+  where
+    later : Each (λ p. (p.0 < 2 ^ 64) × (p.1 < 2 ^ 64)) (numbered (i + 1) ns)
+    later = numbered_fit (i + 1) ns (omega arith) h.1
+
+    at : (b : Bool) → Each (λ p. (p.0 < 2 ^ 64) × (p.1 < 2 ^ 64)) (if b then numbered (i + 1) ns else (i, n) ∷ numbered (i + 1) ns)
+    at true = later
+    at false = let small : n < 2 ^ 32 = h.0 in ((omega arith, omega arith), later)
+
+-- ---- read
+
+-- one more of a list is read
+pub one_read : (counts : List ℕ) (least site n : ℕ) (d : Data) (ds : Items) (whole : Option (List ℕ)) → length counts ≡ MOST_SITES → least ≤ site → site < MOST_SITES → drop least counts ≡ replicate (MOST_SITES - least) 0
+    → numbered_at least d ≡ Some (site, n) → with_front (take least counts) (numbered_in least (item d ds)) ≡ whole → with_front (take (site + 1) (set counts site n)) (numbered_in (site + 1) ds) ≡ whole
+one_read counts least site n d ds whole long low near none is so = by (numbered_in (site + 1) ds) refl
+  where
+    between : take site counts ≡ take least counts ++ replicate (site - least) 0
+    between =
+        let sum : site ≡ least + (site - least) = omega arith in
+        ap (λ k. take k counts) sum ∙ take-add least (site - least) counts
+        ∙ ap (λ l. take least counts ++ l) (ap (take (site - least)) none ∙ take-replicate (site - least) (MOST_SITES - least) 0 (omega arith))
+
+    front : take (site + 1) (set counts site n) ≡ (take least counts ++ replicate (site - least) 0) ++ n ∷ []
+    front = take_more_set counts site n (omega arith) ∙ ap (λ l. l ++ n ∷ []) between
+
+    read : with_front (take least counts) (option_map (λ later. replicate (site - least) 0 ++ n ∷ later) (numbered_in (site + 1) ds)) ≡ whole
+    read = ap (λ o. with_front (take least counts) (option_and_then (λ (p : ℕ × ℕ). option_map (λ later. replicate (p.0 - least) 0 ++ p.1 ∷ later) (numbered_in (p.0 + 1) ds)) o)) (sym is) ∙ so
+
+    by : (o : Option (List ℕ)) → numbered_in (site + 1) ds ≡ o → with_front (take (site + 1) (set counts site n)) o ≡ whole
+    by None e = ap (λ o. with_front (take least counts) (option_map (λ later. replicate (site - least) 0 ++ n ∷ later) o)) (sym e) ∙ read
+    by (Some later) e =
+        let zeros = replicate (site - least) 0 in
+        let begun = take least counts in
+        let whole_list : ((begun ++ zeros) ++ n ∷ []) ++ later ≡ begun ++ (zeros ++ n ∷ later) = append_assoc (begun ++ zeros) (n ∷ []) later ∙ append_assoc begun zeros (n ∷ later) in
+        ap Some (ap (λ l. l ++ later) front ∙ whole_list)
+        ∙ ap (λ o. with_front begun (option_map (λ ms. zeros ++ n ∷ ms) o)) (sym e) ∙ read
+
+-- behind it there is nothing yet
+pub none_behind : (counts : List ℕ) (least site n : ℕ) → least ≤ site → site < MOST_SITES → drop least counts ≡ replicate (MOST_SITES - least) 0 → drop (site + 1) (set counts site n) ≡ replicate (MOST_SITES - (site + 1)) 0
+none_behind counts least site n low near none =
+    let sum : site + 1 ≡ least + (site + 1 - least) = omega arith in
+    let rest : MOST_SITES - least - (site + 1 - least) ≡ MOST_SITES - (site + 1) = omega arith in
+    drop-set-lt (site + 1) counts site n (omega arith)
+    ∙ ap (λ k. drop k counts) sum ∙ sym (drop-drop (site + 1 - least) least counts)
+    ∙ ap (drop (site + 1 - least)) none ∙ drop-replicate (site + 1 - least) (MOST_SITES - least) 0
+    ∙ ap (λ k. replicate k 0) rest
+
+-- all are read
+pub all_read : (counts : List ℕ) (least : ℕ) → drop least counts ≡ replicate (MOST_SITES - least) 0 → take least counts ++ replicate (MOST_SITES - least) 0 ≡ counts
+all_read counts least none = ap (λ l. take least counts ++ l) (sym none) ∙ take-append-drop least counts
+
+-- ---- read back
+
+one_back : (i j n : ℕ) → i ≤ j → j < MOST_SITES → 0 < n → n < 2 ^ 32 → numbered_at i (numbered_json (j, n)) ≡ Some (j, n)
+one_back i j n low near some small =
+    let a : nat_le i j ≡ true = grind (arith, nat_tests) in
+    let b : nat_lt j MOST_SITES ≡ true = grind (arith, nat_tests) in
+    let c : nat_le 1 n ≡ true = grind (arith, nat_tests) in
+    rw (below j (2 ^ 8) (omega arith), below n (2 ^ 32) small, a, b, c) refl
+
+-- the counts from site j on, behind 0 for each site from i to j
+pub numbered_back : (i j : ℕ) (ns : List ℕ) → i ≤ j → j + length ns ≡ MOST_SITES → Each (λ n. n < 2 ^ 32) ns → numbered_in i (items_of (map numbered_json (numbered j ns))) ≡ Some (replicate (j - i) 0 ++ ns)
+numbered_back i j [] low full h =
+    let last : MOST_SITES - i ≡ j - i = omega arith in
+    ap (λ k. Some (replicate k 0)) last ∙ ap Some (sym (append-nil (replicate (j - i) 0)))
+numbered_back i j (n ∷ ns) low full h = at (n == 0) refl
+  where
+    at : (b : Bool) → (n == 0) ≡ b → numbered_in i (items_of (map numbered_json (if b then numbered (j + 1) ns else (j, n) ∷ numbered (j + 1) ns))) ≡ Some (replicate (j - i) 0 ++ n ∷ ns)
+    at true q =
+        let zero : n ≡ 0 = grind (arith, nat_tests) in
+        let more : j + 1 - i ≡ (j - i) + 1 = omega arith in
+        numbered_back i (j + 1) ns (omega arith) (omega arith) h.1
+        ∙ ap Some (ap (λ k. replicate k 0 ++ ns) more ∙ ap (λ l. l ++ ns) (sym (replicate_more (j - i) 0)) ∙ append_assoc (replicate (j - i) 0) (0 ∷ []) ns ∙ ap (λ m. replicate (j - i) 0 ++ m ∷ ns) (sym zero))
+    at false q =
+        let some : 0 < n = grind (arith, nat_tests) in
+        let nothing : (j + 1) - (j + 1) ≡ 0 = omega arith in
+        ap (option_and_then (λ (p : ℕ × ℕ). option_map (λ later. replicate (p.0 - i) 0 ++ p.1 ∷ later) (numbered_in (p.0 + 1) (items_of (map numbered_json (numbered (j + 1) ns)))))) (one_back i j n low (omega arith) some h.0)
+        ∙ ap (option_map (λ later. replicate (j - i) 0 ++ n ∷ later)) (numbered_back (j + 1) (j + 1) ns (omega arith) (omega arith) h.1 ∙ ap (λ k. Some (replicate k 0 ++ ns)) nothing)
