@@ -1,6 +1,7 @@
 -- When histories are made of receipts.
 use Rattle.std.specs.Prelude.{◌≡◌, ℕ, ◌+◌, ◌<◌, ◌≤◌, ◌^◌, List, [], ◌∷◌, All, ◌==◌, if◌then◌else◌, Some, map, length, slice_get, slice_set, sum_by, vec_len}
 use Rattle.rb_money.specs.Settings.{Settings}
+use Rattle.rb_money.specs.declared.limits.TheConstants.{MOST_SITES}
 use Rattle.rb_branch.specs.declared.gather_fault.GatherFault.{GatherFault}
 use Rattle.rb_branch.specs.declared.gather_fault.GatherFault.TheVariants.{Missing, Mixed, OutOfMemory}
 use Rattle.rb_branch.specs.declared.receipt.Receipt.{Receipt}
@@ -80,7 +81,7 @@ pub record SeenClosed : Type 0 where
 -- one report for each site; the merged share has all parts of the entries, and their number for its amount
 pub record AreClosed (s : Settings) (all : ℕ) (reports : List SiteReport) (parts amount : ℕ) : Type 0 where
   pub each : length reports ≡ s.sites
-  pub few : length reports ≤ 255
+  pub few : length reports ≤ MOST_SITES
   pub closed : All (IsClosed s) reports
   pub all_parts : parts ≡ all
   pub counted : amount ≡ entries_in reports

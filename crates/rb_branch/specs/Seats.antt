@@ -1,6 +1,8 @@
 -- What a call does to a desk and to a seat.
 use Rattle.std.specs.Prelude.{◌≡◌, ◌≢◌, ◌⊎◌, ℕ, ◌+◌, ◌≤◌, ◌<◌, true, Option, None, zero, suc, slice_get, List, [], ◌∷◌, ◌++◌, length, All}
 use Rattle.rb_money.specs.Settings.{Settings}
+use Rattle.rb_money.specs.declared.limits.TheConstants.{MOST_SITES}
+use Rattle.rb_branch.specs.declared.limits.TheConstants.{MOST_RECEIPTS, MOST_SEATS, RECEIPT_PARTS}
 use Rattle.rb_branch.specs.declared.receipt.Receipt.{Receipt}
 use Rattle.rb_site.specs.declared.event.Event.{Event}
 use Rattle.rb_site.specs.declared.event.Event.TheVariants.{Submit, Batch, Receive, Apply, Pass, Balance, AsOf, Statement as AskStatement}
@@ -30,21 +32,21 @@ pub record IsSeat (s : Settings) (site : ℕ) (receipts : List Receipt) (parts a
   pub place : site < s.sites
   pub one_part : parts ≡ 1
   pub counted : amount ≡ length receipts
-  pub few : length receipts ≤ 4000000000
+  pub few : length receipts ≤ MOST_RECEIPTS
 
--- there are as many entries as receipts; of the 1,025 parts of the receipts each seat that was given has one, and the rest counts nothing
+-- there are as many entries as receipts; of the parts of the receipts each seat that was given has one, and the rest counts nothing
 pub record AreBooks (all seats entries receipts parts amount : ℕ) : Type 0 where
   pub same : entries ≡ receipts
-  pub all_parts : all ≡ 1025
+  pub all_parts : all ≡ RECEIPT_PARTS
   pub rest : parts + seats ≡ all
-  pub few : seats ≤ 1024
+  pub few : seats ≤ MOST_SEATS
   pub none : amount ≡ 0
 
 -- a branch has a lock for each site of its configuration, and the entries a part for each
 pub record IsBranch (s : Settings) (parts count : ℕ) : Type 0 where
   pub all : count ≡ s.sites
   pub all_parts : parts ≡ s.sites
-  pub few : count ≤ 255
+  pub few : count ≤ MOST_SITES
 
 -- ---- receipts
 
@@ -66,7 +68,7 @@ pub record Records (old new : SeenSite) (event : Event) (before now : SeenSeat) 
 
 -- why nothing is recorded, but for running out of memory: the seat is of another site, the history is full, or the seat is
 abbrev pub CannotRecord : SeenSite → SeenSeat → Type 0
-CannotRecord desk seat = (seat.site ≢ desk.me) ⊎ ((is_full desk.settings (state_of desk) ≡ true) ⊎ (4000000000 ≤ length seat.receipts))
+CannotRecord desk seat = (seat.site ≢ desk.me) ⊎ ((is_full desk.settings (state_of desk) ≡ true) ⊎ (MOST_RECEIPTS ≤ length seat.receipts))
 
 -- the seat has one receipt more, at its end, of such an event; the number is its place, from 1
 pub record HasOneMore (old new : SeenSeat) (P : Event → Type 0) (number : ℕ) : Type 0 where

@@ -41,7 +41,7 @@ impl<E: Entries, R: Ledger, G: Gate + Drop> Branch<E, R, G> {
         self.send(rt, seat, outbox, Event::Submit(Request::Cancel { target }))
     }
 
-    /// 1 to 16 requests, of which all are made or none.
+    /// 1 to `MOST_REQUESTS` requests, of which all are made or none.
     pub fn batch<W: Wait>(
         &self,
         rt: &W,

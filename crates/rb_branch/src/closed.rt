@@ -2,6 +2,7 @@
 ghost use Rattle.std.specs.Prelude.{◌≡◌, ◌≢◌, ◌+◌, ◌^◌, ◌<◌, ◌≤◌, ℕ, All, IfOk, IfErr, OnOk, IsTrue, Err, length, vec_len};
 ghost use Rattle.rb_branch.specs.Gathered.{AllGathered, Explains, IsClosed, IsGathered, entries_in, receipts_at, receipts_in};
 ghost use Rattle.rb_branch.specs.declared.gather_fault.GatherFault.TheVariants.{Missing, Mixed};
+ghost use Rattle.rb_money.specs.declared.limits.TheConstants.{MOST_SITES};
 
 use crate::closing::take_back;
 use crate::given::Given;
@@ -42,7 +43,7 @@ impl<E: Entries, R: Ledger> Closed<E, R> {
         share: Share<E>,
     ) -> Closed<E, R>
         requires reports { All (IsClosed E.settings) reports.items }
-        requires all { (vec_len reports ≡ E.settings.sites) × (vec_len reports ≤ 255) }
+        requires all { (vec_len reports ≡ E.settings.sites) × (vec_len reports ≤ MOST_SITES) }
         requires share { (share.parts ≡ E.parts) × (share.amount ≡ entries_in reports.items) }
         ensures { result ≡ record { reports = reports.items; seats = books } }
     {
@@ -145,7 +146,7 @@ fn look_at(
 
 /// How many entries there are.
 fn count_entries(reports: &[SiteReport]) -> u64
-    requires few { length reports.now ≤ 255 }
+    requires few { length reports.now ≤ MOST_SITES }
     requires short { All (λ r. vec_len r.history < 2 ^ 32) reports.now }
     ensures { result ≡ entries_in reports.now }
 {

@@ -6,18 +6,16 @@ ghost use Rattle.rb_site.specs.Seen.{Replays, first_seen};
 ghost use Rattle.rb_branch.specs.Gathered.{IsClosed};
 ghost use Rattle.rb_branch.specs.Seats.{Records, SetsUnsent, CannotRecord, receipt_at};
 ghost use Rattle.rb_branch.specs.declared.call_fault.CallFault.TheVariants.{HistoryFull};
+ghost use Rattle.rb_branch.specs.declared.limits.TheConstants.{MOST_RECEIPTS};
 
 use crate::given::Given;
-use crate::{Books, CallFault, Entries, Receipt};
+use crate::{Books, CallFault, Entries, MOST_RECEIPTS, Receipt};
 use rb_shadow::OpName;
 use rb_site::{Event, Posted, Site, SiteReport};
 use std::alloc::Global;
 use std::marker::{Model, PhantomData};
 use std::sync::ledger::{Ledger, Share};
 use std::sync::{Mutex, Wait};
-
-/// How many receipts a seat has at most, so that their numbers fit 32 bits.
-const MOST_RECEIPTS: usize = 4_000_000_000;
 
 /// What lies behind a site's lock: the site, and its share of the entries. Clients see the site. It can't be
 /// dropped.
@@ -164,7 +162,7 @@ impl<E: Entries, R: Ledger> Seat<E, R> {
     /// The receipts, in the order of the calls.
     pub fn receipts(&self) -> &[Receipt]
         ensures same { result.now ≡ self.now.receipts }
-        ensures few { length self.now.receipts ≤ 4000000000 }
+        ensures few { length self.now.receipts ≤ MOST_RECEIPTS }
     {
         self.receipts.as_slice()
     }

@@ -130,8 +130,8 @@ impl<'a> Scratch<'a> {
         try_one(self.ledger, &mut self.undos, token, request)
     }
 
-    /// Keeps what was run: gives the shadows in order, and puts their records at the log's end. For
-    /// out of memory the scratch comes back, and nothing changes but that the log may have more room.
+    /// Keeps what was run: gives the shadows in order, and puts their records at the log's end. Out
+    /// of memory the scratch comes back, and nothing changes but that the log may have more room.
     pub fn commit(self, log: &mut UndoLog) -> Result<Vec<Shadow>, Scratch<'a>>
         requires { IsOfTheLast self.ledger.now self.undos.parts }
         ensures* ledger { sem 𝓛 (RestsIfOk the_row self.entry.ledger (λ scratch. scratch.ledger.ghost_name) result (λ book. book ≡ self.entry.ledger.now)) }

@@ -1,9 +1,11 @@
 //! Seats of a branch, in threads and out of them.
 ghost use Rattle.std.specs.Prelude.{◌≡◌};
+ghost use Rattle.rb_branch.specs.declared.limits.TheConstants.{RECEIPT_PARTS};
 
 use crate::opening::bank;
 use rb_branch::{
-    Branch, CallFault, Entries, Gate, GatherFault, NoGate, Outbox, Seat, SeatFault, links,
+    Branch, CallFault, Entries, Gate, GatherFault, MOST_SEATS, NoGate, Outbox, RECEIPT_PARTS, Seat,
+    SeatFault, links,
 };
 use rb_money::{Config, Limits, Place};
 use rb_scratch::Request;
@@ -47,7 +49,7 @@ fn gathered_over<
 ) -> Result<Result<Vec<SiteReport>, GatherFault>, Fail>
     requires config { config ≡ E.settings }
     requires entries { (entries.name ≡ E.name) × (entries.parts ≡ E.parts) × (entries.parts ≡ config.sites) }
-    requires receipts { (receipts.name ≡ R.name) × (receipts.parts ≡ R.parts) × (receipts.parts ≡ 1025) }
+    requires receipts { (receipts.name ≡ R.name) × (receipts.parts ≡ R.parts) × (receipts.parts ≡ RECEIPT_PARTS) }
 {
     let opened: Result<Branch<E, R, G>, AllocError> = Branch::open(
         alloc, config, gate, entries, receipts,
@@ -80,7 +82,7 @@ pub fn gathered<G: Gate + Drop + Sync, W: Threads + Wait + Abort + Print + Sync,
         gate,
         case,
         Blank::new(sites),
-        Blank::new(1025),
+        Blank::new(RECEIPT_PARTS),
     )
 }
 
@@ -339,7 +341,7 @@ impl Case for Seats {
     >(&self, rt: &W, alloc: Global, branch: &Branch<E, R, G>) -> Result<Vec<Seat<E, R>>, Fail> {
         assert_eq!(rt; branch.seat(rt, 2).err(), Some(SeatFault::NoSite));
         let mut seats = Vec::new(alloc);
-        for _i in 0..1024 {
+        for _i in 0..MOST_SEATS {
             let seat = branch.seat(rt, 0)?;
             if seats.push(seat).is_err() {
                 return Err(Fail::from("no memory"));

@@ -5,6 +5,7 @@ ghost use Rattle.std.specs.Prelude.{◌≡◌, ◌≤◌};
 ghost use Rattle.std.specs.IoError.{error_kind};
 ghost use Rattle.std.specs.Process.{exit_status};
 ghost use Rattle.clap.specs.Words.{kind_of};
+ghost use Rattle.rb_money.specs.declared.limits.TheConstants.{MOST_SITES};
 ghost use Rattle.rbbank.specs.Statuses.{IsEnd, IsEndOfAudit, IsEndOfScript, IsEndOfThreads, IsToldFault, status_of_unread, status_of_words};
 
 #[cfg(test)]
@@ -158,7 +159,7 @@ fn threads<W: Threads + Wait + Sync>(
     seed: u32,
 ) -> ExitCode
     requires some_sites { 2 ≤ sites }
-    requires few_sites { sites ≤ 8 }
+    requires few_sites { sites ≤ MOST_SITES }
     ensures { IsEnd (exit_status result) }
 {
     let alloc = rt.alloc();
