@@ -15,3 +15,6 @@ pub mod ListRead
 pub mod PlainRefusals
 pub mod PlacesRead
 pub mod EntryLine
+pub mod FitsLaws
+pub mod NumbersFit
+pub mod ReadFits

@@ -106,3 +106,7 @@ IsReply (Refused why) = IsRefusal why
 -- the line of each such entry of a site of the configuration is read as the entry
 abbrev pub EntriesAreRead : Type 0
 EntriesAreRead = (s : Settings) → IsConfigured s → (site : ℕ) (x : Entry) → site < s.sites → IsEvent s x.event → IsReply x.reply → entry_at s (compact_text (entry_json s site x)) ≡ Some (site, x)
+
+-- what is read of any line is an entry of a site of the configuration that a line tells whole
+abbrev pub ReadEntriesFit : Type 0
+ReadEntriesFit = (s : Settings) (line : List ℕ) (site : ℕ) (x : Entry) → entry_at s line ≡ Some (site, x) → (site < s.sites) × IsEvent s x.event × IsReply x.reply

@@ -3,3 +3,6 @@ pub mod Ranges
 pub mod ReadLaws
 pub mod Walks
 pub mod WriteLaws
+pub mod Exits
+pub mod Follows
+pub mod Progress

@@ -1,4 +1,1 @@
-pub mod Exits
-pub mod Follows
 pub mod Opens
-pub mod Progress

@@ -1,0 +1,136 @@
+-- Numbers with a sign in a value that a text is: each fits 64 bits.
+use Rattle.std.proofs.Common.{◌≡◌, ◌<◌, ◌^◌, ℕ, zero, suc, ℤ, pos, negsuc, Bool, true, false, List, Option, Some, None, refl, arith}
+use Rattle.std.specs.Prelude.{◌&&◌, ◌==◌, IfSome, if◌then◌else◌, nat_le, nat_lt, neg_ℤ, option_and_then, option_map, slice_index, drop, ⊤}
+use Rattle.std.specs.declared.cmp.Ordering.{Ordering}
+use Rattle.std.specs.declared.cmp.Ordering.TheVariants.{Less, Equal, Greater}
+use Rattle.std.specs.Ordering.{match_ordering, nat_cmp}
+use Rattle.std.specs.Cmp.Lexicographic.{slice_cmp}
+use Rattle.std.specs.Float.{binary64, float_is_finite}
+use Rattle.std.proofs.lemmas.Bool.{and_parts, leb-true}
+use Rattle.std.proofs.lemmas.Bool.Decides.{nat_tests}
+use Rattle.fast_float.specs.Text.{Parts, digits_of, minus, nearest, scan, with_sign}
+use Rattle.json.specs.Json as json
+use Rattle.serde_json.specs.Data.{Num, unsigned, negative, float, Data, null, boolean, number, string, array, object, Items, no_items, item, Members, no_members, member, put}
+use Rattle.serde_json.specs.Find.{as_array, as_number, get, get_member}
+use Rattle.serde_json.specs.Read.{float_of, is_integer, number_from, number_of, of_items, of_json, of_members, read}
+use Rattle.rb_history.specs.Fits.{IsMoved}
+use Rattle.rb_history.proofs.FitsLaws.{anything, fits_if, fits_map, fits_then}
+
+abbrev pub FitsNumber : Num → Type 0
+FitsNumber (unsigned n) = ⊤
+FitsNumber (negative z) = IsMoved z
+FitsNumber (float x) = ⊤
+
+abbrev mutual
+  pub Fits : Data → Type 0
+  Fits null = ⊤
+  Fits (boolean b) = ⊤
+  Fits (number n) = FitsNumber n
+  Fits (string s) = ⊤
+  Fits (array ds) = FitItems ds
+  Fits (object ms) = FitMembers ms
+
+  pub FitItems : Items → Type 0
+  FitItems no_items = ⊤
+  FitItems (item d ds) = Fits d × FitItems ds
+
+  pub FitMembers : Members → Type 0
+  FitMembers no_members = ⊤
+  FitMembers (member k d ms) = Fits d × FitMembers ms
+
+-- ---- what a text is
+
+moved_back : (n : ℕ) → 0 < n → n < 2 ^ 63 + 1 → IsMoved (neg_ℤ (pos n))
+moved_back zero some few = absurd (omega arith)
+moved_back (suc n) some few = let small : n < 2 ^ 63 = omega arith in small
+
+fits_float : (sign : Bool) (p : Parts) → IfSome (float_of sign p) FitsNumber
+fits_float sign p = fits_if FitsNumber (float_is_finite (nearest binary64 sign p)) (Some (float (nearest binary64 sign p))) (λ e. tt)
+
+fits_either_way : (b : Bool) (n : Num) (o : Option Num) → (b ≡ true → FitsNumber n) → IfSome o FitsNumber → IfSome (if b then Some n else o) FitsNumber
+fits_either_way true n o h k = h refl
+fits_either_way false n o h k = k
+
+fits_from : (sign : Bool) (p : Parts) → IfSome (number_from sign p) FitsNumber
+fits_from false p = fits_either_way (is_integer p && nat_lt (digits_of p) (2 ^ 64)) (unsigned (digits_of p)) (float_of false p) (λ e. tt) (fits_float false p)
+fits_from true p = fits_either_way (is_integer p && nat_lt 0 (digits_of p) && nat_le (digits_of p) (2 ^ 63)) (negative (with_sign true (digits_of p))) (float_of true p) small (fits_float true p)
+  where
+    small : (is_integer p && nat_lt 0 (digits_of p) && nat_le (digits_of p) (2 ^ 63)) ≡ true → IsMoved (with_sign true (digits_of p))
+    small e =
+        let front = and_parts (is_integer p && nat_lt 0 (digits_of p)) (nat_le (digits_of p) (2 ^ 63)) e in
+        let some = (and_parts (is_integer p) (nat_lt 0 (digits_of p)) front.0).1 in
+        let low : 0 < digits_of p = grind (arith, some, nat_tests) in
+        let high = leb-true (digits_of p) (2 ^ 63) front.1 in
+        moved_back (digits_of p) low (omega arith)
+
+fits_number : (s : List ℕ) → IfSome (number_of s) FitsNumber
+unfolding number_of
+fits_number s = by (slice_index s 0 == minus)
+  where
+    by : (b : Bool) → IfSome (if b then number_from true (scan (drop 1 s)) else number_from false (scan s)) FitsNumber
+    by true = fits_from true (scan (drop 1 s))
+    by false = fits_from false (scan s)
+
+fits_put : (k : List ℕ) (d : Data) (ms : Members) → Fits d → FitMembers ms → FitMembers (put k d ms)
+fits_put k d no_members h f = (h, tt)
+fits_put k d (member l e ms) h f = by (slice_cmp nat_cmp k l)
+  where
+    by : (o : Ordering) → FitMembers (match_ordering o (member k d (member l e ms)) (member l d ms) (member l e (put k d ms)))
+    by Less = (h, f)
+    by Equal = (h, f.1)
+    by Greater = (f.0, fits_put k d ms h f.1)
+
+mutual
+  fits_json : (j : json.Json) → IfSome (of_json j) Fits
+  fits_json json.null = tt
+  fits_json (json.boolean b) = tt
+  fits_json (json.number s) = fits_map FitsNumber Fits number (number_of s) (fits_number s) (λ n h. h)
+  fits_json (json.string s) = tt
+  fits_json (json.array js) = fits_map FitItems Fits array (of_items js) (fits_items js) (λ ds h. h)
+  fits_json (json.object ms) = fits_map FitMembers Fits object (of_members ms no_members) (fits_members ms no_members tt) (λ ms h. h)
+
+  fits_items : (js : json.Items) → IfSome (of_items js) FitItems
+  fits_items json.no_items = tt
+  fits_items (json.item j js) = fits_then Fits FitItems (λ d. option_map (item d) (of_items js)) (of_json j) (fits_json j) (λ d h. fits_map FitItems FitItems (item d) (of_items js) (fits_items js) (λ ds k. (h, k)))
+
+  fits_members : (ms : json.Members) (found : Members) → FitMembers found → IfSome (of_members ms found) FitMembers
+  fits_members json.no_members found f = f
+  fits_members (json.member k j ms) found f = fits_then Fits FitMembers (λ d. of_members ms (put k d found)) (of_json j) (fits_json j) (λ d h. fits_members ms (put k d found) (fits_put k d found h f))
+
+pub fits_read : (text : List ℕ) → IfSome (read text) Fits
+fits_read text = fits_then (λ x. ⊤) Fits of_json _ (anything _) (λ j any. fits_json j)
+
+-- ---- parts of it
+
+fits_member : (k : List ℕ) (ms : Members) → FitMembers ms → IfSome (get_member k ms) Fits
+fits_member k no_members f = tt
+fits_member k (member l e ms) f = by (slice_cmp nat_cmp k l)
+  where
+    by : (o : Ordering) → IfSome (match_ordering o (get_member k ms) (Some e) (get_member k ms)) Fits
+    by Less = fits_member k ms f.1
+    by Equal = f.0
+    by Greater = fits_member k ms f.1
+
+pub fits_get : (k : List ℕ) (d : Data) → Fits d → IfSome (get k d) Fits
+fits_get k null f = tt
+fits_get k (boolean b) f = tt
+fits_get k (number n) f = tt
+fits_get k (string s) f = tt
+fits_get k (array ds) f = tt
+fits_get k (object ms) f = fits_member k ms f
+
+pub fits_array : (d : Data) → Fits d → IfSome (as_array d) FitItems
+fits_array null f = tt
+fits_array (boolean b) f = tt
+fits_array (number n) f = tt
+fits_array (string s) f = tt
+fits_array (array ds) f = f
+fits_array (object ms) f = tt
+
+pub fits_signed : (d : Data) → Fits d → IfSome (as_number d) FitsNumber
+fits_signed null f = tt
+fits_signed (boolean b) f = tt
+fits_signed (number n) f = f
+fits_signed (string s) f = tt
+fits_signed (array ds) f = tt
+fits_signed (object ms) f = tt
