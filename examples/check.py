@@ -1,5 +1,5 @@
 #!/usr/bin/env python3
-"""Runs every script and all histories of this folder through a built program, and compares what it writes, what
+"""Runs every script, all histories and every migration of this folder through a built program, and compares what it writes, what
 it says on standard error, and its status. What the program's own help shows is run as well, its version is
 looked at, and a run of tellers is audited.
 
@@ -12,6 +12,8 @@ import subprocess
 import sys
 
 HERE = os.path.dirname(os.path.abspath(__file__))
+# the command for an example, by the second ending of its file's name
+COMMANDS = {"histories": "audit", "migration": "migrate"}
 
 
 def stored(path, otherwise):
@@ -28,7 +30,7 @@ def expected(stem):
 
 
 def answered(program, path):
-    command = "audit" if path.endswith(".histories.jsonl") else "script"
+    command = COMMANDS.get(path.removesuffix(".jsonl").rpartition(".")[2], "script")
     with open(path, "rb") as given:
         run = subprocess.run([program, command], stdin=given, capture_output=True)
     return run.stdout, run.stderr, run.returncode
@@ -51,7 +53,7 @@ def helps(program, command):
 
 def tells_version(program):
     run = subprocess.run([program, "--version"], capture_output=True)
-    return (run.stdout, run.stderr, run.returncode) == (b"rbbank 1\n", b"", 0)
+    return (run.stdout, run.stderr, run.returncode) == (b"rbbank 2\n", b"", 0)
 
 
 def tellers(program, sites, count):
@@ -73,7 +75,7 @@ def main():
     results = list(zip(map(os.path.basename, paths), same))
     results += [(command + " --help", helps(words[0], command)) for command in ["script", "audit"]]
     results.append(("--version", tells_version(words[0])))
-    results += [(f"threads at {sites} sites, audited", tellers(words[0], sites, count)) for sites, count in [(2, 1), (3, 4), (8, 16)]]
+    results += [(f"threads at {sites} sites, audited", tellers(words[0], sites, count)) for sites, count in [(2, 1), (3, 4), (8, 16), (16, 16)]]
     for name, same in results:
         if not same or "--quiet" not in sys.argv[1:]:
             print(f"{'same' if same else 'DIFFERENT'}  {name}")

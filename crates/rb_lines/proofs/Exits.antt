@@ -2,7 +2,7 @@
 use Rattle.std.proofs.Common.{◌≡◌, ◌<◌, ◌≤◌, ◌+◌, ◌⊎◌, ℕ, Bool, true, false, List, [], ◌∷◌, ◌++◌, length, take, drop, Option, Some, None, Ok, Err, refl, sym, ap, ◌∙◌, rules, subst, append-nil, add-zero}
 use Rattle.std.specs.Prelude.{IfSome}
 use Rattle.std.specs.Io.KnownBytes.{IsAtEnd}
-use Rattle.rb_lines.specs.Answers.{Answers, EndsAs, EndsAt, IsFaulty, IsUnfinished, Outcome, Stand, after_text, no_outcome}
+use Rattle.rb_lines.specs.Answers.{AnswersLine, RunEndsAs, EndsAtLine, IsFaulty, IsUnfinished, Outcome, Stand, after_text, no_outcome}
 use Rattle.rb_lines.specs.declared.fault.ScriptFault.{ScriptFault}
 use Rattle.rb_lines.specs.declared.fault.ScriptFault.TheVariants.{NoConfig, BadConfig, BadLine, LongLine, Read, Write, OutOfMemory, Gather}
 use Rattle.rb_lines.specs.Writes.{IsFront}
@@ -29,7 +29,7 @@ known_read of (Some all) (Some x) None s p p' e e' t f r was = absurd r.2
 known_read of (Some all) (Some x) (Some y) s p p' e e' t f r was = after_read of all s p p' x y e e' t f r was
 
 pub known_line : (of : Whole) (a b : Option (List ℕ)) (s s' : Stand) (p : List ℕ) (e : Bool) (t t' : List ℕ) (n : ℕ) → FollowsKnown of a b s p e t → n ≡ line_len p → n ≤ length p
-    → (n < length p) ⊎ ((n ≡ length p) × (0 < n) × (e ≡ true)) → (e ≡ true → IsAtEnd b) → Answers s s' (take n p) t' → FollowsKnown of a b s' (drop (n + 1) p) e (t ++ t')
+    → (n < length p) ⊎ ((n ≡ length p) × (0 < n) × (e ≡ true)) → (e ≡ true → IsAtEnd b) → AnswersLine s s' (take n p) t' → FollowsKnown of a b s' (drop (n + 1) p) e (t ++ t')
 known_line of None b s s' p e t t' n f len fits st end ans = tt
 known_line of (Some all) None s s' p e t t' n f len fits st end ans = absurd f
 known_line of (Some all) (Some x) s s' p e t t' n f len fits st end ans = after_line of all s s' p x e t t' n f len fits st end ans
@@ -61,7 +61,7 @@ known_front of (Some all) (Some x) s p e t f = front (of (lines_of all)) t s.cou
 
 -- no more is read
 pub known_stop : (of : Whole) (a b : Option (List ℕ)) (s : Stand) (p : List ℕ) (e : Bool) (t : List ℕ) → FollowsKnown of a b s p e t → e ≡ false → line_len p ≡ length p
-    → (s.rest []).text ≡ [] → IsUnfinished (s.rest []).fault → IfSome a (λ input. EndsAs of (Err Read) input b t)
+    → (s.rest []).text ≡ [] → IsUnfinished (s.rest []).fault → IfSome a (λ input. RunEndsAs of (Err Read) input b t)
 known_stop of None b s p e t f going none nothing unfinished = tt
 known_stop of (Some all) None s p e t f going none nothing unfinished = absurd f
 known_stop of (Some all) (Some x) s p e t f going none nothing unfinished =
@@ -78,7 +78,7 @@ known_stop of (Some all) (Some x) s p e t f going none nothing unfinished =
 
 -- the result at the end of the source
 pub known_end : (of : Whole) (a b : Option (List ℕ)) (s : Stand) (p : List ℕ) (e : Bool) (t : List ℕ) → FollowsKnown of a b s p e t → p ≡ [] → IsAtEnd b
-    → s.rest [] ≡ record { text = []; count = 0; fault = None } → IfSome a (λ input. EndsAs of (Ok s.count) input b t)
+    → s.rest [] ≡ record { text = []; count = 0; fault = None } → IfSome a (λ input. RunEndsAs of (Ok s.count) input b t)
 known_end of None b s p e t f none end is = tt
 known_end of (Some all) None s p e t f none end is = absurd f
 known_end of (Some all) (Some x) s p e t f none end is =
@@ -86,14 +86,14 @@ known_end of (Some all) (Some x) s p e t f none end is =
     (whole ∙ ap (after_text t s.count) is ∙ ap (λ y. record { text = y; count = s.count + 0; fault = None }) (append-nil t) ∙ ap (λ n. record { text = t; count = n; fault = None }) (add-zero s.count), ap Some end)
 
 pub known_unconfigured : (of : Whole) (a b : Option (List ℕ)) (s : Stand) (p : List ℕ) (e : Bool) (t : List ℕ) → FollowsKnown of a b s p e t → p ≡ [] → IsAtEnd b
-    → s.rest [] ≡ no_outcome NoConfig → IfSome a (λ input. EndsAs of (Err NoConfig) input b t)
+    → s.rest [] ≡ no_outcome NoConfig → IfSome a (λ input. RunEndsAs of (Err NoConfig) input b t)
 known_unconfigured of None b s p e t f none end is = tt
 known_unconfigured of (Some all) None s p e t f none end is = absurd f
 known_unconfigured of (Some all) (Some x) s p e t f none end is = faulty (of (lines_of all)) t s.count NoConfig _ (at_end of all s p x e t f none end) is
 
 -- the result of a line at which a run ends
-at_fault : (of : Whole) (all : List ℕ) (b : Option (List ℕ)) (s : Stand) (t l : List ℕ) (more : List (List ℕ)) (f : ScriptFault) → of (lines_of all) ≡ after_text t s.count (s.rest (l ∷ more)) → EndsAt s l f
-    → EndsAs of (Err f) all b t
+at_fault : (of : Whole) (all : List ℕ) (b : Option (List ℕ)) (s : Stand) (t l : List ℕ) (more : List (List ℕ)) (f : ScriptFault) → of (lines_of all) ≡ after_text t s.count (s.rest (l ∷ more)) → EndsAtLine s l f
+    → RunEndsAs of (Err f) all b t
 at_fault of all b s t l more (BadConfig n) e h = faulty (of (lines_of all)) t s.count (BadConfig n) _ e (h more)
 at_fault of all b s t l more (BadLine n) e h = faulty (of (lines_of all)) t s.count (BadLine n) _ e (h more)
 at_fault of all b s t l more OutOfMemory e h = front (of (lines_of all)) t s.count _ e
@@ -104,7 +104,7 @@ at_fault of all b s t l more Write e h = absurd h
 at_fault of all b s t l more Gather e h = absurd h
 
 pub known_fault : (of : Whole) (a b : Option (List ℕ)) (s : Stand) (p : List ℕ) (e : Bool) (t : List ℕ) (n : ℕ) (f : ScriptFault) → FollowsKnown of a b s p e t → n ≡ line_len p → n ≤ length p
-    → (n < length p) ⊎ ((n ≡ length p) × (0 < n) × (e ≡ true)) → (e ≡ true → IsAtEnd b) → EndsAt s (take n p) f → IfSome a (λ input. EndsAs of (Err f) input b t)
+    → (n < length p) ⊎ ((n ≡ length p) × (0 < n) × (e ≡ true)) → (e ≡ true → IsAtEnd b) → EndsAtLine s (take n p) f → IfSome a (λ input. RunEndsAs of (Err f) input b t)
 known_fault of None b s p e t n f k len fits st end h = tt
 known_fault of (Some all) None s p e t n f k len fits st end h = absurd k
 known_fault of (Some all) (Some x) s p e t n f k len fits st end h =

@@ -3,7 +3,7 @@ use Rattle.std.proofs.Common.{◌≡◌, ◌<◌, ◌≤◌, ◌+◌, ◌-◌, �
 use Rattle.rb_lines.specs.Lines.{lines_of, whole_lines, line_len}
 use Rattle.rb_lines.proofs.Walks.{Walks}
 use Rattle.rb_lines.proofs.Walks as walk
-use Rattle.rb_lines.specs.Answers.{Answers, Outcome, Stand, after_text}
+use Rattle.rb_lines.specs.Answers.{AnswersLine, Outcome, Stand, after_text}
 
 -- what lines come to
 abbrev pub Whole : Type 0
@@ -34,13 +34,13 @@ twice t t' m n o h =
     let count : m + ((n - m) + o.count) ≡ n + o.count = omega arith in
     ap (λ c. record { text = t ++ (t' ++ o.text); count = c; fault = o.fault }) count ∙ ap (λ x. record { text = x; count = n + o.count; fault = o.fault }) (sym (append_assoc t t' o.text))
 
-said : (of : Whole) (done : List (List ℕ)) (l t t' : List ℕ) (s s' : Stand) → ((ls : List (List ℕ)) → of (done ++ ls) ≡ after_text t s.count (s.rest ls)) → Answers s s' l t'
+said : (of : Whole) (done : List (List ℕ)) (l t t' : List ℕ) (s s' : Stand) → ((ls : List (List ℕ)) → of (done ++ ls) ≡ after_text t s.count (s.rest ls)) → AnswersLine s s' l t'
     → (ls : List (List ℕ)) → of ((done ++ l ∷ []) ++ ls) ≡ after_text (t ++ t') s'.count (s'.rest ls)
 said of done l t t' s s' before a ls =
     ap of (append_assoc done (l ∷ []) ls) ∙ before (l ∷ ls) ∙ ap (after_text t s.count) (a.follows ls) ∙ twice t t' s.count s'.count (s'.rest ls) a.count
 
 pub after_line : (of : Whole) (all : List ℕ) (s s' : Stand) (p r : List ℕ) (e : Bool) (t t' : List ℕ) (n : ℕ) → Follows of all s p r e t → n ≡ line_len p → n ≤ length p
-    → (n < length p) ⊎ ((n ≡ length p) × (0 < n) × (e ≡ true)) → (e ≡ true → r ≡ []) → Answers s s' (take n p) t' → Follows of all s' (drop (n + 1) p) r e (t ++ t')
+    → (n < length p) ⊎ ((n ≡ length p) × (0 < n) × (e ≡ true)) → (e ≡ true → r ≡ []) → AnswersLine s s' (take n p) t' → Follows of all s' (drop (n + 1) p) r e (t ++ t')
 after_line of all s s' p r e t t' n f len fits stands end a = record {
   done = f.done ++ take n p ∷ [];
   walks = walk.after_line all f.done p r e n f.walks len fits stands end;

@@ -3,7 +3,7 @@ use Rattle.std.proofs.Common.{◌≡◌, ◌<◌, ◌≤◌, ◌+◌, ◌⊎◌,
 use Rattle.std.specs.Prelude.{IfSome}
 use Rattle.std.specs.Io.KnownBytes.{Appends, IsAtEnd}
 use Rattle.std.proofs.KnownBytes.{Appends-nil, Appends-trans}
-use Rattle.rb_lines.specs.Answers.{Answers, EndsAs, EndsAt, IsUnfinished, Stand, WillEndAs, no_outcome}
+use Rattle.rb_lines.specs.Answers.{AnswersLine, RunEndsAs, EndsAtLine, IsUnfinished, Stand, RunWillEndAs, no_outcome}
 use Rattle.rb_lines.specs.declared.fault.ScriptFault.{ScriptFault}
 use Rattle.rb_lines.specs.declared.fault.ScriptFault.TheVariants.{NoConfig, LongLine, Read, Write, OutOfMemory}
 use Rattle.rb_lines.specs.Buffers.{Reads, Sends}
@@ -19,7 +19,7 @@ IsAt of w0 w r0 r s p e owed = (text : List ℕ) × Appends w0 w text × Follows
 
 -- at the end, where some may still be owed
 abbrev pub IsOver : Whole → Option (List ℕ) → Option (List ℕ) → Option (List ℕ) → Option (List ℕ) → Result ℕ ScriptFault → List ℕ → Type 0
-IsOver of w0 w r0 r result owed = (text : List ℕ) × Appends w0 w text × IfSome r0 (λ input. WillEndAs of result input r (text ++ owed))
+IsOver of w0 w r0 r result owed = (text : List ℕ) × Appends w0 w text × IfSome r0 (λ input. RunWillEndAs of result input r (text ++ owed))
 
 both : (P Q : List ℕ → Type 0) (a : Option (List ℕ)) → IfSome a P → IfSome a Q → IfSome a (λ x. P x × Q x)
 both P Q None p q = tt
@@ -39,7 +39,7 @@ reads_on of w0 w w' r0 r r' s p p' e e' owed owed' st read was sent = (
 )
 
 pub goes_on : (of : Whole) (w0 w r0 r : Option (List ℕ)) (s s' : Stand) (p : List ℕ) (e : Bool) (owed owed' : List ℕ) (n : ℕ) → IsAt of w0 w r0 r s p e owed → n ≡ line_len p → n ≤ length p
-    → (n < length p) ⊎ ((n ≡ length p) × (0 < n) × (e ≡ true)) → (e ≡ true → IsAtEnd r) → (text : List ℕ) × (owed' ≡ owed ++ text) × Answers s s' (take n p) text → IsAt of w0 w r0 r s' (drop (n + 1) p) e owed'
+    → (n < length p) ⊎ ((n ≡ length p) × (0 < n) × (e ≡ true)) → (e ≡ true → IsAtEnd r) → (text : List ℕ) × (owed' ≡ owed ++ text) × AnswersLine s s' (take n p) text → IsAt of w0 w r0 r s' (drop (n + 1) p) e owed'
 goes_on of w0 w r0 r s s' p e owed owed' n st len fits stands end answered = (
   st.0,
   st.1,
@@ -48,7 +48,7 @@ goes_on of w0 w r0 r s s' p e owed owed' n st len fits stands end answered = (
 
 -- ---- the ends
 
-with_front : (of : Whole) (w0 w r0 r : Option (List ℕ)) (s : Stand) (p : List ℕ) (e : Bool) (owed : List ℕ) (result : Result ℕ ScriptFault) → (st : IsAt of w0 w r0 r s p e owed) → IfSome r0 (λ input. EndsAs of result input r (st.0 ++ owed))
+with_front : (of : Whole) (w0 w r0 r : Option (List ℕ)) (s : Stand) (p : List ℕ) (e : Bool) (owed : List ℕ) (result : Result ℕ ScriptFault) → (st : IsAt of w0 w r0 r s p e owed) → IfSome r0 (λ input. RunEndsAs of result input r (st.0 ++ owed))
     → IsOver of w0 w r0 r result owed
 with_front of w0 w r0 r s p e owed result st ends = (st.0, st.1, both _ _ r0 ends (known_front of r0 r s p e (st.0 ++ owed) st.2))
 
@@ -61,7 +61,7 @@ pub ends_unread : (of : Whole) (w0 w r0 r : Option (List ℕ)) (s : Stand) (p : 
 ends_unread of w0 w r0 r s p e owed st going none nothing unfinished = with_front of w0 w r0 r s p e owed (Err Read) st (known_stop of r0 r s p e (st.0 ++ owed) st.2 going none nothing unfinished)
 
 pub ends_at_fault : (of : Whole) (w0 w r0 r : Option (List ℕ)) (s : Stand) (p : List ℕ) (e : Bool) (owed owed' : List ℕ) (n : ℕ) (f : ScriptFault) → IsAt of w0 w r0 r s p e owed → n ≡ line_len p → n ≤ length p
-    → (n < length p) ⊎ ((n ≡ length p) × (0 < n) × (e ≡ true)) → (e ≡ true → IsAtEnd r) → (owed' ≡ owed) × EndsAt s (take n p) f → IsOver of w0 w r0 r (Err f) owed'
+    → (n < length p) ⊎ ((n ≡ length p) × (0 < n) × (e ≡ true)) → (e ≡ true → IsAtEnd r) → (owed' ≡ owed) × EndsAtLine s (take n p) f → IsOver of w0 w r0 r (Err f) owed'
 ends_at_fault of w0 w r0 r s p e owed owed' n f st len fits stands end (same, fault) =
     subst (λ o. IsOver of w0 w r0 r (Err f) o) (sym same) (with_front of w0 w r0 r s p e owed (Err f) st (known_fault of r0 r s p e (st.0 ++ owed) n f st.2 len fits stands end fault))
 
@@ -109,11 +109,11 @@ ends_unwritten of w0 w w' r0 r r' s p e owed owed' st (front, nothing) = (
 -- ---- after the end
 
 -- what was owed went out
-pub over_written : (of : Whole) (w0 w w' r0 r : Option (List ℕ)) (result : Result ℕ ScriptFault) (owed : List ℕ) → IsOver of w0 w r0 r result owed → Appends w w' owed → (text : List ℕ) × Appends w0 w' text × IfSome r0 (λ input. EndsAs of result input r text)
+pub over_written : (of : Whole) (w0 w w' r0 r : Option (List ℕ)) (result : Result ℕ ScriptFault) (owed : List ℕ) → IsOver of w0 w r0 r result owed → Appends w w' owed → (text : List ℕ) × Appends w0 w' text × IfSome r0 (λ input. RunEndsAs of result input r text)
 over_written of w0 w w' None r result owed st written = (st.0 ++ owed, Appends-trans w0 w w' st.0 owed st.1 written, tt)
 over_written of w0 w w' (Some x) r result owed st written = (st.0 ++ owed, Appends-trans w0 w w' st.0 owed st.1 written, st.2.0)
 
 -- a front of it did
-pub over_unwritten : (of : Whole) (w0 w w' r0 r : Option (List ℕ)) (result : Result ℕ ScriptFault) (owed : List ℕ) → IsOver of w0 w r0 r result owed → AppendsFront w w' owed → (text : List ℕ) × Appends w0 w' text × IfSome r0 (λ input. EndsAs of (Err Write) input r text)
+pub over_unwritten : (of : Whole) (w0 w w' r0 r : Option (List ℕ)) (result : Result ℕ ScriptFault) (owed : List ℕ) → IsOver of w0 w r0 r result owed → AppendsFront w w' owed → (text : List ℕ) × Appends w0 w' text × IfSome r0 (λ input. RunEndsAs of (Err Write) input r text)
 over_unwritten of w0 w w' None r result owed st front = (st.0 ++ front.0, Appends-trans w0 w w' st.0 front.0 st.1 front.2, tt)
 over_unwritten of w0 w w' (Some x) r result owed st front = (st.0 ++ front.0, Appends-trans w0 w w' st.0 front.0 st.1 front.2, shorter st.0 owed front.0 front.1.0 _ st.2.1 front.1.1)

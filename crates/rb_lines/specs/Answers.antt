@@ -45,20 +45,20 @@ pub record IsAnswered (of : List (List ℕ) → Outcome) (input rest text : List
   pub unfinished : IsUnfinished (of (whole_lines taken)).fault
 
 -- the result of a run over this input, of which the second part is left, where the text was written
-abbrev pub EndsAs : (List (List ℕ) → Outcome) → Result ℕ ScriptFault → List ℕ → Option (List ℕ) → List ℕ → Type 0
-EndsAs of (Ok n) input left text = (of (lines_of input) ≡ record { text = text; count = n; fault = None }) × (left ≡ Some [])
-EndsAs of (Err NoConfig) input left text = IsFaulty (of (lines_of input)) text NoConfig
-EndsAs of (Err (BadConfig n)) input left text = IsFaulty (of (lines_of input)) text (BadConfig n)
-EndsAs of (Err (BadLine n)) input left text = IsFaulty (of (lines_of input)) text (BadLine n)
-EndsAs of (Err (LongLine n)) input left text = IsFaulty (of (lines_of input)) text (LongLine n)
-EndsAs of (Err Read) input left text = (rest : List ℕ) × (left ≡ Some rest) × IsAnswered of input rest text
-EndsAs of (Err Write) input left text = IsFront text (of (lines_of input)).text
-EndsAs of (Err OutOfMemory) input left text = IsFront text (of (lines_of input)).text
-EndsAs of (Err Gather) input left text = ⊥
+abbrev pub RunEndsAs : (List (List ℕ) → Outcome) → Result ℕ ScriptFault → List ℕ → Option (List ℕ) → List ℕ → Type 0
+RunEndsAs of (Ok n) input left text = (of (lines_of input) ≡ record { text = text; count = n; fault = None }) × (left ≡ Some [])
+RunEndsAs of (Err NoConfig) input left text = IsFaulty (of (lines_of input)) text NoConfig
+RunEndsAs of (Err (BadConfig n)) input left text = IsFaulty (of (lines_of input)) text (BadConfig n)
+RunEndsAs of (Err (BadLine n)) input left text = IsFaulty (of (lines_of input)) text (BadLine n)
+RunEndsAs of (Err (LongLine n)) input left text = IsFaulty (of (lines_of input)) text (LongLine n)
+RunEndsAs of (Err Read) input left text = (rest : List ℕ) × (left ≡ Some rest) × IsAnswered of input rest text
+RunEndsAs of (Err Write) input left text = IsFront text (of (lines_of input)).text
+RunEndsAs of (Err OutOfMemory) input left text = IsFront text (of (lines_of input)).text
+RunEndsAs of (Err Gather) input left text = ⊥
 
 -- the same where some of the text is still owed: whatever front of it goes out is a front of the whole text
-abbrev pub WillEndAs : (List (List ℕ) → Outcome) → Result ℕ ScriptFault → List ℕ → Option (List ℕ) → List ℕ → Type 0
-WillEndAs of r input left text = EndsAs of r input left text × IsFront text (of (lines_of input)).text
+abbrev pub RunWillEndAs : (List (List ℕ) → Outcome) → Result ℕ ScriptFault → List ℕ → Option (List ℕ) → List ℕ → Type 0
+RunWillEndAs of r input left text = RunEndsAs of r input left text × IsFront text (of (lines_of input)).text
 
 -- ---- between two lines
 
@@ -68,17 +68,17 @@ pub record Stand : Type 0 where
   pub count : ℕ
 
 -- the line was answered by this text, and the run goes on with the next
-pub record Answers (old new : Stand) (l text : List ℕ) : Type 0 where
+pub record AnswersLine (old new : Stand) (l text : List ℕ) : Type 0 where
   pub follows : (ls : List (List ℕ)) → old.rest (l ∷ ls) ≡ after_text text (new.count - old.count) (new.rest ls)
   pub count : old.count ≤ new.count
 
 -- the run ends at this line; nothing is said of running out of memory
-abbrev pub EndsAt : Stand → List ℕ → ScriptFault → Type 0
-EndsAt s l (BadConfig n) = (ls : List (List ℕ)) → s.rest (l ∷ ls) ≡ no_outcome (BadConfig n)
-EndsAt s l (BadLine n) = (ls : List (List ℕ)) → s.rest (l ∷ ls) ≡ no_outcome (BadLine n)
-EndsAt s l OutOfMemory = Unit {0}
-EndsAt s l NoConfig = ⊥
-EndsAt s l (LongLine n) = ⊥
-EndsAt s l Read = ⊥
-EndsAt s l Write = ⊥
-EndsAt s l Gather = ⊥
+abbrev pub EndsAtLine : Stand → List ℕ → ScriptFault → Type 0
+EndsAtLine s l (BadConfig n) = (ls : List (List ℕ)) → s.rest (l ∷ ls) ≡ no_outcome (BadConfig n)
+EndsAtLine s l (BadLine n) = (ls : List (List ℕ)) → s.rest (l ∷ ls) ≡ no_outcome (BadLine n)
+EndsAtLine s l OutOfMemory = Unit {0}
+EndsAtLine s l NoConfig = ⊥
+EndsAtLine s l (LongLine n) = ⊥
+EndsAtLine s l Read = ⊥
+EndsAtLine s l Write = ⊥
+EndsAtLine s l Gather = ⊥

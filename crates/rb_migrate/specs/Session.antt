@@ -2,8 +2,7 @@
 use Rattle.std.specs.Prelude.{◌≡◌, ℕ, ◌+◌, List, Option, Some, None}
 use Rattle.rb_money.specs.Settings.{Settings}
 use Rattle.rb_migrate.specs.declared.session.Session.{Session}
-use Rattle.rb_lines.specs.Answers.{Outcome, Stand}
-use Rattle.rb_lines.specs.Answers as lines
+use Rattle.rb_lines.specs.Answers.{AnswersLine, EndsAtLine, Outcome, Stand}
 use Rattle.rb_lines.specs.declared.fault.ScriptFault.{ScriptFault}
 use Rattle.rb_migrate.specs.Migration.{entries_from, migration_from}
 
@@ -26,8 +25,8 @@ stand_of s = record { rest = rest_of s; count = s.count }
 
 -- the line was answered by this text, and the session goes on with the next
 abbrev pub Answers : Session → Session → List ℕ → List ℕ → Type 0
-Answers old new l text = lines.Answers (stand_of old) (stand_of new) l text × (new.number ≡ old.number + 1)
+Answers old new l text = AnswersLine (stand_of old) (stand_of new) l text × (new.number ≡ old.number + 1)
 
 -- the migration ends at this line
 abbrev pub EndsAt : Session → List ℕ → ScriptFault → Type 0
-EndsAt old l f = lines.EndsAt (stand_of old) l f
+EndsAt old l f = EndsAtLine (stand_of old) l f

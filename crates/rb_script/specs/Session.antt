@@ -4,8 +4,7 @@ use Rattle.rb_site.specs.declared.world_event.WorldEvent.{WorldEvent}
 use Rattle.rb_world.specs.Laws.{SeenWorld, next_reply, next_world}
 use Rattle.rb_commands.specs.Replies.{line}
 use Rattle.rb_script.specs.declared.session.Session.{Session}
-use Rattle.rb_lines.specs.Answers.{Outcome, Stand}
-use Rattle.rb_lines.specs.Answers as lines
+use Rattle.rb_lines.specs.Answers.{AnswersLine, EndsAtLine, Outcome, Stand}
 use Rattle.rb_lines.specs.declared.fault.ScriptFault.{ScriptFault}
 use Rattle.rb_script.specs.Script.{command_on, commands_from, outcome, script_from}
 
@@ -28,11 +27,11 @@ stand_of s = record { rest = rest_of s; count = s.count }
 
 -- the line was answered by this text, and the session goes on with the next
 abbrev pub Answers : Session → Session → List ℕ → List ℕ → Type 0
-Answers old new l text = lines.Answers (stand_of old) (stand_of new) l text × (new.number ≡ old.number + 1)
+Answers old new l text = AnswersLine (stand_of old) (stand_of new) l text × (new.number ≡ old.number + 1)
 
 -- the script ends at this line
 abbrev pub EndsAt : Session → List ℕ → ScriptFault → Type 0
-EndsAt old l f = lines.EndsAt (stand_of old) l f
+EndsAt old l f = EndsAtLine (stand_of old) l f
 
 -- the line is a command, the world took it, and the line of its reply is owed
 pub record AnswersCommand (old new : SeenWorld) (l owed owed' : List ℕ) : Type 0 where

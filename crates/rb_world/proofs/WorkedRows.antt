@@ -204,3 +204,9 @@ unrecorded_refusals : replies_of_run (record { sites = 2; names = codes "ann" �
     ≡ (Refused NoMessage) ∷ (Refused NoMessage) ∷ (Refused NoSite) ∷ (Refused NoSite) ∷ (BalanceIs 0) ∷ (Refused HistoryFull) ∷ []
 unfolding place bal past clock_of is_eligible same_shadow names_listed fault_of plan_of operation_of allowed made_of outcome_of outcome_of_shadow outcome_of_token outcome_of_apply outcome_of_pass made_in_batch batch_of statement_of
 unrecorded_refusals = refl
+
+sixteen_sites : replies_of_run (record { sites = 16; names = codes "ann" ∷ []; starts = (0) ∷ []; limits = largest; version = 2 })
+    ((At 15 (Submit (AskDeposit (place 0) 500))) ∷ (Deliver 0 1) ∷ (At 0 (Apply (Blue 15 1))) ∷ (At 0 (Balance (place 0))) ∷ (At 16 (Balance (place 0))) ∷ [])
+    ≡ (Made (Blue 15 1) DepositLabel) ∷ (Held (Blue 15 1)) ∷ (Applied (Blue 15 1)) ∷ (BalanceIs 500) ∷ (Refused NoSite) ∷ []
+unfolding place bal past clock_of is_eligible same_shadow names_listed fault_of plan_of operation_of allowed made_of outcome_of outcome_of_shadow outcome_of_token outcome_of_apply outcome_of_pass made_in_batch batch_of statement_of
+sixteen_sites = refl

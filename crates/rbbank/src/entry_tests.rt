@@ -294,6 +294,10 @@ fn configurations_both_ways(rt: HostRuntime) -> Result<(), Fail> {
             "{\"accounts\":[[\"ann\",0],[\"bob.1\",100000000000]],\"blue\":1,\"epoch\":2,\"history\":3,\"inbox\":4,\"red\":5,\"sites\":8,\"version\":1}",
             "{\"accounts\":[[\"ann\",0],[\"bob.1\",100000000000]],\"blue\":1,\"epoch\":2,\"history\":3,\"inbox\":4,\"red\":5,\"sites\":8,\"version\":1}",
         ),
+        (
+            "{\"accounts\":[[\"ann\",0]],\"sites\":16,\"version\":2}",
+            "{\"accounts\":[[\"ann\",0]],\"blue\":1000000,\"epoch\":4000000000,\"history\":100000000,\"inbox\":4096,\"red\":1000000,\"sites\":16,\"version\":2}",
+        ),
     ] {
         let config = read_config(rt.alloc(), given)?;
         let text = write_config(rt.alloc(), &config)?;
@@ -346,6 +350,52 @@ fn bad_events(rt: HostRuntime) -> Result<(), Fail> {
             is_bad(rt.alloc(), &config, event, "{\"balance\":0}")?,
             "at {event}"
         );
+    }
+    Ok(())
+}
+
+/// The line of a deposit that site 0 received, which says this of what its home had applied.
+fn line_of(alloc: Global, deps: &str) -> Result<String, AllocError> {
+    format!(in alloc; "{{\"event\":{{\"shadow\":{{\"account\":\"ann\",\"amount\":5,\"deps\":{deps},\"home\":0,\"kind\":\"deposit\",\"name\":\"B0.1\"}}}},\"reply\":{{\"held\":\"B0.1\"}},\"site\":0}}")
+}
+
+#[test]
+fn counts_in_version_2(rt: HostRuntime) -> Result<(), Fail> {
+    let alloc = rt.alloc();
+    let config = read_config(
+        alloc,
+        "{\"accounts\":[[\"ann\",0]],\"sites\":2,\"version\":2}",
+    )?;
+    for deps in ["[[],0]", "[[],1]", "[[[0,3],[5,1]],2]", "[[[15,4294967295]],0]"] {
+        let line = line_of(alloc, deps)?;
+        let (site, entry) = read_line(alloc, &config, line.as_str())?;
+        let again = write_line(alloc, &config, site, &entry)?;
+        assert_eq!(rt; again.as_str(), line.as_str());
+    }
+    Ok(())
+}
+
+#[test]
+fn wrong_deps(rt: HostRuntime) -> Result<(), Fail> {
+    let alloc = rt.alloc();
+    let first = read_config(alloc, TWO_ACCOUNTS)?;
+    let second = read_config(
+        alloc,
+        "{\"accounts\":[[\"ann\",0]],\"sites\":2,\"version\":2}",
+    )?;
+    for (config, deps) in [
+        (&first, "[[],0]"),
+        (&first, "[[[0,3],[5,1]],2]"),
+        (&second, "[[0,0,0,0,0,0,0,0],0]"),
+        (&second, "[[[0,3],[0,1]],2]"),
+        (&second, "[[[5,1],[0,3]],2]"),
+        (&second, "[[[0,0]],0]"),
+        (&second, "[[[16,1]],0]"),
+        (&second, "[[[0,4294967296]],0]"),
+        (&second, "[[[0,1,1]],0]"),
+    ] {
+        let line = line_of(alloc, deps)?;
+        assert!(rt; is_bad_line(alloc, config, line.as_str()), "at {line}");
     }
     Ok(())
 }
