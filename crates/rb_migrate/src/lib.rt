@@ -4,6 +4,8 @@
 mod laws;
 mod run;
 mod session;
+#[cfg(test)]
+mod tests;
 mod versions;
 
 pub use laws::{migrated_lines_are_read, migrated_replays_are_equal};
