@@ -250,9 +250,9 @@ refusal : (d : Data) (n : ℕ) → IfSome (refusal_of d n) IsRefusal
 refusal d n =
     choice IsRefusal (n == 6) _ _ (fits_if IsRefusal (size_of d == 2) _ (λ e. fits_map IsWord IsRefusal AlreadyCancelled (field (codes "position") (number_below (2 ^ 32)) d) (word_at (codes "position") d) (λ n h. h)))
     (choice IsRefusal (n == 9) _ _ (fits_if IsRefusal (size_of d == 3) _ (λ e. fits_then IsWord IsRefusal _ (field (codes "seen") (number_below (2 ^ 32)) d) (word_at (codes "seen") d)
-      (λ seen h. fits_map IsWord IsRefusal (RedBehind seen) (field (codes "needed") (number_below (2 ^ 32)) d) (word_at (codes "needed") d) (λ needed k. (h, k)))))
+    (λ seen h. fits_map IsWord IsRefusal (RedBehind seen) (field (codes "needed") (number_below (2 ^ 32)) d) (word_at (codes "needed") d) (λ needed k. (h, k)))))
     (choice IsRefusal (n == 13) _ _ (fits_if IsRefusal (size_of d == 3) _ (λ e. fits_then (λ n. n < 2 ^ 8) IsRefusal _ (field (codes "index") (number_below (2 ^ 8)) d) (byte_at (codes "index") d)
-      (λ index h. fits_map (λ c. IsRefusal (BatchRefused 0 c)) IsRefusal (BatchRefused index) (field (codes "cause") cause_at d) (fits_field (λ c. IsRefusal (BatchRefused 0 c)) (codes "cause") cause_at d cause) (λ c k. (h, k.1)))))
+    (λ index h. fits_map (λ c. IsRefusal (BatchRefused 0 c)) IsRefusal (BatchRefused index) (field (codes "cause") cause_at d) (fits_field (λ c. IsRefusal (BatchRefused 0 c)) (codes "cause") cause_at d cause) (λ c k. (h, k.1)))))
     (choice IsRefusal (n == 17) _ _ (fits_if IsRefusal (size_of d == 2) _ (λ e. fits_map (λ n. n < 2 ^ 8) IsRefusal BadMessage (field (codes "why") (number_below (2 ^ 8)) d) (byte_at (codes "why") d) (λ n h. h)))
     (fits_if IsRefusal (size_of d == 1) (find_refusal n plain_refusals) (λ e. find n plain_refusals (tt, (tt, (tt, (tt, (tt, (tt, (tt, (tt, (tt, (tt, (tt, (tt, (tt, (tt, (tt, (tt, (tt, (tt, (tt, (tt, tt)))))))))))))))))))))))))
 

@@ -10,16 +10,19 @@ const FIRST: &str = r#"{"accounts":[["ann",0]],"sites":2,"version":1}
 "#;
 
 /// The same in version 2, whole.
-const SECOND: &str = r#"{"accounts":[["ann",0]],"blue":1000000,"epoch":4000000000,"history":100000000,"inbox":4096,"red":1000000,"sites":2,"version":2}
+const SECOND: &str =
+    r#"{"accounts":[["ann",0]],"blue":1000000,"epoch":4000000000,"history":100000000,"inbox":4096,"red":1000000,"sites":2,"version":2}
 "#;
 
 /// A deposit and a cancellation that were received, in version 1.
-const RECEIVED: &str = r#"{"event":{"shadow":{"account":"ann","amount":500,"deps":[[0,0,0,0,0,0,0,0],0],"home":0,"kind":"deposit","name":"B0.1"}},"reply":{"held":"B0.1"},"site":1}
+const RECEIVED: &str =
+    r#"{"event":{"shadow":{"account":"ann","amount":500,"deps":[[0,0,0,0,0,0,0,0],0],"home":0,"kind":"deposit","name":"B0.1"}},"reply":{"held":"B0.1"},"site":1}
 {"event":{"shadow":{"account":"ann","amount":300,"deps":[[3,0,0,0,0,1,0,0],1],"home":1,"kind":"cancel","name":"B1.1","target":"R1"}},"reply":{"held":"B1.1"},"site":0}
 "#;
 
 /// The same in version 2.
-const WRITTEN: &str = r#"{"event":{"shadow":{"account":"ann","amount":500,"deps":[[],0],"home":0,"kind":"deposit","name":"B0.1"}},"reply":{"held":"B0.1"},"site":1}
+const WRITTEN: &str =
+    r#"{"event":{"shadow":{"account":"ann","amount":500,"deps":[[],0],"home":0,"kind":"deposit","name":"B0.1"}},"reply":{"held":"B0.1"},"site":1}
 {"event":{"shadow":{"account":"ann","amount":300,"deps":[[[0,3],[5,1]],1],"home":1,"kind":"cancel","name":"B1.1","target":"R1"}},"reply":{"held":"B1.1"},"site":0}
 "#;
 
@@ -157,12 +160,42 @@ fn writes_each_line(rt: HostRuntime) -> Result<(), Fail> {
 fn stops_at_a_fault(rt: HostRuntime) -> Result<(), Fail> {
     let cases: [([&str; 3], bool, usize, ScriptFault, &str); 7] = [
         (["", "", ""], false, 1_000, ScriptFault::NoConfig, ""),
-        ([WRITTEN, "", ""], false, 1_000, ScriptFault::BadConfig { line: 1 }, ""),
-        ([FIRST, WRITTEN, ""], false, 1_000, ScriptFault::BadLine { line: 2 }, SECOND),
-        ([SECOND, RECEIVED, ""], false, 1_000, ScriptFault::BadLine { line: 2 }, SECOND),
-        ([FIRST, "\n{", ""], false, 1_000, ScriptFault::BadLine { line: 3 }, SECOND),
+        (
+            [WRITTEN, "", ""],
+            false,
+            1_000,
+            ScriptFault::BadConfig { line: 1 },
+            "",
+        ),
+        (
+            [FIRST, WRITTEN, ""],
+            false,
+            1_000,
+            ScriptFault::BadLine { line: 2 },
+            SECOND,
+        ),
+        (
+            [SECOND, RECEIVED, ""],
+            false,
+            1_000,
+            ScriptFault::BadLine { line: 2 },
+            SECOND,
+        ),
+        (
+            [FIRST, "\n{", ""],
+            false,
+            1_000,
+            ScriptFault::BadLine { line: 3 },
+            SECOND,
+        ),
         ([FIRST, "", ""], true, 1_000, ScriptFault::Read, SECOND),
-        ([FIRST, "", ""], false, 10, ScriptFault::Write, "{\"accounts"),
+        (
+            [FIRST, "", ""],
+            false,
+            10,
+            ScriptFault::Write,
+            "{\"accounts",
+        ),
     ];
     for (input, fails, room, fault, line) in cases {
         let (result, text) = migrated(rt.alloc(), input.as_slice(), fails, room)?;

@@ -356,7 +356,9 @@ fn bad_events(rt: HostRuntime) -> Result<(), Fail> {
 
 /// The line of a deposit that site 0 received, which says this of what its home had applied.
 fn line_of(alloc: Global, deps: &str) -> Result<String, AllocError> {
-    format!(in alloc; "{{\"event\":{{\"shadow\":{{\"account\":\"ann\",\"amount\":5,\"deps\":{deps},\"home\":0,\"kind\":\"deposit\",\"name\":\"B0.1\"}}}},\"reply\":{{\"held\":\"B0.1\"}},\"site\":0}}")
+    format!(in alloc;
+        "{{\"event\":{{\"shadow\":{{\"account\":\"ann\",\"amount\":5,\"deps\":{deps},\"home\":0,\"kind\":\"deposit\",\"name\":\"B0.1\"}}}},\"reply\":{{\"held\":\"B0.1\"}},\"site\":0}}"
+    )
 }
 
 #[test]
@@ -366,7 +368,12 @@ fn counts_in_version_2(rt: HostRuntime) -> Result<(), Fail> {
         alloc,
         "{\"accounts\":[[\"ann\",0]],\"sites\":2,\"version\":2}",
     )?;
-    for deps in ["[[],0]", "[[],1]", "[[[0,3],[5,1]],2]", "[[[15,4294967295]],0]"] {
+    for deps in [
+        "[[],0]",
+        "[[],1]",
+        "[[[0,3],[5,1]],2]",
+        "[[[15,4294967295]],0]",
+    ] {
         let line = line_of(alloc, deps)?;
         let (site, entry) = read_line(alloc, &config, line.as_str())?;
         let again = write_line(alloc, &config, site, &entry)?;

@@ -185,8 +185,16 @@ fn configurations(rt: HostRuntime) -> Result<(), Fail> {
     assert_eq!(rt; whole.limits(), limits);
     for (line, sites, version) in [
         (TWO_ACCOUNTS, 2, 1),
-        ("{\"accounts\":[[\"ann\",0]],\"sites\":2,\"version\":2}", 2, 2),
-        ("{\"accounts\":[[\"ann\",0]],\"sites\":16,\"version\":2}", 16, 2),
+        (
+            "{\"accounts\":[[\"ann\",0]],\"sites\":2,\"version\":2}",
+            2,
+            2,
+        ),
+        (
+            "{\"accounts\":[[\"ann\",0]],\"sites\":16,\"version\":2}",
+            16,
+            2,
+        ),
     ] {
         let config = read_config(rt.alloc(), line)?;
         assert_eq!(rt; config.sites(), sites);

@@ -48,5 +48,5 @@ returns c =
         kind = c.in_ok-kind.ensures.kind.0;
       },
       read ∙ shadow_text account amount deps home label name target rest ∙ ap (λ k. whole deps (behind_quote (label_text k))) (sym c.in_ok-kind.ensures.kind.1)
-      ∙ ap (λ v. whole (told v) (behind_quote (label_text (label_of c.in_ok-kind.kind)))) (sym first),
+          ∙ ap (λ v. whole (told v) (behind_quote (label_text (label_of c.in_ok-kind.kind)))) (sym first),
     )
