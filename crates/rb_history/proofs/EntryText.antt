@@ -113,7 +113,7 @@ blue_text version blue long h = at (version == 1)
   where
     at : (b : Bool) → IsText (if b then list_json number_json (take MOST_SITES_OF_VERSION_1 blue) else list_json numbered_json (numbered 0 blue)) 2
     at true = deeper (list_json number_json (take MOST_SITES_OF_VERSION_1 blue)) 1 2 (list_text number_json (λ n. n < 2 ^ 32) 0 (λ n small. number_text n (omega arith)) (take MOST_SITES_OF_VERSION_1 blue) (each_take (λ n. n < 2 ^ 32) MOST_SITES_OF_VERSION_1 blue h)) (omega arith)
-    at false = list_text numbered_json (λ p. (p.0 < 2 ^ 64) × (p.1 < 2 ^ 64)) 1 (λ p fits. pair_text (number_json p.0) (number_json p.1) 0 (number_text p.0 fits.0) (number_text p.1 fits.1)) (numbered 0 blue) (numbered_fit 0 blue (omega arith) h)
+    at false = list_text numbered_json (λ (p : ℕ × ℕ). (p.0 < 2 ^ 64) × (p.1 < 2 ^ 64)) 1 (λ p fits. pair_text (number_json p.0) (number_json p.1) 0 (number_text p.0 fits.0) (number_text p.1 fits.1)) (numbered 0 blue) (numbered_fit 0 blue (omega arith) h)
 
 deps_text : (version : ℕ) (blue : List ℕ) (red : ℕ) → length blue ≡ MOST_SITES → Each (λ n. n < 2 ^ 32) blue → red < 2 ^ 32 → IsText (deps_json version (record { blue = blue; red = red })) 3
 deps_text version blue red long h k = pair_text (blue_json version blue) (number_json red) 2 (blue_text version blue long h) (deeper (number_json red) 0 2 (number_text red (omega arith)) (omega arith))

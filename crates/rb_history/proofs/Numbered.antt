@@ -29,14 +29,14 @@ pub numbered_end : (ns : List ℕ) (i : ℕ) → length ns ≤ i → numbered i 
 numbered_end ns i past = ap (numbered i) (drop_all i ns past)
 
 -- the numbers of sites and the counts fit
-pub numbered_fit : (i : ℕ) (ns : List ℕ) → i + length ns ≤ MOST_SITES → Each (λ n. n < 2 ^ 32) ns → Each (λ p. (p.0 < 2 ^ 64) × (p.1 < 2 ^ 64)) (numbered i ns)
+pub numbered_fit : (i : ℕ) (ns : List ℕ) → i + length ns ≤ MOST_SITES → Each (λ n. n < 2 ^ 32) ns → Each (λ (p : ℕ × ℕ). (p.0 < 2 ^ 64) × (p.1 < 2 ^ 64)) (numbered i ns)
 numbered_fit i [] within h = tt
 numbered_fit i (n ∷ ns) within h = at (n == 0)
   where
-    later : Each (λ p. (p.0 < 2 ^ 64) × (p.1 < 2 ^ 64)) (numbered (i + 1) ns)
+    later : Each (λ (p : ℕ × ℕ). (p.0 < 2 ^ 64) × (p.1 < 2 ^ 64)) (numbered (i + 1) ns)
     later = numbered_fit (i + 1) ns (omega arith) h.1
 
-    at : (b : Bool) → Each (λ p. (p.0 < 2 ^ 64) × (p.1 < 2 ^ 64)) (if b then numbered (i + 1) ns else (i, n) ∷ numbered (i + 1) ns)
+    at : (b : Bool) → Each (λ (p : ℕ × ℕ). (p.0 < 2 ^ 64) × (p.1 < 2 ^ 64)) (if b then numbered (i + 1) ns else (i, n) ∷ numbered (i + 1) ns)
     at true = later
     at false = let small : n < 2 ^ 32 = h.0 in ((omega arith, omega arith), later)
 

@@ -107,17 +107,29 @@ fn calls_in(text: &str) -> usize {
     count
 }
 
-#[test]
-fn threads_audit(rt: HostRuntime) -> Result<(), Fail> {
+/// How many calls the tellers of a run make whose histories an audit accepts.
+fn audited_calls(rt: &HostRuntime, sites: u8, tellers: u8, version: &str) -> Result<usize, Fail> {
     let alloc = rt.alloc();
     let mut writer = Room::new(alloc, usize::MAX);
-    let run = run_threads(&rt, alloc, 3, 4, 7, NoGate, &mut writer);
+    let run = run_threads(rt, alloc, sites, tellers, 7, NoGate, &mut writer);
     assert_eq!(rt; run, Ok(()));
     let mut reader = Text::new(writer.taken.as_slice());
     let mut verdict = Room::new(alloc, usize::MAX);
     assert_eq!(rt; run_audit(alloc, &mut reader, &mut verdict), Ok(true));
     let text = std::str::from_utf8(writer.taken.as_slice())?;
-    assert_eq!(rt; calls_in(text), 400);
+    assert!(rt; text.contains(version));
+    Ok(calls_in(text))
+}
+
+#[test]
+fn threads_audit(rt: HostRuntime) -> Result<(), Fail> {
+    assert_eq!(rt; audited_calls(&rt, 3, 4, "\"version\":1}\n")?, 400);
+    Ok(())
+}
+
+#[test]
+fn threads_audit16(rt: HostRuntime) -> Result<(), Fail> {
+    assert_eq!(rt; audited_calls(&rt, 16, 16, "\"sites\":16,\"version\":2}\n")?, 1600);
     Ok(())
 }
 
