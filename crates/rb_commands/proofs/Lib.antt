@@ -11,3 +11,4 @@ pub mod UsualLines
 pub mod Verbs
 pub mod Scanned
 pub mod Batches
+pub mod Versions

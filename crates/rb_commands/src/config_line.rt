@@ -133,6 +133,7 @@ fn sites(value: &Value) -> Option<u8>
 }
 
 /// The configuration in a version that its sites may have.
+#[tactic(auto, using(crate::proofs::Versions::is_second, crate::proofs::Versions::stays))]
 fn in_version(config: Config, version: u8) -> Config
     requires made { config.version ≡ version_of config.sites }
     requires allowed { is_version version config.sites ≡ true }
@@ -146,6 +147,7 @@ fn in_version(config: Config, version: u8) -> Config
 }
 
 /// The configuration of these parts.
+#[tactic(auto, using(crate::proofs::Versions::faulty, crate::proofs::Versions::from_parts, crate::proofs::Versions::made_version, crate::proofs::Versions::not_allowed, crate::proofs::Versions::still_allowed))]
 fn made(
     alloc: Global,
     version: u8,
