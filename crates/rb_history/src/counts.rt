@@ -1,5 +1,6 @@
 //! How many of each site's blue operations a home had applied, as lines of either version of the format tell it.
-ghost use Rattle.std.specs.Prelude.{◌≡◌, ◌++◌};
+ghost use Rattle.std.specs.Prelude.{◌≡◌, ◌<◌, ◌≤◌, ◌++◌, IfSome};
+ghost use Rattle.rb_money.specs.declared.limits.TheConstants.{MOST_SITES};
 ghost use Rattle.serde_json.specs.View.{items_view, view};
 ghost use Rattle.serde_json.specs.Written.{compact_text};
 ghost use Rattle.rb_commands.specs.Adds.{Adds};
@@ -93,7 +94,8 @@ pub fn widened(first: &[u32; MOST_SITES_OF_VERSION_1]) -> [u32; MOST_SITES]
 
 /// The number of a site, at least this, and its count, above 0.
 fn numbered_one(value: &Value, least: usize) -> Option<(usize, u32)>
-    ensures { result ≡ numbered_at least (view value.now) }
+    ensures read { result ≡ numbered_at least (view value.now) }
+    ensures near { IfSome result (λ p. (least ≤ p.0) × (p.0 < MOST_SITES)) }
 {
     let (site, count) = pair(value)?;
     let site = usize::from(byte(site)?);

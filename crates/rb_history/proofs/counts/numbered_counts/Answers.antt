@@ -1,0 +1,43 @@
+use Rattle.std.proofs.Common.{◌≡◌, ◌+◌, ◌-◌, ℕ, List, Option, Some, [], drop, take, ap, refl, sym, ◌∙◌, add-one, arith, drop-cons, rules}
+use Rattle.std.specs.Prelude.{replicate}
+use Rattle.std.proofs.lemmas.List.{drop_all}
+use Rattle.serde_json.specs.View.{items_view, view}
+use Rattle.rb_money.specs.declared.limits.TheConstants.{MOST_SITES}
+use Rattle.rb_commands.proofs.Fronts.{with_front}
+use Rattle.rb_history.specs.Counts.{numbered_in}
+use Rattle.rb_history.proofs.Numbered.{all_read, none_behind, one_read, with_none}
+use Rattle.rb_history.proofs.counts.numbered_counts.Goals as goal
+
+pub loop-item-init : goal.loop-item-init
+loop-item-init c = record {
+  few = omega arith;
+  sites = search rules;
+  none = search rules;
+  read = with_none (numbered_in 0 (items_view c.args.items.now));
+}
+
+pub loop-item-preserved : goal.loop-item-preserved
+loop-item-preserved c =
+    let counts = c.loop-item.counts in
+    let least = c.loop-item.least in
+    let items = c.args.items.now in
+    let i = c.loop-item.item-index in
+    let made = c.in_ok-site in
+    let near = made.ensures.near in
+    let here = ap items_view (rw add-one (drop-cons items i _ (omega arith))) in
+    record {
+      few = omega (arith, near);
+      sites = search rules;
+      none = none_behind counts least made.site made.count near.0 near.1 c.loop-item.invariant.none;
+      read = one_read counts least made.site made.count _ (items_view (drop (i + 1) items)) _ c.loop-item.invariant.sites near.0 near.1 c.loop-item.invariant.none (sym made.ensures.read)
+          (ap (λ ds. with_front (take least counts) (numbered_in least ds)) (sym here) ∙ c.loop-item.invariant.read);
+    }
+
+pub returns : goal.returns
+returns c =
+    let counts = c.loop-item.counts in
+    let least = c.loop-item.least in
+    let items = c.args.items.now in
+    ap Some (sym (all_read counts least c.loop-item.invariant.none))
+    ∙ ap (λ l. with_front (take least counts) (numbered_in least (items_view l))) (sym (drop_all c.loop-item.item-index items (omega arith)))
+    ∙ c.loop-item.invariant.read
