@@ -1,29 +1,37 @@
 -- The counts above 0, each behind its site's number: written one by one, and read back.
-use Rattle.std.proofs.Common.{◌≡◌, ◌<◌, ◌≤◌, ◌+◌, ◌-◌, ◌^◌, ℕ, List, [], ◌∷◌, ◌++◌, length, take, drop, set, Bool, true, false, Option, Some, None, refl, sym, ap, ◌∙◌, arith, append_assoc, append-nil}
+use Rattle.std.proofs.Common.{◌≡◌, ◌<◌, ◌≤◌, ◌+◌, ◌-◌, ◌^◌, ℕ, List, [], ◌∷◌, ◌++◌, length, take, drop, set, Bool, true, false, Option, Some, None, refl, sym, ap, ap₂, ◌∙◌, arith, append_assoc, append-nil, codes}
 use Rattle.std.specs.Prelude.{◌==◌, ◌&&◌, map, nat_le, nat_lt, replicate, if◌then◌else◌, option_and_then, option_map}
 use Rattle.std.proofs.lemmas.Bool.Decides.{nat_tests}
 use Rattle.std.proofs.lemmas.List.{drop-drop, drop-replicate, drop-set-lt, drop_all, replicate_more, take-append-drop, take-replicate, take_more_set}
 use Rattle.std.proofs.Math.Seq.{take-add}
 use Rattle.serde_json.specs.Data.{Data, Items, item}
 use Rattle.serde_json.specs.View.{items_of}
+use Rattle.serde_json.specs.Written.{compact_text}
 use Rattle.rb_money.specs.declared.limits.TheConstants.{MOST_SITES}
 use Rattle.rb_commands.specs.Values.{number_json}
 use Rattle.rb_commands.proofs.Back.{below}
 use Rattle.rb_commands.proofs.Fronts.{with_front}
+use Rattle.rb_commands.proofs.Listed.{rest_text}
 use Rattle.rb_history.specs.Counts.{numbered, numbered_at, numbered_in, numbered_json}
 use Rattle.rb_history.specs.Fits.{Each}
 
 -- ---- written
 
-pub numbered_none : (ns : List ℕ) (i n : ℕ) → drop i ns ≡ n ∷ drop (i + 1) ns → n ≡ 0 → numbered i (drop i ns) ≡ numbered (i + 1) (drop (i + 1) ns)
-numbered_none ns i n is zero =
-    let test : (n == 0) ≡ true = grind (arith, nat_tests) in
-    ap (numbered i) is ∙ rw test refl
+-- the counts from one on are written behind these bytes, and now that one is: those from the next on are written behind what stands there now
+pub one_written : (counts : List ℕ) (i n : ℕ) (out new comma next total : List ℕ) → drop i counts ≡ n ∷ drop (i + 1) counts → new ≡ out ++ (if n == 0 then [] else comma ++ compact_text (numbered_json (i, n))) → next ≡ (if n == 0 then comma else codes ",")
+    → out ++ rest_text comma (map numbered_json (numbered i (drop i counts))) ≡ total → new ++ rest_text next (map numbered_json (numbered (i + 1) (drop (i + 1) counts))) ≡ total
+one_written counts i n out new comma next total is = rw is (by (n == 0))
+  where
+    later : List (ℕ × ℕ)
+    later = numbered (i + 1) (drop (i + 1) counts)
 
-pub numbered_some : (ns : List ℕ) (i n : ℕ) → drop i ns ≡ n ∷ drop (i + 1) ns → 0 < n → numbered i (drop i ns) ≡ (i, n) ∷ numbered (i + 1) (drop (i + 1) ns)
-numbered_some ns i n is some =
-    let test : (n == 0) ≡ false = grind (arith, nat_tests) in
-    ap (numbered i) is ∙ rw test refl
+    by : (b : Bool) → new ≡ out ++ (if b then [] else comma ++ compact_text (numbered_json (i, n))) → next ≡ (if b then comma else codes ",")
+        → out ++ rest_text comma (map numbered_json (if b then later else (i, n) ∷ later)) ≡ total → new ++ rest_text next (map numbered_json later) ≡ total
+    by true e f h = ap₂ (λ o c. o ++ rest_text c (map numbered_json later)) (e ∙ append-nil out) f ∙ h
+    by false e f h =
+        let rest = rest_text (codes ",") (map numbered_json later) in
+        let this = compact_text (numbered_json (i, n)) in
+        ap₂ (λ o c. o ++ rest_text c (map numbered_json later)) e f ∙ append_assoc out (comma ++ this) rest ∙ ap (λ l. out ++ l) (append_assoc comma this rest) ∙ h
 
 pub numbered_end : (ns : List ℕ) (i : ℕ) → length ns ≤ i → numbered i (drop i ns) ≡ []
 numbered_end ns i past = ap (numbered i) (drop_all i ns past)

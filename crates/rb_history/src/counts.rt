@@ -1,5 +1,5 @@
 //! How many of each site's blue operations a home had applied, as lines of either version of the format tell it.
-ghost use Rattle.std.specs.Prelude.{◌≡◌, ◌<◌, ◌≤◌, ◌++◌, IfSome};
+ghost use Rattle.std.specs.Prelude.{◌≡◌, ◌<◌, ◌≤◌, ◌==◌, ◌++◌, [], codes, if◌then◌else◌, IfOk, IfSome};
 ghost use Rattle.rb_money.specs.declared.limits.TheConstants.{MOST_SITES};
 ghost use Rattle.serde_json.specs.View.{items_view, view};
 ghost use Rattle.serde_json.specs.Written.{compact_text};
@@ -35,6 +35,23 @@ fn append_one(out: &mut Vec<u8>, comma: &str, site: u64, count: u32) -> Result<(
     append_number(out, "", count as u64, "]")
 }
 
+/// A site's number and its count behind a text, where the count isn't 0; and what stands before the next.
+fn append_some<'a>(
+    out: &mut Vec<u8>,
+    comma: &'a str,
+    site: u64,
+    count: u32,
+) -> Result<&'a str, AllocError>
+    ensures added { Adds result out.old.items out.new.items (if count == 0 then [] else comma.now ++ compact_text (numbered_json (site, count))) }
+    ensures next { IfOk result (λ next. next.now ≡ (if count == 0 then comma.now else codes ",")) }
+{
+    if count == 0 {
+        return Ok(comma);
+    }
+    append_one(out, comma, site, count)?;
+    Ok(",")
+}
+
 /// The counts above 0, each behind its site's number.
 fn append_numbered(out: &mut Vec<u8>, counts: &[u32]) -> Result<(), AllocError>
     ensures { Adds result out.old.items out.new.items (compact_text (list_json numbered_json (numbered 0 counts.now))) }
@@ -42,10 +59,8 @@ fn append_numbered(out: &mut Vec<u8>, counts: &[u32]) -> Result<(), AllocError>
     append(out, "[")?;
     let mut comma = "";
     for (site, count) in counts.iter().enumerate() {
-        if *count > 0 {
-            append_one(out, comma, site as u64, *count)?;
-            comma = ",";
-        }
+        let next = append_some(out, comma, site as u64, *count)?;
+        comma = next;
     }
     append(out, "]")
 }

@@ -1,4 +1,4 @@
-use Rattle.std.proofs.Common.{◌≡◌, ◌-◌, ◌++◌, ◌∷◌, [], take, get_or, ap, sym, ◌∙◌, arith, rules, take-append-drop}
+use Rattle.std.proofs.Common.{◌≡◌, ◌-◌, ◌++◌, ◌∷◌, [], drop, take, get_or, ap, sym, ◌∙◌, arith, rules, take-append-drop}
 use Rattle.std.specs.Prelude.{replicate}
 use Rattle.std.proofs.lemmas.List.{take_all, take_more, take_more_set}
 use Rattle.rb_money.specs.declared.limits.TheConstants.{MOST_SITES, MOST_SITES_OF_VERSION_1}
@@ -24,5 +24,5 @@ returns c =
     let site = c.loop-site.site in
     let all : site ≡ MOST_SITES_OF_VERSION_1 = omega arith in
     sym (take-append-drop site counts)
-    ∙ ap (λ l. l ++ _) (c.loop-site.invariant.same ∙ take_all site first (omega arith))
+    ∙ ap (λ l. l ++ drop site counts) (c.loop-site.invariant.same ∙ take_all site first (omega arith))
     ∙ ap (λ l. first ++ l) (c.loop-site.invariant.none ∙ ap (λ k. replicate (MOST_SITES - k) 0) all)
