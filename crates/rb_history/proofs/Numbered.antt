@@ -20,7 +20,7 @@ use Rattle.rb_history.specs.Fits.{Each}
 -- the counts from one on are written behind these bytes, and now that one is: those from the next on are written behind what stands there now
 pub one_written : (counts : List ℕ) (i n : ℕ) (out new comma next total : List ℕ) → drop i counts ≡ n ∷ drop (i + 1) counts → new ≡ out ++ (if n == 0 then [] else comma ++ compact_text (numbered_json (i, n))) → next ≡ (if n == 0 then comma else codes ",")
     → out ++ rest_text comma (map numbered_json (numbered i (drop i counts))) ≡ total → new ++ rest_text next (map numbered_json (numbered (i + 1) (drop (i + 1) counts))) ≡ total
-one_written counts i n out new comma next total is = rw is (by (n == 0))
+one_written counts i n out new comma next total is e f h = by (n == 0) e f (ap (λ l. out ++ rest_text comma (map numbered_json (numbered i l))) (sym is) ∙ h)
   where
     later : List (ℕ × ℕ)
     later = numbered (i + 1) (drop (i + 1) counts)
