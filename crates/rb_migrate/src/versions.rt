@@ -27,6 +27,7 @@ impl Model for Versions {
 }
 
 /// Adds a line feed, once more of a line stands at the end of these first bytes. An `Err` means out of memory, and takes that away.
+#[tactic(auto, using(crate::proofs::Ended::cut_back))]
 fn end_line(out: &mut Vec<u8>, before: usize) -> Result<(), AllocError>
     requires { before ≤ length out.old.items }
     ensures ok { OnOk result (out.new.items ≡ out.old.items ++ codes "\n") }
@@ -59,28 +60,33 @@ impl Versions {
     }
 
     /// Adds the line of the configuration in version 2. An `Err` means out of memory, and adds nothing.
+    #[tactic(auto, using(crate::proofs::Ended::config_ended, crate::proofs::Ended::taken_back))]
     pub fn append_config(&self, alloc: Global, out: &mut Vec<u8>) -> Result<(), AllocError>
         ensures ok { OnOk result (out.new.items ≡ out.old.items ++ config_line self.now) }
         ensures err { OnErr result (out.new.items ≡ out.old.items) }
     {
-        let before = out.len();
         let line = write_config(alloc, &self.written)?;
+        let before = out.len();
         match append(out, line.as_str()) {
-            Ok(()) => end_line(out, before),
+            Ok(()) => {}
             Err(refused) => {
                 out.truncate(before);
-                Err(refused)
+                return Err(refused);
             }
         }
+        end_line(out, before)?;
+        Ok(())
     }
 
     /// Adds the line of a site's entry in version 2. An `Err` means out of memory, and adds nothing.
+    #[tactic(auto, using(crate::proofs::Ended::entry_ended, crate::proofs::Ended::taken_back))]
     pub fn append_entry(&self, out: &mut Vec<u8>, site: u8, entry: &Entry) -> Result<(), AllocError>
         ensures ok { OnOk result (out.new.items ≡ out.old.items ++ entry_line self.now (site, entry.now)) }
         ensures err { OnErr result (out.new.items ≡ out.old.items) }
     {
         let before = out.len();
         append_line(out, &self.written, site, entry)?;
-        end_line(out, before)
+        end_line(out, before)?;
+        Ok(())
     }
 }
