@@ -7,10 +7,11 @@ use Rattle.std.specs.Cmp.Lexicographic.{pointwise}
 use Rattle.rb_shadow.specs.contracts.op_name.OpNamePartialEq.TheImpl.{ghosts as name_test}
 use Rattle.rb_shadow.specs.contracts.kind.KindPartialEq.TheImpl.{ghosts as kind_test}
 use Rattle.rb_shadow.specs.contracts.shadow.ShadowPartialEq.TheImpl.{ghosts as shadow_test}
+use Rattle.rb_money.specs.declared.place.Place.{Place}
 use Rattle.rb_shadow.specs.declared.op_name.OpName.{OpName}
 use Rattle.rb_shadow.specs.declared.op_name.OpName.TheVariants.{Blue, Red}
 use Rattle.rb_shadow.specs.declared.kind.Kind.{Kind}
-use Rattle.rb_shadow.specs.declared.kind.Kind.TheVariants.{Deposit, Withdraw, Declined, Interest, Cancel}
+use Rattle.rb_shadow.specs.declared.kind.Kind.TheVariants.{Deposit, Withdraw, Declined, Interest, Cancel, Transfer}
 use Rattle.rb_shadow.specs.declared.shadow.Shadow.{Shadow}
 use Rattle.rb_shadow.specs.Operations.{same_name, same_kind, same_numbers, same_shadow}
 use Rattle.rb_shadow.proofs.Members
@@ -35,8 +36,12 @@ same_numbers-true (m ∷ ms) (n ∷ ns) h =
     let k : ms ≡ ns = same_numbers-true ms ns rest in
     cc
 
+pub same_place : (a b : Place) → a.0 ≡ b.0 → a ≡ b
+same_place a b e = λ j. record { 0 = e j }
+
 pub same_kind-refl : (k : Kind) → same_kind k k ≡ true
 same_kind-refl (Cancel x) = Members.same_name-refl x
+same_kind-refl (Transfer a) = same_number-refl a.0
 same_kind-refl _ = refl
 
 pub same_kind-true : (j k : Kind) → same_kind j k ≡ true → j ≡ k
@@ -45,6 +50,7 @@ same_kind-true Withdraw Withdraw h = refl
 same_kind-true Declined Declined h = refl
 same_kind-true Interest Interest h = refl
 same_kind-true (Cancel x) (Cancel y) h = ap Cancel (Members.same_name-true x y h)
+same_kind-true (Transfer a) (Transfer b) h = ap Transfer (same_place a b (same_number-true a.0 b.0 h))
 same_kind-true _ _ h = cc
 
 pub same_shadow-refl : (v : Shadow) → same_shadow v v ≡ true
@@ -89,6 +95,7 @@ kind_tested Withdraw Withdraw = refl
 kind_tested Declined Declined = refl
 kind_tested Interest Interest = refl
 kind_tested (Cancel x) (Cancel y) = name_tested x y
+kind_tested (Transfer a) (Transfer b) = refl
 kind_tested _ _ = refl
 
 numbers_tested : (ms ns : List ℕ) → pointwise nat_eq ms ns ≡ same_numbers ms ns
