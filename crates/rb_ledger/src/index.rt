@@ -88,10 +88,11 @@ impl Index {
     fn balance(&self, place: Place) -> u64
         ensures { result ≡ (slice_index_or self.now.heads.items place.0 no_head).balance }
     {
-        match self.heads.get(usize::from(place.0)) {
-            Some(head) => head.balance,
-            None => 0,
+        let index = usize::from(place.0);
+        if index >= self.heads.len() {
+            return 0;
         }
+        self.heads[index].balance
     }
 
     /// What is kept to undo a shadow that may follow, as the next operation after those before.
@@ -100,15 +101,18 @@ impl Index {
         requires longer { IsValid self.now.config (before.now ++ shadow.now ∷ []) }
         ensures { result ≡ parts_of self.now.config before.now shadow.now }
     {
-        let other = self.other(before, shadow.kind).unwrap_or(Place::NOWHERE);
+        let second = self.other(before, shadow.kind);
+        let other = second.unwrap_or(Place::NOWHERE);
+        let balance = self.balance(shadow.account);
+        let other_balance = self.balance(other);
         UndoParts {
             position: before.len() as u32 + 1,
             name: shadow.name,
             place: shadow.account,
-            balance: self.balance(shadow.account),
+            balance,
             target: self.target(shadow.kind),
             other,
-            other_balance: self.balance(other),
+            other_balance,
         }
     }
 
