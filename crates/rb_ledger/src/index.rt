@@ -150,18 +150,10 @@ impl Index {
         self.rows.pop(row_of(parts.name));
         self.cancels.truncate(before.len());
         cancel_one_less(&mut self.cancels, parts.target);
-        count_off(
-            &mut self.heads,
-            parts.place,
-            links.own.earlier,
-            parts.balance,
-        );
-        count_off(
-            &mut self.heads,
-            parts.other,
-            links.other.earlier,
-            parts.other_balance,
-        );
+        let own = links.own.earlier;
+        let other = links.other.earlier;
+        count_off(&mut self.heads, parts.place, own, parts.balance);
+        count_off(&mut self.heads, parts.other, other, parts.other_balance);
     }
 }
 
