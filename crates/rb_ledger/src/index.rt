@@ -76,10 +76,10 @@ impl Index {
         ensures { result ≡ other_by before.now kind (target_of kind) }
     {
         match kind.target() {
-            Some(target) => {
-                let position = self.find(&target)?;
-                before[position as usize - 1].kind.receiver()
-            }
+            Some(target) => match self.find(&target) {
+                Some(position) => before[position as usize - 1].kind.receiver(),
+                None => None,
+            },
             None => kind.receiver(),
         }
     }

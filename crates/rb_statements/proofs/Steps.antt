@@ -1,5 +1,5 @@
 -- The rows of a statement, from one operation on the account back to the one before.
-use Rattle.std.proofs.Common.{◌≡◌, ℕ, zero, suc, ◌+◌, ◌-◌, ◌<◌, ◌≤◌, ◌||◌, Bool, true, false, cond, List, [], ◌∷◌, ◌++◌, length, take, drop, reverse, refl, ap, sym, ◌∙◌, subst, arith, append_assoc}
+use Rattle.std.proofs.Common.{◌≡◌, ℕ, zero, suc, ◌+◌, ◌-◌, ◌<◌, ◌≤◌, ◌⊎◌, inl, inr, Bool, true, false, cond, List, [], ◌∷◌, ◌++◌, length, take, drop, reverse, refl, ap, sym, ◌∙◌, subst, arith, append_assoc}
 use Rattle.std.specs.Borrow.{Bor}
 use Rattle.std.specs.Prelude.{ℤ, pos, neg_ℤ, ◌+ℤ◌, ◌≤ℤ◌, ◌==◌, slice_get, Option, Some, None, option_map, option_copied, option_and_then, is_some, IsSome}
 use Rattle.std.proofs.lemmas.Int.{ints}
@@ -12,30 +12,18 @@ use Rattle.rb_money.specs.Settings.{Settings, start_of}
 use Rattle.rb_money.specs.declared.place.Place.{Place}
 use Rattle.rb_shadow.specs.Labels.{label_of}
 use Rattle.rb_shadow.specs.Operations.{bal, is_cancelled, is_on}
+use Rattle.rb_shadow.proofs.Members
 use Rattle.rb_shadow.specs.declared.shadow.Shadow.{Shadow}
 use Rattle.rb_shadow.specs.declared.label.Label.{Label}
 use Rattle.rb_ledger.specs.Valid.{IsValid, entry_at, first_cancel_in, first_cancel_from}
 use Rattle.rb_ledger.specs.Changes.{moved_at}
 use Rattle.rb_ledger.specs.OnAccount.{IsOn, IsNoneAfter, IsLast}
 use Rattle.rb_ledger.proofs.ChainFacts
-use Rattle.rb_ledger.proofs.IndexLists
 use Rattle.rb_ledger.proofs.Moves
 use Rattle.rb_statements.specs.Statements.{row_of, rows_here, rows_of, statement_of}
 use Rattle.rb_statements.specs.declared.row.Row.{Row}
 use Rattle.rb_statements.specs.declared.account.Statement.{Statement}
 use Rattle.rb_statements.proofs.Same.{of_fields, same_fields}
-
--- ---- whether an operation is on the account
-
-on_account : (us : List Shadow) (u : Shadow) (a : Place) → u.account.0 ≡ a.0 → is_on us u a ≡ true
-on_account us u a own = let test : (u.account.0 == a.0) ≡ true = grind (arith, nat_tests) in ap (λ b. b || false) test
-
-off_account : (us : List Shadow) (u : Shadow) (a : Place) → (u.account.0 ≡ a.0 → ⊥) → is_on us u a ≡ false
-off_account us u a apart = at (u.account.0 == a.0) refl
-  where
-    at : (b : Bool) → (u.account.0 == a.0) ≡ b → (b || false) ≡ false
-    at true e = absurd (apart (grind (arith, nat_tests)))
-    at false e = refl
 
 -- ---- what is looked up at a position on the account
 
@@ -57,13 +45,13 @@ has_moved s us a p None on some e = let same : None ≡ Some (bal s (take p us) 
 has_moved s us a p (Some z) on some e = refl
 
 -- the operation that is found there
-pub found_there : (us : List Shadow) (a : Place) (p : ℕ) (o : Option (Bor Shadow)) (x : Bor Shadow) → IsOn us a p → 0 < p → option_copied o ≡ entry_at us p → o ≡ Some x → (slice_get us (p - 1) ≡ Some x.now) × (x.now.account.0 ≡ a.0)
+pub found_there : (us : List Shadow) (a : Place) (p : ℕ) (o : Option (Bor Shadow)) (x : Bor Shadow) → IsOn us a p → 0 < p → option_copied o ≡ entry_at us p → o ≡ Some x → (slice_get us (p - 1) ≡ Some x.now) × (is_on (take (p - 1) us) x.now a ≡ true)
 found_there us a p o x on some e is =
     let (u, there, own) = ChainFacts.on_entry us a p on some in
     let found : slice_get us (p - 1) ≡ Some x.now = sym (entry_here us p some) ∙ sym e ∙ ap option_copied is in
     let both : Some x.now ≡ Some u = sym found ∙ there in
     let same : x.now ≡ u = cc in
-    (found, ap (λ (v : Shadow). v.account.0) same ∙ own)
+    (found, ap (λ (v : Shadow). is_on (take (p - 1) us) v a) same ∙ own)
 
 -- what it moved
 pub moved_there : (s : Settings) (us : List Shadow) (a : Place) (p : ℕ) (o : Option ℤ) (z : ℤ) → IsOn us a p → 0 < p → o ≡ moved_at s us a p → o ≡ Some z → z ≡ bal s (take p us) a +ℤ neg_ℤ (bal s (take (p - 1) us) a)
@@ -90,11 +78,15 @@ unshown s us a p zero low none = ap (λ n. rows_of s us a [] (take n us)) (let z
 unshown s us a p (suc d) low none =
     let (u, there) = ChainFacts.element us (p + d) (omega arith) in
     let next : p + suc d ≡ (p + d) + 1 = omega arith in
-    let apart : u.account.0 ≡ a.0 → ⊥ = (λ own. omega (arith, none (p + d) u (IndexLists.get_taken (p + suc d) us (p + d) (omega arith) ∙ there) own)) in
+    let apart : is_on (take (p + d) us) u a ≡ false = off (p + d) u (omega arith) there (Members.bool_cases (is_on (take (p + d) us) u a)) in
     let front : List Row = rows_of s us a [] (take (p + d) us) in
     ap (λ n. rows_of s us a [] (take n us)) next ∙ rows_next s us a (p + d) u there
-    ∙ ap (λ b. front ++ cond b (row_of s us a (take (p + d) us) u ∷ []) []) (off_account (take (p + d) us) u a apart) ∙ append-nil front
-    ∙ unshown s us a p d (omega arith) (λ i v e own. let (near, here) = IndexLists.get_take (p + d) us i v e in none i v (IndexLists.get_taken (p + suc d) us i (omega arith) ∙ here) own)
+    ∙ ap (λ b. front ++ cond b (row_of s us a (take (p + d) us) u ∷ []) []) apart ∙ append-nil front
+    ∙ unshown s us a p d (omega arith) (ChainFacts.none_in_front us (p + d) a p (λ i v near e own. ChainFacts.none_of_front us (p + suc d) a p i v none (omega arith) e own))
+  where
+    off : (i : ℕ) (u : Shadow) → i ≡ p + d → slice_get us i ≡ Some u → (is_on (take i us) u a ≡ true) ⊎ (is_on (take i us) u a ≡ false) → is_on (take i us) u a ≡ false
+    off i u is there (inl own) = absurd (omega (arith, is, ChainFacts.none_of_front us (p + suc d) a p i u none (omega (arith, is)) there own))
+    off i u is there (inr e) = e
 
 -- so they are those up to the last operation on the account
 last_rows : (s : Settings) (us : List Shadow) (a : Place) (n p : ℕ) → n ≤ length us → IsLast (take n us) a p → rows_of s us a [] (take n us) ≡ rows_of s us a [] (take p us)
@@ -104,7 +96,7 @@ last_rows s us a n p low last =
     ap (λ k. rows_of s us a [] (take k us)) (sym split) ∙ unshown s us a p (n - p) (omega arith) (subst (λ k. IsNoneAfter (take k us) a p) (sym split) last.after)
 
 -- the last row is made of what is looked up
-pub own_row : (s : Settings) (us : List Shadow) (a : Place) (p : ℕ) (u : Shadow) (k : Label) (z : ℤ) (o : Option ℕ) (c : Bool) (n : ℕ) → 0 < p → slice_get us (p - 1) ≡ Some u → u.account.0 ≡ a.0 → k ≡ label_of u.kind
+pub own_row : (s : Settings) (us : List Shadow) (a : Place) (p : ℕ) (u : Shadow) (k : Label) (z : ℤ) (o : Option ℕ) (c : Bool) (n : ℕ) → 0 < p → slice_get us (p - 1) ≡ Some u → is_on (take (p - 1) us) u a ≡ true → k ≡ label_of u.kind
     → z ≡ bal s (take p us) a +ℤ neg_ℤ (bal s (take (p - 1) us) a) → o ≡ option_and_then (λ (w : Shadow). first_cancel_in us w.name) (entry_at us p) → c ≡ is_some o → pos n ≡ bal s (take p us) a
     → rows_of s us a [] (take p us) ≡ rows_of s us a [] (take (p - 1) us) ++ of_fields p u.name k z c n ∷ []
 own_row s us a p u k z o c n some there own kind moved cancel known sum =
@@ -118,7 +110,7 @@ own_row s us a p u k z o c n some there own kind moved cancel known sum =
     let balance : n ≡ cents (bal s (front ++ u ∷ []) a) = ap cents (sum ∙ ap (λ ws. bal s ws a) after) in
     let made : of_fields p u.name k z c n ≡ row_of s us a front u = same_fields _ _ _ _ _ _ _ _ _ _ _ _ position refl kind change cancelled balance in
     ap (rows_of s us a []) after ∙ rows_push s us a [] front u
-    ∙ ap (λ b. rows_of s us a [] front ++ cond b (row_of s us a front u ∷ []) []) (on_account front u a own)
+    ∙ ap (λ b. rows_of s us a [] front ++ cond b (row_of s us a front u ∷ []) []) own
     ∙ ap (λ (r : Row). rows_of s us a [] front ++ r ∷ []) (sym made)
   where
     any : (b : Bool) → is_some (cond b (Some (first_cancel_from 1 us u.name)) None) ≡ b
