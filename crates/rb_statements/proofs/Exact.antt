@@ -9,7 +9,7 @@ use Rattle.rb_shadow.specs.contracts.label.LabelPartialEq.TheImpl.{ghosts as lab
 use Rattle.rb_shadow.specs.declared.op_name.OpName.{OpName}
 use Rattle.rb_shadow.specs.declared.op_name.OpName.TheVariants.{Blue, Red}
 use Rattle.rb_shadow.specs.declared.label.Label.{Label}
-use Rattle.rb_shadow.specs.declared.label.Label.TheVariants.{Deposit, Withdraw, Declined, Interest, Cancel}
+use Rattle.rb_shadow.specs.declared.label.Label.TheVariants.{Deposit, Withdraw, Declined, Interest, Cancel, Transfer}
 
 -- the test is true of equal things, and of no others
 pub record IsExact {A : Type 0} (test : A → A → Bool) : Type 0 where
@@ -73,6 +73,7 @@ labels_exact = record { sound = sound; same = same }
     sound Declined Declined h = refl
     sound Interest Interest h = refl
     sound Cancel Cancel h = refl
+    sound Transfer Transfer h = refl
     sound _ _ h = cc
 
     same : (x : Label) → label_test.eq x x ≡ true
