@@ -48,12 +48,13 @@ received s v b facts e = at (ap (is_misdirected (length s.starts) v.account) (sy
 
 -- and so is a second account
 pub second_apart : (s : Settings) (us : List Shadow) (h : Shadow) (b : Place) → IsValid s us → IsSound s h → HasTarget us h (target_of h.kind) → other_of us h ≡ Some b → (b.0 < length s.starts) × (h.account.0 ≡ b.0 → ⊥)
-second_apart s us h b valid sound target e = elim (Pushes.other_cases us h b target valid.unique e) [
-  | inl k ↦ received s h b (SoundFacts.sound_facts s h sound) k
-  | inr (t, there, account, k) ↦
-      let (near, apart) = received s t b (ValidClocks.member_sound s us t valid there) k in
-      (near, λ e. apart (ap (λ (p : Place). p.0) account ∙ e))
-]
+second_apart s us h b valid sound target e = at (Pushes.other_cases us h b target valid.unique e)
+  where
+    at : (receiver_of h.kind ≡ Some b) ⊎ ((t : Shadow) × Among t us × (t.account ≡ h.account) × (receiver_of t.kind ≡ Some b)) → (b.0 < length s.starts) × (h.account.0 ≡ b.0 → ⊥)
+    at (inl k) = received s h b (SoundFacts.sound_facts s h sound) k
+    at (inr (t, there, account, k)) =
+        let (near, apart) = received s t b (ValidClocks.member_sound s us t valid there) k in
+        (near, λ e. apart (ap (λ (p : Place). p.0) account ∙ e))
 
 pub other_apart : (s : Settings) (us : List Shadow) (h : Shadow) (b : Place) → IsValid s us → Legal.MayFollow s us h → other_of us h ≡ Some b → (b.0 < length s.starts) × (h.account.0 ≡ b.0 → ⊥)
 other_apart s us h b valid may e = second_apart s us h b valid may.sound may.target e
@@ -112,31 +113,28 @@ changed s us h hs f g configured valid may many a new e = at (other_of us h) ref
 
     -- none of the two is the account
     off : (o : Option Place) → other_of us h ≡ o → (a.0 ≡ (unwrap_or o NOWHERE).0 → ⊥) → (a.0 ≡ h.account.0 → ⊥) → is_on us h a ≡ false
-    off o is other own = elim (Members.bool_cases (is_on us h a)) [
-      | inr k ↦ k
-      | inl k ↦ elim (ChainFacts.on_sides us h a k) [
-        | inl j ↦ absurd (own (ap (λ (p : Place). p.0) (sym j)))
-        | inr j ↦ absurd (other (ap (λ o. (unwrap_or o NOWHERE).0) (sym j ∙ is)))
-      ]
-    ]
+    off o is other own = elim (Members.bool_cases (is_on us h a)) [ inl k ↦ absurd (neither (ChainFacts.on_sides us h a k)) | inr k ↦ k ]
+      where
+        neither : (h.account ≡ a) ⊎ (other_of us h ≡ Some a) → ⊥
+        neither (inl j) = own (ap (λ (p : Place). p.0) (sym j))
+        neither (inr j) = other (ap (λ o. (unwrap_or o NOWHERE).0) (sym j ∙ is))
 
-    on_first : (o : Option Place) → other_of us h ≡ o → (a.0 ≡ (unwrap_or o NOWHERE).0 → ⊥) → slice_get first a.0 ≡ Some new → IsChanged us h hs f g a new
-    on_first o is other read = elim (IndexLists.get_set hs h.account.0 (f (get_or hs h.account.0 no_head)) new a.0 read) [
-      | inl (own, k) ↦
-          let place : h.account ≡ a = ChainFacts.same_place h.account a (sym own) in
-          inl (ChainFacts.on_own us h a (sym own), get_or hs h.account.0 no_head, ap (slice_get hs) own ∙ item hs h.account.0 no_head own_near, inl (place, k))
-      | inr (own, k) ↦ inr (off o is other own, k)
-    ]
+    on_first : (o : Option Place) → other_of us h ≡ o → (a.0 ≡ (unwrap_or o NOWHERE).0 → ⊥)
+        → ((a.0 ≡ h.account.0) × (f (get_or hs h.account.0 no_head) ≡ new)) ⊎ ((a.0 ≡ h.account.0 → ⊥) × (slice_get hs a.0 ≡ Some new)) → IsChanged us h hs f g a new
+    on_first o is other (inl (own, k)) =
+        inl (ChainFacts.on_own us h a (sym own), get_or hs h.account.0 no_head, ap (slice_get hs) own ∙ item hs h.account.0 no_head own_near, inl (ChainFacts.same_place h.account a (sym own), k))
+    on_first o is other (inr (own, k)) = inr (off o is other own, k)
 
     none_there : (now : List Head) → length now ≡ length hs → slice_get now a.0 ≡ Some new → a.0 ≡ NOWHERE.0 → ⊥
     none_there now same read e = omega (arith, e, same, many, slice_get_within now a.0 new read, configured.starts_of_all, configured.few_accounts)
 
     at : (o : Option Place) → other_of us h ≡ o → slice_get (heads_at (unwrap_or o NOWHERE).0 g first) a.0 ≡ Some new → IsChanged us h hs f g a new
-    at o is read = elim (IndexLists.get_set first (unwrap_or o NOWHERE).0 (g (get_or first (unwrap_or o NOWHERE).0 no_head)) new a.0 read) [
-      | inr (other, k) ↦ on_first o is other k
-      | inl (other, k) ↦ second o is read other k
-    ]
+    at o is read = either (IndexLists.get_set first (unwrap_or o NOWHERE).0 (g (get_or first (unwrap_or o NOWHERE).0 no_head)) new a.0 read)
       where
+        either : ((a.0 ≡ (unwrap_or o NOWHERE).0) × (g (get_or first (unwrap_or o NOWHERE).0 no_head) ≡ new)) ⊎ ((a.0 ≡ (unwrap_or o NOWHERE).0 → ⊥) × (slice_get first a.0 ≡ Some new)) → IsChanged us h hs f g a new
+        either (inl (other, k)) = second o is read other k
+        either (inr (other, k)) = on_first o is other (IndexLists.get_set hs h.account.0 (f (get_or hs h.account.0 no_head)) new a.0 k)
+
         second : (o : Option Place) → other_of us h ≡ o → slice_get (heads_at (unwrap_or o NOWHERE).0 g first) a.0 ≡ Some new → a.0 ≡ (unwrap_or o NOWHERE).0 → g (get_or first (unwrap_or o NOWHERE).0 no_head) ≡ new → IsChanged us h hs f g a new
         second None is read other k =
             absurd (none_there (heads_at NOWHERE.0 g first) (length-set first NOWHERE.0 (g (get_or first NOWHERE.0 no_head)) ∙ length-set hs h.account.0 (f (get_or hs h.account.0 no_head))) read other)

@@ -78,7 +78,7 @@ unshown s us a p zero low none = ap (λ n. rows_of s us a [] (take n us)) (let z
 unshown s us a p (suc d) low none =
     let (u, there) = ChainFacts.element us (p + d) (omega arith) in
     let next : p + suc d ≡ (p + d) + 1 = omega arith in
-    let apart : is_on (take (p + d) us) u a ≡ false = off (p + d) u (omega arith) there (Members.bool_cases (is_on (take (p + d) us) u a)) in
+    let apart : is_on (take (p + d) us) u a ≡ false = off (p + d) u refl there (Members.bool_cases (is_on (take (p + d) us) u a)) in
     let front : List Row = rows_of s us a [] (take (p + d) us) in
     ap (λ n. rows_of s us a [] (take n us)) next ∙ rows_next s us a (p + d) u there
     ∙ ap (λ b. front ++ cond b (row_of s us a (take (p + d) us) u ∷ []) []) apart ∙ append-nil front
