@@ -3,7 +3,7 @@ use Rattle.std.specs.Prelude.{◌≡◌, ℕ, ◌+◌, ◌-◌, ◌<◌, ◌≤�
 use Rattle.rb_money.specs.Settings.{Settings}
 use Rattle.rb_site.specs.declared.entry.Entry.{Entry}
 use Rattle.rb_site.specs.declared.event.Event.{Event}
-use Rattle.rb_site.specs.declared.event.Event.TheVariants.{Submit, Batch, Receive, Apply, Pass, Balance, AsOf, Statement as AskStatement}
+use Rattle.rb_site.specs.declared.event.Event.TheVariants.{Receive}
 use Rattle.rb_site.specs.declared.message.Message.{Message}
 use Rattle.rb_site.specs.declared.world_event.WorldEvent.{WorldEvent}
 use Rattle.rb_site.specs.Events.{ModelSite, after_events, first_site, sent_at}
@@ -64,13 +64,7 @@ taken_next p i k h x = record p {
 -- the event may come where these messages were sent
 abbrev pub MayCome : List Message → Event → Type 0
 MayCome ms (Receive m) = IsAmong m ms
-MayCome ms (Submit r) = Unit {0}
-MayCome ms (Batch rs) = Unit {0}
-MayCome ms (Apply x) = Unit {0}
-MayCome ms (Pass to) = Unit {0}
-MayCome ms (Balance a) = Unit {0}
-MayCome ms (AsOf a n) = Unit {0}
-MayCome ms (AskStatement a) = Unit {0}
+MayCome ms _ = Unit {0}
 
 -- the next entry of the history i was taken
 pub record Took (p q : Progress) (i : ℕ) : Type 0 where

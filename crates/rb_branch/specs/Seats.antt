@@ -3,7 +3,7 @@ use Rattle.std.specs.Prelude.{◌≡◌, ◌≢◌, ◌⊎◌, ℕ, ◌+◌, ◌
 use Rattle.rb_money.specs.Settings.{Settings}
 use Rattle.rb_branch.specs.declared.receipt.Receipt.{Receipt}
 use Rattle.rb_site.specs.declared.event.Event.{Event}
-use Rattle.rb_site.specs.declared.event.Event.TheVariants.{Submit, Batch, Receive, Apply, Pass, Balance, AsOf, Statement as AskStatement}
+use Rattle.rb_site.specs.declared.event.Event.TheVariants.{Receive, Apply}
 use Rattle.rb_site.specs.declared.message.Message.{Message}
 use Rattle.rb_site.specs.declared.reply.Reply.{Reply}
 use Rattle.rb_site.specs.Events.{first_site, is_full, reply_to, sent_at}
@@ -78,24 +78,13 @@ pub record HasOneMore (old new : SeenSeat) (P : Event → Type 0) (number : ℕ)
 -- a held operation is to be applied
 abbrev pub IsApply : Event → Type 0
 IsApply (Apply x) = Unit {0}
-IsApply (Submit r) = ⊥
-IsApply (Batch rs) = ⊥
-IsApply (Receive m) = ⊥
-IsApply (Pass to) = ⊥
-IsApply (Balance a) = ⊥
-IsApply (AsOf a n) = ⊥
-IsApply (AskStatement a) = ⊥
+IsApply _ = ⊥
 
 -- an event that serves a site: a message comes, or a held operation is to be applied
 abbrev pub IsServed : Event → Type 0
 IsServed (Receive m) = Unit {0}
 IsServed (Apply x) = Unit {0}
-IsServed (Submit r) = ⊥
-IsServed (Batch rs) = ⊥
-IsServed (Pass to) = ⊥
-IsServed (Balance a) = ⊥
-IsServed (AsOf a n) = ⊥
-IsServed (AskStatement a) = ⊥
+IsServed _ = ⊥
 
 -- the seat has so many receipts more, at its end, all of events that serve its site
 pub record HasServed (old new : SeenSeat) (count : ℕ) : Type 0 where

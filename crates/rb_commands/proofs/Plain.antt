@@ -16,7 +16,7 @@ use Rattle.rb_shadow.specs.declared.op_name.OpName.{OpName}
 use Rattle.rb_shadow.specs.declared.op_name.OpName.TheVariants.{Blue, Red}
 use Rattle.rb_commands.specs.Values.{label_text}
 use Rattle.rb_shadow.specs.declared.label.Label.{Label}
-use Rattle.rb_shadow.specs.declared.label.Label.TheVariants.{Deposit, Withdraw, Declined, Interest, Cancel}
+use Rattle.rb_shadow.specs.declared.label.Label.TheVariants.{Deposit}
 
 -- no byte of the list needs an escape
 abbrev pub ArePlain : List ℕ → Type 0
@@ -54,10 +54,7 @@ quoted_plain xs h = rw (escape_plain xs h) refl
 pub quoted_label : (k : Label) → quoted (label_text k) ≡ 34 ∷ (label_text k ++ 34 ∷ [])
 unfolding escape_byte
 quoted_label Deposit = refl
-quoted_label Withdraw = refl
-quoted_label Declined = refl
-quoted_label Interest = refl
-quoted_label Cancel = refl
+quoted_label _ = refl
 
 pub quoted_blue : (s n : ℕ) → s < 2 ^ 8 → n < 2 ^ 32 → quoted (name_text (Blue s n)) ≡ codes "\"B" ++ (decimal s ++ (codes "." ++ (decimal n ++ codes "\"")))
 quoted_blue s n h k = quoted_plain (name_text (Blue s n)) (plain_name (Blue s n) (h, k)) ∙ simp append_assoc

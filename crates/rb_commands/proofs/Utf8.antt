@@ -15,7 +15,7 @@ use Rattle.rb_shadow.specs.NameText.{name_text}
 use Rattle.rb_shadow.specs.declared.op_name.OpName.{OpName}
 use Rattle.rb_shadow.specs.declared.op_name.OpName.TheVariants.{Blue, Red}
 use Rattle.rb_shadow.specs.declared.label.Label.{Label}
-use Rattle.rb_shadow.specs.declared.label.Label.TheVariants.{Deposit, Withdraw, Declined, Interest, Cancel}
+use Rattle.rb_shadow.specs.declared.label.Label.TheVariants.{Deposit}
 use Rattle.rb_site.specs.declared.reply.Reply.{Reply}
 use Rattle.rb_site.specs.declared.reply.Reply.TheVariants.{Made, Names, Held, Already, Taken, Stale, Applied, Passed, Balance, Statement, Refused}
 use Rattle.rb_statements.specs.declared.row.Row.{Row}
@@ -53,10 +53,7 @@ name_utf8 (Red n) = IsUtf8-append (codes "R") (decimal n) (IsUtf8-are_ascii _ re
 
 pub label_utf8 : (k : Label) → IsUtf8 (label_text k)
 label_utf8 Deposit = IsUtf8-are_ascii _ refl
-label_utf8 Withdraw = IsUtf8-are_ascii _ refl
-label_utf8 Declined = IsUtf8-are_ascii _ refl
-label_utf8 Interest = IsUtf8-are_ascii _ refl
-label_utf8 Cancel = IsUtf8-are_ascii _ refl
+label_utf8 _ = IsUtf8-are_ascii _ refl
 
 -- each string in a value is UTF-8, and each key ASCII
 abbrev mutual

@@ -9,7 +9,7 @@ use Rattle.rb_money.specs.declared.place.Place.{Place}
 use Rattle.rb_scratch.specs.declared.request.Request.{Request}
 use Rattle.rb_scratch.specs.declared.request.Request.TheVariants.{Deposit, Withdraw, Interest, Cancel}
 use Rattle.rb_shadow.specs.declared.kind.Kind.{Kind}
-use Rattle.rb_shadow.specs.declared.kind.Kind.TheVariants.{Deposit as DepositKind, Withdraw as WithdrawKind, Declined as DeclinedKind, Interest as InterestKind, Cancel as CancelKind}
+use Rattle.rb_shadow.specs.declared.kind.Kind.TheVariants.{Cancel as CancelKind}
 use Rattle.rb_shadow.specs.declared.op_name.OpName.{OpName}
 use Rattle.rb_shadow.specs.declared.shadow.Shadow.{Shadow}
 use Rattle.rb_site.specs.declared.entry.Entry.{Entry}
@@ -46,11 +46,8 @@ abbrev shadow_with : OpName → ℕ → List ℕ → ℕ → Place → ℕ → K
 shadow_with name home blue red account amount kind = record { name = name; home = home; deps = record { blue = blue; red = red }; account = account; amount = amount; kind = kind }
 
 kind_back : (s : Settings) (name : OpName) (home : ℕ) (blue : List ℕ) (red : ℕ) (account : Place) (amount : ℕ) (kind : Kind) → IsKind kind → kind_at (shadow_json s (shadow_with name home blue red account amount kind)) ≡ Some kind
-kind_back s name home blue red account amount DepositKind h = refl
-kind_back s name home blue red account amount WithdrawKind h = refl
-kind_back s name home blue red account amount DeclinedKind h = refl
-kind_back s name home blue red account amount InterestKind h = refl
 kind_back s name home blue red account amount (CancelKind x) h = rw (back x h) refl
+kind_back s name home blue red account amount _ h = refl
 
 shadow_by : (s : Settings) → IsConfigured s → (name : OpName) (home : ℕ) (blue : List ℕ) (red : ℕ) (account : Place) (amount : ℕ) (kind : Kind) → IsShadow s (shadow_with name home blue red account amount kind) → shadow_at s (shadow_json s (shadow_with name home blue red account amount kind)) ≡ Some (shadow_with name home blue red account amount kind)
 shadow_by s c name home blue red account amount kind h =

@@ -18,7 +18,7 @@ use Rattle.rb_scratch.specs.declared.request.Request.{Request}
 use Rattle.rb_scratch.specs.declared.request.Request.TheVariants.{Deposit, Withdraw, Interest, Cancel}
 use Rattle.rb_shadow.specs.NameText.{IsName}
 use Rattle.rb_shadow.specs.declared.kind.Kind.{Kind}
-use Rattle.rb_shadow.specs.declared.kind.Kind.TheVariants.{Deposit as DepositKind, Withdraw as WithdrawKind, Declined as DeclinedKind, Interest as InterestKind, Cancel as CancelKind}
+use Rattle.rb_shadow.specs.declared.kind.Kind.TheVariants.{Cancel as CancelKind}
 use Rattle.rb_shadow.specs.declared.shadow.Shadow.{Shadow}
 use Rattle.rb_site.specs.declared.entry.Entry.{Entry}
 use Rattle.rb_site.specs.declared.event.Event.{Event}
@@ -122,11 +122,8 @@ shadow_text s v h = of_kind v.kind
     home = let small = h.home in number_text v.home (omega arith)
 
     of_kind : (kind : Kind) → IsText (shadow_json s (with_kind v kind)) 3
-    of_kind DepositKind = let d = deps.shallow in record { numbers = (tt, (amount.numbers, (deps.numbers, (home.numbers, (tt, (tt, tt)))))); shallow = omega arith; same = rw (amount.same, deps.same, home.same) refl }
-    of_kind WithdrawKind = let d = deps.shallow in record { numbers = (tt, (amount.numbers, (deps.numbers, (home.numbers, (tt, (tt, tt)))))); shallow = omega arith; same = rw (amount.same, deps.same, home.same) refl }
-    of_kind DeclinedKind = let d = deps.shallow in record { numbers = (tt, (amount.numbers, (deps.numbers, (home.numbers, (tt, (tt, tt)))))); shallow = omega arith; same = rw (amount.same, deps.same, home.same) refl }
-    of_kind InterestKind = let d = deps.shallow in record { numbers = (tt, (amount.numbers, (deps.numbers, (home.numbers, (tt, (tt, tt)))))); shallow = omega arith; same = rw (amount.same, deps.same, home.same) refl }
     of_kind (CancelKind x) = let d = deps.shallow in record { numbers = (tt, (amount.numbers, (deps.numbers, (home.numbers, (tt, (tt, (tt, tt))))))); shallow = omega arith; same = rw (amount.same, deps.same, home.same) refl }
+    of_kind _ = let d = deps.shallow in record { numbers = (tt, (amount.numbers, (deps.numbers, (home.numbers, (tt, (tt, tt)))))); shallow = omega arith; same = rw (amount.same, deps.same, home.same) refl }
 
 event_text : (s : Settings) (e : Event) → IsEvent s e → IsText (event_json s e) 4
 event_text s (Submit r) h = deeper (request_json s r) 2 4 (request_text s r h) (omega arith)

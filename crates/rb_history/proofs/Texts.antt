@@ -13,7 +13,7 @@ use Rattle.rb_scratch.specs.declared.request.Request.{Request}
 use Rattle.rb_scratch.specs.declared.request.Request.TheVariants.{Deposit, Withdraw, Interest, Cancel}
 use Rattle.rb_shadow.specs.Labels.{label_of}
 use Rattle.rb_shadow.specs.declared.kind.Kind.{Kind}
-use Rattle.rb_shadow.specs.declared.kind.Kind.TheVariants.{Deposit as DepositKind, Withdraw as WithdrawKind, Declined as DeclinedKind, Interest as InterestKind, Cancel as CancelKind}
+use Rattle.rb_shadow.specs.declared.kind.Kind.TheVariants.{Cancel as CancelKind}
 use Rattle.rb_shadow.specs.declared.shadow.Shadow.{Shadow}
 use Rattle.rb_site.specs.declared.entry.Entry.{Entry}
 use Rattle.rb_site.specs.declared.event.Event.{Event}
@@ -49,11 +49,8 @@ request_texts s c (Interest a n) = (refl, (account_texts s c a, (tt, tt)), tt)
 request_texts s c (Cancel x) = (refl, name_utf8 x, tt)
 
 target_texts : (k : Kind) → MembersHaveTexts (target_json k)
-target_texts DepositKind = tt
-target_texts WithdrawKind = tt
-target_texts DeclinedKind = tt
-target_texts InterestKind = tt
 target_texts (CancelKind x) = (refl, name_utf8 x, tt)
+target_texts _ = tt
 
 shadow_texts : (s : Settings) → IsConfigured s → (v : Shadow) → HasTexts (shadow_json s v)
 shadow_texts s c v =

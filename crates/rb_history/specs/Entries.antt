@@ -10,7 +10,7 @@ use Rattle.rb_scratch.specs.declared.request.Request.TheVariants.{Deposit, Withd
 use Rattle.rb_shadow.specs.Labels.{label_of}
 use Rattle.rb_shadow.specs.declared.deps.Deps.{Deps}
 use Rattle.rb_shadow.specs.declared.kind.Kind.{Kind}
-use Rattle.rb_shadow.specs.declared.kind.Kind.TheVariants.{Deposit as DepositKind, Withdraw as WithdrawKind, Declined as DeclinedKind, Interest as InterestKind, Cancel as CancelKind}
+use Rattle.rb_shadow.specs.declared.kind.Kind.TheVariants.{Cancel as CancelKind}
 use Rattle.rb_shadow.specs.declared.shadow.Shadow.{Shadow}
 use Rattle.rb_site.specs.declared.entry.Entry.{Entry}
 use Rattle.rb_site.specs.declared.event.Event.{Event}
@@ -45,11 +45,8 @@ deps_json d = pair_json (list_json number_json d.blue) (number_json d.red)
 
 -- the target, of a cancellation alone
 abbrev pub target_json : Kind → Members
-target_json DepositKind = no_members
-target_json WithdrawKind = no_members
-target_json DeclinedKind = no_members
-target_json InterestKind = no_members
 target_json (CancelKind x) = member (codes "target") (name_json x) no_members
+target_json _ = no_members
 
 abbrev pub shadow_json : Settings → Shadow → Data
 shadow_json s v = object

@@ -12,7 +12,7 @@ use Rattle.rb_scratch.specs.declared.request.Request.{Request}
 use Rattle.rb_scratch.specs.declared.request.Request.TheVariants.{Deposit, Withdraw, Interest, Cancel}
 use Rattle.rb_shadow.specs.NameText.{IsName}
 use Rattle.rb_shadow.specs.declared.kind.Kind.{Kind}
-use Rattle.rb_shadow.specs.declared.kind.Kind.TheVariants.{Deposit as DepositKind, Withdraw as WithdrawKind, Declined as DeclinedKind, Interest as InterestKind, Cancel as CancelKind}
+use Rattle.rb_shadow.specs.declared.kind.Kind.TheVariants.{Cancel as CancelKind}
 use Rattle.rb_shadow.specs.declared.shadow.Shadow.{Shadow}
 use Rattle.rb_site.specs.declared.entry.Entry.{Entry}
 use Rattle.rb_site.specs.declared.event.Event.{Event}
@@ -40,11 +40,8 @@ IsRequest s (Interest a rate) = IsKnown s a × (rate < 2 ^ 32)
 IsRequest s (Cancel x) = IsName x
 
 abbrev pub IsKind : Kind → Type 0
-IsKind DepositKind = ⊤
-IsKind WithdrawKind = ⊤
-IsKind DeclinedKind = ⊤
-IsKind InterestKind = ⊤
 IsKind (CancelKind x) = IsName x
+IsKind _ = ⊤
 
 pub record IsShadow (s : Settings) (v : Shadow) : Type 0 where
   pub name : IsName v.name

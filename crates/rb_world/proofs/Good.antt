@@ -6,7 +6,7 @@ use Rattle.rb_money.specs.declared.limits.TheConstants.{MOST_SITES}
 use Rattle.rb_shadow.specs.declared.op_name.OpName.{OpName}
 use Rattle.rb_shadow.specs.declared.shadow.Shadow.{Shadow}
 use Rattle.rb_shadow.specs.declared.kind.Kind.{Kind}
-use Rattle.rb_shadow.specs.declared.kind.Kind.TheVariants.{Deposit, Withdraw, Declined, Interest, Cancel}
+use Rattle.rb_shadow.specs.declared.kind.Kind.TheVariants.{Cancel}
 use Rattle.rb_shadow.specs.declared.colour.Colour.TheVariants.{Red as RedColour}
 use Rattle.rb_shadow.specs.Operations.{Among, IsUnique, colour_of, is_red, kind_in, names, same_name, target_of}
 use Rattle.rb_shadow.proofs.Members
@@ -101,12 +101,9 @@ good_run s es some few own = Steps.after_all s (IsGood s) (keeps_good s) es (fir
 
 -- the colour by the kind is the colour that the name shows
 red_by_kind : (all : List Shadow) (v : Shadow) (k : Kind) → IsUnique all → HasKind all v k → colour_of k (option_and_then (kind_in all) (target_of k)) ≡ RedColour → is_red v.name ≡ true
-red_by_kind all v Deposit unique h e = cc
-red_by_kind all v Withdraw unique h e = h
-red_by_kind all v Declined unique h e = cc
-red_by_kind all v Interest unique h e = cc
 red_by_kind all v (Cancel x) unique h e =
     Right.is_red-shown v.name _ h.colour (sym (ap (colour_of (Cancel x)) (ap (kind_in all) (sym h.named) ∙ Pushes.kind_in-named all h.target unique h.there)) ∙ e)
+red_by_kind all v k unique h e = Right.is_red-shown v.name _ h e
 
 pub red_blue : (s : Settings) (w : World) → IsGood s w → IsRedBlue s w
 red_blue s w g = record {

@@ -7,19 +7,16 @@ use Rattle.rb_money.specs.Settings.{Settings}
 use Rattle.rb_money.specs.declared.place.Place.{Place}
 use Rattle.rb_money.specs.declared.refusal.Refusal.TheVariants.{BadMessage, Conflict, HistoryFull, InboxFull, NotReady, NotYours}
 use Rattle.rb_shadow.specs.declared.op_name.OpName.{OpName}
-use Rattle.rb_shadow.specs.declared.op_name.OpName.TheVariants.{Blue, Red}
 use Rattle.rb_shadow.specs.declared.kind.Kind.{Kind}
-use Rattle.rb_shadow.specs.declared.kind.Kind.TheVariants.{Deposit, Withdraw, Declined, Interest, Cancel}
-use Rattle.rb_shadow.specs.declared.colour.Colour.{Colour}
-use Rattle.rb_shadow.specs.declared.colour.Colour.TheVariants.{Blue as BlueColour, Red as RedColour}
+use Rattle.rb_shadow.specs.declared.kind.Kind.TheVariants.{Cancel}
 use Rattle.rb_shadow.specs.declared.shadow.Shadow.{Shadow}
-use Rattle.rb_shadow.specs.Operations.{Among, IsUnique, IsWithin, bal, colour_in, colour_of, find_in, is_eligible, is_red, kind_in, names, past, same_shadow, shown_colour, target_of}
+use Rattle.rb_shadow.specs.Operations.{Among, IsUnique, IsWithin, bal, colour_in, colour_of, find_in, is_eligible, kind_in, names, past, same_shadow, shown_colour, target_of}
 use Rattle.rb_shadow.proofs.Members
 use Rattle.rb_shadow.proofs.Lookups
 use Rattle.rb_shadow.specs.Laws.{IsClosed, IsPart}
 use Rattle.rb_shadow.proofs.Eligible
 use Rattle.rb_shadow.proofs.Same.{same_shadow-refl}
-use Rattle.rb_ledger.specs.Checks.{has_wrong_target, is_wrong_target, refusal_of_sound, same_colour}
+use Rattle.rb_ledger.specs.Checks.{has_wrong_target, is_wrong_target, refusal_of_sound}
 use Rattle.rb_ledger.proofs.Legal
 use Rattle.rb_ledger.proofs.Pushes
 use Rattle.rb_statements.proofs.Exact.{number_same}
@@ -52,47 +49,27 @@ found_is all us u v unique part h e = let f : Among u us × (u.name ≡ v.name) 
 -- ---- the check of an operation of the world
 
 right_if : (s : Settings) (us : List Shadow) (v : Shadow)
-    → names us v.name ≡ false → is_eligible us v ≡ true → has_wrong_target us v v.kind ≡ false → shown_colour v.name ≡ colour_in us v → pos 0 ≤ℤ bal s (us ++ v ∷ []) v.account
+    → names us v.name ≡ false → is_eligible us v ≡ true → has_wrong_target us v (target_of v.kind) ≡ false → shown_colour v.name ≡ colour_in us v → pos 0 ≤ℤ bal s (us ++ v ∷ []) v.account
     → refusal_of_sound s us v ≡ None
-right_if s us v a b c d e = cond-false _ _ _ a ∙ cond-false _ _ _ (ap not b) ∙ cond-false _ _ _ c ∙ cond-false _ _ _ (coloured (shown_colour v.name) (colour_in us v) d) ∙ cond-false _ _ _ (Members.false-or _ _ (Legal.not_negative (bal s (us ++ v ∷ []) v.account) e) refl)
-  where
-    coloured : (c d : Colour) → c ≡ d → not (same_colour c d) ≡ false
-    coloured BlueColour BlueColour e = refl
-    coloured RedColour RedColour e = refl
-    coloured BlueColour RedColour e = cc
-    coloured RedColour BlueColour e = cc
-
-shown_blue : (x : OpName) → is_red x ≡ false → shown_colour x ≡ BlueColour
-shown_blue (Blue i n) h = refl
-shown_blue (Red n) h = cc
-
-shown_red : (x : OpName) → is_red x ≡ true → shown_colour x ≡ RedColour
-shown_red (Blue i n) h = cc
-shown_red (Red n) h = refl
+right_if s us v a b c d e = cond-false _ _ _ a ∙ cond-false _ _ _ (ap not b) ∙ cond-false _ _ _ c ∙ cond-false _ _ _ (Legal.not_other (shown_colour v.name) (colour_in us v) d) ∙ cond-false _ _ _ (Members.false-or _ _ (Legal.not_negative (bal s (us ++ v ∷ []) v.account) e) refl)
 
 -- the target is in a list that has the past
 target_there : (all us : List Shadow) (v : Shadow) (x : OpName) → IsUnique all → IsPart us all → IsWithin (past v) (names us) → (h : HasKind all v (Cancel x)) → Among h.target us
 target_there all us v x unique part within h = Order.named_there all us h.target unique part h.there (ap (names us) h.named ∙ within x h.seen)
 
 colour_there : (all us : List Shadow) (v : Shadow) (k : Kind) → IsUnique all → IsUnique us → IsPart us all → IsWithin (past v) (names us) → HasKind all v k → shown_colour v.name ≡ colour_of k (option_and_then (kind_in us) (target_of k))
-colour_there all us v Deposit unique uu part within h = shown_blue v.name h
-colour_there all us v Withdraw unique uu part within h = shown_red v.name h
-colour_there all us v Declined unique uu part within h = shown_blue v.name h
-colour_there all us v Interest unique uu part within h = shown_blue v.name h
 colour_there all us v (Cancel x) unique uu part within h =
     h.colour ∙ sym (ap (colour_of (Cancel x)) (ap (kind_in us) (sym h.named) ∙ Pushes.kind_in-named us h.target uu (target_there all us v x unique part within h)))
+colour_there all us v _ unique uu part within h = h
 
-right_target : (all us : List Shadow) (v : Shadow) (k : Kind) → IsUnique all → IsPart us all → IsWithin (past v) (names us) → HasKind all v k → has_wrong_target us v k ≡ false
-right_target all us v Deposit unique part within h = refl
-right_target all us v Withdraw unique part within h = refl
-right_target all us v Declined unique part within h = refl
-right_target all us v Interest unique part within h = refl
+right_target : (all us : List Shadow) (v : Shadow) (k : Kind) → IsUnique all → IsPart us all → IsWithin (past v) (names us) → HasKind all v k → has_wrong_target us v (target_of k) ≡ false
 right_target all us v (Cancel x) unique part within h =
     let (u, e) = Lookups.found_named us x (within x h.seen) in
     let named : find_in us h.target.name ≡ Some u = ap (find_in us) h.named ∙ e in
     let is : u ≡ h.target = found_is all us u h.target unique part h.there named in
     ap (is_wrong_target v) e ∙ ap (λ (t : Shadow). is_wrong_target v (Some t)) is
     ∙ Members.false-or _ _ (Members.false-or _ _ (ap not h.right.kind) (ap not (ap (λ (a : Place). a.0 == v.account.0) h.right.account ∙ number_same v.account.0))) (ap not (ap (λ n. n == v.amount) h.right.amount ∙ number_same v.amount))
+right_target all us v _ unique part within h = refl
 
 -- a list with one more that has its past there is closed
 closed_more : (us : List Shadow) (v : Shadow) → IsClosed us → IsWithin (past v) (names us) → IsClosed (us ++ v ∷ [])

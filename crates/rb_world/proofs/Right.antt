@@ -1,5 +1,5 @@
 -- Each operation made has its kind's colour and target, and each red one was covered where it was made.
-use Rattle.std.proofs.Common.{◌≡◌, ℕ, Bool, true, false, cond, ◌&&◌, List, [], ◌∷◌, ◌++◌, refl, ap, sym, ◌∙◌, arith, inl, inr, subst, Some}
+use Rattle.std.proofs.Common.{◌≡◌, ℕ, Bool, true, false, ◌&&◌, List, [], ◌∷◌, ◌++◌, refl, ap, sym, ◌∙◌, arith, inl, inr, subst, Option, Some, None}
 use Rattle.std.specs.Prelude.{◌==◌, pos, neg_ℤ, ◌+ℤ◌, ◌≤ℤ◌, option_and_then}
 use Rattle.std.proofs.lemmas.Int.{ints}
 use Rattle.rb_money.specs.Settings.{Settings}
@@ -7,11 +7,11 @@ use Rattle.rb_money.specs.declared.place.Place.{Place}
 use Rattle.rb_shadow.specs.declared.op_name.OpName.{OpName}
 use Rattle.rb_shadow.specs.declared.op_name.OpName.TheVariants.{Blue, Red}
 use Rattle.rb_shadow.specs.declared.kind.Kind.{Kind}
-use Rattle.rb_shadow.specs.declared.kind.Kind.TheVariants.{Deposit, Withdraw, Declined, Interest, Cancel}
+use Rattle.rb_shadow.specs.declared.kind.Kind.TheVariants.{Withdraw, Cancel}
 use Rattle.rb_shadow.specs.declared.colour.Colour.{Colour}
 use Rattle.rb_shadow.specs.declared.colour.Colour.TheVariants.{Blue as BlueColour, Red as RedColour}
 use Rattle.rb_shadow.specs.declared.shadow.Shadow.{Shadow}
-use Rattle.rb_shadow.specs.Operations.{Among, AreSame, IsUnique, bal, cancels, colour_of, is_cancel, is_cancelled, is_red, kind_in, names, past, shown_colour, target_of}
+use Rattle.rb_shadow.specs.Operations.{Among, AreSame, IsUnique, bal, cancels, colour_of, is_cancel, is_cancelled, is_red, kind_in, moved, names, past, shown_colour, target_of}
 use Rattle.rb_shadow.proofs.Members
 use Rattle.rb_shadow.proofs.Balances
 use Rattle.rb_shadow.specs.Laws.{IsClosed, IsFunded, IsPart}
@@ -41,12 +41,13 @@ pub record IsCancelOf (all : List Shadow) (v : Shadow) (x : OpName) : Type 0 whe
   pub right : IsTargetOf v target
   pub colour : shown_colour v.name ≡ colour_of (Cancel x) (Some target.kind)
 
+-- without a target it has its kind's one colour
+abbrev pub HasKindBy : List Shadow → Shadow → Kind → Option OpName → Type 0
+HasKindBy all v k None = shown_colour v.name ≡ colour_of k None
+HasKindBy all v k (Some x) = IsCancelOf all v x
+
 abbrev pub HasKind : List Shadow → Shadow → Kind → Type 0
-HasKind all v Deposit = is_red v.name ≡ false
-HasKind all v Withdraw = is_red v.name ≡ true
-HasKind all v Declined = is_red v.name ≡ false
-HasKind all v Interest = is_red v.name ≡ false
-HasKind all v (Cancel x) = IsCancelOf all v x
+HasKind all v k = HasKindBy all v k (target_of k)
 
 -- its home had applied its past, and had the money
 pub record IsPaidFor (s : Settings) (all : List Shadow) (v : Shadow) : Type 0 where
@@ -70,27 +71,18 @@ is_red-shown (Blue i n) c e k = cc
 is_red-shown (Red n) c e k = refl
 
 red_to_undo : (x : OpName) (k : Kind) → adds k ≡ true → colour_of (Cancel x) (Some k) ≡ RedColour
-red_to_undo x Deposit h = refl
 red_to_undo x Withdraw h = cc
-red_to_undo x Declined h = cc
-red_to_undo x Interest h = refl
-red_to_undo x (Cancel y) h = cc
+red_to_undo x _ h = refl
 
 withdraw_red : (all : List Shadow) (v : Shadow) (k : Kind) → HasKind all v k → is_withdraw k ≡ true → is_red v.name ≡ true
-withdraw_red all v Deposit h e = cc
-withdraw_red all v Withdraw h e = h
-withdraw_red all v Declined h e = cc
-withdraw_red all v Interest h e = cc
-withdraw_red all v (Cancel x) h e = cc
+withdraw_red all v Withdraw h e = is_red-shown v.name _ h refl
+withdraw_red all v _ h e = cc
 
 cancel_red : (all : List Shadow) (u c : Shadow) (k : Kind) → IsUnique all → Among u all → HasKind all c k → cancels k u.name ≡ true → adds u.kind ≡ true → is_red c.name ≡ true
-cancel_red all u c Deposit unique there h e a = cc
-cancel_red all u c Withdraw unique there h e a = cc
-cancel_red all u c Declined unique there h e a = cc
-cancel_red all u c Interest unique there h e a = cc
 cancel_red all u c (Cancel x) unique there h e a =
     let same : h.target ≡ u = Members.same_named all h.target u unique h.there there (h.named ∙ Members.same_name-true x u.name e) in
     is_red-shown c.name _ h.colour (red_to_undo x h.target.kind (ap (λ (t : Shadow). adds t.kind) same ∙ a))
+cancel_red all u c _ unique there h e a = cc
 
 pub is_covered : (s : Settings) (all : List Shadow) → IsUnique all → AreRight s all → IsCovered s all
 is_covered s all unique right = record {
@@ -122,12 +114,6 @@ list_never_negative s all us a o right l = never_negative s all us a o right l.p
 
 -- ---- what is made is right
 
-red_name : (me : ℕ) (us : List Shadow) (x : OpName) → x ≡ next_name me us RedColour → is_red x ≡ true
-red_name me us x e = ap is_red e
-
-blue_name : (me : ℕ) (us : List Shadow) (x : OpName) → x ≡ next_name me us BlueColour → is_red x ≡ false
-blue_name me us x e = ap is_red e
-
 -- the colour of a plan, by its kind
 plan_colour : (us : List Shadow) (p : Plan) (k : Kind) → p.kind ≡ k → colour_of_plan us p ≡ colour_of k (option_and_then (kind_in us) (target_of k))
 plan_colour us p k e = ap (λ k. colour_of k (option_and_then (kind_in us) (target_of k))) e
@@ -143,10 +129,6 @@ unfolding operation_of
 fields s us me v p e = record { name = ap (λ (x : Shadow). x.name) e; account = ap (λ (x : Shadow). x.account) e; amount = ap (λ (x : Shadow). x.amount) e; kind = ap (λ (x : Shadow). x.kind) e }
 
 kind_made : (s : Settings) (all us : List Shadow) (me : ℕ) (v : Shadow) (p : Plan) (k : Kind) → IsUnique us → IsPart us all → AreSame (past v) (names us) → Made s us me v p → p.kind ≡ k → IsPlanned s us p k → HasKind all v k
-kind_made s all us me v p Deposit unique part is_past m e h = blue_name me us v.name (m.name ∙ ap (next_name me us) (plan_colour us p Deposit e))
-kind_made s all us me v p Withdraw unique part is_past m e h = red_name me us v.name (m.name ∙ ap (next_name me us) (plan_colour us p Withdraw e))
-kind_made s all us me v p Declined unique part is_past m e h = blue_name me us v.name (m.name ∙ ap (next_name me us) (plan_colour us p Declined e))
-kind_made s all us me v p Interest unique part is_past m e h = blue_name me us v.name (m.name ∙ ap (next_name me us) (plan_colour us p Interest e))
 kind_made s all us me v p (Cancel x) unique part is_past m e h = record {
   target = h.target;
   there = part h.target h.there;
@@ -155,14 +137,12 @@ kind_made s all us me v p (Cancel x) unique part is_past m e h = record {
   right = record { kind = h.kind; account = h.account ∙ sym m.account; amount = h.amount ∙ sym m.amount };
   colour = ap shown_colour m.name ∙ Makes.shows me us (colour_of_plan us p) ∙ plan_colour us p (Cancel x) e ∙ ap (colour_of (Cancel x)) (ap (kind_in us) (sym h.named) ∙ Pushes.kind_in-named us h.target unique h.there);
 }
+kind_made s all us me v p k unique part is_past m e h = ap shown_colour m.name ∙ Makes.shows me us (colour_of_plan us p) ∙ plan_colour us p k e
 
 -- what is made has its target in the list
-target_made : (s : Settings) (us : List Shadow) (me : ℕ) (v : Shadow) (p : Plan) (k : Kind) → Made s us me v p → IsPlanned s us p k → HasTarget us v k
-target_made s us me v p Deposit m h = tt
-target_made s us me v p Withdraw m h = tt
-target_made s us me v p Declined m h = tt
-target_made s us me v p Interest m h = tt
+target_made : (s : Settings) (us : List Shadow) (me : ℕ) (v : Shadow) (p : Plan) (k : Kind) → Made s us me v p → IsPlanned s us p k → HasTarget us v (target_of k)
 target_made s us me v p (Cancel x) m h = (h.target, h.there, h.named, record { kind = h.kind; account = h.account ∙ sym m.account; amount = h.amount ∙ sym m.amount })
+target_made s us me v p _ m h = tt
 
 -- nothing of the set cancels a name that isn't there
 not_cancelled : (s : Settings) (all us : List Shadow) (x : OpName) → AreRight s all → IsPart us all → names all x ≡ false → is_cancelled us x ≡ false
@@ -172,20 +152,22 @@ not_cancelled s all us x right part fresh = elim (Members.bool_cases (is_cancell
 ]
   where
     never : (c : Shadow) (k : Kind) → HasKind all c k → cancels k x ≡ true → ⊥
-    never c Deposit h e = cc
-    never c Withdraw h e = cc
-    never c Declined h e = cc
-    never c Interest h e = cc
     never c (Cancel y) h e = Members.true≢false (sym (Members.named all h.target h.there) ∙ ap (names all) (h.named ∙ Members.same_name-true y x e) ∙ fresh)
+    never c _ h e = cc
+
+-- a name that shows blue isn't red
+not_red : (x : OpName) → shown_colour x ≡ BlueColour → is_red x ≡ true → ⊥
+not_red (Blue i n) e h = cc
+not_red (Red n) e h = cc
 
 -- a red operation leaves no account below zero
 covered_made : (s : Settings) (us : List Shadow) (me : ℕ) (token : Token) (v : Shadow) (p : Plan) (k : Kind) (a : Place)
-    → Made s us me v p → p.kind ≡ k → IsPlanned s us p k → ((b : Place) → pos 0 ≤ℤ bal s us b)
+    → IsUnique us → HasTarget us v (target_of v.kind) → Made s us me v p → p.kind ≡ k → IsPlanned s us p k → ((b : Place) → pos 0 ≤ℤ bal s us b)
     → bal s (us ++ v ∷ []) a ≡ bal s us a +ℤ Pushes.change us v a
     → is_red v.name ≡ true → IsAllowed s us token v v.name → HasKind us v k → pos 0 ≤ℤ bal s (us ++ v ∷ []) a
-covered_made s us me token v p k a m e h base push red fair kind = elim (Members.bool_cases (v.account.0 == a.0)) [
-  | inl q ↦ own k e h kind (place_sound v.account a q) (ap (λ b. cond b (Pushes.change_of us v.kind v.amount) (pos 0)) q)
-  | inr q ↦ (let z : Pushes.change us v a ≡ pos 0 = ap (λ b. cond b (Pushes.change_of us v.kind v.amount) (pos 0)) q in omega (arith, ints, push, z, base a))
+covered_made s us me token v p k a unique target m e h base push red fair kind = elim (Members.bool_cases (v.account.0 == a.0)) [
+  | inl q ↦ own k e h kind (place_sound v.account a q)
+  | inr q ↦ omega (arith, ints, push, Pushes.change_elsewhere us v a unique target q, base a)
 ]
   where
     overdrawn : (x : OpName) → IsAllowed s us token v x → is_red x ≡ true → (is_cancel v.kind && overdraws s us v) ≡ false
@@ -196,17 +178,16 @@ covered_made s us me token v p k a m e h base push red fair kind = elim (Members
     second true c q r = r
     second false c q r = cc
 
-    own : (k : Kind) → p.kind ≡ k → IsPlanned s us p k → HasKind us v k → v.account ≡ a → Pushes.change us v a ≡ Pushes.change_of us v.kind v.amount → pos 0 ≤ℤ bal s (us ++ v ∷ []) a
-    own Deposit e h kind q z = absurd (Members.true≢false (sym red ∙ kind))
-    own Declined e h kind q z = absurd (Members.true≢false (sym red ∙ kind))
-    own Interest e h kind q z = absurd (Members.true≢false (sym red ∙ kind))
-    own Withdraw e h kind q z =
+    own : (k : Kind) → p.kind ≡ k → IsPlanned s us p k → HasKind us v k → v.account ≡ a → pos 0 ≤ℤ bal s (us ++ v ∷ []) a
+    own Withdraw e h kind q =
         let enough : pos p.amount ≤ℤ bal s us p.account = Makes.enough _ _ h.1 in
         let here : bal s us p.account ≡ bal s us a = ap (bal s us) (sym m.account ∙ q) in
-        let takes : Pushes.change us v a ≡ neg_ℤ (pos p.amount) = z ∙ ap (λ k. Pushes.change_of us k v.amount) (m.kind ∙ e) ∙ ap (λ n. neg_ℤ (pos n)) m.amount in
+        let takes : Pushes.change us v a ≡ neg_ℤ (pos p.amount) =
+        ap (Pushes.change us v) (sym q) ∙ Pushes.change_plain us v (ap target_of (m.kind ∙ e)) ∙ ap (λ k. moved k v.amount) (m.kind ∙ e) ∙ ap (λ n. neg_ℤ (pos n)) m.amount in
         omega (arith, ints, enough, here, takes, push)
-    own (Cancel x) e h kind q z =
+    own (Cancel x) e h kind q =
         subst (λ b. pos 0 ≤ℤ bal s (us ++ v ∷ []) b) q (Legal.covers_nothing _ (Members.or-false _ _ (second (is_cancel v.kind) (overdraws s us v) (ap is_cancel (m.kind ∙ e)) (overdrawn v.name fair red))).0)
+    own _ e h kind q = absurd (not_red v.name kind red)
 
 pub right_made : (s : Settings) (all us : List Shadow) (me : ℕ) (token : Token) (v : Shadow) → IsOrderedSet all → AreRight s all → IsSerial all us → IsNew all us v → IsMadeAt s me us token v → IsRight s (all ++ v ∷ []) v
 right_made s all us me token v o right l n made = record {
@@ -216,8 +197,8 @@ right_made s all us me token v o right l n made = record {
     part = λ u h. Order.part-more all v u (l.part u h);
     unique = l.unique;
     is_past = λ x. sym (n.is_past x);
-    covered = λ a. covered_made s us me token v made.plan made.plan.kind a m refl plan (λ b. list_never_negative s all us b o right l)
-        (Pushes.bal-push s us v a l.unique (not_cancelled s all us v.name right l.part n.fresh) (subst (HasTarget us v) (sym m.kind) (target_made s us me v made.plan made.plan.kind m plan)))
+    covered = λ a. covered_made s us me token v made.plan made.plan.kind a l.unique target m refl plan (λ b. list_never_negative s all us b o right l)
+        (Pushes.bal-push s us v a l.unique (not_cancelled s all us v.name right l.part n.fresh) target)
         red made.fair (kind_made s us us me v made.plan made.plan.kind l.unique (λ u h. h) n.is_past m refl plan);
   };
 }
@@ -228,16 +209,16 @@ right_made s all us me token v o right l n made = record {
     plan : IsPlanned s us made.plan made.plan.kind
     plan = planned s us made.request made.plan made.planned
 
+    target : HasTarget us v (target_of v.kind)
+    target = subst (λ k. HasTarget us v (target_of k)) (sym m.kind) (target_made s us me v made.plan made.plan.kind m plan)
+
     kind : (k : Kind) → k ≡ made.plan.kind → HasKind (all ++ v ∷ []) v k
     kind k e = subst (HasKind (all ++ v ∷ []) v) (sym e) (kind_made s (all ++ v ∷ []) us me v made.plan made.plan.kind l.unique (λ u h. Order.part-more all v u (l.part u h)) n.is_past m refl plan)
 
 -- what is right stays so
 has_kind-more : (all : List Shadow) (v u : Shadow) (k : Kind) → HasKind all u k → HasKind (all ++ v ∷ []) u k
-has_kind-more all v u Deposit h = h
-has_kind-more all v u Withdraw h = h
-has_kind-more all v u Declined h = h
-has_kind-more all v u Interest h = h
 has_kind-more all v u (Cancel x) h = record { target = h.target; there = Order.part-more all v h.target h.there; named = h.named; seen = h.seen; right = h.right; colour = h.colour }
+has_kind-more all v u _ h = h
 
 right-more : (s : Settings) (all : List Shadow) (v u : Shadow) → IsRight s all u → IsRight s (all ++ v ∷ []) u
 right-more s all v u r = record {

@@ -15,15 +15,16 @@ use Rattle.rb_scratch.proofs.Made.{IsMadeAt}
 use Rattle.rb_shadow.specs.declared.op_name.OpName.{OpName}
 use Rattle.rb_shadow.specs.declared.op_name.OpName.TheVariants.{Blue, Red}
 use Rattle.rb_shadow.specs.declared.kind.Kind.{Kind}
-use Rattle.rb_shadow.specs.declared.kind.Kind.TheVariants.{Deposit, Withdraw, Declined, Interest, Cancel}
+use Rattle.rb_shadow.specs.declared.kind.Kind.TheVariants.{Withdraw, Interest, Cancel}
 use Rattle.rb_shadow.specs.declared.shadow.Shadow.{Shadow}
-use Rattle.rb_shadow.specs.Operations.{Among, blue_count, clock_of, entry_of, is_red, names_of_clock, number_of, past, red_count}
+use Rattle.rb_shadow.specs.Operations.{Among, blue_count, clock_of, entry_of, names_of_clock, number_of, past, red_count, shown_colour}
 use Rattle.rb_shadow.specs.Sound.{IsSound, are_entries, cancels_unseen, fault_of, is_absent, is_clock, is_foreign, is_miscoloured, limit_of, may_be_nothing}
 use Rattle.rb_shadow.proofs.Members
 use Rattle.rb_shadow.proofs.Clocks
 use Rattle.rb_shadow.proofs.Clocks.{IsCounted}
 use Rattle.rb_shadow.proofs.SoundFacts
 use Rattle.rb_shadow.proofs.SoundFacts.{SoundFacts}
+use Rattle.rb_ledger.proofs.Legal
 use Rattle.rb_token.specs.declared.message.TokenMessage.{TokenMessage}
 use Rattle.rb_site.specs.declared.message.Message.{Message}
 use Rattle.rb_site.specs.declared.message.Message.TheVariants.{Shadow as ShadowMessage, Token as TokenOnItsWay}
@@ -130,29 +131,18 @@ own_name (Blue i n) home h = grind (arith, nat_tests)
 own_name (Red n) home h = refl
 
 right_colour : (all : List Shadow) (v : Shadow) (k : Kind) (x : OpName) → v.name ≡ x → HasKind all v k → is_miscoloured k x ≡ false
-right_colour all v Deposit (Blue i n) e h = refl
-right_colour all v Deposit (Red n) e h = absurd (Members.true≢false (sym (ap is_red e) ∙ h))
-right_colour all v Withdraw (Blue i n) e h = absurd (Members.true≢false (sym h ∙ ap is_red e))
-right_colour all v Withdraw (Red n) e h = refl
-right_colour all v Declined (Blue i n) e h = refl
-right_colour all v Declined (Red n) e h = absurd (Members.true≢false (sym (ap is_red e) ∙ h))
-right_colour all v Interest (Blue i n) e h = refl
-right_colour all v Interest (Red n) e h = absurd (Members.true≢false (sym (ap is_red e) ∙ h))
-right_colour all v (Cancel y) (Blue i n) e h = refl
-right_colour all v (Cancel y) (Red n) e h = refl
+right_colour all v (Cancel y) x e h = refl
+right_colour all v _ x e h = Legal.not_other (shown_colour x) _ (ap shown_colour (sym e) ∙ h)
 
 clock_has : (v : Shadow) (x : OpName) → past v x ≡ true → names_of_clock v.deps x ≡ true
 unfolding past
 clock_has v x h = h
 
 seen : (s : Settings) (all us : List Shadow) (v : Shadow) (p : Plan) (k : Kind) → ((u : Shadow) → Among u us → IsSound s u) → HasKind all v k → IsPlanned s us p k → cancels_unseen s.sites k v.deps ≡ false
-seen s all us v p Deposit sound h planned = refl
-seen s all us v p Withdraw sound h planned = refl
-seen s all us v p Declined sound h planned = refl
-seen s all us v p Interest sound h planned = refl
 seen s all us v p (Cancel x) sound h planned =
     let t = planned.target in
     Members.false-or _ _ (ap (is_absent s.sites) (sym planned.named) ∙ SoundFacts.is_present s t (SoundFacts.sound_facts s t (sound t planned.there))) (ap not (clock_has v x h.seen))
+seen s all us v p _ sound h planned = refl
 
 -- the account and the amount of what is made
 pub record IsMeasured (s : Settings) (p : Plan) (k : Kind) : Type 0 where
@@ -177,9 +167,7 @@ measured_for s p k h = let a = h.account in let b = h.amount in record {
     some n b h = ap (λ c. c && b) (let z : (n == 0) ≡ false = grind (arith, nat_tests) in z)
 
 measured : (s : Settings) (us : List Shadow) (p : Plan) (k : Kind) → ((u : Shadow) → Among u us → IsSound s u) → IsPlanned s us p k → IsMeasured s p k
-measured s us p Deposit sound h = measured_for s p Deposit h
 measured s us p Withdraw sound h = measured_for s p Withdraw h.0
-measured s us p Declined sound h = measured_for s p Declined h
 measured s us p Interest sound h = record { account = account p.account.0 h.0; amount = h.1; something = and-false (p.amount == 0) }
   where
     account : (a : ℕ) → nat_lt a (length s.starts) ≡ true → nat_le (length s.starts) a ≡ false
@@ -191,6 +179,7 @@ measured s us p (Cancel x) sound h =
       amount = ap (λ n. nat_lt MOST_CENTS n) (sym h.amount) ∙ f.amount;
       something = and-false (p.amount == 0);
     }
+measured s us p k sound h = measured_for s p k h
 
 pub sound_made : (s : Settings) (all us : List Shadow) (me : ℕ) (token : Token) (v : Shadow) → me < s.sites → IsOrderedSet all → AreRight s all → IsSerial all us → AreSound s all → IsNew all us v → IsMadeAt s me us token v → IsSound s v
 sound_made s all us me token v low o right l sound n made =

@@ -9,11 +9,11 @@ use Rattle.rb_shadow.specs.Operations.{Agree, Among, AreSame, IsLawful, IsSerial
 use Rattle.rb_shadow.specs.Laws.{IsClosed, IsFunded, IsPart}
 use Rattle.rb_ledger.specs.Valid.{IsValid}
 use Rattle.rb_site.specs.declared.event.Event.{Event}
-use Rattle.rb_site.specs.declared.event.Event.TheVariants.{Submit, Batch, Receive, Apply, Pass, Balance, AsOf, Statement as AskStatement}
+use Rattle.rb_site.specs.declared.event.Event.TheVariants.{Receive, Apply}
 use Rattle.rb_site.specs.declared.message.Message.{Message}
 use Rattle.rb_site.specs.declared.message.Message.TheVariants.{Shadow as ShadowMessage, Token as TokenOnItsWay}
 use Rattle.rb_site.specs.declared.reply.Reply.{Reply}
-use Rattle.rb_site.specs.declared.reply.Reply.TheVariants.{Made, Names as NamesMade, Held, Already, Taken, Stale, Applied, Passed, Balance as BalanceIs, Statement as StatementIs, Refused}
+use Rattle.rb_site.specs.declared.reply.Reply.TheVariants.{Held, Already, Applied, Refused}
 use Rattle.rb_site.specs.declared.world_event.WorldEvent.{WorldEvent}
 use Rattle.rb_site.specs.declared.world_event.WorldEvent.TheVariants.{At, Deliver}
 use Rattle.rb_site.specs.Events.{ModelSite, after_event, after_events, first_site, is_full, replies_to_events, reply_to}
@@ -85,27 +85,12 @@ CanCatchUp s w = EachSite w (λ i t. length t.history + length (catching_up i t.
 -- the reply is a refusal
 abbrev pub is_refused : Reply → Bool
 is_refused (Refused why) = true
-is_refused (Made x k) = false
-is_refused (NamesMade xs) = false
-is_refused (Held x) = false
-is_refused (Already x) = false
-is_refused (Taken n) = false
-is_refused (Stale n) = false
-is_refused (Applied x) = false
-is_refused (Passed n) = false
-is_refused (BalanceIs n) = false
-is_refused (StatementIs a) = false
+is_refused _ = false
 
 -- the event is the receipt of a message
 abbrev pub is_receive : Event → Bool
 is_receive (Receive m) = true
-is_receive (Submit r) = false
-is_receive (Batch rs) = false
-is_receive (Apply x) = false
-is_receive (Pass to) = false
-is_receive (Balance a) = false
-is_receive (AsOf a n) = false
-is_receive (AskStatement a) = false
+is_receive _ = false
 
 -- a Receive that the site refuses
 abbrev pub is_refused_receive : Settings → ModelSite → Event → Bool
