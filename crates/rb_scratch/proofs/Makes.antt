@@ -179,7 +179,7 @@ fit_plain s me us p k e known right low some target within = record {
 }
 
 -- an account of the configuration, other than the own one
-directed : (s : Settings) (p : Plan) (to : Place) → is_account s to ≡ true → (p.account.0 == to.0) ≡ false → is_misdirected (length s.starts) p.account (Some to) ≡ false
+pub directed : (s : Settings) (p : Plan) (to : Place) → is_account s to ≡ true → (p.account.0 == to.0) ≡ false → is_misdirected (length s.starts) p.account (Some to) ≡ false
 directed s p to known apart = Members.false-or _ _ (housed to.0 (length s.starts) known) (turned p.account.0 to.0 apart)
   where
     turned : (m n : ℕ) → (m == n) ≡ false → (n == m) ≡ false

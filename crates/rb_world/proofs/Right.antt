@@ -1,24 +1,26 @@
 -- Each operation made has its kind's colour and target, and each red one was covered where it was made.
 use Rattle.std.proofs.Common.{◌≡◌, ℕ, Bool, true, false, ◌&&◌, List, [], ◌∷◌, ◌++◌, refl, ap, sym, ◌∙◌, arith, inl, inr, subst, Option, Some, None}
-use Rattle.std.specs.Prelude.{◌==◌, pos, neg_ℤ, ◌+ℤ◌, ◌≤ℤ◌, option_and_then}
+use Rattle.std.specs.Prelude.{◌==◌, int_lt, pos, neg_ℤ, ◌+ℤ◌, ◌≤ℤ◌, option_and_then}
+use Rattle.std.proofs.lemmas.Bool.Decides.{nat_tests}
 use Rattle.std.proofs.lemmas.Int.{ints}
 use Rattle.rb_money.specs.Settings.{Settings}
 use Rattle.rb_money.specs.declared.place.Place.{Place}
 use Rattle.rb_shadow.specs.declared.op_name.OpName.{OpName}
 use Rattle.rb_shadow.specs.declared.op_name.OpName.TheVariants.{Blue, Red}
 use Rattle.rb_shadow.specs.declared.kind.Kind.{Kind}
-use Rattle.rb_shadow.specs.declared.kind.Kind.TheVariants.{Withdraw, Cancel}
+use Rattle.rb_shadow.specs.declared.kind.Kind.TheVariants.{Withdraw, Cancel, Transfer}
 use Rattle.rb_shadow.specs.declared.colour.Colour.{Colour}
 use Rattle.rb_shadow.specs.declared.colour.Colour.TheVariants.{Blue as BlueColour, Red as RedColour}
 use Rattle.rb_shadow.specs.declared.shadow.Shadow.{Shadow}
-use Rattle.rb_shadow.specs.Operations.{Among, AreSame, IsUnique, bal, cancels, colour_of, is_cancel, is_cancelled, is_red, kind_in, moved, names, past, shown_colour, target_of}
+use Rattle.rb_shadow.specs.Operations.{Among, AreSame, IsUnique, bal, cancels, colour_of, is_cancel, is_cancelled, is_red, kind_in, moved, names, past, shown_colour, target_of, receiver_of, other_by, other_of, is_on, accounts_on}
 use Rattle.rb_shadow.proofs.Members
 use Rattle.rb_shadow.proofs.Balances
 use Rattle.rb_shadow.specs.Laws.{IsClosed, IsFunded, IsPart}
 use Rattle.rb_shadow.proofs.Covered
-use Rattle.rb_shadow.proofs.Covered.{IsCovered, adds, is_withdraw}
+use Rattle.rb_shadow.proofs.Covered.{IsCovered, adds, takes}
 use Rattle.rb_ledger.specs.Valid.{HasTarget, IsTargetOf}
-use Rattle.rb_ledger.specs.Checks.{overdraws}
+use Rattle.rb_ledger.specs.Checks.{is_negative, overdraws}
+use Rattle.rb_ledger.proofs.ChainFacts
 use Rattle.rb_ledger.proofs.Legal
 use Rattle.rb_ledger.proofs.Pushes
 use Rattle.rb_scratch.specs.Requests.{Plan, colour_of_plan, next_name, operation_of}
@@ -26,7 +28,6 @@ use Rattle.rb_token.specs.Token.{Token}
 use Rattle.rb_scratch.proofs.Planned.{IsPlanned, planned}
 use Rattle.rb_scratch.proofs.Made.{IsAllowed, IsMadeAt}
 use Rattle.rb_scratch.proofs.Makes
-use Rattle.rb_site.proofs.Exact.{place_sound}
 use Rattle.rb_world.proofs.Order
 use Rattle.rb_world.proofs.Order.{IsNew, IsOrderedSet, IsSerial}
 
@@ -74,9 +75,10 @@ red_to_undo : (x : OpName) (k : Kind) → adds k ≡ true → colour_of (Cancel 
 red_to_undo x Withdraw h = cc
 red_to_undo x _ h = refl
 
-withdraw_red : (all : List Shadow) (v : Shadow) (k : Kind) → HasKind all v k → is_withdraw k ≡ true → is_red v.name ≡ true
-withdraw_red all v Withdraw h e = is_red-shown v.name _ h refl
-withdraw_red all v _ h e = cc
+taken_red : (all : List Shadow) (v : Shadow) (k : Kind) → HasKind all v k → takes k ≡ true → is_red v.name ≡ true
+taken_red all v Withdraw h e = is_red-shown v.name _ h refl
+taken_red all v (Transfer to) h e = is_red-shown v.name _ h refl
+taken_red all v _ h e = cc
 
 cancel_red : (all : List Shadow) (u c : Shadow) (k : Kind) → IsUnique all → Among u all → HasKind all c k → cancels k u.name ≡ true → adds u.kind ≡ true → is_red c.name ≡ true
 cancel_red all u c (Cancel x) unique there h e a =
@@ -86,7 +88,7 @@ cancel_red all u c _ unique there h e a = cc
 
 pub is_covered : (s : Settings) (all : List Shadow) → IsUnique all → AreRight s all → IsCovered s all
 is_covered s all unique right = record {
-  withdraw_red = λ u h e. withdraw_red all u u.kind (right u h).kind e;
+  taken_red = λ u h e. taken_red all u u.kind (right u h).kind e;
   cancel_red = λ u c h k e a. cancel_red all u c c.kind unique h (right c k).kind e a;
   checked = λ r h red. let p : IsPaidFor s all r = (right r h).paid red in (p.before, p.part, p.unique, p.is_past, p.covered);
 }
@@ -165,8 +167,8 @@ covered_made : (s : Settings) (us : List Shadow) (me : ℕ) (token : Token) (v :
     → IsUnique us → HasTarget us v (target_of v.kind) → Made s us me v p → p.kind ≡ k → IsPlanned s us p k → ((b : Place) → pos 0 ≤ℤ bal s us b)
     → bal s (us ++ v ∷ []) a ≡ bal s us a +ℤ Pushes.change us v a
     → is_red v.name ≡ true → IsAllowed s us token v v.name → HasKind us v k → pos 0 ≤ℤ bal s (us ++ v ∷ []) a
-covered_made s us me token v p k a unique target m e h base push red fair kind = elim (Members.bool_cases (v.account.0 == a.0)) [
-  | inl q ↦ own k e h kind (place_sound v.account a q)
+covered_made s us me token v p k a unique target m e h base push red fair kind = elim (Members.bool_cases (is_on us v a)) [
+  | inl q ↦ here k e h kind q
   | inr q ↦ omega (arith, ints, push, Pushes.change_elsewhere us v a unique target q, base a)
 ]
   where
@@ -178,16 +180,43 @@ covered_made s us me token v p k a unique target m e h base push red fair kind =
     second true c q r = r
     second false c q r = cc
 
-    own : (k : Kind) → p.kind ≡ k → IsPlanned s us p k → HasKind us v k → v.account ≡ a → pos 0 ≤ℤ bal s (us ++ v ∷ []) a
-    own Withdraw e h kind q =
-        let enough : pos p.amount ≤ℤ bal s us p.account = Makes.enough _ _ h.1 in
-        let here : bal s us p.account ≡ bal s us a = ap (bal s us) (sym m.account ∙ q) in
-        let takes : Pushes.change us v a ≡ neg_ℤ (pos p.amount) =
-        ap (Pushes.change us v) (sym q) ∙ Pushes.change_plain us v (ap target_of (m.kind ∙ e)) ∙ ap (λ k. moved k v.amount) (m.kind ∙ e) ∙ ap (λ n. neg_ℤ (pos n)) m.amount in
-        omega (arith, ints, enough, here, takes, push)
-    own (Cancel x) e h kind q =
-        subst (λ b. pos 0 ≤ℤ bal s (us ++ v ∷ []) b) q (Legal.covers_nothing _ (Members.or-false _ _ (second (is_cancel v.kind) (overdraws s us v) (ap is_cancel (m.kind ∙ e)) (overdrawn v.name fair red))).0)
-    own _ e h kind q = absurd (not_red v.name kind red)
+    -- what takes from its own account, which has enough
+    own : (k : Kind) → p.kind ≡ k → target_of k ≡ None → moved k p.amount ≡ neg_ℤ (pos p.amount) → int_lt (bal s us p.account) (pos p.amount) ≡ false → v.account ≡ a → pos 0 ≤ℤ bal s (us ++ v ∷ []) a
+    own k e plain takes known q =
+        let enough : pos p.amount ≤ℤ bal s us p.account = Makes.enough _ _ known in
+        let at : bal s us p.account ≡ bal s us a = ap (bal s us) (sym m.account ∙ q) in
+        let less : Pushes.change us v a ≡ neg_ℤ (pos p.amount) =
+        ap (Pushes.change us v) (sym q) ∙ Pushes.change_plain us v (ap target_of (m.kind ∙ e) ∙ plain) ∙ ap (λ k. moved k v.amount) (m.kind ∙ e) ∙ ap (moved k) m.amount ∙ takes in
+        omega (arith, ints, enough, at, less, push)
+
+    -- the second account of what has no target is its receiver
+    receiver : (k : Kind) → p.kind ≡ k → target_of k ≡ None → other_of us v ≡ Some a → receiver_of k ≡ Some a
+    receiver k e plain o = sym (ap (λ o. other_by us k o) plain) ∙ sym (ap (λ j. other_by us j (target_of j)) (m.kind ∙ e)) ∙ o
+
+    -- it gets what the own account gives
+    other : (to : Place) → p.kind ≡ Transfer to → (p.account.0 == to.0) ≡ false → other_of us v ≡ Some a → pos 0 ≤ℤ bal s (us ++ v ∷ []) a
+    other to e apart o =
+        let same : Some to ≡ Some a = receiver (Transfer to) e refl o in
+        let is : to ≡ a = cc in
+        let off : v.account.0 ≡ a.0 → ⊥ = (λ q. Members.true≢false (sym (equal p.account.0 to.0 (ap (λ (b : Place). b.0) (sym m.account) ∙ q ∙ ap (λ (b : Place). b.0) (sym is))) ∙ apart)) in
+        let taken : Pushes.change us v v.account ≡ neg_ℤ (pos p.amount) = Pushes.change_plain us v (ap target_of (m.kind ∙ e)) ∙ ap (λ k. moved k v.amount) (m.kind ∙ e) ∙ ap (λ n. neg_ℤ (pos n)) m.amount in
+        omega (arith, ints, push, Pushes.change_other us v a unique target o off, taken, base a)
+      where
+        equal : (m n : ℕ) → m ≡ n → (m == n) ≡ true
+        equal m n h = grind (arith, nat_tests)
+
+    here : (k : Kind) → p.kind ≡ k → IsPlanned s us p k → HasKind us v k → is_on us v a ≡ true → pos 0 ≤ℤ bal s (us ++ v ∷ []) a
+    here Withdraw e h kind on = elim (ChainFacts.on_sides us v a on) [
+      | inl q ↦ own Withdraw e refl refl h.1 q
+      | inr o ↦ (let none : None ≡ Some a = receiver Withdraw e refl o in cc)
+    ]
+    here (Transfer to) e (for, known, account, apart) kind on = elim (ChainFacts.on_sides us v a on) [
+      | inl q ↦ own (Transfer to) e refl refl known q
+      | inr o ↦ other to e apart o
+    ]
+    here (Cancel x) e h kind on =
+        Legal.covers_nothing _ (Legal.none_of (λ (b : Place). is_negative (bal s (us ++ v ∷ []) b)) (accounts_on us v) a (second (is_cancel v.kind) (overdraws s us v) (ap is_cancel (m.kind ∙ e)) (overdrawn v.name fair red)) on)
+    here _ e h kind on = absurd (not_red v.name kind red)
 
 pub right_made : (s : Settings) (all us : List Shadow) (me : ℕ) (token : Token) (v : Shadow) → IsOrderedSet all → AreRight s all → IsSerial all us → IsNew all us v → IsMadeAt s me us token v → IsRight s (all ++ v ∷ []) v
 right_made s all us me token v o right l n made = record {

@@ -12,13 +12,14 @@ use Rattle.rb_money.specs.declared.place.Place.{Place}
 use Rattle.rb_money.specs.declared.cents.TheConstants.{MOST_CENTS}
 use Rattle.rb_scratch.proofs.Planned.{IsFor, IsPlanned, planned}
 use Rattle.rb_scratch.proofs.Made.{IsMadeAt}
+use Rattle.rb_scratch.proofs.Makes
 use Rattle.rb_shadow.specs.declared.op_name.OpName.{OpName}
 use Rattle.rb_shadow.specs.declared.op_name.OpName.TheVariants.{Blue, Red}
 use Rattle.rb_shadow.specs.declared.kind.Kind.{Kind}
-use Rattle.rb_shadow.specs.declared.kind.Kind.TheVariants.{Withdraw, Interest, Cancel}
+use Rattle.rb_shadow.specs.declared.kind.Kind.TheVariants.{Withdraw, Interest, Cancel, Transfer}
 use Rattle.rb_shadow.specs.declared.shadow.Shadow.{Shadow}
-use Rattle.rb_shadow.specs.Operations.{Among, blue_count, clock_of, entry_of, names_of_clock, number_of, past, red_count, shown_colour}
-use Rattle.rb_shadow.specs.Sound.{IsSound, are_entries, cancels_unseen, fault_of, is_absent, is_clock, is_foreign, is_miscoloured, limit_of, may_be_nothing}
+use Rattle.rb_shadow.specs.Operations.{Among, blue_count, clock_of, entry_of, names_of_clock, number_of, past, receiver_of, red_count, shown_colour}
+use Rattle.rb_shadow.specs.Sound.{IsSound, are_entries, cancels_unseen, fault_of, is_absent, is_clock, is_foreign, is_miscoloured, is_misdirected, limit_of, may_be_nothing}
 use Rattle.rb_shadow.proofs.Members
 use Rattle.rb_shadow.proofs.Clocks
 use Rattle.rb_shadow.proofs.Clocks.{IsCounted}
@@ -117,7 +118,7 @@ clock_sound s us counted sound = both _ _ (entries_are (blue_count us) s.limits.
 is_sound : (s : Settings) (v : Shadow)
     → (nat_le s.sites v.home || is_foreign v.name v.home) ≡ false
     → (number_of v.name == 0 || nat_lt (limit_of s.limits v.name) (number_of v.name)) ≡ false
-    → nat_le (length s.starts) v.account.0 ≡ false
+    → (nat_le (length s.starts) v.account.0 || is_misdirected (length s.starts) v.account (receiver_of v.kind)) ≡ false
     → (nat_lt MOST_CENTS v.amount || (v.amount == 0 && not (may_be_nothing v.kind))) ≡ false
     → is_miscoloured v.kind v.name ≡ false
     → cancels_unseen s.sites v.kind v.deps ≡ false
@@ -147,12 +148,14 @@ seen s all us v p _ sound h planned = refl
 -- the account and the amount of what is made
 pub record IsMeasured (s : Settings) (p : Plan) (k : Kind) : Type 0 where
   pub account : nat_le (length s.starts) p.account.0 ≡ false
+  pub receiver : is_misdirected (length s.starts) p.account (receiver_of k) ≡ false
   pub amount : nat_lt MOST_CENTS p.amount ≡ false
   pub something : (p.amount == 0 && not (may_be_nothing k)) ≡ false
 
-measured_for : (s : Settings) (p : Plan) (k : Kind) → IsFor s p → IsMeasured s p k
-measured_for s p k h = let a = h.account in let b = h.amount in record {
+measured_for : (s : Settings) (p : Plan) (k : Kind) → IsFor s p → is_misdirected (length s.starts) p.account (receiver_of k) ≡ false → IsMeasured s p k
+measured_for s p k h right = let a = h.account in let b = h.amount in record {
   account = account p.account.0 a;
+  receiver = right;
   amount = (amount p.amount b).0;
   something = some p.amount (not (may_be_nothing k)) (amount p.amount b).1;
 }
@@ -167,8 +170,9 @@ measured_for s p k h = let a = h.account in let b = h.amount in record {
     some n b h = ap (λ c. c && b) (let z : (n == 0) ≡ false = grind (arith, nat_tests) in z)
 
 measured : (s : Settings) (us : List Shadow) (p : Plan) (k : Kind) → ((u : Shadow) → Among u us → IsSound s u) → IsPlanned s us p k → IsMeasured s p k
-measured s us p Withdraw sound h = measured_for s p Withdraw h.0
-measured s us p Interest sound h = record { account = account p.account.0 h.0; amount = h.1; something = and-false (p.amount == 0) }
+measured s us p Withdraw sound h = measured_for s p Withdraw h.0 refl
+measured s us p (Transfer to) sound (for, enough, known, apart) = measured_for s p (Transfer to) for (Makes.directed s p to known apart)
+measured s us p Interest sound h = record { account = account p.account.0 h.0; receiver = refl; amount = h.1; something = and-false (p.amount == 0) }
   where
     account : (a : ℕ) → nat_lt a (length s.starts) ≡ true → nat_le (length s.starts) a ≡ false
     account a h = grind (arith, nat_tests)
@@ -176,17 +180,21 @@ measured s us p (Cancel x) sound h =
     let f = SoundFacts.sound_facts s h.target (sound h.target h.there) in
     record {
       account = ap (λ (a : Place). nat_le (length s.starts) a.0) (sym h.account) ∙ f.account;
+      receiver = refl;
       amount = ap (λ n. nat_lt MOST_CENTS n) (sym h.amount) ∙ f.amount;
       something = and-false (p.amount == 0);
     }
-measured s us p k sound h = measured_for s p k h
+measured s us p k sound h = measured_for s p k h refl
 
 pub sound_made : (s : Settings) (all us : List Shadow) (me : ℕ) (token : Token) (v : Shadow) → me < s.sites → IsOrderedSet all → AreRight s all → IsSerial all us → AreSound s all → IsNew all us v → IsMadeAt s me us token v → IsSound s v
 sound_made s all us me token v low o right l sound n made =
     is_sound s v
     (Members.false-or _ _ (home v.home at_home) (own_name v.name v.home n.homely))
     (Members.false-or _ _ (positive (number_of v.name) n.next.positive) (let q = made.within in grind (arith, nat_tests)))
-    (ap (λ (a : Place). nat_le (length s.starts) a.0) m.account ∙ size.account)
+    (
+    ap (λ (a : Place). nat_le (length s.starts) a.0 || is_misdirected (length s.starts) a (receiver_of v.kind)) m.account
+    ∙ ap (λ k. nat_le (length s.starts) made.plan.account.0 || is_misdirected (length s.starts) made.plan.account (receiver_of k)) m.kind ∙ Members.false-or _ _ size.account size.receiver
+    )
     (ap (λ a. nat_lt MOST_CENTS a || (a == 0 && not (may_be_nothing v.kind))) m.amount ∙ ap (λ k. nat_lt MOST_CENTS made.plan.amount || (made.plan.amount == 0 && not (may_be_nothing k))) m.kind ∙ Members.false-or _ _ size.amount size.something)
     (right_colour (all ++ v ∷ []) v v.kind v.name refl kind)
     (seen s (all ++ v ∷ []) us v made.plan v.kind in_list kind (subst (IsPlanned s us made.plan) (sym m.kind) plan))
