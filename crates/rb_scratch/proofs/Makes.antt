@@ -207,7 +207,7 @@ fit : (s : Settings) (me : ℕ) (us : List Shadow) (p : Plan) (k : Kind) → IsV
 fit s me us p Withdraw valid e h within = let m = measure p.amount true h.0.amount in fit_plain s me us p Withdraw e h.0.account refl m.0 m.1 tt within
 fit s me us p Interest valid e h within = fit_plain s me us p Interest e h.0 refl h.1 (and-false (p.amount == 0)) tt within
 fit s me us p (Cancel x) valid e h within = fit_cancel s me us p x valid e h within
-fit s me us p (Transfer to) valid e (for, enough, known, apart) within = let m = measure p.amount true for.amount in fit_plain s me us p (Transfer to) e for.account (directed s p to known apart) m.0 m.1 tt within
+fit s me us p (Transfer to) valid e (ask, enough, known, apart) within = let m = measure p.amount true ask.amount in fit_plain s me us p (Transfer to) e ask.account (directed s p to known apart) m.0 m.1 tt within
 fit s me us p k valid e h within = let m = measure p.amount true h.amount in fit_plain s me us p k e h.account refl m.0 m.1 tt within
 
 -- ---- the money
@@ -287,7 +287,7 @@ covered : (s : Settings) (me : ℕ) (us : List Shadow) (token : Token) (p : Plan
     → (a : Place) → is_on us (shadow_of me us p) a ≡ true → pos 0 ≤ℤ bal s (us ++ shadow_of me us p ∷ []) a
 covered s me us token p Withdraw valid e h target fair =
     covered_sides s me us p Withdraw valid e refl refl (covered_plain s me us p Withdraw valid e refl (let some : pos p.amount ≤ℤ bal s us p.account = enough (bal s us p.account) p.amount h.1 in omega (arith, ints, some)))
-covered s me us token p (Transfer to) valid e (for, known, account, apart) target fair =
+covered s me us token p (Transfer to) valid e (ask, known, account, apart) target fair =
     covered_sides s me us p (Transfer to) valid e refl (directed s p to account apart)
     (covered_plain s me us p (Transfer to) valid e refl (let some : pos p.amount ≤ℤ bal s us p.account = enough (bal s us p.account) p.amount known in omega (arith, ints, some)))
 covered s me us token p (Cancel x) valid e h target fair = covered_cancel s me us token p x valid e h target fair

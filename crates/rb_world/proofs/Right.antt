@@ -210,7 +210,7 @@ covered_made s us me token v p k a unique target m e h base push red fair kind =
       | inl q ↦ own Withdraw e refl refl h.1 q
       | inr o ↦ (let none : None ≡ Some a = receiver Withdraw e refl o in cc)
     ]
-    here (Transfer to) e (for, known, account, apart) kind on = elim (ChainFacts.on_sides us v a on) [
+    here (Transfer to) e (ask, known, account, apart) kind on = elim (ChainFacts.on_sides us v a on) [
       | inl q ↦ own (Transfer to) e refl refl known q
       | inr o ↦ other to e apart o
     ]

@@ -171,7 +171,7 @@ measured_for s p k h right = let a = h.account in let b = h.amount in record {
 
 measured : (s : Settings) (us : List Shadow) (p : Plan) (k : Kind) → ((u : Shadow) → Among u us → IsSound s u) → IsPlanned s us p k → IsMeasured s p k
 measured s us p Withdraw sound h = measured_for s p Withdraw h.0 refl
-measured s us p (Transfer to) sound (for, enough, known, apart) = measured_for s p (Transfer to) for (Makes.directed s p to known apart)
+measured s us p (Transfer to) sound (ask, enough, known, apart) = measured_for s p (Transfer to) ask (Makes.directed s p to known apart)
 measured s us p Interest sound h = record { account = account p.account.0 h.0; receiver = refl; amount = h.1; something = and-false (p.amount == 0) }
   where
     account : (a : ℕ) → nat_lt a (length s.starts) ≡ true → nat_le (length s.starts) a ≡ false
