@@ -76,14 +76,16 @@ impl Ledger {
         ensures { IsLinked self.now.settings self.now.entries shadow.now result }
     {
         let (added, taken) = self.moved_by(shadow);
-        let own = self.link(parts.place, parts.balance + added - taken);
+        let own_balance = parts.balance + added - taken;
+        let own = self.link(parts.place, own_balance);
         if parts.other == Place::NOWHERE {
             return Links {
                 own,
                 other: NO_LINK,
             };
         }
-        let other = self.link(parts.other, parts.other_balance + taken - added);
+        let other_balance = parts.other_balance + taken - added;
+        let other = self.link(parts.other, other_balance);
         Links { own, other }
     }
 
