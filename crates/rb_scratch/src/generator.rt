@@ -84,10 +84,11 @@ fn transfer(ledger: &Ledger, from: Place, to: Place, amount: u64) -> Result<Effe
     if from.0 == to.0 {
         return Err(Refusal::SameAccount);
     }
-    let kind = if balance < amount {
-        Kind::Declined
-    } else {
+    let covered = amount <= balance;
+    let kind = if covered {
         Kind::Transfer { to }
+    } else {
+        Kind::Declined
     };
     Ok(Effect {
         account: from,
