@@ -77,7 +77,10 @@ impl Index {
     {
         match kind.target() {
             Some(target) => match self.find(&target) {
-                Some(position) => before[position as usize - 1].kind.receiver(),
+                Some(position) => {
+                    let index = position as usize - 1;
+                    before[index].kind.receiver()
+                }
                 None => None,
             },
             None => kind.receiver(),
