@@ -6,7 +6,7 @@ use Rattle.serde_json.specs.Find.{as_number, as_str, as_u64, of_integer}
 use Rattle.serde_json.specs.View.{items_of}
 use Rattle.rb_shadow.specs.declared.op_name.OpName.{OpName}
 use Rattle.rb_shadow.specs.declared.label.Label.{Label}
-use Rattle.rb_shadow.specs.declared.label.Label.TheVariants.{Deposit, Withdraw, Declined, Interest, Cancel}
+use Rattle.rb_shadow.specs.declared.label.Label.TheVariants.{Deposit, Withdraw, Declined, Interest, Cancel, Transfer}
 use Rattle.rb_shadow.specs.NameText.{name_of, name_text}
 
 -- a number
@@ -24,6 +24,7 @@ label_text Withdraw = codes "withdraw"
 label_text Declined = codes "declined"
 label_text Interest = codes "interest"
 label_text Cancel = codes "cancel"
+label_text Transfer = codes "transfer"
 
 -- an operation's name
 abbrev pub name_json : OpName → Data
