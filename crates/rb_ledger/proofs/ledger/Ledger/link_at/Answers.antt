@@ -20,7 +20,8 @@ pub returns-then-eq : goal.returns-then-eq
 returns-then-eq c =
     let links = Calls.links_seen _ _ _ _ _ c.self.invariant.links c.self.view_is in
     let count : vec_len c.self.inside.links ≡ length c.self.inside.links.items = omega arith in
-    let many : vec_len c.self.inside.entries ≡ length c.args.self.now.entries = Calls.entries_seen _ _ _ _ c.self.view_is in
+    let seen = Calls.entries_seen _ _ _ _ c.self.view_is in
+    let many : vec_len c.self.inside.entries ≡ length c.args.self.now.entries = omega (arith, seen) in
     let read = Calls.read_seen _ _ _ _ _ c.self.view_is c.index.ensures in
     (Calls.link_read _ _ _ c.args.place c.args.position _ _ _ _ links c.requires.on c.requires.some many read count c.index-links.ensures).0 (Calls.same_from _ _ (sym c.eq.ensures ∙ c.if-eq.true))
 
@@ -28,6 +29,7 @@ pub returns-else-eq : goal.returns-else-eq
 returns-else-eq c =
     let links = Calls.links_seen _ _ _ _ _ c.self.invariant.links c.self.view_is in
     let count : vec_len c.self.inside.links ≡ length c.self.inside.links.items = omega arith in
-    let many : vec_len c.self.inside.entries ≡ length c.args.self.now.entries = Calls.entries_seen _ _ _ _ c.self.view_is in
+    let seen = Calls.entries_seen _ _ _ _ c.self.view_is in
+    let many : vec_len c.self.inside.entries ≡ length c.args.self.now.entries = omega (arith, seen) in
     let read = Calls.read_seen _ _ _ _ _ c.self.view_is c.index.ensures in
     (Calls.link_read _ _ _ c.args.place c.args.position _ _ _ _ links c.requires.on c.requires.some many read count c.index-links.ensures).1 (Calls.apart_from _ _ (sym c.eq.ensures ∙ c.if-eq.false))
