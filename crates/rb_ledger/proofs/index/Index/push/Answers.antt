@@ -17,8 +17,8 @@ cancel_one_more-requires-clause-fits c = λ i. Calls.counts_few _ _ _ i c.requir
 pub count_on-requires : goal.count_on-requires
 count_on-requires c = Calls.heads_few _ _ _ _ c.args.parts.now.place.0 c.requires.index.kept c.requires.index.heads
 
-pub count_on-2-requires : goal.count_on-2-requires
-count_on-2-requires c =
+pub count_on-requires-2 : goal.count_on-requires-2
+count_on-requires-2 c =
     let few =
     Calls.other_few _ _ _ c.args.self.now.heads.items c.args.shadow.now (head_more (length c.args.before.now + 1) c.args.links.now.own.balance) c.requires.index.kept.configured c.requires.index.kept c.requires.index.heads c.requires.longer in
     let same =
