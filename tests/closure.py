@@ -8,8 +8,8 @@ usage: closure.py                  the headline's: the functions and laws of REA
                                    other public functions rest on, and what only ties inner code to proofs
        closure.py --check          whether docs/MODEL.md tells each definition in its room and names none that there
                                    isn't, whether the clauses of README.md's table are there, and whether other crates
-                                   cite each file of proofs/Public and none else of proofs/; this is silent where all
-                                   is well
+                                   cite each file of proofs/Public and none else of proofs/, and whether no two
+                                   definitions share a name; this is silent where all is well
 
 Words are resolved by the 'use' lines of their file. A type of the code stands for the types of its fields, and one that
 clients see as a value of a model for that value.
@@ -288,10 +288,18 @@ def lemmas(things):
     return wrong
 
 
+def namesakes(things):
+    """Says which definitions have one name, or names that differ in case alone."""
+    files = collections.defaultdict(list)
+    for crate, file, name in sorted(things.definitions):
+        files[name.lower()].append(f"{name} of crates/{crate}/{file}")
+    return [" and ".join(its) + ": two definitions, one name" for its in files.values() if len(its) > 1]
+
+
 def check(things):
     """Says what docs/MODEL.md lacks or has too much, which clauses of README.md aren't there, and where proofs/ isn't as
-    docs/ARCHITECTURE.md tells; how many."""
-    wrong, room, text = lemmas(things), rooms(things), read("docs/MODEL.md")
+    docs/ARCHITECTURE.md tells, and which definitions share a name; how many."""
+    wrong, room, text = lemmas(things) + namesakes(things), rooms(things), read("docs/MODEL.md")
     names, there = told(text), known(things)
     belongs = collections.defaultdict(set)
     for (crate, file, name), at in sorted(room.items()):

@@ -13,7 +13,7 @@ use Rattle.rb_site.specs.declared.event.Event.{Event}
 use Rattle.rb_site.specs.declared.message.Message.{Message}
 use Rattle.rb_site.specs.declared.reply.Reply.{Reply}
 use Rattle.rb_site.specs.Seen.{IsReplayed, Replays, SeenSite, entry, next_site, state_of, stepped}
-use Rattle.rb_auditor.specs.Replays.{IsNoted, seen_at, sends_by}
+use Rattle.rb_auditor.specs.Replays.{RecordsEntry, seen_at, sends_by}
 use Rattle.rb_site.proofs.Public.Runs
 use Rattle.rb_site.proofs.Public.Seen
 use Rattle.rb_site.proofs.Public.Outcomes
@@ -33,7 +33,7 @@ replays-at s t (y ∷ xs) ys x h = replays-at s (after_event s t y.event) xs ys 
 
 pub replay-front : (s : Settings) (i : ℕ) (xs ys : List Entry) → IsReplay s i (xs ++ ys) → IsReplay s i xs
 replay-front s i xs ys h = record {
-  place = h.place;
+  within = h.within;
   replays = replays-front s (first_site i) xs ys h.replays;
   room = let longer : length (xs ++ ys) ≡ length xs + length ys = length-append xs ys in let room : length (xs ++ ys) ≤ s.limits.history = h.room in omega arith;
 }
@@ -64,7 +64,7 @@ replayed_at s i h k x r at =
     let sp : IsSplit h k x = split_at h k x at in
     let past : (site_after s i (take k h)).history ≡ take k h = history_after s i (take k h) (replay-take s i k h r) in
     let room : length h ≤ s.limits.history = r.room in
-    let place : k < length h = sp.place in
+    let place : k < length h = sp.within in
     record {
       reply = replays-at s (first_site i) (take k h) sp.rest x (subst (Replays s (first_site i)) sp.whole r.replays);
       room = not_full s (site_after s i (take k h)) k (ap length past ∙ sp.front) (omega arith);
@@ -107,7 +107,7 @@ pub other_is_wrong : (x : SeenSite) (y : Entry) → ¬ (reply_to x.settings (sta
 other_is_wrong x y other r = other (sym (replays-at x.settings (first_site x.me) x.entries [] y r.replays))
 
 -- the site's own is noted
-pub noted : (x new : SeenSite) (e : Event) (y : Entry) (r : Reply) (before after : List Message) → IsReplayed x → is_full x.settings (state_of x) ≡ false → new ≡ next_site x e → r ≡ reply_to x.settings (state_of x) e → r ≡ y.reply → e ≡ y.event → after ≡ before ++ sent_at x.settings (state_of x) e → IsNoted x new y before after
+pub noted : (x new : SeenSite) (e : Event) (y : Entry) (r : Reply) (before after : List Message) → IsReplayed x → is_full x.settings (state_of x) ≡ false → new ≡ next_site x e → r ≡ reply_to x.settings (state_of x) e → r ≡ y.reply → e ≡ y.event → after ≡ before ++ sent_at x.settings (state_of x) e → RecordsEntry x new y before after
 noted x new e y r before after old free is reply same event sends = record {
   free = free;
   is = step ∙ ap (λ z. record x { entries = x.entries ++ z ∷ [] }) (ap (entry e) (sym reply ∙ same) ∙ ap (λ f. entry f y.reply) event);
@@ -120,7 +120,7 @@ noted x new e y r before after old free is reply same event sends = record {
 
 -- one of the two
 pub noted_or_not : (b : Bool) (x new : SeenSite) (e : Event) (y : Entry) (r : Reply) (before after : List Message) → IsReplayed x → is_full x.settings (state_of x) ≡ false → new ≡ next_site x e → r ≡ reply_to x.settings (state_of x) e → (IsTrue b ↔ (r ≡ y.reply)) → e ≡ y.event → after ≡ before ++ sent_at x.settings (state_of x) e
-    → MatchBool b (IsNoted x new y before after) (¬ IsReplayed (seen_at x.settings x.me (x.entries ++ y ∷ [])))
+    → MatchBool b (RecordsEntry x new y before after) (¬ IsReplayed (seen_at x.settings x.me (x.entries ++ y ∷ [])))
 noted_or_not true x new e y r before after old free is reply test event sends = noted x new e y r before after old free is reply (test.0 refl) event sends
 noted_or_not false x new e y r before after old free is reply test event sends = other_is_wrong x y (λ same. let wrong : IsTrue false = test.1 (reply ∙ ap (reply_to x.settings (state_of x)) event ∙ same) in cc)
 
@@ -133,7 +133,7 @@ pub record IsReplaying (s : Settings) (me : ℕ) (h : List Entry) (k : ℕ) (sit
   pub few : length messages ≤ MOST_REQUESTS * k
 
 -- an entry more
-pub replaying_more : (s : Settings) (me : ℕ) (h : List Entry) (k : ℕ) (x : Entry) (site new : SeenSite) (before after : List Message) (ends : List ℕ) → k < length h → x ≡ get_or h k x → IsReplaying s me h k site before ends → IsNoted site new x before after → IsReplaying s me h (k + 1) new after (ends ++ length after ∷ [])
+pub replaying_more : (s : Settings) (me : ℕ) (h : List Entry) (k : ℕ) (x : Entry) (site new : SeenSite) (before after : List Message) (ends : List ℕ) → k < length h → x ≡ get_or h k x → IsReplaying s me h k site before ends → RecordsEntry site new x before after → IsReplaying s me h (k + 1) new after (ends ++ length after ∷ [])
 replaying_more s me h k x site new before after ends less at r n = record {
   site_is = now;
   replays = subst IsReplayed now n.replays;

@@ -128,10 +128,10 @@ sends_known s hs ss i k h x sends ms all at next is here =
     sends_next s hs ss i k h x sends ms all at next (slice_get_read ss (length ss) i sends refl (sends_long s hs ss i h all at) is) here
 
 pub rests_past : (p : Progress) (i k : ℕ) (h : List Entry) → slice_get p.histories i ≡ Some h → slice_get p.taken i ≡ Some k → length h ≤ k → Rests p i
-rests_past p i k h at taken past = record { taken = k; history = h; there = at; place = taken; held = held_past p.messages k h past }
+rests_past p i k h at taken past = record { taken = k; history = h; there = at; at = taken; held = held_past p.messages k h past }
 
 pub rests_here : (p : Progress) (i k : ℕ) (h : List Entry) (x : Entry) → slice_get p.histories i ≡ Some h → slice_get p.taken i ≡ Some k → slice_get h k ≡ Some x → ¬ MayCome p.messages x.event → Rests p i
-rests_here p i k h x at taken next not = record { taken = k; history = h; there = at; place = taken; held = held_here p.messages k h x next not }
+rests_here p i k h x at taken next not = record { taken = k; history = h; there = at; at = taken; held = held_here p.messages k h x next not }
 
 -- a place of the histories
 pub history_at : {Z : Type 0} (p q : Progress) (hs : List (Vec Entry Z)) (i : ℕ) (v : Vec Entry Z) → p ≡ q → p.histories ≡ lists_of hs → i < length q.histories → v ≡ get_or hs i v → slice_get p.histories i ≡ Some v.items

@@ -15,7 +15,7 @@ use Rattle.rb_site.specs.declared.entry.Entry.{Entry}
 use Rattle.rb_site.specs.declared.event.Event.{Event}
 use Rattle.rb_site.specs.declared.event.Event.TheVariants.{Submit, Batch, Receive, Apply, Pass, Balance, AsOf, Statement}
 use Rattle.rb_site.specs.declared.message.Message.TheVariants.{Shadow as ShadowMessage, Token as TokenOnItsWay}
-use Rattle.rb_history.specs.Entries.{entry_json, entry_of, event_json, request_json, shadow_json}
+use Rattle.rb_history.specs.Entries.{entry_json, entry_of_object, event_json, request_json, shadow_json}
 use Rattle.rb_history.specs.Fits.{Each, IsEvent, IsKind, IsReply, IsRequest, IsShadow}
 use Rattle.rb_history.specs.Recorded.{counts_in, event_at, kind_at, shadow_at}
 use Rattle.rb_commands.specs.Requests.{request_alone, requests_in}
@@ -68,5 +68,5 @@ event_back s c (Balance a) known = ap (λ p. Some (Balance p)) (known_place s a 
 event_back s c (AsOf a n) (known, fits) = rw (below n (2 ^ 32) fits) (ap (λ p. Some (AsOf p n)) (known_place s a c known))
 event_back s c (Statement a) known = ap (λ p. Some (Statement p)) (known_place s a c known)
 
-pub entry_back : (s : Settings) → IsConfigured s → (site : ℕ) (x : Entry) → site < s.sites → IsEvent s x.event → IsReply x.reply → entry_of s (entry_json s site x) ≡ Some (site, x)
+pub entry_back : (s : Settings) → IsConfigured s → (site : ℕ) (x : Entry) → site < s.sites → IsEvent s x.event → IsReply x.reply → entry_of_object s (entry_json s site x) ≡ Some (site, x)
 entry_back s c site x h e r = rw (below site s.sites h, event_back s c x.event e, reply_back x.reply r) refl

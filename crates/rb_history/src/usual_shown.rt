@@ -7,7 +7,7 @@ ghost use Rattle.serde_json.specs.Written.{compact_text};
 ghost use Rattle.rb_shadow.specs.NameText.{IsName};
 ghost use Rattle.rb_commands.specs.Statements.{row_json};
 ghost use Rattle.rb_commands.specs.Values.{name_json};
-ghost use Rattle.rb_history.specs.Fits.{IsMoved, IsRow};
+ghost use Rattle.rb_history.specs.Fits.{IsMoved, IsStatementRow};
 ghost use Rattle.rb_history.specs.Tells.{TellsEach, TellsReply};
 
 use crate::usual_part::{label, long_between, name, word_between};
@@ -77,7 +77,7 @@ fn cancelled(text: &str) -> Option<(bool, &str)>
 
 /// A row, in the list of its parts.
 fn row(text: &str) -> Option<(Row, &str)>
-    ensures { IfSome result (λ p. IsRow p.0 × (text.now ≡ compact_text (row_json p.0) ++ p.1.now)) }
+    ensures { IfSome result (λ p. IsStatementRow p.0 × (text.now ≡ compact_text (row_json p.0) ++ p.1.now)) }
 {
     let (position, rest) = word_between(text, "[", ",\"")?;
     let (name, rest) = name(rest)?;
@@ -98,7 +98,7 @@ fn row(text: &str) -> Option<(Row, &str)>
 
 /// The rows of a list, and its closing bracket.
 fn rows<'a>(alloc: Global, text: &'a str) -> Option<(Vec<Row>, &'a str)>
-    ensures { IfSome result (λ p. TellsEach row_json IsRow p.0.items text.now p.1.now) }
+    ensures { IfSome result (λ p. TellsEach row_json IsStatementRow p.0.items text.now p.1.now) }
 {
     let mut rows = Vec::new(alloc);
     let mut left = text;

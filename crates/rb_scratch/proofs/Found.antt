@@ -9,7 +9,7 @@ use Rattle.rb_shadow.proofs.Public.Lookups
 use Rattle.rb_money.specs.declared.refusal.Refusal.{Refusal}
 use Rattle.rb_money.specs.declared.refusal.Refusal.TheVariants.{UnknownOperation, NotCancellable, AlreadyCancelled}
 use Rattle.rb_money.specs.Refusals.{refused_if}
-use Rattle.rb_ledger.specs.Valid.{entry_at, find_position, first_cancel_in, position_from, first_cancel_from}
+use Rattle.rb_ledger.specs.Valid.{operation_at, find_position, first_cancel_in, position_from, first_cancel_from}
 use Rattle.rb_scratch.specs.Requests.{Plan, plan_of_cancel}
 use Rattle.rb_scratch.proofs.Public.Positions.{no_position, at_position}
 
@@ -38,27 +38,27 @@ past_kind us x t found h = ap (plan_of_cancel us x) found ∙ ap (λ b. refused_
 
 -- the operation of the name stands at the position
 pub record IsFound (us : List Shadow) (x : OpName) (p : ℕ) (t : Shadow) : Type 0 where
-  pub entry : entry_at us p ≡ Some t
+  pub entry : operation_at us p ≡ Some t
   pub found : find_in us x ≡ Some t
 
-pub is_found : (us : List Shadow) (x : OpName) (p : ℕ) (r : Option (Bor Shadow)) (b : Bor Shadow) → find_position us x ≡ Some p → option_copied r ≡ entry_at us p → r ≡ Some b → IsFound us x p b.now
+pub is_found : (us : List Shadow) (x : OpName) (p : ℕ) (r : Option (Bor Shadow)) (b : Bor Shadow) → find_position us x ≡ Some p → option_copied r ≡ operation_at us p → r ≡ Some b → IsFound us x p b.now
 is_found us x p r b at copied some =
-    let e : entry_at us p ≡ Some b.now = sym copied ∙ ap option_copied some in
+    let e : operation_at us p ≡ Some b.now = sym copied ∙ ap option_copied some in
     record { entry = e; found = sym (at_position us x p at) ∙ e }
 
 -- what is found is there to be read
-pub readable : (us : List Shadow) (x : OpName) (p : ℕ) (r : Option (Bor Shadow)) → find_position us x ≡ Some p → option_copied r ≡ entry_at us p → IsSome r
+pub readable : (us : List Shadow) (x : OpName) (p : ℕ) (r : Option (Bor Shadow)) → find_position us x ≡ Some p → option_copied r ≡ operation_at us p → IsSome r
 readable us x p r at copied = let (t, found) = found_there us x p at in some r t (copied ∙ at_position us x p at ∙ found)
   where
     some : (r : Option (Bor Shadow)) (t : Shadow) → option_copied r ≡ Some t → IsSome r
     some None t h = cc
     some (Some b) t h = search rules
 
-first_cancel : (us : List Shadow) (x : OpName) (p : ℕ) (t : Shadow) (o : Option ℕ) → IsFound us x p t → o ≡ option_and_then (λ (u : Shadow). first_cancel_in us u.name) (entry_at us p) → o ≡ first_cancel_in us x
+first_cancel : (us : List Shadow) (x : OpName) (p : ℕ) (t : Shadow) (o : Option ℕ) → IsFound us x p t → o ≡ option_and_then (λ (u : Shadow). first_cancel_in us u.name) (operation_at us p) → o ≡ first_cancel_in us x
 first_cancel us x p t o is e = e ∙ ap (option_and_then (λ (u : Shadow). first_cancel_in us u.name)) is.entry ∙ ap (first_cancel_in us) (Lookups.found us x t is.found).1
 
 pub cancelled_at : (us : List Shadow) (x : OpName) (p : ℕ) (t : Shadow) (o : Option ℕ) (n : ℕ) → IsFound us x p t → may_be_cancelled t.kind ≡ true
-    → o ≡ option_and_then (λ (u : Shadow). first_cancel_in us u.name) (entry_at us p) → o ≡ Some n → plan_of_cancel us x (find_in us x) ≡ Err (AlreadyCancelled n)
+    → o ≡ option_and_then (λ (u : Shadow). first_cancel_in us u.name) (operation_at us p) → o ≡ Some n → plan_of_cancel us x (find_in us x) ≡ Err (AlreadyCancelled n)
 cancelled_at us x p t o n is kind e some = past_kind us x t is.found kind ∙ at (is_cancelled us x) (sym (first_cancel us x p t o is e) ∙ some)
   where
     refused : ℕ → Result Plan Refusal
@@ -69,7 +69,7 @@ cancelled_at us x p t o n is kind e some = past_kind us x t is.found kind ∙ at
     at false h = cc
 
 pub planned_to_cancel : (us : List Shadow) (x : OpName) (p : ℕ) (t : Shadow) (o : Option ℕ) → IsFound us x p t → may_be_cancelled t.kind ≡ true
-    → o ≡ option_and_then (λ (u : Shadow). first_cancel_in us u.name) (entry_at us p) → o ≡ None → plan_of_cancel us x (find_in us x) ≡ Ok (record { account = t.account; amount = t.amount; kind = Cancel x })
+    → o ≡ option_and_then (λ (u : Shadow). first_cancel_in us u.name) (operation_at us p) → o ≡ None → plan_of_cancel us x (find_in us x) ≡ Ok (record { account = t.account; amount = t.amount; kind = Cancel x })
 planned_to_cancel us x p t o is kind e none = past_kind us x t is.found kind ∙ at (is_cancelled us x) (sym (first_cancel us x p t o is e) ∙ none)
   where
     at : (b : Bool) → cond b (Some (first_cancel_from 1 us x)) None ≡ None → refused_if b (AlreadyCancelled (first_cancel_from 1 us x)) (Ok (cancelling x t)) ≡ Ok (cancelling x t)

@@ -70,7 +70,7 @@ impl State {
     /// The site's number.
     pub fn me(&self) -> u8
         ensures same { result ≡ self.now.site.me }
-        ensures place { result < self.now.settings.sites }
+        ensures within { result < self.now.settings.sites }
     {
         self.token.view().me
     }

@@ -14,12 +14,12 @@ use Rattle.rb_shadow.specs.Labels.{label_of}
 use Rattle.rb_shadow.specs.Operations.{bal, is_cancelled, is_on}
 use Rattle.rb_shadow.specs.declared.shadow.Shadow.{Shadow}
 use Rattle.rb_shadow.specs.declared.label.Label.{Label}
-use Rattle.rb_ledger.specs.Valid.{IsValid, entry_at, first_cancel_in, first_cancel_from}
+use Rattle.rb_ledger.specs.Valid.{IsValid, operation_at, first_cancel_in, first_cancel_from}
 use Rattle.rb_ledger.specs.Changes.{moved_at}
 use Rattle.rb_ledger.specs.OnAccount.{IsOn, IsLast}
 use Rattle.rb_ledger.proofs.Public.OnAccount
 use Rattle.rb_ledger.proofs.Public.Fronts
-use Rattle.rb_statements.specs.Statements.{row_of, rows_here, rows_of, statement_of}
+use Rattle.rb_statements.specs.Statements.{row_after, rows_here, rows_of, statement_of}
 use Rattle.rb_statements.specs.declared.row.Row.{Row}
 use Rattle.rb_statements.specs.declared.account.Statement.{Statement}
 use Rattle.rb_statements.proofs.Same.{of_fields, same_fields}
@@ -38,13 +38,13 @@ off_account us u a apart = at (u.account.0 == a.0) refl
 
 -- ---- what is looked up at a position on the account
 
-entry_here : (us : List Shadow) (p : ℕ) → 0 < p → entry_at us p ≡ slice_get us (p - 1)
+entry_here : (us : List Shadow) (p : ℕ) → 0 < p → operation_at us p ≡ slice_get us (p - 1)
 entry_here us p some = let test : (p == 0) ≡ false = grind (arith, nat_tests) in ap (λ b. cond b None (slice_get us (p - 1))) test
 
-entry_there : (us : List Shadow) (a : Place) (p : ℕ) → IsOn us a p → 0 < p → (u : Shadow) × (entry_at us p ≡ Some u)
+entry_there : (us : List Shadow) (a : Place) (p : ℕ) → IsOn us a p → 0 < p → (u : Shadow) × (operation_at us p ≡ Some u)
 entry_there us a p on some = let (u, there, own) = OnAccount.on_entry us a p on some in (u, entry_here us p some ∙ there)
 
-pub has_entry : (us : List Shadow) (a : Place) (p : ℕ) (o : Option (Bor Shadow)) → IsOn us a p → 0 < p → option_copied o ≡ entry_at us p → IsSome o
+pub has_entry : (us : List Shadow) (a : Place) (p : ℕ) (o : Option (Bor Shadow)) → IsOn us a p → 0 < p → option_copied o ≡ operation_at us p → IsSome o
 has_entry us a p None on some e = let (u, there) = entry_there us a p on some in let same : None ≡ Some u = e ∙ there in cc
 has_entry us a p (Some x) on some e = refl
 
@@ -56,7 +56,7 @@ has_moved s us a p None on some e = let same : None ≡ Some (bal s (take p us) 
 has_moved s us a p (Some z) on some e = refl
 
 -- the operation that is found there
-pub found_there : (us : List Shadow) (a : Place) (p : ℕ) (o : Option (Bor Shadow)) (x : Bor Shadow) → IsOn us a p → 0 < p → option_copied o ≡ entry_at us p → o ≡ Some x → (slice_get us (p - 1) ≡ Some x.now) × (x.now.account.0 ≡ a.0)
+pub found_there : (us : List Shadow) (a : Place) (p : ℕ) (o : Option (Bor Shadow)) (x : Bor Shadow) → IsOn us a p → 0 < p → option_copied o ≡ operation_at us p → o ≡ Some x → (slice_get us (p - 1) ≡ Some x.now) × (x.now.account.0 ≡ a.0)
 found_there us a p o x on some e is =
     let (u, there, own) = OnAccount.on_entry us a p on some in
     let found : slice_get us (p - 1) ≡ Some x.now = sym (entry_here us p some) ∙ sym e ∙ ap option_copied is in
@@ -87,7 +87,7 @@ rows_next s us a i u there = ap (rows_of s us a []) (Fronts.one_more us i u ther
 unshown : (s : Settings) (us : List Shadow) (a : Place) (i : ℕ) (u : Shadow) → slice_get us i ≡ Some u → (u.account.0 ≡ a.0 → ⊥) → rows_of s us a [] (take (i + 1) us) ≡ rows_of s us a [] (take i us)
 unshown s us a i u there apart =
     let front : List Row = rows_of s us a [] (take i us) in
-    rows_next s us a i u there ∙ ap (λ b. front ++ cond b (row_of s us a (take i us) u ∷ []) []) (off_account (take i us) u a apart) ∙ append-nil front
+    rows_next s us a i u there ∙ ap (λ b. front ++ cond b (row_after s us a (take i us) u ∷ []) []) (off_account (take i us) u a apart) ∙ append-nil front
 
 -- so the rows are those up to the last operation on the account
 last_rows : (s : Settings) (us : List Shadow) (a : Place) (n p : ℕ) → n ≤ length us → IsLast (take n us) a p → rows_of s us a [] (take n us) ≡ rows_of s us a [] (take p us)
@@ -95,7 +95,7 @@ last_rows s us a n p low last = OnAccount.as_of_last (rows_of s us a []) us a n 
 
 -- the last row is made of what is looked up
 pub own_row : (s : Settings) (us : List Shadow) (a : Place) (p : ℕ) (u : Shadow) (k : Label) (z : ℤ) (o : Option ℕ) (c : Bool) (n : ℕ) → 0 < p → slice_get us (p - 1) ≡ Some u → u.account.0 ≡ a.0 → k ≡ label_of u.kind
-    → z ≡ bal s (take p us) a +ℤ neg_ℤ (bal s (take (p - 1) us) a) → o ≡ option_and_then (λ (w : Shadow). first_cancel_in us w.name) (entry_at us p) → c ≡ is_some o → pos n ≡ bal s (take p us) a
+    → z ≡ bal s (take p us) a +ℤ neg_ℤ (bal s (take (p - 1) us) a) → o ≡ option_and_then (λ (w : Shadow). first_cancel_in us w.name) (operation_at us p) → c ≡ is_some o → pos n ≡ bal s (take p us) a
     → rows_of s us a [] (take p us) ≡ rows_of s us a [] (take (p - 1) us) ++ of_fields p u.name k z c n ∷ []
 own_row s us a p u k z o c n some there own kind moved cancel known sum =
     let front : List Shadow = take (p - 1) us in
@@ -106,9 +106,9 @@ own_row s us a p u k z o c n some there own kind moved cancel known sum =
     let change : z ≡ bal s (front ++ u ∷ []) a +ℤ neg_ℤ (bal s front a) = moved ∙ ap (λ ws. bal s ws a +ℤ neg_ℤ (bal s front a)) after in
     let cancelled : c ≡ is_cancelled us u.name = known ∙ ap is_some (cancel ∙ ap (option_and_then (λ (w : Shadow). first_cancel_in us w.name)) (entry_here us p some ∙ there)) ∙ any (is_cancelled us u.name) in
     let balance : n ≡ cents (bal s (front ++ u ∷ []) a) = ap cents (sum ∙ ap (λ ws. bal s ws a) after) in
-    let made : of_fields p u.name k z c n ≡ row_of s us a front u = same_fields _ _ _ _ _ _ _ _ _ _ _ _ position refl kind change cancelled balance in
+    let made : of_fields p u.name k z c n ≡ row_after s us a front u = same_fields _ _ _ _ _ _ _ _ _ _ _ _ position refl kind change cancelled balance in
     ap (rows_of s us a []) after ∙ rows_push s us a [] front u
-    ∙ ap (λ b. rows_of s us a [] front ++ cond b (row_of s us a front u ∷ []) []) (on_account front u a own)
+    ∙ ap (λ b. rows_of s us a [] front ++ cond b (row_after s us a front u ∷ []) []) (on_account front u a own)
     ∙ ap (λ (r : Row). rows_of s us a [] front ++ r ∷ []) (sym made)
   where
     any : (b : Bool) → is_some (cond b (Some (first_cancel_from 1 us u.name)) None) ≡ b

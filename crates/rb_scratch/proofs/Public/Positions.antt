@@ -6,7 +6,7 @@ use Rattle.rb_shadow.specs.declared.shadow.Shadow.{Shadow}
 use Rattle.rb_shadow.specs.declared.op_name.OpName.{OpName}
 use Rattle.rb_shadow.specs.Operations.{same_name, names, find_in}
 use Rattle.rb_shadow.proofs.Public.Members
-use Rattle.rb_ledger.specs.Valid.{entry_at, find_position, position_from}
+use Rattle.rb_ledger.specs.Valid.{operation_at, find_position, position_from}
 
 -- what isn't named isn't found
 pub find_in-unnamed : (us : List Shadow) (x : OpName) → names us x ≡ false → find_in us x ≡ None
@@ -40,12 +40,12 @@ no_position us x h = at (names us x) refl h
     at true e h = cc
     at false e h = find_in-unnamed us x e
 
-pub at_position : (us : List Shadow) (x : OpName) (p : ℕ) → find_position us x ≡ Some p → entry_at us p ≡ find_in us x
+pub at_position : (us : List Shadow) (x : OpName) (p : ℕ) → find_position us x ≡ Some p → operation_at us p ≡ find_in us x
 at_position us x p h = at (names us x) refl h
   where
-    at : (b : Bool) → names us x ≡ b → cond b (Some (position_from 1 us x)) None ≡ Some p → entry_at us p ≡ find_in us x
+    at : (b : Bool) → names us x ≡ b → cond b (Some (position_from 1 us x)) None ≡ Some p → operation_at us p ≡ find_in us x
     at true e h =
         let q : (1 ≤ position_from 1 us x) × (slice_get us (position_from 1 us x - 1) ≡ find_in us x) = position-found us x 1 e in
         let is : position_from 1 us x ≡ p = cc in
-        subst (λ n. entry_at us n ≡ find_in us x) is (ap (λ b. cond b None (slice_get us (position_from 1 us x - 1))) (positive (position_from 1 us x) q.0) ∙ q.1)
+        subst (λ n. operation_at us n ≡ find_in us x) is (ap (λ b. cond b None (slice_get us (position_from 1 us x - 1))) (positive (position_from 1 us x) q.0) ∙ q.1)
     at false e h = cc

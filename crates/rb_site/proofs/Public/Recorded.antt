@@ -16,7 +16,7 @@ use Rattle.rb_site.specs.declared.world_event.WorldEvent.{WorldEvent}
 use Rattle.rb_site.specs.declared.world_event.WorldEvent.TheVariants.{At, Deliver}
 use Rattle.rb_site.specs.Events.{ModelSite, after_event, changed, is_full, noted, outcome_of, reply_of, reply_to}
 use Rattle.rb_site.specs.Worlds.{AreOwn, IsOwn, World, is_recorded, is_recorded_at, message_at, world_after, world_after_all, world_at, world_delivered}
-use Rattle.rb_site.specs.Histories.{place_of}
+use Rattle.rb_site.specs.Histories.{site_of}
 
 -- the site i has gone on from t
 pub record Later (w : World) (i : ℕ) (t : ModelSite) : Type 0 where
@@ -85,10 +85,10 @@ IsFrom ms (AskStatement a) = Unit {0}
 pub record IsRecorded (s : Settings) (w : World) (e : WorldEvent) : Type 0 where
   pub event : Event
   pub site : ModelSite
-  pub at : slice_get w.sites (place_of e) ≡ Some site
+  pub at : slice_get w.sites (site_of e) ≡ Some site
   pub room : is_full s site ≡ false
   pub source : IsFrom w.messages event
-  pub is : world_after s w e ≡ world_at s w (place_of e) event (Some site)
+  pub is : world_after s w e ≡ world_at s w (site_of e) event (Some site)
 
 own_from : (ms : List Message) (e : Event) → IsOwn e → IsFrom ms e
 own_from ms (Receive m) h = elim h [ ]

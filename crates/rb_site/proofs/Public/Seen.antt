@@ -47,7 +47,7 @@ replays-push s t (x ∷ xs) e h = (h.0, replays-push s (after_event s t x.event)
 -- where there is room, a site keeps what it keeps
 pub replayed-stepped : (x : SeenSite) (e : Event) → length x.entries < x.settings.limits.history → IsReplayed x → IsReplayed (stepped x e)
 replayed-stepped x e room kept = record {
-  place = kept.place;
+  within = kept.within;
   replays = replays-push x.settings (first_site x.me) x.entries e kept.replays;
   room = let longer : length (x.entries ++ entry e (reply_to x.settings (state_of x) e) ∷ []) ≡ length x.entries + 1 = length-append x.entries _ in omega arith;
 }

@@ -14,7 +14,7 @@ use Rattle.rb_site.specs.declared.message.Message.{Message}
 use Rattle.rb_site.specs.declared.world_event.WorldEvent.{WorldEvent}
 use Rattle.rb_site.specs.Events.{ModelSite, after_event, after_events, changed, first_site, is_full, noted, outcome_of, reply_of, reply_to, sent_at}
 use Rattle.rb_site.specs.Worlds.{AreOwn, World, first_world, is_recorded, message_at, world_after, world_after_all, world_of_run}
-use Rattle.rb_site.specs.Histories.{IsAmong, IsBlocked, IsCut, StuckIsFinal, events_of, histories_of, place_of, sends_of}
+use Rattle.rb_site.specs.Histories.{IsAmong, IsBlocked, IsCut, StuckIsFinal, events_of, histories_of, site_of, sends_of}
 use Rattle.rb_site.proofs.Public.Runs
 use Rattle.rb_site.proofs.Public.Runs.{IsRunOfItsHistory}
 use Rattle.rb_site.proofs.Public.Recorded
@@ -99,7 +99,7 @@ within_event : (s : Settings) (hs fronts : List (List Entry)) (w : World) (e : W
 within_event s hs fronts w e es cut gives r g = subst (IsWithinFronts s fronts) (sym r.is) (record { sites = sites; sent = sent })
   where
     i : ℕ
-    i = place_of e
+    i = site_of e
 
     t : ModelSite
     t = r.site
@@ -233,9 +233,9 @@ first_within s fronts has = record {
 
 pub stuck_final : StuckIsFinal
 stuck_final s hs fronts stuck one =
-    stuck.left (ends_at_front s hs fronts (world_of_run s one.events) stuck.place stuck.history
+    stuck.left (ends_at_front s hs fronts (world_of_run s one.events) stuck.site stuck.history
     (within_all s hs fronts one.events (first_world s) stuck.cut one.own one.gives (first_within s fronts has))
-    one.gives (stuck.cut stuck.place stuck.history stuck.at) stuck.at)
+    one.gives (stuck.cut stuck.site stuck.history stuck.at) stuck.at)
   where
     has : HasFronts s fronts
     has i t at =
