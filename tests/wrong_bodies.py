@@ -25,7 +25,7 @@ def main():
                 shutil.copytree(os.path.join(crates, name, "out"), os.path.join(copy, "crates", name, "out"))
         for name in names:
             folder = os.path.join(copy, "crates", name)
-            shutil.rmtree(os.path.join(folder, "must-fail"))
+            shutil.rmtree(os.path.join(folder, "must-fail"), ignore_errors=True)
             os.rename(os.path.join(folder, "wrong-bodies"), os.path.join(folder, "must-fail"))
         sys.exit(subprocess.run(["rt", "must-fail", *names], cwd=copy).returncode)
 

@@ -185,14 +185,14 @@ fn finds_a_fault(rt: HostRuntime) -> Result<(), Fail> {
 
 #[test]
 fn stops_at_bad_lines(rt: HostRuntime) -> Result<(), Fail> {
-    let want_of_memory = r#"{"event":{"balance":"ann"},"reply":{"refused":0},"site":0}"#;
+    let out_of_memory = r#"{"event":{"balance":"ann"},"reply":{"refused":0},"site":0}"#;
     let no_site = r#"{"event":{"balance":"ann"},"reply":{"balance":0},"site":2}"#;
     let cut = r#"{"event":{"balance":"ann"},"reply":{"bal"#;
     // A wrong reply before it isn't told.
     let wrong = r#"{"event":{"balance":"ann"},"reply":{"balance":1},"site":0}
 "#;
     let cases: [([&str; 3], u64); 6] = [
-        ([want_of_memory, "", ""], 2),
+        ([out_of_memory, "", ""], 2),
         ([no_site, "", ""], 2),
         ([CONFIGURATION, "", ""], 2),
         ([MADE, cut, ""], 4),

@@ -5,7 +5,7 @@ ghost use Rattle.rb_auditor.specs.Sends.{AreEnds, between};
 use rb_site::Message;
 use std::marker::Model;
 
-/// The messages that each entry of a history sends. Callers see a list of messages for each entry.
+/// The messages that each entry of a history sends. Clients see a list of messages for each entry.
 #[derive(Drop)]
 pub struct Sends {
     // Those of all entries, in order.

@@ -1,6 +1,7 @@
 -- When histories are made of receipts.
 use Rattle.std.specs.Prelude.{◌≡◌, ℕ, ◌+◌, ◌<◌, ◌≤◌, ◌^◌, List, [], ◌∷◌, All, ◌==◌, if◌then◌else◌, Some, map, length, slice_get, slice_set, sum_by, vec_len}
 use Rattle.rb_money.specs.Settings.{Settings}
+use Rattle.rb_money.specs.declared.limits.TheConstants.{MOST_SITES}
 use Rattle.rb_branch.specs.declared.gather_fault.GatherFault.{GatherFault}
 use Rattle.rb_branch.specs.declared.gather_fault.GatherFault.TheVariants.{Missing, Mixed, OutOfMemory}
 use Rattle.rb_branch.specs.declared.receipt.Receipt.{Receipt}
@@ -65,14 +66,14 @@ abbrev pub seen : Settings → ℕ → List Entry → SeenSite
 seen s me entries = record { settings = s; me = me; entries = entries }
 
 -- the report of a site of this configuration: its history replays and is within its limit, and all else that it tells is where that run stands
-pub record IsClosed (s : Settings) (r : SiteReport) : Type 0 where
-  pub place : r.me < s.sites
+pub record IsClosedReport (s : Settings) (r : SiteReport) : Type 0 where
+  pub within : r.me < s.sites
   pub replays : Replays s (first_site r.me) r.history.items
   pub room : length r.history.items ≤ s.limits.history
   pub stands : IsReport s (state_of (seen s r.me r.history.items)) r
   pub few : vec_len r.history < 2 ^ 32
 
--- a branch whose sites are closed, as callers see it: the reports, and how many seats were given
+-- a branch whose sites are closed, as clients see it: the reports, and how many seats were given
 pub record SeenClosed : Type 0 where
   pub reports : List SiteReport
   pub seats : ℕ
@@ -80,19 +81,19 @@ pub record SeenClosed : Type 0 where
 -- one report for each site; the merged share has all parts of the entries, and their number for its amount
 pub record AreClosed (s : Settings) (all : ℕ) (reports : List SiteReport) (parts amount : ℕ) : Type 0 where
   pub each : length reports ≡ s.sites
-  pub few : length reports ≤ 255
-  pub closed : All (IsClosed s) reports
+  pub few : length reports ≤ MOST_SITES
+  pub closed : All (IsClosedReport s) reports
   pub all_parts : parts ≡ all
   pub counted : amount ≡ entries_in reports
 
 -- ---- what is found
 
--- each report is of the site at its place, and its history is the receipts of that site's seats, interleaved
+-- each report is of the site of its number, and its history is the receipts of that site's seats, interleaved
 abbrev pub AllGathered : List SiteReport → List SeenSeat → Type 0
 AllGathered reports seats =
     (k : ℕ) (r : SiteReport) → slice_get reports k ≡ Some r → (r.me ≡ k) × IsGathered k r.history.items seats
 
--- what a fault says: there are fewer receipts than entries, at that site and in all; or its history isn't its seats' receipts, interleaved. Want of memory says nothing
+-- what a fault says: there are fewer receipts than entries, at that site and in all; or its history isn't its seats' receipts, interleaved. Out of memory says nothing
 abbrev pub Explains : List SiteReport → List SeenSeat → GatherFault → Type 0
 Explains reports seats (Missing site) =
     (r : SiteReport) × (slice_get reports site ≡ Some r) × (receipts_at site seats < vec_len r.history) × (receipts_in seats < entries_in reports)

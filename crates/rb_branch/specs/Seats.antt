@@ -1,6 +1,8 @@
 -- What a call does to a desk and to a seat.
 use Rattle.std.specs.Prelude.{◌≡◌, ◌≢◌, ◌⊎◌, ℕ, ◌+◌, ◌≤◌, ◌<◌, true, Option, None, zero, suc, slice_get, List, [], ◌∷◌, ◌++◌, length, All}
 use Rattle.rb_money.specs.Settings.{Settings}
+use Rattle.rb_money.specs.declared.limits.TheConstants.{MOST_SITES}
+use Rattle.rb_branch.specs.declared.limits.TheConstants.{MOST_RECEIPTS, MOST_SEATS, RECEIPT_PARTS}
 use Rattle.rb_branch.specs.declared.receipt.Receipt.{Receipt}
 use Rattle.rb_site.specs.declared.event.Event.{Event}
 use Rattle.rb_site.specs.declared.event.Event.TheVariants.{Receive, Apply}
@@ -11,7 +13,7 @@ use Rattle.rb_site.specs.Seen.{SeenSite, Replays, state_of, stepped}
 
 -- ---- what is behind the locks
 
--- a seat, as callers see it: its site's number and its receipts
+-- a seat, as clients see it: its site's number and its receipts
 pub record SeenSeat : Type 0 where
   pub site : ℕ
   pub receipts : List Receipt
@@ -19,7 +21,7 @@ pub record SeenSeat : Type 0 where
 -- a desk's site is one of the branch's configuration, its history replays and is within its limit; its share of the entries is one part, whose amount is their number
 pub record IsDesk (s : Settings) (site : SeenSite) (parts amount : ℕ) : Type 0 where
   pub settings : site.settings ≡ s
-  pub place : site.me < s.sites
+  pub within : site.me < s.sites
   pub replays : Replays s (first_site site.me) site.entries
   pub room : length site.entries ≤ s.limits.history
   pub one_part : parts ≡ 1
@@ -27,24 +29,24 @@ pub record IsDesk (s : Settings) (site : SeenSite) (parts amount : ℕ) : Type 0
 
 -- a seat's site is one of the configuration's; its share of the receipts is one part, whose amount is their number
 pub record IsSeat (s : Settings) (site : ℕ) (receipts : List Receipt) (parts amount : ℕ) : Type 0 where
-  pub place : site < s.sites
+  pub within : site < s.sites
   pub one_part : parts ≡ 1
   pub counted : amount ≡ length receipts
-  pub few : length receipts ≤ 4000000000
+  pub few : length receipts ≤ MOST_RECEIPTS
 
--- there are as many entries as receipts; of the 1,025 parts of the receipts each seat that was given has one, and the rest counts nothing
+-- there are as many entries as receipts; of the parts of the receipts each seat that was given has one, and the rest counts nothing
 pub record AreBooks (all seats entries receipts parts amount : ℕ) : Type 0 where
   pub same : entries ≡ receipts
-  pub all_parts : all ≡ 1025
+  pub all_parts : all ≡ RECEIPT_PARTS
   pub rest : parts + seats ≡ all
-  pub few : seats ≤ 1024
+  pub few : seats ≤ MOST_SEATS
   pub none : amount ≡ 0
 
 -- a branch has a lock for each site of its configuration, and the entries a part for each
 pub record IsBranch (s : Settings) (parts count : ℕ) : Type 0 where
   pub all : count ≡ s.sites
   pub all_parts : parts ≡ s.sites
-  pub few : count ≤ 255
+  pub few : count ≤ MOST_SITES
 
 -- ---- receipts
 
@@ -64,11 +66,11 @@ pub record Records (old new : SeenSite) (event : Event) (before now : SeenSeat) 
   pub number_is : number ≡ length now.receipts
   pub posted_is : posted ≡ sent_at old.settings (state_of old) event
 
--- why nothing is recorded, but for want of memory: the seat is of another site, the history is full, or the seat is
+-- why nothing is recorded, but for running out of memory: the seat is of another site, the history is full, or the seat is
 abbrev pub CannotRecord : SeenSite → SeenSeat → Type 0
-CannotRecord desk seat = (seat.site ≢ desk.me) ⊎ ((is_full desk.settings (state_of desk) ≡ true) ⊎ (4000000000 ≤ length seat.receipts))
+CannotRecord desk seat = (seat.site ≢ desk.me) ⊎ ((is_full desk.settings (state_of desk) ≡ true) ⊎ (MOST_RECEIPTS ≤ length seat.receipts))
 
--- the seat has one receipt more, at its end, of such an event; the number is its place, from 1
+-- the seat has one receipt more, at its end, of such an event; the number is its position, from 1
 pub record HasOneMore (old new : SeenSeat) (P : Event → Type 0) (number : ℕ) : Type 0 where
   pub last : Receipt
   pub seat : new ≡ record old { receipts = old.receipts ++ last ∷ [] }

@@ -1,16 +1,14 @@
 //! The books of a branch.
 ghost use Rattle.std.specs.Prelude.{◌≡◌, ◌+◌, ◌<◌, ◌↔◌, [], IsSome, IfSome, OnSome};
+ghost use Rattle.rb_branch.specs.declared.limits.TheConstants.{MOST_SEATS, RECEIPT_PARTS};
 
-use crate::{Entries, Seat};
+use crate::{Entries, MOST_SEATS, Seat};
 use std::alloc::Global;
 use std::marker::Model;
 use std::sync::ledger::{Blank, Book, Ledger, Share};
 
-/// How many seats are given at most.
-const MOST_SEATS: u32 = 1024;
-
 /// What lies behind the one lock that all sites share: how many entries and how many receipts there are,
-/// which is one number, and the parts of the receipts that no seat has. Callers see how many seats were given.
+/// which is one number, and the parts of the receipts that no seat has. Clients see how many seats were given.
 #[derive(Drop)]
 pub struct Books<E: Entries, R: Ledger> {
     entries: Book<E>,
@@ -35,7 +33,7 @@ impl<E: Entries, R: Ledger> Books<E, R> {
     /// New books, and all parts of the entries.
     pub(crate) fn open(entries: Blank, receipts: Blank) -> (Books<E, R>, Share<E>)
         requires entries { (entries.name ≡ E.name) × (entries.parts ≡ E.parts) }
-        requires receipts { (receipts.name ≡ R.name) × (receipts.parts ≡ R.parts) × (receipts.parts ≡ 1025) }
+        requires receipts { (receipts.name ≡ R.name) × (receipts.parts ≡ R.parts) × (receipts.parts ≡ RECEIPT_PARTS) }
         ensures none { result.0 ≡ 0 }
         ensures all { (result.1.parts ≡ E.parts) × (result.1.amount ≡ 0) }
     {
@@ -54,10 +52,10 @@ impl<E: Entries, R: Ledger> Books<E, R> {
         )
     }
 
-    /// A seat at a site, unless 1,024 were given.
+    /// A seat at a site, unless `MOST_SEATS` were given.
     pub(crate) fn seat(&mut self, alloc: Global, site: u8) -> Option<Seat<E, R>>
         requires { site < E.settings.sites }
-        ensures some { IsSome result ↔ (self.old < 1024) }
+        ensures some { IsSome result ↔ (self.old < MOST_SEATS) }
         ensures seat { IfSome result (λ s. s ≡ record { site = site; receipts = [] }) }
         ensures more { OnSome result (self.new ≡ self.old + 1) }
     {
@@ -98,7 +96,7 @@ impl<E: Entries, R: Ledger> Books<E, R> {
     /// Both books, and the parts that no seat has.
     pub(crate) fn apart(self) -> (Book<E>, Book<R>, Share<R>)
         ensures same { result.0.total ≡ result.1.total }
-        ensures parts { (result.2.parts + self ≡ R.parts) × (R.parts ≡ 1025) }
+        ensures parts { (result.2.parts + self ≡ R.parts) × (R.parts ≡ RECEIPT_PARTS) }
         ensures none { result.2.amount ≡ 0 }
     {
         let Books {

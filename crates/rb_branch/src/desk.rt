@@ -3,12 +3,13 @@ ghost use Rattle.std.specs.Prelude.{◌≡◌, ◌<◌, ◌≤◌, [], IfOk, OnE
 ghost use Rattle.std.specs.Option.{option_copied};
 ghost use Rattle.rb_site.specs.Events.{first_site};
 ghost use Rattle.rb_site.specs.Seen.{Replays, first_seen};
-ghost use Rattle.rb_branch.specs.Gathered.{IsClosed};
+ghost use Rattle.rb_branch.specs.Gathered.{IsClosedReport};
 ghost use Rattle.rb_branch.specs.Seats.{Records, SetsUnsent, CannotRecord, receipt_at};
 ghost use Rattle.rb_branch.specs.declared.call_fault.CallFault.TheVariants.{HistoryFull};
+ghost use Rattle.rb_branch.specs.declared.limits.TheConstants.{MOST_RECEIPTS};
 
 use crate::given::Given;
-use crate::{Books, CallFault, Entries, Receipt};
+use crate::{Books, CallFault, Entries, MOST_RECEIPTS, Receipt};
 use rb_shadow::OpName;
 use rb_site::{Event, Posted, Site, SiteReport};
 use std::alloc::Global;
@@ -16,10 +17,7 @@ use std::marker::{Model, PhantomData};
 use std::sync::ledger::{Ledger, Share};
 use std::sync::{Mutex, Wait};
 
-/// How many receipts a seat has at most, so that their numbers fit 32 bits.
-const MOST_RECEIPTS: usize = 4_000_000_000;
-
-/// What lies behind a site's lock: the site, and its share of the entries. Callers see the site. It can't be
+/// What lies behind a site's lock: the site, and its share of the entries. Clients see the site. It can't be
 /// dropped.
 pub struct Desk<E: Entries> {
     site: Site,
@@ -37,7 +35,7 @@ impl<E: Entries> Model for Desk<E> {
     ghost invariant = { λ d. IsDesk E.settings d.site d.share.parts d.share.amount };
 }
 
-/// One caller at one site: what it was answered, and its share of the receipts. Callers see the site's number
+/// One client at one site: what it was answered, and its share of the receipts. Clients see the site's number
 /// and the receipts.
 #[derive(Drop)]
 pub struct Seat<E: Entries, R: Ledger> {
@@ -60,7 +58,7 @@ impl<E: Entries, R: Ledger> Model for Seat<E, R> {
 /// One event at the desk, and its receipt at the end of the seat: its number there, from 1, and what is to be
 /// sent. Nothing else makes a receipt. Its room is made before the step.
 ///
-/// `Err` is want of memory, or a full history, a full seat, or a seat of another site; desk and seat are
+/// `Err` means out of memory, or a full history, a full seat, or a seat of another site; desk and seat are
 /// then as before.
 pub fn record<E: Entries, R: Ledger, W: Wait>(
     rt: &W,
@@ -96,7 +94,7 @@ impl<E: Entries> Desk<E> {
     /// The desk of a site before any event.
     pub(crate) fn open(site: Site, share: Share<E>) -> Desk<E>
         requires site { site ≡ first_seen E.settings site.me }
-        requires place { site.me < E.settings.sites }
+        requires within { site.me < E.settings.sites }
         requires share { (share.parts ≡ 1) × (share.amount ≡ 0) }
         ensures { result ≡ site }
     {
@@ -107,7 +105,7 @@ impl<E: Entries> Desk<E> {
     pub fn site(&self) -> &Site
         ensures same { result.now ≡ self.now }
         ensures settings { self.now.settings ≡ E.settings }
-        ensures place { self.now.me < E.settings.sites }
+        ensures within { self.now.me < E.settings.sites }
         ensures replays { Replays E.settings (first_site self.now.me) self.now.entries }
         ensures room { length self.now.entries ≤ E.settings.limits.history }
     {
@@ -121,7 +119,7 @@ impl<E: Entries> Desk<E> {
 
     /// Closes the site, and gives its share back.
     pub(crate) fn close(self) -> (SiteReport, Share<E>)
-        ensures report { IsClosed E.settings result.0 }
+        ensures report { IsClosedReport E.settings result.0 }
         ensures share { (result.1.parts ≡ 1) × (result.1.amount ≡ length result.0.history.items) }
     {
         let Desk { site, share } = self;
@@ -141,7 +139,7 @@ impl<E: Entries> Desk<E> {
 impl<E: Entries, R: Ledger> Seat<E, R> {
     /// A seat at a site, without receipts.
     pub(crate) fn open(alloc: Global, site: u8, share: Share<R>) -> Seat<E, R>
-        requires place { site < E.settings.sites }
+        requires within { site < E.settings.sites }
         requires share { (share.parts ≡ 1) × (share.amount ≡ 0) }
         ensures { result ≡ record { site = site; receipts = [] } }
     {
@@ -156,7 +154,7 @@ impl<E: Entries, R: Ledger> Seat<E, R> {
     /// The number of its site.
     pub fn site(&self) -> u8
         ensures same { result ≡ self.now.site }
-        ensures place { result < E.settings.sites }
+        ensures within { result < E.settings.sites }
     {
         self.site
     }
@@ -164,7 +162,7 @@ impl<E: Entries, R: Ledger> Seat<E, R> {
     /// The receipts, in the order of the calls.
     pub fn receipts(&self) -> &[Receipt]
         ensures same { result.now ≡ self.now.receipts }
-        ensures few { length self.now.receipts ≤ 4000000000 }
+        ensures few { length self.now.receipts ≤ MOST_RECEIPTS }
     {
         self.receipts.as_slice()
     }

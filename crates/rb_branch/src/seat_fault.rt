@@ -8,7 +8,7 @@ pub enum SeatFault {
     /// There is no site of this number.
     #[error("no such site")]
     NoSite,
-    /// All 1,024 seats were given.
+    /// All `MOST_SEATS` seats were given.
     #[error("no seat left")]
     Full,
 }

@@ -1,4 +1,4 @@
-//! Pieces of a line, added at the end of bytes. After an `Err`, which is want of memory, a front of a piece may stand there.
+//! Pieces of a line, added at the end of bytes. After an `Err`, which means out of memory, a front of a piece may stand there.
 ghost use Rattle.std.specs.Prelude.{◌++◌, codes, decimal};
 ghost use Rattle.std.specs.Fmt.{signed_decimal};
 ghost use Rattle.json.specs.Print.{quoted};
@@ -57,7 +57,7 @@ fn append_blue(out: &mut Vec<u8>, site: u8, n: u32) -> Result<(), AllocError>
 }
 
 /// An operation's name in quotes.
-#[tactic(auto, using(crate::proofs::Plain::quoted_blue, crate::proofs::Plain::quoted_red))]
+#[tactic(auto, using(crate::proofs::Public::Plain::quoted_blue, crate::proofs::Public::Plain::quoted_red))]
 fn append_name(out: &mut Vec<u8>, name: OpName) -> Result<(), AllocError>
     ensures { Adds result out.old.items out.new.items (quoted (name_text name)) }
 {

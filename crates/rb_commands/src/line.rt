@@ -101,7 +101,7 @@ pub fn append_value(out: &mut Vec<u8>, reply: &Reply) -> Result<(), AllocError>
     }
 }
 
-/// Adds the line of a reply, with its line feed. An `Err` is want of memory, and adds nothing.
+/// Adds the line of a reply, with its line feed. An `Err` means out of memory, and adds nothing.
 pub fn append_reply(out: &mut Vec<u8>, reply: &Reply) -> Result<(), AllocError>
     ensures ok { OnOk result (out.new.items ≡ out.old.items ++ line reply.now) }
     ensures err { OnErr result (out.new.items ≡ out.old.items) }
@@ -123,7 +123,7 @@ fn append_line(out: &mut Vec<u8>, reply: &Reply) -> Result<(), AllocError>
     append(out, "\n")
 }
 
-/// The line of a reply, with its line feed. An `Err` is want of memory.
+/// The line of a reply, with its line feed. An `Err` means out of memory.
 pub fn write_reply(alloc: Global, reply: &Reply) -> Result<String, AllocError>
     ensures { IfOk result (λ s. string_bytes s ≡ line reply.now) }
 {

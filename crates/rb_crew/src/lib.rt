@@ -12,3 +12,4 @@ mod teller_of;
 
 pub use run_fault::RunFault;
 pub use running::run_bank;
+pub use teller::{CALLS, INCREMENT, MULTIPLIER};

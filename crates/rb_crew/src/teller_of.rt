@@ -6,7 +6,7 @@ use rb_branch::{CallFault, Entries, Seat};
 use std::sync::ledger::Ledger;
 use std::thread::Promise;
 
-/// A thread gives its seat back after the hundred calls of the teller of this first number, at this site of so
+/// A thread gives its seat back after all calls of the teller of this first number, at this site of so
 /// many.
 #[derive(Clone, Copy)]
 pub struct TellerOf {

@@ -1,7 +1,6 @@
 -- What is written for an event or a line's entry is read as it.
-use Rattle.std.proofs.Common.{◌≡◌, ◌<◌, ◌^◌, ℕ, List, [], ◌∷◌, length, Some, true, refl, ap, arith}
-use Rattle.std.specs.Prelude.{map, ◌==◌}
-use Rattle.std.proofs.lemmas.Bool.Decides.{nat_tests}
+use Rattle.std.proofs.Common.{◌≡◌, ◌<◌, ◌^◌, ℕ, List, [], ◌∷◌, length, Some, refl, ap}
+use Rattle.std.specs.Prelude.{map}
 use Rattle.serde_json.specs.View.{items_of}
 use Rattle.rb_money.specs.Settings.{IsConfigured, Settings}
 use Rattle.rb_money.specs.declared.limits.TheConstants.{MOST_SITES}
@@ -16,12 +15,13 @@ use Rattle.rb_site.specs.declared.entry.Entry.{Entry}
 use Rattle.rb_site.specs.declared.event.Event.{Event}
 use Rattle.rb_site.specs.declared.event.Event.TheVariants.{Submit, Batch, Receive, Apply, Pass, Balance, AsOf, Statement}
 use Rattle.rb_site.specs.declared.message.Message.TheVariants.{Shadow as ShadowMessage, Token as TokenOnItsWay}
-use Rattle.rb_history.specs.Entries.{entry_json, entry_of, event_json, request_json, shadow_json}
+use Rattle.rb_history.specs.Entries.{entry_json, entry_of_object, event_json, request_json, shadow_json}
 use Rattle.rb_history.specs.Fits.{Each, IsEvent, IsKind, IsReply, IsRequest, IsShadow}
 use Rattle.rb_history.specs.Recorded.{counts_in, event_at, kind_at, shadow_at}
 use Rattle.rb_commands.specs.Requests.{request_alone, requests_in}
 use Rattle.rb_commands.specs.Values.{number_json}
-use Rattle.rb_commands.proofs.Back.{back, below}
+use Rattle.rb_money.proofs.Public.Tests.{equal, is_below as below}
+use Rattle.rb_commands.proofs.Public.Reading.{back}
 use Rattle.rb_history.proofs.KnownPlaces.{known_place}
 use Rattle.rb_history.proofs.ReplyBack.{reply_back}
 
@@ -38,9 +38,6 @@ requests_back s c (r ∷ rs) h = rw (request_back s c r h.0, requests_back s c r
 counts_back : (ns : List ℕ) → Each (λ n. n < 2 ^ 32) ns → counts_in (items_of (map number_json ns)) ≡ Some ns
 counts_back [] h = refl
 counts_back (n ∷ ns) h = rw (below n (2 ^ 32) h.0, counts_back ns h.1) refl
-
-equal : (a b : ℕ) → a ≡ b → (a == b) ≡ true
-equal a b e = grind (arith, nat_tests)
 
 abbrev shadow_with : OpName → ℕ → List ℕ → ℕ → Place → ℕ → Kind → Shadow
 shadow_with name home blue red account amount kind = record { name = name; home = home; deps = record { blue = blue; red = red }; account = account; amount = amount; kind = kind }
@@ -71,5 +68,5 @@ event_back s c (Balance a) known = ap (λ p. Some (Balance p)) (known_place s a 
 event_back s c (AsOf a n) (known, fits) = rw (below n (2 ^ 32) fits) (ap (λ p. Some (AsOf p n)) (known_place s a c known))
 event_back s c (Statement a) known = ap (λ p. Some (Statement p)) (known_place s a c known)
 
-pub entry_back : (s : Settings) → IsConfigured s → (site : ℕ) (x : Entry) → site < s.sites → IsEvent s x.event → IsReply x.reply → entry_of s (entry_json s site x) ≡ Some (site, x)
+pub entry_back : (s : Settings) → IsConfigured s → (site : ℕ) (x : Entry) → site < s.sites → IsEvent s x.event → IsReply x.reply → entry_of_object s (entry_json s site x) ≡ Some (site, x)
 entry_back s c site x h e r = rw (below site s.sites h, event_back s c x.event e, reply_back x.reply r) refl

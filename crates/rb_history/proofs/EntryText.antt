@@ -28,11 +28,11 @@ use Rattle.rb_site.specs.declared.reply.Reply.{Reply}
 use Rattle.rb_site.specs.declared.reply.Reply.TheVariants.{Made, Names, Held, Already, Taken, Stale, Applied, Passed, Balance as BalanceIs, Statement as StatementIs, Refused}
 use Rattle.rb_statements.specs.declared.row.Row.{Row}
 use Rattle.rb_history.specs.Entries.{asked_json, deps_json, entry_json, event_json, request_json, shadow_json}
-use Rattle.rb_history.specs.Fits.{Each, IsEvent, IsMoved, IsRefusal, IsReply, IsRequest, IsRow, IsShadow}
+use Rattle.rb_history.specs.Fits.{Each, IsEvent, IsMoved, IsRefusal, IsReply, IsRequest, IsStatementRow, IsShadow}
 use Rattle.rb_commands.specs.Replies.{refusal_json, reply_json}
 use Rattle.rb_commands.specs.Statements.{row_json}
 use Rattle.rb_commands.specs.Values.{integer_json, list_json, name_json, number_json, one_json, pair_json}
-use Rattle.rb_commands.proofs.UsualLines.{compact_read}
+use Rattle.rb_commands.proofs.Public.Reading.{compact_read}
 
 -- a value that is read from its own text, and nests at most so deep
 pub record IsText (d : Data) (most : ℕ) : Type 0 where
@@ -142,7 +142,7 @@ event_text s (Statement a) h = deeper (event_json s (Statement a)) 1 4 (one_text
 
 -- ---- replies
 
-row_text : (r : Row) → IsRow r → IsText (row_json r) 1
+row_text : (r : Row) → IsStatementRow r → IsText (row_json r) 1
 row_text r (position, name, moved, balance) =
     let a = number_text r.position (omega arith) in
     let b = integer_text r.moved moved in
@@ -213,7 +213,7 @@ reply_text (Passed n) h = number_told _ n (omega arith)
 reply_text (BalanceIs n) h = number_told _ n h
 reply_text (StatementIs t) (start, rows, balance) =
     let a = number_text t.balance balance in
-    let b = list_text row_json IsRow 1 row_text t.rows rows in
+    let b = list_text row_json IsStatementRow 1 row_text t.rows rows in
     let c = number_text t.start start in
     let depth = b.shallow in
     record { numbers = (a.numbers, (b.numbers, (c.numbers, tt))); shallow = omega arith; same = rw (a.same, b.same, c.same) refl }

@@ -1,15 +1,15 @@
-pub mod Shapes
-pub mod Counts
-pub mod KnownPlaces
-pub mod Starts
-pub mod ReplyBack
-pub mod EntryBack
-pub mod EntrySites
-pub mod EntryText
-pub mod ConfigBack
-pub mod Texts
-pub mod Told
-pub mod ListRead
-pub mod PlainRefusals
-pub mod PlacesRead
-pub mod EntryLine
+mod Shapes
+mod Counts
+mod KnownPlaces
+mod Starts
+mod ReplyBack
+mod EntryBack
+mod EntrySites
+mod EntryText
+mod ConfigBack
+mod Texts
+mod Told
+mod ListRead
+mod PlainRefusals
+mod PlacesRead
+mod EntryLine

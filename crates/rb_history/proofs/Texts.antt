@@ -20,7 +20,7 @@ use Rattle.rb_site.specs.declared.event.Event.{Event}
 use Rattle.rb_site.specs.declared.event.Event.TheVariants.{Submit, Batch, Receive, Apply, Pass, Balance, AsOf, Statement}
 use Rattle.rb_site.specs.declared.message.Message.TheVariants.{Shadow as ShadowMessage, Token as TokenOnItsWay}
 use Rattle.rb_commands.specs.Values.{number_json}
-use Rattle.rb_commands.proofs.Utf8.{HasTexts, ItemsHaveTexts, MembersHaveTexts, label_utf8, list_texts, name_utf8, reply_texts, text_utf8}
+use Rattle.rb_commands.proofs.Public.Utf8.{HasTexts, ItemsHaveTexts, MembersHaveTexts, label_utf8, list_texts, name_utf8, reply_texts, text_utf8}
 use Rattle.rb_history.specs.ConfigLines.{accounts_of, config_json, start_json}
 use Rattle.rb_history.specs.Entries.{account_json, deps_json, entry_json, event_json, request_json, shadow_json, target_json}
 

@@ -21,7 +21,7 @@ use Rattle.rb_site.specs.declared.message.Message.TheVariants.{Shadow as ShadowM
 use Rattle.rb_site.specs.declared.reply.Reply.{Reply}
 use Rattle.rb_site.specs.declared.reply.Reply.TheVariants.{Made, Names, Held, Already, Taken, Stale, Applied, Passed, Balance as BalanceIs, Statement as StatementIs, Refused}
 use Rattle.rb_statements.specs.declared.row.Row.{Row}
-use Rattle.rb_history.specs.Entries.{entry_at, entry_json}
+use Rattle.rb_history.specs.Entries.{entry_of_line, entry_json}
 use Rattle.rb_money.specs.declared.place.TheConstants.Place.{NOWHERE}
 
 -- the place of one of the configuration's accounts, or the one that no configuration has
@@ -69,14 +69,14 @@ abbrev pub IsMoved : ℤ → Type 0
 IsMoved (pos n) = n < 2 ^ 63
 IsMoved (negsuc n) = n < 2 ^ 63
 
-abbrev pub IsRow : Row → Type 0
-IsRow r = (r.position < 2 ^ 32) × IsName r.name × IsMoved r.moved × (r.balance < 2 ^ 64)
+abbrev pub IsStatementRow : Row → Type 0
+IsStatementRow r = (r.position < 2 ^ 32) × IsName r.name × IsMoved r.moved × (r.balance < 2 ^ 64)
 
 abbrev pub IsCause : Cause → Type 0
 IsCause CauseDeclined = ⊤
 IsCause (CauseRefused n) = n < 2 ^ 8
 
--- of want of memory no line tells
+-- of running out of memory no line tells
 abbrev pub IsRefusal : Refusal → Type 0
 IsRefusal OutOfMemory = ⊥
 IsRefusal (AlreadyCancelled position) = position < 2 ^ 32
@@ -95,9 +95,9 @@ IsReply (Stale n) = n < 2 ^ 32
 IsReply (Applied x) = IsName x
 IsReply (Passed n) = n < 2 ^ 32
 IsReply (BalanceIs n) = n < 2 ^ 64
-IsReply (StatementIs t) = (t.start < 2 ^ 64) × Each IsRow t.rows × (t.balance < 2 ^ 64)
+IsReply (StatementIs t) = (t.start < 2 ^ 64) × Each IsStatementRow t.rows × (t.balance < 2 ^ 64)
 IsReply (Refused why) = IsRefusal why
 
 -- the line of each such entry of a site of the configuration is read as the entry
 abbrev pub EntriesAreRead : Type 0
-EntriesAreRead = (s : Settings) → IsConfigured s → (site : ℕ) (x : Entry) → site < s.sites → IsEvent s x.event → IsReply x.reply → entry_at s (compact_text (entry_json s site x)) ≡ Some (site, x)
+EntriesAreRead = (s : Settings) → IsConfigured s → (site : ℕ) (x : Entry) → site < s.sites → IsEvent s x.event → IsReply x.reply → entry_of_line s (compact_text (entry_json s site x)) ≡ Some (site, x)

@@ -61,7 +61,7 @@ fn append_config(out: &mut Vec<u8>, config: &Config) -> Result<(), AllocError>
     append_number(out, "", config.sites() as u64, ",\"version\":1}")
 }
 
-/// The line of a configuration, without a line feed. An `Err` is want of memory.
+/// The line of a configuration, without a line feed. An `Err` means out of memory.
 pub fn write_config(alloc: Global, config: &Config) -> Result<String, AllocError>
     ensures { IfOk result (λ s. string_bytes s ≡ compact_text (config_json config.now)) }
 {

@@ -7,6 +7,7 @@ mod entry;
 mod event;
 mod items;
 mod label;
+mod numbers;
 mod receipt;
 mod refusal;
 mod shadow;
@@ -33,7 +34,7 @@ pub fn configs_are_read()
 {}
 
 /// The line that is written for an entry of a site is read as the entry: where each of its places is that of an
-/// account of the configuration or `Place::NOWHERE`, and its reply isn't want of memory.
+/// account of the configuration or `Place::NOWHERE`, and its reply isn't *out of memory*.
 pub fn entries_are_read()
     ensures { EntriesAreRead }
 {}

@@ -4,33 +4,21 @@ ghost use Rattle.serde_json.specs.Written.{compact_text, members_text};
 ghost use Rattle.rb_shadow.specs.Labels.{label_of};
 ghost use Rattle.rb_commands.specs.Adds.{Adds};
 ghost use Rattle.rb_history.specs.Entries.{account_json, deps_json, shadow_json, target_json};
-ghost use Rattle.rb_commands.specs.Values.{label_text, list_json, name_json, number_json, one_json};
+ghost use Rattle.rb_commands.specs.Values.{label_text, name_json, one_json};
 
 use crate::event::append_account;
+use crate::numbers::append_numbers;
 use rb_commands::append::{append, append_named, append_number};
 use rb_money::Config;
 use rb_shadow::{Deps, Kind, Shadow};
 use std::alloc::AllocError;
-
-/// A list of counts.
-fn append_counts(out: &mut Vec<u8>, counts: &[u32]) -> Result<(), AllocError>
-    ensures { Adds result out.old.items out.new.items (compact_text (list_json number_json counts.now)) }
-{
-    append(out, "[")?;
-    let mut comma = "";
-    for count in counts {
-        append_number(out, comma, *count as u64, "")?;
-        comma = ",";
-    }
-    append(out, "]")
-}
 
 /// What a shadow's home had applied.
 fn append_deps(out: &mut Vec<u8>, deps: &Deps) -> Result<(), AllocError>
     ensures { Adds result out.old.items out.new.items (compact_text (deps_json deps.now)) }
 {
     append(out, "[")?;
-    append_counts(out, &deps.blue)?;
+    append_numbers(out, &deps.blue)?;
     append_number(out, ",", deps.red as u64, "]")
 }
 

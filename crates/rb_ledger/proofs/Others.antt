@@ -1,32 +1,33 @@
 -- The second account of an operation, and the heads of both its accounts.
 use Rattle.std.proofs.Common.{◌≡◌, ℕ, zero, suc, ◌+◌, ◌-◌, ◌<◌, ◌≤◌, Bool, true, false, ◌||◌, List, [], ◌∷◌, ◌++◌, length, take, drop, get_or, set, refl, ap, sym, ◌∙◌, subst, arith, ◌⊎◌, inl, inr, Some, None, length-set}
 use Rattle.std.specs.Prelude.{pos, ◌==◌, nat_le, slice_get, Option, option_map, option_and_then, unwrap_or}
-use Rattle.std.proofs.lemmas.Bool.Decides.{nat_tests}
 use Rattle.std.proofs.lemmas.List.{take-append-drop, get_or-set_other}
 use Rattle.std.proofs.lemmas.Option.{slice_get_within}
 use Rattle.rb_money.specs.Amounts.{cents}
 use Rattle.rb_money.specs.Settings.{Settings, IsConfigured}
 use Rattle.rb_money.specs.declared.place.Place.{Place}
 use Rattle.rb_money.specs.declared.place.TheConstants.Place.{NOWHERE}
+use Rattle.rb_money.proofs.Public.Tests.{above, equal, same_place}
 use Rattle.rb_shadow.specs.declared.shadow.Shadow.{Shadow}
 use Rattle.rb_shadow.specs.declared.op_name.OpName.{OpName}
 use Rattle.rb_shadow.specs.Operations.{Among, bal, target_of, receiver_of, other_by, other_of, is_on, kind_in}
 use Rattle.rb_shadow.specs.Sound.{IsSound, is_misdirected}
-use Rattle.rb_shadow.proofs.Members
-use Rattle.rb_shadow.proofs.SoundFacts
+use Rattle.rb_shadow.proofs.Public.Members
+use Rattle.rb_shadow.proofs.Public.SoundFacts
 use Rattle.rb_ledger.specs.declared.marks.Head.{Head}
 use Rattle.rb_ledger.specs.declared.marks.Links.{Links}
 use Rattle.rb_ledger.specs.Valid.{IsValid, HasTarget}
 use Rattle.rb_ledger.specs.Index.{IsLinked, AreHeads, no_head, head_more, head_less, heads_at}
 use Rattle.rb_ledger.specs.OnAccount.{IsLast}
 use Rattle.rb_ledger.proofs.IndexLists
-use Rattle.rb_ledger.proofs.Walks
-use Rattle.rb_ledger.proofs.Pushes
-use Rattle.rb_ledger.proofs.Legal
+use Rattle.rb_ledger.proofs.Public.Pushes
+use Rattle.rb_ledger.proofs.Public.Legal
 use Rattle.rb_ledger.proofs.Moves
 use Rattle.rb_ledger.proofs.Overdraws
-use Rattle.rb_ledger.proofs.ValidClocks
+use Rattle.rb_ledger.proofs.Public.ValidClocks
 use Rattle.rb_ledger.proofs.ChainFacts
+use Rattle.rb_ledger.proofs.Public.Fronts
+use Rattle.rb_ledger.proofs.Public.OnAccount
 
 -- ---- the second account
 
@@ -34,17 +35,8 @@ use Rattle.rb_ledger.proofs.ChainFacts
 received : (s : Settings) (v : Shadow) (b : Place) → SoundFacts.SoundFacts s v → receiver_of v.kind ≡ Some b → (b.0 < length s.starts) × (v.account.0 ≡ b.0 → ⊥)
 received s v b facts e = at (ap (is_misdirected (length s.starts) v.account) (sym e) ∙ facts.receiver)
   where
-    near : (m n : ℕ) → nat_le m n ≡ false → n < m
-    near m n e = grind (arith, nat_tests)
-
-    apart : (m n : ℕ) → (n == m) ≡ false → m ≡ n → ⊥
-    apart m n e k = Members.true≢false (sym (same m n k) ∙ e)
-      where
-        same : (m n : ℕ) → m ≡ n → (n == m) ≡ true
-        same m n k = grind (arith, nat_tests)
-
     at : (nat_le (length s.starts) b.0 || (b.0 == v.account.0)) ≡ false → (b.0 < length s.starts) × (v.account.0 ≡ b.0 → ⊥)
-    at k = let (first, second) = Members.or-false _ _ k in (near (length s.starts) b.0 first, apart v.account.0 b.0 second)
+    at k = let (first, second) = Members.or-false _ _ k in (above (length s.starts) b.0 first, λ k. Members.true≢false (sym (equal b.0 v.account.0 (sym k)) ∙ second))
 
 -- and so is a second account
 pub second_apart : (s : Settings) (us : List Shadow) (h : Shadow) (b : Place) → IsValid s us → IsSound s h → HasTarget us h (target_of h.kind) → other_of us h ≡ Some b → (b.0 < length s.starts) × (h.account.0 ≡ b.0 → ⊥)
@@ -62,14 +54,14 @@ other_apart s us h b valid may e = second_apart s us h b valid may.sound may.tar
 -- what stands at an index may follow what stands before it
 pub may_there : (s : Settings) (us : List Shadow) (i : ℕ) (u : Shadow) → IsValid s us → slice_get us i ≡ Some u → Legal.MayFollow s (take i us) u
 may_there s us i u valid there =
-    Legal.IsValid-last s (take i us) u (subst (IsValid s) (Moves.one_more us i u there) (Legal.IsValid-front s (take (i + 1) us) (drop (i + 1) us) (subst (IsValid s) (sym (take-append-drop (i + 1) us)) valid)))
+    Legal.IsValid-last s (take i us) u (subst (IsValid s) (Fronts.one_more us i u there) (Legal.IsValid-front s (take (i + 1) us) (drop (i + 1) us) (subst (IsValid s) (sym (take-append-drop (i + 1) us)) valid)))
 
 -- each account that an operation is on is one of the configuration's
 pub on_near : (s : Settings) (us : List Shadow) (i : ℕ) (u : Shadow) (a : Place) → IsValid s us → slice_get us i ≡ Some u → is_on (take i us) u a ≡ true → a.0 < length s.starts
 on_near s us i u a valid there own =
     let (front, target) = Moves.target_there s us i u valid there in
     let may = may_there s us i u valid there in
-    elim (ChainFacts.on_sides (take i us) u a own) [
+    elim (OnAccount.on_sides (take i us) u a own) [
       | inl e ↦ subst (λ (p : Place). p.0 < length s.starts) e (Overdraws.sound_account s u may.sound)
       | inr e ↦ (other_apart s (take i us) u a front may e).0
     ]
@@ -113,7 +105,7 @@ changed s us h hs f g configured valid may many a new e = at (other_of us h) ref
 
     -- none of the two is the account
     off : (o : Option Place) → other_of us h ≡ o → (a.0 ≡ (unwrap_or o NOWHERE).0 → ⊥) → (a.0 ≡ h.account.0 → ⊥) → is_on us h a ≡ false
-    off o is other own = elim (Members.bool_cases (is_on us h a)) [ inl k ↦ absurd (neither (ChainFacts.on_sides us h a k)) | inr k ↦ k ]
+    off o is other own = elim (Members.bool_cases (is_on us h a)) [ inl k ↦ absurd (neither (OnAccount.on_sides us h a k)) | inr k ↦ k ]
       where
         neither : (h.account ≡ a) ⊎ (other_of us h ≡ Some a) → ⊥
         neither (inl j) = own (ap (λ (p : Place). p.0) (sym j))
@@ -122,7 +114,7 @@ changed s us h hs f g configured valid may many a new e = at (other_of us h) ref
     on_first : (o : Option Place) → other_of us h ≡ o → (a.0 ≡ (unwrap_or o NOWHERE).0 → ⊥)
         → ((a.0 ≡ h.account.0) × (f (get_or hs h.account.0 no_head) ≡ new)) ⊎ ((a.0 ≡ h.account.0 → ⊥) × (slice_get hs a.0 ≡ Some new)) → IsChanged us h hs f g a new
     on_first o is other (inl (own, k)) =
-        inl (ChainFacts.on_own us h a (sym own), get_or hs h.account.0 no_head, ap (slice_get hs) own ∙ item hs h.account.0 no_head own_near, inl (ChainFacts.same_place h.account a (sym own), k))
+        inl (OnAccount.on_own us h a (sym own), get_or hs h.account.0 no_head, ap (slice_get hs) own ∙ item hs h.account.0 no_head own_near, inl (same_place h.account a (sym own), k))
     on_first o is other (inr (own, k)) = inr (off o is other own, k)
 
     none_there : (now : List Head) → length now ≡ length hs → slice_get now a.0 ≡ Some new → a.0 ≡ NOWHERE.0 → ⊥
@@ -140,10 +132,10 @@ changed s us h hs f g configured valid may many a new e = at (other_of us h) ref
             absurd (none_there (heads_at NOWHERE.0 g first) (length-set first NOWHERE.0 (g (get_or first NOWHERE.0 no_head)) ∙ length-set hs h.account.0 (f (get_or hs h.account.0 no_head))) read other)
         second (Some b) is read other k =
             let (near, apart) = other_apart s us h b valid may is in
-            let place : b ≡ a = ChainFacts.same_place b a (sym other) in
+            let place : b ≡ a = same_place b a (sym other) in
             let same : get_or first b.0 no_head ≡ get_or hs b.0 no_head = get_or-set_other hs h.account.0 b.0 (f (get_or hs h.account.0 no_head)) no_head (λ e. apart (sym e)) in
             inl (
-              ChainFacts.on_other us h a (is ∙ ap Some place),
+              OnAccount.on_other us h a (is ∙ ap Some place),
               get_or hs b.0 no_head,
               ap (slice_get hs) other ∙ item hs b.0 no_head (omega (arith, near, many)),
               inr (is ∙ ap Some place, ap g (sym same) ∙ k),
@@ -187,7 +179,7 @@ heads_front s us h hs l configured valid longer are linked =
       read,
       subst (λ (k : Head). IsLast us a k.last) is (subst (λ (b : Place). IsLast us b l.own.earlier) own linked.own.earlier),
       ap (λ (k : Head). k.count) (sym is),
-      ap (λ (k : Head). pos k.balance) (sym is) ∙ Walks.kept_balance s us h.account _ valid refl ∙ ap (bal s us) own,
+      ap (λ (k : Head). pos k.balance) (sym is) ∙ Legal.kept_balance s us h.account _ valid refl ∙ ap (bal s us) own,
     )
     at a new (inl (on, old, read, inr (other, is))) = inl (
       on,
@@ -195,5 +187,5 @@ heads_front s us h hs l configured valid longer are linked =
       read,
       subst (λ (k : Head). IsLast us a k.last) is (linked.other a other).earlier,
       ap (λ (k : Head). k.count) (sym is),
-      ap (λ (k : Head). pos k.balance) (sym is) ∙ Walks.kept_balance s us a _ valid (ap (λ o. unwrap_or (option_map (λ a. cents (bal s us a)) o) 0) other),
+      ap (λ (k : Head). pos k.balance) (sym is) ∙ Legal.kept_balance s us a _ valid (ap (λ o. unwrap_or (option_map (λ a. cents (bal s us a)) o) 0) other),
     )

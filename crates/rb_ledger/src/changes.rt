@@ -33,7 +33,7 @@ impl Ledger {
     }
 
     /// Adds a shadow that keeps the list valid at the end, without checking that again, and gives the
-    /// record to undo it. An error is want of memory.
+    /// record to undo it. An error means out of memory.
     pub fn apply_valid(&mut self, shadow: Shadow) -> Result<Undo, AllocError>
         requires { IsValid self.old.settings (self.old.entries ++ shadow ∷ []) }
         ensures applied { IfOk result (λ undo. (self.new.entries ≡ self.old.entries ++ shadow ∷ []) × (undo ≡ parts_of self.old.settings self.old.entries shadow)) }

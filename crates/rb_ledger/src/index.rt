@@ -2,9 +2,9 @@
 ghost use Rattle.std.specs.Prelude.{◌≡◌, ◌≤◌, ◌<◌, ◌+◌, length, pos, [], ◌∷◌, ◌++◌, List, IfOk, ℕ, slice_index, slice_index_or, vec_len, vec_capacity};
 ghost use Rattle.rb_money.specs.declared.limits.TheConstants.{MOST_OPERATIONS};
 ghost use Rattle.rb_shadow.specs.declared.shadow.Shadow.{Shadow as TheShadow};
-ghost use Rattle.rb_shadow.specs.Operations.{target_of, other_by};
+ghost use Rattle.rb_shadow.specs.Operations.{target_of, row_of, other_by};
 ghost use Rattle.rb_ledger.specs.Valid.{IsValid, find_position, parts_of, position_of};
-ghost use Rattle.rb_ledger.specs.Index.{AreHeads, IsIndex, IsLinked, row_of, changed_at, one_more, one_less, no_cancels, heads_at, head_more, head_less, no_head};
+ghost use Rattle.rb_ledger.specs.Index.{AreHeads, IsIndex, changed_at, one_more, one_less, no_cancels, IsLinked, heads_at, head_more, head_less, no_head};
 
 use crate::marks::{Cancels, Head, Links};
 use crate::rows::Rows;

@@ -1,5 +1,4 @@
-pub mod LineLaws
-pub mod Ranges
-pub mod ReadLaws
-pub mod Walks
-pub mod WriteLaws
+pub mod Public
+mod LineLaws
+mod Ranges
+mod ReadLaws

@@ -43,7 +43,7 @@ fn line_length(bytes: &[u8]) -> usize
     }
 }
 
-/// Makes room for a read behind the first bytes, which stay. An `Err` is want of memory.
+/// Makes room for a read behind the first bytes, which stay. An `Err` means out of memory.
 fn make_room(bytes: &mut Vec<u8>, end: usize) -> Result<(), AllocError>
     requires { end ≤ length bytes.old.items }
     ensures front { take end bytes.new.items ≡ take end bytes.old.items }
@@ -134,7 +134,7 @@ impl Pending {
         self.start = 0;
     }
 
-    /// Reads once, to the end of the bytes. An `Err` is want of memory for the room: there was no read then.
+    /// Reads once, to the end of the bytes. An `Err` means out of memory for the room: there was no read then.
     pub fn read<S: Source>(
         &mut self,
         reader: &mut S,

@@ -56,7 +56,7 @@ impl Config {
         }
     }
 
-    /// An equal configuration. `Err` is want of memory.
+    /// An equal configuration. `Err` means out of memory.
     pub fn try_copy(&self, alloc: Global) -> Result<Config, AllocError>
         ensures same { IfOk result (λ config. config ≡ self.now) }
         ensures configured { IfOk result IsConfigured }

@@ -11,15 +11,15 @@ use Rattle.rb_shadow.specs.declared.kind.Kind.{Kind}
 use Rattle.rb_shadow.specs.declared.kind.Kind.TheVariants.{Deposit, Withdraw, Declined, Interest, Transfer}
 use Rattle.rb_shadow.specs.declared.shadow.Shadow.{Shadow}
 use Rattle.rb_shadow.specs.Operations.{bal, is_cancel, is_cancelled, moved, arrived, receiver_of}
-use Rattle.rb_ledger.proofs.Pushes
+use Rattle.rb_ledger.proofs.Public.Pushes
 use Rattle.rb_ledger.specs.Valid.{IsValid}
-use Rattle.rb_ledger.proofs.Legal
+use Rattle.rb_ledger.proofs.Public.Legal
 use Rattle.rb_scratch.specs.declared.request.Request.{Request}
 use Rattle.rb_scratch.specs.declared.request.Request.TheVariants.{Deposit as AskDeposit, Withdraw as AskWithdraw, Interest as AskInterest, Cancel as AskCancel, Transfer as AskTransfer}
 use Rattle.rb_scratch.specs.Originals.{DoesOriginal, IsOriginal, after_accrue, after_deposit, after_withdraw, after_transfer}
 use Rattle.rb_scratch.specs.Requests.{Plan, colour_of_plan, interest_on, next_name, operation_of, plan_of, if_covered}
-use Rattle.rb_scratch.proofs.Made
-use Rattle.rb_scratch.proofs.Makes
+use Rattle.rb_scratch.proofs.Public.Made
+use Rattle.rb_scratch.proofs.Public.Makes
 
 not_cancel : (b : Bool) (k : Kind) → is_cancel k ≡ false → is_cancel (cond b Declined k) ≡ false
 not_cancel true k e = refl

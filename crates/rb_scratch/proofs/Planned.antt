@@ -11,12 +11,12 @@ use Rattle.rb_shadow.specs.declared.kind.Kind.{Kind}
 use Rattle.rb_shadow.specs.declared.kind.Kind.TheVariants.{Withdraw, Declined, Interest, Cancel, Transfer}
 use Rattle.rb_shadow.specs.declared.shadow.Shadow.{Shadow}
 use Rattle.rb_shadow.specs.Operations.{Among, bal, find_in, is_cancelled, may_be_cancelled}
-use Rattle.rb_shadow.proofs.Lookups
+use Rattle.rb_shadow.proofs.Public.Lookups
 use Rattle.rb_scratch.specs.declared.request.Request.{Request}
 use Rattle.rb_scratch.specs.declared.request.Request.TheVariants.{Deposit as AskDeposit, Withdraw as AskWithdraw, Interest as AskInterest, Cancel as AskCancel, Transfer as AskTransfer}
 use Rattle.rb_scratch.specs.Requests.{Plan, interest_on, plan_of, plan_of_cancel}
 use Rattle.rb_money.specs.Amounts.{is_amount}
-use Rattle.rb_scratch.proofs.Made.{passed_by, not_true}
+use Rattle.rb_scratch.proofs.Public.Made.{passed_by, not_true}
 
 pub record IsFor (s : Settings) (p : Plan) : Type 0 where
   pub account : is_account s p.account ≡ true

@@ -21,7 +21,7 @@ const BLANK: UndoParts = UndoParts {
 
 /// Undo records in order, at most as many as a batch has requests, each of which is still to be spent or
 /// sealed. They stand in the value itself and take no memory: a record is spent into its parts, and made
-/// anew from them. Callers see the parts. They can't be dropped: they go to the end of a log, or are closed.
+/// anew from them. Clients see the parts. They can't be dropped: they go to the end of a log, or are closed.
 pub struct Records {
     parts: [UndoParts; MOST_REQUESTS],
     len: usize,
@@ -75,7 +75,7 @@ impl Records {
         Some(Undo::new(self.parts[last]))
     }
 
-    /// Moves the records to the end of a log, and answers how many they are. For want of memory they come
+    /// Moves the records to the end of a log, and answers how many they are. Out of memory they come
     /// back, and nothing changes but that the log may have more room.
     pub fn append_to(self, log: &mut UndoLog) -> Result<usize, Records>
         ensures count { IfOk result (λ count. count ≡ length self.parts) }

@@ -130,8 +130,8 @@ impl<'a> Scratch<'a> {
         try_one(self.ledger, &mut self.undos, token, request)
     }
 
-    /// Keeps what was run: gives the shadows in order, and puts their records at the log's end. For
-    /// want of memory the scratch comes back, and nothing changes but that the log may have more room.
+    /// Keeps what was run: gives the shadows in order, and puts their records at the log's end. Out
+    /// of memory the scratch comes back, and nothing changes but that the log may have more room.
     pub fn commit(self, log: &mut UndoLog) -> Result<Vec<Shadow>, Scratch<'a>>
         requires { IsOfTheLast self.ledger.now self.undos.parts }
         ensures* ledger { sem 𝓛 (RestsIfOk the_row self.entry.ledger (λ scratch. scratch.ledger.ghost_name) result (λ book. book ≡ self.entry.ledger.now)) }
@@ -170,7 +170,7 @@ impl<'a> Scratch<'a> {
     }
 
     /// Keeps what was run: puts the records at the log's end, and answers how many operations that are,
-    /// the ledger's last. It takes memory only where the log has no room for them. For want of memory the
+    /// the ledger's last. It takes memory only where the log has no room for them. Out of memory the
     /// scratch comes back, and nothing changes but that the log may have more room.
     pub fn keep(self, log: &mut UndoLog) -> Result<usize, Scratch<'a>>
         ensures* ledger { sem 𝓛 (RestsIfOk the_row self.entry.ledger (λ scratch. scratch.ledger.ghost_name) result (λ book. book ≡ self.entry.ledger.now)) }

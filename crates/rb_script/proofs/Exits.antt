@@ -11,11 +11,11 @@ use Rattle.rb_lines.specs.Buffers.{Reads}
 use Rattle.rb_lines.specs.Lines.{lines_of, is_long, line_len}
 use Rattle.rb_lines.specs.declared.limits.TheConstants.{LINE_LIMIT}
 use Rattle.rb_script.specs.Script.{ScriptOutcome, script_from, script_of, no_outcome}
-use Rattle.rb_script.specs.Run.{IsFaulty, EndsAs, IsUnfinished}
-use Rattle.rb_script.specs.Session.{rest_from, rest_of, after_text, Answers, EndsAt, first_session}
+use Rattle.rb_script.specs.Run.{IsFaultyScript, ScriptEndsAs, IsUnfinishedScript}
+use Rattle.rb_script.specs.Session.{session_rest_from, session_rest, after_text, Answers, ScriptEndsAt, first_session}
 use Rattle.rb_script.proofs.Follows.{Follows, at_start, after_read, after_line, at_end, at_first, at_rest}
-use Rattle.rb_lines.proofs.LineLaws.{long_line}
-use Rattle.rb_lines.proofs.Walks.{standing}
+use Rattle.rb_lines.proofs.Public.LongLines.{long_line}
+use Rattle.rb_lines.proofs.Public.Walks.{standing}
 
 abbrev pub FollowsKnown : Option (List ℕ) → Option (List ℕ) → Session → List ℕ → Bool → List ℕ → Type 0
 FollowsKnown None now s p e t = Unit {0}
@@ -40,17 +40,17 @@ known_line (Some all) (Some x) s s' p e t t' n f len fits st end ans = after_lin
 
 -- ---- the ends
 
-faulty : (all t : List ℕ) (n : ℕ) (f : ScriptFault) (o : ScriptOutcome) → script_from 1 (lines_of all) ≡ after_text t n o → o ≡ no_outcome f → IsFaulty all t f
+faulty : (all t : List ℕ) (n : ℕ) (f : ScriptFault) (o : ScriptOutcome) → script_from 1 (lines_of all) ≡ after_text t n o → o ≡ no_outcome f → IsFaultyScript all t f
 faulty all t n f o e is = let whole = e ∙ ap (after_text t n) is in record {
   text_is = ap (λ (x : ScriptOutcome). x.text) whole ∙ append-nil t;
   fault_is = ap (λ (x : ScriptOutcome). x.fault) whole;
 }
 
-long_of : (m : Option SeenWorld) (n : ℕ) (l : List ℕ) (ls : List (List ℕ)) → is_long l ≡ true → rest_from m n (l ∷ ls) ≡ no_outcome (LongLine n)
+long_of : (m : Option SeenWorld) (n : ℕ) (l : List ℕ) (ls : List (List ℕ)) → is_long l ≡ true → session_rest_from m n (l ∷ ls) ≡ no_outcome (LongLine n)
 long_of None n l ls h = rw h refl
 long_of (Some m) n l ls h = rw h refl
 
-pub known_long : (a b : Option (List ℕ)) (s : Session) (p : List ℕ) (e : Bool) (t : List ℕ) → FollowsKnown a b s p e t → LINE_LIMIT < line_len p → IfSome a (λ input. IsFaulty input t (LongLine s.number))
+pub known_long : (a b : Option (List ℕ)) (s : Session) (p : List ℕ) (e : Bool) (t : List ℕ) → FollowsKnown a b s p e t → LINE_LIMIT < line_len p → IfSome a (λ input. IsFaultyScript input t (LongLine s.number))
 known_long None b s p e t f h = tt
 known_long (Some all) None s p e t f h = absurd f
 known_long (Some all) (Some x) s p e t f h =
@@ -65,15 +65,15 @@ known_front None b s p e t f = tt
 known_front (Some all) None s p e t f = absurd f
 known_front (Some all) (Some x) s p e t f = front all t s.count _ (ap (script_from 1) f.walks.lines ∙ f.outcome (lines_of (p ++ x)))
 
-unfinished : (m : Option SeenWorld) (n : ℕ) → IsUnfinished (rest_from m n []).fault
+unfinished : (m : Option SeenWorld) (n : ℕ) → IsUnfinishedScript (session_rest_from m n []).fault
 unfinished None n = tt
 unfinished (Some m) n = tt
 
-no_text : (m : Option SeenWorld) (n : ℕ) → (rest_from m n []).text ≡ []
+no_text : (m : Option SeenWorld) (n : ℕ) → (session_rest_from m n []).text ≡ []
 no_text None n = refl
 no_text (Some m) n = refl
 
-pub known_stop : (a b : Option (List ℕ)) (s : Session) (p : List ℕ) (e : Bool) (t : List ℕ) → FollowsKnown a b s p e t → e ≡ false → line_len p ≡ length p → IfSome a (λ input. EndsAs (Err Read) input b t)
+pub known_stop : (a b : Option (List ℕ)) (s : Session) (p : List ℕ) (e : Bool) (t : List ℕ) → FollowsKnown a b s p e t → e ≡ false → line_len p ≡ length p → IfSome a (λ input. ScriptEndsAs (Err Read) input b t)
 known_stop None b s p e t f going none = tt
 known_stop (Some all) None s p e t f going none = absurd f
 known_stop (Some all) (Some x) s p e t f going none =
@@ -84,27 +84,27 @@ known_stop (Some all) (Some x) s p e t f going none =
         taken = f.walks.got;
         whole = f.walks.bytes;
         text_is = ap (λ (o : ScriptOutcome). o.text) whole ∙ ap (λ y. t ++ y) (no_text s.world s.number) ∙ append-nil t;
-        unfinished = subst IsUnfinished (sym (ap (λ (o : ScriptOutcome). o.fault) whole)) (unfinished s.world s.number);
+        unfinished = subst IsUnfinishedScript (sym (ap (λ (o : ScriptOutcome). o.fault) whole)) (unfinished s.world s.number);
       },
     )
 
 -- the result at the end of the source
-pub known_end : (a b : Option (List ℕ)) (s : Session) (p : List ℕ) (e : Bool) (t : List ℕ) (m : SeenWorld) → FollowsKnown a b s p e t → p ≡ [] → IsAtEnd b → s.world ≡ Some m → IfSome a (λ input. EndsAs (Ok s.count) input b t)
+pub known_end : (a b : Option (List ℕ)) (s : Session) (p : List ℕ) (e : Bool) (t : List ℕ) (m : SeenWorld) → FollowsKnown a b s p e t → p ≡ [] → IsAtEnd b → s.world ≡ Some m → IfSome a (λ input. ScriptEndsAs (Ok s.count) input b t)
 known_end None b s p e t m f none end is = tt
 known_end (Some all) None s p e t m f none end is = absurd f
 known_end (Some all) (Some x) s p e t m f none end is =
     let whole = at_end all s p x e t f none end in
-    (whole ∙ ap (λ (y : Option SeenWorld). after_text t s.count (rest_from y s.number [])) is ∙ ap (λ y. record { text = y; count = s.count + 0; fault = None }) (append-nil t) ∙ ap (λ n. record { text = t; count = n; fault = None }) (add-zero s.count), ap Some end)
+    (whole ∙ ap (λ (y : Option SeenWorld). after_text t s.count (session_rest_from y s.number [])) is ∙ ap (λ y. record { text = y; count = s.count + 0; fault = None }) (append-nil t) ∙ ap (λ n. record { text = t; count = n; fault = None }) (add-zero s.count), ap Some end)
 
-pub known_unconfigured : (a b : Option (List ℕ)) (s : Session) (p : List ℕ) (e : Bool) (t : List ℕ) → FollowsKnown a b s p e t → p ≡ [] → IsAtEnd b → s.world ≡ None → IfSome a (λ input. EndsAs (Err NoConfig) input b t)
+pub known_unconfigured : (a b : Option (List ℕ)) (s : Session) (p : List ℕ) (e : Bool) (t : List ℕ) → FollowsKnown a b s p e t → p ≡ [] → IsAtEnd b → s.world ≡ None → IfSome a (λ input. ScriptEndsAs (Err NoConfig) input b t)
 known_unconfigured None b s p e t f none end is = tt
 known_unconfigured (Some all) None s p e t f none end is = absurd f
 known_unconfigured (Some all) (Some x) s p e t f none end is =
-    faulty all t s.count NoConfig _ (at_end all s p x e t f none end) (ap (λ (y : Option SeenWorld). rest_from y s.number []) is)
+    faulty all t s.count NoConfig _ (at_end all s p x e t f none end) (ap (λ (y : Option SeenWorld). session_rest_from y s.number []) is)
 
 -- the result of a line that ends the script
-at_fault : (all : List ℕ) (b : Option (List ℕ)) (s : Session) (t l : List ℕ) (more : List (List ℕ)) (f : ScriptFault) → script_from 1 (lines_of all) ≡ after_text t s.count (rest_of s (l ∷ more)) → EndsAt s l f
-    → EndsAs (Err f) all b t
+at_fault : (all : List ℕ) (b : Option (List ℕ)) (s : Session) (t l : List ℕ) (more : List (List ℕ)) (f : ScriptFault) → script_from 1 (lines_of all) ≡ after_text t s.count (session_rest s (l ∷ more)) → ScriptEndsAt s l f
+    → ScriptEndsAs (Err f) all b t
 at_fault all b s t l more (BadConfig n) e h = faulty all t s.count (BadConfig n) _ e (h more)
 at_fault all b s t l more (BadLine n) e h = faulty all t s.count (BadLine n) _ e (h more)
 at_fault all b s t l more OutOfMemory e h = front all t s.count _ e
@@ -115,7 +115,7 @@ at_fault all b s t l more Write e h = absurd h
 at_fault all b s t l more Gather e h = absurd h
 
 pub known_fault : (a b : Option (List ℕ)) (s : Session) (p : List ℕ) (e : Bool) (t : List ℕ) (n : ℕ) (f : ScriptFault) → FollowsKnown a b s p e t → n ≡ line_len p → n ≤ length p
-    → (n < length p) ⊎ ((n ≡ length p) × (0 < n) × (e ≡ true)) → (e ≡ true → IsAtEnd b) → EndsAt s (take n p) f → IfSome a (λ input. EndsAs (Err f) input b t)
+    → (n < length p) ⊎ ((n ≡ length p) × (0 < n) × (e ≡ true)) → (e ≡ true → IsAtEnd b) → ScriptEndsAt s (take n p) f → IfSome a (λ input. ScriptEndsAs (Err f) input b t)
 known_fault None b s p e t n f k len fits st end h = tt
 known_fault (Some all) None s p e t n f k len fits st end h = absurd k
 known_fault (Some all) (Some x) s p e t n f k len fits st end h =

@@ -1,4 +1,4 @@
-pub mod Exits
-pub mod Follows
-pub mod Opens
-pub mod Progress
+mod Exits
+mod Follows
+mod Opens
+mod Progress

@@ -5,7 +5,7 @@ use Rattle.rb_world.specs.Laws.{opened}
 use Rattle.rb_script.specs.declared.session.Session.{Session}
 use Rattle.rb_lines.specs.Lines.{is_blank, is_long}
 use Rattle.rb_commands.specs.Configurations.{config_on}
-use Rattle.rb_script.specs.Script.{ScriptOutcome, commands_from, outcome}
+use Rattle.rb_script.specs.Script.{ScriptOutcome, commands_from, script_outcome}
 use Rattle.rb_script.specs.Session.{Answers, after_text}
 
 -- nothing was written, and nothing counted
@@ -16,7 +16,7 @@ pub opens : (s s' : Session) (l : List ℕ) (k : Settings) → s.world ≡ None 
     → s' ≡ record { world = Some (opened k); number = s.number + 1; count = s.count } → Answers s s' l []
 opens s s' l k none short some is e =
     subst (λ x. Answers s x l []) (sym e) (record {
-      follows = λ ls. rw (none, short, some, is) (sym (nothing s.count (outcome (opened k) (commands_from k (s.number + 1) ls))));
+      follows = λ ls. rw (none, short, some, is) (sym (nothing s.count (script_outcome (opened k) (commands_from k (s.number + 1) ls))));
       count = omega arith;
       number = refl;
     })

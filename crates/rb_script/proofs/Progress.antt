@@ -11,8 +11,8 @@ use Rattle.rb_lines.specs.Buffers.{Reads, Sends}
 use Rattle.rb_lines.specs.Lines.{line_len, lines_of}
 use Rattle.rb_lines.specs.declared.limits.TheConstants.{LINE_LIMIT}
 use Rattle.rb_script.specs.Script.{script_of}
-use Rattle.rb_script.specs.Run.{EndsAs, WillEndAs}
-use Rattle.rb_script.specs.Session.{Answers, EndsAt, first_session}
+use Rattle.rb_script.specs.Run.{ScriptEndsAs, WillEndAs}
+use Rattle.rb_script.specs.Session.{Answers, ScriptEndsAt, first_session}
 use Rattle.rb_lines.specs.Writes.{AppendsFront, IsFront}
 use Rattle.rb_script.proofs.Exits.{FollowsKnown, known_end, known_fault, known_front, known_line, known_long, known_read, known_start, known_stop, known_unconfigured}
 
@@ -51,7 +51,7 @@ goes_on w0 w r0 r s s' p e owed owed' n st len fits stands end answered = (
 
 -- ---- the ends
 
-with_front : (w0 w r0 r : Option (List ℕ)) (s : Session) (p : List ℕ) (e : Bool) (owed : List ℕ) (result : Result ℕ ScriptFault) → (st : IsAt w0 w r0 r s p e owed) → IfSome r0 (λ input. EndsAs result input r (st.0 ++ owed))
+with_front : (w0 w r0 r : Option (List ℕ)) (s : Session) (p : List ℕ) (e : Bool) (owed : List ℕ) (result : Result ℕ ScriptFault) → (st : IsAt w0 w r0 r s p e owed) → IfSome r0 (λ input. ScriptEndsAs result input r (st.0 ++ owed))
     → IsOver w0 w r0 r result owed
 with_front w0 w r0 r s p e owed result st ends = (st.0, st.1, both _ _ r0 ends (known_front r0 r s p e (st.0 ++ owed) st.2))
 
@@ -62,7 +62,7 @@ pub ends_unread : (w0 w r0 r : Option (List ℕ)) (s : Session) (p : List ℕ) (
 ends_unread w0 w r0 r s p e owed st going none = with_front w0 w r0 r s p e owed (Err Read) st (known_stop r0 r s p e (st.0 ++ owed) st.2 going none)
 
 pub ends_at_fault : (w0 w r0 r : Option (List ℕ)) (s : Session) (p : List ℕ) (e : Bool) (owed owed' : List ℕ) (n : ℕ) (f : ScriptFault) → IsAt w0 w r0 r s p e owed → n ≡ line_len p → n ≤ length p
-    → (n < length p) ⊎ ((n ≡ length p) × (0 < n) × (e ≡ true)) → (e ≡ true → IsAtEnd r) → (owed' ≡ owed) × EndsAt s (take n p) f → IsOver w0 w r0 r (Err f) owed'
+    → (n < length p) ⊎ ((n ≡ length p) × (0 < n) × (e ≡ true)) → (e ≡ true → IsAtEnd r) → (owed' ≡ owed) × ScriptEndsAt s (take n p) f → IsOver w0 w r0 r (Err f) owed'
 ends_at_fault w0 w r0 r s p e owed owed' n f st len fits stands end (same, fault) =
     subst (λ o. IsOver w0 w r0 r (Err f) o) (sym same) (with_front w0 w r0 r s p e owed (Err f) st (known_fault r0 r s p e (st.0 ++ owed) n f st.2 len fits stands end fault))
 
@@ -108,11 +108,11 @@ ends_unwritten w0 w w' r0 r r' s p e owed owed' st (front, nothing) = (
 -- ---- after the end
 
 -- what was owed went out
-pub over_written : (w0 w w' r0 r : Option (List ℕ)) (result : Result ℕ ScriptFault) (owed : List ℕ) → IsOver w0 w r0 r result owed → Appends w w' owed → (text : List ℕ) × Appends w0 w' text × IfSome r0 (λ input. EndsAs result input r text)
+pub over_written : (w0 w w' r0 r : Option (List ℕ)) (result : Result ℕ ScriptFault) (owed : List ℕ) → IsOver w0 w r0 r result owed → Appends w w' owed → (text : List ℕ) × Appends w0 w' text × IfSome r0 (λ input. ScriptEndsAs result input r text)
 over_written w0 w w' None r result owed st written = (st.0 ++ owed, Appends-trans w0 w w' st.0 owed st.1 written, tt)
 over_written w0 w w' (Some x) r result owed st written = (st.0 ++ owed, Appends-trans w0 w w' st.0 owed st.1 written, st.2.0)
 
 -- a front of it did
-pub over_unwritten : (w0 w w' r0 r : Option (List ℕ)) (result : Result ℕ ScriptFault) (owed : List ℕ) → IsOver w0 w r0 r result owed → AppendsFront w w' owed → (text : List ℕ) × Appends w0 w' text × IfSome r0 (λ input. EndsAs (Err Write) input r text)
+pub over_unwritten : (w0 w w' r0 r : Option (List ℕ)) (result : Result ℕ ScriptFault) (owed : List ℕ) → IsOver w0 w r0 r result owed → AppendsFront w w' owed → (text : List ℕ) × Appends w0 w' text × IfSome r0 (λ input. ScriptEndsAs (Err Write) input r text)
 over_unwritten w0 w w' None r result owed st front = (st.0 ++ front.0, Appends-trans w0 w w' st.0 front.0 st.1 front.2, tt)
 over_unwritten w0 w w' (Some x) r result owed st front = (st.0 ++ front.0, Appends-trans w0 w w' st.0 front.0 st.1 front.2, shorter st.0 owed front.0 front.1.0 _ st.2.1 front.1.1)

@@ -42,8 +42,8 @@ pub record ScriptOutcome : Type 0 where
   pub fault : Option ScriptFault
 
 -- the lines of the replies that the world's run gives to the commands
-abbrev pub outcome : SeenWorld → Commands → ScriptOutcome
-outcome w cs = record { text = flat_map line (next_replies w cs.commands); count = length cs.commands; fault = cs.fault }
+abbrev pub script_outcome : SeenWorld → Commands → ScriptOutcome
+script_outcome w cs = record { text = flat_map line (next_replies w cs.commands); count = length cs.commands; fault = cs.fault }
 
 abbrev pub no_outcome : ScriptFault → ScriptOutcome
 no_outcome f = record { text = []; count = 0; fault = Some f }
@@ -52,7 +52,7 @@ no_outcome f = record { text = []; count = 0; fault = Some f }
 abbrev pub script_from : ℕ → List (List ℕ) → ScriptOutcome
 script_from n [] = no_outcome NoConfig
 script_from n (l ∷ ls) = if is_long l then no_outcome (LongLine n) else (if is_blank l then script_from (n + 1) ls
-    else option_map_or (λ s. outcome (opened s) (commands_from s (n + 1) ls)) (config_on l) (no_outcome (BadConfig n)))
+    else option_map_or (λ s. script_outcome (opened s) (commands_from s (n + 1) ls)) (config_on l) (no_outcome (BadConfig n)))
 
 -- what a script of these lines comes to
 abbrev pub script_of : List (List ℕ) → ScriptOutcome

@@ -6,20 +6,20 @@ use Rattle.rb_commands.specs.Replies.{line}
 use Rattle.rb_script.specs.declared.session.Session.{Session}
 use Rattle.rb_lines.specs.declared.fault.ScriptFault.{ScriptFault}
 use Rattle.rb_lines.specs.declared.fault.ScriptFault.TheVariants.{NoConfig, BadConfig, BadLine, LongLine, Read, Write, OutOfMemory, Gather}
-use Rattle.rb_script.specs.Script.{ScriptOutcome, command_on, commands_from, no_outcome, outcome, script_from}
+use Rattle.rb_script.specs.Script.{ScriptOutcome, command_on, commands_from, no_outcome, script_outcome, script_from}
 
 -- before the first line
 abbrev pub first_session : Session
 first_session = record { world = None; number = 1; count = 0 }
 
 -- the outcome of the lines to come, the first of which is line n: before the configuration and after it
-abbrev pub rest_from : Option SeenWorld → ℕ → List (List ℕ) → ScriptOutcome
-rest_from None n ls = script_from n ls
-rest_from (Some w) n ls = outcome w (commands_from w.settings n ls)
+abbrev pub session_rest_from : Option SeenWorld → ℕ → List (List ℕ) → ScriptOutcome
+session_rest_from None n ls = script_from n ls
+session_rest_from (Some w) n ls = script_outcome w (commands_from w.settings n ls)
 
 -- the outcome of the lines to come of a session
-abbrev pub rest_of : Session → List (List ℕ) → ScriptOutcome
-rest_of s ls = rest_from s.world s.number ls
+abbrev pub session_rest : Session → List (List ℕ) → ScriptOutcome
+session_rest s ls = session_rest_from s.world s.number ls
 
 -- the outcome, once this text of so many replies comes before it
 abbrev pub after_text : List ℕ → ℕ → ScriptOutcome → ScriptOutcome
@@ -27,20 +27,20 @@ after_text text count o = record { text = text ++ o.text; count = count + o.coun
 
 -- the line was answered by this text, and the session goes on with the next
 pub record Answers (old new : Session) (l text : List ℕ) : Type 0 where
-  pub follows : (ls : List (List ℕ)) → rest_of old (l ∷ ls) ≡ after_text text (new.count - old.count) (rest_of new ls)
+  pub follows : (ls : List (List ℕ)) → session_rest old (l ∷ ls) ≡ after_text text (new.count - old.count) (session_rest new ls)
   pub count : old.count ≤ new.count
   pub number : new.number ≡ old.number + 1
 
 -- the script ends at this line
-abbrev pub EndsAt : Session → List ℕ → ScriptFault → Type 0
-EndsAt old l (BadConfig n) = (ls : List (List ℕ)) → rest_of old (l ∷ ls) ≡ no_outcome (BadConfig n)
-EndsAt old l (BadLine n) = (ls : List (List ℕ)) → rest_of old (l ∷ ls) ≡ no_outcome (BadLine n)
-EndsAt old l OutOfMemory = Unit {0}
-EndsAt old l NoConfig = ⊥
-EndsAt old l (LongLine n) = ⊥
-EndsAt old l Read = ⊥
-EndsAt old l Write = ⊥
-EndsAt old l Gather = ⊥
+abbrev pub ScriptEndsAt : Session → List ℕ → ScriptFault → Type 0
+ScriptEndsAt old l (BadConfig n) = (ls : List (List ℕ)) → session_rest old (l ∷ ls) ≡ no_outcome (BadConfig n)
+ScriptEndsAt old l (BadLine n) = (ls : List (List ℕ)) → session_rest old (l ∷ ls) ≡ no_outcome (BadLine n)
+ScriptEndsAt old l OutOfMemory = Unit {0}
+ScriptEndsAt old l NoConfig = ⊥
+ScriptEndsAt old l (LongLine n) = ⊥
+ScriptEndsAt old l Read = ⊥
+ScriptEndsAt old l Write = ⊥
+ScriptEndsAt old l Gather = ⊥
 
 -- the line is a command, the world took it, and the line of its reply is owed
 pub record AnswersCommand (old new : SeenWorld) (l owed owed' : List ℕ) : Type 0 where

@@ -1,5 +1,5 @@
 -- Operations, their order, serializations and balances.
-use Rattle.std.specs.Prelude.{◌≡◌, ◌≢◌, ℕ, ◌+◌, ◌<◌, Bool, true, false, if◌then◌else◌, not, ◌&&◌, nat_le, ◌==◌, List, [], ◌∷◌, ◌++◌, Option, Some, None, is_some, option_and_then, slice_index, ◌⊎◌, ℤ, pos, neg_ℤ, ◌+ℤ◌, filter, map, find, count_by}
+use Rattle.std.specs.Prelude.{◌≡◌, ◌≢◌, ℕ, suc, ◌+◌, ◌<◌, Bool, true, false, if◌then◌else◌, not, ◌&&◌, nat_le, ◌==◌, List, [], ◌∷◌, ◌++◌, Option, Some, None, is_some, option_and_then, slice_index, ◌⊎◌, ℤ, pos, neg_ℤ, ◌+ℤ◌, filter, map, find, count_by}
 use Rattle.std.specs.List.{range_with_len, list_all, list_any}
 use Rattle.rb_money.specs.Settings.{Settings, start_of}
 use Rattle.rb_money.specs.declared.limits.TheConstants.{MOST_SITES}
@@ -21,24 +21,24 @@ same_name (Blue i m) (Red n) = false
 same_name (Red m) (Blue j n) = false
 
 -- a set of names, by its members
-abbrev pub Names : Type 0
-Names = OpName → Bool
+abbrev pub NameSet : Type 0
+NameSet = OpName → Bool
 
 -- each member of the first is one of the second
-abbrev pub IsWithin : Names → Names → Type 0
+abbrev pub IsWithin : NameSet → NameSet → Type 0
 IsWithin xs ys = (x : OpName) → xs x ≡ true → ys x ≡ true
 
 -- they have the same members
-abbrev pub AreSame : Names → Names → Type 0
+abbrev pub AreSame : NameSet → NameSet → Type 0
 AreSame xs ys = (x : OpName) → xs x ≡ ys x
 
 -- the names that a clock counts: of each site's blue and of the red operations, those from 1 to the entry
-abbrev pub names_of_clock : Deps → Names
+abbrev pub names_of_clock : Deps → NameSet
 names_of_clock c (Blue i n) = nat_le 1 n && nat_le n (slice_index c.blue i)
 names_of_clock c (Red n) = nat_le 1 n && nat_le n c.red
 
 -- what the operation's home had applied just before it
-unfoldable pub past : Shadow → Names
+unfoldable pub past : Shadow → NameSet
 past v = names_of_clock v.deps
 
 -- u stands before v in the order
@@ -46,7 +46,7 @@ abbrev pub Precedes : Shadow → Shadow → Type 0
 Precedes u v = past v u.name ≡ true
 
 -- the names of a list of operations
-abbrev pub names : List Shadow → Names
+abbrev pub names : List Shadow → NameSet
 names us x = list_any (λ u. same_name u.name x) us
 
 -- u is one of the operations
@@ -195,6 +195,11 @@ pub record Agree (s : Settings) (us vs : List Shadow) : Type 0 where
 abbrev pub number_of : OpName → ℕ
 number_of (Blue i n) = n
 number_of (Red n) = n
+
+-- the row of a name, where operations stand in rows: first the red ones, and then the blue ones of each site
+abbrev pub row_of : OpName → ℕ
+row_of (Blue i n) = suc i
+row_of (Red n) = 0
 
 -- the colour that a name shows
 abbrev pub shown_colour : OpName → Colour

@@ -8,15 +8,14 @@ use Rattle.rb_money.specs.declared.refusal.Refusal.TheVariants.{BadBatch, BatchR
 use Rattle.rb_shadow.specs.declared.shadow.Shadow.{Shadow}
 use Rattle.rb_undo.specs.declared.parts.UndoParts.{UndoParts}
 use Rattle.rb_ledger.specs.Book.{Book}
-use Rattle.rb_ledger.proofs.Records.{records_of-append}
+use Rattle.rb_ledger.proofs.Public.Records.{records_of-append}
 use Rattle.rb_ledger.specs.Records.{logged, records_of}
 use Rattle.rb_token.specs.Token.{Token}
 use Rattle.rb_token.specs.Seat.{Shows}
 use Rattle.rb_token.specs.declared.view.TokenView.{TokenView}
-use Rattle.rb_scratch.proofs.Generated.{seen, seen_shows}
-use Rattle.rb_scratch.proofs.InBatch.{batch_more, batch_stopped}
-use Rattle.rb_scratch.proofs.Made.{batch_length}
-use Rattle.rb_scratch.proofs.Tries.{tried_length}
+use Rattle.rb_scratch.proofs.Public.Tokens.{seen, seen_shows}
+use Rattle.rb_scratch.proofs.Public.Batches.{batch_more, batch_stopped, tried_length}
+use Rattle.rb_scratch.proofs.Public.Made.{batch_length}
 use Rattle.rb_scratch.specs.Batches.{batch_of, cause_of, made_in_batch, names_of_all}
 use Rattle.rb_scratch.specs.Tried.{IsFault, IsTried}
 use Rattle.rb_scratch.specs.declared.request.Request.{Request}
@@ -57,7 +56,7 @@ run_stopped s now me here us them vs known rs k d fault there same at list far m
     ∙ batch_stopped s me us known 0 (take k rs) (get_or rs k d) (drop (k + 1) rs) vs fault far (same_made s now me here (us ++ vs) them known (get_or rs k d) same at list ∙ made)
     ∙ ap (λ n. Err (BatchRefused n (cause_of fault))) index
 
--- among the first requests, what isn't want of memory is the request's own fault
+-- among the first requests, what isn't *out of memory* is the request's own fault
 pub fault_made : (base vs : List Shadow) (book : Book) (parts : List UndoParts) (me : ℕ) (known : Token) (rs : List Request) (r : Request) (fault : RunFault) → IsTried base vs book parts → length vs < length rs → length rs ≤ MOST_REQUESTS
     → IsFault book parts me known r fault → (fault ≡ RefusedFault OutOfMemory → ⊥) → made_in_batch book.settings me book.entries known r ≡ Err fault
 fault_made base vs book parts me known rs r fault tried more few is other = by (is.few (omega (arith, tried_length base vs book parts tried, more, few)))
@@ -120,7 +119,7 @@ pub refuses_batch : (s : Settings) (me : ℕ) (ops held : List Shadow) (token : 
     → AnswersAlone (state_as s me ops held token) (state_as s me ops held token) (outcome_of s (site_as me ops held token) (Batch rs)) a
 refuses_batch s me ops held token rs why a size refused is = answers_as _ _ _ _ a (batch_comes s (site_as me ops held token) rs true size ∙ ap outcome_of_batch refused) (refl, is, refl)
 
--- what refused a batch, but for want of memory
+-- what refused a batch, but for running out of memory
 pub refused_batch : (why : Refusal) (X : Type 0) → (why ≡ OutOfMemory) ⊎ X → (why ≡ OutOfMemory → ⊥) → X
 refused_batch why X (inl e) memory = absurd (memory e)
 refused_batch why X (inr h) memory = h

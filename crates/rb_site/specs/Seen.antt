@@ -1,4 +1,4 @@
--- A site as callers see it: its configuration, its number and its history. All else is the run of the history.
+-- A site as clients see it: its configuration, its number and its history. All else is the run of the history.
 use Rattle.std.specs.Prelude.{◌≡◌, ℕ, ◌<◌, ◌≤◌, if◌then◌else◌, List, [], ◌∷◌, ◌++◌, length}
 use Rattle.rb_money.specs.Settings.{Settings}
 use Rattle.rb_site.specs.declared.entry.Entry.{Entry}
@@ -36,7 +36,7 @@ Replays s t (x ∷ xs) = (x.reply ≡ reply_to s t x.event) × Replays s (after_
 
 -- what a site keeps: it is one of the configuration, its history replays and is within its limit
 pub record IsReplayed (x : SeenSite) : Type 0 where
-  pub place : x.me < x.settings.sites
+  pub within : x.me < x.settings.sites
   pub replays : Replays x.settings (first_site x.me) x.entries
   pub room : length x.entries ≤ x.settings.limits.history
 

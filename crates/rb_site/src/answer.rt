@@ -25,7 +25,7 @@ impl Answer {
         Answer { reply, noted: None }
     }
 
-    /// A statement, for a history that keeps replies or doesn't. `Err` is want of memory.
+    /// A statement, for a history that keeps replies or doesn't. `Err` means out of memory.
     pub fn shown(alloc: Global, statement: Statement, keeps: bool) -> Result<Answer, AllocError>
         ensures { IfOk result (λ answer. Says keeps answer (Reply.Statement statement)) }
     {

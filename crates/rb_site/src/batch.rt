@@ -19,7 +19,7 @@ use rb_token::TokenView;
 use rb_undo::UndoLog;
 use std::alloc::Global;
 
-/// The refusal of a batch whose request of this index, from 0, is at fault. Want of memory is told as it
+/// The refusal of a batch whose request of this index, from 0, is at fault. Out of memory is told as it
 /// is.
 fn why_stopped(index: u8, fault: RunFault) -> Refusal
     ensures { ((fault ≡ RunFault.Refused Refusal.OutOfMemory) × (result ≡ Refusal.OutOfMemory)) ⊎ ((fault ≡ RunFault.Refused Refusal.OutOfMemory → ⊥) × (result ≡ Refusal.BatchRefused index (cause_of fault))) }

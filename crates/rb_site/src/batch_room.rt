@@ -5,13 +5,14 @@ ghost use Rattle.rb_site.specs.Rooms.{IsRoomFor};
 ghost use Rattle.rb_site.specs.States.{Says};
 
 use crate::answer::Answer;
-use crate::{Message, OpNames, Reply};
+use crate::{Message, Reply};
+use rb_list::List;
 use rb_shadow::{OpName, Shadow};
 use std::alloc::{AllocError, Global};
 use std::marker::Model;
 
 /// Memory for the answer to a batch: for the names, and for the same in a history that keeps replies.
-/// Callers see for how many operations there is room, and whether the history keeps replies.
+/// Clients see for how many operations there is room, and whether the history keeps replies.
 #[derive(Drop)]
 pub struct BatchRoom {
     most: usize,
@@ -32,7 +33,7 @@ impl Model for BatchRoom {
 }
 
 impl BatchRoom {
-    /// Room for so many operations, and for as many messages more than were sent. `Err` is want of memory.
+    /// Room for so many operations, and for as many messages more than were sent. `Err` means out of memory.
     pub fn open(
         alloc: Global,
         most: usize,
@@ -72,12 +73,12 @@ impl BatchRoom {
         } = self;
         send(sent, made);
         let noted = if keeps {
-            Some(Reply::Names(OpNames::new(with_names(noted, made))))
+            Some(Reply::Names(List::new(with_names(noted, made))))
         } else {
             None
         };
         Answer {
-            reply: Reply::Names(OpNames::new(with_names(names, made))),
+            reply: Reply::Names(List::new(with_names(names, made))),
             noted,
         }
     }

@@ -14,7 +14,7 @@ pub struct Entry {
 }
 
 impl Entry {
-    /// An equal entry. `Err` is want of memory.
+    /// An equal entry. `Err` means out of memory.
     pub fn try_copy(&self, alloc: Global) -> Result<Entry, AllocError>
         ensures { IfOk result (λ copy. copy ≡ self.now) }
     {

@@ -27,7 +27,7 @@ use rb_vclock::Clock;
 use std::alloc::{AllocError, Global};
 use std::marker::Model;
 
-/// A ledger and its undo records, one for each operation. Callers see the settings and the operations.
+/// A ledger and its undo records, one for each operation. Clients see the settings and the operations.
 pub struct Journal {
     ledger: Ledger,
     log: UndoLog,
@@ -105,7 +105,7 @@ impl Journal {
     }
 
     /// Applies a shadow, and keeps the record to undo that. After a refusal, which is that of
-    /// `Ledger::check`, or else want of memory, all is as before.
+    /// `Ledger::check`, or else out of memory, all is as before.
     pub fn apply(&mut self, shadow: Shadow) -> Result<(), Refusal>
         ensures applied { OnOk result (self.new ≡ record self.old { ops = self.old.ops ++ shadow ∷ [] }) }
         ensures taken { OnOk result (refusal_of self.old.settings self.old.ops shadow ≡ None) }
@@ -113,7 +113,7 @@ impl Journal {
             ⊎ ((why ≡ Refusal.OutOfMemory) × (refusal_of self.old.settings self.old.ops shadow ≡ None)))) }
     {
         if self.log.reserve(1).is_err() {
-            // Want of memory is told where nothing else refuses the shadow.
+            // Out of memory is told where nothing else refuses the shadow.
             if let Err(why) = self.ledger.check(&shadow) {
                 return Err(why);
             }

@@ -7,7 +7,7 @@ use rb_money::Place;
 use std::alloc::{AllocError, Global};
 use std::marker::Model;
 
-/// Memory for the balances and the counts of a report, so that closing a site takes none. Callers see
+/// Memory for the balances and the counts of a report, so that closing a site takes none. Clients see
 /// for how many there is room.
 #[derive(Drop)]
 pub struct Room {
@@ -27,7 +27,7 @@ impl Model for Room {
 }
 
 impl Room {
-    /// Room for so many accounts, and for no operation yet. `Err` is want of memory.
+    /// Room for so many accounts, and for no operation yet. `Err` means out of memory.
     pub fn open(alloc: Global, accounts: usize) -> Result<Room, AllocError>
         ensures { IfOk result (λ room. accounts ≤ room.accounts) }
     {
@@ -39,7 +39,7 @@ impl Room {
         })
     }
 
-    /// Makes room for so many operations in all. `Err` is want of memory.
+    /// Makes room for so many operations in all. `Err` means out of memory.
     pub fn grow(&mut self, entries: usize) -> Result<(), AllocError>
         ensures ok { OnOk result (entries ≤ self.new.entries) }
         ensures kept { self.old.entries ≤ self.new.entries }

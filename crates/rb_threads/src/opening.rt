@@ -1,7 +1,8 @@
 //! The bank that tellers run at.
 ghost use Rattle.std.specs.Prelude.{◌≡◌, ◌≤◌, IfOk, map};
 ghost use Rattle.rb_money.specs.Faults.{account_of};
-ghost use Rattle.rb_threads.specs.Bank.{accounts, bank as bank_of};
+ghost use Rattle.rb_money.specs.declared.limits.TheConstants.{MOST_SITES};
+ghost use Rattle.rb_threads.specs.Bank.{accounts, bank_of};
 
 use rb_money::{Config, ConfigFault, Limits};
 use std::alloc::{AllocError, Global};
@@ -22,10 +23,10 @@ fn accounts(alloc: Global) -> Result<Vec<(String, u64)>, AllocError>
     Ok(accounts)
 }
 
-/// The configuration of so many sites. `Err` is want of memory.
+/// The configuration of so many sites. `Err` means out of memory.
 pub fn bank(alloc: Global, sites: u8) -> Result<Config, AllocError>
     requires some { 2 ≤ sites }
-    requires few { sites ≤ 8 }
+    requires few { sites ≤ MOST_SITES }
     ensures { IfOk result (λ config. config ≡ bank_of sites) }
 {
     let accounts = accounts(alloc)?;

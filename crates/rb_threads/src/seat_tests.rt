@@ -18,7 +18,6 @@ use std::process::Abort;
 use std::sync::Wait;
 use std::sync::ledger::Ledger;
 use std::test::Fail;
-use std::thread::Threads;
 
 /// What is asked for, or, where that is refused memory, what is given when it is asked for again.
 macro_rules! twice {
@@ -177,12 +176,12 @@ struct Through<'a> {
 }
 
 impl Case for Through<'_> {
-    fn calls<
-        E: Entries + Send + Sync,
-        R: Ledger + Send + Sync,
-        G: Gate + Drop + Sync,
-        W: Threads + Wait + Abort + Print + Sync,
-    >(&self, rt: &W, alloc: Global, branch: &Branch<E, R, G>) -> Result<Vec<Seat<E, R>>, Fail> {
+    fn calls<E: Entries, R: Ledger, G: Gate + Drop, W: Wait + Abort + Print>(
+        &self,
+        rt: &W,
+        alloc: Global,
+        branch: &Branch<E, R, G>,
+    ) -> Result<Vec<Seat<E, R>>, Fail> {
         let mut desks = Desks::open(rt, alloc, branch)?;
         let commands = self.row.script.lines().skip(1);
         for (line, wanted) in commands.zip(self.row.replies.lines()) {
@@ -208,7 +207,7 @@ fn config_of(alloc: Global, row: &Row) -> Result<Config, LineFault> {
 }
 
 /// A row through the seats of a branch, which is gathered then.
-fn row_through<W: Threads + Wait + Abort + Print + Sync>(
+fn row_through<W: Wait + Abort + Print>(
     rt: &W,
     alloc: Global,
     row: &Row,

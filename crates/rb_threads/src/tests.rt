@@ -1,9 +1,11 @@
 //! Seats of a branch, in threads and out of them.
 ghost use Rattle.std.specs.Prelude.{◌≡◌};
+ghost use Rattle.rb_branch.specs.declared.limits.TheConstants.{RECEIPT_PARTS};
 
 use crate::opening::bank;
 use rb_branch::{
-    Branch, CallFault, Entries, Gate, GatherFault, NoGate, Outbox, Seat, SeatFault, links,
+    Branch, CallFault, Entries, Gate, GatherFault, MOST_SEATS, NoGate, Outbox, RECEIPT_PARTS, Seat,
+    SeatFault, links,
 };
 use rb_money::{Config, Limits, Place};
 use rb_scratch::Request;
@@ -20,23 +22,32 @@ use std::thread;
 use std::thread::{Threads, join};
 use std::time::Duration;
 
-/// What callers do at a branch, and the seats that they give back.
+/// What one thread does at a branch, and the seats that it gives back.
 pub trait Case {
-    fn calls<
-        E: Entries + Send + Sync,
-        R: Ledger + Send + Sync,
-        G: Gate + Drop + Sync,
-        W: Threads + Wait + Abort + Print + Sync,
-    >(&self, rt: &W, alloc: Global, branch: &Branch<E, R, G>) -> Result<Vec<Seat<E, R>>, Fail>;
+    fn calls<E: Entries, R: Ledger, G: Gate + Drop, W: Wait + Abort + Print>(
+        &self,
+        rt: &W,
+        alloc: Global,
+        branch: &Branch<E, R, G>,
+    ) -> Result<Vec<Seat<E, R>>, Fail>;
 }
 
-fn gathered_over<
-    E: Entries + Send + Sync,
-    R: Ledger + Send + Sync,
-    G: Gate + Drop + Sync,
-    W: Threads + Wait + Abort + Print + Sync,
-    C: Case,
->(
+/// The branch, gathered with the seats that were given back.
+fn gathered_with<E: Entries, R: Ledger, G: Gate + Drop>(
+    alloc: Global,
+    branch: Branch<E, R, G>,
+    seats: Result<Vec<Seat<E, R>>, Fail>,
+) -> Result<Result<Vec<SiteReport>, GatherFault>, Fail> {
+    match seats {
+        Ok(seats) => Ok(branch.gather(seats)),
+        Err(fail) => {
+            let _ = branch.gather(Vec::new(alloc));
+            Err(fail)
+        }
+    }
+}
+
+fn gathered_over<E: Entries, R: Ledger, G: Gate + Drop, W: Wait + Abort + Print, C: Case>(
     rt: &W,
     alloc: Global,
     config: Config,
@@ -47,7 +58,7 @@ fn gathered_over<
 ) -> Result<Result<Vec<SiteReport>, GatherFault>, Fail>
     requires config { config ≡ E.settings }
     requires entries { (entries.name ≡ E.name) × (entries.parts ≡ E.parts) × (entries.parts ≡ config.sites) }
-    requires receipts { (receipts.name ≡ R.name) × (receipts.parts ≡ R.parts) × (receipts.parts ≡ 1025) }
+    requires receipts { (receipts.name ≡ R.name) × (receipts.parts ≡ R.parts) × (receipts.parts ≡ RECEIPT_PARTS) }
 {
     let opened: Result<Branch<E, R, G>, AllocError> = Branch::open(
         alloc, config, gate, entries, receipts,
@@ -55,17 +66,12 @@ fn gathered_over<
     let Ok(branch) = opened else {
         return Ok(Err(GatherFault::OutOfMemory));
     };
-    match case.calls(rt, alloc, &branch) {
-        Ok(seats) => Ok(branch.gather(seats)),
-        Err(fail) => {
-            let _ = branch.gather(Vec::new(alloc));
-            Err(fail)
-        }
-    }
+    let seats = case.calls(rt, alloc, &branch);
+    gathered_with(alloc, branch, seats)
 }
 
 /// The branch after the calls, gathered with the seats that they gave back.
-pub fn gathered<G: Gate + Drop + Sync, W: Threads + Wait + Abort + Print + Sync, C: Case>(
+pub fn gathered<G: Gate + Drop, W: Wait + Abort + Print, C: Case>(
     rt: &W,
     alloc: Global,
     config: Config,
@@ -80,7 +86,7 @@ pub fn gathered<G: Gate + Drop + Sync, W: Threads + Wait + Abort + Print + Sync,
         gate,
         case,
         Blank::new(sites),
-        Blank::new(1025),
+        Blank::new(RECEIPT_PARTS),
     )
 }
 
@@ -114,50 +120,36 @@ fn deposits<E: Entries, R: Ledger, G: Gate + Drop, W: Wait>(
 }
 
 /// Two seats at one site, a hundred deposits each in a thread of its own.
-struct TwoTellers;
-
-impl Case for TwoTellers {
-    fn calls<
-        E: Entries + Send + Sync,
-        R: Ledger + Send + Sync,
-        G: Gate + Drop + Sync,
-        W: Threads + Wait + Abort + Print + Sync,
-    >(&self, rt: &W, alloc: Global, branch: &Branch<E, R, G>) -> Result<Vec<Seat<E, R>>, Fail> {
-        let (outbox, _inlets) = links(alloc, 2)?;
-        let one = branch.seat(rt, 0)?;
-        let two = branch.seat(rt, 0)?;
-        let (one, two) = join(
-            rt,
-            || deposits(rt, branch, one, &outbox, 100),
-            || deposits(rt, branch, two, &outbox, 100),
-        );
-        let mut seats = Vec::with_capacity(alloc, 2)?;
-        seats.push_reserved(one?);
-        seats.push_reserved(two?);
-        Ok(seats)
-    }
-}
-
-#[test]
-fn two_tellers(rt: HostRuntime) -> Result<(), Fail> {
-    let config = two_sites(rt.alloc(), Limits::largest())?;
-    let reports = gathered(&rt, rt.alloc(), config, NoGate, &TwoTellers)??;
-    let first = reports.first().ok_or("no report")?;
-    assert_eq!(rt; first.history.len(), 200);
-    assert_eq!(rt; first.balances.first().copied(), Some(200));
-    Ok(())
+fn two_threads<
+    E: Entries + Send + Sync,
+    R: Ledger + Send + Sync,
+    G: Gate + Drop + Sync,
+    W: Threads + Wait + Sync,
+>(rt: &W, alloc: Global, branch: &Branch<E, R, G>) -> Result<Vec<Seat<E, R>>, Fail> {
+    let (outbox, _inlets) = links(alloc, 2)?;
+    let one = branch.seat(rt, 0)?;
+    let two = branch.seat(rt, 0)?;
+    let (one, two) = join(
+        rt,
+        || deposits(rt, branch, one, &outbox, 100),
+        || deposits(rt, branch, two, &outbox, 100),
+    );
+    let mut seats = Vec::with_capacity(alloc, 2)?;
+    seats.push_reserved(one?);
+    seats.push_reserved(two?);
+    Ok(seats)
 }
 
 /// A deposit, and then the balance.
 struct ReadBack;
 
 impl Case for ReadBack {
-    fn calls<
-        E: Entries + Send + Sync,
-        R: Ledger + Send + Sync,
-        G: Gate + Drop + Sync,
-        W: Threads + Wait + Abort + Print + Sync,
-    >(&self, rt: &W, alloc: Global, branch: &Branch<E, R, G>) -> Result<Vec<Seat<E, R>>, Fail> {
+    fn calls<E: Entries, R: Ledger, G: Gate + Drop, W: Wait + Abort + Print>(
+        &self,
+        rt: &W,
+        alloc: Global,
+        branch: &Branch<E, R, G>,
+    ) -> Result<Vec<Seat<E, R>>, Fail> {
         let (outbox, _inlets) = links(alloc, 2)?;
         let mut seat = branch.seat(rt, 0)?;
         assert_eq!(rt;
@@ -220,14 +212,6 @@ impl<C: Clock> Gate for Holding<'_, C> {
     fn leave(&self, _site: u8) {}
 }
 
-/// A call at site 0, and, once it is held there, one at site 1.
-#[derive(Drop)]
-struct BesideOne<'a, C> {
-    clock: &'a C,
-    inside: &'a AtomicBool,
-    answered: &'a AtomicBool,
-}
-
 /// A question at a seat's site.
 fn asked<E: Entries, R: Ledger, G: Gate + Drop, W: Wait>(
     rt: &W,
@@ -238,30 +222,101 @@ fn asked<E: Entries, R: Ledger, G: Gate + Drop, W: Wait>(
     Ok(seat)
 }
 
-impl<C: Clock + Sync> Case for BesideOne<'_, C> {
-    fn calls<
-        E: Entries + Send + Sync,
-        R: Ledger + Send + Sync,
-        G: Gate + Drop + Sync,
-        W: Threads + Wait + Abort + Print + Sync,
-    >(&self, rt: &W, alloc: Global, branch: &Branch<E, R, G>) -> Result<Vec<Seat<E, R>>, Fail> {
-        let held = branch.seat(rt, 0)?;
-        let other = branch.seat(rt, 1)?;
-        let (held, other) = join(
-            rt,
-            || asked(rt, branch, held),
-            || {
-                let _held_there = comes(self.clock, self.inside);
-                let answer = asked(rt, branch, other);
-                self.answered.store(true, Ordering::SeqCst);
-                answer
-            },
-        );
-        let mut seats = Vec::with_capacity(alloc, 2)?;
-        seats.push_reserved(held?);
-        seats.push_reserved(other?);
-        Ok(seats)
-    }
+/// A call at site 0, and, once it is held there, one at site 1.
+fn one_beside<
+    E: Entries + Send + Sync,
+    R: Ledger + Send + Sync,
+    G: Gate + Drop + Sync,
+    W: Threads + Wait + Clock + Sync,
+>(
+    rt: &W,
+    alloc: Global,
+    branch: &Branch<E, R, G>,
+    inside: &AtomicBool,
+    answered: &AtomicBool,
+) -> Result<Vec<Seat<E, R>>, Fail> {
+    let held = branch.seat(rt, 0)?;
+    let other = branch.seat(rt, 1)?;
+    let (held, other) = join(
+        rt,
+        || asked(rt, branch, held),
+        || {
+            let _held_there = comes(rt, inside);
+            let answer = asked(rt, branch, other);
+            answered.store(true, Ordering::SeqCst);
+            answer
+        },
+    );
+    let mut seats = Vec::with_capacity(alloc, 2)?;
+    seats.push_reserved(held?);
+    seats.push_reserved(other?);
+    Ok(seats)
+}
+
+/// What two threads do at a branch. The calls of a `Case` stay in one thread: the bounds of a trait's method can't go to another.
+#[derive(Drop)]
+enum Pair<'a> {
+    Tellers,
+    Beside {
+        inside: &'a AtomicBool,
+        answered: &'a AtomicBool,
+    },
+}
+
+fn threaded_over<
+    E: Entries + Send + Sync,
+    R: Ledger + Send + Sync,
+    G: Gate + Drop + Sync,
+    W: Threads + Wait + Clock + Sync,
+>(
+    rt: &W,
+    alloc: Global,
+    config: Config,
+    gate: G,
+    pair: Pair<'_>,
+    entries: Blank,
+    receipts: Blank,
+) -> Result<Result<Vec<SiteReport>, GatherFault>, Fail>
+    requires config { config ≡ E.settings }
+    requires entries { (entries.name ≡ E.name) × (entries.parts ≡ E.parts) × (entries.parts ≡ config.sites) }
+    requires receipts { (receipts.name ≡ R.name) × (receipts.parts ≡ R.parts) × (receipts.parts ≡ RECEIPT_PARTS) }
+{
+    let branch: Branch<E, R, G> = Branch::open(alloc, config, gate, entries, receipts)?;
+    let seats = match pair {
+        Pair::Tellers => two_threads(rt, alloc, &branch),
+        Pair::Beside { inside, answered } => one_beside(rt, alloc, &branch, inside, answered),
+    };
+    gathered_with(alloc, branch, seats)
+}
+
+/// The branch after what two threads do, gathered with the seats that they gave back.
+fn threaded<G: Gate + Drop + Sync, W: Threads + Wait + Clock + Sync>(
+    rt: &W,
+    alloc: Global,
+    config: Config,
+    gate: G,
+    pair: Pair<'_>,
+) -> Result<Result<Vec<SiteReport>, GatherFault>, Fail> {
+    let sites = u64::from(config.sites());
+    threaded_over::<Brand, Brand, G, W>(
+        rt,
+        alloc,
+        config,
+        gate,
+        pair,
+        Blank::new(sites),
+        Blank::new(RECEIPT_PARTS),
+    )
+}
+
+#[test]
+fn two_tellers(rt: HostRuntime) -> Result<(), Fail> {
+    let config = two_sites(rt.alloc(), Limits::largest())?;
+    let reports = threaded(&rt, rt.alloc(), config, NoGate, Pair::Tellers)??;
+    let first = reports.first().ok_or("no report")?;
+    assert_eq!(rt; first.history.len(), 200);
+    assert_eq!(rt; first.balances.first().copied(), Some(200));
+    Ok(())
 }
 
 #[test]
@@ -275,13 +330,12 @@ fn gate(rt: HostRuntime) -> Result<(), Fail> {
         answered: &answered,
         late: &late,
     };
-    let case = BesideOne {
-        clock: &rt,
+    let pair = Pair::Beside {
         inside: &inside,
         answered: &answered,
     };
     let config = two_sites(rt.alloc(), Limits::largest())?;
-    let reports = gathered(&rt, rt.alloc(), config, gate, &case)??;
+    let reports = threaded(&rt, rt.alloc(), config, gate, pair)??;
     assert_eq!(rt; reports.len(), 2);
     assert!(rt; inside.load(Ordering::SeqCst) && !late.load(Ordering::SeqCst));
     Ok(())
@@ -291,12 +345,12 @@ fn gate(rt: HostRuntime) -> Result<(), Fail> {
 struct OneServed;
 
 impl Case for OneServed {
-    fn calls<
-        E: Entries + Send + Sync,
-        R: Ledger + Send + Sync,
-        G: Gate + Drop + Sync,
-        W: Threads + Wait + Abort + Print + Sync,
-    >(&self, rt: &W, alloc: Global, branch: &Branch<E, R, G>) -> Result<Vec<Seat<E, R>>, Fail> {
+    fn calls<E: Entries, R: Ledger, G: Gate + Drop, W: Wait + Abort + Print>(
+        &self,
+        rt: &W,
+        alloc: Global,
+        branch: &Branch<E, R, G>,
+    ) -> Result<Vec<Seat<E, R>>, Fail> {
         let (outbox, mut inlets) = links(alloc, 2)?;
         let copy = outbox.try_copy(alloc)?;
         let mut teller = branch.seat(rt, 0)?;
@@ -331,15 +385,15 @@ fn served(rt: HostRuntime) -> Result<(), Fail> {
 struct Seats;
 
 impl Case for Seats {
-    fn calls<
-        E: Entries + Send + Sync,
-        R: Ledger + Send + Sync,
-        G: Gate + Drop + Sync,
-        W: Threads + Wait + Abort + Print + Sync,
-    >(&self, rt: &W, alloc: Global, branch: &Branch<E, R, G>) -> Result<Vec<Seat<E, R>>, Fail> {
+    fn calls<E: Entries, R: Ledger, G: Gate + Drop, W: Wait + Abort + Print>(
+        &self,
+        rt: &W,
+        alloc: Global,
+        branch: &Branch<E, R, G>,
+    ) -> Result<Vec<Seat<E, R>>, Fail> {
         assert_eq!(rt; branch.seat(rt, 2).err(), Some(SeatFault::NoSite));
         let mut seats = Vec::new(alloc);
-        for _i in 0..1024 {
+        for _i in 0..MOST_SEATS {
             let seat = branch.seat(rt, 0)?;
             if seats.push(seat).is_err() {
                 return Err(Fail::from("no memory"));
@@ -354,12 +408,12 @@ impl Case for Seats {
 struct Full;
 
 impl Case for Full {
-    fn calls<
-        E: Entries + Send + Sync,
-        R: Ledger + Send + Sync,
-        G: Gate + Drop + Sync,
-        W: Threads + Wait + Abort + Print + Sync,
-    >(&self, rt: &W, alloc: Global, branch: &Branch<E, R, G>) -> Result<Vec<Seat<E, R>>, Fail> {
+    fn calls<E: Entries, R: Ledger, G: Gate + Drop, W: Wait + Abort + Print>(
+        &self,
+        rt: &W,
+        alloc: Global,
+        branch: &Branch<E, R, G>,
+    ) -> Result<Vec<Seat<E, R>>, Fail> {
         let mut seat = branch.seat(rt, 0)?;
         assert_eq!(rt; branch.apply_ready(rt, &mut seat).ok(), Some(None));
         assert_eq!(rt; seat.receipts().len(), 0);
@@ -377,12 +431,12 @@ impl Case for Full {
 struct OneMissing;
 
 impl Case for OneMissing {
-    fn calls<
-        E: Entries + Send + Sync,
-        R: Ledger + Send + Sync,
-        G: Gate + Drop + Sync,
-        W: Threads + Wait + Abort + Print + Sync,
-    >(&self, rt: &W, alloc: Global, branch: &Branch<E, R, G>) -> Result<Vec<Seat<E, R>>, Fail> {
+    fn calls<E: Entries, R: Ledger, G: Gate + Drop, W: Wait + Abort + Print>(
+        &self,
+        rt: &W,
+        alloc: Global,
+        branch: &Branch<E, R, G>,
+    ) -> Result<Vec<Seat<E, R>>, Fail> {
         let (outbox, inlets) = links(alloc, 2)?;
         drop(inlets);
         let mut first = branch.seat(rt, 0)?;

@@ -1,5 +1,6 @@
 //! Histories as text: the lines that an audit reads.
 ghost use Rattle.std.specs.Prelude.{◌≡◌, ◌↔◌, ◌++◌, ◌≤◌, List, [], Err, false, true, length, map, IfOk, OnOk};
+ghost use Rattle.rb_money.specs.declared.limits.TheConstants.{MOST_SITES};
 ghost use Rattle.rb_site.specs.declared.report.SiteReport.{SiteReport};
 ghost use Rattle.rb_threads.specs.Texts.{config_line, entry_line, histories_text, history_text, text_of};
 ghost use Rattle.rb_threads.specs.Writing.{Writes};
@@ -89,7 +90,7 @@ fn write_histories<W: Sink>(
     reports: &[SiteReport],
 ) -> Result<(), Unwritten>
     requires fresh { W.failed writer.old ≡ false }
-    requires few { length reports.now ≤ 255 }
+    requires few { length reports.now ≤ MOST_SITES }
     ensures written { Writes result (W.contents writer.old) (W.contents writer.new) (owed.old.items ++ histories_text config.now 0 (map (λ (r : SiteReport). r.history.items) reports.now)) owed.new.items }
     ensures write { (result ≡ Err Write) ↔ (W.failed writer.new ≡ true) }
 {
@@ -111,7 +112,7 @@ pub fn write_text<W: Sink>(
     reports: &[SiteReport],
 ) -> Result<(), Unwritten>
     requires fresh { W.failed writer.old ≡ false }
-    requires few { length reports.now ≤ 255 }
+    requires few { length reports.now ≤ MOST_SITES }
     ensures written { Writes result (W.contents writer.old) (W.contents writer.new) (text_of config.now (map (λ (r : SiteReport). r.history.items) reports.now)) [] }
     ensures write { (result ≡ Err Write) ↔ (W.failed writer.new ≡ true) }
 {

@@ -2,7 +2,7 @@
 use crate::UndoParts;
 use std::marker::Model;
 
-/// What is kept to undo an entry of a ledger. Callers see its parts. A record can't be dropped: it
+/// What is kept to undo an entry of a ledger. Clients see its parts. A record can't be dropped: it
 /// is spent to undo the entry, or sealed where the entry is to stay.
 pub struct Undo {
     parts: UndoParts,

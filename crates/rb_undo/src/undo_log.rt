@@ -49,7 +49,7 @@ impl UndoLog {
         self.undos.reserve(additional)
     }
 
-    /// Adds a record at the end. For want of memory the record comes back.
+    /// Adds a record at the end. Out of memory the record comes back.
     pub fn push(&mut self, undo: Undo) -> Result<(), Undo>
         ensures added { OnOk result (self.new.parts ≡ self.old.parts ++ undo ∷ []) }
         ensures room { OnOk result (0 < self.old.room → self.new.room + 1 ≡ self.old.room) }

@@ -12,7 +12,7 @@ use std::alloc::{AllocError, Global};
 /// The account of the bank.
 pub const ANN: Place = Place(0);
 
-/// Two sites, and one account that starts with 1,000 cents. Nothing is wrong with the configuration, so `Err` is want of memory.
+/// Two sites, and one account that starts with 1,000 cents. Nothing is wrong with the configuration, so `Err` means out of memory.
 pub fn open_bank(alloc: Global) -> Result<World, AllocError>
     ensures { IfOk result (λ world. world ≡ opened bank) }
 {
@@ -25,7 +25,7 @@ pub fn open_bank(alloc: Global) -> Result<World, AllocError>
     }
 }
 
-/// The bank after a list of events. `Err` is want of memory.
+/// The bank after a list of events. `Err` means out of memory.
 pub fn bank_after(alloc: Global, events: &[WorldEvent]) -> Result<World, AllocError>
     requires { All IsCommand events.now }
     ensures { IfOk result (λ world. world ≡ next_worlds (opened bank) events.now) }

@@ -4,6 +4,8 @@ use Rattle.clap.specs.Words.{App, Kinds, Rule, Shape, fault_of, new_app, new_rul
 use Rattle.clap.specs.Kinds.{or_else}
 use Rattle.clap.specs.declared.builder.value_parser.ValueParser.TheVariants.{Signed}
 use Rattle.clap.specs.declared.error.kind.ErrorKind.TheVariants.{InvalidSubcommand}
+use Rattle.rb_money.specs.declared.limits.TheConstants.{MOST_SITES}
+use Rattle.rb_words.specs.declared.words.TheConstants.{MOST_TELLERS}
 use Rattle.rb_words.specs.declared.words.Words.{Words}
 use Rattle.rb_words.specs.declared.words.Words.TheVariants.{Script, Audit, Threads}
 
@@ -19,10 +21,10 @@ pub record AskForThreads (words : List (List ℕ)) (sites tellers seed : ℕ) : 
   pub first : slice_get words 0 ≡ Some (codes "threads")
   pub sites_given : IsGiven words (codes "--sites") sites
   pub some_sites : 2 ≤ sites
-  pub few_sites : sites ≤ 8
+  pub few_sites : sites ≤ MOST_SITES
   pub tellers_given : IsGiven words (codes "--tellers") tellers
   pub some_tellers : 1 ≤ tellers
-  pub few_tellers : tellers ≤ 64
+  pub few_tellers : tellers ≤ MOST_TELLERS
   pub seed_given : IsGiven words (codes "--seed") seed
   pub seed_fits : seed < 2 ^ 32
 
@@ -44,12 +46,12 @@ option_rule name least most = record (new_rule name) { long = Some name; value_n
 
 -- a run of threads, with its options
 abbrev pub threads_line : App
-threads_line = with_rule (with_rule (with_rule (new_app (codes "threads")) (option_rule (codes "sites") 2 8)) (option_rule (codes "tellers") 1 64)) (option_rule (codes "seed") 0 4294967295)
+threads_line = with_rule (with_rule (with_rule (new_app (codes "threads")) (option_rule (codes "sites") 2 MOST_SITES)) (option_rule (codes "tellers") 1 MOST_TELLERS)) (option_rule (codes "seed") 0 4294967295)
 
 -- the command line: a subcommand for each thing
 abbrev pub command_line : App
 command_line = with_subcommand (with_subcommand (with_subcommand (record { top = top_line; subs = [] }) (new_app (codes "script")).top) (new_app (codes "audit")).top) threads_line.top
 
--- the kinds of error that words may end in, want of memory aside: those of the first word that the command line doesn't take, and where it takes all, that they ask for nothing
+-- the kinds of error that words may end in, out of memory aside: those of the first word that the command line doesn't take, and where it takes all, that they ask for nothing
 abbrev pub kinds_of : List (List ℕ) → Kinds
 kinds_of words = or_else (fault_of command_line words) (InvalidSubcommand ∷ [])

@@ -4,9 +4,10 @@ ghost use Rattle.clap.specs.Words.{app_of, new_app, new_rule, rule_of};
 ghost use Rattle.clap.specs.declared.builder.command.Command.TheViews.{out-Command};
 ghost use Rattle.rb_words.specs.Words.{command_line as line, threads_line};
 
-use crate::texts;
+use crate::{MOST_TELLERS, texts};
 use clap::builder::ValueParser;
 use clap::{Arg, Command};
+use rb_money::MOST_SITES;
 use std::alloc::{AllocError, Global};
 
 /// A command of the program: its name, how it is used, what it does in a line, and what its help ends with.
@@ -50,8 +51,8 @@ fn threads<'a>(alloc: Global) -> Result<Command<'a>, AllocError>
     ensures shape { IfOk result (λ command. app_of command ≡ threads_line) }
     ensures local { IfOk result (λ command. (out-Command command).has_globals ≡ false) }
 {
-    let sites = clap::value_parser!(u8).range(2..=8);
-    let tellers = clap::value_parser!(u8).range(1..=64);
+    let sites = clap::value_parser!(u8).range(2..=MOST_SITES as i64);
+    let tellers = clap::value_parser!(u8).range(1..=MOST_TELLERS as i64);
     let seed = clap::value_parser!(u32);
     let sites = option(alloc, "sites", "K", texts::SITES, sites);
     let tellers = option(alloc, "tellers", "T", texts::TELLERS, tellers);
@@ -63,10 +64,7 @@ fn threads<'a>(alloc: Global) -> Result<Command<'a>, AllocError>
         texts::THREADS,
         texts::THREADS_HELP,
     );
-    command
-        .arg(sites)?
-        .arg(tellers)?
-        .arg(seed)
+    command.arg(sites)?.arg(tellers)?.arg(seed)
 }
 
 /// The command line that the program takes.

@@ -8,4 +8,4 @@ mod tests;
 mod texts;
 mod words;
 
-pub use words::{Words, read_words};
+pub use words::{MOST_TELLERS, Words, read_words};

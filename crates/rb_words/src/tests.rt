@@ -1,5 +1,6 @@
-use crate::{Words, read_words, texts};
+use crate::{MOST_TELLERS, Words, read_words, texts};
 use clap::error::ErrorKind;
+use rb_money::MOST_SITES;
 use std::alloc::{AllocError, Global};
 use std::test::Fail;
 
@@ -133,6 +134,16 @@ fn tells_each_command(rt: HostRuntime) -> Result<(), Fail> {
     assert!(rt; text.contains("  script   Answers the commands "));
     assert!(rt; text.contains("  audit    Tells whether one world "));
     assert!(rt; text.contains("  threads  Runs tellers in threads "));
+    Ok(())
+}
+
+#[test]
+fn tells_its_limits(rt: HostRuntime) -> Result<(), Fail> {
+    let alloc = rt.alloc();
+    let sites = format!(in alloc; "How many sites there are, 2 to {MOST_SITES}")?;
+    let tellers = format!(in alloc; "How many tellers there are, 1 to {MOST_TELLERS}")?;
+    assert_eq!(rt; texts::SITES, sites.as_str());
+    assert_eq!(rt; texts::TELLERS, tellers.as_str());
     Ok(())
 }
 

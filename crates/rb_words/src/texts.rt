@@ -100,4 +100,4 @@ Statuses:
   2  wrong words
   3  a write failed
   4  out of memory, or a thread couldn't be made
-  5  a site's history is full, or isn't what its callers were told"#;
+  5  a site's history is full, or isn't what its clients were told"#;

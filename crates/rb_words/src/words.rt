@@ -7,7 +7,11 @@ use crate::command_line::command_line;
 use crate::options::number_of;
 use clap::Error;
 use clap::error::ErrorKind;
+use rb_money::MOST_SITES;
 use std::alloc::Global;
+
+/// The most tellers of a run.
+pub const MOST_TELLERS: u32 = 64;
 
 /// What the program is asked to do.
 #[derive(Clone, Copy, Debug, PartialEq, Eq)]
@@ -16,7 +20,7 @@ pub enum Words {
     Script,
     /// To audit the histories on standard input.
     Audit,
-    /// To run so many tellers, 1 to 64, at so many sites, 2 to 8. The first numbers of the tellers begin at the seed.
+    /// To run so many tellers, 1 to `MOST_TELLERS`, at so many sites, 2 to `MOST_SITES`. The first numbers of the tellers begin at the seed.
     Threads { sites: u8, tellers: u8, seed: u32 },
 }
 
@@ -27,8 +31,8 @@ fn threads(words: &[&str]) -> Option<Words>
     ensures some { IfSome result (Ask (map (λ word. word.now) words.now)) }
     ensures none { IfNone result ((asked : Words) → ¬ Ask (map (λ word. word.now) words.now) asked) }
 {
-    let sites = number_of(words, "--sites", 2, 8)?;
-    let tellers = number_of(words, "--tellers", 1, 64)?;
+    let sites = number_of(words, "--sites", 2, MOST_SITES as u32)?;
+    let tellers = number_of(words, "--tellers", 1, MOST_TELLERS)?;
     let seed = number_of(words, "--seed", 0, u32::MAX)?;
     Some(Words::Threads {
         sites: sites as u8,

@@ -134,7 +134,7 @@ pub record Holds (s : Settings) (w : World) : Type 0 where
   pub trusts : TrustsItsOwn s w
   pub catches_up : CanCatchUp s w
 
--- ---- a world as callers see it
+-- ---- a world as clients see it
 
 -- its configuration, the model world, and the events that the sites recorded
 pub record SeenWorld : Type 0 where

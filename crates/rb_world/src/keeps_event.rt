@@ -11,7 +11,7 @@ pub trait KeepsEvent: Drop {
     // The event that was noted.
     ghost noted: { Self → TheEvent };
 
-    /// Notes an event. `Err` is want of memory.
+    /// Notes an event. `Err` means out of memory.
     fn note(alloc: Global, event: &WorldEvent) -> Result<Self, AllocError>
         ensures { IfOk result (λ note. noted note ≡ event.now) };
 }

@@ -1,4 +1,4 @@
-//! Where a run stopped for want of memory.
+//! Where a run stopped, out of memory.
 
 /// The world stands after so many of the run's events.
 #[derive(Clone, Copy, Debug, PartialEq, Eq)]

@@ -19,7 +19,7 @@ abbrev pub status_of_unread : IoErrorKind → ℕ
 status_of_unread IoOutOfMemory = 4
 status_of_unread _ = 2
 
--- the status of a fault, or 4 for want of memory for its text
+-- the status of a fault, or 4 where memory runs out for its text
 abbrev pub IsToldFault : ScriptFault → ℕ → Type 0
 IsToldFault fault n = (n ≡ status_of fault) ⊎ (n ≡ 4)
 

@@ -5,6 +5,7 @@ ghost use Rattle.std.specs.Prelude.{◌≡◌, ◌≤◌};
 ghost use Rattle.std.specs.IoError.{error_kind};
 ghost use Rattle.std.specs.Process.{exit_status};
 ghost use Rattle.clap.specs.Words.{kind_of};
+ghost use Rattle.rb_money.specs.declared.limits.TheConstants.{MOST_SITES};
 ghost use Rattle.rbbank.specs.Statuses.{IsEnd, IsEndOfAudit, IsEndOfScript, IsEndOfThreads, IsToldFault, status_of_unread, status_of_words};
 
 #[cfg(test)]
@@ -45,7 +46,7 @@ const FAULT_FOUND: u8 = 1;
 /// The status where the words are wrong.
 const WRONG_WORDS: u8 = 2;
 
-/// The status for want of memory.
+/// The status where memory runs out.
 const NO_MEMORY: u8 = 4;
 
 fn out_of_memory(rt: &HostRuntime) -> ExitCode
@@ -158,7 +159,7 @@ fn threads<W: Threads + Wait + Sync>(
     seed: u32,
 ) -> ExitCode
     requires some_sites { 2 ≤ sites }
-    requires few_sites { sites ≤ 8 }
+    requires few_sites { sites ≤ MOST_SITES }
     ensures { IsEnd (exit_status result) }
 {
     let alloc = rt.alloc();
@@ -189,11 +190,13 @@ fn run<W: Threads + Wait + Sync>(rt: &HostRuntime, handle: &W) -> ExitCode
     match read_words(alloc, views.as_slice()) {
         Ok(Words::Script) => script(rt),
         Ok(Words::Audit) => audit(rt),
-        Ok(Words::Threads {
-            sites,
-            tellers,
-            seed,
-        }) => threads(rt, handle, sites, tellers, seed),
+        Ok(
+            Words::Threads {
+                sites,
+                tellers,
+                seed,
+            },
+        ) => threads(rt, handle, sites, tellers, seed),
         Err(error) => tell_words(rt, error),
     }
 }

@@ -1,4 +1,4 @@
-//! What stands after want of memory. Each test passes whether or not an allocation is refused, and at most
+//! What stands after running out of memory. Each test passes whether or not an allocation is refused, and at most
 //! one of its process is: `make refuse` runs them with each refused in turn.
 ghost use Rattle.std.specs.Prelude.{◌≡◌, [], All, IfOk};
 ghost use Rattle.rb_ledger.specs.Records.{records_of};

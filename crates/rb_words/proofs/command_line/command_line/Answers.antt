@@ -2,7 +2,7 @@
 use Rattle.std.proofs.Common.{◌≡◌, [], ap, ap₂, ◌∙◌, codes, rules}
 use Rattle.std.proofs.lemmas.Result.{IfOk-weaker}
 use Rattle.clap.specs.Words.{App, app_of, new_app, with_subcommand}
-use Rattle.rb_words.specs.Words.{threads_line, top_line}
+use Rattle.rb_words.specs.Words.{top_line}
 use Rattle.rb_words.proofs.command_line.command_line.Goals as goal
 
 abbrev bare : App

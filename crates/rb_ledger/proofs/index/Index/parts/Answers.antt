@@ -7,7 +7,7 @@ use Rattle.rb_shadow.specs.Operations.{target_of, other_of, bal}
 use Rattle.rb_ledger.specs.Index.{no_head}
 use Rattle.rb_ledger.specs.Valid.{position_of}
 use Rattle.rb_ledger.proofs.Calls
-use Rattle.rb_ledger.proofs.Legal
+use Rattle.rb_ledger.proofs.Public.Legal
 use Rattle.rb_ledger.proofs.Lengths
 use Rattle.rb_ledger.proofs.Overdraws
 use Rattle.rb_ledger.proofs.index.Index.parts.Goals as goal

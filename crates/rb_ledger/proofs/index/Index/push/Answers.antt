@@ -4,7 +4,7 @@ use Rattle.rb_ledger.specs.Index.{changed_at, one_more, no_cancels, no_head, hea
 use Rattle.rb_undo.specs.declared.parts.UndoParts.{UndoParts}
 use Rattle.rb_ledger.proofs.Calls
 use Rattle.rb_ledger.proofs.Indexed
-use Rattle.rb_ledger.proofs.Legal
+use Rattle.rb_ledger.proofs.Public.Legal
 use Rattle.rb_ledger.proofs.LedgerClocks
 use Rattle.rb_ledger.proofs.index.Index.push.Goals as goal
 

@@ -6,10 +6,9 @@ use Rattle.rb_undo.specs.declared.parts.UndoParts.{UndoParts}
 use Rattle.rb_ledger.specs.Index.{IsLink}
 use Rattle.rb_ledger.proofs.Calls
 use Rattle.rb_ledger.proofs.Indexed
-use Rattle.rb_ledger.proofs.Legal
+use Rattle.rb_ledger.proofs.Public.Legal
 use Rattle.rb_ledger.proofs.Others
 use Rattle.rb_ledger.proofs.Overdraws
-use Rattle.rb_ledger.proofs.Walks
 use Rattle.rb_ledger.proofs.ledger.Ledger.links_of.Goals as goal
 
 -- what stands in an option is one
@@ -22,7 +21,7 @@ moved_by-added-requires-clause-target c = (Legal.IsValid-last c.args.self.now.se
 pub overflow_add-own_balance : goal.overflow_add-own_balance
 overflow_add-own_balance c =
     let index = Calls.seen _ _ _ _ c.self.invariant.index c.self.view_is in
-    let was = Walks.kept_balance c.args.self.now.settings c.args.self.now.entries c.args.shadow.now.account c.args.parts.now.balance index.kept.valid (ap (λ (p : UndoParts). p.balance) c.requires.parts) in
+    let was = Legal.kept_balance c.args.self.now.settings c.args.self.now.entries c.args.shadow.now.account c.args.parts.now.balance index.kept.valid (ap (λ (p : UndoParts). p.balance) c.requires.parts) in
     omega (
       arith,
       Indexed.bal_small c.args.self.now.settings c.args.self.now.entries c.args.shadow.now.account c.args.parts.now.balance index.kept.configured index.kept.valid was,
@@ -32,7 +31,7 @@ overflow_add-own_balance c =
 pub overflow_sub-own_balance : goal.overflow_sub-own_balance
 overflow_sub-own_balance c =
     let index = Calls.seen _ _ _ _ c.self.invariant.index c.self.view_is in
-    let was = Walks.kept_balance c.args.self.now.settings c.args.self.now.entries c.args.shadow.now.account c.args.parts.now.balance index.kept.valid (ap (λ (p : UndoParts). p.balance) c.requires.parts) in
+    let was = Legal.kept_balance c.args.self.now.settings c.args.self.now.entries c.args.shadow.now.account c.args.parts.now.balance index.kept.valid (ap (λ (p : UndoParts). p.balance) c.requires.parts) in
     (Calls.with_seen c.args.self.now.settings c.args.self.now.entries c.args.shadow.now _ _ _ index.kept.valid c.requires.valid was c.moved_by-added.ensures.sums).0
 
 pub link-own-requires : goal.link-own-requires
@@ -43,7 +42,7 @@ link-own-requires c =
 pub returns-then-eq : goal.returns-then-eq
 returns-then-eq c =
     let index = Calls.seen _ _ _ _ c.self.invariant.index c.self.view_is in
-    let was = Walks.kept_balance c.args.self.now.settings c.args.self.now.entries c.args.shadow.now.account c.args.parts.now.balance index.kept.valid (ap (λ (p : UndoParts). p.balance) c.requires.parts) in
+    let was = Legal.kept_balance c.args.self.now.settings c.args.self.now.entries c.args.shadow.now.account c.args.parts.now.balance index.kept.valid (ap (λ (p : UndoParts). p.balance) c.requires.parts) in
     let now = (Calls.with_seen c.args.self.now.settings c.args.self.now.entries c.args.shadow.now _ _ _ index.kept.valid c.requires.valid was c.moved_by-added.ensures.sums).1 in
     let place = ap (λ (p : UndoParts). p.place) c.requires.parts in
     record {
@@ -83,7 +82,7 @@ pub returns : goal.returns
 returns c =
     let index = Calls.seen _ _ _ _ c.self.invariant.index c.self.view_is in
     let after = c.args.self.now.entries ++ c.args.shadow.now ∷ [] in
-    let was = Walks.kept_balance c.args.self.now.settings c.args.self.now.entries c.args.shadow.now.account c.args.parts.now.balance index.kept.valid (ap (λ (p : UndoParts). p.balance) c.requires.parts) in
+    let was = Legal.kept_balance c.args.self.now.settings c.args.self.now.entries c.args.shadow.now.account c.args.parts.now.balance index.kept.valid (ap (λ (p : UndoParts). p.balance) c.requires.parts) in
     let now = (Calls.with_seen c.args.self.now.settings c.args.self.now.entries c.args.shadow.now _ _ _ index.kept.valid c.requires.valid was c.moved_by-added.ensures.sums).1 in
     let place = ap (λ (p : UndoParts). p.place) c.requires.parts in
     let there = Calls.second_there c.args.self.now.entries c.args.shadow.now c.args.parts.now.other (ap (λ (p : UndoParts). p.other) c.requires.parts) (sym c.eq.ensures ∙ c.if-eq.false) in

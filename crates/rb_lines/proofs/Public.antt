@@ -1,0 +1,4 @@
+-- What other crates cite.
+pub mod LongLines
+pub mod Sending
+pub mod Walks
