@@ -1,7 +1,6 @@
 use Rattle.std.proofs.Common.{◌≡◌, ◌+◌, ◌-◌, ◌<◌, ◌++◌, ◌∷◌, [], vec_len, length, take, subst, sym, ap, ◌∙◌, refl, arith}
 use Rattle.rb_ledger.specs.Valid.{parts_of}
-use Rattle.rb_ledger.specs.OnAccount.{IsLast}
-use Rattle.rb_ledger.specs.Index.{IsIndex}
+use Rattle.rb_ledger.specs.Index.{IsIndex, IsLinked}
 use Rattle.rb_ledger.specs.Rewinding.{Rewinding}
 use Rattle.rb_ledger.proofs.Calls
 use Rattle.rb_ledger.proofs.Cursors
@@ -14,11 +13,11 @@ pop-requires-in-Some c =
     let latest = Cursors.latest _ _ _ (c.self.inside.at - 1) _ _ _ _ c.in-Some.undo c.self.invariant.at next c.in-Some.ensures.0 in
     let many : vec_len c.self.inside.links ≡ length c.self.inside.links.items = omega arith in
     let near : c.self.inside.at - 1 < vec_len c.self.inside.links = omega (arith, many, c.self.invariant.at.links.count, c.self.invariant.at.within, next) in
-    let link = Cursors.linked _ _ _ _ latest.last c.index.result.now c.self.invariant.at.links latest.there (Calls.read_item _ _ _ _ _ many near refl c.index.ensures) in (
+    let link = Cursors.linked _ _ _ _ latest.last c.index-links.result.now c.self.invariant.at.links latest.there (Calls.read_item _ _ _ _ _ many near refl c.index-links.ensures) in (
       latest.last,
       subst (λ us. IsIndex c.self.inside.index.config (take (c.self.inside.at - 1) us ++ latest.last ∷ []) c.self.inside.index) (sym c.deref.ensures.value) latest.index,
       c.spend.ensures ∙ latest.parts ∙ ap (λ us. parts_of c.self.inside.index.config (take (c.self.inside.at - 1) us) latest.last) (sym c.deref.ensures.value),
-      subst (λ us. IsLast (take (c.self.inside.at - 1) us) latest.last.account c.index.result.now.earlier) (sym c.deref.ensures.value) link.earlier,
+      subst (λ us. IsLinked c.self.inside.index.config (take (c.self.inside.at - 1) us) latest.last c.index-links.result.now) (sym c.deref.ensures.value) link,
     )
 
 pub invariant_of-self : goal.invariant_of-self
