@@ -108,8 +108,8 @@ request_text : (s : Settings) (r : Request) → IsRequest s r → IsText (reques
 request_text s (Deposit a amount) (known, fits) = one_text _ _ 1 (asked_text s a amount fits)
 request_text s (Withdraw a amount) (known, fits) = one_text _ _ 1 (asked_text s a amount fits)
 request_text s (Interest a rate) (known, fits) = one_text _ _ 1 (asked_text s a rate (omega arith))
-request_text s (Transfer from to amount) (leaves, arrives, fits) = one_text _ _ 1 (three_text _ _ (number_json amount) 0 (string_text _) (string_text _) (number_text amount fits))
 request_text s (Cancel x) h = deeper (request_json s (Cancel x)) 1 2 (one_text _ (name_json x) 0 (string_text _)) (omega arith)
+request_text s (Transfer from to amount) (leaves, arrives, fits) = one_text _ _ 1 (three_text _ _ (number_json amount) 0 (string_text _) (string_text _) (number_text amount fits))
 
 deps_text : (blue : List ℕ) (red : ℕ) → Each (λ n. n < 2 ^ 32) blue → red < 2 ^ 32 → IsText (deps_json (record { blue = blue; red = red })) 2
 deps_text blue red h k = pair_text (list_json number_json blue) (number_json red) 1 (list_text number_json (λ n. n < 2 ^ 32) 0 (λ n small. number_text n (omega arith)) blue h) (deeper (number_json red) 0 1 (number_text red (omega arith)) (omega arith))
