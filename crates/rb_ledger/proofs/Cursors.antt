@@ -1,5 +1,5 @@
 -- A ledger and its log as of a position, from one position to the next.
-use Rattle.std.proofs.Common.{◌≡◌, ℕ, ◌+◌, List, [], ◌∷◌, ◌++◌, take, drop, ap, sym, ◌∙◌, subst, arith, Some}
+use Rattle.std.proofs.Common.{◌≡◌, ℕ, ◌+◌, ◌<◌, List, [], ◌∷◌, ◌++◌, length, length-take-le, take, drop, ap, sym, ◌∙◌, subst, arith, Some}
 use Rattle.std.specs.Prelude.{slice_get}
 use Rattle.std.proofs.lemmas.List.{take-append-drop}
 use Rattle.std.proofs.lemmas.Option.{slice_get_within}
@@ -32,6 +32,11 @@ latest s us m n ls x l ps r at next popped =
     let more : take m us ≡ take n us ++ last ∷ [] = ap (λ k. take k us) next ∙ Fronts.one_more us n last there in
     let (front, is) = Records.ends ps (records_of s (take n us)) r (parts_of s (take n us) last) (sym popped ∙ at.records ∙ ap (records_of s) more ∙ Records.records_of-push s (take n us) last) in
     record { last = last; there = there; index = subst (λ vs. IsIndex s vs x) more at.index; parts = is; records = front }
+
+-- after some operations there are records
+pub some_records : (s : Settings) (us : List Shadow) (m : ℕ) (ls : List Links) (x : Index) (l : Log) → IsAt s us m ls x l → 0 < m → l.parts ≡ [] → ⊥
+some_records s us m ls x l at some none =
+    omega (arith, some, ap length none, ap length at.records, Records.logged-length s [] (take m us), length-take-le m us at.within)
 
 -- its links
 pub linked : (s : Settings) (us : List Shadow) (ls : List Links) (n : ℕ) (u : Shadow) (k : Links) → AreLinks s us ls → slice_get us n ≡ Some u → slice_get ls n ≡ Some k → IsLinked s (take n us) u k

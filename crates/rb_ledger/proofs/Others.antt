@@ -1,5 +1,5 @@
 -- The second account of an operation, and the heads of both its accounts.
-use Rattle.std.proofs.Common.{◌≡◌, ℕ, zero, suc, ◌+◌, ◌-◌, ◌<◌, ◌≤◌, Bool, true, false, ◌||◌, List, [], ◌∷◌, ◌++◌, length, take, drop, get_or, set, refl, ap, sym, ◌∙◌, subst, arith, ◌⊎◌, inl, inr, Some, None, length-set}
+use Rattle.std.proofs.Common.{◌≡◌, ℕ, zero, suc, ◌+◌, ◌<◌, true, false, ◌||◌, List, [], ◌∷◌, ◌++◌, length, take, drop, get_or, refl, ap, sym, ◌∙◌, subst, arith, ◌⊎◌, inl, inr, Some, None, length-set}
 use Rattle.std.specs.Prelude.{pos, ◌==◌, nat_le, slice_get, Option, option_map, option_and_then, unwrap_or}
 use Rattle.std.proofs.lemmas.List.{take-append-drop, get_or-set_other}
 use Rattle.std.proofs.lemmas.Option.{slice_get_within}
@@ -114,7 +114,7 @@ changed s us h hs f g configured valid may many a new e = at (other_of us h) ref
     on_first : (o : Option Place) → other_of us h ≡ o → (a.0 ≡ (unwrap_or o NOWHERE).0 → ⊥)
         → ((a.0 ≡ h.account.0) × (f (get_or hs h.account.0 no_head) ≡ new)) ⊎ ((a.0 ≡ h.account.0 → ⊥) × (slice_get hs a.0 ≡ Some new)) → IsChanged us h hs f g a new
     on_first o is other (inl (own, k)) =
-        inl (OnAccount.on_own us h a (sym own), get_or hs h.account.0 no_head, ap (slice_get hs) own ∙ item hs h.account.0 no_head own_near, inl (same_place h.account a (sym own), k))
+        inl (OnAccount.on_own us h a (sym own), (get_or hs h.account.0 no_head, ap (slice_get hs) own ∙ item hs h.account.0 no_head own_near, inl (same_place h.account a (sym own), k)))
     on_first o is other (inr (own, k)) = inr (off o is other own, k)
 
     none_there : (now : List Head) → length now ≡ length hs → slice_get now a.0 ≡ Some new → a.0 ≡ NOWHERE.0 → ⊥
@@ -123,10 +123,6 @@ changed s us h hs f g configured valid may many a new e = at (other_of us h) ref
     at : (o : Option Place) → other_of us h ≡ o → slice_get (heads_at (unwrap_or o NOWHERE).0 g first) a.0 ≡ Some new → IsChanged us h hs f g a new
     at o is read = either (IndexLists.get_set first (unwrap_or o NOWHERE).0 (g (get_or first (unwrap_or o NOWHERE).0 no_head)) new a.0 read)
       where
-        either : ((a.0 ≡ (unwrap_or o NOWHERE).0) × (g (get_or first (unwrap_or o NOWHERE).0 no_head) ≡ new)) ⊎ ((a.0 ≡ (unwrap_or o NOWHERE).0 → ⊥) × (slice_get first a.0 ≡ Some new)) → IsChanged us h hs f g a new
-        either (inl (other, k)) = second o is read other k
-        either (inr (other, k)) = on_first o is other (IndexLists.get_set hs h.account.0 (f (get_or hs h.account.0 no_head)) new a.0 k)
-
         second : (o : Option Place) → other_of us h ≡ o → slice_get (heads_at (unwrap_or o NOWHERE).0 g first) a.0 ≡ Some new → a.0 ≡ (unwrap_or o NOWHERE).0 → g (get_or first (unwrap_or o NOWHERE).0 no_head) ≡ new → IsChanged us h hs f g a new
         second None is read other k =
             absurd (none_there (heads_at NOWHERE.0 g first) (length-set first NOWHERE.0 (g (get_or first NOWHERE.0 no_head)) ∙ length-set hs h.account.0 (f (get_or hs h.account.0 no_head))) read other)
@@ -136,10 +132,12 @@ changed s us h hs f g configured valid may many a new e = at (other_of us h) ref
             let same : get_or first b.0 no_head ≡ get_or hs b.0 no_head = get_or-set_other hs h.account.0 b.0 (f (get_or hs h.account.0 no_head)) no_head (λ e. apart (sym e)) in
             inl (
               OnAccount.on_other us h a (is ∙ ap Some place),
-              get_or hs b.0 no_head,
-              ap (slice_get hs) other ∙ item hs b.0 no_head (omega (arith, near, many)),
-              inr (is ∙ ap Some place, ap g (sym same) ∙ k),
+              (get_or hs b.0 no_head, ap (slice_get hs) other ∙ item hs b.0 no_head (omega (arith, near, many)), inr (is ∙ ap Some place, ap g (sym same) ∙ k)),
             )
+
+        either : ((a.0 ≡ (unwrap_or o NOWHERE).0) × (g (get_or first (unwrap_or o NOWHERE).0 no_head) ≡ new)) ⊎ ((a.0 ≡ (unwrap_or o NOWHERE).0 → ⊥) × (slice_get first a.0 ≡ Some new)) → IsChanged us h hs f g a new
+        either (inl (other, k)) = second o is read other k
+        either (inr (other, k)) = on_first o is other (IndexLists.get_set hs h.account.0 (f (get_or hs h.account.0 no_head)) new a.0 k)
 
 pub both_lengths : (hs : List Head) (i j : ℕ) (f g : Head → Head) → length (heads_at j g (heads_at i f hs)) ≡ length hs
 both_lengths hs i j f g = length-set (heads_at i f hs) j (g (get_or (heads_at i f hs) j no_head)) ∙ length-set hs i (f (get_or hs i no_head))
@@ -153,10 +151,10 @@ heads_push s us h hs l configured valid longer are linked =
   where
     at : (a : Place) (new : Head) → IsChanged us h hs (head_more (length us + 1) l.own.balance) (head_more (length us + 1) l.other.balance) a new → ChainFacts.IsCounted s us h hs a new
     at a new (inr off) = inr off
-    at a new (inl (on, old, read, inl (own, is))) =
-        inl (on, old, read, ap (λ (k : Head). k.last) (sym is), ap (λ (k : Head). k.count) (sym is), ap (λ (k : Head). pos k.balance) (sym is) ∙ linked.own.balance ∙ ap (bal s (us ++ h ∷ [])) own)
-    at a new (inl (on, old, read, inr (other, is))) =
-        inl (on, old, read, ap (λ (k : Head). k.last) (sym is), ap (λ (k : Head). k.count) (sym is), ap (λ (k : Head). pos k.balance) (sym is) ∙ (linked.other a other).balance)
+    at a new (inl (on, (old, read, inl (own, is)))) =
+        inl (on, (old, read, ap (λ (k : Head). k.last) (sym is), ap (λ (k : Head). k.count) (sym is), ap (λ (k : Head). pos k.balance) (sym is) ∙ linked.own.balance ∙ ap (bal s (us ++ h ∷ [])) own))
+    at a new (inl (on, (old, read, inr (other, is)))) =
+        inl (on, (old, read, ap (λ (k : Head). k.last) (sym is), ap (λ (k : Head). k.count) (sym is), ap (λ (k : Head). pos k.balance) (sym is) ∙ (linked.other a other).balance))
 
 -- without the last operation
 pub heads_front : (s : Settings) (us : List Shadow) (h : Shadow) (hs : List Head) (l : Links) → IsConfigured s → IsValid s us → IsValid s (us ++ h ∷ []) → AreHeads s (us ++ h ∷ []) hs → IsLinked s us h l
@@ -173,19 +171,23 @@ heads_front s us h hs l configured valid longer are linked =
 
     at : (a : Place) (new : Head) → IsChanged us h hs own_less other_less a new → ChainFacts.IsUncounted s us h hs a new
     at a new (inr off) = inr off
-    at a new (inl (on, old, read, inl (own, is))) = inl (
+    at a new (inl (on, (old, read, inl (own, is)))) = inl (
       on,
-      old,
-      read,
-      subst (λ (k : Head). IsLast us a k.last) is (subst (λ (b : Place). IsLast us b l.own.earlier) own linked.own.earlier),
-      ap (λ (k : Head). k.count) (sym is),
-      ap (λ (k : Head). pos k.balance) (sym is) ∙ Legal.kept_balance s us h.account _ valid refl ∙ ap (bal s us) own,
+      (
+        old,
+        read,
+        subst (λ (k : Head). IsLast us a k.last) is (subst (λ (b : Place). IsLast us b l.own.earlier) own linked.own.earlier),
+        ap (λ (k : Head). k.count) (sym is),
+        ap (λ (k : Head). pos k.balance) (sym is) ∙ Legal.kept_balance s us h.account _ valid refl ∙ ap (bal s us) own,
+      ),
     )
-    at a new (inl (on, old, read, inr (other, is))) = inl (
+    at a new (inl (on, (old, read, inr (other, is)))) = inl (
       on,
-      old,
-      read,
-      subst (λ (k : Head). IsLast us a k.last) is (linked.other a other).earlier,
-      ap (λ (k : Head). k.count) (sym is),
-      ap (λ (k : Head). pos k.balance) (sym is) ∙ Legal.kept_balance s us a _ valid (ap (λ o. unwrap_or (option_map (λ a. cents (bal s us a)) o) 0) other),
+      (
+        old,
+        read,
+        subst (λ (k : Head). IsLast us a k.last) is (linked.other a other).earlier,
+        ap (λ (k : Head). k.count) (sym is),
+        ap (λ (k : Head). pos k.balance) (sym is) ∙ Legal.kept_balance s us a _ valid (ap (λ o. unwrap_or (option_map (λ a. cents (bal s us a)) o) 0) other),
+      ),
     )

@@ -2,14 +2,13 @@
 ghost use Rattle.std.specs.Prelude.{◌≡◌, ◌↔◌, ◌≤◌, ◌<◌, ◌+◌, ◌+ℤ◌, ◌≤ℤ◌, length, take, pos, neg_ℤ, IsNone, IfSome};
 ghost use Rattle.rb_money.specs.declared.limits.TheConstants.{MOST_BALANCE};
 ghost use Rattle.rb_money.specs.declared.cents.TheConstants.{MOST_CENTS};
-ghost use Rattle.rb_shadow.specs.Operations.{bal, is_on};
+ghost use Rattle.rb_shadow.specs.Operations.{bal};
 ghost use Rattle.rb_ledger.specs.Changes.{moved_at};
 ghost use Rattle.rb_ledger.specs.OnAccount.{IsOn};
 
 use crate::Ledger;
 use crate::index::start;
 use rb_money::Place;
-use rb_shadow::Shadow;
 
 impl Ledger {
     /// The balance of the account, in cents: what it starts with, and what the operations moved that
@@ -44,25 +43,12 @@ impl Ledger {
         ensures most { IfSome result (λ n. n ≤ℤ pos MOST_CENTS) }
     {
         let entry = self.entry(position)?;
-        if !self.is_on(entry, place) {
+        if !self.index.is_on(&self.entries, entry, place) {
             return Some(0);
         }
         let link = self.link_at(position, place);
         let before = self.balance_at(link.earlier, place);
         Some(net(link.balance, before))
-    }
-
-    /// Whether an operation is on an account, as its own or its second one.
-    fn is_on(&self, shadow: &Shadow, place: Place) -> bool
-        ensures { result ≡ is_on self.now.entries shadow.now place }
-    {
-        if shadow.account == place {
-            return true;
-        }
-        match self.index.other(&self.entries, shadow.kind) {
-            Some(other) => other == place,
-            None => false,
-        }
     }
 
     /// The balance of an account just after its entry at the position, or what it starts with.
@@ -72,8 +58,9 @@ impl Ledger {
         ensures sum { pos result ≡ bal self.now.settings (take position self.now.entries) place }
         ensures bounded { result ≤ MOST_BALANCE }
     {
+        let config = self.config();
         if position == 0 {
-            return start(self.config(), place);
+            return start(config, place);
         }
         self.link_at(position, place).balance
     }

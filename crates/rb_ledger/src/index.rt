@@ -2,7 +2,7 @@
 ghost use Rattle.std.specs.Prelude.{◌≡◌, ◌≤◌, ◌<◌, ◌+◌, length, pos, [], ◌∷◌, ◌++◌, List, IfOk, ℕ, slice_index, slice_index_or, vec_len, vec_capacity};
 ghost use Rattle.rb_money.specs.declared.limits.TheConstants.{MOST_OPERATIONS};
 ghost use Rattle.rb_shadow.specs.declared.shadow.Shadow.{Shadow as TheShadow};
-ghost use Rattle.rb_shadow.specs.Operations.{target_of, row_of, other_by};
+ghost use Rattle.rb_shadow.specs.Operations.{target_of, row_of, other_by, is_on};
 ghost use Rattle.rb_ledger.specs.Valid.{IsValid, find_position, parts_of, position_of};
 ghost use Rattle.rb_ledger.specs.Index.{AreHeads, IsIndex, changed_at, one_more, one_less, no_cancels, IsLinked, heads_at, head_more, head_less, no_head};
 
@@ -84,6 +84,21 @@ impl Index {
                 None => None,
             },
             None => kind.receiver(),
+        }
+    }
+
+    /// Whether a shadow that follows those before is on an account, as its own or its second one.
+    #[inline(always)]
+    pub fn is_on(&self, before: &[Shadow], shadow: &Shadow, place: Place) -> bool
+        requires { IsIndex self.now.config before.now self.now }
+        ensures { result ≡ is_on before.now shadow.now place }
+    {
+        if shadow.account == place {
+            return true;
+        }
+        match self.other(before, shadow.kind) {
+            Some(other) => other == place,
+            None => false,
         }
     }
 

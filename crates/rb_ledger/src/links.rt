@@ -1,5 +1,6 @@
 //! The entries on an account, from the last back.
 ghost use Rattle.std.specs.Prelude.{◌≡◌, ◌≤◌, ◌<◌, ◌-◌, length, take, Some, [], ◌∷◌, ◌++◌};
+ghost use Rattle.rb_money.specs.Settings.{IsConfigured};
 ghost use Rattle.rb_ledger.specs.Valid.{IsValid, parts_of};
 ghost use Rattle.rb_ledger.specs.OnAccount.{IsOn, IsLast};
 ghost use Rattle.rb_ledger.specs.Index.{IsLink, IsLinked};
@@ -71,6 +72,7 @@ impl Ledger {
 
     /// The links of a shadow as the next entry, with what is kept to undo it.
     pub(crate) fn links_of(&self, shadow: &Shadow, parts: &UndoParts) -> Links
+        requires configured { IsConfigured self.now.settings }
         requires valid { IsValid self.now.settings (self.now.entries ++ shadow.now ∷ []) }
         requires parts { parts.now ≡ parts_of self.now.settings self.now.entries shadow.now }
         ensures { IsLinked self.now.settings self.now.entries shadow.now result }

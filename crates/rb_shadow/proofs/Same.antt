@@ -5,7 +5,6 @@ use Rattle.std.specs.Cmp.Lexicographic.{pointwise}
 use Rattle.rb_shadow.specs.contracts.op_name.OpNamePartialEq.TheImpl.{ghosts as name_test}
 use Rattle.rb_shadow.specs.contracts.kind.KindPartialEq.TheImpl.{ghosts as kind_test}
 use Rattle.rb_shadow.specs.contracts.shadow.ShadowPartialEq.TheImpl.{ghosts as shadow_test}
-use Rattle.rb_money.specs.declared.place.Place.{Place}
 use Rattle.rb_shadow.specs.declared.op_name.OpName.{OpName}
 use Rattle.rb_shadow.specs.declared.op_name.OpName.TheVariants.{Blue, Red}
 use Rattle.rb_shadow.specs.declared.kind.Kind.{Kind}

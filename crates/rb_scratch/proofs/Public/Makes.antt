@@ -25,7 +25,7 @@ use Rattle.rb_ledger.specs.Valid.{IsValid, HasTarget}
 use Rattle.rb_ledger.specs.Checks.{is_negative, overdraws, refusal_of, refusal_after, has_wrong_target}
 use Rattle.rb_money.specs.declared.refusal.Refusal.TheVariants.{WouldOverdraw}
 use Rattle.rb_money.specs.declared.cents.TheConstants.{MOST_CENTS}
-use Rattle.rb_money.proofs.Public.Tests.{number_same}
+use Rattle.rb_money.proofs.Public.Tests.{equal, number_same, unequal}
 use Rattle.rb_shadow.proofs.Public.Eligible
 use Rattle.rb_ledger.proofs.Public.Legal
 use Rattle.rb_ledger.proofs.Public.Pushes
@@ -165,12 +165,12 @@ fit_plain s me us p k e known right low some target within = record {
   within = within;
 }
 
+turned : (m n : ℕ) → (m == n) ≡ false → (n == m) ≡ false
+turned m n e = unequal n m (λ k. Members.true≢false (sym (equal m n (sym k)) ∙ e))
+
 -- an account of the configuration, other than the own one
 pub directed : (s : Settings) (p : Plan) (to : Place) → is_account s to ≡ true → (p.account.0 == to.0) ≡ false → is_misdirected (length s.starts) p.account (Some to) ≡ false
 directed s p to known apart = Members.false-or _ _ (housed to.0 (length s.starts) known) (turned p.account.0 to.0 apart)
-  where
-    turned : (m n : ℕ) → (m == n) ≡ false → (n == m) ≡ false
-    turned m n e = grind (arith, nat_tests)
 
 fit_cancel : (s : Settings) (me : ℕ) (us : List Shadow) (p : Plan) (x : OpName) → IsValid s us → p.kind ≡ Cancel x → (c : Cancels us x p)
     → number_of (next_name me us (colour_of_plan us p)) ≤ limit_of s.limits (next_name me us (colour_of_plan us p))
@@ -207,7 +207,7 @@ covered_plain s me us p k valid e plain ok =
 covered_cancel : (s : Settings) (me : ℕ) (us : List Shadow) (token : Token) (p : Plan) (x : OpName) → IsValid s us → p.kind ≡ Cancel x → (c : Cancels us x p) → HasTarget us (shadow_of me us p) (target_of p.kind)
     → IsAllowed s us token (shadow_of me us p) (next_name me us (colour_of_plan us p))
     → (a : Place) → is_on us (shadow_of me us p) a ≡ true → pos 0 ≤ℤ bal s (us ++ shadow_of me us p ∷ []) a
-covered_cancel s me us token p x valid e c target fair a on = at (colour_of_plan us p) refl
+covered_cancel s me us token p x valid e c target fair a side = at (colour_of_plan us p) refl
   where
     found : find_in us x ≡ Some c.target
     found = ap (find_in us) (sym c.named) ∙ Pushes.finds us c.target valid.unique c.there
@@ -230,7 +230,7 @@ covered_cancel s me us token p x valid e c target fair a on = at (colour_of_plan
     at : (d : Colour) → colour_of_plan us p ≡ d → pos 0 ≤ℤ bal s (us ++ shadow_of me us p ∷ []) a
     at RedColour q =
         let none : overdraws s us (shadow_of me us p) ≡ false = second (is_cancel p.kind) (overdraws s us (shadow_of me us p)) (ap is_cancel e) (not_overdrawn s me us token (shadow_of me us p) (colour_of_plan us p) q fair) in
-        Legal.covers_nothing _ (Legal.none_of (λ (b : Place). is_negative (bal s (us ++ shadow_of me us p ∷ []) b)) (accounts_on us (shadow_of me us p)) a none on)
+        Legal.covers_nothing _ (Legal.none_of (λ (b : Place). is_negative (bal s (us ++ shadow_of me us p ∷ []) b)) (accounts_on us (shadow_of me us p)) a none side)
     at BlueColour q =
         let coloured : colour_of (Cancel x) (Some c.target.kind) ≡ BlueColour = ap (colour_of (Cancel x)) (sym kind_is) ∙ ap (λ j. colour_of j (option_and_then (kind_in us) (target_of j))) (sym e) ∙ q in
         let gives : pos 0 ≤ℤ neg_ℤ (moved c.target.kind p.amount) = blue_gives x c.target.kind p.amount coloured in
@@ -239,7 +239,7 @@ covered_cancel s me us token p x valid e c target fair a on = at (colour_of_plan
         ∙ Pushes.change_back us (shadow_of me us p) c.target x valid.unique (subst (λ j. HasTarget us (shadow_of me us p) (target_of j)) e target) found c.free in
         let own : pos 0 ≤ℤ bal s (us ++ shadow_of me us p ∷ []) p.account =
         omega (arith, ints, gives, back, Legal.covers s us p.account valid, Pushes.bal-push s us (shadow_of me us p) p.account valid.unique (uncancelled s me us p valid) target) in
-        elim (OnAccount.on_sides us (shadow_of me us p) a on) [
+        elim (OnAccount.on_sides us (shadow_of me us p) a side) [
           | inl k ↦ subst (λ (b : Place). pos 0 ≤ℤ bal s (us ++ shadow_of me us p ∷ []) b) k own
           | inr k ↦ absurd (alone coloured k)
         ]
@@ -247,26 +247,20 @@ covered_cancel s me us token p x valid e c target fair a on = at (colour_of_plan
 -- an operation without a target, which leaves its own account no less than nothing, leaves so its second one too
 covered_sides : (s : Settings) (me : ℕ) (us : List Shadow) (p : Plan) (k : Kind) → IsValid s us → p.kind ≡ k → target_of k ≡ None → is_misdirected (length s.starts) p.account (receiver_of k) ≡ false → pos 0 ≤ℤ bal s (us ++ shadow_of me us p ∷ []) p.account
     → (a : Place) → is_on us (shadow_of me us p) a ≡ true → pos 0 ≤ℤ bal s (us ++ shadow_of me us p ∷ []) a
-covered_sides s me us p k valid e plain right own a on = elim (OnAccount.on_sides us (shadow_of me us p) a on) [
+covered_sides s me us p k valid e plain right own a side = elim (OnAccount.on_sides us (shadow_of me us p) a side) [
   | inl h ↦ subst (λ (b : Place). pos 0 ≤ℤ bal s (us ++ shadow_of me us p ∷ []) b) h own
   | inr h ↦ other (sym (ap (λ o. other_by us k o) plain) ∙ sym (ap (λ j. other_by us j (target_of j)) e) ∙ h)
 ]
   where
     apart : (b : Place) → is_misdirected (length s.starts) p.account (Some b) ≡ false → (p.account.0 == b.0) ≡ false
-    apart b q = turned b.0 p.account.0 (Members.or-false _ _ q).1
-      where
-        turned : (m n : ℕ) → (m == n) ≡ false → (n == m) ≡ false
-        turned m n e = grind (arith, nat_tests)
+    apart b q = turned b.0 p.account.0 (Members.or-false (nat_le (length s.starts) b.0) (b.0 == p.account.0) q).1
 
     other : receiver_of k ≡ Some a → pos 0 ≤ℤ bal s (us ++ shadow_of me us p ∷ []) a
     other h =
         let off : (p.account.0 == a.0) ≡ false = apart a (ap (is_misdirected (length s.starts) p.account) (sym h) ∙ right) in
         let more : delta (shadow_of me us p) a ≡ pos p.amount =
-        ap (λ c. cond c (moved p.kind p.amount) (arrived (receiver_of p.kind) p.amount a)) off ∙ ap (λ j. arrived (receiver_of j) p.amount a) e ∙ ap (λ o. arrived o p.amount a) h ∙ ap (λ c. cond c (pos p.amount) (pos 0)) (same a.0) in
+        ap (λ c. cond c (moved p.kind p.amount) (arrived (receiver_of p.kind) p.amount a)) off ∙ ap (λ j. arrived (receiver_of j) p.amount a) e ∙ ap (λ o. arrived o p.amount a) h ∙ ap (λ c. cond c (pos p.amount) (pos 0)) (number_same a.0) in
         omega (arith, ints, more, Legal.covers s us a valid, Pushes.bal-push_plain s us (shadow_of me us p) a (ap is_cancel e ∙ ap is_some plain) (uncancelled s me us p valid))
-      where
-        same : (n : ℕ) → (n == n) ≡ true
-        same n = grind (arith, nat_tests)
 
 -- what is planned and allowed leaves none of its accounts less than nothing
 covered : (s : Settings) (me : ℕ) (us : List Shadow) (token : Token) (p : Plan) (k : Kind) → IsValid s us → p.kind ≡ k → IsPlanned s us p k → HasTarget us (shadow_of me us p) (target_of p.kind)

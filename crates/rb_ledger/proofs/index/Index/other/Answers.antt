@@ -1,4 +1,4 @@
-use Rattle.std.proofs.Common.{refl, ap, sym, ◌∙◌, arith}
+use Rattle.std.proofs.Common.{refl, ap, ◌∙◌}
 use Rattle.rb_shadow.specs.Operations.{other_by}
 use Rattle.rb_ledger.proofs.Calls
 use Rattle.rb_ledger.proofs.index.Index.other.Goals as goal
@@ -11,7 +11,7 @@ bounds-before-index c = (Calls.other_near c.args.before.now c.in-Some.target c.i
 
 pub returns-in-Some-find : goal.returns-in-Some-find
 returns-in-Some-find c =
-    Calls.other_found c.args.before.now c.in-Some.target c.in-Some-find.position _ _ _ (c.in-Some-find.ensures c.args.before.now c.requires) refl c.index.ensures c.receiver.ensures
+    Calls.other_found c.args.before.now c.in-Some.target c.in-Some-find.position _ _ (c.in-Some-find.ensures c.args.before.now c.requires) c.receiver.ensures
     ∙ ap (other_by c.args.before.now c.args.kind) c.in-Some.ensures
 
 pub returns-in-None-find : goal.returns-in-None-find

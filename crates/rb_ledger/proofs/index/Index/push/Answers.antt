@@ -1,6 +1,7 @@
-use Rattle.std.proofs.Common.{◌≡◌, ◌+◌, ◌++◌, ◌∷◌, [], List, length, get_or, set, ap, ◌∙◌, refl, arith}
+use Rattle.std.proofs.Common.{◌+◌, ◌++◌, ◌∷◌, [], List, length, get_or, set, ap, ◌∙◌, refl, arith}
 use Rattle.rb_ledger.specs.declared.marks.Head.{Head}
-use Rattle.rb_ledger.specs.Index.{changed_at, one_more, no_cancels, no_head, heads_at, head_more, row_of}
+use Rattle.rb_shadow.specs.Operations.{row_of}
+use Rattle.rb_ledger.specs.Index.{changed_at, one_more, no_cancels, no_head, heads_at, head_more}
 use Rattle.rb_undo.specs.declared.parts.UndoParts.{UndoParts}
 use Rattle.rb_ledger.proofs.Calls
 use Rattle.rb_ledger.proofs.Indexed

@@ -1,9 +1,13 @@
 use Rattle.std.proofs.Common.{◌≡◌, ◌-◌, vec_len, ◌++◌, ◌∷◌, [], subst, sym, ap, ◌∙◌, arith}
+use Rattle.rb_money.specs.Settings.{IsConfigured}
 use Rattle.rb_ledger.specs.Book.{Book}
 use Rattle.rb_ledger.specs.Index.{IsIndex, IsLinked}
 use Rattle.rb_ledger.proofs.ChainFacts
 use Rattle.rb_ledger.proofs.Indexed
 use Rattle.rb_ledger.proofs.ledger.Ledger.apply_valid.Goals as goal
+
+pub links_of-links-requires-clause-configured : goal.links_of-links-requires-clause-configured
+links_of-links-requires-clause-configured c = subst (λ (b : Book). IsConfigured b.settings) c.self.view_is c.self.invariant.index.kept.configured
 
 pub invariant_of-self : goal.invariant_of-self
 invariant_of-self c =

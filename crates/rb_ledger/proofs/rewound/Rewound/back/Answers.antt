@@ -13,11 +13,11 @@ pop-requires-in-Some c =
     let latest = Cursors.latest _ _ _ (c.self.inside.at - 1) _ _ _ _ c.in-Some.undo c.self.invariant.at next c.in-Some.ensures.0 in
     let many : vec_len c.self.inside.links ≡ length c.self.inside.links.items = omega arith in
     let near : c.self.inside.at - 1 < vec_len c.self.inside.links = omega (arith, many, c.self.invariant.at.links.count, c.self.invariant.at.within, next) in
-    let link = Cursors.linked _ _ _ _ latest.last c.index-links.result.now c.self.invariant.at.links latest.there (Calls.read_item _ _ _ _ _ many near refl c.index-links.ensures) in (
+    let link = Cursors.linked _ _ _ _ latest.last c.index.result.now c.self.invariant.at.links latest.there (Calls.read_item _ _ _ _ _ many near refl c.index.ensures) in (
       latest.last,
       subst (λ us. IsIndex c.self.inside.index.config (take (c.self.inside.at - 1) us ++ latest.last ∷ []) c.self.inside.index) (sym c.deref.ensures.value) latest.index,
       c.spend.ensures ∙ latest.parts ∙ ap (λ us. parts_of c.self.inside.index.config (take (c.self.inside.at - 1) us) latest.last) (sym c.deref.ensures.value),
-      subst (λ us. IsLinked c.self.inside.index.config (take (c.self.inside.at - 1) us) latest.last c.index-links.result.now) (sym c.deref.ensures.value) link,
+      subst (λ us. IsLinked c.self.inside.index.config (take (c.self.inside.at - 1) us) latest.last c.index.result.now) (sym c.deref.ensures.value) link,
     )
 
 pub invariant_of-self : goal.invariant_of-self
@@ -35,3 +35,8 @@ invariant_of-self c =
         links = omega (arith, c.pop-in-Some.ensures.limit, room.links);
       };
     }
+
+pub unreachable-requires : goal.unreachable-requires
+unreachable-requires c =
+    let here : c.self.inside.at ≡ c.args.self.now.at = ap (λ (w : Rewinding). w.at) c.self.view_is in
+    Cursors.some_records _ _ _ _ _ _ c.self.invariant.at (omega (arith, c.requires, here)) c.in-None.ensures.0

@@ -33,8 +33,8 @@ push-requires-clause-links c =
     let there = Calls.read_item c.self.inside.entries.items c.self.inside.at c.self.inside.at _ c.index.result.now count near refl c.index.ensures in
     let many : vec_len c.self.inside.links ≡ length c.self.inside.links.items = omega arith in
     let close : c.self.inside.at < vec_len c.self.inside.links = omega (arith, many, count, near, c.self.invariant.at.links.count) in
-    let link = Cursors.linked _ _ _ _ _ c.index-links.result.now c.self.invariant.at.links there (Calls.read_item _ _ _ _ _ many close refl c.index-links.ensures) in
-    subst (λ us. IsLinked c.self.inside.index.config (take c.self.inside.at us) c.index.result.now c.index-links.result.now) (sym c.deref.ensures.value) link
+    let link = Cursors.linked _ _ _ _ _ c.index-2.result.now c.self.invariant.at.links there (Calls.read_item _ _ _ _ _ many close refl c.index-2.ensures) in
+    subst (λ us. IsLinked c.self.inside.index.config (take c.self.inside.at us) c.index.result.now c.index-2.result.now) (sym c.deref.ensures.value) link
 
 pub invariant_of-self : goal.invariant_of-self
 invariant_of-self c =
