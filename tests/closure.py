@@ -3,7 +3,7 @@
 toolchain's own are left. A statement is a function with a contract, as World::run or one_token, or a definition.
 
 usage: closure.py                  the headline's: the functions and laws of README.md's table
-       closure.py STATEMENT..      that of others, as Ledger::apply, rb_site::Site::open, run_script, HasFunds
+       closure.py STATEMENT..      that of others, as Ledger::apply, rb_site::Site::open, run_script, Funds
        closure.py --rooms          the four rooms of docs/MODEL.md: the headline, the program's text, what contracts of
                                    other public functions rest on, and what only ties inner code to proofs
        closure.py --check          whether docs/MODEL.md tells each definition in its room and names none that there

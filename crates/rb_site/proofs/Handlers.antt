@@ -19,7 +19,7 @@ use Rattle.rb_ledger.specs.Valid.{IsValid}
 use Rattle.rb_inbox.proofs.Public.Holding.{held_cases, kept_among}
 use Rattle.rb_shadow.proofs.Public.Lookups
 use Rattle.rb_inbox.specs.Held.{Holding, IsInConflict, IsReady, IsTooMany, IsWelcome, with_held, without}
-use Rattle.rb_token.specs.Seat.{TokenSeat}
+use Rattle.rb_token.specs.Seen.{SeenToken}
 use Rattle.rb_token.specs.Token.{Token, pass_message, passed_token, refusal_of_pass}
 use Rattle.rb_token.specs.declared.message.TokenMessage.{TokenMessage}
 use Rattle.rb_site.specs.declared.answer.Answer.{Answer}
@@ -130,7 +130,7 @@ pub held_sound : (s : Settings) (held : List Shadow) (x : OpName) (v : Shadow) �
 held_sound s held x v all found = all v (Lookups.found held x v found).0
 
 -- without one of them, what is held is still tied to the rest
-pub tied_without : (s : Settings) (now : Settings) (inbox later : Holding) (token : TokenSeat) (x : OpName) → now ≡ s → later ≡ record inbox { held = without x inbox.held } → IsTied s inbox token → IsTied now later token
+pub tied_without : (s : Settings) (now : Settings) (inbox later : Holding) (token : SeenToken) (x : OpName) → now ≡ s → later ≡ record inbox { held = without x inbox.held } → IsTied s inbox token → IsTied now later token
 tied_without s now inbox later token x same taken tied =
     let P : Settings → Type 0 = λ z. IsTied z later token in
     subst P (sym same)
@@ -228,7 +228,7 @@ refused_put s me ops inbox later token c v why a few valid same limit refusals c
     by (inr (inr e)) = absurd (memory e)
 
 -- with one more that is sound, what is held is still tied to the rest
-pub tied_with : (s : Settings) (inbox later : Holding) (token : TokenSeat) (v : Shadow) → later ≡ record inbox { held = with_held v inbox.held } → IsSound s v → IsTied s inbox token → IsTied s later token
+pub tied_with : (s : Settings) (inbox later : Holding) (token : SeenToken) (v : Shadow) → later ≡ record inbox { held = with_held v inbox.held } → IsSound s v → IsTied s inbox token → IsTied s later token
 tied_with s inbox later token v grown sound tied =
     let P : Holding → Type 0 = λ b. IsTied s b token in
     subst P (sym grown) (record {

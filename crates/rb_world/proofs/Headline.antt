@@ -22,13 +22,13 @@ holds s es some few own =
       one_token = Token.one_holder s w g.place;
       red_blue = Lawful.red_blue s w g;
       clocks = Lawful.clocks s w g;
-      agree = Lawful.agreement s w g;
-      funded = Lawful.funds s w g;
-      valid = Lawful.valid_lists s w g;
+      agreement = Lawful.agreement s w g;
+      funds = Lawful.funds s w g;
+      valid_lists = Lawful.valid_lists s w g;
       never_negative = Lawful.never_negative s w g;
       never_stuck = Ready.never_stuck s w g;
-      trusts = Ready.trusts_its_own s w g;
-      catches_up = CaughtUp.can_catch_up s w g;
+      trusts_its_own = Ready.trusts_its_own s w g;
+      can_catch_up = CaughtUp.can_catch_up s w g;
     }
 
 -- a world stays the run of its events

@@ -12,11 +12,11 @@ use Rattle.rb_ledger.proofs.Public.Pasts
 use Rattle.rb_ledger.proofs.Public.ValidClocks
 use Rattle.rb_ledger.proofs.Public.Legal
 use Rattle.rb_site.specs.Worlds.{World, made_in}
-use Rattle.rb_world.specs.Laws.{HasClocks, HasFunds, HasValidLists, IsNeverNegative, IsRedBlue, SitesAgree}
+use Rattle.rb_world.specs.Laws.{Clocks, Funds, ValidLists, NeverNegative, RedBlue, Agreement}
 use Rattle.rb_world.proofs.Good.{IsGood}
 use Rattle.rb_world.proofs.Order.{IsOrderedSet}
 
-pub red_blue : (s : Settings) (w : World) → IsGood s w → IsRedBlue s w
+pub red_blue : (s : Settings) (w : World) → IsGood s w → RedBlue s w
 red_blue s w g = record {
   lawful = record {
     unique = o.unique;
@@ -37,20 +37,20 @@ red_blue s w g = record {
     o : IsOrderedSet s all
     o = g.order
 
-pub clocks : (s : Settings) (w : World) → IsGood s w → HasClocks s w
+pub clocks : (s : Settings) (w : World) → IsGood s w → Clocks s w
 clocks s w g i t at = ValidClocks.valid_clock s t.ops g.few (g.sites i t at).valid
 
-pub agreement : (s : Settings) (w : World) → IsGood s w → SitesAgree s w
+pub agreement : (s : Settings) (w : World) → IsGood s w → Agreement s w
 agreement s w g i t at j u at' same =
     Balances.agreement s (made_in w) t.ops u.ops (red_blue s w g).lawful (g.sites i t at).part (g.sites j u at').part (g.sites i t at).valid.unique (g.sites j u at').valid.unique same
 
-pub valid_lists : (s : Settings) (w : World) → IsGood s w → HasValidLists s w
+pub valid_lists : (s : Settings) (w : World) → IsGood s w → ValidLists s w
 valid_lists s w g i t at = (g.sites i t at).valid
 
-pub never_negative : (s : Settings) (w : World) → IsGood s w → IsNeverNegative s w
+pub never_negative : (s : Settings) (w : World) → IsGood s w → NeverNegative s w
 never_negative s w g i t at a = Legal.covers s t.ops a (g.sites i t at).valid
 
-pub funds : (s : Settings) (w : World) → IsGood s w → HasFunds s w
+pub funds : (s : Settings) (w : World) → IsGood s w → Funds s w
 funds s w g vs part unique closed a =
     let l = (red_blue s w g).lawful in
     let o : IsOrderedSet s (made_in w) = g.order in

@@ -24,7 +24,7 @@ use Rattle.rb_site.specs.declared.reply.Reply.TheVariants.{Already, Refused, Sta
 use Rattle.rb_site.specs.declared.world_event.WorldEvent.TheVariants.{Deliver}
 use Rattle.rb_site.specs.Events.{refuses_first, Answers, Applies, Holds, ModelSite, Outcome, Refuses, Takes, is_full, outcome_of, outcome_of_apply, outcome_of_check, outcome_of_shadow, outcome_of_token, refuses_if, reply_of, reply_to, unless_faulty, unless_known}
 use Rattle.rb_site.specs.Worlds.{World, made_in, message_at, reply_at, reply_delivered, reply_in}
-use Rattle.rb_world.specs.Laws.{IsNeverStuck, TrustsItsOwn}
+use Rattle.rb_world.specs.Laws.{NeverStuck, TrustsItsOwn}
 use Rattle.rb_world.proofs.Steps
 use Rattle.rb_world.proofs.Order
 use Rattle.rb_world.proofs.Good.{IsGood, IsInOrder, sound_in}
@@ -130,7 +130,7 @@ sent_shadow w k v h = Steps.sent_message w.messages k (ShadowMessage v) h
 reply_there : (s : Settings) (w : World) (i k : ℕ) (t : ModelSite) (m : Message) → slice_get w.sites i ≡ Some t → message_at w.messages k ≡ Some m → reply_in s w (Deliver i k) ≡ reply_to s t (Receive m)
 reply_there s w i k t m at h = ap (λ o. reply_delivered s w i o (message_at w.messages k)) at ∙ ap (reply_delivered s w i (Some t)) h
 
-pub never_stuck : (s : Settings) (w : World) → IsGood s w → IsNeverStuck s w
+pub never_stuck : (s : Settings) (w : World) → IsGood s w → NeverStuck s w
 never_stuck s w g = record {
   delivered = λ i t at room v k h within.
       let reply : reply_in s w (Deliver i k) ≡ reply_of (outcome_of_shadow s t v) = reply_there s w i k t (ShadowMessage v) at h ∙ reply_roomy s t (Receive (ShadowMessage v)) room ∙ ap reply_of (received s t v) in

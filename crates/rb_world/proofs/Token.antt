@@ -23,7 +23,7 @@ use Rattle.rb_scratch.specs.Requests.{operation_of, next_name, colour_of_plan}
 use Rattle.rb_site.specs.Events.{ModelSite, first_site}
 use Rattle.rb_inbox.specs.Held.{with_held, without}
 use Rattle.rb_site.specs.Worlds.{World, shadows_in, tokens_in, made_in, world_of_run, first_world, AreOwn}
-use Rattle.rb_world.specs.Laws.{EachSite, HasOneToken}
+use Rattle.rb_world.specs.Laws.{EachSite, OneToken}
 use Rattle.rb_world.proofs.Steps
 use Rattle.rb_world.proofs.Steps.{AmongTokens, MayTake, MayPass, Keeps, moved, each_moved}
 use Rattle.rb_site.proofs.Public.Places.{get_set_other, get_set_same, same_number}
@@ -319,7 +319,7 @@ first_place s some = record {
 
 -- ---- the law
 
-pub one_holder : (s : Settings) (w : World) → IsInOnePlace w → HasOneToken s w
+pub one_holder : (s : Settings) (w : World) → IsInOnePlace w → OneToken s w
 one_holder s w p i t at held j u at' held' = by p.place
   where
     by : ((k : ℕ) × (u : ModelSite) × IsHeldAt w k u) ⊎ ((m : TokenMessage) × IsOnItsWay w m) → i ≡ j

@@ -6,7 +6,7 @@ use Rattle.rb_shadow.specs.declared.colour.Colour.TheVariants.{Blue as BlueColou
 use Rattle.rb_shadow.specs.declared.shadow.Shadow.{Shadow}
 use Rattle.rb_shadow.specs.Operations.{shown_colour}
 use Rattle.rb_token.specs.Token.{Token}
-use Rattle.rb_token.specs.Seat.{Shows}
+use Rattle.rb_token.specs.Seen.{Shows}
 use Rattle.rb_token.specs.declared.view.TokenView.{TokenView}
 use Rattle.rb_scratch.specs.Requests.{next_name}
 use Rattle.std.proofs.lemmas.Int.{ints}

@@ -87,7 +87,7 @@ took c =
       taken = c.index-taken.result.now;
       history = c.index-self-site.result.items;
       entry = c.in-Some.entry.now;
-      next = record { there = at; site = Stepping.taken_at (old_progress c) c.args.self.now c.args.site c.index-taken.result.now c.self.view_is c.self.invariant.0 c.requires c.index-taken.ensures; next = next };
+      next = record { there = at; at = Stepping.taken_at (old_progress c) c.args.self.now c.args.site c.index-taken.result.now c.self.view_is c.self.invariant.0 c.requires c.index-taken.ensures; next = next };
       source = c.may_come.ensures.0 c.if-not-may_come.false;
       is = ap (λ o. with_both c o c.add_all.new.self) order ∙ ap (with_both c (c.self.inside.order.items ++ c.args.site ∷ [])) messages;
     }

@@ -5,7 +5,7 @@ use Rattle.rb_token.specs.declared.view.TokenView.{TokenView}
 use Rattle.rb_token.specs.Token.{Token}
 
 -- the site, how many there are, the limits, and what the site knows of the token
-pub record TokenSeat : Type 0 where
+pub record SeenToken : Type 0 where
   pub me : ℕ
   pub sites : ℕ
   pub limits : Limits

@@ -1,6 +1,6 @@
 use Rattle.std.proofs.Common.{◌≡◌, rules, arith}
 use Rattle.std.proofs.lemmas.Fmt.{parse-decimal}
-use Rattle.rb_words.proofs.options.read_number.Goals as goal
+use Rattle.rb_money.proofs.number.read_number.Goals as goal
 
 pub returns-then-eq-clause-only : goal.returns-then-eq-clause-only
 returns-then-eq-clause-only c = λ n small e. let read = parse-decimal 32 n _ _ small (omega arith) e c.parse.ensures.value.0 in search rules
