@@ -3,12 +3,13 @@
 toolchain's own are left. A statement is a function with a contract, as World::run or one_token, or a definition.
 
 usage: closure.py                  the headline's: the functions and laws of README.md's table
-       closure.py STATEMENT..      that of others, as Ledger::apply, rb_site::Site::open, run_script, HasFunds
+       closure.py STATEMENT..      that of others, as Ledger::apply, rb_site::Site::open, run_script, Funds
        closure.py --rooms          the four rooms of docs/MODEL.md: the headline, the program's text, what contracts of
                                    other public functions rest on, and what only ties inner code to proofs
        closure.py --check          whether docs/MODEL.md tells each definition in its room and names none that there
-                                   isn't, and whether the clauses of README.md's table are there; this is silent where
-                                   all is well
+                                   isn't, whether the clauses of README.md's table are there, and whether other crates
+                                   cite each file of proofs/Public and none else of proofs/, and whether no two
+                                   definitions share a name; this is silent where all is well
 
 Words are resolved by the 'use' lines of their file. A type of the code stands for the types of its fields, and one that
 clients see as a value of a model for that value.
@@ -269,9 +270,36 @@ def known(things):
     return names.union(*(WORD.findall(it.text) for its in things.types.values() for it in its))
 
 
+def lemmas(things):
+    """Says which files of proofs/ are open to other crates, but for those of proofs/Public, and which of these none cites."""
+    wrong, cited = [], set()
+    for crate in things.crates:
+        for folder, kind in (("src", "rt"), ("specs", "antt"), ("proofs", "antt")):
+            for file in files(crate, folder, kind):
+                found = re.findall(r"Rattle\.(\w+)\.proofs\.Public\.(\w+)", read("crates", crate, file))
+                cited.update(it for it in found if it[0] != crate)
+    for crate in things.crates:
+        for file in files(crate, "proofs", "antt"):
+            if file == "proofs/Lib.antt":
+                opened = re.findall(r"(?m)^pub mod (?!Public$)(\w+)", read("crates", crate, file))
+                wrong += [f"crates/{crate}/proofs/{it}.antt: only the files of proofs/Public are open to other crates" for it in opened]
+            if file.startswith("proofs/Public/") and (crate, os.path.basename(file)[:-5]) not in cited:
+                wrong.append(f"crates/{crate}/{file}: no other crate cites it")
+    return wrong
+
+
+def namesakes(things):
+    """Says which definitions have one name, or names that differ in case alone."""
+    files = collections.defaultdict(list)
+    for crate, file, name in sorted(things.definitions):
+        files[name.lower()].append(f"{name} of crates/{crate}/{file}")
+    return [" and ".join(its) + ": two definitions, one name" for its in files.values() if len(its) > 1]
+
+
 def check(things):
-    """Says what docs/MODEL.md lacks or has too much, and which clauses of README.md aren't there; how many."""
-    wrong, room, text = [], rooms(things), read("docs/MODEL.md")
+    """Says what docs/MODEL.md lacks or has too much, which clauses of README.md aren't there, and where proofs/ isn't as
+    docs/ARCHITECTURE.md tells, and which definitions share a name; how many."""
+    wrong, room, text = lemmas(things) + namesakes(things), rooms(things), read("docs/MODEL.md")
     names, there = told(text), known(things)
     belongs = collections.defaultdict(set)
     for (crate, file, name), at in sorted(room.items()):

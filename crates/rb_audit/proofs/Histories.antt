@@ -3,6 +3,7 @@ use Rattle.std.proofs.Common.{◌≡◌, ℕ, ◌+◌, zero, suc, List, [], ◌�
 use Rattle.std.specs.Prelude.{replicate, slice_get, slice_set}
 use Rattle.std.specs.declared.vec.Vec.{Vec}
 use Rattle.std.proofs.lemmas.List.{map-append, replicate_more}
+use Rattle.std.proofs.lemmas.Option.{same_Some}
 use Rattle.rb_site.specs.declared.entry.Entry.{Entry}
 use Rattle.rb_auditor.specs.Findings.{lists_of}
 use Rattle.rb_audit.specs.Inputs.{with_entry}
@@ -16,11 +17,8 @@ as_many site x [] = refl
 as_many zero x (h ∷ hs) = refl
 as_many (suc n) x (h ∷ hs) = ap suc (as_many n x hs)
 
-some_same : {A : Type 0} (x y : A) → Some x ≡ Some y → x ≡ y
-some_same x y e = cc e
-
 -- an entry was pushed onto the history at this place
 pub noted : {Z : Type 0} (hs : List (Vec Entry Z)) (site : ℕ) (h h' : Vec Entry Z) (x : Entry) → slice_get hs site ≡ Some h → h'.items ≡ h.items ++ x ∷ [] → lists_of (slice_set hs site h') ≡ with_entry site x (lists_of hs)
 noted [] site h h' x there is = refl
-noted (g ∷ hs) zero h h' x there is = ap (λ l. l ∷ lists_of hs) (is ∙ ap (λ (v : Vec Entry _). v.items ++ x ∷ []) (sym (some_same g h there)))
+noted (g ∷ hs) zero h h' x there is = ap (λ l. l ∷ lists_of hs) (is ∙ ap (λ (v : Vec Entry _). v.items ++ x ∷ []) (sym (same_Some g h there)))
 noted (g ∷ hs) (suc n) h h' x there is = ap (λ ls. g.items ∷ ls) (noted hs n h h' x there is)

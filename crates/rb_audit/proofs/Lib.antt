@@ -1,5 +1,5 @@
-pub mod Follows
-pub mod Histories
-pub mod Owed
-pub mod Taken
-pub mod Told
+mod Follows
+mod Histories
+mod Owed
+mod Taken
+mod Told

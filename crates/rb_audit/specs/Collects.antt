@@ -9,12 +9,12 @@ use Rattle.rb_audit.specs.declared.collected.Collected.{Collected}
 use Rattle.rb_audit.specs.Inputs.{Input, input_after, input_from}
 
 -- what the lines to come make of the input: before the configuration and after it
-abbrev pub rest_from : Option Settings → List (List Entry) → ℕ → List (List ℕ) → Result Input ScriptFault
-rest_from None hs n ls = input_from n ls
-rest_from (Some s) hs n ls = input_after s hs n ls
+abbrev pub input_rest_from : Option Settings → List (List Entry) → ℕ → List (List ℕ) → Result Input ScriptFault
+input_rest_from None hs n ls = input_from n ls
+input_rest_from (Some s) hs n ls = input_after s hs n ls
 
-abbrev pub rest_of : Collected → List (List ℕ) → Result Input ScriptFault
-rest_of c ls = rest_from c.config (lists_of c.histories.items) c.number ls
+abbrev pub input_rest : Collected → List (List ℕ) → Result Input ScriptFault
+input_rest c ls = input_rest_from c.config (lists_of c.histories.items) c.number ls
 
 -- there is one history for each site of the configuration
 abbrev pub HasEachSite : Collected → Type 0
@@ -22,17 +22,17 @@ HasEachSite c = (s : Settings) → c.config ≡ Some s → length c.histories.it
 
 -- one line was taken
 pub record Takes (old new : Collected) (l : List ℕ) : Type 0 where
-  pub follows : (ls : List (List ℕ)) → rest_of old (l ∷ ls) ≡ rest_of new ls
+  pub follows : (ls : List (List ℕ)) → input_rest old (l ∷ ls) ≡ input_rest new ls
   pub number : new.number ≡ old.number + 1
   pub each : HasEachSite new
 
 -- whatever follows, the input ends at this line; nothing is said of running out of memory
-abbrev pub EndsAt : Collected → List ℕ → ScriptFault → Type 0
-EndsAt c l OutOfMemory = Unit {0}
-EndsAt c l (BadConfig n) = (ls : List (List ℕ)) → rest_of c (l ∷ ls) ≡ Err (BadConfig n)
-EndsAt c l (BadLine n) = (ls : List (List ℕ)) → rest_of c (l ∷ ls) ≡ Err (BadLine n)
-EndsAt c l NoConfig = ⊥
-EndsAt c l (LongLine n) = ⊥
-EndsAt c l Read = ⊥
-EndsAt c l Write = ⊥
-EndsAt c l Gather = ⊥
+abbrev pub InputEndsAt : Collected → List ℕ → ScriptFault → Type 0
+InputEndsAt c l OutOfMemory = Unit {0}
+InputEndsAt c l (BadConfig n) = (ls : List (List ℕ)) → input_rest c (l ∷ ls) ≡ Err (BadConfig n)
+InputEndsAt c l (BadLine n) = (ls : List (List ℕ)) → input_rest c (l ∷ ls) ≡ Err (BadLine n)
+InputEndsAt c l NoConfig = ⊥
+InputEndsAt c l (LongLine n) = ⊥
+InputEndsAt c l Read = ⊥
+InputEndsAt c l Write = ⊥
+InputEndsAt c l Gather = ⊥

@@ -6,7 +6,7 @@ ghost use Rattle.rb_commands.specs.Configurations.{config_on};
 ghost use Rattle.rb_history.specs.Entries.{entry_on};
 ghost use Rattle.rb_commands.specs.declared.fault.LineFault.TheVariants.{Bad};
 ghost use Rattle.rb_lines.specs.declared.limits.TheConstants.{LINE_LIMIT};
-ghost use Rattle.rb_audit.specs.Collects.{EndsAt, HasEachSite, Takes};
+ghost use Rattle.rb_audit.specs.Collects.{InputEndsAt, HasEachSite, Takes};
 ghost use Rattle.rb_audit.specs.Inputs.{with_entry};
 
 use rb_commands::{LineFault, read_config};
@@ -117,7 +117,7 @@ impl Collected {
         requires short { length line.now ≤ LINE_LIMIT }
         requires number { self.old.number < 2 ^ 63 }
         requires each { HasEachSite self.old }
-        ensures { MatchResult result (λ _. Takes self.old self.new line.now) (EndsAt self.old line.now) }
+        ensures { MatchResult result (λ _. Takes self.old self.new line.now) (InputEndsAt self.old line.now) }
     {
         let number = self.number;
         self.number = number + 1;

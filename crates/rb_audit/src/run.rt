@@ -4,7 +4,7 @@ ghost use Rattle.std.specs.Io.KnownBytes.{Appends};
 ghost use Rattle.rb_lines.specs.declared.fault.ScriptFault.TheVariants.{Read, Write};
 ghost use Rattle.rb_lines.specs.declared.limits.TheConstants.{MOST_READS};
 ghost use Rattle.rb_audit.specs.Collects.{HasEachSite};
-ghost use Rattle.rb_audit.specs.Run.{CollectsAs, EndsAs};
+ghost use Rattle.rb_audit.specs.Run.{CollectsAs, AuditEndsAs};
 
 use crate::answer::answer;
 use crate::collected::Collected;
@@ -63,7 +63,7 @@ pub fn run_audit<S: Source, W: Sink>(
     requires fresh { W.failed writer.old ≡ false }
     // What is written is what the audit of all histories of the input tells.
     ensures written { (text : List ℕ) × Appends (W.contents writer.old) (W.contents writer.new) text
-        × IfSome (S.remaining reader.old) (λ input. EndsAs result input (S.remaining reader.new) text) }
+        × IfSome (S.remaining reader.old) (λ input. AuditEndsAs result input (S.remaining reader.new) text) }
     ensures read { result ≡ Err Read → (S.failed reader.new ≡ true) ⊎ (S.calls reader.new ≡ MOST_READS) }
     ensures write { (result ≡ Err Write) ↔ (W.failed writer.new ≡ true) }
 {

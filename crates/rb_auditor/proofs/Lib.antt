@@ -1,10 +1,11 @@
-pub mod Ends
-pub mod Lists
-pub mod Replaying
-pub mod Messages
-pub mod Runs
-pub mod Takings
-pub mod Following
-pub mod Refuting
-pub mod Listed
-pub mod Stepping
+pub mod Public
+mod Ends
+mod Lists
+mod Replaying
+mod Messages
+mod Runs
+mod Takings
+mod Following
+mod Refuting
+mod Listed
+mod Stepping

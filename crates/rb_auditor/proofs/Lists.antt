@@ -15,15 +15,15 @@ pub record IsSplit {A : Type 0} (xs : List A) (k : ℕ) (x : A) : Type 0 where
   pub whole : xs ≡ take k xs ++ x ∷ rest
   pub more : take (k + 1) xs ≡ take k xs ++ x ∷ []
   pub dropped : drop k xs ≡ x ∷ rest
-  pub place : k < length xs
+  pub within : k < length xs
   pub front : length (take k xs) ≡ k
 
 pub split_at : {A : Type 0} (xs : List A) (k : ℕ) (x : A) → slice_get xs k ≡ Some x → IsSplit xs k x
 split_at [] k x h = cc
-split_at (y ∷ ys) zero x h = let e : y ≡ x = cc in record { rest = ys; whole = ap (λ z. z ∷ ys) e; more = ap (λ z. z ∷ []) e; dropped = ap (λ z. z ∷ ys) e; place = omega arith; front = refl }
+split_at (y ∷ ys) zero x h = let e : y ≡ x = cc in record { rest = ys; whole = ap (λ z. z ∷ ys) e; more = ap (λ z. z ∷ []) e; dropped = ap (λ z. z ∷ ys) e; within = omega arith; front = refl }
 split_at (y ∷ ys) (suc k) x h =
     let i : IsSplit ys k x = split_at ys k x h in
-    record { rest = i.rest; whole = ap (λ zs. y ∷ zs) i.whole; more = ap (λ n. take n (y ∷ ys)) (let q : suc k + 1 ≡ suc (k + 1) = omega arith in q) ∙ ap (λ zs. y ∷ zs) i.more; dropped = i.dropped; place = let q : k < length ys = i.place in omega arith; front = let q : length (take k ys) ≡ k = i.front in omega arith }
+    record { rest = i.rest; whole = ap (λ zs. y ∷ zs) i.whole; more = ap (λ n. take n (y ∷ ys)) (let q : suc k + 1 ≡ suc (k + 1) = omega arith in q) ∙ ap (λ zs. y ∷ zs) i.more; dropped = i.dropped; within = let q : k < length ys = i.within in omega arith; front = let q : length (take k ys) ≡ k = i.front in omega arith }
 
 pub get_zero : (n i k : ℕ) → slice_get (replicate n 0) i ≡ Some k → k ≡ 0
 get_zero zero i k h = cc
@@ -55,16 +55,16 @@ pub record IsSiteOf (s : Settings) (hs : List (List Entry)) (ks : List ℕ) (a i
   pub history : List Entry
   pub taken : ℕ
   pub there : slice_get hs i ≡ Some history
-  pub place : slice_get ks i ≡ Some taken
+  pub at : slice_get ks i ≡ Some taken
   pub is : t ≡ site_after s (a + i) (take taken history)
 
 pub from_site : (s : Settings) (a : ℕ) (hs : List (List Entry)) (ks : List ℕ) (i : ℕ) (t : ModelSite) → slice_get (sites_after s a hs ks) i ≡ Some t → IsSiteOf s hs ks a i t
 from_site s a [] ks i t p = cc
 from_site s a (g ∷ hs) [] i t p = cc
-from_site s a (g ∷ hs) (n ∷ ks) zero t p = record { history = g; taken = n; there = refl; place = refl; is = let e : site_after s a (take n g) ≡ t = cc in sym e ∙ ap (λ j. site_after s j (take n g)) (let z : a ≡ a + 0 = omega arith in z) }
+from_site s a (g ∷ hs) (n ∷ ks) zero t p = record { history = g; taken = n; there = refl; at = refl; is = let e : site_after s a (take n g) ≡ t = cc in sym e ∙ ap (λ j. site_after s j (take n g)) (let z : a ≡ a + 0 = omega arith in z) }
 from_site s a (g ∷ hs) (n ∷ ks) (suc i) t p =
     let r : IsSiteOf s hs ks (a + 1) i t = from_site s (a + 1) hs ks i t p in
-    record { history = r.history; taken = r.taken; there = r.there; place = r.place; is = r.is ∙ ap (λ j. site_after s j (take r.taken r.history)) (let z : a + 1 + i ≡ a + suc i = omega arith in z) }
+    record { history = r.history; taken = r.taken; there = r.there; at = r.at; is = r.is ∙ ap (λ j. site_after s j (take r.taken r.history)) (let z : a + 1 + i ≡ a + suc i = omega arith in z) }
 
 pub set_site : (s : Settings) (a : ℕ) (hs : List (List Entry)) (ks : List ℕ) (i n : ℕ) (h : List Entry) → slice_get hs i ≡ Some h → sites_after s a hs (slice_set ks i n) ≡ slice_set (sites_after s a hs ks) i (site_after s (a + i) (take n h))
 set_site s a [] ks i n h p = cc
@@ -93,14 +93,14 @@ pub record IsFront (hs : List (List Entry)) (ks : List ℕ) (i : ℕ) (f : List 
   pub history : List Entry
   pub taken : ℕ
   pub there : slice_get hs i ≡ Some history
-  pub place : slice_get ks i ≡ Some taken
+  pub at : slice_get ks i ≡ Some taken
   pub is : f ≡ take taken history
 
 pub from_front : (hs : List (List Entry)) (ks : List ℕ) (i : ℕ) (f : List Entry) → slice_get (fronts_of hs ks) i ≡ Some f → IsFront hs ks i f
 from_front [] ks i f p = cc
 from_front (g ∷ hs) [] i f p = cc
-from_front (g ∷ hs) (n ∷ ks) zero f p = record { history = g; taken = n; there = refl; place = refl; is = let e : take n g ≡ f = cc in sym e }
-from_front (g ∷ hs) (n ∷ ks) (suc i) f p = let r : IsFront hs ks i f = from_front hs ks i f p in record { history = r.history; taken = r.taken; there = r.there; place = r.place; is = r.is }
+from_front (g ∷ hs) (n ∷ ks) zero f p = record { history = g; taken = n; there = refl; at = refl; is = let e : take n g ≡ f = cc in sym e }
+from_front (g ∷ hs) (n ∷ ks) (suc i) f p = let r : IsFront hs ks i f = from_front hs ks i f p in record { history = r.history; taken = r.taken; there = r.there; at = r.at; is = r.is }
 
 -- fronts that are whole
 pub whole_fronts : (hs : List (List Entry)) (ks : List ℕ) → length ks ≡ length hs → ((i k : ℕ) (h : List Entry) → slice_get hs i ≡ Some h → slice_get ks i ≡ Some k → take k h ≡ h) → fronts_of hs ks ≡ hs

@@ -1,7 +1,7 @@
 -- Messages that were sent.
 use Rattle.std.proofs.Common.{◌≡◌, ℕ, suc, List, [], ◌∷◌, ◌++◌, ap, sym, ◌∙◌, inl, inr, subst, Some}
 use Rattle.std.specs.Prelude.{slice_get}
-use Rattle.std.proofs.lemmas.List.{append-nil}
+use Rattle.std.proofs.lemmas.List.{append-nil, map-append}
 use Rattle.rb_money.specs.Settings.{Settings}
 use Rattle.rb_site.specs.declared.entry.Entry.{Entry}
 use Rattle.rb_site.specs.declared.event.Event.{Event}
@@ -9,9 +9,8 @@ use Rattle.rb_site.specs.declared.event.Event.TheVariants.{Submit, Batch, Receiv
 use Rattle.rb_site.specs.declared.message.Message.{Message}
 use Rattle.rb_site.specs.Events.{ModelSite, after_events, sent_at}
 use Rattle.rb_site.specs.Histories.{IsAmong, events_of, sends_of}
-use Rattle.rb_site.proofs.Recorded.{IsFrom}
-use Rattle.rb_site.proofs.Runs
-use Rattle.rb_site.proofs.Stuck
+use Rattle.rb_site.proofs.Public.Recorded.{IsFrom}
+use Rattle.rb_site.proofs.Public.Stuck
 use Rattle.rb_auditor.specs.Progress.{IsHeldUp, MayCome}
 
 -- the number of a message that was sent
@@ -45,6 +44,6 @@ held_up ms (y ∷ ys) rest x (m, is, not) e come =
 -- what one entry more sends
 pub sends_more : (s : Settings) (t : ModelSite) (xs : List Entry) (x : Entry) → sends_of s t (events_of (xs ++ x ∷ [])) ≡ sends_of s t (events_of xs) ++ sent_at s (after_events s t (events_of xs)) x.event
 sends_more s t xs x =
-    ap (sends_of s t) (Runs.map-append (λ (y : Entry). y.event) xs (x ∷ []))
+    ap (sends_of s t) (map-append (λ (y : Entry). y.event) xs (x ∷ []))
     ∙ Stuck.sends-append s (events_of xs) (x.event ∷ []) t
     ∙ ap (λ ms. sends_of s t (events_of xs) ++ ms) (append-nil (sent_at s (after_events s t (events_of xs)) x.event))

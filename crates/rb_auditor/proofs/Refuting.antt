@@ -6,19 +6,19 @@ use Rattle.std.specs.List.{range_with_len}
 use Rattle.std.proofs.lemmas.Bool.Decides.{nat_tests}
 use Rattle.std.proofs.lemmas.Option.{slice_get-map, slice_get_within}
 use Rattle.rb_money.specs.Settings.{Settings}
-use Rattle.rb_shadow.proofs.Members
+use Rattle.rb_shadow.proofs.Public.Members
 use Rattle.rb_site.specs.declared.entry.Entry.{Entry}
 use Rattle.rb_site.specs.declared.world_event.WorldEvent.{WorldEvent}
 use Rattle.rb_site.specs.Events.{ModelSite, after_event, first_site, is_full, reply_to}
-use Rattle.rb_site.specs.Histories.{AreOneWorlds, place_of}
+use Rattle.rb_site.specs.Histories.{AreOneWorlds, site_of}
 use Rattle.rb_site.specs.Seen.{entry}
 use Rattle.rb_site.specs.Worlds.{AreOwn, World, first_world, is_recorded, world_after, world_after_all, world_at, world_of_run}
-use Rattle.rb_site.proofs.Places
-use Rattle.rb_site.proofs.Recorded
-use Rattle.rb_site.proofs.Recorded.{IsRecorded}
-use Rattle.rb_site.proofs.Runs as SiteRuns
-use Rattle.rb_site.proofs.Seen
-use Rattle.rb_site.proofs.Stuck
+use Rattle.rb_site.proofs.Public.Places
+use Rattle.rb_site.proofs.Public.Recorded
+use Rattle.rb_site.proofs.Public.Recorded.{IsRecorded}
+use Rattle.rb_site.proofs.Public.Runs as SiteRuns
+use Rattle.rb_site.proofs.Public.Seen
+use Rattle.rb_site.proofs.Public.Stuck
 use Rattle.std.proofs.lemmas.List.{length-map}
 use Rattle.std.proofs.lemmas.List.FromFn.{length-range_with_len}
 use Rattle.rb_auditor.specs.declared.audit_fault.AuditFault.{AuditFault}
@@ -58,13 +58,13 @@ recorded_at s w e r all = subst (AllAtTheirs s) (sym r.is) each
     t1 : ModelSite
     t1 = after_event s r.site r.event
 
-    each : AllAtTheirs s (world_at s w (place_of e) r.event (Some r.site))
-    each j u at = elim (Places.same_number (place_of e) j) [
+    each : AllAtTheirs s (world_at s w (site_of e) r.event (Some r.site))
+    each j u at = elim (Places.same_number (site_of e) j) [
       | inl q ↦
-          let k : Some t1 ≡ Some u = sym (Places.get_set_same w.sites (place_of e) r.site t1 r.at) ∙ ap (slice_get (slice_set w.sites (place_of e) t1)) (sym q) ∙ at in
+          let k : Some t1 ≡ Some u = sym (Places.get_set_same w.sites (site_of e) r.site t1 r.at) ∙ ap (slice_get (slice_set w.sites (site_of e) t1)) (sym q) ∙ at in
           subst (IsAtItsHistory s j) (let z : t1 ≡ u = cc in z)
           (goes_on s j r.site (record { event = r.event; reply = reply_to s r.site r.event }) r.room refl (all j r.site (ap (slice_get w.sites) q ∙ r.at)))
-      | inr ne ↦ all j u (sym (Places.get_set_other w.sites (place_of e) j t1 ne) ∙ at)
+      | inr ne ↦ all j u (sym (Places.get_set_other w.sites (site_of e) j t1 ne) ∙ at)
     ]
 
 run_at : (s : Settings) (es : List WorldEvent) (w : World) → AreOwn es → AllAtTheirs s w → AllAtTheirs s (world_after_all s w es)
@@ -80,7 +80,7 @@ first_all : (s : Settings) → AllAtTheirs s (first_world s)
 first_all s i t at =
     let is : t ≡ first_site i = Stuck.first_sites 0 s.sites i t at ∙ ap first_site (let q : 0 + i ≡ i = omega arith in q) in
     let less : i < s.sites = subst (λ n. i < n) (length-map (range_with_len 0 s.sites) first_site ∙ length-range_with_len 0 s.sites) (slice_get_within (first_world s).sites i t at) in
-    subst (IsAtItsHistory s i) (sym is) (record { stands = refl; replays = record { place = less; replays = tt; room = omega arith } })
+    subst (IsAtItsHistory s i) (sym is) (record { stands = refl; replays = record { within = less; replays = tt; room = omega arith } })
 
 -- the histories of one world replay
 pub one_worlds_replay : (s : Settings) (hs : List (List Entry)) (i : ℕ) (h : List Entry) → AreOneWorlds s hs → slice_get hs i ≡ Some h → IsReplay s i h

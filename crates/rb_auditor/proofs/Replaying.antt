@@ -2,21 +2,21 @@
 use Rattle.std.proofs.Common.{◌≡◌, ℕ, zero, suc, Bool, IsTrue, MatchBool, ◌↔◌, cond, ◌+◌, ◌*◌, ◌<◌, ◌≤◌, true, false, List, [], ◌∷◌, ◌++◌, length, take, drop, get_or, refl, ap, sym, subst, ◌∙◌, arith, Some, length-append}
 use Rattle.std.specs.Prelude.{map, slice_get, nat_le}
 use Rattle.std.proofs.lemmas.Bool.Decides.{nat_tests}
-use Rattle.std.proofs.lemmas.List.{length-take-le, take-append-drop, take_more}
+use Rattle.std.proofs.lemmas.List.{length-take-le, take-append-drop, take_more, map-append}
 use Rattle.rb_scratch.specs.declared.request.TheConstants.{MOST_REQUESTS}
 use Rattle.rb_money.specs.declared.limits.TheConstants.{MOST_HISTORY}
 use Rattle.rb_money.specs.Settings.{IsConfigured, Settings}
 use Rattle.rb_site.specs.declared.entry.Entry.{Entry}
-use Rattle.rb_site.specs.Events.{ModelSite, after_event, after_events, first_site, is_full, outcome_of, reply_to, sent_at, sent_by}
+use Rattle.rb_site.specs.Events.{ModelSite, after_event, after_events, first_site, is_full, reply_to, sent_at}
 use Rattle.rb_site.specs.Histories.{events_of}
 use Rattle.rb_site.specs.declared.event.Event.{Event}
 use Rattle.rb_site.specs.declared.message.Message.{Message}
 use Rattle.rb_site.specs.declared.reply.Reply.{Reply}
 use Rattle.rb_site.specs.Seen.{IsReplayed, Replays, SeenSite, entry, next_site, state_of, stepped}
-use Rattle.rb_auditor.specs.Replays.{IsNoted, seen_at, sends_by}
-use Rattle.rb_site.proofs.Runs
-use Rattle.rb_site.proofs.Seen
-use Rattle.rb_site.proofs.States
+use Rattle.rb_auditor.specs.Replays.{RecordsEntry, seen_at, sends_by}
+use Rattle.rb_site.proofs.Public.Runs
+use Rattle.rb_site.proofs.Public.Seen
+use Rattle.rb_site.proofs.Public.Outcomes
 use Rattle.rb_auditor.specs.Findings.{IsReplay}
 use Rattle.rb_auditor.specs.Progress.{fronts_of, site_after, sites_after}
 use Rattle.rb_auditor.specs.Sends.{AreEnds, between}
@@ -33,7 +33,7 @@ replays-at s t (y ∷ xs) ys x h = replays-at s (after_event s t y.event) xs ys 
 
 pub replay-front : (s : Settings) (i : ℕ) (xs ys : List Entry) → IsReplay s i (xs ++ ys) → IsReplay s i xs
 replay-front s i xs ys h = record {
-  place = h.place;
+  within = h.within;
   replays = replays-front s (first_site i) xs ys h.replays;
   room = let longer : length (xs ++ ys) ≡ length xs + length ys = length-append xs ys in let room : length (xs ++ ys) ≤ s.limits.history = h.room in omega arith;
 }
@@ -54,7 +54,7 @@ pub record IsReplayedAt (s : Settings) (i : ℕ) (h : List Entry) (k : ℕ) (x :
   pub more : site_after s i (take (k + 1) h) ≡ after_event s (site_after s i (take k h)) x.event
 
 pub after_more : (s : Settings) (t : ModelSite) (xs : List Entry) (x : Entry) → after_events s t (events_of (xs ++ x ∷ [])) ≡ after_event s (after_events s t (events_of xs)) x.event
-after_more s t xs x = ap (after_events s t) (Runs.map-append (λ (y : Entry). y.event) xs (x ∷ [])) ∙ Runs.after_events-append s (events_of xs) (x.event ∷ []) t
+after_more s t xs x = ap (after_events s t) (map-append (λ (y : Entry). y.event) xs (x ∷ [])) ∙ Runs.after_events-append s (events_of xs) (x.event ∷ []) t
 
 not_full : (s : Settings) (t : ModelSite) (k : ℕ) → length t.history ≡ k → k < s.limits.history → is_full s t ≡ false
 not_full s t k e lt = grind (arith, nat_tests)
@@ -64,7 +64,7 @@ replayed_at s i h k x r at =
     let sp : IsSplit h k x = split_at h k x at in
     let past : (site_after s i (take k h)).history ≡ take k h = history_after s i (take k h) (replay-take s i k h r) in
     let room : length h ≤ s.limits.history = r.room in
-    let place : k < length h = sp.place in
+    let place : k < length h = sp.within in
     record {
       reply = replays-at s (first_site i) (take k h) sp.rest x (subst (Replays s (first_site i)) sp.whole r.replays);
       room = not_full s (site_after s i (take k h)) k (ap length past ∙ sp.front) (omega arith);
@@ -93,20 +93,12 @@ sends_at s t [] k x h = cc
 sends_at s t (y ∷ xs) zero x h = let e : y ≡ x = cc in ap (λ (z : Entry). Some (sent_at s t z.event)) e
 sends_at s t (y ∷ xs) (suc k) x h = sends_at s (after_event s t y.event) xs k x h
 
--- an event sends at most as many messages as a batch may have requests
-few : (b : Bool) (ms : List Message) → length ms ≤ MOST_REQUESTS → length (cond b [] ms) ≤ MOST_REQUESTS
-few true ms h = omega arith
-few false ms h = h
-
-sent_few : (s : Settings) (t : ModelSite) (e : Event) → length (sent_at s t e) ≤ MOST_REQUESTS
-sent_few s t e = few (is_full s t) (sent_by (outcome_of s t e)) (States.sends_few s t e)
-
 -- where the history is full, one more is wrong
 pub full_is_wrong : (x : SeenSite) (y : Entry) → IsReplayed x → is_full x.settings (state_of x) ≡ true → ¬ IsReplayed (seen_at x.settings x.me (x.entries ++ y ∷ []))
 full_is_wrong x y old full new =
     let longer : length (x.entries ++ y ∷ []) ≡ length x.entries + 1 = length-append x.entries (y ∷ []) in
     let within : length (x.entries ++ y ∷ []) ≤ x.settings.limits.history = new.room in
-    let test : nat_le x.settings.limits.history (length x.entries) ≡ true = States.is_full-state x old ∙ full in
+    let test : nat_le x.settings.limits.history (length x.entries) ≡ true = Outcomes.is_full-state x old ∙ full in
     let most : x.settings.limits.history ≤ length x.entries = grind (arith, nat_tests) in
     omega arith
 
@@ -115,11 +107,11 @@ pub other_is_wrong : (x : SeenSite) (y : Entry) → ¬ (reply_to x.settings (sta
 other_is_wrong x y other r = other (sym (replays-at x.settings (first_site x.me) x.entries [] y r.replays))
 
 -- the site's own is noted
-pub noted : (x new : SeenSite) (e : Event) (y : Entry) (r : Reply) (before after : List Message) → IsReplayed x → is_full x.settings (state_of x) ≡ false → new ≡ next_site x e → r ≡ reply_to x.settings (state_of x) e → r ≡ y.reply → e ≡ y.event → after ≡ before ++ sent_at x.settings (state_of x) e → IsNoted x new y before after
+pub noted : (x new : SeenSite) (e : Event) (y : Entry) (r : Reply) (before after : List Message) → IsReplayed x → is_full x.settings (state_of x) ≡ false → new ≡ next_site x e → r ≡ reply_to x.settings (state_of x) e → r ≡ y.reply → e ≡ y.event → after ≡ before ++ sent_at x.settings (state_of x) e → RecordsEntry x new y before after
 noted x new e y r before after old free is reply same event sends = record {
   free = free;
   is = step ∙ ap (λ z. record x { entries = x.entries ++ z ∷ [] }) (ap (entry e) (sym reply ∙ same) ∙ ap (λ f. entry f y.reply) event);
-  replays = subst IsReplayed (sym step) (Seen.replayed-stepped x e (States.room_left x old free) old);
+  replays = subst IsReplayed (sym step) (Seen.replayed-stepped x e (Outcomes.room_left x old free) old);
   sends = sends ∙ ap (λ f. before ++ sent_at x.settings (state_of x) f) event;
 }
   where
@@ -128,7 +120,7 @@ noted x new e y r before after old free is reply same event sends = record {
 
 -- one of the two
 pub noted_or_not : (b : Bool) (x new : SeenSite) (e : Event) (y : Entry) (r : Reply) (before after : List Message) → IsReplayed x → is_full x.settings (state_of x) ≡ false → new ≡ next_site x e → r ≡ reply_to x.settings (state_of x) e → (IsTrue b ↔ (r ≡ y.reply)) → e ≡ y.event → after ≡ before ++ sent_at x.settings (state_of x) e
-    → MatchBool b (IsNoted x new y before after) (¬ IsReplayed (seen_at x.settings x.me (x.entries ++ y ∷ [])))
+    → MatchBool b (RecordsEntry x new y before after) (¬ IsReplayed (seen_at x.settings x.me (x.entries ++ y ∷ [])))
 noted_or_not true x new e y r before after old free is reply test event sends = noted x new e y r before after old free is reply (test.0 refl) event sends
 noted_or_not false x new e y r before after old free is reply test event sends = other_is_wrong x y (λ same. let wrong : IsTrue false = test.1 (reply ∙ ap (reply_to x.settings (state_of x)) event ∙ same) in cc)
 
@@ -141,7 +133,7 @@ pub record IsReplaying (s : Settings) (me : ℕ) (h : List Entry) (k : ℕ) (sit
   pub few : length messages ≤ MOST_REQUESTS * k
 
 -- an entry more
-pub replaying_more : (s : Settings) (me : ℕ) (h : List Entry) (k : ℕ) (x : Entry) (site new : SeenSite) (before after : List Message) (ends : List ℕ) → k < length h → x ≡ get_or h k x → IsReplaying s me h k site before ends → IsNoted site new x before after → IsReplaying s me h (k + 1) new after (ends ++ length after ∷ [])
+pub replaying_more : (s : Settings) (me : ℕ) (h : List Entry) (k : ℕ) (x : Entry) (site new : SeenSite) (before after : List Message) (ends : List ℕ) → k < length h → x ≡ get_or h k x → IsReplaying s me h k site before ends → RecordsEntry site new x before after → IsReplaying s me h (k + 1) new after (ends ++ length after ∷ [])
 replaying_more s me h k x site new before after ends less at r n = record {
   site_is = now;
   replays = subst IsReplayed now n.replays;
@@ -163,7 +155,7 @@ replaying_more s me h k x site new before after ends less at r n = record {
     sizes = ap length n.sends ∙ length-append before sent
 
     most : length sent ≤ MOST_REQUESTS
-    most = sent_few site.settings (state_of site) x.event
+    most = Outcomes.sent_few site.settings (state_of site) x.event
 
     longer : take k h ++ x ∷ [] ≡ take (k + 1) h
     longer = ap (λ y. take k h ++ y ∷ []) at ∙ sym (take_more h k x less)

@@ -1,9 +1,7 @@
 -- What the code of a taking keeps.
-use Rattle.std.proofs.Common.{◌≡◌, ℕ, zero, suc, ◌+◌, ◌-◌, ◌<◌, ◌≤◌, List, [], ◌∷◌, ◌++◌, length, take, drop, get_or, refl, ap, sym, subst, ◌∙◌, inl, inr, arith, Some}
+use Rattle.std.proofs.Common.{◌≡◌, ℕ, zero, suc, ◌+◌, ◌-◌, ◌<◌, ◌≤◌, List, [], ◌∷◌, ◌++◌, length, take, drop, get_or, refl, ap, sym, subst, ◌∙◌, inl, inr, arith, Some, Vec}
 use Rattle.std.specs.Prelude.{replicate, slice_get}
 use Rattle.std.proofs.lemmas.Option.{slice_get-get_or, slice_get_read, slice_get_within}
-use Rattle.std.proofs.lemmas.List.{length-map}
-use Rattle.std.proofs.Common.{Vec}
 use Rattle.rb_money.specs.declared.limits.TheConstants.{MOST_HISTORY}
 use Rattle.rb_money.specs.Settings.{IsConfigured, Settings}
 use Rattle.rb_site.specs.declared.entry.Entry.{Entry}
@@ -12,7 +10,8 @@ use Rattle.rb_site.specs.declared.event.Event.TheVariants.{Submit, Batch, Receiv
 use Rattle.rb_site.specs.declared.message.Message.{Message}
 use Rattle.rb_site.specs.Events.{first_site, sent_at}
 use Rattle.rb_site.specs.Histories.{IsAmong}
-use Rattle.rb_site.proofs.Places.{same_number}
+use Rattle.rb_site.proofs.Public.Places.{same_number}
+use Rattle.rb_site.proofs.Public.Lists.{get_front}
 use Rattle.rb_auditor.specs.declared.audit_fault.AuditFault.{AuditFault}
 use Rattle.rb_auditor.specs.declared.audit_fault.AuditFault.TheVariants.{WrongReply, Stuck, OutOfMemory}
 use Rattle.rb_auditor.specs.Findings.{IsReplay, lists_of}
@@ -21,6 +20,7 @@ use Rattle.rb_auditor.specs.Replays.{IsWrongIn, sends_by}
 use Rattle.rb_auditor.proofs.Listed
 use Rattle.rb_auditor.proofs.Lists
 use Rattle.rb_auditor.proofs.Replaying
+use Rattle.rb_auditor.proofs.Public.Lengths.{length_lists}
 
 -- ---- opening
 
@@ -48,7 +48,7 @@ sends_more s hs ss place h ms n at is old i g less there = elim (same_number pla
   | inl e ↦
       let same : h ≡ g = Lists.same_item (slice_get hs i) h g (ap (slice_get hs) e ∙ at) there in
       Listed.get_end ss i ms (n ∙ sym e) ∙ ap Some (is ∙ ap (λ j. sends_by s (first_site j) h) (sym e) ∙ ap (sends_by s (first_site i)) same)
-  | inr ne ↦ Listed.get_left ss (ms ∷ []) i (sends_by s (first_site i) g) (old i g (let q : i < place + 1 = less in omega (arith, ne)) there)
+  | inr ne ↦ get_front ss (ms ∷ []) i (sends_by s (first_site i) g) (old i g (let q : i < place + 1 = less in omega (arith, ne)) there)
 ]
 
 -- nothing was taken yet
@@ -115,11 +115,6 @@ taken_fits p v c i less =
     let most : p.settings.limits.history ≤ MOST_HISTORY = c.history.1 in
     omega arith
 
--- ---- lists of the code
-
-pub length_lists : {X Z : Type 0} (vs : List (Vec X Z)) → length (lists_of vs) ≡ length vs
-length_lists {X} {Z} vs = length-map vs (λ (v : Vec X Z). v.items)
-
 -- what a site's history sends is known
 pub sends_long : (s : Settings) (hs : List (List Entry)) (ss : List (List (List Message))) (i : ℕ) (h : List Entry) → AreSends s hs ss → slice_get hs i ≡ Some h → i < length ss
 sends_long s hs ss i h all at = slice_get_within ss i (sends_by s (first_site i) h) (all i h at)
@@ -133,10 +128,10 @@ sends_known s hs ss i k h x sends ms all at next is here =
     sends_next s hs ss i k h x sends ms all at next (slice_get_read ss (length ss) i sends refl (sends_long s hs ss i h all at) is) here
 
 pub rests_past : (p : Progress) (i k : ℕ) (h : List Entry) → slice_get p.histories i ≡ Some h → slice_get p.taken i ≡ Some k → length h ≤ k → Rests p i
-rests_past p i k h at taken past = record { taken = k; history = h; there = at; place = taken; held = held_past p.messages k h past }
+rests_past p i k h at taken past = record { taken = k; history = h; there = at; at = taken; held = held_past p.messages k h past }
 
 pub rests_here : (p : Progress) (i k : ℕ) (h : List Entry) (x : Entry) → slice_get p.histories i ≡ Some h → slice_get p.taken i ≡ Some k → slice_get h k ≡ Some x → ¬ MayCome p.messages x.event → Rests p i
-rests_here p i k h x at taken next not = record { taken = k; history = h; there = at; place = taken; held = held_here p.messages k h x next not }
+rests_here p i k h x at taken next not = record { taken = k; history = h; there = at; at = taken; held = held_here p.messages k h x next not }
 
 -- a place of the histories
 pub history_at : {Z : Type 0} (p q : Progress) (hs : List (Vec Entry Z)) (i : ℕ) (v : Vec Entry Z) → p ≡ q → p.histories ≡ lists_of hs → i < length q.histories → v ≡ get_or hs i v → slice_get p.histories i ≡ Some v.items

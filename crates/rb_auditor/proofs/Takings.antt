@@ -1,9 +1,8 @@
 -- Entries taken one after another, as a world could have recorded them.
-use Rattle.std.proofs.Common.{◌≡◌, ℕ, ◌+◌, ◌<◌, ◌≤◌, List, [], ◌∷◌, ◌++◌, length, take, drop, refl, ap, sym, subst, ◌∙◌, inl, inr, arith, Some}
+use Rattle.std.proofs.Common.{◌≡◌, ℕ, ◌+◌, ◌<◌, ◌≤◌, List, [], ◌∷◌, ◌++◌, length, take, drop, refl, ap, sym, subst, ◌∙◌, inl, inr, arith, Some, Bool, true, false, MatchBool}
 use Rattle.std.specs.Prelude.{map, slice_get, slice_set}
 use Rattle.std.specs.List.{range_with_len}
 use Rattle.std.proofs.lemmas.List.{length-replicate, length-set, length-take-le, take-append-drop, take_all}
-use Rattle.std.proofs.Common.{Bool, true, false, MatchBool}
 use Rattle.std.proofs.lemmas.Option.{slice_get_within}
 use Rattle.rb_money.specs.Settings.{Settings}
 use Rattle.rb_site.specs.declared.entry.Entry.{Entry}
@@ -11,12 +10,12 @@ use Rattle.rb_site.specs.declared.message.Message.{Message}
 use Rattle.rb_site.specs.Events.{ModelSite, after_event, first_site, sent_at}
 use Rattle.rb_site.specs.Histories.{IsAmong, IsBlocked, IsCut, IsUnsent, events_of, histories_of, sends_of}
 use Rattle.rb_site.specs.Worlds.{World, first_world, world_at}
-use Rattle.rb_site.proofs.Places
-use Rattle.rb_site.proofs.Places.{same_number}
-use Rattle.rb_site.proofs.Stuck
+use Rattle.rb_site.proofs.Public.Places
+use Rattle.rb_site.proofs.Public.Places.{same_number}
+use Rattle.rb_site.proofs.Public.Stuck
 use Rattle.rb_auditor.specs.Certificates.{Certifies}
 use Rattle.rb_auditor.specs.Findings.{IsReplay, IsStuckAt}
-use Rattle.rb_auditor.specs.Progress.{AllRest, IsDone, IsFurther, IsLeft, left_of, IsHeldUp, MayCome, IsNext, IsReached, IsTaking, Rests, Progress, Took, first_progress, fronts_of, site_after, sites_after, taken_next, world_of}
+use Rattle.rb_auditor.specs.Progress.{AllRest, IsDone, IsFurther, IsLeft, left_of, IsHeldUp, MayCome, IsNextEntry, IsReached, IsTaking, Rests, Progress, Took, first_progress, fronts_of, site_after, sites_after, taken_next, world_of}
 use Rattle.rb_auditor.proofs.Lists
 use Rattle.rb_auditor.proofs.Lists.{IsFront, IsSplit}
 use Rattle.rb_auditor.proofs.Messages
@@ -43,7 +42,7 @@ first_taken s hs n replays = record {
   reached = record {
     events = [];
     own = tt;
-    places = refl;
+    sites = refl;
     recorded = tt;
     gives = sym (first_is s hs n);
   };
@@ -55,11 +54,11 @@ site_now : (s : Settings) (i k : ℕ) (h : List Entry) → site_after s (0 + i) 
 site_now s i k h = ap (λ j. site_after s j (take k h)) (let q : 0 + i ≡ i = omega arith in q)
 
 -- where the site stands that takes its next entry
-pub site_next : (p : Progress) (i k : ℕ) (h : List Entry) (x : Entry) → IsNext p i k h x → slice_get (world_of p).sites i ≡ Some (site_after p.settings i (take k h))
-site_next p i k h x n = Lists.get_site p.settings 0 p.histories p.taken i k h n.there n.place ∙ ap Some (site_now p.settings i k h)
+pub site_next : (p : Progress) (i k : ℕ) (h : List Entry) (x : Entry) → IsNextEntry p i k h x → slice_get (world_of p).sites i ≡ Some (site_after p.settings i (take k h))
+site_next p i k h x n = Lists.get_site p.settings 0 p.histories p.taken i k h n.there n.at ∙ ap Some (site_now p.settings i k h)
 
 -- the world goes on by the entry
-pub world_next : (p : Progress) (i k : ℕ) (h : List Entry) (x : Entry) → IsTaking p → IsNext p i k h x → world_of (taken_next p i k h x) ≡ world_at p.settings (world_of p) i x.event (Some (site_after p.settings i (take k h)))
+pub world_next : (p : Progress) (i k : ℕ) (h : List Entry) (x : Entry) → IsTaking p → IsNextEntry p i k h x → world_of (taken_next p i k h x) ≡ world_at p.settings (world_of p) i x.event (Some (site_after p.settings i (take k h)))
 world_next p i k h x g n = ap (λ ts. as_world ts) same
   where
     s : Settings
@@ -73,7 +72,7 @@ world_next p i k h x g n = ap (λ ts. as_world ts) same
         Lists.set_site s 0 p.histories p.taken i (k + 1) h n.there
         ∙ ap (slice_set (sites_after s 0 p.histories p.taken) i) (site_now s i (k + 1) h ∙ (Replaying.replayed_at s i h k x (g.replays i h n.there) n.next).more)
 
-taken_after : (p : Progress) (i k : ℕ) (h : List Entry) (x : Entry) → IsTaking p → IsNext p i k h x → MayCome p.messages x.event → IsTaking (taken_next p i k h x)
+taken_after : (p : Progress) (i k : ℕ) (h : List Entry) (x : Entry) → IsTaking p → IsNextEntry p i k h x → MayCome p.messages x.event → IsTaking (taken_next p i k h x)
 taken_after p i k h x g n come = record {
   sites = g.sites;
   counts = length-set p.taken i (k + 1) ∙ g.counts;
@@ -96,7 +95,7 @@ taken_after p i k h x g n come = record {
     brought = Runs.brings s (world_of p) i (site_after s i (take k h)) x.event come (site_next p i k h x n) at.room
 
     here : (l : ℕ) → slice_get (slice_set p.taken i (k + 1)) i ≡ Some l → l ≡ k + 1
-    here l e = Lists.same_item (slice_get (slice_set p.taken i (k + 1)) i) l (k + 1) e (Places.get_set_same p.taken i k (k + 1) n.place)
+    here l e = Lists.same_item (slice_get (slice_set p.taken i (k + 1)) i) l (k + 1) e (Places.get_set_same p.taken i k (k + 1) n.at)
 
     same_history : (f : List Entry) → slice_get p.histories i ≡ Some f → f ≡ h
     same_history f e = Lists.same_item (slice_get p.histories i) f h e n.there
@@ -106,7 +105,7 @@ taken_after p i k h x g n come = record {
       | inl e ↦
           let q : l ≡ k + 1 = here l (ap (slice_get (slice_set p.taken i (k + 1))) (sym e) ∙ place) in
           let r : length f ≡ length h = ap length (same_history f (ap (slice_get p.histories) (sym e) ∙ there)) in
-          let b : k < length h = sp.place in
+          let b : k < length h = sp.within in
           omega arith
       | inr ne ↦ g.within j l f there (sym (Places.get_set_other p.taken i j (k + 1) ne) ∙ place)
     ]
@@ -126,7 +125,7 @@ taken_after p i k h x g n come = record {
           let b : IsAmong m (sends_of s (first_site i) (events_of (take k h)) ++ sends) =
           subst (IsAmong m) (ap (λ z. sends_of s (first_site i) (events_of z)) sp.more ∙ Messages.sends_more s (first_site i) (take k h) x) a in
           elim (Stuck.among-cases m (sends_of s (first_site i) (events_of (take k h))) sends b) [
-            | inl c ↦ Stuck.among-left m p.messages sends (g.sent i k h n.there n.place m c)
+            | inl c ↦ Stuck.among-left m p.messages sends (g.sent i k h n.there n.at m c)
             | inr c ↦ Stuck.among-right m p.messages sends c
           ]
       | inr ne ↦ Stuck.among-left m p.messages sends (g.sent j l f there (sym (Places.get_set_other p.taken i j (k + 1) ne) ∙ place) m among)
@@ -143,7 +142,7 @@ pub certified : (p : Progress) → IsTaking p → Certifies p.settings (fronts_o
 certified p g = record {
   events = g.reached.events;
   own = g.reached.own;
-  places = g.reached.places;
+  sites = g.reached.sites;
   recorded = g.reached.recorded;
   gives = ap histories_of g.reached.gives ∙ Replaying.histories_after p.settings 0 p.histories p.taken (λ i h at. subst (λ j. IsReplay p.settings j h) (let q : i ≡ 0 + i = omega arith in q) (g.replays i h at));
 }
@@ -162,10 +161,10 @@ stuck p g rests left = record {
   certified = certified p g;
   stuck = record {
     cut = cut;
-    place = left.place;
+    site = left.site;
     history = left.history;
     at = left.there;
-    left = λ e. not_whole left.taken left.history left.less (Lists.same_item (slice_get (fronts_of p.histories p.taken) left.place) (take left.taken left.history) left.history (Lists.get_front p.histories p.taken left.place left.taken left.history left.there left.at) e);
+    left = λ e. not_whole left.taken left.history left.less (Lists.same_item (slice_get (fronts_of p.histories p.taken) left.site) (take left.taken left.history) left.history (Lists.get_front p.histories p.taken left.site left.taken left.history left.there left.at) e);
   };
 }
   where
@@ -178,7 +177,7 @@ stuck p g rests left = record {
     unsent : (m : Message) → ¬ IsAmong m p.messages → IsUnsent s (fronts_of p.histories p.taken) m
     unsent m not j f at among =
         let o : IsFront p.histories p.taken j f = Lists.from_front p.histories p.taken j f at in
-        not (g.sent j o.taken o.history o.there o.place m (subst (λ z. IsAmong m (sends_of s (first_site j) (events_of z))) o.is among))
+        not (g.sent j o.taken o.history o.there o.at m (subst (λ z. IsAmong m (sends_of s (first_site j) (events_of z))) o.is among))
 
     blocked : (xs : List Entry) → IsHeldUp p.messages xs → IsBlocked s (fronts_of p.histories p.taken) xs
     blocked [] h = tt
@@ -190,7 +189,7 @@ stuck p g rests left = record {
         let same : r.history ≡ h = Lists.same_item (slice_get p.histories i) r.history h r.there at in
         record {
           front = take r.taken h;
-          there = Lists.get_front p.histories p.taken i r.taken h at r.place;
+          there = Lists.get_front p.histories p.taken i r.taken h at r.at;
           rest = drop r.taken h;
           goes_on = sym (take-append-drop r.taken h);
           blocked = blocked (drop r.taken h) (subst (λ z. IsHeldUp p.messages (drop r.taken z)) same r.held);
@@ -202,7 +201,7 @@ pub took_further : (p q : Progress) (i : ℕ) → Took p q i → IsFurther p q
 took_further p q i t = record {
   settings = ap (λ (r : Progress). r.settings) t.is;
   histories = ap (λ (r : Progress). r.histories) t.is;
-  less = subst (λ (r : Progress). left_of r.histories r.taken < left_of p.histories p.taken) (sym t.is) (Lists.left_less p.histories p.taken i t.taken t.history t.next.there t.next.place (Lists.split_at t.history t.taken t.entry t.next.next).place);
+  less = subst (λ (r : Progress). left_of r.histories r.taken < left_of p.histories p.taken) (sym t.is) (Lists.left_less p.histories p.taken i t.taken t.history t.next.there t.next.at (Lists.split_at t.history t.taken t.entry t.next.next).within);
 }
 
 pub further_more : (b : Bool) (p q r : Progress) → MatchBool b (IsFurther p q) (q ≡ p) → IsFurther q r → IsFurther p r

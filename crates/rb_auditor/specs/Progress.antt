@@ -3,11 +3,11 @@ use Rattle.std.specs.Prelude.{◌≡◌, ℕ, ◌+◌, ◌-◌, ◌<◌, ◌≤�
 use Rattle.rb_money.specs.Settings.{Settings}
 use Rattle.rb_site.specs.declared.entry.Entry.{Entry}
 use Rattle.rb_site.specs.declared.event.Event.{Event}
-use Rattle.rb_site.specs.declared.event.Event.TheVariants.{Submit, Batch, Receive, Apply, Pass, Balance, AsOf, Statement as AskStatement}
+use Rattle.rb_site.specs.declared.event.Event.TheVariants.{Receive}
 use Rattle.rb_site.specs.declared.message.Message.{Message}
 use Rattle.rb_site.specs.declared.world_event.WorldEvent.{WorldEvent}
 use Rattle.rb_site.specs.Events.{ModelSite, after_events, first_site, sent_at}
-use Rattle.rb_site.specs.Histories.{IsAmong, events_of, place_of, sends_of}
+use Rattle.rb_site.specs.Histories.{IsAmong, events_of, site_of, sends_of}
 use Rattle.rb_site.specs.Worlds.{AreOwn, World, first_world, world_of_run}
 use Rattle.rb_auditor.specs.Certificates.{AllRecorded}
 use Rattle.rb_auditor.specs.declared.audit_fault.AuditFault.{AuditFault}
@@ -48,9 +48,9 @@ abbrev pub first_progress : Settings → List (List Entry) → Progress
 first_progress s hs = record { settings = s; histories = hs; order = []; taken = replicate (length hs) 0; messages = [] }
 
 -- the next entry of the history i is x, after k others
-pub record IsNext (p : Progress) (i k : ℕ) (h : List Entry) (x : Entry) : Type 0 where
+pub record IsNextEntry (p : Progress) (i k : ℕ) (h : List Entry) (x : Entry) : Type 0 where
   pub there : slice_get p.histories i ≡ Some h
-  pub place : slice_get p.taken i ≡ Some k
+  pub at : slice_get p.taken i ≡ Some k
   pub next : slice_get h k ≡ Some x
 
 -- it is taken
@@ -64,20 +64,14 @@ taken_next p i k h x = record p {
 -- the event may come where these messages were sent
 abbrev pub MayCome : List Message → Event → Type 0
 MayCome ms (Receive m) = IsAmong m ms
-MayCome ms (Submit r) = Unit {0}
-MayCome ms (Batch rs) = Unit {0}
-MayCome ms (Apply x) = Unit {0}
-MayCome ms (Pass to) = Unit {0}
-MayCome ms (Balance a) = Unit {0}
-MayCome ms (AsOf a n) = Unit {0}
-MayCome ms (AskStatement a) = Unit {0}
+MayCome ms _ = Unit {0}
 
 -- the next entry of the history i was taken
 pub record Took (p q : Progress) (i : ℕ) : Type 0 where
   pub taken : ℕ
   pub history : List Entry
   pub entry : Entry
-  pub next : IsNext p i taken history entry
+  pub next : IsNextEntry p i taken history entry
   pub source : MayCome p.messages entry.event
   pub is : q ≡ taken_next p i taken history entry
 
@@ -91,14 +85,14 @@ pub record Rests (p : Progress) (i : ℕ) : Type 0 where
   pub taken : ℕ
   pub history : List Entry
   pub there : slice_get p.histories i ≡ Some history
-  pub place : slice_get p.taken i ≡ Some taken
+  pub at : slice_get p.taken i ≡ Some taken
   pub held : IsHeldUp p.messages (drop taken history)
 
 -- a run leads there
 pub record IsReached (s : Settings) (order : List ℕ) (w : World) : Type 0 where
   pub events : List WorldEvent
   pub own : AreOwn events
-  pub places : map place_of events ≡ order
+  pub sites : map site_of events ≡ order
   pub recorded : AllRecorded s (first_world s) events
   pub gives : world_of_run s events ≡ w
 
@@ -117,11 +111,11 @@ IsDone p = (i k : ℕ) (h : List Entry) → slice_get p.histories i ≡ Some h �
 
 -- an entry is left
 pub record IsLeft (p : Progress) : Type 0 where
-  pub place : ℕ
+  pub site : ℕ
   pub taken : ℕ
   pub history : List Entry
-  pub there : slice_get p.histories place ≡ Some history
-  pub at : slice_get p.taken place ≡ Some taken
+  pub there : slice_get p.histories site ≡ Some history
+  pub at : slice_get p.taken site ≡ Some taken
   pub less : taken < length history
 
 -- how many entries are left

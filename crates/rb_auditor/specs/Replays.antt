@@ -19,7 +19,7 @@ abbrev pub seen_at : Settings → ℕ → List Entry → SeenSite
 seen_at s i h = record { settings = s; me = i; entries = h }
 
 -- the site records the entry, and what it sends comes after the messages before
-pub record IsNoted (old new : SeenSite) (x : Entry) (before after : List Message) : Type 0 where
+pub record RecordsEntry (old new : SeenSite) (x : Entry) (before after : List Message) : Type 0 where
   pub free : is_full old.settings (state_of old) ≡ false
   pub is : new ≡ record old { entries = old.entries ++ x ∷ [] }
   pub replays : IsReplayed new

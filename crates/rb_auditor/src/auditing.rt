@@ -56,8 +56,8 @@ fn take_round(taking: &mut Taking<'_>) -> Result<bool, AllocError>
     ensures { IfOk result (λ took. MatchBool took (IsFurther taking.old taking.new) ((taking.new ≡ taking.old) × AllRest taking.old)) }
 {
     let mut took = false;
-    for place in 0..taking.sites() {
-        if take_site(taking, place)? {
+    for site in 0..taking.sites() {
+        if take_site(taking, site)? {
             took = true;
         }
     }
@@ -65,13 +65,13 @@ fn take_round(taking: &mut Taking<'_>) -> Result<bool, AllocError>
 }
 
 /// From one site as many entries as can be taken. It tells whether any was.
-fn take_site(taking: &mut Taking<'_>, place: usize) -> Result<bool, AllocError>
-    requires { place < length taking.old.histories }
-    ensures { IfOk result (λ took. MatchBool took (IsFurther taking.old taking.new) ((taking.new ≡ taking.old) × Rests taking.old place)) }
+fn take_site(taking: &mut Taking<'_>, site: usize) -> Result<bool, AllocError>
+    requires { site < length taking.old.histories }
+    ensures { IfOk result (λ took. MatchBool took (IsFurther taking.old taking.new) ((taking.new ≡ taking.old) × Rests taking.old site)) }
 {
     let mut took = false;
     'entries: loop {
-        if !taking.take(place)? {
+        if !taking.take(site)? {
             return Ok(took);
         }
         took = true;

@@ -7,7 +7,7 @@ use std::marker::Model;
 /// Clients see the sites. Each is listed as often as its history has entries.
 #[derive(Debug, Drop)]
 pub struct Certificate {
-    places: Vec<u8>,
+    sites: Vec<u8>,
 }
 
 impl Model for Certificate {
@@ -15,29 +15,29 @@ impl Model for Certificate {
 
     ghost Value = { List ℕ };
 
-    ghost view = { λ c. c.places.items };
+    ghost view = { λ c. c.sites.items };
 }
 
 impl Certificate {
     /// The certificate of these sites. It takes no memory.
-    pub fn new(places: Vec<u8>) -> Certificate
-        ensures { result ≡ places.items }
+    pub fn new(sites: Vec<u8>) -> Certificate
+        ensures { result ≡ sites.items }
     {
-        Certificate { places }
+        Certificate { sites }
     }
 
     /// The sites, in order.
     pub fn as_slice(&self) -> &[u8]
         ensures { result.now ≡ self.now }
     {
-        self.places.as_slice()
+        self.sites.as_slice()
     }
 
     /// The list of the sites. It takes no memory.
     pub fn into_vec(self) -> Vec<u8>
         ensures { result.items ≡ self }
     {
-        let Certificate { places } = self;
-        places
+        let Certificate { sites } = self;
+        sites
     }
 }

@@ -37,12 +37,12 @@ fn follow(taking: &mut Taking<'_>, order: &[u8]) -> Result<bool, AllocError>
 {
     // Whatever was taken is in an order that certifies it.
     let _none = taking.is_done();
-    for place in order {
+    for site in order {
         let _done = taking.is_done();
-        if *place as usize >= taking.sites() {
+        if *site as usize >= taking.sites() {
             return Ok(false);
         }
-        if !taking.take(*place as usize)? {
+        if !taking.take(*site as usize)? {
             return Ok(false);
         }
     }

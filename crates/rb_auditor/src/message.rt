@@ -1,13 +1,13 @@
-//! Where messages are listed: a row and a place in it.
+//! Where messages are listed: a row and a position in it.
 ghost use Rattle.std.specs.Prelude.{◌≡◌};
-ghost use Rattle.rb_auditor.specs.Sent.{row_of, slot_of};
+ghost use Rattle.rb_auditor.specs.Sent.{row_of_message, slot_of};
 
 use rb_shadow::OpName;
 use rb_site::Message;
 
 /// The row of a message: 0 for a token, 1 for a red operation, and 2 more than its home for a blue one.
 pub fn row(message: &Message) -> usize
-    ensures { result ≡ row_of message.now }
+    ensures { result ≡ row_of_message message.now }
 {
     match message {
         Message::Token(_) => 0,
@@ -18,7 +18,7 @@ pub fn row(message: &Message) -> usize
     }
 }
 
-/// The place of a message in its row, from 0: numbers and epochs begin at 1.
+/// The position of a message in its row, from 0: numbers and epochs begin at 1.
 pub fn slot(message: &Message) -> usize
     ensures { result ≡ slot_of message.now }
 {

@@ -4,7 +4,7 @@ ghost use Rattle.rb_money.specs.Settings.{IsConfigured};
 ghost use Rattle.rb_site.specs.Events.{first_site};
 ghost use Rattle.rb_site.specs.Seen.{IsReplayed, first_seen};
 ghost use Rattle.rb_auditor.specs.Findings.{IsReplay};
-ghost use Rattle.rb_auditor.specs.Replays.{IsNoted, IsWrongIn, sends_by, seen_at};
+ghost use Rattle.rb_auditor.specs.Replays.{RecordsEntry, IsWrongIn, sends_by, seen_at};
 
 use crate::AuditFault;
 use crate::sends::Sends;
@@ -78,7 +78,7 @@ fn note(
 ) -> Result<bool, AllocError>
     requires { IsReplayed site.old }
     ensures { IfOk result (λ noted. MatchBool noted
-        (IsNoted site.old site.new entry.now messages.old.items messages.new.items)
+        (RecordsEntry site.old site.new entry.now messages.old.items messages.new.items)
         (¬ IsReplayed (seen_at site.old.settings site.old.me (site.old.entries ++ entry.now ∷ [])))) }
 {
     if site.is_full() {

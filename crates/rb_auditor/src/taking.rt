@@ -70,8 +70,8 @@ impl<'a> Taking<'a> {
         if sends.reserve(sites as usize).is_err() || taken.reserve(sites as usize).is_err() {
             return Err(AuditFault::OutOfMemory);
         }
-        for place in 0..sites {
-            match replay(alloc, config, place, histories[place as usize].as_slice()) {
+        for site in 0..sites {
+            match replay(alloc, config, site, histories[site as usize].as_slice()) {
                 Ok(posted) => sends.push_reserved(posted),
                 Err(fault) => return Err(fault),
             }
@@ -92,22 +92,22 @@ impl<'a> Taking<'a> {
 
     /// Takes the next entry of a site, if one is left, and it isn't the receipt of a message that
     /// wasn't sent. `Err` means out of memory: nothing is taken then.
-    pub fn take(&mut self, place: usize) -> Result<bool, AllocError>
-        requires { place < length self.old.histories }
-        ensures ok { IfOk result (λ took. MatchBool took (Took self.old self.new place) ((self.new ≡ self.old) × Rests self.old place)) }
+    pub fn take(&mut self, site: usize) -> Result<bool, AllocError>
+        requires { site < length self.old.histories }
+        ensures ok { IfOk result (λ took. MatchBool took (Took self.old self.new site) ((self.new ≡ self.old) × Rests self.old site)) }
         ensures err { OnErr result (self.new ≡ self.old) }
     {
-        let taken = self.taken[place];
-        let Some(entry) = self.histories[place].get(taken) else {
+        let taken = self.taken[site];
+        let Some(entry) = self.histories[site].get(taken) else {
             return Ok(false);
         };
         if !may_come(&self.sent, &entry.event) {
             return Ok(false);
         }
         self.order.reserve(1)?;
-        self.sent.add_all(self.sends[place].after(taken))?;
-        self.taken[place] = taken + 1;
-        self.order.push_reserved(place as u8);
+        self.sent.add_all(self.sends[site].after(taken))?;
+        self.taken[site] = taken + 1;
+        self.order.push_reserved(site as u8);
         Ok(true)
     }
 
@@ -123,8 +123,8 @@ impl<'a> Taking<'a> {
         ensures done { MatchBool result (IsDone self.now) (IsLeft self.now) }
         ensures taking { IsTaking self.now }
     {
-        for place in 0..self.histories.len() {
-            if self.taken[place] < self.histories[place].len() {
+        for site in 0..self.histories.len() {
+            if self.taken[site] < self.histories[site].len() {
                 return false;
             }
         }

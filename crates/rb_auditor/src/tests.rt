@@ -161,10 +161,10 @@ fn stuck(alloc: Global, first: Vec<Entry>, second: Vec<Entry>) -> Result<Vec<u32
 }
 
 /// Whether the order certifies the histories of one deposit.
-fn certifies(alloc: Global, places: &[u8]) -> Result<bool, Fail> {
+fn certifies(alloc: Global, sites: &[u8]) -> Result<bool, Fail> {
     let config = bank(alloc)?;
     let histories = vec![in alloc; at_home(alloc, 500)?, away(alloc, 500)?]?;
-    let certificate = Certificate::new(places.to_vec(alloc)?);
+    let certificate = Certificate::new(sites.to_vec(alloc)?);
     let answer = check(alloc, &config, histories.as_slice(), &certificate)?;
     Ok(answer)
 }

@@ -7,22 +7,23 @@ use Rattle.std.proofs.lemmas.Option.{slice_get_within, slice_get-get_or}
 use Rattle.rb_site.specs.declared.entry.Entry.{Entry}
 use Rattle.rb_branch.specs.declared.receipt.Receipt.{Receipt}
 use Rattle.rb_branch.specs.Gathered.{IsGathered, IsInterleaving, claim, claims, claims_at, numbered}
-use Rattle.rb_branch.specs.Owners.{AreDistinct, AreOwners, Claims, HasWithin, IsHolder, OwnedWithin, PutsAll, has_number, is_next}
+use Rattle.rb_branch.specs.Owners.{AreDistinct, AreOwners, HoldsReceipt, HasWithin, IsHolder, OwnedWithin, PutsAll, has_number, is_next}
 use Rattle.rb_branch.specs.Seats.{SeenSeat}
-use Rattle.rb_branch.proofs.Merging.{get_set_other, map_at}
+use Rattle.rb_site.proofs.Public.Lists.{map_at}
+use Rattle.rb_branch.proofs.Merging.{get_set_other}
 
 -- ---- the table with one seat more
 
-claims_of : (site number m : ℕ) (seats : List SeenSeat) (c : SeenSeat) → slice_get seats m ≡ Some c → Claims site number seats m → (c.site ≡ site) × HasWithin (length c.receipts) number c.receipts
+claims_of : (site number m : ℕ) (seats : List SeenSeat) (c : SeenSeat) → slice_get seats m ≡ Some c → HoldsReceipt site number seats m → (c.site ≡ site) × HasWithin (length c.receipts) number c.receipts
 claims_of site number m seats c at h =
     let same : h.seat ≡ c = cc (h.at, at) in
     let P : SeenSeat → Type 0 = λ d. (d.site ≡ site) × HasWithin (length d.receipts) number d.receipts in
     subst P same (h.here, h.has)
 
-not_more : (site number m : ℕ) (seats : List SeenSeat) → ((j : ℕ) → j < m → ¬ Claims site number seats j) → ¬ Claims site number seats m → (j : ℕ) → j < m + 1 → ¬ Claims site number seats j
+not_more : (site number m : ℕ) (seats : List SeenSeat) → ((j : ℕ) → j < m → ¬ HoldsReceipt site number seats j) → ¬ HoldsReceipt site number seats m → (j : ℕ) → j < m + 1 → ¬ HoldsReceipt site number seats j
 not_more site number m seats below here j b h =
     elim (eqb_tells j m) [
-      | inl p ↦ (let P : ℕ → Type 0 = λ n. Claims site number seats n in here (subst P p.1 h))
+      | inl p ↦ (let P : ℕ → Type 0 = λ n. HoldsReceipt site number seats n in here (subst P p.1 h))
       | inr p ↦ below j (let a = p.1 in omega arith) h
     ]
 
@@ -30,7 +31,7 @@ pub owned_more : (site m : ℕ) (seats : List SeenSeat) (c : SeenSeat) (old new 
 owned_more site m seats c old new at here all one i v now =
     elim (one.1 i v now) [
       | inl h ↦
-          (let P : ℕ → Type 0 = λ n. Claims site (i + 1) seats n in
+          (let P : ℕ → Type 0 = λ n. HoldsReceipt site (i + 1) seats n in
           let e = h.0 in
           inl ((omega arith), subst P (sym e) (record { seat = c; at = at; here = here; has = h.1 })))
       | inr h ↦
@@ -49,15 +50,15 @@ owned_same site m seats c xs at away all i v now =
 
 -- ---- who has a number next claims it
 
-has_if : (b : Bool) (rs : List Receipt) (place number : ℕ) → (if b then has_number number (slice_get rs place) else false) ≡ true → (b ≡ true) × HasWithin (length rs) number rs
-has_if true rs place number h = (refl, has_at (slice_get rs place) refl h)
+has_if : (b : Bool) (rs : List Receipt) (index number : ℕ) → (if b then has_number number (slice_get rs index) else false) ≡ true → (b ≡ true) × HasWithin (length rs) number rs
+has_if true rs index number h = (refl, has_at (slice_get rs index) refl h)
   where
-    has_at : (o : Option Receipt) → slice_get rs place ≡ o → has_number number o ≡ true → HasWithin (length rs) number rs
+    has_at : (o : Option Receipt) → slice_get rs index ≡ o → has_number number o ≡ true → HasWithin (length rs) number rs
     has_at None at h = cc
-    has_at (Some r) at h = record { place = place; receipt = r; below = slice_get_within rs place r at; at = at; number_is = eqb-true _ _ h }
-has_if false rs place number h = cc
+    has_at (Some r) at h = record { index = index; receipt = r; below = slice_get_within rs index r at; at = at; number_is = eqb-true _ _ h }
+has_if false rs index number h = cc
 
-pub holder_claims : (site number : ℕ) (seats : List SeenSeat) (next : List ℕ) (k : ℕ) → IsHolder site number seats next k → Claims site number seats k
+pub holder_claims : (site number : ℕ) (seats : List SeenSeat) (next : List ℕ) (k : ℕ) → IsHolder site number seats next k → HoldsReceipt site number seats k
 holder_claims site number seats next k h =
     let c = h.0 in
     let t = has_if (c.site == site) c.receipts (slice_index next k) number h.2 in
@@ -86,9 +87,9 @@ get_set_now (z ∷ xs) (suc i) x y at = get_set_now xs i x y at
 -- an item that stands in the list at this place
 pub record Occurs {X : Type 0} (lists : List (List X)) (j : ℕ) (x : X) : Type 0 where
   pub items : List X
-  pub place : ℕ
+  pub index : ℕ
   pub there : slice_get lists j ≡ Some items
-  pub at : slice_get items place ≡ Some x
+  pub at : slice_get items index ≡ Some x
 
 -- after a head is taken, it was that one, or it stands there still
 left_or_head : {X : Type 0} (lists : List (List X)) (k : ℕ) (head : X) (rest : List X) (j : ℕ) (x : X) → slice_get lists k ≡ Some (head ∷ rest) → Occurs lists j x
@@ -99,21 +100,21 @@ left_or_head {X} lists k head rest j x at h =
           (let P : ℕ → Type 0 = λ n. slice_get lists n ≡ Some h.items in
           let there = subst P e.1 h.there in
           let same : h.items ≡ head ∷ rest = cc (there, at) in
-          let Q : List X → Type 0 = λ l. slice_get l h.place ≡ Some x in
-          by e.1 h.place (subst Q same h.at))
-      | inr e ↦ inr (record { items = h.items; place = h.place; there = get_set_other lists k j rest h.items e.1 h.there; at = h.at })
+          let Q : List X → Type 0 = λ l. slice_get l h.index ≡ Some x in
+          by e.1 h.index (subst Q same h.at))
+      | inr e ↦ inr (record { items = h.items; index = h.index; there = get_set_other lists k j rest h.items e.1 h.there; at = h.at })
     ]
   where
     by : j ≡ k → (p : ℕ) → slice_get (head ∷ rest) p ≡ Some x → ((j ≡ k) × (x ≡ head)) ⊎ Occurs (set lists k rest) j x
     by e zero q = inl (e, (cc))
     by e (suc p) q =
         let P : ℕ → Type 0 = λ n. slice_get (set lists k rest) n ≡ Some rest in
-        inr (record { items = rest; place = p; there = subst P (sym e) (get_set_now lists k rest (head ∷ rest) at); at = q })
+        inr (record { items = rest; index = p; there = subst P (sym e) (get_set_now lists k rest (head ∷ rest) at); at = q })
 
 numbers_from : (lists : List (List (ℕ × Entry))) (m : ℕ) (es : List Entry) (j : ℕ) (x : ℕ × Entry) → IsInterleaving lists (numbered m es) → Occurs lists j x → m ≤ x.0
 numbers_from lists m [] j x h o =
     let gone = h j o.items o.there in
-    let P : List (ℕ × Entry) → Type 0 = λ l. slice_get l o.place ≡ Some x in
+    let P : List (ℕ × Entry) → Type 0 = λ l. slice_get l o.index ≡ Some x in
     let none = subst P gone o.at in
     cc
 numbers_from lists m (f ∷ es) j x h o =
@@ -125,7 +126,7 @@ numbers_from lists m (f ∷ es) j x h o =
 stands_once : (lists : List (List (ℕ × Entry))) (m : ℕ) (es : List Entry) (j k : ℕ) (x y : ℕ × Entry) → IsInterleaving lists (numbered m es) → Occurs lists j x → Occurs lists k y → x.0 ≡ y.0 → j ≡ k
 stands_once lists m [] j k x y h o u same =
     let gone = h j o.items o.there in
-    let P : List (ℕ × Entry) → Type 0 = λ l. slice_get l o.place ≡ Some x in
+    let P : List (ℕ × Entry) → Type 0 = λ l. slice_get l o.index ≡ Some x in
     let none = subst P gone o.at in
     cc
 stands_once lists m (f ∷ es) j k x y h o u same =
@@ -148,15 +149,15 @@ stands_once lists m (f ∷ es) j k x y h o u same =
           ])
     ]
 
-claims_occur : (site number : ℕ) (seats : List SeenSeat) (k : ℕ) → Claims site number seats k → (x : ℕ × Entry) × (x.0 ≡ number) × Occurs (claims site seats) k x
+claims_occur : (site number : ℕ) (seats : List SeenSeat) (k : ℕ) → HoldsReceipt site number seats k → (x : ℕ × Entry) × (x.0 ≡ number) × Occurs (claims site seats) k x
 claims_occur site number seats k h =
     let c = h.seat in
     let r = h.has.receipt in
     let is : (c.site == site) ≡ true = eq-eqb _ _ h.here in
     let here : slice_get (claims site seats) k ≡ Some (claims_at site c) = map_at (claims_at site) seats k c h.at in
-    let P : List (ℕ × Entry) → Type 0 = λ l. slice_get l h.has.place ≡ Some (claim r) in
+    let P : List (ℕ × Entry) → Type 0 = λ l. slice_get l h.has.index ≡ Some (claim r) in
     let all : map claim c.receipts ≡ claims_at site c = λ i. if (sym is i) then map claim c.receipts else [] in
-    (claim r, h.has.number_is, record { items = claims_at site c; place = h.has.place; there = here; at = subst P all (map_at claim c.receipts h.has.place r h.has.at) })
+    (claim r, h.has.number_is, record { items = claims_at site c; index = h.has.index; there = here; at = subst P all (map_at claim c.receipts h.has.index r h.has.at) })
 
 pub distinct : (site : ℕ) (history : List Entry) (seats : List SeenSeat) → IsGathered site history seats → AreDistinct site seats
 distinct site history seats h number j k a b =

@@ -45,13 +45,7 @@ served_apply a b c n k h one =
   where
     applied : (e : Event) → IsApply e → IsServed e
     applied (ev.Apply a) h = h
-    applied (ev.Submit a) h = absurd h
-    applied (ev.Batch a) h = absurd h
-    applied (ev.Receive a) h = absurd h
-    applied (ev.Pass a) h = absurd h
-    applied (ev.Balance a) h = absurd h
-    applied (ev.AsOf a n) h = absurd h
-    applied (ev.Statement a) h = absurd h
+    applied _ h = absurd h
 
 pub served_receive : (a b c : SeenSeat) (n k : ℕ) (m : Message) → HasServed a b n → HasOneMore b c (λ e. e ≡ ev.Receive m) k → HasServed a c (n + 1)
 served_receive a b c n k m h one =

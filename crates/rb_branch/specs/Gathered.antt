@@ -66,8 +66,8 @@ abbrev pub seen : Settings → ℕ → List Entry → SeenSite
 seen s me entries = record { settings = s; me = me; entries = entries }
 
 -- the report of a site of this configuration: its history replays and is within its limit, and all else that it tells is where that run stands
-pub record IsClosed (s : Settings) (r : SiteReport) : Type 0 where
-  pub place : r.me < s.sites
+pub record IsClosedReport (s : Settings) (r : SiteReport) : Type 0 where
+  pub within : r.me < s.sites
   pub replays : Replays s (first_site r.me) r.history.items
   pub room : length r.history.items ≤ s.limits.history
   pub stands : IsReport s (state_of (seen s r.me r.history.items)) r
@@ -82,13 +82,13 @@ pub record SeenClosed : Type 0 where
 pub record AreClosed (s : Settings) (all : ℕ) (reports : List SiteReport) (parts amount : ℕ) : Type 0 where
   pub each : length reports ≡ s.sites
   pub few : length reports ≤ MOST_SITES
-  pub closed : All (IsClosed s) reports
+  pub closed : All (IsClosedReport s) reports
   pub all_parts : parts ≡ all
   pub counted : amount ≡ entries_in reports
 
 -- ---- what is found
 
--- each report is of the site at its place, and its history is the receipts of that site's seats, interleaved
+-- each report is of the site of its number, and its history is the receipts of that site's seats, interleaved
 abbrev pub AllGathered : List SiteReport → List SeenSeat → Type 0
 AllGathered reports seats =
     (k : ℕ) (r : SiteReport) → slice_get reports k ≡ Some r → (r.me ≡ k) × IsGathered k r.history.items seats

@@ -9,13 +9,13 @@ abbrev pub has_number : ℕ → Option Receipt → Bool
 has_number n None = false
 has_number n (Some r) = r.number == n
 
--- whether the seat is of this site, and its receipt at this place has the number
+-- whether the seat is of this site, and its receipt at this index has the number
 abbrev pub is_next : ℕ → ℕ → ℕ → SeenSeat → Bool
-is_next site place number seat = if seat.site == site then has_number number (slice_get seat.receipts place) else false
+is_next site index number seat = if seat.site == site then has_number number (slice_get seat.receipts index) else false
 
--- whether the seat has no receipt of the site from this place on
+-- whether the seat has no receipt of the site from this index on
 abbrev pub is_read : ℕ → ℕ → SeenSeat → Bool
-is_read site place seat = if seat.site == site then nat_le (length seat.receipts) place else true
+is_read site index seat = if seat.site == site then nat_le (length seat.receipts) index else true
 
 -- the seat at k has the number next
 abbrev pub IsHolder : ℕ → ℕ → List SeenSeat → List ℕ → ℕ → Type 0
@@ -28,16 +28,16 @@ AllRead site seats next = (k : ℕ) (seat : SeenSeat) → slice_get seats k ≡ 
 
 -- ---- the table of owners
 
--- a receipt of this number stands before the place m
+-- a receipt of this number stands before the index m
 pub record HasWithin (m number : ℕ) (rs : List Receipt) : Type 0 where
-  pub place : ℕ
+  pub index : ℕ
   pub receipt : Receipt
-  pub below : place < m
-  pub at : slice_get rs place ≡ Some receipt
+  pub below : index < m
+  pub at : slice_get rs index ≡ Some receipt
   pub number_is : receipt.number ≡ number
 
 -- the seat at k is of this site, and has a receipt of this number
-pub record Claims (site number : ℕ) (seats : List SeenSeat) (k : ℕ) : Type 0 where
+pub record HoldsReceipt (site number : ℕ) (seats : List SeenSeat) (k : ℕ) : Type 0 where
   pub seat : SeenSeat
   pub at : slice_get seats k ≡ Some seat
   pub here : seat.site ≡ site
@@ -45,7 +45,7 @@ pub record Claims (site number : ℕ) (seats : List SeenSeat) (k : ℕ) : Type 0
 
 -- each number of the site is claimed by one seat alone
 abbrev pub AreDistinct : ℕ → List SeenSeat → Type 0
-AreDistinct site seats = (number j k : ℕ) → Claims site number seats j → Claims site number seats k → j ≡ k
+AreDistinct site seats = (number j k : ℕ) → HoldsReceipt site number seats j → HoldsReceipt site number seats k → j ≡ k
 
 -- k stands in the table at this number, where the table has it, and all else is as before
 abbrev pub Puts : ℕ → ℕ → List ℕ → List ℕ → Type 0
@@ -63,7 +63,7 @@ PutsAll m rs k old new =
 abbrev pub OwnedWithin : ℕ → ℕ → List SeenSeat → List ℕ → Type 0
 OwnedWithin m site seats owners =
     (i v : ℕ) → slice_get owners i ≡ Some v
-    → ((v < m) × Claims site (i + 1) seats v) ⊎ ((v ≡ length seats) × ((j : ℕ) → j < m → ¬ Claims site (i + 1) seats j))
+    → ((v < m) × HoldsReceipt site (i + 1) seats v) ⊎ ((v ≡ length seats) × ((j : ℕ) → j < m → ¬ HoldsReceipt site (i + 1) seats j))
 
 -- the table has at each number, from 1, a seat that claims it, or the number of seats where none does
 abbrev pub AreOwners : ℕ → List SeenSeat → List ℕ → Type 0

@@ -5,7 +5,7 @@ use Rattle.rb_money.specs.declared.limits.TheConstants.{MOST_SITES}
 use Rattle.rb_branch.specs.declared.limits.TheConstants.{MOST_RECEIPTS, MOST_SEATS, RECEIPT_PARTS}
 use Rattle.rb_branch.specs.declared.receipt.Receipt.{Receipt}
 use Rattle.rb_site.specs.declared.event.Event.{Event}
-use Rattle.rb_site.specs.declared.event.Event.TheVariants.{Submit, Batch, Receive, Apply, Pass, Balance, AsOf, Statement as AskStatement}
+use Rattle.rb_site.specs.declared.event.Event.TheVariants.{Receive, Apply}
 use Rattle.rb_site.specs.declared.message.Message.{Message}
 use Rattle.rb_site.specs.declared.reply.Reply.{Reply}
 use Rattle.rb_site.specs.Events.{first_site, is_full, reply_to, sent_at}
@@ -21,7 +21,7 @@ pub record SeenSeat : Type 0 where
 -- a desk's site is one of the branch's configuration, its history replays and is within its limit; its share of the entries is one part, whose amount is their number
 pub record IsDesk (s : Settings) (site : SeenSite) (parts amount : ℕ) : Type 0 where
   pub settings : site.settings ≡ s
-  pub place : site.me < s.sites
+  pub within : site.me < s.sites
   pub replays : Replays s (first_site site.me) site.entries
   pub room : length site.entries ≤ s.limits.history
   pub one_part : parts ≡ 1
@@ -29,7 +29,7 @@ pub record IsDesk (s : Settings) (site : SeenSite) (parts amount : ℕ) : Type 0
 
 -- a seat's site is one of the configuration's; its share of the receipts is one part, whose amount is their number
 pub record IsSeat (s : Settings) (site : ℕ) (receipts : List Receipt) (parts amount : ℕ) : Type 0 where
-  pub place : site < s.sites
+  pub within : site < s.sites
   pub one_part : parts ≡ 1
   pub counted : amount ≡ length receipts
   pub few : length receipts ≤ MOST_RECEIPTS
@@ -70,7 +70,7 @@ pub record Records (old new : SeenSite) (event : Event) (before now : SeenSeat) 
 abbrev pub CannotRecord : SeenSite → SeenSeat → Type 0
 CannotRecord desk seat = (seat.site ≢ desk.me) ⊎ ((is_full desk.settings (state_of desk) ≡ true) ⊎ (MOST_RECEIPTS ≤ length seat.receipts))
 
--- the seat has one receipt more, at its end, of such an event; the number is its place, from 1
+-- the seat has one receipt more, at its end, of such an event; the number is its position, from 1
 pub record HasOneMore (old new : SeenSeat) (P : Event → Type 0) (number : ℕ) : Type 0 where
   pub last : Receipt
   pub seat : new ≡ record old { receipts = old.receipts ++ last ∷ [] }
@@ -80,24 +80,13 @@ pub record HasOneMore (old new : SeenSeat) (P : Event → Type 0) (number : ℕ)
 -- a held operation is to be applied
 abbrev pub IsApply : Event → Type 0
 IsApply (Apply x) = Unit {0}
-IsApply (Submit r) = ⊥
-IsApply (Batch rs) = ⊥
-IsApply (Receive m) = ⊥
-IsApply (Pass to) = ⊥
-IsApply (Balance a) = ⊥
-IsApply (AsOf a n) = ⊥
-IsApply (AskStatement a) = ⊥
+IsApply _ = ⊥
 
 -- an event that serves a site: a message comes, or a held operation is to be applied
 abbrev pub IsServed : Event → Type 0
 IsServed (Receive m) = Unit {0}
 IsServed (Apply x) = Unit {0}
-IsServed (Submit r) = ⊥
-IsServed (Batch rs) = ⊥
-IsServed (Pass to) = ⊥
-IsServed (Balance a) = ⊥
-IsServed (AsOf a n) = ⊥
-IsServed (AskStatement a) = ⊥
+IsServed _ = ⊥
 
 -- the seat has so many receipts more, at its end, all of events that serve its site
 pub record HasServed (old new : SeenSeat) (count : ℕ) : Type 0 where

@@ -3,10 +3,11 @@ ghost use Rattle.std.specs.Prelude.{◌≡◌, IfOk, OnErr};
 ghost use Rattle.rb_branch.specs.Seats.{HasOneMore};
 
 use crate::{Branch, CallFault, Entries, Gate, Outbox, Seat};
+use rb_list::List;
 use rb_money::Place;
 use rb_scratch::Request;
 use rb_shadow::OpName;
-use rb_site::{Event, Message, Requests};
+use rb_site::{Event, Message};
 use std::sync::Wait;
 use std::sync::ledger::Ledger;
 
@@ -47,7 +48,7 @@ impl<E: Entries, R: Ledger, G: Gate + Drop> Branch<E, R, G> {
         rt: &W,
         seat: &mut Seat<E, R>,
         outbox: &Outbox,
-        requests: Requests,
+        requests: List<Request>,
     ) -> Result<u32, CallFault>
         ensures ok { IfOk result (λ n. HasOneMore seat.old seat.new (λ e. e ≡ Event.Batch requests) n) }
         ensures err { OnErr result (seat.new ≡ seat.old) }

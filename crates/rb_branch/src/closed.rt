@@ -1,6 +1,6 @@
 //! The closed sites of a branch, and the seats that are given back to them.
 ghost use Rattle.std.specs.Prelude.{◌≡◌, ◌≢◌, ◌+◌, ◌^◌, ◌<◌, ◌≤◌, ℕ, All, IfOk, IfErr, OnOk, IsTrue, Err, length, vec_len};
-ghost use Rattle.rb_branch.specs.Gathered.{AllGathered, Explains, IsClosed, IsGathered, entries_in, receipts_at, receipts_in};
+ghost use Rattle.rb_branch.specs.Gathered.{AllGathered, Explains, IsClosedReport, IsGathered, entries_in, receipts_at, receipts_in};
 ghost use Rattle.rb_branch.specs.declared.gather_fault.GatherFault.TheVariants.{Missing, Mixed};
 ghost use Rattle.rb_money.specs.declared.limits.TheConstants.{MOST_SITES};
 
@@ -42,7 +42,7 @@ impl<E: Entries, R: Ledger> Closed<E, R> {
         reports: Vec<SiteReport>,
         share: Share<E>,
     ) -> Closed<E, R>
-        requires reports { All (IsClosed E.settings) reports.items }
+        requires reports { All (IsClosedReport E.settings) reports.items }
         requires all { (vec_len reports ≡ E.settings.sites) × (vec_len reports ≤ MOST_SITES) }
         requires share { (share.parts ≡ E.parts) × (share.amount ≡ entries_in reports.items) }
         ensures { result ≡ record { reports = reports.items; seats = books } }
@@ -59,7 +59,7 @@ impl<E: Entries, R: Ledger> Closed<E, R> {
     pub fn reports(&self) -> &[SiteReport]
         ensures same { result.now ≡ self.now.reports }
         ensures all { length self.now.reports ≡ E.settings.sites }
-        ensures closed { All (IsClosed E.settings) self.now.reports }
+        ensures closed { All (IsClosedReport E.settings) self.now.reports }
     {
         self.reports.as_slice()
     }
@@ -115,23 +115,23 @@ fn look_at_all(
     Ok(())
 }
 
-/// Looks at the site of this place.
+/// Looks at the site of this number.
 fn look_at(
     alloc: Global,
     report: &SiteReport,
-    place: usize,
+    number: usize,
     seats: &[Given],
     missing: bool,
 ) -> Result<(), GatherFault>
     requires fits { receipts_in seats.now < 2 ^ 64 }
     requires few { length seats.now < 2 ^ 16 }
-    ensures ok { OnOk result ((report.now.me ≡ place) × IsGathered place report.now.history.items seats.now) }
-    ensures missing { (s : ℕ) → result ≡ Err (Missing s) → (s ≡ place) × (report.now.me ≡ place) × IsTrue missing × (receipts_at s seats.now < vec_len report.now.history) }
-    ensures mixed { (s : ℕ) → result ≡ Err (Mixed s) → (s ≡ place) × ¬ IsGathered s report.now.history.items seats.now }
+    ensures ok { OnOk result ((report.now.me ≡ number) × IsGathered number report.now.history.items seats.now) }
+    ensures missing { (s : ℕ) → result ≡ Err (Missing s) → (s ≡ number) × (report.now.me ≡ number) × IsTrue missing × (receipts_at s seats.now < vec_len report.now.history) }
+    ensures mixed { (s : ℕ) → result ≡ Err (Mixed s) → (s ≡ number) × ¬ IsGathered s report.now.history.items seats.now }
 {
     let site = report.me;
-    if usize::from(site) != place {
-        // No type can say that each lock's site stands at its place, where `Branch::open` puts it.
+    if usize::from(site) != number {
+        // No type can say that each lock's site stands at its number, where `Branch::open` puts it.
         return Err(GatherFault::OutOfMemory);
     }
     if missing && count_at(site, seats) < report.history.len() as u64 {

@@ -1,6 +1,6 @@
 //! Sites opened and closed, and seats given back.
 ghost use Rattle.std.specs.Prelude.{◌≡◌, ◌+◌, ◌≤◌, [], All, IfOk, vec_capacity, vec_len};
-ghost use Rattle.rb_branch.specs.Gathered.{IsClosed, entries_in, receipts_in};
+ghost use Rattle.rb_branch.specs.Gathered.{IsClosedReport, entries_in, receipts_in};
 
 use crate::given::Given;
 use crate::{Desk, Entries, Seat};
@@ -52,7 +52,7 @@ pub(crate) fn close_desks<E: Entries>(
     requires room { vec_len desks ≤ vec_capacity reports }
     ensures len { vec_len result.0 ≡ vec_len desks }
     ensures share { (result.1.parts ≡ vec_len desks) × (result.1.amount ≡ entries_in result.0.items) }
-    ensures reports { All (IsClosed E.settings) result.0.items }
+    ensures reports { All (IsClosedReport E.settings) result.0.items }
 {
     let count = desks.len();
     for _k in 0..count {

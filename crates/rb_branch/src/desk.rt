@@ -3,7 +3,7 @@ ghost use Rattle.std.specs.Prelude.{◌≡◌, ◌<◌, ◌≤◌, [], IfOk, OnE
 ghost use Rattle.std.specs.Option.{option_copied};
 ghost use Rattle.rb_site.specs.Events.{first_site};
 ghost use Rattle.rb_site.specs.Seen.{Replays, first_seen};
-ghost use Rattle.rb_branch.specs.Gathered.{IsClosed};
+ghost use Rattle.rb_branch.specs.Gathered.{IsClosedReport};
 ghost use Rattle.rb_branch.specs.Seats.{Records, SetsUnsent, CannotRecord, receipt_at};
 ghost use Rattle.rb_branch.specs.declared.call_fault.CallFault.TheVariants.{HistoryFull};
 ghost use Rattle.rb_branch.specs.declared.limits.TheConstants.{MOST_RECEIPTS};
@@ -94,7 +94,7 @@ impl<E: Entries> Desk<E> {
     /// The desk of a site before any event.
     pub(crate) fn open(site: Site, share: Share<E>) -> Desk<E>
         requires site { site ≡ first_seen E.settings site.me }
-        requires place { site.me < E.settings.sites }
+        requires within { site.me < E.settings.sites }
         requires share { (share.parts ≡ 1) × (share.amount ≡ 0) }
         ensures { result ≡ site }
     {
@@ -105,7 +105,7 @@ impl<E: Entries> Desk<E> {
     pub fn site(&self) -> &Site
         ensures same { result.now ≡ self.now }
         ensures settings { self.now.settings ≡ E.settings }
-        ensures place { self.now.me < E.settings.sites }
+        ensures within { self.now.me < E.settings.sites }
         ensures replays { Replays E.settings (first_site self.now.me) self.now.entries }
         ensures room { length self.now.entries ≤ E.settings.limits.history }
     {
@@ -119,7 +119,7 @@ impl<E: Entries> Desk<E> {
 
     /// Closes the site, and gives its share back.
     pub(crate) fn close(self) -> (SiteReport, Share<E>)
-        ensures report { IsClosed E.settings result.0 }
+        ensures report { IsClosedReport E.settings result.0 }
         ensures share { (result.1.parts ≡ 1) × (result.1.amount ≡ length result.0.history.items) }
     {
         let Desk { site, share } = self;
@@ -139,7 +139,7 @@ impl<E: Entries> Desk<E> {
 impl<E: Entries, R: Ledger> Seat<E, R> {
     /// A seat at a site, without receipts.
     pub(crate) fn open(alloc: Global, site: u8, share: Share<R>) -> Seat<E, R>
-        requires place { site < E.settings.sites }
+        requires within { site < E.settings.sites }
         requires share { (share.parts ≡ 1) × (share.amount ≡ 0) }
         ensures { result ≡ record { site = site; receipts = [] } }
     {
@@ -154,7 +154,7 @@ impl<E: Entries, R: Ledger> Seat<E, R> {
     /// The number of its site.
     pub fn site(&self) -> u8
         ensures same { result ≡ self.now.site }
-        ensures place { result < E.settings.sites }
+        ensures within { result < E.settings.sites }
     {
         self.site
     }

@@ -42,33 +42,33 @@ impl Given {
         self.receipts.as_slice()
     }
 
-    /// The receipt at this place, from 0.
-    pub(crate) fn receipt(&self, place: usize) -> &Receipt
-        requires { place < length self.now.receipts }
-        ensures here { result.now ≡ slice_index_or self.now.receipts place result.now }
-        ensures fits { place + 1 < 2 ^ 64 }
+    /// The receipt at this index, from 0.
+    pub(crate) fn receipt(&self, index: usize) -> &Receipt
+        requires { index < length self.now.receipts }
+        ensures here { result.now ≡ slice_index_or self.now.receipts index result.now }
+        ensures fits { index + 1 < 2 ^ 64 }
     {
         let _len = self.receipts.len();
-        &self.receipts[place]
+        &self.receipts[index]
     }
 
-    /// Whether the seat is of this site, and its receipt at this place has the number.
-    pub(crate) fn is_next(&self, site: u8, place: usize, number: usize) -> bool
-        ensures { result ≡ is_next site place number self.now }
+    /// Whether the seat is of this site, and its receipt at this index has the number.
+    pub(crate) fn is_next(&self, site: u8, index: usize, number: usize) -> bool
+        ensures { result ≡ is_next site index number self.now }
     {
         if self.site != site {
             return false;
         }
-        match self.receipts.get(place) {
+        match self.receipts.get(index) {
             Some(receipt) => receipt.number as usize == number,
             None => false,
         }
     }
 
-    /// Whether the seat has no receipt of this site from this place on.
-    pub(crate) fn is_read(&self, site: u8, place: usize) -> bool
-        ensures { result ≡ is_read site place self.now }
+    /// Whether the seat has no receipt of this site from this index on.
+    pub(crate) fn is_read(&self, site: u8, index: usize) -> bool
+        ensures { result ≡ is_read site index self.now }
     {
-        self.site != site || self.receipts.len() <= place
+        self.site != site || self.receipts.len() <= index
     }
 }

@@ -27,31 +27,31 @@ pub(crate) fn merges(
         let Some(k) = holder(site, i, seats, next.as_slice(), owners.as_slice()) else {
             return Ok(false);
         };
-        let place = next[k];
+        let taken = next[k];
         let seat = &seats[k];
-        let receipt = seat.receipt(place);
+        let receipt = seat.receipt(taken);
         if !is_of(receipt, entry) {
             return Ok(false);
         }
-        next[k] = place + 1;
+        next[k] = taken + 1;
     }
     Ok(all_read(site, seats, next.as_slice()))
 }
 
-/// The seat whose next receipt has the number of this place, which is one more, if any has.
-fn holder(site: u8, place: usize, seats: &[Given], next: &[usize], owners: &[u16]) -> Option<usize>
+/// The seat whose next receipt has the number of this index, which is one more, if any has.
+fn holder(site: u8, index: usize, seats: &[Given], next: &[usize], owners: &[u16]) -> Option<usize>
     requires len { length next.now ≡ length seats.now }
-    requires place { place < length owners.now }
+    requires index { index < length owners.now }
     requires owners { AreOwners site seats.now owners.now }
-    ensures found { IfSome result (λ k. IsHolder site (place + 1) seats.now next.now k) }
+    ensures found { IfSome result (λ k. IsHolder site (index + 1) seats.now next.now k) }
     ensures within { IfSome result (λ k. k < length seats.now) }
-    ensures none { IsNone result → AreDistinct site seats.now → (k : ℕ) → ¬ IsHolder site (place + 1) seats.now next.now k }
+    ensures none { IsNone result → AreDistinct site seats.now → (k : ℕ) → ¬ IsHolder site (index + 1) seats.now next.now k }
 {
-    let k = owners[place] as usize;
+    let k = owners[index] as usize;
     if k >= seats.len() {
         return None;
     }
-    if seats[k].is_next(site, next[k], place + 1) {
+    if seats[k].is_next(site, next[k], index + 1) {
         Some(k)
     } else {
         None

@@ -5,7 +5,7 @@ use rb_site::{Event, Reply};
 /// What a seat keeps of one event that it made.
 #[derive(Debug, Drop)]
 pub struct Receipt {
-    /// The place of its entry in the site's history, from 1.
+    /// The position of its entry in the site's history, from 1.
     pub number: u32,
     /// What happened.
     pub event: Event,

@@ -1,21 +1,14 @@
 -- A command's own JSON object is read as the command.
-use Rattle.std.proofs.Common.{◌≡◌, ◌<◌, ◌^◌, ℕ, List, [], ◌∷◌, Some, true, refl, sym, ap, ◌∙◌, rules}
-use Rattle.std.specs.Prelude.{map, nat_lt}
+use Rattle.std.proofs.Common.{◌≡◌, ◌^◌, List, [], ◌∷◌, Some, refl}
+use Rattle.std.specs.Prelude.{map}
 use Rattle.serde_json.specs.Data.{Data}
 use Rattle.serde_json.specs.View.{items_of}
 use Rattle.rb_money.specs.Settings.{Settings}
-use Rattle.rb_shadow.proofs.NameOf.{value_is, candidate_is}
-use Rattle.rb_shadow.specs.NameText.{IsName, candidate, name_of, name_text}
-use Rattle.rb_shadow.specs.declared.op_name.OpName.{OpName}
 use Rattle.rb_scratch.specs.declared.request.Request.{Request}
 use Rattle.rb_commands.specs.Commands.{ReadsCommands}
 use Rattle.rb_commands.specs.Requests.{ReadsRequests, request_alone, requests_in}
-
-pub below : (n bound : ℕ) → n < bound → nat_lt n bound ≡ true
-below n bound h = search rules
-
-pub back : (x : OpName) → IsName x → name_of (name_text x) ≡ Some x
-back x h = sym (value_is (name_text x) (Some x) refl h (λ y k e. ap Some (sym (candidate_is x h) ∙ ap candidate e ∙ candidate_is y k)))
+use Rattle.rb_money.proofs.Public.Tests.{is_below as below}
+use Rattle.rb_commands.proofs.Public.Reading.{back}
 
 reads_requests : (s : Settings) → ReadsRequests s
 reads_requests s = record {

@@ -1,14 +1,9 @@
-pub mod Utf8
-pub mod Shapes
-pub mod Back
-pub mod Fronts
-pub mod Plain
-pub mod Appended
-pub mod Numerals
-pub mod Listed
-pub mod Sited
-pub mod UsualLines
-pub mod Verbs
-pub mod Scanned
-pub mod Batches
-pub mod Versions
+pub mod Public
+mod Shapes
+mod Back
+mod Sited
+mod UsualLines
+mod Verbs
+mod Scanned
+mod Batches
+mod Versions

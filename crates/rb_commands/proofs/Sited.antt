@@ -14,7 +14,7 @@ use Rattle.rb_commands.specs.Spelled.{IsToldBy}
 use Rattle.rb_commands.specs.Values.{number_below, number_json, one_json}
 use Rattle.rb_commands.specs.Verbs.{told_at}
 use Rattle.rb_commands.specs.declared.told.Told.{Told}
-use Rattle.rb_commands.proofs.Back.{below}
+use Rattle.rb_money.proofs.Public.Tests.{is_below as below}
 use Rattle.rb_commands.proofs.Verbs.{command_told}
 
 differ : (xs ys : List ℕ) (b : Bool) → bytes_eq xs ys ≡ b → (xs ≡ ys → ⊥) → b ≡ false

@@ -1,19 +1,14 @@
 -- A command in the usual spelling is the compact text of the object that tells it, and so is read as the command.
-use Rattle.std.proofs.Common.{◌≡◌, ◌<◌, ◌≤◌, ◌^◌, ℕ, List, [], ◌∷◌, ◌++◌, Some, false, true≢false, bytes_eq, codes, decimal, refl, sym, ap, ◌∙◌, append_assoc, append-nil, arith}
+use Rattle.std.proofs.Common.{◌≡◌, ◌<◌, ◌≤◌, ◌^◌, ℕ, List, [], ◌∷◌, ◌++◌, Some, false, true≢false, bytes_eq, codes, decimal, refl, sym, ap, ◌∙◌, append_assoc, arith}
 use Rattle.std.specs.Prelude.{option_and_then}
-use Rattle.json.specs.Json as json
-use Rattle.json.specs.Lex.{tokens}
 use Rattle.json.specs.Print.{escape, escape_byte, quoted}
-use Rattle.json.specs.Tree.{json_tokens, HasNumbers}
+use Rattle.json.specs.Tree.{HasNumbers}
 use Rattle.json.specs.Tree as tree
 use Rattle.json.proofs.Printed.Decimals.{IsNumber-decimal}
-use Rattle.json.proofs.Printed.Tokens.{tokens-print}
-use Rattle.json.proofs.Printed.Trees.{ArePrintable-json_tokens, value-json_tokens}
 use Rattle.serde_json.specs.Data.{Data, string, object, put, member, no_members}
 use Rattle.serde_json.specs.Read.{read, of_json, max_depth}
 use Rattle.serde_json.specs.Written.{compact_text, outline}
 use Rattle.serde_json.proofs.Numbers.{number_of-decimal}
-use Rattle.serde_json.proofs.Texts.{print-outline}
 use Rattle.rb_money.specs.Settings.{Settings}
 use Rattle.rb_shadow.specs.NameText.{IsName, name_text}
 use Rattle.rb_shadow.specs.declared.op_name.OpName.{OpName}
@@ -33,16 +28,9 @@ use Rattle.rb_commands.specs.declared.verb.OnNumber.{OnNumber}
 use Rattle.rb_commands.specs.declared.verb.OnNumber.TheVariants.{Pass, Deliver}
 use Rattle.rb_commands.specs.declared.verb.Verb.{Verb}
 use Rattle.rb_commands.specs.declared.verb.Verb.TheVariants.{Account, Pair, Operation, Number}
-use Rattle.rb_commands.proofs.Plain.{escape_plain, plain_name}
+use Rattle.rb_commands.proofs.Public.Plain.{escape_plain, plain_name}
 use Rattle.rb_commands.proofs.Sited.{told_first, told_last}
-
--- an object's text, its keys in any order, is read as the object with its keys in byte order
-pub compact_read : (turned d : Data) → HasNumbers (outline turned) → tree.depth (outline turned) ≤ max_depth → of_json (outline turned) ≡ Some d → read (compact_text turned) ≡ Some d
-compact_read turned d numbers shallow same =
-    let j = outline turned in
-    let text : tokens (compact_text turned) ≡ json_tokens j ++ [] = ap tokens (sym (print-outline turned)) ∙ tokens-print (json_tokens j) (ArePrintable-json_tokens j numbers) ∙ sym (append-nil (json_tokens j)) in
-    ap (λ ts. option_and_then of_json (option_and_then (λ p. json.if_last p.0 p.1) (json.value max_depth ts))) text
-    ∙ ap (λ o. option_and_then of_json (option_and_then (λ p. json.if_last p.0 p.1) o)) (value-json_tokens j max_depth [] shallow) ∙ same
+use Rattle.rb_commands.proofs.Public.Reading.{compact_read}
 
 command_read : (s : Settings) (turned d : Data) (c : WorldEvent) (line : List ℕ) → line ≡ compact_text turned → HasNumbers (outline turned) → tree.depth (outline turned) ≤ max_depth → of_json (outline turned) ≡ Some d → command_of s d ≡ Some c → command_at s line ≡ Some c
 command_read s turned d c line text numbers shallow same is = ap (command_at s) text ∙ ap (option_and_then (command_of s)) (compact_read turned d numbers shallow same) ∙ is

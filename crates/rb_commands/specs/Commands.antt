@@ -17,8 +17,8 @@ use Rattle.rb_commands.specs.Requests.{ReadsRequests, account_place, place_at, a
 use Rattle.rb_commands.specs.Values.{number_json, name_json, pair_json, number_below, name_at, size_of, either}
 
 -- what a teller sees of an account, or the request, that an object's key tells
-abbrev pub call_of : Settings → Data → Option Event
-call_of s d = either (get (codes "balance") d) (λ account. option_map Balance (place_at s account))
+abbrev pub teller_event_of : Settings → Data → Option Event
+teller_event_of s d = either (get (codes "balance") d) (λ account. option_map Balance (place_at s account))
     (either (get (codes "asof") d) (asked_of s (2 ^ 32) AsOf)
     (either (get (codes "statement") d) (λ account. option_map Statement (place_at s account))
     (option_map Submit (request_of s d))))
@@ -28,7 +28,7 @@ abbrev pub event_of : Settings → Data → Option Event
 event_of s d = either (get (codes "batch") d) (λ list. option_map Batch (requests_at s list))
     (either (get (codes "apply") d) (λ x. option_map Apply (name_at x))
     (either (get (codes "pass") d) (λ to. option_map Pass (number_below (2 ^ 8) to))
-    (call_of s d)))
+    (teller_event_of s d)))
 
 -- the command for a site that an object's key tells
 abbrev pub command_for : Settings → Data → ℕ → Option WorldEvent

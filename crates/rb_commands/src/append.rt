@@ -57,7 +57,7 @@ fn append_blue(out: &mut Vec<u8>, site: u8, n: u32) -> Result<(), AllocError>
 }
 
 /// An operation's name in quotes.
-#[tactic(auto, using(crate::proofs::Plain::quoted_blue, crate::proofs::Plain::quoted_red))]
+#[tactic(auto, using(crate::proofs::Public::Plain::quoted_blue, crate::proofs::Public::Plain::quoted_red))]
 fn append_name(out: &mut Vec<u8>, name: OpName) -> Result<(), AllocError>
     ensures { Adds result out.old.items out.new.items (quoted (name_text name)) }
 {

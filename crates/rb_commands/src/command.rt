@@ -4,7 +4,7 @@ ghost use Rattle.serde_json.specs.Find.{get};
 ghost use Rattle.serde_json.specs.View.{view};
 ghost use Rattle.rb_site.specs.Worlds.{IsCommand, IsOwn};
 ghost use Rattle.rb_site.specs.declared.event.Event.TheVariants.{Batch};
-ghost use Rattle.rb_commands.specs.Commands.{call_of, event_of, command_for, command_of, command_at};
+ghost use Rattle.rb_commands.specs.Commands.{teller_event_of, event_of, command_for, command_of, command_at};
 ghost use Rattle.rb_commands.specs.Lines.{Gives};
 ghost use Rattle.rb_commands.specs.Requests.{requests_at};
 ghost use Rattle.rb_commands.specs.Values.{number_below, one_json};
@@ -34,7 +34,7 @@ fn event_by(config: &Config, verb: Verb, value: &Value) -> Result<Event, LineFau
 
 /// What a teller sees of an account, or a request, by a key of an object that may have others.
 fn call(config: &Config, value: &Value) -> Result<Event, LineFault>
-    ensures value { Gives result (call_of config.now (view value.now)) }
+    ensures value { Gives result (teller_event_of config.now (view value.now)) }
     ensures own { IfOk result IsOwn }
 {
     let balance = Verb::Account(OnAccount::Balance);

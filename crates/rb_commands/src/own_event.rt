@@ -2,16 +2,17 @@
 ghost use Rattle.std.specs.Prelude.{◌≡◌};
 ghost use Rattle.rb_commands.specs.Verbs.{event_told};
 
+use rb_list::List;
 use rb_money::Place;
 use rb_scratch::Request;
 use rb_shadow::OpName;
-use rb_site::{Event, Requests};
+use rb_site::Event;
 
 /// An event of a site's own: any but the receipt of a message. It takes far less room than an `Event`, which may hold a message.
 #[derive(Drop)]
 pub enum OwnEvent {
     Submit(Request),
-    Batch(Requests),
+    Batch(List<Request>),
     Apply(OpName),
     Pass(u8),
     Balance(Place),

@@ -11,10 +11,10 @@ ghost use Rattle.rb_commands.specs.declared.told.Told.TheVariants.{Event as Told
 use crate::own_event::OwnEvent;
 use crate::request::place;
 use crate::told::Told;
+use rb_list::List;
 use rb_money::Config;
 use rb_scratch::Request;
 use rb_shadow::OpName;
-use rb_site::Requests;
 
 /// The verbs on an account.
 #[derive(Clone, Copy)]
@@ -165,5 +165,5 @@ pub fn of_number(verb: OnNumber, n: u64) -> Option<Told>
 pub fn of_requests(requests: Vec<Request>) -> OwnEvent
     ensures { result ≡ Batch requests.items }
 {
-    OwnEvent::Batch(Requests::new(requests))
+    OwnEvent::Batch(List::new(requests))
 }

@@ -1,6 +1,6 @@
 //! A run: tellers and serving threads over a branch of their own.
 ghost use Rattle.std.specs.Prelude.{◌≡◌, ◌<◌, ℕ, List, All, IfOk, Some, vec_len, slice_get};
-ghost use Rattle.rb_branch.specs.Gathered.{AllGathered, IsClosed};
+ghost use Rattle.rb_branch.specs.Gathered.{AllGathered, IsClosedReport};
 ghost use Rattle.rb_branch.specs.Seats.{SeenSeat};
 ghost use Rattle.rb_branch.specs.declared.limits.TheConstants.{RECEIPT_PARTS};
 ghost use Rattle.rb_crew.specs.Tellers.{IsCrew, TellersAt};
@@ -32,7 +32,7 @@ pub fn run_bank<G: Gate + Drop + Sync, W: Threads + Wait + Sync>(
     seed: u32,
 ) -> Result<Vec<SiteReport>, RunFault>
     ensures all { IfOk result (λ reports. vec_len reports ≡ config.sites) }
-    ensures closed { IfOk result (λ reports. All (IsClosed config) reports.items) }
+    ensures closed { IfOk result (λ reports. All (IsClosedReport config) reports.items) }
     ensures tellers { IfOk result (λ reports. (k : ℕ) (r : SiteReport) → slice_get reports.items k ≡ Some r → (r.me ≡ k) × TellersAt seed tellers config.sites k r.history.items) }
 {
     let entries = Blank::new(u64::from(config.sites()));
@@ -60,7 +60,7 @@ fn run_with<
     requires entries { (entries.name ≡ E.name) × (entries.parts ≡ E.parts) × (entries.parts ≡ config.sites) }
     requires receipts { (receipts.name ≡ R.name) × (receipts.parts ≡ R.parts) × (receipts.parts ≡ RECEIPT_PARTS) }
     ensures all { IfOk result (λ reports. vec_len reports ≡ config.sites) }
-    ensures closed { IfOk result (λ reports. All (IsClosed config) reports.items) }
+    ensures closed { IfOk result (λ reports. All (IsClosedReport config) reports.items) }
     ensures gathered { IfOk result (λ reports. (seats : List SeenSeat) × IsCrew seed tellers config.sites seats × AllGathered reports.items seats) }
 {
     let sites = config.sites();

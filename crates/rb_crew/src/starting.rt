@@ -36,7 +36,7 @@ pub(crate) fn start_teller<
     sites: u8,
 ) -> Result<TellerHandle<E, R>, RunFault>
     requires fresh { seat.receipts ≡ [] }
-    requires place { seat.site < sites }
+    requires within { seat.site < sites }
     ensures { IfOk result (λ h. h.promise ≡ record { first = first; site = seat.site; sites = sites }) }
 {
     let site = seat.site();

@@ -14,10 +14,10 @@ use Rattle.rb_money.specs.declared.limits.TheConstants.{MOST_SITES, MOST_SITES_O
 use Rattle.rb_commands.specs.Configurations.{accounts_in, config_at, config_of, is_version}
 use Rattle.rb_history.specs.ConfigLines.{accounts_of, config_json, start_json}
 use Rattle.rb_history.specs.Fits.{Each}
-use Rattle.rb_commands.proofs.Back.{below}
+use Rattle.rb_money.proofs.Public.Tests.{is_below as below}
+use Rattle.rb_commands.proofs.Public.Reading.{compact_read}
 use Rattle.rb_history.proofs.EntryText.{list_text, number_text, pair_text, string_text}
 use Rattle.rb_history.proofs.KnownPlaces.{fails}
-use Rattle.rb_commands.proofs.UsualLines.{compact_read}
 
 -- names and starting balances, from the accounts that they make
 names_back : (names : List (List ℕ)) (starts : List ℕ) → length starts ≡ length names → map (λ a. a.0) (accounts_of names starts) ≡ names

@@ -1,20 +1,15 @@
 -- What is written for the counts of all sites is read as them.
-use Rattle.std.proofs.Common.{◌≡◌, ◌<◌, ◌≤◌, ◌^◌, ℕ, zero, suc, List, [], ◌∷◌, ◌++◌, length, take, drop, Some, true, refl, sym, ap, subst, ◌∙◌, inl, inr, arith}
-use Rattle.std.specs.Prelude.{◌==◌, map, option_map, replicate}
-use Rattle.std.proofs.lemmas.Bool.Decides.{nat_tests}
+use Rattle.std.proofs.Common.{◌≡◌, ◌<◌, ◌≤◌, ◌^◌, ℕ, zero, suc, List, [], ◌∷◌, ◌++◌, length, take, drop, Some, true, refl, sym, ap, subst, ◌∙◌, inl, inr, arith, length-append}
+use Rattle.std.specs.Prelude.{map, option_map, replicate}
 use Rattle.std.proofs.lemmas.List.{drop_at, length-drop, length-replicate, length-take-le, take-append-drop, take_at}
-use Rattle.std.proofs.Common.{length-append}
 use Rattle.serde_json.specs.View.{items_of}
 use Rattle.rb_money.specs.Settings.{IsVersion}
 use Rattle.rb_money.specs.declared.limits.TheConstants.{MOST_SITES, MOST_SITES_OF_VERSION_1}
 use Rattle.rb_commands.specs.Values.{list_json, number_json}
-use Rattle.rb_commands.proofs.Back.{below}
+use Rattle.rb_money.proofs.Public.Tests.{equal, is_below as below}
 use Rattle.rb_history.specs.Counts.{blue_at, blue_json, counts_at, counts_in, widened}
 use Rattle.rb_history.specs.Fits.{Each}
 use Rattle.rb_history.proofs.Numbered.{numbered_back}
-
-equal : (a b : ℕ) → a ≡ b → (a == b) ≡ true
-equal a b e = grind (arith, nat_tests)
 
 pub each_take : {A : Type 0} (P : A → Type 0) (k : ℕ) (xs : List A) → Each P xs → Each P (take k xs)
 each_take P zero xs h = tt

@@ -7,18 +7,19 @@ use Rattle.rb_money.specs.declared.place.Place.{Place}
 use Rattle.rb_scratch.specs.declared.request.Request.{Request}
 use Rattle.rb_scratch.specs.declared.request.Request.TheVariants.{Deposit, Withdraw, Interest, Cancel}
 use Rattle.rb_shadow.specs.declared.kind.Kind.{Kind}
-use Rattle.rb_shadow.specs.declared.kind.Kind.TheVariants.{Deposit as DepositKind, Withdraw as WithdrawKind, Declined as DeclinedKind, Interest as InterestKind, Cancel as CancelKind}
+use Rattle.rb_shadow.specs.declared.kind.Kind.TheVariants.{Cancel as CancelKind}
 use Rattle.rb_shadow.specs.declared.op_name.OpName.{OpName}
 use Rattle.rb_shadow.specs.declared.shadow.Shadow.{Shadow}
 use Rattle.rb_site.specs.declared.entry.Entry.{Entry}
 use Rattle.rb_site.specs.declared.event.Event.{Event}
 use Rattle.rb_site.specs.declared.event.Event.TheVariants.{Submit, Batch, Receive, Apply, Pass, Balance, AsOf, Statement}
 use Rattle.rb_site.specs.declared.message.Message.TheVariants.{Shadow as ShadowMessage, Token as TokenOnItsWay}
-use Rattle.rb_history.specs.Entries.{entry_json, entry_of, event_json, request_json, shadow_json}
+use Rattle.rb_history.specs.Entries.{entry_json, entry_of_object, event_json, request_json, shadow_json}
 use Rattle.rb_history.specs.Fits.{Each, IsEvent, IsKind, IsReply, IsRequest, IsShadow}
 use Rattle.rb_history.specs.Recorded.{event_at, kind_at, shadow_at}
 use Rattle.rb_commands.specs.Requests.{request_alone, requests_in}
-use Rattle.rb_commands.proofs.Back.{back, below}
+use Rattle.rb_money.proofs.Public.Tests.{is_below as below}
+use Rattle.rb_commands.proofs.Public.Reading.{back}
 use Rattle.rb_history.proofs.CountsBack.{blue_back}
 use Rattle.rb_history.proofs.KnownPlaces.{known_place}
 use Rattle.rb_history.proofs.ReplyBack.{reply_back}
@@ -37,11 +38,8 @@ abbrev shadow_with : OpName → ℕ → List ℕ → ℕ → Place → ℕ → K
 shadow_with name home blue red account amount kind = record { name = name; home = home; deps = record { blue = blue; red = red }; account = account; amount = amount; kind = kind }
 
 kind_back : (s : Settings) (name : OpName) (home : ℕ) (blue : List ℕ) (red : ℕ) (account : Place) (amount : ℕ) (kind : Kind) → IsKind kind → kind_at (shadow_json s (shadow_with name home blue red account amount kind)) ≡ Some kind
-kind_back s name home blue red account amount DepositKind h = refl
-kind_back s name home blue red account amount WithdrawKind h = refl
-kind_back s name home blue red account amount DeclinedKind h = refl
-kind_back s name home blue red account amount InterestKind h = refl
 kind_back s name home blue red account amount (CancelKind x) h = rw (back x h) refl
+kind_back s name home blue red account amount _ h = refl
 
 shadow_by : (s : Settings) → IsConfigured s → (name : OpName) (home : ℕ) (blue : List ℕ) (red : ℕ) (account : Place) (amount : ℕ) (kind : Kind) → IsShadow s (shadow_with name home blue red account amount kind) → shadow_at s (shadow_json s (shadow_with name home blue red account amount kind)) ≡ Some (shadow_with name home blue red account amount kind)
 shadow_by s c name home blue red account amount kind h =
@@ -65,5 +63,5 @@ event_back s c (Balance a) known = ap (λ p. Some (Balance p)) (known_place s a 
 event_back s c (AsOf a n) (known, fits) = rw (below n (2 ^ 32) fits) (ap (λ p. Some (AsOf p n)) (known_place s a c known))
 event_back s c (Statement a) known = ap (λ p. Some (Statement p)) (known_place s a c known)
 
-pub entry_back : (s : Settings) → IsConfigured s → (site : ℕ) (x : Entry) → site < s.sites → IsEvent s x.event → IsReply x.reply → entry_of s (entry_json s site x) ≡ Some (site, x)
+pub entry_back : (s : Settings) → IsConfigured s → (site : ℕ) (x : Entry) → site < s.sites → IsEvent s x.event → IsReply x.reply → entry_of_object s (entry_json s site x) ≡ Some (site, x)
 entry_back s c site x h e r = rw (below site s.sites h, event_back s c x.event e, reply_back x.reply r) refl

@@ -9,11 +9,11 @@ use Rattle.rb_money.specs.Settings.{Settings}
 use Rattle.rb_site.specs.declared.entry.Entry.{Entry}
 use Rattle.rb_site.specs.declared.event.Event.{Event}
 use Rattle.rb_site.specs.declared.reply.Reply.{Reply}
-use Rattle.rb_history.specs.Entries.{entry_in, entry_of}
+use Rattle.rb_history.specs.Entries.{entry_in, entry_of_object}
 use Rattle.rb_commands.specs.Lines.{Gives}
 use Rattle.rb_commands.specs.declared.fault.LineFault.{LineFault}
 use Rattle.rb_history.specs.Recorded.{event_at}
-use Rattle.rb_history.specs.RepliesRead.{reply_of}
+use Rattle.rb_history.specs.RepliesRead.{reply_told}
 use Rattle.rb_commands.specs.Values.{number_below, size_of}
 use Rattle.rb_history.specs.Fields.{field}
 
@@ -31,13 +31,13 @@ told site event (Some reply) x e = ap (λ (y : ℕ × Entry). y.0) (Some_inj _ _
 in_below : (s : Settings) (d : Data) (x : ℕ × Entry) → entry_in s d ≡ Some x → x.0 < s.sites
 in_below s d x e = option_and_then_some _ (field (codes "site") (number_below s.sites) d) x e (λ site found rest.
     let below : site < s.sites = option_and_then_some (number_below s.sites) (get (codes "site") d) site found (λ v there is. bounded v site s.sites is) in
-    let same : site ≡ x.0 = option_and_then_some _ (field (codes "event") (event_at s) d) x rest (λ event there is. told site event (field (codes "reply") reply_of d) x is) in
+    let same : site ≡ x.0 = option_and_then_some _ (field (codes "event") (event_at s) d) x rest (λ event there is. told site event (field (codes "reply") reply_told d) x is) in
     subst (λ k. k < s.sites) same below)
 
 of_below : (t : Bool) (s : Settings) (d : Data) (x : ℕ × Entry) → (if t then entry_in s d else None) ≡ Some x → x.0 < s.sites
 of_below true s d x e = in_below s d x e
 of_below false s d x e = absurd (none-some x e)
 
-pub site_below : (s : Settings) (d : Data) (r : Result (ℕ × Entry) LineFault) → Gives r (entry_of s d) → IfOk r (λ x. x.0 < s.sites)
+pub site_below : (s : Settings) (d : Data) (r : Result (ℕ × Entry) LineFault) → Gives r (entry_of_object s d) → IfOk r (λ x. x.0 < s.sites)
 site_below s d (Ok x) given = of_below (size_of d == 3) s d x given
 site_below s d (Err fault) given = tt

@@ -19,7 +19,7 @@ use Rattle.rb_scratch.specs.declared.request.Request.{Request}
 use Rattle.rb_scratch.specs.declared.request.Request.TheVariants.{Deposit, Withdraw, Interest, Cancel}
 use Rattle.rb_shadow.specs.NameText.{IsName}
 use Rattle.rb_shadow.specs.declared.kind.Kind.{Kind}
-use Rattle.rb_shadow.specs.declared.kind.Kind.TheVariants.{Deposit as DepositKind, Withdraw as WithdrawKind, Declined as DeclinedKind, Interest as InterestKind, Cancel as CancelKind}
+use Rattle.rb_shadow.specs.declared.kind.Kind.TheVariants.{Cancel as CancelKind}
 use Rattle.rb_shadow.specs.declared.shadow.Shadow.{Shadow}
 use Rattle.rb_site.specs.declared.entry.Entry.{Entry}
 use Rattle.rb_site.specs.declared.event.Event.{Event}
@@ -28,13 +28,13 @@ use Rattle.rb_site.specs.declared.message.Message.TheVariants.{Shadow as ShadowM
 use Rattle.rb_site.specs.declared.reply.Reply.{Reply}
 use Rattle.rb_site.specs.declared.reply.Reply.TheVariants.{Made, Names, Held, Already, Taken, Stale, Applied, Passed, Balance as BalanceIs, Statement as StatementIs, Refused}
 use Rattle.rb_statements.specs.declared.row.Row.{Row}
-use Rattle.rb_history.specs.Counts.{blue_json, numbered, numbered_json}
+use Rattle.rb_history.specs.Counts.{blue_json, numbered_from, numbered_json}
 use Rattle.rb_history.specs.Entries.{asked_json, deps_json, entry_json, event_json, request_json, shadow_json}
-use Rattle.rb_history.specs.Fits.{Each, IsEvent, IsMoved, IsRefusal, IsReply, IsRequest, IsRow, IsShadow}
+use Rattle.rb_history.specs.Fits.{Each, IsEvent, IsMoved, IsRefusal, IsReply, IsRequest, IsStatementRow, IsShadow}
 use Rattle.rb_commands.specs.Replies.{refusal_json, reply_json}
 use Rattle.rb_commands.specs.Statements.{row_json}
 use Rattle.rb_commands.specs.Values.{integer_json, list_json, name_json, number_json, one_json, pair_json}
-use Rattle.rb_commands.proofs.UsualLines.{compact_read}
+use Rattle.rb_commands.proofs.Public.Reading.{compact_read}
 use Rattle.rb_history.proofs.CountsBack.{each_take}
 use Rattle.rb_history.proofs.Numbered.{numbered_fit}
 
@@ -111,9 +111,9 @@ blue_text : (version : ℕ) (blue : List ℕ) → length blue ≡ MOST_SITES →
 unfolding blue_json
 blue_text version blue long h = at (version == 1)
   where
-    at : (b : Bool) → IsText (if b then list_json number_json (take MOST_SITES_OF_VERSION_1 blue) else list_json numbered_json (numbered 0 blue)) 2
+    at : (b : Bool) → IsText (if b then list_json number_json (take MOST_SITES_OF_VERSION_1 blue) else list_json numbered_json (numbered_from 0 blue)) 2
     at true = deeper (list_json number_json (take MOST_SITES_OF_VERSION_1 blue)) 1 2 (list_text number_json (λ n. n < 2 ^ 32) 0 (λ n small. number_text n (omega arith)) (take MOST_SITES_OF_VERSION_1 blue) (each_take (λ n. n < 2 ^ 32) MOST_SITES_OF_VERSION_1 blue h)) (omega arith)
-    at false = list_text numbered_json (λ (p : ℕ × ℕ). (p.0 < 2 ^ 64) × (p.1 < 2 ^ 64)) 1 (λ p fits. pair_text (number_json p.0) (number_json p.1) 0 (number_text p.0 fits.0) (number_text p.1 fits.1)) (numbered 0 blue) (numbered_fit 0 blue (omega arith) h)
+    at false = list_text numbered_json (λ (p : ℕ × ℕ). (p.0 < 2 ^ 64) × (p.1 < 2 ^ 64)) 1 (λ p fits. pair_text (number_json p.0) (number_json p.1) 0 (number_text p.0 fits.0) (number_text p.1 fits.1)) (numbered_from 0 blue) (numbered_fit 0 blue (omega arith) h)
 
 deps_text : (version : ℕ) (blue : List ℕ) (red : ℕ) → length blue ≡ MOST_SITES → Each (λ n. n < 2 ^ 32) blue → red < 2 ^ 32 → IsText (deps_json version (record { blue = blue; red = red })) 3
 deps_text version blue red long h k = pair_text (blue_json version blue) (number_json red) 2 (blue_text version blue long h) (deeper (number_json red) 0 2 (number_text red (omega arith)) (omega arith))
@@ -134,11 +134,8 @@ shadow_text s v h = of_kind v.kind
     home = let small = h.home in number_text v.home (omega arith)
 
     of_kind : (kind : Kind) → IsText (shadow_json s (with_kind v kind)) 4
-    of_kind DepositKind = let d = deps.shallow in record { numbers = (tt, (amount.numbers, (deps.numbers, (home.numbers, (tt, (tt, tt)))))); shallow = omega arith; same = rw (amount.same, deps.same, home.same) refl }
-    of_kind WithdrawKind = let d = deps.shallow in record { numbers = (tt, (amount.numbers, (deps.numbers, (home.numbers, (tt, (tt, tt)))))); shallow = omega arith; same = rw (amount.same, deps.same, home.same) refl }
-    of_kind DeclinedKind = let d = deps.shallow in record { numbers = (tt, (amount.numbers, (deps.numbers, (home.numbers, (tt, (tt, tt)))))); shallow = omega arith; same = rw (amount.same, deps.same, home.same) refl }
-    of_kind InterestKind = let d = deps.shallow in record { numbers = (tt, (amount.numbers, (deps.numbers, (home.numbers, (tt, (tt, tt)))))); shallow = omega arith; same = rw (amount.same, deps.same, home.same) refl }
     of_kind (CancelKind x) = let d = deps.shallow in record { numbers = (tt, (amount.numbers, (deps.numbers, (home.numbers, (tt, (tt, (tt, tt))))))); shallow = omega arith; same = rw (amount.same, deps.same, home.same) refl }
+    of_kind _ = let d = deps.shallow in record { numbers = (tt, (amount.numbers, (deps.numbers, (home.numbers, (tt, (tt, tt)))))); shallow = omega arith; same = rw (amount.same, deps.same, home.same) refl }
 
 event_text : (s : Settings) (e : Event) → IsEvent s e → IsText (event_json s e) 5
 event_text s (Submit r) h = deeper (request_json s r) 2 5 (request_text s r h) (omega arith)
@@ -157,7 +154,7 @@ event_text s (Statement a) h = deeper (event_json s (Statement a)) 1 5 (one_text
 
 -- ---- replies
 
-row_text : (r : Row) → IsRow r → IsText (row_json r) 1
+row_text : (r : Row) → IsStatementRow r → IsText (row_json r) 1
 row_text r (position, name, moved, balance) =
     let a = number_text r.position (omega arith) in
     let b = integer_text r.moved moved in
@@ -228,7 +225,7 @@ reply_text (Passed n) h = number_told _ n (omega arith)
 reply_text (BalanceIs n) h = number_told _ n h
 reply_text (StatementIs t) (start, rows, balance) =
     let a = number_text t.balance balance in
-    let b = list_text row_json IsRow 1 row_text t.rows rows in
+    let b = list_text row_json IsStatementRow 1 row_text t.rows rows in
     let c = number_text t.start start in
     let depth = b.shallow in
     record { numbers = (a.numbers, (b.numbers, (c.numbers, tt))); shallow = omega arith; same = rw (a.same, b.same, c.same) refl }

@@ -1,20 +1,20 @@
-pub mod Shapes
-pub mod Counts
-pub mod Numbered
-pub mod CountsBack
-pub mod KnownPlaces
-pub mod Starts
-pub mod ReplyBack
-pub mod EntryBack
-pub mod EntrySites
-pub mod EntryText
-pub mod ConfigBack
-pub mod Texts
-pub mod Told
-pub mod ListRead
-pub mod PlainRefusals
-pub mod PlacesRead
-pub mod EntryLine
-pub mod FitsLaws
-pub mod NumbersFit
-pub mod ReadFits
+mod Shapes
+mod Counts
+mod Numbered
+mod CountsBack
+mod KnownPlaces
+mod Starts
+mod ReplyBack
+mod EntryBack
+mod EntrySites
+mod EntryText
+mod ConfigBack
+mod Texts
+mod Told
+mod ListRead
+mod PlainRefusals
+mod PlacesRead
+mod EntryLine
+mod FitsLaws
+mod NumbersFit
+mod ReadFits

@@ -9,21 +9,21 @@ use Rattle.serde_json.specs.View.{items_of}
 use Rattle.serde_json.specs.Written.{compact_text}
 use Rattle.rb_money.specs.declared.limits.TheConstants.{MOST_SITES}
 use Rattle.rb_commands.specs.Values.{number_json}
-use Rattle.rb_commands.proofs.Back.{below}
-use Rattle.rb_commands.proofs.Fronts.{with_front}
-use Rattle.rb_commands.proofs.Listed.{rest_text}
-use Rattle.rb_history.specs.Counts.{numbered, numbered_at, numbered_in, numbered_json}
+use Rattle.rb_money.proofs.Public.Tests.{is_below as below}
+use Rattle.rb_commands.proofs.Public.Reading.{with_front}
+use Rattle.rb_commands.proofs.Public.Listed.{rest_text}
+use Rattle.rb_history.specs.Counts.{numbered_from, numbered_at, numbered_in, numbered_json}
 use Rattle.rb_history.specs.Fits.{Each}
 
 -- ---- written
 
 -- the counts from one on are written behind these bytes, and now that one is: those from the next on are written behind what stands there now
 pub one_written : (counts : List ℕ) (i n : ℕ) (out new comma next total : List ℕ) → drop i counts ≡ n ∷ drop (i + 1) counts → new ≡ out ++ (if n == 0 then [] else comma ++ compact_text (numbered_json (i, n))) → next ≡ (if n == 0 then comma else codes ",")
-    → out ++ rest_text comma (map numbered_json (numbered i (drop i counts))) ≡ total → new ++ rest_text next (map numbered_json (numbered (i + 1) (drop (i + 1) counts))) ≡ total
-one_written counts i n out new comma next total is e f h = by (n == 0) e f (ap (λ l. out ++ rest_text comma (map numbered_json (numbered i l))) (sym is) ∙ h)
+    → out ++ rest_text comma (map numbered_json (numbered_from i (drop i counts))) ≡ total → new ++ rest_text next (map numbered_json (numbered_from (i + 1) (drop (i + 1) counts))) ≡ total
+one_written counts i n out new comma next total is e f h = by (n == 0) e f (ap (λ l. out ++ rest_text comma (map numbered_json (numbered_from i l))) (sym is) ∙ h)
   where
     later : List (ℕ × ℕ)
-    later = numbered (i + 1) (drop (i + 1) counts)
+    later = numbered_from (i + 1) (drop (i + 1) counts)
 
     by : (b : Bool) → new ≡ out ++ (if b then [] else comma ++ compact_text (numbered_json (i, n))) → next ≡ (if b then comma else codes ",")
         → out ++ rest_text comma (map numbered_json (if b then later else (i, n) ∷ later)) ≡ total → new ++ rest_text next (map numbered_json later) ≡ total
@@ -33,18 +33,18 @@ one_written counts i n out new comma next total is e f h = by (n == 0) e f (ap (
         let this = compact_text (numbered_json (i, n)) in
         ap₂ (λ o c. o ++ rest_text c (map numbered_json later)) e f ∙ append_assoc out (comma ++ this) rest ∙ ap (λ l. out ++ l) (append_assoc comma this rest) ∙ h
 
-pub numbered_end : (ns : List ℕ) (i : ℕ) → length ns ≤ i → numbered i (drop i ns) ≡ []
-numbered_end ns i past = ap (numbered i) (drop_all i ns past)
+pub numbered_end : (ns : List ℕ) (i : ℕ) → length ns ≤ i → numbered_from i (drop i ns) ≡ []
+numbered_end ns i past = ap (numbered_from i) (drop_all i ns past)
 
 -- the numbers of sites and the counts fit
-pub numbered_fit : (i : ℕ) (ns : List ℕ) → i + length ns ≤ MOST_SITES → Each (λ n. n < 2 ^ 32) ns → Each (λ (p : ℕ × ℕ). (p.0 < 2 ^ 64) × (p.1 < 2 ^ 64)) (numbered i ns)
+pub numbered_fit : (i : ℕ) (ns : List ℕ) → i + length ns ≤ MOST_SITES → Each (λ n. n < 2 ^ 32) ns → Each (λ (p : ℕ × ℕ). (p.0 < 2 ^ 64) × (p.1 < 2 ^ 64)) (numbered_from i ns)
 numbered_fit i [] within h = tt
 numbered_fit i (n ∷ ns) within h = at (n == 0)
   where
-    later : Each (λ (p : ℕ × ℕ). (p.0 < 2 ^ 64) × (p.1 < 2 ^ 64)) (numbered (i + 1) ns)
+    later : Each (λ (p : ℕ × ℕ). (p.0 < 2 ^ 64) × (p.1 < 2 ^ 64)) (numbered_from (i + 1) ns)
     later = numbered_fit (i + 1) ns (omega arith) h.1
 
-    at : (b : Bool) → Each (λ (p : ℕ × ℕ). (p.0 < 2 ^ 64) × (p.1 < 2 ^ 64)) (if b then numbered (i + 1) ns else (i, n) ∷ numbered (i + 1) ns)
+    at : (b : Bool) → Each (λ (p : ℕ × ℕ). (p.0 < 2 ^ 64) × (p.1 < 2 ^ 64)) (if b then numbered_from (i + 1) ns else (i, n) ∷ numbered_from (i + 1) ns)
     at true = later
     at false = let small : n < 2 ^ 32 = h.0 in ((omega arith, omega arith), later)
 
@@ -105,13 +105,13 @@ one_back i j n low near some small =
     rw (below j (2 ^ 8) (omega arith), below n (2 ^ 32) small, a, b, c) refl
 
 -- the counts from site j on, behind 0 for each site from i to j
-pub numbered_back : (i j : ℕ) (ns : List ℕ) → i ≤ j → j + length ns ≡ MOST_SITES → Each (λ n. n < 2 ^ 32) ns → numbered_in i (items_of (map numbered_json (numbered j ns))) ≡ Some (replicate (j - i) 0 ++ ns)
+pub numbered_back : (i j : ℕ) (ns : List ℕ) → i ≤ j → j + length ns ≡ MOST_SITES → Each (λ n. n < 2 ^ 32) ns → numbered_in i (items_of (map numbered_json (numbered_from j ns))) ≡ Some (replicate (j - i) 0 ++ ns)
 numbered_back i j [] low full h =
     let last : MOST_SITES - i ≡ j - i = omega arith in
     ap (λ k. Some (replicate k 0)) last ∙ ap Some (sym (append-nil (replicate (j - i) 0)))
 numbered_back i j (n ∷ ns) low full h = at (n == 0) refl
   where
-    at : (b : Bool) → (n == 0) ≡ b → numbered_in i (items_of (map numbered_json (if b then numbered (j + 1) ns else (j, n) ∷ numbered (j + 1) ns))) ≡ Some (replicate (j - i) 0 ++ n ∷ ns)
+    at : (b : Bool) → (n == 0) ≡ b → numbered_in i (items_of (map numbered_json (if b then numbered_from (j + 1) ns else (j, n) ∷ numbered_from (j + 1) ns))) ≡ Some (replicate (j - i) 0 ++ n ∷ ns)
     at true q =
         let zero : n ≡ 0 = grind (arith, nat_tests) in
         let more : j + 1 - i ≡ (j - i) + 1 = omega arith in
@@ -120,5 +120,5 @@ numbered_back i j (n ∷ ns) low full h = at (n == 0) refl
     at false q =
         let some : 0 < n = grind (arith, nat_tests) in
         let nothing : (j + 1) - (j + 1) ≡ 0 = omega arith in
-        ap (option_and_then (λ (p : ℕ × ℕ). option_map (λ later. replicate (p.0 - i) 0 ++ p.1 ∷ later) (numbered_in (p.0 + 1) (items_of (map numbered_json (numbered (j + 1) ns)))))) (one_back i j n low (omega arith) some h.0)
+        ap (option_and_then (λ (p : ℕ × ℕ). option_map (λ later. replicate (p.0 - i) 0 ++ p.1 ∷ later) (numbered_in (p.0 + 1) (items_of (map numbered_json (numbered_from (j + 1) ns)))))) (one_back i j n low (omega arith) some h.0)
         ∙ ap (option_map (λ later. replicate (j - i) 0 ++ n ∷ later)) (numbered_back (j + 1) (j + 1) ns (omega arith) (omega arith) h.1 ∙ ap (λ k. Some (replicate k 0 ++ ns)) nothing)

@@ -29,15 +29,15 @@ use Rattle.rb_site.specs.declared.entry.Entry.{Entry}
 use Rattle.rb_site.specs.declared.event.Event.TheVariants.{Submit, Batch, Receive, Apply, Pass, Balance, AsOf, Statement}
 use Rattle.rb_site.specs.declared.message.Message.TheVariants.{Shadow as ShadowMessage, Token as TokenOnItsWay}
 use Rattle.rb_site.specs.declared.reply.Reply.TheVariants.{Made, Names, Held, Already, Taken, Stale, Applied, Passed, Balance as BalanceIs, Statement as StatementIs, Refused}
-use Rattle.rb_commands.specs.Commands.{call_of, event_of}
+use Rattle.rb_commands.specs.Commands.{teller_event_of, event_of}
 use Rattle.rb_commands.specs.Requests.{account_place, asked_of, place_at, request_alone, request_of, requests_at, requests_in}
 use Rattle.rb_commands.specs.Values.{name_at, number_below, pair_of, size_of}
 use Rattle.rb_history.specs.Counts.{blue_at, counts_at, counts_in, numbered_at, numbered_in, widened}
-use Rattle.rb_history.specs.Entries.{entry_at, entry_in, entry_of}
+use Rattle.rb_history.specs.Entries.{entry_of_line, entry_in, entry_of_object}
 use Rattle.rb_history.specs.Fields.{field, label_at, six_in, six_of, three_of}
-use Rattle.rb_history.specs.Fits.{Each, IsEvent, IsKind, IsKnown, IsMoved, IsRefusal, IsReply, IsRequest, IsRow, IsShadow, ReadEntriesFit}
+use Rattle.rb_history.specs.Fits.{Each, IsEvent, IsKind, IsKnown, IsMoved, IsRefusal, IsReply, IsRequest, IsStatementRow, IsShadow, ReadEntriesFit}
 use Rattle.rb_history.specs.Recorded.{deps_at, event_at, kind_at, kind_of, recorded_of, shadow_at, token_at}
-use Rattle.rb_history.specs.RepliesRead.{answer_of, batch_of, behind_of, cancelled_of, cause_at, find_refusal, is_declined, made_of, message_of, moved_at, names_at, names_in, plain_of, plain_refusals, refusal_of, reply_of, row_at, rows_at, rows_in, short_of, simple_of, statement_of}
+use Rattle.rb_history.specs.RepliesRead.{answer_of, refused_batch_told, behind_of, cancelled_of, cause_at, find_refusal, tells_declined, made_told, bad_message_told, moved_told, names_at, names_in, plain_of, plain_refusals, refusal_told, reply_told, row_at, rows_at, rows_in, short_of, simple_of, statement_told}
 use Rattle.rb_history.proofs.CountsBack.{widened_fits, widened_further, widened_length}
 use Rattle.rb_history.proofs.FitsLaws.{anything, fits_either, fits_field, fits_if, fits_map, fits_some, fits_then}
 use Rattle.rb_history.proofs.NumbersFit.{Fits, FitItems, FitsNumber, fits_array, fits_get, fits_read, fits_signed}
@@ -89,7 +89,7 @@ requests s no_items = tt
 requests s (item d ds) = fits_then (IsRequest s) (Each (IsRequest s)) (λ r. option_map (λ later. r ∷ later) (requests_in s ds)) (request_alone s d) (fits_if (IsRequest s) (size_of d == 1) (request_of s d) (λ e. request s d))
     (λ r h. fits_map (Each (IsRequest s)) (Each (IsRequest s)) (λ later. r ∷ later) (requests_in s ds) (requests s ds) (λ later k. (h, k)))
 
-call : (s : Settings) (d : Data) → IfSome (call_of s d) (IsEvent s)
+call : (s : Settings) (d : Data) → IfSome (teller_event_of s d) (IsEvent s)
 call s d =
     fits_either (IsEvent s) (get (codes "balance") d) _ _ (λ v. fits_map (IsKnown s) (IsEvent s) Balance (place_at s v) (place s v) (λ a h. h))
     (fits_either (IsEvent s) (get (codes "asof") d) _ _ (λ v. asked (IsEvent s) s (2 ^ 32) AsOf v (λ a n there small. (there, small)))
@@ -219,7 +219,7 @@ event s d = fits_if (IsEvent s) (size_of d == 1) (recorded_of s d) (λ e.
 -- ---- refusals
 
 cause : (d : Data) → IfSome (cause_at d) (λ c. IsRefusal (BatchRefused 0 c))
-cause d = by (is_declined d)
+cause d = by (tells_declined d)
   where
     by : (b : Bool) → IfSome (if b then Some CauseDeclined else option_map CauseRefused (number_below (2 ^ 8) d)) (λ c. IsRefusal (BatchRefused 0 c))
     by true = ((let small : 0 < 2 ^ 8 = omega arith in small), tt)
@@ -246,7 +246,7 @@ choice : {A : Type 0} (Q : A → Type 0) (b : Bool) (o p : Option A) → IfSome 
 choice Q true o p h k = h
 choice Q false o p h k = k
 
-refusal : (d : Data) (n : ℕ) → IfSome (refusal_of d n) IsRefusal
+refusal : (d : Data) (n : ℕ) → IfSome (refusal_told d n) IsRefusal
 refusal d n =
     choice IsRefusal (n == 6) _ _ (fits_if IsRefusal (size_of d == 2) _ (λ e. fits_map IsWord IsRefusal AlreadyCancelled (field (codes "position") (number_below (2 ^ 32)) d) (word_at (codes "position") d) (λ n h. h)))
     (choice IsRefusal (n == 9) _ _ (fits_if IsRefusal (size_of d == 3) _ (λ e. fits_then IsWord IsRefusal _ (field (codes "seen") (number_below (2 ^ 32)) d) (word_at (codes "seen") d)
@@ -272,7 +272,7 @@ six (item a (item b (item c (item d (item e no_items))))) f = tt
 six (item a (item b (item c (item d (item e (item g no_items)))))) f = f.1.1.1.0
 six (item a (item b (item c (item d (item e (item g (item h ds))))))) f = tt
 
-moved : (d : Data) → Fits d → IfSome (moved_at d) IsMoved
+moved : (d : Data) → Fits d → IfSome (moved_told d) IsMoved
 moved d f = fits_then FitsNumber IsMoved as_i64 (as_number d) (fits_signed d f) by
   where
     small : (n : ℕ) → nat_lt n (2 ^ 63) ≡ true → n < 2 ^ 63
@@ -283,18 +283,18 @@ moved d f = fits_then FitsNumber IsMoved as_i64 (as_number d) (fits_signed d f) 
     by (negative z) h = h
     by (float x) h = tt
 
-row : (d : Data) → Fits d → IfSome (row_at d) IsRow
-row d f = fits_then (λ p. Fits p.3) IsRow _ (six_of d) (fits_then FitItems (λ p. Fits p.3) six_in (as_array d) (fits_array d f) six) (λ p g.
-    fits_then IsWord IsRow _ (number_below (2 ^ 32) p.0) (number (2 ^ 32) p.0) (λ position a.
-    fits_then IsName IsRow _ (name_at p.1) (name p.1) (λ x b.
-    fits_then (λ label. ⊤) IsRow _ (label_at p.2) (anything _) (λ label any.
-    fits_then IsMoved IsRow _ (moved_at p.3) (moved p.3 g) (λ z c.
-    fits_then (λ t. ⊤) IsRow _ (as_bool p.4) (anything _) (λ cancelled any.
-    fits_map (λ n. n < 2 ^ 64) IsRow _ (number_below (2 ^ 64) p.5) (number (2 ^ 64) p.5) (λ balance e. (a, b, c, e))))))))
+row : (d : Data) → Fits d → IfSome (row_at d) IsStatementRow
+row d f = fits_then (λ p. Fits p.3) IsStatementRow _ (six_of d) (fits_then FitItems (λ p. Fits p.3) six_in (as_array d) (fits_array d f) six) (λ p g.
+    fits_then IsWord IsStatementRow _ (number_below (2 ^ 32) p.0) (number (2 ^ 32) p.0) (λ position a.
+    fits_then IsName IsStatementRow _ (name_at p.1) (name p.1) (λ x b.
+    fits_then (λ label. ⊤) IsStatementRow _ (label_at p.2) (anything _) (λ label any.
+    fits_then IsMoved IsStatementRow _ (moved_told p.3) (moved p.3 g) (λ z c.
+    fits_then (λ t. ⊤) IsStatementRow _ (as_bool p.4) (anything _) (λ cancelled any.
+    fits_map (λ n. n < 2 ^ 64) IsStatementRow _ (number_below (2 ^ 64) p.5) (number (2 ^ 64) p.5) (λ balance e. (a, b, c, e))))))))
 
-rows : (ds : Items) → FitItems ds → IfSome (rows_in ds) (Each IsRow)
+rows : (ds : Items) → FitItems ds → IfSome (rows_in ds) (Each IsStatementRow)
 rows no_items f = tt
-rows (item d ds) f = fits_then IsRow (Each IsRow) (λ r. option_map (λ later. r ∷ later) (rows_in ds)) (row_at d) (row d f.0) (λ r h. fits_map (Each IsRow) (Each IsRow) (λ later. r ∷ later) (rows_in ds) (rows ds f.1) (λ later k. (h, k)))
+rows (item d ds) f = fits_then IsStatementRow (Each IsStatementRow) (λ r. option_map (λ later. r ∷ later) (rows_in ds)) (row_at d) (row d f.0) (λ r h. fits_map (Each IsStatementRow) (Each IsStatementRow) (λ later. r ∷ later) (rows_in ds) (rows ds f.1) (λ later k. (h, k)))
 
 simple : (d : Data) → IfSome (simple_of d) IsReply
 simple d =
@@ -309,31 +309,31 @@ simple d =
 short : (d : Data) → IfSome (short_of d) IsReply
 short d = fits_either IsReply (get (codes "names") d) _ _ (λ v. fits_map (Each IsName) IsReply Names (names_at v) (fits_then (λ ds. ⊤) (Each IsName) names_in (as_array v) (anything _) (λ ds any. names ds)) (λ xs h. h)) (simple d)
 
-made : (d : Data) → IfSome (made_of d) IsReply
+made : (d : Data) → IfSome (made_told d) IsReply
 made d = fits_then IsName IsReply _ (field (codes "name") name_at d) (fits_field IsName (codes "name") name_at d name) (λ x h. fits_map (λ label. ⊤) IsReply (Made x) (field (codes "kind") label_at d) (anything _) (λ label any. h))
 
-statement : (d : Data) → Fits d → IfSome (statement_of d) IsReply
+statement : (d : Data) → Fits d → IfSome (statement_told d) IsReply
 statement d f =
     fits_then (λ n. n < 2 ^ 64) IsReply _ (field (codes "start") (number_below (2 ^ 64)) d) (long_at (codes "start") d) (λ start a.
     fits_then (λ n. n < 2 ^ 64) IsReply _ (field (codes "balance") (number_below (2 ^ 64)) d) (long_at (codes "balance") d) (λ balance b.
-    fits_map (Each IsRow) IsReply _ (field (codes "rows") rows_at d) (fits_then Fits (Each IsRow) rows_at (get (codes "rows") d) (fits_get (codes "rows") d f) (λ v g. fits_then FitItems (Each IsRow) rows_in (as_array v) (fits_array v g) rows)) (λ rs c. (a, c, b))))
+    fits_map (Each IsStatementRow) IsReply _ (field (codes "rows") rows_at d) (fits_then Fits (Each IsStatementRow) rows_at (get (codes "rows") d) (fits_get (codes "rows") d f) (λ v g. fits_then FitItems (Each IsStatementRow) rows_in (as_array v) (fits_array v g) rows)) (λ rs c. (a, c, b))))
 
 answer : (d : Data) → Fits d → IfSome (answer_of d) IsReply
-answer d f = choice IsReply (size_of d == 1) _ _ (short d) (choice IsReply (size_of d == 2) _ _ (made d) (fits_if IsReply (size_of d == 3) (statement_of d) (λ e. statement d f)))
+answer d f = choice IsReply (size_of d == 1) _ _ (short d) (choice IsReply (size_of d == 2) _ _ (made d) (fits_if IsReply (size_of d == 3) (statement_told d) (λ e. statement d f)))
 
-reply : (d : Data) → Fits d → IfSome (reply_of d) IsReply
-reply d f = fits_either IsReply (get (codes "refused") d) _ _ (λ v. fits_map IsRefusal IsReply Refused (option_and_then (refusal_of d) (number_below (2 ^ 8) v)) (fits_then (λ n. ⊤) IsRefusal (refusal_of d) (number_below (2 ^ 8) v) (anything _) (λ n any. refusal d n)) (λ why h. h)) (answer d f)
+reply : (d : Data) → Fits d → IfSome (reply_told d) IsReply
+reply d f = fits_either IsReply (get (codes "refused") d) _ _ (λ v. fits_map IsRefusal IsReply Refused (option_and_then (refusal_told d) (number_below (2 ^ 8) v)) (fits_then (λ n. ⊤) IsRefusal (refusal_told d) (number_below (2 ^ 8) v) (anything _) (λ n any. refusal d n)) (λ why h. h)) (answer d f)
 
 -- ---- entries
 
 abbrev IsTold : Settings → ℕ × Entry → Type 0
 IsTold s x = (x.0 < s.sites) × IsEvent s x.1.event × IsReply x.1.reply
 
-entry : (s : Settings) (d : Data) → Fits d → IfSome (entry_of s d) (IsTold s)
+entry : (s : Settings) (d : Data) → Fits d → IfSome (entry_of_object s d) (IsTold s)
 entry s d f = fits_if (IsTold s) (size_of d == 3) (entry_in s d) (λ e.
     fits_then (λ n. n < s.sites) (IsTold s) _ (field (codes "site") (number_below s.sites) d) (fits_field (λ n. n < s.sites) (codes "site") (number_below s.sites) d (number s.sites)) (λ site a.
     fits_then (IsEvent s) (IsTold s) _ (field (codes "event") (event_at s) d) (fits_field (IsEvent s) (codes "event") (event_at s) d (event s)) (λ event b.
-    fits_map IsReply (IsTold s) _ (field (codes "reply") reply_of d) (fits_then Fits IsReply reply_of (get (codes "reply") d) (fits_get (codes "reply") d f) reply) (λ reply c. (a, b, c)))))
+    fits_map IsReply (IsTold s) _ (field (codes "reply") reply_told d) (fits_then Fits IsReply reply_told (get (codes "reply") d) (fits_get (codes "reply") d f) reply) (λ reply c. (a, b, c)))))
 
 pub read_fits : ReadEntriesFit
-read_fits s line site x is = fits_some (IsTold s) (entry_at s line) (site, x) (fits_then Fits (IsTold s) (entry_of s) (read line) (fits_read line) (entry s)) is
+read_fits s line site x is = fits_some (IsTold s) (entry_of_line s line) (site, x) (fits_then Fits (IsTold s) (entry_of_object s) (read line) (fits_read line) (entry s)) is

@@ -7,45 +7,43 @@ use Rattle.rb_money.specs.declared.refusal.Refusal.{Refusal}
 use Rattle.rb_money.specs.declared.refusal.Refusal.TheVariants.{OutOfMemory, UnknownAccount, BadAmount, BadRate, UnknownOperation, NotCancellable, AlreadyCancelled, NumbersExhausted, NeedToken, RedBehind, WouldOverdraw, DeltaTooLarge, BadBatch, BatchRefused, NotHeld, NotReady, InboxFull, BadMessage, Conflict, NoMessage, NoSite, NotYours, PositionBeyond, HistoryFull, SameAccount}
 use Rattle.rb_shadow.specs.NameText.{IsName}
 use Rattle.rb_shadow.specs.declared.label.Label.{Label}
-use Rattle.rb_shadow.specs.declared.label.Label.TheVariants.{Deposit, Withdraw, Declined, Interest, Cancel}
+use Rattle.rb_shadow.specs.declared.label.Label.TheVariants.{Deposit}
 use Rattle.rb_shadow.specs.declared.op_name.OpName.{OpName}
 use Rattle.rb_site.specs.declared.reply.Reply.{Reply}
 use Rattle.rb_site.specs.declared.reply.Reply.TheVariants.{Made, Names, Held, Already, Taken, Stale, Applied, Passed, Balance, Statement, Refused}
 use Rattle.rb_statements.specs.declared.row.Row.{Row}
-use Rattle.rb_history.specs.Fits.{Each, IsMoved, IsRefusal, IsReply, IsRow}
+use Rattle.rb_history.specs.Fits.{Each, IsMoved, IsRefusal, IsReply, IsStatementRow}
 use Rattle.rb_commands.specs.Replies.{refusal_json, reply_json}
-use Rattle.rb_history.specs.RepliesRead.{moved_at, names_in, reply_of, row_at, rows_in}
+use Rattle.rb_history.specs.RepliesRead.{moved_told, names_in, reply_told, row_at, rows_in}
 use Rattle.rb_commands.specs.Statements.{row_json}
 use Rattle.rb_commands.specs.Values.{integer_json, label_text, name_json}
 use Rattle.rb_history.specs.Fields.{label_of_word}
-use Rattle.rb_commands.proofs.Back.{back, below}
+use Rattle.rb_money.proofs.Public.Tests.{is_below as below}
+use Rattle.rb_commands.proofs.Public.Reading.{back}
 
 label_back : (k : Label) → label_of_word (label_text k) ≡ Some k
 label_back Deposit = refl
-label_back Withdraw = refl
-label_back Declined = refl
-label_back Interest = refl
-label_back Cancel = refl
+label_back _ = refl
 
 names_back : (xs : List OpName) → Each IsName xs → names_in (items_of (map name_json xs)) ≡ Some xs
 names_back [] h = refl
 names_back (x ∷ xs) h = rw (back x h.0, names_back xs h.1) refl
 
-moved_back : (z : ℤ) → IsMoved z → moved_at (integer_json z) ≡ Some z
+moved_back : (z : ℤ) → IsMoved z → moved_told (integer_json z) ≡ Some z
 moved_back (pos n) h = rw (below n (2 ^ 63) h) refl
 moved_back (negsuc n) h = refl
 
 abbrev row_with : ℕ → OpName → Label → ℤ → Bool → ℕ → Row
 row_with position name kind moved cancelled balance = record { position = position; name = name; kind = kind; moved = moved; cancelled = cancelled; balance = balance }
 
-row_by : (position : ℕ) (name : OpName) (kind : Label) (moved : ℤ) (cancelled : Bool) (balance : ℕ) → IsRow (row_with position name kind moved cancelled balance) → row_at (row_json (row_with position name kind moved cancelled balance)) ≡ Some (row_with position name kind moved cancelled balance)
+row_by : (position : ℕ) (name : OpName) (kind : Label) (moved : ℤ) (cancelled : Bool) (balance : ℕ) → IsStatementRow (row_with position name kind moved cancelled balance) → row_at (row_json (row_with position name kind moved cancelled balance)) ≡ Some (row_with position name kind moved cancelled balance)
 row_by position name kind moved cancelled balance (a, b, d, e) = rw (below position (2 ^ 32) a, back name b, label_back kind, moved_back moved d, below balance (2 ^ 64) e) refl
 
-rows_back : (rs : List Row) → Each IsRow rs → rows_in (items_of (map row_json rs)) ≡ Some rs
+rows_back : (rs : List Row) → Each IsStatementRow rs → rows_in (items_of (map row_json rs)) ≡ Some rs
 rows_back [] h = refl
 rows_back (r ∷ rs) h = rw (row_by r.position r.name r.kind r.moved r.cancelled r.balance h.0, rows_back rs h.1) refl
 
-refusal_back : (r : Refusal) → IsRefusal r → reply_of (refusal_json r) ≡ Some (Refused r)
+refusal_back : (r : Refusal) → IsRefusal r → reply_told (refusal_json r) ≡ Some (Refused r)
 refusal_back OutOfMemory h = absurd h
 refusal_back UnknownAccount h = refl
 refusal_back BadAmount h = refl
@@ -73,7 +71,7 @@ refusal_back PositionBeyond h = refl
 refusal_back HistoryFull h = refl
 refusal_back SameAccount h = refl
 
-pub reply_back : (r : Reply) → IsReply r → reply_of (reply_json r) ≡ Some r
+pub reply_back : (r : Reply) → IsReply r → reply_told (reply_json r) ≡ Some r
 reply_back (Made x kind) h = rw (label_back kind, back x h) refl
 reply_back (Names xs) h = rw (names_back xs h) refl
 reply_back (Held x) h = rw (back x h) refl

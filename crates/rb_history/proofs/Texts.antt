@@ -14,15 +14,15 @@ use Rattle.rb_scratch.specs.declared.request.Request.{Request}
 use Rattle.rb_scratch.specs.declared.request.Request.TheVariants.{Deposit, Withdraw, Interest, Cancel}
 use Rattle.rb_shadow.specs.Labels.{label_of}
 use Rattle.rb_shadow.specs.declared.kind.Kind.{Kind}
-use Rattle.rb_shadow.specs.declared.kind.Kind.TheVariants.{Deposit as DepositKind, Withdraw as WithdrawKind, Declined as DeclinedKind, Interest as InterestKind, Cancel as CancelKind}
+use Rattle.rb_shadow.specs.declared.kind.Kind.TheVariants.{Cancel as CancelKind}
 use Rattle.rb_shadow.specs.declared.shadow.Shadow.{Shadow}
 use Rattle.rb_site.specs.declared.entry.Entry.{Entry}
 use Rattle.rb_site.specs.declared.event.Event.{Event}
 use Rattle.rb_site.specs.declared.event.Event.TheVariants.{Submit, Batch, Receive, Apply, Pass, Balance, AsOf, Statement}
 use Rattle.rb_site.specs.declared.message.Message.TheVariants.{Shadow as ShadowMessage, Token as TokenOnItsWay}
 use Rattle.rb_commands.specs.Values.{list_json, number_json}
-use Rattle.rb_commands.proofs.Utf8.{HasTexts, ItemsHaveTexts, MembersHaveTexts, label_utf8, list_texts, name_utf8, reply_texts, text_utf8}
-use Rattle.rb_history.specs.Counts.{blue_json, numbered, numbered_json}
+use Rattle.rb_commands.proofs.Public.Utf8.{HasTexts, ItemsHaveTexts, MembersHaveTexts, label_utf8, list_texts, name_utf8, reply_texts, text_utf8}
+use Rattle.rb_history.specs.Counts.{blue_json, numbered_from, numbered_json}
 use Rattle.rb_history.specs.ConfigLines.{accounts_of, config_json, start_json}
 use Rattle.rb_history.specs.Entries.{account_json, deps_json, entry_json, event_json, request_json, shadow_json, target_json}
 
@@ -51,19 +51,16 @@ request_texts s c (Interest a n) = (refl, (account_texts s c a, (tt, tt)), tt)
 request_texts s c (Cancel x) = (refl, name_utf8 x, tt)
 
 target_texts : (k : Kind) → MembersHaveTexts (target_json k)
-target_texts DepositKind = tt
-target_texts WithdrawKind = tt
-target_texts DeclinedKind = tt
-target_texts InterestKind = tt
 target_texts (CancelKind x) = (refl, name_utf8 x, tt)
+target_texts _ = tt
 
 blue_texts : (version : ℕ) (blue : List ℕ) → HasTexts (blue_json version blue)
 unfolding blue_json
 blue_texts version blue = at (version == 1)
   where
-    at : (b : Bool) → HasTexts (if b then list_json number_json (take MOST_SITES_OF_VERSION_1 blue) else list_json numbered_json (numbered 0 blue))
+    at : (b : Bool) → HasTexts (if b then list_json number_json (take MOST_SITES_OF_VERSION_1 blue) else list_json numbered_json (numbered_from 0 blue))
     at true = list_texts number_json (λ n. tt) (take MOST_SITES_OF_VERSION_1 blue)
-    at false = list_texts numbered_json (λ p. (tt, (tt, tt))) (numbered 0 blue)
+    at false = list_texts numbered_json (λ p. (tt, (tt, tt))) (numbered_from 0 blue)
 
 shadow_texts : (s : Settings) → IsConfigured s → (v : Shadow) → HasTexts (shadow_json s v)
 shadow_texts s c v =

@@ -8,9 +8,9 @@ use Rattle.rb_commands.specs.Values.{list_json, number_below, number_json, pair_
 -- ---- what is written
 
 -- the counts above 0 of those from site i on, each behind its site's number
-abbrev pub numbered : ℕ → List ℕ → List (ℕ × ℕ)
-numbered i [] = []
-numbered i (n ∷ ns) = if n == 0 then numbered (i + 1) ns else (i, n) ∷ numbered (i + 1) ns
+abbrev pub numbered_from : ℕ → List ℕ → List (ℕ × ℕ)
+numbered_from i [] = []
+numbered_from i (n ∷ ns) = if n == 0 then numbered_from (i + 1) ns else (i, n) ∷ numbered_from (i + 1) ns
 
 -- a site's number and its count
 abbrev pub numbered_json : ℕ × ℕ → Data
@@ -18,7 +18,7 @@ numbered_json p = pair_json (number_json p.0) (number_json p.1)
 
 -- version 1: a count for each of as many sites as it may have; version 2: the counts above 0 with their sites' numbers
 unfoldable pub blue_json : ℕ → List ℕ → Data
-blue_json version ns = if version == 1 then list_json number_json (take MOST_SITES_OF_VERSION_1 ns) else list_json numbered_json (numbered 0 ns)
+blue_json version ns = if version == 1 then list_json number_json (take MOST_SITES_OF_VERSION_1 ns) else list_json numbered_json (numbered_from 0 ns)
 
 -- ---- what is read
 

@@ -10,7 +10,7 @@ use Rattle.rb_scratch.specs.declared.request.Request.TheVariants.{Deposit, Withd
 use Rattle.rb_shadow.specs.Labels.{label_of}
 use Rattle.rb_shadow.specs.declared.deps.Deps.{Deps}
 use Rattle.rb_shadow.specs.declared.kind.Kind.{Kind}
-use Rattle.rb_shadow.specs.declared.kind.Kind.TheVariants.{Deposit as DepositKind, Withdraw as WithdrawKind, Declined as DeclinedKind, Interest as InterestKind, Cancel as CancelKind}
+use Rattle.rb_shadow.specs.declared.kind.Kind.TheVariants.{Cancel as CancelKind}
 use Rattle.rb_shadow.specs.declared.shadow.Shadow.{Shadow}
 use Rattle.rb_site.specs.declared.entry.Entry.{Entry}
 use Rattle.rb_site.specs.declared.event.Event.{Event}
@@ -19,7 +19,7 @@ use Rattle.rb_site.specs.declared.message.Message.TheVariants.{Shadow as ShadowM
 use Rattle.rb_token.specs.declared.message.TokenMessage.{TokenMessage}
 use Rattle.rb_history.specs.Counts.{blue_json}
 use Rattle.rb_history.specs.Recorded.{event_at}
-use Rattle.rb_history.specs.RepliesRead.{reply_of}
+use Rattle.rb_history.specs.RepliesRead.{reply_told}
 use Rattle.rb_commands.specs.Replies.{reply_json}
 use Rattle.rb_commands.specs.Values.{label_text, list_json, name_json, number_below, number_json, one_json, pair_json, size_of}
 use Rattle.rb_history.specs.Fields.{field}
@@ -46,11 +46,8 @@ deps_json version d = pair_json (blue_json version d.blue) (number_json d.red)
 
 -- the target, of a cancellation alone
 abbrev pub target_json : Kind → Members
-target_json DepositKind = no_members
-target_json WithdrawKind = no_members
-target_json DeclinedKind = no_members
-target_json InterestKind = no_members
 target_json (CancelKind x) = member (codes "target") (name_json x) no_members
+target_json _ = no_members
 
 abbrev pub shadow_json : Settings → Shadow → Data
 shadow_json s v = object
@@ -90,18 +87,18 @@ entry_json s site x = object
 abbrev pub entry_in : Settings → Data → Option (ℕ × Entry)
 entry_in s d =
     option_and_then (λ site. option_and_then (λ event. option_map (λ reply. (site, record { event = event; reply = reply }))
-    (field (codes "reply") reply_of d))
+    (field (codes "reply") reply_told d))
     (field (codes "event") (event_at s) d))
     (field (codes "site") (number_below s.sites) d)
 
 -- an entry is an object of three members
-abbrev pub entry_of : Settings → Data → Option (ℕ × Entry)
-entry_of s d = if size_of d == 3 then entry_in s d else None
+abbrev pub entry_of_object : Settings → Data → Option (ℕ × Entry)
+entry_of_object s d = if size_of d == 3 then entry_in s d else None
 
 -- the entry that a line is
-abbrev pub entry_at : Settings → List ℕ → Option (ℕ × Entry)
-entry_at s line = option_and_then (entry_of s) (read line)
+abbrev pub entry_of_line : Settings → List ℕ → Option (ℕ × Entry)
+entry_of_line s line = option_and_then (entry_of_object s) (read line)
 
 -- the entry on a line with its site, at these settings
 unfoldable pub entry_on : Settings → List ℕ → Option (ℕ × Entry)
-entry_on s l = if is_utf8 l then entry_at s l else None
+entry_on s l = if is_utf8 l then entry_of_line s l else None

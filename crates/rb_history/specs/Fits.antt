@@ -12,7 +12,7 @@ use Rattle.rb_scratch.specs.declared.request.Request.{Request}
 use Rattle.rb_scratch.specs.declared.request.Request.TheVariants.{Deposit, Withdraw, Interest, Cancel}
 use Rattle.rb_shadow.specs.NameText.{IsName}
 use Rattle.rb_shadow.specs.declared.kind.Kind.{Kind}
-use Rattle.rb_shadow.specs.declared.kind.Kind.TheVariants.{Deposit as DepositKind, Withdraw as WithdrawKind, Declined as DeclinedKind, Interest as InterestKind, Cancel as CancelKind}
+use Rattle.rb_shadow.specs.declared.kind.Kind.TheVariants.{Cancel as CancelKind}
 use Rattle.rb_shadow.specs.declared.shadow.Shadow.{Shadow}
 use Rattle.rb_site.specs.declared.entry.Entry.{Entry}
 use Rattle.rb_site.specs.declared.event.Event.{Event}
@@ -21,7 +21,7 @@ use Rattle.rb_site.specs.declared.message.Message.TheVariants.{Shadow as ShadowM
 use Rattle.rb_site.specs.declared.reply.Reply.{Reply}
 use Rattle.rb_site.specs.declared.reply.Reply.TheVariants.{Made, Names, Held, Already, Taken, Stale, Applied, Passed, Balance as BalanceIs, Statement as StatementIs, Refused}
 use Rattle.rb_statements.specs.declared.row.Row.{Row}
-use Rattle.rb_history.specs.Entries.{entry_at, entry_json}
+use Rattle.rb_history.specs.Entries.{entry_of_line, entry_json}
 use Rattle.rb_money.specs.declared.place.TheConstants.Place.{NOWHERE}
 
 -- the place of one of the configuration's accounts, or the one that no configuration has
@@ -40,11 +40,8 @@ IsRequest s (Interest a rate) = IsKnown s a × (rate < 2 ^ 32)
 IsRequest s (Cancel x) = IsName x
 
 abbrev pub IsKind : Kind → Type 0
-IsKind DepositKind = ⊤
-IsKind WithdrawKind = ⊤
-IsKind DeclinedKind = ⊤
-IsKind InterestKind = ⊤
 IsKind (CancelKind x) = IsName x
+IsKind _ = ⊤
 
 pub record IsShadow (s : Settings) (v : Shadow) : Type 0 where
   pub name : IsName v.name
@@ -74,8 +71,8 @@ abbrev pub IsMoved : ℤ → Type 0
 IsMoved (pos n) = n < 2 ^ 63
 IsMoved (negsuc n) = n < 2 ^ 63
 
-abbrev pub IsRow : Row → Type 0
-IsRow r = (r.position < 2 ^ 32) × IsName r.name × IsMoved r.moved × (r.balance < 2 ^ 64)
+abbrev pub IsStatementRow : Row → Type 0
+IsStatementRow r = (r.position < 2 ^ 32) × IsName r.name × IsMoved r.moved × (r.balance < 2 ^ 64)
 
 abbrev pub IsCause : Cause → Type 0
 IsCause CauseDeclined = ⊤
@@ -100,13 +97,13 @@ IsReply (Stale n) = n < 2 ^ 32
 IsReply (Applied x) = IsName x
 IsReply (Passed n) = n < 2 ^ 32
 IsReply (BalanceIs n) = n < 2 ^ 64
-IsReply (StatementIs t) = (t.start < 2 ^ 64) × Each IsRow t.rows × (t.balance < 2 ^ 64)
+IsReply (StatementIs t) = (t.start < 2 ^ 64) × Each IsStatementRow t.rows × (t.balance < 2 ^ 64)
 IsReply (Refused why) = IsRefusal why
 
 -- the line of each such entry of a site of the configuration is read as the entry
 abbrev pub EntriesAreRead : Type 0
-EntriesAreRead = (s : Settings) → IsConfigured s → (site : ℕ) (x : Entry) → site < s.sites → IsEvent s x.event → IsReply x.reply → entry_at s (compact_text (entry_json s site x)) ≡ Some (site, x)
+EntriesAreRead = (s : Settings) → IsConfigured s → (site : ℕ) (x : Entry) → site < s.sites → IsEvent s x.event → IsReply x.reply → entry_of_line s (compact_text (entry_json s site x)) ≡ Some (site, x)
 
 -- what is read of any line is an entry of a site of the configuration that a line tells whole
 abbrev pub ReadEntriesFit : Type 0
-ReadEntriesFit = (s : Settings) (line : List ℕ) (site : ℕ) (x : Entry) → entry_at s line ≡ Some (site, x) → (site < s.sites) × IsEvent s x.event × IsReply x.reply
+ReadEntriesFit = (s : Settings) (line : List ℕ) (site : ℕ) (x : Entry) → entry_of_line s line ≡ Some (site, x) → (site < s.sites) × IsEvent s x.event × IsReply x.reply

@@ -17,12 +17,12 @@ use Rattle.rb_history.specs.Fields.{field, label_at, six_of}
 -- ---- refusals
 
 -- the value is the word
-abbrev pub is_declined : Data → Bool
-is_declined d = unwrap_or (option_map (λ word. bytes_eq word (codes "declined")) (as_str d)) false
+abbrev pub tells_declined : Data → Bool
+tells_declined d = unwrap_or (option_map (λ word. bytes_eq word (codes "declined")) (as_str d)) false
 
 -- what stopped a batch: the word, or any number below 2^8
 abbrev pub cause_at : Data → Option Cause
-cause_at d = if is_declined d then Some CauseDeclined else option_map CauseRefused (number_below (2 ^ 8) d)
+cause_at d = if tells_declined d then Some CauseDeclined else option_map CauseRefused (number_below (2 ^ 8) d)
 
 -- already cancelled, from an object of two members
 abbrev pub cancelled_of : Data → Option Refusal
@@ -33,12 +33,12 @@ abbrev pub behind_of : Data → Option Refusal
 behind_of d = if size_of d == 3 then option_and_then (λ seen. option_map (RedBehind seen) (field (codes "needed") (number_below (2 ^ 32)) d)) (field (codes "seen") (number_below (2 ^ 32)) d) else None
 
 -- a batch refused, from an object of three members
-abbrev pub batch_of : Data → Option Refusal
-batch_of d = if size_of d == 3 then option_and_then (λ index. option_map (BatchRefused index) (field (codes "cause") cause_at d)) (field (codes "index") (number_below (2 ^ 8)) d) else None
+abbrev pub refused_batch_told : Data → Option Refusal
+refused_batch_told d = if size_of d == 3 then option_and_then (λ index. option_map (BatchRefused index) (field (codes "cause") cause_at d)) (field (codes "index") (number_below (2 ^ 8)) d) else None
 
 -- a bad message, from an object of two members
-abbrev pub message_of : Data → Option Refusal
-message_of d = if size_of d == 2 then option_map BadMessage (field (codes "why") (number_below (2 ^ 8)) d) else None
+abbrev pub bad_message_told : Data → Option Refusal
+bad_message_told d = if size_of d == 2 then option_map BadMessage (field (codes "why") (number_below (2 ^ 8)) d) else None
 
 -- the refusals that their numbers alone tell; of running out of memory no line tells
 abbrev pub plain_refusals : List Refusal
@@ -54,8 +54,8 @@ abbrev pub plain_of : Data → ℕ → Option Refusal
 plain_of d n = if size_of d == 1 then find_refusal n plain_refusals else None
 
 -- the refusal of this number that an object tells
-abbrev pub refusal_of : Data → ℕ → Option Refusal
-refusal_of d n = if n == 6 then cancelled_of d else (if n == 9 then behind_of d else (if n == 13 then batch_of d else (if n == 17 then message_of d else plain_of d n)))
+abbrev pub refusal_told : Data → ℕ → Option Refusal
+refusal_told d n = if n == 6 then cancelled_of d else (if n == 9 then behind_of d else (if n == 13 then refused_batch_told d else (if n == 17 then bad_message_told d else plain_of d n)))
 
 -- ---- the other replies
 
@@ -68,8 +68,8 @@ abbrev pub names_at : Data → Option (List OpName)
 names_at d = option_and_then names_in (as_array d)
 
 -- the whole number, with a sign or none, that fits 64 bits
-abbrev pub moved_at : Data → Option ℤ
-moved_at d = option_and_then as_i64 (as_number d)
+abbrev pub moved_told : Data → Option ℤ
+moved_told d = option_and_then as_i64 (as_number d)
 
 -- a row, from the list of its position, name and kind, what it moved, whether it is cancelled, and the balance after it
 abbrev pub row_at : Data → Option Row
@@ -78,7 +78,7 @@ row_at d =
     record { position = position; name = name; kind = kind; moved = moved; cancelled = cancelled; balance = balance })
     (number_below (2 ^ 64) p.5))
     (as_bool p.4))
-    (moved_at p.3))
+    (moved_told p.3))
     (label_at p.2))
     (name_at p.1))
     (number_below (2 ^ 32) p.0))
@@ -107,12 +107,12 @@ abbrev pub short_of : Data → Option Reply
 short_of d = either (get (codes "names") d) (λ list. option_map Names (names_at list)) (simple_of d)
 
 -- an operation that was made, of two members
-abbrev pub made_of : Data → Option Reply
-made_of d = option_and_then (λ name. option_map (Made name) (field (codes "kind") label_at d)) (field (codes "name") name_at d)
+abbrev pub made_told : Data → Option Reply
+made_told d = option_and_then (λ name. option_map (Made name) (field (codes "kind") label_at d)) (field (codes "name") name_at d)
 
 -- a statement, of three members
-abbrev pub statement_of : Data → Option Reply
-statement_of d = option_and_then (λ start. option_and_then (λ balance. option_map (λ rows.
+abbrev pub statement_told : Data → Option Reply
+statement_told d = option_and_then (λ start. option_and_then (λ balance. option_map (λ rows.
     Statement (record { start = start; rows = rows; balance = balance }))
     (field (codes "rows") rows_at d))
     (field (codes "balance") (number_below (2 ^ 64)) d))
@@ -120,8 +120,8 @@ statement_of d = option_and_then (λ start. option_and_then (λ balance. option_
 
 -- the reply that tells no refusal
 abbrev pub answer_of : Data → Option Reply
-answer_of d = if size_of d == 1 then short_of d else (if size_of d == 2 then made_of d else (if size_of d == 3 then statement_of d else None))
+answer_of d = if size_of d == 1 then short_of d else (if size_of d == 2 then made_told d else (if size_of d == 3 then statement_told d else None))
 
 -- the reply that an object is
-abbrev pub reply_of : Data → Option Reply
-reply_of d = either (get (codes "refused") d) (λ n. option_map Refused (option_and_then (refusal_of d) (number_below (2 ^ 8) n))) (answer_of d)
+abbrev pub reply_told : Data → Option Reply
+reply_told d = either (get (codes "refused") d) (λ n. option_map Refused (option_and_then (refusal_told d) (number_below (2 ^ 8) n))) (answer_of d)

@@ -3,7 +3,7 @@ ghost use Rattle.std.specs.Prelude.{◌≡◌, ◌^◌, option_and_then, option_
 ghost use Rattle.serde_json.specs.View.{view};
 ghost use Rattle.rb_site.specs.declared.reply.Reply.TheVariants.{Names, Refused};
 ghost use Rattle.rb_commands.specs.Lines.{Gives};
-ghost use Rattle.rb_history.specs.RepliesRead.{answer_of, made_of, names_at, refusal_of, reply_of, short_of, simple_of, statement_of};
+ghost use Rattle.rb_history.specs.RepliesRead.{answer_of, made_told, names_at, refusal_told, reply_told, short_of, simple_of, statement_told};
 ghost use Rattle.rb_commands.specs.Values.{number_below};
 ghost use Rattle.rb_history.specs.Fields.{field};
 
@@ -12,9 +12,10 @@ use crate::refusal::refusal;
 use crate::shown::{names, rows};
 use rb_commands::LineFault;
 use rb_commands::values::{byte, long, name, size, word};
+use rb_list::List;
 use rb_shadow::OpName;
-use rb_site::{OpNames, Reply};
-use rb_statements::{Rows, Statement};
+use rb_site::Reply;
+use rb_statements::Statement;
 use serde_json::Value;
 use std::alloc::Global;
 
@@ -49,7 +50,7 @@ fn made_by_batch(alloc: Global, list: &Value) -> Result<Reply, LineFault>
     ensures { Gives result (option_map Names (names_at (view list.now))) }
 {
     match names(alloc, list) {
-        Ok(names) => Ok(Reply::Names(OpNames::new(names))),
+        Ok(names) => Ok(Reply::Names(List::new(names))),
         Err(fault) => Err(fault),
     }
 }
@@ -69,7 +70,7 @@ fn short(alloc: Global, value: &Value) -> Result<Reply, LineFault>
 
 /// An operation that was made, from an object of two members.
 fn made(value: &Value) -> Option<Reply>
-    ensures { result ≡ made_of (view value.now) }
+    ensures { result ≡ made_told (view value.now) }
 {
     let name = name(value.get("name")?)?;
     let kind = label(value.get("kind")?)?;
@@ -78,7 +79,7 @@ fn made(value: &Value) -> Option<Reply>
 
 /// A statement, from an object of three members.
 fn statement(alloc: Global, value: &Value) -> Result<Reply, LineFault>
-    ensures { Gives result (statement_of (view value.now)) }
+    ensures { Gives result (statement_told (view value.now)) }
 {
     let Some(start) = cents(value, "start") else {
         return Err(LineFault::Bad);
@@ -92,7 +93,7 @@ fn statement(alloc: Global, value: &Value) -> Result<Reply, LineFault>
     match rows(alloc, list) {
         Ok(rows) => Ok(Reply::Statement(Statement {
             start,
-            rows: Rows::new(rows),
+            rows: List::new(rows),
             balance,
         })),
         Err(fault) => Err(fault),
@@ -128,7 +129,7 @@ fn answer(alloc: Global, value: &Value) -> Result<Reply, LineFault>
 
 /// A refusal, by the value of its number.
 fn refused(value: &Value, number: &Value) -> Option<Reply>
-    ensures { result ≡ option_map Refused (option_and_then (refusal_of (view value.now)) (number_below (2 ^ 8) (view number.now))) }
+    ensures { result ≡ option_map Refused (option_and_then (refusal_told (view value.now)) (number_below (2 ^ 8) (view number.now))) }
 {
     let number = byte(number)?;
     let refusal = refusal(value, number)?;
@@ -137,7 +138,7 @@ fn refused(value: &Value, number: &Value) -> Option<Reply>
 
 /// The reply that an object is.
 pub fn reply(alloc: Global, value: &Value) -> Result<Reply, LineFault>
-    ensures { Gives result (reply_of (view value.now)) }
+    ensures { Gives result (reply_told (view value.now)) }
 {
     let Some(number) = value.get("refused") else {
         return answer(alloc, value);

@@ -4,27 +4,15 @@ ghost use Rattle.rb_money.specs.declared.limits.TheConstants.{MOST_SITES};
 ghost use Rattle.serde_json.specs.View.{items_view, view};
 ghost use Rattle.serde_json.specs.Written.{compact_text};
 ghost use Rattle.rb_commands.specs.Adds.{Adds};
-ghost use Rattle.rb_commands.specs.Values.{list_json, number_json};
-ghost use Rattle.rb_history.specs.Counts.{blue_at, blue_json, counts_at, numbered, numbered_at, numbered_in, numbered_json, widened};
+ghost use Rattle.rb_commands.specs.Values.{list_json};
+ghost use Rattle.rb_history.specs.Counts.{blue_at, blue_json, counts_at, numbered_from, numbered_at, numbered_in, numbered_json, widened};
 
+use crate::numbers::append_numbers;
 use rb_commands::append::{append, append_number};
 use rb_commands::values::{byte, pair, word};
 use rb_money::{MOST_SITES, MOST_SITES_OF_VERSION_1};
 use serde_json::Value;
 use std::alloc::AllocError;
-
-/// A list of counts.
-fn append_counts(out: &mut Vec<u8>, counts: &[u32]) -> Result<(), AllocError>
-    ensures { Adds result out.old.items out.new.items (compact_text (list_json number_json counts.now)) }
-{
-    append(out, "[")?;
-    let mut comma = "";
-    for count in counts {
-        append_number(out, comma, *count as u64, "")?;
-        comma = ",";
-    }
-    append(out, "]")
-}
 
 /// A site's number and its count, behind a text.
 fn append_one(out: &mut Vec<u8>, comma: &str, site: u64, count: u32) -> Result<(), AllocError>
@@ -54,7 +42,7 @@ fn append_some<'a>(
 
 /// The counts above 0, each behind its site's number.
 fn append_numbered(out: &mut Vec<u8>, counts: &[u32]) -> Result<(), AllocError>
-    ensures { Adds result out.old.items out.new.items (compact_text (list_json numbered_json (numbered 0 counts.now))) }
+    ensures { Adds result out.old.items out.new.items (compact_text (list_json numbered_json (numbered_from 0 counts.now))) }
 {
     append(out, "[")?;
     let mut comma = "";
@@ -75,7 +63,7 @@ pub fn append_blue(
     ensures { Adds result out.old.items out.new.items (compact_text (blue_json version counts.now)) }
 {
     if version == 1 {
-        append_counts(out, &counts[..MOST_SITES_OF_VERSION_1])
+        append_numbers(out, &counts[..MOST_SITES_OF_VERSION_1])
     } else {
         append_numbered(out, counts)
     }

@@ -3,10 +3,10 @@ ghost use Rattle.std.specs.Prelude.{◌≡◌, ◌<◌, ◌++◌, codes, string_
 ghost use Rattle.serde_json.specs.View.{view};
 ghost use Rattle.serde_json.specs.Written.{compact_text};
 ghost use Rattle.rb_commands.specs.Adds.{Adds};
-ghost use Rattle.rb_history.specs.Entries.{entry_at, entry_json, entry_of};
+ghost use Rattle.rb_history.specs.Entries.{entry_of_line, entry_json, entry_of_object};
 ghost use Rattle.rb_commands.specs.Lines.{Gives};
 ghost use Rattle.rb_history.specs.Recorded.{event_at, recorded_of};
-ghost use Rattle.rb_history.specs.RepliesRead.{reply_of};
+ghost use Rattle.rb_history.specs.RepliesRead.{reply_told};
 ghost use Rattle.rb_commands.specs.Values.{number_below};
 ghost use Rattle.rb_history.specs.Fields.{field};
 
@@ -63,7 +63,7 @@ fn event(alloc: Global, config: &Config, value: &Value) -> Result<Event, LineFau
 
 /// The reply of an entry.
 fn answer(alloc: Global, value: &Value) -> Result<Reply, LineFault>
-    ensures { Gives result (field (codes "reply") reply_of (view value.now)) }
+    ensures { Gives result (field (codes "reply") reply_told (view value.now)) }
 {
     match value.get("reply") {
         Some(answer) => reply(alloc, answer),
@@ -85,7 +85,7 @@ fn site(config: &Config, value: &Value) -> Option<u8>
 
 /// An entry of a site, from an object of three members.
 fn entry(alloc: Global, config: &Config, value: &Value) -> Result<(u8, Entry), LineFault>
-    ensures { Gives result (entry_of config.now (view value.now)) }
+    ensures { Gives result (entry_of_object config.now (view value.now)) }
 {
     if size(value) != 3 {
         return Err(LineFault::Bad);
@@ -105,7 +105,7 @@ fn entry(alloc: Global, config: &Config, value: &Value) -> Result<(u8, Entry), L
 /// site gives, and `why` and the number that stopped a batch may be any byte; but a line that tells want of
 /// memory is bad, as is one of a site that the configuration doesn't have.
 pub fn read_line(alloc: Global, config: &Config, line: &str) -> Result<(u8, Entry), LineFault>
-    ensures read { Gives result (entry_at config.now line.now) }
+    ensures read { Gives result (entry_of_line config.now line.now) }
     ensures site { IfOk result (λ x. x.0 < config.now.sites) }
 {
     if let Some(read) = usual_entry(alloc, config, line) {

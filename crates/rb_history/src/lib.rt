@@ -8,6 +8,7 @@ mod entry;
 mod event;
 mod items;
 mod label;
+mod numbers;
 mod receipt;
 mod refusal;
 mod shadow;

@@ -1,7 +1,7 @@
 //! Refusals, read from a history's line.
 ghost use Rattle.std.specs.Prelude.{◌≡◌, option_and_then};
 ghost use Rattle.serde_json.specs.View.{view};
-ghost use Rattle.rb_history.specs.RepliesRead.{batch_of, behind_of, cancelled_of, cause_at, find_refusal, is_declined, message_of, plain_of, plain_refusals, refusal_of};
+ghost use Rattle.rb_history.specs.RepliesRead.{refused_batch_told, behind_of, cancelled_of, cause_at, find_refusal, tells_declined, bad_message_told, plain_of, plain_refusals, refusal_told};
 
 use rb_commands::values::{byte, size, word};
 use rb_money::{Cause, Refusal};
@@ -9,7 +9,7 @@ use serde_json::Value;
 
 /// Whether a value is the word of a declined withdrawal.
 fn is_declined(value: &Value) -> bool
-    ensures { result ≡ is_declined (view value.now) }
+    ensures { result ≡ tells_declined (view value.now) }
 {
     match value.as_str() {
         Some(word) => word == "declined",
@@ -52,7 +52,7 @@ fn behind(value: &Value) -> Option<Refusal>
 }
 
 fn batch(value: &Value) -> Option<Refusal>
-    ensures { result ≡ batch_of (view value.now) }
+    ensures { result ≡ refused_batch_told (view value.now) }
 {
     if size(value) != 3 {
         return None;
@@ -63,7 +63,7 @@ fn batch(value: &Value) -> Option<Refusal>
 }
 
 fn message(value: &Value) -> Option<Refusal>
-    ensures { result ≡ message_of (view value.now) }
+    ensures { result ≡ bad_message_told (view value.now) }
 {
     if size(value) != 2 {
         return None;
@@ -126,7 +126,7 @@ fn plain(value: &Value, number: u8) -> Option<Refusal>
 
 /// The refusal of this number that an object tells.
 pub fn refusal(value: &Value, number: u8) -> Option<Refusal>
-    ensures { result ≡ refusal_of (view value.now) number }
+    ensures { result ≡ refusal_told (view value.now) number }
 {
     if number == 6 {
         return cancelled(value);

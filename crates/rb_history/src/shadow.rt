@@ -42,10 +42,7 @@ fn append_target(out: &mut Vec<u8>, kind: Kind) -> Result<(), AllocError>
 {
     match kind {
         Kind::Cancel { target } => append_named(out, ",\"target\":", target, "}"),
-        Kind::Deposit => append(out, "}"),
-        Kind::Withdraw => append(out, "}"),
-        Kind::Declined => append(out, "}"),
-        Kind::Interest => append(out, "}"),
+        _ => append(out, "}"),
     }
 }
 

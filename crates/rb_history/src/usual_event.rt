@@ -7,9 +7,10 @@ ghost use Rattle.rb_history.specs.Tells.{TellsEach, TellsEvent, TellsRequest};
 use crate::usual_part::{account_between, asked, byte_between, name_between, word_between};
 use crate::usual_shadow::usual_shadow;
 use rb_commands::scan::after;
+use rb_list::List;
 use rb_money::Config;
 use rb_scratch::Request;
-use rb_site::{Event, Message, Requests};
+use rb_site::{Event, Message};
 use rb_token::TokenMessage;
 use std::alloc::Global;
 
@@ -89,7 +90,7 @@ fn batch<'a>(alloc: Global, config: &Config, text: &'a str) -> Option<(Event, &'
     ensures { IfSome result (λ p. TellsEvent config.now p.0 text.now p.1.now) }
 {
     let (requests, rest) = requests(alloc, config, after(text, "{\"batch\":[")?)?;
-    Some((Event::Batch(Requests::new(requests)), after(rest, "}")?))
+    Some((Event::Batch(List::new(requests)), after(rest, "}")?))
 }
 
 fn shadow<'a>(config: &Config, text: &'a str) -> Option<(Event, &'a str)>

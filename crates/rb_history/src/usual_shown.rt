@@ -7,14 +7,15 @@ ghost use Rattle.serde_json.specs.Written.{compact_text};
 ghost use Rattle.rb_shadow.specs.NameText.{IsName};
 ghost use Rattle.rb_commands.specs.Statements.{row_json};
 ghost use Rattle.rb_commands.specs.Values.{name_json};
-ghost use Rattle.rb_history.specs.Fits.{IsMoved, IsRow};
+ghost use Rattle.rb_history.specs.Fits.{IsMoved, IsStatementRow};
 ghost use Rattle.rb_history.specs.Tells.{TellsEach, TellsReply};
 
 use crate::usual_part::{label, long_between, name, word_between};
 use rb_commands::scan::{after, number};
+use rb_list::List;
 use rb_shadow::OpName;
-use rb_site::{OpNames, Reply};
-use rb_statements::{Row, Rows, Statement};
+use rb_site::Reply;
+use rb_statements::{Row, Statement};
 use std::alloc::Global;
 
 /// The names of a list, and its closing bracket.
@@ -43,7 +44,7 @@ pub fn names<'a>(alloc: Global, text: &'a str) -> Option<(Reply, &'a str)>
     ensures { IfSome result (λ p. TellsReply p.0 text.now p.1.now) }
 {
     let (names, rest) = list(alloc, after(text, "{\"names\":[")?)?;
-    Some((Reply::Names(OpNames::new(names)), after(rest, "}")?))
+    Some((Reply::Names(List::new(names)), after(rest, "}")?))
 }
 
 /// What an entry moved, with its sign where it is negative.
@@ -76,7 +77,7 @@ fn cancelled(text: &str) -> Option<(bool, &str)>
 
 /// A row, in the list of its parts.
 fn row(text: &str) -> Option<(Row, &str)>
-    ensures { IfSome result (λ p. IsRow p.0 × (text.now ≡ compact_text (row_json p.0) ++ p.1.now)) }
+    ensures { IfSome result (λ p. IsStatementRow p.0 × (text.now ≡ compact_text (row_json p.0) ++ p.1.now)) }
 {
     let (position, rest) = word_between(text, "[", ",\"")?;
     let (name, rest) = name(rest)?;
@@ -97,7 +98,7 @@ fn row(text: &str) -> Option<(Row, &str)>
 
 /// The rows of a list, and its closing bracket.
 fn rows<'a>(alloc: Global, text: &'a str) -> Option<(Vec<Row>, &'a str)>
-    ensures { IfSome result (λ p. TellsEach row_json IsRow p.0.items text.now p.1.now) }
+    ensures { IfSome result (λ p. TellsEach row_json IsStatementRow p.0.items text.now p.1.now) }
 {
     let mut rows = Vec::new(alloc);
     let mut left = text;
@@ -125,7 +126,7 @@ pub fn statement<'a>(alloc: Global, text: &'a str) -> Option<(Reply, &'a str)>
     let (start, rest) = long_between(rest, ",\"start\":", "}")?;
     let shown = Statement {
         start,
-        rows: Rows::new(rows),
+        rows: List::new(rows),
         balance,
     };
     Some((Reply::Statement(shown), rest))

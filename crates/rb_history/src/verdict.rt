@@ -1,42 +1,27 @@
 //! The verdict: the line that an audit answers.
-ghost use Rattle.std.specs.Prelude.{◌≡◌, ◌++◌, IfOk};
+ghost use Rattle.std.specs.Prelude.{◌≡◌, IfOk};
 ghost use Rattle.serde_json.specs.Written.{compact_text};
 ghost use Rattle.rb_commands.specs.Adds.{Adds};
 ghost use Rattle.rb_history.specs.Verdicts.{verdict_line, order_json, stuck_json, wrong_reply_json};
-ghost use Rattle.rb_commands.specs.Values.{number_json};
 
+use crate::numbers::append_numbers;
 use rb_commands::append::{append, append_number};
 use std::alloc::{AllocError, Global};
-
-/// A number, behind a text.
-fn append_listed(out: &mut Vec<u8>, comma: &str, n: u64) -> Result<(), AllocError>
-    ensures { Adds result out.old.items out.new.items (comma.now ++ compact_text (number_json n)) }
-{
-    append_number(out, comma, n, "")
-}
 
 fn append_order(out: &mut Vec<u8>, order: &[u8]) -> Result<(), AllocError>
     ensures { Adds result out.old.items out.new.items (compact_text (order_json order.now)) }
 {
-    append(out, "{\"order\":[")?;
-    let mut comma = "";
-    for site in order {
-        append_listed(out, comma, *site as u64)?;
-        comma = ",";
-    }
-    append(out, "]}")
+    append(out, "{\"order\":")?;
+    append_numbers(out, order)?;
+    append(out, "}")
 }
 
 fn append_stuck(out: &mut Vec<u8>, next: &[u32]) -> Result<(), AllocError>
     ensures { Adds result out.old.items out.new.items (compact_text (stuck_json next.now)) }
 {
-    append(out, "{\"fault\":\"stuck\",\"next\":[")?;
-    let mut comma = "";
-    for number in next {
-        append_listed(out, comma, *number as u64)?;
-        comma = ",";
-    }
-    append(out, "]}")
+    append(out, "{\"fault\":\"stuck\",\"next\":")?;
+    append_numbers(out, next)?;
+    append(out, "}")
 }
 
 fn append_wrong_reply(out: &mut Vec<u8>, site: u8, event: u32) -> Result<(), AllocError>

@@ -4,12 +4,13 @@ use Rattle.std.specs.Prelude.{Some, None, filter, insert, remove, nat_lt}
 use Rattle.std.proofs.lemmas.Bool.Decides.{nat_tests}
 use Rattle.std.proofs.lemmas.List.{get_or_default, get_or_past}
 use Rattle.std.proofs.lemmas.List.Edits.{length-remove}
-use Rattle.rb_shadow.specs.Operations.{Among, find_in, same_name}
+use Rattle.rb_shadow.specs.Operations.{Among, find_in, same_name, row_of}
 use Rattle.rb_shadow.specs.declared.op_name.OpName.{OpName}
 use Rattle.rb_shadow.specs.declared.shadow.Shadow.{Shadow}
-use Rattle.rb_inbox.specs.Held.{IsNumbered, place_in, stands_before, with_held, without}
-use Rattle.rb_inbox.specs.Rows.{AreCounted, AreRows, IsRow, held_of, row_of}
-use Rattle.rb_inbox.proofs.Order.{found_within, held_cases, in_order-filter, in_order-with_held, insert-place, kept_among, remove-place}
+use Rattle.rb_inbox.specs.Held.{IsNumbered, held_before, stands_before, with_held, without}
+use Rattle.rb_inbox.specs.Rows.{AreCounted, AreHeldRows, IsHeldRow, held_of}
+use Rattle.rb_inbox.proofs.Order.{found_within, in_order-filter, in_order-with_held, insert-index, remove-index}
+use Rattle.rb_inbox.proofs.Public.Holding.{held_cases, kept_among}
 use Rattle.rb_inbox.proofs.Rows.{find_in_row, held-change, held-length, held-more, is_of, putting, removing, row_at, row_is, rows-more, rows-set}
 
 -- ---- the row of a name
@@ -19,11 +20,11 @@ pub finds : (row held : List Shadow) (x : OpName) (r : ℕ) → r ≡ row_of x �
 finds row held x r e h =
     ap (λ (us : List Shadow). find_in us x) (h ∙ ap (λ (k : ℕ). filter (is_of k) held) e) ∙ find_in_row held x
 
-pub finds_at : (rows : List (List Shadow)) (x : OpName) (r : ℕ) → r ≡ row_of x → AreRows 0 rows → find_in (get_or rows r []) x ≡ find_in (held_of rows) x
+pub finds_at : (rows : List (List Shadow)) (x : OpName) (r : ℕ) → r ≡ row_of x → AreHeldRows 0 rows → find_in (get_or rows r []) x ≡ find_in (held_of rows) x
 finds_at rows x r e h = finds (get_or rows r []) (held_of rows) x r e (row_is rows r h)
 
 -- what is held has a row
-pub row_within : (rows : List (List Shadow)) (x : OpName) (u : Shadow) (r : ℕ) → r ≡ row_of x → AreRows 0 rows → find_in (held_of rows) x ≡ Some u → r < length rows
+pub row_within : (rows : List (List Shadow)) (x : OpName) (u : Shadow) (r : ℕ) → r ≡ row_of x → AreHeldRows 0 rows → find_in (held_of rows) x ≡ Some u → r < length rows
 row_within rows x u r e h found = at (nat_lt r (length rows)) refl
   where
     at : (b : Bool) → nat_lt r (length rows) ≡ b → r < length rows
@@ -34,9 +35,9 @@ row_within rows x u r e h found = at (nat_lt r (length rows)) refl
         let some : find_in (get_or rows r []) x ≡ Some u = finds_at rows x r e h ∙ found in cc)
 
 -- the place of a held name is one of its row
-pub place_within : (rows : List (List Shadow)) (x : OpName) (u : Shadow) (r : ℕ) → r ≡ row_of x → AreRows 0 rows → find_in (held_of rows) x ≡ Some u
-    → place_in (get_or rows r []) x < length (get_or rows r [])
-place_within rows x u r e h found = found_within (get_or rows r []) x u (row_at rows r h).in_order (finds_at rows x r e h ∙ found)
+pub index_within : (rows : List (List Shadow)) (x : OpName) (u : Shadow) (r : ℕ) → r ≡ row_of x → AreHeldRows 0 rows → find_in (held_of rows) x ≡ Some u
+    → held_before (get_or rows r []) x < length (get_or rows r [])
+index_within rows x u r e h found = found_within (get_or rows r []) x u (row_at rows r h).in_order (finds_at rows x r e h ∙ found)
 
 -- a row that was read at its place
 pub row_there : (rows : List (List Shadow)) (r : ℕ) (row : List Shadow) → r < length rows → row ≡ get_or rows r row → row ≡ get_or rows r []
@@ -46,9 +47,9 @@ pub slice_there : (rows items : List (List Shadow)) (r : ℕ) (row slice : List 
 slice_there rows items r row slice same l e s = s ∙ row_there items r row l e ∙ ap (λ (ws : List (List Shadow)). get_or ws r []) same
 
 -- a row that was changed at the place of a name
-pub changed_there : (f : List Shadow → ℕ → List Shadow) (row old looked there : List Shadow) (place : ℕ) (x : OpName)
-    → row ≡ f old place → old ≡ there → place ≡ place_in looked x → looked ≡ there → row ≡ f there (place_in there x)
-changed_there f row old looked there place x made o p l = made ∙ ap (λ us. f us place) o ∙ ap (f there) (p ∙ ap (λ us. place_in us x) l)
+pub changed_there : (f : List Shadow → ℕ → List Shadow) (row old looked there : List Shadow) (index : ℕ) (x : OpName)
+    → row ≡ f old index → old ≡ there → index ≡ held_before looked x → looked ≡ there → row ≡ f there (held_before there x)
+changed_there f row old looked there index x made o p l = made ∙ ap (λ us. f us index) o ∙ ap (f there) (p ∙ ap (λ us. held_before us x) l)
 
 -- ---- the rows after a change
 
@@ -58,7 +59,7 @@ grown rows more count n e h = subst (λ ws. AreCounted ws count) (sym e) (record
 pub grown_holds : (rows more : List (List Shadow)) (n : ℕ) → more ≡ rows ++ replicate n [] → held_of more ≡ held_of rows
 grown_holds rows more n e = ap held_of e ∙ held-more rows n
 
-row-put : (r : ℕ) (v : Shadow) (us : List Shadow) → IsRow r us → r ≡ row_of v.name → IsNumbered v → find_in us v.name ≡ None → IsRow r (with_held v us)
+row-put : (r : ℕ) (v : Shadow) (us : List Shadow) → IsHeldRow r us → r ≡ row_of v.name → IsNumbered v → find_in us v.name ≡ None → IsHeldRow r (with_held v us)
 row-put r v us h e numbered new = record {
   placed = λ u a. by u (held_cases v us u a);
   in_order = in_order-with_held v us h.in_order new;
@@ -73,7 +74,7 @@ row-put r v us h e numbered new = record {
     here u (inl q) = subst IsNumbered (sym q) numbered
     here u (inr a) = h.numbered u a
 
-row-without : (r : ℕ) (x : OpName) (us : List Shadow) → IsRow r us → IsRow r (without x us)
+row-without : (r : ℕ) (x : OpName) (us : List Shadow) → IsHeldRow r us → IsHeldRow r (without x us)
 row-without r x us h = record {
   placed = λ u a. h.placed u (kept_among (λ (w : Shadow). not (same_name w.name x)) us u a);
   in_order = in_order-filter (λ (w : Shadow). not (same_name w.name x)) us h.in_order;
@@ -90,33 +91,33 @@ with_held-length v (u ∷ us) = at (stands_before v.name u.name) (with_held-leng
 
 -- the row of a new operation has it in its place
 pub after_put : (rows : List (List Shadow)) (count : ℕ) (v : Shadow) (r : ℕ) (row : List Shadow) → AreCounted rows count → IsNumbered v → find_in (held_of rows) v.name ≡ None
-    → r ≡ row_of v.name → r < length rows → row ≡ insert (get_or rows r []) (place_in (get_or rows r []) v.name) v
+    → r ≡ row_of v.name → r < length rows → row ≡ insert (get_or rows r []) (held_before (get_or rows r []) v.name) v
     → AreCounted (set rows r row) (count + 1) × (held_of (set rows r row) ≡ with_held v (held_of rows))
 after_put rows count v r row h numbered new e l made = (
   record {
-    each = rows-set rows r row h.each (subst (IsRow r) (sym is) (row-put r v (get_or rows r []) was e numbered none));
+    each = rows-set rows r row h.each (subst (IsHeldRow r) (sym is) (row-put r v (get_or rows r []) was e numbered none));
     counted = omega (arith, h.counted, held-length rows r row l, ap length is, with_held-length v (get_or rows r []));
   },
   ap (λ us. held_of (set rows r us)) is ∙ held-change v.name (with_held v) (putting v) rows r e h.each l,
 )
   where
-    was : IsRow r (get_or rows r [])
+    was : IsHeldRow r (get_or rows r [])
     was = row_at rows r h.each
 
     none : find_in (get_or rows r []) v.name ≡ None
     none = finds_at rows v.name r e h.each ∙ new
 
     is : row ≡ with_held v (get_or rows r [])
-    is = made ∙ insert-place v (get_or rows r []) was.in_order none
+    is = made ∙ insert-index v (get_or rows r []) was.in_order none
 
 -- the row of a held name is without it
 pub after_remove : (rows : List (List Shadow)) (count : ℕ) (x : OpName) (u : Shadow) (r : ℕ) (row : List Shadow) → AreCounted rows count → find_in (held_of rows) x ≡ Some u
-    → r ≡ row_of x → row ≡ remove (get_or rows r []) (place_in (get_or rows r []) x)
+    → r ≡ row_of x → row ≡ remove (get_or rows r []) (held_before (get_or rows r []) x)
     → AreCounted (set rows r row) (count - 1) × (held_of (set rows r row) ≡ without x (held_of rows))
 after_remove rows count x u r row h found e made = (
   record {
-    each = rows-set rows r row h.each (subst (IsRow r) (sym is) (row-without r x (get_or rows r []) was));
-    counted = omega (arith, h.counted, held-length rows r row within, ap length made, length-remove (get_or rows r []) (place_in (get_or rows r []) x) (place_within rows x u r e h.each found));
+    each = rows-set rows r row h.each (subst (IsHeldRow r) (sym is) (row-without r x (get_or rows r []) was));
+    counted = omega (arith, h.counted, held-length rows r row within, ap length made, length-remove (get_or rows r []) (held_before (get_or rows r []) x) (index_within rows x u r e h.each found));
   },
   ap (λ us. held_of (set rows r us)) is ∙ held-change x (without x) (removing x) rows r e h.each within,
 )
@@ -124,8 +125,8 @@ after_remove rows count x u r row h found e made = (
     within : r < length rows
     within = row_within rows x u r e h.each found
 
-    was : IsRow r (get_or rows r [])
+    was : IsHeldRow r (get_or rows r [])
     was = row_at rows r h.each
 
     is : row ≡ without x (get_or rows r [])
-    is = made ∙ remove-place (get_or rows r []) x u was.in_order (finds_at rows x r e h.each ∙ found)
+    is = made ∙ remove-index (get_or rows r []) x u was.in_order (finds_at rows x r e h.each ∙ found)

@@ -8,8 +8,8 @@ use Rattle.rb_shadow.specs.Operations.{Among, find_in, same_name}
 use Rattle.rb_shadow.specs.declared.op_name.OpName.{OpName}
 use Rattle.rb_shadow.specs.declared.op_name.OpName.TheVariants.{Blue, Red}
 use Rattle.rb_shadow.specs.declared.shadow.Shadow.{Shadow}
-use Rattle.rb_shadow.proofs.Members
-use Rattle.rb_inbox.specs.Held.{Holding, IsInOrder, StandsBeforeAll, place_in, stands_before, with_held, without}
+use Rattle.rb_shadow.proofs.Public.Members
+use Rattle.rb_inbox.specs.Held.{Holding, IsInOrder, StandsBeforeAll, held_before, stands_before, with_held, without}
 
 pub before-trans : (x y z : OpName) → stands_before x y ≡ true → stands_before y z ≡ true → stands_before x z ≡ true
 before-trans (Blue i m) (Blue j n) (Blue k p) h l = grind (arith, nat_tests)
@@ -97,25 +97,25 @@ in_order-filter p (u ∷ us) h = at (p u) (in_order-filter p us h.1)
 -- ---- the place of a name
 
 -- past the end nothing is of the name
-pub find-past : (us : List Shadow) (x : OpName) → IsInOrder us → length us ≤ place_in us x → find_in us x ≡ None
+pub find-past : (us : List Shadow) (x : OpName) → IsInOrder us → length us ≤ held_before us x → find_in us x ≡ None
 find-past [] x h l = refl
 find-past (u ∷ us) x h l = at (stands_before u.name x) refl l (find-past us x h.1)
   where
-    at : (b : Bool) → stands_before u.name x ≡ b → suc (length us) ≤ cond b (suc (place_in us x)) 0 → (length us ≤ place_in us x → find_in us x ≡ None)
+    at : (b : Bool) → stands_before u.name x ≡ b → suc (length us) ≤ cond b (suc (held_before us x)) 0 → (length us ≤ held_before us x → find_in us x ≡ None)
         → cond (same_name u.name x) (Some u) (find_in us x) ≡ None
     at true e l rest = ap (λ s. cond s (Some u) (find_in us x)) (before-not_same u.name x e) ∙ rest (omega arith)
     at false e l rest = absurd (omega arith)
 
 -- what stands in the place is the operation of the name, if that is its name
-pub find-place : (us : List Shadow) (x : OpName) (d : Shadow) → IsInOrder us → place_in us x < length us
-    → find_in us x ≡ cond (same_name (get_or us (place_in us x) d).name x) (Some (get_or us (place_in us x) d)) None
-find-place [] x d h l = absurd (omega arith)
-find-place (u ∷ us) x d h l = at (stands_before u.name x) refl l (find-place us x d h.1)
+pub find-index : (us : List Shadow) (x : OpName) (d : Shadow) → IsInOrder us → held_before us x < length us
+    → find_in us x ≡ cond (same_name (get_or us (held_before us x) d).name x) (Some (get_or us (held_before us x) d)) None
+find-index [] x d h l = absurd (omega arith)
+find-index (u ∷ us) x d h l = at (stands_before u.name x) refl l (find-index us x d h.1)
   where
-    at : (b : Bool) → stands_before u.name x ≡ b → cond b (suc (place_in us x)) 0 < suc (length us)
-        → (place_in us x < length us → find_in us x ≡ cond (same_name (get_or us (place_in us x) d).name x) (Some (get_or us (place_in us x) d)) None)
+    at : (b : Bool) → stands_before u.name x ≡ b → cond b (suc (held_before us x)) 0 < suc (length us)
+        → (held_before us x < length us → find_in us x ≡ cond (same_name (get_or us (held_before us x) d).name x) (Some (get_or us (held_before us x) d)) None)
         → cond (same_name u.name x) (Some u) (find_in us x)
-        ≡ cond (same_name (get_or (u ∷ us) (cond b (suc (place_in us x)) 0) d).name x) (Some (get_or (u ∷ us) (cond b (suc (place_in us x)) 0) d)) None
+        ≡ cond (same_name (get_or (u ∷ us) (cond b (suc (held_before us x)) 0) d).name x) (Some (get_or (u ∷ us) (cond b (suc (held_before us x)) 0) d)) None
     at true e l rest = ap (λ s. cond s (Some u) (find_in us x)) (before-not_same u.name x e) ∙ rest (omega arith)
     at false e l rest = here (same_name u.name x) refl
       where
@@ -124,41 +124,41 @@ find-place (u ∷ us) x d h l = at (stands_before u.name x) refl l (find-place u
         here false q = before_all-find x us (before_all-trans x u.name us (before-other_way u.name x q e) h.0)
 
 -- the same, where a read of the place gives an operation of the name, or of another
-pub find-same : (us : List Shadow) (x : OpName) (u : Shadow) → IsInOrder us → place_in us x < length us → u ≡ get_or us (place_in us x) u → u.name ≡ x → Some u ≡ find_in us x
+pub find-same : (us : List Shadow) (x : OpName) (u : Shadow) → IsInOrder us → held_before us x < length us → u ≡ get_or us (held_before us x) u → u.name ≡ x → Some u ≡ find_in us x
 find-same us x u h l e q =
-    sym (find-place us x u h l ∙ ap (λ (w : Shadow). cond (same_name w.name x) (Some w) None) (sym e)
+    sym (find-index us x u h l ∙ ap (λ (w : Shadow). cond (same_name w.name x) (Some w) None) (sym e)
     ∙ ap (λ b. cond b (Some u) None) (ap (same_name u.name) (sym q) ∙ Members.same_name-refl u.name))
 
-pub find-other : (us : List Shadow) (x : OpName) (u : Shadow) → IsInOrder us → place_in us x < length us → u ≡ get_or us (place_in us x) u → (u.name ≡ x → ⊥) → None ≡ find_in us x
+pub find-other : (us : List Shadow) (x : OpName) (u : Shadow) → IsInOrder us → held_before us x < length us → u ≡ get_or us (held_before us x) u → (u.name ≡ x → ⊥) → None ≡ find_in us x
 find-other us x u h l e q =
-    sym (find-place us x u h l ∙ ap (λ (w : Shadow). cond (same_name w.name x) (Some w) None) (sym e)
+    sym (find-index us x u h l ∙ ap (λ (w : Shadow). cond (same_name w.name x) (Some w) None) (sym e)
     ∙ ap (λ b. cond b (Some u) None) (Members.not_same u.name x q))
 
-pub found_within : (us : List Shadow) (x : OpName) (u : Shadow) → IsInOrder us → find_in us x ≡ Some u → place_in us x < length us
-found_within us x u h e = at (nat_lt (place_in us x) (length us)) refl
+pub found_within : (us : List Shadow) (x : OpName) (u : Shadow) → IsInOrder us → find_in us x ≡ Some u → held_before us x < length us
+found_within us x u h e = at (nat_lt (held_before us x) (length us)) refl
   where
-    at : (b : Bool) → nat_lt (place_in us x) (length us) ≡ b → place_in us x < length us
+    at : (b : Bool) → nat_lt (held_before us x) (length us) ≡ b → held_before us x < length us
     at true q = grind (arith, nat_tests)
     at false q = absurd (let none : find_in us x ≡ None = find-past us x h (grind (arith, nat_tests)) in cc)
 
-pub insert-place : (v : Shadow) (us : List Shadow) → IsInOrder us → find_in us v.name ≡ None → insert us (place_in us v.name) v ≡ with_held v us
-insert-place v [] h new = refl
-insert-place v (u ∷ us) h new = at (stands_before u.name v.name) (same_name u.name v.name) refl refl new (λ k. insert-place v us h.1 k)
+pub insert-index : (v : Shadow) (us : List Shadow) → IsInOrder us → find_in us v.name ≡ None → insert us (held_before us v.name) v ≡ with_held v us
+insert-index v [] h new = refl
+insert-index v (u ∷ us) h new = at (stands_before u.name v.name) (same_name u.name v.name) refl refl new (λ k. insert-index v us h.1 k)
   where
     at : (b s : Bool) → stands_before u.name v.name ≡ b → same_name u.name v.name ≡ s → cond s (Some u) (find_in us v.name) ≡ None
-        → (find_in us v.name ≡ None → insert us (place_in us v.name) v ≡ with_held v us)
-        → insert (u ∷ us) (cond b (suc (place_in us v.name)) 0) v ≡ cond (stands_before v.name u.name) (v ∷ u ∷ us) (u ∷ with_held v us)
+        → (find_in us v.name ≡ None → insert us (held_before us v.name) v ≡ with_held v us)
+        → insert (u ∷ us) (cond b (suc (held_before us v.name)) 0) v ≡ cond (stands_before v.name u.name) (v ∷ u ∷ us) (u ∷ with_held v us)
     at b true e q new rest = absurd (cc)
     at true false e q new rest = ap (λ ws. u ∷ ws) (rest new) ∙ ap (λ c. cond c (v ∷ u ∷ us) (u ∷ with_held v us)) (sym (before-one_way u.name v.name e))
     at false false e q new rest = ap (λ c. cond c (v ∷ u ∷ us) (u ∷ with_held v us)) (sym (before-other_way u.name v.name q e))
 
-pub remove-place : (us : List Shadow) (x : OpName) (u : Shadow) → IsInOrder us → find_in us x ≡ Some u → remove us (place_in us x) ≡ without x us
-remove-place [] x w h found = absurd (cc)
-remove-place (u ∷ us) x w h found = at (stands_before u.name x) (same_name u.name x) refl refl found (λ k. remove-place us x w h.1 k)
+pub remove-index : (us : List Shadow) (x : OpName) (u : Shadow) → IsInOrder us → find_in us x ≡ Some u → remove us (held_before us x) ≡ without x us
+remove-index [] x w h found = absurd (cc)
+remove-index (u ∷ us) x w h found = at (stands_before u.name x) (same_name u.name x) refl refl found (λ k. remove-index us x w h.1 k)
   where
     at : (b s : Bool) → stands_before u.name x ≡ b → same_name u.name x ≡ s → cond s (Some u) (find_in us x) ≡ Some w
-        → (find_in us x ≡ Some w → remove us (place_in us x) ≡ without x us)
-        → remove (u ∷ us) (cond b (suc (place_in us x)) 0) ≡ cond (not s) (u ∷ without x us) (without x us)
+        → (find_in us x ≡ Some w → remove us (held_before us x) ≡ without x us)
+        → remove (u ∷ us) (cond b (suc (held_before us x)) 0) ≡ cond (not s) (u ∷ without x us) (without x us)
     at true true e q found rest = absurd (Members.true≢false (sym q ∙ before-not_same u.name x e))
     at true false e q found rest = ap (λ ws. u ∷ ws) (rest found)
     at false true e q found rest = sym (before_all-without x us (subst (λ y. StandsBeforeAll y us) (Members.same_name-true u.name x q) h.0))
@@ -178,14 +178,14 @@ parted (u ∷ us) x h zero (suc j) d up l e = before-trans u.name (get_or us j d
 parted (u ∷ us) x h (suc i) zero d up l e = absurd (omega arith)
 parted (u ∷ us) x h (suc i) (suc j) d up l e = parted us x h.1 i j d (omega arith) (omega arith) e
 
-pub point-place : (us : List Shadow) (x : OpName) (i : ℕ) → i ≤ length us
-    → IsPartitionPoint (λ (u : Shadow). stands_before u.name x ≡ true) (λ (u : Shadow). stands_before u.name x ≡ false) us i → i ≡ place_in us x
-point-place [] x zero l h = refl
-point-place [] x (suc i) l h = absurd (omega arith)
-point-place (u ∷ us) x zero l h = ap (λ b. cond b (suc (place_in us x)) 0) (sym (h.1 0 u (omega arith) (omega arith)))
-point-place (u ∷ us) x (suc i) l h =
-    ap suc (point-place us x i (omega arith) (λ k d low high. h.0 (suc k) d (omega arith) (omega arith), λ k d low high. h.1 (suc k) d (omega arith) (omega arith)))
-    ∙ ap (λ b. cond b (suc (place_in us x)) 0) (sym (h.0 0 u (omega arith) (omega arith)))
+pub point-index : (us : List Shadow) (x : OpName) (i : ℕ) → i ≤ length us
+    → IsPartitionPoint (λ (u : Shadow). stands_before u.name x ≡ true) (λ (u : Shadow). stands_before u.name x ≡ false) us i → i ≡ held_before us x
+point-index [] x zero l h = refl
+point-index [] x (suc i) l h = absurd (omega arith)
+point-index (u ∷ us) x zero l h = ap (λ b. cond b (suc (held_before us x)) 0) (sym (h.1 0 u (omega arith) (omega arith)))
+point-index (u ∷ us) x (suc i) l h =
+    ap suc (point-index us x i (omega arith) (λ k d low high. h.0 (suc k) d (omega arith) (omega arith), λ k d low high. h.1 (suc k) d (omega arith) (omega arith)))
+    ∙ ap (λ b. cond b (suc (held_before us x)) 0) (sym (h.0 0 u (omega arith) (omega arith)))
 
 -- ---- what is held, by its name
 
@@ -249,25 +249,3 @@ without-absent (u ∷ us) x h = by (same_name u.name x) h (without-absent us x)
     by : (b : Bool) → cond b (Some u) (find_in us x) ≡ None → (find_in us x ≡ None → without x us ≡ us) → cond (not b) (u ∷ without x us) (without x us) ≡ u ∷ us
     by true k rest = cc
     by false k rest = ap (λ vs. u ∷ vs) (rest k)
-
--- what is kept of a list is of the list
-pub kept_among : (p : Shadow → Bool) (us : List Shadow) (u : Shadow) → Among u (filter p us) → Among u us
-kept_among p [] u h = elim h [ ]
-kept_among p (v ∷ us) u h = at (p v) h (kept_among p us u)
-  where
-    at : (b : Bool) → Among u (cond b (v ∷ filter p us) (filter p us)) → (Among u (filter p us) → Among u us) → Among u (v ∷ us)
-    at true (inl e) rest = inl e
-    at true (inr k) rest = inr (rest k)
-    at false k rest = inr (rest k)
-
--- what is held after one more is that or was held
-pub held_cases : (v : Shadow) (us : List Shadow) (u : Shadow) → Among u (with_held v us) → (u ≡ v) ⊎ Among u us
-held_cases v [] u (inl e) = inl e
-held_cases v [] u (inr h) = elim h [ ]
-held_cases v (w ∷ us) u h = at (stands_before v.name w.name) h (held_cases v us u)
-  where
-    at : (b : Bool) → Among u (cond b (v ∷ w ∷ us) (w ∷ with_held v us)) → (Among u (with_held v us) → (u ≡ v) ⊎ Among u us) → (u ≡ v) ⊎ Among u (w ∷ us)
-    at true (inl e) rest = inl e
-    at true (inr k) rest = inr k
-    at false (inl e) rest = inr (inl e)
-    at false (inr k) rest = elim (rest k) [ inl e ↦ inl e | inr q ↦ inr (inr q) ]

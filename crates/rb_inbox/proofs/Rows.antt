@@ -5,14 +5,14 @@ use Rattle.std.specs.List.{flat_map}
 use Rattle.std.proofs.lemmas.Bool.Decides.{nat_tests}
 use Rattle.std.proofs.lemmas.List.Concat.{flat_map-append}
 use Rattle.std.proofs.lemmas.List.Elements.{filter-append, filter_agree}
-use Rattle.rb_shadow.specs.Operations.{Among, find_in, is_blue_of, is_red, same_name}
+use Rattle.rb_shadow.specs.Operations.{Among, find_in, is_blue_of, is_red, same_name, row_of}
 use Rattle.rb_shadow.specs.declared.op_name.OpName.{OpName}
 use Rattle.rb_shadow.specs.declared.op_name.OpName.TheVariants.{Blue, Red}
 use Rattle.rb_shadow.specs.declared.shadow.Shadow.{Shadow}
-use Rattle.rb_shadow.proofs.Members
+use Rattle.rb_shadow.proofs.Public.Members
 use Rattle.rb_shadow.specs.Sound.{is_foreign}
 use Rattle.rb_inbox.specs.Held.{IsNumbered, StandsBeforeAll, stands_before, with_held, without}
-use Rattle.rb_inbox.specs.Rows.{AreRows, IsRow, held_of, row_of}
+use Rattle.rb_inbox.specs.Rows.{AreHeldRows, IsHeldRow, held_of}
 use Rattle.rb_inbox.proofs.Order.{before-not_same, before-one_way, before_all-without}
 
 -- the blue rows, one after another
@@ -37,33 +37,33 @@ before_all x (u ∷ us) h = (h u (inl refl), before_all x us (λ v a. h v (inr a
 
 -- ---- one row of several
 
-empty : (r : ℕ) → IsRow r []
+empty : (r : ℕ) → IsHeldRow r []
 empty r = record { placed = λ u a. elim a [ ]; in_order = tt; numbered = λ u a. elim a [ ] }
 
 -- a row past the last is empty
-row_from : (s k r : ℕ) (rows : List (List Shadow)) → r ≡ s + k → AreRows s rows → IsRow r (get_or rows k [])
+row_from : (s k r : ℕ) (rows : List (List Shadow)) → r ≡ s + k → AreHeldRows s rows → IsHeldRow r (get_or rows k [])
 row_from s k r [] e h = empty r
-row_from s zero r (us ∷ rows) e h = subst (λ n. IsRow n us) (omega arith) h.0
+row_from s zero r (us ∷ rows) e h = subst (λ n. IsHeldRow n us) (omega arith) h.0
 row_from s (suc k) r (us ∷ rows) e h = row_from (suc s) k r rows (omega arith) h.1
 
-pub row_at : (rows : List (List Shadow)) (r : ℕ) → AreRows 0 rows → IsRow r (get_or rows r [])
+pub row_at : (rows : List (List Shadow)) (r : ℕ) → AreHeldRows 0 rows → IsHeldRow r (get_or rows r [])
 row_at rows r h = row_from 0 r r rows (omega arith) h
 
-set_from : (s k r : ℕ) (rows : List (List Shadow)) (us : List Shadow) → r ≡ s + k → AreRows s rows → IsRow r us → AreRows s (set rows k us)
+set_from : (s k r : ℕ) (rows : List (List Shadow)) (us : List Shadow) → r ≡ s + k → AreHeldRows s rows → IsHeldRow r us → AreHeldRows s (set rows k us)
 set_from s k r [] us e h row = tt
-set_from s zero r (vs ∷ rows) us e h row = (subst (λ n. IsRow n us) (omega arith) row, h.1)
+set_from s zero r (vs ∷ rows) us e h row = (subst (λ n. IsHeldRow n us) (omega arith) row, h.1)
 set_from s (suc k) r (vs ∷ rows) us e h row = (h.0, set_from (suc s) k r rows us (omega arith) h.1 row)
 
-pub rows-set : (rows : List (List Shadow)) (r : ℕ) (us : List Shadow) → AreRows 0 rows → IsRow r us → AreRows 0 (set rows r us)
+pub rows-set : (rows : List (List Shadow)) (r : ℕ) (us : List Shadow) → AreHeldRows 0 rows → IsHeldRow r us → AreHeldRows 0 (set rows r us)
 rows-set rows r us h row = set_from 0 r r rows us (omega arith) h row
 
-pub rows-more : (s n : ℕ) (rows : List (List Shadow)) → AreRows s rows → AreRows s (rows ++ replicate n [])
+pub rows-more : (s n : ℕ) (rows : List (List Shadow)) → AreHeldRows s rows → AreHeldRows s (rows ++ replicate n [])
 rows-more s zero [] h = tt
 rows-more s (suc n) [] h = (empty s, rows-more (suc s) n [] tt)
 rows-more s n (us ∷ rows) h = (h.0, rows-more (suc s) n rows h.1)
 
 -- what is held is of no row before the first
-joined_from : (rows : List (List Shadow)) (s : ℕ) (u : Shadow) → AreRows s rows → Among u (joined rows) → s ≤ row_of u.name
+joined_from : (rows : List (List Shadow)) (s : ℕ) (u : Shadow) → AreHeldRows s rows → Among u (joined rows) → s ≤ row_of u.name
 joined_from [] s u h a = elim a [ ]
 joined_from (us ∷ rows) s u h a = at (Members.Among-cases us (joined rows) u a) (joined_from rows (suc s) u h.1)
   where
@@ -103,7 +103,7 @@ is_of-yes r u e = grind (arith, nat_tests)
 is_of-no : (r : ℕ) (u : Shadow) → (row_of u.name ≡ r → ⊥) → is_of r u ≡ false
 is_of-no r u e = grind (arith, nat_tests)
 
-row_of_joined : (rows : List (List Shadow)) (s k : ℕ) → AreRows s rows → filter (is_of (s + k)) (joined rows) ≡ get_or rows k []
+row_of_joined : (rows : List (List Shadow)) (s k : ℕ) → AreHeldRows s rows → filter (is_of (s + k)) (joined rows) ≡ get_or rows k []
 row_of_joined [] s k h = refl
 row_of_joined (us ∷ rows) s zero h =
     filter-append (is_of (s + 0)) us (joined rows)
@@ -116,7 +116,7 @@ row_of_joined (us ∷ rows) s (suc k) h =
     ∙ ap (λ (r : ℕ). filter (is_of r) (joined rows)) (let e : s + suc k ≡ suc s + k = omega arith in e)
     ∙ row_of_joined rows (suc s) k h.1
 
-pub row_is : (rows : List (List Shadow)) (r : ℕ) → AreRows 0 rows → get_or rows r [] ≡ filter (is_of r) (held_of rows)
+pub row_is : (rows : List (List Shadow)) (r : ℕ) → AreHeldRows 0 rows → get_or rows r [] ≡ filter (is_of r) (held_of rows)
 row_is [] r h = refl
 row_is (reds ∷ blues) zero h =
     sym (filter-append (is_of 0) (joined blues) reds
@@ -206,7 +206,7 @@ removing x = record { later = later; sooner = sooner }
     sooner : (us vs : List Shadow) → ((u : Shadow) → Among u vs → stands_before x u.name ≡ true) → without x (us ++ vs) ≡ without x us ++ vs
     sooner us vs h = filter-append (λ u. not (same_name u.name x)) us vs ∙ ap (λ ws. without x us ++ ws) (before_all-without x vs (before_all x vs h))
 
-joined-change : (x : OpName) (f : List Shadow → List Shadow) → IsChangeAt x f → (rows : List (List Shadow)) (s k : ℕ) → 1 ≤ s → AreRows s rows → row_of x ≡ s + k → k < length rows
+joined-change : (x : OpName) (f : List Shadow → List Shadow) → IsChangeAt x f → (rows : List (List Shadow)) (s k : ℕ) → 1 ≤ s → AreHeldRows s rows → row_of x ≡ s + k → k < length rows
     → joined (set rows k (f (get_or rows k []))) ≡ f (joined rows)
 joined-change x f local [] s k low h e l = absurd (omega arith)
 joined-change x f local (us ∷ rows) s zero low h e l =
@@ -216,7 +216,7 @@ joined-change x f local (us ∷ rows) s (suc k) low h e l =
     ∙ sym (local.later us (joined rows) (λ u a. let n : row_of u.name ≡ s = h.0.placed u a in before-later u.name x (omega arith) (omega arith)))
 
 -- a change of the name's row is one of all that is held
-pub held-change : (x : OpName) (f : List Shadow → List Shadow) → IsChangeAt x f → (rows : List (List Shadow)) (r : ℕ) → r ≡ row_of x → AreRows 0 rows → r < length rows
+pub held-change : (x : OpName) (f : List Shadow → List Shadow) → IsChangeAt x f → (rows : List (List Shadow)) (r : ℕ) → r ≡ row_of x → AreHeldRows 0 rows → r < length rows
     → held_of (set rows r (f (get_or rows r []))) ≡ f (held_of rows)
 held-change x f local [] r e h l = absurd (omega arith)
 held-change (Red n) f local (reds ∷ blues) zero e h l =

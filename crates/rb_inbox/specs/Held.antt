@@ -39,9 +39,9 @@ IsInOrder [] = Unit {0}
 IsInOrder (u ∷ us) = StandsBeforeAll u.name us × IsInOrder us
 
 -- how many of the first operations stand before the name
-abbrev pub place_in : List Shadow → OpName → ℕ
-place_in [] x = 0
-place_in (u ∷ us) x = if stands_before u.name x then suc (place_in us x) else 0
+abbrev pub held_before : List Shadow → OpName → ℕ
+held_before [] x = 0
+held_before (u ∷ us) x = if stands_before u.name x then suc (held_before us x) else 0
 
 -- an operation that may be held: a blue name's site is its home, and the name's number, so at least 1, is one more than the entry of its past for the name
 pub record IsNumbered (v : Shadow) : Type 0 where

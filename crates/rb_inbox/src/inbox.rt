@@ -2,10 +2,10 @@
 ghost use Rattle.std.specs.Prelude.{◌≡◌, ◌⊎◌, ◌==◌, ℕ, ◌+◌, ◌<◌, ◌≤◌, List, [], ◌++◌, filter, length, replicate, IfErr, IfNone, IfOk, IfSome, OnErr, OnOk, Some, None, Ok, Err};
 ghost use Rattle.std.specs.Bool.{OnFalse, OnTrue};
 ghost use Rattle.std.specs.Option.{option_copied};
-ghost use Rattle.rb_shadow.specs.Operations.{Among, find_in, is_blue_of, is_red};
+ghost use Rattle.rb_shadow.specs.Operations.{Among, find_in, is_blue_of, is_red, row_of};
 ghost use Rattle.rb_shadow.specs.declared.shadow.Shadow.{Shadow};
-ghost use Rattle.rb_inbox.specs.Held.{HoldsReady, HoldsWaiting, IsInConflict, IsInOrder, IsNumbered, IsReady, IsTooMany, IsWelcome, place_in, stands_before, with_held, without};
-ghost use Rattle.rb_inbox.specs.Rows.{IsRow, row_of};
+ghost use Rattle.rb_inbox.specs.Held.{HoldsReady, HoldsWaiting, IsInConflict, IsInOrder, IsNumbered, IsReady, IsTooMany, IsWelcome, held_before, stands_before, with_held, without};
+ghost use Rattle.rb_inbox.specs.Rows.{IsHeldRow};
 
 use crate::PutAnswer;
 use crate::row::Row;
@@ -93,9 +93,9 @@ impl Inbox {
     {
         // There is no memory for more shadows than a `usize` counts.
         let count = self.count.checked_add(1).ok_or(AllocError)?;
-        let row = row_place(shadow.name);
+        let row = row_index(shadow.name);
         add_rows(&mut self.rows, row + 1, self.alloc)?;
-        let index = place_of(self.rows[row].as_slice(), shadow.name);
+        let index = index_of(self.rows[row].as_slice(), shadow.name);
         self.rows[row].insert(index, shadow)?;
         self.count = count;
         Ok(())
@@ -128,8 +128,8 @@ impl Inbox {
     pub fn held(&self, name: &OpName) -> Option<&Shadow>
         ensures { option_copied result ≡ find_in self.now.held name.now }
     {
-        let row = self.row(row_place(*name));
-        let shadow = row.get(place_of(row, *name))?;
+        let row = self.row(row_index(*name));
+        let shadow = row.get(index_of(row, *name))?;
         if shadow.name == *name {
             Some(shadow)
         } else {
@@ -169,8 +169,8 @@ impl Inbox {
         match self.held(name) {
             None => {}
             Some(_) => {
-                let row = row_place(*name);
-                let index = place_of(self.rows[row].as_slice(), *name);
+                let row = row_index(*name);
+                let index = index_of(self.rows[row].as_slice(), *name);
                 self.rows[row].remove(index);
                 self.count -= 1;
             }
@@ -201,21 +201,21 @@ impl Inbox {
         self.row(0)
     }
 
-    /// The row at a place: the red one at 0, and then the blue ones by site.
-    fn row(&self, place: usize) -> &[Shadow]
-        ensures held { result.now ≡ filter (λ u. row_of u.name == place) self.now.held }
+    /// The row at an index: the red one at 0, and then the blue ones by site.
+    fn row(&self, index: usize) -> &[Shadow]
+        ensures held { result.now ≡ filter (λ u. row_of u.name == index) self.now.held }
         ensures in_order { IsInOrder result.now }
         ensures numbered { (u : Shadow) → Among u result.now → IsNumbered u }
     {
-        match self.rows.get(place) {
+        match self.rows.get(index) {
             Some(row) => row.as_slice(),
             None => &[],
         }
     }
 }
 
-/// The place of a name's row.
-fn row_place(name: OpName) -> usize
+/// The index of a name's row.
+fn row_index(name: OpName) -> usize
     ensures { result ≡ row_of name }
 {
     match name {
@@ -238,7 +238,7 @@ fn add_rows(rows: &mut Vec<Row>, count: usize, alloc: Global) -> Result<(), Allo
 /// The name of a shadow of the row that is ready, if there is one. It is looked for up to the number
 /// after the clock's entry: from there on none is ready.
 fn ready_in(row: &[Shadow], clock: &Clock) -> Option<OpName>
-    requires { (r : ℕ) × IsRow r row.now }
+    requires { (r : ℕ) × IsHeldRow r row.now }
     ensures some { IfSome result (λ name. (u : Shadow) × Among u row.now × (u.name ≡ name) × IsReady clock.now u) }
     ensures none { IfNone result ((u : Shadow) → Among u row.now → ¬ IsReady clock.now u) }
 {
@@ -255,9 +255,9 @@ fn ready_in(row: &[Shadow], clock: &Clock) -> Option<OpName>
 }
 
 /// Where a shadow of the name stands, or where it would.
-fn place_of(shadows: &[Shadow], name: OpName) -> usize
+fn index_of(shadows: &[Shadow], name: OpName) -> usize
     requires { IsInOrder shadows.now }
-    ensures place { result ≡ place_in shadows.now name }
+    ensures index { result ≡ held_before shadows.now name }
     ensures bound { result ≤ length shadows.now }
 {
     shadows.partition_point(|held| comes_before(held.name, name))

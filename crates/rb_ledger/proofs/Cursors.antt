@@ -13,10 +13,10 @@ use Rattle.rb_ledger.specs.Valid.{IsValid, parts_of}
 use Rattle.rb_ledger.specs.Records.{records_of}
 use Rattle.rb_ledger.specs.Index.{IsIndex, IsLink, AreLinks}
 use Rattle.rb_ledger.specs.Cursor.{IsAt}
-use Rattle.rb_ledger.proofs.ChainFacts
-use Rattle.rb_ledger.proofs.Legal
-use Rattle.rb_ledger.proofs.Moves
-use Rattle.rb_ledger.proofs.Records
+use Rattle.rb_ledger.proofs.Public.OnAccount
+use Rattle.rb_ledger.proofs.Public.Legal
+use Rattle.rb_ledger.proofs.Public.Fronts
+use Rattle.rb_ledger.proofs.Public.Records
 
 -- the last of the first operations, and its record
 pub record Latest (s : Settings) (us : List Shadow) (n : ℕ) (x : Index) (ps : List UndoParts) (r : UndoParts) : Type 0 where
@@ -28,8 +28,8 @@ pub record Latest (s : Settings) (us : List Shadow) (n : ℕ) (x : Index) (ps : 
 
 pub latest : (s : Settings) (us : List Shadow) (m n : ℕ) (ls : List Link) (x : Index) (l : Log) (ps : List UndoParts) (r : UndoParts) → IsAt s us m ls x l → m ≡ n + 1 → l.parts ≡ ps ++ r ∷ [] → Latest s us n x ps r
 latest s us m n ls x l ps r at next popped =
-    let (last, there) = ChainFacts.element us n (omega (arith, at.within, next)) in
-    let more : take m us ≡ take n us ++ last ∷ [] = ap (λ k. take k us) next ∙ Moves.one_more us n last there in
+    let (last, there) = OnAccount.element us n (omega (arith, at.within, next)) in
+    let more : take m us ≡ take n us ++ last ∷ [] = ap (λ k. take k us) next ∙ Fronts.one_more us n last there in
     let (front, is) = Records.ends ps (records_of s (take n us)) r (parts_of s (take n us) last) (sym popped ∙ at.records ∙ ap (records_of s) more ∙ Records.records_of-push s (take n us) last) in
     record { last = last; there = there; index = subst (λ vs. IsIndex s vs x) more at.index; parts = is; records = front }
 
@@ -51,12 +51,12 @@ back s us m n ls x y l k r at next popped more index =
 
 -- the operation after the first ones may follow them
 pub next : (s : Settings) (us : List Shadow) (n : ℕ) (u : Shadow) → IsValid s us → slice_get us n ≡ Some u → IsValid s (take n us ++ u ∷ [])
-next s us n u valid there = subst (IsValid s) (Moves.one_more us n u there) (Legal.IsValid-front s (take (n + 1) us) (drop (n + 1) us) (subst (IsValid s) (sym (take-append-drop (n + 1) us)) valid))
+next s us n u valid there = subst (IsValid s) (Fronts.one_more us n u there) (Legal.IsValid-front s (take (n + 1) us) (drop (n + 1) us) (subst (IsValid s) (sym (take-append-drop (n + 1) us)) valid))
 
 -- on by one operation
 pub forth : (s : Settings) (us : List Shadow) (n m : ℕ) (ls : List Link) (x y : Index) (l k : Log) (u : Shadow) (r : UndoParts) → IsAt s us n ls x l → m ≡ n + 1 → slice_get us n ≡ Some u → r ≡ parts_of s (take n us) u → k.parts ≡ l.parts ++ r ∷ [] → k.room + 1 ≡ l.room → IsIndex s (take n us ++ u ∷ []) y → IsAt y.config us m ls y k
 forth s us n m ls x y l k u r at next there is pushed less index =
-    let more : take m us ≡ take n us ++ u ∷ [] = ap (λ j. take j us) next ∙ Moves.one_more us n u there in
+    let more : take m us ≡ take n us ++ u ∷ [] = ap (λ j. take j us) next ∙ Fronts.one_more us n u there in
     subst (λ t. IsAt t us m ls y k) (sym index.config) (record {
       valid = at.valid;
       within = omega (arith, slice_get_within us n u there, next);

@@ -2,11 +2,11 @@
 ghost use Rattle.std.specs.Prelude.{◌≡◌, ◌≤◌, ◌<◌, ◌+◌, length, pos, [], ◌∷◌, ◌++◌, List, IfOk, ℕ, slice_index, slice_index_or, vec_len, vec_capacity};
 ghost use Rattle.rb_money.specs.declared.limits.TheConstants.{MOST_OPERATIONS};
 ghost use Rattle.rb_shadow.specs.declared.shadow.Shadow.{Shadow as TheShadow};
-ghost use Rattle.rb_shadow.specs.Operations.{bal, target_of};
+ghost use Rattle.rb_shadow.specs.Operations.{bal, target_of, row_of};
 ghost use Rattle.rb_shadow.specs.Sound.{IsSound};
 ghost use Rattle.rb_ledger.specs.Valid.{IsValid, find_position, parts_of, position_of};
 ghost use Rattle.rb_ledger.specs.OnAccount.{IsLast};
-ghost use Rattle.rb_ledger.specs.Index.{AreHeads, IsIndex, row_of, changed_at, one_more, one_less, no_cancels};
+ghost use Rattle.rb_ledger.specs.Index.{AreHeads, IsIndex, changed_at, one_more, one_less, no_cancels};
 
 use crate::marks::{Cancels, Head};
 use crate::rows::Rows;
@@ -64,9 +64,9 @@ impl Index {
     fn target(&self, kind: Kind) -> u32
         ensures { (us : List TheShadow) → IsIndex self.now.config us self.now → result ≡ position_of us (target_of kind) }
     {
-        match kind {
-            Kind::Cancel { target } => self.find(&target).unwrap_or(0),
-            _ => 0,
+        match kind.target() {
+            Some(target) => self.find(&target).unwrap_or(0),
+            None => 0,
         }
     }
 

@@ -2,7 +2,7 @@
 use Rattle.std.proofs.Common.{◌≡◌, ◌<◌, ◌≤◌, ◌+◌, ◌⊎◌, ℕ, Bool, true, false, List, [], ◌∷◌, ◌++◌, length, take, drop, Option, Some, None, Ok, Err, refl, sym, ap, ◌∙◌, rules, subst, append-nil, add-zero}
 use Rattle.std.specs.Prelude.{IfSome}
 use Rattle.std.specs.Io.KnownBytes.{IsAtEnd}
-use Rattle.rb_lines.specs.Answers.{AnswersLine, RunEndsAs, EndsAtLine, IsFaulty, IsUnfinished, Outcome, Stand, after_text, no_outcome}
+use Rattle.rb_lines.specs.Answers.{AnswersLine, RunEndsAs, EndsAtLine, IsFaulty, IsUnfinished, LinesOutcome, Stand, after_text, no_outcome}
 use Rattle.rb_lines.specs.declared.fault.ScriptFault.{ScriptFault}
 use Rattle.rb_lines.specs.declared.fault.ScriptFault.TheVariants.{NoConfig, BadConfig, BadLine, LongLine, Read, Write, OutOfMemory, Gather}
 use Rattle.rb_lines.specs.Writes.{IsFront}
@@ -10,8 +10,8 @@ use Rattle.rb_lines.specs.Buffers.{Reads}
 use Rattle.rb_lines.specs.Lines.{lines_of, is_long, line_len}
 use Rattle.rb_lines.specs.declared.limits.TheConstants.{LINE_LIMIT}
 use Rattle.rb_lines.proofs.Follows.{Follows, Whole, at_start, after_read, after_line, at_end, at_first, at_rest}
-use Rattle.rb_lines.proofs.LineLaws.{long_line}
-use Rattle.rb_lines.proofs.Walks.{standing}
+use Rattle.rb_lines.proofs.Public.LongLines.{long_line}
+use Rattle.rb_lines.proofs.Public.Walks.{standing}
 
 abbrev pub FollowsKnown : Whole → Option (List ℕ) → Option (List ℕ) → Stand → List ℕ → Bool → List ℕ → Type 0
 FollowsKnown of None now s p e t = Unit {0}
@@ -36,10 +36,10 @@ known_line of (Some all) (Some x) s s' p e t t' n f len fits st end ans = after_
 
 -- ---- the ends
 
-faulty : (whole : Outcome) (t : List ℕ) (n : ℕ) (f : ScriptFault) (o : Outcome) → whole ≡ after_text t n o → o ≡ no_outcome f → IsFaulty whole t f
+faulty : (whole : LinesOutcome) (t : List ℕ) (n : ℕ) (f : ScriptFault) (o : LinesOutcome) → whole ≡ after_text t n o → o ≡ no_outcome f → IsFaulty whole t f
 faulty whole t n f o e is = let all = e ∙ ap (after_text t n) is in record {
-  text_is = ap (λ (x : Outcome). x.text) all ∙ append-nil t;
-  fault_is = ap (λ (x : Outcome). x.fault) all;
+  text_is = ap (λ (x : LinesOutcome). x.text) all ∙ append-nil t;
+  fault_is = ap (λ (x : LinesOutcome). x.fault) all;
 }
 
 -- the next line is too long
@@ -51,8 +51,8 @@ known_long of (Some all) (Some x) s number p e t f h long =
     let found = long_line p x LINE_LIMIT h in
     faulty (of (lines_of all)) t s.count (LongLine number) _ (at_first of all s p x e t found.0 found.1 f found.2) (long found.0 found.1 (let longer : LINE_LIMIT < length found.0 = found.3 in search rules))
 
-front : (whole : Outcome) (t : List ℕ) (n : ℕ) (o : Outcome) → whole ≡ after_text t n o → IsFront t whole.text
-front whole t n o e = (o.text, ap (λ (x : Outcome). x.text) e)
+front : (whole : LinesOutcome) (t : List ℕ) (n : ℕ) (o : LinesOutcome) → whole ≡ after_text t n o → IsFront t whole.text
+front whole t n o e = (o.text, ap (λ (x : LinesOutcome). x.text) e)
 
 pub known_front : (of : Whole) (a b : Option (List ℕ)) (s : Stand) (p : List ℕ) (e : Bool) (t : List ℕ) → FollowsKnown of a b s p e t → IfSome a (λ input. IsFront t (of (lines_of input)).text)
 known_front of None b s p e t f = tt
@@ -71,8 +71,8 @@ known_stop of (Some all) (Some x) s p e t f going none nothing unfinished =
       record {
         taken = f.walks.got;
         whole = f.walks.bytes;
-        text_is = ap (λ (o : Outcome). o.text) whole ∙ ap (λ y. t ++ y) nothing ∙ append-nil t;
-        unfinished = subst IsUnfinished (sym (ap (λ (o : Outcome). o.fault) whole)) unfinished;
+        text_is = ap (λ (o : LinesOutcome). o.text) whole ∙ ap (λ y. t ++ y) nothing ∙ append-nil t;
+        unfinished = subst IsUnfinished (sym (ap (λ (o : LinesOutcome). o.fault) whole)) unfinished;
       },
     )
 

@@ -1,13 +1,13 @@
 -- Where a run over lines that are answered stands between two of them.
 use Rattle.std.proofs.Common.{◌≡◌, ◌<◌, ◌≤◌, ◌+◌, ◌-◌, ◌⊎◌, ℕ, Bool, true, false, List, [], ◌∷◌, ◌++◌, length, take, drop, sym, ap, ◌∙◌, arith, subst, append-nil, append_assoc, zero-add}
 use Rattle.rb_lines.specs.Lines.{lines_of, whole_lines, line_len}
-use Rattle.rb_lines.proofs.Walks.{Walks}
-use Rattle.rb_lines.proofs.Walks as walk
-use Rattle.rb_lines.specs.Answers.{AnswersLine, Outcome, Stand, after_text}
+use Rattle.rb_lines.proofs.Public.Walks.{Walks}
+use Rattle.rb_lines.proofs.Public.Walks as walk
+use Rattle.rb_lines.specs.Answers.{AnswersLine, LinesOutcome, Stand, after_text}
 
 -- what lines come to
 abbrev pub Whole : Type 0
-Whole = List (List ℕ) → Outcome
+Whole = List (List ℕ) → LinesOutcome
 
 -- these lines were answered, and this is written
 pub record Follows (of : Whole) (all : List ℕ) (s : Stand) (pending rest : List ℕ) (ended : Bool) (text : List ℕ) : Type 0 where
@@ -15,7 +15,7 @@ pub record Follows (of : Whole) (all : List ℕ) (s : Stand) (pending rest : Lis
   pub walks : Walks all done pending rest ended
   pub outcome : (ls : List (List ℕ)) → of (done ++ ls) ≡ after_text text s.count (s.rest ls)
 
-nothing_yet : (o : Outcome) → o ≡ after_text [] 0 o
+nothing_yet : (o : LinesOutcome) → o ≡ after_text [] 0 o
 nothing_yet o = ap (λ n. record { text = o.text; count = n; fault = o.fault }) (sym (zero-add o.count))
 
 pub at_start : (of : Whole) (all : List ℕ) (s : Stand) → s ≡ record { rest = of; count = 0 } → Follows of all s [] all false []
@@ -29,7 +29,7 @@ pub after_read : (of : Whole) (all : List ℕ) (s : Stand) (p p' r r' : List ℕ
     → (more : List ℕ) × (p' ≡ p ++ more) × (r ≡ more ++ r') → (e' ≡ false → e ≡ false) → Follows of all s p' r' e' t
 after_read of all s p p' r r' e e' t f more was = record { done = f.done; walks = walk.after_read all f.done p p' r r' e e' f.walks more was; outcome = f.outcome }
 
-twice : (t t' : List ℕ) (m n : ℕ) (o : Outcome) → m ≤ n → after_text t m (after_text t' (n - m) o) ≡ after_text (t ++ t') n o
+twice : (t t' : List ℕ) (m n : ℕ) (o : LinesOutcome) → m ≤ n → after_text t m (after_text t' (n - m) o) ≡ after_text (t ++ t') n o
 twice t t' m n o h =
     let count : m + ((n - m) + o.count) ≡ n + o.count = omega arith in
     ap (λ c. record { text = t ++ (t' ++ o.text); count = c; fault = o.fault }) count ∙ ap (λ x. record { text = x; count = n + o.count; fault = o.fault }) (sym (append_assoc t t' o.text))

@@ -1,8 +1,6 @@
-pub mod LineLaws
-pub mod Ranges
-pub mod ReadLaws
-pub mod Walks
-pub mod WriteLaws
-pub mod Exits
-pub mod Follows
-pub mod Progress
+pub mod Public
+mod LineLaws
+mod Ranges
+mod ReadLaws
+mod Follows
+mod Exits

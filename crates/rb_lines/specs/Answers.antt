@@ -6,22 +6,22 @@ use Rattle.rb_lines.specs.declared.fault.ScriptFault.{ScriptFault}
 use Rattle.rb_lines.specs.declared.fault.ScriptFault.TheVariants.{NoConfig, BadConfig, BadLine, LongLine, Read, Write, OutOfMemory, Gather}
 
 -- what is written for some lines, how many were answered, and what is wrong with the first that is wrong
-pub record Outcome : Type 0 where
+pub record LinesOutcome : Type 0 where
   pub text : List ℕ
   pub count : ℕ
   pub fault : Option ScriptFault
 
-abbrev pub no_outcome : ScriptFault → Outcome
+abbrev pub no_outcome : ScriptFault → LinesOutcome
 no_outcome f = record { text = []; count = 0; fault = Some f }
 
 -- the outcome, once this text of so many answers comes before it
-abbrev pub after_text : List ℕ → ℕ → Outcome → Outcome
+abbrev pub after_text : List ℕ → ℕ → LinesOutcome → LinesOutcome
 after_text text count o = record { text = text ++ o.text; count = count + o.count; fault = o.fault }
 
 -- ---- how a run ends, where `of` is what lines come to
 
 -- the run ends at a line with this fault, and this is the text of the lines before
-pub record IsFaulty (o : Outcome) (text : List ℕ) (f : ScriptFault) : Type 0 where
+pub record IsFaulty (o : LinesOutcome) (text : List ℕ) (f : ScriptFault) : Type 0 where
   pub text_is : o.text ≡ text
   pub fault_is : o.fault ≡ Some f
 
@@ -38,14 +38,14 @@ IsUnfinished (Some OutOfMemory) = ⊥
 IsUnfinished (Some Gather) = ⊥
 
 -- these bytes of the input were read, and each line of them that has its line feed was answered
-pub record IsAnswered (of : List (List ℕ) → Outcome) (input rest text : List ℕ) : Type 0 where
+pub record IsAnswered (of : List (List ℕ) → LinesOutcome) (input rest text : List ℕ) : Type 0 where
   pub taken : List ℕ
   pub whole : input ≡ taken ++ rest
   pub text_is : (of (whole_lines taken)).text ≡ text
   pub unfinished : IsUnfinished (of (whole_lines taken)).fault
 
 -- the result of a run over this input, of which the second part is left, where the text was written
-abbrev pub RunEndsAs : (List (List ℕ) → Outcome) → Result ℕ ScriptFault → List ℕ → Option (List ℕ) → List ℕ → Type 0
+abbrev pub RunEndsAs : (List (List ℕ) → LinesOutcome) → Result ℕ ScriptFault → List ℕ → Option (List ℕ) → List ℕ → Type 0
 RunEndsAs of (Ok n) input left text = (of (lines_of input) ≡ record { text = text; count = n; fault = None }) × (left ≡ Some [])
 RunEndsAs of (Err NoConfig) input left text = IsFaulty (of (lines_of input)) text NoConfig
 RunEndsAs of (Err (BadConfig n)) input left text = IsFaulty (of (lines_of input)) text (BadConfig n)
@@ -57,14 +57,14 @@ RunEndsAs of (Err OutOfMemory) input left text = IsFront text (of (lines_of inpu
 RunEndsAs of (Err Gather) input left text = ⊥
 
 -- the same where some of the text is still owed: whatever front of it goes out is a front of the whole text
-abbrev pub RunWillEndAs : (List (List ℕ) → Outcome) → Result ℕ ScriptFault → List ℕ → Option (List ℕ) → List ℕ → Type 0
+abbrev pub RunWillEndAs : (List (List ℕ) → LinesOutcome) → Result ℕ ScriptFault → List ℕ → Option (List ℕ) → List ℕ → Type 0
 RunWillEndAs of r input left text = RunEndsAs of r input left text × IsFront text (of (lines_of input)).text
 
 -- ---- between two lines
 
 -- what the lines to come come to, and how many were answered
 pub record Stand : Type 0 where
-  pub rest : List (List ℕ) → Outcome
+  pub rest : List (List ℕ) → LinesOutcome
   pub count : ℕ
 
 -- the line was answered by this text, and the run goes on with the next

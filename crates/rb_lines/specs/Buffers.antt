@@ -20,9 +20,9 @@ abbrev pub Stands : Buffers → ℕ → Type 0
 Stands b n = (n ≡ line_len b.pending) × (n ≤ LINE_LIMIT) × (n ≤ length b.pending) × ((n < length b.pending) ⊎ ((n ≡ length b.pending) × (0 < n) × (b.ended ≡ true)))
 
 -- the next line, or the end
-abbrev pub IsNext : Buffers → Option ℕ → Type 0
-IsNext b None = (b.pending ≡ []) × (b.ended ≡ true)
-IsNext b (Some n) = Stands b n
+abbrev pub IsNextLine : Buffers → Option ℕ → Type 0
+IsNextLine b None = (b.pending ≡ []) × (b.ended ≡ true)
+IsNextLine b (Some n) = Stands b n
 
 -- what was read stands at the end of what waits
 abbrev pub Reads : List ℕ → List ℕ → Option (List ℕ) → Option (List ℕ) → Type 0

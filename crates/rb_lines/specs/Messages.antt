@@ -3,15 +3,19 @@ use Rattle.std.specs.Prelude.{ℕ, List, ◌++◌, codes, decimal}
 use Rattle.rb_lines.specs.declared.fault.ScriptFault.{ScriptFault}
 use Rattle.rb_lines.specs.declared.fault.ScriptFault.TheVariants.{NoConfig, BadConfig, BadLine, LongLine, Read, Write, OutOfMemory, Gather}
 
+-- why it failed
+abbrev pub reason_of : ScriptFault → List ℕ
+reason_of NoConfig = codes "no configuration"
+reason_of (BadConfig n) = codes "line " ++ decimal n ++ codes ": bad configuration"
+reason_of (BadLine n) = codes "line " ++ decimal n ++ codes ": bad line"
+reason_of (LongLine n) = codes "line " ++ decimal n ++ codes ": line too long"
+reason_of Read = codes "read failed"
+reason_of Write = codes "write failed"
+reason_of OutOfMemory = codes "out of memory"
+reason_of Gather = codes "gather failed"
+
 abbrev pub message_of : ScriptFault → List ℕ
-message_of NoConfig = codes "rbbank: no configuration"
-message_of (BadConfig n) = codes "rbbank: line " ++ decimal n ++ codes ": bad configuration"
-message_of (BadLine n) = codes "rbbank: line " ++ decimal n ++ codes ": bad line"
-message_of (LongLine n) = codes "rbbank: line " ++ decimal n ++ codes ": line too long"
-message_of Read = codes "rbbank: read failed"
-message_of Write = codes "rbbank: write failed"
-message_of OutOfMemory = codes "rbbank: out of memory"
-message_of Gather = codes "rbbank: gather failed"
+message_of fault = codes "rbbank: " ++ reason_of fault
 
 abbrev pub status_of : ScriptFault → ℕ
 status_of NoConfig = 2

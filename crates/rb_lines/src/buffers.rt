@@ -3,7 +3,7 @@ ghost use Rattle.std.specs.Prelude.{◌≡◌, ◌≢◌, ◌↔◌, ◌+◌, �
 ghost use Rattle.std.specs.Io.KnownBytes.{IsAtEnd};
 ghost use Rattle.rb_lines.specs.Lines.{line_len};
 ghost use Rattle.rb_lines.specs.declared.limits.TheConstants.{LINE_LIMIT, MOST_READS};
-ghost use Rattle.rb_lines.specs.Buffers.{Counts, HasRead, IsNext, Reads, Sends, left};
+ghost use Rattle.rb_lines.specs.Buffers.{Counts, HasRead, IsNextLine, Reads, Sends, left};
 ghost use Rattle.rb_lines.specs.Writes.{AppendsFront};
 ghost use Rattle.rb_lines.specs.declared.no_line.NoLine.TheVariants.{TooLong, Read, Write, OutOfMemory};
 
@@ -102,7 +102,7 @@ impl Buffers {
             (λ why. why ≢ Write → Sends (W.contents writer.old) (W.contents writer.new) self.old.owed.items self.new.owed.items) }
 
         // Each reason.
-        ensures line { IfOk result (IsNext self.new) }
+        ensures line { IfOk result (IsNextLine self.new) }
         ensures long { result ≡ Err TooLong → LINE_LIMIT < line_len self.new.pending }
         ensures read { result ≡ Err Read → (self.new.ended ≡ false) × (line_len self.new.pending ≡ length self.new.pending) × ((S.failed reader.new ≡ true) ⊎ (S.calls reader.new ≡ MOST_READS)) }
         ensures write { (result ≡ Err Write) ↔ (W.failed writer.new ≡ true) }

@@ -1,3 +1,3 @@
-pub mod Ended
-pub mod Ends
-pub mod Kept
+mod Ended
+mod Ends
+mod Kept

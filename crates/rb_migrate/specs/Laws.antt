@@ -7,7 +7,7 @@ use Rattle.rb_site.specs.declared.entry.Entry.{Entry}
 use Rattle.rb_site.specs.declared.event.Event.{Event}
 use Rattle.rb_commands.specs.Configurations.{config_at}
 use Rattle.rb_history.specs.ConfigLines.{config_json}
-use Rattle.rb_history.specs.Entries.{entry_at, entry_json}
+use Rattle.rb_history.specs.Entries.{entry_of_line, entry_json}
 
 -- the line of each configuration in version 2 is read as the configuration in version 2
 abbrev pub MigratedConfigsAreRead : Type 0
@@ -15,7 +15,7 @@ MigratedConfigsAreRead = (s : Settings) → IsConfigured s → config_at (compac
 
 -- each entry that a line is, in either version, is read again from its line in version 2: the same site, and the same entry
 abbrev pub MigratedEntriesAreRead : Type 0
-MigratedEntriesAreRead = (s : Settings) → IsConfigured s → (line : List ℕ) (site : ℕ) (x : Entry) → entry_at s line ≡ Some (site, x) → entry_at (in_version_2 s) (compact_text (entry_json (in_version_2 s) site x)) ≡ Some (site, x)
+MigratedEntriesAreRead = (s : Settings) → IsConfigured s → (line : List ℕ) (site : ℕ) (x : Entry) → entry_of_line s line ≡ Some (site, x) → entry_of_line (in_version_2 s) (compact_text (entry_json (in_version_2 s) site x)) ≡ Some (site, x)
 
 -- a site answers a list of events in version 2 as before, and stands afterwards as before: replays are equal
 pub record ReplaysAreEqual (s : Settings) (t : ModelSite) (es : List Event) : Type 0 where

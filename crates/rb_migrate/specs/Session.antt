@@ -2,31 +2,31 @@
 use Rattle.std.specs.Prelude.{◌≡◌, ℕ, ◌+◌, List, Option, Some, None}
 use Rattle.rb_money.specs.Settings.{Settings}
 use Rattle.rb_migrate.specs.declared.session.Session.{Session}
-use Rattle.rb_lines.specs.Answers.{AnswersLine, EndsAtLine, Outcome, Stand}
+use Rattle.rb_lines.specs.Answers.{AnswersLine, EndsAtLine, LinesOutcome, Stand}
 use Rattle.rb_lines.specs.declared.fault.ScriptFault.{ScriptFault}
 use Rattle.rb_migrate.specs.Migration.{entries_from, migration_from}
 
 -- before the first line
-abbrev pub first_session : Session
-first_session = record { versions = None; number = 1; count = 0 }
+abbrev pub first_migration : Session
+first_migration = record { versions = None; number = 1; count = 0 }
 
 -- the outcome of the lines to come, the first of which is line n: before the configuration and after it
-abbrev pub rest_from : Option Settings → ℕ → List (List ℕ) → Outcome
-rest_from None n ls = migration_from n ls
-rest_from (Some s) n ls = entries_from s n ls
+abbrev pub migration_rest_from : Option Settings → ℕ → List (List ℕ) → LinesOutcome
+migration_rest_from None n ls = migration_from n ls
+migration_rest_from (Some s) n ls = entries_from s n ls
 
 -- the outcome of the lines to come of a session
-abbrev pub rest_of : Session → List (List ℕ) → Outcome
-rest_of s ls = rest_from s.versions s.number ls
+abbrev pub migration_rest : Session → List (List ℕ) → LinesOutcome
+migration_rest s ls = migration_rest_from s.versions s.number ls
 
 -- where a run with the session stands
-abbrev pub stand_of : Session → Stand
-stand_of s = record { rest = rest_of s; count = s.count }
+abbrev pub migration_stand : Session → Stand
+migration_stand s = record { rest = migration_rest s; count = s.count }
 
 -- the line was answered by this text, and the session goes on with the next
-abbrev pub Answers : Session → Session → List ℕ → List ℕ → Type 0
-Answers old new l text = AnswersLine (stand_of old) (stand_of new) l text × (new.number ≡ old.number + 1)
+abbrev pub Migrates : Session → Session → List ℕ → List ℕ → Type 0
+Migrates old new l text = AnswersLine (migration_stand old) (migration_stand new) l text × (new.number ≡ old.number + 1)
 
 -- the migration ends at this line
-abbrev pub EndsAt : Session → List ℕ → ScriptFault → Type 0
-EndsAt old l f = EndsAtLine (stand_of old) l f
+abbrev pub MigrationEndsAt : Session → List ℕ → ScriptFault → Type 0
+MigrationEndsAt old l f = EndsAtLine (migration_stand old) l f

@@ -1,8 +1,8 @@
 //! A whole migration, from bytes to bytes.
 ghost use Rattle.std.specs.Prelude.{◌≡◌, ◌↔◌, ◌++◌, ◌⊎◌, List, [], ℕ, true, false, Err, IfSome, IfOk};
 ghost use Rattle.std.specs.Io.KnownBytes.{Appends};
-ghost use Rattle.rb_migrate.specs.Run.{EndsAs, WillEndAs};
-ghost use Rattle.rb_migrate.specs.Session.{first_session};
+ghost use Rattle.rb_migrate.specs.Run.{MigrationEndsAs, MigrationWillEndAs};
+ghost use Rattle.rb_migrate.specs.Session.{first_migration};
 ghost use Rattle.rb_lines.specs.declared.fault.ScriptFault.TheVariants.{Read, Write};
 ghost use Rattle.rb_lines.specs.declared.limits.TheConstants.{MOST_READS};
 
@@ -20,13 +20,13 @@ fn migrate_lines<S: Source, W: Sink>(
 ) -> Result<u64, ScriptFault>
     requires unread { S.calls reader.old ≡ 0 }
     requires fresh { W.failed writer.old ≡ false }
-    requires session { session.old ≡ first_session }
+    requires session { session.old ≡ first_migration }
     requires pending { buffers.old.pending ≡ [] }
     requires owed { buffers.old.owed.items ≡ [] }
     requires reads { buffers.old.reads ≡ MOST_READS }
     requires going { buffers.old.ended ≡ false }
     ensures written { (text : List ℕ) × Appends (W.contents writer.old) (W.contents writer.new) text
-        × IfSome (S.remaining reader.old) (λ input. WillEndAs result input (S.remaining reader.new) (text ++ buffers.new.owed.items)) }
+        × IfSome (S.remaining reader.old) (λ input. MigrationWillEndAs result input (S.remaining reader.new) (text ++ buffers.new.owed.items)) }
     ensures read { result ≡ Err Read → (S.failed reader.new ≡ true) ⊎ (S.calls reader.new ≡ MOST_READS) }
     ensures write { (result ≡ Err Write) ↔ (W.failed writer.new ≡ true) }
 {
@@ -68,7 +68,7 @@ pub fn run_migrate<S: Source, W: Sink>(
     requires fresh { W.failed writer.old ≡ false }
     // What is written is the lines of the input in version 2, and nothing else.
     ensures written { (text : List ℕ) × Appends (W.contents writer.old) (W.contents writer.new) text
-        × IfSome (S.remaining reader.old) (λ input. EndsAs result input (S.remaining reader.new) text) }
+        × IfSome (S.remaining reader.old) (λ input. MigrationEndsAs result input (S.remaining reader.new) text) }
     ensures read { result ≡ Err Read → (S.failed reader.new ≡ true) ⊎ (S.calls reader.new ≡ MOST_READS) }
     ensures write { (result ≡ Err Write) ↔ (W.failed writer.new ≡ true) }
     ensures whole { IfOk result (λ _. W.failed writer.new ≡ false) }

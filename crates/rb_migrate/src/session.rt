@@ -5,8 +5,8 @@ ghost use Rattle.rb_commands.specs.declared.fault.LineFault.TheVariants.{Bad};
 ghost use Rattle.rb_commands.specs.Configurations.{config_on};
 ghost use Rattle.rb_history.specs.Entries.{entry_on};
 ghost use Rattle.rb_lines.specs.declared.limits.TheConstants.{LINE_LIMIT};
-ghost use Rattle.rb_migrate.specs.Migration.{config_line, entry_line};
-ghost use Rattle.rb_migrate.specs.Session.{Answers, EndsAt, first_session};
+ghost use Rattle.rb_migrate.specs.Migration.{migrated_config_line, migrated_entry_line};
+ghost use Rattle.rb_migrate.specs.Session.{Migrates, MigrationEndsAt, first_migration};
 
 use crate::versions::Versions;
 use rb_commands::{LineFault, read_config};
@@ -26,7 +26,7 @@ pub struct Session {
 #[tactic(auto, unfolding(rb_commands::specs::Configurations::config_on))]
 fn open(alloc: Global, line: &[u8], owed: &mut Vec<u8>) -> Result<Versions, LineFault>
     ensures opened { MatchResult result
-        (λ s. (config_on line.now ≡ Some s) × (owed.new.items ≡ owed.old.items ++ config_line s))
+        (λ s. (config_on line.now ≡ Some s) × (owed.new.items ≡ owed.old.items ++ migrated_config_line s))
         (λ why. why ≡ Bad → config_on line.now ≡ None) }
     ensures err { OnErr result (owed.new.items ≡ owed.old.items) }
 {
@@ -55,7 +55,7 @@ fn answer_entry(
     owed: &mut Vec<u8>,
 ) -> Result<(), LineFault>
     ensures answered { MatchResult result
-        (λ _. (x : ℕ × Entry) × (entry_on versions.now line.now ≡ Some x) × (owed.new.items ≡ owed.old.items ++ entry_line versions.now x))
+        (λ _. (x : ℕ × Entry) × (entry_on versions.now line.now ≡ Some x) × (owed.new.items ≡ owed.old.items ++ migrated_entry_line versions.now x))
         (λ why. why ≡ Bad → entry_on versions.now line.now ≡ None) }
     ensures err { OnErr result (owed.new.items ≡ owed.old.items) }
 {
@@ -75,7 +75,7 @@ fn answer_entry(
 impl Session {
     /// Before the first line.
     pub fn new() -> Session
-        ensures { result ≡ first_session }
+        ensures { result ≡ first_migration }
     {
         Session {
             versions: None,
@@ -95,8 +95,8 @@ impl Session {
         requires number { self.old.number < 2 ^ 63 }
         requires count { self.old.count < 2 ^ 63 }
         ensures answered { MatchResult result
-            (λ _. (text : List ℕ) × (owed.new.items ≡ owed.old.items ++ text) × Answers self.old self.new line.now text)
-            (λ fault. (owed.new.items ≡ owed.old.items) × EndsAt self.old line.now fault) }
+            (λ _. (text : List ℕ) × (owed.new.items ≡ owed.old.items ++ text) × Migrates self.old self.new line.now text)
+            (λ fault. (owed.new.items ≡ owed.old.items) × MigrationEndsAt self.old line.now fault) }
         ensures count { OnOk result (self.new.count ≤ self.old.count + 1) }
     {
         let number = self.number;

@@ -1,6 +1,6 @@
 //! A configuration as its line has it, and in version 2 of the format.
 ghost use Rattle.std.specs.Prelude.{◌≡◌, ◌≤◌, ◌++◌, codes, length, take, IfOk, OnErr, OnOk};
-ghost use Rattle.rb_migrate.specs.Migration.{config_line, entry_line};
+ghost use Rattle.rb_migrate.specs.Migration.{migrated_config_line, migrated_entry_line};
 
 use rb_commands::append::append;
 use rb_history::{append_line, write_config};
@@ -62,7 +62,7 @@ impl Versions {
     /// Adds the line of the configuration in version 2. An `Err` means out of memory, and adds nothing.
     #[tactic(auto, using(crate::proofs::Ended::config_ended, crate::proofs::Ended::taken_back))]
     pub fn append_config(&self, alloc: Global, out: &mut Vec<u8>) -> Result<(), AllocError>
-        ensures ok { OnOk result (out.new.items ≡ out.old.items ++ config_line self.now) }
+        ensures ok { OnOk result (out.new.items ≡ out.old.items ++ migrated_config_line self.now) }
         ensures err { OnErr result (out.new.items ≡ out.old.items) }
     {
         let line = write_config(alloc, &self.written)?;
@@ -81,7 +81,7 @@ impl Versions {
     /// Adds the line of a site's entry in version 2. An `Err` means out of memory, and adds nothing.
     #[tactic(auto, using(crate::proofs::Ended::entry_ended, crate::proofs::Ended::taken_back))]
     pub fn append_entry(&self, out: &mut Vec<u8>, site: u8, entry: &Entry) -> Result<(), AllocError>
-        ensures ok { OnOk result (out.new.items ≡ out.old.items ++ entry_line self.now (site, entry.now)) }
+        ensures ok { OnOk result (out.new.items ≡ out.old.items ++ migrated_entry_line self.now (site, entry.now)) }
         ensures err { OnErr result (out.new.items ≡ out.old.items) }
     {
         let before = out.len();

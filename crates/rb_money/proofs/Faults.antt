@@ -6,6 +6,7 @@ use Rattle.std.specs.Str.{bytes_eq}
 use Rattle.std.proofs.lemmas.Bool.{not-false, and_parts, or_parts, leb-true, ltb-false, true≢false, or_right, or_left}
 use Rattle.std.proofs.lemmas.List.Folds.{list_any-append}
 use Rattle.std.proofs.lemmas.Slice.Eq.{bytes_eq-Decides}
+use Rattle.std.proofs.lemmas.Option.{same_Some}
 use Rattle.rb_money.specs.declared.fault.ConfigFault.{ConfigFault}
 use Rattle.rb_money.specs.declared.fault.ConfigFault.TheVariants.{Sites, Accounts, Name, Twice, Start, Limit}
 use Rattle.rb_money.specs.declared.limits.Limits.{Limits}
@@ -50,21 +51,18 @@ names accounts = map (λ a. a.0) accounts
 abbrev starts : List Account → List ℕ
 starts accounts = map (λ a. a.1) accounts
 
-same_some : {A : Type 0} (x y : A) → Some x ≡ Some y → x ≡ y
-same_some x y h = cc
-
 proper_name : (before : List (List ℕ)) (i : ℕ) (accounts : List Account) → account_fault before i accounts ≡ None → (k : ℕ) (name : List ℕ) → slice_get (names accounts) k ≡ Some name → is_account_name name ≡ true
 proper_name before i [] none k name at = absurd (cc)
 proper_name before i (a ∷ later) none zero name at =
     let P : List ℕ → Type 0 = λ n. is_account_name n ≡ true in
-    subst P (same_some a.0 name at) (fine before i a later none).named
+    subst P (same_Some a.0 name at) (fine before i a later none).named
 proper_name before i (a ∷ later) none (suc k) name at = proper_name (before ++ a.0 ∷ []) (i + 1) later (fine before i a later none).rest k name at
 
 small_start : (before : List (List ℕ)) (i : ℕ) (accounts : List Account) → account_fault before i accounts ≡ None → (k n : ℕ) → slice_get (starts accounts) k ≡ Some n → n ≤ MOST_CENTS
 small_start before i [] none k n at = absurd (cc)
 small_start before i (a ∷ later) none zero n at =
     let P : ℕ → Type 0 = λ m. m ≤ MOST_CENTS in
-    subst P (same_some a.1 n at) (ltb-false MOST_CENTS a.1 (fine before i a later none).small)
+    subst P (same_Some a.1 n at) (ltb-false MOST_CENTS a.1 (fine before i a later none).small)
 small_start before i (a ∷ later) none (suc k) n at = small_start (before ++ a.0 ∷ []) (i + 1) later (fine before i a later none).rest k n at
 
 -- no name is among the earlier ones
@@ -72,7 +70,7 @@ unseen : (before : List (List ℕ)) (i : ℕ) (accounts : List Account) → acco
 unseen before i [] none k name at = absurd (cc)
 unseen before i (a ∷ later) none zero name at =
     let P : List ℕ → Type 0 = λ n. is_among before n ≡ false in
-    subst P (same_some a.0 name at) (fine before i a later none).fresh
+    subst P (same_Some a.0 name at) (fine before i a later none).fresh
 unseen before i (a ∷ later) none (suc k) name at =
     (or_parts (is_among before name) (is_among (a.0 ∷ []) name) (sym (list_any-append (λ n. bytes_eq name n) before (a.0 ∷ [])) ∙ unseen (before ++ a.0 ∷ []) (i + 1) later (fine before i a later none).rest k name at)).0
 

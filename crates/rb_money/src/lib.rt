@@ -9,6 +9,7 @@ mod config;
 mod fault;
 mod interest;
 mod limits;
+mod number;
 mod place;
 mod rate;
 mod refusal;
@@ -23,6 +24,7 @@ pub use limits::{
     Limits, MOST_ACCOUNTS, MOST_BALANCE, MOST_BLUE, MOST_EPOCH, MOST_HISTORY, MOST_INBOX,
     MOST_OPERATIONS, MOST_RED, MOST_SITES, MOST_SITES_OF_VERSION_1,
 };
+pub use number::read_number;
 pub use place::Place;
 pub use rate::{BASIS_POINTS_OF_ALL, MOST_RATE, Rate};
 pub use refusal::{Cause, Refusal};

@@ -1,73 +1,17 @@
 -- What is found by its name.
-use Rattle.std.proofs.Common.{◌≡◌, ℕ, ◌+◌, ◌≤◌, Bool, true, false, cond, not, ◌||◌, List, [], ◌∷◌, refl, suc, ap, sym, ◌∙◌, arith, Option, Some, None, Result, Ok, Err, subst, Bor, rules}
-use Rattle.std.specs.Prelude.{◌-◌, ◌==◌, slice_get, option_map, option_and_then, IsSome, option_copied}
-use Rattle.std.proofs.lemmas.Bool.Decides.{nat_tests}
+use Rattle.std.proofs.Common.{◌≡◌, ℕ, Bool, true, false, cond, not, List, refl, ap, sym, ◌∙◌, Option, Some, None, Result, Ok, Err, Bor, rules}
+use Rattle.std.specs.Prelude.{option_map, option_and_then, IsSome, option_copied}
 use Rattle.rb_shadow.specs.declared.shadow.Shadow.{Shadow}
 use Rattle.rb_shadow.specs.declared.op_name.OpName.{OpName}
-use Rattle.rb_shadow.specs.Operations.{same_name, names, find_in, kind_in}
-use Rattle.rb_shadow.proofs.Members
-use Rattle.rb_shadow.specs.Operations.{may_be_cancelled, is_cancelled}
+use Rattle.rb_shadow.specs.Operations.{names, find_in, kind_in, may_be_cancelled, is_cancelled}
 use Rattle.rb_shadow.specs.declared.kind.Kind.TheVariants.{Cancel}
-use Rattle.rb_shadow.proofs.Lookups
+use Rattle.rb_shadow.proofs.Public.Lookups
 use Rattle.rb_money.specs.declared.refusal.Refusal.{Refusal}
 use Rattle.rb_money.specs.declared.refusal.Refusal.TheVariants.{UnknownOperation, NotCancellable, AlreadyCancelled}
 use Rattle.rb_money.specs.Refusals.{refused_if}
-use Rattle.rb_ledger.specs.Valid.{entry_at, find_position, first_cancel_in, position_from, first_cancel_from}
+use Rattle.rb_ledger.specs.Valid.{operation_at, find_position, first_cancel_in, position_from, first_cancel_from}
 use Rattle.rb_scratch.specs.Requests.{Plan, plan_of_cancel}
-
--- what isn't named isn't found
-pub find_in-unnamed : (us : List Shadow) (x : OpName) → names us x ≡ false → find_in us x ≡ None
-find_in-unnamed [] x h = refl
-find_in-unnamed (u ∷ us) x h =
-    let (first, rest) = Members.or-false _ _ h in
-    ap (λ b. cond b (Some u) (find_in us x)) first ∙ find_in-unnamed us x rest
-
--- the kind of a name is that of what is found
-pub kind_in-found : (us : List Shadow) (x : OpName) → kind_in us x ≡ option_map (λ (t : Shadow). t.kind) (find_in us x)
-kind_in-found [] x = refl
-kind_in-found (u ∷ us) x = at (same_name u.name x) (kind_in-found us x)
-  where
-    at : (b : Bool) → kind_in us x ≡ option_map (λ (t : Shadow). t.kind) (find_in us x) → cond b (Some u.kind) (kind_in us x) ≡ option_map (λ (t : Shadow). t.kind) (cond b (Some u) (find_in us x))
-    at true more = refl
-    at false more = more
-
--- what stands at the position of a named operation is what is found
-position-found : (us : List Shadow) (x : OpName) (k : ℕ) → names us x ≡ true → (k ≤ position_from k us x) × (slice_get us (position_from k us x - k) ≡ find_in us x)
-position-found [] x k h = cc
-position-found (u ∷ us) x k h = at (same_name u.name x) h (position-found us x (k + 1))
-  where
-    first : (n : ℕ) → n - n ≡ 0
-    first n = omega arith
-
-    further : (p n : ℕ) → n + 1 ≤ p → slice_get us (p - (n + 1)) ≡ find_in us x → slice_get (u ∷ us) (p - n) ≡ find_in us x
-    further p n low e = let step : p - n ≡ suc (p - (n + 1)) = omega arith in rw step e
-
-    at : (b : Bool) → (b || names us x) ≡ true → (names us x ≡ true → (k + 1 ≤ position_from (k + 1) us x) × (slice_get us (position_from (k + 1) us x - (k + 1)) ≡ find_in us x))
-        → (k ≤ cond b k (position_from (k + 1) us x)) × (slice_get (u ∷ us) (cond b k (position_from (k + 1) us x) - k) ≡ cond b (Some u) (find_in us x))
-    at true h more = (omega arith, rw (first k) refl)
-    at false h more =
-        let q : (k + 1 ≤ position_from (k + 1) us x) × (slice_get us (position_from (k + 1) us x - (k + 1)) ≡ find_in us x) = more h in
-        (let low = q.0 in omega arith, further (position_from (k + 1) us x) k q.0 q.1)
-
-pub no_position : (us : List Shadow) (x : OpName) → find_position us x ≡ None → find_in us x ≡ None
-no_position us x h = at (names us x) refl h
-  where
-    at : (b : Bool) → names us x ≡ b → cond b (Some (position_from 1 us x)) None ≡ None → find_in us x ≡ None
-    at true e h = cc
-    at false e h = find_in-unnamed us x e
-
-pub at_position : (us : List Shadow) (x : OpName) (p : ℕ) → find_position us x ≡ Some p → entry_at us p ≡ find_in us x
-at_position us x p h = at (names us x) refl h
-  where
-    positive : (n : ℕ) → 1 ≤ n → (n == 0) ≡ false
-    positive n low = grind (arith, nat_tests)
-
-    at : (b : Bool) → names us x ≡ b → cond b (Some (position_from 1 us x)) None ≡ Some p → entry_at us p ≡ find_in us x
-    at true e h =
-        let q : (1 ≤ position_from 1 us x) × (slice_get us (position_from 1 us x - 1) ≡ find_in us x) = position-found us x 1 e in
-        let is : position_from 1 us x ≡ p = cc in
-        subst (λ n. entry_at us n ≡ find_in us x) is (ap (λ b. cond b None (slice_get us (position_from 1 us x - 1))) (positive (position_from 1 us x) q.0) ∙ q.1)
-    at false e h = cc
+use Rattle.rb_scratch.proofs.Public.Positions.{no_position, at_position}
 
 pub found_there : (us : List Shadow) (x : OpName) (p : ℕ) → find_position us x ≡ Some p → (t : Shadow) × (find_in us x ≡ Some t)
 found_there us x p h = at (names us x) refl h
@@ -94,27 +38,27 @@ past_kind us x t found h = ap (plan_of_cancel us x) found ∙ ap (λ b. refused_
 
 -- the operation of the name stands at the position
 pub record IsFound (us : List Shadow) (x : OpName) (p : ℕ) (t : Shadow) : Type 0 where
-  pub entry : entry_at us p ≡ Some t
+  pub entry : operation_at us p ≡ Some t
   pub found : find_in us x ≡ Some t
 
-pub is_found : (us : List Shadow) (x : OpName) (p : ℕ) (r : Option (Bor Shadow)) (b : Bor Shadow) → find_position us x ≡ Some p → option_copied r ≡ entry_at us p → r ≡ Some b → IsFound us x p b.now
+pub is_found : (us : List Shadow) (x : OpName) (p : ℕ) (r : Option (Bor Shadow)) (b : Bor Shadow) → find_position us x ≡ Some p → option_copied r ≡ operation_at us p → r ≡ Some b → IsFound us x p b.now
 is_found us x p r b at copied some =
-    let e : entry_at us p ≡ Some b.now = sym copied ∙ ap option_copied some in
+    let e : operation_at us p ≡ Some b.now = sym copied ∙ ap option_copied some in
     record { entry = e; found = sym (at_position us x p at) ∙ e }
 
 -- what is found is there to be read
-pub readable : (us : List Shadow) (x : OpName) (p : ℕ) (r : Option (Bor Shadow)) → find_position us x ≡ Some p → option_copied r ≡ entry_at us p → IsSome r
+pub readable : (us : List Shadow) (x : OpName) (p : ℕ) (r : Option (Bor Shadow)) → find_position us x ≡ Some p → option_copied r ≡ operation_at us p → IsSome r
 readable us x p r at copied = let (t, found) = found_there us x p at in some r t (copied ∙ at_position us x p at ∙ found)
   where
     some : (r : Option (Bor Shadow)) (t : Shadow) → option_copied r ≡ Some t → IsSome r
     some None t h = cc
     some (Some b) t h = search rules
 
-first_cancel : (us : List Shadow) (x : OpName) (p : ℕ) (t : Shadow) (o : Option ℕ) → IsFound us x p t → o ≡ option_and_then (λ (u : Shadow). first_cancel_in us u.name) (entry_at us p) → o ≡ first_cancel_in us x
+first_cancel : (us : List Shadow) (x : OpName) (p : ℕ) (t : Shadow) (o : Option ℕ) → IsFound us x p t → o ≡ option_and_then (λ (u : Shadow). first_cancel_in us u.name) (operation_at us p) → o ≡ first_cancel_in us x
 first_cancel us x p t o is e = e ∙ ap (option_and_then (λ (u : Shadow). first_cancel_in us u.name)) is.entry ∙ ap (first_cancel_in us) (Lookups.found us x t is.found).1
 
 pub cancelled_at : (us : List Shadow) (x : OpName) (p : ℕ) (t : Shadow) (o : Option ℕ) (n : ℕ) → IsFound us x p t → may_be_cancelled t.kind ≡ true
-    → o ≡ option_and_then (λ (u : Shadow). first_cancel_in us u.name) (entry_at us p) → o ≡ Some n → plan_of_cancel us x (find_in us x) ≡ Err (AlreadyCancelled n)
+    → o ≡ option_and_then (λ (u : Shadow). first_cancel_in us u.name) (operation_at us p) → o ≡ Some n → plan_of_cancel us x (find_in us x) ≡ Err (AlreadyCancelled n)
 cancelled_at us x p t o n is kind e some = past_kind us x t is.found kind ∙ at (is_cancelled us x) (sym (first_cancel us x p t o is e) ∙ some)
   where
     refused : ℕ → Result Plan Refusal
@@ -125,7 +69,7 @@ cancelled_at us x p t o n is kind e some = past_kind us x t is.found kind ∙ at
     at false h = cc
 
 pub planned_to_cancel : (us : List Shadow) (x : OpName) (p : ℕ) (t : Shadow) (o : Option ℕ) → IsFound us x p t → may_be_cancelled t.kind ≡ true
-    → o ≡ option_and_then (λ (u : Shadow). first_cancel_in us u.name) (entry_at us p) → o ≡ None → plan_of_cancel us x (find_in us x) ≡ Ok (record { account = t.account; amount = t.amount; kind = Cancel x })
+    → o ≡ option_and_then (λ (u : Shadow). first_cancel_in us u.name) (operation_at us p) → o ≡ None → plan_of_cancel us x (find_in us x) ≡ Ok (record { account = t.account; amount = t.amount; kind = Cancel x })
 planned_to_cancel us x p t o is kind e none = past_kind us x t is.found kind ∙ at (is_cancelled us x) (sym (first_cancel us x p t o is e) ∙ none)
   where
     at : (b : Bool) → cond b (Some (first_cancel_from 1 us x)) None ≡ None → refused_if b (AlreadyCancelled (first_cancel_from 1 us x)) (Ok (cancelling x t)) ≡ Ok (cancelling x t)
@@ -134,4 +78,4 @@ planned_to_cancel us x p t o is kind e none = past_kind us x t is.found kind ∙
 
 -- the kind of what is found
 pub kind_is : (us : List Shadow) (x : OpName) (p : ℕ) (t : Shadow) → IsFound us x p t → kind_in us x ≡ Some t.kind
-kind_is us x p t is = kind_in-found us x ∙ ap (option_map (λ (u : Shadow). u.kind)) is.found
+kind_is us x p t is = Lookups.kind_found us x ∙ ap (option_map (λ (u : Shadow). u.kind)) is.found

@@ -1,18 +1,16 @@
 -- What is made, step by step.
-use Rattle.std.proofs.Common.{◌≡◌, ℕ, ◌≤◌, ◌<◌, true, false, List, refl, ap, sym, ◌∙◌, arith, Ok, Err}
+use Rattle.std.proofs.Common.{◌≡◌, ℕ, ◌≤◌, ◌<◌, true, false, List, ap, sym, ◌∙◌, Ok, Err}
 use Rattle.std.specs.Prelude.{nat_lt}
-use Rattle.std.proofs.lemmas.Bool.Decides.{nat_tests}
 use Rattle.rb_money.specs.Settings.{Settings}
 use Rattle.rb_money.specs.Refusals.{refused_if, and_then}
 use Rattle.rb_money.specs.declared.refusal.Refusal.{Refusal}
 use Rattle.rb_money.specs.declared.refusal.Refusal.TheVariants.{NumbersExhausted}
+use Rattle.rb_money.proofs.Public.Tests.{is_below, not_below}
 use Rattle.rb_shadow.specs.declared.colour.Colour.TheVariants.{Blue as BlueColour, Red as RedColour}
 use Rattle.rb_shadow.specs.declared.shadow.Shadow.{Shadow}
 use Rattle.rb_shadow.specs.Operations.{number_of}
 use Rattle.rb_shadow.specs.Sound.{limit_of}
 use Rattle.rb_token.specs.Token.{Token}
-use Rattle.rb_token.specs.Seat.{Shows}
-use Rattle.rb_token.specs.declared.view.TokenView.{TokenView}
 use Rattle.rb_scratch.specs.declared.request.Request.{Request}
 use Rattle.rb_scratch.specs.Requests.{Plan, plan_of, next_name, colour_of_plan, operation_of, allowed, allowed_by_colour, allowed_red, made_of}
 
@@ -32,21 +30,15 @@ pub exhausted : (s : Settings) (me : ℕ) (us : List Shadow) (token : Token) (r 
 unfolding allowed
 exhausted s me us token r p e over =
     let v = operation_of me us p in
-    let past : nat_lt (limit_of s.limits v.name) (number_of v.name) ≡ true = above (limit_of s.limits v.name) (number_of v.name) over in
+    let past : nat_lt (limit_of s.limits v.name) (number_of v.name) ≡ true = is_below (limit_of s.limits v.name) (number_of v.name) over in
     planned s me us token r p e ∙ ap (λ b. refused_if b NumbersExhausted (allowed_by_colour s us token v v.name)) past
-  where
-    above : (m n : ℕ) → m < n → nat_lt m n ≡ true
-    above m n h = grind (arith, nat_tests)
 
 within : (s : Settings) (me : ℕ) (us : List Shadow) (token : Token) (r : Request) (p : Plan) (v : Shadow) → plan_of s us r ≡ Ok p → v ≡ operation_of me us p
     → number_of v.name ≤ limit_of s.limits v.name → made_of s me us token r ≡ allowed_by_colour s us token v v.name
 unfolding allowed
 within s me us token r p v e is low =
-    let fits : nat_lt (limit_of s.limits v.name) (number_of v.name) ≡ false = below (limit_of s.limits v.name) (number_of v.name) low in
+    let fits : nat_lt (limit_of s.limits v.name) (number_of v.name) ≡ false = not_below (limit_of s.limits v.name) (number_of v.name) low in
     planned s me us token r p e ∙ ap (allowed s us token) (sym is) ∙ ap (λ b. refused_if b NumbersExhausted (allowed_by_colour s us token v v.name)) fits
-  where
-    below : (m n : ℕ) → n ≤ m → nat_lt m n ≡ false
-    below m n h = grind (arith, nat_tests)
 
 named : (me : ℕ) (us : List Shadow) (p : Plan) (v : Shadow) → v ≡ operation_of me us p → v.name ≡ next_name me us (colour_of_plan us p)
 unfolding operation_of
@@ -61,10 +53,3 @@ blue_made s me us token r p v e is low blue = within s me us token r p v e is lo
 pub red_made : (s : Settings) (me : ℕ) (us : List Shadow) (token : Token) (r : Request) (p : Plan) (v : Shadow) → plan_of s us r ≡ Ok p → v ≡ operation_of me us p
     → number_of v.name ≤ limit_of s.limits v.name → colour_of_plan us p ≡ RedColour → made_of s me us token r ≡ allowed_red s us token v
 red_made s me us token r p v e is low red = within s me us token r p v e is low ∙ ap (allowed_by_colour s us token v) (named me us p v is ∙ ap (next_name me us) red)
-
--- a token that a view shows
-abbrev pub seen : TokenView → Token
-seen w = record { epoch = 0; held = w.held; needed = w.needed }
-
-pub seen_shows : (w : TokenView) → Shows w (seen w)
-seen_shows w = record { held = refl; needed = refl }

@@ -11,15 +11,15 @@ use Rattle.rb_shadow.specs.declared.kind.Kind.{Kind}
 use Rattle.rb_shadow.specs.declared.kind.Kind.TheVariants.{Deposit, Withdraw, Declined, Interest}
 use Rattle.rb_shadow.specs.declared.shadow.Shadow.{Shadow}
 use Rattle.rb_shadow.specs.Operations.{bal, is_cancel, is_cancelled, moved}
-use Rattle.rb_ledger.proofs.Pushes
+use Rattle.rb_ledger.proofs.Public.Pushes
 use Rattle.rb_ledger.specs.Valid.{IsValid}
-use Rattle.rb_ledger.proofs.Legal
+use Rattle.rb_ledger.proofs.Public.Legal
 use Rattle.rb_scratch.specs.declared.request.Request.{Request}
 use Rattle.rb_scratch.specs.declared.request.Request.TheVariants.{Deposit as AskDeposit, Withdraw as AskWithdraw, Interest as AskInterest, Cancel as AskCancel}
 use Rattle.rb_scratch.specs.Originals.{DoesOriginal, IsOriginal, after_accrue, after_deposit, after_withdraw}
 use Rattle.rb_scratch.specs.Requests.{Plan, colour_of_plan, interest_on, next_name, operation_of, plan_of, withdrawal}
-use Rattle.rb_scratch.proofs.Made
-use Rattle.rb_scratch.proofs.Makes
+use Rattle.rb_scratch.proofs.Public.Made
+use Rattle.rb_scratch.proofs.Public.Makes
 
 not_cancel : (b : Bool) → is_cancel (cond b Declined Withdraw) ≡ false
 not_cancel true = refl
@@ -65,12 +65,12 @@ plan_of_withdraw s us a n p e =
     let (_, e2) = Made.passed_by (not (is_amount n)) _ _ p e1 in
     accepted p _ e2
 
-plan_of_interest : (s : Settings) (us : List Shadow) (a : Place) (rate : ℕ) (p : Plan) → plan_of s us (AskInterest a rate) ≡ Ok p → record { account = a; amount = interest_on s us a rate; kind = Interest } ≡ p
+plan_of_interest : (s : Settings) (us : List Shadow) (a : Place) (rate : ℕ) (p : Plan) → plan_of s us (AskInterest a rate) ≡ Ok p → record { account = a; amount = interest_on (bal s us) a rate; kind = Interest } ≡ p
 unfolding plan_of
 plan_of_interest s us a rate p e =
     let (_, e1) = Made.passed_by (not (is_account s a)) _ _ p e in
     let (_, e2) = Made.passed_by (nat_lt MOST_RATE rate) _ _ p e1 in
-    let (_, e3) = Made.passed_by (nat_lt MOST_CENTS (interest_on s us a rate)) _ _ p e2 in
+    let (_, e3) = Made.passed_by (nat_lt MOST_CENTS (interest_on (bal s us) a rate)) _ _ p e2 in
     accepted p _ e3
 
 -- the parts of what a plan makes
@@ -103,8 +103,8 @@ plan_original s me us p v (AskWithdraw a n) valid is planned =
     λ q. (is_original s us v (uncancelled s me us v p valid is)).withdraw (h.kind ∙ sym (ap (λ x. withdrawal s us x v.amount) h.account ∙ ap (withdrawal s us a) h.amount)) q
     ∙ ap (λ x. after_withdraw (bal s us) x v.amount q) h.account ∙ ap (λ m. after_withdraw (bal s us) a m q) h.amount
 plan_original s me us p v (AskInterest a rate) valid is planned =
-    let h = parts_of me us v p a (interest_on s us a rate) Interest is (plan_of_interest s us a rate p planned) in
-    λ q. (is_original s us v (uncancelled s me us v p valid is)).accrue rate h.kind (h.amount ∙ sym (ap (λ x. interest_on s us x rate) h.account)) q
+    let h = parts_of me us v p a (interest_on (bal s us) a rate) Interest is (plan_of_interest s us a rate p planned) in
+    λ q. (is_original s us v (uncancelled s me us v p valid is)).accrue rate h.kind (h.amount ∙ sym (ap (λ x. interest_on (bal s us) x rate) h.account)) q
     ∙ ap (λ x. after_accrue (bal s us) x rate q) h.account
 plan_original s me us p v (AskCancel x) valid is planned = tt
 

@@ -6,9 +6,6 @@ use Rattle.rb_money.specs.declared.refusal.Refusal.{Refusal}
 use Rattle.rb_money.specs.declared.refusal.Refusal.TheVariants.{WouldOverdraw}
 use Rattle.rb_shadow.specs.declared.deps.Deps.{Deps}
 use Rattle.std.specs.Prelude.{MatchResult}
-use Rattle.rb_shadow.specs.declared.kind.Kind.{Kind}
-use Rattle.rb_shadow.specs.declared.kind.Kind.TheVariants.{Deposit, Withdraw, Declined, Interest, Cancel}
-use Rattle.rb_shadow.specs.declared.op_name.OpName.{OpName}
 use Rattle.rb_shadow.specs.declared.shadow.Shadow.{Shadow}
 use Rattle.rb_shadow.specs.Operations.{clock_of, is_cancel}
 use Rattle.rb_ledger.specs.Checks.{overdraws, refusal_of}
@@ -55,10 +52,3 @@ pub red_cancellation : (s : Settings) (us : List Shadow) (token : Token) (v : Sh
     → MatchResult r (λ _. allowed_red s us token v ≡ Ok v) (λ why. allowed_red s us token v ≡ Err why)
 red_cancellation s us token v c (Ok x) is e cancel money none = red_covered s us token v c is e money none
 red_cancellation s us token v c (Err why) is e cancel money some = red_overdraws s us token v c why is e cancel money some
-
-pub no_cancel : (k : Kind) → ((x : OpName) → k ≡ Cancel x → ⊥) → is_cancel k ≡ false
-no_cancel Deposit h = refl
-no_cancel Withdraw h = refl
-no_cancel Declined h = refl
-no_cancel Interest h = refl
-no_cancel (Cancel x) h = absurd (h x refl)

@@ -8,15 +8,15 @@ use Rattle.rb_money.specs.declared.cents.TheConstants.{MOST_CENTS}
 use Rattle.rb_money.specs.declared.rate.TheConstants.{MOST_RATE}
 use Rattle.rb_shadow.specs.declared.op_name.OpName.{OpName}
 use Rattle.rb_shadow.specs.declared.kind.Kind.{Kind}
-use Rattle.rb_shadow.specs.declared.kind.Kind.TheVariants.{Deposit, Withdraw, Declined, Interest, Cancel}
+use Rattle.rb_shadow.specs.declared.kind.Kind.TheVariants.{Withdraw, Declined, Interest, Cancel}
 use Rattle.rb_shadow.specs.declared.shadow.Shadow.{Shadow}
 use Rattle.rb_shadow.specs.Operations.{Among, bal, find_in, is_cancelled, may_be_cancelled}
-use Rattle.rb_shadow.proofs.Lookups
+use Rattle.rb_shadow.proofs.Public.Lookups
 use Rattle.rb_scratch.specs.declared.request.Request.{Request}
 use Rattle.rb_scratch.specs.declared.request.Request.TheVariants.{Deposit as AskDeposit, Withdraw as AskWithdraw, Interest as AskInterest, Cancel as AskCancel}
 use Rattle.rb_scratch.specs.Requests.{Plan, interest_on, plan_of, plan_of_cancel}
 use Rattle.rb_money.specs.Amounts.{is_amount}
-use Rattle.rb_scratch.proofs.Made.{passed_by, not_true}
+use Rattle.rb_scratch.proofs.Public.Made.{passed_by, not_true}
 
 pub record IsFor (s : Settings) (p : Plan) : Type 0 where
   pub account : is_account s p.account ≡ true
@@ -32,12 +32,12 @@ pub record Cancels (us : List Shadow) (x : OpName) (p : Plan) : Type 0 where
   pub amount : target.amount ≡ p.amount
   pub free : is_cancelled us x ≡ false
 
+-- what a plan says, by its kind
 abbrev pub IsPlanned : Settings → List Shadow → Plan → Kind → Type 0
-IsPlanned s us p Deposit = IsFor s p
 IsPlanned s us p Withdraw = IsFor s p × (int_lt (bal s us p.account) (pos p.amount) ≡ false)
-IsPlanned s us p Declined = IsFor s p
 IsPlanned s us p Interest = (is_account s p.account ≡ true) × (nat_lt MOST_CENTS p.amount ≡ false)
 IsPlanned s us p (Cancel x) = Cancels us x p
+IsPlanned s us p _ = IsFor s p
 
 -- an accepted plan
 abbrev accepted : Plan → Result Plan Refusal
@@ -71,6 +71,6 @@ planned s us (AskWithdraw a n) p e =
 planned s us (AskInterest a rate) p e =
     let (h, e1) = passed_by (not (is_account s a)) _ _ p e in
     let (k, e2) = passed_by (nat_lt MOST_RATE rate) _ _ p e1 in
-    let (l, e3) = passed_by (nat_lt MOST_CENTS (interest_on s us a rate)) _ _ p e2 in
+    let (l, e3) = passed_by (nat_lt MOST_CENTS (interest_on (bal s us) a rate)) _ _ p e2 in
     subst (λ (q : Plan). IsPlanned s us q q.kind) (at_ok p _ e3) (not_true _ h, l)
 planned s us (AskCancel x) p e = planned_cancel s us x (find_in us x) p refl e

@@ -1,5 +1,5 @@
 -- What is tried on a ledger, operation by operation.
-use Rattle.std.proofs.Common.{◌≡◌, ℕ, ◌-◌, ◌≤◌, List, [], ◌∷◌, ◌++◌, length, drop, refl, ap, sym, ◌∙◌, arith, append_assoc, length-append, ◌⊎◌, inl, inr}
+use Rattle.std.proofs.Common.{◌≡◌, ℕ, ◌-◌, List, [], ◌∷◌, ◌++◌, length, drop, refl, ap, sym, ◌∙◌, arith, append_assoc, length-append, ◌⊎◌, inl, inr}
 use Rattle.std.proofs.lemmas.List.{append-nil}
 use Rattle.std.proofs.Math.Seq.{drop-append_seam}
 use Rattle.rb_money.specs.Settings.{Settings}
@@ -7,19 +7,15 @@ use Rattle.rb_shadow.specs.declared.shadow.Shadow.{Shadow}
 use Rattle.rb_undo.specs.declared.parts.UndoParts.{UndoParts}
 use Rattle.rb_ledger.specs.Book.{Book}
 use Rattle.rb_ledger.specs.Records.{logged}
-use Rattle.rb_ledger.specs.Valid.{parts_of}
+use Rattle.rb_ledger.specs.Valid.{parts_of, IsValid}
 use Rattle.rb_money.specs.declared.refusal.Refusal.{Refusal}
 use Rattle.rb_money.specs.declared.refusal.Refusal.TheVariants.{OutOfMemory}
 use Rattle.std.specs.Prelude.{Some, None}
 use Rattle.rb_ledger.specs.Checks.{refusal_of}
-use Rattle.rb_ledger.specs.Valid.{IsValid}
-use Rattle.rb_ledger.proofs.Legal
-use Rattle.rb_ledger.proofs.Records
+use Rattle.rb_ledger.proofs.Public.Legal
+use Rattle.rb_ledger.proofs.Public.Records
 use Rattle.rb_scratch.specs.Tried.{IsTried, IsAdded}
-
--- there are as many records as operations
-pub tried_length : (base made : List Shadow) (book : Book) (records : List UndoParts) → IsTried base made book records → length records ≡ length made
-tried_length base made book records tried = ap length tried.records ∙ Records.logged-length book.settings base made
+use Rattle.rb_scratch.proofs.Public.Batches.{tried_length}
 
 -- one operation more
 pub added : (was now : Book) (records more : List UndoParts) (v : Shadow) → now.settings ≡ was.settings → now.entries ≡ was.entries ++ v ∷ [] → more ≡ records ++ parts_of was.settings was.entries v ∷ [] → IsAdded was now records more v
@@ -37,25 +33,6 @@ added was now records more v same longer recorded =
             ∙ ap (λ s. logged s base (made ++ v ∷ [])) (sym same);
       };
     }
-
--- two lists with an element at their ends
-same_snoc : {A : Type 0} (xs ys : List A) (x y : A) → xs ++ x ∷ [] ≡ ys ++ y ∷ [] → (xs ≡ ys) × (x ≡ y)
-same_snoc [] [] x y e = (refl, (let a : x ≡ y = cc in a))
-same_snoc [] (b ∷ ys) x y e = absurd (never ys y (let a : [] ≡ ys ++ y ∷ [] = cc in a))
-  where
-    never : {A : Type 0} (ys : List A) (y : A) → [] ≡ ys ++ y ∷ [] → ⊥
-    never [] y e = cc
-    never (b ∷ ys) y e = cc
-same_snoc (a ∷ xs) [] x y e = absurd (never xs x (let a : xs ++ x ∷ [] ≡ [] = cc in a))
-  where
-    never : {A : Type 0} (ys : List A) (y : A) → ys ++ y ∷ [] ≡ [] → ⊥
-    never [] y e = cc
-    never (b ∷ ys) y e = cc
-same_snoc (a ∷ xs) (b ∷ ys) x y e =
-    let heads : a ≡ b = cc in
-    let rest : xs ++ x ∷ [] ≡ ys ++ y ∷ [] = cc in
-    let (tails, lasts) = same_snoc xs ys x y rest in
-    (ap (λ c. c ∷ xs) heads ∙ ap (λ zs. b ∷ zs) tails, lasts)
 
 -- a list is empty, or has a last element
 last_of : {A : Type 0} (xs : List A) → (xs ≡ []) ⊎ ((ys : List A) × (y : A) × (xs ≡ ys ++ y ∷ []))
@@ -84,7 +61,7 @@ last_record base made book records rest p tried e = at (last_of made)
     at : (made ≡ []) ⊎ ((ys : List Shadow) × (y : Shadow) × (made ≡ ys ++ y ∷ [])) → IsLastOf base book rest p
     at (inl none) = absurd (never rest p (sym e ∙ tried.records ∙ ap (logged book.settings base) none))
     at (inr (left, last, is)) =
-        let same = same_snoc rest (logged book.settings base left) p (parts_of book.settings (base ++ left) last)
+        let same = Records.ends rest (logged book.settings base left) p (parts_of book.settings (base ++ left) last)
         (sym e ∙ tried.records ∙ ap (logged book.settings base) is ∙ Records.logged-append book.settings base left (last ∷ [])) in
         record {
           left = left;
@@ -98,7 +75,7 @@ last_record base made book records rest p tried e = at (last_of made)
 pub tried_less : (base : List Shadow) (book now : Book) (rest : List UndoParts) (p : UndoParts) (v : Shadow) → (last : IsLastOf base book rest p) → book.entries ≡ now.entries ++ v ∷ [] → now.settings ≡ book.settings → IsTried base last.left now rest
 tried_less base book now rest p v last e same =
     record {
-      entries = (same_snoc now.entries (base ++ last.left) v last.last (sym e ∙ last.entries)).0;
+      entries = (Records.ends now.entries (base ++ last.left) v last.last (sym e ∙ last.entries)).0;
       records = last.records ∙ ap (λ s. logged s base last.left) (sym same);
     }
 
@@ -117,10 +94,6 @@ pub last_made : (base made : List Shadow) (book : Book) (records : List UndoPart
 last_made base made book records n tried e =
     let at : n ≡ length base = omega (arith, tried_length base made book records tried, ap length tried.entries, length-append base made, e) in
     ap (drop n) tried.entries ∙ ap (λ k. drop k (base ++ made)) at ∙ drop-append_seam base made
-
--- there are no more records than operations
-pub tried_within : (base made : List Shadow) (book : Book) (records : List UndoParts) → IsTried base made book records → length records ≤ length book.entries
-tried_within base made book records tried = omega (arith, tried_length base made book records tried, ap length tried.entries, length-append base made)
 
 -- what may be added is refused only where memory runs out
 pub no_memory : (s : Settings) (us : List Shadow) (h : Shadow) (why : Refusal) (n : ℕ) → IsValid s (us ++ h ∷ []) → (refusal_of s us h ≡ Some why) ⊎ ((why ≡ OutOfMemory) × (refusal_of s us h ≡ None) × (n ≡ 0)) → why ≡ OutOfMemory

@@ -7,7 +7,7 @@ use Rattle.rb_money.specs.declared.refusal.Cause.TheVariants.{Declined as Declin
 use Rattle.rb_money.specs.declared.refusal.Refusal.{Refusal}
 use Rattle.rb_money.specs.declared.refusal.Refusal.TheVariants.{BatchRefused}
 use Rattle.rb_shadow.specs.declared.kind.Kind.{Kind}
-use Rattle.rb_shadow.specs.declared.kind.Kind.TheVariants.{Deposit, Withdraw, Declined, Interest, Cancel}
+use Rattle.rb_shadow.specs.declared.kind.Kind.TheVariants.{Declined}
 use Rattle.rb_shadow.specs.declared.op_name.OpName.{OpName}
 use Rattle.rb_shadow.specs.declared.shadow.Shadow.{Shadow}
 use Rattle.rb_scratch.specs.Requests.{Plan, plan_of, operation_of, allowed}
@@ -19,10 +19,7 @@ use Rattle.rb_token.specs.Token.{Token}
 -- whether it is a declined withdrawal
 abbrev pub is_declined : Kind → Bool
 is_declined Declined = true
-is_declined Deposit = false
-is_declined Withdraw = false
-is_declined Interest = false
-is_declined (Cancel x) = false
+is_declined _ = false
 
 -- what a request of a batch would be refused for
 abbrev pub stopped : {A : Type 0} → Result A Refusal → Result A RunFault

@@ -4,3 +4,4 @@ pub mod Effects
 pub mod Batches
 pub mod Tried
 pub mod Records
+pub mod Exact

@@ -1,6 +1,5 @@
 -- The bank of the published paper: what each operation does to a map from accounts to balances.
 use Rattle.std.specs.Prelude.{ℕ, Bool, if◌then◌else◌, not, ◌&&◌, ◌==◌, ℤ, pos, ◌+ℤ◌, neg_ℤ, int_lt}
-use Rattle.rb_money.specs.Amounts.{cents, interest}
 use Rattle.std.specs.Prelude.{◌≡◌, List, [], ◌∷◌, ◌++◌, false, ⊤}
 use Rattle.rb_money.specs.Settings.{Settings}
 use Rattle.rb_money.specs.declared.place.Place.{Place}
@@ -23,15 +22,15 @@ grants b a x = not (int_lt (b a) (pos x))
 abbrev pub after_withdraw : (Place → ℤ) → Place → ℕ → Place → ℤ
 after_withdraw b a x = λ q. b q +ℤ (if grants b a x && (a.0 == q.0) then neg_ℤ (pos x) else pos 0)
 
--- an account gets the floor of its share, the rate in basis points
+-- an account gets its interest at the rate
 abbrev pub after_accrue : (Place → ℤ) → Place → ℕ → Place → ℤ
-after_accrue b a rate = λ q. b q +ℤ (if a.0 == q.0 then pos (interest (cents (b a)) rate) else pos 0)
+after_accrue b a rate = λ q. b q +ℤ (if a.0 == q.0 then pos (interest_on b a rate) else pos 0)
 
 -- an operation at the end of a list does to every balance what the published bank does
 pub record IsOriginal (s : Settings) (us : List Shadow) (v : Shadow) : Type 0 where
   pub deposit : v.kind ≡ Deposit → (q : Place) → bal s (us ++ v ∷ []) q ≡ after_deposit (bal s us) v.account v.amount q
   pub withdraw : v.kind ≡ withdrawal s us v.account v.amount → (q : Place) → bal s (us ++ v ∷ []) q ≡ after_withdraw (bal s us) v.account v.amount q
-  pub accrue : (rate : ℕ) → v.kind ≡ Interest → v.amount ≡ interest_on s us v.account rate → (q : Place) → bal s (us ++ v ∷ []) q ≡ after_accrue (bal s us) v.account rate q
+  pub accrue : (rate : ℕ) → v.kind ≡ Interest → v.amount ≡ interest_on (bal s us) v.account rate → (q : Place) → bal s (us ++ v ∷ []) q ≡ after_accrue (bal s us) v.account rate q
 
 -- so it is for every operation whose name none of them cancels
 abbrev pub EachIsOriginal : Type 0

@@ -1,5 +1,5 @@
 -- What a request makes.
-use Rattle.std.specs.Prelude.{ℕ, ◌+◌, if◌then◌else◌, not, ◌&&◌, nat_lt, List, Option, Some, None, Result, Ok, Err, pos, int_lt, option_and_then}
+use Rattle.std.specs.Prelude.{ℕ, ℤ, ◌+◌, if◌then◌else◌, not, ◌&&◌, nat_lt, List, Option, Some, None, Result, Ok, Err, pos, int_lt, option_and_then}
 use Rattle.rb_money.specs.Amounts.{cents, is_amount, interest}
 use Rattle.rb_money.specs.Refusals.{refused_if, and_then, unless_refused}
 use Rattle.std.specs.Prelude.{◌≡◌, ℕ, ◌<◌, ◌≤◌, [], ◌∷◌, ◌++◌}
@@ -36,9 +36,9 @@ pub record Plan : Type 0 where
 abbrev pub withdrawal : Settings → List Shadow → Place → ℕ → Kind
 withdrawal s us a n = if int_lt (bal s us a) (pos n) then Declined else Withdraw
 
--- the floor of the balance's share, the rate in basis points
-abbrev pub interest_on : Settings → List Shadow → Place → ℕ → ℕ
-interest_on s us a rate = interest (cents (bal s us a)) rate
+-- an account's interest by the balances: the floor of its balance's share, the rate in basis points
+abbrev pub interest_on : (Place → ℤ) → Place → ℕ → ℕ
+interest_on b a rate = interest (cents (b a)) rate
 
 -- what a request to cancel would make, by the operation of its target's name
 abbrev pub plan_of_cancel : List Shadow → OpName → Option Shadow → Result Plan Refusal
@@ -61,8 +61,8 @@ plan_of s us (AskWithdraw a n) =
 plan_of s us (AskInterest a rate) =
     refused_if (not (is_account s a)) UnknownAccount
     (refused_if (nat_lt MOST_RATE rate) BadRate
-    (refused_if (nat_lt MOST_CENTS (interest_on s us a rate)) DeltaTooLarge
-    (Ok (record { account = a; amount = interest_on s us a rate; kind = Interest }))))
+    (refused_if (nat_lt MOST_CENTS (interest_on (bal s us) a rate)) DeltaTooLarge
+    (Ok (record { account = a; amount = interest_on (bal s us) a rate; kind = Interest }))))
 plan_of s us (AskCancel x) = plan_of_cancel us x (find_in us x)
 
 -- the next name of a colour at a site

@@ -6,7 +6,7 @@ ghost use Rattle.rb_shadow.specs.Operations.{number_of};
 ghost use Rattle.rb_ledger.specs.Valid.{IsValid};
 ghost use Rattle.rb_ledger.specs.Checks.{refusal_of, overdraws};
 ghost use Rattle.rb_token.specs.Token.{Token};
-ghost use Rattle.rb_token.specs.Seat.{Shows};
+ghost use Rattle.rb_token.specs.Seen.{Shows};
 ghost use Rattle.rb_scratch.specs.declared.request.Request.TheVariants.{Deposit as AskDeposit, Withdraw as AskWithdraw, Interest as AskInterest, Cancel as AskCancel};
 ghost use Rattle.rb_scratch.specs.declared.request.Request.{Request as TheRequest};
 ghost use Rattle.rb_scratch.specs.Requests.{plan_of, next_name, colour_of_plan, operation_of, allowed, allowed_red, made_of};
@@ -186,9 +186,9 @@ fn permit_red(ledger: &Ledger, token: &TokenView, shadow: &Shadow) -> Result<(),
     if let Err(why) = token.may_red(ledger.clock()) {
         return Err(why);
     }
-    match shadow.kind {
-        Kind::Cancel { .. } => ledger.check(shadow),
-        _ => Ok(()),
+    match shadow.kind.target() {
+        Some(_) => ledger.check(shadow),
+        None => Ok(()),
     }
 }
 

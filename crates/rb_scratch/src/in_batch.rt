@@ -2,7 +2,7 @@
 ghost use Rattle.std.specs.Prelude.{◌≡◌, ◌<◌, ◌∷◌, ◌++◌, [], IfOk};
 ghost use Rattle.rb_ledger.specs.Valid.{IsValid};
 ghost use Rattle.rb_token.specs.Token.{Token};
-ghost use Rattle.rb_token.specs.Seat.{Shows};
+ghost use Rattle.rb_token.specs.Seen.{Shows};
 ghost use Rattle.rb_scratch.specs.Batches.{made_in_batch};
 
 use crate::generator::{carry_out, decide};

@@ -7,6 +7,7 @@ ghost use Rattle.rb_scratch.specs.Requests.{MadeIsValid};
 #[cfg(test)]
 mod batch_tests;
 mod effect;
+mod exact;
 mod generator;
 mod in_batch;
 mod plan;

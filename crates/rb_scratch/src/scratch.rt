@@ -4,7 +4,7 @@ ghost use Rattle.std.specs.Borrow.{sem};
 ghost use Rattle.rb_shadow.specs.declared.shadow.Shadow.{Shadow as TheShadow};
 ghost use Rattle.rb_ledger.specs.contracts.ledger.Ledger.{the_row};
 ghost use Rattle.rb_token.specs.Token.{Token};
-ghost use Rattle.rb_token.specs.Seat.{Shows};
+ghost use Rattle.rb_token.specs.Seen.{Shows};
 ghost use Rattle.rb_scratch.specs.Batches.{made_in_batch};
 ghost use Rattle.rb_scratch.specs.Tried.{IsTried, IsOfTheLast, IsAdded, IsFault, RestsIfOk};
 ghost use Rattle.rb_scratch.specs.declared.request.TheConstants.{MOST_REQUESTS};

@@ -1,1 +1,1 @@
-pub mod Opens
+mod Opens

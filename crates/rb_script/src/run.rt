@@ -1,7 +1,7 @@
 //! A whole script, from bytes to bytes.
 ghost use Rattle.std.specs.Prelude.{◌≡◌, ◌↔◌, ◌++◌, ◌⊎◌, List, [], ℕ, true, false, Err, IfSome, IfOk};
 ghost use Rattle.std.specs.Io.KnownBytes.{Appends};
-ghost use Rattle.rb_script.specs.Run.{EndsAs, WillEndAs};
+ghost use Rattle.rb_script.specs.Run.{ScriptEndsAs, WillEndAs};
 ghost use Rattle.rb_script.specs.Session.{first_session};
 ghost use Rattle.rb_lines.specs.declared.fault.ScriptFault.TheVariants.{Read, Write};
 ghost use Rattle.rb_lines.specs.declared.limits.TheConstants.{MOST_READS};
@@ -68,7 +68,7 @@ pub fn run_script<S: Source, W: Sink>(
     requires fresh { W.failed writer.old ≡ false }
     // What is written is what the script asks for, and nothing else.
     ensures written { (text : List ℕ) × Appends (W.contents writer.old) (W.contents writer.new) text
-        × IfSome (S.remaining reader.old) (λ input. EndsAs result input (S.remaining reader.new) text) }
+        × IfSome (S.remaining reader.old) (λ input. ScriptEndsAs result input (S.remaining reader.new) text) }
     ensures read { result ≡ Err Read → (S.failed reader.new ≡ true) ⊎ (S.calls reader.new ≡ MOST_READS) }
     ensures write { (result ≡ Err Write) ↔ (W.failed writer.new ≡ true) }
     ensures whole { IfOk result (λ _. W.failed writer.new ≡ false) }

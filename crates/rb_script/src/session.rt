@@ -6,7 +6,7 @@ ghost use Rattle.rb_commands.specs.declared.fault.LineFault.TheVariants.{Bad};
 ghost use Rattle.rb_commands.specs.Configurations.{config_on};
 ghost use Rattle.rb_lines.specs.declared.limits.TheConstants.{LINE_LIMIT};
 ghost use Rattle.rb_script.specs.Script.{command_on};
-ghost use Rattle.rb_script.specs.Session.{Answers, AnswersCommand, EndsAt, first_session};
+ghost use Rattle.rb_script.specs.Session.{Answers, AnswersCommand, ScriptEndsAt, first_session};
 
 use rb_commands::{LineFault, append_reply, read_command, read_config};
 use rb_lines::{ScriptFault, is_blank, text_on};
@@ -103,7 +103,7 @@ impl Session {
         requires count { self.old.count < 2 ^ 63 }
         ensures answered { MatchResult result
             (λ _. (text : List ℕ) × (owed.new.items ≡ owed.old.items ++ text) × Answers self.old self.new line.now text)
-            (λ fault. (owed.new.items ≡ owed.old.items) × EndsAt self.old line.now fault) }
+            (λ fault. (owed.new.items ≡ owed.old.items) × ScriptEndsAt self.old line.now fault) }
         ensures count { OnOk result (self.new.count ≤ self.old.count + 1) }
     {
         let number = self.number;

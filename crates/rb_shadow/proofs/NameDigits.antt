@@ -2,18 +2,15 @@
 use Rattle.std.proofs.Common.{◌≡◌, ◌≢◌, ◌<◌, ◌^◌, ℕ, List, [], ◌∷◌, ap, sym, ◌∙◌, append_assoc, ◌++◌, length, get_or, decimal, arith, refl, Option, Some, None, Bor}
 use Rattle.std.specs.Prelude.{MatchOption}
 use Rattle.std.proofs.lemmas.Fmt.{digits_decimal}
-use Rattle.std.proofs.lemmas.Str.Parse.{IsNumeralModel, numerals_by_value, tells_digits, not_in_digits}
+use Rattle.std.proofs.lemmas.Str.Parse.{not_in_digits}
 use Rattle.std.proofs.lemmas.Str.Pattern.{IsSplitOnceResult, split_after}
-use Rattle.std.specs.Str.Parse.{AllDigits, digits_value}
 use Rattle.rb_shadow.specs.NameText.{name_text, IsName}
 use Rattle.rb_shadow.specs.declared.op_name.OpName.{OpName}
 use Rattle.rb_shadow.specs.declared.op_name.OpName.TheVariants.{Blue, Red}
-
-abbrev own : IsNumeralModel (AllDigits 10) (digits_value 10)
-own = numerals_by_value (AllDigits 10) tells_digits
+use Rattle.rb_shadow.proofs.Public.Digits.{in_digits}
 
 pub no_dot : (n : ℕ) → n < 2 ^ 64 → (i : ℕ) → i < length (decimal n) → get_or (decimal n) i 0 ≢ 46
-no_dot n small = not_in_digits own (decimal n) 46 (digits_decimal own n small) (λ h. omega arith)
+no_dot n small = not_in_digits in_digits (decimal n) 46 (digits_decimal in_digits n small) (λ h. omega arith)
 
 cut_at_dot : (s n : ℕ) (bs : List ℕ) (r : Option (Bor (List ℕ) × Bor (List ℕ))) → IsSplitOnceResult 46 bs r → s < 2 ^ 64 → bs ≡ decimal s ++ (46 ∷ decimal n)
     → MatchOption r ⊥ (λ x. (x.0.now ≡ decimal s) × (x.1.now ≡ decimal n))

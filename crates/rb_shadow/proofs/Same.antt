@@ -1,8 +1,6 @@
 -- Two shadows that are the same, field by field, are equal.
-use Rattle.std.proofs.Common.{◌≡◌, ℕ, Bool, true, false, ◌&&◌, List, [], ◌∷◌, refl, ap, sym, ◌∙◌, arith}
+use Rattle.std.proofs.Common.{◌≡◌, ℕ, Bool, true, false, ◌&&◌, List, [], ◌∷◌, refl, ap, sym, ◌∙◌}
 use Rattle.std.specs.Prelude.{◌==◌, ◌↔◌, IsTrue, nat_eq}
-use Rattle.std.proofs.lemmas.Bool.Decides.{nat_tests}
-use Rattle.std.proofs.lemmas.Bool.{and_from as both, and_parts as each}
 use Rattle.std.specs.Cmp.Lexicographic.{pointwise}
 use Rattle.rb_shadow.specs.contracts.op_name.OpNamePartialEq.TheImpl.{ghosts as name_test}
 use Rattle.rb_shadow.specs.contracts.kind.KindPartialEq.TheImpl.{ghosts as kind_test}
@@ -13,89 +11,7 @@ use Rattle.rb_shadow.specs.declared.kind.Kind.{Kind}
 use Rattle.rb_shadow.specs.declared.kind.Kind.TheVariants.{Deposit, Withdraw, Declined, Interest, Cancel}
 use Rattle.rb_shadow.specs.declared.shadow.Shadow.{Shadow}
 use Rattle.rb_shadow.specs.Operations.{same_name, same_kind, same_numbers, same_shadow}
-use Rattle.rb_shadow.proofs.Members
-
-same_number-refl : (n : ℕ) → (n == n) ≡ true
-same_number-refl n = grind (arith, nat_tests)
-
-same_number-true : (m n : ℕ) → (m == n) ≡ true → m ≡ n
-same_number-true m n h = grind (arith, nat_tests)
-
-pub same_numbers-refl : (ns : List ℕ) → same_numbers ns ns ≡ true
-same_numbers-refl [] = refl
-same_numbers-refl (n ∷ ns) = both _ _ (same_number-refl n) (same_numbers-refl ns)
-
-pub same_numbers-true : (ms ns : List ℕ) → same_numbers ms ns ≡ true → ms ≡ ns
-same_numbers-true [] [] h = refl
-same_numbers-true [] (n ∷ ns) h = cc
-same_numbers-true (m ∷ ms) [] h = cc
-same_numbers-true (m ∷ ms) (n ∷ ns) h =
-    let (first, rest) = each _ _ h in
-    let e : m ≡ n = same_number-true m n first in
-    let k : ms ≡ ns = same_numbers-true ms ns rest in
-    cc
-
-pub same_kind-refl : (k : Kind) → same_kind k k ≡ true
-same_kind-refl Deposit = refl
-same_kind-refl Withdraw = refl
-same_kind-refl Declined = refl
-same_kind-refl Interest = refl
-same_kind-refl (Cancel x) = Members.same_name-refl x
-
-pub same_kind-true : (j k : Kind) → same_kind j k ≡ true → j ≡ k
-same_kind-true Deposit Deposit h = refl
-same_kind-true Deposit Withdraw h = cc
-same_kind-true Deposit Declined h = cc
-same_kind-true Deposit Interest h = cc
-same_kind-true Deposit (Cancel y) h = cc
-same_kind-true Withdraw Deposit h = cc
-same_kind-true Withdraw Withdraw h = refl
-same_kind-true Withdraw Declined h = cc
-same_kind-true Withdraw Interest h = cc
-same_kind-true Withdraw (Cancel y) h = cc
-same_kind-true Declined Deposit h = cc
-same_kind-true Declined Withdraw h = cc
-same_kind-true Declined Declined h = refl
-same_kind-true Declined Interest h = cc
-same_kind-true Declined (Cancel y) h = cc
-same_kind-true Interest Deposit h = cc
-same_kind-true Interest Withdraw h = cc
-same_kind-true Interest Declined h = cc
-same_kind-true Interest Interest h = refl
-same_kind-true Interest (Cancel y) h = cc
-same_kind-true (Cancel x) Deposit h = cc
-same_kind-true (Cancel x) Withdraw h = cc
-same_kind-true (Cancel x) Declined h = cc
-same_kind-true (Cancel x) Interest h = cc
-same_kind-true (Cancel x) (Cancel y) h = ap Cancel (Members.same_name-true x y h)
-
-pub same_shadow-refl : (v : Shadow) → same_shadow v v ≡ true
-unfolding same_shadow
-same_shadow-refl v =
-    both _ _ (both _ _ (both _ _ (both _ _ (both _ _ (both _ _
-    (Members.same_name-refl v.name) (same_number-refl v.home)) (same_numbers-refl v.deps.blue)) (same_number-refl v.deps.red))
-    (same_number-refl v.account.0)) (same_number-refl v.amount)) (same_kind-refl v.kind)
-
--- a shadow by its fields
-abbrev of_fields : OpName → ℕ → List ℕ → ℕ → ℕ → ℕ → Kind → Shadow
-of_fields name home blue red account amount kind = record { name = name; home = home; deps = record { blue = blue; red = red }; account = record { 0 = account }; amount = amount; kind = kind }
-
-same_fields : (x y : OpName) (i j : ℕ) (ms ns : List ℕ) (m n a b c d : ℕ) (k l : Kind) → x ≡ y → i ≡ j → ms ≡ ns → m ≡ n → a ≡ b → c ≡ d → k ≡ l → of_fields x i ms m a c k ≡ of_fields y j ns n b d l
-same_fields x y i j ms ns m n a b c d k l e1 e2 e3 e4 e5 e6 e7 = cc
-
-pub same_shadow-true : (u v : Shadow) → same_shadow u v ≡ true → u ≡ v
-unfolding same_shadow
-same_shadow-true u v h =
-    let (h6, kind) = each _ _ h in
-    let (h5, amount) = each _ _ h6 in
-    let (h4, account) = each _ _ h5 in
-    let (h3, red) = each _ _ h4 in
-    let (h2, blue) = each _ _ h3 in
-    let (name, home) = each _ _ h2 in
-    same_fields _ _ _ _ _ _ _ _ _ _ _ _ _ _
-    (Members.same_name-true u.name v.name name) (same_number-true u.home v.home home) (same_numbers-true u.deps.blue v.deps.blue blue)
-    (same_number-true u.deps.red v.deps.red red) (same_number-true u.account.0 v.account.0 account) (same_number-true u.amount v.amount amount)
-    (same_kind-true u.kind v.kind kind)
+use Rattle.rb_shadow.proofs.Public.SameShadows.{same_shadow-refl, same_shadow-true}
 
 -- ---- the derived test
 
@@ -107,30 +23,11 @@ name_tested (Red m) (Red n) = refl
 
 kind_tested : (j k : Kind) → kind_test.eq j k ≡ same_kind j k
 kind_tested Deposit Deposit = refl
-kind_tested Deposit Withdraw = refl
-kind_tested Deposit Declined = refl
-kind_tested Deposit Interest = refl
-kind_tested Deposit (Cancel y) = refl
-kind_tested Withdraw Deposit = refl
 kind_tested Withdraw Withdraw = refl
-kind_tested Withdraw Declined = refl
-kind_tested Withdraw Interest = refl
-kind_tested Withdraw (Cancel y) = refl
-kind_tested Declined Deposit = refl
-kind_tested Declined Withdraw = refl
 kind_tested Declined Declined = refl
-kind_tested Declined Interest = refl
-kind_tested Declined (Cancel y) = refl
-kind_tested Interest Deposit = refl
-kind_tested Interest Withdraw = refl
-kind_tested Interest Declined = refl
 kind_tested Interest Interest = refl
-kind_tested Interest (Cancel y) = refl
-kind_tested (Cancel x) Deposit = refl
-kind_tested (Cancel x) Withdraw = refl
-kind_tested (Cancel x) Declined = refl
-kind_tested (Cancel x) Interest = refl
 kind_tested (Cancel x) (Cancel y) = name_tested x y
+kind_tested _ _ = refl
 
 numbers_tested : (ms ns : List ℕ) → pointwise nat_eq ms ns ≡ same_numbers ms ns
 numbers_tested [] [] = refl

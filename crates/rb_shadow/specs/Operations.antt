@@ -1,5 +1,5 @@
 -- Operations, their order, serializations and balances.
-use Rattle.std.specs.Prelude.{◌≡◌, ◌≢◌, ℕ, ◌+◌, ◌<◌, Bool, true, false, if◌then◌else◌, not, ◌&&◌, nat_le, ◌==◌, List, [], ◌∷◌, ◌++◌, Option, Some, None, option_and_then, slice_index, ◌⊎◌, ℤ, pos, neg_ℤ, ◌+ℤ◌, filter, map, find, count_by}
+use Rattle.std.specs.Prelude.{◌≡◌, ◌≢◌, ℕ, suc, ◌+◌, ◌<◌, Bool, true, false, if◌then◌else◌, not, ◌&&◌, nat_le, ◌==◌, List, [], ◌∷◌, ◌++◌, Option, Some, None, is_some, option_and_then, slice_index, ◌⊎◌, ℤ, pos, neg_ℤ, ◌+ℤ◌, filter, map, find, count_by}
 use Rattle.std.specs.List.{range_with_len, list_all, list_any}
 use Rattle.rb_money.specs.Settings.{Settings, start_of}
 use Rattle.rb_money.specs.declared.limits.TheConstants.{MOST_SITES}
@@ -21,24 +21,24 @@ same_name (Blue i m) (Red n) = false
 same_name (Red m) (Blue j n) = false
 
 -- a set of names, by its members
-abbrev pub Names : Type 0
-Names = OpName → Bool
+abbrev pub NameSet : Type 0
+NameSet = OpName → Bool
 
 -- each member of the first is one of the second
-abbrev pub IsWithin : Names → Names → Type 0
+abbrev pub IsWithin : NameSet → NameSet → Type 0
 IsWithin xs ys = (x : OpName) → xs x ≡ true → ys x ≡ true
 
 -- they have the same members
-abbrev pub AreSame : Names → Names → Type 0
+abbrev pub AreSame : NameSet → NameSet → Type 0
 AreSame xs ys = (x : OpName) → xs x ≡ ys x
 
 -- the names that a clock counts: of each site's blue and of the red operations, those from 1 to the entry
-abbrev pub names_of_clock : Deps → Names
+abbrev pub names_of_clock : Deps → NameSet
 names_of_clock c (Blue i n) = nat_le 1 n && nat_le n (slice_index c.blue i)
 names_of_clock c (Red n) = nat_le 1 n && nat_le n c.red
 
 -- what the operation's home had applied just before it
-unfoldable pub past : Shadow → Names
+unfoldable pub past : Shadow → NameSet
 past v = names_of_clock v.deps
 
 -- u stands before v in the order
@@ -46,7 +46,7 @@ abbrev pub Precedes : Shadow → Shadow → Type 0
 Precedes u v = past v u.name ≡ true
 
 -- the names of a list of operations
-abbrev pub names : List Shadow → Names
+abbrev pub names : List Shadow → NameSet
 names us x = list_any (λ u. same_name u.name x) us
 
 -- u is one of the operations
@@ -59,42 +59,30 @@ abbrev pub kind_in : List Shadow → OpName → Option Kind
 kind_in [] x = None
 kind_in (u ∷ us) x = if same_name u.name x then Some u.kind else kind_in us x
 
--- the target of a cancellation
+-- the target of a cancellation, by its name; nothing else has a target
 abbrev pub target_of : Kind → Option OpName
 target_of (Cancel x) = Some x
-target_of Deposit = None
-target_of Withdraw = None
-target_of Declined = None
-target_of Interest = None
-
--- an operation's colour, by its kind and by its target's
-abbrev pub colour_of : Kind → Option Kind → Colour
-colour_of Deposit target = BlueColour
-colour_of Withdraw target = RedColour
-colour_of Declined target = BlueColour
-colour_of Interest target = BlueColour
-colour_of (Cancel x) (Some Withdraw) = BlueColour
-colour_of (Cancel x) (Some Deposit) = RedColour
-colour_of (Cancel x) (Some Declined) = RedColour
-colour_of (Cancel x) (Some Interest) = RedColour
-colour_of (Cancel x) (Some (Cancel y)) = RedColour
-colour_of (Cancel x) None = RedColour
+target_of _ = None
 
 -- whether it is a cancellation
 abbrev pub is_cancel : Kind → Bool
-is_cancel (Cancel x) = true
-is_cancel Deposit = false
-is_cancel Withdraw = false
-is_cancel Declined = false
-is_cancel Interest = false
+is_cancel k = is_some (target_of k)
 
--- u cancels the operation of the name
+-- the name is that of the target, if there is one
+abbrev pub is_target : Option OpName → OpName → Bool
+is_target None y = false
+is_target (Some x) y = same_name x y
+
+-- it cancels the operation of the name
 abbrev pub cancels : Kind → OpName → Bool
-cancels (Cancel x) y = same_name x y
-cancels Deposit y = false
-cancels Withdraw y = false
-cancels Declined y = false
-cancels Interest y = false
+cancels k y = is_target (target_of k) y
+
+-- an operation's colour, by its kind and by its target's: a withdrawal is red, and so is a cancellation of anything else
+abbrev pub colour_of : Kind → Option Kind → Colour
+colour_of Withdraw target = RedColour
+colour_of (Cancel x) (Some Withdraw) = BlueColour
+colour_of (Cancel x) target = RedColour
+colour_of _ target = BlueColour
 
 -- how many of the operations cancel the one of the name
 abbrev pub cancel_count : List Shadow → OpName → ℕ
@@ -104,13 +92,12 @@ cancel_count us x = count_by (λ u. cancels u.kind x) us
 abbrev pub is_cancelled : List Shadow → OpName → Bool
 is_cancelled us x = list_any (λ u. cancels u.kind x) us
 
--- what a kind moves
+-- what an operation of a kind and an amount moves: a deposit and interest add it, a withdrawal takes it
 abbrev pub moved : Kind → ℕ → ℤ
 moved Deposit n = pos n
-moved Withdraw n = neg_ℤ (pos n)
-moved Declined n = pos 0
 moved Interest n = pos n
-moved (Cancel x) n = pos 0
+moved Withdraw n = neg_ℤ (pos n)
+moved _ n = pos 0
 
 -- what an operation moves on an account: its amount on its own account, and nothing on any other
 abbrev pub delta : Shadow → Place → ℤ
@@ -184,10 +171,21 @@ abbrev pub number_of : OpName → ℕ
 number_of (Blue i n) = n
 number_of (Red n) = n
 
+-- the row of a name, where operations stand in rows: first the red ones, and then the blue ones of each site
+abbrev pub row_of : OpName → ℕ
+row_of (Blue i n) = suc i
+row_of (Red n) = 0
+
 -- the colour that a name shows
 abbrev pub shown_colour : OpName → Colour
 shown_colour (Blue i n) = BlueColour
 shown_colour (Red n) = RedColour
+
+-- two colours are the same
+abbrev pub same_colour : Colour → Colour → Bool
+same_colour BlueColour BlueColour = true
+same_colour RedColour RedColour = true
+same_colour _ _ = false
 
 -- the clock's entry for the name
 abbrev pub entry_of : Deps → OpName → ℕ
@@ -203,9 +201,8 @@ HasEntry (Red n) = Unit {0}
 abbrev pub may_be_cancelled : Kind → Bool
 may_be_cancelled Deposit = true
 may_be_cancelled Withdraw = true
-may_be_cancelled Declined = false
 may_be_cancelled Interest = true
-may_be_cancelled (Cancel x) = false
+may_be_cancelled _ = false
 
 -- the name is a blue one of the site
 abbrev pub is_blue_of : OpName → ℕ → Bool

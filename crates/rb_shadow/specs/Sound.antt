@@ -6,10 +6,10 @@ use Rattle.rb_money.specs.declared.cents.TheConstants.{MOST_CENTS}
 use Rattle.rb_shadow.specs.declared.op_name.OpName.{OpName}
 use Rattle.rb_shadow.specs.declared.op_name.OpName.TheVariants.{Blue, Red}
 use Rattle.rb_shadow.specs.declared.kind.Kind.{Kind}
-use Rattle.rb_shadow.specs.declared.kind.Kind.TheVariants.{Deposit, Withdraw, Declined, Interest, Cancel}
+use Rattle.rb_shadow.specs.declared.kind.Kind.TheVariants.{Interest, Cancel}
 use Rattle.rb_shadow.specs.declared.deps.Deps.{Deps}
 use Rattle.rb_shadow.specs.declared.shadow.Shadow.{Shadow}
-use Rattle.rb_shadow.specs.Operations.{names_of_clock, number_of, entry_of}
+use Rattle.rb_shadow.specs.Operations.{names_of_clock, number_of, entry_of, target_of, is_cancel, colour_of, shown_colour, same_colour}
 
 -- a blue name's site isn't the home
 abbrev pub is_foreign : OpName → ℕ → Bool
@@ -28,32 +28,22 @@ limit_of l (Red n) = l.red
 
 -- an amount of 0 is for an Interest or a Cancel alone
 abbrev pub may_be_nothing : Kind → Bool
-may_be_nothing Deposit = false
-may_be_nothing Withdraw = false
-may_be_nothing Declined = false
 may_be_nothing Interest = true
 may_be_nothing (Cancel x) = true
+may_be_nothing _ = false
 
--- by its kind alone the name can't be of this colour
+-- by its kind alone the name can't be of this colour: a kind that isn't a cancellation has one colour
 abbrev pub is_miscoloured : Kind → OpName → Bool
-is_miscoloured Withdraw (Blue i n) = true
-is_miscoloured Withdraw (Red n) = false
-is_miscoloured Deposit (Red n) = true
-is_miscoloured Deposit (Blue i n) = false
-is_miscoloured Declined (Red n) = true
-is_miscoloured Declined (Blue i n) = false
-is_miscoloured Interest (Red n) = true
-is_miscoloured Interest (Blue i n) = false
-is_miscoloured (Cancel x) (Blue i n) = false
-is_miscoloured (Cancel x) (Red n) = false
+is_miscoloured k x = not (is_cancel k) && not (same_colour (shown_colour x) (colour_of k None))
 
--- it cancels what its home can't have applied: an operation of none of so many sites, or one that its clock doesn't count
+-- a home can't have applied the target, if there is one: it is of none of so many sites, or the clock doesn't count it
+abbrev pub is_unseen : ℕ → Deps → Option OpName → Bool
+is_unseen sites c None = false
+is_unseen sites c (Some x) = is_absent sites x || not (names_of_clock c x)
+
+-- it cancels what its home can't have applied
 abbrev pub cancels_unseen : ℕ → Kind → Deps → Bool
-cancels_unseen sites (Cancel x) c = is_absent sites x || not (names_of_clock c x)
-cancels_unseen sites Deposit c = false
-cancels_unseen sites Withdraw c = false
-cancels_unseen sites Declined c = false
-cancels_unseen sites Interest c = false
+cancels_unseen sites k c = is_unseen sites c (target_of k)
 
 -- each entry is within the limit, and 0 past the sites
 abbrev pub are_entries : ℕ → ℕ → List ℕ → Bool

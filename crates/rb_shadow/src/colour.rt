@@ -1,8 +1,23 @@
 //! Colours of operations.
+ghost use Rattle.std.specs.Prelude.{◌≡◌};
+ghost use Rattle.rb_shadow.specs.Operations.{same_colour};
 
 /// A blue operation may come in any order; red ones stand in one line.
 #[derive(Clone, Copy, Debug, PartialEq, Eq)]
 pub enum Colour {
     Blue,
     Red,
+}
+
+impl Colour {
+    /// Whether the two are the same.
+    #[inline(always)]
+    pub fn same(self, other: Colour) -> bool
+        ensures { result ≡ same_colour self other }
+    {
+        match (self, other) {
+            (Colour::Blue, Colour::Blue) | (Colour::Red, Colour::Red) => true,
+            _ => false,
+        }
+    }
 }

@@ -1,6 +1,6 @@
 //! Kinds of operations.
-ghost use Rattle.std.specs.Prelude.{◌≡◌};
-ghost use Rattle.rb_shadow.specs.Operations.{colour_of, may_be_cancelled};
+ghost use Rattle.std.specs.Prelude.{◌≡◌, ◌≤◌, ◌⊎◌, pos, ◌+ℤ◌};
+ghost use Rattle.rb_shadow.specs.Operations.{target_of, colour_of, moved, may_be_cancelled};
 ghost use Rattle.rb_shadow.specs.Labels.{label_of};
 ghost use Rattle.rb_shadow.specs.Sound.{cancels_unseen, is_miscoloured, may_be_nothing};
 
@@ -22,6 +22,17 @@ pub enum Kind {
 }
 
 impl Kind {
+    /// The name of the operation that one of this kind cancels: only a cancellation has a target.
+    #[inline(always)]
+    pub fn target(self) -> Option<OpName>
+        ensures { result ≡ target_of self }
+    {
+        match self {
+            Kind::Cancel { target } => Some(target),
+            _ => None,
+        }
+    }
+
     /// The colour of an operation of this kind, whose target, if it cancels one, is of the second kind.
     ///
     /// After "What can be blue? What must be red?" of the published paper: what could break "no balance is
@@ -58,7 +69,22 @@ impl Kind {
     {
         match self {
             Kind::Deposit | Kind::Withdraw | Kind::Interest => true,
-            Kind::Declined | Kind::Cancel { .. } => false,
+            _ => false,
+        }
+    }
+
+    /// What an operation of this kind and amount, in cents, adds to its account, and what it takes from it.
+    #[inline(always)]
+    pub fn moved(self, amount: u64) -> (u64, u64)
+        ensures sums { pos result.0 ≡ pos result.1 +ℤ moved self amount }
+        ensures one { (result.0 ≡ 0) ⊎ (result.1 ≡ 0) }
+        ensures added { result.0 ≤ amount }
+        ensures taken { result.1 ≤ amount }
+    {
+        match self {
+            Kind::Deposit | Kind::Interest => (amount, 0),
+            Kind::Withdraw => (0, amount),
+            _ => (0, 0),
         }
     }
 
@@ -68,7 +94,7 @@ impl Kind {
     {
         match self {
             Kind::Interest | Kind::Cancel { .. } => true,
-            Kind::Deposit | Kind::Withdraw | Kind::Declined => false,
+            _ => false,
         }
     }
 
@@ -76,12 +102,9 @@ impl Kind {
     pub(crate) fn is_miscoloured(self, name: OpName) -> bool
         ensures { result ≡ is_miscoloured self name }
     {
-        match (self, name) {
-            (Kind::Cancel { .. }, _) => false,
-            (Kind::Withdraw, OpName::Red { .. }) => false,
-            (Kind::Withdraw, OpName::Blue { .. }) => true,
-            (_, OpName::Blue { .. }) => false,
-            (_, OpName::Red { .. }) => true,
+        match self.target() {
+            Some(_) => false,
+            None => !name.colour().same(self.colour(None)),
         }
     }
 
@@ -89,9 +112,9 @@ impl Kind {
     pub(crate) fn cancels_unseen(self, sites: u8, deps: &Deps) -> bool
         ensures { result ≡ cancels_unseen sites self deps.now }
     {
-        match self {
-            Kind::Cancel { target } => target.is_absent(sites) || !deps.covers(target),
-            _ => false,
+        match self.target() {
+            Some(target) => target.is_absent(sites) || !deps.covers(target),
+            None => false,
         }
     }
 }

@@ -3,6 +3,7 @@
 
 mod colour;
 mod deps;
+mod exact;
 mod kind;
 mod label;
 mod name_text;

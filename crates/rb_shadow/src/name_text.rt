@@ -1,10 +1,11 @@
 //! The text of names: `B0.1` for the first blue operation of site 0, `R1` for the first red one.
-ghost use Rattle.std.specs.Prelude.{◌≡◌, ◌++◌, ◌<◌, ◌^◌, ℕ, decimal, string_bytes, IfSome, OnOk, OnErr};
+ghost use Rattle.std.specs.Prelude.{◌≡◌, ◌++◌, decimal, string_bytes, IfSome, OnOk, OnErr};
 ghost use Rattle.rb_shadow.specs.NameText.{name_text, name_of, IsName};
 ghost use Rattle.rb_shadow.specs.declared.op_name.OpName.{OpName};
 
 use crate::OpName;
 use itoa::Buffer;
+use rb_money::read_number;
 use std::alloc::AllocError;
 
 /// Adds the text of the name at the end of `out`, which an error leaves as it was.
@@ -56,21 +57,4 @@ fn parse_name(text: &str) -> Option<OpName>
     let site = u8::try_from(read_number(site)?).ok()?;
     let n = read_number(number)?;
     Some(OpName::Blue { site, n })
-}
-
-/// The number that these digits are the text of, with no sign and no zero in front.
-fn read_number(text: &str) -> Option<u32>
-    ensures found { IfSome result (λ n. text.now ≡ decimal n) }
-    ensures only { (n : ℕ) → n < 2 ^ 32 → text.now ≡ decimal n → result ≡ Some n }
-{
-    match text.parse::<u32>() {
-        Ok(n) => {
-            if Buffer::new().format(n) == text {
-                Some(n)
-            } else {
-                None
-            }
-        }
-        Err(_) => None,
-    }
 }

@@ -1,8 +1,9 @@
 //! Names of operations.
 ghost use Rattle.std.specs.Prelude.{◌≡◌};
-ghost use Rattle.rb_shadow.specs.Operations.{number_of};
+ghost use Rattle.rb_shadow.specs.Operations.{number_of, shown_colour};
 ghost use Rattle.rb_shadow.specs.Sound.{is_absent, is_foreign, limit_of};
 
+use crate::Colour;
 use rb_money::Limits;
 
 /// The n-th blue operation of a site, or the n-th red one of all: sites are numbered from 0, operations
@@ -21,6 +22,17 @@ impl OpName {
         match self {
             OpName::Blue { n, .. } => n,
             OpName::Red { n } => n,
+        }
+    }
+
+    /// The colour that the name shows.
+    #[inline(always)]
+    pub fn colour(self) -> Colour
+        ensures { result ≡ shown_colour self }
+    {
+        match self {
+            OpName::Blue { .. } => Colour::Blue,
+            OpName::Red { .. } => Colour::Red,
         }
     }
 

@@ -8,15 +8,14 @@ use Rattle.rb_money.specs.declared.refusal.Refusal.TheVariants.{BadBatch, BatchR
 use Rattle.rb_shadow.specs.declared.shadow.Shadow.{Shadow}
 use Rattle.rb_undo.specs.declared.parts.UndoParts.{UndoParts}
 use Rattle.rb_ledger.specs.Book.{Book}
-use Rattle.rb_ledger.proofs.Records.{records_of-append}
+use Rattle.rb_ledger.proofs.Public.Records.{records_of-append}
 use Rattle.rb_ledger.specs.Records.{logged, records_of}
 use Rattle.rb_token.specs.Token.{Token}
-use Rattle.rb_token.specs.Seat.{Shows}
+use Rattle.rb_token.specs.Seen.{Shows}
 use Rattle.rb_token.specs.declared.view.TokenView.{TokenView}
-use Rattle.rb_scratch.proofs.Generated.{seen, seen_shows}
-use Rattle.rb_scratch.proofs.InBatch.{batch_more, batch_stopped}
-use Rattle.rb_scratch.proofs.Made.{batch_length}
-use Rattle.rb_scratch.proofs.Tries.{tried_length}
+use Rattle.rb_scratch.proofs.Public.Tokens.{seen, seen_shows}
+use Rattle.rb_scratch.proofs.Public.Batches.{batch_more, batch_stopped, tried_length}
+use Rattle.rb_scratch.proofs.Public.Made.{batch_length}
 use Rattle.rb_scratch.specs.Batches.{batch_of, cause_of, made_in_batch, names_of_all}
 use Rattle.rb_scratch.specs.Tried.{IsFault, IsTried}
 use Rattle.rb_scratch.specs.declared.request.Request.{Request}
@@ -72,10 +71,10 @@ pub as_many : (s : Settings) (me : ℕ) (base vs : List Shadow) (view : TokenVie
 as_many s me base vs view book parts rs tried runs = tried_length base vs book parts tried ∙ batch_length s me base (seen view) 0 rs vs (runs (seen view) (seen_shows view))
 
 -- what was tried on a scratch stands in the ledger that it was opened on
-pub tried_here : (old opened book : Book) (view seat : TokenView) (parts before after : List UndoParts) (rs : List Request) (vs : List Shadow) → opened ≡ old → seat ≡ view → book.settings ≡ opened.settings
-    → IsTried opened.entries vs book parts → after ≡ before ++ parts → ((known : Token) → Shows seat known → batch_of opened.settings seat.me opened.entries known 0 rs ≡ Ok vs)
+pub tried_here : (old opened book : Book) (view shown : TokenView) (parts before after : List UndoParts) (rs : List Request) (vs : List Shadow) → opened ≡ old → shown ≡ view → book.settings ≡ opened.settings
+    → IsTried opened.entries vs book parts → after ≡ before ++ parts → ((known : Token) → Shows shown known → batch_of opened.settings shown.me opened.entries known 0 rs ≡ Ok vs)
     → (book.entries ≡ old.entries ++ vs) × (after ≡ before ++ logged old.settings old.entries vs) × ((known : Token) → Shows view known → batch_of old.settings view.me old.entries known 0 rs ≡ Ok vs)
-tried_here old opened book view seat parts before after rs vs is sees same tried grown runs =
+tried_here old opened book view shown parts before after rs vs is sees same tried grown runs =
     let B : Book → Type 0 = λ b. (known : Token) → Shows view known → batch_of b.settings view.me b.entries known 0 rs ≡ Ok vs in
     let V : TokenView → Type 0 = λ t. (known : Token) → Shows t known → batch_of opened.settings t.me opened.entries known 0 rs ≡ Ok vs in (
       tried.entries ∙ ap (λ (b : Book). b.entries ++ vs) is,

@@ -6,20 +6,20 @@ use Rattle.rb_money.specs.Settings.{Settings}
 use Rattle.rb_money.specs.declared.limits.TheConstants.{MOST_SITES}
 use Rattle.rb_money.specs.declared.refusal.Refusal.{Refusal}
 use Rattle.rb_money.specs.declared.refusal.Refusal.TheVariants.{NotReady, InboxFull, Conflict, OutOfMemory}
-use Rattle.rb_shadow.proofs.Eligible
-use Rattle.rb_shadow.proofs.Same
+use Rattle.rb_shadow.proofs.Public.Eligible
+use Rattle.rb_shadow.proofs.Public.SameShadows
 use Rattle.rb_shadow.specs.Operations.{Among, find_in, is_eligible, names_of_clock, red_count, same_shadow, clock_of}
 use Rattle.rb_shadow.specs.Sound.{IsSound}
 use Rattle.rb_shadow.specs.declared.op_name.OpName.{OpName}
 use Rattle.rb_shadow.specs.declared.deps.Deps.{Deps}
 use Rattle.rb_shadow.specs.declared.shadow.Shadow.{Shadow}
-use Rattle.rb_ledger.proofs.ValidClocks
+use Rattle.rb_ledger.proofs.Public.ValidClocks
 use Rattle.rb_ledger.specs.Checks.{refusal_after, refusal_of, refusal_of_sound}
 use Rattle.rb_ledger.specs.Valid.{IsValid}
-use Rattle.rb_inbox.proofs.Order.{held_cases, kept_among}
-use Rattle.rb_shadow.proofs.Lookups
+use Rattle.rb_inbox.proofs.Public.Holding.{held_cases, kept_among}
+use Rattle.rb_shadow.proofs.Public.Lookups
 use Rattle.rb_inbox.specs.Held.{Holding, IsInConflict, IsReady, IsTooMany, IsWelcome, with_held, without}
-use Rattle.rb_token.specs.Seat.{TokenSeat}
+use Rattle.rb_token.specs.Seen.{SeenToken}
 use Rattle.rb_token.specs.Token.{Token, pass_message, passed_token, refusal_of_pass}
 use Rattle.rb_token.specs.declared.message.TokenMessage.{TokenMessage}
 use Rattle.rb_site.specs.declared.answer.Answer.{Answer}
@@ -130,7 +130,7 @@ pub held_sound : (s : Settings) (held : List Shadow) (x : OpName) (v : Shadow) �
 held_sound s held x v all found = all v (Lookups.found held x v found).0
 
 -- without one of them, what is held is still tied to the rest
-pub tied_without : (s : Settings) (now : Settings) (inbox later : Holding) (token : TokenSeat) (x : OpName) → now ≡ s → later ≡ record inbox { held = without x inbox.held } → IsTied s inbox token → IsTied now later token
+pub tied_without : (s : Settings) (now : Settings) (inbox later : Holding) (token : SeenToken) (x : OpName) → now ≡ s → later ≡ record inbox { held = without x inbox.held } → IsTied s inbox token → IsTied now later token
 tied_without s now inbox later token x same taken tied =
     let P : Settings → Type 0 = λ z. IsTied z later token in
     subst P (sym same)
@@ -201,7 +201,7 @@ too_many s me ops inbox token c v a few valid same limit many is =
 pub already : (s : Settings) (me : ℕ) (ops held : List Shadow) (token : Token) (v : Shadow) (a : Answer) → find_in held v.name ≡ Some v → Says true a (Already v.name)
     → AnswersAlone (state_as s me ops held token) (state_as s me ops held token) (outcome_of_new s (site_as me ops held token) v) a
 already s me ops held token v a found is =
-    answers_as _ _ _ _ a (known_comes s (site_as me ops held token) v v true found (Same.same_shadow-refl v))
+    answers_as _ _ _ _ a (known_comes s (site_as me ops held token) v v true found (SameShadows.same_shadow-refl v))
     (refl, is, refl)
 
 pub conflicts : (s : Settings) (me : ℕ) (ops : List Shadow) (inbox : Holding) (token : Token) (v : Shadow) (a : Answer) → IsInConflict inbox v → Says true a (Refused Conflict)
@@ -212,7 +212,7 @@ conflicts s me ops inbox token v a (u, found, other) is =
   where
     by : (b : Bool) → same_shadow u v ≡ b → same_shadow u v ≡ false
     by false e = e
-    by true e = absurd (other (Same.same_shadow-true u v e))
+    by true e = absurd (other (SameShadows.same_shadow-true u v e))
 
 -- a shadow that the inbox refuses, but for running out of memory
 pub refused_put : (s : Settings) (me : ℕ) (ops : List Shadow) (inbox later : Holding) (token : Token) (c : Deps) (v : Shadow) (why : Refusal) (a : Answer) → s.sites ≤ MOST_SITES → IsValid s ops → c ≡ clock_of ops → inbox.limit ≡ s.limits.inbox
@@ -228,7 +228,7 @@ refused_put s me ops inbox later token c v why a few valid same limit refusals c
     by (inr (inr e)) = absurd (memory e)
 
 -- with one more that is sound, what is held is still tied to the rest
-pub tied_with : (s : Settings) (inbox later : Holding) (token : TokenSeat) (v : Shadow) → later ≡ record inbox { held = with_held v inbox.held } → IsSound s v → IsTied s inbox token → IsTied s later token
+pub tied_with : (s : Settings) (inbox later : Holding) (token : SeenToken) (v : Shadow) → later ≡ record inbox { held = with_held v inbox.held } → IsSound s v → IsTied s inbox token → IsTied s later token
 tied_with s inbox later token v grown sound tied =
     let P : Holding → Type 0 = λ b. IsTied s b token in
     subst P (sym grown) (record {

@@ -18,7 +18,7 @@ use Rattle.rb_site.specs.Histories.{events_of}
 use Rattle.rb_site.specs.Reports.{IsEnough, RoomFor}
 use Rattle.rb_site.specs.Seen.{SeenSite, next_site, next_sites, state_of}
 use Rattle.rb_site.specs.States.{Follows, IsStanding, SiteState}
-use Rattle.rb_site.proofs.Runs
+use Rattle.rb_site.proofs.Public.Runs
 
 -- ---- what is applied grows by what is sent at most
 

@@ -1,80 +1,19 @@
 -- A site steps as the model does.
-use Rattle.std.proofs.Common.{◌≡◌, ℕ, not, ◌&&◌, ◌==◌, nat_le, nat_lt, ◌<◌, ◌≤◌, Bool, true, false, cond, List, [], ◌∷◌, ◌++◌, length, lit≤, take, refl, ap, sym, subst, ◌∙◌, arith, Option, Some, None, Result, Ok, Err}
-use Rattle.std.proofs.lemmas.Bool.Decides.{nat_tests}
-use Rattle.std.proofs.lemmas.List.{length-map}
+use Rattle.std.proofs.Common.{◌≡◌, ℕ, Bool, false, cond, List, [], ◌∷◌, ◌++◌, ap, sym, subst, ◌∙◌}
 use Rattle.rb_money.specs.Settings.{Settings}
-use Rattle.rb_money.specs.declared.refusal.Refusal.{Refusal}
-use Rattle.rb_money.specs.Amounts.{cents}
-use Rattle.rb_money.specs.Settings.{is_account}
-use Rattle.rb_money.specs.declared.refusal.Refusal.TheVariants.{BadBatch, HistoryFull, UnknownAccount, NotReady, InboxFull, Conflict, PositionBeyond}
-use Rattle.rb_ledger.specs.Checks.{refusal_of_sound}
-use Rattle.rb_shadow.specs.Operations.{bal, is_eligible, red_count}
-use Rattle.rb_shadow.specs.Sound.{fault_in}
-use Rattle.rb_scratch.specs.Batches.{batch_of}
-use Rattle.rb_scratch.specs.Requests.{made_of}
-use Rattle.rb_scratch.specs.declared.request.Request.{Request}
-use Rattle.rb_scratch.specs.declared.request.TheConstants.{MOST_REQUESTS}
-use Rattle.rb_scratch.proofs.Made.{batch_length}
-use Rattle.rb_statements.specs.Statements.{statement_of}
-use Rattle.rb_token.specs.Token.{pass_message, refusal_of_pass, refusal_of_token}
-use Rattle.rb_shadow.specs.Operations.{find_in, same_shadow}
-use Rattle.rb_shadow.specs.declared.shadow.Shadow.{Shadow}
+use Rattle.rb_money.specs.declared.refusal.Refusal.TheVariants.{HistoryFull}
 use Rattle.rb_site.specs.declared.answer.Answer.{Answer}
 use Rattle.rb_site.specs.declared.entry.Entry.{Entry}
 use Rattle.rb_site.specs.declared.event.Event.{Event}
-use Rattle.rb_site.specs.declared.event.Event.TheVariants.{Submit, Batch, Receive, Apply, Pass, Balance, AsOf, Statement as AskStatement}
 use Rattle.rb_site.specs.declared.message.Message.{Message}
-use Rattle.rb_site.specs.declared.message.Message.TheVariants.{Shadow as ShadowMessage, Token as TokenOnItsWay}
 use Rattle.rb_site.specs.declared.reply.Reply.{Reply}
-use Rattle.rb_site.specs.declared.reply.Reply.TheVariants.{Refused, Already, Stale, Balance as BalanceIs, Statement as StatementIs}
-use Rattle.rb_site.specs.Events.{ModelSite, Outcome, Refuses, Drops, Answers, Makes, Holds, Applies, Takes, Passes, changed, is_full, noted, outcome_of, outcome_of_apply, outcome_of_batch, outcome_of_check, outcome_of_made, outcome_of_pass, outcome_of_shadow, outcome_of_token, refuses_first, refuses_if, reply_of, reply_to, sent_at, sent_by, unless_faulty, unless_known}
-use Rattle.rb_site.specs.Seen.{SeenSite, IsReplayed, entry, next_site, state_of, stepped}
+use Rattle.rb_site.specs.declared.reply.Reply.TheVariants.{Refused}
+use Rattle.rb_site.specs.Events.{ModelSite, Outcome, changed, is_full, noted, outcome_of, reply_of, reply_to, sent_at, sent_by}
+use Rattle.rb_site.specs.Seen.{SeenSite, entry, next_site, state_of, stepped}
 use Rattle.rb_site.specs.States.{Follows, IsStanding, SiteState, without_history}
-use Rattle.rb_site.proofs.Runs
-use Rattle.rb_site.proofs.Seen
-
--- the site with another history
-abbrev pub with_history : ModelSite → List Entry → ModelSite
-with_history t h = record t { history = h }
-
--- what an event comes to doesn't depend on the history
-pub same_outcome : (s : Settings) (t : ModelSite) (h : List Entry) (e : Event) → outcome_of s (with_history t h) e ≡ outcome_of s t e
-unfolding outcome_of outcome_of_shadow outcome_of_token outcome_of_apply outcome_of_pass
-same_outcome s t h (Submit r) = refl
-same_outcome s t h (Batch rs) = refl
-same_outcome s t h (Receive (ShadowMessage v)) = refl
-same_outcome s t h (Receive (TokenOnItsWay m)) = refl
-same_outcome s t h (Apply x) = by (find_in t.held x)
-  where
-    by : (o : Option Shadow) → outcome_of_apply s (with_history t h) o ≡ outcome_of_apply s t o
-    by None = refl
-    by (Some v) = refl
-same_outcome s t h (Pass to) = refl
-same_outcome s t h (Balance a) = refl
-same_outcome s t h (AsOf a n) = refl
-same_outcome s t h (AskStatement a) = refl
-
--- nor does what it changes
-pub changed-with_history : (t : ModelSite) (h : List Entry) (o : Outcome) → changed (with_history t h) o ≡ with_history (changed t o) h
-changed-with_history t h (Refuses why) = refl
-changed-with_history t h (Answers r) = refl
-changed-with_history t h (Drops x why) = refl
-changed-with_history t h (Makes r vs) = refl
-changed-with_history t h (Holds v) = refl
-changed-with_history t h (Applies v) = refl
-changed-with_history t h (Takes m) = refl
-changed-with_history t h (Passes m) = refl
-
--- ---- a step
-
--- the history has room exactly where the model site's has
-pub is_full-state : (x : SeenSite) → IsReplayed x → nat_le x.settings.limits.history (length x.entries) ≡ is_full x.settings (state_of x)
-is_full-state x kept = ap (λ h. nat_le x.settings.limits.history (length h)) (sym (Seen.history-state x kept))
-
-pub room_left : (x : SeenSite) → IsReplayed x → is_full x.settings (state_of x) ≡ false → length x.entries < x.settings.limits.history
-room_left x kept free =
-    let test : nat_le x.settings.limits.history (length x.entries) ≡ false = is_full-state x kept ∙ free in
-    grind (arith, nat_tests)
+use Rattle.rb_site.proofs.Public.Runs
+use Rattle.rb_site.proofs.Public.Seen
+use Rattle.rb_site.proofs.Public.Outcomes.{same_outcome, changed-with_history, room_left}
 
 -- the entry of an event and its reply at the end
 abbrev pub noted_in : SeenSite → Event → Reply → SeenSite
@@ -138,74 +77,3 @@ seen_now x now before after e a xs step me pushed =
 -- a step keeps the site's number
 pub me_kept : (keeps : Bool) (old now : SiteState) (before after : List Message) (o : Outcome) (a : Answer) → Follows keeps old now before after o a → now.site.me ≡ old.site.me
 me_kept keeps old now before after o a follows = ap (λ (z : SiteState). z.site.me) follows.0 ∙ Runs.same_me old.site o
-
--- ---- what is sent
-
--- the outcome sends at most as many messages as a batch may have requests
-abbrev SendsFew : Outcome → Type 0
-SendsFew o = length (sent_by o) ≤ MOST_REQUESTS
-
-few_if : (b : Bool) (why : Refusal) (next : Outcome) → SendsFew next → SendsFew (refuses_if b why next)
-few_if true why next h = lit≤ tt
-few_if false why next h = h
-
-few_first : (o : Option Refusal) (next : Outcome) → SendsFew next → SendsFew (refuses_first o next)
-few_first (Some why) next h = lit≤ tt
-few_first None next h = h
-
-few_known : (v : Shadow) (o : Option Shadow) (next : Outcome) → SendsFew next → SendsFew (unless_known v o next)
-few_known v None next h = h
-few_known v (Some u) next h = by (same_shadow u v)
-  where
-    by : (b : Bool) → SendsFew (cond b (Answers (Already v.name)) (Refuses Conflict))
-    by true = lit≤ tt
-    by false = lit≤ tt
-
-few_faulty : (o : Option ℕ) (next : Outcome) → SendsFew next → SendsFew (unless_faulty o next)
-few_faulty (Some why) next h = lit≤ tt
-few_faulty None next h = h
-
-few_test : (b : Bool) (o p : Outcome) → SendsFew o → SendsFew p → SendsFew (cond b o p)
-few_test true o p h k = h
-few_test false o p h k = k
-
-few_check : (v : Shadow) (o : Option Refusal) → SendsFew (outcome_of_check v o)
-few_check v None = lit≤ tt
-few_check v (Some NotReady) = lit≤ tt
-few_check v (Some why) = lit≤ tt
-
-few_made : (q : Result Shadow Refusal) → SendsFew (outcome_of_made q)
-few_made (Ok v) = lit≤ tt
-few_made (Err why) = lit≤ tt
-
--- a batch makes as many operations as it has requests, at most
-few_batch : (s : Settings) (t : ModelSite) (rs : List Request) → SendsFew (outcome_of s t (Batch rs))
-unfolding outcome_of
-few_batch s t rs = by (nat_le 1 (length rs)) (nat_le (length rs) MOST_REQUESTS) refl
-  where
-    made : length rs ≤ MOST_REQUESTS → (q : Result (List Shadow) Refusal) → batch_of s t.me t.ops t.token 0 rs ≡ q → SendsFew (outcome_of_batch q)
-    made few (Ok vs) e = subst (λ n. n ≤ MOST_REQUESTS) (sym (length-map vs ShadowMessage ∙ batch_length s t.me t.ops t.token 0 rs vs e)) few
-    made few (Err why) e = lit≤ tt
-
-    by : (b c : Bool) → nat_le (length rs) MOST_REQUESTS ≡ c → SendsFew (refuses_if (not (b && c)) BadBatch (outcome_of_batch (batch_of s t.me t.ops t.token 0 rs)))
-    by false c e = lit≤ tt
-    by true false e = lit≤ tt
-    by true true e = made (grind (arith, nat_tests)) (batch_of s t.me t.ops t.token 0 rs) refl
-
--- an event sends at most as many messages as a batch may have requests
-pub sends_few : (s : Settings) (t : ModelSite) (e : Event) → length (sent_by (outcome_of s t e)) ≤ MOST_REQUESTS
-unfolding outcome_of outcome_of_shadow outcome_of_token outcome_of_apply outcome_of_pass
-sends_few s t (Submit r) = few_made (made_of s t.me t.ops t.token r)
-sends_few s t (Batch rs) = few_batch s t rs
-sends_few s t (Receive (ShadowMessage v)) =
-    few_faulty (fault_in s v) _ (few_known v (find_in t.ops v.name) _ (few_if (v.home == t.me) Conflict _ (few_known v (find_in t.held v.name) _ (few_if (nat_le s.limits.inbox (length t.held) && not (is_eligible t.ops v)) InboxFull (Holds v) (lit≤ tt)))))
-sends_few s t (Receive (TokenOnItsWay m)) = few_first (refusal_of_token s.limits t.me m) _ (few_test (nat_le m.epoch t.token.epoch) (Answers (Stale m.epoch)) (Takes m) (lit≤ tt) (lit≤ tt))
-sends_few s t (Apply x) = by (find_in t.held x)
-  where
-    by : (o : Option Shadow) → SendsFew (outcome_of_apply s t o)
-    by None = lit≤ tt
-    by (Some v) = few_if (not (is_eligible t.ops v)) NotReady _ (few_check v (refusal_of_sound s t.ops v))
-sends_few s t (Pass to) = few_first (refusal_of_pass s.sites s.limits t.me t.token to) (Passes (pass_message t.token to (red_count t.ops))) (lit≤ tt)
-sends_few s t (Balance a) = few_if (not (is_account s a)) UnknownAccount (Answers (BalanceIs (cents (bal s t.ops a)))) (lit≤ tt)
-sends_few s t (AsOf a n) = few_if (not (is_account s a)) UnknownAccount _ (few_if (nat_lt (length t.ops) n) PositionBeyond (Answers (BalanceIs (cents (bal s (take n t.ops) a)))) (lit≤ tt))
-sends_few s t (AskStatement a) = few_if (not (is_account s a)) UnknownAccount (Answers (StatementIs (statement_of s t.ops a))) (lit≤ tt)

@@ -160,12 +160,7 @@ reply_of (Passes m) = Passed m.epoch
 abbrev pub sent_by : Outcome → List Message
 sent_by (Makes reply vs) = map ShadowMessage vs
 sent_by (Passes m) = TokenOnItsWay m ∷ []
-sent_by (Refuses why) = []
-sent_by (Drops x why) = []
-sent_by (Answers reply) = []
-sent_by (Holds v) = []
-sent_by (Applies v) = []
-sent_by (Takes m) = []
+sent_by _ = []
 
 -- the site after it, but for the history
 abbrev pub changed : ModelSite → Outcome → ModelSite

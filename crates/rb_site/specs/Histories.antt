@@ -15,9 +15,9 @@ abbrev pub histories_of : World → List (List Entry)
 histories_of w = map (λ (t : ModelSite). t.history) w.sites
 
 -- the site that an event of the world is for
-abbrev pub place_of : WorldEvent → ℕ
-place_of (At i e) = i
-place_of (Deliver i k) = i
+abbrev pub site_of : WorldEvent → ℕ
+site_of (At i e) = i
+site_of (Deliver i k) = i
 
 -- one world's histories
 pub record AreOneWorlds (s : Settings) (hs : List (List Entry)) : Type 0 where
@@ -61,10 +61,10 @@ pub record IsCut (s : Settings) (fronts : List (List Entry)) (i : ℕ) (h : List
 -- each history is cut where it is blocked, and something is left
 pub record IsStuck (s : Settings) (hs fronts : List (List Entry)) : Type 0 where
   pub cut : (i : ℕ) (h : List Entry) → slice_get hs i ≡ Some h → IsCut s fronts i h
-  pub place : ℕ
+  pub site : ℕ
   pub history : List Entry
-  pub at : slice_get hs place ≡ Some history
-  pub left : ¬ (slice_get fronts place ≡ Some history)
+  pub at : slice_get hs site ≡ Some history
+  pub left : ¬ (slice_get fronts site ≡ Some history)
 
 -- stuck histories are not one world's
 abbrev pub StuckIsFinal : Type 0

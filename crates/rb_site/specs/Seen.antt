@@ -36,7 +36,7 @@ Replays s t (x ∷ xs) = (x.reply ≡ reply_to s t x.event) × Replays s (after_
 
 -- what a site keeps: it is one of the configuration, its history replays and is within its limit
 pub record IsReplayed (x : SeenSite) : Type 0 where
-  pub place : x.me < x.settings.sites
+  pub within : x.me < x.settings.sites
   pub replays : Replays x.settings (first_site x.me) x.entries
   pub room : length x.entries ≤ x.settings.limits.history
 

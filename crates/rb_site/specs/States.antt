@@ -5,7 +5,7 @@ use Rattle.rb_inbox.specs.Held.{Holding}
 use Rattle.rb_shadow.specs.declared.shadow.Shadow.{Shadow}
 use Rattle.rb_shadow.specs.Operations.{Among}
 use Rattle.rb_shadow.specs.Sound.{IsSound}
-use Rattle.rb_token.specs.Seat.{TokenSeat}
+use Rattle.rb_token.specs.Seen.{SeenToken}
 use Rattle.rb_site.specs.declared.answer.Answer.{Answer}
 use Rattle.rb_site.specs.declared.message.Message.{Message}
 use Rattle.rb_site.specs.declared.reply.Reply.{Reply}
@@ -28,7 +28,7 @@ abbrev pub without_history : ModelSite → ModelSite
 without_history t = record t { history = [] }
 
 -- the inbox and the token are of the configuration, and all that is held is sound
-pub record IsTied (s : Settings) (inbox : Holding) (token : TokenSeat) : Type 0 where
+pub record IsTied (s : Settings) (inbox : Holding) (token : SeenToken) : Type 0 where
   pub me : token.me < s.sites
   pub sites : token.sites ≡ s.sites
   pub limits : token.limits ≡ s.limits

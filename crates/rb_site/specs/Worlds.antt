@@ -8,7 +8,7 @@ use Rattle.rb_token.specs.declared.message.TokenMessage.{TokenMessage}
 use Rattle.rb_site.specs.declared.message.Message.{Message}
 use Rattle.rb_site.specs.declared.message.Message.TheVariants.{Shadow as ShadowMessage, Token as TokenOnItsWay}
 use Rattle.rb_site.specs.declared.event.Event.{Event}
-use Rattle.rb_site.specs.declared.event.Event.TheVariants.{Submit, Batch, Receive, Apply, Pass, Balance, AsOf, Statement as AskStatement}
+use Rattle.rb_site.specs.declared.event.Event.TheVariants.{Receive}
 use Rattle.rb_site.specs.declared.reply.Reply.{Reply}
 use Rattle.rb_site.specs.declared.reply.Reply.TheVariants.{Refused}
 use Rattle.rb_site.specs.declared.world_event.WorldEvent.{WorldEvent}
@@ -88,13 +88,7 @@ world_of_run s es = world_after_all s (first_world s) es
 -- messages come by deliveries alone: no event at a site is a Receive
 abbrev pub IsOwn : Event → Type 0
 IsOwn (Receive m) = ⊥
-IsOwn (Submit r) = Unit {0}
-IsOwn (Batch rs) = Unit {0}
-IsOwn (Apply x) = Unit {0}
-IsOwn (Pass to) = Unit {0}
-IsOwn (Balance a) = Unit {0}
-IsOwn (AsOf a n) = Unit {0}
-IsOwn (AskStatement a) = Unit {0}
+IsOwn _ = Unit {0}
 
 -- the same of each event of a list
 abbrev pub AreOwn : List WorldEvent → Type 0

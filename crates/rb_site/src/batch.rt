@@ -3,7 +3,7 @@ ghost use Rattle.std.specs.Prelude.{◌≡◌, ◌≤◌, ◌<◌, ◌++◌, [],
 ghost use Rattle.rb_shadow.specs.declared.shadow.Shadow.{Shadow as TheShadow};
 ghost use Rattle.rb_ledger.specs.Records.{logged};
 ghost use Rattle.rb_token.specs.Token.{Token};
-ghost use Rattle.rb_token.specs.Seat.{Shows};
+ghost use Rattle.rb_token.specs.Seen.{Shows};
 ghost use Rattle.rb_scratch.specs.Batches.{batch_of, cause_of, names_of_all};
 ghost use Rattle.rb_scratch.specs.Tried.{IsTried};
 ghost use Rattle.rb_scratch.specs.declared.request.TheConstants.{MOST_REQUESTS};

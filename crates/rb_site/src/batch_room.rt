@@ -5,7 +5,8 @@ ghost use Rattle.rb_site.specs.Rooms.{IsRoomFor};
 ghost use Rattle.rb_site.specs.States.{Says};
 
 use crate::answer::Answer;
-use crate::{Message, OpNames, Reply};
+use crate::{Message, Reply};
+use rb_list::List;
 use rb_shadow::{OpName, Shadow};
 use std::alloc::{AllocError, Global};
 use std::marker::Model;
@@ -72,12 +73,12 @@ impl BatchRoom {
         } = self;
         send(sent, made);
         let noted = if keeps {
-            Some(Reply::Names(OpNames::new(with_names(noted, made))))
+            Some(Reply::Names(List::new(with_names(noted, made))))
         } else {
             None
         };
         Answer {
-            reply: Reply::Names(OpNames::new(with_names(names, made))),
+            reply: Reply::Names(List::new(with_names(names, made))),
             noted,
         }
     }

@@ -1,8 +1,9 @@
 //! Events of a site.
 ghost use Rattle.std.specs.Prelude.{◌≡◌, ◌↔◌, IfOk, IsTrue};
 
+use crate::Message;
 use crate::same::{same_in, same_name, same_place, same_request};
-use crate::{Message, Requests};
+use rb_list::List;
 use rb_money::Place;
 use rb_scratch::Request;
 use rb_shadow::OpName;
@@ -14,7 +15,7 @@ pub enum Event {
     /// A teller asks for one operation.
     Submit(Request),
     /// A teller asks for 1 to `MOST_REQUESTS` operations, of which all are made or none.
-    Batch(Requests),
+    Batch(List<Request>),
     /// A message comes.
     Receive(Message),
     /// A held operation is to be applied.

@@ -2,8 +2,8 @@
 ghost use Rattle.std.specs.Prelude.{◌≡◌, ◌↔◌, true, IfOk, IsTrue};
 ghost use Rattle.rb_site.specs.Notes.{IsNoted};
 
-use crate::OpNames;
 use crate::same::{same_in, same_label, same_name, same_refusal};
+use rb_list::List;
 use rb_money::Refusal;
 use rb_shadow::{Label, OpName};
 use rb_statements::Statement;
@@ -15,7 +15,7 @@ pub enum Reply {
     /// A request's operation was made, of this kind.
     Made { name: OpName, kind: Label },
     /// A batch's operations were made.
-    Names(OpNames),
+    Names(List<OpName>),
     /// The received operation is held until it is applied.
     Held(OpName),
     /// The received operation is held or applied here already.

@@ -9,9 +9,10 @@ ghost use Rattle.rb_site.specs.States.{Follows, Says};
 
 use crate::answer::Answer;
 use crate::journal::Journal;
-use crate::{Event, Message, Reply, Requests};
+use crate::{Event, Message, Reply};
 use rb_inbox::{Inbox, PutAnswer};
 use rb_ledger::Ledger;
+use rb_list::List;
 use rb_money::{Config, Place, Refusal};
 use rb_scratch::{MOST_REQUESTS, Request, generate};
 use rb_shadow::{OpName, Shadow};
@@ -69,7 +70,7 @@ impl State {
     /// The site's number.
     pub fn me(&self) -> u8
         ensures same { result ≡ self.now.site.me }
-        ensures place { result < self.now.settings.sites }
+        ensures within { result < self.now.settings.sites }
     {
         self.token.view().me
     }
@@ -175,7 +176,7 @@ impl State {
     /// here and sent: all of them or none.
     fn batch(
         &mut self,
-        requests: &Requests,
+        requests: &List<Request>,
         keeps: bool,
         sent: &mut Vec<Message>,
     ) -> Result<Answer, AllocError>

@@ -1,8 +1,9 @@
-use crate::{Entry, Event, Message, OpNames, Reply, Requests, Site, WorldEvent};
+use crate::{Entry, Event, Message, Reply, Site, WorldEvent};
+use rb_list::List;
 use rb_money::{Config, Limits, Place, Refusal};
 use rb_scratch::Request;
 use rb_shadow::{Label, OpName};
-use rb_statements::{Row, Rows, Statement};
+use rb_statements::{Row, Statement};
 use rb_token::TokenMessage;
 use std::alloc::{AllocError, Global};
 use std::test::Fail;
@@ -21,7 +22,7 @@ fn batch(alloc: Global, amount: u64) -> Result<Event, AllocError> {
     let mut requests = Vec::new(alloc);
     requests.push(deposit)?;
     requests.push(cancel)?;
-    Ok(Event::Batch(Requests::new(requests)))
+    Ok(Event::Batch(List::new(requests)))
 }
 
 /// The names of a batch: a blue one of the site, and a red one.
@@ -29,7 +30,7 @@ fn names(alloc: Global, site: u8) -> Result<Reply, AllocError> {
     let mut names = Vec::new(alloc);
     names.push(OpName::Blue { site, n: 1 })?;
     names.push(OpName::Red { n: 1 })?;
-    Ok(Reply::Names(OpNames::new(names)))
+    Ok(Reply::Names(List::new(names)))
 }
 
 /// A statement of one row that moved so many cents.
@@ -46,7 +47,7 @@ fn statement(alloc: Global, moved: i64) -> Result<Reply, AllocError> {
     rows.push(row)?;
     Ok(Reply::Statement(Statement {
         start: 100,
-        rows: Rows::new(rows),
+        rows: List::new(rows),
         balance: 70,
     }))
 }
@@ -57,7 +58,7 @@ fn events_are_compared_by_what_they_hold(rt: HostRuntime) -> Result<(), Fail> {
     let five = batch(alloc, 5)?;
     assert!(rt; five.same(&five.try_copy(alloc)?));
     assert!(rt; !five.same(&batch(alloc, 6)?));
-    assert!(rt; !five.same(&Event::Batch(Requests::new(Vec::new(alloc)))));
+    assert!(rt; !five.same(&Event::Batch(List::new(Vec::new(alloc)))));
     assert!(rt; !five.same(&Event::Statement(ANN)));
 
     let as_of = Event::AsOf(ANN, 3);
@@ -82,7 +83,7 @@ fn replies_are_compared_by_what_they_hold(rt: HostRuntime) -> Result<(), Fail> {
     let first = names(alloc, 0)?;
     assert!(rt; first.same(&first.try_copy(alloc)?));
     assert!(rt; !first.same(&names(alloc, 1)?));
-    assert!(rt; !first.same(&Reply::Names(OpNames::new(Vec::new(alloc)))));
+    assert!(rt; !first.same(&Reply::Names(List::new(Vec::new(alloc)))));
 
     let shown = statement(alloc, -30)?;
     assert!(rt; shown.same(&shown.try_copy(alloc)?));

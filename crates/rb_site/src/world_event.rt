@@ -1,6 +1,6 @@
 //! Events of a world.
 ghost use Rattle.std.specs.Prelude.{◌≡◌, ◌↔◌, IfOk, IsTrue};
-ghost use Rattle.rb_site.specs.Histories.{place_of};
+ghost use Rattle.rb_site.specs.Histories.{site_of};
 
 use crate::Event;
 use crate::same::same_in;
@@ -17,12 +17,12 @@ pub enum WorldEvent {
 
 impl WorldEvent {
     /// The site that the event is for.
-    pub fn place(&self) -> u8
-        ensures { result ≡ place_of self.now }
+    pub fn site(&self) -> u8
+        ensures { result ≡ site_of self.now }
     {
         match self {
-            WorldEvent::At(place, _) => *place,
-            WorldEvent::Deliver(place, _) => *place,
+            WorldEvent::At(site, _) => *site,
+            WorldEvent::Deliver(site, _) => *site,
         }
     }
 
@@ -31,11 +31,11 @@ impl WorldEvent {
         ensures { IfOk result (λ copy. copy ≡ self.now) }
     {
         match self {
-            WorldEvent::At(place, event) => {
+            WorldEvent::At(site, event) => {
                 let event = event.try_copy(alloc)?;
-                Ok(WorldEvent::At(*place, event))
+                Ok(WorldEvent::At(*site, event))
             }
-            WorldEvent::Deliver(place, number) => Ok(WorldEvent::Deliver(*place, *number)),
+            WorldEvent::Deliver(site, number) => Ok(WorldEvent::Deliver(*site, *number)),
         }
     }
 
@@ -44,11 +44,11 @@ impl WorldEvent {
         ensures { IsTrue result ↔ (self.now ≡ other.now) }
     {
         match self {
-            WorldEvent::At(place, event) => {
-                same_in!(other, WorldEvent::At(at, it) => *place == *at && event.same(it))
+            WorldEvent::At(site, event) => {
+                same_in!(other, WorldEvent::At(at, it) => *site == *at && event.same(it))
             }
-            WorldEvent::Deliver(place, number) => {
-                same_in!(other, WorldEvent::Deliver(at, it) => *place == *at && *number == *it)
+            WorldEvent::Deliver(site, number) => {
+                same_in!(other, WorldEvent::Deliver(at, it) => *site == *at && *number == *it)
             }
         }
     }

@@ -1,5 +1,5 @@
 -- The rows of a statement, from one operation on the account back to the one before.
-use Rattle.std.proofs.Common.{◌≡◌, ℕ, zero, suc, ◌+◌, ◌-◌, ◌<◌, ◌≤◌, ◌||◌, Bool, true, false, cond, List, [], ◌∷◌, ◌++◌, length, take, drop, reverse, refl, ap, sym, ◌∙◌, subst, arith, append_assoc}
+use Rattle.std.proofs.Common.{◌≡◌, ℕ, ◌+◌, ◌-◌, ◌<◌, ◌≤◌, ◌||◌, Bool, true, false, cond, List, [], ◌∷◌, ◌++◌, length, take, drop, reverse, refl, ap, sym, ◌∙◌, subst, arith, append_assoc}
 use Rattle.std.specs.Borrow.{Bor}
 use Rattle.std.specs.Prelude.{ℤ, pos, neg_ℤ, ◌+ℤ◌, ◌≤ℤ◌, ◌==◌, slice_get, Option, Some, None, option_map, option_copied, option_and_then, is_some, IsSome}
 use Rattle.std.proofs.lemmas.Int.{ints}
@@ -14,13 +14,12 @@ use Rattle.rb_shadow.specs.Labels.{label_of}
 use Rattle.rb_shadow.specs.Operations.{bal, is_cancelled, is_on}
 use Rattle.rb_shadow.specs.declared.shadow.Shadow.{Shadow}
 use Rattle.rb_shadow.specs.declared.label.Label.{Label}
-use Rattle.rb_ledger.specs.Valid.{IsValid, entry_at, first_cancel_in, first_cancel_from}
+use Rattle.rb_ledger.specs.Valid.{IsValid, operation_at, first_cancel_in, first_cancel_from}
 use Rattle.rb_ledger.specs.Changes.{moved_at}
-use Rattle.rb_ledger.specs.OnAccount.{IsOn, IsNoneAfter, IsLast}
-use Rattle.rb_ledger.proofs.ChainFacts
-use Rattle.rb_ledger.proofs.IndexLists
-use Rattle.rb_ledger.proofs.Moves
-use Rattle.rb_statements.specs.Statements.{row_of, rows_here, rows_of, statement_of}
+use Rattle.rb_ledger.specs.OnAccount.{IsOn, IsLast}
+use Rattle.rb_ledger.proofs.Public.OnAccount
+use Rattle.rb_ledger.proofs.Public.Fronts
+use Rattle.rb_statements.specs.Statements.{row_after, rows_here, rows_of, statement_of}
 use Rattle.rb_statements.specs.declared.row.Row.{Row}
 use Rattle.rb_statements.specs.declared.account.Statement.{Statement}
 use Rattle.rb_statements.proofs.Same.{of_fields, same_fields}
@@ -39,13 +38,13 @@ off_account us u a apart = at (u.account.0 == a.0) refl
 
 -- ---- what is looked up at a position on the account
 
-entry_here : (us : List Shadow) (p : ℕ) → 0 < p → entry_at us p ≡ slice_get us (p - 1)
+entry_here : (us : List Shadow) (p : ℕ) → 0 < p → operation_at us p ≡ slice_get us (p - 1)
 entry_here us p some = let test : (p == 0) ≡ false = grind (arith, nat_tests) in ap (λ b. cond b None (slice_get us (p - 1))) test
 
-entry_there : (us : List Shadow) (a : Place) (p : ℕ) → IsOn us a p → 0 < p → (u : Shadow) × (entry_at us p ≡ Some u)
-entry_there us a p on some = let (u, there, own) = ChainFacts.on_entry us a p on some in (u, entry_here us p some ∙ there)
+entry_there : (us : List Shadow) (a : Place) (p : ℕ) → IsOn us a p → 0 < p → (u : Shadow) × (operation_at us p ≡ Some u)
+entry_there us a p on some = let (u, there, own) = OnAccount.on_entry us a p on some in (u, entry_here us p some ∙ there)
 
-pub has_entry : (us : List Shadow) (a : Place) (p : ℕ) (o : Option (Bor Shadow)) → IsOn us a p → 0 < p → option_copied o ≡ entry_at us p → IsSome o
+pub has_entry : (us : List Shadow) (a : Place) (p : ℕ) (o : Option (Bor Shadow)) → IsOn us a p → 0 < p → option_copied o ≡ operation_at us p → IsSome o
 has_entry us a p None on some e = let (u, there) = entry_there us a p on some in let same : None ≡ Some u = e ∙ there in cc
 has_entry us a p (Some x) on some e = refl
 
@@ -57,9 +56,9 @@ has_moved s us a p None on some e = let same : None ≡ Some (bal s (take p us) 
 has_moved s us a p (Some z) on some e = refl
 
 -- the operation that is found there
-pub found_there : (us : List Shadow) (a : Place) (p : ℕ) (o : Option (Bor Shadow)) (x : Bor Shadow) → IsOn us a p → 0 < p → option_copied o ≡ entry_at us p → o ≡ Some x → (slice_get us (p - 1) ≡ Some x.now) × (x.now.account.0 ≡ a.0)
+pub found_there : (us : List Shadow) (a : Place) (p : ℕ) (o : Option (Bor Shadow)) (x : Bor Shadow) → IsOn us a p → 0 < p → option_copied o ≡ operation_at us p → o ≡ Some x → (slice_get us (p - 1) ≡ Some x.now) × (x.now.account.0 ≡ a.0)
 found_there us a p o x on some e is =
-    let (u, there, own) = ChainFacts.on_entry us a p on some in
+    let (u, there, own) = OnAccount.on_entry us a p on some in
     let found : slice_get us (p - 1) ≡ Some x.now = sym (entry_here us p some) ∙ sym e ∙ ap option_copied is in
     let both : Some x.now ≡ Some u = sym found ∙ there in
     let same : x.now ≡ u = cc in
@@ -82,43 +81,34 @@ rows_push s all a before (v ∷ vs) u =
     ∙ ap (λ ws. (first ++ rest) ++ rows_here s all a ws u) (append_assoc before (v ∷ []) vs)
 
 rows_next : (s : Settings) (us : List Shadow) (a : Place) (i : ℕ) (u : Shadow) → slice_get us i ≡ Some u → rows_of s us a [] (take (i + 1) us) ≡ rows_of s us a [] (take i us) ++ rows_here s us a (take i us) u
-rows_next s us a i u there = ap (rows_of s us a []) (Moves.one_more us i u there) ∙ rows_push s us a [] (take i us) u
+rows_next s us a i u there = ap (rows_of s us a []) (Fronts.one_more us i u there) ∙ rows_push s us a [] (take i us) u
 
--- operations on other accounts add none
-unshown : (s : Settings) (us : List Shadow) (a : Place) (p d : ℕ) → p + d ≤ length us → IsNoneAfter (take (p + d) us) a p → rows_of s us a [] (take (p + d) us) ≡ rows_of s us a [] (take p us)
-unshown s us a p zero low none = ap (λ n. rows_of s us a [] (take n us)) (let z : p + 0 ≡ p = omega arith in z)
-unshown s us a p (suc d) low none =
-    let (u, there) = ChainFacts.element us (p + d) (omega arith) in
-    let next : p + suc d ≡ (p + d) + 1 = omega arith in
-    let apart : u.account.0 ≡ a.0 → ⊥ = (λ own. omega (arith, none (p + d) u (IndexLists.get_taken (p + suc d) us (p + d) (omega arith) ∙ there) own)) in
-    let front : List Row = rows_of s us a [] (take (p + d) us) in
-    ap (λ n. rows_of s us a [] (take n us)) next ∙ rows_next s us a (p + d) u there
-    ∙ ap (λ b. front ++ cond b (row_of s us a (take (p + d) us) u ∷ []) []) (off_account (take (p + d) us) u a apart) ∙ append-nil front
-    ∙ unshown s us a p d (omega arith) (λ i v e own. let (near, here) = IndexLists.get_take (p + d) us i v e in none i v (IndexLists.get_taken (p + suc d) us i (omega arith) ∙ here) own)
+-- an operation on another account adds none
+unshown : (s : Settings) (us : List Shadow) (a : Place) (i : ℕ) (u : Shadow) → slice_get us i ≡ Some u → (u.account.0 ≡ a.0 → ⊥) → rows_of s us a [] (take (i + 1) us) ≡ rows_of s us a [] (take i us)
+unshown s us a i u there apart =
+    let front : List Row = rows_of s us a [] (take i us) in
+    rows_next s us a i u there ∙ ap (λ b. front ++ cond b (row_after s us a (take i us) u ∷ []) []) (off_account (take i us) u a apart) ∙ append-nil front
 
--- so they are those up to the last operation on the account
+-- so the rows are those up to the last operation on the account
 last_rows : (s : Settings) (us : List Shadow) (a : Place) (n p : ℕ) → n ≤ length us → IsLast (take n us) a p → rows_of s us a [] (take n us) ≡ rows_of s us a [] (take p us)
-last_rows s us a n p low last =
-    let within : p ≤ n = ChainFacts.on_taken_within us n a p last.on in
-    let split : p + (n - p) ≡ n = omega arith in
-    ap (λ k. rows_of s us a [] (take k us)) (sym split) ∙ unshown s us a p (n - p) (omega arith) (subst (λ k. IsNoneAfter (take k us) a p) (sym split) last.after)
+last_rows s us a n p low last = OnAccount.as_of_last (rows_of s us a []) us a n p (unshown s us a) low last
 
 -- the last row is made of what is looked up
 pub own_row : (s : Settings) (us : List Shadow) (a : Place) (p : ℕ) (u : Shadow) (k : Label) (z : ℤ) (o : Option ℕ) (c : Bool) (n : ℕ) → 0 < p → slice_get us (p - 1) ≡ Some u → u.account.0 ≡ a.0 → k ≡ label_of u.kind
-    → z ≡ bal s (take p us) a +ℤ neg_ℤ (bal s (take (p - 1) us) a) → o ≡ option_and_then (λ (w : Shadow). first_cancel_in us w.name) (entry_at us p) → c ≡ is_some o → pos n ≡ bal s (take p us) a
+    → z ≡ bal s (take p us) a +ℤ neg_ℤ (bal s (take (p - 1) us) a) → o ≡ option_and_then (λ (w : Shadow). first_cancel_in us w.name) (operation_at us p) → c ≡ is_some o → pos n ≡ bal s (take p us) a
     → rows_of s us a [] (take p us) ≡ rows_of s us a [] (take (p - 1) us) ++ of_fields p u.name k z c n ∷ []
 own_row s us a p u k z o c n some there own kind moved cancel known sum =
     let front : List Shadow = take (p - 1) us in
     let here : p - 1 + 1 ≡ p = omega arith in
-    let after : take p us ≡ front ++ u ∷ [] = ap (λ m. take m us) (sym here) ∙ Moves.one_more us (p - 1) u there in
+    let after : take p us ≡ front ++ u ∷ [] = ap (λ m. take m us) (sym here) ∙ Fronts.one_more us (p - 1) u there in
     let near : p - 1 < length us = slice_get_within us (p - 1) u there in
     let position : p ≡ length front + 1 = omega (arith, length-take-le (p - 1) us (omega arith)) in
     let change : z ≡ bal s (front ++ u ∷ []) a +ℤ neg_ℤ (bal s front a) = moved ∙ ap (λ ws. bal s ws a +ℤ neg_ℤ (bal s front a)) after in
     let cancelled : c ≡ is_cancelled us u.name = known ∙ ap is_some (cancel ∙ ap (option_and_then (λ (w : Shadow). first_cancel_in us w.name)) (entry_here us p some ∙ there)) ∙ any (is_cancelled us u.name) in
     let balance : n ≡ cents (bal s (front ++ u ∷ []) a) = ap cents (sum ∙ ap (λ ws. bal s ws a) after) in
-    let made : of_fields p u.name k z c n ≡ row_of s us a front u = same_fields _ _ _ _ _ _ _ _ _ _ _ _ position refl kind change cancelled balance in
+    let made : of_fields p u.name k z c n ≡ row_after s us a front u = same_fields _ _ _ _ _ _ _ _ _ _ _ _ position refl kind change cancelled balance in
     ap (rows_of s us a []) after ∙ rows_push s us a [] front u
-    ∙ ap (λ b. rows_of s us a [] front ++ cond b (row_of s us a front u ∷ []) []) (on_account front u a own)
+    ∙ ap (λ b. rows_of s us a [] front ++ cond b (row_after s us a front u ∷ []) []) (on_account front u a own)
     ∙ ap (λ (r : Row). rows_of s us a [] front ++ r ∷ []) (sym made)
   where
     any : (b : Bool) → is_some (cond b (Some (first_cancel_from 1 us u.name)) None) ≡ b
@@ -140,7 +130,7 @@ last_whole us a p last = subst (λ vs. IsLast vs a p) (sym (take-length us)) las
 -- at the last operation the balance is the whole one
 pub bal_start : (s : Settings) (us : List Shadow) (a : Place) (p : ℕ) → IsValid s us → IsLast us a p → bal s us a ≡ bal s (take p us) a
 bal_start s us a p valid last =
-    ap (λ vs. bal s vs a) (sym (take-length us)) ∙ ChainFacts.last_balance s us a (length us) p valid (omega arith) (last_whole us a p last)
+    ap (λ vs. bal s vs a) (sym (take-length us)) ∙ OnAccount.last_balance s us a (length us) p valid (omega arith) (last_whole us a p last)
 
 -- no row is found yet
 pub rows_start : (s : Settings) (us : List Shadow) (a : Place) (p : ℕ) (rows : List Row) → IsLast us a p → rows ≡ [] → rows_of s us a [] us ≡ rows_of s us a [] (take p us) ++ reverse rows
@@ -162,7 +152,7 @@ rows_back s us a p q row rows now low last before own added =
 
 -- and the balance, with what the operation moved taken off
 pub bal_back : (s : Settings) (us : List Shadow) (a : Place) (p q n m : ℕ) (z : ℤ) → IsValid s us → p ≤ length us → IsLast (take (p - 1) us) a q → pos n ≡ bal s (take (p - 1) us) a +ℤ z → pos n ≡ pos m +ℤ z → pos m ≡ bal s (take q us) a
-bal_back s us a p q n m z valid low last after before = omega (arith, ints, ChainFacts.last_balance s us a (p - 1) q valid (omega arith) last, after, before)
+bal_back s us a p q n m z valid low last after before = omega (arith, ints, OnAccount.last_balance s us a (p - 1) q valid (omega arith) last, after, before)
 
 -- ---- the whole statement
 

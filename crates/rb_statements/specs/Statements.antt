@@ -12,8 +12,8 @@ use Rattle.rb_statements.specs.declared.row.Row.{Row}
 use Rattle.rb_statements.specs.declared.account.Statement.{Statement}
 
 -- the row of an operation that stands after before, in the whole list
-abbrev pub row_of : Settings → List Shadow → Place → List Shadow → Shadow → Row
-row_of s all a before u =
+abbrev pub row_after : Settings → List Shadow → Place → List Shadow → Shadow → Row
+row_after s all a before u =
     record {
       position = length before + 1;
       name = u.name;
@@ -25,7 +25,7 @@ row_of s all a before u =
 
 -- the rows that such an operation has in the account's statement: one if it is on the account, else none
 abbrev pub rows_here : Settings → List Shadow → Place → List Shadow → Shadow → List Row
-rows_here s all a before u = if is_on before u a then row_of s all a before u ∷ [] else []
+rows_here s all a before u = if is_on before u a then row_after s all a before u ∷ [] else []
 
 -- the rows of the operations after before, in the whole list
 abbrev pub rows_of : Settings → List Shadow → Place → List Shadow → List Shadow → List Row

@@ -1,7 +1,8 @@
 //! Statements.
 ghost use Rattle.std.specs.Prelude.{◌≡◌, ◌↔◌, IfOk, IsTrue};
 
-use crate::Rows;
+use crate::Row;
+use rb_list::List;
 use std::alloc::{AllocError, Global};
 
 /// An account's start, its entries and its balance.
@@ -10,7 +11,7 @@ pub struct Statement {
     /// What the account started with, in cents.
     pub start: u64,
     /// One row for each entry on the account, in order.
-    pub rows: Rows,
+    pub rows: List<Row>,
     /// The account's balance, in cents.
     pub balance: u64,
 }

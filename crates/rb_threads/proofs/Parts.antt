@@ -28,11 +28,3 @@ sends_front w0 w w' owed text now line rest before front = (
 -- what was owed went out
 pub sends_all : (w0 w w' : Option (List ℕ)) (text now : List ℕ) → Sends w0 w text now → Appends w w' now → Sends w0 w' text []
 sends_all w0 w w' text now before all = (before.0 ++ now, Appends-trans w0 w w' before.0 now before.1 all, before.2 ∙ sym (append-nil (before.0 ++ now)))
-
--- a front of what was owed went out
-pub sends_part : (w0 w w' : Option (List ℕ)) (text now : List ℕ) → Sends w0 w text now → AppendsFront w w' now → AppendsFront w0 w' text
-sends_part w0 w w' text now before part = (
-  before.0 ++ part.0,
-  (part.1.0, before.2 ∙ ap (λ t. before.0 ++ t) part.1.1 ∙ sym (append_assoc before.0 part.0 part.1.0)),
-  Appends-trans w0 w w' before.0 part.0 before.1 part.2,
-)

@@ -7,7 +7,7 @@ use Rattle.rb_crew.specs.Tellers.{TellersAt}
 use Rattle.rb_lines.specs.Writes.{IsFront}
 use Rattle.rb_lines.specs.declared.fault.ScriptFault.{ScriptFault}
 use Rattle.rb_lines.specs.declared.fault.ScriptFault.TheVariants.{NoConfig, BadConfig, BadLine, LongLine, Read, Write, OutOfMemory, Gather}
-use Rattle.rb_threads.specs.Bank.{bank}
+use Rattle.rb_threads.specs.Bank.{bank_of}
 use Rattle.rb_threads.specs.Texts.{text_of}
 
 -- histories of so many tellers, one for each site: it is its own replay, and but for what was received and applied it is what the site's tellers did, interleaved
@@ -19,21 +19,21 @@ pub record AreTellers (s : Settings) (tellers seed : ℕ) (hs : List (List Entry
 -- the lines of such histories and of their configuration
 pub record IsRun (sites tellers seed : ℕ) (text : List ℕ) : Type 0 where
   pub histories : List (List Entry)
-  pub are_tellers : AreTellers (bank sites) tellers seed histories
-  pub text_is : text ≡ text_of (bank sites) histories
+  pub are_tellers : AreTellers (bank_of sites) tellers seed histories
+  pub text_is : text ≡ text_of (bank_of sites) histories
 
 -- the text begins those lines
 abbrev pub BeginsRun : ℕ → ℕ → ℕ → List ℕ → Type 0
 BeginsRun sites tellers seed text = (whole : List ℕ) × IsRun sites tellers seed whole × IsFront text whole
 
 -- the result of a run of so many tellers at so many sites, where the text was written
-abbrev pub EndsAs : Result Unit ScriptFault → ℕ → ℕ → ℕ → List ℕ → Type 0
-EndsAs (Ok u) sites tellers seed text = IsRun sites tellers seed text
-EndsAs (Err Write) sites tellers seed text = BeginsRun sites tellers seed text
-EndsAs (Err OutOfMemory) sites tellers seed text = (text ≡ []) ⊎ BeginsRun sites tellers seed text
-EndsAs (Err Gather) sites tellers seed text = text ≡ []
-EndsAs (Err NoConfig) sites tellers seed text = ⊥
-EndsAs (Err (BadConfig n)) sites tellers seed text = ⊥
-EndsAs (Err (BadLine n)) sites tellers seed text = ⊥
-EndsAs (Err (LongLine n)) sites tellers seed text = ⊥
-EndsAs (Err Read) sites tellers seed text = ⊥
+abbrev pub ThreadsEndAs : Result Unit ScriptFault → ℕ → ℕ → ℕ → List ℕ → Type 0
+ThreadsEndAs (Ok u) sites tellers seed text = IsRun sites tellers seed text
+ThreadsEndAs (Err Write) sites tellers seed text = BeginsRun sites tellers seed text
+ThreadsEndAs (Err OutOfMemory) sites tellers seed text = (text ≡ []) ⊎ BeginsRun sites tellers seed text
+ThreadsEndAs (Err Gather) sites tellers seed text = text ≡ []
+ThreadsEndAs (Err NoConfig) sites tellers seed text = ⊥
+ThreadsEndAs (Err (BadConfig n)) sites tellers seed text = ⊥
+ThreadsEndAs (Err (BadLine n)) sites tellers seed text = ⊥
+ThreadsEndAs (Err (LongLine n)) sites tellers seed text = ⊥
+ThreadsEndAs (Err Read) sites tellers seed text = ⊥

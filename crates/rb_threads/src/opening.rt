@@ -2,7 +2,7 @@
 ghost use Rattle.std.specs.Prelude.{◌≡◌, ◌≤◌, IfOk, map};
 ghost use Rattle.rb_money.specs.Faults.{account_of};
 ghost use Rattle.rb_money.specs.declared.limits.TheConstants.{MOST_SITES};
-ghost use Rattle.rb_threads.specs.Bank.{accounts, bank as bank_of};
+ghost use Rattle.rb_threads.specs.Bank.{accounts, bank_of};
 
 use rb_money::{Config, ConfigFault, Limits};
 use std::alloc::{AllocError, Global};

@@ -3,7 +3,7 @@ ghost use Rattle.std.specs.Prelude.{◌≡◌, ◌↔◌, ◌≤◌, List, ℕ, 
 ghost use Rattle.std.specs.Io.KnownBytes.{Appends};
 ghost use Rattle.rb_lines.specs.declared.fault.ScriptFault.TheVariants.{Write};
 ghost use Rattle.rb_money.specs.declared.limits.TheConstants.{MOST_SITES};
-ghost use Rattle.rb_threads.specs.Runs.{EndsAs};
+ghost use Rattle.rb_threads.specs.Runs.{ThreadsEndAs};
 
 use crate::opening::bank;
 use crate::text::write_text;
@@ -31,7 +31,7 @@ pub fn run_threads<G: Gate + Drop + Sync, K: Sink, W: Threads + Wait + Sync>(
     requires few_sites { sites ≤ MOST_SITES }
     requires fresh { K.failed writer.old ≡ false }
     // What is written is the configuration and histories that the tellers made.
-    ensures written { (text : List ℕ) × Appends (K.contents writer.old) (K.contents writer.new) text × EndsAs result sites tellers seed text }
+    ensures written { (text : List ℕ) × Appends (K.contents writer.old) (K.contents writer.new) text × ThreadsEndAs result sites tellers seed text }
     ensures write { (result ≡ Err Write) ↔ (K.failed writer.new ≡ true) }
 {
     let Ok(config) = bank(alloc, sites) else {

@@ -1,7 +1,7 @@
 //! What a site keeps of the token.
 ghost use Rattle.std.specs.Prelude.{◌≡◌, ◌<◌, true, false, Some, None, OnOk, OnErr, IfOk, IfErr, MatchResult};
 ghost use Rattle.rb_token.specs.Token.{first_token, refusal_of_pass, pass_message, passed_token, refusal_of_token, is_stale, taken_token, refusal_of_red};
-ghost use Rattle.rb_token.specs.Seat.{Shows};
+ghost use Rattle.rb_token.specs.Seen.{Shows};
 
 use crate::{Accepted, TokenMessage, TokenView};
 use rb_money::{Config, Limits, Refusal};
@@ -21,9 +21,9 @@ pub struct TokenState {
 }
 
 impl Model for TokenState {
-    ghost use Rattle.rb_token.specs.Seat.{TokenSeat};
+    ghost use Rattle.rb_token.specs.Seen.{SeenToken};
 
-    ghost Value = { TokenSeat };
+    ghost Value = { SeenToken };
 
     ghost view = { λ s. record { me = s.me; sites = s.sites; limits = s.limits; token = record { epoch = s.epoch; held = s.held; needed = s.needed } } };
 }

@@ -1,7 +1,7 @@
 //! What a generator is told of the token.
 ghost use Rattle.std.specs.Prelude.{◌≡◌, Some, None, MatchResult};
 ghost use Rattle.rb_token.specs.Token.{Token, refusal_of_red};
-ghost use Rattle.rb_token.specs.Seat.{Shows};
+ghost use Rattle.rb_token.specs.Seen.{Shows};
 
 use rb_money::Refusal;
 use rb_vclock::Clock;

@@ -9,9 +9,10 @@ ghost use Rattle.rb_money.specs.declared.refusal.Cause.TheVariants.{Declined};
 ghost use Rattle.rb_site.specs.declared.reply.Reply.TheVariants.{Refused};
 
 pub use bank::{ANN, balance, bank_after, open_bank};
+use rb_list::List;
 use rb_scratch::Request;
 use rb_shadow::OpName;
-use rb_site::{Event, Reply, Requests, WorldEvent};
+use rb_site::{Event, Reply, WorldEvent};
 use std::alloc::{AllocError, Global};
 
 /// A deposit of 500 cents at site 0 comes to site 1 and is applied there: the balance at each.
@@ -75,7 +76,7 @@ pub fn batch_is_refused_whole(alloc: Global) -> Result<(Reply, u64, usize), Allo
         amount: 2_000,
     })?;
     let mut world = open_bank(alloc)?;
-    match world.step(WorldEvent::At(0, Event::Batch(Requests::new(requests)))) {
+    match world.step(WorldEvent::At(0, Event::Batch(List::new(requests)))) {
         Ok(reply) => {
             let told = (reply, balance(&world, 0, ANN), world.messages().len());
             world.end();

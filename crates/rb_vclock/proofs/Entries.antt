@@ -4,7 +4,7 @@ use Rattle.std.specs.Prelude.{nat_le, ◌↔◌, IsTrue}
 use Rattle.rb_shadow.specs.declared.deps.Deps.{Deps}
 use Rattle.rb_shadow.specs.declared.op_name.OpName.TheVariants.{Blue, Red}
 use Rattle.rb_shadow.specs.Operations.{IsWithin, names_of_clock}
-use Rattle.rb_shadow.proofs.Clocks
+use Rattle.rb_shadow.proofs.Public.Clocks
 use Rattle.rb_vclock.specs.Clocks.{IsAtLeast}
 
 wider : (n few many : ℕ) → few ≤ many → (nat_le 1 n && nat_le n few) ≡ true → (nat_le 1 n && nat_le n many) ≡ true

@@ -1,25 +1,8 @@
 //! The words of the options of a run of threads.
-ghost use Rattle.std.specs.Prelude.{◌≡◌, ◌≤◌, ◌<◌, ◌^◌, ℕ, length, map, decimal, IfNone, IfSome, Some};
+ghost use Rattle.std.specs.Prelude.{◌≡◌, ◌≤◌, ℕ, length, map, decimal, IfNone, IfSome};
 ghost use Rattle.rb_words.specs.Words.{IsGiven};
 
-use itoa::Buffer;
-
-/// The number that these digits are the text of, with no sign and no zero in front.
-fn read_number(text: &str) -> Option<u32>
-    ensures found { IfSome result (λ n. text.now ≡ decimal n) }
-    ensures only { (n : ℕ) → n < 2 ^ 32 → text.now ≡ decimal n → result ≡ Some n }
-{
-    match text.parse::<u32>() {
-        Ok(n) => {
-            if Buffer::new().format(n) == text {
-                Some(n)
-            } else {
-                None
-            }
-        }
-        Err(_) => None,
-    }
-}
+use rb_money::read_number;
 
 /// The number within these bounds, if there is one, that is the text of these digits.
 fn number_within(text: &str, least: u32, most: u32) -> Option<u32>

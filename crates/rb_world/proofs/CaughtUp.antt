@@ -7,8 +7,8 @@ use Rattle.rb_money.specs.Settings.{Settings}
 use Rattle.rb_shadow.specs.declared.op_name.OpName.{OpName}
 use Rattle.rb_shadow.specs.declared.shadow.Shadow.{Shadow}
 use Rattle.rb_shadow.specs.Operations.{Among, IsWithin, names, past, same_name}
-use Rattle.rb_shadow.proofs.Members
-use Rattle.rb_shadow.proofs.Eligible
+use Rattle.rb_shadow.proofs.Public.Members
+use Rattle.rb_shadow.proofs.Public.Eligible
 use Rattle.rb_site.specs.declared.message.Message.{Message}
 use Rattle.rb_site.specs.declared.message.Message.TheVariants.{Shadow as ShadowMessage, Token as TokenOnItsWay}
 use Rattle.rb_site.specs.declared.event.Event.{Event}
@@ -21,13 +21,12 @@ use Rattle.rb_inbox.specs.Held.{stands_before, with_held}
 use Rattle.rb_site.specs.Worlds.{AreOwn, World, made_in, message_at, shadows_in, world_after, world_after_all, world_at, world_delivered}
 use Rattle.rb_world.specs.Laws.{CanCatchUp, catching_up}
 use Rattle.rb_world.proofs.Steps
-use Rattle.rb_site.proofs.Places.{get_set_same}
-use Rattle.rb_site.proofs.Runs
+use Rattle.rb_site.proofs.Public.Places.{get_set_same}
+use Rattle.rb_site.proofs.Public.Runs
 use Rattle.rb_world.proofs.Token
+use Rattle.rb_world.proofs.Good
 use Rattle.rb_world.proofs.Good.{IsGood}
 use Rattle.rb_world.proofs.Ready
-use Rattle.rb_world.proofs.Sound
-use Rattle.rb_world.proofs.Sound.{IsBounded}
 
 -- ---- a list of applied operations only grows
 
@@ -58,14 +57,13 @@ history_after s t e h =
 
 pub record IsStage (s : Settings) (w : World) (i : ℕ) (t : ModelSite) (known : List Shadow) (front rest extra : List Message) : Type 0 where
   pub good : IsGood s w
-  pub bounded : IsBounded s w
   pub at : slice_get w.sites i ≡ Some t
   pub messages : w.messages ≡ front ++ rest ++ extra
   pub knows : IsWithin (names known) (names t.ops)
   pub has : IsWithin (names (shadows_in front)) (names t.ops)
 
-good_after : (s : Settings) (w : World) (e : WorldEvent) → AreOwn (e ∷ []) → IsGood s w → IsBounded s w → IsGood s (world_after s w e) × IsBounded s (world_after s w e)
-good_after s w e own g b = Steps.after_all s (λ w. IsGood s w × IsBounded s w) (Sound.keeps_bounded s) (e ∷ []) w own (g, b)
+good_after : (s : Settings) (w : World) (e : WorldEvent) → AreOwn (e ∷ []) → IsGood s w → IsGood s (world_after s w e)
+good_after s w e own g = Steps.after_all s (IsGood s) (Good.keeps_good s) (e ∷ []) w own g
 
 at_place : (front rest : List Message) (m : Message) → slice_get (front ++ m ∷ rest) (length front) ≡ Some m
 at_place [] rest m = refl
@@ -82,10 +80,8 @@ stage_after : (s : Settings) (w : World) (i : ℕ) (t : ModelSite) (known : List
     → AreOwn (e ∷ []) → world_after s w e ≡ world_at s w i x (Some t) → is_full s t ≡ false → IsStage s w i t known front rest extra
     → IsStage s (world_after s w e) i (after_event s t x) known front rest (extra ++ sent_at s t x)
 stage_after s w i t known front rest extra e x own is room g =
-    let k = good_after s w e own g.good g.bounded in
     record {
-      good = k.0;
-      bounded = k.1;
+      good = good_after s w e own g.good;
       at = ap (λ (v : World). slice_get v.sites i) is ∙ get_set_same w.sites i t (after_event s t x) g.at;
       messages = ap (λ (v : World). v.messages) is ∙ ap (λ ms. ms ++ sent_at s t x) g.messages ∙ append_assoc (front ++ rest) extra (sent_at s t x);
       knows = λ y h. grows y (g.knows y h);
@@ -112,9 +108,9 @@ held_there v (u ∷ us) = at (stands_before v.name u.name) (held_there v us)
     at false h = inr h
 
 -- after the delivery the operation was applied, or is held
-delivered_there : (s : Settings) (w : World) (i : ℕ) (t : ModelSite) (v : Shadow) → IsGood s w → IsBounded s w → slice_get w.sites i ≡ Some t → is_full s t ≡ false → Among v (made_in w) → IsWithin (past v) (names t.ops)
+delivered_there : (s : Settings) (w : World) (i : ℕ) (t : ModelSite) (v : Shadow) → IsGood s w → slice_get w.sites i ≡ Some t → is_full s t ≡ false → Among v (made_in w) → IsWithin (past v) (names t.ops)
     → (names (after_event s t (Receive (ShadowMessage v))).ops v.name ≡ true) ⊎ Among v (after_event s t (Receive (ShadowMessage v))).held
-delivered_there s w i t v g b at room made within = elim (Ready.site_receives s w i t v g b at made) [
+delivered_there s w i t v g at room made within = elim (Ready.site_receives s w i t v g at made) [
   | inl e ↦ elim e.1 [
     | inl h ↦ inl (ap (λ (u : ModelSite). names u.ops v.name) (is (Answers (Already v.name)) e.0) ∙ h)
     | inr h ↦ inr (subst (λ (u : ModelSite). Among v u.held) (sym (is (Answers (Already v.name)) e.0)) h)
@@ -145,7 +141,6 @@ shadows_split front rest extra v = ap shadows_in (append_assoc front (ShadowMess
 step_on : (s : Settings) (w : World) (i : ℕ) (t : ModelSite) (known : List Shadow) (front rest extra : List Message) (m : Message) → IsStage s w i t known front (m ∷ rest) extra → IsWithin (names (shadows_in (front ++ m ∷ []))) (names t.ops) → IsStage s w i t known (front ++ m ∷ []) rest extra
 step_on s w i t known front rest extra m g has = record {
   good = g.good;
-  bounded = g.bounded;
   at = g.at;
   messages = g.messages ∙ ap (λ ms. ms ++ extra) (sym (append_assoc front (m ∷ []) rest));
   knows = g.knows;
@@ -165,7 +160,7 @@ with_last s w i t known front rest extra v g there x h = elim (Members.or-true (
 ]
 
 past_there : (s : Settings) (w : World) (i : ℕ) (t : ModelSite) (known : List Shadow) (front rest extra : List Message) (v : Shadow) → IsStage s w i t known front (ShadowMessage v ∷ rest) extra → IsWithin (past v) (names t.ops)
-past_there s w i t known front rest extra v g x h = g.has x (g.good.order.order.in_turn (shadows_in front) v (shadows_in (rest ++ extra)) (ap shadows_in g.messages ∙ shadows_split front rest extra v) x h)
+past_there s w i t known front rest extra v g x h = g.has x (g.good.order.in_turn (shadows_in front) v (shadows_in (rest ++ extra)) (ap shadows_in g.messages ∙ shadows_split front rest extra v) x h)
 
 made_there : (s : Settings) (w : World) (i : ℕ) (t : ModelSite) (known : List Shadow) (front rest extra : List Message) (v : Shadow) → IsStage s w i t known front (ShadowMessage v ∷ rest) extra → Among v (made_in w)
 made_there s w i t known front rest extra v g = subst (Among v) (sym (ap shadows_in g.messages ∙ shadows_split front rest extra v)) (Members.Among-right (shadows_in front) (v ∷ shadows_in (rest ++ extra)) v (inl refl))
@@ -207,7 +202,7 @@ caught_up s (ShadowMessage v ∷ rest) w i k t known front extra e g room u ther
         stage_after s w i t known front (ShadowMessage v ∷ rest) extra (Deliver i k) (Receive (ShadowMessage v)) tt (deliver_is s w i k t (ShadowMessage v) g.at (placed_there s w i k t known front rest extra (ShadowMessage v) e g)) full g in
         let h1 : length t1.history ≡ length t.history + 1 = history_after s t (Receive (ShadowMessage v)) full in
         let full1 : is_full s t1 ≡ false = roomy s t1 (length later) (omega arith) in
-        let held1 : (names t1.ops v.name ≡ true) ⊎ Among v t1.held = delivered_there s w i t v g.good g.bounded g.at full (made_there s w i t known front rest extra v g) (past_there s w i t known front rest extra v g) in
+        let held1 : (names t1.ops v.name ≡ true) ⊎ Among v t1.held = delivered_there s w i t v g.good g.at full (made_there s w i t known front rest extra v g) (past_there s w i t known front rest extra v g) in
         let w2 : World = world_after s w1 (At i (Apply v.name)) in
         let t2 : ModelSite = after_event s t1 (Apply v.name) in
         let extra2 : List Message = (extra ++ sent_at s t (Receive (ShadowMessage v))) ++ sent_at s t1 (Apply v.name) in
@@ -217,8 +212,8 @@ caught_up s (ShadowMessage v ∷ rest) w i k t known front extra e g room u ther
         let there2 : names t2.ops v.name ≡ true = applied_there s w1 i t1 v g1.good g1.at full1 (past_there s w1 i t1 known front rest (extra ++ sent_at s t (Receive (ShadowMessage v))) v g1) held1 in
         go w2 t2 extra2 (step_on s w2 i t2 known front rest extra2 (ShadowMessage v) g2 (with_last s w2 i t2 known front rest extra2 v g2 there2)) (omega arith) there'
 
-pub can_catch_up : (s : Settings) (w : World) → IsGood s w → IsBounded s w → CanCatchUp s w
-can_catch_up s w g b i t at room u there =
+pub can_catch_up : (s : Settings) (w : World) → IsGood s w → CanCatchUp s w
+can_catch_up s w g i t at room u there =
     caught_up s w.messages w i 1 t t.ops [] [] refl
-    (record { good = g; bounded = b; at = at; messages = sym (append-nil w.messages); knows = λ x h. h; has = λ x h. cc })
+    (record { good = g; at = at; messages = sym (append-nil w.messages); knows = λ x h. h; has = λ x h. cc })
     room u there

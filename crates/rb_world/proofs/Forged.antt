@@ -14,9 +14,8 @@ use Rattle.rb_site.specs.declared.event.Event.TheVariants.{Submit, Batch, Receiv
 use Rattle.rb_site.specs.declared.entry.Entry.{Entry}
 use Rattle.rb_site.specs.declared.reply.Reply.{Reply}
 use Rattle.rb_site.specs.declared.reply.Reply.TheVariants.{Already, Stale}
-use Rattle.rb_site.proofs.States.{same_outcome, with_history}
+use Rattle.rb_site.proofs.Public.Outcomes.{same_outcome, with_history, changed-with_history}
 use Rattle.rb_site.specs.Events.{refuses_first, Answers, Holds, ModelSite, Outcome, Refuses, Takes, after_event, after_events, changed, first_site, is_full, noted, outcome_of, outcome_of_shadow, outcome_of_token, refuses_if, replies_to_events, reply_of, reply_to, unless_faulty, unless_known}
-use Rattle.rb_site.proofs.States.{changed-with_history}
 use Rattle.rb_world.specs.Laws.{AreAlike, is_receive, is_refused, is_refused_receive, other_replies, without_refused}
 use Rattle.rb_world.proofs.CaughtUp
 use Rattle.rb_world.proofs.Ready

@@ -9,26 +9,26 @@ use Rattle.rb_site.specs.Worlds.{AreOwn, IsCommand, world_of_run}
 use Rattle.rb_world.specs.Laws.{Holds, IsRunOf, SeenWorld, next_world, next_worlds}
 use Rattle.rb_world.proofs.CaughtUp
 use Rattle.rb_world.proofs.Good
+use Rattle.rb_world.proofs.Lawful
 use Rattle.rb_world.proofs.Ready
-use Rattle.rb_world.proofs.Sound
 use Rattle.rb_world.proofs.Stepping.{IsRunSoFar, next_run}
 use Rattle.rb_world.proofs.Token
-use Rattle.rb_world.proofs.Valid
 
 pub holds : (s : Settings) (es : List WorldEvent) → 1 ≤ s.sites → s.sites ≤ MOST_SITES → AreOwn es → Holds s (world_of_run s es)
 holds s es some few own =
-    let g = Sound.bounded_run s es some few own in
+    let w = world_of_run s es in
+    let g = Good.good_run s es some few own in
     record {
-      one_token = Token.one_holder s (world_of_run s es) (Token.in_one_place s es some own);
-      red_blue = Good.red_blue s (world_of_run s es) g.0;
-      clocks = Good.clocks s (world_of_run s es) g.0;
-      agree = Good.agreement s (world_of_run s es) g.0;
-      funded = Good.funds s (world_of_run s es) g.0;
-      valid = Valid.valid_lists s (world_of_run s es) g.0 g.1;
-      never_negative = Good.never_negative s (world_of_run s es) g.0;
-      never_stuck = Ready.never_stuck s (world_of_run s es) g.0 g.1;
-      trusts = Ready.trusts_its_own s (world_of_run s es) g.0 g.1;
-      catches_up = CaughtUp.can_catch_up s (world_of_run s es) g.0 g.1;
+      one_token = Token.one_holder s w g.place;
+      red_blue = Lawful.red_blue s w g;
+      clocks = Lawful.clocks s w g;
+      agreement = Lawful.agreement s w g;
+      funds = Lawful.funds s w g;
+      valid_lists = Lawful.valid_lists s w g;
+      never_negative = Lawful.never_negative s w g;
+      never_stuck = Ready.never_stuck s w g;
+      trusts_its_own = Ready.trusts_its_own s w g;
+      can_catch_up = CaughtUp.can_catch_up s w g;
     }
 
 -- a world stays the run of its events

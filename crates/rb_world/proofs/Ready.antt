@@ -1,28 +1,18 @@
 -- No operation of the world is refused where its past is there.
 use Rattle.std.proofs.Common.{◌≡◌, ℕ, ◌≤◌, Bool, true, false, cond, not, ◌&&◌, ◌||◌, List, [], ◌∷◌, ◌++◌, length, refl, ap, sym, ◌∙◌, arith, ◌⊎◌, inl, inr, subst, Option, Some, None}
-use Rattle.std.specs.Prelude.{slice_get, nat_lt, nat_le, ◌==◌, pos, ◌≤ℤ◌, option_and_then}
-use Rattle.std.proofs.lemmas.Bool.{cond-false}
+use Rattle.std.specs.Prelude.{slice_get, nat_lt, nat_le, ◌==◌}
 use Rattle.std.proofs.lemmas.Bool.Decides.{nat_tests}
 use Rattle.rb_money.specs.Settings.{Settings}
-use Rattle.rb_money.specs.declared.place.Place.{Place}
 use Rattle.rb_money.specs.declared.refusal.Refusal.TheVariants.{BadMessage, Conflict, HistoryFull, InboxFull, NotReady, NotYours}
-use Rattle.rb_shadow.specs.declared.op_name.OpName.{OpName}
-use Rattle.rb_shadow.specs.declared.op_name.OpName.TheVariants.{Blue, Red}
-use Rattle.rb_shadow.specs.declared.kind.Kind.{Kind}
-use Rattle.rb_shadow.specs.declared.kind.Kind.TheVariants.{Deposit, Withdraw, Declined, Interest, Cancel}
-use Rattle.rb_shadow.specs.declared.colour.Colour.{Colour}
-use Rattle.rb_shadow.specs.declared.colour.Colour.TheVariants.{Blue as BlueColour, Red as RedColour}
 use Rattle.rb_shadow.specs.declared.shadow.Shadow.{Shadow}
-use Rattle.rb_shadow.specs.Operations.{Among, IsUnique, IsWithin, bal, colour_in, colour_of, find_in, is_eligible, is_red, kind_in, names, past, same_shadow, shown_colour, target_of}
-use Rattle.rb_shadow.proofs.Members
-use Rattle.rb_shadow.proofs.Lookups
+use Rattle.rb_shadow.specs.Operations.{Among, IsUnique, IsWithin, find_in, is_eligible, names, past, same_shadow}
+use Rattle.rb_shadow.proofs.Public.Members
+use Rattle.rb_shadow.proofs.Public.Lookups
 use Rattle.rb_shadow.specs.Laws.{IsClosed, IsPart}
-use Rattle.rb_shadow.proofs.Eligible
-use Rattle.rb_shadow.proofs.Same.{same_shadow-refl}
-use Rattle.rb_ledger.specs.Checks.{has_wrong_target, is_wrong_target, refusal_of_sound, same_colour}
-use Rattle.rb_ledger.proofs.Legal
-use Rattle.rb_ledger.proofs.Pushes
-use Rattle.rb_statements.proofs.Exact.{number_same}
+use Rattle.rb_shadow.proofs.Public.Eligible
+use Rattle.rb_shadow.proofs.Public.SameShadows.{same_shadow-refl}
+use Rattle.rb_ledger.specs.Checks.{refusal_of_sound}
+use Rattle.rb_ledger.proofs.Public.Pasts
 use Rattle.rb_token.specs.declared.message.TokenMessage.{TokenMessage}
 use Rattle.rb_money.specs.Refusals.{first_if}
 use Rattle.rb_site.specs.declared.message.Message.{Message}
@@ -34,14 +24,11 @@ use Rattle.rb_site.specs.declared.reply.Reply.TheVariants.{Already, Refused, Sta
 use Rattle.rb_site.specs.declared.world_event.WorldEvent.TheVariants.{Deliver}
 use Rattle.rb_site.specs.Events.{refuses_first, Answers, Applies, Holds, ModelSite, Outcome, Refuses, Takes, is_full, outcome_of, outcome_of_apply, outcome_of_check, outcome_of_shadow, outcome_of_token, refuses_if, reply_of, reply_to, unless_faulty, unless_known}
 use Rattle.rb_site.specs.Worlds.{World, made_in, message_at, reply_at, reply_delivered, reply_in}
-use Rattle.rb_world.specs.Laws.{IsNeverStuck, TrustsItsOwn}
+use Rattle.rb_world.specs.Laws.{NeverStuck, TrustsItsOwn}
 use Rattle.rb_world.proofs.Steps
 use Rattle.rb_world.proofs.Order
-use Rattle.rb_world.proofs.Order.{IsInOrder, IsOrderedSet, IsSerial}
-use Rattle.rb_world.proofs.Right
-use Rattle.rb_world.proofs.Right.{AreRight, HasKind}
-use Rattle.rb_world.proofs.Good.{IsGood}
-use Rattle.rb_world.proofs.Sound.{IsBounded}
+use Rattle.rb_world.proofs.Good.{IsGood, IsInOrder, sound_in}
+use Rattle.rb_world.proofs.Lawful
 
 -- ---- looking up a name
 
@@ -51,49 +38,6 @@ found_is all us u v unique part h e = let f : Among u us × (u.name ≡ v.name) 
 
 -- ---- the check of an operation of the world
 
-right_if : (s : Settings) (us : List Shadow) (v : Shadow)
-    → names us v.name ≡ false → is_eligible us v ≡ true → has_wrong_target us v v.kind ≡ false → shown_colour v.name ≡ colour_in us v → pos 0 ≤ℤ bal s (us ++ v ∷ []) v.account
-    → refusal_of_sound s us v ≡ None
-right_if s us v a b c d e = cond-false _ _ _ a ∙ cond-false _ _ _ (ap not b) ∙ cond-false _ _ _ c ∙ cond-false _ _ _ (coloured (shown_colour v.name) (colour_in us v) d) ∙ cond-false _ _ _ (Members.false-or _ _ (Legal.not_negative (bal s (us ++ v ∷ []) v.account) e) refl)
-  where
-    coloured : (c d : Colour) → c ≡ d → not (same_colour c d) ≡ false
-    coloured BlueColour BlueColour e = refl
-    coloured RedColour RedColour e = refl
-    coloured BlueColour RedColour e = cc
-    coloured RedColour BlueColour e = cc
-
-shown_blue : (x : OpName) → is_red x ≡ false → shown_colour x ≡ BlueColour
-shown_blue (Blue i n) h = refl
-shown_blue (Red n) h = cc
-
-shown_red : (x : OpName) → is_red x ≡ true → shown_colour x ≡ RedColour
-shown_red (Blue i n) h = cc
-shown_red (Red n) h = refl
-
--- the target is in a list that has the past
-target_there : (all us : List Shadow) (v : Shadow) (x : OpName) → IsUnique all → IsPart us all → IsWithin (past v) (names us) → (h : HasKind all v (Cancel x)) → Among h.target us
-target_there all us v x unique part within h = Order.named_there all us h.target unique part h.there (ap (names us) h.named ∙ within x h.seen)
-
-colour_there : (all us : List Shadow) (v : Shadow) (k : Kind) → IsUnique all → IsUnique us → IsPart us all → IsWithin (past v) (names us) → HasKind all v k → shown_colour v.name ≡ colour_of k (option_and_then (kind_in us) (target_of k))
-colour_there all us v Deposit unique uu part within h = shown_blue v.name h
-colour_there all us v Withdraw unique uu part within h = shown_red v.name h
-colour_there all us v Declined unique uu part within h = shown_blue v.name h
-colour_there all us v Interest unique uu part within h = shown_blue v.name h
-colour_there all us v (Cancel x) unique uu part within h =
-    h.colour ∙ sym (ap (colour_of (Cancel x)) (ap (kind_in us) (sym h.named) ∙ Pushes.kind_in-named us h.target uu (target_there all us v x unique part within h)))
-
-right_target : (all us : List Shadow) (v : Shadow) (k : Kind) → IsUnique all → IsPart us all → IsWithin (past v) (names us) → HasKind all v k → has_wrong_target us v k ≡ false
-right_target all us v Deposit unique part within h = refl
-right_target all us v Withdraw unique part within h = refl
-right_target all us v Declined unique part within h = refl
-right_target all us v Interest unique part within h = refl
-right_target all us v (Cancel x) unique part within h =
-    let (u, e) = Lookups.found_named us x (within x h.seen) in
-    let named : find_in us h.target.name ≡ Some u = ap (find_in us) h.named ∙ e in
-    let is : u ≡ h.target = found_is all us u h.target unique part h.there named in
-    ap (is_wrong_target v) e ∙ ap (λ (t : Shadow). is_wrong_target v (Some t)) is
-    ∙ Members.false-or _ _ (Members.false-or _ _ (ap not h.right.kind) (ap not (ap (λ (a : Place). a.0 == v.account.0) h.right.account ∙ number_same v.account.0))) (ap not (ap (λ n. n == v.amount) h.right.amount ∙ number_same v.amount))
-
 -- a list with one more that has its past there is closed
 closed_more : (us : List Shadow) (v : Shadow) → IsClosed us → IsWithin (past v) (names us) → IsClosed (us ++ v ∷ [])
 closed_more us v closed within u h x k = Members.names-append us (v ∷ []) x ∙ ap (λ b. b || names (v ∷ []) x) (elim (Order.last_cases us v u h) [
@@ -101,15 +45,12 @@ closed_more us v closed within u h x k = Members.names-append us (v ∷ []) x �
   | inr e ↦ within x (ap (λ (y : Shadow). past y x) (sym e) ∙ k)
 ])
 
-pub applied_if_ready : (s : Settings) (all us : List Shadow) (v : Shadow) → IsOrderedSet all → AreRight s all → IsSerial all us → Among v all → names us v.name ≡ false → IsWithin (past v) (names us) → refusal_of_sound s us v ≡ None
-applied_if_ready s all us v o right l there fresh within =
-    right_if s us v fresh (Eligible.eligible_from us v within)
-    (right_target all us v v.kind o.unique l.part within (right v there).kind)
-    (colour_there all us v v.kind o.unique l.unique l.part within (right v there).kind)
-    (Right.never_negative s all (us ++ v ∷ []) v.account o right
-    (λ u h. elim (Order.last_cases us v u h) [ inl k ↦ l.part u k | inr e ↦ subst (λ w. Among w all) (sym e) there ])
-    (Members.IsUnique-push us v l.unique fresh)
-    (closed_more us v (λ u h. Order.past_inside us u l.past_before h) within))
+applied_if_ready : (s : Settings) (w : World) (i : ℕ) (t : ModelSite) (v : Shadow) → IsGood s w → IsInOrder s (made_in w) i t → Among v (made_in w) → names t.ops v.name ≡ false → IsWithin (past v) (names t.ops) → refusal_of_sound s t.ops v ≡ None
+applied_if_ready s w i t v g here there fresh within =
+    Pasts.passes s (made_in w) t.ops v g.order.unique (g.order.pasts v there) here.valid.unique here.part fresh within
+    (λ a. Lawful.part_never_negative s w (t.ops ++ v ∷ []) a g (Order.part-last (made_in w) t.ops v here.part there)
+    (Members.IsUnique-push t.ops v here.valid.unique fresh)
+    (closed_more t.ops v (λ u h. Pasts.past_inside t.ops u here.valid.past_before h) within))
 
 -- ---- the replies
 
@@ -117,25 +58,25 @@ pub site_applies : (s : Settings) (w : World) (i : ℕ) (t : ModelSite) (v : Sha
 unfolding outcome_of outcome_of_apply
 site_applies s w i t v g at held within =
     let (u, e) = Lookups.found_named t.held v.name (Members.named t.held v held) in
-    let is : u ≡ v = found_is (made_in w) t.held u v g.order.order.unique here.held (here.held v held) e in
-    let ok : refusal_of_sound s t.ops v ≡ None = applied_if_ready s (made_in w) t.ops v g.order.order g.right (Order.serial_at (made_in w) i t here) (here.held v held) (g.inbox i t at v held) within in
+    let is : u ≡ v = found_is (made_in w) t.held u v g.order.unique here.held (here.held v held) e in
+    let ok : refusal_of_sound s t.ops v ≡ None = applied_if_ready s w i t v g here (here.held v held) (here.inbox v held) within in
     ap (outcome_of_apply s t) e ∙ ap (λ (x : Shadow). outcome_of_apply s t (Some x)) is
     ∙ ap (λ b. refuses_if (not b) NotReady (outcome_of_check v (refusal_of_sound s t.ops v))) (Eligible.eligible_from t.ops v within)
     ∙ ap (outcome_of_check v) ok
   where
-    here : IsInOrder (made_in w) i t
-    here = g.order.sites i t at
+    here : IsInOrder s (made_in w) i t
+    here = g.sites i t at
 
 -- what a site answers to an operation of the world
 abbrev pub IsTrusting : Settings → ModelSite → Shadow → Outcome → Type 0
 IsTrusting s t v o = ((o ≡ Answers (Already v.name)) × ((names t.ops v.name ≡ true) ⊎ Among v t.held)) ⊎ ((o ≡ Holds v) ⊎ ((o ≡ Refuses InboxFull) × (is_eligible t.ops v ≡ false)))
 
-pub site_receives : (s : Settings) (w : World) (i : ℕ) (t : ModelSite) (v : Shadow) → IsGood s w → IsBounded s w → slice_get w.sites i ≡ Some t → Among v (made_in w) → IsTrusting s t v (outcome_of_shadow s t v)
+pub site_receives : (s : Settings) (w : World) (i : ℕ) (t : ModelSite) (v : Shadow) → IsGood s w → slice_get w.sites i ≡ Some t → Among v (made_in w) → IsTrusting s t v (outcome_of_shadow s t v)
 unfolding outcome_of_shadow
-site_receives s w i t v g b at made = subst (IsTrusting s t v) (sym (ap (λ o. unless_faulty o next) (b.sound v made))) (by_ops (find_in t.ops v.name) refl)
+site_receives s w i t v g at made = subst (IsTrusting s t v) (sym (ap (λ o. unless_faulty o next) (sound_in s w v g made))) (by_ops (find_in t.ops v.name) refl)
   where
-    here : IsInOrder (made_in w) i t
-    here = g.order.sites i t at
+    here : IsInOrder s (made_in w) i t
+    here = g.sites i t at
 
     room : Outcome
     room = refuses_if (nat_le s.limits.inbox (length t.held) && not (is_eligible t.ops v)) InboxFull (Holds v)
@@ -144,7 +85,7 @@ site_receives s w i t v g b at made = subst (IsTrusting s t v) (sym (ap (λ o. u
     next = unless_known v (find_in t.ops v.name) (refuses_if (v.home == t.me) Conflict (unless_known v (find_in t.held v.name) room))
 
     known : (u : Shadow) (us : List Shadow) (o : Outcome) → IsPart us (made_in w) → find_in us v.name ≡ Some u → unless_known v (Some u) o ≡ Answers (Already v.name)
-    known u us o part e = let is : u ≡ v = found_is (made_in w) us u v g.order.order.unique part made e in
+    known u us o part e = let is : u ≡ v = found_is (made_in w) us u v g.order.unique part made e in
         ap (λ c. cond c (Answers (Already v.name)) (Refuses Conflict)) (ap (λ (x : Shadow). same_shadow x v) is ∙ same_shadow-refl v)
 
     by_room : (b : Bool) (c : Bool) → is_eligible t.ops v ≡ c → IsTrusting s t v (refuses_if (b && not c) InboxFull (Holds v))
@@ -154,7 +95,7 @@ site_receives s w i t v g b at made = subst (IsTrusting s t v) (sym (ap (λ o. u
 
     by_held : (o : Option Shadow) → find_in t.held v.name ≡ o → IsTrusting s t v (unless_known v o room)
     by_held None e = by_room (nat_le s.limits.inbox (length t.held)) (is_eligible t.ops v) refl
-    by_held (Some u) e = inl (known u t.held room here.held e, inr (subst (λ x. Among x t.held) (found_is (made_in w) t.held u v g.order.order.unique here.held made e) (Lookups.found t.held v.name u e).0))
+    by_held (Some u) e = inl (known u t.held room here.held e, inr (subst (λ x. Among x t.held) (found_is (made_in w) t.held u v g.order.unique here.held made e) (Lookups.found t.held v.name u e).0))
 
     away : find_in t.ops v.name ≡ None → (v.home == t.me) ≡ false
     away e = elim (Members.bool_cases (v.home == t.me)) [
@@ -189,11 +130,11 @@ sent_shadow w k v h = Steps.sent_message w.messages k (ShadowMessage v) h
 reply_there : (s : Settings) (w : World) (i k : ℕ) (t : ModelSite) (m : Message) → slice_get w.sites i ≡ Some t → message_at w.messages k ≡ Some m → reply_in s w (Deliver i k) ≡ reply_to s t (Receive m)
 reply_there s w i k t m at h = ap (λ o. reply_delivered s w i o (message_at w.messages k)) at ∙ ap (reply_delivered s w i (Some t)) h
 
-pub never_stuck : (s : Settings) (w : World) → IsGood s w → IsBounded s w → IsNeverStuck s w
-never_stuck s w g b = record {
+pub never_stuck : (s : Settings) (w : World) → IsGood s w → NeverStuck s w
+never_stuck s w g = record {
   delivered = λ i t at room v k h within.
       let reply : reply_in s w (Deliver i k) ≡ reply_of (outcome_of_shadow s t v) = reply_there s w i k t (ShadowMessage v) at h ∙ reply_roomy s t (Receive (ShadowMessage v)) room ∙ ap reply_of (received s t v) in
-      elim (site_receives s w i t v g b at (sent_shadow w k v h)) [
+      elim (site_receives s w i t v g at (sent_shadow w k v h)) [
         | inl e ↦ inr (reply ∙ ap reply_of e.0)
         | inr q ↦ elim q [
           | inl e ↦ inl (reply ∙ ap reply_of e)
@@ -234,23 +175,23 @@ trusts_token s t m epoch red = by_to (not (m.to == t.me))
     by_to true = (λ e. cc, λ why e. cc)
     by_to false = subst (λ b. Trusts (reply_of (refuses_first (first_if b (BadMessage 2) None) rest))) (sym within) (last (nat_le m.epoch t.token.epoch))
 
-trusts_site : (s : Settings) (w : World) (i : ℕ) (t : ModelSite) (m : Message) → IsGood s w → IsBounded s w → slice_get w.sites i ≡ Some t → Steps.IsSent w.messages m → Trusts (reply_to s t (Receive m))
-trusts_site s w i t m g b at sent = by_room (is_full s t)
+trusts_site : (s : Settings) (w : World) (i : ℕ) (t : ModelSite) (m : Message) → IsGood s w → slice_get w.sites i ≡ Some t → Steps.IsSent w.messages m → Trusts (reply_to s t (Receive m))
+trusts_site s w i t m g at sent = by_room (is_full s t)
   where
     by_message : (m : Message) → Steps.IsSent w.messages m → Trusts (reply_of (outcome_of s t (Receive m)))
-    by_message (ShadowMessage v) h = subst (λ o. Trusts (reply_of o)) (sym (received s t v)) (trusts_shadow s t v (outcome_of_shadow s t v) (site_receives s w i t v g b at h))
-    by_message (TokenOnItsWay m) h = let q = b.tokens m h in subst (λ o. Trusts (reply_of o)) (sym (received_token s t m)) (trusts_token s t m q.0 q.1)
+    by_message (ShadowMessage v) h = subst (λ o. Trusts (reply_of o)) (sym (received s t v)) (trusts_shadow s t v (outcome_of_shadow s t v) (site_receives s w i t v g at h))
+    by_message (TokenOnItsWay m) h = let q = g.tokens m h in subst (λ o. Trusts (reply_of o)) (sym (received_token s t m)) (trusts_token s t m q.0 q.1)
 
     by_room : (c : Bool) → Trusts (cond c (Refused HistoryFull) (reply_of (outcome_of s t (Receive m))))
     by_room true = trusts_full
     by_room false = by_message m sent
 
-pub trusts_its_own : (s : Settings) (w : World) → IsGood s w → IsBounded s w → TrustsItsOwn s w
-trusts_its_own s w g b i k = by_site (slice_get w.sites i) refl
+pub trusts_its_own : (s : Settings) (w : World) → IsGood s w → TrustsItsOwn s w
+trusts_its_own s w g i k = by_site (slice_get w.sites i) refl
   where
     by_message : (t : ModelSite) → slice_get w.sites i ≡ Some t → (o : Option Message) → message_at w.messages k ≡ o → Trusts (reply_delivered s w i (Some t) o)
     by_message t at None h = (λ e. cc, λ why e. cc)
-    by_message t at (Some m) h = trusts_site s w i t m g b at (Steps.sent_message w.messages k m h)
+    by_message t at (Some m) h = trusts_site s w i t m g at (Steps.sent_message w.messages k m h)
 
     by_site : (o : Option ModelSite) → slice_get w.sites i ≡ o → Trusts (reply_delivered s w i o (message_at w.messages k))
     by_site None h = (λ e. cc, λ why e. cc)

@@ -14,18 +14,18 @@ use Rattle.rb_site.specs.declared.reply.Reply.TheVariants.{Refused}
 use Rattle.rb_site.specs.declared.world_event.WorldEvent.{WorldEvent}
 use Rattle.rb_site.specs.declared.world_event.WorldEvent.TheVariants.{At, Deliver}
 use Rattle.rb_site.specs.Events.{ModelSite, after_event, is_full, outcome_of, reply_of, reply_to, sent_at}
-use Rattle.rb_site.specs.Histories.{place_of}
+use Rattle.rb_site.specs.Histories.{site_of}
 use Rattle.rb_site.specs.Seen.{SeenSite, next_site, state_of}
 use Rattle.rb_site.specs.Worlds.{AreOwn, IsCommand, World, arrival, first_world, is_recorded, is_recorded_at, message_at, reply_at, reply_delivered, reply_in, world_after, world_at, world_delivered}
-use Rattle.rb_site.proofs.Runs
-use Rattle.rb_site.proofs.Seen
+use Rattle.rb_site.proofs.Public.Runs
+use Rattle.rb_site.proofs.Public.Seen
 use Rattle.rb_world.specs.Laws.{IsRunOf, SeenWorld, next_replies, next_reply, next_world, next_worlds}
 
 -- ---- an event and the site that it is for
 
 -- the world's step is that of the site at which something arrives
 pub record Arrives (s : Settings) (w : World) (ev : WorldEvent) (e : Event) (t : ModelSite) : Type 0 where
-  pub world : world_after s w ev ≡ world_at s w (place_of ev) e (Some t)
+  pub world : world_after s w ev ≡ world_at s w (site_of ev) e (Some t)
   pub reply : reply_in s w ev ≡ reply_to s t e
   pub recorded : is_recorded s w ev ≡ not (is_full s t)
 
@@ -33,7 +33,7 @@ and_true : (b : Bool) → (not b && true) ≡ not b
 and_true true = refl
 and_true false = refl
 
-pub arrives : (s : Settings) (w : World) (ev : WorldEvent) (e : Event) (t : ModelSite) → arrival w.messages ev ≡ Some e → slice_get w.sites (place_of ev) ≡ Some t → Arrives s w ev e t
+pub arrives : (s : Settings) (w : World) (ev : WorldEvent) (e : Event) (t : ModelSite) → arrival w.messages ev ≡ Some e → slice_get w.sites (site_of ev) ≡ Some t → Arrives s w ev e t
 arrives s w (At i d) e t arrived at = record {
   world = ap (world_at s w i d) at ∙ ap (λ x. world_at s w i x (Some t)) same;
   reply = ap (reply_at s d) at ∙ ap (reply_to s t) same;
@@ -66,7 +66,7 @@ still w ev h =
     ∙ ap (λ v. world_as w.settings v w.events) (Runs.unrecorded w.settings w.world ev h))
 
 -- at a site whose history is full nothing happens
-pub full_step : (w : SeenWorld) (ev : WorldEvent) (e : Event) (t : ModelSite) → arrival w.world.messages ev ≡ Some e → slice_get w.world.sites (place_of ev) ≡ Some t → is_full w.settings t ≡ true → (Refused HistoryFull ≡ next_reply w ev) × (w ≡ next_world w ev)
+pub full_step : (w : SeenWorld) (ev : WorldEvent) (e : Event) (t : ModelSite) → arrival w.world.messages ev ≡ Some e → slice_get w.world.sites (site_of ev) ≡ Some t → is_full w.settings t ≡ true → (Refused HistoryFull ≡ next_reply w ev) × (w ≡ next_world w ev)
 full_step w ev e t arrived at full =
     let here = arrives w.settings w.world ev e t arrived at in (
       sym (here.reply ∙ ap (λ b. cond b (Refused HistoryFull) (reply_of (outcome_of w.settings t e))) full),
@@ -78,7 +78,7 @@ full_step w ev e t arrived at full =
 -- what is known where a site takes an event: its place, the event that arrives there, and that it has room
 pub record IsTaken (config : Settings) (xs : List SeenSite) (messages : List Message) (ev : WorldEvent) (e : Event) (x : SeenSite) : Type 0 where
   pub arrived : arrival messages ev ≡ Some e
-  pub at : slice_get xs (place_of ev) ≡ Some x
+  pub at : slice_get xs (site_of ev) ≡ Some x
   pub settings : x.settings ≡ config
   pub room : is_full config (state_of x) ≡ false
 
@@ -91,12 +91,12 @@ shown_world s xs ms es = world_as s (sites_and (map state_of xs) ms) es
 
 pub taken_step : (s : Settings) (xs : List SeenSite) (ms : List Message) (es : List WorldEvent) (ev : WorldEvent) (e : Event) (x : SeenSite) → IsTaken s xs ms ev e x
     → (reply_to x.settings (state_of x) e ≡ next_reply (shown_world s xs ms es) ev)
-    × (shown_world s (slice_set xs (place_of ev) (next_site x e)) (ms ++ sent_at x.settings (state_of x) e) (es ++ ev ∷ []) ≡ next_world (shown_world s xs ms es) ev)
+    × (shown_world s (slice_set xs (site_of ev) (next_site x e)) (ms ++ sent_at x.settings (state_of x) e) (es ++ ev ∷ []) ≡ next_world (shown_world s xs ms es) ev)
 taken_step s xs ms es ev e x taken = (
   ap (λ z. reply_to z (state_of x) e) taken.settings ∙ sym here.reply,
-  ap (λ ts. world_as s (sites_and ts (ms ++ sent_at x.settings (state_of x) e)) (es ++ ev ∷ [])) (map-set state_of xs (place_of ev) (next_site x e))
-      ∙ ap (λ u. world_as s (sites_and (slice_set (map state_of xs) (place_of ev) u) (ms ++ sent_at x.settings (state_of x) e)) (es ++ ev ∷ [])) (Seen.state-next x e)
-      ∙ ap (λ z. world_as s (sites_and (slice_set (map state_of xs) (place_of ev) (after_event z (state_of x) e)) (ms ++ sent_at z (state_of x) e)) (es ++ ev ∷ [])) taken.settings
+  ap (λ ts. world_as s (sites_and ts (ms ++ sent_at x.settings (state_of x) e)) (es ++ ev ∷ [])) (map-set state_of xs (site_of ev) (next_site x e))
+      ∙ ap (λ u. world_as s (sites_and (slice_set (map state_of xs) (site_of ev) u) (ms ++ sent_at x.settings (state_of x) e)) (es ++ ev ∷ [])) (Seen.state-next x e)
+      ∙ ap (λ z. world_as s (sites_and (slice_set (map state_of xs) (site_of ev) (after_event z (state_of x) e)) (ms ++ sent_at z (state_of x) e)) (es ++ ev ∷ [])) taken.settings
       ∙ ap (λ v. world_as s v (es ++ ev ∷ [])) (sym here.world)
       ∙ ap (λ b. world_as s (world_after s w ev) (cond b (es ++ ev ∷ []) es)) (sym (here.recorded ∙ ap not taken.room)),
 )
@@ -105,7 +105,7 @@ taken_step s xs ms es ev e x taken = (
     w = sites_and (map state_of xs) ms
 
     here : Arrives s w ev e (state_of x)
-    here = arrives s w ev e (state_of x) taken.arrived (slice_get-map state_of xs (place_of ev) ∙ ap (option_map state_of) taken.at)
+    here = arrives s w ev e (state_of x) taken.arrived (slice_get-map state_of xs (site_of ev) ∙ ap (option_map state_of) taken.at)
 
 -- ---- the world stays the run of its events
 
@@ -143,7 +143,7 @@ pub settings_kept : (s : Settings) (xs : List SeenSite) (i : ℕ) (x : SeenSite)
 settings_kept s xs i x e here all = All-set (λ (y : SeenSite). y.settings ≡ s) xs i (next_site x e) (Seen.settings-next x e ∙ here) all
 
 -- the site at a place that has room
-pub taken_at : (s : Settings) (xs : List SeenSite) (ms : List Message) (ev : WorldEvent) (e : Event) (i : ℕ) (x : SeenSite) → i ≡ place_of ev → arrival ms ev ≡ Some e → IsSomeAnd (slice_get (map state_of xs) i) (λ t. is_full s t ≡ false)
+pub taken_at : (s : Settings) (xs : List SeenSite) (ms : List Message) (ev : WorldEvent) (e : Event) (i : ℕ) (x : SeenSite) → i ≡ site_of ev → arrival ms ev ≡ Some e → IsSomeAnd (slice_get (map state_of xs) i) (λ t. is_full s t ≡ false)
     → AreOf s xs → x ≡ get_or xs i x → IsTaken s xs ms ev e x
 taken_at s xs ms ev e i x place arrived room all same = by (slice_get xs i) refl (let P : Option ModelSite → Type 0 = λ o. IsSomeAnd o (λ t. is_full s t ≡ false) in subst P (slice_get-map state_of xs i) room)
   where

@@ -3,7 +3,7 @@ use Rattle.std.proofs.Common.{◌≡◌, ◌≢◌, ℕ, zero, suc, ◌+◌, ◌
 use Rattle.std.specs.Prelude.{slice_get, slice_set, map, nat_lt, nat_le, ◌==◌, max, take}
 use Rattle.std.proofs.lemmas.List.{append-nil}
 use Rattle.std.proofs.lemmas.Bool.Decides.{nat_tests}
-use Rattle.rb_site.proofs.Places.{get_set_other, get_set_same, same_number, set_set}
+use Rattle.rb_site.proofs.Public.Places.{get_set_other, get_set_same, same_number, set_set}
 use Rattle.rb_money.specs.Settings.{Settings, is_account}
 use Rattle.rb_money.specs.declared.refusal.Refusal.{Refusal}
 use Rattle.rb_money.specs.declared.refusal.Refusal.TheVariants.{Conflict, NotReady, InboxFull, PositionBeyond}
@@ -12,8 +12,8 @@ use Rattle.rb_shadow.specs.declared.op_name.OpName.{OpName}
 use Rattle.rb_shadow.specs.declared.shadow.Shadow.{Shadow}
 use Rattle.rb_shadow.specs.Operations.{Among, names, red_count, bal, find_in, is_eligible, same_shadow}
 use Rattle.rb_shadow.specs.Sound.{fault_in}
-use Rattle.rb_shadow.proofs.Members
-use Rattle.rb_shadow.proofs.Lookups
+use Rattle.rb_shadow.proofs.Public.Members
+use Rattle.rb_shadow.proofs.Public.Lookups
 use Rattle.rb_ledger.specs.Checks.{refusal_of_sound}
 use Rattle.rb_token.specs.declared.message.TokenMessage.{TokenMessage}
 use Rattle.rb_site.specs.declared.message.Message.{Message}
@@ -25,7 +25,7 @@ use Rattle.rb_site.specs.declared.world_event.WorldEvent.{WorldEvent}
 use Rattle.rb_site.specs.declared.world_event.WorldEvent.TheVariants.{At, Deliver}
 use Rattle.rb_token.specs.Token.{refusal_of_pass, refusal_of_token}
 use Rattle.rb_money.specs.Amounts.{cents}
-use Rattle.rb_scratch.proofs.Made.{AreMadeAt, IsMadeAt, batch_is, made_is, not_true, past_first}
+use Rattle.rb_scratch.proofs.Public.Made.{AreMadeAt, IsMadeAt, batch_is, made_is, not_true, past_first}
 use Rattle.rb_site.specs.Events.{refuses_first, ModelSite, Outcome, Refuses, Drops, Answers, Makes, Holds, Applies, Takes, Passes, outcome_of, outcome_of_made, outcome_of_batch, outcome_of_shadow, outcome_of_token, outcome_of_apply, outcome_of_pass, refuses_if, changed, noted, is_full, sent_by, reply_of, outcome_of_check, unless_faulty, unless_known}
 use Rattle.rb_inbox.specs.Held.{with_held, without}
 use Rattle.rb_site.specs.Worlds.{World, shadows_in, tokens_in, message_at, world_at, world_delivered, world_after, world_after_all, IsOwn, AreOwn}

@@ -5,15 +5,15 @@ use Rattle.std.specs.List.{range_with_len}
 use Rattle.std.proofs.lemmas.Bool.Decides.{nat_tests}
 use Rattle.std.proofs.lemmas.List.{append-nil}
 use Rattle.rb_money.specs.Settings.{Settings}
-use Rattle.rb_scratch.proofs.Made.{IsAllowed, IsMadeAt}
+use Rattle.rb_scratch.proofs.Public.Made.{IsAllowed, IsMadeAt}
 use Rattle.rb_shadow.specs.declared.op_name.OpName.{OpName}
 use Rattle.rb_shadow.specs.declared.op_name.OpName.TheVariants.{Blue, Red}
 use Rattle.rb_shadow.specs.declared.colour.Colour.{Colour}
 use Rattle.rb_shadow.specs.declared.colour.Colour.TheVariants.{Blue as BlueColour, Red as RedColour}
 use Rattle.rb_shadow.specs.declared.shadow.Shadow.{Shadow}
 use Rattle.rb_shadow.specs.Operations.{Among, red_count, is_red}
-use Rattle.rb_shadow.proofs.Members
-use Rattle.rb_shadow.proofs.Clocks
+use Rattle.rb_shadow.proofs.Public.Members
+use Rattle.rb_shadow.proofs.Public.Clocks
 use Rattle.rb_token.specs.declared.message.TokenMessage.{TokenMessage}
 use Rattle.rb_site.specs.declared.message.Message.{Message}
 use Rattle.rb_site.specs.declared.message.Message.TheVariants.{Shadow as ShadowMessage, Token as TokenOnItsWay}
@@ -23,10 +23,10 @@ use Rattle.rb_scratch.specs.Requests.{operation_of, next_name, colour_of_plan}
 use Rattle.rb_site.specs.Events.{ModelSite, first_site}
 use Rattle.rb_inbox.specs.Held.{with_held, without}
 use Rattle.rb_site.specs.Worlds.{World, shadows_in, tokens_in, made_in, world_of_run, first_world, AreOwn}
-use Rattle.rb_world.specs.Laws.{EachSite, HasOneToken}
+use Rattle.rb_world.specs.Laws.{EachSite, OneToken}
 use Rattle.rb_world.proofs.Steps
 use Rattle.rb_world.proofs.Steps.{AmongTokens, MayTake, MayPass, Keeps, moved, each_moved}
-use Rattle.rb_site.proofs.Places.{get_set_other, get_set_same, same_number}
+use Rattle.rb_site.proofs.Public.Places.{get_set_other, get_set_same, same_number}
 
 -- ---- messages
 
@@ -319,10 +319,7 @@ first_place s some = record {
 
 -- ---- the law
 
-pub in_one_place : (s : Settings) (es : List WorldEvent) → 1 ≤ s.sites → AreOwn es → IsInOnePlace (world_of_run s es)
-in_one_place s es some own = Steps.after_all s IsInOnePlace (keeps_place s) es (first_world s) own (first_place s some)
-
-pub one_holder : (s : Settings) (w : World) → IsInOnePlace w → HasOneToken s w
+pub one_holder : (s : Settings) (w : World) → IsInOnePlace w → OneToken s w
 one_holder s w p i t at held j u at' held' = by p.place
   where
     by : ((k : ℕ) × (u : ModelSite) × IsHeldAt w k u) ⊎ ((m : TokenMessage) × IsOnItsWay w m) → i ≡ j

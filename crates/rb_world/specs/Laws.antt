@@ -9,11 +9,11 @@ use Rattle.rb_shadow.specs.Operations.{Agree, Among, AreSame, IsLawful, IsSerial
 use Rattle.rb_shadow.specs.Laws.{IsClosed, IsFunded, IsPart}
 use Rattle.rb_ledger.specs.Valid.{IsValid}
 use Rattle.rb_site.specs.declared.event.Event.{Event}
-use Rattle.rb_site.specs.declared.event.Event.TheVariants.{Submit, Batch, Receive, Apply, Pass, Balance, AsOf, Statement as AskStatement}
+use Rattle.rb_site.specs.declared.event.Event.TheVariants.{Receive, Apply}
 use Rattle.rb_site.specs.declared.message.Message.{Message}
 use Rattle.rb_site.specs.declared.message.Message.TheVariants.{Shadow as ShadowMessage, Token as TokenOnItsWay}
 use Rattle.rb_site.specs.declared.reply.Reply.{Reply}
-use Rattle.rb_site.specs.declared.reply.Reply.TheVariants.{Made, Names as NamesMade, Held, Already, Taken, Stale, Applied, Passed, Balance as BalanceIs, Statement as StatementIs, Refused}
+use Rattle.rb_site.specs.declared.reply.Reply.TheVariants.{Held, Already, Applied, Refused}
 use Rattle.rb_site.specs.declared.world_event.WorldEvent.{WorldEvent}
 use Rattle.rb_site.specs.declared.world_event.WorldEvent.TheVariants.{At, Deliver}
 use Rattle.rb_site.specs.Events.{ModelSite, after_event, after_events, first_site, is_full, replies_to_events, reply_to}
@@ -28,38 +28,38 @@ abbrev pub Always : (Settings → World → Type 0) → Type 0
 Always P = (s : Settings) (es : List WorldEvent) → 1 ≤ s.sites → s.sites ≤ MOST_SITES → AreOwn es → P s (world_of_run s es)
 
 -- at most one site has the token
-abbrev pub HasOneToken : Settings → World → Type 0
-HasOneToken s w = EachSite w (λ i t. t.token.held ≡ true → EachSite w (λ j u. u.token.held ≡ true → i ≡ j))
+abbrev pub OneToken : Settings → World → Type 0
+OneToken s w = EachSite w (λ i t. t.token.held ≡ true → EachSite w (λ j u. u.token.held ≡ true → i ≡ j))
 
 -- the operations made are a RedBlue order; each site's list is a causal serialization of some of them there, and has all that were made there
-pub record IsRedBlue (s : Settings) (w : World) : Type 0 where
+pub record RedBlue (s : Settings) (w : World) : Type 0 where
   pub lawful : IsLawful (made_in w)
   pub serial : EachSite w (λ i t. IsSerialization i t.ops)
   pub made : EachSite w (λ i t. (v : Shadow) → Among v t.ops → Among v (made_in w))
   pub own : EachSite w (λ i t. (v : Shadow) → Among v (made_in w) → v.home ≡ i → Among v t.ops)
 
 -- the names that a site applied are those of a clock
-abbrev pub HasClocks : Settings → World → Type 0
-HasClocks s w = EachSite w (λ i t. AreSame (names t.ops) (names_of_clock (clock_of t.ops)))
+abbrev pub Clocks : Settings → World → Type 0
+Clocks s w = EachSite w (λ i t. AreSame (names t.ops) (names_of_clock (clock_of t.ops)))
 
 -- sites that applied the same operations agree
-abbrev pub SitesAgree : Settings → World → Type 0
-SitesAgree s w = EachSite w (λ i t. EachSite w (λ j u. AreSame (names t.ops) (names u.ops) → Agree s t.ops u.ops))
+abbrev pub Agreement : Settings → World → Type 0
+Agreement s w = EachSite w (λ i t. EachSite w (λ j u. AreSame (names t.ops) (names u.ops) → Agree s t.ops u.ops))
 
 -- each balance has its source, in every part of the operations made that has the past of each of its own
-abbrev pub HasFunds : Settings → World → Type 0
-HasFunds s w = (vs : List Shadow) → IsPart vs (made_in w) → IsUnique vs → IsClosed vs → (a : Place) → IsFunded s (made_in w) vs a
+abbrev pub Funds : Settings → World → Type 0
+Funds s w = (vs : List Shadow) → IsPart vs (made_in w) → IsUnique vs → IsClosed vs → (a : Place) → IsFunded s (made_in w) vs a
 
 -- each site's list is valid, so that a ledger may hold it
-abbrev pub HasValidLists : Settings → World → Type 0
-HasValidLists s w = EachSite w (λ i t. IsValid s t.ops)
+abbrev pub ValidLists : Settings → World → Type 0
+ValidLists s w = EachSite w (λ i t. IsValid s t.ops)
 
 -- no balance is negative
-abbrev pub IsNeverNegative : Settings → World → Type 0
-IsNeverNegative s w = EachSite w (λ i t. (a : Place) → pos 0 ≤ℤ bal s t.ops a)
+abbrev pub NeverNegative : Settings → World → Type 0
+NeverNegative s w = EachSite w (λ i t. (a : Place) → pos 0 ≤ℤ bal s t.ops a)
 
 -- no site is stuck: while its history has room, an operation that was made and whose past is there is held or known when it is delivered, and applied when it is held
-pub record IsNeverStuck (s : Settings) (w : World) : Type 0 where
+pub record NeverStuck (s : Settings) (w : World) : Type 0 where
   pub delivered : EachSite w (λ i t. is_full s t ≡ false → (v : Shadow) (k : ℕ) → message_at w.messages k ≡ Some (ShadowMessage v) → IsWithin (past v) (names t.ops)
       → (reply_in s w (Deliver i k) ≡ Held v.name) ⊎ (reply_in s w (Deliver i k) ≡ Already v.name))
   pub applied : EachSite w (λ i t. is_full s t ≡ false → (v : Shadow) → Among v t.held → IsWithin (past v) (names t.ops) → reply_in s w (At i (Apply v.name)) ≡ Applied v.name)
@@ -85,27 +85,12 @@ CanCatchUp s w = EachSite w (λ i t. length t.history + length (catching_up i t.
 -- the reply is a refusal
 abbrev pub is_refused : Reply → Bool
 is_refused (Refused why) = true
-is_refused (Made x k) = false
-is_refused (NamesMade xs) = false
-is_refused (Held x) = false
-is_refused (Already x) = false
-is_refused (Taken n) = false
-is_refused (Stale n) = false
-is_refused (Applied x) = false
-is_refused (Passed n) = false
-is_refused (BalanceIs n) = false
-is_refused (StatementIs a) = false
+is_refused _ = false
 
 -- the event is the receipt of a message
 abbrev pub is_receive : Event → Bool
 is_receive (Receive m) = true
-is_receive (Submit r) = false
-is_receive (Batch rs) = false
-is_receive (Apply x) = false
-is_receive (Pass to) = false
-is_receive (Balance a) = false
-is_receive (AsOf a n) = false
-is_receive (AskStatement a) = false
+is_receive _ = false
 
 -- a Receive that the site refuses
 abbrev pub is_refused_receive : Settings → ModelSite → Event → Bool
@@ -129,8 +114,8 @@ pub record AreAlike (t u : ModelSite) : Type 0 where
   pub token : t.token ≡ u.token
 
 -- refused messages leave no trace but in the history
-abbrev pub RefusedLeaveNothing : Type 0
-RefusedLeaveNothing = (s : Settings) (me : ℕ) (es : List Event) → length es ≤ s.limits.history
+abbrev pub RefusedReceive : Type 0
+RefusedReceive = (s : Settings) (me : ℕ) (es : List Event) → length es ≤ s.limits.history
     → AreAlike (after_events s (first_site me) (without_refused s (first_site me) es)) (after_events s (first_site me) es)
     × (replies_to_events s (first_site me) (without_refused s (first_site me) es) ≡ other_replies s (first_site me) es)
 
@@ -138,16 +123,16 @@ RefusedLeaveNothing = (s : Settings) (me : ℕ) (es : List Event) → length es 
 
 -- what holds of every world that a bank's own events lead to
 pub record Holds (s : Settings) (w : World) : Type 0 where
-  pub one_token : HasOneToken s w
-  pub red_blue : IsRedBlue s w
-  pub clocks : HasClocks s w
-  pub agree : SitesAgree s w
-  pub funded : HasFunds s w
-  pub valid : HasValidLists s w
-  pub never_negative : IsNeverNegative s w
-  pub never_stuck : IsNeverStuck s w
-  pub trusts : TrustsItsOwn s w
-  pub catches_up : CanCatchUp s w
+  pub one_token : OneToken s w
+  pub red_blue : RedBlue s w
+  pub clocks : Clocks s w
+  pub agreement : Agreement s w
+  pub funds : Funds s w
+  pub valid_lists : ValidLists s w
+  pub never_negative : NeverNegative s w
+  pub never_stuck : NeverStuck s w
+  pub trusts_its_own : TrustsItsOwn s w
+  pub can_catch_up : CanCatchUp s w
 
 -- ---- a world as clients see it
 

@@ -1,10 +1,10 @@
-//! The sites of a bank, in one place.
+//! The sites of a bank, together.
 ghost use Rattle.std.specs.Prelude.{◌≡◌, ◌+◌, ◌≤◌, ◌++◌, Some, IsSomeAnd, IfSome, IfOk, IfErr, OnErr, All, is_some, length, false, map, option_map, slice_get, take, vec_len, vec_capacity};
 ghost use Rattle.std.specs.List.{range_with_len};
 ghost use Rattle.rb_site.specs.Events.{first_site, is_full};
 ghost use Rattle.rb_site.specs.Reports.{AreReports};
 ghost use Rattle.rb_site.specs.Seen.{state_of};
-ghost use Rattle.rb_site.specs.Histories.{place_of};
+ghost use Rattle.rb_site.specs.Histories.{site_of};
 ghost use Rattle.rb_site.specs.Worlds.{IsCommand, arrival, message_at};
 ghost use Rattle.rb_world.specs.Laws.{Holds, IsRunOf, next_replies, next_reply, next_world, next_worlds, opened};
 
@@ -20,7 +20,7 @@ use std::marker::Model;
 pub struct World<E: KeepsEntry = Entry, R: KeepsEvent = WorldEvent> {
     alloc: Global,
     config: Config,
-    seats: Vec<Site<E>>,
+    sites: Vec<Site<E>>,
     sent: Vec<Message>,
     recorded: Vec<R>,
     reports: Vec<SiteReport>,
@@ -35,18 +35,18 @@ impl<E: KeepsEntry, R: KeepsEvent> Model for World<E, R> {
 
     ghost view = { λ w. record {
       settings = w.config;
-      world = record { sites = map state_of w.seats.items; messages = w.sent.items };
+      world = record { sites = map state_of w.sites.items; messages = w.sent.items };
       events = map R.noted w.recorded.items;
     } };
 
     ghost invariant = { λ w. IsRunOf (record {
       settings = w.config;
-      world = record { sites = map state_of w.seats.items; messages = w.sent.items };
+      world = record { sites = map state_of w.sites.items; messages = w.sent.items };
       events = map R.noted w.recorded.items;
     })
-        × All (λ (x : SeenSite). x.settings ≡ w.config) w.seats.items
+        × All (λ (x : SeenSite). x.settings ≡ w.config) w.sites.items
         × (w.reports.items ≡ [])
-        × (length w.seats.items ≤ vec_capacity w.reports) };
+        × (length w.sites.items ≤ vec_capacity w.reports) };
 }
 
 impl World {
@@ -105,15 +105,15 @@ impl World {
         let World {
             alloc: _,
             config: _,
-            mut seats,
+            mut sites,
             sent: _,
             recorded: _,
             mut reports,
         } = self;
-        'seats: while let Some(site) = seats.pop() {
+        'sites: while let Some(site) = sites.pop() {
             reports.push_reserved(site.close());
         }
-        seats.destroy_empty();
+        sites.destroy_empty();
         reports.reverse();
         reports
     }
@@ -127,11 +127,11 @@ impl<E: KeepsEntry, R: KeepsEvent> World<E, R> {
     {
         let mut reports = Vec::new(alloc);
         reports.reserve(config.sites() as usize)?;
-        let seats = open_sites(alloc, &config)?;
+        let sites = open_sites(alloc, &config)?;
         Ok(World {
             alloc,
             config,
-            seats,
+            sites,
             sent: Vec::new(alloc),
             recorded: Vec::new(alloc),
             reports,
@@ -145,8 +145,8 @@ impl<E: KeepsEntry, R: KeepsEvent> World<E, R> {
         ensures ok { IfOk result (λ reply. (reply ≡ next_reply self.old event) × (self.new ≡ next_world self.old event)) }
         ensures err { OnErr result (self.new ≡ self.old) }
     {
-        let place = event.place();
-        let Some(site) = self.site(place) else {
+        let number = event.site();
+        let Some(site) = self.site(number) else {
             return Ok(Reply::Refused(Refusal::NoSite));
         };
         let full = site.is_full();
@@ -160,7 +160,7 @@ impl<E: KeepsEntry, R: KeepsEvent> World<E, R> {
         let Some(arrived) = self.arrival(event) else {
             unreachable!()
         };
-        self.record(place, arrived, noted)
+        self.record(number, arrived, noted)
     }
 
     /// Whether there is what an event brings to its site: a message of the number.
@@ -197,16 +197,16 @@ impl<E: KeepsEntry, R: KeepsEvent> World<E, R> {
     }
 
     /// A site takes an event for which its history has room.
-    fn record(&mut self, place: u8, arrived: Event, noted: R) -> Result<Reply, AllocError>
+    fn record(&mut self, site: u8, arrived: Event, noted: R) -> Result<Reply, AllocError>
         requires command { IsCommand (R.noted noted) }
-        requires place { place ≡ place_of (R.noted noted) }
+        requires site { site ≡ site_of (R.noted noted) }
         requires arrived { arrival self.old.world.messages (R.noted noted) ≡ Some arrived }
-        requires room { IsSomeAnd (slice_get self.old.world.sites place) (λ site. is_full self.old.settings site ≡ false) }
+        requires room { IsSomeAnd (slice_get self.old.world.sites site) (λ site. is_full self.old.settings site ≡ false) }
         ensures ok { IfOk result (λ reply. (reply ≡ next_reply self.old (R.noted noted)) × (self.new ≡ next_world self.old (R.noted noted))) }
         ensures err { OnErr result (self.new ≡ self.old) }
     {
         self.recorded.reserve(1)?;
-        let reply = self.seats[place as usize].step_onto(arrived, &mut self.sent)?;
+        let reply = self.sites[site as usize].step_onto(arrived, &mut self.sent)?;
         self.recorded.push_reserved(noted);
         Ok(reply)
     }
@@ -219,11 +219,11 @@ impl<E: KeepsEntry, R: KeepsEvent> World<E, R> {
     }
 
     /// A site, if there is one of that number.
-    pub fn site(&self, place: u8) -> Option<&Site<E>>
-        ensures state { option_map (λ site. state_of site.now) result ≡ slice_get self.now.world.sites place }
+    pub fn site(&self, site: u8) -> Option<&Site<E>>
+        ensures state { option_map (λ site. state_of site.now) result ≡ slice_get self.now.world.sites site }
         ensures settings { IfSome result (λ site. site.now.settings ≡ self.now.settings) }
     {
-        self.seats.get(place as usize)
+        self.sites.get(site as usize)
     }
 
     /// Every message that was ever sent, in order. Whatever happened, the laws of a world hold.
@@ -239,43 +239,43 @@ impl<E: KeepsEntry, R: KeepsEvent> World<E, R> {
         let World {
             alloc: _,
             config: _,
-            seats,
+            sites,
             sent: _,
             recorded: _,
             reports: _,
         } = self;
-        end_all(seats);
+        end_all(sites);
     }
 }
 
 /// A site for each number of the configuration.
 fn open_sites<E: KeepsEntry>(alloc: Global, config: &Config) -> Result<Vec<Site<E>>, AllocError>
-    ensures sites { IfOk result (λ seats. map state_of seats.items ≡ map first_site (range_with_len 0 config.now.sites)) }
-    ensures settings { IfOk result (λ seats. All (λ x. x.settings ≡ config.now) seats.items) }
-    ensures few { IfOk result (λ seats. length seats.items ≡ config.now.sites) }
+    ensures sites { IfOk result (λ sites. map state_of sites.items ≡ map first_site (range_with_len 0 config.now.sites)) }
+    ensures settings { IfOk result (λ sites. All (λ x. x.settings ≡ config.now) sites.items) }
+    ensures few { IfOk result (λ sites. length sites.items ≡ config.now.sites) }
 {
-    let mut seats = Vec::new(alloc);
-    let sites = config.sites();
-    if seats.reserve(sites as usize).is_err() {
-        seats.destroy_empty();
+    let mut sites = Vec::new(alloc);
+    let count = config.sites();
+    if sites.reserve(count as usize).is_err() {
+        sites.destroy_empty();
         return Err(AllocError);
     }
-    for me in 0..sites {
+    for me in 0..count {
         match Site::open_keeping(alloc, config, me) {
-            Ok(site) => seats.push_reserved(site),
+            Ok(site) => sites.push_reserved(site),
             Err(refused) => {
-                end_all(seats);
+                end_all(sites);
                 return Err(refused);
             }
         }
     }
-    Ok(seats)
+    Ok(sites)
 }
 
 /// Ends sites whose reports nobody asks for.
-fn end_all<E: KeepsEntry>(mut seats: Vec<Site<E>>) {
-    'seats: while let Some(site) = seats.pop() {
+fn end_all<E: KeepsEntry>(mut sites: Vec<Site<E>>) {
+    'sites: while let Some(site) = sites.pop() {
         site.end();
     }
-    seats.destroy_empty();
+    sites.destroy_empty();
 }

@@ -1,8 +1,9 @@
 use rb_commands::{LineFault, read_command, read_config};
+use rb_list::List;
 use rb_money::{Config, Place};
 use rb_scratch::Request;
 use rb_shadow::OpName;
-use rb_site::{Event, Requests, WorldEvent};
+use rb_site::{Event, WorldEvent};
 use std::alloc::Global;
 use std::test::Fail;
 
@@ -94,7 +95,7 @@ fn requests(rt: HostRuntime) -> Result<(), Fail> {
 }
 
 /// The site and the requests of a line that is a batch.
-fn batched(alloc: Global, config: &Config, line: &str) -> Option<(u8, Requests)> {
+fn batched(alloc: Global, config: &Config, line: &str) -> Option<(u8, List<Request>)> {
     match read_command(alloc, config, line) {
         Ok(WorldEvent::At(site, Event::Batch(requests))) => Some((site, requests)),
         _ => None,

@@ -1,10 +1,11 @@
 use rb_commands::{LineFault, read_config};
 use rb_history::{append_line, read_line, write_config, write_line};
+use rb_list::List;
 use rb_money::{Cause, Config, MOST_SITES, Place, Refusal};
 use rb_scratch::Request;
 use rb_shadow::{Deps, Kind, Label, OpName, Shadow};
-use rb_site::{Entry, Event, Message, OpNames, Reply, Requests};
-use rb_statements::{Row, Rows, Statement};
+use rb_site::{Entry, Event, Message, Reply};
+use rb_statements::{Row, Statement};
 use rb_token::TokenMessage;
 use std::alloc::Global;
 use std::test::Fail;
@@ -66,8 +67,8 @@ fn asked_events(rt: HostRuntime) -> Result<(), Fail> {
         rate: 4294967295,
     };
     let cancel = Request::Cancel { target: RED };
-    let some = Requests::new(Vec::from_slice(rt.alloc(), &[deposit, cancel])?);
-    let none = Requests::new(Vec::new(rt.alloc()));
+    let some = List::new(Vec::from_slice(rt.alloc(), &[deposit, cancel])?);
+    let none = List::new(Vec::new(rt.alloc()));
     for (text, event) in [
         ("{\"deposit\":[\"ann\",500]}", Event::Submit(deposit)),
         (
@@ -163,7 +164,7 @@ fn answers(rt: HostRuntime) -> Result<(), Fail> {
         name: BLUE,
         kind: Label::Deposit,
     };
-    let names = OpNames::new(Vec::from_slice(rt.alloc(), &[BLUE, RED])?);
+    let names = List::new(Vec::from_slice(rt.alloc(), &[BLUE, RED])?);
     let row = Row {
         position: 2,
         name: RED,
@@ -182,7 +183,7 @@ fn answers(rt: HostRuntime) -> Result<(), Fail> {
     };
     let shown = Statement {
         start: 0,
-        rows: Rows::new(Vec::from_slice(rt.alloc(), &[row, kept])?),
+        rows: List::new(Vec::from_slice(rt.alloc(), &[row, kept])?),
         balance: 10,
     };
     for (text, reply) in [

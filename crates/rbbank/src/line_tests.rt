@@ -1,8 +1,9 @@
 use rb_commands::{LineFault, read_config, write_reply};
+use rb_list::List;
 use rb_money::{Cause, Limits, Place, Refusal};
 use rb_shadow::{Label, OpName};
-use rb_site::{OpNames, Reply};
-use rb_statements::{Row, Rows, Statement};
+use rb_site::Reply;
+use rb_statements::{Row, Statement};
 use std::test::Fail;
 
 const FIRST: OpName = OpName::Blue { site: 0, n: 1 };
@@ -66,7 +67,7 @@ fn kinds(rt: HostRuntime) -> Result<(), Fail> {
 #[test]
 fn names(rt: HostRuntime) -> Result<(), Fail> {
     let made = Vec::from_array(rt.alloc(), [SECOND, RED])?;
-    let text = write_reply(rt.alloc(), &Reply::Names(OpNames::new(made)))?;
+    let text = write_reply(rt.alloc(), &Reply::Names(List::new(made)))?;
     assert_eq!(rt; text.as_str(), "{\"names\":[\"B0.2\",\"R1\"]}\n");
     Ok(())
 }
@@ -96,7 +97,7 @@ fn statements(rt: HostRuntime) -> Result<(), Fail> {
     )?;
     let shown = Statement {
         start: 0,
-        rows: Rows::new(rows),
+        rows: List::new(rows),
         balance: 0,
     };
     let text = write_reply(rt.alloc(), &Reply::Statement(shown))?;
@@ -111,7 +112,7 @@ fn statements(rt: HostRuntime) -> Result<(), Fail> {
 fn statement_of_nothing(rt: HostRuntime) -> Result<(), Fail> {
     let shown = Statement {
         start: 7,
-        rows: Rows::new(Vec::new(rt.alloc())),
+        rows: List::new(Vec::new(rt.alloc())),
         balance: 7,
     };
     let text = write_reply(rt.alloc(), &Reply::Statement(shown))?;

@@ -7,11 +7,12 @@ use crate::rows::{ROWS, Row, two_hundred_backwards};
 use crate::to_writer::ToWriter;
 use rb_commands::{LineFault, read_command, read_config, write_reply};
 use rb_ledger::Ledger;
+use rb_list::List;
 use rb_money::{Config, Place};
 use rb_scratch::Request;
 use rb_script::run_script;
 use rb_shadow::{OpName, Shadow};
-use rb_site::{Event, OpNames, Reply, Requests, SiteReport, WorldEvent};
+use rb_site::{Event, Reply, SiteReport, WorldEvent};
 use rb_undo::UndoLog;
 use rb_world::World;
 use std::alloc::{AllocError, Global};
@@ -203,14 +204,14 @@ fn copies_of_lists(rt: HostRuntime) -> Result<(), Fail> {
             target: OpName::Red { n: 1 },
         },
     ];
-    let batch = Event::Batch(Requests::new(Vec::from_array(alloc, asked)?));
+    let batch = Event::Batch(List::new(Vec::from_array(alloc, asked)?));
     let copy = batch.try_copy(alloc)?;
     let Event::Batch(requests) = copy else {
         return Err(Fail::from("no batch"));
     };
     assert_eq!(rt; requests.into_vec().as_slice(), asked.as_slice());
     let made = [OpName::Blue { site: 0, n: 1 }, OpName::Red { n: 1 }];
-    let names = Reply::Names(OpNames::new(Vec::from_array(alloc, made)?));
+    let names = Reply::Names(List::new(Vec::from_array(alloc, made)?));
     let copy = names.try_copy(alloc)?;
     let Reply::Names(names) = copy else {
         return Err(Fail::from("no names"));

@@ -1,4 +1,4 @@
-use Rattle.rb_shadow.proofs.Balances
+use Rattle.rb_shadow.proofs.Public.Balances
 use Rattle.rb_shadow.proofs.cancellation_commutes.Goals as goal
 
 pub returns : goal.returns

@@ -3,13 +3,13 @@ use Rattle.std.proofs.Common.{◌∙◌, sym, refl, false}
 use Rattle.rb_auditor.specs.Findings.{IsFirstWrong, lists_of}
 use Rattle.rb_auditor.proofs.Listed
 use Rattle.rb_auditor.proofs.Refuting
-use Rattle.rb_auditor.proofs.Stepping
+use Rattle.rb_auditor.proofs.Public.Lengths
 use Rattle.rb_auditor.proofs.checking.check.Goals as goal
 
 pub returns-then-histories-sites : goal.returns-then-histories-sites
 returns-then-histories-sites c = (
   λ t. absurd (Listed.not_false false refl t),
-  λ cert. absurd (c.if-histories-sites.true (sym (Stepping.length_lists c.args.histories.now) ∙ Refuting.one_for_each c.args.config.now (lists_of c.args.histories.now) c.args.certificate.now cert ∙ sym c.sites.ensures.same)),
+  λ cert. absurd (c.if-histories-sites.true (sym (Lengths.length_lists c.args.histories.now) ∙ Refuting.one_for_each c.args.config.now (lists_of c.args.histories.now) c.args.certificate.now cert ∙ sym c.sites.ensures.same)),
 )
 
 pub returns-in-Err-WrongReply : goal.returns-in-Err-WrongReply

@@ -1,23 +1,23 @@
--- Each place is looked at.
+-- Each position is looked at.
 use Rattle.std.proofs.Common.{◌≡◌, ◌∙◌, ◌<◌, IsTrue, ap, sym, subst, arith, slice_get, get_or, length, inl, inr}
 use Rattle.std.proofs.lemmas.Option.{get_or_from_slice_get, slice_get_within}
-use Rattle.rb_site.proofs.Places.{same_number}
-use Rattle.rb_site.proofs.Stuck
+use Rattle.rb_site.proofs.Public.Places.{same_number}
+use Rattle.rb_site.proofs.Public.Stuck
 use Rattle.rb_auditor.proofs.Listed
 use Rattle.rb_auditor.proofs.listing.is_at_one.Goals as goal
 
 pub returns-then-is_at-clause-known : goal.returns-then-is_at-clause-known
-returns-then-is_at-clause-known c = λ yes. Stuck.at_place c.args.messages.now (get_or c.args.places.now c.loop-place.place-index 0) c.args.message.now (c.is_at.ensures.0 (subst IsTrue (sym c.if-is_at.true) yes))
+returns-then-is_at-clause-known c = λ yes. Stuck.at_place c.args.messages.now (get_or c.args.positions.now c.loop-position.position-index 0) c.args.message.now (c.is_at.ensures.0 (subst IsTrue (sym c.if-is_at.true) yes))
 
-pub loop-place-preserved : goal.loop-place-preserved
-loop-place-preserved c = λ k place less at known. elim (same_number c.loop-place.place-index k) [
+pub loop-position-preserved : goal.loop-position-preserved
+loop-position-preserved c = λ k position less at known. elim (same_number c.loop-position.position-index k) [
   | inl e ↦
-      let here : get_or c.args.places.now c.loop-place.place-index 0 ≡ place = get_or_from_slice_get c.args.places.now c.loop-place.place-index place 0 (ap (slice_get c.args.places.now) (sym e) ∙ at) in
+      let here : get_or c.args.positions.now c.loop-position.position-index 0 ≡ position = get_or_from_slice_get c.args.positions.now c.loop-position.position-index position 0 (ap (slice_get c.args.positions.now) (sym e) ∙ at) in
       Listed.not_false c.is_at.result c.if-is_at.false (c.is_at.ensures.1 (ap (slice_get c.args.messages.now) here ∙ known))
-  | inr ne ↦ c.loop-place.invariant k place (omega arith) at known
+  | inr ne ↦ c.loop-position.invariant k position (omega arith) at known
 ]
 
 pub returns-clause-found : goal.returns-clause-found
-returns-clause-found c = λ k place at known.
-    let within : k < length c.args.places.now = slice_get_within c.args.places.now k place at in
-    absurd (c.loop-place.invariant k place (omega arith) at known)
+returns-clause-found c = λ k position at known.
+    let within : k < length c.args.positions.now = slice_get_within c.args.positions.now k position at in
+    absurd (c.loop-position.invariant k position (omega arith) at known)

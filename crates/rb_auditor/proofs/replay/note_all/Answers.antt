@@ -2,14 +2,14 @@
 use Rattle.std.proofs.Common.{◌≡◌, ◌∙◌, ◌+◌, ◌*◌, ◌<◌, ◌≤◌, ◌++◌, ◌∷◌, [], ap, sym, subst, arith, length}
 use Rattle.rb_scratch.specs.declared.request.TheConstants.{MOST_REQUESTS}
 use Rattle.rb_money.specs.declared.limits.TheConstants.{MOST_HISTORY}
-use Rattle.rb_auditor.specs.Replays.{IsNoted}
+use Rattle.rb_auditor.specs.Replays.{RecordsEntry}
 use Rattle.rb_auditor.proofs.Replaying
 use Rattle.rb_auditor.proofs.Replaying.{IsReplaying}
 use Rattle.rb_auditor.proofs.replay.note_all.Goals as goal
 
 pub overflow_cast-len : goal.overflow_cast-len
 overflow_cast-len c =
-    let noted : IsNoted c.loop-k.site c.note.new.site c.index-history-k.result c.loop-k.messages.items c.note.new.messages.items = rw c.if-not-noted.false at c.in-Ok.ensures in
+    let noted : RecordsEntry c.loop-k.site c.note.new.site c.index-history-k.result c.loop-k.messages.items c.note.new.messages.items = rw c.if-not-noted.false at c.in-Ok.ensures in
     let more = Replaying.replaying_more c.args.config.now c.me-me.result c.args.history.now c.loop-k.k c.index-history-k.result c.loop-k.site c.note.new.site c.loop-k.messages.items c.note.new.messages.items c.loop-k.ends.items c.loop-k-test.true c.index-history-k.is c.loop-k.invariant.replaying noted in
     let less : c.loop-k.k < length c.args.history.now = c.loop-k-test.true in
     let fits = Replaying.counts_fit c.args.config.now c.me-me.result c.args.history.now (c.loop-k.k + 1) c.note.new.site c.note.new.messages.items (c.loop-k.ends.items ++ length c.note.new.messages.items ∷ []) c.requires.configured (omega arith) more in
@@ -19,7 +19,7 @@ overflow_cast-len c =
 
 pub loop-k-preserved : goal.loop-k-preserved
 loop-k-preserved c =
-    let noted : IsNoted c.loop-k.site c.note.new.site c.index-history-k.result c.loop-k.messages.items c.note.new.messages.items = rw c.if-not-noted.false at c.in-Ok.ensures in
+    let noted : RecordsEntry c.loop-k.site c.note.new.site c.index-history-k.result c.loop-k.messages.items c.note.new.messages.items = rw c.if-not-noted.false at c.in-Ok.ensures in
     let size : c.len.result ≡ length c.note.new.messages.items = c.len.ensures ∙ c.note.new.messages.ok.0 in
     record {
       replaying =

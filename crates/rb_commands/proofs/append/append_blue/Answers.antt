@@ -1,5 +1,5 @@
 use Rattle.std.proofs.Common.{◌++◌, codes, decimal, append_assoc}
-use Rattle.rb_commands.proofs.Appended.{then}
+use Rattle.rb_commands.proofs.Public.Appended.{then}
 use Rattle.rb_commands.proofs.append.append_blue.Goals as goal
 
 pub returns : goal.returns

@@ -1,7 +1,7 @@
 use Rattle.std.proofs.Common.{append_assoc}
 use Rattle.json.specs.Print.{quoted}
 use Rattle.rb_shadow.specs.NameText.{name_text}
-use Rattle.rb_commands.proofs.Appended.{both, then}
+use Rattle.rb_commands.proofs.Public.Appended.{both, then}
 use Rattle.rb_commands.proofs.append.append_named.Goals as goal
 
 pub returns : goal.returns

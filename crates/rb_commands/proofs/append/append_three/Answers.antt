@@ -1,5 +1,5 @@
 use Rattle.std.proofs.Common.{append_assoc}
-use Rattle.rb_commands.proofs.Appended.{both, then}
+use Rattle.rb_commands.proofs.Public.Appended.{both, then}
 use Rattle.rb_commands.proofs.append.append_three.Goals as goal
 
 pub returns : goal.returns

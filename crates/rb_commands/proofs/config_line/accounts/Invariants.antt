@@ -3,7 +3,7 @@ use Rattle.std.specs.Prelude.{map}
 use Rattle.serde_json.specs.View.{items_view}
 use Rattle.rb_commands.specs.Configurations.{accounts_in}
 use Rattle.rb_money.specs.Faults.{account_of}
-use Rattle.rb_commands.proofs.Fronts.{with_front}
+use Rattle.rb_commands.proofs.Public.Reading.{with_front}
 use Rattle.rb_commands.proofs.config_line.accounts.Given as goal
 
 abbrev pub invariant-loop-item : goal.invariant-loop-item

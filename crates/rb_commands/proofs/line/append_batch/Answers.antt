@@ -2,8 +2,8 @@ use Rattle.std.proofs.Common.{◌++◌, codes, decimal, append_assoc}
 use Rattle.json.specs.Print.{escape_byte}
 use Rattle.serde_json.specs.Written.{compact_text}
 use Rattle.rb_commands.specs.Replies.{cause_json}
-use Rattle.rb_commands.proofs.Appended.{then}
-use Rattle.rb_commands.proofs.Numerals.{thirteen}
+use Rattle.rb_commands.proofs.Public.Appended.{then}
+use Rattle.rb_commands.proofs.Public.Numerals.{thirteen}
 use Rattle.rb_commands.proofs.line.append_batch.Goals as goal
 
 pub returns : goal.returns

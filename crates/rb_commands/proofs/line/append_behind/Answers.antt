@@ -1,7 +1,7 @@
 use Rattle.std.proofs.Common.{◌++◌, codes, decimal, append_assoc}
 use Rattle.json.specs.Print.{escape_byte}
-use Rattle.rb_commands.proofs.Appended.{then}
-use Rattle.rb_commands.proofs.Numerals.{nine}
+use Rattle.rb_commands.proofs.Public.Appended.{then}
+use Rattle.rb_commands.proofs.Public.Numerals.{nine}
 use Rattle.rb_commands.proofs.line.append_behind.Goals as goal
 
 pub returns : goal.returns

@@ -1,5 +1,5 @@
 use Rattle.json.specs.Print.{escape_byte}
-use Rattle.rb_commands.proofs.Numerals.{six, seventeen}
+use Rattle.rb_commands.proofs.Public.Numerals.{six, seventeen}
 use Rattle.rb_commands.proofs.line.append_refusal.Goals as goal
 
 pub returns-in-AlreadyCancelled : goal.returns-in-AlreadyCancelled

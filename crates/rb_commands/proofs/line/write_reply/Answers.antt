@@ -1,6 +1,6 @@
 use Rattle.std.proofs.Common.{◌≡◌, IsUtf8, false, true, rules, sym, subst}
 use Rattle.rb_commands.specs.Replies.{line}
-use Rattle.rb_commands.proofs.Utf8.{line_utf8}
+use Rattle.rb_commands.proofs.Public.Utf8.{line_utf8}
 use Rattle.rb_commands.proofs.line.write_reply.Goals as goal
 
 pub unreachable-requires : goal.unreachable-requires

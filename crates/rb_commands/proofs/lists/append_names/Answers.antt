@@ -1,10 +1,9 @@
-use Rattle.std.proofs.Common.{◌++◌, codes, [], ap, sym, ◌∙◌, append_assoc, add-one, drop-cons, arith, rules}
-use Rattle.std.specs.Prelude.{map}
+use Rattle.std.proofs.Common.{codes, add-one, drop-cons, arith, rules}
 use Rattle.json.specs.Print.{escape_byte}
 use Rattle.rb_shadow.specs.declared.op_name.OpName.TheVariants.{Blue}
 use Rattle.rb_commands.specs.Values.{name_json}
-use Rattle.rb_commands.proofs.Appended.{front_of_front, front_of_sum, then}
-use Rattle.rb_commands.proofs.Listed.{rest_text, whole_text, item_written, items_written}
+use Rattle.rb_commands.proofs.Public.Appended.{front_of_front, front_of_sum}
+use Rattle.rb_commands.proofs.Public.Listed.{item_written, list_between}
 use Rattle.rb_commands.proofs.lists.append_names.Goals as goal
 
 pub loop-name-preserved : goal.loop-name-preserved
@@ -21,11 +20,4 @@ loop-name-preserved c =
 
 pub returns : goal.returns
 unfolding escape_byte
-returns c =
-    let old = c.args.out.now.items in
-    let out = c.loop-name.out.items in
-    let list = rest_text [] (map name_json c.args.names.now) in
-    let front = codes "{\"names\":[" in
-    let all = items_written name_json out c.loop-name.comma.now ((old ++ front) ++ list) c.args.names.now c.loop-name.name-index (omega arith) c.loop-name.invariant.written ∙ append_assoc old front list in
-    then c.append-2.result old out c.append-2.new.out.items (front ++ list) (codes "]}") _ all c.append-2.ensures
-    (append_assoc front list (codes "]}") ∙ ap (λ l. front ++ l) (sym (append_assoc list (codes "]") (codes "}")) ∙ ap (λ l. l ++ codes "}") (whole_text (map name_json c.args.names.now))))
+returns c = list_between name_json c.append-2.result c.args.out.now.items c.loop-name.out.items c.append-2.new.out.items c.loop-name.comma.now (codes "{\"names\":[") (codes "}") c.args.names.now c.loop-name.name-index (omega arith) c.loop-name.invariant.written c.append-2.ensures

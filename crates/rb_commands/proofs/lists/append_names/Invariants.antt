@@ -3,7 +3,7 @@ use Rattle.std.specs.Prelude.{map}
 use denote.Text.{Utf8}
 use denote.Shadow.{shadow}
 use Rattle.rb_commands.specs.Values.{name_json}
-use Rattle.rb_commands.proofs.Listed.{rest_text}
+use Rattle.rb_commands.proofs.Public.Listed.{rest_text}
 use Rattle.rb_commands.proofs.lists.append_names.Given as goal
 
 abbrev pub invariant-loop-name : goal.invariant-loop-name

@@ -1,18 +1,13 @@
-use Rattle.std.proofs.Common.{◌≡◌, ◌++◌, codes, decimal, append_assoc, ap, ◌∙◌, sym, refl, List, ℕ, ℤ, pos, negsuc}
+use Rattle.std.proofs.Common.{◌≡◌, ◌++◌, codes, decimal, append_assoc, ap, ◌∙◌, sym, List, ℕ}
 use Rattle.std.specs.Fmt.{signed_decimal}
 use Rattle.json.specs.Print.{token_text, quoted}
 use Rattle.json.specs.Token.{boolean}
-use Rattle.serde_json.specs.Find.{of_integer}
-use Rattle.serde_json.specs.Written.{number_text}
 use Rattle.rb_shadow.specs.NameText.{name_text}
 use Rattle.rb_commands.specs.Values.{label_text}
-use Rattle.rb_commands.proofs.Appended.{then}
-use Rattle.rb_commands.proofs.Plain.{quoted_label}
+use Rattle.rb_commands.proofs.Public.Appended.{then}
+use Rattle.rb_commands.proofs.Public.Numerals.{integer_text}
+use Rattle.rb_commands.proofs.Public.Plain.{quoted_label}
 use Rattle.rb_commands.proofs.lists.append_row.Goals as goal
-
-integer_text : (z : ℤ) → number_text (of_integer z) ≡ signed_decimal z
-integer_text (pos n) = refl
-integer_text (negsuc n) = refl
 
 row_text : (comma position name label moved cancelled balance : List ℕ)
     → (comma ++ (codes "[" ++ (position ++ (codes "," ++ (name ++ codes ","))))) ++ (codes "\"" ++ (label ++ (codes "\"," ++ (moved ++ (codes "," ++ (cancelled ++ (codes "," ++ (balance ++ codes "]"))))))))

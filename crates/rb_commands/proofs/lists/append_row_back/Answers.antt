@@ -3,7 +3,7 @@ use Rattle.std.specs.Fmt.{signed_decimal}
 use Rattle.json.specs.Print.{token_text}
 use Rattle.json.specs.Token.{boolean}
 use Rattle.rb_commands.specs.Values.{label_text}
-use Rattle.rb_commands.proofs.Appended.{both, then, failed}
+use Rattle.rb_commands.proofs.Public.Appended.{both, then, failed}
 use Rattle.rb_commands.proofs.lists.append_row_back.Goals as goal
 
 pub returns-in_err-append_integer : goal.returns-in_err-append_integer

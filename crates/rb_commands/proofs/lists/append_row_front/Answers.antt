@@ -1,7 +1,7 @@
 use Rattle.std.proofs.Common.{◌++◌, codes, decimal, append_assoc}
 use Rattle.json.specs.Print.{quoted}
 use Rattle.rb_shadow.specs.NameText.{name_text}
-use Rattle.rb_commands.proofs.Appended.{both, then}
+use Rattle.rb_commands.proofs.Public.Appended.{both, then}
 use Rattle.rb_commands.proofs.lists.append_row_front.Goals as goal
 
 pub returns : goal.returns

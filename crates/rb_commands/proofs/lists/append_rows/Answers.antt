@@ -1,8 +1,8 @@
 use Rattle.std.proofs.Common.{◌++◌, codes, [], add-one, drop-cons, arith, rules}
 use Rattle.std.specs.Prelude.{map}
 use Rattle.rb_commands.specs.Statements.{row_json}
-use Rattle.rb_commands.proofs.Appended.{front_of_front, front_of_sum, then}
-use Rattle.rb_commands.proofs.Listed.{rest_text, whole_text, item_written, items_written}
+use Rattle.rb_commands.proofs.Public.Appended.{front_of_front, front_of_sum, then}
+use Rattle.rb_commands.proofs.Public.Listed.{rest_text, whole_text, item_written, items_written}
 use Rattle.rb_commands.proofs.lists.append_rows.Goals as goal
 
 pub loop-row-preserved : goal.loop-row-preserved

@@ -4,7 +4,7 @@ use Rattle.serde_json.specs.View.{items_of}
 use Rattle.serde_json.specs.Written.{items_text}
 use Rattle.json.specs.Print.{escape_byte}
 use Rattle.rb_commands.specs.Statements.{row_json}
-use Rattle.rb_commands.proofs.Appended.{both, then, failed}
+use Rattle.rb_commands.proofs.Public.Appended.{both, then, failed}
 use Rattle.rb_commands.proofs.lists.append_statement.Goals as goal
 
 five : (a b d e f : List ℕ) → ((a ++ (b ++ d)) ++ e) ++ f ≡ a ++ (b ++ (d ++ (e ++ f)))

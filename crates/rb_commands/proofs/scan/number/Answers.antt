@@ -1,6 +1,6 @@
 use Rattle.std.proofs.Common.{decimal}
 use Rattle.rb_commands.proofs.Scanned.{cut_behind}
-use Rattle.rb_commands.proofs.Utf8.{decimal_utf8}
+use Rattle.rb_commands.proofs.Public.Utf8.{decimal_utf8}
 use Rattle.rb_commands.proofs.scan.number.Goals as goal
 
 pub range_from-requires : goal.range_from-requires

@@ -1,6 +1,6 @@
 use Rattle.std.proofs.Common.{sym}
 use Rattle.rb_commands.specs.Values.{name_json}
-use Rattle.rb_commands.proofs.Back.{back}
+use Rattle.rb_commands.proofs.Public.Reading.{back}
 use Rattle.rb_commands.proofs.UsualLines.{account_tells, pair_tells, operation_tells, number_tells}
 use Rattle.rb_commands.proofs.usual.tell.Goals as goal
 

@@ -1,5 +1,5 @@
 use Rattle.std.proofs.Common.{◌≡◌, ◌++◌, List, ℕ, codes, decimal, append_assoc}
-use Rattle.rb_commands.proofs.Appended.{then}
+use Rattle.rb_commands.proofs.Public.Appended.{then}
 use Rattle.rb_history.proofs.config_write.append_end.Goals as goal
 
 end_text : (sites version : List ℕ) → (sites ++ codes ",\"version\":") ++ (version ++ codes "}") ≡ sites ++ (codes ",\"version\":" ++ (version ++ codes "}"))

@@ -1,8 +1,8 @@
 use Rattle.std.proofs.Common.{◌++◌, codes, [], get_or, ap, ◌∙◌, append_assoc, append-nil, add-one, drop-cons, sym, arith, rules}
 use Rattle.std.specs.Prelude.{map}
-use Rattle.rb_commands.proofs.Appended.{front_of_front, front_of_sum, then}
-use Rattle.rb_commands.proofs.Listed.{rest_text, whole_text}
-use Rattle.rb_history.specs.Counts.{numbered, numbered_json}
+use Rattle.rb_commands.proofs.Public.Appended.{front_of_front, front_of_sum, then}
+use Rattle.rb_commands.proofs.Public.Listed.{rest_text, whole_text}
+use Rattle.rb_history.specs.Counts.{numbered_from, numbered_json}
 use Rattle.rb_history.proofs.Numbered.{numbered_end, one_written}
 use Rattle.rb_history.proofs.counts.append_numbered.Goals as goal
 
@@ -24,7 +24,7 @@ returns c =
     let old = c.args.out.now.items in
     let out = c.loop-site.out.items in
     let counts = c.args.counts.now in
-    let values = map numbered_json (numbered 0 counts) in
+    let values = map numbered_json (numbered_from 0 counts) in
     let list = rest_text [] values in
     let front = codes "[" in
     let none = ap (λ ps. out ++ rest_text c.loop-site.comma.now (map numbered_json ps)) (sym (numbered_end counts c.loop-site.site (omega arith))) in

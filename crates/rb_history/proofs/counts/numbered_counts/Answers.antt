@@ -3,7 +3,7 @@ use Rattle.std.specs.Prelude.{replicate}
 use Rattle.std.proofs.lemmas.List.{drop_all}
 use Rattle.serde_json.specs.View.{items_view, view}
 use Rattle.rb_money.specs.declared.limits.TheConstants.{MOST_SITES}
-use Rattle.rb_commands.proofs.Fronts.{with_front}
+use Rattle.rb_commands.proofs.Public.Reading.{with_front}
 use Rattle.rb_history.specs.Counts.{numbered_in}
 use Rattle.rb_history.proofs.Numbered.{all_read, none_behind, one_read, with_none}
 use Rattle.rb_history.proofs.counts.numbered_counts.Goals as goal

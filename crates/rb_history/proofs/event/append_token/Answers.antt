@@ -1,6 +1,6 @@
 use Rattle.std.proofs.Common.{◌≡◌, ◌++◌, List, ℕ, codes, decimal, append_assoc}
 use Rattle.json.specs.Print.{escape_byte}
-use Rattle.rb_commands.proofs.Appended.{both, failed, then}
+use Rattle.rb_commands.proofs.Public.Appended.{both, failed, then}
 use Rattle.rb_history.proofs.event.append_token.Goals as goal
 
 token_text : (epoch to red : List ℕ) → ((codes "{\"token\":[" ++ (epoch ++ codes ",")) ++ (to ++ codes ",")) ++ (red ++ codes "]}") ≡ codes "{\"token\":" ++ ((codes "[" ++ (epoch ++ (codes "," ++ (to ++ (codes "," ++ (red ++ codes "]")))))) ++ codes "}")

@@ -1,10 +1,9 @@
-use Rattle.std.proofs.Common.{◌≡◌, ◌++◌, List, ℕ, [], codes, decimal, ap, ◌∙◌, append_assoc, append-nil}
+use Rattle.std.proofs.Common.{◌≡◌, ◌++◌, List, ℕ, [], codes, decimal, ap, ◌∙◌, append_assoc, append-nil, true}
 use Rattle.serde_json.specs.Written.{compact_text, members_text}
-use Rattle.std.proofs.Common.{true}
 use Rattle.rb_shadow.specs.Labels.{label_of}
 use Rattle.rb_history.specs.Entries.{target_json}
 use Rattle.rb_commands.specs.Values.{label_text, name_json}
-use Rattle.rb_commands.proofs.Appended.{both, failed, then}
+use Rattle.rb_commands.proofs.Public.Appended.{both, failed, then}
 use Rattle.rb_history.proofs.shadow.append_back.Goals as goal
 
 back_text : (home kind name target : List ℕ) → ((codes ",\"home\":" ++ (home ++ (codes ",\"kind\":\"" ++ (kind ++ codes "\",\"name\":")))) ++ (name ++ [])) ++ target ≡ codes ",\"home\":" ++ (home ++ (codes ",\"kind\":\"" ++ (kind ++ (codes "\",\"name\":" ++ (name ++ target)))))

@@ -1,7 +1,7 @@
 use Rattle.std.proofs.Common.{◌≡◌, ◌++◌, List, ℕ, [], codes, decimal, ap, ◌∙◌, append_assoc, append-nil}
 use Rattle.serde_json.specs.Written.{compact_text}
 use Rattle.rb_history.specs.Entries.{account_json, deps_json}
-use Rattle.rb_commands.proofs.Appended.{both, then}
+use Rattle.rb_commands.proofs.Public.Appended.{both, then}
 use Rattle.rb_history.proofs.shadow.append_front.Goals as goal
 
 front_text : (account amount deps : List ℕ) → ((codes "{\"shadow\":{\"account\":" ++ (account ++ [])) ++ (codes ",\"amount\":" ++ (amount ++ codes ",\"deps\":"))) ++ deps ≡ codes "{\"shadow\":{\"account\":" ++ (account ++ (codes ",\"amount\":" ++ (amount ++ (codes ",\"deps\":" ++ deps))))

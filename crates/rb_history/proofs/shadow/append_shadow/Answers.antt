@@ -4,8 +4,8 @@ use Rattle.serde_json.specs.Written.{compact_text, members_text}
 use Rattle.rb_shadow.specs.Labels.{label_of}
 use Rattle.rb_history.specs.Entries.{account_json, deps_json, target_json}
 use Rattle.rb_commands.specs.Values.{label_text, name_json}
-use Rattle.rb_commands.proofs.Appended.{both, failed, then}
-use Rattle.rb_commands.proofs.Plain.{quoted_label}
+use Rattle.rb_commands.proofs.Public.Appended.{both, failed, then}
+use Rattle.rb_commands.proofs.Public.Plain.{quoted_label}
 use Rattle.rb_history.proofs.shadow.append_shadow.Goals as goal
 
 shadow_text : (account amount deps home kind name target : List ℕ)

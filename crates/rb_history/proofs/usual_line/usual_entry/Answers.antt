@@ -2,7 +2,7 @@ use Rattle.std.proofs.Common.{◌≡◌, ◌<◌, ◌++◌, [], codes, decimal, 
 use Rattle.json.specs.Print.{escape_byte}
 use Rattle.serde_json.specs.Written.{compact_text}
 use Rattle.rb_commands.specs.Replies.{reply_json}
-use Rattle.rb_history.specs.Entries.{entry_at, event_json}
+use Rattle.rb_history.specs.Entries.{entry_of_line, event_json}
 use Rattle.rb_history.proofs.EntryLine.{entry_line}
 use Rattle.rb_history.proofs.usual_line.usual_entry.Goals as goal
 
@@ -24,4 +24,4 @@ returns-clause-value c =
     (c.in_ok-after-2.ensures ∙ ap (λ l. codes ",\"reply\":" ++ l)
     (c.in_ok-reply.ensures.1 ∙ ap (λ l. reply_text ++ l)
     (c.in_ok-site.ensures.1 ∙ ap (λ l. site_text ++ l) last ∙ append-nil site_text)))) in
-    ap (entry_at s) text ∙ entry_line s c.sites.ensures.configured site (record { event = event; reply = reply }) within c.in_ok-event.ensures.0 c.in_ok-reply.ensures.0
+    ap (entry_of_line s) text ∙ entry_line s c.sites.ensures.configured site (record { event = event; reply = reply }) within c.in_ok-event.ensures.0 c.in_ok-reply.ensures.0

@@ -1,4 +1,4 @@
-use Rattle.rb_commands.proofs.Numerals.{seventeen}
+use Rattle.rb_commands.proofs.Public.Numerals.{seventeen}
 use Rattle.json.specs.Print.{escape_byte}
 use Rattle.rb_history.proofs.usual_refusal.message.Goals as goal
 

@@ -1,17 +1,12 @@
-use Rattle.std.proofs.Common.{◌≡◌, to_z, of_z, w64, rules, ◌++◌, List, ℕ, ℤ, pos, negsuc, codes, decimal, refl, ap, sym, ◌∙◌, append_assoc}
+use Rattle.std.proofs.Common.{◌≡◌, to_z, of_z, w64, rules, ◌++◌, List, ℕ, codes, decimal, ap, sym, ◌∙◌, append_assoc}
 use Rattle.std.specs.Fmt.{signed_decimal}
 use Rattle.json.specs.Print.{token_text}
 use Rattle.json.specs.Token.{boolean}
-use Rattle.serde_json.specs.Find.{of_integer}
-use Rattle.serde_json.specs.Written.{number_text}
 use Rattle.rb_shadow.specs.NameText.{name_text}
 use Rattle.rb_commands.specs.Values.{label_text}
+use Rattle.rb_commands.proofs.Public.Numerals.{integer_text}
 use Rattle.rb_history.specs.Tells.{behind_quote}
 use Rattle.rb_history.proofs.usual_shown.row.Goals as goal
-
-integer_text : (z : ℤ) → number_text (of_integer z) ≡ signed_decimal z
-integer_text (pos n) = refl
-integer_text (negsuc n) = refl
 
 row_text : (position name kind moved cancelled balance rest : List ℕ)
     → (codes "[" ++ (position ++ codes ",\"")) ++ (name ++ (codes ",\"" ++ (kind ++ (codes "," ++ (moved ++ (codes "," ++ (cancelled ++ ((codes "," ++ (balance ++ codes "]")) ++ rest))))))))

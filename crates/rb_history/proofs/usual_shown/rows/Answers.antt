@@ -1,6 +1,6 @@
 use Rattle.std.proofs.Common.{◌≡◌, [], ◌∷◌, ◌++◌, codes, sym, subst, rules}
 use Rattle.rb_commands.specs.Statements.{row_json}
-use Rattle.rb_history.specs.Fits.{Each, IsRow}
+use Rattle.rb_history.specs.Fits.{Each, IsStatementRow}
 use Rattle.rb_history.proofs.ListRead.{BeginsWith, all_read, each_more, one_more}
 use Rattle.rb_history.proofs.usual_shown.rows.Goals as goal
 
@@ -20,7 +20,7 @@ loop-preserved c =
     record {
       left = search rules;
       comma = search rules;
-      fit = subst (Each IsRow) (sym pushed) (each_more IsRow rows made.row c.loop.invariant.fit made.ensures.0);
+      fit = subst (Each IsStatementRow) (sym pushed) (each_more IsStatementRow rows made.row c.loop.invariant.fit made.ensures.0);
       read = subst (BeginsWith row_json text made.rest.now (codes ",")) (sym pushed) (one_more row_json text c.loop.left.now c.loop.comma.now c.in_ok-after.field-0.now made.rest.now rows made.row c.loop.invariant.read c.in_ok-after.ensures made.ensures.1);
     }
 

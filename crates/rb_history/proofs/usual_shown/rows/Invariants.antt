@@ -1,7 +1,7 @@
 use denote.Text.{Utf8}
 use denote.Shadow.{shadow}
 use Rattle.rb_commands.specs.Statements.{row_json}
-use Rattle.rb_history.specs.Fits.{Each, IsRow}
+use Rattle.rb_history.specs.Fits.{Each, IsStatementRow}
 use Rattle.rb_history.proofs.ListRead.{BeginsWith}
 use Rattle.rb_history.proofs.usual_shown.rows.Given as goal
 
@@ -9,6 +9,6 @@ abbrev pub invariant-loop : goal.invariant-loop
 invariant-loop l = record {
   left : shadow (Utf8 l.left);
   comma : shadow (Utf8 l.comma);
-  fit : Each IsRow l.rows.items;
+  fit : Each IsStatementRow l.rows.items;
   read : BeginsWith row_json l.text l.left l.comma l.rows.items;
 }

@@ -3,7 +3,7 @@ use Rattle.std.proofs.lemmas.List.{get_or_default}
 use Rattle.rb_shadow.specs.Operations.{past, entry_of, number_of}
 use Rattle.rb_shadow.specs.declared.deps.Deps.{Deps}
 use Rattle.rb_shadow.specs.declared.shadow.Shadow.{Shadow}
-use Rattle.rb_shadow.proofs.Lookups.{Among-index}
+use Rattle.rb_shadow.proofs.Public.Lookups.{Among-index}
 use Rattle.rb_inbox.specs.Held.{IsReady}
 use Rattle.rb_inbox.proofs.Order.{Among-end, Among-more}
 use Rattle.rb_inbox.proofs.Readiness.{none_from}

@@ -1,7 +1,7 @@
 use Rattle.std.proofs.Common.{◌++◌, take, rules}
 use Rattle.std.proofs.KnownBytes.{Appends-trans}
 use Rattle.std.proofs.lemmas.List.{take_rest}
-use Rattle.rb_lines.proofs.WriteLaws.{front_more}
+use Rattle.rb_lines.proofs.Public.Sending.{front_more}
 use Rattle.rb_lines.proofs.write.write_all.Goals as goal
 
 pub loop-rest-preserved : goal.loop-rest-preserved

@@ -1,4 +1,4 @@
-use Rattle.rb_lines.proofs.Progress.{over_unwritten, over_written}
+use Rattle.rb_lines.proofs.Public.Progress.{over_unwritten, over_written}
 use Rattle.rb_migrate.specs.Migration.{migration_of}
 use Rattle.rb_migrate.proofs.run.run_migrate.Goals as goal
 

@@ -6,7 +6,8 @@ use Rattle.rb_money.specs.declared.refusal.Refusal.{Refusal}
 use Rattle.rb_shadow.specs.declared.shadow.Shadow.{Shadow}
 use Rattle.rb_scratch.specs.Effects.{plan_of_effect}
 use Rattle.rb_scratch.proofs.Generated
-use Rattle.rb_scratch.proofs.Makes
+use Rattle.rb_scratch.proofs.Public.Tokens
+use Rattle.rb_scratch.proofs.Public.Makes
 use Rattle.rb_scratch.proofs.Originals
 use Rattle.rb_scratch.proofs.generator.carry_out.Goals as goal
 
@@ -29,7 +30,7 @@ returns-in-Blue-clause-made c = λ known shows. sym (Generated.blue_made _ _ _ k
 
 pub returns-in-Blue-clause-valid : goal.returns-in-Blue-clause-valid
 returns-in-Blue-clause-valid c =
-    Makes.made_is_valid _ _ _ (Generated.seen c.args.token.now) (c.requires.plan).0 _ (few_sites _ _ _ c.config.ensures.same c.sites-sites.ensures.same c.sites-sites.ensures.few) c.requires.site c.config.ensures.valid
+    Makes.made_is_valid _ _ _ (Tokens.seen c.args.token.now) (c.requires.plan).0 _ (few_sites _ _ _ c.config.ensures.same c.sites-sites.ensures.same c.sites-sites.ensures.few) c.requires.site c.config.ensures.valid
     (Generated.blue_made _ _ _ _ _ _ _ (c.requires.plan).1 c.in-Ok.ensures.0 c.in-Ok.ensures.1 (sym c.requires.colour ∙ c.in-Blue.is))
 
 pub returns-in-Ok-permit_red-clause-made : goal.returns-in-Ok-permit_red-clause-made
@@ -38,10 +39,10 @@ returns-in-Ok-permit_red-clause-made c =
 
 pub returns-in-Ok-permit_red-clause-valid : goal.returns-in-Ok-permit_red-clause-valid
 returns-in-Ok-permit_red-clause-valid c =
-    Makes.made_is_valid _ _ _ (Generated.seen c.args.token.now) (c.requires.plan).0 _ (few_sites _ _ _ c.config.ensures.same c.sites-sites.ensures.same c.sites-sites.ensures.few) c.requires.site c.config.ensures.valid
+    Makes.made_is_valid _ _ _ (Tokens.seen c.args.token.now) (c.requires.plan).0 _ (few_sites _ _ _ c.config.ensures.same c.sites-sites.ensures.same c.sites-sites.ensures.few) c.requires.site c.config.ensures.valid
     (
     Generated.red_made _ _ _ _ _ _ _ (c.requires.plan).1 c.in-Ok.ensures.0 c.in-Ok.ensures.1 (sym c.requires.colour ∙ c.in-Red.is)
-    ∙ c.in-Ok-permit_red.ensures (Generated.seen c.args.token.now) (Generated.seen_shows c.args.token.now)
+    ∙ c.in-Ok-permit_red.ensures (Tokens.seen c.args.token.now) (Tokens.seen_shows c.args.token.now)
     )
 
 pub returns-in-Err-permit_red-clause-made : goal.returns-in-Err-permit_red-clause-made

@@ -1,12 +1,13 @@
 use Rattle.std.proofs.Common.{ap, ◌∙◌, ◌-◌, arith, length, drop}
 use Rattle.std.proofs.lemmas.Slice.{between_to_end}
 use Rattle.rb_scratch.proofs.Tries
+use Rattle.rb_scratch.proofs.Public.Batches
 use Rattle.rb_scratch.proofs.scratch.last_entries.Goals as goal
 
 pub overflow_sub-first : goal.overflow_sub-first
 overflow_sub-first c =
     let (base, made, tried) = c.requires in
-    omega (arith, Tries.tried_within base made c.args.ledger.now c.args.undos.now.parts tried, c.len.ensures, ap length c.entries-entries.ensures)
+    omega (arith, Batches.tried_within base made c.args.ledger.now c.args.undos.now.parts tried, c.len.ensures, ap length c.entries-entries.ensures)
 
 pub returns : goal.returns
 returns c =

@@ -1,8 +1,8 @@
 use Rattle.std.proofs.Common.{arith, ◌+◌, [], Err, ap, length, length-drop}
 use Rattle.std.proofs.lemmas.Bool.{false_from_ne_true}
-use Rattle.rb_lines.proofs.Progress.{ends_at_fault, ends_long, ends_out_of_memory, ends_unconfigured, ends_unread, ends_unwritten, ends_whole, goes_on, reads_on, starts}
+use Rattle.rb_lines.proofs.Public.Progress.{ends_at_fault, ends_long, ends_out_of_memory, ends_unconfigured, ends_unread, ends_unwritten, ends_whole, goes_on, reads_on, starts}
 use Rattle.rb_script.specs.Script.{script_of}
-use Rattle.rb_script.specs.Session.{rest_from, stand_of}
+use Rattle.rb_script.specs.Session.{session_rest_from, session_stand}
 use Rattle.rb_script.proofs.Opens.{no_text, refuses_long, unfinished}
 use Rattle.rb_script.proofs.run.answer_lines.Goals as goal
 
@@ -13,7 +13,7 @@ lines-init g c = record {
   end = λ e. absurd (cc (e, c.requires.going));
   number = rw c.requires.session (omega (arith, ap length c.requires.pending, c.requires.reads));
   count = rw c.requires.session (omega arith);
-  written = starts script_of _ _ _ _ _ _ (ap stand_of c.requires.session) c.requires.pending c.requires.going c.requires.owed;
+  written = starts script_of _ _ _ _ _ _ (ap session_stand c.requires.session) c.requires.pending c.requires.going c.requires.owed;
 }
 
 pub returns-in-Err-TooLong-clause-written : goal.returns-in-Err-TooLong-clause-written
@@ -70,11 +70,11 @@ returns-in-Some-clause-written g c =
     let next = c.in-Ok-None.ensures in
     let end = rw c.in-Ok-None.field-0-is at next.line in
     let now = reads_on script_of _ _ _ _ _ _ _ _ _ _ _ _ _ c.lines.invariant.written next.kept next.was_going next.sent in
-    ends_whole script_of _ _ _ _ _ _ _ _ now end.0 (next.end end.1) (ap (λ w. rest_from w c.lines.session.number []) c.in-Some.is)
+    ends_whole script_of _ _ _ _ _ _ _ _ now end.0 (next.end end.1) (ap (λ w. session_rest_from w c.lines.session.number []) c.in-Some.is)
 
 pub returns-in-None-clause-written : goal.returns-in-None-clause-written
 returns-in-None-clause-written g c =
     let next = c.in-Ok-None.ensures in
     let end = rw c.in-Ok-None.field-0-is at next.line in
     let now = reads_on script_of _ _ _ _ _ _ _ _ _ _ _ _ _ c.lines.invariant.written next.kept next.was_going next.sent in
-    ends_unconfigured script_of _ _ _ _ _ _ _ _ now end.0 (next.end end.1) (ap (λ w. rest_from w c.lines.session.number []) c.in-None.is)
+    ends_unconfigured script_of _ _ _ _ _ _ _ _ now end.0 (next.end end.1) (ap (λ w. session_rest_from w c.lines.session.number []) c.in-None.is)

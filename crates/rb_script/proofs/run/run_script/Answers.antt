@@ -1,4 +1,4 @@
-use Rattle.rb_lines.proofs.Progress.{over_unwritten, over_written}
+use Rattle.rb_lines.proofs.Public.Progress.{over_unwritten, over_written}
 use Rattle.rb_script.specs.Script.{script_of}
 use Rattle.rb_script.proofs.run.run_script.Goals as goal
 

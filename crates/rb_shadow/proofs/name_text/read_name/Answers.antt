@@ -1,4 +1,4 @@
-use Rattle.rb_shadow.proofs.NameOf.{value_is}
+use Rattle.rb_shadow.proofs.Public.NameOf.{value_is}
 use Rattle.rb_shadow.proofs.name_text.read_name.Goals as goal
 
 pub returns-clause-value : goal.returns-clause-value

@@ -1,7 +1,7 @@
 -- One request more, or what stops the batch.
 use Rattle.std.proofs.Common.{◌∙◌, ◌+◌, ◌<◌, inl, inr, [], ◌∷◌, ◌++◌, ap, length, length-append, refl, subst, sym, Err}
 use Rattle.rb_money.specs.Settings.{Settings}
-use Rattle.rb_token.specs.Seat.{Shows}
+use Rattle.rb_token.specs.Seen.{Shows}
 use Rattle.rb_token.specs.declared.view.TokenView.{TokenView}
 use Rattle.rb_scratch.specs.Batches.{batch_of}
 use Rattle.rb_site.proofs.Batches.{fault_made, run_more, run_stopped}

@@ -2,7 +2,7 @@
 use Rattle.std.proofs.Common.{◌≡◌, ◌<◌, List, length, take, Ok}
 use Rattle.rb_shadow.specs.declared.shadow.Shadow.{Shadow}
 use Rattle.rb_token.specs.Token.{Token}
-use Rattle.rb_token.specs.Seat.{Shows}
+use Rattle.rb_token.specs.Seen.{Shows}
 use Rattle.rb_scratch.specs.Batches.{batch_of}
 use Rattle.rb_scratch.specs.Tried.{IsTried}
 use Rattle.rb_site.proofs.batch.run_all.Given as goal

@@ -3,7 +3,7 @@ use Rattle.std.proofs.Common.{◌≡◌, ◌∙◌, ◌≤◌, ◌++◌, List, �
 use Rattle.rb_ledger.specs.Book.{Book}
 use Rattle.rb_undo.specs.declared.parts.UndoParts.{UndoParts}
 use Rattle.rb_shadow.specs.declared.shadow.Shadow.{Shadow}
-use Rattle.rb_scratch.proofs.Tries.{tried_length, tried_within}
+use Rattle.rb_scratch.proofs.Public.Batches.{tried_length, tried_within}
 use Rattle.rb_scratch.specs.Batches.{names_of_all}
 use Rattle.rb_scratch.specs.Tried.{IsTried}
 use Rattle.rb_site.specs.declared.message.Message.{Message}

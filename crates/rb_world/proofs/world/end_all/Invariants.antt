@@ -2,5 +2,5 @@
 use Rattle.std.proofs.Common.{vec_len}
 use Rattle.rb_world.proofs.world.end_all.Given as goal
 
-abbrev pub decreases-seats : goal.decreases-seats
-decreases-seats g l = vec_len l.seats
+abbrev pub decreases-sites : goal.decreases-sites
+decreases-sites g l = vec_len l.sites

@@ -7,7 +7,7 @@ use Rattle.rb_world.proofs.world.open_sites.Given as goal
 
 abbrev pub invariant-loop-me : goal.invariant-loop-me
 invariant-loop-me g l =
-    (map state_of l.seats.items ≡ map first_site (range_with_len 0 l.me))
-    × All (λ (x : SeenSite). x.settings ≡ l.config) l.seats.items
-    × (vec_len l.seats ≡ l.me)
-    × (l.config.sites ≤ vec_capacity l.seats)
+    (map state_of l.sites.items ≡ map first_site (range_with_len 0 l.me))
+    × All (λ (x : SeenSite). x.settings ≡ l.config) l.sites.items
+    × (vec_len l.sites ≡ l.me)
+    × (l.config.sites ≤ vec_capacity l.sites)

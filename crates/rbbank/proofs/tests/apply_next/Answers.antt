@@ -1,5 +1,5 @@
 -- The record of the new operation is the last.
-use Rattle.rb_ledger.proofs.Records
+use Rattle.rb_ledger.proofs.Public.Records
 use Rattle.rbbank.proofs.tests.apply_next.Goals as goal
 
 pub returns : goal.returns

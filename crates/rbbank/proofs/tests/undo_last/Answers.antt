@@ -1,9 +1,9 @@
 -- The last record is that of the last operation.
 use Rattle.std.proofs.Common.{◌≡◌, ◌∙◌, List, [], ◌∷◌, ◌++◌, ap, inl, inr, sym}
 use Rattle.rb_money.specs.Settings.{Settings}
-use Rattle.rb_ledger.proofs.Records
+use Rattle.rb_ledger.proofs.Public.Records
 use Rattle.rb_ledger.specs.Records.{records_of}
-use Rattle.rb_shadow.proofs.Members
+use Rattle.rb_shadow.proofs.Public.Members
 use Rattle.rb_shadow.specs.declared.shadow.Shadow.{Shadow}
 use Rattle.rbbank.proofs.tests.undo_last.Goals as goal
 

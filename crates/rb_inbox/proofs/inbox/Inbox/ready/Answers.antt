@@ -2,10 +2,10 @@ use Rattle.std.proofs.Common.{arith, Bool, false, ◌≡◌, ◌∙◌, [], ap, 
 use Rattle.std.specs.Prelude.{IfNone, Option, Some, None}
 use Rattle.std.specs.Option.{is_some}
 use Rattle.std.proofs.lemmas.Option.{IfSome_then}
-use Rattle.rb_shadow.specs.Operations.{Among, find_in}
+use Rattle.rb_shadow.specs.Operations.{Among, find_in, row_of}
 use Rattle.rb_shadow.specs.declared.op_name.OpName.{OpName}
 use Rattle.rb_inbox.specs.Held.{Holding}
-use Rattle.rb_inbox.specs.Rows.{IsRow, held_of, row_of}
+use Rattle.rb_inbox.specs.Rows.{IsHeldRow, held_of}
 use Rattle.rb_inbox.proofs.Changes.{row_within, slice_there}
 use Rattle.rb_inbox.proofs.Readiness.{among_row, held_there}
 use Rattle.rb_inbox.proofs.Rows.{row_at}
@@ -19,7 +19,7 @@ at_none P (Some x) b e q p = absurd (cc)
 pub ready_in-name-requires : goal.ready_in-name-requires
 ready_in-name-requires c = (
   c.loop-row.row-index,
-  subst (IsRow c.loop-row.row-index)
+  subst (IsHeldRow c.loop-row.row-index)
       (sym (slice_there c.self.inside.rows.items c.deref-row-items.result.now c.loop-row.row-index c.row-item.result c.as_slice.result.now c.deref-row-items.ensures.value (omega arith) c.row-item.is c.as_slice.ensures))
       (row_at c.self.inside.rows.items c.loop-row.row-index c.self.invariant.each),
 )

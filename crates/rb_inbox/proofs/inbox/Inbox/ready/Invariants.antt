@@ -1,8 +1,7 @@
 use Rattle.std.proofs.Common.{◌≤◌}
-use Rattle.rb_shadow.specs.Operations.{Among}
+use Rattle.rb_shadow.specs.Operations.{Among, row_of}
 use Rattle.rb_shadow.specs.declared.shadow.Shadow.{Shadow}
 use Rattle.rb_inbox.specs.Held.{IsReady}
-use Rattle.rb_inbox.specs.Rows.{row_of}
 use Rattle.rb_inbox.proofs.inbox.Inbox.ready.Given as goal
 
 -- what is ready is of no row that was looked at

@@ -1,17 +1,17 @@
 use Rattle.std.proofs.Common.{◌≡◌, ◌<◌, ◌≤◌, ◌-◌, ◌∷◌, [], List, length, take, get_or, set, vec_len, subst, sym, ap, ◌∙◌, refl, arith, length-take-le}
 use Rattle.std.proofs.lemmas.List.{length_push}
-use Rattle.rb_shadow.specs.Operations.{HasEntry, number_of, entry_of, target_of}
+use Rattle.rb_shadow.specs.Operations.{HasEntry, number_of, entry_of, target_of, row_of}
 use Rattle.rb_undo.specs.declared.parts.UndoParts.{UndoParts}
 use Rattle.rb_vclock.specs.Clocks.{lowered}
 use Rattle.rb_ledger.specs.declared.marks.Cancels.{Cancels}
 use Rattle.rb_ledger.specs.declared.marks.Head.{Head}
 use Rattle.rb_ledger.specs.Valid.{position_of}
-use Rattle.rb_ledger.specs.Index.{row_of, changed_at, one_less, no_cancels}
+use Rattle.rb_ledger.specs.Index.{changed_at, one_less, no_cancels}
 use Rattle.rb_ledger.proofs.Calls
 use Rattle.rb_ledger.proofs.CancelFacts
 use Rattle.rb_ledger.proofs.ChainFacts
 use Rattle.rb_ledger.proofs.Indexed
-use Rattle.rb_ledger.proofs.Legal
+use Rattle.rb_ledger.proofs.Public.Legal
 use Rattle.rb_ledger.proofs.LedgerClocks
 use Rattle.rb_ledger.proofs.index.Index.pop.Goals as goal
 

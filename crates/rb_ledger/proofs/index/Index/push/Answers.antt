@@ -3,7 +3,7 @@ use Rattle.rb_ledger.specs.declared.marks.Head.{Head}
 use Rattle.rb_ledger.specs.Index.{changed_at, one_more, no_cancels}
 use Rattle.rb_ledger.proofs.Calls
 use Rattle.rb_ledger.proofs.Indexed
-use Rattle.rb_ledger.proofs.Legal
+use Rattle.rb_ledger.proofs.Public.Legal
 use Rattle.rb_ledger.proofs.Lengths
 use Rattle.rb_ledger.proofs.LedgerClocks
 use Rattle.rb_ledger.proofs.index.Index.push.Goals as goal

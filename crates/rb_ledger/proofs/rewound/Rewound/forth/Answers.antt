@@ -6,7 +6,7 @@ use Rattle.rb_ledger.specs.Index.{IsIndex}
 use Rattle.rb_ledger.specs.Rewinding.{Rewinding}
 use Rattle.rb_ledger.proofs.Calls
 use Rattle.rb_ledger.proofs.Cursors
-use Rattle.rb_ledger.proofs.Legal
+use Rattle.rb_ledger.proofs.Public.Legal
 use Rattle.rb_ledger.proofs.rewound.Rewound.forth.Goals as goal
 
 pub parts-parts-requires-clause-sound : goal.parts-parts-requires-clause-sound

@@ -1,6 +1,6 @@
 use Rattle.std.proofs.Common.{rules}
 use Rattle.rb_lines.proofs.ReadLaws.{Reads-then}
-use Rattle.rb_lines.proofs.WriteLaws.{Sends-all, Sends-front, Sends-then}
+use Rattle.rb_lines.proofs.Public.Sending.{Sends-all, Sends-front, Sends-then}
 use Rattle.rb_lines.proofs.buffers.Buffers.next_line.Goals as goal
 
 pub returns-in-Err-clause-front : goal.returns-in-Err-clause-front

@@ -2,7 +2,7 @@
 use Rattle.std.proofs.Common.{◌∙◌, sym, ap}
 use Rattle.rb_shadow.specs.Operations.{find_in}
 use Rattle.rb_site.specs.States.{SeenLedger}
-use Rattle.rb_scratch.proofs.Found.{at_position, no_position}
+use Rattle.rb_scratch.proofs.Public.Positions.{at_position, no_position}
 use Rattle.rb_site.proofs.journal.Journal.applied.Goals as goal
 
 pub returns-in-Some : goal.returns-in-Some

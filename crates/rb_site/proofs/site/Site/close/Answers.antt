@@ -9,7 +9,7 @@ use Rattle.rb_site.specs.Reports.{balances_of, counts_of}
 use Rattle.rb_site.specs.Seen.{SeenSite, state_of}
 use Rattle.rb_site.specs.States.{without_history}
 use Rattle.rb_site.proofs.Reports.{me-state}
-use Rattle.rb_site.proofs.Seen
+use Rattle.rb_site.proofs.Public.Seen
 use Rattle.rb_site.proofs.site.Site.close.Goals as goal
 
 settings : (c : goal.After-close-entries) → c.self.inside.state.settings ≡ c.args.self.settings

@@ -1,7 +1,7 @@
 -- The run of the history leaves that history.
 use Rattle.std.proofs.Common.{◌≡◌, subst}
 use Rattle.rb_site.specs.Seen.{SeenSite, state_of}
-use Rattle.rb_site.proofs.Seen.{history-state}
+use Rattle.rb_site.proofs.Public.Seen.{history-state}
 use Rattle.rb_site.proofs.site.Site.history.Goals as goal
 
 pub returns-clause-run : goal.returns-clause-run

@@ -7,7 +7,7 @@ use Rattle.rb_money.specs.declared.limits.Limits.{Limits}
 use Rattle.rb_site.specs.Events.{is_full}
 use Rattle.rb_site.specs.Seen.{SeenSite, state_of}
 use Rattle.rb_site.proofs.site.Site.is_full.Goals as goal
-use Rattle.rb_site.proofs.States.{is_full-state}
+use Rattle.rb_site.proofs.Public.Outcomes.{is_full-state}
 
 pub returns : goal.returns
 returns g c =

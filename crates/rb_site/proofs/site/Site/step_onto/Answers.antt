@@ -11,7 +11,8 @@ use Rattle.rb_site.specs.States.{IsStanding}
 use Rattle.rb_site.proofs.site.Site.step_onto.Given.{Over}
 use Rattle.rb_site.proofs.site.Site.step_onto.Goals as goal
 use Rattle.rb_site.proofs.Reports.{still_enough}
-use Rattle.rb_site.proofs.States.{IsStep, is_step, me_kept, noted_in, seen_as, seen_now, sends_few}
+use Rattle.rb_site.proofs.States.{IsStep, is_step, me_kept, noted_in, seen_as, seen_now}
+use Rattle.rb_site.proofs.Public.Outcomes.{sends_few}
 
 pub returns-then-is_full-clause-ok : goal.returns-then-is_full-clause-ok
 returns-then-is_full-clause-ok g c =

@@ -2,7 +2,7 @@
 use Rattle.std.proofs.Common.{◌∙◌, ◌≤◌, Ok, Err, sym, ap, subst}
 use Rattle.rb_money.specs.Settings.{Settings}
 use Rattle.rb_money.specs.declared.limits.TheConstants.{MOST_SITES}
-use Rattle.rb_inbox.proofs.Sound.{sound_numbered}
+use Rattle.rb_inbox.proofs.Public.Holding.{sound_numbered}
 use Rattle.rb_inbox.specs.Held.{Holding}
 use Rattle.rb_shadow.specs.Sound.{IsSound}
 use Rattle.rb_site.specs.Events.{outcome_of_new}

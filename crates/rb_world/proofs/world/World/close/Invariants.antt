@@ -3,10 +3,10 @@ use Rattle.std.proofs.Common.{◌+◌, ◌≤◌, vec_len, vec_capacity}
 use Rattle.rb_world.proofs.Closing.{IsClosing}
 use Rattle.rb_world.proofs.world.World.close.Given as goal
 
-abbrev pub decreases-seats : goal.decreases-seats
-decreases-seats l = vec_len l.seats
+abbrev pub decreases-sites : goal.decreases-sites
+decreases-sites l = vec_len l.sites
 
-abbrev pub invariant-seats : goal.invariant-seats
-invariant-seats l =
-    IsClosing l.fn.self.settings l.fn.self.world.sites l.reports.items l.seats.items
-    × (vec_len l.reports + vec_len l.seats ≤ vec_capacity l.reports)
+abbrev pub invariant-sites : goal.invariant-sites
+invariant-sites l =
+    IsClosing l.fn.self.settings l.fn.self.world.sites l.reports.items l.sites.items
+    × (vec_len l.reports + vec_len l.sites ≤ vec_capacity l.reports)

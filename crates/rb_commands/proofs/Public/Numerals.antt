@@ -1,0 +1,29 @@
+-- Numbers in digits, among them those of refusals that tell more and of the format's version.
+use Rattle.std.proofs.Common.{◌≡◌, ℤ, pos, negsuc, codes, decimal, refl}
+use Rattle.std.specs.Fmt.{digits, signed_decimal}
+use Rattle.serde_json.specs.Find.{of_integer}
+use Rattle.serde_json.specs.Written.{number_text}
+
+pub integer_text : (z : ℤ) → number_text (of_integer z) ≡ signed_decimal z
+integer_text (pos n) = refl
+integer_text (negsuc n) = refl
+
+pub one : decimal 1 ≡ codes "1"
+unfolding digits
+one = refl
+
+pub six : decimal 6 ≡ codes "6"
+unfolding digits
+six = refl
+
+pub nine : decimal 9 ≡ codes "9"
+unfolding digits
+nine = refl
+
+pub thirteen : decimal 13 ≡ codes "13"
+unfolding digits
+thirteen = refl
+
+pub seventeen : decimal 17 ≡ codes "17"
+unfolding digits
+seventeen = refl

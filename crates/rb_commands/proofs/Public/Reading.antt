@@ -1,0 +1,31 @@
+-- What is read is what was written.
+use Rattle.std.proofs.Common.{List, ◌++◌, Option, ◌≡◌, [], Some, refl, sym, ap, ◌∙◌, ◌≤◌, append-nil}
+use Rattle.std.specs.Prelude.{option_map, option_and_then}
+use Rattle.serde_json.specs.Data.{Data}
+use Rattle.rb_shadow.proofs.Public.NameOf.{value_is, candidate_is}
+use Rattle.rb_shadow.specs.NameText.{IsName, candidate, name_of, name_text}
+use Rattle.rb_shadow.specs.declared.op_name.OpName.{OpName}
+use Rattle.json.specs.Json as json
+use Rattle.json.specs.Lex.{tokens}
+use Rattle.json.specs.Tree.{json_tokens, HasNumbers}
+use Rattle.json.specs.Tree as tree
+use Rattle.json.proofs.Printed.Tokens.{tokens-print}
+use Rattle.json.proofs.Printed.Trees.{ArePrintable-json_tokens, value-json_tokens}
+use Rattle.serde_json.specs.Read.{read, of_json, max_depth}
+use Rattle.serde_json.specs.Written.{compact_text, outline}
+use Rattle.serde_json.proofs.Texts.{print-outline}
+
+-- what is read so far, and then what is still to be read
+abbrev pub with_front : {A : Type 0} → List A → Option (List A) → Option (List A)
+with_front front o = option_map (λ later. front ++ later) o
+
+pub back : (x : OpName) → IsName x → name_of (name_text x) ≡ Some x
+back x h = sym (value_is (name_text x) (Some x) refl h (λ y k e. ap Some (sym (candidate_is x h) ∙ ap candidate e ∙ candidate_is y k)))
+
+-- an object's text, its keys in any order, is read as the object with its keys in byte order
+pub compact_read : (turned d : Data) → HasNumbers (outline turned) → tree.depth (outline turned) ≤ max_depth → of_json (outline turned) ≡ Some d → read (compact_text turned) ≡ Some d
+compact_read turned d numbers shallow same =
+    let j = outline turned in
+    let text : tokens (compact_text turned) ≡ json_tokens j ++ [] = ap tokens (sym (print-outline turned)) ∙ tokens-print (json_tokens j) (ArePrintable-json_tokens j numbers) ∙ sym (append-nil (json_tokens j)) in
+    ap (λ ts. option_and_then of_json (option_and_then (λ p. json.if_last p.0 p.1) (json.value max_depth ts))) text
+    ∙ ap (λ o. option_and_then of_json (option_and_then (λ p. json.if_last p.0 p.1) o)) (value-json_tokens j max_depth [] shallow) ∙ same

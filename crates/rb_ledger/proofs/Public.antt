@@ -1,0 +1,8 @@
+-- What other crates cite.
+pub mod Fronts
+pub mod Legal
+pub mod OnAccount
+pub mod Pasts
+pub mod Pushes
+pub mod Records
+pub mod ValidClocks

@@ -1,0 +1,6 @@
+-- What other crates cite.
+pub mod Batches
+pub mod Made
+pub mod Makes
+pub mod Positions
+pub mod Tokens

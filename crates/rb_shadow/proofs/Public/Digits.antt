@@ -1,0 +1,6 @@
+-- A number's digits tell it.
+use Rattle.std.proofs.lemmas.Str.Parse.{IsNumeralModel, numerals_by_value, tells_digits}
+use Rattle.std.specs.Str.Parse.{AllDigits, digits_value}
+
+abbrev pub in_digits : IsNumeralModel (AllDigits 10) (digits_value 10)
+in_digits = numerals_by_value (AllDigits 10) tells_digits

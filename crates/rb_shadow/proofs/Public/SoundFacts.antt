@@ -1,0 +1,78 @@
+-- What is known of a sound shadow.
+use Rattle.std.proofs.Common.{◌≡◌, ℕ, ◌+◌, ◌≤◌, Bool, true, false, cond, not, ◌&&◌, length, refl, arith}
+use Rattle.std.specs.Prelude.{nat_le, nat_lt, ◌==◌, Option, Some, None}
+use Rattle.std.proofs.lemmas.Bool.Decides.{nat_tests}
+use Rattle.rb_money.specs.Settings.{Settings}
+use Rattle.rb_money.specs.declared.limits.TheConstants.{MOST_SITES}
+use Rattle.rb_money.specs.declared.cents.TheConstants.{MOST_CENTS}
+use Rattle.rb_money.proofs.Public.Tests.{alike}
+use Rattle.rb_shadow.specs.declared.shadow.Shadow.{Shadow}
+use Rattle.rb_shadow.specs.declared.op_name.OpName.{OpName}
+use Rattle.rb_shadow.specs.declared.op_name.OpName.TheVariants.{Blue, Red}
+use Rattle.rb_shadow.specs.Operations.{number_of, entry_of}
+use Rattle.rb_shadow.specs.Sound.{fault_of, IsSound, is_absent, is_foreign, limit_of, may_be_nothing, is_miscoloured, cancels_unseen, is_clock}
+use Rattle.rb_shadow.proofs.Public.Members
+use Rattle.rb_shadow.proofs.Public.Clocks.{IsNext, IsHoused}
+
+-- the tests of `fault_of`, each passed
+pub record SoundFacts (s : Settings) (v : Shadow) : Type 0 where
+  pub home : nat_le s.sites v.home ≡ false
+  pub own : is_foreign v.name v.home ≡ false
+  pub numbered : (number_of v.name == 0) ≡ false
+  pub within : nat_lt (limit_of s.limits v.name) (number_of v.name) ≡ false
+  pub account : nat_le (length s.starts) v.account.0 ≡ false
+  pub amount : nat_lt MOST_CENTS v.amount ≡ false
+  pub something : (v.amount == 0 && not (may_be_nothing v.kind)) ≡ false
+  pub coloured : is_miscoloured v.kind v.name ≡ false
+  pub seen : cancels_unseen s.sites v.kind v.deps ≡ false
+  pub clock : not (is_clock s.sites s.limits v.deps) ≡ false
+  pub entry : not (entry_of v.deps v.name + 1 == number_of v.name) ≡ false
+
+go_on : (b : Bool) (w : ℕ) (r : Option ℕ) → cond b (Some w) r ≡ None → (b ≡ false) × (r ≡ None)
+go_on true w r e = cc
+go_on false w r e = (refl, e)
+
+pub sound_facts : (s : Settings) (v : Shadow) → IsSound s v → SoundFacts s v
+unfolding fault_of
+sound_facts s v h =
+    let (f1, h1) = go_on _ _ _ h in
+    let (f2, h2) = go_on _ _ _ h1 in
+    let (f3, h3) = go_on _ _ _ h2 in
+    let (f4, h4) = go_on _ _ _ h3 in
+    let (f5, h5) = go_on _ _ _ h4 in
+    let (f6, h6) = go_on _ _ _ h5 in
+    let (f7, h7) = go_on _ _ _ h6 in
+    record {
+      home = (Members.or-false _ _ f1).0;
+      own = (Members.or-false _ _ f1).1;
+      numbered = (Members.or-false _ _ f2).0;
+      within = (Members.or-false _ _ f2).1;
+      account = f3;
+      amount = (Members.or-false _ _ f4).0;
+      something = (Members.or-false _ _ f4).1;
+      coloured = f5;
+      seen = f6;
+      clock = (Members.or-false _ _ f7).0;
+      entry = (Members.or-false _ _ f7).1;
+    }
+
+pub is_next : (s : Settings) (v : Shadow) → IsSound s v → IsNext v
+is_next s v h = let f = sound_facts s v h in record { positive = positive (number_of v.name) f.numbered; own = alike (entry_of v.deps v.name + 1) (number_of v.name) f.entry }
+  where
+    positive : (n : ℕ) → (n == 0) ≡ false → 1 ≤ n
+    positive n e = grind (arith, nat_tests)
+
+pub is_housed : (s : Settings) (v : Shadow) → s.sites ≤ MOST_SITES → IsSound s v → IsHoused v.name
+is_housed s v few h = let f = sound_facts s v h in at v.name s.sites v.home few f.home f.own
+  where
+    at : (x : OpName) (sites home : ℕ) → sites ≤ MOST_SITES → nat_le sites home ≡ false → is_foreign x home ≡ false → IsHoused x
+    at (Blue i n) sites home few near e = grind (arith, nat_tests)
+    at (Red n) sites home few near e = tt
+
+-- its name is of one of the sites
+pub is_present : (s : Settings) (v : Shadow) → SoundFacts s v → is_absent s.sites v.name ≡ false
+is_present s v f = at v.name s.sites v.home f.home f.own
+  where
+    at : (x : OpName) (sites home : ℕ) → nat_le sites home ≡ false → is_foreign x home ≡ false → is_absent sites x ≡ false
+    at (Blue i n) sites home near e = grind (arith, nat_tests)
+    at (Red n) sites home near e = refl

@@ -1,0 +1,12 @@
+//! Types whose test of equality is exact.
+
+use crate::OpName;
+use rb_list::Exact;
+
+impl Exact for OpName {
+    ghost use Rattle.rb_shadow.specs.Exact.{names_exact};
+
+    ghost exact = { names_exact };
+
+    ghost cloned = { λ x y h. h };
+}

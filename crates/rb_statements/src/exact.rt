@@ -1,0 +1,12 @@
+//! Types whose test of equality is exact.
+
+use crate::Row;
+use rb_list::Exact;
+
+impl Exact for Row {
+    ghost use Rattle.rb_statements.specs.Exact.{rows_exact};
+
+    ghost exact = { rows_exact };
+
+    ghost cloned = { λ x y h. h };
+}
