@@ -1,7 +1,7 @@
 #!/usr/bin/env python3
-"""Runs every script, all histories and every migration of this folder through a built program, and compares what it writes, what
-it says on standard error, and its status. What the program's own help shows is run as well, its version is
-looked at, and a run of tellers is audited.
+"""Runs every script, all histories and every migration of this folder through a built program, and compares what it
+writes, what it says on standard error, and its status. What the program's own help shows is run as well, its version
+is looked at, and a run of tellers is audited.
 
 usage: check.py [--quiet] PROGRAM      (--quiet tells only what is different)
 """
@@ -37,8 +37,9 @@ def answered(program, path):
 
 
 def shown(program, command):
-    """The parts of a command's help that stand further in: its worked input, the answer, and the statuses."""
-    text = subprocess.run([program, command, "--help"], capture_output=True, text=True).stdout
+    """The parts of a command's help that stand further in: its worked input, and the answer. What stands still further in
+    is the rest of the line above it."""
+    text = subprocess.run([program, command, "--help"], capture_output=True, text=True).stdout.replace("\n    ", "")
     return [part for part in re.findall(r"(?m)(?:^  \S.*\n)+", text) if "{" in part]
 
 
@@ -73,7 +74,7 @@ def main():
     paths = sorted(glob.glob(os.path.join(HERE, "*.jsonl")))
     same = [answered(words[0], path) == expected(path.removesuffix(".jsonl")) for path in paths]
     results = list(zip(map(os.path.basename, paths), same))
-    results += [(command + " --help", helps(words[0], command)) for command in ["script", "audit"]]
+    results += [(command + " --help", helps(words[0], command)) for command in ["script", "audit", "migrate"]]
     results.append(("--version", tells_version(words[0])))
     results += [(f"threads at {sites} sites, audited", tellers(words[0], sites, count)) for sites, count in [(2, 1), (3, 4), (8, 16), (16, 16)]]
     for name, same in results:

@@ -1,8 +1,7 @@
 -- A configuration in a version that its sites may have.
-use Rattle.std.proofs.Common.{◌≡◌, ℕ, List, Bool, true, false, Option, Some, None, refl, sym, ap, subst, ◌∙◌, arith}
+use Rattle.std.proofs.Common.{◌≡◌, ℕ, List, Bool, true, false, Option, Some, None, refl, sym, ap, subst, ◌∙◌}
 use Rattle.std.specs.Prelude.{◌==◌, ◌&&◌, ◌||◌, if◌then◌else◌, is_none, nat_le}
-use Rattle.std.proofs.lemmas.Bool.{and_parts}
-use Rattle.std.proofs.lemmas.Bool.Decides.{nat_tests}
+use Rattle.std.proofs.lemmas.Bool.{and_parts, eqb-true, ne_eqb}
 use Rattle.rb_money.specs.Faults.{Account, config_fault, settings_of}
 use Rattle.rb_money.specs.declared.fault.ConfigFault.{ConfigFault}
 use Rattle.rb_money.specs.declared.limits.Limits.{Limits}
@@ -18,11 +17,10 @@ left false h = h
 pub stays : (s : Settings) (version : ℕ) → s.version ≡ version_of s.sites → is_version version s.sites ≡ true → (version ≡ 2 → ⊥) → s ≡ record s { version = version }
 stays s version made allowed other =
     let few = nat_le s.sites MOST_SITES_OF_VERSION_1 in
-    let none : (version == 2) ≡ false = grind (arith, nat_tests) in
+    let none : (version == 2) ≡ false = ne_eqb version 2 other in
     let both = left ((version == 1) && few) (subst (λ b. (((version == 1) && few) || b) ≡ true) none allowed) in
     let p = and_parts (version == 1) few both in
-    let a = p.0 in
-    let one : version ≡ 1 = grind (arith, nat_tests) in
+    let one : version ≡ 1 = eqb-true version 1 p.0 in
     let first : version_of s.sites ≡ 1 = rw p.1 refl in
     ap (λ v. record s { version = v }) (made ∙ first ∙ sym one)
 

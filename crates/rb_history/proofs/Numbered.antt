@@ -1,6 +1,7 @@
 -- The counts above 0, each behind its site's number: written one by one, and read back.
 use Rattle.std.proofs.Common.{◌≡◌, ◌<◌, ◌≤◌, ◌+◌, ◌-◌, ◌^◌, ℕ, List, [], ◌∷◌, ◌++◌, length, take, drop, set, Bool, true, false, Option, Some, None, refl, sym, ap, ap₂, ◌∙◌, arith, append_assoc, append-nil, codes}
 use Rattle.std.specs.Prelude.{◌==◌, ◌&&◌, map, nat_le, nat_lt, replicate, if◌then◌else◌, option_and_then, option_map}
+use Rattle.std.proofs.lemmas.Bool.{eqb-true, le-leb}
 use Rattle.std.proofs.lemmas.Bool.Decides.{nat_tests}
 use Rattle.std.proofs.lemmas.List.{drop-drop, drop-replicate, drop-set-lt, drop_all, replicate_more, take-append-drop, take-replicate, take_more_set}
 use Rattle.std.proofs.Math.Seq.{take-add}
@@ -99,10 +100,7 @@ all_read counts least none = ap (λ l. take least counts ++ l) (sym none) ∙ ta
 
 one_back : (i j n : ℕ) → i ≤ j → j < MOST_SITES → 0 < n → n < 2 ^ 32 → numbered_at i (numbered_json (j, n)) ≡ Some (j, n)
 one_back i j n low near some small =
-    let a : nat_le i j ≡ true = grind (arith, nat_tests) in
-    let b : nat_lt j MOST_SITES ≡ true = grind (arith, nat_tests) in
-    let c : nat_le 1 n ≡ true = grind (arith, nat_tests) in
-    rw (below j (2 ^ 8) (omega arith), below n (2 ^ 32) small, a, b, c) refl
+    rw (below j (2 ^ 8) (omega arith), below n (2 ^ 32) small, le-leb i j low, below j MOST_SITES near, le-leb 1 n (omega arith)) refl
 
 -- the counts from site j on, behind 0 for each site from i to j
 pub numbered_back : (i j : ℕ) (ns : List ℕ) → i ≤ j → j + length ns ≡ MOST_SITES → Each (λ n. n < 2 ^ 32) ns → numbered_in i (items_of (map numbered_json (numbered_from j ns))) ≡ Some (replicate (j - i) 0 ++ ns)
@@ -113,7 +111,7 @@ numbered_back i j (n ∷ ns) low full h = at (n == 0) refl
   where
     at : (b : Bool) → (n == 0) ≡ b → numbered_in i (items_of (map numbered_json (if b then numbered_from (j + 1) ns else (j, n) ∷ numbered_from (j + 1) ns))) ≡ Some (replicate (j - i) 0 ++ n ∷ ns)
     at true q =
-        let zero : n ≡ 0 = grind (arith, nat_tests) in
+        let zero : n ≡ 0 = eqb-true n 0 q in
         let more : j + 1 - i ≡ (j - i) + 1 = omega arith in
         numbered_back i (j + 1) ns (omega arith) (omega arith) h.1
         ∙ ap Some (ap (λ k. replicate k 0 ++ ns) more ∙ ap (λ l. l ++ ns) (sym (replicate_more (j - i) 0)) ∙ append_assoc (replicate (j - i) 0) (0 ∷ []) ns ∙ ap (λ m. replicate (j - i) 0 ++ m ∷ ns) (sym zero))

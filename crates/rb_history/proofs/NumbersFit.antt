@@ -6,8 +6,7 @@ use Rattle.std.specs.declared.cmp.Ordering.TheVariants.{Less, Equal, Greater}
 use Rattle.std.specs.Ordering.{match_ordering, nat_cmp}
 use Rattle.std.specs.Cmp.Lexicographic.{slice_cmp}
 use Rattle.std.specs.Float.{binary64, float_is_finite}
-use Rattle.std.proofs.lemmas.Bool.{and_parts, leb-true}
-use Rattle.std.proofs.lemmas.Bool.Decides.{nat_tests}
+use Rattle.std.proofs.lemmas.Bool.{and_parts, leb-true, ltb-true}
 use Rattle.fast_float.specs.Text.{Parts, digits_of, minus, nearest, scan, with_sign}
 use Rattle.json.specs.Json as json
 use Rattle.serde_json.specs.Data.{Num, unsigned, negative, float, Data, null, boolean, number, string, array, object, Items, no_items, item, Members, no_members, member, put}
@@ -59,7 +58,7 @@ fits_from true p = fits_either_way (is_integer p && nat_lt 0 (digits_of p) && na
     small e =
         let front = and_parts (is_integer p && nat_lt 0 (digits_of p)) (nat_le (digits_of p) (2 ^ 63)) e in
         let some = (and_parts (is_integer p) (nat_lt 0 (digits_of p)) front.0).1 in
-        let low : 0 < digits_of p = grind (arith, some, nat_tests) in
+        let low = ltb-true 0 (digits_of p) some in
         let high = leb-true (digits_of p) (2 ^ 63) front.1 in
         moved_back (digits_of p) low (omega arith)
 

@@ -2,8 +2,7 @@
 use Rattle.std.proofs.Common.{◌≡◌, ◌<◌, ◌≤◌, ◌+◌, ◌-◌, ◌^◌, ℕ, zero, suc, ℤ, pos, List, [], ◌∷◌, ◌++◌, length, Bool, true, false, Option, Some, None, refl, sym, ap, ◌∙◌, inl, inr, subst, arith, length-append}
 use Rattle.std.specs.Prelude.{◌==◌, ◌&&◌, IfSome, bytes_eq, codes, drop, if◌then◌else◌, nat_le, nat_lt, option_and_then, option_map, replicate, unwrap_or, ⊤}
 use Rattle.std.specs.List.{position}
-use Rattle.std.proofs.lemmas.Bool.{and_parts}
-use Rattle.std.proofs.lemmas.Bool.Decides.{nat_tests}
+use Rattle.std.proofs.lemmas.Bool.{and_parts, eqb-false, eqb-true, leb-true, ltb-true}
 use Rattle.std.proofs.lemmas.List.{length-replicate}
 use Rattle.std.proofs.lemmas.List.Quantifiers.{position-Some}
 use Rattle.serde_json.specs.Data.{Data, Num, unsigned, negative, float, Items, no_items, item}
@@ -45,18 +44,13 @@ use Rattle.rb_history.proofs.NumbersFit.{Fits, FitItems, FitsNumber, fits_array,
 -- ---- numbers, names and places
 
 number : (bound : ℕ) (d : Data) → IfSome (number_below bound d) (λ n. n < bound)
-number bound d = fits_then (λ n. ⊤) (λ n. n < bound) (λ n. if nat_lt n bound then Some n else None) _ (anything _) (λ n any. fits_if (λ n. n < bound) (nat_lt n bound) (Some n) (λ e. below n bound e))
-  where
-    below : (n m : ℕ) → nat_lt n m ≡ true → n < m
-    below n m e = grind (arith, nat_tests)
+number bound d = fits_then (λ n. ⊤) (λ n. n < bound) (λ n. if nat_lt n bound then Some n else None) _ (anything _) (λ n any. fits_if (λ n. n < bound) (nat_lt n bound) (Some n) (λ e. ltb-true n bound e))
 
 name_fits : (x : OpName) → is_name x ≡ true → IsName x
 name_fits (Blue site n) e =
     let p = and_parts (nat_lt site (2 ^ 8)) (nat_lt n (2 ^ 32)) e in
-    let a = p.0 in
-    let b = p.1 in
-    (let low : site < 2 ^ 8 = grind (arith, nat_tests) in low, let small : n < 2 ^ 32 = grind (arith, nat_tests) in small)
-name_fits (Red n) e = let small : n < 2 ^ 32 = grind (arith, nat_tests) in small
+    (ltb-true site (2 ^ 8) p.0, ltb-true n (2 ^ 32) p.1)
+name_fits (Red n) e = ltb-true n (2 ^ 32) e
 
 name : (d : Data) → IfSome (name_at d) IsName
 name d = fits_then (λ text. ⊤) IsName name_of (as_str d) (anything (as_str d)) (λ text any. fits_if IsName (is_name (candidate text) && bytes_eq (name_text (candidate text)) text) (Some (candidate text))
@@ -115,10 +109,7 @@ counts (item d ds) = fits_then IsWord (Each IsWord) (λ n. option_map (λ later.
 
 first_counts : (d : Data) → IfSome (counts_at d) (λ ns. (length ns ≡ MOST_SITES_OF_VERSION_1) × Each IsWord ns)
 first_counts d = fits_then (Each IsWord) _ (λ ns. if length ns == MOST_SITES_OF_VERSION_1 then Some ns else None) (option_and_then counts_in (as_array d)) (fits_then (λ ds. ⊤) (Each IsWord) counts_in (as_array d) (anything _) (λ ds any. counts ds))
-    (λ ns h. fits_if (λ ns. (length ns ≡ MOST_SITES_OF_VERSION_1) × Each IsWord ns) (length ns == MOST_SITES_OF_VERSION_1) (Some ns) (λ e. (same (length ns) e, h)))
-  where
-    same : (n : ℕ) → (n == MOST_SITES_OF_VERSION_1) ≡ true → n ≡ MOST_SITES_OF_VERSION_1
-    same n e = grind (arith, nat_tests)
+    (λ ns h. fits_if (λ ns. (length ns ≡ MOST_SITES_OF_VERSION_1) × Each IsWord ns) (length ns == MOST_SITES_OF_VERSION_1) (Some ns) (λ e. (eqb-true (length ns) MOST_SITES_OF_VERSION_1 e, h)))
 
 abbrev IsNumbered : ℕ → ℕ × ℕ → Type 0
 IsNumbered least p = (least ≤ p.0) × (p.0 < MOST_SITES) × IsWord p.1
@@ -131,9 +122,7 @@ one least d = fits_then (λ p. ⊤) (IsNumbered least) _ (pair_of d) (anything _
     within site n e small =
         let front = (and_parts (nat_le least site && nat_lt site MOST_SITES) (nat_le 1 n) e).0 in
         let p = and_parts (nat_le least site) (nat_lt site MOST_SITES) front in
-        let a = p.0 in
-        let b = p.1 in
-        (let low : least ≤ site = grind (arith, nat_tests) in low, let near : site < MOST_SITES = grind (arith, nat_tests) in near, small)
+        (leb-true least site p.0, ltb-true site MOST_SITES p.1, small)
 
 zeros_fit : (many : ℕ) → Each IsWord (replicate many 0)
 zeros_fit zero = tt
@@ -167,16 +156,13 @@ blue : (version : ℕ) (d : Data) → IfSome (blue_at version d) (AreBlue versio
 unfolding blue_at
 blue version d = by (version == 1) refl
   where
-    other : (version == 1) ≡ false → version ≡ 1 → ⊥
-    other q e = grind (arith, nat_tests)
-
     by : (b : Bool) → (version == 1) ≡ b → IfSome (if b then option_map widened (counts_at d) else option_and_then (numbered_in 0) (as_array d)) (AreBlue version)
     by true q = fits_map (λ ns. (length ns ≡ MOST_SITES_OF_VERSION_1) × Each IsWord ns) (AreBlue version) widened (counts_at d) (first_counts d) (λ ns h. record { sites = widened_length ns h.0; fit = widened_fits ns h.1; further = λ e. widened_further ns h.0 })
     by false q = fits_then (λ ds. ⊤) (AreBlue version) (numbered_in 0) (as_array d) (anything _) (λ ds any. at (numbered_in 0 ds) (numbered 0 ds))
       where
         at : (o : Option (List ℕ)) → IfSome o (AreCounts 0) → IfSome o (AreBlue version)
         at None h = tt
-        at (Some ns) h = record { sites = h.0; fit = h.1; further = λ e. absurd (other q e) }
+        at (Some ns) h = record { sites = h.0; fit = h.1; further = λ e. absurd (eqb-false version 1 q e) }
 
 abbrev AreDeps : ℕ → Deps → Type 0
 AreDeps version c = AreBlue version c.blue × IsWord c.red
@@ -275,11 +261,8 @@ six (item a (item b (item c (item d (item e (item g (item h ds))))))) f = tt
 moved : (d : Data) → Fits d → IfSome (moved_told d) IsMoved
 moved d f = fits_then FitsNumber IsMoved as_i64 (as_number d) (fits_signed d f) by
   where
-    small : (n : ℕ) → nat_lt n (2 ^ 63) ≡ true → n < 2 ^ 63
-    small n e = grind (arith, nat_tests)
-
     by : (n : Num) → FitsNumber n → IfSome (as_i64 n) IsMoved
-    by (unsigned n) h = fits_if IsMoved (nat_lt n (2 ^ 63)) (Some (pos n)) (λ e. small n e)
+    by (unsigned n) h = fits_if IsMoved (nat_lt n (2 ^ 63)) (Some (pos n)) (λ e. ltb-true n (2 ^ 63) e)
     by (negative z) h = h
     by (float x) h = tt
 

@@ -156,48 +156,52 @@ fn writes_each_line(rt: HostRuntime) -> Result<(), Fail> {
     Ok(())
 }
 
+/// An input in parts, whether its last read fails, the room of the writer, the fault, and what is written before it.
+type Faulty = ([&'static str; 3], bool, usize, ScriptFault, &'static str);
+
+const FAULTS: [Faulty; 7] = [
+    (["", "", ""], false, 1_000, ScriptFault::NoConfig, ""),
+    (
+        [WRITTEN, "", ""],
+        false,
+        1_000,
+        ScriptFault::BadConfig { line: 1 },
+        "",
+    ),
+    (
+        [FIRST, WRITTEN, ""],
+        false,
+        1_000,
+        ScriptFault::BadLine { line: 2 },
+        SECOND,
+    ),
+    (
+        [SECOND, RECEIVED, ""],
+        false,
+        1_000,
+        ScriptFault::BadLine { line: 2 },
+        SECOND,
+    ),
+    (
+        [FIRST, "\n{", ""],
+        false,
+        1_000,
+        ScriptFault::BadLine { line: 3 },
+        SECOND,
+    ),
+    ([FIRST, "", ""], true, 1_000, ScriptFault::Read, SECOND),
+    (
+        [FIRST, "", ""],
+        false,
+        10,
+        ScriptFault::Write,
+        "{\"accounts",
+    ),
+];
+
 #[test]
 fn stops_at_a_fault(rt: HostRuntime) -> Result<(), Fail> {
-    let cases: [([&str; 3], bool, usize, ScriptFault, &str); 7] = [
-        (["", "", ""], false, 1_000, ScriptFault::NoConfig, ""),
-        (
-            [WRITTEN, "", ""],
-            false,
-            1_000,
-            ScriptFault::BadConfig { line: 1 },
-            "",
-        ),
-        (
-            [FIRST, WRITTEN, ""],
-            false,
-            1_000,
-            ScriptFault::BadLine { line: 2 },
-            SECOND,
-        ),
-        (
-            [SECOND, RECEIVED, ""],
-            false,
-            1_000,
-            ScriptFault::BadLine { line: 2 },
-            SECOND,
-        ),
-        (
-            [FIRST, "\n{", ""],
-            false,
-            1_000,
-            ScriptFault::BadLine { line: 3 },
-            SECOND,
-        ),
-        ([FIRST, "", ""], true, 1_000, ScriptFault::Read, SECOND),
-        (
-            [FIRST, "", ""],
-            false,
-            10,
-            ScriptFault::Write,
-            "{\"accounts",
-        ),
-    ];
-    for (input, fails, room, fault, line) in cases {
+    for (input, fails, room, fault, line) in FAULTS {
         let (result, text) = migrated(rt.alloc(), input.as_slice(), fails, room)?;
         assert_eq!(rt; result, Err(fault));
         assert_eq!(rt; text.as_slice(), line.as_bytes());

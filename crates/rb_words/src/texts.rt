@@ -95,18 +95,18 @@ Statuses:
 pub const MIGRATE_HELP: &str =
     r#"The first line is the configuration, and each later line an entry of a site's history, in version 1
 or 2 of their lines. Version 2 has up to sixteen sites, and tells what a site had applied by the sites
-that it had applied something of, each with its count:
+that it had applied something of, each with its count. In version 1:
 
   {"accounts":[["ann",0]],"sites":2,"version":1}
-  {"event":{"shadow":{"account":"ann","amount":5,"deps":[[0,1,0,0,0,0,0,0],0],"home":1,"kind":"deposit",
-"name":"B1.2"}},"reply":{"held":"B1.2"},"site":0}
+  {"event":{"shadow":{"account":"ann","amount":5,"deps":[[0,1,0,0,0,0,0,0],0],"home":1,
+    "kind":"deposit","name":"B1.2"}},"reply":{"held":"B1.2"},"site":0}
 
-(the second line is one line) becomes
+What stands further in here is the rest of the line above it. The same in version 2:
 
   {"accounts":[["ann",0]],"blue":1000000,"epoch":4000000000,"history":100000000,"inbox":4096,
-"red":1000000,"sites":2,"version":2}
-  {"event":{"shadow":{"account":"ann","amount":5,"deps":[[[1,1]],0],"home":1,"kind":"deposit",
-"name":"B1.2"}},"reply":{"held":"B1.2"},"site":0}
+    "red":1000000,"sites":2,"version":2}
+  {"event":{"shadow":{"account":"ann","amount":5,"deps":[[[1,1]],0],"home":1,
+    "kind":"deposit","name":"B1.2"}},"reply":{"held":"B1.2"},"site":0}
 
 Statuses:
   0  every line was written

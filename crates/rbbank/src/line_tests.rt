@@ -184,6 +184,11 @@ fn configurations(rt: HostRuntime) -> Result<(), Fail> {
         epoch: 5,
     };
     assert_eq!(rt; whole.limits(), limits);
+    Ok(())
+}
+
+#[test]
+fn versions(rt: HostRuntime) -> Result<(), Fail> {
     for (line, sites, version) in [
         (TWO_ACCOUNTS, 2, 1),
         (
