@@ -11,17 +11,19 @@ sys.dont_write_bytecode = True
 import histories
 import kinds
 import mix
-from limits import LIMITS
+from limits import LIMITS, version_of
 
 MIXED = {"mix": mix.mix, "histories": histories.histories}
-KINDS = MIXED | kinds.LONG | kinds.SHORTEST
+# These are known with a number of sites behind them, too.
+AT_SITES = {f"{kind}-{sites}": (kind, sites) for kind in ("cycle", "mix", "histories") for sites in (2, 8, 16)}
+KINDS = MIXED | kinds.LONG | kinds.SHORTEST | AT_SITES
 
 
 def lines(kind, commands, seed=1, **of_mix):
     """The lines of an input. The options of the mix may be given for what is mixed alone."""
-    sites = of_mix.setdefault("sites", 3) if kind in MIXED else 2
-    script = KINDS[kind](seed, commands, **of_mix)
-    yield json.dumps({"accounts": next(script), "sites": sites, "version": 1}, separators=(",", ":"))
+    kind, sites = AT_SITES.get(kind, (kind, of_mix.get("sites", 3 if kind in MIXED else 2)))
+    script = KINDS[kind](seed, commands, **(of_mix | {"sites": sites} if kind in MIXED else of_mix))
+    yield json.dumps({"accounts": next(script), "sites": sites, "version": version_of(sites)}, separators=(",", ":"))
     yield from script
 
 

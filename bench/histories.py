@@ -5,7 +5,7 @@ Follows the mix as it goes and keeps beside it what each site knows, for the rep
 import json
 
 import mix
-from limits import LIMITS
+from limits import LIMITS, version_of
 
 
 def written(value):
@@ -13,14 +13,19 @@ def written(value):
     return json.dumps(value, separators=(",", ":"), sort_keys=True)
 
 
+def counts(clock):
+    """The blue operations of a clock: in version 1 for each of as many sites as it may have, in version 2 those above 0."""
+    if version_of(len(clock)) == 1:
+        return [*clock, *[0] * (LIMITS["MOST_SITES_OF_VERSION_1"] - len(clock))]
+    return [[site, count] for site, count in enumerate(clock) if count]
+
+
 def shadow(run, operation):
     """An operation as it travels."""
-    # A clock is written with as many sites as there may be.
-    blue = list(operation.clock) + [0] * (LIMITS["MOST_SITES"] - len(operation.clock))
     told = {
         "account": run.names[operation.account],
         "amount": operation.amount,
-        "deps": [blue, operation.reds],
+        "deps": [counts(operation.clock), operation.reds],
         "home": operation.home,
         "kind": operation.kind,
         "name": operation.name,
