@@ -9,7 +9,7 @@ use Rattle.rb_history.proofs.counts.append_numbered.Goals as goal
 pub loop-site-preserved : goal.loop-site-preserved
 loop-site-preserved c =
     let out = c.loop-site.out.items in
-    let new = c.append_some-next.new.out.items in
+    let new = c.append_some.new.out.items in
     let counts = c.args.counts.now in
     let i = c.loop-site.site in
     let added = c.in_ok-next.ensures.added in
