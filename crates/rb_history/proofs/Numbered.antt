@@ -6,8 +6,9 @@ use Rattle.std.proofs.lemmas.Bool.Decides.{nat_tests}
 use Rattle.std.proofs.lemmas.List.{drop-drop, drop-replicate, drop-set-lt, drop_all, replicate_more, take-append-drop, take-replicate, take_more_set}
 use Rattle.std.proofs.Math.Seq.{take-add}
 use Rattle.serde_json.specs.Data.{Data, Items, item}
-use Rattle.serde_json.specs.View.{items_of}
+use Rattle.serde_json.specs.View.{items_of, items_view, view}
 use Rattle.serde_json.specs.Written.{compact_text}
+use Rattle.serde_json.specs.declared.value.Value.{Value}
 use Rattle.rb_money.specs.declared.limits.TheConstants.{MOST_SITES}
 use Rattle.rb_commands.specs.Values.{number_json}
 use Rattle.rb_money.proofs.Public.Tests.{is_below as below}
@@ -52,7 +53,7 @@ numbered_fit i (n ∷ ns) within h = at (n == 0)
 -- ---- read
 
 -- one more of a list is read
-pub one_read : (counts : List ℕ) (least site n : ℕ) (d : Data) (ds : Items) (whole : Option (List ℕ)) → length counts ≡ MOST_SITES → least ≤ site → site < MOST_SITES → drop least counts ≡ replicate (MOST_SITES - least) 0
+one_read : (counts : List ℕ) (least site n : ℕ) (d : Data) (ds : Items) (whole : Option (List ℕ)) → length counts ≡ MOST_SITES → least ≤ site → site < MOST_SITES → drop least counts ≡ replicate (MOST_SITES - least) 0
     → numbered_at least d ≡ Some (site, n) → with_front (take least counts) (numbered_in least (item d ds)) ≡ whole → with_front (take (site + 1) (set counts site n)) (numbered_in (site + 1) ds) ≡ whole
 one_read counts least site n d ds whole long low near none is so = by (numbered_in (site + 1) ds) refl
   where
@@ -76,6 +77,13 @@ one_read counts least site n d ds whole long low near none is so = by (numbered_
         let whole_list : ((begun ++ zeros) ++ n ∷ []) ++ later ≡ begun ++ (zeros ++ n ∷ later) = append_assoc (begun ++ zeros) (n ∷ []) later ∙ append_assoc begun zeros (n ∷ later) in
         ap Some (ap (λ l. l ++ later) front ∙ whole_list)
         ∙ ap (λ o. with_front begun (option_map (λ ms. zeros ++ n ∷ ms) o)) (sym e) ∙ read
+
+-- the same of a list's values
+pub value_read : (counts : List ℕ) (least site n : ℕ) (values : List Value) (i : ℕ) (v : Value) (whole : Option (List ℕ)) → length counts ≡ MOST_SITES → least ≤ site → site < MOST_SITES → drop least counts ≡ replicate (MOST_SITES - least) 0
+    → drop i values ≡ v ∷ drop (i + 1) values → numbered_at least (view v) ≡ Some (site, n) → with_front (take least counts) (numbered_in least (items_view (drop i values))) ≡ whole
+    → with_front (take (site + 1) (set counts site n)) (numbered_in (site + 1) (items_view (drop (i + 1) values))) ≡ whole
+value_read counts least site n values i v whole long low near none here is so =
+    one_read counts least site n (view v) (items_view (drop (i + 1) values)) whole long low near none is (ap (λ vs. with_front (take least counts) (numbered_in least (items_view vs))) (sym here) ∙ so)
 
 -- behind it there is nothing yet
 pub none_behind : (counts : List ℕ) (least site n : ℕ) → least ≤ site → site < MOST_SITES → drop least counts ≡ replicate (MOST_SITES - least) 0 → drop (site + 1) (set counts site n) ≡ replicate (MOST_SITES - (site + 1)) 0

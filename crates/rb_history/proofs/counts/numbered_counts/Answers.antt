@@ -1,11 +1,9 @@
-use Rattle.std.proofs.Common.{◌≡◌, ◌+◌, ◌-◌, ℕ, List, Option, Some, [], drop, take, ap, refl, sym, ◌∙◌, add-one, arith, drop-cons, rules}
-use Rattle.std.specs.Prelude.{replicate}
+use Rattle.std.proofs.Common.{Some, take, ap, sym, ◌∙◌, add-one, arith, drop-cons, rules}
 use Rattle.std.proofs.lemmas.List.{drop_all}
-use Rattle.serde_json.specs.View.{items_view, view}
-use Rattle.rb_money.specs.declared.limits.TheConstants.{MOST_SITES}
+use Rattle.serde_json.specs.View.{items_view}
 use Rattle.rb_commands.proofs.Public.Reading.{with_front}
 use Rattle.rb_history.specs.Counts.{numbered_in}
-use Rattle.rb_history.proofs.Numbered.{all_read, none_behind, one_read, with_none}
+use Rattle.rb_history.proofs.Numbered.{all_read, none_behind, value_read, with_none}
 use Rattle.rb_history.proofs.counts.numbered_counts.Goals as goal
 
 pub loop-item-init : goal.loop-item-init
@@ -24,13 +22,11 @@ loop-item-preserved c =
     let i = c.loop-item.item-index in
     let made = c.in_ok-site in
     let near = made.ensures.near in
-    let here = ap items_view (rw add-one (drop-cons items i _ (omega arith))) in
     record {
       few = omega (arith, near);
       sites = search rules;
       none = none_behind counts least made.site made.count near.0 near.1 c.loop-item.invariant.none;
-      read = one_read counts least made.site made.count _ (items_view (drop (i + 1) items)) _ c.loop-item.invariant.sites near.0 near.1 c.loop-item.invariant.none (sym made.ensures.read)
-          (ap (λ ds. with_front (take least counts) (numbered_in least ds)) (sym here) ∙ c.loop-item.invariant.read);
+      read = value_read counts least made.site made.count items i _ _ c.loop-item.invariant.sites near.0 near.1 c.loop-item.invariant.none (rw add-one (drop-cons items i _ (omega arith))) (sym made.ensures.read) c.loop-item.invariant.read;
     }
 
 pub returns : goal.returns
