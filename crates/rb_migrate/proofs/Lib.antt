@@ -1,3 +1,4 @@
 mod Ended
 mod Ends
 mod Kept
+mod Replays
