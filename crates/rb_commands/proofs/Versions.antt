@@ -1,5 +1,5 @@
 -- A configuration in a version that its sites may have.
-use Rattle.std.proofs.Common.{◌≡◌, ℕ, List, Bool, true, false, Option, Some, None, refl, sym, ap, subst, ◌∙◌}
+use Rattle.std.proofs.Common.{◌≡◌, ℕ, List, Bool, true, false, Some, None, refl, sym, ap, subst, ◌∙◌}
 use Rattle.std.specs.Prelude.{◌==◌, ◌&&◌, ◌||◌, if◌then◌else◌, is_none, nat_le}
 use Rattle.std.proofs.lemmas.Bool.{and_parts, eqb-true, ne_eqb}
 use Rattle.rb_money.specs.Faults.{Account, config_fault, settings_of}

@@ -1,5 +1,5 @@
 -- What is written for the counts of all sites is read as them.
-use Rattle.std.proofs.Common.{◌≡◌, ◌<◌, ◌≤◌, ◌^◌, ℕ, zero, suc, List, [], ◌∷◌, ◌++◌, length, take, drop, Some, true, refl, sym, ap, subst, ◌∙◌, inl, inr, arith, length-append}
+use Rattle.std.proofs.Common.{◌≡◌, ◌<◌, ◌^◌, ℕ, zero, suc, List, [], ◌∷◌, ◌++◌, length, take, drop, Some, refl, sym, ap, subst, ◌∙◌, inl, inr, arith, length-append}
 use Rattle.std.specs.Prelude.{map, option_map, replicate}
 use Rattle.std.proofs.lemmas.List.{drop_at, length-drop, length-replicate, length-take-le, take-append-drop, take_at}
 use Rattle.serde_json.specs.View.{items_of}

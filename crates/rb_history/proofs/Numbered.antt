@@ -1,6 +1,6 @@
 -- The counts above 0, each behind its site's number: written one by one, and read back.
 use Rattle.std.proofs.Common.{◌≡◌, ◌<◌, ◌≤◌, ◌+◌, ◌-◌, ◌^◌, ℕ, List, [], ◌∷◌, ◌++◌, length, take, drop, set, Bool, true, false, Option, Some, None, refl, sym, ap, ap₂, ◌∙◌, arith, append_assoc, append-nil, codes}
-use Rattle.std.specs.Prelude.{◌==◌, ◌&&◌, map, nat_le, nat_lt, replicate, if◌then◌else◌, option_and_then, option_map}
+use Rattle.std.specs.Prelude.{◌==◌, map, replicate, if◌then◌else◌, option_and_then, option_map}
 use Rattle.std.proofs.lemmas.Bool.{eqb-true, le-leb}
 use Rattle.std.proofs.lemmas.Bool.Decides.{nat_tests}
 use Rattle.std.proofs.lemmas.List.{drop-drop, drop-replicate, drop-set-lt, drop_all, replicate_more, take-append-drop, take-replicate, take_more_set}
@@ -10,7 +10,6 @@ use Rattle.serde_json.specs.View.{items_of, items_view, view}
 use Rattle.serde_json.specs.Written.{compact_text}
 use Rattle.serde_json.specs.declared.value.Value.{Value}
 use Rattle.rb_money.specs.declared.limits.TheConstants.{MOST_SITES}
-use Rattle.rb_commands.specs.Values.{number_json}
 use Rattle.rb_money.proofs.Public.Tests.{is_below as below}
 use Rattle.rb_commands.proofs.Public.Reading.{with_front}
 use Rattle.rb_commands.proofs.Public.Listed.{rest_text}

@@ -1,14 +1,14 @@
 -- What is read from a history's line is told whole by a line.
-use Rattle.std.proofs.Common.{◌≡◌, ◌<◌, ◌≤◌, ◌+◌, ◌-◌, ◌^◌, ℕ, zero, suc, ℤ, pos, List, [], ◌∷◌, ◌++◌, length, Bool, true, false, Option, Some, None, refl, sym, ap, ◌∙◌, inl, inr, subst, arith, length-append}
+use Rattle.std.proofs.Common.{◌≡◌, ◌<◌, ◌≤◌, ◌+◌, ◌-◌, ◌^◌, ℕ, zero, suc, pos, List, [], ◌∷◌, ◌++◌, length, Bool, true, false, Option, Some, None, refl, ap, ◌∙◌, inl, inr, arith, length-append}
 use Rattle.std.specs.Prelude.{◌==◌, ◌&&◌, IfSome, bytes_eq, codes, drop, if◌then◌else◌, nat_le, nat_lt, option_and_then, option_map, replicate, unwrap_or, ⊤}
 use Rattle.std.specs.List.{position}
 use Rattle.std.proofs.lemmas.Bool.{and_parts, eqb-false, eqb-true, leb-true, ltb-true}
 use Rattle.std.proofs.lemmas.List.{length-replicate}
 use Rattle.std.proofs.lemmas.List.Quantifiers.{position-Some}
 use Rattle.serde_json.specs.Data.{Data, Num, unsigned, negative, float, Items, no_items, item}
-use Rattle.serde_json.specs.Find.{as_array, as_bool, as_i64, as_number, as_str, as_u64, get}
+use Rattle.serde_json.specs.Find.{as_array, as_bool, as_i64, as_number, as_str, get}
 use Rattle.serde_json.specs.Read.{read}
-use Rattle.rb_money.specs.Settings.{Settings, place_in}
+use Rattle.rb_money.specs.Settings.{Settings}
 use Rattle.rb_money.specs.declared.limits.TheConstants.{MOST_SITES, MOST_SITES_OF_VERSION_1}
 use Rattle.rb_money.specs.declared.place.Place.{Place}
 use Rattle.rb_money.specs.declared.place.TheConstants.Place.{NOWHERE}
@@ -27,7 +27,7 @@ use Rattle.rb_shadow.specs.declared.op_name.OpName.TheVariants.{Blue, Red}
 use Rattle.rb_site.specs.declared.entry.Entry.{Entry}
 use Rattle.rb_site.specs.declared.event.Event.TheVariants.{Submit, Batch, Receive, Apply, Pass, Balance, AsOf, Statement}
 use Rattle.rb_site.specs.declared.message.Message.TheVariants.{Shadow as ShadowMessage, Token as TokenOnItsWay}
-use Rattle.rb_site.specs.declared.reply.Reply.TheVariants.{Made, Names, Held, Already, Taken, Stale, Applied, Passed, Balance as BalanceIs, Statement as StatementIs, Refused}
+use Rattle.rb_site.specs.declared.reply.Reply.TheVariants.{Made, Names, Held, Already, Taken, Stale, Applied, Passed, Balance as BalanceIs, Refused}
 use Rattle.rb_commands.specs.Commands.{teller_event_of, event_of}
 use Rattle.rb_commands.specs.Requests.{account_place, asked_of, place_at, request_alone, request_of, requests_at, requests_in}
 use Rattle.rb_commands.specs.Values.{name_at, number_below, pair_of, size_of}
@@ -36,7 +36,7 @@ use Rattle.rb_history.specs.Entries.{entry_of_line, entry_in, entry_of_object}
 use Rattle.rb_history.specs.Fields.{field, label_at, six_in, six_of, three_of}
 use Rattle.rb_history.specs.Fits.{Each, IsEvent, IsKind, IsKnown, IsMoved, IsRefusal, IsReply, IsRequest, IsStatementRow, IsShadow, ReadEntriesFit}
 use Rattle.rb_history.specs.Recorded.{deps_at, event_at, kind_at, kind_of, recorded_of, shadow_at, token_at}
-use Rattle.rb_history.specs.RepliesRead.{answer_of, refused_batch_told, behind_of, cancelled_of, cause_at, find_refusal, tells_declined, made_told, bad_message_told, moved_told, names_at, names_in, plain_of, plain_refusals, refusal_told, reply_told, row_at, rows_at, rows_in, short_of, simple_of, statement_told}
+use Rattle.rb_history.specs.RepliesRead.{answer_of, cause_at, find_refusal, tells_declined, made_told, moved_told, names_at, names_in, plain_refusals, refusal_told, reply_told, row_at, rows_at, rows_in, short_of, simple_of, statement_told}
 use Rattle.rb_history.proofs.CountsBack.{widened_fits, widened_further, widened_length}
 use Rattle.rb_history.proofs.FitsLaws.{anything, fits_either, fits_field, fits_if, fits_map, fits_some, fits_then}
 use Rattle.rb_history.proofs.NumbersFit.{Fits, FitItems, FitsNumber, fits_array, fits_get, fits_read, fits_signed}
