@@ -15,7 +15,7 @@ use Rattle.rb_shadow.specs.declared.op_name.OpName.{OpName}
 use Rattle.rb_site.specs.declared.world_event.WorldEvent.{WorldEvent}
 use Rattle.rb_commands.specs.Commands.{command_at, command_of, sited_json}
 use Rattle.rb_commands.specs.Spelled.{IsRead, Tells}
-use Rattle.rb_commands.specs.Values.{number_json, name_json, pair_json, one_json}
+use Rattle.rb_commands.specs.Values.{number_json, name_json, pair_json, three_json, one_json}
 use Rattle.rb_commands.specs.Verbs.{key_of, told_at, told_of}
 use Rattle.rb_commands.specs.declared.told.Told.{Told}
 use Rattle.rb_commands.specs.declared.verb.OnAccount.{OnAccount}
@@ -27,7 +27,7 @@ use Rattle.rb_commands.specs.declared.verb.OnOperation.TheVariants.{Cancel, Appl
 use Rattle.rb_commands.specs.declared.verb.OnNumber.{OnNumber}
 use Rattle.rb_commands.specs.declared.verb.OnNumber.TheVariants.{Pass, Deliver}
 use Rattle.rb_commands.specs.declared.verb.Verb.{Verb}
-use Rattle.rb_commands.specs.declared.verb.Verb.TheVariants.{Account, Pair, Operation, Number}
+use Rattle.rb_commands.specs.declared.verb.Verb.TheVariants.{Account, Pair, Operation, Number, Transfer}
 use Rattle.rb_commands.proofs.Public.Plain.{escape_plain, plain_name}
 use Rattle.rb_commands.proofs.Sited.{told_first, told_last}
 use Rattle.rb_commands.proofs.Public.Reading.{compact_read}
@@ -60,7 +60,7 @@ first_line s told site text rest t h e =
     let shallow = is.shallow in
     command_read s turned (sited_json t.key t.value site) (told_at site told) (codes "{\"site\":" ++ (decimal site ++ (codes ",\"" ++ text))) line (IsNumber-decimal site k, (is.numbers, tt)) (omega arith) (rw (number_of-decimal site k, is.same) refl) (told_first s told t.key t.value site h t.is)
 
--- a string, a number, and a list of both, are read from their own texts
+-- a string, a number, a list of both, and one of two strings and a number, are read from their own texts
 string_read : (name : List ℕ) → IsRead (string name)
 string_read name = record { numbers = tt; shallow = omega arith; same = refl }
 
@@ -70,7 +70,10 @@ number_read n h = record { numbers = IsNumber-decimal n h; shallow = omega arith
 pair_read : (name : List ℕ) (n : ℕ) → n < 2 ^ 64 → IsRead (pair_json (string name) (number_json n))
 pair_read name n h = record { numbers = (tt, (IsNumber-decimal n h, tt)); shallow = omega arith; same = rw (number_of-decimal n h) refl }
 
--- a string with no escape, and a list of one and a number, as they stand before what follows
+three_read : (first second : List ℕ) (n : ℕ) → n < 2 ^ 64 → IsRead (three_json (string first) (string second) (number_json n))
+three_read first second n h = record { numbers = (tt, (tt, (IsNumber-decimal n h, tt))); shallow = omega arith; same = rw (number_of-decimal n h) refl }
+
+-- a string with no escape, a list of one and a number, and one of two and a number, as they stand before what follows
 string_text : (name rest : List ℕ) → escape name ≡ name → name ++ (codes "\"" ++ rest) ≡ (escape name ++ codes "\"") ++ rest
 string_text name rest plain = sym (append_assoc name (codes "\"") rest) ∙ ap (λ l. (l ++ codes "\"") ++ rest) (sym plain)
 
@@ -81,6 +84,13 @@ pair_text : (name digits rest : List ℕ) → escape name ≡ name → name ++ (
 pair_text name digits rest plain =
     let regrouped : name ++ (codes "\"," ++ (digits ++ (codes "]" ++ rest))) ≡ ((name ++ codes "\"") ++ (codes "," ++ (digits ++ codes "]"))) ++ rest = simp append_assoc in
     regrouped ∙ ap (λ l. ((l ++ codes "\"") ++ (codes "," ++ (digits ++ codes "]"))) ++ rest) (sym plain)
+
+three_text : (first second digits rest : List ℕ) → escape first ≡ first → escape second ≡ second → first ++ (codes "\",\"" ++ (second ++ (codes "\"," ++ (digits ++ (codes "]" ++ rest))))) ≡ ((escape first ++ codes "\"") ++ (codes ",\"" ++ ((escape second ++ codes "\"") ++ (codes "," ++ (digits ++ codes "]"))))) ++ rest
+three_text first second digits rest plain clear =
+    let regrouped : first ++ (codes "\",\"" ++ (second ++ (codes "\"," ++ (digits ++ (codes "]" ++ rest))))) ≡ ((first ++ codes "\"") ++ (codes ",\"" ++ ((second ++ codes "\"") ++ (codes "," ++ (digits ++ codes "]"))))) ++ rest = simp append_assoc in
+    regrouped
+    ∙ ap (λ a. ((a ++ codes "\"") ++ (codes ",\"" ++ ((second ++ codes "\"") ++ (codes "," ++ (digits ++ codes "]"))))) ++ rest) (sym plain)
+    ∙ ap (λ b. ((escape first ++ codes "\"") ++ (codes ",\"" ++ ((b ++ codes "\"") ++ (codes "," ++ (digits ++ codes "]"))))) ++ rest) (sym clear)
 
 -- a verb's key in quotes, and that it isn't the site's
 quoted_key : (v : Verb) → quoted (key_of v) ≡ 34 ∷ (key_of v ++ 34 ∷ [])
@@ -95,6 +105,7 @@ quoted_key (Operation Cancel) = refl
 quoted_key (Operation Apply) = refl
 quoted_key (Number Pass) = refl
 quoted_key (Number Deliver) = refl
+quoted_key Transfer = refl
 
 no_site : (v : Verb) → bytes_eq (key_of v) (codes "site") ≡ false
 no_site (Account Balance) = refl
@@ -107,6 +118,7 @@ no_site (Operation Cancel) = refl
 no_site (Operation Apply) = refl
 no_site (Number Pass) = refl
 no_site (Number Deliver) = refl
+no_site Transfer = refl
 
 key_text : (v : Verb) (text behind : List ℕ) → text ≡ codes "\":" ++ behind → codes "\"" ++ (key_of v ++ text) ≡ quoted (key_of v) ++ (codes ":" ++ behind)
 key_text v text behind e = ap (λ l. codes "\"" ++ (key_of v ++ l)) e ∙ ap (λ l. codes "\"" ++ l) (sym (append_assoc (key_of v) (codes "\"") (codes ":" ++ behind))) ∙ ap (λ l. l ++ (codes ":" ++ behind)) (sym (quoted_key v))
@@ -133,3 +145,6 @@ operation_tells s v told x rest h = tells s (Operation v) told (name_json x) (co
 
 pub number_tells : (s : Settings) (v : OnNumber) (told : Told) (n : ℕ) (rest : List ℕ) → n < 2 ^ 64 → told_of s (one_json (key_of (Number v)) (number_json n)) ≡ Some told → Tells s told (key_of (Number v) ++ (codes "\":" ++ (decimal n ++ rest))) rest
 number_tells s v told n rest h = tells s (Number v) told (number_json n) (codes "\":" ++ (decimal n ++ rest)) rest refl (number_read n h) (omega arith)
+
+pub transfer_tells : (s : Settings) (told : Told) (from to : List ℕ) (n : ℕ) (rest : List ℕ) → n < 2 ^ 64 → escape from ≡ from → escape to ≡ to → told_of s (one_json (key_of Transfer) (three_json (string from) (string to) (number_json n))) ≡ Some told → Tells s told (key_of Transfer ++ (codes "\":[\"" ++ (from ++ (codes "\",\"" ++ (to ++ (codes "\"," ++ (decimal n ++ (codes "]" ++ rest)))))))) rest
+transfer_tells s told from to n rest h plain clear = tells s Transfer told (three_json (string from) (string to) (number_json n)) (codes "\":[\"" ++ (from ++ (codes "\",\"" ++ (to ++ (codes "\"," ++ (decimal n ++ (codes "]" ++ rest))))))) rest (ap (λ l. codes "\":[\"" ++ l) (three_text from to (decimal n) rest plain clear)) (three_read from to n h) (omega arith)

@@ -9,8 +9,10 @@ ghost use Rattle.rb_commands.specs.Verbs.{key_of, told_of};
 use crate::fault::LineFault;
 use crate::own_event::OwnEvent;
 use crate::told::Told;
-use crate::values::{long, name, pair, size};
-use crate::verb::{OnOperation, OnPair, Verb, key, of_account, of_number, of_operation, of_pair};
+use crate::values::{long, name, pair, size, three};
+use crate::verb::{
+    OnOperation, OnPair, Verb, key, of_account, of_number, of_operation, of_pair, of_transfer,
+};
 use rb_money::{Config, Place};
 use rb_scratch::Request;
 use serde_json::Value;
@@ -59,6 +61,13 @@ pub fn told(config: &Config, verb: Verb, value: &Value) -> Option<Told>
             let n = long(value)?;
             of_number(verb, n)
         }
+        Verb::Transfer => {
+            let (from, to, amount) = three(value)?;
+            let from = from.as_str()?;
+            let to = to.as_str()?;
+            let amount = long(amount)?;
+            Some(of_transfer(config, from, to, amount))
+        }
     }
 }
 
@@ -89,7 +98,10 @@ pub fn request(config: &Config, value: &Value) -> Option<Request>
         return asked(config, interest, argument);
     }
     let cancel = Verb::Operation(OnOperation::Cancel);
-    asked(config, cancel, value.get(key(cancel))?)
+    if let Some(argument) = value.get(key(cancel)) {
+        return asked(config, cancel, argument);
+    }
+    asked(config, Verb::Transfer, value.get(key(Verb::Transfer))?)
 }
 
 /// A request of a batch, from an object of one member.

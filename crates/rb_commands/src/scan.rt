@@ -123,3 +123,13 @@ pub fn pair(text: &str) -> Option<(&str, u64, &str)>
     let (n, rest) = number(after(rest, ",")?)?;
     Some((name, n, after(rest, "]")?))
 }
+
+/// Two accounts' names and a number, in a list of three.
+#[inline(always)]
+pub fn three(text: &str) -> Option<(&str, &str, u64, &str)>
+    ensures { IfSome result (λ p. (p.2 < 2 ^ 64) × (escape p.0.now ≡ p.0.now) × (escape p.1.now ≡ p.1.now) × (text.now ≡ p.0.now ++ (codes "\",\"" ++ (p.1.now ++ (codes "\"," ++ (decimal p.2 ++ (codes "]" ++ p.3.now))))))) }
+{
+    let (first, rest) = plain(text)?;
+    let (second, n, rest) = pair(after(rest, ",\"")?)?;
+    Some((first, second, n, rest))
+}

@@ -5,11 +5,11 @@ ghost use Rattle.rb_commands.specs.Commands.{command_at};
 ghost use Rattle.rb_commands.specs.Spelled.{Asks, AsksEach, Tells};
 
 use crate::own_event::OwnEvent;
-use crate::scan::{after, byte, number, operation, pair, plain};
+use crate::scan::{after, byte, number, operation, pair, plain, three};
 use crate::told::{Told, at};
 use crate::verb::{
     BATCH, OnAccount, OnNumber, OnOperation, OnPair, Verb, key, of_account, of_number,
-    of_operation, of_pair, of_requests, submit,
+    of_operation, of_pair, of_requests, of_transfer, submit,
 };
 use rb_money::Config;
 use rb_scratch::Request;
@@ -48,6 +48,10 @@ fn tell<'a>(config: &Config, verb: Verb, text: &'a str) -> Option<(Told, &'a str
             let (n, rest) = number(after(text, "\":")?)?;
             Some((of_number(verb, n)?, rest))
         }
+        Verb::Transfer => {
+            let (from, to, amount, rest) = three(after(text, "\":[\"")?)?;
+            Some((of_transfer(config, from, to, amount), rest))
+        }
     }
 }
 
@@ -71,6 +75,7 @@ fn request<'a>(config: &Config, text: &'a str) -> Option<(Request, &'a str)>
         Some(b'd') => Verb::Pair(OnPair::Deposit),
         Some(b'w') => Verb::Pair(OnPair::Withdraw),
         Some(b'i') => Verb::Pair(OnPair::Interest),
+        Some(b't') => Verb::Transfer,
         _ => Verb::Operation(OnOperation::Cancel),
     };
     ask(config, verb, text)

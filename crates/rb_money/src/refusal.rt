@@ -59,8 +59,7 @@ pub enum Refusal {
     PositionBeyond,
     /// The site's history is full.
     HistoryFull,
-    /// A transfer would go to the account that it comes from. No site answers it, since there are no
-    /// transfers; a line that tells it is read and written as any other.
+    /// The transfer would go to the account that it comes from.
     SameAccount,
 }
 

@@ -15,6 +15,8 @@ const BLANK: UndoParts = UndoParts {
     place: Place(0),
     balance: 0,
     target: 0,
+    other: Place::NOWHERE,
+    other_balance: 0,
 };
 
 /// Undo records in order, at most as many as a batch has requests, each of which is still to be spent or

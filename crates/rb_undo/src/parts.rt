@@ -15,4 +15,8 @@ pub struct UndoParts {
     pub balance: u64,
     /// The position of what the entry cancels, or 0.
     pub target: u32,
+    /// The entry's second account, or `Place::NOWHERE`.
+    pub other: Place,
+    /// The second account's balance before the entry, in cents, or 0 where there is none.
+    pub other_balance: u64,
 }
