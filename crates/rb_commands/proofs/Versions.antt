@@ -40,7 +40,7 @@ pub from_parts : (version sites : ℕ) (limits : Limits) (accounts : List Accoun
 from_parts version sites limits accounts s r allowed none is made = rw (allowed, none) (ap Some (ap (λ (t : Settings). record t { version = version }) (sym is) ∙ sym made))
 
 pub not_allowed : (version sites : ℕ) (limits : Limits) (accounts : List Account) → is_version version sites ≡ false → config_from version sites limits accounts ≡ None
-not_allowed version sites limits accounts no = rw no refl
+not_allowed version sites limits accounts wrong = rw wrong refl
 
 pub faulty : (version sites : ℕ) (limits : Limits) (accounts : List Account) (fault : ConfigFault) → config_fault sites accounts limits ≡ Some fault → config_from version sites limits accounts ≡ None
 faulty version sites limits accounts fault is = by (is_version version sites)

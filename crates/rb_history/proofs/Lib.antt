@@ -1,5 +1,5 @@
 mod Shapes
-mod Counts
+mod CountsLength
 mod Numbered
 mod CountsBack
 mod KnownPlaces

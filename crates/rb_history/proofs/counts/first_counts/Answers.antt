@@ -4,7 +4,7 @@ use Rattle.rb_money.specs.declared.limits.TheConstants.{MOST_SITES_OF_VERSION_1}
 use Rattle.serde_json.specs.Find.{as_array}
 use Rattle.serde_json.specs.View.{items_view, view}
 use Rattle.rb_history.specs.Counts.{counts_in}
-use Rattle.rb_history.proofs.Counts.{other_length}
+use Rattle.rb_history.proofs.CountsLength.{other_length}
 use Rattle.rb_history.proofs.counts.first_counts.Goals as goal
 
 pub returns-then-len-ne-MOST_SITES_OF_VERSION_1 : goal.returns-then-len-ne-MOST_SITES_OF_VERSION_1
