@@ -10,14 +10,19 @@ use Rattle.serde_json.specs.Read.{read, of_json, max_depth}
 use Rattle.serde_json.specs.Written.{compact_text, outline}
 use Rattle.serde_json.proofs.Numbers.{number_of-decimal}
 use Rattle.rb_money.specs.Settings.{Settings}
+use Rattle.rb_money.proofs.Public.Tests.{is_below}
+use Rattle.rb_scratch.specs.declared.request.Request.TheVariants.{Transfer}
 use Rattle.rb_shadow.specs.NameText.{IsName, name_text}
 use Rattle.rb_shadow.specs.declared.op_name.OpName.{OpName}
 use Rattle.rb_site.specs.declared.world_event.WorldEvent.{WorldEvent}
 use Rattle.rb_commands.specs.Commands.{command_at, command_of, sited_json}
-use Rattle.rb_commands.specs.Spelled.{IsRead, Tells}
+use Rattle.rb_commands.specs.Requests.{account_place}
+use Rattle.rb_commands.specs.Spelled.{Asks, IsRead, Tells}
 use Rattle.rb_commands.specs.Values.{number_json, name_json, pair_json, three_json, one_json}
 use Rattle.rb_commands.specs.Verbs.{key_of, told_at, told_of}
+use Rattle.rb_commands.specs.declared.own_event.OwnEvent.TheVariants.{Submit}
 use Rattle.rb_commands.specs.declared.told.Told.{Told}
+use Rattle.rb_commands.specs.declared.told.Told.TheVariants.{Event as ToldEvent}
 use Rattle.rb_commands.specs.declared.verb.OnAccount.{OnAccount}
 use Rattle.rb_commands.specs.declared.verb.OnAccount.TheVariants.{Balance, Statement}
 use Rattle.rb_commands.specs.declared.verb.OnPair.{OnPair}
@@ -27,7 +32,7 @@ use Rattle.rb_commands.specs.declared.verb.OnOperation.TheVariants.{Cancel, Appl
 use Rattle.rb_commands.specs.declared.verb.OnNumber.{OnNumber}
 use Rattle.rb_commands.specs.declared.verb.OnNumber.TheVariants.{Pass, Deliver}
 use Rattle.rb_commands.specs.declared.verb.Verb.{Verb}
-use Rattle.rb_commands.specs.declared.verb.Verb.TheVariants.{Account, Pair, Operation, Number, Transfer}
+use Rattle.rb_commands.specs.declared.verb.Verb.TheVariants.{Account, Pair, Operation, Number}
 use Rattle.rb_commands.proofs.Public.Plain.{escape_plain, plain_name}
 use Rattle.rb_commands.proofs.Sited.{told_first, told_last}
 use Rattle.rb_commands.proofs.Public.Reading.{compact_read}
@@ -105,7 +110,6 @@ quoted_key (Operation Cancel) = refl
 quoted_key (Operation Apply) = refl
 quoted_key (Number Pass) = refl
 quoted_key (Number Deliver) = refl
-quoted_key Transfer = refl
 
 no_site : (v : Verb) → bytes_eq (key_of v) (codes "site") ≡ false
 no_site (Account Balance) = refl
@@ -118,21 +122,24 @@ no_site (Operation Cancel) = refl
 no_site (Operation Apply) = refl
 no_site (Number Pass) = refl
 no_site (Number Deliver) = refl
-no_site Transfer = refl
 
-key_text : (v : Verb) (text behind : List ℕ) → text ≡ codes "\":" ++ behind → codes "\"" ++ (key_of v ++ text) ≡ quoted (key_of v) ++ (codes ":" ++ behind)
-key_text v text behind e = ap (λ l. codes "\"" ++ (key_of v ++ l)) e ∙ ap (λ l. codes "\"" ++ l) (sym (append_assoc (key_of v) (codes "\"") (codes ":" ++ behind))) ∙ ap (λ l. l ++ (codes ":" ++ behind)) (sym (quoted_key v))
+key_text : (key text behind : List ℕ) → quoted key ≡ 34 ∷ (key ++ 34 ∷ []) → text ≡ codes "\":" ++ behind → codes "\"" ++ (key ++ text) ≡ quoted key ++ (codes ":" ++ behind)
+key_text key text behind q e = ap (λ l. codes "\"" ++ (key ++ l)) e ∙ ap (λ l. codes "\"" ++ l) (sym (append_assoc key (codes "\"") (codes ":" ++ behind))) ∙ ap (λ l. l ++ (codes ":" ++ behind)) (sym q)
 
--- what a verb tells of the argument that stands behind its key
-tells : (s : Settings) (v : Verb) (told : Told) (value : Data) (text rest : List ℕ) → text ≡ codes "\":" ++ (compact_text value ++ rest) → IsRead value → tree.depth (outline value) ≤ 1 → told_of s (one_json (key_of v) value) ≡ Some told → Tells s told (key_of v ++ text) rest
-tells s v told value text rest e read flat alone = record {
-  key = key_of v;
+-- what a key tells of the argument that stands behind it
+tells_by : (s : Settings) (key : List ℕ) (told : Told) (value : Data) (text rest : List ℕ) → quoted key ≡ 34 ∷ (key ++ 34 ∷ []) → bytes_eq key (codes "site") ≡ false → text ≡ codes "\":" ++ (compact_text value ++ rest) → IsRead value → tree.depth (outline value) ≤ 1 → told_of s (one_json key value) ≡ Some told → Tells s told (key ++ text) rest
+tells_by s key told value text rest q other e read flat alone = record {
+  key = key;
   value = value;
-  member = key_text v text (compact_text value ++ rest) e;
+  member = key_text key text (compact_text value ++ rest) q e;
   read = read;
   flat = λ r same. flat;
-  is = record { other = λ same. true≢false (sym (ap (λ k. bytes_eq k (codes "site")) same) ∙ no_site v); alone = alone };
+  is = record { other = λ same. true≢false (sym (ap (λ k. bytes_eq k (codes "site")) same) ∙ other); alone = alone };
 }
+
+-- the same of a verb
+tells : (s : Settings) (v : Verb) (told : Told) (value : Data) (text rest : List ℕ) → text ≡ codes "\":" ++ (compact_text value ++ rest) → IsRead value → tree.depth (outline value) ≤ 1 → told_of s (one_json (key_of v) value) ≡ Some told → Tells s told (key_of v ++ text) rest
+tells s v told value text rest = tells_by s (key_of v) told value text rest (quoted_key v) (no_site v)
 
 pub account_tells : (s : Settings) (v : OnAccount) (told : Told) (name rest : List ℕ) → escape name ≡ name → told_of s (one_json (key_of (Account v)) (string name)) ≡ Some told → Tells s told (key_of (Account v) ++ (codes "\":\"" ++ (name ++ (codes "\"" ++ rest)))) rest
 account_tells s v told name rest plain = tells s (Account v) told (string name) (codes "\":\"" ++ (name ++ (codes "\"" ++ rest))) rest (ap (λ l. codes "\":\"" ++ l) (string_text name rest plain)) (string_read name) (omega arith)
@@ -146,5 +153,12 @@ operation_tells s v told x rest h = tells s (Operation v) told (name_json x) (co
 pub number_tells : (s : Settings) (v : OnNumber) (told : Told) (n : ℕ) (rest : List ℕ) → n < 2 ^ 64 → told_of s (one_json (key_of (Number v)) (number_json n)) ≡ Some told → Tells s told (key_of (Number v) ++ (codes "\":" ++ (decimal n ++ rest))) rest
 number_tells s v told n rest h = tells s (Number v) told (number_json n) (codes "\":" ++ (decimal n ++ rest)) rest refl (number_read n h) (omega arith)
 
-pub transfer_tells : (s : Settings) (told : Told) (from to : List ℕ) (n : ℕ) (rest : List ℕ) → n < 2 ^ 64 → escape from ≡ from → escape to ≡ to → told_of s (one_json (key_of Transfer) (three_json (string from) (string to) (number_json n))) ≡ Some told → Tells s told (key_of Transfer ++ (codes "\":[\"" ++ (from ++ (codes "\",\"" ++ (to ++ (codes "\"," ++ (decimal n ++ (codes "]" ++ rest)))))))) rest
-transfer_tells s told from to n rest h plain clear = tells s Transfer told (three_json (string from) (string to) (number_json n)) (codes "\":[\"" ++ (from ++ (codes "\",\"" ++ (to ++ (codes "\"," ++ (decimal n ++ (codes "]" ++ rest))))))) rest (ap (λ l. codes "\":[\"" ++ l) (three_text from to (decimal n) rest plain clear)) (three_read from to n h) (omega arith)
+transfer_told : (s : Settings) (from to : List ℕ) (n : ℕ) → n < 2 ^ 64 → told_of s (one_json (codes "transfer") (three_json (string from) (string to) (number_json n))) ≡ Some (ToldEvent (Submit (Transfer (account_place s from) (account_place s to) n)))
+transfer_told s from to n h = rw (is_below n (2 ^ 64) h) refl
+
+quoted_transfer : quoted (codes "transfer") ≡ 34 ∷ (codes "transfer" ++ 34 ∷ [])
+unfolding escape_byte
+quoted_transfer = refl
+
+pub transfer_asks : (s : Settings) (from to : List ℕ) (n : ℕ) (rest : List ℕ) → n < 2 ^ 64 → escape from ≡ from → escape to ≡ to → Asks s (Transfer (account_place s from) (account_place s to) n) (codes "transfer" ++ (codes "\":[\"" ++ (from ++ (codes "\",\"" ++ (to ++ (codes "\"," ++ (decimal n ++ (codes "]" ++ rest)))))))) rest
+transfer_asks s from to n rest h plain clear = tells_by s (codes "transfer") (ToldEvent (Submit (Transfer (account_place s from) (account_place s to) n))) (three_json (string from) (string to) (number_json n)) (codes "\":[\"" ++ (from ++ (codes "\",\"" ++ (to ++ (codes "\"," ++ (decimal n ++ (codes "]" ++ rest))))))) rest quoted_transfer refl (ap (λ l. codes "\":[\"" ++ l) (three_text from to (decimal n) rest plain clear)) (three_read from to n h) (omega arith) (transfer_told s from to n h)

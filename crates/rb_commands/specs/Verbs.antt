@@ -18,7 +18,7 @@ use Rattle.rb_commands.specs.declared.verb.OnPair.TheVariants.{Deposit, Withdraw
 use Rattle.rb_commands.specs.declared.verb.OnOperation.TheVariants.{Cancel, Apply}
 use Rattle.rb_commands.specs.declared.verb.OnNumber.TheVariants.{Pass, Deliver}
 use Rattle.rb_commands.specs.declared.verb.Verb.{Verb}
-use Rattle.rb_commands.specs.declared.verb.Verb.TheVariants.{Account, Pair, Operation, Number, Transfer}
+use Rattle.rb_commands.specs.declared.verb.Verb.TheVariants.{Account, Pair, Operation, Number}
 
 -- a verb's key
 abbrev pub key_of : Verb → List ℕ
@@ -32,7 +32,6 @@ key_of (Operation Cancel) = codes "cancel"
 key_of (Operation Apply) = codes "apply"
 key_of (Number Pass) = codes "pass"
 key_of (Number Deliver) = codes "deliver"
-key_of Transfer = codes "transfer"
 
 -- an event of a site's own, among all events
 abbrev pub event_told : OwnEvent → SiteEvent

@@ -2,7 +2,7 @@
 ghost use Rattle.std.specs.Prelude.{◌≡◌, ◌^◌};
 ghost use Rattle.serde_json.specs.View.{view};
 ghost use Rattle.rb_commands.specs.Lines.{GivesAs};
-ghost use Rattle.rb_commands.specs.Requests.{account_place, place_at, request_of, request_alone, requests_at};
+ghost use Rattle.rb_commands.specs.Requests.{account_place, place_at, request_of, request_alone, requests_at, transfer_at};
 ghost use Rattle.rb_commands.specs.Values.{one_json};
 ghost use Rattle.rb_commands.specs.Verbs.{key_of, told_of};
 
@@ -11,7 +11,7 @@ use crate::own_event::OwnEvent;
 use crate::told::Told;
 use crate::values::{long, name, pair, size, three};
 use crate::verb::{
-    OnOperation, OnPair, Verb, key, of_account, of_number, of_operation, of_pair, of_transfer,
+    OnOperation, OnPair, TRANSFER, Verb, key, of_account, of_number, of_operation, of_pair,
 };
 use rb_money::{Config, Place};
 use rb_scratch::Request;
@@ -61,13 +61,6 @@ pub fn told(config: &Config, verb: Verb, value: &Value) -> Option<Told>
             let n = long(value)?;
             of_number(verb, n)
         }
-        Verb::Transfer => {
-            let (from, to, amount) = three(value)?;
-            let from = from.as_str()?;
-            let to = to.as_str()?;
-            let amount = long(amount)?;
-            Some(of_transfer(config, from, to, amount))
-        }
     }
 }
 
@@ -79,6 +72,17 @@ fn asked(config: &Config, verb: Verb, value: &Value) -> Option<Request>
         Told::Event(OwnEvent::Submit(request)) => Some(request),
         _ => None,
     }
+}
+
+/// A transfer, from the list of its accounts and its amount.
+fn transfer(config: &Config, value: &Value) -> Option<Request>
+    ensures { result ≡ transfer_at config.now (view value.now) }
+{
+    let (from, to, amount) = three(value)?;
+    let from = account(config, from)?;
+    let to = account(config, to)?;
+    let amount = long(amount)?;
+    Some(Request::Transfer { from, to, amount })
 }
 
 /// A request, by a key of an object that may have others.
@@ -101,7 +105,7 @@ pub fn request(config: &Config, value: &Value) -> Option<Request>
     if let Some(argument) = value.get(key(cancel)) {
         return asked(config, cancel, argument);
     }
-    asked(config, Verb::Transfer, value.get(key(Verb::Transfer))?)
+    transfer(config, value.get(TRANSFER)?)
 }
 
 /// A request of a batch, from an object of one member.

@@ -5,11 +5,12 @@ ghost use Rattle.rb_commands.specs.Commands.{command_at};
 ghost use Rattle.rb_commands.specs.Spelled.{Asks, AsksEach, Tells};
 
 use crate::own_event::OwnEvent;
+use crate::request::place;
 use crate::scan::{after, byte, number, operation, pair, plain, three};
 use crate::told::{Told, at};
 use crate::verb::{
-    BATCH, OnAccount, OnNumber, OnOperation, OnPair, Verb, key, of_account, of_number,
-    of_operation, of_pair, of_requests, of_transfer, submit,
+    BATCH, OnAccount, OnNumber, OnOperation, OnPair, TRANSFER, Verb, key, of_account, of_number,
+    of_operation, of_pair, of_requests, submit,
 };
 use rb_money::Config;
 use rb_scratch::Request;
@@ -48,10 +49,6 @@ fn tell<'a>(config: &Config, verb: Verb, text: &'a str) -> Option<(Told, &'a str
             let (n, rest) = number(after(text, "\":")?)?;
             Some((of_number(verb, n)?, rest))
         }
-        Verb::Transfer => {
-            let (from, to, amount, rest) = three(after(text, "\":[\"")?)?;
-            Some((of_transfer(config, from, to, amount), rest))
-        }
     }
 }
 
@@ -67,6 +64,17 @@ fn ask<'a>(config: &Config, verb: Verb, text: &'a str) -> Option<(Request, &'a s
     }
 }
 
+/// A transfer, from its key on.
+fn transfer<'a>(config: &Config, text: &'a str) -> Option<(Request, &'a str)>
+    ensures { IfSome result (λ p. Asks config.now p.0 text.now p.1.now) }
+{
+    let list = after(after(text, TRANSFER)?, "\":[\"")?;
+    let (from, to, amount, rest) = three(list)?;
+    let from = place(config, from);
+    let to = place(config, to);
+    Some((Request::Transfer { from, to, amount }, rest))
+}
+
 /// A request, from its key on.
 fn request<'a>(config: &Config, text: &'a str) -> Option<(Request, &'a str)>
     ensures { IfSome result (λ p. Asks config.now p.0 text.now p.1.now) }
@@ -75,7 +83,7 @@ fn request<'a>(config: &Config, text: &'a str) -> Option<(Request, &'a str)>
         Some(b'd') => Verb::Pair(OnPair::Deposit),
         Some(b'w') => Verb::Pair(OnPair::Withdraw),
         Some(b'i') => Verb::Pair(OnPair::Interest),
-        Some(b't') => Verb::Transfer,
+        Some(b't') => return transfer(config, text),
         _ => Verb::Operation(OnOperation::Cancel),
     };
     ask(config, verb, text)

@@ -2,10 +2,10 @@
 ghost use Rattle.std.specs.Prelude.{◌≡◌, Some, nat_lt, ◌^◌, if◌then◌else◌, None};
 ghost use Rattle.serde_json.specs.Data.{Data, string};
 ghost use Rattle.rb_money.specs.Settings.{Settings};
-ghost use Rattle.rb_commands.specs.Values.{name_at, number_json, one_json, pair_json, three_json};
+ghost use Rattle.rb_commands.specs.Values.{name_at, number_json, one_json, pair_json};
 ghost use Rattle.rb_commands.specs.Verbs.{key_of, told_of};
 ghost use Rattle.rb_commands.specs.declared.own_event.OwnEvent.TheVariants.{Batch, Submit};
-ghost use Rattle.rb_commands.specs.declared.verb.Verb.TheVariants.{Account, Number, Operation, Pair, Transfer};
+ghost use Rattle.rb_commands.specs.declared.verb.Verb.TheVariants.{Account, Number, Operation, Pair};
 ghost use Rattle.rb_commands.specs.declared.told.Told.TheVariants.{Event as ToldEvent};
 
 use crate::own_event::OwnEvent;
@@ -46,19 +46,20 @@ pub enum OnNumber {
     Deliver,
 }
 
-/// A verb, by the shape of its argument.
+/// A verb, by the shape of its argument: but for batches and transfers, whose shapes no other has.
 #[derive(Clone, Copy)]
 pub enum Verb {
     Account(OnAccount),
     Pair(OnPair),
     Operation(OnOperation),
     Number(OnNumber),
-    /// On two accounts and a number.
-    Transfer,
 }
 
 /// The key of a batch, whose argument is a list of requests.
 pub const BATCH: &str = "batch";
+
+/// The key of a transfer, whose argument is a list of two accounts and an amount.
+pub const TRANSFER: &str = "transfer";
 
 /// A verb's key.
 #[inline(always)]
@@ -76,7 +77,6 @@ pub fn key(verb: Verb) -> &'static str
         Verb::Operation(OnOperation::Apply) => "apply",
         Verb::Number(OnNumber::Pass) => "pass",
         Verb::Number(OnNumber::Deliver) => "deliver",
-        Verb::Transfer => "transfer",
     }
 }
 
@@ -161,16 +161,6 @@ pub fn of_number(verb: OnNumber, n: u64) -> Option<Told>
             Some(Told::Message(message))
         }
     }
-}
-
-/// What a transfer tells of its accounts and its amount in cents.
-#[inline(always)]
-pub fn of_transfer(config: &Config, from: &str, to: &str, amount: u64) -> Told
-    ensures { told_of config.now (one_json (key_of Transfer) (three_json (string from.now) (string to.now) (number_json amount))) ≡ Some result }
-{
-    let from = place(config, from);
-    let to = place(config, to);
-    submit(Request::Transfer { from, to, amount })
 }
 
 /// What is told by a list of requests.

@@ -20,3 +20,16 @@ pub struct UndoParts {
     /// The second account's balance before the entry, in cents, or 0 where there is none.
     pub other_balance: u64,
 }
+
+impl UndoParts {
+    /// What stands in a place for a record that has none yet.
+    pub const BLANK: UndoParts = UndoParts {
+        position: 0,
+        name: OpName::Red { n: 0 },
+        place: Place(0),
+        balance: 0,
+        target: 0,
+        other: Place::NOWHERE,
+        other_balance: 0,
+    };
+}

@@ -1,7 +1,7 @@
 use Rattle.std.proofs.Common.{sym}
 use Rattle.rb_commands.specs.Values.{name_json}
 use Rattle.rb_commands.proofs.Public.Reading.{back}
-use Rattle.rb_commands.proofs.UsualLines.{account_tells, pair_tells, operation_tells, number_tells, transfer_tells}
+use Rattle.rb_commands.proofs.UsualLines.{account_tells, pair_tells, operation_tells, number_tells}
 use Rattle.rb_commands.proofs.usual.tell.Goals as goal
 
 pub returns-in_ok-name-in-Account : goal.returns-in_ok-name-in-Account
@@ -25,8 +25,3 @@ returns-in_ok-of_number-in-Number c =
     let n = c.in_ok-n-in-Number in
     let s = c.args.config.now in
     rw (c.in_ok-text.ensures, c.key.ensures, c.in-Number.is, c.in_ok-after-in-Number.ensures, n.ensures.1) (number_tells s c.in-Number.verb c.in_ok-of_number-in-Number.field-0 n.n n.rest.now n.ensures.0 (sym (c.in_ok-of_number-in-Number.ensures s)))
-
-pub returns-in_ok-from-in-Transfer : goal.returns-in_ok-from-in-Transfer
-returns-in_ok-from-in-Transfer c =
-    let asked = c.in_ok-from-in-Transfer in
-    rw (c.in_ok-text.ensures, c.key.ensures, c.in-Transfer.is, c.in_ok-after-in-Transfer.ensures, asked.ensures.3) (transfer_tells c.args.config.now c.of_transfer.result asked.from.now asked.to.now asked.amount asked.rest.now asked.ensures.0 asked.ensures.1 asked.ensures.2 c.of_transfer.ensures)
