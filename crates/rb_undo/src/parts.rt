@@ -22,14 +22,14 @@ pub struct UndoParts {
 }
 
 impl UndoParts {
-    /// What stands in a place for a record that has none yet.
+    /// What stands in a place for a record that has none yet: zeros, so that a list of it is set at once.
     pub const BLANK: UndoParts = UndoParts {
         position: 0,
-        name: OpName::Red { n: 0 },
+        name: OpName::Blue { site: 0, n: 0 },
         place: Place(0),
         balance: 0,
         target: 0,
-        other: Place::NOWHERE,
+        other: Place(0),
         other_balance: 0,
     };
 }
