@@ -79,7 +79,7 @@ impl Ledger {
             return Ok(());
         }
         match count.checked_add(additional) {
-            Some(needed) => self.grow(needed.max(limit.saturating_add(limit / 2))),
+            Some(needed) => self.grow(needed.max(limit.saturating_add(limit))),
             None => Err(AllocError),
         }
     }
@@ -96,7 +96,7 @@ impl Ledger {
         if count < self.index.rows.limit() {
             return Ok(());
         }
-        self.grow(count + count / 2 + 8)
+        self.grow(count * 2 + 8)
     }
 
     /// Takes memory for so many entries.
