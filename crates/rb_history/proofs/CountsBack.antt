@@ -53,7 +53,7 @@ blue_back version sites ns (inr two) long h none = subst (λ v. blue_at v (blue_
 -- ---- what is read of version 1 in one pass
 
 pub widened_length : (ns : List ℕ) → length ns ≡ MOST_SITES_OF_VERSION_1 → length (widened ns) ≡ MOST_SITES
-widened_length ns few = length-append ns (replicate 8 0) ∙ (let e = length-replicate 8 0 in omega arith)
+widened_length ns few = length-append ns (replicate 8 0) ∙ (let e = length-replicate {A = ℕ} 8 0 in omega arith)
 
 pub widened_fits : (ns : List ℕ) → Each (λ n. n < 2 ^ 32) ns → Each (λ n. n < 2 ^ 32) (widened ns)
 widened_fits ns h = each_append (λ n. n < 2 ^ 32) ns (replicate 8 0) h (each_replicate (λ n. n < 2 ^ 32) 8 0 (omega arith))

@@ -40,14 +40,12 @@ numbered_end ns i past = ap (numbered_from i) (drop_all i ns past)
 -- the numbers of sites and the counts fit
 pub numbered_fit : (i : ℕ) (ns : List ℕ) → i + length ns ≤ MOST_SITES → Each (λ n. n < 2 ^ 32) ns → Each (λ (p : ℕ × ℕ). (p.0 < 2 ^ 64) × (p.1 < 2 ^ 64)) (numbered_from i ns)
 numbered_fit i [] within h = tt
-numbered_fit i (n ∷ ns) within h = at (n == 0)
+numbered_fit i (n ∷ ns) within h = at (n == 0) (numbered_fit (i + 1) ns (omega arith) h.1)
   where
-    later : Each (λ (p : ℕ × ℕ). (p.0 < 2 ^ 64) × (p.1 < 2 ^ 64)) (numbered_from (i + 1) ns)
-    later = numbered_fit (i + 1) ns (omega arith) h.1
-
-    at : (b : Bool) → Each (λ (p : ℕ × ℕ). (p.0 < 2 ^ 64) × (p.1 < 2 ^ 64)) (if b then numbered_from (i + 1) ns else (i, n) ∷ numbered_from (i + 1) ns)
-    at true = later
-    at false = let small : n < 2 ^ 32 = h.0 in ((omega arith, omega arith), later)
+    at : (b : Bool) → Each (λ (p : ℕ × ℕ). (p.0 < 2 ^ 64) × (p.1 < 2 ^ 64)) (numbered_from (i + 1) ns)
+        → Each (λ (p : ℕ × ℕ). (p.0 < 2 ^ 64) × (p.1 < 2 ^ 64)) (if b then numbered_from (i + 1) ns else (i, n) ∷ numbered_from (i + 1) ns)
+    at true later = later
+    at false later = let small : n < 2 ^ 32 = h.0 in ((omega arith, omega arith), later)
 
 -- ---- read
 
@@ -114,16 +112,20 @@ pub numbered_back : (i j : ℕ) (ns : List ℕ) → i ≤ j → j + length ns �
 numbered_back i j [] low full h =
     let last : MOST_SITES - i ≡ j - i = omega arith in
     ap (λ k. Some (replicate k 0)) last ∙ ap Some (sym (append-nil (replicate (j - i) 0)))
-numbered_back i j (n ∷ ns) low full h = at (n == 0) refl
+numbered_back i j (n ∷ ns) low full h = at (n == 0) refl (numbered_back i (j + 1) ns (omega arith) (omega arith) h.1) (numbered_back (j + 1) (j + 1) ns (omega arith) (omega arith) h.1)
   where
-    at : (b : Bool) → (n == 0) ≡ b → numbered_in i (items_of (map numbered_json (if b then numbered_from (j + 1) ns else (j, n) ∷ numbered_from (j + 1) ns))) ≡ Some (replicate (j - i) 0 ++ n ∷ ns)
-    at true q =
+    later : Items
+    later = items_of (map numbered_json (numbered_from (j + 1) ns))
+
+    at : (b : Bool) → (n == 0) ≡ b → numbered_in i later ≡ Some (replicate (j + 1 - i) 0 ++ ns) → numbered_in (j + 1) later ≡ Some (replicate ((j + 1) - (j + 1)) 0 ++ ns)
+        → numbered_in i (items_of (map numbered_json (if b then numbered_from (j + 1) ns else (j, n) ∷ numbered_from (j + 1) ns))) ≡ Some (replicate (j - i) 0 ++ n ∷ ns)
+    at true q past behind =
         let zero : n ≡ 0 = eqb-true n 0 q in
         let more : j + 1 - i ≡ (j - i) + 1 = omega arith in
-        numbered_back i (j + 1) ns (omega arith) (omega arith) h.1
+        past
         ∙ ap Some (ap (λ k. replicate k 0 ++ ns) more ∙ ap (λ l. l ++ ns) (sym (replicate_more (j - i) 0)) ∙ append_assoc (replicate (j - i) 0) (0 ∷ []) ns ∙ ap (λ m. replicate (j - i) 0 ++ m ∷ ns) (sym zero))
-    at false q =
+    at false q past behind =
         let some : 0 < n = grind (arith, nat_tests) in
         let nothing : (j + 1) - (j + 1) ≡ 0 = omega arith in
-        ap (option_and_then (λ (p : ℕ × ℕ). option_map (λ later. replicate (p.0 - i) 0 ++ p.1 ∷ later) (numbered_in (p.0 + 1) (items_of (map numbered_json (numbered_from (j + 1) ns)))))) (one_back i j n low (omega arith) some h.0)
-        ∙ ap (option_map (λ later. replicate (j - i) 0 ++ n ∷ later)) (numbered_back (j + 1) (j + 1) ns (omega arith) (omega arith) h.1 ∙ ap (λ k. Some (replicate k 0 ++ ns)) nothing)
+        ap (option_and_then (λ (p : ℕ × ℕ). option_map (λ later. replicate (p.0 - i) 0 ++ p.1 ∷ later) (numbered_in (p.0 + 1) later))) (one_back i j n low (omega arith) some h.0)
+        ∙ ap (option_map (λ later. replicate (j - i) 0 ++ n ∷ later)) (behind ∙ ap (λ k. Some (replicate k 0 ++ ns)) nothing)

@@ -1,19 +1,17 @@
 -- Numbers with a sign in a value that a text is: each fits 64 bits.
-use Rattle.std.proofs.Common.{◌≡◌, ◌<◌, ◌+◌, ◌^◌, ℕ, zero, suc, ℤ, pos, Bool, true, false, List, Option, Some, refl, arith}
-use Rattle.std.specs.Prelude.{◌&&◌, ◌==◌, IfSome, if◌then◌else◌, nat_le, nat_lt, neg_ℤ, option_map, slice_index, drop, ⊤}
+use Rattle.std.proofs.Common.{◌≡◌, ◌<◌, ◌≤◌, ◌^◌, ℕ, zero, suc, pos, Bool, true, false, Float, List, Option, Some, None, refl, arith}
+use Rattle.std.specs.Prelude.{◌&&◌, IfSome, if◌then◌else◌, nat_le, nat_lt, neg_ℤ, option_map, ⊤}
 use Rattle.std.specs.declared.cmp.Ordering.{Ordering}
 use Rattle.std.specs.declared.cmp.Ordering.TheVariants.{Less, Equal, Greater}
 use Rattle.std.specs.Ordering.{match_ordering, nat_cmp}
 use Rattle.std.specs.Cmp.Lexicographic.{slice_cmp}
-use Rattle.std.specs.Float.{binary64, float_is_finite}
 use Rattle.std.proofs.lemmas.Bool.{and_parts, leb-true, ltb-true}
-use Rattle.fast_float.specs.Text.{Parts, digits_of, minus, nearest, scan, with_sign}
 use Rattle.json.specs.Json as json
 use Rattle.serde_json.specs.Data.{Num, unsigned, negative, float, Data, null, boolean, number, string, array, object, Items, no_items, item, Members, no_members, member, put}
 use Rattle.serde_json.specs.Find.{as_array, as_number, get, get_member}
-use Rattle.serde_json.specs.Read.{float_of, is_integer, number_from, number_of, of_items, of_json, of_members, read}
+use Rattle.serde_json.specs.Read.{number_of, of_items, of_json, of_members, read}
 use Rattle.rb_history.specs.Fits.{IsMoved}
-use Rattle.rb_history.proofs.FitsLaws.{anything, fits_if, fits_map, fits_then}
+use Rattle.rb_history.proofs.FitsLaws.{anything, fits_map, fits_then}
 
 abbrev pub FitsNumber : Num → Type 0
 FitsNumber (unsigned n) = ⊤
@@ -39,36 +37,36 @@ abbrev mutual
 
 -- ---- what a text is
 
-moved_back : (n : ℕ) → 0 < n → n < 2 ^ 63 + 1 → IsMoved (neg_ℤ (pos n))
+moved_back : (n : ℕ) → 0 < n → n ≤ 2 ^ 63 → IsMoved (neg_ℤ (pos n))
 moved_back zero some few = absurd (omega arith)
 moved_back (suc n) some few = let small : n < 2 ^ 63 = omega arith in small
 
-fits_float : (sign : Bool) (p : Parts) → IfSome (float_of sign p) FitsNumber
-fits_float sign p = fits_if FitsNumber (float_is_finite (nearest binary64 sign p)) (Some (float (nearest binary64 sign p))) (λ e. tt)
+-- an integer of 64 bits, with its sign; any other number is a float
+float_fits : (b : Bool) (x : Float) → IfSome (if b then Some (float x) else None) FitsNumber
+float_fits true x = tt
+float_fits false x = tt
 
-fits_either_way : (b : Bool) (n : Num) (o : Option Num) → (b ≡ true → FitsNumber n) → IfSome o FitsNumber → IfSome (if b then Some n else o) FitsNumber
-fits_either_way true n o h k = h refl
-fits_either_way false n o h k = k
+unsigned_fits : (b : Bool) (n : ℕ) (o : Option Num) → IfSome o FitsNumber → IfSome (if b then Some (unsigned n) else o) FitsNumber
+unsigned_fits true n o h = tt
+unsigned_fits false n o h = h
 
-fits_from : (sign : Bool) (p : Parts) → IfSome (number_from sign p) FitsNumber
-fits_from false p = fits_either_way (is_integer p && nat_lt (digits_of p) (2 ^ 64)) (unsigned (digits_of p)) (float_of false p) (λ e. tt) (fits_float false p)
-fits_from true p = fits_either_way (is_integer p && nat_lt 0 (digits_of p) && nat_le (digits_of p) (2 ^ 63)) (negative (with_sign true (digits_of p))) (float_of true p) small (fits_float true p)
+negative_fits : (integer : Bool) (n : ℕ) (o : Option Num) → IfSome o FitsNumber → IfSome (if integer && nat_lt 0 n && nat_le n (2 ^ 63) then Some (negative (neg_ℤ (pos n))) else o) FitsNumber
+negative_fits integer n o h = by (integer && nat_lt 0 n && nat_le n (2 ^ 63)) refl
   where
-    small : (is_integer p && nat_lt 0 (digits_of p) && nat_le (digits_of p) (2 ^ 63)) ≡ true → IsMoved (with_sign true (digits_of p))
-    small e =
-        let front = and_parts (is_integer p && nat_lt 0 (digits_of p)) (nat_le (digits_of p) (2 ^ 63)) e in
-        let some = (and_parts (is_integer p) (nat_lt 0 (digits_of p)) front.0).1 in
-        let low = ltb-true 0 (digits_of p) some in
-        let high = leb-true (digits_of p) (2 ^ 63) front.1 in
-        moved_back (digits_of p) low (omega arith)
+    by : (b : Bool) → (integer && nat_lt 0 n && nat_le n (2 ^ 63)) ≡ b → IfSome (if b then Some (negative (neg_ℤ (pos n))) else o) FitsNumber
+    by false e = h
+    by true e =
+        let front = and_parts (integer && nat_lt 0 n) (nat_le n (2 ^ 63)) e in
+        let some = (and_parts integer (nat_lt 0 n) front.0).1 in
+        moved_back n (ltb-true 0 n some) (leb-true n (2 ^ 63) front.1)
+
+either_fits : (b : Bool) (o p : Option Num) → IfSome o FitsNumber → IfSome p FitsNumber → IfSome (if b then o else p) FitsNumber
+either_fits true o p h k = h
+either_fits false o p h k = k
 
 fits_number : (s : List ℕ) → IfSome (number_of s) FitsNumber
 unfolding number_of
-fits_number s = by (slice_index s 0 == minus)
-  where
-    by : (b : Bool) → IfSome (if b then number_from true (scan (drop 1 s)) else number_from false (scan s)) FitsNumber
-    by true = fits_from true (scan (drop 1 s))
-    by false = fits_from false (scan s)
+fits_number s = search (either_fits, negative_fits, unsigned_fits, float_fits)
 
 fits_put : (k : List ℕ) (d : Data) (ms : Members) → Fits d → FitMembers ms → FitMembers (put k d ms)
 fits_put k d no_members h f = (h, tt)

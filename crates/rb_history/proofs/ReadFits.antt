@@ -16,12 +16,12 @@ use Rattle.rb_money.specs.declared.refusal.Cause.TheVariants.{Declined as CauseD
 use Rattle.rb_money.specs.declared.refusal.Refusal.{Refusal}
 use Rattle.rb_money.specs.declared.refusal.Refusal.TheVariants.{AlreadyCancelled, RedBehind, BatchRefused, BadMessage}
 use Rattle.rb_money.specs.Refusals.{number_of_refusal}
-use Rattle.rb_scratch.specs.declared.request.Request.TheVariants.{Deposit, Withdraw, Interest, Cancel}
+use Rattle.rb_scratch.specs.declared.request.Request.TheVariants.{Deposit, Withdraw, Interest, Cancel, Transfer}
 use Rattle.rb_shadow.specs.NameText.{IsName, candidate, is_name, name_of, name_text}
 use Rattle.rb_shadow.specs.declared.deps.Deps.{Deps}
-use Rattle.rb_shadow.specs.declared.kind.Kind.TheVariants.{Deposit as DepositKind, Withdraw as WithdrawKind, Declined as DeclinedKind, Interest as InterestKind, Cancel as CancelKind}
+use Rattle.rb_shadow.specs.declared.kind.Kind.TheVariants.{Deposit as DepositKind, Withdraw as WithdrawKind, Declined as DeclinedKind, Interest as InterestKind, Cancel as CancelKind, Transfer as TransferKind}
 use Rattle.rb_shadow.specs.declared.label.Label.{Label}
-use Rattle.rb_shadow.specs.declared.label.Label.TheVariants.{Deposit as DepositLabel, Withdraw as WithdrawLabel, Declined as DeclinedLabel, Interest as InterestLabel, Cancel as CancelLabel}
+use Rattle.rb_shadow.specs.declared.label.Label.TheVariants.{Deposit as DepositLabel, Withdraw as WithdrawLabel, Declined as DeclinedLabel, Interest as InterestLabel, Cancel as CancelLabel, Transfer as TransferLabel}
 use Rattle.rb_shadow.specs.declared.op_name.OpName.{OpName}
 use Rattle.rb_shadow.specs.declared.op_name.OpName.TheVariants.{Blue, Red}
 use Rattle.rb_site.specs.declared.entry.Entry.{Entry}
@@ -29,11 +29,11 @@ use Rattle.rb_site.specs.declared.event.Event.TheVariants.{Submit, Batch, Receiv
 use Rattle.rb_site.specs.declared.message.Message.TheVariants.{Shadow as ShadowMessage, Token as TokenOnItsWay}
 use Rattle.rb_site.specs.declared.reply.Reply.TheVariants.{Made, Names, Held, Already, Taken, Stale, Applied, Passed, Balance as BalanceIs, Refused}
 use Rattle.rb_commands.specs.Commands.{teller_event_of, event_of}
-use Rattle.rb_commands.specs.Requests.{account_place, asked_of, place_at, request_alone, request_of, requests_at, requests_in}
-use Rattle.rb_commands.specs.Values.{name_at, number_below, pair_of, size_of}
+use Rattle.rb_commands.specs.Requests.{account_place, asked_of, place_at, request_alone, request_of, requests_at, requests_in, transfer_at}
+use Rattle.rb_commands.specs.Values.{name_at, number_below, pair_of, size_of, three_of}
 use Rattle.rb_history.specs.Counts.{blue_at, counts_at, counts_in, numbered_at, numbered_in, widened}
 use Rattle.rb_history.specs.Entries.{entry_of_line, entry_in, entry_of_object}
-use Rattle.rb_history.specs.Fields.{field, label_at, six_in, six_of, three_of}
+use Rattle.rb_history.specs.Fields.{field, label_at, six_in, six_of}
 use Rattle.rb_history.specs.Fits.{Each, IsEvent, IsKind, IsKnown, IsMoved, IsRefusal, IsReply, IsRequest, IsStatementRow, IsShadow, ReadEntriesFit}
 use Rattle.rb_history.specs.Recorded.{deps_at, event_at, kind_at, kind_of, recorded_of, shadow_at, token_at}
 use Rattle.rb_history.specs.RepliesRead.{answer_of, cause_at, find_refusal, tells_declined, made_told, moved_told, names_at, names_in, plain_refusals, refusal_told, reply_told, row_at, rows_at, rows_in, short_of, simple_of, statement_told}
@@ -71,12 +71,19 @@ asked Q s bound ask d give = fits_then (λ p. ⊤) Q _ (pair_of d) (anything (pa
 
 -- ---- requests and events that commands tell
 
+transfer : (s : Settings) (d : Data) → IfSome (transfer_at s d) (IsRequest s)
+transfer s d = fits_then (λ p. ⊤) (IsRequest s) _ (three_of d) (anything (three_of d)) (λ p any.
+    fits_then (IsKnown s) (IsRequest s) _ (place_at s p.0) (place s p.0) (λ from there.
+    fits_then (IsKnown s) (IsRequest s) _ (place_at s p.1) (place s p.1) (λ to there_too.
+    fits_map (λ n. n < 2 ^ 64) (IsRequest s) (Transfer from to) (number_below (2 ^ 64) p.2) (number (2 ^ 64) p.2) (λ n small. (there, there_too, small)))))
+
 request : (s : Settings) (d : Data) → IfSome (request_of s d) (IsRequest s)
 request s d =
     fits_either (IsRequest s) (get (codes "deposit") d) _ _ (λ v. asked (IsRequest s) s (2 ^ 64) Deposit v (λ a n there small. (there, small)))
     (fits_either (IsRequest s) (get (codes "withdraw") d) _ _ (λ v. asked (IsRequest s) s (2 ^ 64) Withdraw v (λ a n there small. (there, small)))
     (fits_either (IsRequest s) (get (codes "interest") d) _ _ (λ v. asked (IsRequest s) s (2 ^ 32) Interest v (λ a n there small. (there, small)))
-    (fits_then (λ v. ⊤) (IsRequest s) (λ x. option_map Cancel (name_at x)) (get (codes "cancel") d) (anything _) (λ v any. fits_map IsName (IsRequest s) Cancel (name_at v) (name v) (λ x h. h)))))
+    (fits_either (IsRequest s) (get (codes "cancel") d) _ _ (λ v. fits_map IsName (IsRequest s) Cancel (name_at v) (name v) (λ x h. h))
+    (fits_then (λ v. ⊤) (IsRequest s) (transfer_at s) (get (codes "transfer") d) (anything _) (λ v any. transfer s v)))))
 
 requests : (s : Settings) (ds : Items) → IfSome (requests_in s ds) (Each (IsRequest s))
 requests s no_items = tt
@@ -171,15 +178,16 @@ deps : (version : ℕ) (d : Data) → IfSome (deps_at version d) (AreDeps versio
 deps version d = fits_then (λ p. ⊤) (AreDeps version) _ (pair_of d) (anything _) (λ p any. fits_then (AreBlue version) (AreDeps version) _ (blue_at version p.0) (blue version p.0)
     (λ ns h. fits_map IsWord (AreDeps version) (λ red. record { blue = ns; red = red }) (number_below (2 ^ 32) p.1) (number (2 ^ 32) p.1) (λ n small. (h, small))))
 
-kind_by : (d : Data) (label : Label) → IfSome (kind_of d label) IsKind
-kind_by d DepositLabel = fits_if IsKind (size_of d == 6) (Some DepositKind) (λ e. tt)
-kind_by d WithdrawLabel = fits_if IsKind (size_of d == 6) (Some WithdrawKind) (λ e. tt)
-kind_by d DeclinedLabel = fits_if IsKind (size_of d == 6) (Some DeclinedKind) (λ e. tt)
-kind_by d InterestLabel = fits_if IsKind (size_of d == 6) (Some InterestKind) (λ e. tt)
-kind_by d CancelLabel = fits_if IsKind (size_of d == 7) (option_map CancelKind (field (codes "target") name_at d)) (λ e. fits_map IsName IsKind CancelKind (field (codes "target") name_at d) (fits_field IsName (codes "target") name_at d name) (λ x h. h))
+kind_by : (s : Settings) (d : Data) (label : Label) → IfSome (kind_of s d label) (IsKind s)
+kind_by s d DepositLabel = fits_if (IsKind s) (size_of d == 6) (Some DepositKind) (λ e. tt)
+kind_by s d WithdrawLabel = fits_if (IsKind s) (size_of d == 6) (Some WithdrawKind) (λ e. tt)
+kind_by s d DeclinedLabel = fits_if (IsKind s) (size_of d == 6) (Some DeclinedKind) (λ e. tt)
+kind_by s d InterestLabel = fits_if (IsKind s) (size_of d == 6) (Some InterestKind) (λ e. tt)
+kind_by s d CancelLabel = fits_if (IsKind s) (size_of d == 7) (option_map CancelKind (field (codes "target") name_at d)) (λ e. fits_map IsName (IsKind s) CancelKind (field (codes "target") name_at d) (fits_field IsName (codes "target") name_at d name) (λ x h. h))
+kind_by s d TransferLabel = fits_if (IsKind s) (size_of d == 7) (option_map TransferKind (field (codes "to") (place_at s) d)) (λ e. fits_map (IsKnown s) (IsKind s) TransferKind (field (codes "to") (place_at s) d) (fits_field (IsKnown s) (codes "to") (place_at s) d (place s)) (λ a h. h))
 
-kind : (d : Data) → IfSome (kind_at d) IsKind
-kind d = fits_then (λ label. ⊤) IsKind (kind_of d) (field (codes "kind") label_at d) (anything _) (λ label any. kind_by d label)
+kind : (s : Settings) (d : Data) → IfSome (kind_at s d) (IsKind s)
+kind s d = fits_then (λ label. ⊤) (IsKind s) (kind_of s d) (field (codes "kind") label_at d) (anything _) (λ label any. kind_by s d label)
 
 shadow : (s : Settings) (d : Data) → IfSome (shadow_at s d) (IsShadow s)
 shadow s d =
@@ -187,7 +195,7 @@ shadow s d =
     fits_then (λ n. n < 2 ^ 64) (IsShadow s) _ (field (codes "amount") (number_below (2 ^ 64)) d) (fits_field (λ n. n < 2 ^ 64) (codes "amount") (number_below (2 ^ 64)) d (number (2 ^ 64))) (λ amount b.
     fits_then (AreDeps s.version) (IsShadow s) _ (field (codes "deps") (deps_at s.version) d) (fits_field (AreDeps s.version) (codes "deps") (deps_at s.version) d (deps s.version)) (λ c e.
     fits_then (λ n. n < 2 ^ 8) (IsShadow s) _ (field (codes "home") (number_below (2 ^ 8)) d) (fits_field (λ n. n < 2 ^ 8) (codes "home") (number_below (2 ^ 8)) d (number (2 ^ 8))) (λ home f.
-    fits_then IsKind (IsShadow s) _ (kind_at d) (kind d) (λ k g.
+    fits_then (IsKind s) (IsShadow s) _ (kind_at s d) (kind s d) (λ k g.
     fits_map IsName (IsShadow s) _ (field (codes "name") name_at d) (fits_field IsName (codes "name") name_at d name) (λ x h.
     record { name = h; home = f; sites = e.0.sites; blue = e.0.fit; further = e.0.further; red = e.1; account = a; amount = b; kind = g }))))))
 

@@ -42,7 +42,7 @@ pub record TellsDeps (d : Deps) (text rest : List ℕ) : Type 0 where
   pub blue : Each (λ n. n < 2 ^ 32) d.blue
   pub further : Each (λ n. n ≡ 0) (drop MOST_SITES_OF_VERSION_1 d.blue)
   pub red : d.red < 2 ^ 32
-  pub text : text ≡ compact_text (deps_json 1 d) ++ rest
+  pub told : text ≡ compact_text (deps_json 1 d) ++ rest
 
 abbrev pub TellsShadow : Settings → Shadow → List ℕ → List ℕ → Type 0
 TellsShadow s v text rest = IsShadow s v × (text ≡ compact_text (one_json (codes "shadow") (shadow_json s v)) ++ rest)

@@ -1,4 +1,4 @@
-use Rattle.std.proofs.Common.{Some, take, ap, sym, ◌∙◌, add-one, arith, drop-cons, rules}
+use Rattle.std.proofs.Common.{◌∷◌, Some, drop, suc, take, ap, sym, ◌∙◌, add-one, arith, drop-cons, rules}
 use Rattle.std.proofs.lemmas.List.{drop_all}
 use Rattle.serde_json.specs.View.{items_view}
 use Rattle.rb_commands.proofs.Public.Reading.{with_front}
@@ -21,12 +21,13 @@ loop-item-preserved c =
     let items = c.args.items.now in
     let i = c.loop-item.item-index in
     let made = c.in_ok-site in
+    let here = rw add-one (drop-cons items i c.item-item.result (omega arith) ∙ ap (λ v. v ∷ drop (suc i) items) (sym c.item-item.is)) in
     let near = made.ensures.near in
     record {
       few = omega (arith, near);
       sites = search rules;
       none = none_behind counts least made.site made.count near.0 near.1 c.loop-item.invariant.none;
-      read = value_read counts least made.site made.count items i _ _ c.loop-item.invariant.sites near.0 near.1 c.loop-item.invariant.none (rw add-one (drop-cons items i _ (omega arith))) (sym made.ensures.read) c.loop-item.invariant.read;
+      read = value_read counts least made.site made.count items i c.item-item.result _ c.loop-item.invariant.sites near.0 near.1 c.loop-item.invariant.none here (sym made.ensures.read) c.loop-item.invariant.read;
     }
 
 pub returns : goal.returns

@@ -25,6 +25,6 @@ returns c =
       blue = widened_fits first c.in_ok-first.ensures.0;
       further = widened_further first few;
       red = c.in_ok-red.ensures.0;
-      text = read ∙ ap (λ blue. compact_text (pair_json blue (number_json red)) ++ rest) (sym (widened_json first few));
+      told = read ∙ ap (λ blue. compact_text (pair_json blue (number_json red)) ++ rest) (sym (widened_json first few));
     } in
     subst (λ blue. TellsDeps (record { blue = blue; red = red }) text rest) (sym c.widened-blue.ensures) told
