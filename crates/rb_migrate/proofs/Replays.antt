@@ -16,7 +16,7 @@ use Rattle.rb_token.specs.Token.{Token}
 use Rattle.rb_scratch.specs.Batches.{batch_of, is_declined, made_in_batch, planned_in_batch, stopped, then_rest}
 use Rattle.rb_scratch.specs.Requests.{Plan, allowed, allowed_by_colour, made_of, operation_of, plan_of}
 use Rattle.rb_scratch.specs.declared.request.Request.{Request}
-use Rattle.rb_scratch.specs.declared.request.Request.TheVariants.{Deposit, Withdraw, Interest, Cancel}
+use Rattle.rb_scratch.specs.declared.request.Request.TheVariants.{Deposit, Withdraw, Interest, Cancel, Transfer}
 use Rattle.rb_scratch.specs.declared.request.TheConstants.{MOST_REQUESTS}
 use Rattle.rb_scratch.specs.declared.run_fault.RunFault.TheVariants.{Declined as DeclinedFault}
 use Rattle.rb_statements.specs.Statements.{rows_here, rows_of, statement_of}
@@ -35,6 +35,7 @@ plan s us (Deposit a n) = refl
 plan s us (Withdraw a n) = refl
 plan s us (Interest a rate) = refl
 plan s us (Cancel x) = refl
+plan s us (Transfer from to n) = refl
 
 by_colour : (s : Settings) (us : List Shadow) (token : Token) (v : Shadow) (x : OpName) → allowed_by_colour (in_version_2 s) us token v x ≡ allowed_by_colour s us token v x
 unfolding bal
