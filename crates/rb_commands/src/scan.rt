@@ -1,20 +1,38 @@
 //! What stands at the front of a text as this program spells it, and what follows it: no space, no escape. `None` says nothing of a text.
-ghost use Rattle.std.specs.Prelude.{◌≡◌, ◌<◌, ◌≤◌, ◌^◌, ◌++◌, IfSome, codes, decimal, length, slice_index, take};
+ghost use Rattle.std.specs.Prelude.{◌≡◌, ◌<◌, ◌≤◌, ◌^◌, ◌++◌, IfSome, IsTrue, codes, decimal, length, slice_index, take};
 ghost use Rattle.json.specs.Print.{escape};
 ghost use Rattle.rb_shadow.specs.NameText.{IsName, name_text};
 
 use rb_shadow::OpName;
+
+/// Whether these bytes begin with those of the front.
+#[inline]
+fn begins(text: &[u8], front: &[u8]) -> bool
+    ensures { IsTrue result → (length front.now ≤ length text.now) × (take (length front.now) text.now ≡ front.now) }
+{
+    if text.len() < front.len() {
+        return false;
+    }
+    let mut len = 0;
+    while len < front.len() {
+        if text[len] != front[len] {
+            return false;
+        }
+        len += 1;
+    }
+    true
+}
 
 /// What follows this text.
 #[inline(always)]
 pub fn after<'a>(text: &'a str, front: &str) -> Option<&'a str>
     ensures { IfSome result (λ rest. text.now ≡ front.now ++ rest.now) }
 {
-    let len = front.len();
-    if text.len() < len || &text.as_bytes()[..len] != front.as_bytes() {
-        return None;
+    if begins(text.as_bytes(), front.as_bytes()) {
+        Some(&text[front.len()..])
+    } else {
+        None
     }
-    Some(&text[len..])
 }
 
 /// The most that is read of a number, so that one more digit fits.

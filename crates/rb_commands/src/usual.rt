@@ -79,14 +79,13 @@ fn transfer<'a>(config: &Config, text: &'a str) -> Option<(Request, &'a str)>
 fn request<'a>(config: &Config, text: &'a str) -> Option<(Request, &'a str)>
     ensures { IfSome result (λ p. Asks config.now p.0 text.now p.1.now) }
 {
-    let verb = match text.as_bytes().first() {
-        Some(b'd') => Verb::Pair(OnPair::Deposit),
-        Some(b'w') => Verb::Pair(OnPair::Withdraw),
-        Some(b'i') => Verb::Pair(OnPair::Interest),
-        Some(b't') => return transfer(config, text),
-        _ => Verb::Operation(OnOperation::Cancel),
-    };
-    ask(config, verb, text)
+    match text.as_bytes().first() {
+        Some(b'd') => ask(config, Verb::Pair(OnPair::Deposit), text),
+        Some(b'w') => ask(config, Verb::Pair(OnPair::Withdraw), text),
+        Some(b'i') => ask(config, Verb::Pair(OnPair::Interest), text),
+        Some(b't') => transfer(config, text),
+        _ => ask(config, Verb::Operation(OnOperation::Cancel), text),
+    }
 }
 
 /// A request that is submitted alone, from its key on.
