@@ -14,7 +14,7 @@ use Rattle.rb_scratch.specs.Requests.{if_covered, interest_on}
 abbrev pub after_deposit : (Place → ℤ) → Place → ℕ → Place → ℤ
 after_deposit b a x = λ q. b q +ℤ (if a.0 == q.0 then pos x else pos 0)
 
--- a withdrawal is granted where there is enough
+-- a withdrawal, and a transfer, is granted where there is enough
 abbrev pub grants : (Place → ℤ) → Place → ℕ → Bool
 grants b a x = not (int_lt (b a) (pos x))
 

@@ -14,7 +14,7 @@ pub enum Kind {
     Deposit,
     /// Takes its amount.
     Withdraw,
-    /// A withdrawal that wasn't covered: it moves nothing.
+    /// A withdrawal or a transfer that wasn't covered: it moves nothing.
     Declined,
     /// Adds its amount, which its home worked out from the balance.
     Interest,
