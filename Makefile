@@ -19,7 +19,7 @@ build:
 	@cd crates/rbbank && rt run -- script < stdin > /dev/null
 	@echo $(CURDIR)/crates/rbbank/out/rbbank
 
-# Every script and all histories of examples/ through the program.
+# Every script, all histories and migrations of examples/ through the program.
 examples: build
 	@examples/check.py crates/rbbank/out/rbbank
 

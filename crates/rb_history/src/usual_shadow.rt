@@ -1,4 +1,4 @@
-//! Shadows of a history's line as this program writes them, read in one pass. `None` says nothing of a text.
+//! Shadows of a history's line as this program writes them in version 1, read in one pass. `None` says nothing of a text.
 ghost use Rattle.std.specs.Prelude.{◌≡◌, ◌<◌, ◌^◌, ◌++◌, IfSome, true};
 ghost use Rattle.serde_json.specs.Written.{members_text};
 ghost use Rattle.rb_shadow.specs.Labels.{label_of};

@@ -1,6 +1,6 @@
 //! What the program tells about itself.
 
-/// The newest version of the lines that it reads and writes, which each configuration names.
+/// The newest version of the lines that it reads and writes. Each configuration names its own.
 pub const VERSION: &str = "2";
 
 /// What the program is.
