@@ -12,6 +12,7 @@ mod ConfigBack
 mod Texts
 mod Told
 mod ListRead
+mod CountsTold
 mod PlainRefusals
 mod PlacesRead
 mod EntryLine

@@ -49,20 +49,20 @@ numbered_fit i (n ∷ ns) within h = at (n == 0) (numbered_fit (i + 1) ns (omega
 
 -- ---- read
 
+-- what stands before and at one more
+pub one_further : (counts : List ℕ) (least site n : ℕ) → length counts ≡ MOST_SITES → least ≤ site → site < MOST_SITES → drop least counts ≡ replicate (MOST_SITES - least) 0 → take (site + 1) (set counts site n) ≡ (take least counts ++ replicate (site - least) 0) ++ n ∷ []
+one_further counts least site n long low near none =
+    let sum : site ≡ least + (site - least) = omega arith in
+    let between : take site counts ≡ take least counts ++ replicate (site - least) 0 =
+        ap (λ k. take k counts) sum ∙ take-add least (site - least) counts
+        ∙ ap (λ l. take least counts ++ l) (ap (take (site - least)) none ∙ take-replicate (site - least) (MOST_SITES - least) 0 (omega arith)) in
+    take_more_set counts site n (omega arith) ∙ ap (λ l. l ++ n ∷ []) between
+
 -- one more of a list is read
 one_read : (counts : List ℕ) (least site n : ℕ) (d : Data) (ds : Items) (whole : Option (List ℕ)) → length counts ≡ MOST_SITES → least ≤ site → site < MOST_SITES → drop least counts ≡ replicate (MOST_SITES - least) 0
     → numbered_at least d ≡ Some (site, n) → with_front (take least counts) (numbered_in least (item d ds)) ≡ whole → with_front (take (site + 1) (set counts site n)) (numbered_in (site + 1) ds) ≡ whole
 one_read counts least site n d ds whole long low near none is so = by (numbered_in (site + 1) ds) refl
   where
-    between : take site counts ≡ take least counts ++ replicate (site - least) 0
-    between =
-        let sum : site ≡ least + (site - least) = omega arith in
-        ap (λ k. take k counts) sum ∙ take-add least (site - least) counts
-        ∙ ap (λ l. take least counts ++ l) (ap (take (site - least)) none ∙ take-replicate (site - least) (MOST_SITES - least) 0 (omega arith))
-
-    front : take (site + 1) (set counts site n) ≡ (take least counts ++ replicate (site - least) 0) ++ n ∷ []
-    front = take_more_set counts site n (omega arith) ∙ ap (λ l. l ++ n ∷ []) between
-
     read : with_front (take least counts) (option_map (λ later. replicate (site - least) 0 ++ n ∷ later) (numbered_in (site + 1) ds)) ≡ whole
     read = ap (λ o. with_front (take least counts) (option_and_then (λ (p : ℕ × ℕ). option_map (λ later. replicate (p.0 - least) 0 ++ p.1 ∷ later) (numbered_in (p.0 + 1) ds)) o)) (sym is) ∙ so
 
@@ -72,7 +72,7 @@ one_read counts least site n d ds whole long low near none is so = by (numbered_
         let zeros = replicate (site - least) 0 in
         let begun = take least counts in
         let whole_list : ((begun ++ zeros) ++ n ∷ []) ++ later ≡ begun ++ (zeros ++ n ∷ later) = append_assoc (begun ++ zeros) (n ∷ []) later ∙ append_assoc begun zeros (n ∷ later) in
-        ap Some (ap (λ l. l ++ later) front ∙ whole_list)
+        ap Some (ap (λ l. l ++ later) (one_further counts least site n long low near none) ∙ whole_list)
         ∙ ap (λ o. with_front begun (option_map (λ ms. zeros ++ n ∷ ms) o)) (sym e) ∙ read
 
 -- the same of a list's values

@@ -13,6 +13,7 @@ mod receipt;
 mod refusal;
 mod shadow;
 mod shown;
+mod usual_counts;
 mod usual_event;
 mod usual_line;
 mod usual_part;

@@ -1,4 +1,4 @@
-//! Lines of histories as this program writes them, read in one pass, but for operations in version 2. `None` says nothing of a line: it is read by `serde_json`.
+//! Lines of histories as this program writes them, read in one pass. `None` says nothing of a line: it is read by `serde_json`.
 ghost use Rattle.std.specs.Prelude.{◌≡◌, ◌<◌, Some, IfSome};
 ghost use Rattle.rb_history.specs.Entries.{entry_of_line};
 

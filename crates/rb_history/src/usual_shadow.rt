@@ -1,43 +1,25 @@
-//! Shadows of a history's line as this program writes them in version 1, read in one pass. `None` says nothing of a text.
-ghost use Rattle.std.specs.Prelude.{◌≡◌, ◌<◌, ◌^◌, ◌++◌, IfSome, true};
+//! Shadows of a history's line as this program writes them, read in one pass. `None` says nothing of a text.
+ghost use Rattle.std.specs.Prelude.{◌≡◌, ◌++◌, IfSome, true};
 ghost use Rattle.serde_json.specs.Written.{members_text};
 ghost use Rattle.rb_shadow.specs.Labels.{label_of};
-ghost use Rattle.rb_commands.specs.Values.{number_json};
 ghost use Rattle.rb_history.specs.Entries.{last_members};
 ghost use Rattle.rb_history.specs.Fits.{IsKind};
-ghost use Rattle.rb_history.specs.Tells.{TellsDeps, TellsEach, TellsShadow};
+ghost use Rattle.rb_history.specs.Tells.{TellsDeps, TellsShadow};
 
-use crate::counts::widened;
+use crate::usual_counts::counts;
 use crate::usual_part::{
     account_between, byte_between, label, long_between, name, name_between, word_between,
 };
-use rb_commands::scan::{after, word};
-use rb_money::{Config, MOST_SITES_OF_VERSION_1};
+use rb_commands::scan::after;
+use rb_money::Config;
 use rb_shadow::{Deps, Kind, Label, Shadow};
 
-/// A count for each site that version 1 may have, and the closing bracket.
-fn blue(text: &str) -> Option<([u32; MOST_SITES_OF_VERSION_1], &str)>
-    ensures { IfSome result (λ p. TellsEach number_json (λ n. n < 2 ^ 32) p.0 text.now p.1.now) }
+/// What a home had applied.
+fn deps<'a>(config: &Config, text: &'a str) -> Option<(Deps, &'a str)>
+    ensures { IfSome result (λ p. TellsDeps config.now.version p.0 text.now p.1.now) }
 {
-    let mut counts = [0; MOST_SITES_OF_VERSION_1];
-    let mut left = text;
-    let mut comma = "";
-    for site in 0..MOST_SITES_OF_VERSION_1 {
-        let (count, rest) = word(after(left, comma)?)?;
-        counts[site] = count;
-        left = rest;
-        comma = ",";
-    }
-    Some((counts, after(left, "]")?))
-}
-
-/// What a home had applied, in version 1 of the format.
-fn deps(text: &str) -> Option<(Deps, &str)>
-    ensures { IfSome result (λ p. TellsDeps p.0 text.now p.1.now) }
-{
-    let (first, rest) = blue(after(text, "[[")?)?;
+    let (blue, rest) = counts(config.version(), after(text, "[")?)?;
     let (red, rest) = word_between(rest, ",", "]")?;
-    let blue = widened(&first);
     Some((Deps { blue, red }, rest))
 }
 
@@ -63,16 +45,13 @@ fn kind<'a>(config: &Config, label: Label, text: &'a str) -> Option<(Kind, &'a s
     }
 }
 
-/// A shadow in version 1 of the format, as the one member of an object.
+/// A shadow, as the one member of an object.
 pub fn usual_shadow<'a>(config: &Config, text: &'a str) -> Option<(Shadow, &'a str)>
     ensures { IfSome result (λ p. TellsShadow config.now p.0 text.now p.1.now) }
 {
-    if config.version() != 1 {
-        return None;
-    }
     let (account, rest) = account_between(config, text, "{\"shadow\":{\"account\":\"", ",")?;
     let (amount, rest) = long_between(rest, "\"amount\":", ",\"deps\":")?;
-    let (deps, rest) = deps(rest)?;
+    let (deps, rest) = deps(config, rest)?;
     let (home, rest) = byte_between(rest, ",\"home\":", ",\"kind\":\"")?;
     let (label, rest) = label(rest)?;
     let (name, rest) = name(after(rest, ",\"name\":\"")?)?;

@@ -1,7 +1,6 @@
-use Rattle.std.proofs.Common.{◌≡◌, ◌++◌, List, ℕ, true, codes, decimal, ap, ◌∙◌, sym, append_assoc, rules}
+use Rattle.std.proofs.Common.{◌≡◌, ◌++◌, List, ℕ, true, codes, decimal, ap, ◌∙◌, sym, append_assoc}
 use Rattle.json.specs.Print.{escape_byte}
 use Rattle.serde_json.specs.Written.{compact_text, members_text}
-use Rattle.rb_shadow.specs.Labels.{label_of}
 use Rattle.rb_shadow.specs.NameText.{name_text}
 use Rattle.rb_commands.specs.Values.{label_text}
 use Rattle.rb_history.specs.Entries.{deps_json, last_members}
@@ -18,9 +17,7 @@ unfolding escape_byte
 returns c =
     let account = account_behind_quote c.args.config.now c.in_ok-account.account in
     let amount = decimal c.in_ok-amount.amount in
-    let first : c.args.config.now.version ≡ 1 = search rules in
-    let told = λ (version : ℕ). compact_text (deps_json version c.in_ok-deps.deps) in
-    let deps = told 1 in
+    let deps = compact_text (deps_json c.args.config.now.version c.in_ok-deps.deps) in
     let home = decimal c.in_ok-home.home in
     let label = behind_quote (label_text c.in_ok-label.label) in
     let name = behind_quote (name_text c.in_ok-name.name) in
@@ -29,24 +26,23 @@ returns c =
     let read =
     c.in_ok-account.ensures.1 ∙ ap (λ l. (codes "{\"shadow\":{\"account\":\"" ++ (account ++ codes ",")) ++ l)
     (c.in_ok-amount.ensures.1 ∙ ap (λ l. (codes "\"amount\":" ++ (amount ++ codes ",\"deps\":")) ++ l)
-    (c.in_ok-deps.ensures.text ∙ ap (λ l. deps ++ l)
+    (c.in_ok-deps.ensures.told ∙ ap (λ l. deps ++ l)
     (c.in_ok-home.ensures.1 ∙ ap (λ l. (codes ",\"home\":" ++ (home ++ codes ",\"kind\":\"")) ++ l)
     (c.in_ok-label.ensures ∙ ap (λ l. label ++ l)
     (c.in_ok-after.ensures ∙ ap (λ l. codes ",\"name\":\"" ++ l)
     (c.in_ok-name.ensures.1 ∙ ap (λ l. name ++ l)
     (c.in_ok-kind.ensures.text ∙ ap (λ l. last ++ l) c.in_ok-after-2.ensures))))))) in
-    let whole = λ (deps kind : List ℕ). (codes "{\"shadow\":" ++ ((codes "{\"account\":\"" ++ (account ++ (codes ",\"amount\":" ++ (amount ++ (codes ",\"deps\":" ++ (deps ++ (codes ",\"home\":" ++ (home ++ (codes ",\"kind\":\"" ++ (kind ++ (codes ",\"name\":\"" ++ (name ++ last)))))))))))) ++ codes "}")) ++ rest in (
+    let whole = λ (kind : List ℕ). (codes "{\"shadow\":" ++ ((codes "{\"account\":\"" ++ (account ++ (codes ",\"amount\":" ++ (amount ++ (codes ",\"deps\":" ++ (deps ++ (codes ",\"home\":" ++ (home ++ (codes ",\"kind\":\"" ++ (kind ++ (codes ",\"name\":\"" ++ (name ++ last)))))))))))) ++ codes "}")) ++ rest in (
       record {
         name = c.in_ok-name.ensures.0;
         home = c.in_ok-home.ensures.0;
         sites = c.in_ok-deps.ensures.sites;
         blue = c.in_ok-deps.ensures.blue;
-        further = λ one. c.in_ok-deps.ensures.further;
+        further = c.in_ok-deps.ensures.further;
         red = c.in_ok-deps.ensures.red;
         account = c.in_ok-account.ensures.0;
         amount = c.in_ok-amount.ensures.0;
         kind = c.in_ok-kind.ensures.kind.0;
       },
-      read ∙ shadow_text account amount deps home label name last rest ∙ ap (λ k. whole deps (behind_quote (label_text k))) (sym c.in_ok-kind.ensures.kind.1)
-          ∙ ap (λ v. whole (told v) (behind_quote (label_text (label_of c.in_ok-kind.kind)))) (sym first),
+      read ∙ shadow_text account amount deps home label name last rest ∙ ap (λ k. whole (behind_quote (label_text k))) (sym c.in_ok-kind.ensures.kind.1),
     )

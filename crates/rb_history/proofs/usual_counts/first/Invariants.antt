@@ -5,7 +5,7 @@ use denote.Shadow.{shadow}
 use Rattle.rb_commands.specs.Values.{number_json}
 use Rattle.rb_history.specs.Fits.{Each}
 use Rattle.rb_history.proofs.ListRead.{BeginsWith}
-use Rattle.rb_history.proofs.usual_shadow.blue.Given as goal
+use Rattle.rb_history.proofs.usual_counts.first.Given as goal
 
 abbrev pub invariant-loop-site : goal.invariant-loop-site
 invariant-loop-site l = record {

@@ -3,7 +3,7 @@ use Rattle.std.proofs.lemmas.List.{take_all, take_more_set}
 use Rattle.rb_commands.specs.Values.{number_json}
 use Rattle.rb_history.specs.Fits.{Each}
 use Rattle.rb_history.proofs.ListRead.{BeginsWith, all_read, each_more, one_more}
-use Rattle.rb_history.proofs.usual_shadow.blue.Goals as goal
+use Rattle.rb_history.proofs.usual_counts.first.Goals as goal
 
 pub loop-site-init : goal.loop-site-init
 loop-site-init c = record { left = search rules; comma = search rules; sites = search rules; fit = search rules; read = λ later rest e. e }
