@@ -25,7 +25,9 @@ def shadow(run, operation):
         "kind": operation.kind,
         "name": operation.name,
     }
-    return told | ({"target": operation.target.name} if operation.kind == "cancel" else {})
+    if operation.kind == "cancel":
+        return told | {"target": operation.target.name}
+    return told | ({"to": run.names[operation.to]} if operation.kind == "transfer" else {})
 
 
 class Known:

@@ -24,6 +24,10 @@ def withdraw(account, amount, site=0):
     return f'{{"withdraw":["{account}",{amount}],"site":{site}}}'
 
 
+def transfer(account, to, amount, site=0):
+    return f'{{"site":{site},"transfer":["{account}","{to}",{amount}]}}'
+
+
 def cancel(name):
     return f'{{"cancel":"{name}","site":0}}'
 
@@ -158,6 +162,38 @@ def cancellations(seed, commands):
             yield withdraw(FEW[pick(10)], 1 + pick(1000))
 
 
+def transfers(seed, commands):
+    """Transfers, and between them the cancellation of any that isn't cancelled yet."""
+    pick = picker(seed)
+    yield [(name, RICH // 10) for name in FEW]
+    pool = []
+    for done in range(commands):
+        if done > POOL and done % 2 == 0:
+            place = pick(len(pool))
+            pool[place], pool[-1] = pool[-1], pool[place]
+            yield cancel(pool.pop())
+        else:
+            # All are red, so the n-th command makes Rn.
+            pool.append(f"R{done + 1}")
+            account = pick(10)
+            yield transfer(FEW[account], FEW[(account + 1 + pick(9)) % 10], 1 + pick(1000))
+
+
+def received(seed, commands):
+    """Transfers from a busy account, ten to each of 100 quiet ones and all others to a common one, and then by turns
+    statements of quiet accounts and their balances as of any position."""
+    pick = picker(seed)
+    quiet = [f"q{place}" for place in range(100)]
+    yield [("busy", RICH), ("common", 0)] + [(name, 0) for name in quiet]
+    made = commands // 2
+    every = max(1, made // 1000)
+    for done in range(made):
+        turn, rest = divmod(done, every)
+        yield transfer("busy", quiet[turn % 100] if rest == 0 and turn < 1000 else "common", 1 + pick(1000))
+    for done in range(commands - made):
+        yield asof(quiet[pick(100)], pick(made + 1)) if done % 2 else statement(quiet[pick(100)])
+
+
 def cycle(seed, commands):
     """A deposit, its delivery and its application, again and again."""
     pick = picker(seed)
@@ -167,10 +203,10 @@ def cycle(seed, commands):
         yield (deposit("a0", 1 + pick(1000)), deliver(number), apply(f"B0.{number}"))[step]
 
 
-def again(line, before=(), start=0):
-    """The kind that repeats one line, after some others that make what it asks about."""
+def again(line, before=(), start=0, others=()):
+    """The kind that repeats one line, after some others that make what it asks about. Other accounts start with nothing."""
     def kind(_seed, commands):
-        yield [("a0", start)]
+        yield [("a0", start), *((name, 0) for name in others)]
         yield from before[:commands]
         yield from itertools.repeat(line, max(0, commands - len(before)))
     kind.__doc__ = f"`{line}`" + (", after " + ", ".join(f"`{one}`" for one in before) if before else "")
@@ -186,6 +222,7 @@ SHORTEST = {
     "deposit": again(deposit("a0", 500)),
     "withdraw": again(withdraw("a0", 500), start=RICH),
     "withdraw-turned": again('{"site":0,"withdraw":["a0",500]}', start=RICH),
+    "transfer": again(transfer("a0", "a1", 500), start=RICH, others=("a1",)),
     "statement": again(statement("a0")),
     "refused-amount": again(withdraw("a0", 0)),
     "refused-token": again(withdraw("a0", 1, site=1), start=RICH),
@@ -202,5 +239,7 @@ LONG = {
     "rows": rows,
     "inbox": inbox,
     "cancellations": cancellations,
+    "transfers": transfers,
+    "received": received,
     "deposits": deposits,
 }

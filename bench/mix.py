@@ -8,20 +8,20 @@ import random
 from limits import LIMITS
 
 MOST = LIMITS["MOST_CENTS"]
-VERBS = ("deposit", "withdraw", "interest", "cancel", "balance", "pass")
-DEFAULT_MIX = "deposit=6,withdraw=3,interest=1,cancel=1,balance=4,pass=1"
+VERBS = ("deposit", "withdraw", "interest", "cancel", "balance", "pass", "transfer")
+DEFAULT_MIX = "deposit=6,withdraw=3,interest=1,cancel=1,balance=4,pass=1,transfer=1"
 # Of the deliveries, one in so many is of a message that came before.
 REPEATS = 50
-# Of the withdrawals, one in so many is of more than there is.
+# Of the withdrawals and transfers, one in so many is of more than there is.
 DECLINED = 20
 
 
 class Operation:
     """An operation with what it depends on: so many blue operations of each home, and so many red ones."""
 
-    __slots__ = ("name", "home", "number", "red", "clock", "reds", "kind", "account", "amount", "target")
+    __slots__ = ("name", "home", "number", "red", "clock", "reds", "kind", "account", "amount", "target", "to")
 
-    def __init__(self, site, kind, red, account, amount, target):
+    def __init__(self, site, kind, red, account, amount, target, to):
         self.home = site.number
         self.number = (site.reds if red else site.clock[self.home]) + 1
         self.name = f"R{self.number}" if red else f"B{self.home}.{self.number}"
@@ -32,6 +32,7 @@ class Operation:
         self.account = account
         self.amount = amount
         self.target = target
+        self.to = to
 
 
 class Site:
@@ -67,20 +68,23 @@ class Site:
         held = [self.held[name] for name in self.next_names() if name in self.held]
         return [one for one in held if self.reds >= one.reds and all(map(int.__ge__, self.clock, one.clock))]
 
-    def change(self, operation):
-        """What the operation would move here."""
+    def changes(self, operation):
+        """The accounts on which the operation would move something here, and what."""
         if operation.kind == "declined":
-            return 0
+            return []
         if operation.kind == "withdraw":
-            return -operation.amount
+            return [(operation.account, -operation.amount)]
+        if operation.kind == "transfer":
+            return [(operation.account, -operation.amount), (operation.to, operation.amount)]
         if operation.kind != "cancel":
-            return operation.amount
+            return [(operation.account, operation.amount)]
         if operation.target.name in self.cancelled:
-            return 0
-        return operation.amount if operation.target.kind == "withdraw" else -operation.amount
+            return []
+        return [(account, -moved) for account, moved in self.changes(operation.target)]
 
     def apply(self, operation):
-        self.balances[operation.account] += self.change(operation)
+        for account, moved in self.changes(operation):
+            self.balances[account] += moved
         if operation.kind == "cancel":
             self.cancelled.add(operation.target.name)
         elif operation.kind != "declined":
@@ -161,9 +165,9 @@ class Mix:
 
     # ---- requests
 
-    def make(self, site, kind, red, account, amount, target=None):
+    def make(self, site, kind, red, account, amount, target=None, to=None):
         """The operation that a request makes, applied here and sent to all others."""
-        operation = Operation(site, kind, red, account, amount, target)
+        operation = Operation(site, kind, red, account, amount, target, to)
         site.apply(operation)
         others = [other for other in self.sites if other is not site]
         self.send(operation, others, 2 * len(others))
@@ -177,18 +181,37 @@ class Mix:
         """The site that may make red operations, if one may now, else this one."""
         return next((other for other in self.sites if other.may_make_red()), site)
 
+    def taken(self, site, account):
+        """An amount to be taken from the account, and whether it is covered, or nothing where none may be taken."""
+        balance = site.balances[account]
+        if self.pick(DECLINED) == 0 and balance < MOST:
+            return balance + 1, False
+        if site.may_make_red() and balance > 0:
+            return 1 + self.pick(min(balance, 500)), True
+        return None
+
     def make_withdraw(self, site):
         site = self.for_red(site)
         account = self.pick(len(self.names))
-        balance = site.balances[account]
-        if self.pick(DECLINED) == 0 and balance < MOST:
-            amount, kind = balance + 1, "declined"
-        elif site.may_make_red() and balance > 0:
-            amount, kind = 1 + self.pick(min(balance, 500)), "withdraw"
-        else:
+        taken = self.taken(site, account)
+        if taken is None:
             return None
-        self.make(site, kind, kind == "withdraw", account, amount)
+        amount, covered = taken
+        self.make(site, "withdraw" if covered else "declined", covered, account, amount)
         return f'{{"withdraw":["{self.names[account]}",{amount}],"site":{site.number}}}'
+
+    def make_transfer(self, site):
+        site = self.for_red(site)
+        if len(self.names) < 2:
+            return None
+        account = self.pick(len(self.names))
+        to = (account + 1 + self.pick(len(self.names) - 1)) % len(self.names)
+        taken = self.taken(site, account)
+        if taken is None:
+            return None
+        amount, covered = taken
+        self.make(site, "transfer" if covered else "declined", covered, account, amount, to=to if covered else None)
+        return f'{{"site":{site.number},"transfer":["{self.names[account]}","{self.names[to]}",{amount}]}}'
 
     def make_interest(self, site):
         account, rate = self.pick(len(self.names)), self.pick(20)
@@ -206,7 +229,7 @@ class Mix:
         red = target.kind != "withdraw"
         if target.name in site.cancelled:
             return None
-        if red and not (site.may_make_red() and site.balances[target.account] >= target.amount):
+        if red and not (site.may_make_red() and all(site.balances[account] >= moved for account, moved in site.changes(target))):
             return None
         self.make(site, "cancel", red, target.account, target.amount, target)
         return f'{{"cancel":"{target.name}","site":{site.number}}}'

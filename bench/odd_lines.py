@@ -21,9 +21,9 @@ ODD_NUMBERS = ["-1", "-0", "01", "1.0", "1e2", "1E0", "+1", "0x1", "", "null", "
 NAMES = ["ann", "bob", "eve", "", "a b", "\u00e9", "B0.1", "R1", "\u007f"]
 OPERATIONS = ["B0.1", "B0.2", "B1.1", "R1", "R2", "B00.1", "r1", "B255.4294967295", "B256.1", "R4294967296", "R0", ""]
 PAIRS = ["deposit", "withdraw", "interest", "asof"]
-REQUESTS = ["deposit", "withdraw", "interest", "cancel"]
-KEYS = PAIRS + ["cancel", "apply", "balance", "statement", "pass", "deliver", "batch"]
-LABELS = ["deposit", "withdraw", "declined", "interest", "cancel", "transfer"]
+REQUESTS = ["deposit", "withdraw", "interest", "cancel", "transfer"]
+KEYS = PAIRS + ["cancel", "transfer", "apply", "balance", "statement", "pass", "deliver", "batch"]
+LABELS = ["deposit", "withdraw", "declined", "interest", "cancel", "transfer", "lend"]
 # What replies tell: the kinds of their members' values, by their keys.
 REPLIES = [{"kind": "label", "name": "name"}, {"held": "name"}, {"already": "name"}, {"applied": "name"}, {"names": "names"},
            {"taken": "number"}, {"stale": "number"}, {"passed": "number"}, {"balance": "number"}, {"refused": "refusal"},
@@ -31,6 +31,8 @@ REPLIES = [{"kind": "label", "name": "name"}, {"held": "name"}, {"already": "nam
            {"needed": "number", "refused": "9", "seen": "number"}, {"cause": "cause", "index": "number", "refused": "13"},
            {"refused": "17", "why": "number"}]
 SHADOW = {"account": "account", "amount": "number", "deps": "deps", "home": "number", "kind": "label", "name": "name"}
+# The last member of a shadow: none, that of a cancellation or that of a transfer.
+LASTS = [{}, {"target": "name"}, {"to": "account"}]
 
 
 class Odd:
@@ -68,6 +70,9 @@ class Odd:
             return self.listed([self.members([self.member(self.random.choice(REQUESTS))]) for _ in range(self.random.randrange(4))])
         if key in PAIRS:
             return self.listed([self.text(self.random.choice(NAMES)), self.number()])
+        if key == "transfer":
+            names = [self.text(self.random.choice(NAMES)) for _ in range(1 if self.one_in(40) else 2)]
+            return self.listed([*names, self.number()])
         if key in ("pass", "deliver"):
             return self.number()
         return self.text(self.random.choice(OPERATIONS if key in ("cancel", "apply") else NAMES))
@@ -82,7 +87,7 @@ class Odd:
             "name": lambda: self.text(self.random.choice(OPERATIONS if self.one_in(20) else OPERATIONS[:5])),
             "names": lambda: self.listed([self.part("name") for _ in range(self.random.randrange(3))]),
             "account": lambda: self.text(self.random.choice(NAMES + ["?"])),
-            "label": lambda: self.text(self.random.choice(LABELS if self.one_in(20) else LABELS[:5])),
+            "label": lambda: self.text(self.random.choice(LABELS if self.one_in(20) else LABELS[:6])),
             "refusal": lambda: str(self.random.randrange(26)),
             "cause": lambda: self.part("label" if self.one_in(2) else "number"),
             "deps": lambda: self.listed([self.listed([self.part("number") for _ in range(7 if self.one_in(20) else 8)]), self.part("number")]),
@@ -103,7 +108,7 @@ class Odd:
     def event(self):
         key = self.random.choice(KEYS + ["shadow", "token"] * 3)
         if key == "shadow":
-            return self.members([(key, self.told(SHADOW | ({"target": "name"} if self.one_in(3) else {})))])
+            return self.members([(key, self.told(SHADOW | self.random.choice(LASTS)))])
         return self.told({key: "token"}) if key == "token" else self.members([self.member(key)])
 
     def entry(self):

@@ -16,6 +16,7 @@ reads_requests s = record {
   withdraw = λ amount name k. rw (below amount (2 ^ 64) k) refl;
   interest = λ rate name k. rw (below rate (2 ^ 32) k) refl;
   cancel = λ x k. rw (back x k) refl;
+  transfer = λ amount from to k. rw (below amount (2 ^ 64) k) refl;
 }
 
 -- where each value of a list tells a request, the list tells these requests
@@ -34,6 +35,7 @@ reads_commands s = record {
   withdraw = λ site amount name h k. rw (below site (2 ^ 8) h, below amount (2 ^ 64) k) refl;
   interest = λ site rate name h k. rw (below site (2 ^ 8) h, below rate (2 ^ 32) k) refl;
   cancel = λ site x h k. rw (below site (2 ^ 8) h, back x k) refl;
+  transfer = λ site amount from to h k. rw (below site (2 ^ 8) h, below amount (2 ^ 64) k) refl;
   alone = reads_requests s;
   batch = λ site list rs h k. rw (below site (2 ^ 8) h, list_back s list rs k) refl;
   apply = λ site x h k. rw (below site (2 ^ 8) h, back x k) refl;

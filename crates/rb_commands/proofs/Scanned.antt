@@ -8,6 +8,10 @@ use Rattle.std.proofs.lemmas.Fmt.{decimal_digit, decimal_step}
 use Rattle.json.specs.Print.{escape, escape_byte}
 use Rattle.json.proofs.Printed.Strings.{escape_byte_plain}
 
+-- a byte more of two texts that begin alike
+pub same_more : (text front : List ℕ) (i : ℕ) → i < length text → i < length front → get_or text i 0 ≡ get_or front i 0 → take i text ≡ take i front → take (i + 1) text ≡ take (i + 1) front
+same_more text front i h k here e = take_more text i 0 h ∙ (λ j. e j ++ (here j ∷ [])) ∙ sym (take_more front i 0 k)
+
 -- a plain byte more
 pub one_more : (text : List ℕ) (i : ℕ) → i < length text → escape (take i text) ≡ take i text → (get_or text i 0 ≡ 34 → ⊥) → (get_or text i 0 ≡ 92 → ⊥) → 32 ≤ get_or text i 0 → escape (take (i + 1) text) ≡ take (i + 1) text
 one_more text i h e quote backslash control =

@@ -10,14 +10,19 @@ use Rattle.serde_json.specs.Read.{read, of_json, max_depth}
 use Rattle.serde_json.specs.Written.{compact_text, outline}
 use Rattle.serde_json.proofs.Numbers.{number_of-decimal}
 use Rattle.rb_money.specs.Settings.{Settings}
+use Rattle.rb_money.proofs.Public.Tests.{is_below}
+use Rattle.rb_scratch.specs.declared.request.Request.TheVariants.{Transfer}
 use Rattle.rb_shadow.specs.NameText.{IsName, name_text}
 use Rattle.rb_shadow.specs.declared.op_name.OpName.{OpName}
 use Rattle.rb_site.specs.declared.world_event.WorldEvent.{WorldEvent}
 use Rattle.rb_commands.specs.Commands.{command_at, command_of, sited_json}
-use Rattle.rb_commands.specs.Spelled.{IsRead, Tells}
-use Rattle.rb_commands.specs.Values.{number_json, name_json, pair_json, one_json}
+use Rattle.rb_commands.specs.Requests.{account_place}
+use Rattle.rb_commands.specs.Spelled.{Asks, IsRead, Tells}
+use Rattle.rb_commands.specs.Values.{number_json, name_json, pair_json, three_json, one_json}
 use Rattle.rb_commands.specs.Verbs.{key_of, told_at, told_of}
+use Rattle.rb_commands.specs.declared.own_event.OwnEvent.TheVariants.{Submit}
 use Rattle.rb_commands.specs.declared.told.Told.{Told}
+use Rattle.rb_commands.specs.declared.told.Told.TheVariants.{Event as ToldEvent}
 use Rattle.rb_commands.specs.declared.verb.OnAccount.{OnAccount}
 use Rattle.rb_commands.specs.declared.verb.OnAccount.TheVariants.{Balance, Statement}
 use Rattle.rb_commands.specs.declared.verb.OnPair.{OnPair}
@@ -60,7 +65,7 @@ first_line s told site text rest t h e =
     let shallow = is.shallow in
     command_read s turned (sited_json t.key t.value site) (told_at site told) (codes "{\"site\":" ++ (decimal site ++ (codes ",\"" ++ text))) line (IsNumber-decimal site k, (is.numbers, tt)) (omega arith) (rw (number_of-decimal site k, is.same) refl) (told_first s told t.key t.value site h t.is)
 
--- a string, a number, and a list of both, are read from their own texts
+-- a string, a number, a list of both, and one of two strings and a number, are read from their own texts
 string_read : (name : List ℕ) → IsRead (string name)
 string_read name = record { numbers = tt; shallow = omega arith; same = refl }
 
@@ -70,7 +75,10 @@ number_read n h = record { numbers = IsNumber-decimal n h; shallow = omega arith
 pair_read : (name : List ℕ) (n : ℕ) → n < 2 ^ 64 → IsRead (pair_json (string name) (number_json n))
 pair_read name n h = record { numbers = (tt, (IsNumber-decimal n h, tt)); shallow = omega arith; same = rw (number_of-decimal n h) refl }
 
--- a string with no escape, and a list of one and a number, as they stand before what follows
+three_read : (first second : List ℕ) (n : ℕ) → n < 2 ^ 64 → IsRead (three_json (string first) (string second) (number_json n))
+three_read first second n h = record { numbers = (tt, (tt, (IsNumber-decimal n h, tt))); shallow = omega arith; same = rw (number_of-decimal n h) refl }
+
+-- a string with no escape, a list of one and a number, and one of two and a number, as they stand before what follows
 string_text : (name rest : List ℕ) → escape name ≡ name → name ++ (codes "\"" ++ rest) ≡ (escape name ++ codes "\"") ++ rest
 string_text name rest plain = sym (append_assoc name (codes "\"") rest) ∙ ap (λ l. (l ++ codes "\"") ++ rest) (sym plain)
 
@@ -81,6 +89,13 @@ pair_text : (name digits rest : List ℕ) → escape name ≡ name → name ++ (
 pair_text name digits rest plain =
     let regrouped : name ++ (codes "\"," ++ (digits ++ (codes "]" ++ rest))) ≡ ((name ++ codes "\"") ++ (codes "," ++ (digits ++ codes "]"))) ++ rest = simp append_assoc in
     regrouped ∙ ap (λ l. ((l ++ codes "\"") ++ (codes "," ++ (digits ++ codes "]"))) ++ rest) (sym plain)
+
+three_text : (first second digits rest : List ℕ) → escape first ≡ first → escape second ≡ second → first ++ (codes "\",\"" ++ (second ++ (codes "\"," ++ (digits ++ (codes "]" ++ rest))))) ≡ ((escape first ++ codes "\"") ++ (codes ",\"" ++ ((escape second ++ codes "\"") ++ (codes "," ++ (digits ++ codes "]"))))) ++ rest
+three_text first second digits rest plain clear =
+    let regrouped : first ++ (codes "\",\"" ++ (second ++ (codes "\"," ++ (digits ++ (codes "]" ++ rest))))) ≡ ((first ++ codes "\"") ++ (codes ",\"" ++ ((second ++ codes "\"") ++ (codes "," ++ (digits ++ codes "]"))))) ++ rest = simp append_assoc in
+    regrouped
+    ∙ ap (λ a. ((a ++ codes "\"") ++ (codes ",\"" ++ ((second ++ codes "\"") ++ (codes "," ++ (digits ++ codes "]"))))) ++ rest) (sym plain)
+    ∙ ap (λ b. ((escape first ++ codes "\"") ++ (codes ",\"" ++ ((b ++ codes "\"") ++ (codes "," ++ (digits ++ codes "]"))))) ++ rest) (sym clear)
 
 -- a verb's key in quotes, and that it isn't the site's
 quoted_key : (v : Verb) → quoted (key_of v) ≡ 34 ∷ (key_of v ++ 34 ∷ [])
@@ -108,19 +123,23 @@ no_site (Operation Apply) = refl
 no_site (Number Pass) = refl
 no_site (Number Deliver) = refl
 
-key_text : (v : Verb) (text behind : List ℕ) → text ≡ codes "\":" ++ behind → codes "\"" ++ (key_of v ++ text) ≡ quoted (key_of v) ++ (codes ":" ++ behind)
-key_text v text behind e = ap (λ l. codes "\"" ++ (key_of v ++ l)) e ∙ ap (λ l. codes "\"" ++ l) (sym (append_assoc (key_of v) (codes "\"") (codes ":" ++ behind))) ∙ ap (λ l. l ++ (codes ":" ++ behind)) (sym (quoted_key v))
+key_text : (key text behind : List ℕ) → quoted key ≡ 34 ∷ (key ++ 34 ∷ []) → text ≡ codes "\":" ++ behind → codes "\"" ++ (key ++ text) ≡ quoted key ++ (codes ":" ++ behind)
+key_text key text behind q e = ap (λ l. codes "\"" ++ (key ++ l)) e ∙ ap (λ l. codes "\"" ++ l) (sym (append_assoc key (codes "\"") (codes ":" ++ behind))) ∙ ap (λ l. l ++ (codes ":" ++ behind)) (sym q)
 
--- what a verb tells of the argument that stands behind its key
-tells : (s : Settings) (v : Verb) (told : Told) (value : Data) (text rest : List ℕ) → text ≡ codes "\":" ++ (compact_text value ++ rest) → IsRead value → tree.depth (outline value) ≤ 1 → told_of s (one_json (key_of v) value) ≡ Some told → Tells s told (key_of v ++ text) rest
-tells s v told value text rest e read flat alone = record {
-  key = key_of v;
+-- what a key tells of the argument that stands behind it
+tells_by : (s : Settings) (key : List ℕ) (told : Told) (value : Data) (text rest : List ℕ) → quoted key ≡ 34 ∷ (key ++ 34 ∷ []) → bytes_eq key (codes "site") ≡ false → text ≡ codes "\":" ++ (compact_text value ++ rest) → IsRead value → tree.depth (outline value) ≤ 1 → told_of s (one_json key value) ≡ Some told → Tells s told (key ++ text) rest
+tells_by s key told value text rest q other e read flat alone = record {
+  key = key;
   value = value;
-  member = key_text v text (compact_text value ++ rest) e;
+  member = key_text key text (compact_text value ++ rest) q e;
   read = read;
   flat = λ r same. flat;
-  is = record { other = λ same. true≢false (sym (ap (λ k. bytes_eq k (codes "site")) same) ∙ no_site v); alone = alone };
+  is = record { other = λ same. true≢false (sym (ap (λ k. bytes_eq k (codes "site")) same) ∙ other); alone = alone };
 }
+
+-- the same of a verb
+tells : (s : Settings) (v : Verb) (told : Told) (value : Data) (text rest : List ℕ) → text ≡ codes "\":" ++ (compact_text value ++ rest) → IsRead value → tree.depth (outline value) ≤ 1 → told_of s (one_json (key_of v) value) ≡ Some told → Tells s told (key_of v ++ text) rest
+tells s v told value text rest = tells_by s (key_of v) told value text rest (quoted_key v) (no_site v)
 
 pub account_tells : (s : Settings) (v : OnAccount) (told : Told) (name rest : List ℕ) → escape name ≡ name → told_of s (one_json (key_of (Account v)) (string name)) ≡ Some told → Tells s told (key_of (Account v) ++ (codes "\":\"" ++ (name ++ (codes "\"" ++ rest)))) rest
 account_tells s v told name rest plain = tells s (Account v) told (string name) (codes "\":\"" ++ (name ++ (codes "\"" ++ rest))) rest (ap (λ l. codes "\":\"" ++ l) (string_text name rest plain)) (string_read name) (omega arith)
@@ -133,3 +152,13 @@ operation_tells s v told x rest h = tells s (Operation v) told (name_json x) (co
 
 pub number_tells : (s : Settings) (v : OnNumber) (told : Told) (n : ℕ) (rest : List ℕ) → n < 2 ^ 64 → told_of s (one_json (key_of (Number v)) (number_json n)) ≡ Some told → Tells s told (key_of (Number v) ++ (codes "\":" ++ (decimal n ++ rest))) rest
 number_tells s v told n rest h = tells s (Number v) told (number_json n) (codes "\":" ++ (decimal n ++ rest)) rest refl (number_read n h) (omega arith)
+
+transfer_told : (s : Settings) (from to : List ℕ) (n : ℕ) → n < 2 ^ 64 → told_of s (one_json (codes "transfer") (three_json (string from) (string to) (number_json n))) ≡ Some (ToldEvent (Submit (Transfer (account_place s from) (account_place s to) n)))
+transfer_told s from to n h = rw (is_below n (2 ^ 64) h) refl
+
+quoted_transfer : quoted (codes "transfer") ≡ 34 ∷ (codes "transfer" ++ 34 ∷ [])
+unfolding escape_byte
+quoted_transfer = refl
+
+pub transfer_asks : (s : Settings) (from to : List ℕ) (n : ℕ) (rest : List ℕ) → n < 2 ^ 64 → escape from ≡ from → escape to ≡ to → Asks s (Transfer (account_place s from) (account_place s to) n) (codes "transfer" ++ (codes "\":[\"" ++ (from ++ (codes "\",\"" ++ (to ++ (codes "\"," ++ (decimal n ++ (codes "]" ++ rest)))))))) rest
+transfer_asks s from to n rest h plain clear = tells_by s (codes "transfer") (ToldEvent (Submit (Transfer (account_place s from) (account_place s to) n))) (three_json (string from) (string to) (number_json n)) (codes "\":[\"" ++ (from ++ (codes "\",\"" ++ (to ++ (codes "\"," ++ (decimal n ++ (codes "]" ++ rest))))))) rest quoted_transfer refl (ap (λ l. codes "\":[\"" ++ l) (three_text from to (decimal n) rest plain clear)) (three_read from to n h) (omega arith) (transfer_told s from to n h)

@@ -7,14 +7,14 @@ use Rattle.serde_json.specs.View.{items_of}
 use Rattle.rb_money.specs.Settings.{Settings}
 use Rattle.rb_shadow.specs.declared.op_name.OpName.{OpName}
 use Rattle.rb_scratch.specs.declared.request.Request.{Request}
-use Rattle.rb_scratch.specs.declared.request.Request.TheVariants.{Deposit, Withdraw, Interest, Cancel}
+use Rattle.rb_scratch.specs.declared.request.Request.TheVariants.{Deposit, Withdraw, Interest, Cancel, Transfer}
 use Rattle.rb_site.specs.declared.event.Event.{Event}
 use Rattle.rb_site.specs.declared.event.Event.TheVariants.{Submit, Batch, Apply, Pass, Balance, AsOf, Statement}
 use Rattle.rb_site.specs.declared.world_event.WorldEvent.{WorldEvent}
 use Rattle.rb_site.specs.declared.world_event.WorldEvent.TheVariants.{At, Deliver}
 use Rattle.rb_shadow.specs.NameText.{IsName}
 use Rattle.rb_commands.specs.Requests.{ReadsRequests, account_place, place_at, asked_of, request_alone, request_of, requests_at}
-use Rattle.rb_commands.specs.Values.{number_json, name_json, pair_json, number_below, name_at, size_of, either}
+use Rattle.rb_commands.specs.Values.{number_json, name_json, pair_json, three_json, number_below, name_at, size_of, either}
 
 -- what a teller sees of an account, or the request, that an object's key tells
 abbrev pub teller_event_of : Settings → Data → Option Event
@@ -53,6 +53,7 @@ pub record ReadsCommands (s : Settings) : Type 0 where
   pub withdraw : (site amount : ℕ) (name : List ℕ) → site < 2 ^ 8 → amount < 2 ^ 64 → command_of s (sited_json (codes "withdraw") (pair_json (string name) (number_json amount)) site) ≡ Some (At site (Submit (Withdraw (account_place s name) amount)))
   pub interest : (site rate : ℕ) (name : List ℕ) → site < 2 ^ 8 → rate < 2 ^ 32 → command_of s (sited_json (codes "interest") (pair_json (string name) (number_json rate)) site) ≡ Some (At site (Submit (Interest (account_place s name) rate)))
   pub cancel : (site : ℕ) (x : OpName) → site < 2 ^ 8 → IsName x → command_of s (sited_json (codes "cancel") (name_json x) site) ≡ Some (At site (Submit (Cancel x)))
+  pub transfer : (site amount : ℕ) (from to : List ℕ) → site < 2 ^ 8 → amount < 2 ^ 64 → command_of s (sited_json (codes "transfer") (three_json (string from) (string to) (number_json amount)) site) ≡ Some (At site (Submit (Transfer (account_place s from) (account_place s to) amount)))
   pub alone : ReadsRequests s
   pub batch : (site : ℕ) (list : List Data) (rs : List Request) → site < 2 ^ 8 → map (request_alone s) list ≡ map Some rs → command_of s (sited_json (codes "batch") (array (items_of list)) site) ≡ Some (At site (Batch rs))
   pub apply : (site : ℕ) (x : OpName) → site < 2 ^ 8 → IsName x → command_of s (sited_json (codes "apply") (name_json x) site) ≡ Some (At site (Apply x))

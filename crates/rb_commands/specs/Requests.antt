@@ -8,8 +8,8 @@ use Rattle.rb_money.specs.declared.place.TheConstants.Place.{NOWHERE}
 use Rattle.rb_shadow.specs.declared.op_name.OpName.{OpName}
 use Rattle.rb_shadow.specs.NameText.{IsName}
 use Rattle.rb_scratch.specs.declared.request.Request.{Request}
-use Rattle.rb_scratch.specs.declared.request.Request.TheVariants.{Deposit, Withdraw, Interest, Cancel}
-use Rattle.rb_commands.specs.Values.{number_json, name_json, pair_json, one_json, number_below, name_at, pair_of, size_of, either}
+use Rattle.rb_scratch.specs.declared.request.Request.TheVariants.{Deposit, Withdraw, Interest, Cancel, Transfer}
+use Rattle.rb_commands.specs.Values.{number_json, name_json, pair_json, three_json, one_json, number_below, name_at, pair_of, three_of, size_of, either}
 
 -- the place of an account's name: nowhere where no account has it
 abbrev pub account_place : Settings → List ℕ → Place
@@ -23,12 +23,17 @@ place_at s d = option_map (account_place s) (as_str d)
 abbrev pub asked_of : {A : Type 0} → Settings → ℕ → (Place → ℕ → A) → Data → Option A
 asked_of s bound ask d = option_and_then (λ p. option_and_then (λ account. option_map (ask account) (number_below bound p.1)) (place_at s p.0)) (pair_of d)
 
+-- the transfer of an amount from an account to another, from the list of the three
+abbrev pub transfer_at : Settings → Data → Option Request
+transfer_at s d = option_and_then (λ p. option_and_then (λ from. option_and_then (λ to. option_map (Transfer from to) (number_below (2 ^ 64) p.2)) (place_at s p.1)) (place_at s p.0)) (three_of d)
+
 -- the request that an object's key tells
 abbrev pub request_of : Settings → Data → Option Request
 request_of s d = either (get (codes "deposit") d) (asked_of s (2 ^ 64) Deposit)
     (either (get (codes "withdraw") d) (asked_of s (2 ^ 64) Withdraw)
     (either (get (codes "interest") d) (asked_of s (2 ^ 32) Interest)
-    (option_and_then (λ x. option_map Cancel (name_at x)) (get (codes "cancel") d))))
+    (either (get (codes "cancel") d) (λ x. option_map Cancel (name_at x))
+    (option_and_then (transfer_at s) (get (codes "transfer") d)))))
 
 -- the request of a batch that a value is: an object of one member
 abbrev pub request_alone : Settings → Data → Option Request
@@ -48,3 +53,4 @@ pub record ReadsRequests (s : Settings) : Type 0 where
   pub withdraw : (amount : ℕ) (name : List ℕ) → amount < 2 ^ 64 → request_alone s (one_json (codes "withdraw") (pair_json (string name) (number_json amount))) ≡ Some (Withdraw (account_place s name) amount)
   pub interest : (rate : ℕ) (name : List ℕ) → rate < 2 ^ 32 → request_alone s (one_json (codes "interest") (pair_json (string name) (number_json rate))) ≡ Some (Interest (account_place s name) rate)
   pub cancel : (x : OpName) → IsName x → request_alone s (one_json (codes "cancel") (name_json x)) ≡ Some (Cancel x)
+  pub transfer : (amount : ℕ) (from to : List ℕ) → amount < 2 ^ 64 → request_alone s (one_json (codes "transfer") (three_json (string from) (string to) (number_json amount))) ≡ Some (Transfer (account_place s from) (account_place s to) amount)

@@ -2,11 +2,11 @@
 use Rattle.std.specs.Prelude.{ℕ, ℤ, List, codes, map, Option, Some, None, nat_lt, if◌then◌else◌, option_and_then}
 use Rattle.serde_json.specs.Data.{Data, null, boolean, number, string, array, object, unsigned, Items, no_items, item, member, no_members}
 use Rattle.serde_json.specs.Events.{members_len}
-use Rattle.serde_json.specs.Find.{as_number, as_str, as_u64, of_integer}
+use Rattle.serde_json.specs.Find.{as_array, as_number, as_str, as_u64, of_integer}
 use Rattle.serde_json.specs.View.{items_of}
 use Rattle.rb_shadow.specs.declared.op_name.OpName.{OpName}
 use Rattle.rb_shadow.specs.declared.label.Label.{Label}
-use Rattle.rb_shadow.specs.declared.label.Label.TheVariants.{Deposit, Withdraw, Declined, Interest, Cancel}
+use Rattle.rb_shadow.specs.declared.label.Label.TheVariants.{Deposit, Withdraw, Declined, Interest, Cancel, Transfer}
 use Rattle.rb_shadow.specs.NameText.{name_of, name_text}
 
 -- a number
@@ -24,6 +24,7 @@ label_text Withdraw = codes "withdraw"
 label_text Declined = codes "declined"
 label_text Interest = codes "interest"
 label_text Cancel = codes "cancel"
+label_text Transfer = codes "transfer"
 
 -- an operation's name
 abbrev pub name_json : OpName → Data
@@ -36,6 +37,10 @@ list_json written xs = array (items_of (map written xs))
 -- a list of two
 abbrev pub pair_json : Data → Data → Data
 pair_json first second = array (item first (item second no_items))
+
+-- a list of three
+abbrev pub three_json : Data → Data → Data → Data
+three_json first second third = array (item first (item second (item third no_items)))
 
 -- an object of one member
 abbrev pub one_json : List ℕ → Data → Data
@@ -63,6 +68,17 @@ pair_of (number n) = None
 pair_of (string s) = None
 pair_of (array ds) = pair_in ds
 pair_of (object ms) = None
+
+-- the three items of a list of three
+abbrev pub three_in : Items → Option (Data × Data × Data)
+three_in no_items = None
+three_in (item a no_items) = None
+three_in (item a (item b no_items)) = None
+three_in (item a (item b (item c no_items))) = Some (a, b, c)
+three_in (item a (item b (item c (item d ds)))) = None
+
+abbrev pub three_of : Data → Option (Data × Data × Data)
+three_of d = option_and_then three_in (as_array d)
 
 -- how many members an object has
 abbrev pub size_of : Data → ℕ

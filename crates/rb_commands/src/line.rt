@@ -22,6 +22,7 @@ fn append_made(out: &mut Vec<u8>, name: OpName, kind: Label) -> Result<(), Alloc
         Label::Declined => "{\"kind\":\"declined\",\"name\":",
         Label::Interest => "{\"kind\":\"interest\",\"name\":",
         Label::Cancel => "{\"kind\":\"cancel\",\"name\":",
+        Label::Transfer => "{\"kind\":\"transfer\",\"name\":",
     };
     append_named(out, front, name, "}")
 }

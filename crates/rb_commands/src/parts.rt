@@ -14,5 +14,6 @@ pub fn label_word(kind: Label) -> &'static str
         Label::Declined => "declined",
         Label::Interest => "interest",
         Label::Cancel => "cancel",
+        Label::Transfer => "transfer",
     }
 }

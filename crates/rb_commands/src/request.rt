@@ -2,15 +2,17 @@
 ghost use Rattle.std.specs.Prelude.{◌≡◌, ◌^◌};
 ghost use Rattle.serde_json.specs.View.{view};
 ghost use Rattle.rb_commands.specs.Lines.{GivesAs};
-ghost use Rattle.rb_commands.specs.Requests.{account_place, place_at, request_of, request_alone, requests_at};
+ghost use Rattle.rb_commands.specs.Requests.{account_place, place_at, request_of, request_alone, requests_at, transfer_at};
 ghost use Rattle.rb_commands.specs.Values.{one_json};
 ghost use Rattle.rb_commands.specs.Verbs.{key_of, told_of};
 
 use crate::fault::LineFault;
 use crate::own_event::OwnEvent;
 use crate::told::Told;
-use crate::values::{long, name, pair, size};
-use crate::verb::{OnOperation, OnPair, Verb, key, of_account, of_number, of_operation, of_pair};
+use crate::values::{long, name, pair, size, three};
+use crate::verb::{
+    OnOperation, OnPair, TRANSFER, Verb, key, of_account, of_number, of_operation, of_pair,
+};
 use rb_money::{Config, Place};
 use rb_scratch::Request;
 use serde_json::Value;
@@ -72,6 +74,17 @@ fn asked(config: &Config, verb: Verb, value: &Value) -> Option<Request>
     }
 }
 
+/// A transfer, from the list of its accounts and its amount.
+fn transfer(config: &Config, value: &Value) -> Option<Request>
+    ensures { result ≡ transfer_at config.now (view value.now) }
+{
+    let (from, to, amount) = three(value)?;
+    let from = account(config, from)?;
+    let to = account(config, to)?;
+    let amount = long(amount)?;
+    Some(Request::Transfer { from, to, amount })
+}
+
 /// A request, by a key of an object that may have others.
 pub fn request(config: &Config, value: &Value) -> Option<Request>
     ensures { result ≡ request_of config.now (view value.now) }
@@ -89,7 +102,10 @@ pub fn request(config: &Config, value: &Value) -> Option<Request>
         return asked(config, interest, argument);
     }
     let cancel = Verb::Operation(OnOperation::Cancel);
-    asked(config, cancel, value.get(key(cancel))?)
+    if let Some(argument) = value.get(key(cancel)) {
+        return asked(config, cancel, argument);
+    }
+    transfer(config, value.get(TRANSFER)?)
 }
 
 /// A request of a batch, from an object of one member.

@@ -1,20 +1,38 @@
 //! What stands at the front of a text as this program spells it, and what follows it: no space, no escape. `None` says nothing of a text.
-ghost use Rattle.std.specs.Prelude.{◌≡◌, ◌<◌, ◌≤◌, ◌^◌, ◌++◌, IfSome, codes, decimal, length, slice_index, take};
+ghost use Rattle.std.specs.Prelude.{◌≡◌, ◌<◌, ◌≤◌, ◌^◌, ◌++◌, IfSome, IsTrue, codes, decimal, length, slice_index, take};
 ghost use Rattle.json.specs.Print.{escape};
 ghost use Rattle.rb_shadow.specs.NameText.{IsName, name_text};
 
 use rb_shadow::OpName;
+
+/// Whether these bytes begin with those of the front.
+#[inline]
+fn begins(text: &[u8], front: &[u8]) -> bool
+    ensures { IsTrue result → (length front.now ≤ length text.now) × (take (length front.now) text.now ≡ front.now) }
+{
+    if text.len() < front.len() {
+        return false;
+    }
+    let mut len = 0;
+    while len < front.len() {
+        if text[len] != front[len] {
+            return false;
+        }
+        len += 1;
+    }
+    true
+}
 
 /// What follows this text.
 #[inline(always)]
 pub fn after<'a>(text: &'a str, front: &str) -> Option<&'a str>
     ensures { IfSome result (λ rest. text.now ≡ front.now ++ rest.now) }
 {
-    let len = front.len();
-    if text.len() < len || &text.as_bytes()[..len] != front.as_bytes() {
-        return None;
+    if begins(text.as_bytes(), front.as_bytes()) {
+        Some(&text[front.len()..])
+    } else {
+        None
     }
-    Some(&text[len..])
 }
 
 /// The most that is read of a number, so that one more digit fits.
@@ -122,4 +140,14 @@ pub fn pair(text: &str) -> Option<(&str, u64, &str)>
     let (name, rest) = plain(text)?;
     let (n, rest) = number(after(rest, ",")?)?;
     Some((name, n, after(rest, "]")?))
+}
+
+/// Two accounts' names and a number, in a list of three.
+#[inline(always)]
+pub fn three(text: &str) -> Option<(&str, &str, u64, &str)>
+    ensures { IfSome result (λ p. (p.2 < 2 ^ 64) × (escape p.0.now ≡ p.0.now) × (escape p.1.now ≡ p.1.now) × (text.now ≡ p.0.now ++ (codes "\",\"" ++ (p.1.now ++ (codes "\"," ++ (decimal p.2 ++ (codes "]" ++ p.3.now))))))) }
+{
+    let (first, rest) = plain(text)?;
+    let (second, n, rest) = pair(after(rest, ",\"")?)?;
+    Some((first, second, n, rest))
 }

@@ -5,10 +5,11 @@ ghost use Rattle.rb_commands.specs.Commands.{command_at};
 ghost use Rattle.rb_commands.specs.Spelled.{Asks, AsksEach, Tells};
 
 use crate::own_event::OwnEvent;
-use crate::scan::{after, byte, number, operation, pair, plain};
+use crate::request::place;
+use crate::scan::{after, byte, number, operation, pair, plain, three};
 use crate::told::{Told, at};
 use crate::verb::{
-    BATCH, OnAccount, OnNumber, OnOperation, OnPair, Verb, key, of_account, of_number,
+    BATCH, OnAccount, OnNumber, OnOperation, OnPair, TRANSFER, Verb, key, of_account, of_number,
     of_operation, of_pair, of_requests, submit,
 };
 use rb_money::Config;
@@ -63,17 +64,28 @@ fn ask<'a>(config: &Config, verb: Verb, text: &'a str) -> Option<(Request, &'a s
     }
 }
 
+/// A transfer, from its key on.
+fn transfer<'a>(config: &Config, text: &'a str) -> Option<(Request, &'a str)>
+    ensures { IfSome result (λ p. Asks config.now p.0 text.now p.1.now) }
+{
+    let list = after(after(text, TRANSFER)?, "\":[\"")?;
+    let (from, to, amount, rest) = three(list)?;
+    let from = place(config, from);
+    let to = place(config, to);
+    Some((Request::Transfer { from, to, amount }, rest))
+}
+
 /// A request, from its key on.
 fn request<'a>(config: &Config, text: &'a str) -> Option<(Request, &'a str)>
     ensures { IfSome result (λ p. Asks config.now p.0 text.now p.1.now) }
 {
-    let verb = match text.as_bytes().first() {
-        Some(b'd') => Verb::Pair(OnPair::Deposit),
-        Some(b'w') => Verb::Pair(OnPair::Withdraw),
-        Some(b'i') => Verb::Pair(OnPair::Interest),
-        _ => Verb::Operation(OnOperation::Cancel),
-    };
-    ask(config, verb, text)
+    match text.as_bytes().first() {
+        Some(b'd') => ask(config, Verb::Pair(OnPair::Deposit), text),
+        Some(b'w') => ask(config, Verb::Pair(OnPair::Withdraw), text),
+        Some(b'i') => ask(config, Verb::Pair(OnPair::Interest), text),
+        Some(b't') => transfer(config, text),
+        _ => ask(config, Verb::Operation(OnOperation::Cancel), text),
+    }
 }
 
 /// A request that is submitted alone, from its key on.

@@ -1,9 +1,9 @@
-//! JSON values: numbers, names and lists of two in them.
+//! JSON values: numbers, names and lists of two or three in them.
 ghost use Rattle.std.specs.Prelude.{◌≡◌, ◌^◌, option_map};
 ghost use Rattle.serde_json.specs.Read.{read};
 ghost use Rattle.serde_json.specs.View.{view};
 ghost use Rattle.rb_commands.specs.Lines.{GivesAs};
-ghost use Rattle.rb_commands.specs.Values.{number_below, name_at, pair_of, size_of};
+ghost use Rattle.rb_commands.specs.Values.{number_below, name_at, pair_of, size_of, three_of};
 
 use crate::fault::LineFault;
 use rb_shadow::{OpName, read_name};
@@ -73,6 +73,19 @@ pub fn pair(value: &Value) -> Option<(&Value, &Value)>
     let items = value.as_array()?;
     if items.len() == 2 {
         Some((&items[0], &items[1]))
+    } else {
+        None
+    }
+}
+
+/// The three items of a list of three.
+#[tactic(auto, using(crate::proofs::Shapes::no_three))]
+pub fn three(value: &Value) -> Option<(&Value, &Value, &Value)>
+    ensures { option_map (λ p. (view p.0.now, view p.1.now, view p.2.now)) result ≡ three_of (view value.now) }
+{
+    let items = value.as_array()?;
+    if items.len() == 3 {
+        Some((&items[0], &items[1], &items[2]))
     } else {
         None
     }

@@ -46,7 +46,7 @@ pub enum OnNumber {
     Deliver,
 }
 
-/// A verb, by the shape of its argument.
+/// A verb, by the shape of its argument: but for batches and transfers, whose shapes no other has.
 #[derive(Clone, Copy)]
 pub enum Verb {
     Account(OnAccount),
@@ -57,6 +57,9 @@ pub enum Verb {
 
 /// The key of a batch, whose argument is a list of requests.
 pub const BATCH: &str = "batch";
+
+/// The key of a transfer, whose argument is a list of two accounts and an amount.
+pub const TRANSFER: &str = "transfer";
 
 /// A verb's key.
 #[inline(always)]

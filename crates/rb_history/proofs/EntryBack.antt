@@ -6,9 +6,9 @@ use Rattle.rb_money.specs.Settings.{IsConfigured, Settings}
 use Rattle.rb_money.specs.declared.limits.TheConstants.{MOST_SITES}
 use Rattle.rb_money.specs.declared.place.Place.{Place}
 use Rattle.rb_scratch.specs.declared.request.Request.{Request}
-use Rattle.rb_scratch.specs.declared.request.Request.TheVariants.{Deposit, Withdraw, Interest, Cancel}
+use Rattle.rb_scratch.specs.declared.request.Request.TheVariants.{Deposit, Withdraw, Interest, Cancel, Transfer}
 use Rattle.rb_shadow.specs.declared.kind.Kind.{Kind}
-use Rattle.rb_shadow.specs.declared.kind.Kind.TheVariants.{Cancel as CancelKind}
+use Rattle.rb_shadow.specs.declared.kind.Kind.TheVariants.{Cancel as CancelKind, Transfer as TransferKind}
 use Rattle.rb_shadow.specs.declared.op_name.OpName.{OpName}
 use Rattle.rb_shadow.specs.declared.shadow.Shadow.{Shadow}
 use Rattle.rb_site.specs.declared.entry.Entry.{Entry}
@@ -30,6 +30,7 @@ request_back s c (Deposit a amount) (known, fits) = rw (below amount (2 ^ 64) fi
 request_back s c (Withdraw a amount) (known, fits) = rw (below amount (2 ^ 64) fits) (ap (λ p. Some (Withdraw p amount)) (known_place s a c known))
 request_back s c (Interest a rate) (known, fits) = rw (below rate (2 ^ 32) fits) (ap (λ p. Some (Interest p rate)) (known_place s a c known))
 request_back s c (Cancel x) h = rw (back x h) refl
+request_back s c (Transfer from to amount) (leaves, arrives, fits) = rw (below amount (2 ^ 64) fits) (λ j. Some (Transfer (known_place s from c leaves j) (known_place s to c arrives j) amount))
 
 requests_back : (s : Settings) → IsConfigured s → (rs : List Request) → Each (IsRequest s) rs → requests_in s (items_of (map (request_json s) rs)) ≡ Some rs
 requests_back s c [] h = refl
@@ -42,13 +43,14 @@ counts_back (n ∷ ns) h = rw (below n (2 ^ 32) h.0, counts_back ns h.1) refl
 abbrev shadow_with : OpName → ℕ → List ℕ → ℕ → Place → ℕ → Kind → Shadow
 shadow_with name home blue red account amount kind = record { name = name; home = home; deps = record { blue = blue; red = red }; account = account; amount = amount; kind = kind }
 
-kind_back : (s : Settings) (name : OpName) (home : ℕ) (blue : List ℕ) (red : ℕ) (account : Place) (amount : ℕ) (kind : Kind) → IsKind kind → kind_at (shadow_json s (shadow_with name home blue red account amount kind)) ≡ Some kind
-kind_back s name home blue red account amount (CancelKind x) h = rw (back x h) refl
-kind_back s name home blue red account amount _ h = refl
+kind_back : (s : Settings) → IsConfigured s → (name : OpName) (home : ℕ) (blue : List ℕ) (red : ℕ) (account : Place) (amount : ℕ) (kind : Kind) → IsKind s kind → kind_at s (shadow_json s (shadow_with name home blue red account amount kind)) ≡ Some kind
+kind_back s c name home blue red account amount (CancelKind x) h = rw (back x h) refl
+kind_back s c name home blue red account amount (TransferKind to) h = ap (λ p. Some (TransferKind p)) (known_place s to c h)
+kind_back s c name home blue red account amount _ h = refl
 
 shadow_by : (s : Settings) → IsConfigured s → (name : OpName) (home : ℕ) (blue : List ℕ) (red : ℕ) (account : Place) (amount : ℕ) (kind : Kind) → IsShadow s (shadow_with name home blue red account amount kind) → shadow_at s (shadow_json s (shadow_with name home blue red account amount kind)) ≡ Some (shadow_with name home blue red account amount kind)
 shadow_by s c name home blue red account amount kind h =
-    rw (below amount (2 ^ 64) h.amount, counts_back blue h.blue, equal (length blue) MOST_SITES h.sites, below red (2 ^ 32) h.red, below home (2 ^ 8) h.home, kind_back s name home blue red account amount kind h.kind, back name h.name)
+    rw (below amount (2 ^ 64) h.amount, counts_back blue h.blue, equal (length blue) MOST_SITES h.sites, below red (2 ^ 32) h.red, below home (2 ^ 8) h.home, kind_back s c name home blue red account amount kind h.kind, back name h.name)
     (ap (λ p. Some (shadow_with name home blue red p amount kind)) (known_place s account c h.account))
 
 shadow_back : (s : Settings) → IsConfigured s → (v : Shadow) → IsShadow s v → shadow_at s (shadow_json s v) ≡ Some v
@@ -59,6 +61,7 @@ event_back s c (Submit (Deposit a amount)) (known, fits) = rw (below amount (2 ^
 event_back s c (Submit (Withdraw a amount)) (known, fits) = rw (below amount (2 ^ 64) fits) (ap (λ p. Some (Submit (Withdraw p amount))) (known_place s a c known))
 event_back s c (Submit (Interest a rate)) (known, fits) = rw (below rate (2 ^ 32) fits) (ap (λ p. Some (Submit (Interest p rate))) (known_place s a c known))
 event_back s c (Submit (Cancel x)) h = rw (back x h) refl
+event_back s c (Submit (Transfer from to amount)) (leaves, arrives, fits) = rw (below amount (2 ^ 64) fits) (λ j. Some (Submit (Transfer (known_place s from c leaves j) (known_place s to c arrives j) amount)))
 event_back s c (Batch rs) h = rw (requests_back s c rs h) refl
 event_back s c (Receive (ShadowMessage v)) h = rw (shadow_back s c v h) refl
 event_back s c (Receive (TokenOnItsWay m)) (epoch, to, red) = rw (below m.epoch (2 ^ 32) epoch, below m.to (2 ^ 8) to, below m.red (2 ^ 32) red) refl

@@ -15,10 +15,10 @@ use Rattle.rb_money.specs.declared.refusal.Cause.TheVariants.{Declined as CauseD
 use Rattle.rb_money.specs.declared.refusal.Refusal.{Refusal}
 use Rattle.rb_money.specs.declared.refusal.Refusal.TheVariants.{OutOfMemory, UnknownAccount, BadAmount, BadRate, UnknownOperation, NotCancellable, AlreadyCancelled, NumbersExhausted, NeedToken, RedBehind, WouldOverdraw, DeltaTooLarge, BadBatch, BatchRefused, NotHeld, NotReady, InboxFull, BadMessage, Conflict, NoMessage, NoSite, NotYours, PositionBeyond, HistoryFull, SameAccount}
 use Rattle.rb_scratch.specs.declared.request.Request.{Request}
-use Rattle.rb_scratch.specs.declared.request.Request.TheVariants.{Deposit, Withdraw, Interest, Cancel}
+use Rattle.rb_scratch.specs.declared.request.Request.TheVariants.{Deposit, Withdraw, Interest, Cancel, Transfer}
 use Rattle.rb_shadow.specs.NameText.{IsName}
 use Rattle.rb_shadow.specs.declared.kind.Kind.{Kind}
-use Rattle.rb_shadow.specs.declared.kind.Kind.TheVariants.{Cancel as CancelKind}
+use Rattle.rb_shadow.specs.declared.kind.Kind.TheVariants.{Cancel as CancelKind, Transfer as TransferKind}
 use Rattle.rb_shadow.specs.declared.shadow.Shadow.{Shadow}
 use Rattle.rb_site.specs.declared.entry.Entry.{Entry}
 use Rattle.rb_site.specs.declared.event.Event.{Event}
@@ -31,7 +31,7 @@ use Rattle.rb_history.specs.Entries.{asked_json, deps_json, entry_json, event_js
 use Rattle.rb_history.specs.Fits.{Each, IsEvent, IsMoved, IsRefusal, IsReply, IsRequest, IsStatementRow, IsShadow}
 use Rattle.rb_commands.specs.Replies.{refusal_json, reply_json}
 use Rattle.rb_commands.specs.Statements.{row_json}
-use Rattle.rb_commands.specs.Values.{integer_json, list_json, name_json, number_json, one_json, pair_json}
+use Rattle.rb_commands.specs.Values.{integer_json, list_json, name_json, number_json, one_json, pair_json, three_json}
 use Rattle.rb_commands.proofs.Public.Reading.{compact_read}
 
 -- a value that is read from its own text, and nests at most so deep
@@ -87,6 +87,13 @@ pair_text a b most x y =
     let e = y.shallow in
     record { numbers = (x.numbers, (y.numbers, tt)); shallow = omega arith; same = rw (x.same, y.same) refl }
 
+three_text : (a b c : Data) (most : ℕ) → IsText a most → IsText b most → IsText c most → IsText (three_json a b c) (suc most)
+three_text a b c most x y z =
+    let d = x.shallow in
+    let e = y.shallow in
+    let f = z.shallow in
+    record { numbers = (x.numbers, (y.numbers, (z.numbers, tt))); shallow = omega arith; same = rw (x.same, y.same, z.same) refl }
+
 deeper : (d : Data) (few most : ℕ) → IsText d few → few ≤ most → IsText d most
 deeper d few most t h =
     let a = t.shallow in
@@ -102,6 +109,7 @@ request_text s (Deposit a amount) (known, fits) = one_text _ _ 1 (asked_text s a
 request_text s (Withdraw a amount) (known, fits) = one_text _ _ 1 (asked_text s a amount fits)
 request_text s (Interest a rate) (known, fits) = one_text _ _ 1 (asked_text s a rate (omega arith))
 request_text s (Cancel x) h = deeper (request_json s (Cancel x)) 1 2 (one_text _ (name_json x) 0 (string_text _)) (omega arith)
+request_text s (Transfer from to amount) (leaves, arrives, fits) = one_text _ _ 1 (three_text _ _ (number_json amount) 0 (string_text _) (string_text _) (number_text amount fits))
 
 deps_text : (blue : List ℕ) (red : ℕ) → Each (λ n. n < 2 ^ 32) blue → red < 2 ^ 32 → IsText (deps_json (record { blue = blue; red = red })) 2
 deps_text blue red h k = pair_text (list_json number_json blue) (number_json red) 1 (list_text number_json (λ n. n < 2 ^ 32) 0 (λ n small. number_text n (omega arith)) blue h) (deeper (number_json red) 0 1 (number_text red (omega arith)) (omega arith))
@@ -123,6 +131,7 @@ shadow_text s v h = of_kind v.kind
 
     of_kind : (kind : Kind) → IsText (shadow_json s (with_kind v kind)) 3
     of_kind (CancelKind x) = let d = deps.shallow in record { numbers = (tt, (amount.numbers, (deps.numbers, (home.numbers, (tt, (tt, (tt, tt))))))); shallow = omega arith; same = rw (amount.same, deps.same, home.same) refl }
+    of_kind (TransferKind to) = let d = deps.shallow in record { numbers = (tt, (amount.numbers, (deps.numbers, (home.numbers, (tt, (tt, (tt, tt))))))); shallow = omega arith; same = rw (amount.same, deps.same, home.same) refl }
     of_kind _ = let d = deps.shallow in record { numbers = (tt, (amount.numbers, (deps.numbers, (home.numbers, (tt, (tt, tt)))))); shallow = omega arith; same = rw (amount.same, deps.same, home.same) refl }
 
 event_text : (s : Settings) (e : Event) → IsEvent s e → IsText (event_json s e) 4
@@ -130,10 +139,8 @@ event_text s (Submit r) h = deeper (request_json s r) 2 4 (request_text s r h) (
 event_text s (Batch rs) h = one_text _ _ 3 (list_text (request_json s) (IsRequest s) 2 (request_text s) rs h)
 event_text s (Receive (ShadowMessage v)) h = one_text _ _ 3 (shadow_text s v h)
 event_text s (Receive (TokenOnItsWay m)) (epoch, to, red) =
-    let a = number_text m.epoch (omega arith) in
-    let b = number_text m.to (omega arith) in
-    let c = number_text m.red (omega arith) in
-    record { numbers = ((a.numbers, (b.numbers, (c.numbers, tt))), tt); shallow = omega arith; same = rw (a.same, b.same, c.same) refl }
+    let told = three_text (number_json m.epoch) (number_json m.to) (number_json m.red) 0 (number_text m.epoch (omega arith)) (number_text m.to (omega arith)) (number_text m.red (omega arith)) in
+    deeper (event_json s (Receive (TokenOnItsWay m))) 2 4 (one_text _ _ 1 told) (omega arith)
 event_text s (Apply x) h = deeper (event_json s (Apply x)) 1 4 (one_text _ (name_json x) 0 (string_text _)) (omega arith)
 event_text s (Pass to) h = deeper (event_json s (Pass to)) 1 4 (one_text _ (number_json to) 0 (number_text to (omega arith))) (omega arith)
 event_text s (Balance a) h = deeper (event_json s (Balance a)) 1 4 (one_text _ _ 0 (string_text _)) (omega arith)

@@ -1,17 +1,10 @@
--- Lists of three and of six.
+-- Lists of six.
 use Rattle.std.proofs.Common.{◌≡◌, List, [], ◌∷◌, length, None, refl, arith}
 use Rattle.serde_json.specs.View.{items_view}
 use Rattle.serde_json.specs.declared.value.Value.{Value}
-use Rattle.rb_history.specs.Fields.{six_in, three_in}
+use Rattle.rb_history.specs.Fields.{six_in}
 
--- a list of another length is no list of three, and none of six
-pub no_three : (vs : List Value) → (length vs ≡ 3 → ⊥) → three_in (items_view vs) ≡ None
-no_three [] h = refl
-no_three (a ∷ []) h = refl
-no_three (a ∷ b ∷ []) h = refl
-no_three (a ∷ b ∷ c ∷ []) h = absurd (h (omega arith))
-no_three (a ∷ b ∷ c ∷ d ∷ vs) h = refl
-
+-- a list of another length is no list of six
 pub no_six : (vs : List Value) → (length vs ≡ 6 → ⊥) → six_in (items_view vs) ≡ None
 no_six [] h = refl
 no_six (a ∷ []) h = refl

@@ -10,10 +10,10 @@ use Rattle.serde_json.specs.Written.{compact_text}
 use Rattle.rb_money.specs.Settings.{IsConfigured, Settings, is_account_name, is_name_byte}
 use Rattle.rb_money.specs.declared.place.Place.{Place}
 use Rattle.rb_scratch.specs.declared.request.Request.{Request}
-use Rattle.rb_scratch.specs.declared.request.Request.TheVariants.{Deposit, Withdraw, Interest, Cancel}
+use Rattle.rb_scratch.specs.declared.request.Request.TheVariants.{Deposit, Withdraw, Interest, Cancel, Transfer}
 use Rattle.rb_shadow.specs.Labels.{label_of}
 use Rattle.rb_shadow.specs.declared.kind.Kind.{Kind}
-use Rattle.rb_shadow.specs.declared.kind.Kind.TheVariants.{Cancel as CancelKind}
+use Rattle.rb_shadow.specs.declared.kind.Kind.TheVariants.{Cancel as CancelKind, Transfer as TransferKind}
 use Rattle.rb_shadow.specs.declared.shadow.Shadow.{Shadow}
 use Rattle.rb_site.specs.declared.entry.Entry.{Entry}
 use Rattle.rb_site.specs.declared.event.Event.{Event}
@@ -22,7 +22,7 @@ use Rattle.rb_site.specs.declared.message.Message.TheVariants.{Shadow as ShadowM
 use Rattle.rb_commands.specs.Values.{number_json}
 use Rattle.rb_commands.proofs.Public.Utf8.{HasTexts, ItemsHaveTexts, MembersHaveTexts, label_utf8, list_texts, name_utf8, reply_texts, text_utf8}
 use Rattle.rb_history.specs.ConfigLines.{accounts_of, config_json, start_json}
-use Rattle.rb_history.specs.Entries.{account_json, deps_json, entry_json, event_json, request_json, shadow_json, target_json}
+use Rattle.rb_history.specs.Entries.{account_json, deps_json, entry_json, event_json, last_members, request_json, shadow_json}
 
 -- an account's name is ASCII
 byte_ascii : (b : ℕ) → is_name_byte b ≡ true → nat_lt b 128 ≡ true
@@ -47,15 +47,17 @@ request_texts s c (Deposit a n) = (refl, (account_texts s c a, (tt, tt)), tt)
 request_texts s c (Withdraw a n) = (refl, (account_texts s c a, (tt, tt)), tt)
 request_texts s c (Interest a n) = (refl, (account_texts s c a, (tt, tt)), tt)
 request_texts s c (Cancel x) = (refl, name_utf8 x, tt)
+request_texts s c (Transfer from to n) = (refl, (account_texts s c from, (account_texts s c to, (tt, tt))), tt)
 
-target_texts : (k : Kind) → MembersHaveTexts (target_json k)
-target_texts (CancelKind x) = (refl, name_utf8 x, tt)
-target_texts _ = tt
+last_texts : (s : Settings) → IsConfigured s → (k : Kind) → MembersHaveTexts (last_members s k)
+last_texts s c (CancelKind x) = (refl, name_utf8 x, tt)
+last_texts s c (TransferKind to) = (refl, account_texts s c to, tt)
+last_texts s c _ = tt
 
 shadow_texts : (s : Settings) → IsConfigured s → (v : Shadow) → HasTexts (shadow_json s v)
 shadow_texts s c v =
     let deps : HasTexts (deps_json v.deps) = (list_texts number_json (λ n. tt) v.deps.blue, (tt, tt)) in
-    (refl, account_texts s c v.account, (refl, tt, (refl, deps, (refl, tt, (refl, label_utf8 (label_of v.kind), (refl, name_utf8 v.name, target_texts v.kind))))))
+    (refl, account_texts s c v.account, (refl, tt, (refl, deps, (refl, tt, (refl, label_utf8 (label_of v.kind), (refl, name_utf8 v.name, last_texts s c v.kind))))))
 
 event_texts : (s : Settings) → IsConfigured s → (e : Event) → HasTexts (event_json s e)
 event_texts s c (Submit r) = request_texts s c r

@@ -1,16 +1,16 @@
 -- Lines of histories: a JSON object of an event, its reply and the site's number.
 use Rattle.std.specs.Prelude.{ℕ, ◌==◌, List, Option, None, codes, unwrap_or, if◌then◌else◌, option_and_then, option_map, slice_get}
 use Rattle.std.specs.Str.{is_utf8}
-use Rattle.serde_json.specs.Data.{Data, string, array, object, Members, no_items, item, member, no_members}
+use Rattle.serde_json.specs.Data.{Data, string, object, Members, member, no_members}
 use Rattle.serde_json.specs.Read.{read}
 use Rattle.rb_money.specs.Settings.{Settings}
 use Rattle.rb_money.specs.declared.place.Place.{Place}
 use Rattle.rb_scratch.specs.declared.request.Request.{Request}
-use Rattle.rb_scratch.specs.declared.request.Request.TheVariants.{Deposit, Withdraw, Interest, Cancel}
+use Rattle.rb_scratch.specs.declared.request.Request.TheVariants.{Deposit, Withdraw, Interest, Cancel, Transfer}
 use Rattle.rb_shadow.specs.Labels.{label_of}
 use Rattle.rb_shadow.specs.declared.deps.Deps.{Deps}
 use Rattle.rb_shadow.specs.declared.kind.Kind.{Kind}
-use Rattle.rb_shadow.specs.declared.kind.Kind.TheVariants.{Cancel as CancelKind}
+use Rattle.rb_shadow.specs.declared.kind.Kind.TheVariants.{Cancel as CancelKind, Transfer as TransferKind}
 use Rattle.rb_shadow.specs.declared.shadow.Shadow.{Shadow}
 use Rattle.rb_site.specs.declared.entry.Entry.{Entry}
 use Rattle.rb_site.specs.declared.event.Event.{Event}
@@ -20,7 +20,7 @@ use Rattle.rb_token.specs.declared.message.TokenMessage.{TokenMessage}
 use Rattle.rb_history.specs.Recorded.{event_at}
 use Rattle.rb_history.specs.RepliesRead.{reply_told}
 use Rattle.rb_commands.specs.Replies.{reply_json}
-use Rattle.rb_commands.specs.Values.{label_text, list_json, name_json, number_below, number_json, one_json, pair_json, size_of}
+use Rattle.rb_commands.specs.Values.{label_text, list_json, name_json, number_below, number_json, one_json, pair_json, size_of, three_json}
 use Rattle.rb_history.specs.Fields.{field}
 
 -- ---- what is written
@@ -38,15 +38,17 @@ request_json s (Deposit a amount) = one_json (codes "deposit") (asked_json s a a
 request_json s (Withdraw a amount) = one_json (codes "withdraw") (asked_json s a amount)
 request_json s (Interest a rate) = one_json (codes "interest") (asked_json s a rate)
 request_json s (Cancel x) = one_json (codes "cancel") (name_json x)
+request_json s (Transfer from to amount) = one_json (codes "transfer") (three_json (account_json s from) (account_json s to) (number_json amount))
 
 -- what the home had applied: how many of each site's blue operations, and how many red ones
 abbrev pub deps_json : Deps → Data
 deps_json d = pair_json (list_json number_json d.blue) (number_json d.red)
 
--- the target, of a cancellation alone
-abbrev pub target_json : Kind → Members
-target_json (CancelKind x) = member (codes "target") (name_json x) no_members
-target_json _ = no_members
+-- the target of a cancellation and the receiving account of a transfer; no other kind has a last member of its own
+abbrev pub last_members : Settings → Kind → Members
+last_members s (CancelKind x) = member (codes "target") (name_json x) no_members
+last_members s (TransferKind to) = member (codes "to") (account_json s to) no_members
+last_members s _ = no_members
 
 abbrev pub shadow_json : Settings → Shadow → Data
 shadow_json s v = object
@@ -56,11 +58,11 @@ shadow_json s v = object
     (member (codes "home") (number_json v.home)
     (member (codes "kind") (string (label_text (label_of v.kind)))
     (member (codes "name") (name_json v.name)
-    (target_json v.kind)))))))
+    (last_members s v.kind)))))))
 
 -- the token on its way: its epoch, the site that it goes to, and the red operations before it
 abbrev pub token_json : TokenMessage → Data
-token_json m = array (item (number_json m.epoch) (item (number_json m.to) (item (number_json m.red) no_items)))
+token_json m = three_json (number_json m.epoch) (number_json m.to) (number_json m.red)
 
 abbrev pub event_json : Settings → Event → Data
 event_json s (Submit r) = request_json s r

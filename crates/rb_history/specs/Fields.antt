@@ -1,9 +1,9 @@
--- What is read from the parts of a history's line: kinds, lists of three and of six, and the value of a key.
+-- What is read from the parts of a history's line: kinds, lists of six, and the value of a key.
 use Rattle.std.specs.Prelude.{ℕ, List, bytes_eq, codes, Option, Some, None, if◌then◌else◌, option_and_then}
 use Rattle.serde_json.specs.Data.{Data, Items, no_items, item}
 use Rattle.serde_json.specs.Find.{as_array, as_str, get}
 use Rattle.rb_shadow.specs.declared.label.Label.{Label}
-use Rattle.rb_shadow.specs.declared.label.Label.TheVariants.{Deposit, Withdraw, Declined, Interest, Cancel}
+use Rattle.rb_shadow.specs.declared.label.Label.TheVariants.{Deposit, Withdraw, Declined, Interest, Cancel, Transfer}
 
 -- the kind that a word is
 abbrev pub label_of_word : List ℕ → Option Label
@@ -12,22 +12,12 @@ label_of_word word =
     else (if bytes_eq word (codes "withdraw") then Some Withdraw
     else (if bytes_eq word (codes "declined") then Some Declined
     else (if bytes_eq word (codes "interest") then Some Interest
-    else (if bytes_eq word (codes "cancel") then Some Cancel else None))))
+    else (if bytes_eq word (codes "cancel") then Some Cancel
+    else (if bytes_eq word (codes "transfer") then Some Transfer else None)))))
 
 -- the kind that a value is
 abbrev pub label_at : Data → Option Label
 label_at d = option_and_then label_of_word (as_str d)
-
--- the three items of a list of three
-abbrev pub three_in : Items → Option (Data × Data × Data)
-three_in no_items = None
-three_in (item a no_items) = None
-three_in (item a (item b no_items)) = None
-three_in (item a (item b (item c no_items))) = Some (a, b, c)
-three_in (item a (item b (item c (item d ds)))) = None
-
-abbrev pub three_of : Data → Option (Data × Data × Data)
-three_of d = option_and_then three_in (as_array d)
 
 -- the six items of a list of six
 abbrev pub six_in : Items → Option (Data × Data × Data × Data × Data × Data)

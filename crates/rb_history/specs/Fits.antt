@@ -9,10 +9,10 @@ use Rattle.rb_money.specs.declared.refusal.Cause.TheVariants.{Declined as CauseD
 use Rattle.rb_money.specs.declared.refusal.Refusal.{Refusal}
 use Rattle.rb_money.specs.declared.refusal.Refusal.TheVariants.{OutOfMemory, AlreadyCancelled, RedBehind, BatchRefused, BadMessage}
 use Rattle.rb_scratch.specs.declared.request.Request.{Request}
-use Rattle.rb_scratch.specs.declared.request.Request.TheVariants.{Deposit, Withdraw, Interest, Cancel}
+use Rattle.rb_scratch.specs.declared.request.Request.TheVariants.{Deposit, Withdraw, Interest, Cancel, Transfer}
 use Rattle.rb_shadow.specs.NameText.{IsName}
 use Rattle.rb_shadow.specs.declared.kind.Kind.{Kind}
-use Rattle.rb_shadow.specs.declared.kind.Kind.TheVariants.{Cancel as CancelKind}
+use Rattle.rb_shadow.specs.declared.kind.Kind.TheVariants.{Cancel as CancelKind, Transfer as TransferKind}
 use Rattle.rb_shadow.specs.declared.shadow.Shadow.{Shadow}
 use Rattle.rb_site.specs.declared.entry.Entry.{Entry}
 use Rattle.rb_site.specs.declared.event.Event.{Event}
@@ -38,10 +38,12 @@ IsRequest s (Deposit a amount) = IsKnown s a × (amount < 2 ^ 64)
 IsRequest s (Withdraw a amount) = IsKnown s a × (amount < 2 ^ 64)
 IsRequest s (Interest a rate) = IsKnown s a × (rate < 2 ^ 32)
 IsRequest s (Cancel x) = IsName x
+IsRequest s (Transfer from to amount) = IsKnown s from × IsKnown s to × (amount < 2 ^ 64)
 
-abbrev pub IsKind : Kind → Type 0
-IsKind (CancelKind x) = IsName x
-IsKind _ = ⊤
+abbrev pub IsKind : Settings → Kind → Type 0
+IsKind s (CancelKind x) = IsName x
+IsKind s (TransferKind to) = IsKnown s to
+IsKind s _ = ⊤
 
 pub record IsShadow (s : Settings) (v : Shadow) : Type 0 where
   pub name : IsName v.name
@@ -51,7 +53,7 @@ pub record IsShadow (s : Settings) (v : Shadow) : Type 0 where
   pub red : v.deps.red < 2 ^ 32
   pub account : IsKnown s v.account
   pub amount : v.amount < 2 ^ 64
-  pub kind : IsKind v.kind
+  pub kind : IsKind s v.kind
 
 abbrev pub IsEvent : Settings → Event → Type 0
 IsEvent s (Submit r) = IsRequest s r

@@ -6,9 +6,9 @@ use Rattle.rb_money.specs.Settings.{Settings}
 use Rattle.rb_money.specs.declared.limits.TheConstants.{MOST_SITES}
 use Rattle.rb_shadow.specs.declared.deps.Deps.{Deps}
 use Rattle.rb_shadow.specs.declared.kind.Kind.{Kind}
-use Rattle.rb_shadow.specs.declared.kind.Kind.TheVariants.{Deposit as DepositKind, Withdraw as WithdrawKind, Declined as DeclinedKind, Interest as InterestKind, Cancel as CancelKind}
+use Rattle.rb_shadow.specs.declared.kind.Kind.TheVariants.{Deposit as DepositKind, Withdraw as WithdrawKind, Declined as DeclinedKind, Interest as InterestKind, Cancel as CancelKind, Transfer as TransferKind}
 use Rattle.rb_shadow.specs.declared.label.Label.{Label}
-use Rattle.rb_shadow.specs.declared.label.Label.TheVariants.{Deposit, Withdraw, Declined, Interest, Cancel}
+use Rattle.rb_shadow.specs.declared.label.Label.TheVariants.{Deposit, Withdraw, Declined, Interest, Cancel, Transfer}
 use Rattle.rb_shadow.specs.declared.shadow.Shadow.{Shadow}
 use Rattle.rb_site.specs.declared.event.Event.{Event}
 use Rattle.rb_site.specs.declared.event.Event.TheVariants.{Receive}
@@ -16,8 +16,8 @@ use Rattle.rb_site.specs.declared.message.Message.TheVariants.{Shadow as ShadowM
 use Rattle.rb_token.specs.declared.message.TokenMessage.{TokenMessage}
 use Rattle.rb_commands.specs.Commands.{event_of}
 use Rattle.rb_commands.specs.Requests.{place_at}
-use Rattle.rb_commands.specs.Values.{either, name_at, number_below, pair_of, size_of}
-use Rattle.rb_history.specs.Fields.{field, label_at, three_of}
+use Rattle.rb_commands.specs.Values.{either, name_at, number_below, pair_of, size_of, three_of}
+use Rattle.rb_history.specs.Fields.{field, label_at}
 
 -- the counts of a list, each below 2^32
 abbrev pub counts_in : Items → Option (List ℕ)
@@ -32,23 +32,24 @@ blue_at d = option_and_then (λ ns. if length ns == MOST_SITES then Some ns else
 abbrev pub deps_at : Data → Option Deps
 deps_at d = option_and_then (λ p. option_and_then (λ blue. option_map (λ red. record { blue = blue; red = red }) (number_below (2 ^ 32) p.1)) (blue_at p.0)) (pair_of d)
 
--- a cancellation has a target as the seventh of its members, and no other kind has a seventh
-abbrev pub kind_of : Data → Label → Option Kind
-kind_of d Deposit = if size_of d == 6 then Some DepositKind else None
-kind_of d Withdraw = if size_of d == 6 then Some WithdrawKind else None
-kind_of d Declined = if size_of d == 6 then Some DeclinedKind else None
-kind_of d Interest = if size_of d == 6 then Some InterestKind else None
-kind_of d Cancel = if size_of d == 7 then option_map CancelKind (field (codes "target") name_at d) else None
+-- a cancellation has a target as the seventh of its members, a transfer an account to which it goes, and no other kind has a seventh
+abbrev pub kind_of : Settings → Data → Label → Option Kind
+kind_of s d Deposit = if size_of d == 6 then Some DepositKind else None
+kind_of s d Withdraw = if size_of d == 6 then Some WithdrawKind else None
+kind_of s d Declined = if size_of d == 6 then Some DeclinedKind else None
+kind_of s d Interest = if size_of d == 6 then Some InterestKind else None
+kind_of s d Cancel = if size_of d == 7 then option_map CancelKind (field (codes "target") name_at d) else None
+kind_of s d Transfer = if size_of d == 7 then option_map TransferKind (field (codes "to") (place_at s) d) else None
 
-abbrev pub kind_at : Data → Option Kind
-kind_at d = option_and_then (kind_of d) (field (codes "kind") label_at d)
+abbrev pub kind_at : Settings → Data → Option Kind
+kind_at s d = option_and_then (kind_of s d) (field (codes "kind") label_at d)
 
 abbrev pub shadow_at : Settings → Data → Option Shadow
 shadow_at s d =
     option_and_then (λ account. option_and_then (λ amount. option_and_then (λ deps. option_and_then (λ home. option_and_then (λ kind. option_map (λ name.
     record { name = name; home = home; deps = deps; account = account; amount = amount; kind = kind })
     (field (codes "name") name_at d))
-    (kind_at d))
+    (kind_at s d))
     (field (codes "home") (number_below (2 ^ 8)) d))
     (field (codes "deps") deps_at d))
     (field (codes "amount") (number_below (2 ^ 64)) d))

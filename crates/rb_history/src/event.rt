@@ -4,6 +4,7 @@ ghost use Rattle.json.specs.Print.{escape};
 ghost use Rattle.serde_json.specs.Written.{compact_text};
 ghost use Rattle.rb_commands.specs.Adds.{Adds};
 ghost use Rattle.rb_history.specs.Entries.{account_json, asked_json, event_json, request_json, token_json};
+ghost use Rattle.rb_scratch.specs.declared.request.Request.TheVariants.{Transfer};
 ghost use Rattle.rb_commands.specs.Values.{list_json, one_json};
 
 use crate::shadow::append_shadow;
@@ -56,6 +57,21 @@ fn append_asked(
     append_number(out, "", n, "]}")
 }
 
+/// A transfer, as the one member of an object.
+fn append_transfer(
+    out: &mut Vec<u8>,
+    config: &Config,
+    from: Place,
+    to: Place,
+    amount: u64,
+) -> Result<(), AllocError>
+    ensures { Adds result out.old.items out.new.items (compact_text (request_json config.now (Transfer from to amount))) }
+{
+    append_account(out, "{\"transfer\":[", config, from, ",")?;
+    append_account(out, "", config, to, ",")?;
+    append_number(out, "", amount, "]}")
+}
+
 /// A request, as a command tells it.
 #[tactic(auto, unfolding(json::specs::Print::escape_byte))]
 fn append_request(out: &mut Vec<u8>, config: &Config, request: Request) -> Result<(), AllocError>
@@ -72,6 +88,7 @@ fn append_request(out: &mut Vec<u8>, config: &Config, request: Request) -> Resul
             append_asked(out, "{\"interest\":", config, account, rate as u64)
         }
         Request::Cancel { target } => append_named(out, "{\"cancel\":", target, "}"),
+        Request::Transfer { from, to, amount } => append_transfer(out, config, from, to, amount),
     }
 }
 

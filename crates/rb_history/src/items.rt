@@ -1,22 +1,9 @@
-//! Lists of three and of six.
+//! Lists of six.
 ghost use Rattle.std.specs.Prelude.{◌≡◌, option_map};
 ghost use Rattle.serde_json.specs.View.{view};
-ghost use Rattle.rb_history.specs.Fields.{six_of, three_of};
+ghost use Rattle.rb_history.specs.Fields.{six_of};
 
 use serde_json::Value;
-
-/// The three items of a list of three.
-#[tactic(auto, using(crate::proofs::Shapes::no_three))]
-pub fn three(value: &Value) -> Option<(&Value, &Value, &Value)>
-    ensures { option_map (λ p. (view p.0.now, view p.1.now, view p.2.now)) result ≡ three_of (view value.now) }
-{
-    let items = value.as_array()?;
-    if items.len() == 3 {
-        Some((&items[0], &items[1], &items[2]))
-    } else {
-        None
-    }
-}
 
 /// The six items of a list of six.
 #[tactic(auto, using(crate::proofs::Shapes::no_six))]

@@ -25,6 +25,9 @@ fn label_of_word(word: &str) -> Option<Label>
     if word == "cancel" {
         return Some(Label::Cancel);
     }
+    if word == "transfer" {
+        return Some(Label::Transfer);
+    }
     None
 }
 

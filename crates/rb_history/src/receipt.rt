@@ -1,12 +1,12 @@
 //! Receipts, read from a history's line: shadows and tokens.
 ghost use Rattle.std.specs.Prelude.{◌≡◌};
 ghost use Rattle.serde_json.specs.View.{view};
+ghost use Rattle.rb_money.specs.Settings.{Settings};
 ghost use Rattle.rb_history.specs.Recorded.{blue_at, deps_at, kind_at, kind_of, shadow_at, token_at};
 
-use crate::items::three;
 use crate::label::label;
 use rb_commands::account;
-use rb_commands::values::{byte, long, name, pair, size, word};
+use rb_commands::values::{byte, long, name, pair, size, three, word};
 use rb_money::{Config, MOST_SITES};
 use rb_shadow::{Deps, Kind, Label, Shadow};
 use rb_token::TokenMessage;
@@ -39,7 +39,7 @@ fn deps(value: &Value) -> Option<Deps>
 
 /// A cancellation, of its target.
 fn cancel(value: &Value) -> Option<Kind>
-    ensures { result ≡ kind_of (view value.now) Label.Cancel }
+    ensures { (s : Settings) → result ≡ kind_of s (view value.now) Label.Cancel }
 {
     if size(value) != 7 {
         return None;
@@ -48,9 +48,20 @@ fn cancel(value: &Value) -> Option<Kind>
     Some(Kind::Cancel { target })
 }
 
+/// A transfer, of the account to which it goes.
+fn transfer(config: &Config, value: &Value) -> Option<Kind>
+    ensures { result ≡ kind_of config.now (view value.now) Label.Transfer }
+{
+    if size(value) != 7 {
+        return None;
+    }
+    let to = account(config, value.get("to")?)?;
+    Some(Kind::Transfer { to })
+}
+
 /// The kind of a shadow of this label.
-fn kind_of(value: &Value, label: Label) -> Option<Kind>
-    ensures { result ≡ kind_of (view value.now) label }
+fn kind_of(config: &Config, value: &Value, label: Label) -> Option<Kind>
+    ensures { result ≡ kind_of config.now (view value.now) label }
 {
     let kind = match label {
         Label::Deposit => Kind::Deposit,
@@ -58,6 +69,7 @@ fn kind_of(value: &Value, label: Label) -> Option<Kind>
         Label::Declined => Kind::Declined,
         Label::Interest => Kind::Interest,
         Label::Cancel => return cancel(value),
+        Label::Transfer => return transfer(config, value),
     };
     if size(value) != 6 {
         return None;
@@ -65,11 +77,11 @@ fn kind_of(value: &Value, label: Label) -> Option<Kind>
     Some(kind)
 }
 
-fn kind(value: &Value) -> Option<Kind>
-    ensures { result ≡ kind_at (view value.now) }
+fn kind(config: &Config, value: &Value) -> Option<Kind>
+    ensures { result ≡ kind_at config.now (view value.now) }
 {
     let label = label(value.get("kind")?)?;
-    kind_of(value, label)
+    kind_of(config, value, label)
 }
 
 /// An operation that another site made.
@@ -80,7 +92,7 @@ pub fn shadow(config: &Config, value: &Value) -> Option<Shadow>
     let amount = long(value.get("amount")?)?;
     let deps = deps(value.get("deps")?)?;
     let home = byte(value.get("home")?)?;
-    let kind = kind(value)?;
+    let kind = kind(config, value)?;
     let name = name(value.get("name")?)?;
     Some(Shadow {
         name,

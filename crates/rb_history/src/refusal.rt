@@ -7,7 +7,7 @@ use rb_commands::values::{byte, size, word};
 use rb_money::{Cause, Refusal};
 use serde_json::Value;
 
-/// Whether a value is the word of a declined withdrawal.
+/// Whether a value is the word of a withdrawal or a transfer that would be declined.
 fn is_declined(value: &Value) -> bool
     ensures { result ≡ tells_declined (view value.now) }
 {

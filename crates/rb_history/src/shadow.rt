@@ -3,7 +3,7 @@ ghost use Rattle.std.specs.Prelude.{◌≡◌, ◌++◌, codes, decimal, true};
 ghost use Rattle.serde_json.specs.Written.{compact_text, members_text};
 ghost use Rattle.rb_shadow.specs.Labels.{label_of};
 ghost use Rattle.rb_commands.specs.Adds.{Adds};
-ghost use Rattle.rb_history.specs.Entries.{account_json, deps_json, shadow_json, target_json};
+ghost use Rattle.rb_history.specs.Entries.{account_json, deps_json, last_members, shadow_json};
 ghost use Rattle.rb_commands.specs.Values.{label_text, name_json, one_json};
 
 use crate::event::append_account;
@@ -32,16 +32,18 @@ fn kind_text(kind: Kind) -> &'static str
         Kind::Declined => ",\"kind\":\"declined\",\"name\":",
         Kind::Interest => ",\"kind\":\"interest\",\"name\":",
         Kind::Cancel { .. } => ",\"kind\":\"cancel\",\"name\":",
+        Kind::Transfer { .. } => ",\"kind\":\"transfer\",\"name\":",
     }
 }
 
-/// The last member of a shadow where it is a cancellation, and the end of the object.
+/// The last member of a shadow where it is a cancellation or a transfer, and the end of the object.
 #[tactic(auto, unfolding(json::specs::Print::escape_byte))]
-fn append_target(out: &mut Vec<u8>, kind: Kind) -> Result<(), AllocError>
-    ensures { Adds result out.old.items out.new.items (members_text true (target_json kind)) }
+fn append_last(out: &mut Vec<u8>, config: &Config, kind: Kind) -> Result<(), AllocError>
+    ensures { Adds result out.old.items out.new.items (members_text true (last_members config.now kind)) }
 {
     match kind {
         Kind::Cancel { target } => append_named(out, ",\"target\":", target, "}"),
+        Kind::Transfer { to } => append_account(out, ",\"to\":", config, to, "}"),
         _ => append(out, "}"),
     }
 }
@@ -55,9 +57,9 @@ fn append_front(out: &mut Vec<u8>, config: &Config, shadow: &Shadow) -> Result<(
     append_deps(out, &shadow.deps)
 }
 
-/// The rest of a shadow: its home, its kind, its name and its target.
-fn append_back(out: &mut Vec<u8>, shadow: Shadow) -> Result<(), AllocError>
-    ensures { Adds result out.old.items out.new.items (codes ",\"home\":" ++ (decimal shadow.home ++ (codes ",\"kind\":\"" ++ (label_text (label_of shadow.kind) ++ (codes "\",\"name\":" ++ (compact_text (name_json shadow.name) ++ members_text true (target_json shadow.kind))))))) }
+/// The rest of a shadow: its home, its kind, its name, and its target or where it goes.
+fn append_back(out: &mut Vec<u8>, config: &Config, shadow: Shadow) -> Result<(), AllocError>
+    ensures { Adds result out.old.items out.new.items (codes ",\"home\":" ++ (decimal shadow.home ++ (codes ",\"kind\":\"" ++ (label_text (label_of shadow.kind) ++ (codes "\",\"name\":" ++ (compact_text (name_json shadow.name) ++ members_text true (last_members config.now shadow.kind))))))) }
 {
     append_number(
         out,
@@ -66,7 +68,7 @@ fn append_back(out: &mut Vec<u8>, shadow: Shadow) -> Result<(), AllocError>
         kind_text(shadow.kind),
     )?;
     append_named(out, "", shadow.name, "")?;
-    append_target(out, shadow.kind)
+    append_last(out, config, shadow.kind)
 }
 
 /// A shadow, as the one member of an object.
@@ -74,6 +76,6 @@ pub fn append_shadow(out: &mut Vec<u8>, config: &Config, shadow: Shadow) -> Resu
     ensures { Adds result out.old.items out.new.items (compact_text (one_json (codes "shadow") (shadow_json config.now shadow))) }
 {
     append_front(out, config, &shadow)?;
-    append_back(out, shadow)?;
+    append_back(out, config, shadow)?;
     append(out, "}")
 }

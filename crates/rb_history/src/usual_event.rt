@@ -46,6 +46,14 @@ fn cancel<'a>(config: &Config, text: &'a str) -> Option<(Request, &'a str)>
     Some((Request::Cancel { target }, rest))
 }
 
+fn transfer<'a>(config: &Config, text: &'a str) -> Option<(Request, &'a str)>
+    ensures { IfSome result (λ p. TellsRequest config.now p.0 text.now p.1.now) }
+{
+    let (from, rest) = account_between(config, text, "{\"transfer\":[\"", ",\"")?;
+    let (to, amount, rest) = asked(config, rest, "")?;
+    Some((Request::Transfer { from, to, amount }, rest))
+}
+
 /// A request, as the first letter of its key says.
 fn request<'a>(config: &Config, text: &'a str) -> Option<(Request, &'a str)>
     ensures { IfSome result (λ p. TellsRequest config.now p.0 text.now p.1.now) }
@@ -54,6 +62,7 @@ fn request<'a>(config: &Config, text: &'a str) -> Option<(Request, &'a str)>
         Some(b'd') => deposit(config, text),
         Some(b'w') => withdraw(config, text),
         Some(b'i') => interest(config, text),
+        Some(b't') => transfer(config, text),
         _ => cancel(config, text),
     }
 }
@@ -162,7 +171,7 @@ pub fn usual_event<'a>(alloc: Global, config: &Config, text: &'a str) -> Option<
             None => batch(alloc, config, text),
         },
         (Some(b'p'), _) => pass(config, text),
-        (Some(b't'), _) => token(config, text),
+        (Some(b't'), Some(b'o')) => token(config, text),
         _ => submit(config, text),
     }
 }

@@ -106,6 +106,7 @@ pub fn label(text: &str) -> Option<(Label, &str)>
         },
         Some(b'w') => Some((Label::Withdraw, after(text, "withdraw\"")?)),
         Some(b'i') => Some((Label::Interest, after(text, "interest\"")?)),
+        Some(b't') => Some((Label::Transfer, after(text, "transfer\"")?)),
         _ => Some((Label::Cancel, after(text, "cancel\"")?)),
     }
 }

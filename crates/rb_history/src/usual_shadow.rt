@@ -3,7 +3,7 @@ ghost use Rattle.std.specs.Prelude.{◌≡◌, ◌<◌, ◌^◌, ◌++◌, IfSom
 ghost use Rattle.serde_json.specs.Written.{members_text};
 ghost use Rattle.rb_shadow.specs.Labels.{label_of};
 ghost use Rattle.rb_commands.specs.Values.{number_json};
-ghost use Rattle.rb_history.specs.Entries.{target_json};
+ghost use Rattle.rb_history.specs.Entries.{last_members};
 ghost use Rattle.rb_history.specs.Fits.{IsKind};
 ghost use Rattle.rb_history.specs.Tells.{TellsDeps, TellsEach, TellsShadow};
 
@@ -39,11 +39,11 @@ fn deps(text: &str) -> Option<(Deps, &str)>
     Some((Deps { blue, red }, rest))
 }
 
-/// The kind of this label, with the target of a cancellation, and the end of the object.
+/// The kind of this label, with the target of a cancellation or the account to which a transfer goes, and the end of the object.
 #[tactic(auto, unfolding(json::specs::Print::escape_byte))]
-fn kind(label: Label, text: &str) -> Option<(Kind, &str)>
-    ensures kind { IfSome result (λ p. IsKind p.0 × (label_of p.0 ≡ label)) }
-    ensures text { IfSome result (λ p. text.now ≡ members_text true (target_json p.0) ++ p.1.now) }
+fn kind<'a>(config: &Config, label: Label, text: &'a str) -> Option<(Kind, &'a str)>
+    ensures kind { IfSome result (λ p. IsKind config.now p.0 × (label_of p.0 ≡ label)) }
+    ensures text { IfSome result (λ p. text.now ≡ members_text true (last_members config.now p.0) ++ p.1.now) }
 {
     match label {
         Label::Deposit => Some((Kind::Deposit, after(text, "}")?)),
@@ -53,6 +53,10 @@ fn kind(label: Label, text: &str) -> Option<(Kind, &str)>
         Label::Cancel => {
             let (target, rest) = name_between(text, ",\"target\":\"", "}")?;
             Some((Kind::Cancel { target }, rest))
+        }
+        Label::Transfer => {
+            let (to, rest) = account_between(config, text, ",\"to\":\"", "}")?;
+            Some((Kind::Transfer { to }, rest))
         }
     }
 }
@@ -67,7 +71,7 @@ pub fn usual_shadow<'a>(config: &Config, text: &'a str) -> Option<(Shadow, &'a s
     let (home, rest) = byte_between(rest, ",\"home\":", ",\"kind\":\"")?;
     let (label, rest) = label(rest)?;
     let (name, rest) = name(after(rest, ",\"name\":\"")?)?;
-    let (kind, rest) = kind(label, rest)?;
+    let (kind, rest) = kind(config, label, rest)?;
     let shadow = Shadow {
         name,
         home,

@@ -1,5 +1,5 @@
 -- A ledger and its log as of a position, from one position to the next.
-use Rattle.std.proofs.Common.{◌≡◌, ℕ, ◌+◌, List, [], ◌∷◌, ◌++◌, take, drop, ap, sym, ◌∙◌, subst, arith, Some}
+use Rattle.std.proofs.Common.{◌≡◌, ℕ, ◌+◌, ◌<◌, List, [], ◌∷◌, ◌++◌, length, length-take-le, take, drop, ap, sym, ◌∙◌, subst, arith, Some}
 use Rattle.std.specs.Prelude.{slice_get}
 use Rattle.std.proofs.lemmas.List.{take-append-drop}
 use Rattle.std.proofs.lemmas.Option.{slice_get_within}
@@ -7,11 +7,11 @@ use Rattle.rb_money.specs.Settings.{Settings}
 use Rattle.rb_shadow.specs.declared.shadow.Shadow.{Shadow}
 use Rattle.rb_undo.specs.declared.parts.UndoParts.{UndoParts}
 use Rattle.rb_undo.specs.Log.{Log}
-use Rattle.rb_ledger.specs.declared.marks.Link.{Link}
+use Rattle.rb_ledger.specs.declared.marks.Links.{Links}
 use Rattle.rb_ledger.specs.declared.index.Index.{Index}
 use Rattle.rb_ledger.specs.Valid.{IsValid, parts_of}
 use Rattle.rb_ledger.specs.Records.{records_of}
-use Rattle.rb_ledger.specs.Index.{IsIndex, IsLink, AreLinks}
+use Rattle.rb_ledger.specs.Index.{IsIndex, IsLinked, AreLinks}
 use Rattle.rb_ledger.specs.Cursor.{IsAt}
 use Rattle.rb_ledger.proofs.Public.OnAccount
 use Rattle.rb_ledger.proofs.Public.Legal
@@ -26,19 +26,24 @@ pub record Latest (s : Settings) (us : List Shadow) (n : ℕ) (x : Index) (ps : 
   pub parts : r ≡ parts_of s (take n us) last
   pub records : ps ≡ records_of s (take n us)
 
-pub latest : (s : Settings) (us : List Shadow) (m n : ℕ) (ls : List Link) (x : Index) (l : Log) (ps : List UndoParts) (r : UndoParts) → IsAt s us m ls x l → m ≡ n + 1 → l.parts ≡ ps ++ r ∷ [] → Latest s us n x ps r
+pub latest : (s : Settings) (us : List Shadow) (m n : ℕ) (ls : List Links) (x : Index) (l : Log) (ps : List UndoParts) (r : UndoParts) → IsAt s us m ls x l → m ≡ n + 1 → l.parts ≡ ps ++ r ∷ [] → Latest s us n x ps r
 latest s us m n ls x l ps r at next popped =
     let (last, there) = OnAccount.element us n (omega (arith, at.within, next)) in
     let more : take m us ≡ take n us ++ last ∷ [] = ap (λ k. take k us) next ∙ Fronts.one_more us n last there in
     let (front, is) = Records.ends ps (records_of s (take n us)) r (parts_of s (take n us) last) (sym popped ∙ at.records ∙ ap (records_of s) more ∙ Records.records_of-push s (take n us) last) in
     record { last = last; there = there; index = subst (λ vs. IsIndex s vs x) more at.index; parts = is; records = front }
 
--- the last before it on its account
-pub linked : (s : Settings) (us : List Shadow) (ls : List Link) (n : ℕ) (u : Shadow) (k : Link) → AreLinks s us ls → slice_get us n ≡ Some u → slice_get ls n ≡ Some k → IsLink s (take n us) u k
+-- after some operations there are records
+pub some_records : (s : Settings) (us : List Shadow) (m : ℕ) (ls : List Links) (x : Index) (l : Log) → IsAt s us m ls x l → 0 < m → l.parts ≡ [] → ⊥
+some_records s us m ls x l at some none =
+    omega (arith, some, ap length none, ap length at.records, Records.logged-length s [] (take m us), length-take-le m us at.within)
+
+-- its links
+pub linked : (s : Settings) (us : List Shadow) (ls : List Links) (n : ℕ) (u : Shadow) (k : Links) → AreLinks s us ls → slice_get us n ≡ Some u → slice_get ls n ≡ Some k → IsLinked s (take n us) u k
 linked s us ls n u k are there beside = are.each n u k there beside
 
 -- back by one operation
-pub back : (s : Settings) (us : List Shadow) (m n : ℕ) (ls : List Link) (x y : Index) (l k : Log) (r : UndoParts) → IsAt s us m ls x l → m ≡ n + 1 → l.parts ≡ k.parts ++ r ∷ [] → k.room ≡ l.room + 1 → IsIndex s (take n us) y → IsAt y.config us n ls y k
+pub back : (s : Settings) (us : List Shadow) (m n : ℕ) (ls : List Links) (x y : Index) (l k : Log) (r : UndoParts) → IsAt s us m ls x l → m ≡ n + 1 → l.parts ≡ k.parts ++ r ∷ [] → k.room ≡ l.room + 1 → IsIndex s (take n us) y → IsAt y.config us n ls y k
 back s us m n ls x y l k r at next popped more index =
     subst (λ t. IsAt t us n ls y k) (sym index.config) (record {
       valid = at.valid;
@@ -54,7 +59,7 @@ pub next : (s : Settings) (us : List Shadow) (n : ℕ) (u : Shadow) → IsValid 
 next s us n u valid there = subst (IsValid s) (Fronts.one_more us n u there) (Legal.IsValid-front s (take (n + 1) us) (drop (n + 1) us) (subst (IsValid s) (sym (take-append-drop (n + 1) us)) valid))
 
 -- on by one operation
-pub forth : (s : Settings) (us : List Shadow) (n m : ℕ) (ls : List Link) (x y : Index) (l k : Log) (u : Shadow) (r : UndoParts) → IsAt s us n ls x l → m ≡ n + 1 → slice_get us n ≡ Some u → r ≡ parts_of s (take n us) u → k.parts ≡ l.parts ++ r ∷ [] → k.room + 1 ≡ l.room → IsIndex s (take n us ++ u ∷ []) y → IsAt y.config us m ls y k
+pub forth : (s : Settings) (us : List Shadow) (n m : ℕ) (ls : List Links) (x y : Index) (l k : Log) (u : Shadow) (r : UndoParts) → IsAt s us n ls x l → m ≡ n + 1 → slice_get us n ≡ Some u → r ≡ parts_of s (take n us) u → k.parts ≡ l.parts ++ r ∷ [] → k.room + 1 ≡ l.room → IsIndex s (take n us ++ u ∷ []) y → IsAt y.config us m ls y k
 forth s us n m ls x y l k u r at next there is pushed less index =
     let more : take m us ≡ take n us ++ u ∷ [] = ap (λ j. take j us) next ∙ Fronts.one_more us n u there in
     subst (λ t. IsAt t us m ls y k) (sym index.config) (record {

@@ -3,7 +3,7 @@ use Rattle.std.specs.Prelude.{◌≡◌, ℕ, ◌+◌, ◌≤◌, List, length, 
 use Rattle.rb_money.specs.Settings.{Settings}
 use Rattle.rb_shadow.specs.declared.shadow.Shadow.{Shadow}
 use Rattle.rb_undo.specs.Log.{Log}
-use Rattle.rb_ledger.specs.declared.marks.Link.{Link}
+use Rattle.rb_ledger.specs.declared.marks.Links.{Links}
 use Rattle.rb_ledger.specs.declared.index.Index.{Index}
 use Rattle.rb_ledger.specs.Valid.{IsValid}
 use Rattle.rb_ledger.specs.Records.{records_of}
@@ -11,7 +11,7 @@ use Rattle.rb_ledger.specs.Index.{AreLinks, IsIndex}
 
 -- the list and its links are whole; the index and the log are those of the first n operations, and the log has room
 -- for the records of the others
-pub record IsAt (s : Settings) (us : List Shadow) (n : ℕ) (ls : List Link) (x : Index) (l : Log) : Type 0 where
+pub record IsAt (s : Settings) (us : List Shadow) (n : ℕ) (ls : List Links) (x : Index) (l : Log) : Type 0 where
   pub valid : IsValid s us
   pub within : n ≤ length us
   pub links : AreLinks s us ls

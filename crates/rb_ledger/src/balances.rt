@@ -43,10 +43,10 @@ impl Ledger {
         ensures most { IfSome result (λ n. n ≤ℤ pos MOST_CENTS) }
     {
         let entry = self.entry(position)?;
-        let link = self.links[position as usize - 1];
-        if entry.account != place {
+        if !self.index.is_on(&self.entries, entry, place) {
             return Some(0);
         }
+        let link = self.link_at(position, place);
         let before = self.balance_at(link.earlier, place);
         Some(net(link.balance, before))
     }
@@ -58,10 +58,11 @@ impl Ledger {
         ensures sum { pos result ≡ bal self.now.settings (take position self.now.entries) place }
         ensures bounded { result ≤ MOST_BALANCE }
     {
+        let config = self.config();
         if position == 0 {
-            return start(self.config(), place);
+            return start(config, place);
         }
-        self.links[position as usize - 1].balance
+        self.link_at(position, place).balance
     }
 }
 

@@ -42,11 +42,10 @@ impl Ledger {
         ensures err { OnErr result ((self.new ≡ self.old) × (self.old.room ≡ 0)) }
     {
         self.make_room()?;
-        let link = self.link(&shadow);
         let parts = self.index.parts(&self.entries, &shadow);
-        self.index
-            .push(&self.entries, &shadow, parts.target, link.balance);
-        self.links.push_reserved(link);
+        let links = self.links_of(&shadow, &parts);
+        self.index.push(&self.entries, &shadow, &parts, &links);
+        self.links.push_reserved(links);
         self.entries.push_reserved(shadow);
         Ok(Undo::new(parts))
     }
@@ -59,10 +58,10 @@ impl Ledger {
         ensures room { self.new.room ≡ self.old.room + 1 }
     {
         let parts = undo.spend();
-        let earlier = self.links[parts.position as usize - 1].earlier;
+        let links = self.links[parts.position as usize - 1];
         self.links.pop();
         self.entries.pop();
-        self.index.pop(&self.entries, parts, earlier);
+        self.index.pop(&self.entries, parts, &links);
     }
 
     /// Makes room for so many more operations. It takes no memory where there is room.
@@ -80,7 +79,7 @@ impl Ledger {
             return Ok(());
         }
         match count.checked_add(additional) {
-            Some(needed) => self.grow(needed.max(limit.saturating_add(limit / 2))),
+            Some(needed) => self.grow(needed.max(limit.saturating_add(limit))),
             None => Err(AllocError),
         }
     }
@@ -97,7 +96,7 @@ impl Ledger {
         if count < self.index.rows.limit() {
             return Ok(());
         }
-        self.grow(count + count / 2 + 8)
+        self.grow(count * 2 + 8)
     }
 
     /// Takes memory for so many entries.

@@ -2,13 +2,11 @@
 ghost use Rattle.std.specs.Prelude.{◌≡◌, ◌≤◌, ◌<◌, ◌+◌, length, pos, [], ◌∷◌, ◌++◌, List, IfOk, ℕ, slice_index, slice_index_or, vec_len, vec_capacity};
 ghost use Rattle.rb_money.specs.declared.limits.TheConstants.{MOST_OPERATIONS};
 ghost use Rattle.rb_shadow.specs.declared.shadow.Shadow.{Shadow as TheShadow};
-ghost use Rattle.rb_shadow.specs.Operations.{bal, target_of, row_of};
-ghost use Rattle.rb_shadow.specs.Sound.{IsSound};
+ghost use Rattle.rb_shadow.specs.Operations.{target_of, row_of, other_by, is_on};
 ghost use Rattle.rb_ledger.specs.Valid.{IsValid, find_position, parts_of, position_of};
-ghost use Rattle.rb_ledger.specs.OnAccount.{IsLast};
-ghost use Rattle.rb_ledger.specs.Index.{AreHeads, IsIndex, changed_at, one_more, one_less, no_cancels};
+ghost use Rattle.rb_ledger.specs.Index.{AreHeads, IsIndex, changed_at, one_more, one_less, no_cancels, IsLinked, heads_at, head_more, head_less, no_head};
 
-use crate::marks::{Cancels, Head};
+use crate::marks::{Cancels, Head, Links};
 use crate::rows::Rows;
 use rb_money::{Config, Place};
 use rb_shadow::{Kind, OpName, Shadow};
@@ -70,52 +68,98 @@ impl Index {
         }
     }
 
-    /// What is kept to undo a sound shadow as the next operation after those before.
+    /// The second account of an operation of the kind after those before: that of a transfer, or of the
+    /// transfer that it cancels.
+    #[inline(always)]
+    pub fn other(&self, before: &[Shadow], kind: Kind) -> Option<Place>
+        requires { IsIndex self.now.config before.now self.now }
+        ensures { result ≡ other_by before.now kind (target_of kind) }
+    {
+        match kind.target() {
+            Some(target) => match self.find(&target) {
+                Some(position) => {
+                    let index = position as usize - 1;
+                    before[index].kind.receiver()
+                }
+                None => None,
+            },
+            None => kind.receiver(),
+        }
+    }
+
+    /// Whether a shadow that follows those before is on an account, as its own or its second one.
+    #[inline(always)]
+    pub fn is_on(&self, before: &[Shadow], shadow: &Shadow, place: Place) -> bool
+        requires { IsIndex self.now.config before.now self.now }
+        ensures { result ≡ is_on before.now shadow.now place }
+    {
+        if shadow.account == place {
+            return true;
+        }
+        match self.other(before, shadow.kind) {
+            Some(other) => other == place,
+            None => false,
+        }
+    }
+
+    /// The running balance of an account, in cents, or 0 where there is no such account.
+    fn balance(&self, place: Place) -> u64
+        ensures { result ≡ (slice_index_or self.now.heads.items place.0 no_head).balance }
+    {
+        let index = usize::from(place.0);
+        if index >= self.heads.len() {
+            return 0;
+        }
+        self.heads[index].balance
+    }
+
+    /// What is kept to undo a shadow that may follow, as the next operation after those before.
     pub fn parts(&self, before: &[Shadow], shadow: &Shadow) -> UndoParts
         requires index { IsIndex self.now.config before.now self.now }
-        requires sound { IsSound self.now.config shadow.now }
+        requires longer { IsValid self.now.config (before.now ++ shadow.now ∷ []) }
         ensures { result ≡ parts_of self.now.config before.now shadow.now }
     {
+        let second = self.other(before, shadow.kind);
+        let other = second.unwrap_or(Place::NOWHERE);
+        let balance = self.balance(shadow.account);
+        let other_balance = self.balance(other);
         UndoParts {
             position: before.len() as u32 + 1,
             name: shadow.name,
             place: shadow.account,
-            balance: self.heads[usize::from(shadow.account.0)].balance,
+            balance,
             target: self.target(shadow.kind),
+            other,
+            other_balance,
         }
     }
 
-    /// Takes in an operation after those before, where there is room. The target is the position of what it
-    /// cancels, or 0. The balance is that of its account after it, in cents.
-    pub fn push(&mut self, before: &[Shadow], shadow: &Shadow, target: u32, balance: u64)
+    /// Takes in an operation after those before, where there is room. The parts are what is kept to undo it,
+    /// the links its links.
+    pub fn push(&mut self, before: &[Shadow], shadow: &Shadow, parts: &UndoParts, links: &Links)
         requires index { IsIndex self.old.config before.now self.old }
         requires longer { IsValid self.old.config (before.now ++ shadow.now ∷ []) }
-        requires target { target ≡ position_of before.now (target_of shadow.now.kind) }
-        requires balance { pos balance ≡ bal self.old.config (before.now ++ shadow.now ∷ []) shadow.now.account }
+        requires parts { parts.now ≡ parts_of self.old.config before.now shadow.now }
+        requires links { IsLinked self.old.config before.now shadow.now links.now }
         requires rows { length before.now < self.old.rows.limit }
         requires cancels { length before.now < vec_capacity self.old.cancels }
         ensures index { IsIndex self.old.config (before.now ++ shadow.now ∷ []) self.new }
         ensures limit { self.new.rows.limit ≡ self.old.rows.limit }
         ensures capacity { vec_capacity self.new.cancels ≡ vec_capacity self.old.cancels }
     {
-        let position = before.len() as u32 + 1;
-        cancel_one_more(&mut self.cancels, target, position);
+        let position = parts.position;
+        cancel_one_more(&mut self.cancels, parts.target, position);
         self.cancels.push_reserved(Cancels { count: 0, first: 0 });
-        let place = usize::from(shadow.account.0);
-        let count = self.heads[place].count + 1;
-        self.heads[place] = Head {
-            last: position,
-            count,
-            balance,
-        };
+        count_on(&mut self.heads, parts.place, position, links.own.balance);
+        count_on(&mut self.heads, parts.other, position, links.other.balance);
         self.rows.push(row_of(shadow.name), position);
         self.clock.advance(&shadow.name);
     }
 
     /// Lets the operation after those before out again: the last one, of which the parts were kept. The
-    /// position is that of the one before it on its account, or 0.
-    pub fn pop(&mut self, before: &[Shadow], parts: UndoParts, earlier: u32)
-        requires { (last : TheShadow) × IsIndex self.old.config (before.now ++ last ∷ []) self.old × (parts ≡ parts_of self.old.config before.now last) × IsLast before.now last.account earlier }
+    /// links are its links.
+    pub fn pop(&mut self, before: &[Shadow], parts: UndoParts, links: &Links)
+        requires { (last : TheShadow) × IsIndex self.old.config (before.now ++ last ∷ []) self.old × (parts ≡ parts_of self.old.config before.now last) × IsLinked self.old.config before.now last links.now }
         ensures index { IsIndex self.old.config before.now self.new }
         ensures limit { self.new.rows.limit ≡ self.old.rows.limit }
         ensures capacity { vec_capacity self.new.cancels ≡ vec_capacity self.old.cancels }
@@ -124,14 +168,46 @@ impl Index {
         self.rows.pop(row_of(parts.name));
         self.cancels.truncate(before.len());
         cancel_one_less(&mut self.cancels, parts.target);
-        let place = usize::from(parts.place.0);
-        let count = self.heads[place].count - 1;
-        self.heads[place] = Head {
-            last: earlier,
-            count,
-            balance: parts.balance,
-        };
+        let own = links.own.earlier;
+        let other = links.other.earlier;
+        count_off(&mut self.heads, parts.place, own, parts.balance);
+        count_off(&mut self.heads, parts.other, other, parts.other_balance);
     }
+}
+
+/// Counts an entry on an account, with its position and the balance after it. Nothing changes where there
+/// is no such account.
+fn count_on(heads: &mut Vec<Head>, place: Place, position: u32, balance: u64)
+    requires { (slice_index_or heads.old.items place.0 no_head).count ≤ MOST_OPERATIONS }
+    ensures { heads.new.items ≡ heads_at place.0 (head_more position balance) heads.old.items }
+{
+    let index = usize::from(place.0);
+    if index >= heads.len() {
+        return;
+    }
+    let count = heads[index].count + 1;
+    heads[index] = Head {
+        last: position,
+        count,
+        balance,
+    };
+}
+
+/// Leaves an account's last entry out again, with the position of the one before it and the balance before
+/// it. Nothing changes where there is no such account.
+fn count_off(heads: &mut Vec<Head>, place: Place, earlier: u32, balance: u64)
+    ensures { heads.new.items ≡ heads_at place.0 (head_less earlier balance) heads.old.items }
+{
+    let index = usize::from(place.0);
+    if index >= heads.len() {
+        return;
+    }
+    let count = heads[index].count.saturating_sub(1);
+    heads[index] = Head {
+        last: earlier,
+        count,
+        balance,
+    };
 }
 
 /// The heads of accounts without operations.

@@ -1,13 +1,15 @@
 //! The entries on an account, from the last back.
-ghost use Rattle.std.specs.Prelude.{◌≡◌, ◌≤◌, ◌<◌, ◌-◌, length, take, [], ◌∷◌, ◌++◌};
-ghost use Rattle.rb_ledger.specs.Valid.{IsValid};
+ghost use Rattle.std.specs.Prelude.{◌≡◌, ◌≤◌, ◌<◌, ◌-◌, length, take, Some, [], ◌∷◌, ◌++◌};
+ghost use Rattle.rb_money.specs.Settings.{IsConfigured};
+ghost use Rattle.rb_ledger.specs.Valid.{IsValid, parts_of};
 ghost use Rattle.rb_ledger.specs.OnAccount.{IsOn, IsLast};
-ghost use Rattle.rb_ledger.specs.Index.{IsLink};
+ghost use Rattle.rb_ledger.specs.Index.{IsLink, IsLinked};
 
 use crate::Ledger;
-use crate::marks::{Head, Link};
+use crate::marks::{Head, Link, Links, NO_LINK};
 use rb_money::Place;
 use rb_shadow::Shadow;
+use rb_undo::UndoParts;
 
 impl Ledger {
     /// The position of the last operation on the account, or 0 where none is on it.
@@ -29,7 +31,7 @@ impl Ledger {
         ensures last { IsLast (take (position - 1) self.now.entries) place result }
         ensures before { result < position }
     {
-        self.links[position as usize - 1].earlier
+        self.link_at(position, place).earlier
     }
 
     /// The position of the last of the first entries that is on the account, or 0, where the last of all
@@ -42,7 +44,7 @@ impl Ledger {
     {
         let mut at = last;
         while at > limit {
-            let link = self.links[at as usize - 1];
+            let link = self.link_at(at, place);
             at = if link.jump > limit {
                 link.jump
             } else {
@@ -52,16 +54,55 @@ impl Ledger {
         at
     }
 
-    /// The link of a shadow as the next entry.
-    pub(crate) fn link(&self, shadow: &Shadow) -> Link
-        requires { IsValid self.now.settings (self.now.entries ++ shadow.now ∷ []) }
-        ensures { IsLink self.now.settings self.now.entries shadow.now result }
+    /// The link, on an account, of the entry at the position, which is on it.
+    #[inline(always)]
+    pub(crate) fn link_at(&self, position: u32, place: Place) -> Link
+        requires on { IsOn self.now.entries place position }
+        requires some { 0 < position }
+        ensures { IsLink self.now.settings (take (position - 1) self.now.entries) (take position self.now.entries) place result }
     {
-        let head = self.index.heads[usize::from(shadow.account.0)];
+        let index = position as usize - 1;
+        let links = self.links[index];
+        if self.entries[index].account == place {
+            links.own
+        } else {
+            links.other
+        }
+    }
+
+    /// The links of a shadow as the next entry, with what is kept to undo it.
+    pub(crate) fn links_of(&self, shadow: &Shadow, parts: &UndoParts) -> Links
+        requires configured { IsConfigured self.now.settings }
+        requires valid { IsValid self.now.settings (self.now.entries ++ shadow.now ∷ []) }
+        requires parts { parts.now ≡ parts_of self.now.settings self.now.entries shadow.now }
+        ensures { IsLinked self.now.settings self.now.entries shadow.now result }
+    {
+        let (added, taken) = self.moved_by(shadow);
+        let own_balance = parts.balance + added - taken;
+        let own = self.link(parts.place, own_balance);
+        if parts.other == Place::NOWHERE {
+            return Links {
+                own,
+                other: NO_LINK,
+            };
+        }
+        let other_balance = parts.other_balance + taken - added;
+        let other = self.link(parts.other, other_balance);
+        Links { own, other }
+    }
+
+    /// The link of the next entry on an account, with the balance after it.
+    fn link(&self, place: Place, balance: u64) -> Link
+        requires { place.0 < length self.now.settings.starts }
+        ensures balance { result.balance ≡ balance }
+        ensures earlier { IsLast self.now.entries place result.earlier }
+        ensures jump { IsOn self.now.entries place result.jump }
+    {
+        let head = self.index.heads[usize::from(place.0)];
         Link {
-            balance: self.balance_with(shadow),
+            balance,
             earlier: head.last,
-            jump: self.jump(head, shadow.account),
+            jump: self.jump(head, place),
         }
     }
 
@@ -84,7 +125,7 @@ impl Ledger {
         if position == 0 {
             return 0;
         }
-        self.links[position as usize - 1].jump
+        self.link_at(position, place).jump
     }
 }
 

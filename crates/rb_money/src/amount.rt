@@ -1,4 +1,4 @@
-//! Amounts of deposits and withdrawals.
+//! Amounts of deposits, withdrawals and transfers.
 ghost use Rattle.std.specs.Prelude.{◌≡◌, true, false, IfOk, OnOk, IfErr, OnErr};
 ghost use Rattle.rb_money.specs.Amounts.{is_amount};
 
@@ -6,7 +6,7 @@ use crate::cents::{Cents, MOST_CENTS};
 use crate::refusal::Refusal;
 use std::marker::Model;
 
-/// What a deposit or a withdrawal moves: 1 to `MOST_CENTS` cents.
+/// What a deposit, a withdrawal or a transfer moves: 1 to `MOST_CENTS` cents.
 #[derive(Clone, Copy, Debug, PartialEq, Eq)]
 pub struct Amount {
     cents: u64,

@@ -1,7 +1,7 @@
 //! Refusals.
 ghost use Rattle.std.specs.Prelude.{◌≡◌};
 
-/// What stopped a batch: a withdrawal that would be declined, or a refusal by its number.
+/// What stopped a batch: a withdrawal or a transfer that would be declined, or a refusal by its number.
 #[derive(Clone, Copy, Debug, PartialEq, Eq)]
 pub enum Cause {
     Declined,
@@ -21,7 +21,7 @@ pub enum Refusal {
     BadRate,
     /// The operation to cancel isn't applied here.
     UnknownOperation,
-    /// It is a declined withdrawal or a cancellation.
+    /// It is a declined withdrawal or transfer, or a cancellation.
     NotCancellable,
     /// It is cancelled already, first by the operation at this position, from 1.
     AlreadyCancelled { position: u32 },
@@ -59,8 +59,7 @@ pub enum Refusal {
     PositionBeyond,
     /// The site's history is full.
     HistoryFull,
-    /// A transfer would go to the account that it comes from. No site answers it, since there are no
-    /// transfers; a line that tells it is read and written as any other.
+    /// The transfer would go to the account that it comes from.
     SameAccount,
 }
 

@@ -1,6 +1,6 @@
 use crate::{
     Amount, Cause, Cents, Config, ConfigFault, Limits, MOST_ACCOUNTS, MOST_CENTS, MOST_EPOCH,
-    MOST_INBOX, MOST_RATE, MOST_SITES, Place, Rate, Refusal, interest_of,
+    MOST_INBOX, MOST_RATE, MOST_SITES, Place, Rate, Refusal, interest_of, read_number,
 };
 use std::alloc::{AllocError, Global};
 use std::test::Fail;
@@ -173,4 +173,21 @@ fn a_fault_in_words(rt: HostRuntime) -> Result<(), Fail> {
     let words = ConfigFault::Twice(7).to_string(rt.alloc())?;
     assert_eq!(rt; words.as_str(), "account 7 has the name of an earlier one");
     Ok(())
+}
+
+#[test]
+fn numbers_from_digits(rt: HostRuntime) {
+    for (text, number) in [
+        ("0", Some(0)),
+        ("70", Some(70)),
+        ("4294967295", Some(u32::MAX)),
+        ("4294967296", None),
+        ("007", None),
+        ("+7", None),
+        ("-7", None),
+        ("7 ", None),
+        ("", None),
+    ] {
+        assert_eq!(rt; read_number(text), number);
+    }
 }

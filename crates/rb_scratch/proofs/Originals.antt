@@ -1,6 +1,6 @@
 -- What an operation does to every balance is what the published bank does.
 use Rattle.std.proofs.Common.{◌≡◌, ℕ, Bool, true, false, cond, not, ◌&&◌, List, refl, ap, sym, ◌∙◌, Result, Ok, Err}
-use Rattle.std.specs.Prelude.{IfOk, pos, neg_ℤ, ◌+ℤ◌, ◌==◌, int_lt, nat_lt}
+use Rattle.std.specs.Prelude.{ℤ, IfOk, pos, neg_ℤ, ◌+ℤ◌, ◌==◌, int_lt, nat_lt}
 use Rattle.rb_money.specs.Amounts.{is_amount}
 use Rattle.rb_money.specs.Settings.{Settings, is_account}
 use Rattle.rb_money.specs.declared.place.Place.{Place}
@@ -8,38 +8,51 @@ use Rattle.rb_money.specs.declared.refusal.Refusal.{Refusal}
 use Rattle.rb_money.specs.declared.cents.TheConstants.{MOST_CENTS}
 use Rattle.rb_money.specs.declared.rate.TheConstants.{MOST_RATE}
 use Rattle.rb_shadow.specs.declared.kind.Kind.{Kind}
-use Rattle.rb_shadow.specs.declared.kind.Kind.TheVariants.{Deposit, Withdraw, Declined, Interest}
+use Rattle.rb_shadow.specs.declared.kind.Kind.TheVariants.{Deposit, Withdraw, Declined, Interest, Transfer}
 use Rattle.rb_shadow.specs.declared.shadow.Shadow.{Shadow}
-use Rattle.rb_shadow.specs.Operations.{bal, is_cancel, is_cancelled, moved}
+use Rattle.rb_shadow.specs.Operations.{bal, is_cancel, is_cancelled, moved, arrived, receiver_of}
 use Rattle.rb_ledger.proofs.Public.Pushes
 use Rattle.rb_ledger.specs.Valid.{IsValid}
 use Rattle.rb_ledger.proofs.Public.Legal
 use Rattle.rb_scratch.specs.declared.request.Request.{Request}
-use Rattle.rb_scratch.specs.declared.request.Request.TheVariants.{Deposit as AskDeposit, Withdraw as AskWithdraw, Interest as AskInterest, Cancel as AskCancel}
-use Rattle.rb_scratch.specs.Originals.{DoesOriginal, IsOriginal, after_accrue, after_deposit, after_withdraw}
-use Rattle.rb_scratch.specs.Requests.{Plan, colour_of_plan, interest_on, next_name, operation_of, plan_of, withdrawal}
+use Rattle.rb_scratch.specs.declared.request.Request.TheVariants.{Deposit as AskDeposit, Withdraw as AskWithdraw, Interest as AskInterest, Cancel as AskCancel, Transfer as AskTransfer}
+use Rattle.rb_scratch.specs.Originals.{DoesOriginal, IsOriginal, after_accrue, after_deposit, after_withdraw, after_transfer}
+use Rattle.rb_scratch.specs.Requests.{Plan, colour_of_plan, interest_on, next_name, operation_of, plan_of, if_covered}
 use Rattle.rb_scratch.proofs.Public.Made
 use Rattle.rb_scratch.proofs.Public.Makes
 
-not_cancel : (b : Bool) → is_cancel (cond b Declined Withdraw) ≡ false
-not_cancel true = refl
-not_cancel false = refl
+not_cancel : (b : Bool) (k : Kind) → is_cancel k ≡ false → is_cancel (cond b Declined k) ≡ false
+not_cancel true k e = refl
+not_cancel false k e = e
 
-taken : (b c : Bool) (n : ℕ) → cond c (moved (cond b Declined Withdraw) n) (pos 0) ≡ cond (not b && c) (neg_ℤ (pos n)) (pos 0)
-taken true true n = refl
-taken true false n = refl
-taken false true n = refl
-taken false false n = refl
+-- what an operation of a kind moves on an account, which is its own or not
+abbrev moves : Kind → ℕ → Place → Bool → ℤ
+moves k n q own = cond own (moved k n) (arrived (receiver_of k) n q)
+
+taken : (b c : Bool) (n : ℕ) (q : Place) → moves (cond b Declined Withdraw) n q c ≡ cond (not b && c) (neg_ℤ (pos n)) (pos 0)
+taken true true n q = refl
+taken true false n q = refl
+taken false true n q = refl
+taken false false n q = refl
+
+carried : (b c : Bool) (n : ℕ) (to q : Place) → moves (cond b Declined (Transfer to)) n q c ≡ cond (not b) (cond c (neg_ℤ (pos n)) (cond (to.0 == q.0) (pos n) (pos 0))) (pos 0)
+carried true true n to q = refl
+carried true false n to q = refl
+carried false true n to q = refl
+carried false false n to q = refl
 
 pub is_original : (s : Settings) (us : List Shadow) (v : Shadow) → is_cancelled us v.name ≡ false → IsOriginal s us v
 is_original s us v free = record {
-  deposit = λ e q. Pushes.bal-push_plain s us v q (ap is_cancel e) free ∙ ap (λ k. bal s us q +ℤ cond (v.account.0 == q.0) (moved k v.amount) (pos 0)) e;
-  withdraw = λ e q. Pushes.bal-push_plain s us v q (ap is_cancel e ∙ not_cancel (int_lt (bal s us v.account) (pos v.amount))) free
-      ∙ ap (λ k. bal s us q +ℤ cond (v.account.0 == q.0) (moved k v.amount) (pos 0)) e
-      ∙ ap (λ z. bal s us q +ℤ z) (taken (int_lt (bal s us v.account) (pos v.amount)) (v.account.0 == q.0) v.amount);
+  deposit = λ e q. Pushes.bal-push_plain s us v q (ap is_cancel e) free ∙ ap (λ k. bal s us q +ℤ moves k v.amount q (v.account.0 == q.0)) e;
+  withdraw = λ e q. Pushes.bal-push_plain s us v q (ap is_cancel e ∙ not_cancel (int_lt (bal s us v.account) (pos v.amount)) Withdraw refl) free
+      ∙ ap (λ k. bal s us q +ℤ moves k v.amount q (v.account.0 == q.0)) e
+      ∙ ap (λ z. bal s us q +ℤ z) (taken (int_lt (bal s us v.account) (pos v.amount)) (v.account.0 == q.0) v.amount q);
   accrue = λ rate e a q. Pushes.bal-push_plain s us v q (ap is_cancel e) free
-      ∙ ap (λ k. bal s us q +ℤ cond (v.account.0 == q.0) (moved k v.amount) (pos 0)) e
+      ∙ ap (λ k. bal s us q +ℤ moves k v.amount q (v.account.0 == q.0)) e
       ∙ ap (λ n. bal s us q +ℤ cond (v.account.0 == q.0) (pos n) (pos 0)) a;
+  transfer = λ to e q. Pushes.bal-push_plain s us v q (ap is_cancel e ∙ not_cancel (int_lt (bal s us v.account) (pos v.amount)) (Transfer to) refl) free
+      ∙ ap (λ k. bal s us q +ℤ moves k v.amount q (v.account.0 == q.0)) e
+      ∙ ap (λ z. bal s us q +ℤ z) (carried (int_lt (bal s us v.account) (pos v.amount)) (v.account.0 == q.0) v.amount to q);
 }
 
 -- ---- what a request makes
@@ -58,7 +71,7 @@ plan_of_deposit s us a n p e =
     let (_, e2) = Made.passed_by (not (is_amount n)) _ _ p e1 in
     accepted p _ e2
 
-plan_of_withdraw : (s : Settings) (us : List Shadow) (a : Place) (n : ℕ) (p : Plan) → plan_of s us (AskWithdraw a n) ≡ Ok p → record { account = a; amount = n; kind = withdrawal s us a n } ≡ p
+plan_of_withdraw : (s : Settings) (us : List Shadow) (a : Place) (n : ℕ) (p : Plan) → plan_of s us (AskWithdraw a n) ≡ Ok p → record { account = a; amount = n; kind = if_covered s us a n Withdraw } ≡ p
 unfolding plan_of
 plan_of_withdraw s us a n p e =
     let (_, e1) = Made.passed_by (not (is_account s a)) _ _ p e in
@@ -72,6 +85,15 @@ plan_of_interest s us a rate p e =
     let (_, e2) = Made.passed_by (nat_lt MOST_RATE rate) _ _ p e1 in
     let (_, e3) = Made.passed_by (nat_lt MOST_CENTS (interest_on (bal s us) a rate)) _ _ p e2 in
     accepted p _ e3
+
+plan_of_transfer : (s : Settings) (us : List Shadow) (a c : Place) (n : ℕ) (p : Plan) → plan_of s us (AskTransfer a c n) ≡ Ok p → record { account = a; amount = n; kind = if_covered s us a n (Transfer c) } ≡ p
+unfolding plan_of
+plan_of_transfer s us a c n p e =
+    let (_, e1) = Made.passed_by (not (is_account s a)) _ _ p e in
+    let (_, e2) = Made.passed_by (not (is_account s c)) _ _ p e1 in
+    let (_, e3) = Made.passed_by (not (is_amount n)) _ _ p e2 in
+    let (_, e4) = Made.passed_by (a.0 == c.0) _ _ p e3 in
+    accepted p _ e4
 
 -- the parts of what a plan makes
 record HasParts (v : Shadow) (a : Place) (n : ℕ) (k : Kind) : Type 0 where
@@ -99,14 +121,18 @@ plan_original s me us p v (AskDeposit a n) valid is planned =
     λ q. (is_original s us v (uncancelled s me us v p valid is)).deposit h.kind q
     ∙ ap (λ x. after_deposit (bal s us) x v.amount q) h.account ∙ ap (λ m. after_deposit (bal s us) a m q) h.amount
 plan_original s me us p v (AskWithdraw a n) valid is planned =
-    let h = parts_of me us v p a n (withdrawal s us a n) is (plan_of_withdraw s us a n p planned) in
-    λ q. (is_original s us v (uncancelled s me us v p valid is)).withdraw (h.kind ∙ sym (ap (λ x. withdrawal s us x v.amount) h.account ∙ ap (withdrawal s us a) h.amount)) q
+    let h = parts_of me us v p a n (if_covered s us a n Withdraw) is (plan_of_withdraw s us a n p planned) in
+    λ q. (is_original s us v (uncancelled s me us v p valid is)).withdraw (h.kind ∙ sym (ap (λ x. if_covered s us x v.amount Withdraw) h.account ∙ ap (λ m. if_covered s us a m Withdraw) h.amount)) q
     ∙ ap (λ x. after_withdraw (bal s us) x v.amount q) h.account ∙ ap (λ m. after_withdraw (bal s us) a m q) h.amount
 plan_original s me us p v (AskInterest a rate) valid is planned =
     let h = parts_of me us v p a (interest_on (bal s us) a rate) Interest is (plan_of_interest s us a rate p planned) in
     λ q. (is_original s us v (uncancelled s me us v p valid is)).accrue rate h.kind (h.amount ∙ sym (ap (λ x. interest_on (bal s us) x rate) h.account)) q
     ∙ ap (λ x. after_accrue (bal s us) x rate q) h.account
 plan_original s me us p v (AskCancel x) valid is planned = tt
+plan_original s me us p v (AskTransfer a c n) valid is planned =
+    let h = parts_of me us v p a n (if_covered s us a n (Transfer c)) is (plan_of_transfer s us a c n p planned) in
+    λ q. (is_original s us v (uncancelled s me us v p valid is)).transfer c (h.kind ∙ sym (ap (λ x. if_covered s us x v.amount (Transfer c)) h.account ∙ ap (λ m. if_covered s us a m (Transfer c)) h.amount)) q
+    ∙ ap (λ x. after_transfer (bal s us) x c v.amount q) h.account ∙ ap (λ m. after_transfer (bal s us) a c m q) h.amount
 
 -- what holds for each request of the plan holds for this one
 pub of_request : (s : Settings) (us : List Shadow) (p : Plan) (r : Request) (made : Result Shadow Refusal) → IfOk made (λ v. (q : Request) → plan_of s us q ≡ Ok p → DoesOriginal s us q v) → plan_of s us r ≡ Ok p → IfOk made (DoesOriginal s us r)

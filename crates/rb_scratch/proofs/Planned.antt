@@ -1,6 +1,6 @@
 -- What a request's plan says.
 use Rattle.std.proofs.Common.{◌≡◌, ℕ, Bool, true, false, cond, not, List, refl, subst, Option, Some, None, Result, Ok}
-use Rattle.std.specs.Prelude.{nat_lt, pos, int_lt}
+use Rattle.std.specs.Prelude.{nat_lt, ◌==◌, pos, int_lt}
 use Rattle.rb_money.specs.Settings.{Settings, is_account}
 use Rattle.rb_money.specs.declared.place.Place.{Place}
 use Rattle.rb_money.specs.declared.refusal.Refusal.{Refusal}
@@ -8,12 +8,12 @@ use Rattle.rb_money.specs.declared.cents.TheConstants.{MOST_CENTS}
 use Rattle.rb_money.specs.declared.rate.TheConstants.{MOST_RATE}
 use Rattle.rb_shadow.specs.declared.op_name.OpName.{OpName}
 use Rattle.rb_shadow.specs.declared.kind.Kind.{Kind}
-use Rattle.rb_shadow.specs.declared.kind.Kind.TheVariants.{Withdraw, Declined, Interest, Cancel}
+use Rattle.rb_shadow.specs.declared.kind.Kind.TheVariants.{Withdraw, Declined, Interest, Cancel, Transfer}
 use Rattle.rb_shadow.specs.declared.shadow.Shadow.{Shadow}
 use Rattle.rb_shadow.specs.Operations.{Among, bal, find_in, is_cancelled, may_be_cancelled}
 use Rattle.rb_shadow.proofs.Public.Lookups
 use Rattle.rb_scratch.specs.declared.request.Request.{Request}
-use Rattle.rb_scratch.specs.declared.request.Request.TheVariants.{Deposit as AskDeposit, Withdraw as AskWithdraw, Interest as AskInterest, Cancel as AskCancel}
+use Rattle.rb_scratch.specs.declared.request.Request.TheVariants.{Deposit as AskDeposit, Withdraw as AskWithdraw, Interest as AskInterest, Cancel as AskCancel, Transfer as AskTransfer}
 use Rattle.rb_scratch.specs.Requests.{Plan, interest_on, plan_of, plan_of_cancel}
 use Rattle.rb_money.specs.Amounts.{is_amount}
 use Rattle.rb_scratch.proofs.Public.Made.{passed_by, not_true}
@@ -37,6 +37,7 @@ abbrev pub IsPlanned : Settings → List Shadow → Plan → Kind → Type 0
 IsPlanned s us p Withdraw = IsFor s p × (int_lt (bal s us p.account) (pos p.amount) ≡ false)
 IsPlanned s us p Interest = (is_account s p.account ≡ true) × (nat_lt MOST_CENTS p.amount ≡ false)
 IsPlanned s us p (Cancel x) = Cancels us x p
+IsPlanned s us p (Transfer to) = IsFor s p × (int_lt (bal s us p.account) (pos p.amount) ≡ false) × (is_account s to ≡ true) × ((p.account.0 == to.0) ≡ false)
 IsPlanned s us p _ = IsFor s p
 
 -- an accepted plan
@@ -58,6 +59,11 @@ planned_withdraw : (s : Settings) (us : List Shadow) (a : Place) (n : ℕ) (b : 
 planned_withdraw s us a n true e h k = record { account = h; amount = k }
 planned_withdraw s us a n false e h k = (record { account = h; amount = k }, e)
 
+planned_transfer : (s : Settings) (us : List Shadow) (a c : Place) (n : ℕ) (b : Bool) → int_lt (bal s us a) (pos n) ≡ b → is_account s a ≡ true → is_amount n ≡ true → is_account s c ≡ true → (a.0 == c.0) ≡ false
+    → IsPlanned s us (record { account = a; amount = n; kind = cond b Declined (Transfer c) }) (cond b Declined (Transfer c))
+planned_transfer s us a c n true e h k l apart = record { account = h; amount = k }
+planned_transfer s us a c n false e h k l apart = (record { account = h; amount = k }, e, l, apart)
+
 pub planned : (s : Settings) (us : List Shadow) (r : Request) (p : Plan) → plan_of s us r ≡ Ok p → IsPlanned s us p p.kind
 unfolding plan_of
 planned s us (AskDeposit a n) p e =
@@ -74,3 +80,9 @@ planned s us (AskInterest a rate) p e =
     let (l, e3) = passed_by (nat_lt MOST_CENTS (interest_on (bal s us) a rate)) _ _ p e2 in
     subst (λ (q : Plan). IsPlanned s us q q.kind) (at_ok p _ e3) (not_true _ h, l)
 planned s us (AskCancel x) p e = planned_cancel s us x (find_in us x) p refl e
+planned s us (AskTransfer a c n) p e =
+    let (h, e1) = passed_by (not (is_account s a)) _ _ p e in
+    let (l, e2) = passed_by (not (is_account s c)) _ _ p e1 in
+    let (k, e3) = passed_by (not (is_amount n)) _ _ p e2 in
+    let (apart, e4) = passed_by (a.0 == c.0) _ _ p e3 in
+    subst (λ (q : Plan). IsPlanned s us q q.kind) (at_ok p _ e4) (planned_transfer s us a c n (int_lt (bal s us a) (pos n)) refl (not_true _ h) (not_true _ k) (not_true _ l) apart)

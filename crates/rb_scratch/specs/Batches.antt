@@ -16,7 +16,7 @@ use Rattle.rb_scratch.specs.declared.run_fault.RunFault.{RunFault}
 use Rattle.rb_scratch.specs.declared.run_fault.RunFault.TheVariants.{Declined as DeclinedFault, Refused as RefusedFault}
 use Rattle.rb_token.specs.Token.{Token}
 
--- whether it is a declined withdrawal
+-- whether it is a declined withdrawal or transfer
 abbrev pub is_declined : Kind → Bool
 is_declined Declined = true
 is_declined _ = false
@@ -26,7 +26,7 @@ abbrev pub stopped : {A : Type 0} → Result A Refusal → Result A RunFault
 stopped (Ok x) = Ok x
 stopped (Err why) = Err (RefusedFault why)
 
--- what a plan of a batch makes, or what is wrong with it: a declined withdrawal stops a batch as a refusal does
+-- what a plan of a batch makes, or what is wrong with it: a declined withdrawal or transfer stops a batch as a refusal does
 abbrev pub planned_in_batch : Settings → ℕ → List Shadow → Token → Result Plan Refusal → Result Shadow RunFault
 planned_in_batch s me us token (Err why) = Err (RefusedFault why)
 planned_in_batch s me us token (Ok p) = if is_declined p.kind then Err DeclinedFault else stopped (allowed s us token (operation_of me us p))

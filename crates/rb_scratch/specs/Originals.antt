@@ -4,23 +4,27 @@ use Rattle.std.specs.Prelude.{◌≡◌, List, [], ◌∷◌, ◌++◌, false, �
 use Rattle.rb_money.specs.Settings.{Settings}
 use Rattle.rb_money.specs.declared.place.Place.{Place}
 use Rattle.rb_shadow.specs.declared.shadow.Shadow.{Shadow}
-use Rattle.rb_shadow.specs.declared.kind.Kind.TheVariants.{Deposit, Interest}
+use Rattle.rb_shadow.specs.declared.kind.Kind.TheVariants.{Deposit, Withdraw, Interest, Transfer}
 use Rattle.rb_shadow.specs.Operations.{bal, is_cancelled}
 use Rattle.rb_scratch.specs.declared.request.Request.{Request}
-use Rattle.rb_scratch.specs.declared.request.Request.TheVariants.{Deposit as AskDeposit, Withdraw as AskWithdraw, Interest as AskInterest, Cancel as AskCancel}
-use Rattle.rb_scratch.specs.Requests.{withdrawal, interest_on}
+use Rattle.rb_scratch.specs.declared.request.Request.TheVariants.{Deposit as AskDeposit, Withdraw as AskWithdraw, Interest as AskInterest, Cancel as AskCancel, Transfer as AskTransfer}
+use Rattle.rb_scratch.specs.Requests.{if_covered, interest_on}
 
 -- so much is added to an account
 abbrev pub after_deposit : (Place → ℤ) → Place → ℕ → Place → ℤ
 after_deposit b a x = λ q. b q +ℤ (if a.0 == q.0 then pos x else pos 0)
 
--- a withdrawal is granted where there is enough
+-- a withdrawal, and a transfer, is granted where there is enough
 abbrev pub grants : (Place → ℤ) → Place → ℕ → Bool
 grants b a x = not (int_lt (b a) (pos x))
 
 -- so much is taken from an account where there is enough
 abbrev pub after_withdraw : (Place → ℤ) → Place → ℕ → Place → ℤ
 after_withdraw b a x = λ q. b q +ℤ (if grants b a x && (a.0 == q.0) then neg_ℤ (pos x) else pos 0)
+
+-- so much goes from an account to another where there is enough
+abbrev pub after_transfer : (Place → ℤ) → Place → Place → ℕ → Place → ℤ
+after_transfer b a c x = λ q. b q +ℤ (if grants b a x then (if a.0 == q.0 then neg_ℤ (pos x) else (if c.0 == q.0 then pos x else pos 0)) else pos 0)
 
 -- an account gets its interest at the rate
 abbrev pub after_accrue : (Place → ℤ) → Place → ℕ → Place → ℤ
@@ -29,8 +33,9 @@ after_accrue b a rate = λ q. b q +ℤ (if a.0 == q.0 then pos (interest_on b a 
 -- an operation at the end of a list does to every balance what the published bank does
 pub record IsOriginal (s : Settings) (us : List Shadow) (v : Shadow) : Type 0 where
   pub deposit : v.kind ≡ Deposit → (q : Place) → bal s (us ++ v ∷ []) q ≡ after_deposit (bal s us) v.account v.amount q
-  pub withdraw : v.kind ≡ withdrawal s us v.account v.amount → (q : Place) → bal s (us ++ v ∷ []) q ≡ after_withdraw (bal s us) v.account v.amount q
+  pub withdraw : v.kind ≡ if_covered s us v.account v.amount Withdraw → (q : Place) → bal s (us ++ v ∷ []) q ≡ after_withdraw (bal s us) v.account v.amount q
   pub accrue : (rate : ℕ) → v.kind ≡ Interest → v.amount ≡ interest_on (bal s us) v.account rate → (q : Place) → bal s (us ++ v ∷ []) q ≡ after_accrue (bal s us) v.account rate q
+  pub transfer : (to : Place) → v.kind ≡ if_covered s us v.account v.amount (Transfer to) → (q : Place) → bal s (us ++ v ∷ []) q ≡ after_transfer (bal s us) v.account to v.amount q
 
 -- so it is for every operation whose name none of them cancels
 abbrev pub EachIsOriginal : Type 0
@@ -42,3 +47,4 @@ DoesOriginal s us (AskDeposit a n) v = (q : Place) → bal s (us ++ v ∷ []) q 
 DoesOriginal s us (AskWithdraw a n) v = (q : Place) → bal s (us ++ v ∷ []) q ≡ after_withdraw (bal s us) a n q
 DoesOriginal s us (AskInterest a rate) v = (q : Place) → bal s (us ++ v ∷ []) q ≡ after_accrue (bal s us) a rate q
 DoesOriginal s us (AskCancel x) v = ⊤
+DoesOriginal s us (AskTransfer a c n) v = (q : Place) → bal s (us ++ v ∷ []) q ≡ after_transfer (bal s us) a c n q

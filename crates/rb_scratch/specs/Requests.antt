@@ -1,5 +1,5 @@
 -- What a request makes.
-use Rattle.std.specs.Prelude.{ℕ, ℤ, ◌+◌, if◌then◌else◌, not, ◌&&◌, nat_lt, List, Option, Some, None, Result, Ok, Err, pos, int_lt, option_and_then}
+use Rattle.std.specs.Prelude.{ℕ, ℤ, ◌+◌, if◌then◌else◌, not, ◌&&◌, nat_lt, ◌==◌, List, Option, Some, None, Result, Ok, Err, pos, int_lt, option_and_then}
 use Rattle.rb_money.specs.Amounts.{cents, is_amount, interest}
 use Rattle.rb_money.specs.Refusals.{refused_if, and_then, unless_refused}
 use Rattle.std.specs.Prelude.{◌≡◌, ℕ, ◌<◌, ◌≤◌, [], ◌∷◌, ◌++◌}
@@ -8,7 +8,7 @@ use Rattle.rb_money.specs.Settings.{Settings, is_account}
 use Rattle.rb_money.specs.declared.limits.TheConstants.{MOST_SITES}
 use Rattle.rb_money.specs.declared.place.Place.{Place}
 use Rattle.rb_money.specs.declared.refusal.Refusal.{Refusal}
-use Rattle.rb_money.specs.declared.refusal.Refusal.TheVariants.{UnknownAccount, BadAmount, BadRate, UnknownOperation, NotCancellable, AlreadyCancelled, NumbersExhausted, WouldOverdraw, DeltaTooLarge}
+use Rattle.rb_money.specs.declared.refusal.Refusal.TheVariants.{UnknownAccount, BadAmount, BadRate, UnknownOperation, NotCancellable, AlreadyCancelled, NumbersExhausted, WouldOverdraw, DeltaTooLarge, SameAccount}
 use Rattle.rb_money.specs.declared.cents.TheConstants.{MOST_CENTS}
 use Rattle.rb_money.specs.declared.rate.TheConstants.{MOST_RATE}
 use Rattle.rb_shadow.specs.Operations.{is_cancelled, bal, red_count, find_in, may_be_cancelled, is_cancel, colour_of, kind_in, target_of, blue_count, clock_of, number_of}
@@ -16,14 +16,14 @@ use Rattle.rb_shadow.specs.Sound.{limit_of}
 use Rattle.rb_shadow.specs.declared.colour.Colour.{Colour}
 use Rattle.rb_shadow.specs.declared.colour.Colour.TheVariants.{Blue as BlueColour, Red as RedColour}
 use Rattle.rb_shadow.specs.declared.kind.Kind.{Kind}
-use Rattle.rb_shadow.specs.declared.kind.Kind.TheVariants.{Deposit, Withdraw, Declined, Interest, Cancel}
+use Rattle.rb_shadow.specs.declared.kind.Kind.TheVariants.{Deposit, Withdraw, Declined, Interest, Cancel, Transfer}
 use Rattle.rb_shadow.specs.declared.op_name.OpName.{OpName}
 use Rattle.rb_shadow.specs.declared.op_name.OpName.TheVariants.{Blue, Red}
 use Rattle.rb_shadow.specs.declared.shadow.Shadow.{Shadow}
 use Rattle.rb_ledger.specs.Checks.{overdraws}
 use Rattle.rb_ledger.specs.Valid.{first_cancel_from}
 use Rattle.rb_scratch.specs.declared.request.Request.{Request}
-use Rattle.rb_scratch.specs.declared.request.Request.TheVariants.{Deposit as AskDeposit, Withdraw as AskWithdraw, Interest as AskInterest, Cancel as AskCancel}
+use Rattle.rb_scratch.specs.declared.request.Request.TheVariants.{Deposit as AskDeposit, Withdraw as AskWithdraw, Interest as AskInterest, Cancel as AskCancel, Transfer as AskTransfer}
 use Rattle.rb_token.specs.Token.{Token, refusal_of_red}
 
 -- what a request would make: its account, its amount and its kind
@@ -32,9 +32,9 @@ pub record Plan : Type 0 where
   pub amount : ℕ
   pub kind : Kind
 
--- a withdrawal is decided on the balance
-abbrev pub withdrawal : Settings → List Shadow → Place → ℕ → Kind
-withdrawal s us a n = if int_lt (bal s us a) (pos n) then Declined else Withdraw
+-- what takes from an account is decided on the balance
+abbrev pub if_covered : Settings → List Shadow → Place → ℕ → Kind → Kind
+if_covered s us a n k = if int_lt (bal s us a) (pos n) then Declined else k
 
 -- an account's interest by the balances: the floor of its balance's share, the rate in basis points
 abbrev pub interest_on : (Place → ℤ) → Place → ℕ → ℕ
@@ -57,13 +57,19 @@ plan_of s us (AskDeposit a n) =
 plan_of s us (AskWithdraw a n) =
     refused_if (not (is_account s a)) UnknownAccount
     (refused_if (not (is_amount n)) BadAmount
-    (Ok (record { account = a; amount = n; kind = withdrawal s us a n })))
+    (Ok (record { account = a; amount = n; kind = if_covered s us a n Withdraw })))
 plan_of s us (AskInterest a rate) =
     refused_if (not (is_account s a)) UnknownAccount
     (refused_if (nat_lt MOST_RATE rate) BadRate
     (refused_if (nat_lt MOST_CENTS (interest_on (bal s us) a rate)) DeltaTooLarge
     (Ok (record { account = a; amount = interest_on (bal s us) a rate; kind = Interest }))))
 plan_of s us (AskCancel x) = plan_of_cancel us x (find_in us x)
+plan_of s us (AskTransfer a b n) =
+    refused_if (not (is_account s a)) UnknownAccount
+    (refused_if (not (is_account s b)) UnknownAccount
+    (refused_if (not (is_amount n)) BadAmount
+    (refused_if (a.0 == b.0) SameAccount
+    (Ok (record { account = a; amount = n; kind = if_covered s us a n (Transfer b) })))))
 
 -- the next name of a colour at a site
 abbrev pub next_name : ℕ → List Shadow → Colour → OpName

@@ -7,7 +7,7 @@ ghost use Rattle.rb_ledger.specs.Valid.{IsValid};
 ghost use Rattle.rb_ledger.specs.Checks.{refusal_of, overdraws};
 ghost use Rattle.rb_token.specs.Token.{Token};
 ghost use Rattle.rb_token.specs.Seen.{Shows};
-ghost use Rattle.rb_scratch.specs.declared.request.Request.TheVariants.{Deposit as AskDeposit, Withdraw as AskWithdraw, Interest as AskInterest, Cancel as AskCancel};
+ghost use Rattle.rb_scratch.specs.declared.request.Request.TheVariants.{Deposit as AskDeposit, Withdraw as AskWithdraw, Interest as AskInterest, Cancel as AskCancel, Transfer as AskTransfer};
 ghost use Rattle.rb_scratch.specs.declared.request.Request.{Request as TheRequest};
 ghost use Rattle.rb_scratch.specs.Requests.{plan_of, next_name, colour_of_plan, operation_of, allowed, allowed_red, made_of};
 ghost use Rattle.rb_scratch.specs.Effects.{IsColoured, IsDecision, plan_of_effect};
@@ -66,6 +66,38 @@ fn withdrawal(ledger: &Ledger, account: Place, amount: u64) -> Result<Effect, Re
     })
 }
 
+/// What a transfer would do: it is declined where the balance that it leaves is below it.
+#[tactic(auto, unfolding(crate::specs::Requests::plan_of))]
+fn transfer(ledger: &Ledger, from: Place, to: Place, amount: u64) -> Result<Effect, Refusal>
+    ensures plan { IsDecision ledger.now.settings ledger.now.entries (AskTransfer from to amount) result }
+    ensures colour { IsColoured ledger.now.entries result }
+{
+    let Some(balance) = ledger.balance(from) else {
+        return Err(Refusal::UnknownAccount);
+    };
+    if ledger.config().accounts().len() <= to.0 as usize {
+        return Err(Refusal::UnknownAccount);
+    }
+    if let Err(why) = Amount::new(amount) {
+        return Err(why);
+    }
+    if from.0 == to.0 {
+        return Err(Refusal::SameAccount);
+    }
+    let covered = amount <= balance;
+    let kind = if covered {
+        Kind::Transfer { to }
+    } else {
+        Kind::Declined
+    };
+    Ok(Effect {
+        account: from,
+        amount,
+        kind,
+        colour: kind.colour(None),
+    })
+}
+
 /// What interest would do.
 #[tactic(auto, unfolding(crate::specs::Requests::plan_of))]
 fn interest(ledger: &Ledger, account: Place, rate: u32) -> Result<Effect, Refusal>
@@ -118,6 +150,7 @@ pub(crate) fn decide(ledger: &Ledger, request: &Request) -> Result<Effect, Refus
         Request::Withdraw { account, amount } => withdrawal(ledger, account, amount),
         Request::Interest { account, rate } => interest(ledger, account, rate),
         Request::Cancel { target } => cancellation(ledger, target),
+        Request::Transfer { from, to, amount } => transfer(ledger, from, to, amount),
     }
 }
 
@@ -227,10 +260,10 @@ pub(crate) fn carry_out(
 /// is to apply. Nothing changes.
 ///
 /// After "Defining shadow operations" of the published paper: a generator runs at the submitting
-/// site, decides, and has no side effects. A withdrawal above the balance makes a declined one.
+/// site, decides, and has no side effects. A withdrawal or a transfer above the balance makes a declined one.
 ///
 /// The refusals, of which the first that holds is answered: `UnknownAccount`; `BadAmount` or
-/// `BadRate`; `UnknownOperation`, `NotCancellable`, `AlreadyCancelled`; `DeltaTooLarge`;
+/// `BadRate`; `SameAccount`; `UnknownOperation`, `NotCancellable`, `AlreadyCancelled`; `DeltaTooLarge`;
 /// `NumbersExhausted`; for a red operation `NeedToken`, `RedBehind`; for a red cancellation `WouldOverdraw`.
 pub fn generate(ledger: &Ledger, token: &TokenView, request: &Request) -> Result<Shadow, Refusal>
     requires { token.now.me < ledger.now.settings.sites }

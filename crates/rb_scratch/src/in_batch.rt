@@ -13,7 +13,7 @@ use rb_shadow::{Kind, Shadow};
 use rb_token::TokenView;
 
 /// What the request makes in a batch at the token's site: what it makes by itself, but for a withdrawal
-/// that would be declined. Nothing changes.
+/// or a transfer that would be declined. Nothing changes.
 pub fn generate_in_batch(
     ledger: &Ledger,
     token: &TokenView,

@@ -24,7 +24,7 @@ pub use request::{MOST_REQUESTS, Request};
 pub use run_fault::RunFault;
 pub use scratch::Scratch;
 
-/// A deposit, a withdrawal and interest do to every balance what the published bank does.
+/// A deposit, a withdrawal, a transfer and interest do to every balance what the published bank does.
 pub fn is_original()
     ensures { EachIsOriginal }
 {}

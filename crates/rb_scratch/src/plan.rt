@@ -19,7 +19,7 @@ pub struct CancelPlan {
 /// What cancelling the operation of this name would do at this ledger.
 ///
 /// Refuses with `UnknownOperation` where the ledger hasn't the operation, then with
-/// `NotCancellable` where it is a declined withdrawal or a cancellation, then with
+/// `NotCancellable` where it is a declined withdrawal or transfer, or a cancellation, then with
 /// `AlreadyCancelled` and the position of the first cancellation where the ledger has one.
 pub fn cancel_of(ledger: &Ledger, target: OpName) -> Result<CancelPlan, Refusal>
     ensures planned { IfOk result (λ plan. plan_of_cancel ledger.now.entries target (find_in ledger.now.entries target) ≡ Ok (record { account = plan.account; amount = plan.amount; kind = Kind.Cancel target })) }

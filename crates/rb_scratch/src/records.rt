@@ -3,19 +3,8 @@ ghost use Rattle.std.specs.Prelude.{◌≡◌, ◌<◌, ◌≤◌, [], ◌∷◌
 ghost use Rattle.rb_scratch.specs.declared.request.TheConstants.{MOST_REQUESTS};
 
 use crate::request::MOST_REQUESTS;
-use rb_money::Place;
-use rb_shadow::OpName;
 use rb_undo::{Undo, UndoLog, UndoParts};
 use std::marker::Model;
-
-/// What stands in the places that no record has yet.
-const BLANK: UndoParts = UndoParts {
-    position: 0,
-    name: OpName::Red { n: 0 },
-    place: Place(0),
-    balance: 0,
-    target: 0,
-};
 
 /// Undo records in order, at most as many as a batch has requests, each of which is still to be spent or
 /// sealed. They stand in the value itself and take no memory: a record is spent into its parts, and made
@@ -43,7 +32,7 @@ impl Records {
         ensures { result.parts ≡ [] }
     {
         Records {
-            parts: [BLANK; MOST_REQUESTS],
+            parts: [UndoParts::BLANK; MOST_REQUESTS],
             len: 0,
         }
     }

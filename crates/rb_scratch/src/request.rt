@@ -15,6 +15,9 @@ pub enum Request {
     Withdraw { account: Place, amount: u64 },
     /// To add a share of the balance, rounded down: a rate of 0 to `MOST_RATE` basis points.
     Interest { account: Place, rate: u32 },
-    /// To undo what an operation did, a deposit, a withdrawal or interest.
+    /// To undo what an operation did, a deposit, a withdrawal, interest or a transfer.
     Cancel { target: OpName },
+    /// To move an amount in cents, 1 to `MOST_CENTS`, from an account to another; it is declined where the
+    /// balance that it would leave is less.
+    Transfer { from: Place, to: Place, amount: u64 },
 }

@@ -3,7 +3,7 @@ ghost use Rattle.std.specs.Prelude.{◌≡◌};
 
 use rb_money::{Cause, Refusal};
 
-/// What is wrong with one request of a batch: it would make a declined withdrawal, or be refused.
+/// What is wrong with one request of a batch: it would make a declined withdrawal or transfer, or be refused.
 #[derive(Clone, Copy, Debug, PartialEq, Eq)]
 pub enum RunFault {
     Declined,

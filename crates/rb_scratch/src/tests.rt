@@ -56,6 +56,10 @@ fn cancel(target: OpName) -> Request {
     Request::Cancel { target }
 }
 
+fn transfer(from: Place, to: Place, amount: u64) -> Request {
+    Request::Transfer { from, to, amount }
+}
+
 fn blue(n: u32) -> OpName {
     OpName::Blue { site: 0, n }
 }
@@ -133,6 +137,53 @@ fn what_is_refused(rt: HostRuntime) -> Result<(), Fail> {
             Refusal::RedBehind { seen: 2, needed: 3 },
         ),
         (HOLDER, cancel(blue(3)), Refusal::WouldOverdraw),
+    ] {
+        assert!(rt; token.me < ledger.config().sites());
+        assert_eq!(rt;
+            generate(&ledger, &token, &request),
+            Err(why),
+            "{request:?}"
+        );
+    }
+    Ok(())
+}
+
+#[test]
+fn what_transfers_make(rt: HostRuntime) -> Result<(), Fail> {
+    let mut ledger = open(rt.alloc())?;
+    let moved = Kind::Transfer { to: RICH };
+    for (request, name, kind, amount) in [
+        (transfer(ANN, RICH, 101), blue(1), Kind::Declined, 101),
+        (transfer(ANN, RICH, 100), red(1), moved, 100),
+        (cancel(red(1)), red(2), Kind::Cancel { target: red(1) }, 100),
+    ] {
+        let made = make(&mut ledger, &request).map(|v| (v.name, v.kind, v.amount));
+        assert_eq!(rt; made, Some((name, kind, amount)), "{request:?}");
+    }
+    assert_eq!(rt;
+        (ledger.balance(ANN), ledger.balance(RICH)),
+        (Some(100), Some(MOST_CENTS))
+    );
+    Ok(())
+}
+
+#[test]
+fn refused_transfers(rt: HostRuntime) -> Result<(), Fail> {
+    let ledger = open(rt.alloc())?;
+    let without = TokenView {
+        held: false,
+        ..HOLDER
+    };
+    for (token, request, why) in [
+        (
+            HOLDER,
+            transfer(Place(2), Place(2), 0),
+            Refusal::UnknownAccount,
+        ),
+        (HOLDER, transfer(ANN, Place(2), 0), Refusal::UnknownAccount),
+        (HOLDER, transfer(ANN, ANN, 0), Refusal::BadAmount),
+        (HOLDER, transfer(ANN, ANN, 5), Refusal::SameAccount),
+        (without, transfer(ANN, RICH, 5), Refusal::NeedToken),
     ] {
         assert!(rt; token.me < ledger.config().sites());
         assert_eq!(rt;

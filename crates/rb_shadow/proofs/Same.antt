@@ -8,7 +8,7 @@ use Rattle.rb_shadow.specs.contracts.shadow.ShadowPartialEq.TheImpl.{ghosts as s
 use Rattle.rb_shadow.specs.declared.op_name.OpName.{OpName}
 use Rattle.rb_shadow.specs.declared.op_name.OpName.TheVariants.{Blue, Red}
 use Rattle.rb_shadow.specs.declared.kind.Kind.{Kind}
-use Rattle.rb_shadow.specs.declared.kind.Kind.TheVariants.{Deposit, Withdraw, Declined, Interest, Cancel}
+use Rattle.rb_shadow.specs.declared.kind.Kind.TheVariants.{Deposit, Withdraw, Declined, Interest, Cancel, Transfer}
 use Rattle.rb_shadow.specs.declared.shadow.Shadow.{Shadow}
 use Rattle.rb_shadow.specs.Operations.{same_name, same_kind, same_numbers, same_shadow}
 use Rattle.rb_shadow.proofs.Public.SameShadows.{same_shadow-refl, same_shadow-true}
@@ -27,6 +27,7 @@ kind_tested Withdraw Withdraw = refl
 kind_tested Declined Declined = refl
 kind_tested Interest Interest = refl
 kind_tested (Cancel x) (Cancel y) = name_tested x y
+kind_tested (Transfer a) (Transfer b) = refl
 kind_tested _ _ = refl
 
 numbers_tested : (ms ns : List ℕ) → pointwise nat_eq ms ns ≡ same_numbers ms ns

@@ -8,7 +8,7 @@ use Rattle.rb_money.specs.declared.place.Place.{Place}
 use Rattle.rb_shadow.specs.contracts.label.LabelPartialEq.TheImpl.{ghosts as label_test}
 use Rattle.rb_shadow.specs.contracts.op_name.OpNamePartialEq.TheImpl.{ghosts as name_test}
 use Rattle.rb_shadow.specs.declared.label.Label.{Label}
-use Rattle.rb_shadow.specs.declared.label.Label.TheVariants.{Deposit, Withdraw, Declined, Interest, Cancel}
+use Rattle.rb_shadow.specs.declared.label.Label.TheVariants.{Deposit, Withdraw, Declined, Interest, Cancel, Transfer}
 use Rattle.rb_shadow.specs.declared.op_name.OpName.{OpName}
 use Rattle.rb_shadow.specs.declared.op_name.OpName.TheVariants.{Blue, Red}
 
@@ -37,6 +37,7 @@ label_sound Withdraw Withdraw h = refl
 label_sound Declined Declined h = refl
 label_sound Interest Interest h = refl
 label_sound Cancel Cancel h = refl
+label_sound Transfer Transfer h = refl
 label_sound _ _ h = absurd (true≢false (sym h))
 
 label_same : (x : Label) → label_test.eq x x ≡ true

@@ -7,7 +7,7 @@ use Rattle.rb_money.specs.declared.place.Place.{Place}
 use Rattle.rb_shadow.specs.declared.op_name.OpName.{OpName}
 use Rattle.rb_shadow.specs.declared.op_name.OpName.TheVariants.{Blue, Red}
 use Rattle.rb_shadow.specs.declared.kind.Kind.{Kind}
-use Rattle.rb_shadow.specs.declared.kind.Kind.TheVariants.{Deposit, Withdraw, Declined, Interest, Cancel}
+use Rattle.rb_shadow.specs.declared.kind.Kind.TheVariants.{Deposit, Withdraw, Declined, Interest, Cancel, Transfer}
 use Rattle.rb_shadow.specs.declared.colour.Colour.{Colour}
 use Rattle.rb_shadow.specs.declared.colour.Colour.TheVariants.{Blue as BlueColour, Red as RedColour}
 use Rattle.rb_shadow.specs.declared.deps.Deps.{Deps}
@@ -64,6 +64,11 @@ abbrev pub target_of : Kind → Option OpName
 target_of (Cancel x) = Some x
 target_of _ = None
 
+-- the account to which an operation of a kind moves its amount; only a transfer has one
+abbrev pub receiver_of : Kind → Option Place
+receiver_of (Transfer to) = Some to
+receiver_of _ = None
+
 -- whether it is a cancellation
 abbrev pub is_cancel : Kind → Bool
 is_cancel k = is_some (target_of k)
@@ -77,9 +82,10 @@ is_target (Some x) y = same_name x y
 abbrev pub cancels : Kind → OpName → Bool
 cancels k y = is_target (target_of k) y
 
--- an operation's colour, by its kind and by its target's: a withdrawal is red, and so is a cancellation of anything else
+-- an operation's colour, by its kind and by its target's: a withdrawal and a transfer are red, and so is a cancellation of anything but a withdrawal
 abbrev pub colour_of : Kind → Option Kind → Colour
 colour_of Withdraw target = RedColour
+colour_of (Transfer to) target = RedColour
 colour_of (Cancel x) (Some Withdraw) = BlueColour
 colour_of (Cancel x) target = RedColour
 colour_of _ target = BlueColour
@@ -92,20 +98,39 @@ cancel_count us x = count_by (λ u. cancels u.kind x) us
 abbrev pub is_cancelled : List Shadow → OpName → Bool
 is_cancelled us x = list_any (λ u. cancels u.kind x) us
 
--- what an operation of a kind and an amount moves: a deposit and interest add it, a withdrawal takes it
+-- what an operation of a kind and an amount moves on its own account: a deposit and interest add it, a withdrawal and a transfer take it
 abbrev pub moved : Kind → ℕ → ℤ
 moved Deposit n = pos n
 moved Interest n = pos n
 moved Withdraw n = neg_ℤ (pos n)
+moved (Transfer to) n = neg_ℤ (pos n)
 moved _ n = pos 0
 
--- what an operation moves on an account: its amount on its own account, and nothing on any other
-abbrev pub delta : Shadow → Place → ℤ
-delta u a = if u.account.0 == a.0 then moved u.kind u.amount else pos 0
+-- what arrives at an account of an amount that is moved to the receiver, if there is one
+abbrev pub arrived : Option Place → ℕ → Place → ℤ
+arrived None n a = pos 0
+arrived (Some to) n a = if to.0 == a.0 then pos n else pos 0
 
--- the accounts whose balances an operation may change: its own
+-- what an operation moves on an account: on its own what its kind says, on a transfer's second account its amount, and nothing on any other
+abbrev pub delta : Shadow → Place → ℤ
+delta u a = if u.account.0 == a.0 then moved u.kind u.amount else arrived (receiver_of u.kind) u.amount a
+
+-- the second account of an operation, by its target: a transfer's, or that of the transfer that it cancels
+abbrev pub other_by : List Shadow → Kind → Option OpName → Option Place
+other_by us k None = receiver_of k
+other_by us k (Some x) = option_and_then receiver_of (kind_in us x)
+
+abbrev pub other_of : List Shadow → Shadow → Option Place
+other_of us v = other_by us v.kind (target_of v.kind)
+
+-- an account, and a second one, if there is one
+abbrev pub both_accounts : Place → Option Place → List Place
+both_accounts a None = a ∷ []
+both_accounts a (Some b) = a ∷ b ∷ []
+
+-- the accounts whose balances an operation may change: its own, and its second one
 abbrev pub accounts_on : List Shadow → Shadow → List Place
-accounts_on us v = v.account ∷ []
+accounts_on us v = both_accounts v.account (other_of us v)
 
 -- the account is one of those
 abbrev pub is_on : List Shadow → Shadow → Place → Bool
@@ -197,11 +222,12 @@ abbrev pub HasEntry : OpName → Type 0
 HasEntry (Blue i n) = i < MOST_SITES
 HasEntry (Red n) = Unit {0}
 
--- a Deposit, a Withdraw or an Interest may be cancelled
+-- a Deposit, a Withdraw, an Interest or a Transfer may be cancelled
 abbrev pub may_be_cancelled : Kind → Bool
 may_be_cancelled Deposit = true
 may_be_cancelled Withdraw = true
 may_be_cancelled Interest = true
+may_be_cancelled (Transfer to) = true
 may_be_cancelled _ = false
 
 -- the name is a blue one of the site
@@ -246,6 +272,7 @@ same_kind Withdraw Withdraw = true
 same_kind Declined Declined = true
 same_kind Interest Interest = true
 same_kind (Cancel x) (Cancel y) = same_name x y
+same_kind (Transfer a) (Transfer b) = a.0 == b.0
 same_kind _ _ = false
 
 -- two lists of numbers are the same

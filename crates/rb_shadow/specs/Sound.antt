@@ -3,13 +3,14 @@ use Rattle.std.specs.Prelude.{◌≡◌, ℕ, ◌+◌, ◌-◌, Bool, true, fals
 use Rattle.rb_money.specs.Settings.{Settings}
 use Rattle.rb_money.specs.declared.limits.Limits.{Limits}
 use Rattle.rb_money.specs.declared.cents.TheConstants.{MOST_CENTS}
+use Rattle.rb_money.specs.declared.place.Place.{Place}
 use Rattle.rb_shadow.specs.declared.op_name.OpName.{OpName}
 use Rattle.rb_shadow.specs.declared.op_name.OpName.TheVariants.{Blue, Red}
 use Rattle.rb_shadow.specs.declared.kind.Kind.{Kind}
 use Rattle.rb_shadow.specs.declared.kind.Kind.TheVariants.{Interest, Cancel}
 use Rattle.rb_shadow.specs.declared.deps.Deps.{Deps}
 use Rattle.rb_shadow.specs.declared.shadow.Shadow.{Shadow}
-use Rattle.rb_shadow.specs.Operations.{names_of_clock, number_of, entry_of, target_of, is_cancel, colour_of, shown_colour, same_colour}
+use Rattle.rb_shadow.specs.Operations.{names_of_clock, number_of, entry_of, target_of, receiver_of, is_cancel, colour_of, shown_colour, same_colour}
 
 -- a blue name's site isn't the home
 abbrev pub is_foreign : OpName → ℕ → Bool
@@ -31,6 +32,11 @@ abbrev pub may_be_nothing : Kind → Bool
 may_be_nothing Interest = true
 may_be_nothing (Cancel x) = true
 may_be_nothing _ = false
+
+-- the receiver, if there is one, is past so many accounts, or the own account
+abbrev pub is_misdirected : ℕ → Place → Option Place → Bool
+is_misdirected accounts own None = false
+is_misdirected accounts own (Some to) = nat_le accounts to.0 || (to.0 == own.0)
 
 -- by its kind alone the name can't be of this colour: a kind that isn't a cancellation has one colour
 abbrev pub is_miscoloured : Kind → OpName → Bool
@@ -59,7 +65,7 @@ unfoldable pub fault_of : ℕ → ℕ → Limits → Shadow → Option ℕ
 fault_of sites accounts l v =
     if nat_le sites v.home || is_foreign v.name v.home then Some 1
     else (if number_of v.name == 0 || nat_lt (limit_of l v.name) (number_of v.name) then Some 2
-    else (if nat_le accounts v.account.0 then Some 3
+    else (if nat_le accounts v.account.0 || is_misdirected accounts v.account (receiver_of v.kind) then Some 3
     else (if nat_lt MOST_CENTS v.amount || (v.amount == 0 && not (may_be_nothing v.kind)) then Some 4
     else (if is_miscoloured v.kind v.name then Some 5
     else (if cancels_unseen sites v.kind v.deps then Some 6

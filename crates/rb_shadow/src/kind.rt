@@ -1,10 +1,11 @@
 //! Kinds of operations.
 ghost use Rattle.std.specs.Prelude.{◌≡◌, ◌≤◌, ◌⊎◌, pos, ◌+ℤ◌};
-ghost use Rattle.rb_shadow.specs.Operations.{target_of, colour_of, moved, may_be_cancelled};
+ghost use Rattle.rb_shadow.specs.Operations.{target_of, receiver_of, colour_of, moved, may_be_cancelled};
 ghost use Rattle.rb_shadow.specs.Labels.{label_of};
-ghost use Rattle.rb_shadow.specs.Sound.{cancels_unseen, is_miscoloured, may_be_nothing};
+ghost use Rattle.rb_shadow.specs.Sound.{cancels_unseen, is_miscoloured, is_misdirected, may_be_nothing};
 
 use crate::{Colour, Deps, Label, OpName};
+use rb_money::Place;
 
 /// What an operation does.
 #[derive(Clone, Copy, Debug, PartialEq, Eq)]
@@ -13,12 +14,14 @@ pub enum Kind {
     Deposit,
     /// Takes its amount.
     Withdraw,
-    /// A withdrawal that wasn't covered: it moves nothing.
+    /// A withdrawal or a transfer that wasn't covered: it moves nothing.
     Declined,
     /// Adds its amount, which its home worked out from the balance.
     Interest,
     /// Undoes what its target did.
     Cancel { target: OpName },
+    /// Moves its amount from its account to another.
+    Transfer { to: Place },
 }
 
 impl Kind {
@@ -33,6 +36,17 @@ impl Kind {
         }
     }
 
+    /// The account to which one of this kind moves its amount: only a transfer has one.
+    #[inline(always)]
+    pub fn receiver(self) -> Option<Place>
+        ensures { result ≡ receiver_of self }
+    {
+        match self {
+            Kind::Transfer { to } => Some(to),
+            _ => None,
+        }
+    }
+
     /// The colour of an operation of this kind, whose target, if it cancels one, is of the second kind.
     ///
     /// After "What can be blue? What must be red?" of the published paper: what could break "no balance is
@@ -41,7 +55,7 @@ impl Kind {
         ensures { result ≡ colour_of self target }
     {
         match self {
-            Kind::Withdraw => Colour::Red,
+            Kind::Withdraw | Kind::Transfer { .. } => Colour::Red,
             Kind::Cancel { .. } => match target {
                 Some(Kind::Withdraw) => Colour::Blue,
                 _ => Colour::Red,
@@ -60,20 +74,21 @@ impl Kind {
             Kind::Declined => Label::Declined,
             Kind::Interest => Label::Interest,
             Kind::Cancel { .. } => Label::Cancel,
+            Kind::Transfer { .. } => Label::Transfer,
         }
     }
 
-    /// Whether an operation of this kind may be cancelled: a deposit, a withdrawal or interest.
+    /// Whether an operation of this kind may be cancelled: a deposit, a withdrawal, interest or a transfer.
     pub fn may_be_cancelled(self) -> bool
         ensures { result ≡ may_be_cancelled self }
     {
         match self {
-            Kind::Deposit | Kind::Withdraw | Kind::Interest => true,
+            Kind::Deposit | Kind::Withdraw | Kind::Interest | Kind::Transfer { .. } => true,
             _ => false,
         }
     }
 
-    /// What an operation of this kind and amount, in cents, adds to its account, and what it takes from it.
+    /// What an operation of this kind and amount, in cents, adds to its own account, and what it takes from it.
     #[inline(always)]
     pub fn moved(self, amount: u64) -> (u64, u64)
         ensures sums { pos result.0 ≡ pos result.1 +ℤ moved self amount }
@@ -83,7 +98,7 @@ impl Kind {
     {
         match self {
             Kind::Deposit | Kind::Interest => (amount, 0),
-            Kind::Withdraw => (0, amount),
+            Kind::Withdraw | Kind::Transfer { .. } => (0, amount),
             _ => (0, 0),
         }
     }
@@ -95,6 +110,17 @@ impl Kind {
         match self {
             Kind::Interest | Kind::Cancel { .. } => true,
             _ => false,
+        }
+    }
+
+    /// Whether it would move money to an account past so many, or to its own.
+    #[inline(always)]
+    pub(crate) fn is_misdirected(self, accounts: usize, own: Place) -> bool
+        ensures { result ≡ is_misdirected accounts own (receiver_of self) }
+    {
+        match self.receiver() {
+            Some(to) => usize::from(to.0) >= accounts || to.0 == own.0,
+            None => false,
         }
     }
 

@@ -8,4 +8,5 @@ pub enum Label {
     Declined,
     Interest,
     Cancel,
+    Transfer,
 }

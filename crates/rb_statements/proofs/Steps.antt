@@ -1,5 +1,5 @@
 -- The rows of a statement, from one operation on the account back to the one before.
-use Rattle.std.proofs.Common.{◌≡◌, ℕ, ◌+◌, ◌-◌, ◌<◌, ◌≤◌, ◌||◌, Bool, true, false, cond, List, [], ◌∷◌, ◌++◌, length, take, drop, reverse, refl, ap, sym, ◌∙◌, subst, arith, append_assoc}
+use Rattle.std.proofs.Common.{◌≡◌, ℕ, ◌+◌, ◌-◌, ◌<◌, ◌≤◌, Bool, true, false, cond, List, [], ◌∷◌, ◌++◌, length, take, drop, reverse, refl, ap, sym, ◌∙◌, subst, arith, append_assoc}
 use Rattle.std.specs.Borrow.{Bor}
 use Rattle.std.specs.Prelude.{ℤ, pos, neg_ℤ, ◌+ℤ◌, ◌≤ℤ◌, ◌==◌, slice_get, Option, Some, None, option_map, option_copied, option_and_then, is_some, IsSome}
 use Rattle.std.proofs.lemmas.Int.{ints}
@@ -24,18 +24,6 @@ use Rattle.rb_statements.specs.declared.row.Row.{Row}
 use Rattle.rb_statements.specs.declared.account.Statement.{Statement}
 use Rattle.rb_statements.proofs.Same.{of_fields, same_fields}
 
--- ---- whether an operation is on the account
-
-on_account : (us : List Shadow) (u : Shadow) (a : Place) → u.account.0 ≡ a.0 → is_on us u a ≡ true
-on_account us u a own = let test : (u.account.0 == a.0) ≡ true = grind (arith, nat_tests) in ap (λ b. b || false) test
-
-off_account : (us : List Shadow) (u : Shadow) (a : Place) → (u.account.0 ≡ a.0 → ⊥) → is_on us u a ≡ false
-off_account us u a apart = at (u.account.0 == a.0) refl
-  where
-    at : (b : Bool) → (u.account.0 == a.0) ≡ b → (b || false) ≡ false
-    at true e = absurd (apart (grind (arith, nat_tests)))
-    at false e = refl
-
 -- ---- what is looked up at a position on the account
 
 entry_here : (us : List Shadow) (p : ℕ) → 0 < p → operation_at us p ≡ slice_get us (p - 1)
@@ -56,13 +44,13 @@ has_moved s us a p None on some e = let same : None ≡ Some (bal s (take p us) 
 has_moved s us a p (Some z) on some e = refl
 
 -- the operation that is found there
-pub found_there : (us : List Shadow) (a : Place) (p : ℕ) (o : Option (Bor Shadow)) (x : Bor Shadow) → IsOn us a p → 0 < p → option_copied o ≡ operation_at us p → o ≡ Some x → (slice_get us (p - 1) ≡ Some x.now) × (x.now.account.0 ≡ a.0)
+pub found_there : (us : List Shadow) (a : Place) (p : ℕ) (o : Option (Bor Shadow)) (x : Bor Shadow) → IsOn us a p → 0 < p → option_copied o ≡ operation_at us p → o ≡ Some x → (slice_get us (p - 1) ≡ Some x.now) × (is_on (take (p - 1) us) x.now a ≡ true)
 found_there us a p o x on some e is =
     let (u, there, own) = OnAccount.on_entry us a p on some in
     let found : slice_get us (p - 1) ≡ Some x.now = sym (entry_here us p some) ∙ sym e ∙ ap option_copied is in
     let both : Some x.now ≡ Some u = sym found ∙ there in
     let same : x.now ≡ u = cc in
-    (found, ap (λ (v : Shadow). v.account.0) same ∙ own)
+    (found, ap (λ (v : Shadow). is_on (take (p - 1) us) v a) same ∙ own)
 
 -- what it moved
 pub moved_there : (s : Settings) (us : List Shadow) (a : Place) (p : ℕ) (o : Option ℤ) (z : ℤ) → IsOn us a p → 0 < p → o ≡ moved_at s us a p → o ≡ Some z → z ≡ bal s (take p us) a +ℤ neg_ℤ (bal s (take (p - 1) us) a)
@@ -83,18 +71,18 @@ rows_push s all a before (v ∷ vs) u =
 rows_next : (s : Settings) (us : List Shadow) (a : Place) (i : ℕ) (u : Shadow) → slice_get us i ≡ Some u → rows_of s us a [] (take (i + 1) us) ≡ rows_of s us a [] (take i us) ++ rows_here s us a (take i us) u
 rows_next s us a i u there = ap (rows_of s us a []) (Fronts.one_more us i u there) ∙ rows_push s us a [] (take i us) u
 
--- an operation on another account adds none
-unshown : (s : Settings) (us : List Shadow) (a : Place) (i : ℕ) (u : Shadow) → slice_get us i ≡ Some u → (u.account.0 ≡ a.0 → ⊥) → rows_of s us a [] (take (i + 1) us) ≡ rows_of s us a [] (take i us)
+-- an operation on other accounts adds none
+unshown : (s : Settings) (us : List Shadow) (a : Place) (i : ℕ) (u : Shadow) → slice_get us i ≡ Some u → is_on (take i us) u a ≡ false → rows_of s us a [] (take (i + 1) us) ≡ rows_of s us a [] (take i us)
 unshown s us a i u there apart =
     let front : List Row = rows_of s us a [] (take i us) in
-    rows_next s us a i u there ∙ ap (λ b. front ++ cond b (row_after s us a (take i us) u ∷ []) []) (off_account (take i us) u a apart) ∙ append-nil front
+    rows_next s us a i u there ∙ ap (λ b. front ++ cond b (row_after s us a (take i us) u ∷ []) []) apart ∙ append-nil front
 
 -- so the rows are those up to the last operation on the account
 last_rows : (s : Settings) (us : List Shadow) (a : Place) (n p : ℕ) → n ≤ length us → IsLast (take n us) a p → rows_of s us a [] (take n us) ≡ rows_of s us a [] (take p us)
 last_rows s us a n p low last = OnAccount.as_of_last (rows_of s us a []) us a n p (unshown s us a) low last
 
 -- the last row is made of what is looked up
-pub own_row : (s : Settings) (us : List Shadow) (a : Place) (p : ℕ) (u : Shadow) (k : Label) (z : ℤ) (o : Option ℕ) (c : Bool) (n : ℕ) → 0 < p → slice_get us (p - 1) ≡ Some u → u.account.0 ≡ a.0 → k ≡ label_of u.kind
+pub own_row : (s : Settings) (us : List Shadow) (a : Place) (p : ℕ) (u : Shadow) (k : Label) (z : ℤ) (o : Option ℕ) (c : Bool) (n : ℕ) → 0 < p → slice_get us (p - 1) ≡ Some u → is_on (take (p - 1) us) u a ≡ true → k ≡ label_of u.kind
     → z ≡ bal s (take p us) a +ℤ neg_ℤ (bal s (take (p - 1) us) a) → o ≡ option_and_then (λ (w : Shadow). first_cancel_in us w.name) (operation_at us p) → c ≡ is_some o → pos n ≡ bal s (take p us) a
     → rows_of s us a [] (take p us) ≡ rows_of s us a [] (take (p - 1) us) ++ of_fields p u.name k z c n ∷ []
 own_row s us a p u k z o c n some there own kind moved cancel known sum =
@@ -108,7 +96,7 @@ own_row s us a p u k z o c n some there own kind moved cancel known sum =
     let balance : n ≡ cents (bal s (front ++ u ∷ []) a) = ap cents (sum ∙ ap (λ ws. bal s ws a) after) in
     let made : of_fields p u.name k z c n ≡ row_after s us a front u = same_fields _ _ _ _ _ _ _ _ _ _ _ _ position refl kind change cancelled balance in
     ap (rows_of s us a []) after ∙ rows_push s us a [] front u
-    ∙ ap (λ b. rows_of s us a [] front ++ cond b (row_after s us a front u ∷ []) []) (on_account front u a own)
+    ∙ ap (λ b. rows_of s us a [] front ++ cond b (row_after s us a front u ∷ []) []) own
     ∙ ap (λ (r : Row). rows_of s us a [] front ++ r ∷ []) (sym made)
   where
     any : (b : Bool) → is_some (cond b (Some (first_cancel_from 1 us u.name)) None) ≡ b

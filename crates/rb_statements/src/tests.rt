@@ -120,6 +120,36 @@ fn entries_between_one_another(rt: HostRuntime) -> Result<(), Fail> {
     Ok(())
 }
 
+/// After a transfer of 30 cents from ann to bob and its cancellation both accounts show both.
+#[test]
+fn transfer_and_cancel(rt: HostRuntime) -> Result<(), Fail> {
+    let mut ledger = opened(rt.alloc())?;
+    let next = OpName::Red { n: 2 };
+    let transfer = operation(RED, 0, ANN, 30, Kind::Transfer { to: BOB });
+    let cancel = operation(next, 0, ANN, 30, Kind::Cancel { target: RED });
+    apply(&rt, &mut ledger, transfer);
+    let deps = Deps {
+        red: 1,
+        ..cancel.deps
+    };
+    apply(&rt, &mut ledger, Shadow { deps, ..cancel });
+    let shown = statement(rt.alloc(), &ledger, BOB).expect(&rt, "shown");
+    let rows = [
+        row(1, RED, Label::Transfer, 30, true, 30),
+        row(2, next, Label::Cancel, -30, false, 0),
+    ];
+    assert_eq!(rt; (shown.start, shown.balance), (0, 0));
+    assert_eq!(rt; shown.rows.as_slice(), rows.as_slice());
+    let shown = statement(rt.alloc(), &ledger, ANN).expect(&rt, "shown");
+    let rows = [
+        row(1, RED, Label::Transfer, -30, true, 969),
+        row(2, next, Label::Cancel, 30, false, 999),
+    ];
+    assert_eq!(rt; (shown.start, shown.balance), (999, 999));
+    assert_eq!(rt; shown.rows.as_slice(), rows.as_slice());
+    Ok(())
+}
+
 #[test]
 fn unknown_account(rt: HostRuntime) -> Result<(), Fail> {
     let ledger = opened(rt.alloc())?;

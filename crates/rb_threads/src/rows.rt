@@ -8,7 +8,7 @@ pub struct Row {
 }
 
 /// The rows.
-pub const ROWS: [Row; 4] = [
+pub const ROWS: [Row; 5] = [
     Row {
         name: "token_waits_for_reds",
         script: r#"{"accounts":[["ann",100]],"sites":2,"version":1}
@@ -79,6 +79,24 @@ pub const ROWS: [Row; 4] = [
 {"kind":"interest","name":"B0.3"}
 {"kind":"cancel","name":"R1"}
 {"balance":10,"rows":[[2,"B0.2","deposit",1000,true,1000],[3,"B0.3","interest",10,false,1010],[4,"R1","cancel",-1000,false,10]],"start":0}
+"#,
+    },
+    Row {
+        name: "transfer_and_cancel",
+        script: r#"{"accounts":[["ann",100],["bob",0]],"sites":2,"version":1}
+{"site":0,"transfer":["ann","bob",30]}
+{"balance":"ann","site":0}
+{"cancel":"R1","site":0}
+{"balance":"ann","site":0}
+{"asof":["ann",1],"site":0}
+{"site":0,"statement":"bob"}
+"#,
+        replies: r#"{"kind":"transfer","name":"R1"}
+{"balance":70}
+{"kind":"cancel","name":"R2"}
+{"balance":100}
+{"balance":70}
+{"balance":0,"rows":[[1,"R1","transfer",30,true,30],[2,"R2","cancel",-30,false,0]],"start":0}
 "#,
     },
     Row {

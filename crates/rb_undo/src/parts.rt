@@ -15,4 +15,21 @@ pub struct UndoParts {
     pub balance: u64,
     /// The position of what the entry cancels, or 0.
     pub target: u32,
+    /// The entry's second account, or `Place::NOWHERE`.
+    pub other: Place,
+    /// The second account's balance before the entry, in cents, or 0 where there is none.
+    pub other_balance: u64,
+}
+
+impl UndoParts {
+    /// What stands in a place for a record that has none yet: zeros, so that a list of it is set at once.
+    pub const BLANK: UndoParts = UndoParts {
+        position: 0,
+        name: OpName::Blue { site: 0, n: 0 },
+        place: Place(0),
+        balance: 0,
+        target: 0,
+        other: Place(0),
+        other_balance: 0,
+    };
 }

@@ -16,6 +16,8 @@ fn parts(position: u32) -> UndoParts
         place: Place(0),
         balance: 1000,
         target: 0,
+        other: Place(1),
+        other_balance: 500,
     }
 }
 

@@ -7,7 +7,7 @@ use Rattle.rb_money.specs.declared.refusal.Refusal.TheVariants.{RedBehind, Would
 use Rattle.rb_money.specs.declared.limits.TheConstants.{MOST_BLUE, MOST_RED, MOST_EPOCH}
 use Rattle.rb_money.specs.declared.cents.TheConstants.{MOST_CENTS}
 use Rattle.rb_shadow.specs.declared.op_name.OpName.TheVariants.{Blue, Red}
-use Rattle.rb_shadow.specs.declared.kind.Kind.TheVariants.{Deposit, Withdraw, Declined, Interest, Cancel}
+use Rattle.rb_shadow.specs.declared.kind.Kind.TheVariants.{Deposit, Withdraw, Declined, Interest, Cancel, Transfer}
 use Rattle.rb_shadow.specs.Operations.{bal, past, clock_of, is_eligible, same_shadow, names_listed}
 use Rattle.rb_shadow.specs.Sound.{fault_of}
 use Rattle.rb_scratch.specs.declared.request.Request.TheVariants.{Withdraw as AskWithdraw}
@@ -269,3 +269,9 @@ stale_token : replies_to_events (record { sites = 2; names = codes "ann" ∷ [];
     ≡ (Stale 0) ∷ []
 unfolding place bal past clock_of is_eligible same_shadow names_listed fault_of plan_of operation_of allowed made_of outcome_of outcome_of_shadow outcome_of_token outcome_of_apply outcome_of_pass made_in_batch batch_of statement_of
 stale_token = refl
+
+forged_transfers : replies_to_events (record { sites = 2; names = codes "ann" ∷ codes "bob" ∷ []; starts = (100) ∷ (0) ∷ []; limits = largest }) (first_site 1)
+    ((Receive (ShadowMessage (record { name = (Red 1); home = 0; deps = counting [] 0; account = (place 0); amount = 5; kind = (Transfer NOWHERE) }))) ∷ (Receive (ShadowMessage (record { name = (Red 1); home = 0; deps = counting [] 0; account = (place 0); amount = 5; kind = (Transfer (place 0)) }))) ∷ (Receive (ShadowMessage (record { name = (Blue 0 1); home = 0; deps = counting [] 0; account = (place 0); amount = 5; kind = (Transfer (place 1)) }))) ∷ [])
+    ≡ (Refused (BadMessage 3)) ∷ (Refused (BadMessage 3)) ∷ (Refused (BadMessage 5)) ∷ []
+unfolding place bal past clock_of is_eligible same_shadow names_listed fault_of plan_of operation_of allowed made_of outcome_of outcome_of_shadow outcome_of_token outcome_of_apply outcome_of_pass made_in_batch batch_of statement_of
+forged_transfers = refl

@@ -5,14 +5,14 @@ use Rattle.rb_money.specs.Settings.{Settings}
 use Rattle.rb_money.specs.declared.place.Place.{Place}
 use Rattle.rb_money.specs.declared.place.TheConstants.Place.{NOWHERE}
 use Rattle.rb_money.specs.declared.refusal.Cause.TheVariants.{Declined as DeclinedCause, Refused as RefusedCause}
-use Rattle.rb_money.specs.declared.refusal.Refusal.TheVariants.{UnknownAccount, BadAmount, BadRate, UnknownOperation, NotCancellable, AlreadyCancelled, NumbersExhausted, NeedToken, RedBehind, WouldOverdraw, DeltaTooLarge, BadBatch, BatchRefused, NotHeld, NotReady, InboxFull, NoMessage, NoSite, NotYours, PositionBeyond, HistoryFull}
+use Rattle.rb_money.specs.declared.refusal.Refusal.TheVariants.{UnknownAccount, BadAmount, BadRate, UnknownOperation, NotCancellable, AlreadyCancelled, NumbersExhausted, NeedToken, RedBehind, WouldOverdraw, DeltaTooLarge, BadBatch, BatchRefused, NotHeld, NotReady, InboxFull, NoMessage, NoSite, NotYours, PositionBeyond, HistoryFull, SameAccount}
 use Rattle.rb_money.specs.declared.cents.TheConstants.{MOST_CENTS}
 use Rattle.rb_money.specs.declared.rate.TheConstants.{MOST_RATE}
 use Rattle.rb_shadow.specs.declared.op_name.OpName.TheVariants.{Blue, Red}
 use Rattle.rb_shadow.specs.Operations.{bal, past, clock_of, is_eligible, same_shadow, names_listed}
 use Rattle.rb_shadow.specs.Sound.{fault_of}
-use Rattle.rb_scratch.specs.declared.request.Request.TheVariants.{Deposit as AskDeposit, Withdraw as AskWithdraw, Interest as AskInterest, Cancel as AskCancel}
-use Rattle.rb_shadow.specs.declared.label.Label.TheVariants.{Deposit as DepositLabel, Withdraw as WithdrawLabel, Declined as DeclinedLabel, Interest as InterestLabel, Cancel as CancelLabel}
+use Rattle.rb_scratch.specs.declared.request.Request.TheVariants.{Deposit as AskDeposit, Withdraw as AskWithdraw, Interest as AskInterest, Cancel as AskCancel, Transfer as AskTransfer}
+use Rattle.rb_shadow.specs.declared.label.Label.TheVariants.{Deposit as DepositLabel, Withdraw as WithdrawLabel, Declined as DeclinedLabel, Interest as InterestLabel, Cancel as CancelLabel, Transfer as TransferLabel}
 use Rattle.rb_site.specs.declared.event.Event.TheVariants.{Submit, Batch, Apply, Pass, Balance, AsOf, Statement as AskStatement}
 use Rattle.rb_site.specs.declared.reply.Reply.{Reply}
 use Rattle.rb_site.specs.declared.reply.Reply.TheVariants.{Made, Names as NamesMade, Held, Already, Taken, Stale, Applied, Passed, Balance as BalanceIs, Statement as StatementIs, Refused}
@@ -204,3 +204,21 @@ unrecorded_refusals : replies_of_run (record { sites = 2; names = codes "ann" �
     ≡ (Refused NoMessage) ∷ (Refused NoMessage) ∷ (Refused NoSite) ∷ (Refused NoSite) ∷ (BalanceIs 0) ∷ (Refused HistoryFull) ∷ []
 unfolding place bal past clock_of is_eligible same_shadow names_listed fault_of plan_of operation_of allowed made_of outcome_of outcome_of_shadow outcome_of_token outcome_of_apply outcome_of_pass made_in_batch batch_of statement_of
 unrecorded_refusals = refl
+
+transfer_and_cancel : replies_of_run (record { sites = 2; names = codes "ann" ∷ codes "bob" ∷ []; starts = (100) ∷ (0) ∷ []; limits = largest })
+    ((At 0 (Submit (AskTransfer (place 0) (place 1) 30))) ∷ (At 0 (Balance (place 0))) ∷ (At 0 (Submit (AskCancel (Red 1)))) ∷ (At 0 (Balance (place 0))) ∷ (At 0 (AsOf (place 0) 1)) ∷ (At 0 (AskStatement (place 1))) ∷ [])
+    ≡ (Made (Red 1) TransferLabel) ∷ (BalanceIs 70) ∷ (Made (Red 2) CancelLabel) ∷ (BalanceIs 100) ∷ (BalanceIs 70) ∷ (StatementIs (record { start = 0; rows = (record { position = 1; name = (Red 1); kind = TransferLabel; moved = (pos 30); cancelled = true; balance = 30 }) ∷ (record { position = 2; name = (Red 2); kind = CancelLabel; moved = (negsuc 29); cancelled = false; balance = 0 }) ∷ []; balance = 0 })) ∷ []
+unfolding place bal past clock_of is_eligible same_shadow names_listed fault_of plan_of operation_of allowed made_of outcome_of outcome_of_shadow outcome_of_token outcome_of_apply outcome_of_pass made_in_batch batch_of statement_of
+transfer_and_cancel = refl
+
+spent_transfer_stays : replies_of_run (record { sites = 2; names = codes "ann" ∷ codes "bob" ∷ []; starts = (100) ∷ (0) ∷ []; limits = largest })
+    ((At 0 (Submit (AskTransfer (place 0) (place 1) 30))) ∷ (At 0 (Submit (AskWithdraw (place 1) 10))) ∷ (At 0 (Submit (AskCancel (Red 1)))) ∷ (At 0 (Balance (place 1))) ∷ [])
+    ≡ (Made (Red 1) TransferLabel) ∷ (Made (Red 2) WithdrawLabel) ∷ (Refused WouldOverdraw) ∷ (BalanceIs 20) ∷ []
+unfolding place bal past clock_of is_eligible same_shadow names_listed fault_of plan_of operation_of allowed made_of outcome_of outcome_of_shadow outcome_of_token outcome_of_apply outcome_of_pass made_in_batch batch_of statement_of
+spent_transfer_stays = refl
+
+refused_transfers : replies_of_run (record { sites = 2; names = codes "ann" ∷ codes "bob" ∷ []; starts = (100) ∷ (0) ∷ []; limits = largest })
+    ((At 0 (Submit (AskTransfer NOWHERE NOWHERE 0))) ∷ (At 0 (Submit (AskTransfer (place 0) NOWHERE 0))) ∷ (At 0 (Submit (AskTransfer (place 0) (place 0) 0))) ∷ (At 0 (Submit (AskTransfer (place 0) (place 0) 5))) ∷ (At 0 (Submit (AskTransfer (place 0) (place 1) 101))) ∷ (At 1 (Submit (AskTransfer (place 0) (place 1) 5))) ∷ (At 0 (Batch ((AskTransfer (place 0) (place 1) 40) ∷ (AskTransfer (place 1) (place 0) 41) ∷ []))) ∷ (At 0 (Balance (place 0))) ∷ [])
+    ≡ (Refused UnknownAccount) ∷ (Refused UnknownAccount) ∷ (Refused BadAmount) ∷ (Refused SameAccount) ∷ (Made (Blue 0 1) DeclinedLabel) ∷ (Refused NeedToken) ∷ (Refused (BatchRefused 1 DeclinedCause)) ∷ (BalanceIs 100) ∷ []
+unfolding place bal past clock_of is_eligible same_shadow names_listed fault_of plan_of operation_of allowed made_of outcome_of outcome_of_shadow outcome_of_token outcome_of_apply outcome_of_pass made_in_batch batch_of statement_of
+refused_transfers = refl

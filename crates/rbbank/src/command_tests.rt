@@ -36,6 +36,10 @@ fn cancel(n: u32) -> Request {
     }
 }
 
+fn transfer(from: Place, to: Place, amount: u64) -> Request {
+    Request::Transfer { from, to, amount }
+}
+
 #[test]
 fn requests(rt: HostRuntime) -> Result<(), Fail> {
     let config = read_config(rt.alloc(), TWO_ACCOUNTS)?;
@@ -83,6 +87,21 @@ fn requests(rt: HostRuntime) -> Result<(), Fail> {
         ),
         ("{\"cancel\":\"R1\",\"site\":7}", 7, cancel(1)),
         (
+            "{\"site\":0,\"transfer\":[\"ann\",\"bob\",30]}",
+            0,
+            transfer(Place(0), Place(1), 30),
+        ),
+        (
+            "{\"transfer\":[\"bob\",\"eve\",18446744073709551615],\"site\":1}",
+            1,
+            transfer(Place(1), Place::NOWHERE, 18446744073709551615),
+        ),
+        (
+            "{\"site\": 1, \"transfer\": [\"eve\", \"\\u0061nn\", 0]}",
+            1,
+            transfer(Place::NOWHERE, Place(0), 0),
+        ),
+        (
             "{\"deposit\":[\"eve\",18446744073709551615],\"site\":255}",
             255,
             deposit(Place::NOWHERE, 18446744073709551615),
@@ -106,12 +125,13 @@ fn batched(alloc: Global, config: &Config, line: &str) -> Option<(u8, List<Reque
 fn batches(rt: HostRuntime) -> Result<(), Fail> {
     let config = read_config(rt.alloc(), TWO_ACCOUNTS)?;
     let line =
-        "{\"batch\":[{\"deposit\":[\"ann\",50]},{\"withdraw\":[\"bob\",80]},{\"interest\":[\"eve\",1]},{\"cancel\":\"R1\"}],\"site\":1}";
+        "{\"batch\":[{\"deposit\":[\"ann\",50]},{\"withdraw\":[\"bob\",80]},{\"interest\":[\"eve\",1]},{\"transfer\":[\"bob\",\"ann\",9]},{\"cancel\":\"R1\"}],\"site\":1}";
     let (site, asked) = batched(rt.alloc(), &config, line).ok_or("no batch")?;
     let requests = [
         deposit(Place(0), 50),
         withdraw(Place(1), 80),
         interest(Place::NOWHERE, 1),
+        transfer(Place(1), Place(0), 9),
         cancel(1),
     ];
     assert_eq!(rt; site, 1);
@@ -210,6 +230,12 @@ fn bad_commands(rt: HostRuntime) -> Result<(), Fail> {
         "{\"apply\":\"B00.1\",\"site\":0}",
         "{\"cancel\":\"r1\",\"site\":0}",
         "{\"lend\":[\"ann\",1],\"site\":0}",
+        "{\"site\":0,\"transfer\":[\"ann\",\"bob\"]}",
+        "{\"site\":0,\"transfer\":[\"ann\",\"bob\",1,2]}",
+        "{\"site\":0,\"transfer\":[\"ann\",1,\"bob\"]}",
+        "{\"site\":0,\"transfer\":[\"ann\",\"bob\",1.0]}",
+        "{\"site\":0,\"transfer\":[\"ann\",\"bob\",18446744073709551616]}",
+        "{\"site\":0,\"transfer\":[\"ann\",\"bob\",1]}}",
         "{\"token\":[1,1,0],\"site\":1}",
         "{\"shadow\":{\"account\":\"ann\",\"amount\":500,\"deps\":[[0,0,0,0,0,0,0,0],0],\"home\":0,\"kind\":\"deposit\",\"name\":\"B0.1\"},\"site\":1}",
     ] {

@@ -67,7 +67,17 @@ fn asked_events(rt: HostRuntime) -> Result<(), Fail> {
         rate: 4294967295,
     };
     let cancel = Request::Cancel { target: RED };
-    let some = List::new(Vec::from_slice(rt.alloc(), &[deposit, cancel])?);
+    let transfer = Request::Transfer {
+        from: BOB,
+        to: ANN,
+        amount: 70,
+    };
+    let nowhere = Request::Transfer {
+        from: ANN,
+        to: Place::NOWHERE,
+        amount: 18446744073709551615,
+    };
+    let some = List::new(Vec::from_slice(rt.alloc(), &[deposit, transfer, cancel])?);
     let none = List::new(Vec::new(rt.alloc()));
     for (text, event) in [
         ("{\"deposit\":[\"ann\",500]}", Event::Submit(deposit)),
@@ -78,7 +88,15 @@ fn asked_events(rt: HostRuntime) -> Result<(), Fail> {
         ("{\"interest\":[\"?\",4294967295]}", Event::Submit(interest)),
         ("{\"cancel\":\"R1\"}", Event::Submit(cancel)),
         (
-            "{\"batch\":[{\"deposit\":[\"ann\",500]},{\"cancel\":\"R1\"}]}",
+            "{\"transfer\":[\"bob\",\"ann\",70]}",
+            Event::Submit(transfer),
+        ),
+        (
+            "{\"transfer\":[\"ann\",\"?\",18446744073709551615]}",
+            Event::Submit(nowhere),
+        ),
+        (
+            "{\"batch\":[{\"deposit\":[\"ann\",500]},{\"transfer\":[\"bob\",\"ann\",70]},{\"cancel\":\"R1\"}]}",
             Event::Batch(some),
         ),
         ("{\"batch\":[]}", Event::Batch(none)),
@@ -129,6 +147,14 @@ fn received_shadows(rt: HostRuntime) -> Result<(), Fail> {
             shadow(BLUE, 3, Kind::Interest),
         ),
         (
+            "{\"shadow\":{\"account\":\"ann\",\"amount\":4,\"deps\":[[0,0,0,0,0,0,0,0],0],\"home\":0,\"kind\":\"transfer\",\"name\":\"R1\",\"to\":\"bob\"}}",
+            shadow(RED, 4, Kind::Transfer { to: BOB }),
+        ),
+        (
+            "{\"shadow\":{\"account\":\"ann\",\"amount\":5,\"deps\":[[0,0,0,0,0,0,0,0],0],\"home\":0,\"kind\":\"transfer\",\"name\":\"B0.1\",\"to\":\"?\"}}",
+            shadow(BLUE, 5, Kind::Transfer { to: Place::NOWHERE }),
+        ),
+        (
             "{\"shadow\":{\"account\":\"?\",\"amount\":300,\"deps\":[[1,2,3,4,5,6,7,4294967295],1],\"home\":1,\"kind\":\"cancel\",\"name\":\"B1.1\",\"target\":\"R1\"}}",
             Message::Shadow(Shadow {
                 name: OpName::Blue { site: 1, n: 1 },
@@ -164,6 +190,10 @@ fn answers(rt: HostRuntime) -> Result<(), Fail> {
         name: BLUE,
         kind: Label::Deposit,
     };
+    let moved = Reply::Made {
+        name: RED,
+        kind: Label::Transfer,
+    };
     let names = List::new(Vec::from_slice(rt.alloc(), &[BLUE, RED])?);
     let row = Row {
         position: 2,
@@ -176,7 +206,7 @@ fn answers(rt: HostRuntime) -> Result<(), Fail> {
     let kept = Row {
         position: 3,
         name: BLUE,
-        kind: Label::Withdraw,
+        kind: Label::Transfer,
         moved: 9223372036854775807,
         cancelled: false,
         balance: 0,
@@ -188,6 +218,7 @@ fn answers(rt: HostRuntime) -> Result<(), Fail> {
     };
     for (text, reply) in [
         ("{\"kind\":\"deposit\",\"name\":\"B0.1\"}", made),
+        ("{\"kind\":\"transfer\",\"name\":\"R1\"}", moved),
         ("{\"names\":[\"B0.1\",\"R1\"]}", Reply::Names(names)),
         ("{\"held\":\"B0.1\"}", Reply::Held(BLUE)),
         ("{\"already\":\"B0.1\"}", Reply::Already(BLUE)),
@@ -197,7 +228,7 @@ fn answers(rt: HostRuntime) -> Result<(), Fail> {
         ("{\"passed\":4294967295}", Reply::Passed(4294967295)),
         ("{\"balance\":500}", Reply::Balance(500)),
         (
-            "{\"balance\":10,\"rows\":[[2,\"R1\",\"cancel\",-9223372036854775808,true,10],[3,\"B0.1\",\"withdraw\",9223372036854775807,false,0]],\"start\":0}",
+            "{\"balance\":10,\"rows\":[[2,\"R1\",\"cancel\",-9223372036854775808,true,10],[3,\"B0.1\",\"transfer\",9223372036854775807,false,0]],\"start\":0}",
             Reply::Statement(shown),
         ),
     ] {
@@ -323,7 +354,11 @@ fn bad_events(rt: HostRuntime) -> Result<(), Fail> {
         "{}",
         "[]",
         "{\"deliver\":1}",
-        "{\"transfer\":[\"ann\",\"bob\",5]}",
+        "{\"transfer\":[\"ann\",5]}",
+        "{\"transfer\":[\"ann\",\"bob\",5,6]}",
+        "{\"transfer\":[\"ann\",\"bob\",\"5\"]}",
+        "{\"transfer\":[\"ann\",5,\"bob\"]}",
+        "{\"transfer\":[\"ann\",\"bob\",18446744073709551616]}",
         "{\"deposit\":[\"ann\",500],\"site\":0}",
         "{\"deposit\":[\"ann\",18446744073709551616]}",
         "{\"deposit\":[\"ann\",-1]}",
@@ -338,7 +373,12 @@ fn bad_events(rt: HostRuntime) -> Result<(), Fail> {
         "{\"shadow\":{\"account\":\"ann\",\"amount\":5,\"deps\":[[0,0,0,0,0,0,0],0],\"home\":0,\"kind\":\"deposit\",\"name\":\"B0.1\"}}",
         "{\"shadow\":{\"account\":\"ann\",\"amount\":5,\"deps\":[[0,0,0,0,0,0,0,0,0],0],\"home\":0,\"kind\":\"deposit\",\"name\":\"B0.1\"}}",
         "{\"shadow\":{\"account\":\"ann\",\"amount\":5,\"deps\":[[0,0,0,0,0,0,0,0],0],\"home\":256,\"kind\":\"deposit\",\"name\":\"B0.1\"}}",
-        "{\"shadow\":{\"account\":\"ann\",\"amount\":5,\"deps\":[[0,0,0,0,0,0,0,0],0],\"home\":0,\"kind\":\"transfer\",\"name\":\"B0.1\"}}",
+        "{\"shadow\":{\"account\":\"ann\",\"amount\":5,\"deps\":[[0,0,0,0,0,0,0,0],0],\"home\":0,\"kind\":\"transfer\",\"name\":\"R1\"}}",
+        "{\"shadow\":{\"account\":\"ann\",\"amount\":5,\"deps\":[[0,0,0,0,0,0,0,0],0],\"home\":0,\"kind\":\"transfer\",\"name\":\"R1\",\"target\":\"R1\"}}",
+        "{\"shadow\":{\"account\":\"ann\",\"amount\":5,\"deps\":[[0,0,0,0,0,0,0,0],0],\"home\":0,\"kind\":\"transfer\",\"name\":\"R1\",\"target\":\"R1\",\"to\":\"bob\"}}",
+        "{\"shadow\":{\"account\":\"ann\",\"amount\":5,\"deps\":[[0,0,0,0,0,0,0,0],0],\"home\":0,\"kind\":\"transfer\",\"name\":\"R1\",\"to\":1}}",
+        "{\"shadow\":{\"account\":\"ann\",\"amount\":5,\"deps\":[[0,0,0,0,0,0,0,0],0],\"home\":0,\"kind\":\"withdraw\",\"name\":\"R1\",\"to\":\"bob\"}}",
+        "{\"shadow\":{\"account\":\"ann\",\"amount\":5,\"deps\":[[0,0,0,0,0,0,0,0],0],\"home\":0,\"kind\":\"cancel\",\"name\":\"R1\",\"to\":\"bob\"}}",
         "{\"shadow\":{\"account\":\"ann\",\"amount\":5,\"deps\":[[0,0,0,0,0,0,0,0],0],\"home\":0,\"kind\":\"deposit\",\"name\":\"B0.1\",\"target\":\"R1\"}}",
         "{\"shadow\":{\"account\":\"ann\",\"amount\":5,\"deps\":[[0,0,0,0,0,0,0,0],0],\"home\":0,\"kind\":\"cancel\",\"name\":\"B0.1\"}}",
         "{\"shadow\":{\"account\":\"ann\",\"amount\":5,\"deps\":[[0,0,0,0,0,0,0,0],0],\"home\":0,\"kind\":\"deposit\",\"label\":\"B0.1\"}}",
@@ -370,7 +410,8 @@ fn bad_replies(rt: HostRuntime) -> Result<(), Fail> {
         "{\"balance\":0,\"start\":0}",
         "{\"balance\":0,\"rows\":[[1,\"R1\",\"withdraw\",9223372036854775808,true,0]],\"start\":0}",
         "{\"balance\":0,\"rows\":[[1,\"R1\",\"withdraw\",0,true]],\"start\":0}",
-        "{\"kind\":\"transfer\",\"name\":\"B0.1\"}",
+        "{\"kind\":\"lend\",\"name\":\"B0.1\"}",
+        "{\"kind\":\"transfer\",\"name\":\"R1\",\"to\":\"bob\"}",
         "{\"kind\":\"deposit\",\"name\":\"B256.1\"}",
         "{\"names\":[\"R1\",1]}",
         "{\"taken\":4294967296}",

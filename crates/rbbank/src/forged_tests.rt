@@ -10,8 +10,8 @@ use rb_token::TokenState;
 use std::alloc::{AllocError, Global};
 use std::test::Fail;
 
-/// What site 1 of two records, ann starting with 100 cents: messages that no site sent, and what becomes of them.
-const RUNS: [&str; 19] = [
+/// What site 1 of two records, ann starting with 100 cents and bob with none: messages that no site sent, and what becomes of them.
+const RUNS: [&str; 20] = [
     r#"{"event":{"shadow":{"account":"ann","amount":5,"deps":[[0,0,0,0,0,0,0,0],0],"home":1,"kind":"deposit","name":"B0.1"}},"reply":{"refused":17,"why":1},"site":1}"#,
     r#"{"event":{"shadow":{"account":"ann","amount":5,"deps":[[0,0,0,0,0,0,0,0],0],"home":2,"kind":"deposit","name":"B2.1"}},"reply":{"refused":17,"why":1},"site":1}"#,
     r#"{"event":{"shadow":{"account":"ann","amount":5,"deps":[[0,0,0,0,0,0,0,0],0],"home":0,"kind":"deposit","name":"B0.0"}},"reply":{"refused":17,"why":2},"site":1}"#,
@@ -49,12 +49,17 @@ const RUNS: [&str; 19] = [
     r#"{"event":{"token":[1,0,0]},"reply":{"refused":21},"site":1}"#,
     r#"{"event":{"token":[1,1,1000001]},"reply":{"refused":17,"why":2},"site":1}"#,
     r#"{"event":{"token":[0,1,0]},"reply":{"stale":0},"site":1}"#,
+    r#"{"event":{"shadow":{"account":"ann","amount":5,"deps":[[0,0,0,0,0,0,0,0],0],"home":0,"kind":"transfer","name":"R1","to":"?"}},"reply":{"refused":17,"why":3},"site":1}
+{"event":{"shadow":{"account":"ann","amount":5,"deps":[[0,0,0,0,0,0,0,0],0],"home":0,"kind":"transfer","name":"R1","to":"ann"}},"reply":{"refused":17,"why":3},"site":1}
+{"event":{"shadow":{"account":"ann","amount":5,"deps":[[0,0,0,0,0,0,0,0],0],"home":0,"kind":"transfer","name":"B0.1","to":"bob"}},"reply":{"refused":17,"why":5},"site":1}"#,
 ];
 
 fn bank(alloc: Global) -> Result<Config, Fail>
     ensures { IfOk result (λ config. config.sites ≡ 2) }
 {
-    let accounts = vec![in alloc; (String::from_str(alloc, "ann")?, 100)]?;
+    let ann = (String::from_str(alloc, "ann")?, 100);
+    let bob = (String::from_str(alloc, "bob")?, 0);
+    let accounts = vec![in alloc; ann, bob]?;
     let config = Config::new(alloc, 2, accounts, Limits::largest())?;
     Ok(config)
 }

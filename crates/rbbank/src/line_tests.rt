@@ -57,6 +57,10 @@ fn kinds(rt: HostRuntime) -> Result<(), Fail> {
             "{\"kind\":\"interest\",\"name\":\"B0.1\"}\n",
         ),
         (Label::Cancel, "{\"kind\":\"cancel\",\"name\":\"B0.1\"}\n"),
+        (
+            Label::Transfer,
+            "{\"kind\":\"transfer\",\"name\":\"B0.1\"}\n",
+        ),
     ] {
         let text = write_reply(rt.alloc(), &Reply::Made { name: FIRST, kind })?;
         assert_eq!(rt; text.as_str(), line);

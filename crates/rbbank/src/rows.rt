@@ -10,7 +10,7 @@ pub struct Row {
 }
 
 /// The rows.
-pub const ROWS: [Row; 20] = [
+pub const ROWS: [Row; 23] = [
     Row {
         name: "deposit_reaches_the_other_site",
         script: r#"{"accounts":[["ann",0]],"sites":2,"version":1}
@@ -431,6 +431,60 @@ pub const ROWS: [Row; 20] = [
         replies: r#"{"refused":20}
 {"refused":19}
 {"refused":19}
+"#,
+    },
+    Row {
+        name: "transfer_and_cancel",
+        script: r#"{"accounts":[["ann",100],["bob",0]],"sites":2,"version":1}
+{"site":0,"transfer":["ann","bob",30]}
+{"balance":"ann","site":0}
+{"cancel":"R1","site":0}
+{"balance":"ann","site":0}
+{"asof":["ann",1],"site":0}
+{"site":0,"statement":"bob"}
+"#,
+        replies: r#"{"kind":"transfer","name":"R1"}
+{"balance":70}
+{"kind":"cancel","name":"R2"}
+{"balance":100}
+{"balance":70}
+{"balance":0,"rows":[[1,"R1","transfer",30,true,30],[2,"R2","cancel",-30,false,0]],"start":0}
+"#,
+    },
+    Row {
+        name: "spent_transfer_stays",
+        script: r#"{"accounts":[["ann",100],["bob",0]],"sites":2,"version":1}
+{"site":0,"transfer":["ann","bob",30]}
+{"site":0,"withdraw":["bob",10]}
+{"cancel":"R1","site":0}
+{"balance":"bob","site":0}
+"#,
+        replies: r#"{"kind":"transfer","name":"R1"}
+{"kind":"withdraw","name":"R2"}
+{"refused":10}
+{"balance":20}
+"#,
+    },
+    Row {
+        name: "refused_transfers",
+        script: r#"{"accounts":[["ann",100],["bob",0]],"sites":2,"version":1}
+{"site":0,"transfer":["zed","zed",0]}
+{"site":0,"transfer":["ann","zed",0]}
+{"site":0,"transfer":["ann","ann",0]}
+{"site":0,"transfer":["ann","ann",5]}
+{"site":0,"transfer":["ann","bob",101]}
+{"site":1,"transfer":["ann","bob",5]}
+{"batch":[{"transfer":["ann","bob",40]},{"transfer":["bob","ann",41]}],"site":0}
+{"balance":"ann","site":0}
+"#,
+        replies: r#"{"refused":1}
+{"refused":1}
+{"refused":2}
+{"refused":24}
+{"kind":"declined","name":"B0.1"}
+{"refused":8}
+{"cause":"declined","index":1,"refused":13}
+{"balance":100}
 "#,
     },
 ];

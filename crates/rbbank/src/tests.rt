@@ -391,6 +391,7 @@ fn tail_back(rt: HostRuntime) -> Result<(), Fail> {
         "cancelled_deposit_later",
         "batch_all_or_nothing",
         "interest_stays",
+        "transfer_and_cancel",
     ] {
         let script = row(name)?.script;
         let reports = reports_of(alloc, script)?;

@@ -1,5 +1,5 @@
 -- Elements of a front of a list.
-use Rattle.std.proofs.Common.{◌≡◌, ℕ, suc, ◌+◌, ◌<◌, List, [], ◌∷◌, ◌++◌, length, take, ap, ◌∙◌, add-one, zero, refl, arith, Some}
+use Rattle.std.proofs.Common.{◌≡◌, ℕ, suc, ◌+◌, ◌<◌, ◌≤◌, List, [], ◌∷◌, ◌++◌, length, take, ap, ◌∙◌, add-one, zero, refl, arith, Some}
 use Rattle.std.specs.Prelude.{slice_get}
 use Rattle.std.proofs.lemmas.Option.{slice_get_within, get_or_from_slice_get}
 use Rattle.std.proofs.Math.Seq.{take-suc}
@@ -19,3 +19,10 @@ get_take zero xs i z e = cc
 get_take (suc n) [] i z e = cc
 get_take (suc n) (x ∷ xs) zero z e = (omega arith, e)
 get_take (suc n) (x ∷ xs) (suc i) z e = let r : (i < n) × (slice_get xs i ≡ Some z) = get_take n xs i z e in (omega arith, r.1)
+
+-- a front of a front
+pub take_take : {X : Type 0} (xs : List X) (i n : ℕ) → i ≤ n → take i (take n xs) ≡ take i xs
+take_take xs zero n low = refl
+take_take xs (suc i) zero low = absurd (omega arith)
+take_take [] (suc i) (suc n) low = refl
+take_take (x ∷ xs) (suc i) (suc n) low = ap (λ ys. x ∷ ys) (take_take xs i n (omega arith))

@@ -6,7 +6,7 @@ use Rattle.rb_money.specs.declared.place.Place.{Place}
 use Rattle.rb_shadow.specs.declared.op_name.OpName.{OpName}
 use Rattle.rb_shadow.specs.declared.op_name.OpName.TheVariants.{Blue, Red}
 use Rattle.rb_shadow.specs.declared.kind.Kind.{Kind}
-use Rattle.rb_shadow.specs.declared.kind.Kind.TheVariants.{Deposit, Withdraw, Cancel}
+use Rattle.rb_shadow.specs.declared.kind.Kind.TheVariants.{Deposit, Withdraw, Cancel, Transfer}
 use Rattle.rb_shadow.specs.declared.colour.Colour.{Colour}
 use Rattle.rb_shadow.specs.declared.colour.Colour.TheVariants.{Red as RedColour}
 use Rattle.rb_shadow.specs.declared.shadow.Shadow.{Shadow}
@@ -15,7 +15,7 @@ use Rattle.rb_shadow.specs.Laws.{IsPart}
 use Rattle.rb_shadow.specs.Sound.{IsSound}
 use Rattle.rb_shadow.proofs.Public.Members
 use Rattle.rb_shadow.proofs.Public.Balances
-use Rattle.rb_shadow.proofs.Public.Covered.{IsCovered, adds, is_withdraw}
+use Rattle.rb_shadow.proofs.Public.Covered.{IsCovered, adds, takes}
 use Rattle.rb_ledger.specs.Valid.{HasTarget, IsValid}
 use Rattle.rb_ledger.specs.Checks.{refusal_after, refusal_of_sound}
 use Rattle.rb_ledger.proofs.Public.Legal
@@ -94,8 +94,9 @@ is_red-shown (Red n) c e k = refl
 -- ---- the money
 
 -- what takes is red
-takes_red : (k : Kind) (t : Option Kind) → is_withdraw k ≡ true → colour_of k t ≡ RedColour
+takes_red : (k : Kind) (t : Option Kind) → takes k ≡ true → colour_of k t ≡ RedColour
 takes_red Withdraw t h = refl
+takes_red (Transfer to) t h = refl
 takes_red k t h = cc
 
 -- what takes back what was added is red
@@ -104,12 +105,13 @@ undoes_red us u (Cancel x) unique there h a = ap (colour_of (Cancel x)) (ap (kin
   where
     red : (k : Kind) → adds k ≡ true → colour_of (Cancel x) (Some k) ≡ RedColour
     red Deposit a = refl
+    red (Transfer to) a = refl
     red k a = cc
 undoes_red us u k unique there h a = cc
 
 pub is_covered : (s : Settings) (all : List Shadow) → IsUnique all → HaveValidPasts s all → IsCovered s all
 is_covered s all unique pasts = record {
-  withdraw_red = λ u h e. is_red-shown u.name (colour_in all u) (shown s all u unique (pasts u h)) (takes_red u.kind _ e);
+  taken_red = λ u h e. is_red-shown u.name (colour_in all u) (shown s all u unique (pasts u h)) (takes_red u.kind _ e);
   cancel_red = λ u c h k e a. is_red-shown c.name (colour_in all c) (shown s all c unique (pasts c k)) (undoes_red all u c.kind unique h e a);
   checked = λ r h red. let p = pasts r h in (p.before, p.part, unique_past s all r p, p.is_past, λ a. Legal.covers s (p.before ++ r ∷ []) a p.valid);
 }
@@ -135,5 +137,5 @@ passes s all us v unique p uu part fresh within money = sym (ap (refusal_after s
       eligible = within;
       target = target_more p.before us v (target_of v.kind) inside f.target;
       colour = f.colour ∙ colour_more p.before us v v.kind (unique_past s all v p) uu inside f.target;
-      covered = money v.account;
+      covered = money;
     }

@@ -1,6 +1,6 @@
 -- What a request makes at a valid list may follow it.
-use Rattle.std.proofs.Common.{◌≡◌, ℕ, ◌+◌, ◌<◌, ◌≤◌, Bool, true, false, cond, not, ◌&&◌, ◌||◌, List, [], ◌∷◌, ◌++◌, length, refl, ap, sym, ◌∙◌, arith, subst, Option, Some, None, Ok}
-use Rattle.std.specs.Prelude.{pos, neg_ℤ, ◌+ℤ◌, ◌≤ℤ◌, nat_le, nat_lt, ◌==◌, option_and_then}
+use Rattle.std.proofs.Common.{◌≡◌, ℕ, ◌+◌, ◌<◌, ◌≤◌, Bool, true, false, cond, not, ◌&&◌, ◌||◌, List, [], ◌∷◌, ◌++◌, length, refl, ap, sym, ◌∙◌, arith, subst, Option, Some, None, Ok, inl, inr}
+use Rattle.std.specs.Prelude.{pos, neg_ℤ, ◌+ℤ◌, ◌≤ℤ◌, nat_le, nat_lt, ◌==◌, option_and_then, is_some}
 use Rattle.std.proofs.Math.Bool.{and-false}
 use Rattle.std.proofs.lemmas.Int.{ints}
 use Rattle.std.proofs.lemmas.Bool.Decides.{nat_tests}
@@ -13,19 +13,19 @@ use Rattle.rb_shadow.specs.declared.shadow.Shadow.{Shadow}
 use Rattle.rb_shadow.specs.declared.op_name.OpName.{OpName}
 use Rattle.rb_shadow.specs.declared.op_name.OpName.TheVariants.{Blue, Red}
 use Rattle.rb_shadow.specs.declared.kind.Kind.{Kind}
-use Rattle.rb_shadow.specs.declared.kind.Kind.TheVariants.{Withdraw, Interest, Cancel}
+use Rattle.rb_shadow.specs.declared.kind.Kind.TheVariants.{Withdraw, Interest, Cancel, Transfer}
 use Rattle.rb_shadow.specs.declared.colour.Colour.{Colour}
 use Rattle.rb_shadow.specs.declared.colour.Colour.TheVariants.{Blue as BlueColour, Red as RedColour}
-use Rattle.rb_shadow.specs.Operations.{names, past, IsWithin, is_eligible, colour_in, number_of, entry_of, red_count, blue_count, clock_of, colour_of, shown_colour, kind_in, target_of, is_cancel, is_cancelled, bal, find_in, delta, moved, same_colour}
-use Rattle.rb_shadow.specs.Sound.{fault_of, IsSound, is_absent, is_foreign, limit_of, may_be_nothing, is_miscoloured, is_unseen}
+use Rattle.rb_shadow.specs.Operations.{names, past, IsWithin, is_eligible, colour_in, number_of, entry_of, red_count, blue_count, clock_of, colour_of, shown_colour, kind_in, target_of, is_cancel, is_cancelled, bal, find_in, delta, moved, same_colour, receiver_of, other_of, other_by, arrived, is_on, accounts_on}
+use Rattle.rb_shadow.specs.Sound.{fault_of, IsSound, is_absent, is_foreign, limit_of, may_be_nothing, is_miscoloured, is_unseen, is_misdirected}
 use Rattle.rb_shadow.proofs.Public.Members
 use Rattle.rb_shadow.proofs.Public.Clocks
 use Rattle.rb_shadow.proofs.Public.SoundFacts
 use Rattle.rb_ledger.specs.Valid.{IsValid, HasTarget}
-use Rattle.rb_ledger.specs.Checks.{overdraws, refusal_of, refusal_after, has_wrong_target}
+use Rattle.rb_ledger.specs.Checks.{is_negative, overdraws, refusal_of, refusal_after, has_wrong_target}
 use Rattle.rb_money.specs.declared.refusal.Refusal.TheVariants.{WouldOverdraw}
 use Rattle.rb_money.specs.declared.cents.TheConstants.{MOST_CENTS}
-use Rattle.rb_money.proofs.Public.Tests.{number_same}
+use Rattle.rb_money.proofs.Public.Tests.{equal, number_same, unequal}
 use Rattle.rb_shadow.proofs.Public.Eligible
 use Rattle.rb_ledger.proofs.Public.Legal
 use Rattle.rb_ledger.proofs.Public.Pushes
@@ -38,6 +38,7 @@ use Rattle.rb_scratch.proofs.Public.Made.{IsAllowed, IsMadeAt}
 use Rattle.rb_scratch.proofs.Planned
 use Rattle.rb_scratch.proofs.Planned.{Cancels, IsPlanned}
 use Rattle.rb_scratch.proofs.Public.Tokens.{shows, enough}
+use Rattle.rb_ledger.proofs.Public.OnAccount
 
 -- what a plan makes at a site that applied us
 abbrev pub shadow_of : ℕ → List Shadow → Plan → Shadow
@@ -50,6 +51,7 @@ operation_is me us p = refl
 -- what a plan has to meet, but for the money
 pub record IsFit (s : Settings) (me : ℕ) (us : List Shadow) (p : Plan) : Type 0 where
   pub account : nat_le (length s.starts) p.account.0 ≡ false
+  pub receiver : is_misdirected (length s.starts) p.account (receiver_of p.kind) ≡ false
   pub amount : nat_lt MOST_CENTS p.amount ≡ false
   pub something : (p.amount == 0 && not (may_be_nothing p.kind)) ≡ false
   pub target : HasTarget us (shadow_of me us p) (target_of p.kind)
@@ -96,7 +98,7 @@ unfolding fault_of
 plan_sound s me us p few here valid fit =
     on _ 1 _ (Members.false-or _ _ (within s.sites me here) (own_name me us (colour_of_plan us p)))
     (on _ 2 _ (numbered s me us (colour_of_plan us p) fit.within)
-    (on _ 3 _ fit.account
+    (on _ 3 _ (Members.false-or _ _ fit.account fit.receiver)
     (on _ 4 _ (Members.false-or _ _ fit.amount fit.something)
     (on _ 5 _ (well_coloured me us p.kind (option_and_then (kind_in us) (target_of p.kind)))
     (on _ 6 _ (all_seen s us (shadow_of me us p) (target_of p.kind) few valid fit.target)
@@ -118,14 +120,14 @@ fresh_name s me us RedColour valid = ValidClocks.valid_counted s us valid (Red (
 seen_past : (s : Settings) (me : ℕ) (us : List Shadow) (p : Plan) → s.sites ≤ MOST_SITES → IsValid s us → IsWithin (past (shadow_of me us p)) (names us)
 seen_past s me us p few valid x h = sym (ValidClocks.clock_past s us (shadow_of me us p) few valid refl x) ∙ h
 
-pub plan_follows : (s : Settings) (me : ℕ) (us : List Shadow) (p : Plan) → s.sites ≤ MOST_SITES → me < s.sites → IsValid s us → IsFit s me us p → pos 0 ≤ℤ bal s (us ++ shadow_of me us p ∷ []) p.account → Legal.MayFollow s us (shadow_of me us p)
+pub plan_follows : (s : Settings) (me : ℕ) (us : List Shadow) (p : Plan) → s.sites ≤ MOST_SITES → me < s.sites → IsValid s us → IsFit s me us p → ((a : Place) → is_on us (shadow_of me us p) a ≡ true → pos 0 ≤ℤ bal s (us ++ shadow_of me us p ∷ []) a) → Legal.MayFollow s us (shadow_of me us p)
 plan_follows s me us p few here valid fit covered = record {
   sound = plan_sound s me us p few here valid fit;
   fresh = fresh_name s me us (colour_of_plan us p) valid;
   eligible = seen_past s me us p few valid;
   target = fit.target;
   colour = shows me us (colour_of_plan us p);
-  covered = covered;
+  covered = Legal.covered_all s us (shadow_of me us p) valid (fresh_name s me us (colour_of_plan us p) valid) fit.target covered;
 }
 
 -- what a plan makes isn't cancelled
@@ -151,22 +153,31 @@ not_overdrawn s me us token v RedColour e fair = fair.2
 
 -- a plan of the kind, for an account and an amount of the configuration
 fit_plain : (s : Settings) (me : ℕ) (us : List Shadow) (p : Plan) (k : Kind) → p.kind ≡ k
-    → is_account s p.account ≡ true → nat_lt MOST_CENTS p.amount ≡ false → (p.amount == 0 && not (may_be_nothing k)) ≡ false → HasTarget us (shadow_of me us p) (target_of k)
+    → is_account s p.account ≡ true → is_misdirected (length s.starts) p.account (receiver_of k) ≡ false → nat_lt MOST_CENTS p.amount ≡ false → (p.amount == 0 && not (may_be_nothing k)) ≡ false → HasTarget us (shadow_of me us p) (target_of k)
     → number_of (next_name me us (colour_of_plan us p)) ≤ limit_of s.limits (next_name me us (colour_of_plan us p))
     → IsFit s me us p
-fit_plain s me us p k e known low some target within = record {
+fit_plain s me us p k e known right low some target within = record {
   account = housed p.account.0 (length s.starts) known;
+  receiver = ap (λ j. is_misdirected (length s.starts) p.account (receiver_of j)) e ∙ right;
   amount = low;
   something = ap (λ j. p.amount == 0 && not (may_be_nothing j)) e ∙ some;
   target = subst (λ j. HasTarget us (shadow_of me us p) (target_of j)) (sym e) target;
   within = within;
 }
 
+turned : (m n : ℕ) → (m == n) ≡ false → (n == m) ≡ false
+turned m n e = unequal n m (λ k. Members.true≢false (sym (equal m n (sym k)) ∙ e))
+
+-- an account of the configuration, other than the own one
+pub directed : (s : Settings) (p : Plan) (to : Place) → is_account s to ≡ true → (p.account.0 == to.0) ≡ false → is_misdirected (length s.starts) p.account (Some to) ≡ false
+directed s p to known apart = Members.false-or _ _ (housed to.0 (length s.starts) known) (turned p.account.0 to.0 apart)
+
 fit_cancel : (s : Settings) (me : ℕ) (us : List Shadow) (p : Plan) (x : OpName) → IsValid s us → p.kind ≡ Cancel x → (c : Cancels us x p)
     → number_of (next_name me us (colour_of_plan us p)) ≤ limit_of s.limits (next_name me us (colour_of_plan us p))
     → IsFit s me us p
 fit_cancel s me us p x valid e c within = record {
   account = ap (λ (a : Place). nat_le (length s.starts) a.0) (sym c.account) ∙ facts.account;
+  receiver = ap (λ j. is_misdirected (length s.starts) p.account (receiver_of j)) e;
   amount = ap (nat_lt MOST_CENTS) (sym c.amount) ∙ facts.amount;
   something = ap (λ j. p.amount == 0 && not (may_be_nothing j)) e ∙ and-false (p.amount == 0);
   target = subst (λ j. HasTarget us (shadow_of me us p) (target_of j)) (sym e) (c.target, c.there, c.named, record { kind = c.kind; account = c.account; amount = c.amount });
@@ -180,10 +191,11 @@ fit_cancel s me us p x valid e c within = record {
 fit : (s : Settings) (me : ℕ) (us : List Shadow) (p : Plan) (k : Kind) → IsValid s us → p.kind ≡ k → IsPlanned s us p k
     → number_of (next_name me us (colour_of_plan us p)) ≤ limit_of s.limits (next_name me us (colour_of_plan us p))
     → IsFit s me us p
-fit s me us p Withdraw valid e h within = let m = measure p.amount true h.0.amount in fit_plain s me us p Withdraw e h.0.account m.0 m.1 tt within
-fit s me us p Interest valid e h within = fit_plain s me us p Interest e h.0 h.1 (and-false (p.amount == 0)) tt within
+fit s me us p Withdraw valid e h within = let m = measure p.amount true h.0.amount in fit_plain s me us p Withdraw e h.0.account refl m.0 m.1 tt within
+fit s me us p Interest valid e h within = fit_plain s me us p Interest e h.0 refl h.1 (and-false (p.amount == 0)) tt within
 fit s me us p (Cancel x) valid e h within = fit_cancel s me us p x valid e h within
-fit s me us p k valid e h within = let m = measure p.amount true h.amount in fit_plain s me us p k e h.account m.0 m.1 tt within
+fit s me us p (Transfer to) valid e (ask, enough, known, apart) within = let m = measure p.amount true ask.amount in fit_plain s me us p (Transfer to) e ask.account (directed s p to known apart) m.0 m.1 tt within
+fit s me us p k valid e h within = let m = measure p.amount true h.amount in fit_plain s me us p k e h.account refl m.0 m.1 tt within
 
 -- ---- the money
 
@@ -194,8 +206,8 @@ covered_plain s me us p k valid e plain ok =
 
 covered_cancel : (s : Settings) (me : ℕ) (us : List Shadow) (token : Token) (p : Plan) (x : OpName) → IsValid s us → p.kind ≡ Cancel x → (c : Cancels us x p) → HasTarget us (shadow_of me us p) (target_of p.kind)
     → IsAllowed s us token (shadow_of me us p) (next_name me us (colour_of_plan us p))
-    → pos 0 ≤ℤ bal s (us ++ shadow_of me us p ∷ []) p.account
-covered_cancel s me us token p x valid e c target fair = at (colour_of_plan us p) refl
+    → (a : Place) → is_on us (shadow_of me us p) a ≡ true → pos 0 ≤ℤ bal s (us ++ shadow_of me us p ∷ []) a
+covered_cancel s me us token p x valid e c target fair a side = at (colour_of_plan us p) refl
   where
     found : find_in us x ≡ Some c.target
     found = ap (find_in us) (sym c.named) ∙ Pushes.finds us c.target valid.unique c.there
@@ -207,23 +219,60 @@ covered_cancel s me us token p x valid e c target fair = at (colour_of_plan us p
     second true c q r = r
     second false c q r = cc
 
-    at : (d : Colour) → colour_of_plan us p ≡ d → pos 0 ≤ℤ bal s (us ++ shadow_of me us p ∷ []) p.account
-    at RedColour q = Legal.covers_nothing _ (Members.or-false _ _ (second (is_cancel p.kind) (overdraws s us (shadow_of me us p)) (ap is_cancel e) (not_overdrawn s me us token (shadow_of me us p) (colour_of_plan us p) q fair))).0
+    -- what is cancelled by a blue one has no second account
+    alone : colour_of (Cancel x) (Some c.target.kind) ≡ BlueColour → other_of us (shadow_of me us p) ≡ Some a → ⊥
+    alone q k = none c.target.kind q (sym (ap (option_and_then receiver_of) kind_is) ∙ sym (ap (λ j. other_by us j (target_of j)) e) ∙ k)
+      where
+        none : (k : Kind) → colour_of (Cancel x) (Some k) ≡ BlueColour → receiver_of k ≡ Some a → ⊥
+        none Withdraw q h = cc
+        none _ q h = cc
+
+    at : (d : Colour) → colour_of_plan us p ≡ d → pos 0 ≤ℤ bal s (us ++ shadow_of me us p ∷ []) a
+    at RedColour q =
+        let none : overdraws s us (shadow_of me us p) ≡ false = second (is_cancel p.kind) (overdraws s us (shadow_of me us p)) (ap is_cancel e) (not_overdrawn s me us token (shadow_of me us p) (colour_of_plan us p) q fair) in
+        Legal.covers_nothing _ (Legal.none_of (λ (b : Place). is_negative (bal s (us ++ shadow_of me us p ∷ []) b)) (accounts_on us (shadow_of me us p)) a none side)
     at BlueColour q =
         let coloured : colour_of (Cancel x) (Some c.target.kind) ≡ BlueColour = ap (colour_of (Cancel x)) (sym kind_is) ∙ ap (λ j. colour_of j (option_and_then (kind_in us) (target_of j))) (sym e) ∙ q in
         let gives : pos 0 ≤ℤ neg_ℤ (moved c.target.kind p.amount) = blue_gives x c.target.kind p.amount coloured in
         let back : Pushes.change us (shadow_of me us p) p.account ≡ neg_ℤ (moved c.target.kind p.amount) =
         ap (λ j. Pushes.change_by us (shadow_of me us p) (target_of j) p.account) e
         ∙ Pushes.change_back us (shadow_of me us p) c.target x valid.unique (subst (λ j. HasTarget us (shadow_of me us p) (target_of j)) e target) found c.free in
-        omega (arith, ints, gives, back, Legal.covers s us p.account valid, Pushes.bal-push s us (shadow_of me us p) p.account valid.unique (uncancelled s me us p valid) target)
+        let own : pos 0 ≤ℤ bal s (us ++ shadow_of me us p ∷ []) p.account =
+        omega (arith, ints, gives, back, Legal.covers s us p.account valid, Pushes.bal-push s us (shadow_of me us p) p.account valid.unique (uncancelled s me us p valid) target) in
+        elim (OnAccount.on_sides us (shadow_of me us p) a side) [
+          | inl k ↦ subst (λ (b : Place). pos 0 ≤ℤ bal s (us ++ shadow_of me us p ∷ []) b) k own
+          | inr k ↦ absurd (alone coloured k)
+        ]
 
--- what is planned and allowed leaves its account no less than nothing
+-- an operation without a target, which leaves its own account no less than nothing, leaves so its second one too
+covered_sides : (s : Settings) (me : ℕ) (us : List Shadow) (p : Plan) (k : Kind) → IsValid s us → p.kind ≡ k → target_of k ≡ None → is_misdirected (length s.starts) p.account (receiver_of k) ≡ false → pos 0 ≤ℤ bal s (us ++ shadow_of me us p ∷ []) p.account
+    → (a : Place) → is_on us (shadow_of me us p) a ≡ true → pos 0 ≤ℤ bal s (us ++ shadow_of me us p ∷ []) a
+covered_sides s me us p k valid e plain right own a side = elim (OnAccount.on_sides us (shadow_of me us p) a side) [
+  | inl h ↦ subst (λ (b : Place). pos 0 ≤ℤ bal s (us ++ shadow_of me us p ∷ []) b) h own
+  | inr h ↦ other (sym (ap (λ o. other_by us k o) plain) ∙ sym (ap (λ j. other_by us j (target_of j)) e) ∙ h)
+]
+  where
+    apart : (b : Place) → is_misdirected (length s.starts) p.account (Some b) ≡ false → (p.account.0 == b.0) ≡ false
+    apart b q = turned b.0 p.account.0 (Members.or-false (nat_le (length s.starts) b.0) (b.0 == p.account.0) q).1
+
+    other : receiver_of k ≡ Some a → pos 0 ≤ℤ bal s (us ++ shadow_of me us p ∷ []) a
+    other h =
+        let off : (p.account.0 == a.0) ≡ false = apart a (ap (is_misdirected (length s.starts) p.account) (sym h) ∙ right) in
+        let more : delta (shadow_of me us p) a ≡ pos p.amount =
+        ap (λ c. cond c (moved p.kind p.amount) (arrived (receiver_of p.kind) p.amount a)) off ∙ ap (λ j. arrived (receiver_of j) p.amount a) e ∙ ap (λ o. arrived o p.amount a) h ∙ ap (λ c. cond c (pos p.amount) (pos 0)) (number_same a.0) in
+        omega (arith, ints, more, Legal.covers s us a valid, Pushes.bal-push_plain s us (shadow_of me us p) a (ap is_cancel e ∙ ap is_some plain) (uncancelled s me us p valid))
+
+-- what is planned and allowed leaves none of its accounts less than nothing
 covered : (s : Settings) (me : ℕ) (us : List Shadow) (token : Token) (p : Plan) (k : Kind) → IsValid s us → p.kind ≡ k → IsPlanned s us p k → HasTarget us (shadow_of me us p) (target_of p.kind)
     → IsAllowed s us token (shadow_of me us p) (next_name me us (colour_of_plan us p))
-    → pos 0 ≤ℤ bal s (us ++ shadow_of me us p ∷ []) p.account
-covered s me us token p Withdraw valid e h target fair = covered_plain s me us p Withdraw valid e refl (let some : pos p.amount ≤ℤ bal s us p.account = enough (bal s us p.account) p.amount h.1 in omega (arith, ints, some))
+    → (a : Place) → is_on us (shadow_of me us p) a ≡ true → pos 0 ≤ℤ bal s (us ++ shadow_of me us p ∷ []) a
+covered s me us token p Withdraw valid e h target fair =
+    covered_sides s me us p Withdraw valid e refl refl (covered_plain s me us p Withdraw valid e refl (let some : pos p.amount ≤ℤ bal s us p.account = enough (bal s us p.account) p.amount h.1 in omega (arith, ints, some)))
+covered s me us token p (Transfer to) valid e (ask, known, account, apart) target fair =
+    covered_sides s me us p (Transfer to) valid e refl (directed s p to account apart)
+    (covered_plain s me us p (Transfer to) valid e refl (let some : pos p.amount ≤ℤ bal s us p.account = enough (bal s us p.account) p.amount known in omega (arith, ints, some)))
 covered s me us token p (Cancel x) valid e h target fair = covered_cancel s me us token p x valid e h target fair
-covered s me us token p k valid e h target fair = covered_plain s me us p k valid e refl (omega (arith, ints, Legal.covers s us p.account valid))
+covered s me us token p k valid e h target fair = covered_sides s me us p k valid e refl refl (covered_plain s me us p k valid e refl (omega (arith, ints, Legal.covers s us p.account valid)))
 
 -- what a site makes at a valid list may follow it
 pub made_follows : (s : Settings) (me : ℕ) (us : List Shadow) (token : Token) (v : Shadow) → s.sites ≤ MOST_SITES → me < s.sites → IsValid s us → IsMadeAt s me us token v → Legal.MayFollow s us v

@@ -1,38 +1,51 @@
 -- No balance is negative in a closed part of a lawful set whose red operations were covered where they were made.
 use Rattle.std.proofs.Common.{◌≡◌, ◌≢◌, ℕ, Bool, true, false, cond, not, ◌&&◌, ◌||◌, List, [], ◌∷◌, ◌++◌, refl, ap, sym, ◌∙◌, arith, ◌⊎◌, inl, inr, subst}
-use Rattle.std.specs.Prelude.{ℤ, pos, ◌≤ℤ◌, ◌==◌}
+use Rattle.std.specs.Prelude.{ℤ, pos, ◌≤ℤ◌, ◌==◌, Option, Some, None}
 use Rattle.std.proofs.lemmas.Int.{ints}
 use Rattle.rb_money.specs.Settings.{Settings, start_of}
 use Rattle.rb_money.specs.declared.place.Place.{Place}
 use Rattle.rb_shadow.specs.declared.shadow.Shadow.{Shadow}
 use Rattle.rb_shadow.specs.declared.op_name.OpName.{OpName}
 use Rattle.rb_shadow.specs.declared.kind.Kind.{Kind}
-use Rattle.rb_shadow.specs.declared.kind.Kind.TheVariants.{Deposit, Withdraw, Interest}
-use Rattle.rb_shadow.specs.Operations.{Among, same_name, names, past, Precedes, IsUnique, IsWithin, AreSame, delta, moved, bal, is_kept, is_cancelled, is_cancel, cancels, is_red}
+use Rattle.rb_shadow.specs.declared.kind.Kind.TheVariants.{Deposit, Withdraw, Interest, Transfer}
+use Rattle.rb_shadow.specs.Operations.{Among, same_name, names, past, Precedes, IsUnique, IsWithin, AreSame, delta, moved, arrived, receiver_of, bal, is_kept, is_cancelled, is_cancel, cancels, is_red}
 use Rattle.rb_shadow.specs.Laws.{IsClosed, IsFunded, IsPart}
 use Rattle.rb_shadow.proofs.Public.Members
 use Rattle.rb_shadow.proofs.Public.Totals
 use Rattle.rb_shadow.proofs.Public.Balances
 
-abbrev pub is_withdraw : Kind → Bool
-is_withdraw Withdraw = true
-is_withdraw _ = false
+-- it may take from an account
+abbrev pub takes : Kind → Bool
+takes Withdraw = true
+takes (Transfer to) = true
+takes _ = false
 
+-- it may add to an account
 abbrev pub adds : Kind → Bool
 adds Deposit = true
 adds Interest = true
+adds (Transfer to) = true
 adds _ = false
 
--- only a Withdraw takes
-delta-none_taken : (u : Shadow) (a : Place) → is_withdraw u.kind ≡ false → pos 0 ≤ℤ delta u a
+arrived-low : (to : Option Place) (n : ℕ) (a : Place) → pos 0 ≤ℤ arrived to n a
+arrived-low None n a = omega (arith, ints)
+arrived-low (Some to) n a = at (to.0 == a.0)
+  where
+    at : (b : Bool) → pos 0 ≤ℤ cond b (pos n) (pos 0)
+    at true = omega (arith, ints)
+    at false = omega (arith, ints)
+
+-- only what takes lowers a balance
+delta-none_taken : (u : Shadow) (a : Place) → takes u.kind ≡ false → pos 0 ≤ℤ delta u a
 delta-none_taken u a e = at (u.account.0 == a.0) u.kind e
   where
-    at : (b : Bool) (k : Kind) → is_withdraw k ≡ false → pos 0 ≤ℤ cond b (moved k u.amount) (pos 0)
-    at false k e = omega (arith, ints)
+    at : (b : Bool) (k : Kind) → takes k ≡ false → pos 0 ≤ℤ cond b (moved k u.amount) (arrived (receiver_of k) u.amount a)
+    at false k e = arrived-low (receiver_of k) u.amount a
     at true Withdraw e = absurd (Members.true≢false e)
+    at true (Transfer to) e = absurd (Members.true≢false e)
     at true _ e = omega (arith, ints)
 
-worth-none_taken : (us : List Shadow) (a : Place) (u : Shadow) → is_withdraw u.kind ≡ false → pos 0 ≤ℤ Balances.worth us a u
+worth-none_taken : (us : List Shadow) (a : Place) (u : Shadow) → takes u.kind ≡ false → pos 0 ≤ℤ Balances.worth us a u
 worth-none_taken us a u e = at (is_kept us u) (delta-none_taken u a e)
   where
     at : (b : Bool) → pos 0 ≤ℤ delta u a → pos 0 ≤ℤ cond b (delta u a) (pos 0)
@@ -50,22 +63,23 @@ takes_more true false false z h k = omega (arith, ints)
 adds_same : (p b c : Bool) (z : ℤ) → b ≡ c → cond (p && not b) z (pos 0) ≤ℤ cond (p && not c) z (pos 0)
 adds_same p b c z e = let same : cond (p && not b) z (pos 0) ≡ cond (p && not c) z (pos 0) = ap (λ b. cond (p && not b) z (pos 0)) e in omega (arith, ints, same)
 
-takes : (k : Kind) (n : ℕ) (d : Bool) → adds k ≡ false → cond d (moved k n) (pos 0) ≤ℤ pos 0
-takes k n false e = omega (arith, ints)
-takes Deposit n true e = absurd (Members.true≢false e)
-takes Interest n true e = absurd (Members.true≢false e)
-takes _ n true e = omega (arith, ints)
+nothing_added : (k : Kind) (n : ℕ) (a : Place) (d : Bool) → adds k ≡ false → cond d (moved k n) (arrived (receiver_of k) n a) ≤ℤ pos 0
+nothing_added Deposit n a d e = absurd (Members.true≢false e)
+nothing_added Interest n a d e = absurd (Members.true≢false e)
+nothing_added (Transfer to) n a d e = absurd (Members.true≢false e)
+nothing_added _ n a true e = omega (arith, ints)
+nothing_added _ n a false e = omega (arith, ints)
 
--- an operation is worth no less where nothing but a withdrawal is cancelled besides
+-- an operation is worth no less where nothing that adds is cancelled besides
 worth-more : (us vs : List Shadow) (a : Place) (u : Shadow) → (is_cancelled us u.name ≡ true → is_cancelled vs u.name ≡ true) → (adds u.kind ≡ true → is_cancelled vs u.name ≡ true → is_cancelled us u.name ≡ true) → Balances.worth us a u ≤ℤ Balances.worth vs a u
 worth-more us vs a u there back = elim (Members.bool_cases (adds u.kind)) [
   | inl e ↦ adds_same (not (is_cancel u.kind)) (is_cancelled us u.name) (is_cancelled vs u.name) (delta u a) (Members.both-same _ _ there (back e))
-  | inr e ↦ takes_more (not (is_cancel u.kind)) (is_cancelled us u.name) (is_cancelled vs u.name) (delta u a) (takes u.kind u.amount (u.account.0 == a.0) e) there
+  | inr e ↦ takes_more (not (is_cancel u.kind)) (is_cancelled us u.name) (is_cancelled vs u.name) (delta u a) (nothing_added u.kind u.amount a (u.account.0 == a.0) e) there
 ]
 
--- a balance is no less with more operations, of which none is a withdrawal and none cancels what adds
+-- a balance is no less with more operations, of which none takes and none cancels what adds
 pub bal-more : (s : Settings) (us vs : List Shadow) (a : Place) → IsUnique us → IsUnique vs → IsPart us vs
-    → ((v : Shadow) → Among v vs → names us v.name ≡ false → is_withdraw v.kind ≡ false)
+    → ((v : Shadow) → Among v vs → names us v.name ≡ false → takes v.kind ≡ false)
     → ((u c : Shadow) → Among u us → Among c vs → cancels c.kind u.name ≡ true → adds u.kind ≡ true → Among c us)
     → bal s us a ≤ℤ bal s vs a
 bal-more s us vs a uu uv part none_taken none_undone =
@@ -136,9 +150,9 @@ last_red all (v ∷ vs) line trans part = at (Members.bool_cases (is_red v.name)
 
 -- ---- a closed part of the operations covers every account
 
--- what the red operations of a set rest on: each stands where its home had covered it, and only a withdrawal is cancelled by a blue one
+-- what the red operations of a set rest on: each stands where its home had covered it, and what adds is cancelled by red ones alone
 pub record IsCovered (s : Settings) (all : List Shadow) : Type 0 where
-  pub withdraw_red : (u : Shadow) → Among u all → is_withdraw u.kind ≡ true → is_red u.name ≡ true
+  pub taken_red : (u : Shadow) → Among u all → takes u.kind ≡ true → is_red u.name ≡ true
   pub cancel_red : (u c : Shadow) → Among u all → Among c all → cancels c.kind u.name ≡ true → adds u.kind ≡ true → is_red c.name ≡ true
   pub checked : (r : Shadow) → Among r all → is_red r.name ≡ true →
       (before : List Shadow) × IsPart before all × IsUnique before × AreSame (names before) (past r) × ((a : Place) → pos 0 ≤ℤ bal s (before ++ r ∷ []) a)
@@ -151,8 +165,8 @@ at_start s a = omega (arith, ints)
 pub nothing_less : (s : Settings) (a : Place) → pos 0 ≤ℤ bal s [] a
 nothing_less s a = let start : pos 0 ≤ℤ pos (start_of s a) = omega (arith, ints) in omega (arith, ints, start, at_start s a)
 
-not_withdraw : (k : Kind) → (is_withdraw k ≡ true → ⊥) → is_withdraw k ≡ false
-not_withdraw k h = elim (Members.bool_cases (is_withdraw k)) [ inl e ↦ absurd (h e) | inr e ↦ e ]
+not_taking : (k : Kind) → (takes k ≡ true → ⊥) → takes k ≡ false
+not_taking k h = elim (Members.bool_cases (takes k)) [ inl e ↦ absurd (h e) | inr e ↦ e ]
 
 -- a closed part has no less than the last red operation's past with it
 above_last : (s : Settings) (all vs before : List Shadow) (r : Shadow) (a : Place)
@@ -163,7 +177,7 @@ above_last : (s : Settings) (all vs before : List Shadow) (r : Shadow) (a : Plac
     → bal s (before ++ r ∷ []) a ≤ℤ bal s vs a
 above_last s all vs before r a unique covered alone part uv closed there last inside ub is_past =
     bal-more s us vs a uu uv us_in_vs
-    (λ v h k. not_withdraw v.kind (λ e. Members.true≢false (sym (red_named v h (covered.withdraw_red v (part v h) e)) ∙ k)))
+    (λ v h k. not_taking v.kind (λ e. Members.true≢false (sym (red_named v h (covered.taken_red v (part v h) e)) ∙ k)))
     (λ u c h k e p. us_has c k (red_named c k (covered.cancel_red u c (us_in_all u h) (part c k) e p)))
   where
     us : List Shadow
@@ -210,8 +224,8 @@ pub funded : (s : Settings) (all vs : List Shadow) (a : Place)
     → IsPart vs all → IsUnique vs → IsClosed vs → IsFunded s all vs a
 funded s all vs a unique line trans irreflexive covered part uv closed = at (last_red all vs line trans part)
   where
-    red_if_withdraw : (v : Shadow) → Among v vs → is_withdraw v.kind ≡ true → is_red v.name ≡ true
-    red_if_withdraw v h e = covered.withdraw_red v (part v h) e
+    red_if_taking : (v : Shadow) → Among v vs → takes v.kind ≡ true → is_red v.name ≡ true
+    red_if_taking v h e = covered.taken_red v (part v h) e
 
     at : LastRed vs → IsFunded s all vs a
     at (inl none) = inl (
@@ -221,7 +235,7 @@ funded s all vs a unique line trans irreflexive covered part uv closed = at (las
         ints,
         at_start s a,
         bal-more s [] vs a tt uv (λ u h. elim h [ ])
-            (λ v h k. not_withdraw v.kind (λ e. Members.true≢false (sym (red_if_withdraw v h e) ∙ none v h)))
+            (λ v h k. not_taking v.kind (λ e. Members.true≢false (sym (red_if_taking v h e) ∙ none v h)))
             (λ u c h. elim h [ ]),
       ),
     )

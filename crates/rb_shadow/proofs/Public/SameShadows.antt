@@ -1,10 +1,10 @@
 -- The test of equal shadows.
 use Rattle.std.proofs.Common.{◌≡◌, ℕ, true, List, [], ◌∷◌, refl, ap}
 use Rattle.std.proofs.lemmas.Bool.{and_from as both, and_parts as each}
-use Rattle.rb_money.proofs.Public.Tests.{number_same, number_sound}
+use Rattle.rb_money.proofs.Public.Tests.{number_same, number_sound, same_place}
 use Rattle.rb_shadow.specs.declared.op_name.OpName.{OpName}
 use Rattle.rb_shadow.specs.declared.kind.Kind.{Kind}
-use Rattle.rb_shadow.specs.declared.kind.Kind.TheVariants.{Deposit, Withdraw, Declined, Interest, Cancel}
+use Rattle.rb_shadow.specs.declared.kind.Kind.TheVariants.{Deposit, Withdraw, Declined, Interest, Cancel, Transfer}
 use Rattle.rb_shadow.specs.declared.shadow.Shadow.{Shadow}
 use Rattle.rb_shadow.specs.Operations.{same_kind, same_numbers, same_shadow}
 use Rattle.rb_shadow.proofs.Public.Members
@@ -25,6 +25,7 @@ same_numbers-true (m ∷ ms) (n ∷ ns) h =
 
 pub same_kind-refl : (k : Kind) → same_kind k k ≡ true
 same_kind-refl (Cancel x) = Members.same_name-refl x
+same_kind-refl (Transfer a) = number_same a.0
 same_kind-refl _ = refl
 
 pub same_kind-true : (j k : Kind) → same_kind j k ≡ true → j ≡ k
@@ -33,6 +34,7 @@ same_kind-true Withdraw Withdraw h = refl
 same_kind-true Declined Declined h = refl
 same_kind-true Interest Interest h = refl
 same_kind-true (Cancel x) (Cancel y) h = ap Cancel (Members.same_name-true x y h)
+same_kind-true (Transfer a) (Transfer b) h = ap Transfer (same_place a b (number_sound a.0 b.0 h))
 same_kind-true _ _ h = cc
 
 pub same_shadow-refl : (v : Shadow) → same_shadow v v ≡ true

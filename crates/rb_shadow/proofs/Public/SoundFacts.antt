@@ -9,8 +9,8 @@ use Rattle.rb_money.proofs.Public.Tests.{alike}
 use Rattle.rb_shadow.specs.declared.shadow.Shadow.{Shadow}
 use Rattle.rb_shadow.specs.declared.op_name.OpName.{OpName}
 use Rattle.rb_shadow.specs.declared.op_name.OpName.TheVariants.{Blue, Red}
-use Rattle.rb_shadow.specs.Operations.{number_of, entry_of}
-use Rattle.rb_shadow.specs.Sound.{fault_of, IsSound, is_absent, is_foreign, limit_of, may_be_nothing, is_miscoloured, cancels_unseen, is_clock}
+use Rattle.rb_shadow.specs.Operations.{number_of, entry_of, receiver_of}
+use Rattle.rb_shadow.specs.Sound.{fault_of, IsSound, is_absent, is_foreign, limit_of, may_be_nothing, is_misdirected, is_miscoloured, cancels_unseen, is_clock}
 use Rattle.rb_shadow.proofs.Public.Members
 use Rattle.rb_shadow.proofs.Public.Clocks.{IsNext, IsHoused}
 
@@ -21,6 +21,7 @@ pub record SoundFacts (s : Settings) (v : Shadow) : Type 0 where
   pub numbered : (number_of v.name == 0) ≡ false
   pub within : nat_lt (limit_of s.limits v.name) (number_of v.name) ≡ false
   pub account : nat_le (length s.starts) v.account.0 ≡ false
+  pub receiver : is_misdirected (length s.starts) v.account (receiver_of v.kind) ≡ false
   pub amount : nat_lt MOST_CENTS v.amount ≡ false
   pub something : (v.amount == 0 && not (may_be_nothing v.kind)) ≡ false
   pub coloured : is_miscoloured v.kind v.name ≡ false
@@ -47,7 +48,8 @@ sound_facts s v h =
       own = (Members.or-false _ _ f1).1;
       numbered = (Members.or-false _ _ f2).0;
       within = (Members.or-false _ _ f2).1;
-      account = f3;
+      account = (Members.or-false _ _ f3).0;
+      receiver = (Members.or-false _ _ f3).1;
       amount = (Members.or-false _ _ f4).0;
       something = (Members.or-false _ _ f4).1;
       coloured = f5;

@@ -33,7 +33,7 @@ loop-position-preserved c =
     let low = OnAccount.on_within _ _ _ c.loop-position.invariant.on in
     let last = c.earlier-position.ensures.last in
     record {
-      on = OnAccount.on_taken _ _ c.args.place c.args.place _ (λ i. c.args.place.0) last.on;
+      on = OnAccount.on_taken _ _ c.args.place _ last.on;
       rows = Steps.rows_back _ _ _ _ _ c.row_at-row.result _ _ low last c.loop-position.invariant.rows c.row_at-row.ensures.row c.in_ok-push.ensures.items;
       sum = Steps.bal_back _ _ _ _ _ _ _ _ c.config-valid.ensures.valid low last c.row_at-row.ensures.moved (c.before-balance.ensures.sum ∙ ap (λ z. pos c.before-balance.result +ℤ z) (to_z-of_z w64 c.row_at-row.result.moved fits));
       bounded = omega (arith, c.loop-position.invariant.bounded, c.before-balance.ensures.bounded, c.earlier-position.ensures.before);

@@ -1,9 +1,15 @@
-use Rattle.std.proofs.Common.{◌≡◌, length, vec_len, ap, arith}
+use Rattle.std.proofs.Common.{◌≡◌, get_or, ap, ◌∙◌, arith}
+use Rattle.std.specs.Prelude.{option_map, unwrap_or}
 use Rattle.rb_money.specs.Amounts.{cents}
-use Rattle.rb_shadow.specs.Operations.{target_of, bal}
+use Rattle.rb_money.specs.declared.place.Place.{Place}
+use Rattle.rb_money.specs.declared.place.TheConstants.Place.{NOWHERE}
+use Rattle.rb_shadow.specs.Operations.{target_of, other_of, bal}
+use Rattle.rb_ledger.specs.Index.{no_head}
 use Rattle.rb_ledger.specs.Valid.{position_of}
 use Rattle.rb_ledger.proofs.Calls
+use Rattle.rb_ledger.proofs.Public.Legal
 use Rattle.rb_ledger.proofs.Lengths
+use Rattle.rb_ledger.proofs.Overdraws
 use Rattle.rb_ledger.proofs.index.Index.parts.Goals as goal
 
 pub overflow_cast-result : goal.overflow_cast-result
@@ -12,16 +18,13 @@ overflow_cast-result c = omega (arith, Lengths.kept_length _ _ _ c.requires.inde
 pub overflow_add-result : goal.overflow_add-result
 overflow_add-result c = omega (arith, Lengths.kept_length _ _ _ c.requires.index.kept)
 
-pub index-requires : goal.index-requires
-index-requires c =
-    let count : vec_len c.args.self.now.heads ≡ length c.args.self.now.heads.items = omega arith in
-    Calls.own_head _ _ _ c.args.shadow.now _ _ c.requires.index.heads c.requires.sound count c.from.ensures
-
 pub returns : goal.returns
 returns c =
-    let count : vec_len c.args.self.now.heads ≡ length c.args.self.now.heads.items = omega arith in
-    let near = Calls.own_head _ _ _ c.args.shadow.now _ _ c.requires.index.heads c.requires.sound count c.from.ensures in
-    let head = c.requires.index.heads.each c.args.shadow.now.account c.index.result.now (Calls.read_item _ _ _ _ _ count near c.from.ensures c.index.ensures) in
-    let balance : c.index.result.now.balance ≡ cents (bal c.args.self.now.config c.args.before.now c.args.shadow.now.account) = ap cents head.balance in
+    let near = Overdraws.sound_account c.args.self.now.config c.args.shadow.now (Legal.IsValid-last _ _ c.args.shadow.now c.requires.longer).sound in
+    let balance : c.balance-balance.result ≡ cents (bal c.args.self.now.config c.args.before.now c.args.shadow.now.account) = Calls.head_balance _ _ _ c.args.shadow.now.account _ c.requires.index.heads near c.balance-balance.ensures in
+    let other : c.unwrap_or-other.result ≡ unwrap_or (other_of c.args.before.now c.args.shadow.now) NOWHERE = c.unwrap_or-other.ensures ∙ ap (λ o. unwrap_or o NOWHERE) c.other-second.ensures in
+    let other_balance : c.balance-other_balance.result ≡ unwrap_or (option_map (λ a. cents (bal c.args.self.now.config c.args.before.now a)) (other_of c.args.before.now c.args.shadow.now)) 0 =
+    Calls.other_balance _ _ _ _ c.args.shadow.now _ c.requires.index.kept.configured c.requires.index.kept c.requires.index.heads c.requires.longer
+    (c.balance-other_balance.ensures ∙ ap (λ (a : Place). (get_or c.args.self.now.heads.items a.0 no_head).balance) other) in
     let target : c.target.result ≡ position_of c.args.before.now (target_of c.args.shadow.now.kind) = c.target.ensures c.args.before.now c.requires.index in
     cc

@@ -1,15 +1,13 @@
-use Rattle.std.proofs.Common.{◌≡◌, ◌<◌, ◌≤◌, ◌-◌, ◌∷◌, [], List, length, take, get_or, set, vec_len, subst, sym, ap, ◌∙◌, refl, arith, length-take-le}
+use Rattle.std.proofs.Common.{◌≡◌, ◌<◌, ◌≤◌, ◌-◌, ◌∷◌, [], List, length, take, get_or, set, subst, sym, ap, ◌∙◌, refl, arith, length-take-le}
 use Rattle.std.proofs.lemmas.List.{length_push}
 use Rattle.rb_shadow.specs.Operations.{HasEntry, number_of, entry_of, target_of, row_of}
 use Rattle.rb_undo.specs.declared.parts.UndoParts.{UndoParts}
 use Rattle.rb_vclock.specs.Clocks.{lowered}
 use Rattle.rb_ledger.specs.declared.marks.Cancels.{Cancels}
-use Rattle.rb_ledger.specs.declared.marks.Head.{Head}
 use Rattle.rb_ledger.specs.Valid.{position_of}
-use Rattle.rb_ledger.specs.Index.{changed_at, one_less, no_cancels}
+use Rattle.rb_ledger.specs.Index.{changed_at, one_less, no_cancels, heads_at, head_less}
 use Rattle.rb_ledger.proofs.Calls
 use Rattle.rb_ledger.proofs.CancelFacts
-use Rattle.rb_ledger.proofs.ChainFacts
 use Rattle.rb_ledger.proofs.Indexed
 use Rattle.rb_ledger.proofs.Public.Legal
 use Rattle.rb_ledger.proofs.LedgerClocks
@@ -50,41 +48,16 @@ cancel_one_less-requires-clause-some c =
     let target : c.args.parts.target ≡ position_of c.args.before.now (target_of last.kind) = ap (λ (p : UndoParts). p.target) is in
     λ i at. subst (λ (xs : List Cancels). 0 < (get_or xs i no_cancels).count) (sym c.truncate.ensures.items) (CancelFacts.counted_before c.args.before.now last _ i before.unique before.targets may.fresh may.target index.cancels (sym target ∙ at))
 
-pub index-requires : goal.index-requires
-index-requires c =
-    let (last, index, is, link) = c.requires in
-    let count : vec_len c.args.self.now.heads ≡ length c.args.self.now.heads.items = omega arith in
-    let place : c.from-place.result ≡ last.account.0 = c.from-place.ensures ∙ ap (λ (p : UndoParts). p.place.0) is in
-    Calls.own_head _ _ _ last _ _ index.heads (Legal.IsValid-last _ c.args.before.now last index.kept.valid).sound count place
-
-pub overflow_sub-count : goal.overflow_sub-count
-overflow_sub-count c =
-    let (last, index, is, link) = c.requires in
-    let count : vec_len c.args.self.now.heads ≡ length c.args.self.now.heads.items = omega arith in
-    let place : c.from-place.result ≡ last.account.0 = c.from-place.ensures ∙ ap (λ (p : UndoParts). p.place.0) is in
-    let near = Calls.own_head _ _ _ last _ _ index.heads (Legal.IsValid-last _ c.args.before.now last index.kept.valid).sound count place in
-    omega (arith, ChainFacts.head_counted _ c.args.before.now last _ _ index.heads (Calls.read_item _ _ _ _ _ count near place c.index.ensures))
-
-pub index_mut-requires : goal.index_mut-requires
-index_mut-requires c =
-    let (last, index, is, link) = c.requires in
-    let count : vec_len c.args.self.now.heads ≡ length c.args.self.now.heads.items = omega arith in
-    let place : c.from-place.result ≡ last.account.0 = c.from-place.ensures ∙ ap (λ (p : UndoParts). p.place.0) is in
-    Calls.own_head _ _ _ last _ _ index.heads (Legal.IsValid-last _ c.args.before.now last index.kept.valid).sound count place
-
 pub returns-clause-index : goal.returns-clause-index
 returns-clause-index c =
-    let (last, index, is, link) = c.requires in
-    let count : vec_len c.args.self.now.heads ≡ length c.args.self.now.heads.items = omega arith in
-    let place : c.from-place.result ≡ last.account.0 = c.from-place.ensures ∙ ap (λ (p : UndoParts). p.place.0) is in
-    let near = Calls.own_head _ _ _ last _ _ index.heads (Legal.IsValid-last _ c.args.before.now last index.kept.valid).sound count place in
+    let (last, index, is, linked) = c.requires in
     let target : c.args.parts.target ≡ position_of c.args.before.now (target_of last.kind) = ap (λ (p : UndoParts). p.target) is in
     let row : c.row_of.result ≡ row_of last.name = c.row_of.ensures ∙ ap (λ (p : UndoParts). row_of p.name) is in
-    let new : Head = record { last = c.args.earlier; count = c.index.result.now.count - 1; balance = c.args.parts.balance } in
-    let valid = Legal.IsValid-front _ c.args.before.now (last ∷ []) index.kept.valid in
-    Indexed.indexed_front _ c.args.before.now c.args.self.now _ last c.index.result.now new
-    index (Calls.read_item _ _ _ _ _ count near place c.index.ensures) link refl (Calls.kept_balance _ c.args.before.now last.account _ valid (ap (λ (p : UndoParts). p.balance) is))
+    Indexed.indexed_front _ c.args.before.now c.args.self.now _ last c.args.links.now index linked
     refl (c.retreat.ensures.entries ∙ ap (λ (p : UndoParts). lowered c.args.self.now.clock p.name) is)
     (c.cancel_one_less.ensures.items ∙ ap (changed_at c.args.parts.target one_less) c.truncate.ensures.items ∙ ap (λ n. changed_at n one_less (take (length c.args.before.now) c.args.self.now.cancels.items)) target)
-    (ap (λ i. set c.args.self.now.heads.items i new) place)
+    (
+    c.count_off-2.ensures ∙ ap (heads_at c.args.parts.other.0 (head_less c.args.links.now.other.earlier c.args.parts.other_balance)) c.count_off.ensures
+    ∙ ap (λ (p : UndoParts). heads_at p.other.0 (head_less c.args.links.now.other.earlier p.other_balance) (heads_at p.place.0 (head_less c.args.links.now.own.earlier p.balance) c.args.self.now.heads.items)) is
+    )
     (c.pop.ensures.rows ∙ ap (λ j. set c.args.self.now.rows.rows j (take (length (get_or c.args.self.now.rows.rows j []) - 1) (get_or c.args.self.now.rows.rows j []))) row)

@@ -1,40 +1,31 @@
-use Rattle.std.proofs.Common.{◌≡◌, ◌+◌, ◌++◌, ◌∷◌, [], length, vec_len, get_or, set, ap, ◌∙◌, refl, arith}
+use Rattle.std.proofs.Common.{◌+◌, ◌++◌, ◌∷◌, [], List, length, get_or, set, ap, ◌∙◌, refl, arith}
 use Rattle.rb_ledger.specs.declared.marks.Head.{Head}
-use Rattle.rb_ledger.specs.Index.{changed_at, one_more, no_cancels}
+use Rattle.rb_shadow.specs.Operations.{row_of}
+use Rattle.rb_ledger.specs.Index.{changed_at, one_more, no_cancels, no_head, heads_at, head_more}
+use Rattle.rb_undo.specs.declared.parts.UndoParts.{UndoParts}
 use Rattle.rb_ledger.proofs.Calls
 use Rattle.rb_ledger.proofs.Indexed
 use Rattle.rb_ledger.proofs.Public.Legal
-use Rattle.rb_ledger.proofs.Lengths
 use Rattle.rb_ledger.proofs.LedgerClocks
 use Rattle.rb_ledger.proofs.index.Index.push.Goals as goal
 
-pub overflow_cast-position : goal.overflow_cast-position
-overflow_cast-position c = omega (arith, Lengths.kept_length _ _ _ c.requires.index.kept)
-
-pub overflow_add-position : goal.overflow_add-position
-overflow_add-position c = omega (arith, Lengths.kept_length _ _ _ c.requires.index.kept)
-
 pub cancel_one_more-requires-clause-within : goal.cancel_one_more-requires-clause-within
-cancel_one_more-requires-clause-within c = Calls.target_near _ _ _ c.args.shadow.now _ c.requires.index c.requires.longer c.requires.target
+cancel_one_more-requires-clause-within c = Calls.target_near _ _ _ c.args.shadow.now _ c.requires.index c.requires.longer (ap (λ (p : UndoParts). p.target) c.requires.parts)
 
 pub cancel_one_more-requires-clause-fits : goal.cancel_one_more-requires-clause-fits
 cancel_one_more-requires-clause-fits c = λ i. Calls.counts_few _ _ _ i c.requires.index
 
-pub index-requires : goal.index-requires
-index-requires c =
-    let count : vec_len c.args.self.now.heads ≡ length c.args.self.now.heads.items = omega arith in
-    Calls.own_head _ _ _ c.args.shadow.now _ _ c.requires.index.heads (Legal.IsValid-last _ _ c.args.shadow.now c.requires.longer).sound count c.from-place.ensures
+pub count_on-requires : goal.count_on-requires
+count_on-requires c = Calls.heads_few _ _ _ _ c.args.parts.now.place.0 c.requires.index.kept c.requires.index.heads
 
-pub overflow_add-count : goal.overflow_add-count
-overflow_add-count c =
-    let count : vec_len c.args.self.now.heads ≡ length c.args.self.now.heads.items = omega arith in
-    let near = Calls.own_head _ _ _ c.args.shadow.now _ _ c.requires.index.heads (Legal.IsValid-last _ _ c.args.shadow.now c.requires.longer).sound count c.from-place.ensures in
-    omega (arith, Calls.head_few _ _ _ _ c.args.shadow.now.account _ c.requires.index.kept c.requires.index.heads (Calls.read_item _ _ _ _ _ count near c.from-place.ensures c.index.ensures))
-
-pub index_mut-requires : goal.index_mut-requires
-index_mut-requires c =
-    let count : vec_len c.args.self.now.heads ≡ length c.args.self.now.heads.items = omega arith in
-    Calls.own_head _ _ _ c.args.shadow.now _ _ c.requires.index.heads (Legal.IsValid-last _ _ c.args.shadow.now c.requires.longer).sound count c.from-place.ensures
+pub count_on-requires-2 : goal.count_on-requires-2
+count_on-requires-2 c =
+    let few =
+    Calls.other_few _ _ _ c.args.self.now.heads.items c.args.shadow.now (head_more (length c.args.before.now + 1) c.args.links.now.own.balance) c.requires.index.kept.configured c.requires.index.kept c.requires.index.heads c.requires.longer in
+    let same =
+    ap (λ (hs : List Head). (get_or hs c.args.parts.now.other.0 no_head).count) c.count_on.ensures
+    ∙ ap (λ (p : UndoParts). (get_or (heads_at p.place.0 (head_more p.position c.args.links.now.own.balance) c.args.self.now.heads.items) p.other.0 no_head).count) c.requires.parts in
+    omega (arith, same, few)
 
 pub push-requires-clause-within : goal.push-requires-clause-within
 push-requires-clause-within c = omega (arith, c.row_of.ensures, Indexed.row_within _ _ _ c.args.shadow.now c.requires.index.rows (Legal.IsValid-last _ _ c.args.shadow.now c.requires.longer).sound)
@@ -50,12 +41,14 @@ advance-requires-clause-entry c = LedgerClocks.may_entry _ _ _ c.args.shadow.now
 
 pub returns-clause-index : goal.returns-clause-index
 returns-clause-index c =
-    let count : vec_len c.args.self.now.heads ≡ length c.args.self.now.heads.items = omega arith in
-    let near = Calls.own_head _ _ _ c.args.shadow.now _ _ c.requires.index.heads (Legal.IsValid-last _ _ c.args.shadow.now c.requires.longer).sound count c.from-place.ensures in
-    let new : Head = record { last = length c.args.before.now + 1; count = c.index.result.now.count + 1; balance = c.args.balance } in
-    Indexed.indexed_push _ c.args.before.now c.args.self.now _ c.args.shadow.now c.index.result.now new
-    c.requires.index c.requires.longer (Calls.read_item _ _ _ _ _ count near c.from-place.ensures c.index.ensures) refl refl c.requires.balance
+    Indexed.indexed_push _ c.args.before.now c.args.self.now _ c.args.shadow.now c.args.links.now c.requires.index c.requires.longer c.requires.links
     refl c.advance.ensures.entries
-    (c.push_reserved.ensures.items ∙ ap (λ xs. xs ++ no_cancels ∷ []) (c.cancel_one_more.ensures.items ∙ ap (λ n. changed_at n (one_more (length c.args.before.now + 1)) c.args.self.now.cancels.items) c.requires.target))
-    (ap (λ i. set c.args.self.now.heads.items i new) c.from-place.ensures)
-    (c.push.ensures.rows ∙ ap (λ k. set c.args.self.now.rows.rows k (get_or c.args.self.now.rows.rows k [] ++ (length c.args.before.now + 1) ∷ [])) c.row_of.ensures)
+    (c.push_reserved.ensures.items ∙ ap (λ xs. xs ++ no_cancels ∷ []) (c.cancel_one_more.ensures.items ∙ ap (λ (p : UndoParts). changed_at p.target (one_more p.position) c.args.self.now.cancels.items) c.requires.parts))
+    (
+    c.count_on-2.ensures ∙ ap (heads_at c.args.parts.now.other.0 (head_more c.args.parts.now.position c.args.links.now.other.balance)) c.count_on.ensures
+    ∙ ap (λ (p : UndoParts). heads_at p.other.0 (head_more p.position c.args.links.now.other.balance) (heads_at p.place.0 (head_more p.position c.args.links.now.own.balance) c.args.self.now.heads.items)) c.requires.parts
+    )
+    (
+    c.push.ensures.rows ∙ ap (λ k. set c.args.self.now.rows.rows k (get_or c.args.self.now.rows.rows k [] ++ c.args.parts.now.position ∷ [])) c.row_of.ensures
+    ∙ ap (λ (p : UndoParts). set c.args.self.now.rows.rows (row_of c.args.shadow.now.name) (get_or c.args.self.now.rows.rows (row_of c.args.shadow.now.name) [] ++ p.position ∷ [])) c.requires.parts
+    )

@@ -1,4 +1,3 @@
-use Rattle.std.proofs.Common.{sym}
 use Rattle.rb_ledger.proofs.Calls
 use Rattle.rb_ledger.proofs.ledger.Ledger.moved_by.Goals as goal
 

@@ -1,7 +1,6 @@
 use Rattle.std.proofs.Common.{◌≡◌, ◌+◌, ◌-◌, ◌<◌, ◌++◌, ◌∷◌, [], vec_len, length, take, subst, sym, ap, ◌∙◌, refl, arith}
 use Rattle.rb_ledger.specs.Valid.{parts_of}
-use Rattle.rb_ledger.specs.OnAccount.{IsLast}
-use Rattle.rb_ledger.specs.Index.{IsIndex}
+use Rattle.rb_ledger.specs.Index.{IsIndex, IsLinked}
 use Rattle.rb_ledger.specs.Rewinding.{Rewinding}
 use Rattle.rb_ledger.proofs.Calls
 use Rattle.rb_ledger.proofs.Cursors
@@ -18,7 +17,7 @@ pop-requires-in-Some c =
       latest.last,
       subst (λ us. IsIndex c.self.inside.index.config (take (c.self.inside.at - 1) us ++ latest.last ∷ []) c.self.inside.index) (sym c.deref.ensures.value) latest.index,
       c.spend.ensures ∙ latest.parts ∙ ap (λ us. parts_of c.self.inside.index.config (take (c.self.inside.at - 1) us) latest.last) (sym c.deref.ensures.value),
-      subst (λ us. IsLast (take (c.self.inside.at - 1) us) latest.last.account c.index.result.now.earlier) (sym c.deref.ensures.value) link.earlier,
+      subst (λ us. IsLinked c.self.inside.index.config (take (c.self.inside.at - 1) us) latest.last c.index.result.now) (sym c.deref.ensures.value) link,
     )
 
 pub invariant_of-self : goal.invariant_of-self
@@ -36,3 +35,8 @@ invariant_of-self c =
         links = omega (arith, c.pop-in-Some.ensures.limit, room.links);
       };
     }
+
+pub unreachable-requires : goal.unreachable-requires
+unreachable-requires c =
+    let here : c.self.inside.at ≡ c.args.self.now.at = ap (λ (w : Rewinding). w.at) c.self.view_is in
+    Cursors.some_records _ _ _ _ _ _ c.self.invariant.at (omega (arith, c.requires, here)) c.in-None.ensures.0

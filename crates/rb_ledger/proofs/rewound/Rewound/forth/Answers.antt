@@ -1,22 +1,19 @@
 use Rattle.std.proofs.Common.{◌≡◌, ◌<◌, ◌++◌, ◌∷◌, [], vec_len, length, take, subst, sym, ap, ◌∙◌, refl, arith}
-use Rattle.std.specs.Prelude.{pos}
-use Rattle.rb_shadow.specs.Operations.{bal}
 use Rattle.rb_ledger.specs.Valid.{IsValid, parts_of}
-use Rattle.rb_ledger.specs.Index.{IsIndex}
+use Rattle.rb_ledger.specs.Index.{IsIndex, IsLinked}
 use Rattle.rb_ledger.specs.Rewinding.{Rewinding}
 use Rattle.rb_ledger.proofs.Calls
 use Rattle.rb_ledger.proofs.Cursors
-use Rattle.rb_ledger.proofs.Public.Legal
 use Rattle.rb_ledger.proofs.rewound.Rewound.forth.Goals as goal
 
-pub parts-parts-requires-clause-sound : goal.parts-parts-requires-clause-sound
-parts-parts-requires-clause-sound c =
+pub parts-parts-requires-clause-longer : goal.parts-parts-requires-clause-longer
+parts-parts-requires-clause-longer c =
     let count : vec_len c.self.inside.entries ≡ length c.self.inside.entries.items = omega arith in
     let here : c.self.inside.at ≡ c.args.self.now.at = ap (λ (w : Rewinding). w.at) c.self.view_is in
     let all : length c.self.inside.entries.items ≡ length c.args.self.now.ledger.entries = ap (λ (w : Rewinding). length w.ledger.entries) c.self.view_is in
     let near : c.self.inside.at < vec_len c.self.inside.entries = omega (arith, c.requires, here, all, count) in
     let there = Calls.read_item c.self.inside.entries.items c.self.inside.at c.self.inside.at _ c.index.result.now count near refl c.index.ensures in
-    (Legal.IsValid-last _ _ _ (Cursors.next _ _ _ _ c.self.invariant.at.valid there)).sound
+    subst (λ us. IsValid c.self.inside.index.config (take c.self.inside.at us ++ c.index.result.now ∷ [])) (sym c.deref.ensures.value) (Cursors.next _ _ _ _ c.self.invariant.at.valid there)
 
 pub push-requires-clause-longer : goal.push-requires-clause-longer
 push-requires-clause-longer c =
@@ -27,8 +24,8 @@ push-requires-clause-longer c =
     let there = Calls.read_item c.self.inside.entries.items c.self.inside.at c.self.inside.at _ c.index.result.now count near refl c.index.ensures in
     subst (λ us. IsValid c.self.inside.index.config (take c.self.inside.at us ++ c.index.result.now ∷ [])) (sym c.deref.ensures.value) (Cursors.next _ _ _ _ c.self.invariant.at.valid there)
 
-pub push-requires-clause-balance : goal.push-requires-clause-balance
-push-requires-clause-balance c =
+pub push-requires-clause-links : goal.push-requires-clause-links
+push-requires-clause-links c =
     let count : vec_len c.self.inside.entries ≡ length c.self.inside.entries.items = omega arith in
     let here : c.self.inside.at ≡ c.args.self.now.at = ap (λ (w : Rewinding). w.at) c.self.view_is in
     let all : length c.self.inside.entries.items ≡ length c.args.self.now.ledger.entries = ap (λ (w : Rewinding). length w.ledger.entries) c.self.view_is in
@@ -37,7 +34,7 @@ push-requires-clause-balance c =
     let many : vec_len c.self.inside.links ≡ length c.self.inside.links.items = omega arith in
     let close : c.self.inside.at < vec_len c.self.inside.links = omega (arith, many, count, near, c.self.invariant.at.links.count) in
     let link = Cursors.linked _ _ _ _ _ c.index-2.result.now c.self.invariant.at.links there (Calls.read_item _ _ _ _ _ many close refl c.index-2.ensures) in
-    subst (λ us. pos c.index-2.result.now.balance ≡ bal c.self.inside.index.config (take c.self.inside.at us ++ c.index.result.now ∷ []) c.index.result.now.account) (sym c.deref.ensures.value) link.balance
+    subst (λ us. IsLinked c.self.inside.index.config (take c.self.inside.at us) c.index.result.now c.index-2.result.now) (sym c.deref.ensures.value) link
 
 pub invariant_of-self : goal.invariant_of-self
 invariant_of-self c =
