@@ -16,11 +16,11 @@ each_take P zero xs h = tt
 each_take P (suc k) [] h = tt
 each_take P (suc k) (x ∷ xs) h = (h.0, each_take P k xs h.1)
 
-each_append : {A : Type 0} (P : A → Type 0) (xs ys : List A) → Each P xs → Each P ys → Each P (xs ++ ys)
+pub each_append : {A : Type 0} (P : A → Type 0) (xs ys : List A) → Each P xs → Each P ys → Each P (xs ++ ys)
 each_append P [] ys h k = k
 each_append P (x ∷ xs) ys h k = (h.0, each_append P xs ys h.1 k)
 
-each_replicate : {A : Type 0} (P : A → Type 0) (many : ℕ) (x : A) → P x → Each P (replicate many x)
+pub each_replicate : {A : Type 0} (P : A → Type 0) (many : ℕ) (x : A) → P x → Each P (replicate many x)
 each_replicate P zero x h = tt
 each_replicate P (suc many) x h = (h, each_replicate P many x h)
 

@@ -40,7 +40,7 @@ pub numbered_more : (counts : List ℕ) (least site n : ℕ) → length counts �
     → numbered_from 0 (take (site + 1) (set counts site n)) ≡ numbered_from 0 (take least counts) ++ (site, n) ∷ []
 numbered_more counts least site n long low near some none =
     let begun = take least counts in
-    let zeros = replicate (site - least) 0 in
+    let zeros : List ℕ = replicate (site - least) 0 in
     let few : length begun ≡ least = length-take-le least counts (omega arith) in
     let many : length zeros ≡ site - least = length-replicate {A = ℕ} (site - least) 0 in
     let here : 0 + length (begun ++ zeros) ≡ site = let e = length-append begun zeros in omega arith in

@@ -1,6 +1,6 @@
 -- Numbers with a sign in a value that a text is: each fits 64 bits.
 use Rattle.std.proofs.Common.{◌≡◌, ◌<◌, ◌≤◌, ◌^◌, ℕ, zero, suc, pos, Bool, true, false, Float, List, Option, Some, None, refl, arith}
-use Rattle.std.specs.Prelude.{◌&&◌, IfSome, if◌then◌else◌, nat_le, nat_lt, neg_ℤ, option_map, ⊤}
+use Rattle.std.specs.Prelude.{◌&&◌, IfSome, if◌then◌else◌, nat_le, nat_lt, neg_ℤ, option_and_then, option_map, ⊤}
 use Rattle.std.specs.declared.cmp.Ordering.{Ordering}
 use Rattle.std.specs.declared.cmp.Ordering.TheVariants.{Less, Equal, Greater}
 use Rattle.std.specs.Ordering.{match_ordering, nat_cmp}
@@ -70,12 +70,12 @@ fits_number s = search (either_fits, negative_fits, unsigned_fits, float_fits)
 
 fits_put : (k : List ℕ) (d : Data) (ms : Members) → Fits d → FitMembers ms → FitMembers (put k d ms)
 fits_put k d no_members h f = (h, tt)
-fits_put k d (member l e ms) h f = by (slice_cmp nat_cmp k l)
+fits_put k d (member l e ms) h f = by (fits_put k d ms h f.1) (slice_cmp nat_cmp k l)
   where
-    by : (o : Ordering) → FitMembers (match_ordering o (member k d (member l e ms)) (member l d ms) (member l e (put k d ms)))
-    by Less = (h, f)
-    by Equal = (h, f.1)
-    by Greater = (f.0, fits_put k d ms h f.1)
+    by : FitMembers (put k d ms) → (o : Ordering) → FitMembers (match_ordering o (member k d (member l e ms)) (member l d ms) (member l e (put k d ms)))
+    by later Less = (h, f)
+    by later Equal = (h, f.1)
+    by later Greater = (f.0, later)
 
 mutual
   fits_json : (j : json.Json) → IfSome (of_json j) Fits
@@ -94,19 +94,23 @@ mutual
   fits_members json.no_members found f = f
   fits_members (json.member k j ms) found f = fits_then Fits FitMembers (λ d. of_members ms (put k d found)) (of_json j) (fits_json j) (λ d h. fits_members ms (put k d found) (fits_put k d found h f))
 
+fits_parsed : (o : Option json.Json) → IfSome (option_and_then of_json o) Fits
+fits_parsed None = tt
+fits_parsed (Some j) = fits_json j
+
 pub fits_read : (text : List ℕ) → IfSome (read text) Fits
-fits_read text = fits_then (λ x. ⊤) Fits of_json _ (anything _) (λ j any. fits_json j)
+fits_read text = search (fits_parsed)
 
 -- ---- parts of it
 
 fits_member : (k : List ℕ) (ms : Members) → FitMembers ms → IfSome (get_member k ms) Fits
 fits_member k no_members f = tt
-fits_member k (member l e ms) f = by (slice_cmp nat_cmp k l)
+fits_member k (member l e ms) f = by (fits_member k ms f.1) (slice_cmp nat_cmp k l)
   where
-    by : (o : Ordering) → IfSome (match_ordering o (get_member k ms) (Some e) (get_member k ms)) Fits
-    by Less = fits_member k ms f.1
-    by Equal = f.0
-    by Greater = fits_member k ms f.1
+    by : IfSome (get_member k ms) Fits → (o : Ordering) → IfSome (match_ordering o (get_member k ms) (Some e) (get_member k ms)) Fits
+    by later Less = later
+    by later Equal = f.0
+    by later Greater = later
 
 pub fits_get : (k : List ℕ) (d : Data) → Fits d → IfSome (get k d) Fits
 fits_get k null f = tt

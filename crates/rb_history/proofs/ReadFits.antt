@@ -148,11 +148,9 @@ numbered i (item d ds) = fits_then (IsNumbered i) (AreCounts i) _ (numbered_at i
   where
     more : (p : ℕ × ℕ) → IsNumbered i p → (later : List ℕ) → AreCounts (p.0 + 1) later → AreCounts i (replicate (p.0 - i) 0 ++ p.1 ∷ later)
     more p h later k =
-        let front = length-replicate (p.0 - i) 0 in
-        let low = h.0 in
-        let near = h.1 in
-        let rest = k.0 in
-        (length-append (replicate (p.0 - i) 0) (p.1 ∷ later) ∙ (omega arith), both_fit (replicate (p.0 - i) 0) (p.1 ∷ later) (zeros_fit (p.0 - i)) (h.2, k.1))
+        let front : length (replicate (p.0 - i) 0) ≡ p.0 - i = length-replicate {A = ℕ} (p.0 - i) 0 in
+        let rest : length later ≡ MOST_SITES - (p.0 + 1) = k.0 in
+        (length-append (replicate (p.0 - i) 0) (p.1 ∷ later) ∙ (omega (arith, front, rest, h)), both_fit (replicate (p.0 - i) 0) (p.1 ∷ later) (zeros_fit (p.0 - i)) (h.2, k.1))
 
 record AreBlue (version : ℕ) (ns : List ℕ) : Type 0 where
   sites : length ns ≡ MOST_SITES
@@ -230,11 +228,11 @@ long_at key d = fits_field (λ n. n < 2 ^ 64) key (number_below (2 ^ 64)) d (num
 
 find : (n : ℕ) (rs : List Refusal) → Each IsRefusal rs → IfSome (find_refusal n rs) IsRefusal
 find n [] h = tt
-find n (r ∷ rs) h = by (number_of_refusal r == n)
+find n (r ∷ rs) h = by (find n rs h.1) (number_of_refusal r == n)
   where
-    by : (b : Bool) → IfSome (if b then Some r else find_refusal n rs) IsRefusal
-    by true = h.0
-    by false = find n rs h.1
+    by : IfSome (find_refusal n rs) IsRefusal → (b : Bool) → IfSome (if b then Some r else find_refusal n rs) IsRefusal
+    by later true = h.0
+    by later false = later
 
 choice : {A : Type 0} (Q : A → Type 0) (b : Bool) (o p : Option A) → IfSome o Q → IfSome p Q → IfSome (if b then o else p) Q
 choice Q true o p h k = h

@@ -73,5 +73,6 @@ pub fn counts(version: u8, text: &str) -> Option<([u32; MOST_SITES], &str)>
         let (first, rest) = first(list)?;
         return Some((widened(&first), rest));
     }
-    numbered(list)
+    let (all, rest) = numbered(list)?;
+    Some((all, rest))
 }

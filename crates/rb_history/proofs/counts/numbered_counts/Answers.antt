@@ -1,4 +1,4 @@
-use Rattle.std.proofs.Common.{◌∷◌, Some, drop, suc, take, ap, sym, ◌∙◌, add-one, arith, drop-cons, rules}
+use Rattle.std.proofs.Common.{◌≡◌, ◌+◌, ◌∷◌, Some, drop, suc, take, ap, sym, ◌∙◌, add-one, arith, drop-cons, rules}
 use Rattle.std.proofs.lemmas.List.{drop_all}
 use Rattle.serde_json.specs.View.{items_view}
 use Rattle.rb_commands.proofs.Public.Reading.{with_front}
@@ -21,7 +21,7 @@ loop-item-preserved c =
     let items = c.args.items.now in
     let i = c.loop-item.item-index in
     let made = c.in_ok-site in
-    let here = rw add-one (drop-cons items i c.item-item.result (omega arith) ∙ ap (λ v. v ∷ drop (suc i) items) (sym c.item-item.is)) in
+    let here : drop i items ≡ c.item-item.result ∷ drop (i + 1) items = rw add-one (drop-cons items i c.item-item.result (omega arith) ∙ ap (λ v. v ∷ drop (suc i) items) (sym c.item-item.is)) in
     let near = made.ensures.near in
     record {
       few = omega (arith, near);

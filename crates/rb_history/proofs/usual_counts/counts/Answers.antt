@@ -9,14 +9,14 @@ use Rattle.rb_history.specs.Tells.{TellsCounts}
 use Rattle.rb_history.proofs.CountsBack.{widened_fits, widened_further, widened_json, widened_length}
 use Rattle.rb_history.proofs.usual_counts.counts.Goals as goal
 
-pub returns-in-if : goal.returns-in-if
-returns-in-if c =
+pub returns-then-version-eq1 : goal.returns-then-version-eq1
+returns-then-version-eq1 c =
     let first = c.in_ok-first.first in
     let few : length first ≡ MOST_SITES_OF_VERSION_1 = search rules in
     let text = c.args.text.now in
     let rest = c.in_ok-first.rest.now in
     let one : c.args.version ≡ 1 = search rules in
-    let read = c.in_ok-after.ensures ∙ ap (λ l. codes "[" ++ l) c.in_ok-first.ensures.1 in
+    let read = c.in_ok-list.ensures ∙ ap (λ l. codes "[" ++ l) c.in_ok-first.ensures.1 in
     let told : TellsCounts 1 (widened first) text rest = record {
       sites = widened_length first few;
       fit = widened_fits first c.in_ok-first.ensures.0;
@@ -28,8 +28,8 @@ returns-in-if c =
 pub returns : goal.returns
 unfolding blue_json
 returns c = record {
-  sites = c.numbered.ensures.sites;
-  fit = c.numbered.ensures.fit;
+  sites = c.in_ok-all.ensures.sites;
+  fit = c.in_ok-all.ensures.fit;
   further = search rules;
   told = search rules;
 }

@@ -5,7 +5,7 @@ use Rattle.rb_history.proofs.ListRead.{BeginsWith, all_read, one_more}
 use Rattle.rb_history.proofs.Numbered.{none_behind}
 use Rattle.rb_history.proofs.usual_counts.numbered.Goals as goal
 
-IsWord : ℕ → Type 0
+abbrev IsWord : ℕ → Type 0
 IsWord n = n < 2 ^ 32
 
 pub sites-init : goal.sites-init
