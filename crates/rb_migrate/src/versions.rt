@@ -17,6 +17,7 @@ pub struct Versions {
 }
 
 impl Model for Versions {
+    ghost use Rattle.std.specs.Prelude.{◌≡◌};
     ghost use Rattle.rb_money.specs.Settings.{Settings, in_version_2};
 
     ghost Value = { Settings };

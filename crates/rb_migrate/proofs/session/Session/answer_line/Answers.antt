@@ -12,7 +12,7 @@ returns-in_default-clause-answered c =
 
 pub returns-clause-answered : goal.returns-clause-answered
 returns-clause-answered c =
-    let (x, on, owes) = c.in-Ok.ensures.answered in
+    let (x, on, owes) = c.in-Ok-answer_entry.ensures.answered in
     let short : is_long c.args.line.now ≡ false = search rules in
     let some : is_blank c.args.line.now ≡ false = search rules in
     (_, owes, answers c.args.self.now _ c.args.line.now c.in-Some.versions x c.in-Some.is short some on refl)
