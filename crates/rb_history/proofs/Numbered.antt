@@ -54,8 +54,8 @@ pub one_further : (counts : List ℕ) (least site n : ℕ) → length counts ≡
 one_further counts least site n long low near none =
     let sum : site ≡ least + (site - least) = omega arith in
     let between : take site counts ≡ take least counts ++ replicate (site - least) 0 =
-        ap (λ k. take k counts) sum ∙ take-add least (site - least) counts
-        ∙ ap (λ l. take least counts ++ l) (ap (take (site - least)) none ∙ take-replicate (site - least) (MOST_SITES - least) 0 (omega arith)) in
+    ap (λ k. take k counts) sum ∙ take-add least (site - least) counts
+    ∙ ap (λ l. take least counts ++ l) (ap (take (site - least)) none ∙ take-replicate (site - least) (MOST_SITES - least) 0 (omega arith)) in
     take_more_set counts site n (omega arith) ∙ ap (λ l. l ++ n ∷ []) between
 
 -- one more of a list is read

@@ -26,7 +26,10 @@ fn counts_names(rt: HostRuntime) {
     assert!(rt; clock.is_next(&next));
     assert!(rt;
         !clock.is_next(&Shadow {
-            name: OpName::Blue { site: MOST_SITES as u8, n: 1 },
+            name: OpName::Blue {
+                site: MOST_SITES as u8,
+                n: 1
+            },
             ..next
         })
     );
