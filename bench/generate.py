@@ -14,16 +14,22 @@ import mix
 from limits import LIMITS, version_of
 
 MIXED = {"mix": mix.mix, "histories": histories.histories}
-# These are known with a number of sites behind them, too.
+# The same commands at a bank of so many sites, in version 2 of the lines.
 AT_SITES = {f"{kind}-{sites}": (kind, sites) for kind in ("cycle", "mix", "histories") for sites in (2, 8, 16)}
 KINDS = MIXED | kinds.LONG | kinds.SHORTEST | AT_SITES
 
 
 def lines(kind, commands, seed=1, **of_mix):
     """The lines of an input. The options of the mix may be given for what is mixed alone."""
-    kind, sites = AT_SITES.get(kind, (kind, of_mix.get("sites", 3 if kind in MIXED else 2)))
-    script = KINDS[kind](seed, commands, **(of_mix | {"sites": sites} if kind in MIXED else of_mix))
-    yield json.dumps({"accounts": next(script), "sites": sites, "version": version_of(sites)}, separators=(",", ":"))
+    kind, bank = AT_SITES.get(kind, (kind, None))
+    sites = of_mix.get("sites", 3 if kind in MIXED and bank is None else 2)
+    version = version_of(sites) if bank is None else 2
+    if kind in MIXED:
+        of_mix["sites"] = sites
+    if kind == "histories":
+        of_mix["version"] = version
+    script = KINDS[kind](seed, commands, **of_mix)
+    yield json.dumps({"accounts": next(script), "sites": bank or sites, "version": version}, separators=(",", ":"))
     yield from script
 
 
