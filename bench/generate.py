@@ -1,5 +1,5 @@
 #!/usr/bin/env python3
-"""Writes a script for `rbbank script`, or histories for `rbbank audit`: a configuration line and so many lines, the same for the same seed.
+"""Writes a script for `rbbank script`, or histories for `rbbank audit` and `rbbank migrate`: a configuration line and so many lines, the same for the same seed.
 
 README.md tells what each kind is.
 """
@@ -13,7 +13,7 @@ import kinds
 import mix
 from limits import LIMITS, version_of
 
-MIXED = {"mix": mix.mix, "histories": histories.histories}
+MIXED = {"mix": mix.mix, "histories": histories.histories, "migrations": histories.histories}
 # The same commands at a bank of so many sites, in version 2 of the lines.
 AT_SITES = {f"{kind}-{sites}": (kind, sites) for kind in ("cycle", "mix", "histories") for sites in (2, 8, 16)}
 KINDS = MIXED | kinds.LONG | kinds.SHORTEST | AT_SITES
@@ -26,7 +26,7 @@ def lines(kind, commands, seed=1, **of_mix):
     version = version_of(sites) if bank is None else 2
     if kind in MIXED:
         of_mix["sites"] = sites
-    if kind == "histories":
+    if KINDS[kind] is histories.histories:
         of_mix["version"] = version
     script = KINDS[kind](seed, commands, **of_mix)
     yield json.dumps({"accounts": next(script), "sites": bank or sites, "version": version}, separators=(",", ":"))

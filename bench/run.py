@@ -1,5 +1,5 @@
 #!/usr/bin/env python3
-"""Measures `rbbank script` on generated scripts, and `rbbank audit` on generated histories, and prints a table, a line for each kind and size.
+"""Measures `rbbank script` on generated scripts, `rbbank audit` and `rbbank migrate` on generated histories, and prints a table, a line for each kind and size.
 
 README.md tells what each kind and each number is.
 """
@@ -46,7 +46,7 @@ def built():
 
 def word(kind):
     """The command of the program that reads a kind."""
-    return "audit" if kind.startswith("histories") else "script"
+    return {"histories": "audit", "migrations": "migrate"}.get(kind.partition("-")[0], "script")
 
 
 def script(folder, kind, size, seed):
