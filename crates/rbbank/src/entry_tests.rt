@@ -7,7 +7,7 @@ use rb_shadow::{Deps, Kind, Label, OpName, Shadow};
 use rb_site::{Entry, Event, Message, Reply};
 use rb_statements::{Row, Statement};
 use rb_token::TokenMessage;
-use std::alloc::Global;
+use std::alloc::{AllocError, Global};
 use std::test::Fail;
 
 const TWO_ACCOUNTS: &str = "{\"accounts\":[[\"ann\",0],[\"bob\",70]],\"sites\":2,\"version\":1}";
