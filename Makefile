@@ -3,7 +3,7 @@
 help:
 	@echo 'make demo      the stored run, drawn, each command beside its reply'
 	@echo 'make build     proves and builds the program, and prints where it lies'
-	@echo 'make examples  every script and all histories of examples/ through the program'
+	@echo 'make examples  every script, history and migration of examples/ through the program'
 	@echo 'make check     proves every crate, over what earlier checks kept'
 	@echo 'make test      the gate: everything from nothing (docs/GATE.md)'
 	@echo 'make bench     the measurements of bench/README.md, some ten minutes'
@@ -19,7 +19,7 @@ build:
 	@cd crates/rbbank && rt run -- script < stdin > /dev/null
 	@echo $(CURDIR)/crates/rbbank/out/rbbank
 
-# Every script and all histories of examples/ through the program.
+# Every script, all histories and migrations of examples/ through the program.
 examples: build
 	@examples/check.py crates/rbbank/out/rbbank
 

@@ -1,5 +1,5 @@
 #!/usr/bin/env python3
-"""Writes a script for `rbbank script`, or histories for `rbbank audit`: a configuration line and so many lines, the same for the same seed.
+"""Writes a script for `rbbank script`, or histories for `rbbank audit` and `rbbank migrate`: a configuration line and so many lines, the same for the same seed.
 
 README.md tells what each kind is.
 """
@@ -11,17 +11,25 @@ sys.dont_write_bytecode = True
 import histories
 import kinds
 import mix
-from limits import LIMITS
+from limits import LIMITS, version_of
 
-MIXED = {"mix": mix.mix, "histories": histories.histories}
-KINDS = MIXED | kinds.LONG | kinds.SHORTEST
+MIXED = {"mix": mix.mix, "histories": histories.histories, "migrations": histories.histories}
+# The same commands at a bank of so many sites, in version 2 of the lines.
+AT_SITES = {f"{kind}-{sites}": (kind, sites) for kind in ("cycle", "mix", "histories") for sites in (2, 8, 16)}
+KINDS = MIXED | kinds.LONG | kinds.SHORTEST | AT_SITES
 
 
 def lines(kind, commands, seed=1, **of_mix):
     """The lines of an input. The options of the mix may be given for what is mixed alone."""
-    sites = of_mix.setdefault("sites", 3) if kind in MIXED else 2
+    kind, bank = AT_SITES.get(kind, (kind, None))
+    sites = of_mix.get("sites", 3 if kind in MIXED and bank is None else 2)
+    version = version_of(sites) if bank is None else 2
+    if kind in MIXED:
+        of_mix["sites"] = sites
+    if KINDS[kind] is histories.histories:
+        of_mix["version"] = version
     script = KINDS[kind](seed, commands, **of_mix)
-    yield json.dumps({"accounts": next(script), "sites": sites, "version": 1}, separators=(",", ":"))
+    yield json.dumps({"accounts": next(script), "sites": bank or sites, "version": version}, separators=(",", ":"))
     yield from script
 
 

@@ -13,14 +13,19 @@ def written(value):
     return json.dumps(value, separators=(",", ":"), sort_keys=True)
 
 
-def shadow(run, operation):
-    """An operation as it travels."""
-    # A clock is written with as many sites as there may be.
-    blue = list(operation.clock) + [0] * (LIMITS["MOST_SITES"] - len(operation.clock))
+def counts(clock, version):
+    """The blue operations of a clock: in version 1 for each of as many sites as it may have, in version 2 those above 0."""
+    if version == 1:
+        return [*clock, *[0] * (LIMITS["MOST_SITES_OF_VERSION_1"] - len(clock))]
+    return [[site, count] for site, count in enumerate(clock) if count]
+
+
+def shadow(run, operation, version):
+    """An operation as it travels, in a version of the lines."""
     told = {
         "account": run.names[operation.account],
         "amount": operation.amount,
-        "deps": [blue, operation.reds],
+        "deps": [counts(operation.clock, version), operation.reds],
         "home": operation.home,
         "kind": operation.kind,
         "name": operation.name,
@@ -31,9 +36,10 @@ def shadow(run, operation):
 
 
 class Known:
-    """What each site has heard of: operations by name, and its greatest epoch."""
+    """What each site has heard of, operations by name and its greatest epoch; and the version of the lines that tell it."""
 
-    def __init__(self, sites):
+    def __init__(self, sites, version):
+        self.version = version
         self.names = [set() for _ in range(sites)]
         self.epochs = [0] * sites
 
@@ -55,7 +61,7 @@ def delivered(run, known, site, number, to_token):
     message = run.sent[number - 1]
     if isinstance(message, mix.Operation):
         reply = "held" if known.hears(site, message.name) else "already"
-        return {"shadow": shadow(run, message)}, {reply: message.name}
+        return {"shadow": shadow(run, message, known.version)}, {reply: message.name}
     epoch, needed = message
     return {"token": [epoch, to_token[number], needed]}, {"taken" if known.sees(site, epoch) else "stale": epoch}
 
@@ -78,10 +84,10 @@ def recorded(run, known, to_token, event, site):
     return event, {"kind": made.kind, "name": made.name}
 
 
-def histories(seed, entries, **of_mix):
-    """The accounts with their starts, and then so many lines of histories."""
+def histories(seed, entries, version=1, **of_mix):
+    """The accounts with their starts, and then so many lines of histories, in a version of the lines."""
     run, picked = mix.opened(seed, **of_mix)
-    known, to_token = Known(len(run.sites)), {}
+    known, to_token = Known(len(run.sites), version), {}
     yield picked
     for done in range(entries):
         event = json.loads(run.command(entries - done))

@@ -1,6 +1,6 @@
 """The scripts of one kind of command each. A kind yields its accounts with their starts, and then its commands.
 
-All have two sites, and the token stays at site 0. Names are known beforehand: the n-th blue operation that
+All have two sites, but for those whose names end in a number, and the token stays at site 0. Names are known beforehand: the n-th blue operation that
 site 0 makes is B0.n, the n-th red one R.n without the dot. So a command costs the same time however long the script is.
 """
 import itertools

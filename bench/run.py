@@ -1,5 +1,5 @@
 #!/usr/bin/env python3
-"""Measures `rbbank script` on generated scripts, and `rbbank audit` on generated histories, and prints a table, a line for each kind and size.
+"""Measures `rbbank script` on generated scripts, `rbbank audit` and `rbbank migrate` on generated histories, and prints a table, a line for each kind and size.
 
 README.md tells what each kind and each number is.
 """
@@ -46,7 +46,7 @@ def built():
 
 def word(kind):
     """The command of the program that reads a kind."""
-    return "audit" if kind == "histories" else "script"
+    return {"histories": "audit", "migrations": "migrate"}.get(kind.partition("-")[0], "script")
 
 
 def script(folder, kind, size, seed):
@@ -122,7 +122,7 @@ def tell_bytes(peaks):
 def main():
     words = argparse.ArgumentParser(description=__doc__)
     words.add_argument("program", nargs="?", help="a built rbbank; without it, `make build` makes it")
-    words.add_argument("--kinds", default=",".join([*AT_EACH, *(one for one in kinds.SHORTEST if one not in AT_EACH)]))
+    words.add_argument("--kinds", default=",".join([*AT_EACH, *(one for one in [*kinds.SHORTEST, *generate.AT_SITES] if one not in AT_EACH)]))
     words.add_argument("--sizes", default=SIZES, help=f"commands, the least first, {SIZES}")
     words.add_argument("--runs", type=int, default=3, help="rounds, of which the best is told")
     words.add_argument("--seed", type=int, default=1)

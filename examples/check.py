@@ -1,7 +1,7 @@
 #!/usr/bin/env python3
-"""Runs every script and all histories of this folder through a built program, and compares what it writes, what
-it says on standard error, and its status. What the program's own help shows is run as well, its version is
-looked at, and a run of tellers is audited.
+"""Runs every script, all histories and every migration of this folder through a built program, and compares what it
+writes, what it says on standard error, and its status. What the program's own help shows is run as well, its version
+is looked at, and a run of tellers is audited.
 
 usage: check.py [--quiet] PROGRAM      (--quiet tells only what is different)
 """
@@ -12,6 +12,8 @@ import subprocess
 import sys
 
 HERE = os.path.dirname(os.path.abspath(__file__))
+# the command for an example, by the second ending of its file's name
+COMMANDS = {"histories": "audit", "migration": "migrate"}
 
 
 def stored(path, otherwise):
@@ -28,15 +30,16 @@ def expected(stem):
 
 
 def answered(program, path):
-    command = "audit" if path.endswith(".histories.jsonl") else "script"
+    command = COMMANDS.get(path.removesuffix(".jsonl").rpartition(".")[2], "script")
     with open(path, "rb") as given:
         run = subprocess.run([program, command], stdin=given, capture_output=True)
     return run.stdout, run.stderr, run.returncode
 
 
 def shown(program, command):
-    """The parts of a command's help that stand further in: its worked input, the answer, and the statuses."""
-    text = subprocess.run([program, command, "--help"], capture_output=True, text=True).stdout
+    """The parts of a command's help that stand further in: its worked input, and the answer. What stands still further in
+    is the rest of the line above it."""
+    text = subprocess.run([program, command, "--help"], capture_output=True, text=True).stdout.replace("\n    ", "")
     return [part for part in re.findall(r"(?m)(?:^  \S.*\n)+", text) if "{" in part]
 
 
@@ -51,7 +54,7 @@ def helps(program, command):
 
 def tells_version(program):
     run = subprocess.run([program, "--version"], capture_output=True)
-    return (run.stdout, run.stderr, run.returncode) == (b"rbbank 1\n", b"", 0)
+    return (run.stdout, run.stderr, run.returncode) == (b"rbbank 2\n", b"", 0)
 
 
 def tellers(program, sites, count):
@@ -71,9 +74,9 @@ def main():
     paths = sorted(glob.glob(os.path.join(HERE, "*.jsonl")))
     same = [answered(words[0], path) == expected(path.removesuffix(".jsonl")) for path in paths]
     results = list(zip(map(os.path.basename, paths), same))
-    results += [(command + " --help", helps(words[0], command)) for command in ["script", "audit"]]
+    results += [(command + " --help", helps(words[0], command)) for command in ["script", "audit", "migrate"]]
     results.append(("--version", tells_version(words[0])))
-    results += [(f"threads at {sites} sites, audited", tellers(words[0], sites, count)) for sites, count in [(2, 1), (3, 4), (8, 16)]]
+    results += [(f"threads at {sites} sites, audited", tellers(words[0], sites, count)) for sites, count in [(2, 1), (3, 4), (8, 16), (16, 16)]]
     for name, same in results:
         if not same or "--quiet" not in sys.argv[1:]:
             print(f"{'same' if same else 'DIFFERENT'}  {name}")

@@ -30,7 +30,7 @@ def rows():
 def examples():
     """The names of the scripts of this folder that are answered whole."""
     stems = (os.path.basename(path).removesuffix(".jsonl") for path in glob.glob(os.path.join(HERE, "*.jsonl")))
-    return sorted(stem for stem in stems if not stem.endswith(".histories") and not os.path.exists(os.path.join(HERE, stem + ".status")))
+    return sorted(stem for stem in stems if not stem.endswith((".histories", ".migration")) and not os.path.exists(os.path.join(HERE, stem + ".status")))
 
 
 def faults():

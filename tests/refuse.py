@@ -1,12 +1,12 @@
 #!/usr/bin/env python3
-"""Refuses each allocation in turn: of the program on four scripts, and of four tests.
+"""Refuses each allocation in turn: of the program on four scripts and a migration, and of four tests.
 
 usage: refuse.py PROGRAM TESTS SEATS      (what `rt run` and `rt test` built in crates/rbbank/out, and `rt test` in crates/rb_threads/out)
 
 A process is run with its first allocation refused, another with its second, and so on until a run meets
-no refusal. The program has to write a front of the script's replies and end in status 4, or all of them
-in status 0; a test (crates/rbbank/src/refused_tests.rt, crates/rb_threads/src/seat_tests.rt) has to pass. Ends in status 1 where a run does
-otherwise, and where no run of a script was stopped on the way, or none inside a batch.
+no refusal. The program has to write a front of what is expected and end in status 4, or all of it in status 0;
+a test (crates/rbbank/src/refused_tests.rt, crates/rb_threads/src/seat_tests.rt) has to pass. Ends in status 1 where a
+run does otherwise, and where no run of an input was stopped on the way, or none inside a batch.
 """
 import itertools
 import os
@@ -23,6 +23,8 @@ ROWS = [
     "batch_all_or_nothing",
     "as_of_each_position",
 ]
+# what the program is run on, and by which command
+RUNS = [(name, "script") for name in ROWS] + [("migrated_history.migration", "migrate")]
 SECONDS = 60
 
 
@@ -59,14 +61,14 @@ def fail(what, nth, run):
     sys.exit(f"refuse: {what}: allocation {nth}: status {run.returncode}\n{text}")
 
 
-def script(refuser, program, name):
-    """The program on a script. The number of refusals."""
+def program_on(refuser, program, name, command):
+    """The program on an input. The number of refusals."""
     with open(os.path.join(EXAMPLES, name + ".jsonl"), "rb") as file:
         text = file.read()
     with open(os.path.join(EXAMPLES, name + ".expected"), "rb") as file:
         whole = file.read()
     refusals = stopped = midway = 0
-    for nth, run, refused in refuser.runs([program, "script"], text):
+    for nth, run, refused in refuser.runs([program, command], text):
         wrote_all = run.returncode == 0 and run.stdout == whole and run.stderr == b""
         gave_up = run.returncode == 4 and run.stderr == b"rbbank: out of memory\n"
         if not wrote_all and not (refused and gave_up and whole.startswith(run.stdout)):
@@ -123,7 +125,7 @@ def main():
     program, tests, seats = map(os.path.abspath, sys.argv[1:])
     with tempfile.TemporaryDirectory() as folder:
         refuser = Refuser(folder)
-        refusals = sum(script(refuser, program, name) for name in ROWS)
+        refusals = sum(program_on(refuser, program, name, command) for name, command in RUNS)
         refusals += all_tests(refuser, tests, seats)
     print(f"{refusals} refusals tried, and all is as it has to be")
 

@@ -6,3 +6,4 @@ mod UsualLines
 mod Verbs
 mod Scanned
 mod Batches
+mod Versions

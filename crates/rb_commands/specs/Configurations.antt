@@ -1,6 +1,5 @@
 -- Which configuration a line is.
-use Rattle.std.specs.Prelude.{ℕ, ◌+◌, ◌^◌, ◌==◌, ◌&&◌, Bool, false, List, [], ◌∷◌, Option, Some, None, is_none, is_some, codes, if◌then◌else◌, option_and_then, option_map}
-use Rattle.std.specs.Option.{option_map_or}
+use Rattle.std.specs.Prelude.{ℕ, ◌+◌, ◌^◌, ◌==◌, ◌&&◌, ◌||◌, Bool, List, [], ◌∷◌, Option, Some, None, is_none, is_some, codes, if◌then◌else◌, option_and_then, option_map, nat_le}
 use Rattle.std.specs.Str.{is_utf8}
 use Rattle.serde_json.specs.Data.{Data, Items, no_items, item}
 use Rattle.serde_json.specs.Find.{get, as_array, as_str}
@@ -8,7 +7,7 @@ use Rattle.serde_json.specs.Read.{read}
 use Rattle.rb_money.specs.Faults.{Account, config_fault, settings_of}
 use Rattle.rb_money.specs.Settings.{Settings}
 use Rattle.rb_money.specs.declared.limits.Limits.{Limits}
-use Rattle.rb_money.specs.declared.limits.TheConstants.{MOST_BLUE, MOST_RED, MOST_INBOX, MOST_HISTORY, MOST_EPOCH}
+use Rattle.rb_money.specs.declared.limits.TheConstants.{MOST_SITES_OF_VERSION_1, MOST_BLUE, MOST_RED, MOST_INBOX, MOST_HISTORY, MOST_EPOCH}
 use Rattle.rb_commands.specs.Values.{number_below, pair_of, size_of, either}
 
 -- an account's name and starting balance, from the list of both
@@ -46,24 +45,29 @@ has key d = if is_some (get key d) then 1 else 0
 abbrev pub has_known_keys : Data → Bool
 has_known_keys d = size_of d == 3 + has (codes "blue") d + has (codes "red") d + has (codes "inbox") d + has (codes "history") d + has (codes "epoch") d
 
--- the version of the format is 1
-abbrev pub is_version_one : Data → Bool
-is_version_one d = option_map_or (λ n. n == 1) (option_and_then (number_below (2 ^ 32)) (get (codes "version") d)) false
+-- the version of the format
+abbrev pub version_at : Data → Option ℕ
+version_at d = option_and_then (number_below (2 ^ 8)) (get (codes "version") d)
+
+-- lines of so many sites may have this version: 1 up to the most sites of version 1, and 2 whatever the sites
+abbrev pub is_version : ℕ → ℕ → Bool
+is_version version sites = ((version == 1) && nat_le sites MOST_SITES_OF_VERSION_1) || (version == 2)
 
 -- the configuration of these parts, where nothing is wrong with it
-abbrev pub config_from : ℕ → Limits → List Account → Option Settings
-config_from sites limits accounts = if is_none (config_fault sites accounts limits) then Some (settings_of sites accounts limits) else None
+abbrev pub config_from : ℕ → ℕ → Limits → List Account → Option Settings
+config_from version sites limits accounts = if is_version version sites && is_none (config_fault sites accounts limits) then Some (record (settings_of sites accounts limits) { version = version }) else None
 
 -- the configuration that the values of an object's keys come to
 abbrev pub config_in : Data → Option Settings
-config_in d = option_and_then (λ sites. option_and_then (λ limits. option_and_then (config_from sites limits)
+config_in d = option_and_then (λ version. option_and_then (λ sites. option_and_then (λ limits. option_and_then (config_from version sites limits)
     (option_and_then accounts_at (get (codes "accounts") d)))
     (limits_of d))
-    (option_and_then (number_below (2 ^ 8)) (get (codes "sites") d))
+    (option_and_then (number_below (2 ^ 8)) (get (codes "sites") d)))
+    (version_at d)
 
 -- the configuration that an object is
 abbrev pub config_of : Data → Option Settings
-config_of d = if is_version_one d && has_known_keys d then config_in d else None
+config_of d = if has_known_keys d then config_in d else None
 
 -- the configuration that a line is
 abbrev pub config_at : List ℕ → Option Settings

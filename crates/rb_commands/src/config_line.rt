@@ -1,15 +1,16 @@
 //! Lines of configurations.
-ghost use Rattle.std.specs.Prelude.{◌≡◌, ◌≤◌, ◌^◌, codes, map, option_and_then, option_map, OnOk, ◌++◌, ◌∷◌, []};
+ghost use Rattle.std.specs.Prelude.{◌≡◌, ◌≤◌, ◌^◌, codes, map, option_and_then, option_map, OnOk, true, ◌++◌, ◌∷◌, []};
 ghost use Rattle.serde_json.specs.Find.{get};
 ghost use Rattle.serde_json.specs.View.{view};
-ghost use Rattle.rb_commands.specs.Configurations.{account_at, accounts_at, limit_read, limits_of, has, has_known_keys, is_version_one, config_from, config_in, config_of, config_at};
+ghost use Rattle.rb_commands.specs.Configurations.{account_at, accounts_at, limit_read, limits_of, has, has_known_keys, is_version, version_at, config_from, config_in, config_of, config_at};
 ghost use Rattle.rb_money.specs.Faults.{account_of};
+ghost use Rattle.rb_money.specs.Settings.{version_of};
 ghost use Rattle.rb_commands.specs.Lines.{Gives, GivesAs};
 ghost use Rattle.rb_commands.specs.Values.{number_below};
 
 use crate::fault::LineFault;
 use crate::values::{byte, long, pair, parse, size, word};
-use rb_money::{Config, ConfigFault, Limits};
+use rb_money::{Config, ConfigFault, Limits, MOST_SITES_OF_VERSION_1};
 use serde_json::Value;
 use std::alloc::{AllocError, Global};
 
@@ -107,13 +108,21 @@ fn is_of_known_keys(value: &Value) -> bool
     size(value) == known
 }
 
-/// Whether the version of the format is 1.
-fn is_of_version_one(value: &Value) -> bool
-    ensures { result ≡ is_version_one (view value.now) }
+/// The version of the format.
+fn version(value: &Value) -> Option<u8>
+    ensures { result ≡ version_at (view value.now) }
 {
-    match value.get("version") {
-        Some(version) => word(version) == Some(1),
-        None => false,
+    byte(value.get("version")?)
+}
+
+/// Whether lines of so many sites may have this version.
+fn is_version(version: u8, sites: u8) -> bool
+    ensures { result ≡ is_version version sites }
+{
+    match version {
+        1 => usize::from(sites) <= MOST_SITES_OF_VERSION_1,
+        2 => true,
+        _ => false,
     }
 }
 
@@ -123,17 +132,36 @@ fn sites(value: &Value) -> Option<u8>
     byte(value.get("sites")?)
 }
 
+/// The configuration in a version that its sites may have.
+#[tactic(auto, using(crate::proofs::Versions::is_second, crate::proofs::Versions::stays))]
+fn in_version(config: Config, version: u8) -> Config
+    requires made { config.version ≡ version_of config.sites }
+    requires allowed { is_version version config.sites ≡ true }
+    ensures { result ≡ record config { version = version } }
+{
+    if version == 2 {
+        config.to_version2()
+    } else {
+        config
+    }
+}
+
 /// The configuration of these parts.
+#[tactic(auto, using(crate::proofs::Versions::faulty, crate::proofs::Versions::from_parts, crate::proofs::Versions::made_version, crate::proofs::Versions::not_allowed, crate::proofs::Versions::still_allowed))]
 fn made(
     alloc: Global,
+    version: u8,
     sites: u8,
     limits: Limits,
     accounts: Vec<(String, u64)>,
 ) -> Result<Config, LineFault>
-    ensures { Gives result (config_from sites limits (map account_of accounts.items)) }
+    ensures { Gives result (config_from version sites limits (map account_of accounts.items)) }
 {
+    if !is_version(version, sites) {
+        return Err(LineFault::Bad);
+    }
     match Config::new(alloc, sites, accounts, limits) {
-        Ok(config) => Ok(config),
+        Ok(config) => Ok(in_version(config, version)),
         Err(ConfigFault::OutOfMemory) => Err(LineFault::OutOfMemory),
         Err(_) => Err(LineFault::Bad),
     }
@@ -143,6 +171,9 @@ fn made(
 fn parts(alloc: Global, value: &Value) -> Result<Config, LineFault>
     ensures { Gives result (config_in (view value.now)) }
 {
+    let Some(version) = version(value) else {
+        return Err(LineFault::Bad);
+    };
     let Some(sites) = sites(value) else {
         return Err(LineFault::Bad);
     };
@@ -153,7 +184,7 @@ fn parts(alloc: Global, value: &Value) -> Result<Config, LineFault>
         return Err(LineFault::Bad);
     };
     match accounts(alloc, list) {
-        Ok(accounts) => made(alloc, sites, limits, accounts),
+        Ok(accounts) => made(alloc, version, sites, limits, accounts),
         Err(fault) => Err(fault),
     }
 }
@@ -161,7 +192,7 @@ fn parts(alloc: Global, value: &Value) -> Result<Config, LineFault>
 fn config(alloc: Global, value: &Value) -> Result<Config, LineFault>
     ensures { Gives result (config_of (view value.now)) }
 {
-    if !is_of_version_one(value) || !is_of_known_keys(value) {
+    if !is_of_known_keys(value) {
         return Err(LineFault::Bad);
     }
     parts(alloc, value)

@@ -1,7 +1,7 @@
 -- The line of a configuration is read as the configuration.
-use Rattle.std.proofs.Common.{◌≡◌, ◌<◌, ◌≤◌, ◌+◌, ◌^◌, ℕ, suc, List, [], ◌∷◌, ◌++◌, length, Some, None, true, false, refl, sym, ap, ◌∙◌, arith}
-use Rattle.std.specs.Prelude.{map, nat_lt, bytes_eq, slice_get, option_and_then}
-use Rattle.std.proofs.lemmas.Bool.{le-leb, or_parts}
+use Rattle.std.proofs.Common.{◌≡◌, ◌<◌, ◌≤◌, ◌+◌, ◌^◌, ℕ, suc, List, [], ◌∷◌, ◌++◌, length, Some, None, true, false, refl, sym, ap, ◌∙◌, inl, inr, arith}
+use Rattle.std.specs.Prelude.{◌==◌, ◌&&◌, map, nat_le, nat_lt, bytes_eq, slice_get, option_and_then}
+use Rattle.std.proofs.lemmas.Bool.{le-leb, or_parts, or_right}
 use Rattle.std.proofs.lemmas.Bool.Decides.{nat_tests}
 use Rattle.std.proofs.lemmas.Slice.Eq.{bytes_eq-Decides}
 use Rattle.serde_json.specs.Read.{read}
@@ -9,9 +9,9 @@ use Rattle.serde_json.specs.View.{items_of}
 use Rattle.serde_json.specs.Written.{compact_text}
 use Rattle.rb_money.specs.declared.cents.TheConstants.{MOST_CENTS}
 use Rattle.rb_money.specs.Faults.{Account, account_fault, config_fault, is_among}
-use Rattle.rb_money.specs.Settings.{IsConfigured, Settings, is_account_name}
-use Rattle.rb_money.specs.declared.limits.TheConstants.{MOST_SITES, MOST_ACCOUNTS, MOST_BLUE, MOST_RED, MOST_INBOX, MOST_HISTORY, MOST_EPOCH}
-use Rattle.rb_commands.specs.Configurations.{accounts_in, config_at, config_of}
+use Rattle.rb_money.specs.Settings.{IsConfigured, IsVersion, Settings, is_account_name}
+use Rattle.rb_money.specs.declared.limits.TheConstants.{MOST_SITES, MOST_SITES_OF_VERSION_1, MOST_ACCOUNTS, MOST_BLUE, MOST_RED, MOST_INBOX, MOST_HISTORY, MOST_EPOCH}
+use Rattle.rb_commands.specs.Configurations.{accounts_in, config_at, config_of, is_version}
 use Rattle.rb_history.specs.ConfigLines.{accounts_of, config_json, start_json}
 use Rattle.rb_history.specs.Fits.{Each}
 use Rattle.rb_money.proofs.Public.Tests.{is_below as below}
@@ -95,6 +95,15 @@ no_fault s c =
       le-leb l.epoch MOST_EPOCH c.epoch.1,
     ) refl
 
+-- its version is one that its sites may have
+right_version : (version sites : ℕ) → IsVersion version sites → is_version version sites ≡ true
+right_version version sites (inl (one, few)) = rw (one, le-leb sites MOST_SITES_OF_VERSION_1 few) refl
+right_version version sites (inr two) = rw two (or_right ((2 == 1) && nat_le sites MOST_SITES_OF_VERSION_1) true refl)
+
+small_version : (version sites : ℕ) → IsVersion version sites → version < 2 ^ 8
+small_version version sites (inl (one, few)) = omega arith
+small_version version sites (inr two) = omega arith
+
 config_back : (s : Settings) → IsConfigured s → config_of (config_json s) ≡ Some s
 config_back s c =
     let l = s.limits in
@@ -115,8 +124,10 @@ config_back s c =
       below l.epoch (2 ^ 32) (omega arith),
       accounts_back (accounts_of s.names s.starts) (small_starts s.names s.starts c.starts),
       no_fault s c,
+      below s.version (2 ^ 8) (small_version s.version s.sites c.version),
+      right_version s.version s.sites c.version,
     )
-    (λ j. Some (record { sites = s.sites; names = names j; starts = starts j; limits = l }))
+    (λ j. Some (record { sites = s.sites; names = names j; starts = starts j; limits = l; version = s.version }))
 
 -- ---- the text
 
@@ -130,7 +141,8 @@ config_text s c =
     let inbox = number_text s.limits.inbox (omega (arith, c.inbox.1)) in
     let red = number_text s.limits.red (omega (arith, c.red.1)) in
     let sites = number_text s.sites (omega arith) in
-    let version = number_text 1 (omega arith) in
+    let small = small_version s.version s.sites c.version in
+    let version = number_text s.version (omega arith) in
     let depth = accounts.shallow in
     let line = config_json s in
     compact_read line line (accounts.numbers, (blue.numbers, (epoch.numbers, (history.numbers, (inbox.numbers, (red.numbers, (sites.numbers, (version.numbers, tt))))))))

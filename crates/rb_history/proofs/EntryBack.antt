@@ -1,9 +1,8 @@
 -- What is written for an event or a line's entry is read as it.
-use Rattle.std.proofs.Common.{◌≡◌, ◌<◌, ◌^◌, ℕ, List, [], ◌∷◌, length, Some, refl, ap}
+use Rattle.std.proofs.Common.{◌≡◌, ◌<◌, ◌^◌, ℕ, List, [], ◌∷◌, Some, refl, ap}
 use Rattle.std.specs.Prelude.{map}
 use Rattle.serde_json.specs.View.{items_of}
 use Rattle.rb_money.specs.Settings.{IsConfigured, Settings}
-use Rattle.rb_money.specs.declared.limits.TheConstants.{MOST_SITES}
 use Rattle.rb_money.specs.declared.place.Place.{Place}
 use Rattle.rb_scratch.specs.declared.request.Request.{Request}
 use Rattle.rb_scratch.specs.declared.request.Request.TheVariants.{Deposit, Withdraw, Interest, Cancel, Transfer}
@@ -17,11 +16,11 @@ use Rattle.rb_site.specs.declared.event.Event.TheVariants.{Submit, Batch, Receiv
 use Rattle.rb_site.specs.declared.message.Message.TheVariants.{Shadow as ShadowMessage, Token as TokenOnItsWay}
 use Rattle.rb_history.specs.Entries.{entry_json, entry_of_object, event_json, request_json, shadow_json}
 use Rattle.rb_history.specs.Fits.{Each, IsEvent, IsKind, IsReply, IsRequest, IsShadow}
-use Rattle.rb_history.specs.Recorded.{counts_in, event_at, kind_at, shadow_at}
+use Rattle.rb_history.specs.Recorded.{event_at, kind_at, shadow_at}
 use Rattle.rb_commands.specs.Requests.{request_alone, requests_in}
-use Rattle.rb_commands.specs.Values.{number_json}
-use Rattle.rb_money.proofs.Public.Tests.{equal, is_below as below}
+use Rattle.rb_money.proofs.Public.Tests.{is_below as below}
 use Rattle.rb_commands.proofs.Public.Reading.{back}
+use Rattle.rb_history.proofs.CountsBack.{blue_back}
 use Rattle.rb_history.proofs.KnownPlaces.{known_place}
 use Rattle.rb_history.proofs.ReplyBack.{reply_back}
 
@@ -36,10 +35,6 @@ requests_back : (s : Settings) → IsConfigured s → (rs : List Request) → Ea
 requests_back s c [] h = refl
 requests_back s c (r ∷ rs) h = rw (request_back s c r h.0, requests_back s c rs h.1) refl
 
-counts_back : (ns : List ℕ) → Each (λ n. n < 2 ^ 32) ns → counts_in (items_of (map number_json ns)) ≡ Some ns
-counts_back [] h = refl
-counts_back (n ∷ ns) h = rw (below n (2 ^ 32) h.0, counts_back ns h.1) refl
-
 abbrev shadow_with : OpName → ℕ → List ℕ → ℕ → Place → ℕ → Kind → Shadow
 shadow_with name home blue red account amount kind = record { name = name; home = home; deps = record { blue = blue; red = red }; account = account; amount = amount; kind = kind }
 
@@ -50,7 +45,7 @@ kind_back s c name home blue red account amount _ h = refl
 
 shadow_by : (s : Settings) → IsConfigured s → (name : OpName) (home : ℕ) (blue : List ℕ) (red : ℕ) (account : Place) (amount : ℕ) (kind : Kind) → IsShadow s (shadow_with name home blue red account amount kind) → shadow_at s (shadow_json s (shadow_with name home blue red account amount kind)) ≡ Some (shadow_with name home blue red account amount kind)
 shadow_by s c name home blue red account amount kind h =
-    rw (below amount (2 ^ 64) h.amount, counts_back blue h.blue, equal (length blue) MOST_SITES h.sites, below red (2 ^ 32) h.red, below home (2 ^ 8) h.home, kind_back s c name home blue red account amount kind h.kind, back name h.name)
+    rw (below amount (2 ^ 64) h.amount, blue_back s.version s.sites blue c.version h.sites h.blue h.further, below red (2 ^ 32) h.red, below home (2 ^ 8) h.home, kind_back s c name home blue red account amount kind h.kind, back name h.name)
     (ap (λ p. Some (shadow_with name home blue red p amount kind)) (known_place s account c h.account))
 
 shadow_back : (s : Settings) → IsConfigured s → (v : Shadow) → IsShadow s v → shadow_at s (shadow_json s v) ≡ Some v

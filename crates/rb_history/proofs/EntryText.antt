@@ -1,6 +1,6 @@
 -- The text of an entry is read as the entry's JSON object.
-use Rattle.std.proofs.Common.{◌≡◌, ◌<◌, ◌≤◌, ◌^◌, ℕ, suc, ℤ, pos, negsuc, List, [], ◌∷◌, Some, Bool, refl, arith}
-use Rattle.std.specs.Prelude.{map}
+use Rattle.std.proofs.Common.{◌≡◌, ◌<◌, ◌≤◌, ◌^◌, ℕ, suc, ℤ, pos, negsuc, List, [], ◌∷◌, length, take, Some, Bool, true, false, refl, arith}
+use Rattle.std.specs.Prelude.{◌==◌, map, if◌then◌else◌}
 use Rattle.json.specs.Tree.{HasNumbers, ItemsHaveNumbers}
 use Rattle.json.specs.Tree as tree
 use Rattle.json.proofs.Printed.Decimals.{IsNumber-decimal, IsNumber-signed_decimal}
@@ -10,6 +10,7 @@ use Rattle.serde_json.specs.View.{items_of}
 use Rattle.serde_json.specs.Written.{compact_text, items_outline, outline}
 use Rattle.serde_json.proofs.Numbers.{number_of-decimal, number_of-negative}
 use Rattle.rb_money.specs.Settings.{Settings}
+use Rattle.rb_money.specs.declared.limits.TheConstants.{MOST_SITES, MOST_SITES_OF_VERSION_1}
 use Rattle.rb_money.specs.declared.place.Place.{Place}
 use Rattle.rb_money.specs.declared.refusal.Cause.TheVariants.{Declined as CauseDeclined, Refused as CauseRefused}
 use Rattle.rb_money.specs.declared.refusal.Refusal.{Refusal}
@@ -27,12 +28,15 @@ use Rattle.rb_site.specs.declared.message.Message.TheVariants.{Shadow as ShadowM
 use Rattle.rb_site.specs.declared.reply.Reply.{Reply}
 use Rattle.rb_site.specs.declared.reply.Reply.TheVariants.{Made, Names, Held, Already, Taken, Stale, Applied, Passed, Balance as BalanceIs, Statement as StatementIs, Refused}
 use Rattle.rb_statements.specs.declared.row.Row.{Row}
+use Rattle.rb_history.specs.Counts.{blue_json, numbered_from, numbered_json}
 use Rattle.rb_history.specs.Entries.{asked_json, deps_json, entry_json, event_json, request_json, shadow_json}
 use Rattle.rb_history.specs.Fits.{Each, IsEvent, IsMoved, IsRefusal, IsReply, IsRequest, IsStatementRow, IsShadow}
 use Rattle.rb_commands.specs.Replies.{refusal_json, reply_json}
 use Rattle.rb_commands.specs.Statements.{row_json}
 use Rattle.rb_commands.specs.Values.{integer_json, list_json, name_json, number_json, one_json, pair_json, three_json}
 use Rattle.rb_commands.proofs.Public.Reading.{compact_read}
+use Rattle.rb_history.proofs.CountsBack.{each_take}
+use Rattle.rb_history.proofs.Numbered.{numbered_fit}
 
 -- a value that is read from its own text, and nests at most so deep
 pub record IsText (d : Data) (most : ℕ) : Type 0 where
@@ -111,17 +115,25 @@ request_text s (Interest a rate) (known, fits) = one_text _ _ 1 (asked_text s a 
 request_text s (Cancel x) h = deeper (request_json s (Cancel x)) 1 2 (one_text _ (name_json x) 0 (string_text _)) (omega arith)
 request_text s (Transfer from to amount) (leaves, arrives, fits) = one_text _ _ 1 (three_text _ _ (number_json amount) 0 (string_text _) (string_text _) (number_text amount fits))
 
-deps_text : (blue : List ℕ) (red : ℕ) → Each (λ n. n < 2 ^ 32) blue → red < 2 ^ 32 → IsText (deps_json (record { blue = blue; red = red })) 2
-deps_text blue red h k = pair_text (list_json number_json blue) (number_json red) 1 (list_text number_json (λ n. n < 2 ^ 32) 0 (λ n small. number_text n (omega arith)) blue h) (deeper (number_json red) 0 1 (number_text red (omega arith)) (omega arith))
+blue_text : (version : ℕ) (blue : List ℕ) → length blue ≡ MOST_SITES → Each (λ n. n < 2 ^ 32) blue → IsText (blue_json version blue) 2
+unfolding blue_json
+blue_text version blue long h = at (version == 1)
+  where
+    at : (b : Bool) → IsText (if b then list_json number_json (take MOST_SITES_OF_VERSION_1 blue) else list_json numbered_json (numbered_from 0 blue)) 2
+    at true = deeper (list_json number_json (take MOST_SITES_OF_VERSION_1 blue)) 1 2 (list_text number_json (λ n. n < 2 ^ 32) 0 (λ n small. number_text n (omega arith)) (take MOST_SITES_OF_VERSION_1 blue) (each_take (λ n. n < 2 ^ 32) MOST_SITES_OF_VERSION_1 blue h)) (omega arith)
+    at false = list_text numbered_json (λ (p : ℕ × ℕ). (p.0 < 2 ^ 64) × (p.1 < 2 ^ 64)) 1 (λ p fits. pair_text (number_json p.0) (number_json p.1) 0 (number_text p.0 fits.0) (number_text p.1 fits.1)) (numbered_from 0 blue) (numbered_fit 0 blue (omega arith) h)
+
+deps_text : (version : ℕ) (blue : List ℕ) (red : ℕ) → length blue ≡ MOST_SITES → Each (λ n. n < 2 ^ 32) blue → red < 2 ^ 32 → IsText (deps_json version (record { blue = blue; red = red })) 3
+deps_text version blue red long h k = pair_text (blue_json version blue) (number_json red) 2 (blue_text version blue long h) (deeper (number_json red) 0 2 (number_text red (omega arith)) (omega arith))
 
 abbrev with_kind : Shadow → Kind → Shadow
 with_kind v kind = record { name = v.name; home = v.home; deps = v.deps; account = v.account; amount = v.amount; kind = kind }
 
-shadow_text : (s : Settings) (v : Shadow) → IsShadow s v → IsText (shadow_json s v) 3
+shadow_text : (s : Settings) (v : Shadow) → IsShadow s v → IsText (shadow_json s v) 4
 shadow_text s v h = of_kind v.kind
   where
-    deps : IsText (deps_json v.deps) 2
-    deps = deps_text v.deps.blue v.deps.red h.blue h.red
+    deps : IsText (deps_json s.version v.deps) 3
+    deps = deps_text s.version v.deps.blue v.deps.red h.sites h.blue h.red
 
     amount : IsText (number_json v.amount) 0
     amount = number_text v.amount h.amount
@@ -129,23 +141,23 @@ shadow_text s v h = of_kind v.kind
     home : IsText (number_json v.home) 0
     home = let small = h.home in number_text v.home (omega arith)
 
-    of_kind : (kind : Kind) → IsText (shadow_json s (with_kind v kind)) 3
+    of_kind : (kind : Kind) → IsText (shadow_json s (with_kind v kind)) 4
     of_kind (CancelKind x) = let d = deps.shallow in record { numbers = (tt, (amount.numbers, (deps.numbers, (home.numbers, (tt, (tt, (tt, tt))))))); shallow = omega arith; same = rw (amount.same, deps.same, home.same) refl }
     of_kind (TransferKind to) = let d = deps.shallow in record { numbers = (tt, (amount.numbers, (deps.numbers, (home.numbers, (tt, (tt, (tt, tt))))))); shallow = omega arith; same = rw (amount.same, deps.same, home.same) refl }
     of_kind _ = let d = deps.shallow in record { numbers = (tt, (amount.numbers, (deps.numbers, (home.numbers, (tt, (tt, tt)))))); shallow = omega arith; same = rw (amount.same, deps.same, home.same) refl }
 
-event_text : (s : Settings) (e : Event) → IsEvent s e → IsText (event_json s e) 4
-event_text s (Submit r) h = deeper (request_json s r) 2 4 (request_text s r h) (omega arith)
-event_text s (Batch rs) h = one_text _ _ 3 (list_text (request_json s) (IsRequest s) 2 (request_text s) rs h)
-event_text s (Receive (ShadowMessage v)) h = one_text _ _ 3 (shadow_text s v h)
+event_text : (s : Settings) (e : Event) → IsEvent s e → IsText (event_json s e) 5
+event_text s (Submit r) h = deeper (request_json s r) 2 5 (request_text s r h) (omega arith)
+event_text s (Batch rs) h = deeper (event_json s (Batch rs)) 4 5 (one_text _ _ 3 (list_text (request_json s) (IsRequest s) 2 (request_text s) rs h)) (omega arith)
+event_text s (Receive (ShadowMessage v)) h = one_text _ _ 4 (shadow_text s v h)
 event_text s (Receive (TokenOnItsWay m)) (epoch, to, red) =
     let told = three_text (number_json m.epoch) (number_json m.to) (number_json m.red) 0 (number_text m.epoch (omega arith)) (number_text m.to (omega arith)) (number_text m.red (omega arith)) in
-    deeper (event_json s (Receive (TokenOnItsWay m))) 2 4 (one_text _ _ 1 told) (omega arith)
-event_text s (Apply x) h = deeper (event_json s (Apply x)) 1 4 (one_text _ (name_json x) 0 (string_text _)) (omega arith)
-event_text s (Pass to) h = deeper (event_json s (Pass to)) 1 4 (one_text _ (number_json to) 0 (number_text to (omega arith))) (omega arith)
-event_text s (Balance a) h = deeper (event_json s (Balance a)) 1 4 (one_text _ _ 0 (string_text _)) (omega arith)
-event_text s (AsOf a n) (known, fits) = deeper (event_json s (AsOf a n)) 2 4 (one_text _ _ 1 (asked_text s a n (omega arith))) (omega arith)
-event_text s (Statement a) h = deeper (event_json s (Statement a)) 1 4 (one_text _ _ 0 (string_text _)) (omega arith)
+    deeper (event_json s (Receive (TokenOnItsWay m))) 2 5 (one_text _ _ 1 told) (omega arith)
+event_text s (Apply x) h = deeper (event_json s (Apply x)) 1 5 (one_text _ (name_json x) 0 (string_text _)) (omega arith)
+event_text s (Pass to) h = deeper (event_json s (Pass to)) 1 5 (one_text _ (number_json to) 0 (number_text to (omega arith))) (omega arith)
+event_text s (Balance a) h = deeper (event_json s (Balance a)) 1 5 (one_text _ _ 0 (string_text _)) (omega arith)
+event_text s (AsOf a n) (known, fits) = deeper (event_json s (AsOf a n)) 2 5 (one_text _ _ 1 (asked_text s a n (omega arith))) (omega arith)
+event_text s (Statement a) h = deeper (event_json s (Statement a)) 1 5 (one_text _ _ 0 (string_text _)) (omega arith)
 
 -- ---- replies
 

@@ -1,5 +1,7 @@
 mod Shapes
-mod Counts
+mod CountsLength
+mod Numbered
+mod CountsBack
 mod KnownPlaces
 mod Starts
 mod ReplyBack
@@ -10,6 +12,10 @@ mod ConfigBack
 mod Texts
 mod Told
 mod ListRead
+mod CountsTold
 mod PlainRefusals
 mod PlacesRead
 mod EntryLine
+mod FitsLaws
+mod NumbersFit
+mod ReadFits

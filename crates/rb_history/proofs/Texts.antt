@@ -1,6 +1,6 @@
 -- The lines of entries and of configurations are UTF-8.
-use Rattle.std.proofs.Common.{◌≡◌, ℕ, suc, List, [], ◌∷◌, true, codes, IsUtf8, refl, Option, Some, None, arith}
-use Rattle.std.specs.Prelude.{map, nat_lt, slice_get, unwrap_or}
+use Rattle.std.proofs.Common.{◌≡◌, ℕ, suc, List, [], ◌∷◌, true, codes, IsUtf8, refl, Option, Some, None, Bool, false, take, arith}
+use Rattle.std.specs.Prelude.{◌==◌, if◌then◌else◌, map, nat_lt, slice_get, unwrap_or}
 use Rattle.std.specs.List.{list_all}
 use Rattle.std.proofs.lemmas.Bool.{and_parts}
 use Rattle.std.proofs.lemmas.Bool.Decides.{nat_tests}
@@ -8,6 +8,7 @@ use Rattle.json.proofs.Printed.Utf8.{are_ascii, IsUtf8-are_ascii}
 use Rattle.serde_json.specs.View.{items_of}
 use Rattle.serde_json.specs.Written.{compact_text}
 use Rattle.rb_money.specs.Settings.{IsConfigured, Settings, is_account_name, is_name_byte}
+use Rattle.rb_money.specs.declared.limits.TheConstants.{MOST_SITES_OF_VERSION_1}
 use Rattle.rb_money.specs.declared.place.Place.{Place}
 use Rattle.rb_scratch.specs.declared.request.Request.{Request}
 use Rattle.rb_scratch.specs.declared.request.Request.TheVariants.{Deposit, Withdraw, Interest, Cancel, Transfer}
@@ -19,8 +20,9 @@ use Rattle.rb_site.specs.declared.entry.Entry.{Entry}
 use Rattle.rb_site.specs.declared.event.Event.{Event}
 use Rattle.rb_site.specs.declared.event.Event.TheVariants.{Submit, Batch, Receive, Apply, Pass, Balance, AsOf, Statement}
 use Rattle.rb_site.specs.declared.message.Message.TheVariants.{Shadow as ShadowMessage, Token as TokenOnItsWay}
-use Rattle.rb_commands.specs.Values.{number_json}
+use Rattle.rb_commands.specs.Values.{list_json, number_json}
 use Rattle.rb_commands.proofs.Public.Utf8.{HasTexts, ItemsHaveTexts, MembersHaveTexts, label_utf8, list_texts, name_utf8, reply_texts, text_utf8}
+use Rattle.rb_history.specs.Counts.{blue_json, numbered_from, numbered_json}
 use Rattle.rb_history.specs.ConfigLines.{accounts_of, config_json, start_json}
 use Rattle.rb_history.specs.Entries.{account_json, deps_json, entry_json, event_json, last_members, request_json, shadow_json}
 
@@ -54,9 +56,17 @@ last_texts s c (CancelKind x) = (refl, name_utf8 x, tt)
 last_texts s c (TransferKind to) = (refl, account_texts s c to, tt)
 last_texts s c _ = tt
 
+blue_texts : (version : ℕ) (blue : List ℕ) → HasTexts (blue_json version blue)
+unfolding blue_json
+blue_texts version blue = at (version == 1)
+  where
+    at : (b : Bool) → HasTexts (if b then list_json number_json (take MOST_SITES_OF_VERSION_1 blue) else list_json numbered_json (numbered_from 0 blue))
+    at true = list_texts number_json (λ n. tt) (take MOST_SITES_OF_VERSION_1 blue)
+    at false = list_texts numbered_json (λ p. (tt, (tt, tt))) (numbered_from 0 blue)
+
 shadow_texts : (s : Settings) → IsConfigured s → (v : Shadow) → HasTexts (shadow_json s v)
 shadow_texts s c v =
-    let deps : HasTexts (deps_json v.deps) = (list_texts number_json (λ n. tt) v.deps.blue, (tt, tt)) in
+    let deps : HasTexts (deps_json s.version v.deps) = (blue_texts s.version v.deps.blue, (tt, tt)) in
     (refl, account_texts s c v.account, (refl, tt, (refl, deps, (refl, tt, (refl, label_utf8 (label_of v.kind), (refl, name_utf8 v.name, last_texts s c v.kind))))))
 
 event_texts : (s : Settings) → IsConfigured s → (e : Event) → HasTexts (event_json s e)

@@ -27,7 +27,7 @@ config_json s = object
     (member (codes "inbox") (number_json s.limits.inbox)
     (member (codes "red") (number_json s.limits.red)
     (member (codes "sites") (number_json s.sites)
-    (member (codes "version") (number_json 1) no_members))))))))
+    (member (codes "version") (number_json s.version) no_members))))))))
 
 -- the line of each configuration is read as it
 abbrev pub ConfigsAreRead : Type 0

@@ -17,6 +17,7 @@ use Rattle.rb_site.specs.declared.event.Event.{Event}
 use Rattle.rb_site.specs.declared.event.Event.TheVariants.{Submit, Batch, Receive, Apply, Pass, Balance, AsOf, Statement}
 use Rattle.rb_site.specs.declared.message.Message.TheVariants.{Shadow as ShadowMessage, Token as TokenOnItsWay}
 use Rattle.rb_token.specs.declared.message.TokenMessage.{TokenMessage}
+use Rattle.rb_history.specs.Counts.{blue_json}
 use Rattle.rb_history.specs.Recorded.{event_at}
 use Rattle.rb_history.specs.RepliesRead.{reply_told}
 use Rattle.rb_commands.specs.Replies.{reply_json}
@@ -40,9 +41,9 @@ request_json s (Interest a rate) = one_json (codes "interest") (asked_json s a r
 request_json s (Cancel x) = one_json (codes "cancel") (name_json x)
 request_json s (Transfer from to amount) = one_json (codes "transfer") (three_json (account_json s from) (account_json s to) (number_json amount))
 
--- what the home had applied: how many of each site's blue operations, and how many red ones
-abbrev pub deps_json : Deps → Data
-deps_json d = pair_json (list_json number_json d.blue) (number_json d.red)
+-- what the home had applied, in this version of the format: how many of each site's blue operations, and how many red ones
+abbrev pub deps_json : ℕ → Deps → Data
+deps_json version d = pair_json (blue_json version d.blue) (number_json d.red)
 
 -- the target of a cancellation and the receiving account of a transfer; no other kind has a last member of its own
 abbrev pub last_members : Settings → Kind → Members
@@ -54,7 +55,7 @@ abbrev pub shadow_json : Settings → Shadow → Data
 shadow_json s v = object
     (member (codes "account") (account_json s v.account)
     (member (codes "amount") (number_json v.amount)
-    (member (codes "deps") (deps_json v.deps)
+    (member (codes "deps") (deps_json s.version v.deps)
     (member (codes "home") (number_json v.home)
     (member (codes "kind") (string (label_text (label_of v.kind)))
     (member (codes "name") (name_json v.name)

@@ -1,8 +1,8 @@
 -- Entries that a line tells whole: their numbers fit their types, and their places are known.
-use Rattle.std.specs.Prelude.{◌≡◌, ◌⊎◌, ℕ, ℤ, pos, negsuc, ◌<◌, ◌^◌, List, [], ◌∷◌, length, Some, ⊤}
+use Rattle.std.specs.Prelude.{◌≡◌, ◌⊎◌, ℕ, ℤ, pos, negsuc, ◌<◌, ◌^◌, List, [], ◌∷◌, length, drop, Some, ⊤}
 use Rattle.serde_json.specs.Written.{compact_text}
 use Rattle.rb_money.specs.Settings.{IsConfigured, Settings}
-use Rattle.rb_money.specs.declared.limits.TheConstants.{MOST_SITES}
+use Rattle.rb_money.specs.declared.limits.TheConstants.{MOST_SITES, MOST_SITES_OF_VERSION_1}
 use Rattle.rb_money.specs.declared.place.Place.{Place}
 use Rattle.rb_money.specs.declared.refusal.Cause.{Cause}
 use Rattle.rb_money.specs.declared.refusal.Cause.TheVariants.{Declined as CauseDeclined, Refused as CauseRefused}
@@ -50,6 +50,8 @@ pub record IsShadow (s : Settings) (v : Shadow) : Type 0 where
   pub home : v.home < 2 ^ 8
   pub sites : length v.deps.blue ≡ MOST_SITES
   pub blue : Each (λ n. n < 2 ^ 32) v.deps.blue
+  -- version 1 has no counts of further sites
+  pub further : s.version ≡ 1 → Each (λ n. n ≡ 0) (drop MOST_SITES_OF_VERSION_1 v.deps.blue)
   pub red : v.deps.red < 2 ^ 32
   pub account : IsKnown s v.account
   pub amount : v.amount < 2 ^ 64
@@ -103,3 +105,7 @@ IsReply (Refused why) = IsRefusal why
 -- the line of each such entry of a site of the configuration is read as the entry
 abbrev pub EntriesAreRead : Type 0
 EntriesAreRead = (s : Settings) → IsConfigured s → (site : ℕ) (x : Entry) → site < s.sites → IsEvent s x.event → IsReply x.reply → entry_of_line s (compact_text (entry_json s site x)) ≡ Some (site, x)
+
+-- what is read of any line is an entry of a site of the configuration that a line tells whole
+abbrev pub ReadEntriesFit : Type 0
+ReadEntriesFit = (s : Settings) (line : List ℕ) (site : ℕ) (x : Entry) → entry_of_line s line ≡ Some (site, x) → (site < s.sites) × IsEvent s x.event × IsReply x.reply

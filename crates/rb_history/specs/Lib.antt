@@ -1,5 +1,6 @@
 pub mod Fields
 pub mod ConfigLines
+pub mod Counts
 pub mod Recorded
 pub mod RepliesRead
 pub mod Entries

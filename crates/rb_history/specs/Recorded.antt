@@ -1,9 +1,8 @@
 -- Which event of a history an object is: one that a command tells, or a receipt.
-use Rattle.std.specs.Prelude.{ℕ, ◌^◌, ◌==◌, List, [], ◌∷◌, length, Option, Some, None, codes, if◌then◌else◌, option_and_then, option_map}
-use Rattle.serde_json.specs.Data.{Data, Items, no_items, item}
-use Rattle.serde_json.specs.Find.{get, as_array}
+use Rattle.std.specs.Prelude.{ℕ, ◌^◌, ◌==◌, Option, Some, None, codes, if◌then◌else◌, option_and_then, option_map}
+use Rattle.serde_json.specs.Data.{Data}
+use Rattle.serde_json.specs.Find.{get}
 use Rattle.rb_money.specs.Settings.{Settings}
-use Rattle.rb_money.specs.declared.limits.TheConstants.{MOST_SITES}
 use Rattle.rb_shadow.specs.declared.deps.Deps.{Deps}
 use Rattle.rb_shadow.specs.declared.kind.Kind.{Kind}
 use Rattle.rb_shadow.specs.declared.kind.Kind.TheVariants.{Deposit as DepositKind, Withdraw as WithdrawKind, Declined as DeclinedKind, Interest as InterestKind, Cancel as CancelKind, Transfer as TransferKind}
@@ -17,20 +16,12 @@ use Rattle.rb_token.specs.declared.message.TokenMessage.{TokenMessage}
 use Rattle.rb_commands.specs.Commands.{event_of}
 use Rattle.rb_commands.specs.Requests.{place_at}
 use Rattle.rb_commands.specs.Values.{either, name_at, number_below, pair_of, size_of, three_of}
+use Rattle.rb_history.specs.Counts.{blue_at}
 use Rattle.rb_history.specs.Fields.{field, label_at}
 
--- the counts of a list, each below 2^32
-abbrev pub counts_in : Items → Option (List ℕ)
-counts_in no_items = Some []
-counts_in (item d ds) = option_and_then (λ n. option_map (λ later. n ∷ later) (counts_in ds)) (number_below (2 ^ 32) d)
-
--- a count for each site that there may be
-abbrev pub blue_at : Data → Option (List ℕ)
-blue_at d = option_and_then (λ ns. if length ns == MOST_SITES then Some ns else None) (option_and_then counts_in (as_array d))
-
--- what the home had applied, from the list of its blue counts and its red one
-abbrev pub deps_at : Data → Option Deps
-deps_at d = option_and_then (λ p. option_and_then (λ blue. option_map (λ red. record { blue = blue; red = red }) (number_below (2 ^ 32) p.1)) (blue_at p.0)) (pair_of d)
+-- what the home had applied, from the list of its blue counts, as the version tells them, and its red one
+abbrev pub deps_at : ℕ → Data → Option Deps
+deps_at version d = option_and_then (λ p. option_and_then (λ blue. option_map (λ red. record { blue = blue; red = red }) (number_below (2 ^ 32) p.1)) (blue_at version p.0)) (pair_of d)
 
 -- a cancellation has a target as the seventh of its members, a transfer an account to which it goes, and no other kind has a seventh
 abbrev pub kind_of : Settings → Data → Label → Option Kind
@@ -51,7 +42,7 @@ shadow_at s d =
     (field (codes "name") name_at d))
     (kind_at s d))
     (field (codes "home") (number_below (2 ^ 8)) d))
-    (field (codes "deps") deps_at d))
+    (field (codes "deps") (deps_at s.version) d))
     (field (codes "amount") (number_below (2 ^ 64)) d))
     (field (codes "account") (place_at s) d)
 

@@ -1,11 +1,11 @@
 -- Texts that begin with what is written for a part of a history's line, and then the rest follows: of parts that a line tells whole.
-use Rattle.std.specs.Prelude.{◌≡◌, ℕ, ◌<◌, ◌^◌, List, ◌++◌, codes, false, length, map, unwrap_or, slice_get}
+use Rattle.std.specs.Prelude.{◌≡◌, ℕ, ◌<◌, ◌^◌, List, ◌++◌, codes, false, drop, length, map, unwrap_or, slice_get}
 use Rattle.json.specs.Print.{escape}
 use Rattle.serde_json.specs.Data.{Data}
 use Rattle.serde_json.specs.View.{items_of}
 use Rattle.serde_json.specs.Written.{compact_text, items_text}
 use Rattle.rb_money.specs.Settings.{Settings}
-use Rattle.rb_money.specs.declared.limits.TheConstants.{MOST_SITES}
+use Rattle.rb_money.specs.declared.limits.TheConstants.{MOST_SITES, MOST_SITES_OF_VERSION_1}
 use Rattle.rb_money.specs.declared.place.Place.{Place}
 use Rattle.rb_scratch.specs.declared.request.Request.{Request}
 use Rattle.rb_shadow.specs.declared.deps.Deps.{Deps}
@@ -14,6 +14,7 @@ use Rattle.rb_site.specs.declared.event.Event.{Event}
 use Rattle.rb_site.specs.declared.reply.Reply.{Reply}
 use Rattle.rb_commands.specs.Replies.{reply_json}
 use Rattle.rb_commands.specs.Values.{one_json}
+use Rattle.rb_history.specs.Counts.{blue_json, numbered_from, numbered_json}
 use Rattle.rb_history.specs.Entries.{deps_json, event_json, request_json, shadow_json}
 use Rattle.rb_history.specs.Fits.{Each, IsEvent, IsReply, IsRequest, IsShadow}
 
@@ -36,9 +37,26 @@ TellsRequest s r text rest = IsRequest s r × (text ≡ compact_text (request_js
 abbrev pub TellsEach : {A : Type 0} → (A → Data) → (A → Type 0) → List A → List ℕ → List ℕ → Type 0
 TellsEach written P xs text rest = Each P xs × (text ≡ items_text false (items_of (map written xs)) ++ rest)
 
--- what a home had applied, as many counts as there may be sites
-abbrev pub TellsDeps : Deps → List ℕ → List ℕ → Type 0
-TellsDeps d text rest = (length d.blue ≡ MOST_SITES) × Each (λ n. n < 2 ^ 32) d.blue × (d.red < 2 ^ 32) × (text ≡ compact_text (deps_json d) ++ rest)
+-- the counts above 0 of all sites, each behind its site's number, and the closing bracket
+pub record TellsNumbered (ns text rest : List ℕ) : Type 0 where
+  pub sites : length ns ≡ MOST_SITES
+  pub fit : Each (λ n. n < 2 ^ 32) ns
+  pub told : text ≡ items_text false (items_of (map numbered_json (numbered_from 0 ns))) ++ rest
+
+-- the counts of all sites, in a version of the format
+pub record TellsCounts (version : ℕ) (ns text rest : List ℕ) : Type 0 where
+  pub sites : length ns ≡ MOST_SITES
+  pub fit : Each (λ n. n < 2 ^ 32) ns
+  pub further : version ≡ 1 → Each (λ n. n ≡ 0) (drop MOST_SITES_OF_VERSION_1 ns)
+  pub told : text ≡ compact_text (blue_json version ns) ++ rest
+
+-- what a home had applied, in a version of the format
+pub record TellsDeps (version : ℕ) (d : Deps) (text rest : List ℕ) : Type 0 where
+  pub sites : length d.blue ≡ MOST_SITES
+  pub blue : Each (λ n. n < 2 ^ 32) d.blue
+  pub further : version ≡ 1 → Each (λ n. n ≡ 0) (drop MOST_SITES_OF_VERSION_1 d.blue)
+  pub red : d.red < 2 ^ 32
+  pub told : text ≡ compact_text (deps_json version d) ++ rest
 
 abbrev pub TellsShadow : Settings → Shadow → List ℕ → List ℕ → Type 0
 TellsShadow s v text rest = IsShadow s v × (text ≡ compact_text (one_json (codes "shadow") (shadow_json s v)) ++ rest)

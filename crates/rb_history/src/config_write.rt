@@ -51,6 +51,14 @@ fn append_limits(out: &mut Vec<u8>, limits: Limits) -> Result<(), AllocError>
     append_number(out, "", limits.red as u64, ",\"sites\":")
 }
 
+/// The sites, the version and the end of the object.
+fn append_end(out: &mut Vec<u8>, sites: u8, version: u8) -> Result<(), AllocError>
+    ensures { Adds result out.old.items out.new.items (decimal sites ++ (codes ",\"version\":" ++ (decimal version ++ codes "}"))) }
+{
+    append_number(out, "", sites as u64, ",\"version\":")?;
+    append_number(out, "", version as u64, "}")
+}
+
 /// The JSON object of a configuration, on one line.
 fn append_config(out: &mut Vec<u8>, config: &Config) -> Result<(), AllocError>
     ensures { Adds result out.old.items out.new.items (compact_text (config_json config.now)) }
@@ -58,7 +66,7 @@ fn append_config(out: &mut Vec<u8>, config: &Config) -> Result<(), AllocError>
     append(out, "{\"accounts\":[")?;
     append_accounts(out, config)?;
     append_limits(out, config.limits())?;
-    append_number(out, "", config.sites() as u64, ",\"version\":1}")
+    append_end(out, config.sites(), config.version())
 }
 
 /// The line of a configuration, without a line feed. An `Err` means out of memory.

@@ -3,6 +3,7 @@
 
 mod answer;
 mod config_write;
+mod counts;
 mod entry;
 mod event;
 mod items;
@@ -12,6 +13,7 @@ mod receipt;
 mod refusal;
 mod shadow;
 mod shown;
+mod usual_counts;
 mod usual_event;
 mod usual_line;
 mod usual_part;
@@ -22,7 +24,7 @@ mod usual_shown;
 mod verdict;
 
 ghost use Rattle.rb_history.specs.ConfigLines.{ConfigsAreRead};
-ghost use Rattle.rb_history.specs.Fits.{EntriesAreRead};
+ghost use Rattle.rb_history.specs.Fits.{EntriesAreRead, ReadEntriesFit};
 
 pub use config_write::write_config;
 pub use entry::{append_line, read_line, write_line};
@@ -37,4 +39,9 @@ pub fn configs_are_read()
 /// account of the configuration or `Place::NOWHERE`, and its reply isn't *out of memory*.
 pub fn entries_are_read()
     ensures { EntriesAreRead }
+{}
+
+/// Each entry that is read from a line is one that `entries_are_read` speaks of.
+pub fn read_entries_fit()
+    ensures { ReadEntriesFit }
 {}

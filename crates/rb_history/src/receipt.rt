@@ -2,37 +2,23 @@
 ghost use Rattle.std.specs.Prelude.{◌≡◌};
 ghost use Rattle.serde_json.specs.View.{view};
 ghost use Rattle.rb_money.specs.Settings.{Settings};
-ghost use Rattle.rb_history.specs.Recorded.{blue_at, deps_at, kind_at, kind_of, shadow_at, token_at};
+ghost use Rattle.rb_history.specs.Recorded.{deps_at, kind_at, kind_of, shadow_at, token_at};
 
+use crate::counts::blue;
 use crate::label::label;
 use rb_commands::account;
 use rb_commands::values::{byte, long, name, pair, size, three, word};
-use rb_money::{Config, MOST_SITES};
+use rb_money::Config;
 use rb_shadow::{Deps, Kind, Label, Shadow};
 use rb_token::TokenMessage;
 use serde_json::Value;
 
-/// A count for each site that there may be.
-fn blue(value: &Value) -> Option<[u32; MOST_SITES]>
-    ensures { result ≡ blue_at (view value.now) }
-{
-    let items = value.as_array()?;
-    if items.len() != MOST_SITES {
-        return None;
-    }
-    let mut counts = [0; MOST_SITES];
-    for site in 0..MOST_SITES {
-        counts[site] = word(&items[site])?;
-    }
-    Some(counts)
-}
-
-/// What the home had applied.
-fn deps(value: &Value) -> Option<Deps>
-    ensures { result ≡ deps_at (view value.now) }
+/// What the home had applied, from a line of this version of the format.
+fn deps(version: u8, value: &Value) -> Option<Deps>
+    ensures { result ≡ deps_at version (view value.now) }
 {
     let (counts, red) = pair(value)?;
-    let blue = blue(counts)?;
+    let blue = blue(version, counts)?;
     let red = word(red)?;
     Some(Deps { blue, red })
 }
@@ -90,7 +76,7 @@ pub fn shadow(config: &Config, value: &Value) -> Option<Shadow>
 {
     let account = account(config, value.get("account")?)?;
     let amount = long(value.get("amount")?)?;
-    let deps = deps(value.get("deps")?)?;
+    let deps = deps(config.version(), value.get("deps")?)?;
     let home = byte(value.get("home")?)?;
     let kind = kind(config, value)?;
     let name = name(value.get("name")?)?;

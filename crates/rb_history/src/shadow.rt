@@ -6,19 +6,19 @@ ghost use Rattle.rb_commands.specs.Adds.{Adds};
 ghost use Rattle.rb_history.specs.Entries.{account_json, deps_json, last_members, shadow_json};
 ghost use Rattle.rb_commands.specs.Values.{label_text, name_json, one_json};
 
+use crate::counts::append_blue;
 use crate::event::append_account;
-use crate::numbers::append_numbers;
 use rb_commands::append::{append, append_named, append_number};
 use rb_money::Config;
 use rb_shadow::{Deps, Kind, Shadow};
 use std::alloc::AllocError;
 
-/// What a shadow's home had applied.
-fn append_deps(out: &mut Vec<u8>, deps: &Deps) -> Result<(), AllocError>
-    ensures { Adds result out.old.items out.new.items (compact_text (deps_json deps.now)) }
+/// What a shadow's home had applied, in this version of the format.
+fn append_deps(out: &mut Vec<u8>, version: u8, deps: &Deps) -> Result<(), AllocError>
+    ensures { Adds result out.old.items out.new.items (compact_text (deps_json version deps.now)) }
 {
     append(out, "[")?;
-    append_numbers(out, &deps.blue)?;
+    append_blue(out, version, &deps.blue)?;
     append_number(out, ",", deps.red as u64, "]")
 }
 
@@ -50,11 +50,11 @@ fn append_last(out: &mut Vec<u8>, config: &Config, kind: Kind) -> Result<(), All
 
 /// The front of a shadow: its account, its amount and what its home had applied.
 fn append_front(out: &mut Vec<u8>, config: &Config, shadow: &Shadow) -> Result<(), AllocError>
-    ensures { Adds result out.old.items out.new.items (codes "{\"shadow\":{\"account\":" ++ (compact_text (account_json config.now shadow.now.account) ++ (codes ",\"amount\":" ++ (decimal shadow.now.amount ++ (codes ",\"deps\":" ++ compact_text (deps_json shadow.now.deps)))))) }
+    ensures { Adds result out.old.items out.new.items (codes "{\"shadow\":{\"account\":" ++ (compact_text (account_json config.now shadow.now.account) ++ (codes ",\"amount\":" ++ (decimal shadow.now.amount ++ (codes ",\"deps\":" ++ compact_text (deps_json config.now.version shadow.now.deps)))))) }
 {
     append_account(out, "{\"shadow\":{\"account\":", config, shadow.account, "")?;
     append_number(out, ",\"amount\":", shadow.amount, ",\"deps\":")?;
-    append_deps(out, &shadow.deps)
+    append_deps(out, config.version(), &shadow.deps)
 }
 
 /// The rest of a shadow: its home, its kind, its name, and its target or where it goes.

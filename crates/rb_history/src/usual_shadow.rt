@@ -1,40 +1,24 @@
 //! Shadows of a history's line as this program writes them, read in one pass. `None` says nothing of a text.
-ghost use Rattle.std.specs.Prelude.{◌≡◌, ◌<◌, ◌^◌, ◌++◌, IfSome, true};
+ghost use Rattle.std.specs.Prelude.{◌≡◌, ◌++◌, IfSome, true};
 ghost use Rattle.serde_json.specs.Written.{members_text};
 ghost use Rattle.rb_shadow.specs.Labels.{label_of};
-ghost use Rattle.rb_commands.specs.Values.{number_json};
 ghost use Rattle.rb_history.specs.Entries.{last_members};
 ghost use Rattle.rb_history.specs.Fits.{IsKind};
-ghost use Rattle.rb_history.specs.Tells.{TellsDeps, TellsEach, TellsShadow};
+ghost use Rattle.rb_history.specs.Tells.{TellsDeps, TellsShadow};
 
+use crate::usual_counts::counts;
 use crate::usual_part::{
     account_between, byte_between, label, long_between, name, name_between, word_between,
 };
-use rb_commands::scan::{after, word};
-use rb_money::{Config, MOST_SITES};
+use rb_commands::scan::after;
+use rb_money::Config;
 use rb_shadow::{Deps, Kind, Label, Shadow};
 
-/// A count for each site that there may be, and the closing bracket.
-fn blue(text: &str) -> Option<([u32; MOST_SITES], &str)>
-    ensures { IfSome result (λ p. TellsEach number_json (λ n. n < 2 ^ 32) p.0 text.now p.1.now) }
-{
-    let mut counts = [0; MOST_SITES];
-    let mut left = text;
-    let mut comma = "";
-    for site in 0..MOST_SITES {
-        let (count, rest) = word(after(left, comma)?)?;
-        counts[site] = count;
-        left = rest;
-        comma = ",";
-    }
-    Some((counts, after(left, "]")?))
-}
-
 /// What a home had applied.
-fn deps(text: &str) -> Option<(Deps, &str)>
-    ensures { IfSome result (λ p. TellsDeps p.0 text.now p.1.now) }
+fn deps<'a>(config: &Config, text: &'a str) -> Option<(Deps, &'a str)>
+    ensures { IfSome result (λ p. TellsDeps config.now.version p.0 text.now p.1.now) }
 {
-    let (blue, rest) = blue(after(text, "[[")?)?;
+    let (blue, rest) = counts(config.version(), after(text, "[")?)?;
     let (red, rest) = word_between(rest, ",", "]")?;
     Some((Deps { blue, red }, rest))
 }
@@ -67,7 +51,7 @@ pub fn usual_shadow<'a>(config: &Config, text: &'a str) -> Option<(Shadow, &'a s
 {
     let (account, rest) = account_between(config, text, "{\"shadow\":{\"account\":\"", ",")?;
     let (amount, rest) = long_between(rest, "\"amount\":", ",\"deps\":")?;
-    let (deps, rest) = deps(rest)?;
+    let (deps, rest) = deps(config, rest)?;
     let (home, rest) = byte_between(rest, ",\"home\":", ",\"kind\":\"")?;
     let (label, rest) = label(rest)?;
     let (name, rest) = name(after(rest, ",\"name\":\"")?)?;

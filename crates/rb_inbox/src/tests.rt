@@ -15,13 +15,12 @@ fn deposit(n: u32) -> Shadow
     ensures numbered { IsNumbered result }
     ensures entry { HasEntry result.name }
 {
+    let mut blue = [0; MOST_SITES];
+    blue[0] = n - 1;
     Shadow {
         name: OpName::Blue { site: 0, n },
         home: 0,
-        deps: Deps {
-            blue: [n - 1, 0, 0, 0, 0, 0, 0, 0],
-            red: 0,
-        },
+        deps: Deps { blue, red: 0 },
         account: Place(0),
         amount: 5,
         kind: Kind::Deposit,
@@ -34,13 +33,12 @@ fn other_deposit(n: u32) -> Shadow
     ensures numbered { IsNumbered result }
     ensures entry { HasEntry result.name }
 {
+    let mut blue = [0; MOST_SITES];
+    blue[3] = n - 1;
     Shadow {
         name: OpName::Blue { site: 3, n },
         home: 3,
-        deps: Deps {
-            blue: [0, 0, 0, n - 1, 0, 0, 0, 0],
-            red: 0,
-        },
+        deps: Deps { blue, red: 0 },
         account: Place(0),
         amount: 5,
         kind: Kind::Deposit,

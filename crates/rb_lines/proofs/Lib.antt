@@ -2,3 +2,5 @@ pub mod Public
 mod LineLaws
 mod Ranges
 mod ReadLaws
+mod Follows
+mod Exits

@@ -1,4 +1,5 @@
 -- What other crates cite.
 pub mod LongLines
+pub mod Progress
 pub mod Sending
 pub mod Walks

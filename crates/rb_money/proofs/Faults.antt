@@ -1,5 +1,5 @@
 -- What follows where nothing is wrong with a configuration that is asked for.
-use Rattle.std.proofs.Common.{◌≡◌, List, [], ◌∷◌, ◌++◌, ℕ, ◌+◌, zero, suc, Bool, true, false, Option, Some, None, refl, ap, sym, subst, ◌∙◌, ◌≤◌, length, slice_get}
+use Rattle.std.proofs.Common.{◌≡◌, List, [], ◌∷◌, ◌++◌, ℕ, ◌+◌, zero, suc, Bool, true, false, Option, Some, None, refl, ap, sym, subst, ◌∙◌, ◌≤◌, length, slice_get, inl, inr}
 use Rattle.std.specs.Prelude.{map, not, ◌&&◌, nat_le, nat_lt, if◌then◌else◌}
 use Rattle.std.specs.Option.{option_or}
 use Rattle.std.specs.Str.{bytes_eq}
@@ -11,8 +11,8 @@ use Rattle.rb_money.specs.declared.fault.ConfigFault.{ConfigFault}
 use Rattle.rb_money.specs.declared.fault.ConfigFault.TheVariants.{Sites, Accounts, Name, Twice, Start, Limit}
 use Rattle.rb_money.specs.declared.limits.Limits.{Limits}
 use Rattle.rb_money.specs.declared.cents.TheConstants.{MOST_CENTS}
-use Rattle.rb_money.specs.Settings.{IsConfigured, IsLimit, is_account_name}
-use Rattle.rb_money.specs.declared.limits.TheConstants.{MOST_SITES, MOST_ACCOUNTS, MOST_BLUE, MOST_RED, MOST_INBOX, MOST_HISTORY, MOST_EPOCH}
+use Rattle.rb_money.specs.Settings.{IsConfigured, IsLimit, IsVersion, is_account_name, version_of}
+use Rattle.rb_money.specs.declared.limits.TheConstants.{MOST_SITES, MOST_SITES_OF_VERSION_1, MOST_ACCOUNTS, MOST_BLUE, MOST_RED, MOST_INBOX, MOST_HISTORY, MOST_EPOCH}
 use Rattle.rb_money.specs.Faults.{Account, settings_of, is_among, account_fault, is_limit, are_limits, config_fault}
 
 -- the first of two faults is not there, so the test fails and the second is not there
@@ -131,6 +131,14 @@ proper sites accounts limits none =
       each_limit = holds (are_limits limits) r.1;
     }
 
+-- the version where none is asked for may be so
+allowed : (sites : ℕ) → IsVersion (version_of sites) sites
+allowed sites = at (nat_le sites MOST_SITES_OF_VERSION_1) refl
+  where
+    at : (b : Bool) → nat_le sites MOST_SITES_OF_VERSION_1 ≡ b → IsVersion (if b then 1 else 2) sites
+    at true q = inl (refl, leb-true sites MOST_SITES_OF_VERSION_1 q)
+    at false q = inr refl
+
 -- it is a configuration
 pub configured : (sites : ℕ) (accounts : List Account) (limits : Limits) → config_fault sites accounts limits ≡ None → IsConfigured (settings_of sites accounts limits)
 configured sites accounts limits none =
@@ -159,4 +167,5 @@ configured sites accounts limits none =
       inbox = in_range limits.inbox MOST_INBOX c.1;
       history = in_range limits.history MOST_HISTORY b.1;
       epoch = in_range limits.epoch MOST_EPOCH a.1;
+      version = allowed sites;
     }

@@ -8,7 +8,7 @@ use Rattle.rb_money.specs.declared.fault.ConfigFault.{ConfigFault}
 use Rattle.rb_money.specs.declared.fault.ConfigFault.TheVariants.{Sites, Accounts, Name, Twice, Start, Limit}
 use Rattle.rb_money.specs.declared.limits.Limits.{Limits}
 use Rattle.rb_money.specs.declared.cents.TheConstants.{MOST_CENTS}
-use Rattle.rb_money.specs.Settings.{AccountList, Settings, is_account_name}
+use Rattle.rb_money.specs.Settings.{AccountList, Settings, is_account_name, version_of}
 use Rattle.rb_money.specs.declared.limits.TheConstants.{MOST_SITES, MOST_ACCOUNTS, MOST_BLUE, MOST_RED, MOST_INBOX, MOST_HISTORY, MOST_EPOCH}
 
 -- an account that is asked for: its name, and what it is to start with
@@ -25,7 +25,7 @@ listed accounts = record { names = map (λ a. a.0) accounts; starts = map (λ a.
 
 -- what is asked for, as a configuration has it
 abbrev pub settings_of : ℕ → List Account → Limits → Settings
-settings_of sites accounts limits = record { sites = sites; names = (listed accounts).names; starts = (listed accounts).starts; limits = limits }
+settings_of sites accounts limits = record { sites = sites; names = (listed accounts).names; starts = (listed accounts).starts; limits = limits; version = version_of sites }
 
 -- the name is one of these
 abbrev pub is_among : List (List ℕ) → List ℕ → Bool

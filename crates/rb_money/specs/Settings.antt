@@ -1,19 +1,20 @@
 -- What a configuration fixes.
 use Rattle.std.specs.List.{list_all}
-use Rattle.std.specs.Prelude.{◌≡◌, ℕ, Bool, true, ◌&&◌, ◌||◌, nat_le, nat_lt, ◌==◌, List, length, Option, Some, option_map, position, slice_get, slice_index, ◌≤◌}
+use Rattle.std.specs.Prelude.{◌≡◌, ℕ, Bool, true, ◌&&◌, ◌||◌, nat_le, nat_lt, ◌==◌, List, length, Option, Some, option_map, position, slice_get, slice_index, ◌≤◌, ◌⊎◌, if◌then◌else◌}
 use Rattle.std.specs.Str.{bytes_eq}
 use Rattle.rb_money.specs.declared.accounts.TheConstants.{LONGEST_NAME}
 use Rattle.rb_money.specs.declared.cents.TheConstants.{MOST_CENTS}
 use Rattle.rb_money.specs.declared.limits.Limits.{Limits}
-use Rattle.rb_money.specs.declared.limits.TheConstants.{MOST_SITES, MOST_ACCOUNTS, MOST_BLUE, MOST_RED, MOST_INBOX, MOST_HISTORY, MOST_EPOCH}
+use Rattle.rb_money.specs.declared.limits.TheConstants.{MOST_SITES, MOST_SITES_OF_VERSION_1, MOST_ACCOUNTS, MOST_BLUE, MOST_RED, MOST_INBOX, MOST_HISTORY, MOST_EPOCH}
 use Rattle.rb_money.specs.declared.place.Place.{Place}
 
--- the sites, the name and the starting balance of each account in order of place, and the limits
+-- the sites, the name and the starting balance of each account in order of place, the limits, and the version of the lines, which nothing but lines looks at
 pub record Settings : Type 0 where
   pub sites : ℕ
   pub names : List (List ℕ)
   pub starts : List ℕ
   pub limits : Limits
+  pub version : ℕ
 
 -- the name and the starting balance of each account, in order of place
 pub record AccountList : Type 0 where
@@ -44,6 +45,18 @@ is_account_name name = nat_le 1 (length name) && nat_le (length name) LONGEST_NA
 abbrev pub IsLimit : ℕ → ℕ → Type 0
 IsLimit n most = (1 ≤ n) × (n ≤ most)
 
+-- lines of so many sites may have this version: 1 up to the most sites of version 1, and 2 whatever the sites
+abbrev pub IsVersion : ℕ → ℕ → Type 0
+IsVersion version sites = ((version ≡ 1) × (sites ≤ MOST_SITES_OF_VERSION_1)) ⊎ (version ≡ 2)
+
+-- the version of so many sites where none is asked for: 1 where it may be
+abbrev pub version_of : ℕ → ℕ
+version_of sites = if nat_le sites MOST_SITES_OF_VERSION_1 then 1 else 2
+
+-- the same but for the version of the lines, which is 2
+abbrev pub in_version_2 : Settings → Settings
+in_version_2 s = record s { version = 2 }
+
 -- what every configuration keeps
 pub record IsConfigured (s : Settings) : Type 0 where
   pub some_sites : 2 ≤ s.sites
@@ -60,3 +73,4 @@ pub record IsConfigured (s : Settings) : Type 0 where
   pub inbox : IsLimit s.limits.inbox MOST_INBOX
   pub history : IsLimit s.limits.history MOST_HISTORY
   pub epoch : IsLimit s.limits.epoch MOST_EPOCH
+  pub version : IsVersion s.version s.sites

@@ -22,7 +22,7 @@ pub use fault::ConfigFault;
 pub use interest::interest_of;
 pub use limits::{
     Limits, MOST_ACCOUNTS, MOST_BALANCE, MOST_BLUE, MOST_EPOCH, MOST_HISTORY, MOST_INBOX,
-    MOST_OPERATIONS, MOST_RED, MOST_SITES,
+    MOST_OPERATIONS, MOST_RED, MOST_SITES, MOST_SITES_OF_VERSION_1,
 };
 pub use number::read_number;
 pub use place::Place;

@@ -5,7 +5,10 @@ ghost use Rattle.rb_money.specs.declared.limits.TheConstants.{MOST_BLUE, MOST_EP
 use crate::cents::MOST_CENTS;
 
 /// The most sites of a bank.
-pub const MOST_SITES: usize = 8;
+pub const MOST_SITES: usize = 16;
+
+/// The most sites of a bank whose lines have version 1 of the format.
+pub const MOST_SITES_OF_VERSION_1: usize = 8;
 
 /// The most accounts of a bank.
 pub const MOST_ACCOUNTS: usize = 1_000;

@@ -108,6 +108,24 @@ fn look_ups(rt: HostRuntime) -> Result<(), Fail> {
     Ok(())
 }
 
+#[test]
+fn versions(rt: HostRuntime) -> Result<(), Fail> {
+    let alloc = rt.alloc();
+    for (sites, version) in [(2, 1), (8, 1), (9, 2), (16, 2)] {
+        let accounts = accounts_of(alloc, &[("ann", 1000)])?;
+        let Ok(config) = Config::new(alloc, sites, accounts, Limits::largest()) else {
+            return Err(Fail::from("a configuration"));
+        };
+        assert_eq!(rt; config.version(), version);
+        let second = config.to_version2();
+        assert_eq!(rt; second.version(), 2);
+        assert_eq!(rt; second.sites(), sites);
+        assert_eq!(rt; second.accounts().start(Place(0)), Some(Cents(1000)));
+        assert_eq!(rt; second.limits(), Limits::largest());
+    }
+    Ok(())
+}
+
 // Run with each allocation failing in turn, too: what is wrong is answered whether or not memory is left.
 #[test]
 fn memory_is_looked_at_last(rt: HostRuntime) {

@@ -1,4 +1,1 @@
-mod Exits
-mod Follows
 mod Opens
-mod Progress

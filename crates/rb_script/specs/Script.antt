@@ -8,6 +8,7 @@ use Rattle.rb_world.specs.Laws.{SeenWorld, next_replies, opened}
 use Rattle.rb_commands.specs.Commands.{command_at}
 use Rattle.rb_commands.specs.Configurations.{config_on}
 use Rattle.rb_commands.specs.Replies.{line}
+use Rattle.rb_lines.specs.Answers.{LinesOutcome, no_outcome}
 use Rattle.rb_lines.specs.Lines.{is_blank, is_long}
 use Rattle.rb_lines.specs.declared.fault.ScriptFault.{ScriptFault}
 use Rattle.rb_lines.specs.declared.fault.ScriptFault.TheVariants.{NoConfig, BadConfig, BadLine, LongLine}
@@ -35,25 +36,16 @@ commands_from s n (l ∷ ls) = if is_long l then stops (LongLine n) else (if is_
 
 -- ---- what a script comes to
 
--- what is written for a script, the number of its replies, and what is wrong with it
-pub record ScriptOutcome : Type 0 where
-  pub text : List ℕ
-  pub count : ℕ
-  pub fault : Option ScriptFault
-
 -- the lines of the replies that the world's run gives to the commands
-abbrev pub script_outcome : SeenWorld → Commands → ScriptOutcome
+abbrev pub script_outcome : SeenWorld → Commands → LinesOutcome
 script_outcome w cs = record { text = flat_map line (next_replies w cs.commands); count = length cs.commands; fault = cs.fault }
 
-abbrev pub no_outcome : ScriptFault → ScriptOutcome
-no_outcome f = record { text = []; count = 0; fault = Some f }
-
 -- the first line that isn't skipped is the configuration, and commands follow
-abbrev pub script_from : ℕ → List (List ℕ) → ScriptOutcome
+abbrev pub script_from : ℕ → List (List ℕ) → LinesOutcome
 script_from n [] = no_outcome NoConfig
 script_from n (l ∷ ls) = if is_long l then no_outcome (LongLine n) else (if is_blank l then script_from (n + 1) ls
     else option_map_or (λ s. script_outcome (opened s) (commands_from s (n + 1) ls)) (config_on l) (no_outcome (BadConfig n)))
 
 -- what a script of these lines comes to
-abbrev pub script_of : List (List ℕ) → ScriptOutcome
+abbrev pub script_of : List (List ℕ) → LinesOutcome
 script_of ls = script_from 1 ls

@@ -207,6 +207,23 @@ fn stops_before_a_configuration(rt: HostRuntime) -> Result<(), Fail> {
 }
 
 #[test]
+fn wrong_versions(rt: HostRuntime) {
+    for line in [
+        r#"{"accounts":[["ann",0]],"sites":9,"version":1}"#,
+        r#"{"accounts":[["ann",0]],"sites":17,"version":2}"#,
+        r#"{"accounts":[["ann",0]],"sites":2,"version":3}"#,
+    ] {
+        let (result, text) = answers(rt.alloc(), line.as_bytes(), 4096);
+        assert_eq!(rt;
+            result,
+            Err(ScriptFault::BadConfig { line: 1 }),
+            "at {line}"
+        );
+        assert!(rt; text.is_empty(), "at {line}");
+    }
+}
+
+#[test]
 fn stops_at_bad_lines(rt: HostRuntime) -> Result<(), Fail> {
     let cases: [(&[u8], u64, &str); 5] = [
         (br#"{"site":0,"bal"#.as_slice(), 2, ""),

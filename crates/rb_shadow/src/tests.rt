@@ -1,5 +1,5 @@
 use crate::{Deps, Kind, OpName, Shadow, read_name, write_name};
-use rb_money::Place;
+use rb_money::{MOST_SITES, Place};
 use std::test::Fail;
 
 #[test]
@@ -44,13 +44,12 @@ fn names_and_texts(rt: HostRuntime) -> Result<(), Fail> {
 
 #[test]
 fn shadows_that_differ(rt: HostRuntime) {
+    let mut blue = [0; MOST_SITES];
+    blue[0] = 2;
     let shadow = Shadow {
         name: OpName::Blue { site: 1, n: 1 },
         home: 1,
-        deps: Deps {
-            blue: [2, 0, 0, 0, 0, 0, 0, 0],
-            red: 3,
-        },
+        deps: Deps { blue, red: 3 },
         account: Place(0),
         amount: 5,
         kind: Kind::Cancel {

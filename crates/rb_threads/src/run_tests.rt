@@ -1,5 +1,6 @@
 //! Runs of tellers, their text and its audit.
-ghost use Rattle.std.specs.Prelude.{◌≡◌, false, None};
+ghost use Rattle.std.specs.Prelude.{◌≡◌, ◌≤◌, false, None};
+ghost use Rattle.rb_money.specs.declared.limits.TheConstants.{MOST_SITES};
 
 use crate::run_threads;
 use crate::tests::comes;
@@ -7,9 +8,12 @@ use rb_audit::run_audit;
 use rb_branch::{Gate, NoGate};
 use rb_lines::{ReadFailed, ScriptFault, Sink, Source, WriteFailed};
 use std::alloc::Global;
+use std::process::Abort;
 use std::rt::Clock;
+use std::sync::Wait;
 use std::sync::atomic::{AtomicBool, Ordering};
 use std::test::Fail;
+use std::thread::Threads;
 
 /// A writer that takes so many bytes, and then nothing.
 #[derive(Drop)]
@@ -107,17 +111,43 @@ fn calls_in(text: &str) -> usize {
     count
 }
 
-#[test]
-fn threads_audit(rt: HostRuntime) -> Result<(), Fail> {
-    let alloc = rt.alloc();
+/// How many calls the tellers of a run make whose histories an audit accepts.
+fn audited_calls<W: Threads + Wait + Sync + Abort + Print>(
+    rt: &W,
+    alloc: Global,
+    sites: u8,
+    tellers: u8,
+    version: &str,
+) -> Result<usize, Fail>
+    requires some_sites { 2 ≤ sites }
+    requires few_sites { sites ≤ MOST_SITES }
+{
     let mut writer = Room::new(alloc, usize::MAX);
-    let run = run_threads(&rt, alloc, 3, 4, 7, NoGate, &mut writer);
+    let run = run_threads(rt, alloc, sites, tellers, 7, NoGate, &mut writer);
     assert_eq!(rt; run, Ok(()));
     let mut reader = Text::new(writer.taken.as_slice());
     let mut verdict = Room::new(alloc, usize::MAX);
     assert_eq!(rt; run_audit(alloc, &mut reader, &mut verdict), Ok(true));
     let text = std::str::from_utf8(writer.taken.as_slice())?;
-    assert_eq!(rt; calls_in(text), 400);
+    assert!(rt; text.contains(version));
+    Ok(calls_in(text))
+}
+
+#[test]
+fn threads_audit(rt: HostRuntime) -> Result<(), Fail> {
+    assert_eq!(rt;
+        audited_calls(&rt, rt.alloc(), 3, 4, "\"version\":1}\n")?,
+        400
+    );
+    Ok(())
+}
+
+#[test]
+fn threads_audit16(rt: HostRuntime) -> Result<(), Fail> {
+    assert_eq!(rt;
+        audited_calls(&rt, rt.alloc(), 16, 16, "\"sites\":16,\"version\":2}\n")?,
+        1600
+    );
     Ok(())
 }
 

@@ -9,7 +9,7 @@ use Rattle.rb_world.specs.Laws.{SeenWorld}
 
 -- two sites, one account that starts with 1,000 cents, and the largest limits
 abbrev pub bank : Settings
-bank = record { sites = 2; names = codes "ann" ∷ []; starts = 1000 ∷ []; limits = record { blue = MOST_BLUE; red = MOST_RED; inbox = MOST_INBOX; history = MOST_HISTORY; epoch = MOST_EPOCH } }
+bank = record { sites = 2; names = codes "ann" ∷ []; starts = 1000 ∷ []; limits = record { blue = MOST_BLUE; red = MOST_RED; inbox = MOST_INBOX; history = MOST_HISTORY; epoch = MOST_EPOCH }; version = 1 }
 
 -- what a site of a world has for an account, in cents, if there is such a site
 abbrev pub balance_in : SeenWorld → ℕ → Place → Option ℕ

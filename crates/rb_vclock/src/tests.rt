@@ -1,15 +1,14 @@
 use crate::Clock;
-use rb_money::Place;
+use rb_money::{MOST_SITES, Place};
 use rb_shadow::{Deps, Kind, OpName, Shadow};
 
 #[test]
 fn counts_names(rt: HostRuntime) {
     let first = OpName::Blue { site: 1, n: 1 };
     let second = OpName::Blue { site: 1, n: 2 };
-    let deps = Deps {
-        blue: [0, 1, 0, 0, 0, 0, 0, 0],
-        red: 0,
-    };
+    let mut blue = [0; MOST_SITES];
+    blue[1] = 1;
+    let deps = Deps { blue, red: 0 };
     let next = Shadow {
         name: second,
         home: 1,
@@ -27,7 +26,10 @@ fn counts_names(rt: HostRuntime) {
     assert!(rt; clock.is_next(&next));
     assert!(rt;
         !clock.is_next(&Shadow {
-            name: OpName::Blue { site: 8, n: 1 },
+            name: OpName::Blue {
+                site: MOST_SITES as u8,
+                n: 1
+            },
             ..next
         })
     );

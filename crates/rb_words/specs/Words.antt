@@ -7,7 +7,7 @@ use Rattle.clap.specs.declared.error.kind.ErrorKind.TheVariants.{InvalidSubcomma
 use Rattle.rb_money.specs.declared.limits.TheConstants.{MOST_SITES}
 use Rattle.rb_words.specs.declared.words.TheConstants.{MOST_TELLERS}
 use Rattle.rb_words.specs.declared.words.Words.{Words}
-use Rattle.rb_words.specs.declared.words.Words.TheVariants.{Script, Audit, Threads}
+use Rattle.rb_words.specs.declared.words.Words.TheVariants.{Script, Audit, Migrate, Threads}
 
 -- ---- what the words ask for
 
@@ -32,6 +32,7 @@ pub record AskForThreads (words : List (List ℕ)) (sites tellers seed : ℕ) : 
 abbrev pub Ask : List (List ℕ) → Words → Type 0
 Ask words Script = words ≡ codes "script" ∷ []
 Ask words Audit = words ≡ codes "audit" ∷ []
+Ask words Migrate = words ≡ codes "migrate" ∷ []
 Ask words (Threads sites tellers seed) = AskForThreads words sites tellers seed
 
 -- ---- the command line, which tells what is wrong with other words
@@ -50,7 +51,7 @@ threads_line = with_rule (with_rule (with_rule (new_app (codes "threads")) (opti
 
 -- the command line: a subcommand for each thing
 abbrev pub command_line : App
-command_line = with_subcommand (with_subcommand (with_subcommand (record { top = top_line; subs = [] }) (new_app (codes "script")).top) (new_app (codes "audit")).top) threads_line.top
+command_line = with_subcommand (with_subcommand (with_subcommand (with_subcommand (record { top = top_line; subs = [] }) (new_app (codes "script")).top) (new_app (codes "audit")).top) (new_app (codes "migrate")).top) threads_line.top
 
 -- the kinds of error that words may end in, out of memory aside: those of the first word that the command line doesn't take, and where it takes all, that they ask for nothing
 abbrev pub kinds_of : List (List ℕ) → Kinds

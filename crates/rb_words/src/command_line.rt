@@ -85,6 +85,13 @@ pub fn command_line<'a>(alloc: Global) -> Result<Command<'a>, AllocError>
         texts::AUDIT,
         texts::AUDIT_HELP,
     );
+    let migrate = part(
+        alloc,
+        "migrate",
+        texts::MIGRATE_USAGE,
+        texts::MIGRATE,
+        texts::MIGRATE_HELP,
+    );
     let threads = threads(alloc)?;
     Command::new(alloc, "rbbank")
         .about(texts::ABOUT)
@@ -93,5 +100,6 @@ pub fn command_line<'a>(alloc: Global) -> Result<Command<'a>, AllocError>
         .subcommand_required(true)
         .subcommand(script)?
         .subcommand(audit)?
+        .subcommand(migrate)?
         .subcommand(threads)
 }

@@ -10,6 +10,8 @@ fn reads_each_command(rt: HostRuntime) -> Result<(), Fail> {
     assert_eq!(rt; words.ok(), Some(Words::Script));
     let words = read_words(rt.alloc(), ["audit"].as_slice());
     assert_eq!(rt; words.ok(), Some(Words::Audit));
+    let words = read_words(rt.alloc(), ["migrate"].as_slice());
+    assert_eq!(rt; words.ok(), Some(Words::Migrate));
     Ok(())
 }
 
@@ -49,7 +51,7 @@ fn refuses_other_runs_of_threads(rt: HostRuntime) {
     let alloc = rt.alloc();
     for words in [
         ["threads", "--sites", "1", "--tellers", "1", "--seed", "0"],
-        ["threads", "--sites", "9", "--tellers", "1", "--seed", "0"],
+        ["threads", "--sites", "17", "--tellers", "1", "--seed", "0"],
         ["threads", "--sites", "2", "--tellers", "0", "--seed", "0"],
         ["threads", "--sites", "2", "--tellers", "65", "--seed", "0"],
         [
@@ -133,6 +135,7 @@ fn tells_each_command(rt: HostRuntime) -> Result<(), Fail> {
     assert!(rt; text.contains(texts::ABOUT));
     assert!(rt; text.contains("  script   Answers the commands "));
     assert!(rt; text.contains("  audit    Tells whether one world "));
+    assert!(rt; text.contains("  migrate  Writes the sites' histories "));
     assert!(rt; text.contains("  threads  Runs tellers in threads "));
     Ok(())
 }
@@ -153,6 +156,8 @@ fn ends_help_in_a_worked_command(rt: HostRuntime) -> Result<(), Fail> {
     assert!(rt; text.trim_end().ends_with(texts::SCRIPT_HELP));
     let text = text_of(rt.alloc(), ["audit", "--help"].as_slice())?;
     assert!(rt; text.trim_end().ends_with(texts::AUDIT_HELP));
+    let text = text_of(rt.alloc(), ["migrate", "--help"].as_slice())?;
+    assert!(rt; text.trim_end().ends_with(texts::MIGRATE_HELP));
     let text = text_of(rt.alloc(), ["threads", "--help"].as_slice())?;
     assert!(rt; text.trim_end().ends_with(texts::THREADS_HELP));
     Ok(())
@@ -166,6 +171,6 @@ fn tells_its_version(rt: HostRuntime) -> Result<(), Fail> {
         Some(ErrorKind::DisplayVersion)
     );
     let text = text_of(alloc, ["-V"].as_slice())?;
-    assert_eq!(rt; text.as_str(), "rbbank 1\n");
+    assert_eq!(rt; text.as_str(), "rbbank 2\n");
     Ok(())
 }

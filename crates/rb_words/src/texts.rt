@@ -1,17 +1,20 @@
 //! What the program tells about itself.
 
-/// The version of the lines that it reads, which each configuration names.
-pub const VERSION: &str = "1";
+/// The newest version of the lines that it reads and writes. Each configuration names its own.
+pub const VERSION: &str = "2";
 
 /// What the program is.
 pub const ABOUT: &str =
-    "A replicated bank of two to eight sites, whose operations can be undone exactly";
+    "A replicated bank of two to sixteen sites, whose operations can be undone exactly";
 
 /// How `script` is used.
 pub const SCRIPT_USAGE: &str = "rbbank script < COMMANDS";
 
 /// How `audit` is used.
 pub const AUDIT_USAGE: &str = "rbbank audit < HISTORIES";
+
+/// How `migrate` is used.
+pub const MIGRATE_USAGE: &str = "rbbank migrate < HISTORIES";
 
 /// How `threads` is used.
 pub const THREADS_USAGE: &str = "rbbank threads --sites K --tellers T --seed S";
@@ -23,12 +26,16 @@ pub const SCRIPT: &str = "Answers the commands on standard input, a line of JSON
 pub const AUDIT: &str =
     "Tells whether one world can have recorded the sites' histories on standard input";
 
+/// What `migrate` does.
+pub const MIGRATE: &str =
+    "Writes the sites' histories on standard input again, in the newest version of their lines";
+
 /// What `threads` does.
 pub const THREADS: &str =
     "Runs tellers in threads at the sites of a bank, and writes the sites' histories";
 
 /// What `--sites` is.
-pub const SITES: &str = "How many sites there are, 2 to 8";
+pub const SITES: &str = "How many sites there are, 2 to 16";
 
 /// What `--tellers` is.
 pub const TELLERS: &str = "How many tellers there are, 1 to 64";
@@ -80,6 +87,29 @@ The answer is one line, after the last entry:
 Statuses:
   0  one world has the histories
   1  no world has them
+  2  a bad line, no configuration, or wrong words
+  3  a read or a write failed
+  4  out of memory"#;
+
+/// A migration of a history, and the statuses.
+pub const MIGRATE_HELP: &str =
+    r#"The first line is the configuration, and each later line an entry of a site's history, in version 1
+or 2 of their lines. Version 2 has up to sixteen sites, and tells what a site had applied by the sites
+that it had applied something of, each with its count. In version 1:
+
+  {"accounts":[["ann",0]],"sites":2,"version":1}
+  {"event":{"shadow":{"account":"ann","amount":5,"deps":[[0,1,0,0,0,0,0,0],0],"home":1,
+    "kind":"deposit","name":"B1.2"}},"reply":{"held":"B1.2"},"site":0}
+
+What stands further in here is the rest of the line above it. The same in version 2:
+
+  {"accounts":[["ann",0]],"blue":1000000,"epoch":4000000000,"history":100000000,"inbox":4096,
+    "red":1000000,"sites":2,"version":2}
+  {"event":{"shadow":{"account":"ann","amount":5,"deps":[[[1,1]],0],"home":1,
+    "kind":"deposit","name":"B1.2"}},"reply":{"held":"B1.2"},"site":0}
+
+Statuses:
+  0  every line was written
   2  a bad line, no configuration, or wrong words
   3  a read or a write failed
   4  out of memory"#;

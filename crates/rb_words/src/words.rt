@@ -20,6 +20,8 @@ pub enum Words {
     Script,
     /// To audit the histories on standard input.
     Audit,
+    /// To write the histories on standard input again, in the newest version of their lines.
+    Migrate,
     /// To run so many tellers, 1 to `MOST_TELLERS`, at so many sites, 2 to `MOST_SITES`. The first numbers of the tellers begin at the seed.
     Threads { sites: u8, tellers: u8, seed: u32 },
 }
@@ -49,6 +51,7 @@ fn asked_for(words: &[&str]) -> Option<Words>
     match words {
         ["script"] => Some(Words::Script),
         ["audit"] => Some(Words::Audit),
+        ["migrate"] => Some(Words::Migrate),
         ["threads", _, _, _, _, _, _] => threads(words),
         _ => None,
     }

@@ -23,7 +23,7 @@ status_of_unread _ = 2
 abbrev pub IsToldFault : ScriptFault → ℕ → Type 0
 IsToldFault fault n = (n ≡ status_of fault) ⊎ (n ≡ 4)
 
--- a script that was answered whole is no fault
+-- a script, or a migration, that was answered whole is no fault
 abbrev pub IsEndOfScript : Result ℕ ScriptFault → ℕ → Type 0
 IsEndOfScript (Ok count) n = n ≡ 0
 IsEndOfScript (Err fault) n = IsToldFault fault n

@@ -7,7 +7,7 @@ use rb_shadow::{Deps, Kind, Label, OpName, Shadow};
 use rb_site::{Entry, Event, Message, Reply};
 use rb_statements::{Row, Statement};
 use rb_token::TokenMessage;
-use std::alloc::Global;
+use std::alloc::{AllocError, Global};
 use std::test::Fail;
 
 const TWO_ACCOUNTS: &str = "{\"accounts\":[[\"ann\",0],[\"bob\",70]],\"sites\":2,\"version\":1}";
@@ -129,6 +129,10 @@ fn shadow(name: OpName, amount: u64, kind: Kind) -> Message {
 #[test]
 fn received_shadows(rt: HostRuntime) -> Result<(), Fail> {
     let config = read_config(rt.alloc(), TWO_ACCOUNTS)?;
+    let mut blue = [0; MOST_SITES];
+    blue[0] = 1;
+    blue[1] = 2;
+    blue[7] = 4294967295;
     for (text, message) in [
         (
             "{\"shadow\":{\"account\":\"ann\",\"amount\":500,\"deps\":[[0,0,0,0,0,0,0,0],0],\"home\":0,\"kind\":\"deposit\",\"name\":\"B0.1\"}}",
@@ -155,14 +159,11 @@ fn received_shadows(rt: HostRuntime) -> Result<(), Fail> {
             shadow(BLUE, 5, Kind::Transfer { to: Place::NOWHERE }),
         ),
         (
-            "{\"shadow\":{\"account\":\"?\",\"amount\":300,\"deps\":[[1,2,3,4,5,6,7,4294967295],1],\"home\":1,\"kind\":\"cancel\",\"name\":\"B1.1\",\"target\":\"R1\"}}",
+            "{\"shadow\":{\"account\":\"?\",\"amount\":300,\"deps\":[[1,2,0,0,0,0,0,4294967295],1],\"home\":1,\"kind\":\"cancel\",\"name\":\"B1.1\",\"target\":\"R1\"}}",
             Message::Shadow(Shadow {
                 name: OpName::Blue { site: 1, n: 1 },
                 home: 1,
-                deps: Deps {
-                    blue: [1, 2, 3, 4, 5, 6, 7, 4294967295],
-                    red: 1,
-                },
+                deps: Deps { blue, red: 1 },
                 account: Place::NOWHERE,
                 amount: 300,
                 kind: Kind::Cancel { target: RED },
@@ -326,6 +327,10 @@ fn configurations_both_ways(rt: HostRuntime) -> Result<(), Fail> {
             "{\"accounts\":[[\"ann\",0],[\"bob.1\",100000000000]],\"blue\":1,\"epoch\":2,\"history\":3,\"inbox\":4,\"red\":5,\"sites\":8,\"version\":1}",
             "{\"accounts\":[[\"ann\",0],[\"bob.1\",100000000000]],\"blue\":1,\"epoch\":2,\"history\":3,\"inbox\":4,\"red\":5,\"sites\":8,\"version\":1}",
         ),
+        (
+            "{\"accounts\":[[\"ann\",0]],\"sites\":16,\"version\":2}",
+            "{\"accounts\":[[\"ann\",0]],\"blue\":1000000,\"epoch\":4000000000,\"history\":100000000,\"inbox\":4096,\"red\":1000000,\"sites\":16,\"version\":2}",
+        ),
     ] {
         let config = read_config(rt.alloc(), given)?;
         let text = write_config(rt.alloc(), &config)?;
@@ -387,6 +392,59 @@ fn bad_events(rt: HostRuntime) -> Result<(), Fail> {
             is_bad(rt.alloc(), &config, event, "{\"balance\":0}")?,
             "at {event}"
         );
+    }
+    Ok(())
+}
+
+/// The line of a deposit that site 0 received, which says this of what its home had applied.
+fn line_of(alloc: Global, deps: &str) -> Result<String, AllocError> {
+    format!(in alloc;
+        "{{\"event\":{{\"shadow\":{{\"account\":\"ann\",\"amount\":5,\"deps\":{deps},\"home\":0,\"kind\":\"deposit\",\"name\":\"B0.1\"}}}},\"reply\":{{\"held\":\"B0.1\"}},\"site\":0}}"
+    )
+}
+
+#[test]
+fn counts_in_version_2(rt: HostRuntime) -> Result<(), Fail> {
+    let alloc = rt.alloc();
+    let config = read_config(
+        alloc,
+        "{\"accounts\":[[\"ann\",0]],\"sites\":2,\"version\":2}",
+    )?;
+    for deps in [
+        "[[],0]",
+        "[[],1]",
+        "[[[0,3],[5,1]],2]",
+        "[[[15,4294967295]],0]",
+    ] {
+        let line = line_of(alloc, deps)?;
+        let (site, entry) = read_line(alloc, &config, line.as_str())?;
+        let again = write_line(alloc, &config, site, &entry)?;
+        assert_eq!(rt; again.as_str(), line.as_str());
+    }
+    Ok(())
+}
+
+#[test]
+fn wrong_deps(rt: HostRuntime) -> Result<(), Fail> {
+    let alloc = rt.alloc();
+    let first = read_config(alloc, TWO_ACCOUNTS)?;
+    let second = read_config(
+        alloc,
+        "{\"accounts\":[[\"ann\",0]],\"sites\":2,\"version\":2}",
+    )?;
+    for (config, deps) in [
+        (&first, "[[],0]"),
+        (&first, "[[[0,3],[5,1]],2]"),
+        (&second, "[[0,0,0,0,0,0,0,0],0]"),
+        (&second, "[[[0,3],[0,1]],2]"),
+        (&second, "[[[5,1],[0,3]],2]"),
+        (&second, "[[[0,0]],0]"),
+        (&second, "[[[16,1]],0]"),
+        (&second, "[[[0,4294967296]],0]"),
+        (&second, "[[[0,1,1]],0]"),
+    ] {
+        let line = line_of(alloc, deps)?;
+        assert!(rt; is_bad_line(alloc, config, line.as_str()), "at {line}");
     }
     Ok(())
 }

@@ -192,6 +192,28 @@ fn configurations(rt: HostRuntime) -> Result<(), Fail> {
 }
 
 #[test]
+fn versions(rt: HostRuntime) -> Result<(), Fail> {
+    for (line, sites, version) in [
+        (TWO_ACCOUNTS, 2, 1),
+        (
+            "{\"accounts\":[[\"ann\",0]],\"sites\":2,\"version\":2}",
+            2,
+            2,
+        ),
+        (
+            "{\"accounts\":[[\"ann\",0]],\"sites\":16,\"version\":2}",
+            16,
+            2,
+        ),
+    ] {
+        let config = read_config(rt.alloc(), line)?;
+        assert_eq!(rt; config.sites(), sites);
+        assert_eq!(rt; config.version(), version);
+    }
+    Ok(())
+}
+
+#[test]
 fn bad_configurations(rt: HostRuntime) {
     for line in [
         "",
@@ -200,7 +222,10 @@ fn bad_configurations(rt: HostRuntime) {
         "{\"accounts\":[[\"ann\",0]],\"version\":1}",
         "{\"sites\":2,\"version\":1}",
         "{\"accounts\":[[\"ann\",0]],\"name\":\"bank\",\"sites\":2,\"version\":1}",
-        "{\"accounts\":[[\"ann\",0]],\"sites\":2,\"version\":2}",
+        "{\"accounts\":[[\"ann\",0]],\"sites\":2,\"version\":0}",
+        "{\"accounts\":[[\"ann\",0]],\"sites\":2,\"version\":3}",
+        "{\"accounts\":[[\"ann\",0]],\"sites\":17,\"version\":2}",
+        "{\"accounts\":[[\"ann\",0]],\"sites\":1,\"version\":2}",
         "{\"accounts\":[[\"ann\",0]],\"sites\":2,\"version\":\"1\"}",
         "{\"accounts\":[[\"ann\",0]],\"sites\":1,\"version\":1}",
         "{\"accounts\":[[\"ann\",0]],\"sites\":9,\"version\":1}",

@@ -1,4 +1,4 @@
-//! `rbbank`: the sites of a bank, driven by a script or by tellers in threads, and audits of their histories.
+//! `rbbank`: the sites of a bank, driven by a script or by tellers in threads, and audits and migrations of their histories.
 #![tactic(auto)]
 
 ghost use Rattle.std.specs.Prelude.{◌≡◌, ◌≤◌};
@@ -30,6 +30,7 @@ use from_reader::FromReader;
 use rb_audit::run_audit;
 use rb_branch::NoGate;
 use rb_lines::{ScriptFault, message, status};
+use rb_migrate::run_migrate;
 use rb_script::run_script;
 use rb_threads::run_threads;
 use rb_words::{Words, read_words};
@@ -56,7 +57,7 @@ fn out_of_memory(rt: &HostRuntime) -> ExitCode
     ExitCode::from(NO_MEMORY)
 }
 
-/// Says why a script, an audit or a run of threads stopped.
+/// Says why a script, an audit, a migration or a run of threads stopped.
 fn tell_fault(rt: &HostRuntime, fault: ScriptFault) -> ExitCode
     ensures { IsToldFault fault (exit_status result) }
 {
@@ -99,7 +100,7 @@ fn tell_unread(rt: &HostRuntime, error: io::Error) -> ExitCode
     }
 }
 
-/// How a script ends the program.
+/// How a script or a migration ends the program.
 fn end_of_script(rt: &HostRuntime, answered: Result<u64, ScriptFault>) -> ExitCode
     ensures { IsEndOfScript answered (exit_status result) }
 {
@@ -150,6 +151,16 @@ fn audit(rt: &HostRuntime) -> ExitCode
     end_of_audit(rt, answered)
 }
 
+/// Writes the histories on standard input again, in version 2 of their lines.
+fn migrate(rt: &HostRuntime) -> ExitCode
+    ensures { IsEnd (exit_status result) }
+{
+    let mut reader = FromReader::new(rt.reader());
+    let mut writer = ToWriter::new(io::writer(rt));
+    let written = run_migrate(rt.alloc(), &mut reader, &mut writer);
+    end_of_script(rt, written)
+}
+
 /// Runs tellers at the sites, and writes their histories.
 fn threads<W: Threads + Wait + Sync>(
     rt: &HostRuntime,
@@ -190,6 +201,7 @@ fn run<W: Threads + Wait + Sync>(rt: &HostRuntime, handle: &W) -> ExitCode
     match read_words(alloc, views.as_slice()) {
         Ok(Words::Script) => script(rt),
         Ok(Words::Audit) => audit(rt),
+        Ok(Words::Migrate) => migrate(rt),
         Ok(
             Words::Threads {
                 sites,

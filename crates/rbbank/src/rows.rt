@@ -10,7 +10,7 @@ pub struct Row {
 }
 
 /// The rows.
-pub const ROWS: [Row; 23] = [
+pub const ROWS: [Row; 24] = [
     Row {
         name: "deposit_reaches_the_other_site",
         script: r#"{"accounts":[["ann",0]],"sites":2,"version":1}
@@ -431,6 +431,22 @@ pub const ROWS: [Row; 23] = [
         replies: r#"{"refused":20}
 {"refused":19}
 {"refused":19}
+"#,
+    },
+    Row {
+        name: "sixteen_sites",
+        script: r#"{"accounts":[["ann",0]],"sites":16,"version":2}
+{"deposit":["ann",500],"site":15}
+{"deliver":1,"site":0}
+{"apply":"B15.1","site":0}
+{"balance":"ann","site":0}
+{"balance":"ann","site":16}
+"#,
+        replies: r#"{"kind":"deposit","name":"B15.1"}
+{"held":"B15.1"}
+{"applied":"B15.1"}
+{"balance":500}
+{"refused":20}
 "#,
     },
     Row {

@@ -1,4 +1,4 @@
--- Numbers in digits, among them those of refusals that tell more and of the format's version.
+-- Numbers in digits, among them those of refusals that tell more.
 use Rattle.std.proofs.Common.{◌≡◌, ℤ, pos, negsuc, codes, decimal, refl}
 use Rattle.std.specs.Fmt.{digits, signed_decimal}
 use Rattle.serde_json.specs.Find.{of_integer}
@@ -7,10 +7,6 @@ use Rattle.serde_json.specs.Written.{number_text}
 pub integer_text : (z : ℤ) → number_text (of_integer z) ≡ signed_decimal z
 integer_text (pos n) = refl
 integer_text (negsuc n) = refl
-
-pub one : decimal 1 ≡ codes "1"
-unfolding digits
-one = refl
 
 pub six : decimal 6 ≡ codes "6"
 unfolding digits

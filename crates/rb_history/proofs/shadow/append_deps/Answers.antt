@@ -1,6 +1,6 @@
 use Rattle.std.proofs.Common.{◌≡◌, ◌++◌, List, ℕ, codes, decimal, append_assoc}
 use Rattle.serde_json.specs.Written.{compact_text}
-use Rattle.rb_commands.specs.Values.{list_json, number_json}
+use Rattle.rb_history.specs.Counts.{blue_json}
 use Rattle.rb_commands.proofs.Public.Appended.{both, then}
 use Rattle.rb_history.proofs.shadow.append_deps.Goals as goal
 
@@ -11,6 +11,6 @@ pub returns : goal.returns
 returns c =
     let old = c.args.out.now.items in
     let deps = c.args.deps.now in
-    let blue = compact_text (list_json number_json deps.blue) in
-    let two = both old c.append.new.out.items c.append_numbers.new.out.items (codes "[") blue c.in_ok-append.ensures c.in_ok-append_numbers.ensures in
-    then c.append_number.result old c.append_numbers.new.out.items c.append_number.new.out.items (codes "[" ++ blue) (codes "," ++ (decimal deps.red ++ codes "]")) _ two c.append_number.ensures (deps_text blue (decimal deps.red))
+    let blue = compact_text (blue_json c.args.version deps.blue) in
+    let two = both old c.append.new.out.items c.append_blue.new.out.items (codes "[") blue c.in_ok-append.ensures c.in_ok-append_blue.ensures in
+    then c.append_number.result old c.append_blue.new.out.items c.append_number.new.out.items (codes "[" ++ blue) (codes "," ++ (decimal deps.red ++ codes "]")) _ two c.append_number.ensures (deps_text blue (decimal deps.red))

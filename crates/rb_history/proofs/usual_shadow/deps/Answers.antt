@@ -1,16 +1,23 @@
-use Rattle.std.proofs.Common.{◌++◌, codes, decimal, false, rules}
-use Rattle.std.specs.Prelude.{map}
-use Rattle.serde_json.specs.View.{items_of}
-use Rattle.serde_json.specs.Written.{items_text}
-use Rattle.rb_commands.specs.Values.{number_json}
+use Rattle.std.proofs.Common.{◌≡◌, ◌++◌, codes, decimal, subst, rules}
+use Rattle.serde_json.specs.Written.{compact_text}
+use Rattle.rb_history.specs.Counts.{blue_json}
+use Rattle.rb_history.specs.Tells.{TellsCounts, TellsDeps}
 use Rattle.rb_history.proofs.Told.{between}
 use Rattle.rb_history.proofs.usual_shadow.deps.Goals as goal
 
 pub returns : goal.returns
 returns c =
-    let blue = items_text false (items_of (map number_json c.in_ok-blue.blue)) in (
-      search rules,
-      c.in_ok-blue.ensures.0,
-      c.in_ok-red.ensures.0,
-      between c.args.text.now (codes "[[") c.in_ok-after.field-0.now blue c.in_ok-blue.rest.now (codes "," ++ (decimal c.in_ok-red.red ++ codes "]")) c.in_ok-red.rest.now c.in_ok-after.ensures c.in_ok-blue.ensures.1 c.in_ok-red.ensures.1,
-    )
+    let version = c.args.config.now.version in
+    let blue = c.in_ok-blue.blue in
+    let red = c.in_ok-red.red in
+    let text = c.args.text.now in
+    let here = c.in_ok-after.field-0.now in
+    let rest = c.in_ok-blue.rest.now in
+    let counts : TellsCounts version blue here rest = subst (λ v. TellsCounts v blue here rest) c.version.ensures.same c.in_ok-blue.ensures in
+    record {
+      sites = counts.sites;
+      blue = counts.fit;
+      further = counts.further;
+      red = c.in_ok-red.ensures.0;
+      told = between text (codes "[") here (compact_text (blue_json version blue)) rest (codes "," ++ (decimal red ++ codes "]")) c.in_ok-red.rest.now c.in_ok-after.ensures counts.told c.in_ok-red.ensures.1;
+    }

@@ -17,7 +17,7 @@ unfolding escape_byte
 returns c =
     let account = account_behind_quote c.args.config.now c.in_ok-account.account in
     let amount = decimal c.in_ok-amount.amount in
-    let deps = compact_text (deps_json c.in_ok-deps.deps) in
+    let deps = compact_text (deps_json c.args.config.now.version c.in_ok-deps.deps) in
     let home = decimal c.in_ok-home.home in
     let label = behind_quote (label_text c.in_ok-label.label) in
     let name = behind_quote (name_text c.in_ok-name.name) in
@@ -26,7 +26,7 @@ returns c =
     let read =
     c.in_ok-account.ensures.1 ∙ ap (λ l. (codes "{\"shadow\":{\"account\":\"" ++ (account ++ codes ",")) ++ l)
     (c.in_ok-amount.ensures.1 ∙ ap (λ l. (codes "\"amount\":" ++ (amount ++ codes ",\"deps\":")) ++ l)
-    (c.in_ok-deps.ensures.3 ∙ ap (λ l. deps ++ l)
+    (c.in_ok-deps.ensures.told ∙ ap (λ l. deps ++ l)
     (c.in_ok-home.ensures.1 ∙ ap (λ l. (codes ",\"home\":" ++ (home ++ codes ",\"kind\":\"")) ++ l)
     (c.in_ok-label.ensures ∙ ap (λ l. label ++ l)
     (c.in_ok-after.ensures ∙ ap (λ l. codes ",\"name\":\"" ++ l)
@@ -36,9 +36,10 @@ returns c =
       record {
         name = c.in_ok-name.ensures.0;
         home = c.in_ok-home.ensures.0;
-        sites = c.in_ok-deps.ensures.0;
-        blue = c.in_ok-deps.ensures.1;
-        red = c.in_ok-deps.ensures.2;
+        sites = c.in_ok-deps.ensures.sites;
+        blue = c.in_ok-deps.ensures.blue;
+        further = c.in_ok-deps.ensures.further;
+        red = c.in_ok-deps.ensures.red;
         account = c.in_ok-account.ensures.0;
         amount = c.in_ok-amount.ensures.0;
         kind = c.in_ok-kind.ensures.kind.0;

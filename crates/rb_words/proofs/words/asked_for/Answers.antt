@@ -12,3 +12,6 @@ returns-in-script-clause-some c = single c.args.words.now _ _ c.in-script.len_at
 
 pub returns-in-audit-clause-some : goal.returns-in-audit-clause-some
 returns-in-audit-clause-some c = single c.args.words.now _ _ c.in-audit.len_at_least c.in-audit.len_below c.in-audit.is-audit
+
+pub returns-in-migrate-clause-some : goal.returns-in-migrate-clause-some
+returns-in-migrate-clause-some c = single c.args.words.now _ _ c.in-migrate.len_at_least c.in-migrate.len_below c.in-migrate.is-migrate

@@ -4,12 +4,13 @@ use Rattle.std.specs.Prelude.{IfNone}
 use Rattle.std.proofs.lemmas.List.{length-map}
 use Rattle.rb_words.specs.Words.{Ask, AskForThreads}
 use Rattle.rb_words.specs.declared.words.Words.{Words}
-use Rattle.rb_words.specs.declared.words.Words.TheVariants.{Script, Audit, Threads}
+use Rattle.rb_words.specs.declared.words.Words.TheVariants.{Script, Audit, Migrate, Threads}
 use Rattle.rb_words.proofs.words.threads.Goals as goal
 
 for_threads : (words : List (List ℕ)) → length words ≡ 7 → ((sites tellers seed : ℕ) → ¬ AskForThreads words sites tellers seed) → (asked : Words) → ¬ Ask words asked
 for_threads words seven none Script is = absurd (omega (arith, ap length is))
 for_threads words seven none Audit is = absurd (omega (arith, ap length is))
+for_threads words seven none Migrate is = absurd (omega (arith, ap length is))
 for_threads words seven none (Threads sites tellers seed) is = none sites tellers seed is
 
 seven_texts : (words : List (Bor (List ℕ))) → length words ≡ 7 → length (map (λ word. word.now) words) ≡ 7

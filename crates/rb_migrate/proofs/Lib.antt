@@ -1,0 +1,4 @@
+mod Ended
+mod Ends
+mod Kept
+mod Replays

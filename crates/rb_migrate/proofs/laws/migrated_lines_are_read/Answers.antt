@@ -1,0 +1,9 @@
+use Rattle.rb_money.specs.Settings.{in_version_2}
+use Rattle.rb_migrate.proofs.Kept.{configured, entries}
+use Rattle.rb_migrate.proofs.laws.migrated_lines_are_read.Goals as goal
+
+pub returns-clause-configs : goal.returns-clause-configs
+returns-clause-configs c = λ s h. c.configs_are_read.ensures (in_version_2 s) (configured s h)
+
+pub returns-clause-entries : goal.returns-clause-entries
+returns-clause-entries c = entries c.entries_are_read.ensures c.read_entries_fit.ensures

@@ -1,0 +1,4 @@
+pub mod Migration
+pub mod Run
+pub mod Session
+pub mod Laws
