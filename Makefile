@@ -1,4 +1,4 @@
-.PHONY: help demo build test check examples bench refuse wrong-bodies
+.PHONY: help demo build test toolchain check examples bench refuse wrong-bodies
 
 help:
 	@echo 'make demo      the stored run, drawn, each command beside its reply'
@@ -24,11 +24,15 @@ examples: build
 	@examples/check.py crates/rbbank/out/rbbank
 
 # The gate: everything from nothing. The last line is 'N passed, 0 failed', or an example that is answered otherwise.
-test:
+test: toolchain
 	examples/from_rows.py --check
 	tests/closure.py --check
 	rt ci
 	@examples/check.py --quiet crates/rbbank/out/rbbank
+
+# Whether README.md names the toolchain that proves it.
+toolchain:
+	@grep -qF "$$(rt version)" README.md || { echo "README.md names another toolchain than $$(rt version)"; exit 1; }
 
 # Every crate, over what earlier checks kept.
 check:
