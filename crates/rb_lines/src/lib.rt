@@ -1,22 +1,27 @@
 //! Lines between a reader and a writer: the bytes that wait, the bytes that are owed, and why a run stops.
+//! Tests: rb_tests, scripts.rt, audits.rt.
 #![tactic(auto)]
 
 mod buffers;
 mod fault;
+mod from_bytes;
 mod limits;
 mod line;
 mod no_line;
 mod pending;
 mod sink;
 mod source;
+mod to_bytes;
 mod write;
 
 pub use buffers::Buffers;
 pub use fault::{ScriptFault, message, status};
+pub use from_bytes::FromBytes;
 pub use limits::{LINE_LIMIT, MOST_OWED, MOST_READS, READ_SIZE};
 pub use line::{is_blank, text_on};
 pub use no_line::NoLine;
 pub use pending::Pending;
 pub use sink::{Sink, WriteFailed};
 pub use source::{ReadFailed, Source};
+pub use to_bytes::ToBytes;
 pub use write::{flush, write_all};
