@@ -1,8 +1,8 @@
 //! The command line that the program takes.
-ghost use Rattle.std.specs.Prelude.{◌≡◌, false, true, IfOk, Some};
-ghost use Rattle.clap.specs.Words.{app_of, new_app, new_rule, rule_of};
+ghost use Rattle.std.specs.Prelude.{◌≡◌, [], false, true, IfOk, Some, codes};
+ghost use Rattle.clap.specs.Words.{app_of, new_app, new_rule, rule_of, with_subcommand};
 ghost use Rattle.clap.specs.declared.builder.command.Command.TheViews.{out-Command};
-ghost use Rattle.rb_words.specs.Words.{command_line as line, threads_line};
+ghost use Rattle.rb_words.specs.Words.{command_line as line, threads_line, top_line};
 
 use crate::{MOST_TELLERS, texts};
 use clap::builder::ValueParser;
@@ -27,6 +27,20 @@ fn part<'a>(
         .after_help(help)
 }
 
+/// The command line with one more command.
+fn with_part<'a>(
+    command: Command<'a>,
+    alloc: Global,
+    name: &'a str,
+    usage: &'a str,
+    about: &'a str,
+    help: &'a str,
+) -> Result<Command<'a>, AllocError>
+    ensures { IfOk result (λ it. app_of it ≡ with_subcommand (app_of command.entry) (new_app name.entry.now).top) }
+{
+    command.subcommand(part(alloc, name, usage, about, help))
+}
+
 /// An option that must be given, with one number.
 fn option<'a>(
     alloc: Global,
@@ -46,6 +60,20 @@ fn option<'a>(
         .value_parser(parser)
 }
 
+/// The command for a run of threads, before its options.
+fn bare_threads<'a>(alloc: Global) -> Command<'a>
+    ensures shape { app_of result ≡ new_app (codes "threads") }
+    ensures local { (out-Command result).has_globals ≡ false }
+{
+    part(
+        alloc,
+        "threads",
+        texts::THREADS_USAGE,
+        texts::THREADS,
+        texts::THREADS_HELP,
+    )
+}
+
 /// The command for a run of threads, with its options.
 fn threads<'a>(alloc: Global) -> Result<Command<'a>, AllocError>
     ensures shape { IfOk result (λ command. app_of command ≡ threads_line) }
@@ -53,53 +81,51 @@ fn threads<'a>(alloc: Global) -> Result<Command<'a>, AllocError>
 {
     let sites = clap::value_parser!(u8).range(2..=MOST_SITES as i64);
     let tellers = clap::value_parser!(u8).range(1..=MOST_TELLERS as i64);
-    let seed = clap::value_parser!(u32);
     let sites = option(alloc, "sites", "K", texts::SITES, sites);
     let tellers = option(alloc, "tellers", "T", texts::TELLERS, tellers);
-    let seed = option(alloc, "seed", "S", texts::SEED, seed);
-    let command = part(
-        alloc,
-        "threads",
-        texts::THREADS_USAGE,
-        texts::THREADS,
-        texts::THREADS_HELP,
-    );
-    command.arg(sites)?.arg(tellers)?.arg(seed)
+    let seed = option(alloc, "seed", "S", texts::SEED, clap::value_parser!(u32));
+    bare_threads(alloc).arg(sites)?.arg(tellers)?.arg(seed)
+}
+
+/// The command line before its commands.
+fn top<'a>(alloc: Global) -> Command<'a>
+    ensures { app_of result ≡ record { top = top_line; subs = [] } }
+{
+    Command::new(alloc, "rbbank")
+        .about(texts::ABOUT)
+        .version(texts::VERSION)
+        .no_binary_name(true)
+        .subcommand_required(true)
 }
 
 /// The command line that the program takes.
 pub fn command_line<'a>(alloc: Global) -> Result<Command<'a>, AllocError>
     ensures { IfOk result (λ command. app_of command ≡ line) }
 {
-    let script = part(
+    let command = top(alloc);
+    let command = with_part(
+        command,
         alloc,
         "script",
         texts::SCRIPT_USAGE,
         texts::SCRIPT,
         texts::SCRIPT_HELP,
-    );
-    let audit = part(
+    )?;
+    let command = with_part(
+        command,
         alloc,
         "audit",
         texts::AUDIT_USAGE,
         texts::AUDIT,
         texts::AUDIT_HELP,
-    );
-    let migrate = part(
+    )?;
+    let command = with_part(
+        command,
         alloc,
         "migrate",
         texts::MIGRATE_USAGE,
         texts::MIGRATE,
         texts::MIGRATE_HELP,
-    );
-    let threads = threads(alloc)?;
-    Command::new(alloc, "rbbank")
-        .about(texts::ABOUT)
-        .version(texts::VERSION)
-        .no_binary_name(true)
-        .subcommand_required(true)
-        .subcommand(script)?
-        .subcommand(audit)?
-        .subcommand(migrate)?
-        .subcommand(threads)
+    )?;
+    command.subcommand(threads(alloc)?)
 }

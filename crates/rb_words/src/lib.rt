@@ -1,10 +1,9 @@
 //! The words of the command line.
+//! Tests: rb_tests, words.rt.
 #![tactic(auto)]
 
 mod command_line;
 mod options;
-#[cfg(test)]
-mod tests;
 mod texts;
 mod words;
 
