@@ -1,33 +1,103 @@
 #!/usr/bin/env python3
-"""Tries the wrong bodies that the gate leaves out for its time: those of crates/*/wrong-bodies. The prover must refuse each.
+"""Tries the mutants that the gate leaves out for its time: those of tests/wrong_bodies/*.edits. The prover must refuse each.
 
-usage: wrong_bodies.py [CRATE..]      (without one, all crates that have such a folder)
+usage: wrong_bodies.py CRATE..      tries the mutants of these crates
+       wrong_bodies.py --all        tries those of every crate, some hours of processor time
+       wrong_bodies.py --check      proves nothing: whether each mutant still applies, some milliseconds
 
-It works on a copy of what is committed, and takes the work that checks kept where the crates stand.
+A file tests/wrong_bodies/CRATE.edits has the crate's mutants, each under its name in brackets, in the form of a must-fail
+edit: a line 'file: src/..', and pairs of lines 'old: TEXT' and 'new: TEXT'. It applies where each old text is in its file
+exactly once. Mutants are tried on a copy of the repository, over what earlier checks kept.
 """
+import glob
 import os
+import re
 import shutil
 import subprocess
 import sys
 import tempfile
 
 ROOT = os.path.dirname(os.path.dirname(os.path.abspath(__file__)))
+MUTANTS = os.path.join(ROOT, "tests", "wrong_bodies")
+CRATES = os.path.join(ROOT, "crates")
+
+
+def mutants_of(crate):
+    """The crate's mutants by name, each the text of a must-fail edit."""
+    with open(os.path.join(MUTANTS, crate + ".edits"), encoding="utf-8") as file:
+        parts = re.split(r"^\[(\w+)\]\n", file.read(), flags=re.M)
+    names, texts = parts[1::2], parts[2::2]
+    if parts[0].strip() or len(set(names)) < len(names):
+        sys.exit(f"wrong_bodies: {crate}.edits: a text before the first name, or a name that is there twice")
+    return dict(zip(names, texts))
+
+
+def why_not(crate, text):
+    """Why the mutant doesn't apply to the crate as it is, or None where it does."""
+    texts, path, old = {}, None, None
+    for line in text.splitlines():
+        key, _, said = line.partition(": ")
+        if key == "file":
+            path = said
+        elif key == "old":
+            old = said
+        elif key == "new" and path and old:
+            file = os.path.join(CRATES, crate, path)
+            if path not in texts:
+                with open(file, encoding="utf-8") as it:
+                    texts[path] = it.read()
+            if texts[path].count(old) != 1:
+                return f"an old text is in {path} {texts[path].count(old)} times"
+            texts[path] = texts[path].replace(old, said)
+        elif line:
+            return f"a line that is neither file, old nor new: {line}"
+    return None if texts else "it changes nothing"
+
+
+def check():
+    """Says what doesn't apply. The number of mutants that do."""
+    count = faults = 0
+    for file in sorted(glob.glob(os.path.join(MUTANTS, "*.edits"))):
+        crate = os.path.basename(file)[: -len(".edits")]
+        for name, text in mutants_of(crate).items():
+            twice = os.path.exists(os.path.join(CRATES, crate, "must-fail", name + ".edit"))
+            why = "must-fail/ has one of that name" if twice else why_not(crate, text)
+            count += 1
+            if why:
+                faults += 1
+                print(f"wrong_bodies: {crate} {name}: {why}")
+    if faults:
+        sys.exit(1)
+    return count
+
+
+def copy_of(crates, top):
+    """Copies the repository to the folder, with the crates' mutants in place of their must-fail edits."""
+    shutil.copytree(CRATES, os.path.join(top, "crates"), symlinks=True)
+    for name in ("crates.txt", "HANDLES"):
+        shutil.copyfile(os.path.join(ROOT, name), os.path.join(top, name))
+    for crate in crates:
+        folder = os.path.join(top, "crates", crate, "must-fail")
+        shutil.rmtree(folder, ignore_errors=True)
+        os.mkdir(folder)
+        for name, text in mutants_of(crate).items():
+            with open(os.path.join(folder, name + ".edit"), "w", encoding="utf-8") as file:
+                file.write(text)
 
 
 def main():
-    crates = os.path.join(ROOT, "crates")
-    names = sys.argv[1:] or sorted(os.listdir(crates))
-    names = [name for name in names if os.path.isdir(os.path.join(crates, name, "wrong-bodies"))]
-    with tempfile.TemporaryDirectory() as copy:
-        subprocess.run(["git", "clone", "-q", ROOT, copy], check=True)
-        for name in os.listdir(crates):
-            if os.path.isdir(os.path.join(crates, name, "out")):
-                shutil.copytree(os.path.join(crates, name, "out"), os.path.join(copy, "crates", name, "out"))
-        for name in names:
-            folder = os.path.join(copy, "crates", name)
-            shutil.rmtree(os.path.join(folder, "must-fail"), ignore_errors=True)
-            os.rename(os.path.join(folder, "wrong-bodies"), os.path.join(folder, "must-fail"))
-        sys.exit(subprocess.run(["rt", "must-fail", *names], cwd=copy).returncode)
+    words = sys.argv[1:]
+    every = sorted(os.path.basename(it)[: -len(".edits")] for it in glob.glob(os.path.join(MUTANTS, "*.edits")))
+    if words == ["--check"]:
+        check()
+        return
+    crates = every if words == ["--all"] else words
+    if not crates or not set(crates) <= set(every):
+        sys.exit(__doc__)
+    check()
+    with tempfile.TemporaryDirectory() as top:
+        copy_of(crates, top)
+        sys.exit(subprocess.run(["rt", "must-fail", *crates], cwd=top).returncode)
 
 
 main()
