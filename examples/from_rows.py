@@ -1,5 +1,5 @@
 #!/usr/bin/env python3
-"""Makes the scripts of this folder, with their replies, from the worked rows of the tests, which stand in crates/rbbank/src/rows.rt.
+"""Makes the scripts of this folder, with their replies, from the worked rows of the tests, crates/rb_tests/src/rows.rt.
 
 usage: from_rows.py [--check]
 
@@ -13,7 +13,7 @@ import sys
 
 HERE = os.path.dirname(os.path.abspath(__file__))
 CRATES = os.path.join(os.path.dirname(HERE), "crates")
-ROW = re.compile(r'Row \{\s*name: "(\w+)",\s*script: r#"(.*?)"#,\s*replies: r#"(.*?)"#,', re.DOTALL)
+ROWS = re.compile(r'ROWS: &str = r#"(.*?)"#;', re.DOTALL)
 
 
 def read(path):
@@ -23,8 +23,12 @@ def read(path):
 
 def rows():
     """Each row's script and replies, by its name."""
-    source = read(os.path.join(CRATES, "rbbank", "src", "rows.rt"))
-    return {name: (script, replies) for name, script, replies in ROW.findall(source)}
+    known = {}
+    for row in ROWS.search(read(os.path.join(CRATES, "rb_tests", "src", "rows.rt"))).group(1).split("\n\n"):
+        name, rest = row.split("\n", 1)
+        script, replies = rest.split("\nreplies:\n")
+        known[name] = (script + "\n", replies + "\n")
+    return known
 
 
 def examples():
@@ -65,4 +69,5 @@ def main():
     sys.exit(1 if wrong else 0)
 
 
-main()
+if __name__ == "__main__":
+    main()

@@ -1,11 +1,11 @@
 #!/usr/bin/env python3
 """Refuses each allocation in turn: of the program on four scripts and a migration, and of four tests.
 
-usage: refuse.py PROGRAM TESTS SEATS      (what `rt run` and `rt test` built in crates/rbbank/out, and `rt test` in crates/rb_threads/out)
+usage: refuse.py PROGRAM TESTS      (what `rt run` built in crates/rbbank/out, and `rt test` in crates/rb_tests/out)
 
 A process is run with its first allocation refused, another with its second, and so on until a run meets
 no refusal. The program has to write a front of what is expected and end in status 4, or all of it in status 0;
-a test (crates/rbbank/src/refused_tests.rt, crates/rb_threads/src/seat_tests.rt) has to pass. Ends in status 1 where a
+a test (crates/rb_tests/src/refused.rt, seats.rt) has to pass. Ends in status 1 where a
 run does otherwise, and where no run of an input was stopped on the way, or none inside a batch.
 """
 import itertools
@@ -96,9 +96,9 @@ def test(refuser, tests, name):
     return refusals, stops
 
 
-def all_tests(refuser, tests, seats):
+def all_tests(refuser, tests):
     """The tests. The number of refusals."""
-    each, stops = test(refuser, tests, "refused_tests::refuse_each")
+    each, stops = test(refuser, tests, "refused::refuse_each")
     for name in ROWS:
         count = sum(row == name for row, _ in stops)
         print(f"  {name}: {count} runs stopped")
@@ -108,25 +108,25 @@ def all_tests(refuser, tests, seats):
     print(f"  inside a batch that is made: {inside} runs stopped")
     if inside == 0:
         sys.exit("refuse: no run was stopped inside a batch")
-    text, stops = test(refuser, tests, "refused_tests::refuse_script")
+    text, stops = test(refuser, tests, "refused::refuse_script")
     if not stops:
         sys.exit("refuse: no script was stopped")
     # It is never stopped: it needs no memory beyond the room that it makes first.
-    room, _ = test(refuser, tests, "refused_tests::reserved")
-    calls, stops = test(refuser, seats, "seat_tests::refuse_seats")
+    room, _ = test(refuser, tests, "refused::reserved")
+    calls, stops = test(refuser, tests, "seats::refuse_seats")
     if not stops:
         sys.exit("refuse: no call of a seat was refused")
     return each + text + room + calls
 
 
 def main():
-    if len(sys.argv) != 4:
+    if len(sys.argv) != 3:
         sys.exit(__doc__)
-    program, tests, seats = map(os.path.abspath, sys.argv[1:])
+    program, tests = map(os.path.abspath, sys.argv[1:])
     with tempfile.TemporaryDirectory() as folder:
         refuser = Refuser(folder)
         refusals = sum(program_on(refuser, program, name, command) for name, command in RUNS)
-        refusals += all_tests(refuser, tests, seats)
+        refusals += all_tests(refuser, tests)
     print(f"{refusals} refusals tried, and all is as it has to be")
 
 

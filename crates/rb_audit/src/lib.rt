@@ -1,10 +1,9 @@
 //! An audit: a configuration and the lines of histories in, and one line out.
+//! Tests: rb_tests, audits.rt.
 #![tactic(auto)]
 
 mod answer;
 mod collected;
 mod run;
-#[cfg(test)]
-mod tests;
 
 pub use run::run_audit;

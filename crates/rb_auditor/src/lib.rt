@@ -1,4 +1,5 @@
 //! Audits of histories: whether sites that share nothing but messages could have recorded them.
+//! Tests: rb_tests, auditor.rt.
 #![tactic(auto)]
 
 mod audit_fault;
@@ -11,8 +12,6 @@ mod replay;
 mod sends;
 mod sent;
 mod taking;
-#[cfg(test)]
-mod tests;
 
 pub use audit_fault::AuditFault;
 pub use auditing::audit;

@@ -2,6 +2,7 @@
 //!
 //! What lines of histories are made of as well is public beside them: [`append`], [`scan`], [`values`], an event or
 //! an account from a JSON value, and a reply's object.
+//! Tests: rb_tests, commands.rt, replies.rt.
 #![tactic(auto)]
 
 pub mod append;

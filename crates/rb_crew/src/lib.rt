@@ -1,4 +1,5 @@
 //! Tellers and serving threads at the sites of a branch.
+//! Tests: rb_tests, tellers.rt.
 #![tactic(auto)]
 
 mod crew;

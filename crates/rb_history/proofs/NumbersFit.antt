@@ -11,7 +11,7 @@ use Rattle.serde_json.specs.Data.{Num, unsigned, negative, float, Data, null, bo
 use Rattle.serde_json.specs.Find.{as_array, as_number, get, get_member}
 use Rattle.serde_json.specs.Read.{number_of, of_items, of_json, of_members, read}
 use Rattle.rb_history.specs.Fits.{IsMoved}
-use Rattle.rb_history.proofs.FitsLaws.{anything, fits_map, fits_then}
+use Rattle.rb_history.proofs.FitsLaws.{fits_map, fits_then}
 
 abbrev pub FitsNumber : Num → Type 0
 FitsNumber (unsigned n) = ⊤

@@ -1,4 +1,5 @@
 //! Lines of histories as JSON: the configuration written, entries written and read, and the verdicts of an audit.
+//! Tests: rb_tests, entries.rt.
 #![tactic(auto)]
 
 mod answer;

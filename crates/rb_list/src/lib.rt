@@ -1,4 +1,5 @@
 //! Lists that contracts see as lists.
+//! Tests: rb_tests, site.rt, statements.rt.
 #![tactic(auto)]
 
 mod exact;

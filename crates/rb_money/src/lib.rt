@@ -1,4 +1,5 @@
 //! Money, places of accounts, limits, refusals and the configuration.
+//! Tests: rb_tests, money.rt.
 #![tactic(auto)]
 
 mod accounts;
@@ -28,6 +29,3 @@ pub use number::read_number;
 pub use place::Place;
 pub use rate::{BASIS_POINTS_OF_ALL, MOST_RATE, Rate};
 pub use refusal::{Cause, Refusal};
-
-#[cfg(test)]
-mod tests;

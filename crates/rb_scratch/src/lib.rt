@@ -1,11 +1,10 @@
 //! Requests, and what they make.
+//! Tests: rb_tests, requests.rt, batches.rt.
 #![tactic(auto)]
 
 ghost use Rattle.rb_scratch.specs.Originals.{EachIsOriginal};
 ghost use Rattle.rb_scratch.specs.Requests.{MadeIsValid};
 
-#[cfg(test)]
-mod batch_tests;
 mod effect;
 mod exact;
 mod generator;
@@ -15,8 +14,6 @@ mod records;
 mod request;
 mod run_fault;
 mod scratch;
-#[cfg(test)]
-mod tests;
 
 pub use generator::generate;
 pub use plan::{CancelPlan, cancel_of};

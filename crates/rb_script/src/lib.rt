@@ -1,9 +1,8 @@
 //! A script: a configuration and commands in, a line each, and a line out for each command.
+//! Tests: rb_tests, scripts.rt.
 #![tactic(auto)]
 
 mod run;
 mod session;
-#[cfg(test)]
-mod tests;
 
 pub use run::run_script;

@@ -1,4 +1,5 @@
 //! Shadow operations: their names, kinds, colours and order.
+//! Tests: rb_tests, shadow.rt.
 #![tactic(auto)]
 
 mod colour;
@@ -9,8 +10,6 @@ mod label;
 mod name_text;
 mod op_name;
 mod shadow;
-#[cfg(test)]
-mod tests;
 
 ghost use Rattle.rb_shadow.specs.Laws.{CancellationCommutes};
 

@@ -1,4 +1,5 @@
 //! Sites: their messages, events, replies and histories.
+//! Tests: rb_tests, site.rt, worlds.rt.
 #![tactic(auto)]
 
 mod answer;
@@ -15,8 +16,6 @@ mod room;
 mod same;
 mod site;
 mod state;
-#[cfg(test)]
-mod tests;
 mod world_event;
 
 ghost use Rattle.rb_site.specs.Histories.{StuckIsFinal};

@@ -1,11 +1,10 @@
 //! Statements of accounts.
+//! Tests: rb_tests, statements.rt.
 #![tactic(auto)]
 
 mod account;
 mod exact;
 mod row;
-#[cfg(test)]
-mod tests;
 mod views;
 
 pub use account::Statement;

@@ -1,9 +1,8 @@
 //! What is kept to undo an entry of a ledger.
+//! Tests: rb_tests, undo.rt.
 #![tactic(auto)]
 
 mod parts;
-#[cfg(test)]
-mod tests;
 mod undo;
 mod undo_log;
 

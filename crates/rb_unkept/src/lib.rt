@@ -1,4 +1,5 @@
 //! Values that only proofs read.
+//! Tests: none. It is what proofs read.
 #![tactic(auto)]
 
 mod unkept;

@@ -1,4 +1,5 @@
 //! Uses of the sites of a bank, as a client writes them. The first is the one to read.
+//! Tests: none. What each call answers is in its contract.
 #![tactic(auto)]
 
 mod bank;

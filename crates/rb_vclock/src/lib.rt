@@ -1,9 +1,8 @@
 //! A site's clock: how many operations of each site, and how many red ones, it applied.
+//! Tests: rb_tests, clock.rt.
 #![tactic(auto)]
 
 mod clock;
-#[cfg(test)]
-mod tests;
 
 ghost use Rattle.rb_vclock.specs.Clocks.{AtLeastMeansWithin};
 

@@ -18,13 +18,11 @@ use Rattle.rb_token.specs.declared.message.TokenMessage.{TokenMessage}
 use Rattle.rb_site.specs.declared.message.Message.{Message}
 use Rattle.rb_site.specs.declared.message.Message.TheVariants.{Shadow as ShadowMessage, Token as TokenOnItsWay}
 use Rattle.rb_site.specs.declared.entry.Entry.{Entry}
-use Rattle.rb_site.specs.declared.world_event.WorldEvent.{WorldEvent}
 use Rattle.rb_scratch.specs.Requests.{operation_of, next_name, colour_of_plan}
 use Rattle.rb_site.specs.Events.{ModelSite, first_site}
 use Rattle.rb_inbox.specs.Held.{with_held, without}
-use Rattle.rb_site.specs.Worlds.{World, shadows_in, tokens_in, made_in, world_of_run, first_world, AreOwn}
+use Rattle.rb_site.specs.Worlds.{World, shadows_in, tokens_in, made_in, first_world}
 use Rattle.rb_world.specs.Laws.{EachSite, OneToken}
-use Rattle.rb_world.proofs.Steps
 use Rattle.rb_world.proofs.Steps.{AmongTokens, MayTake, MayPass, Keeps, moved, each_moved}
 use Rattle.rb_site.proofs.Public.Places.{get_set_other, get_set_same, same_number}
 

@@ -1,4 +1,5 @@
 //! `rbbank`: the sites of a bank, driven by a script or by tellers in threads, and audits and migrations of their histories.
+//! Tests: rb_tests, words.rt; the program itself runs in the gate and on examples/.
 #![tactic(auto)]
 
 ghost use Rattle.std.specs.Prelude.{◌≡◌, ◌≤◌};
@@ -8,21 +9,7 @@ ghost use Rattle.clap.specs.Words.{kind_of};
 ghost use Rattle.rb_money.specs.declared.limits.TheConstants.{MOST_SITES};
 ghost use Rattle.rbbank.specs.Statuses.{IsEnd, IsEndOfAudit, IsEndOfScript, IsEndOfThreads, IsToldFault, status_of_unread, status_of_words};
 
-#[cfg(test)]
-mod command_tests;
-#[cfg(test)]
-mod entry_tests;
-#[cfg(test)]
-mod forged_tests;
 mod from_reader;
-#[cfg(test)]
-mod line_tests;
-#[cfg(test)]
-mod refused_tests;
-#[cfg(test)]
-mod rows;
-#[cfg(test)]
-mod tests;
 mod to_writer;
 
 use clap::error::ErrorKind;

@@ -1,9 +1,6 @@
-use Rattle.std.proofs.Common.{◌≡◌, ◌++◌, codes, false, length, ap, sym, subst, ◌∙◌, append_assoc, rules}
-use Rattle.std.specs.Prelude.{map}
-use Rattle.serde_json.specs.View.{items_of}
-use Rattle.serde_json.specs.Written.{compact_text, items_text}
+use Rattle.std.proofs.Common.{◌≡◌, ◌++◌, codes, length, ap, sym, subst, ◌∙◌, rules}
+use Rattle.serde_json.specs.Written.{compact_text}
 use Rattle.rb_money.specs.declared.limits.TheConstants.{MOST_SITES_OF_VERSION_1}
-use Rattle.rb_commands.specs.Values.{number_json}
 use Rattle.rb_history.specs.Counts.{blue_json, widened}
 use Rattle.rb_history.specs.Tells.{TellsCounts}
 use Rattle.rb_history.proofs.CountsBack.{widened_fits, widened_further, widened_json, widened_length}

@@ -1,4 +1,4 @@
-use Rattle.std.proofs.Common.{◌≡◌, ◌<◌, ◌^◌, ℕ, take, codes, sym, subst, arith, rules}
+use Rattle.std.proofs.Common.{◌<◌, ◌^◌, ℕ, take, codes, sym, subst, arith, rules}
 use Rattle.rb_history.specs.Counts.{numbered_from, numbered_json}
 use Rattle.rb_history.proofs.CountsTold.{fit_all, fit_more, numbered_all, numbered_more}
 use Rattle.rb_history.proofs.ListRead.{BeginsWith, all_read, one_more}

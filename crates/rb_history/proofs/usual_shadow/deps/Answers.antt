@@ -1,7 +1,7 @@
-use Rattle.std.proofs.Common.{◌≡◌, ◌++◌, codes, decimal, subst, rules}
+use Rattle.std.proofs.Common.{◌++◌, codes, decimal, subst}
 use Rattle.serde_json.specs.Written.{compact_text}
 use Rattle.rb_history.specs.Counts.{blue_json}
-use Rattle.rb_history.specs.Tells.{TellsCounts, TellsDeps}
+use Rattle.rb_history.specs.Tells.{TellsCounts}
 use Rattle.rb_history.proofs.Told.{between}
 use Rattle.rb_history.proofs.usual_shadow.deps.Goals as goal
 

@@ -1,5 +1,5 @@
 -- The items' own test, one by one.
-use Rattle.std.proofs.Common.{◌≡◌, ap, sym, ◌∙◌}
+use Rattle.std.proofs.Common.{ap, sym, ◌∙◌}
 use Rattle.std.specs.Cmp.Lexicographic.{pointwise, pointwise_decides}
 use Rattle.rb_list.proofs.list.List.same.Goals as goal
 

@@ -1,0 +1,55 @@
+//! Tests of clocks.
+use rb_money::{MOST_SITES, Place};
+use rb_shadow::{Deps, Kind, OpName, Shadow};
+use rb_vclock::Clock;
+
+const FIRST: OpName = OpName::Blue { site: 1, n: 1 };
+
+const SECOND: OpName = OpName::Blue { site: 1, n: 2 };
+
+/// A name of no site.
+const OF_NO_SITE: OpName = OpName::Blue {
+    site: MOST_SITES as u8,
+    n: 1,
+};
+
+/// What counts the first name alone.
+const ONE: Deps = Deps {
+    blue: [0, 1, 0, 0, 0, 0, 0, 0, 0, 0, 0, 0, 0, 0, 0, 0],
+    red: 0,
+};
+
+const NEXT: Shadow = Shadow {
+    name: SECOND,
+    home: 1,
+    deps: ONE,
+    account: Place(0),
+    amount: 5,
+    kind: Kind::Deposit,
+};
+
+/// Whether the clock is at least that of one name, whether the second is next, and which of the two it covers.
+fn seen(clock: &Clock) -> [bool; 4] {
+    [
+        clock.at_least(&ONE),
+        clock.is_next(&NEXT),
+        clock.covers(&FIRST),
+        clock.covers(&SECOND),
+    ]
+}
+
+#[test]
+fn counts_names(rt: HostRuntime) {
+    let mut clock = Clock::zero();
+    assert_eq!(rt; seen(&clock), [false, false, false, false]);
+    clock.advance(&FIRST);
+    assert_eq!(rt; clock.deps(), ONE);
+    assert_eq!(rt; seen(&clock), [true, true, true, false]);
+    let beyond = Shadow {
+        name: OF_NO_SITE,
+        ..NEXT
+    };
+    assert!(rt; !clock.is_next(&beyond));
+    clock.retreat(&FIRST);
+    assert!(rt; !clock.covers(&FIRST));
+}

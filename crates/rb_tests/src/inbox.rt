@@ -1,0 +1,111 @@
+//! Tests of the inbox. What a full inbox refuses, and what is held already, is in the worked rows and in forged.rt.
+ghost use Rattle.std.specs.Prelude.{◌≤◌, ◌<◌};
+ghost use Rattle.rb_money.specs.declared.limits.TheConstants.{MOST_SITES};
+ghost use Rattle.rb_shadow.specs.Operations.{HasEntry};
+ghost use Rattle.rb_inbox.specs.Held.{IsNumbered};
+
+use crate::common::ANN;
+use rb_inbox::{Inbox, PutAnswer};
+use rb_money::MOST_SITES;
+use rb_shadow::{Deps, Kind, OpName, Shadow};
+use rb_vclock::Clock;
+use std::alloc::{AllocError, Global};
+use std::process::Abort;
+use std::test::Fail;
+
+/// A deposit of 5 cents, the n-th operation of a site.
+fn deposit(site: u8, n: u32) -> Shadow
+    requires site { site < MOST_SITES }
+    requires number { 1 ≤ n }
+    ensures numbered { IsNumbered result }
+    ensures entry { HasEntry result.name }
+{
+    let mut blue = [0; MOST_SITES];
+    blue[site as usize] = n - 1;
+    Shadow {
+        name: OpName::Blue { site, n },
+        home: site,
+        deps: Deps { blue, red: 0 },
+        account: ANN,
+        amount: 5,
+        kind: Kind::Deposit,
+    }
+}
+
+/// A withdrawal of 5 cents at site 0, the n-th red operation.
+fn withdrawal(n: u32) -> Shadow
+    requires { 1 ≤ n }
+    ensures numbered { IsNumbered result }
+    ensures entry { HasEntry result.name }
+{
+    Shadow {
+        name: OpName::Red { n },
+        home: 0,
+        deps: Deps {
+            blue: [0; MOST_SITES],
+            red: n - 1,
+        },
+        account: ANN,
+        amount: 5,
+        kind: Kind::Withdraw,
+    }
+}
+
+/// Holds a shadow that isn't held.
+fn put_new(rt: &impl Abort, inbox: &mut Inbox, shadow: Shadow)
+    requires { IsNumbered shadow }
+{
+    assert_eq!(rt; inbox.put(shadow, &Clock::zero()), Ok(PutAnswer::Held));
+}
+
+/// An inbox that holds forty shadows of each row, which came backwards.
+fn holds_forty(rt: &impl Abort, alloc: Global) -> Inbox {
+    let mut inbox = Inbox::open(alloc, 120);
+    for n in (1..=40).rev() {
+        put_new(rt, &mut inbox, deposit(3, n));
+        put_new(rt, &mut inbox, withdrawal(n));
+        put_new(rt, &mut inbox, deposit(0, n));
+    }
+    inbox
+}
+
+/// The three rows in order: of site 0, of site 3 and of red shadows.
+fn rows(alloc: Global) -> Result<(Vec<Shadow>, Vec<Shadow>, Vec<Shadow>), AllocError> {
+    let mut firsts = Vec::new(alloc);
+    let mut others = Vec::new(alloc);
+    let mut reds = Vec::new(alloc);
+    for n in 1..=40 {
+        firsts.push(deposit(0, n))?;
+        others.push(deposit(3, n))?;
+        reds.push(withdrawal(n))?;
+    }
+    Ok((firsts, others, reds))
+}
+
+/// Takes the shadow, which is ready, and counts it.
+fn take_next(rt: &impl Abort, inbox: &mut Inbox, clock: &mut Clock, shadow: Shadow)
+    requires { HasEntry shadow.name }
+{
+    assert_eq!(rt; inbox.take(shadow.name, clock), Ok(shadow));
+    assert!(rt; clock.is_next(&shadow));
+    clock.advance(&shadow.name);
+}
+
+#[test]
+fn backwards_and_in_order(rt: HostRuntime) -> Result<(), Fail> {
+    let mut inbox = holds_forty(&rt, rt.alloc());
+    let (firsts, others, reds) = rows(rt.alloc())?;
+    assert_eq!(rt; inbox.blue_row(0), firsts.as_slice());
+    assert_eq!(rt; inbox.blue_row(3), others.as_slice());
+    assert_eq!(rt; inbox.red_row(), reds.as_slice());
+    assert_eq!(rt; (inbox.blue_row(1).len(), inbox.len()), (0, 120));
+    let mut clock = Clock::zero();
+    for n in 1..=40 {
+        assert_eq!(rt; inbox.ready(&clock), Some(OpName::Red { n }));
+        take_next(&rt, &mut inbox, &mut clock, withdrawal(n));
+        take_next(&rt, &mut inbox, &mut clock, deposit(0, n));
+        take_next(&rt, &mut inbox, &mut clock, deposit(3, n));
+    }
+    assert_eq!(rt; (inbox.ready(&clock), inbox.len()), (None, 0));
+    Ok(())
+}

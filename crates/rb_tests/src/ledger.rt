@@ -1,0 +1,215 @@
+//! Tests of the ledger.
+use crate::common::{
+    ANN, BLUE_1, BLUE_2, BOB, Operation, RED_1, RED_2, RED_3, config_of, ledger_after, shadow_of,
+};
+use crate::worlds::there_and_back;
+use rb_ledger::Ledger;
+use rb_money::{Limits, Place, Refusal};
+use rb_shadow::{Kind, OpName};
+use std::process::Abort;
+use std::test::Fail;
+
+/// Ann starts with 1000 cents, and bob with none.
+const ACCOUNTS: [(&str, u64); 2] = [("ann", 1000), ("bob", 0)];
+
+const UNDO_IT: Kind = Kind::Cancel { target: RED_1 };
+
+const UNDO_KNOWN: Kind = Kind::Cancel { target: BLUE_1 };
+
+/// The first blue operation of site 1.
+const OTHER_1: OpName = OpName::Blue { site: 1, n: 1 };
+
+/// A withdrawal of 300 cents, which both sites cancel.
+const WITHDRAWAL: [Operation; 3] = [
+    (RED_1, 0, (0, 0), ANN, 300, Kind::Withdraw),
+    (BLUE_1, 0, (0, 1), ANN, 300, UNDO_IT),
+    (OTHER_1, 1, (0, 1), ANN, 300, UNDO_IT),
+];
+
+/// A transfer of 300 cents from ann to bob, which is cancelled twice.
+const TRANSFER: [Operation; 3] = [
+    (RED_1, 0, (0, 0), ANN, 300, Kind::Transfer { to: BOB }),
+    (RED_2, 0, (0, 1), ANN, 300, UNDO_IT),
+    (RED_3, 0, (0, 2), ANN, 300, UNDO_IT),
+];
+
+/// The balances of ann and bob, in cents.
+type Balances = (Option<u64>, Option<u64>);
+
+/// Operations, with the balances before them and after each. The second cancellation of one operation moves nothing.
+const RUNS: [(&[Operation], [Balances; 4]); 2] = [
+    (
+        &WITHDRAWAL,
+        [
+            (Some(1000), Some(0)),
+            (Some(700), Some(0)),
+            (Some(1000), Some(0)),
+            (Some(1000), Some(0)),
+        ],
+    ),
+    (
+        &TRANSFER,
+        [
+            (Some(1000), Some(0)),
+            (Some(700), Some(300)),
+            (Some(1000), Some(0)),
+            (Some(1000), Some(0)),
+        ],
+    ),
+];
+
+/// The balances after so many operations, and at last, are these.
+fn balances_are(rt: &impl Abort, ledger: &Ledger, wanted: &[Balances]) {
+    for position in 0..ledger.len() + 1 {
+        let balances = (
+            ledger.balance_after(position, ANN),
+            ledger.balance_after(position, BOB),
+        );
+        assert_eq!(rt; Some(&balances), wanted.get(position as usize));
+    }
+    let last = (ledger.balance(ANN), ledger.balance(BOB));
+    assert_eq!(rt; Some(&last), wanted.last());
+}
+
+#[test]
+fn second_cancellation_moves_nothing(rt: HostRuntime) -> Result<(), Fail> {
+    let alloc = rt.alloc();
+    let config = config_of(alloc, 2, &ACCOUNTS, Limits::largest())?;
+    for (operations, wanted) in RUNS {
+        let ledger = ledger_after(alloc, &ACCOUNTS, operations)?;
+        balances_are(&rt, &ledger, &wanted);
+        assert!(rt; there_and_back(alloc, &config, ledger.entries())?);
+    }
+    Ok(())
+}
+
+/// What the ledger finds of the withdrawal and its two cancellations: where names are, where each entry is first
+/// cancelled and how often, and what the rows have.
+#[test]
+fn looks_up(rt: HostRuntime) -> Result<(), Fail> {
+    let ledger = ledger_after(rt.alloc(), &ACCOUNTS, &WITHDRAWAL)?;
+    let found = [
+        ledger.find(&RED_1),
+        ledger.find(&OTHER_1),
+        ledger.find(&RED_2),
+    ];
+    assert_eq!(rt; found, [Some(1), Some(3), None]);
+    let cancelled = [
+        ledger.first_cancel(1),
+        ledger.first_cancel(2),
+        ledger.count(1),
+    ];
+    assert_eq!(rt; cancelled, [Some(2), None, Some(2)]);
+    let moved = [
+        ledger.moved(1, ANN),
+        ledger.moved(2, ANN),
+        ledger.moved(3, ANN),
+        ledger.moved(4, ANN),
+    ];
+    assert_eq!(rt; moved, [Some(-300), Some(300), Some(0), None]);
+    let rows = [
+        ledger.red_row(),
+        ledger.blue_row(0),
+        ledger.blue_row(1),
+        ledger.blue_row(255),
+    ];
+    assert_eq!(rt;
+        rows,
+        [
+            [1].as_slice(),
+            [2].as_slice(),
+            [3].as_slice(),
+            [].as_slice()
+        ]
+    );
+    let entries = (
+        ledger.entries().get(1),
+        ledger.entry(4),
+        ledger.clock().deps().red,
+    );
+    assert_eq!(rt; entries, (ledger.entry(2), None, 1));
+    Ok(())
+}
+
+/// A deposit of 100 cents, made first of all.
+const KNOWN: Operation = (BLUE_1, 0, (0, 0), ANN, 100, Kind::Deposit);
+
+/// What is refused after it.
+const REFUSED: [(Operation, Refusal); 7] = [
+    (
+        (BLUE_1, 2, (0, 0), ANN, 100, Kind::Deposit),
+        Refusal::BadMessage { why: 1 },
+    ),
+    (KNOWN, Refusal::NotReady),
+    (
+        (BLUE_1, 0, (0, 0), ANN, 101, Kind::Deposit),
+        Refusal::Conflict,
+    ),
+    (
+        (BLUE_2, 0, (1, 1), ANN, 100, Kind::Deposit),
+        Refusal::NotReady,
+    ),
+    (
+        (RED_1, 0, (1, 0), ANN, 101, UNDO_KNOWN),
+        Refusal::BadMessage { why: 6 },
+    ),
+    (
+        (BLUE_2, 0, (1, 0), ANN, 100, UNDO_KNOWN),
+        Refusal::BadMessage { why: 5 },
+    ),
+    (
+        (RED_1, 0, (1, 0), ANN, 1101, Kind::Withdraw),
+        Refusal::WouldOverdraw,
+    ),
+];
+
+/// What is refused is handed back, and nothing moves.
+#[test]
+fn refuses(rt: HostRuntime) -> Result<(), Fail> {
+    let mut ledger = ledger_after(rt.alloc(), &ACCOUNTS, &[KNOWN])?;
+    for (operation, refusal) in REFUSED {
+        let shadow = shadow_of(operation);
+        assert_eq!(rt; ledger.check(&shadow), Err(refusal));
+        match ledger.apply(shadow) {
+            Ok(undo) => {
+                undo.seal();
+                return Err(Fail::from("applied"));
+            }
+            Err(back) => assert_eq!(rt; back, (shadow, refusal)),
+        }
+    }
+    assert_eq!(rt; (ledger.len(), ledger.balance(ANN)), (1, Some(1100)));
+    Ok(())
+}
+
+/// Forty deposits, the n-th of n cents, three to ann and then one to bob in turn: each balance as of each position is
+/// the sum.
+#[test]
+fn long_chain(rt: HostRuntime) -> Result<(), Fail> {
+    let mut operations = Vec::new(rt.alloc());
+    let mut wanted = Vec::new(rt.alloc());
+    let (mut ann, mut bob) = (1000_u64, 0_u64);
+    wanted.push((Some(ann), Some(bob)))?;
+    for n in 1..=40_u32 {
+        let cents = u64::from(n);
+        let account = if n % 4 == 0 { BOB } else { ANN };
+        operations.push((
+            OpName::Blue { site: 0, n },
+            0,
+            (n - 1, 0),
+            account,
+            cents,
+            Kind::Deposit,
+        ))?;
+        if n % 4 == 0 {
+            bob = bob.saturating_add(cents);
+        } else {
+            ann = ann.saturating_add(cents);
+        }
+        wanted.push((Some(ann), Some(bob)))?;
+    }
+    let ledger = ledger_after(rt.alloc(), &ACCOUNTS, operations.as_slice())?;
+    assert_eq!(rt; (ledger.len(), ledger.balance(Place(2))), (40, None));
+    balances_are(&rt, &ledger, wanted.as_slice());
+    Ok(())
+}

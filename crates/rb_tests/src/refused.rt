@@ -1,0 +1,253 @@
+//! What holds after running out of memory. Each test passes whether or not an allocation is refused, and at most one of
+//! its process is: `make refuse` runs them with each refused in turn.
+ghost use Rattle.std.specs.Prelude.{◌≡◌, [], All, IfOk};
+ghost use Rattle.rb_ledger.specs.Records.{records_of};
+ghost use Rattle.rb_site.specs.Worlds.{IsCommand};
+
+use crate::rows::{Row, row_named};
+use crate::worlds::{
+    apply_next, commands, config_of, opened, reports_of, same_answers, text_of, undo_last,
+};
+use rb_ledger::Ledger;
+use rb_lines::{FromBytes, ScriptFault, ToBytes};
+use rb_money::{Config, Place};
+use rb_script::run_script;
+use rb_shadow::Shadow;
+use rb_site::{Message, Reply, Site, WorldEvent};
+use rb_undo::UndoLog;
+use rb_world::{Stopped, World};
+use std::alloc::{AllocError, Global};
+use std::process::Abort;
+use std::test::Fail;
+
+/// What is asked for, or, where that is refused memory, what is given when it is asked for again.
+macro_rules! twice {
+    ($call:expr) => {
+        match $call {
+            Ok(given) => given,
+            Err(_) => $call?,
+        }
+    };
+}
+
+/// Whether two sites hold the same of the shadows that these messages bring.
+fn same_held(site: &Site, other: &Site, messages: &[Message]) -> bool {
+    let mut same = site.inbox().len() == other.inbox().len();
+    for message in messages {
+        if let Message::Shadow(shadow) = message {
+            let name = &shadow.name;
+            same = same && site.inbox().held(name) == other.inbox().held(name);
+        }
+    }
+    same
+}
+
+/// Whether two sites are equal in their operations, balances, counts, clocks, tokens and histories.
+fn same_sites(site: &Site, other: &Site) -> bool {
+    let mut same = same_answers(site.ledger(), other.ledger())
+        && site.log().len() == other.log().len()
+        && site.token().view() == other.token().view()
+        && site.token().epoch() == other.token().epoch()
+        && site.history().len() == other.history().len();
+    for (entry, it) in site.history().iter().zip(other.history()) {
+        same = same && entry.same(it);
+    }
+    same
+}
+
+/// Whether two worlds are equal in their sites, the messages that were sent and the events.
+fn same_worlds(world: &World, other: &World) -> bool {
+    let mut same = world.messages() == other.messages();
+    same = same && world.events().len() == other.events().len();
+    for (event, it) in world.events().iter().zip(other.events()) {
+        same = same && event.same(it);
+    }
+    for place in 0..world.config().sites() {
+        same = same
+            && match (world.site(place), other.site(place)) {
+                (Some(site), Some(it)) => {
+                    same_sites(site, it) && same_held(site, it, world.messages())
+                }
+                _ => false,
+            };
+    }
+    same
+}
+
+/// Whether a world is as one that ran only these events.
+fn is_after(alloc: Global, world: &World, events: &[WorldEvent]) -> Result<bool, Fail>
+    requires { All IsCommand events.now }
+{
+    let config = world.config().try_copy(alloc)?;
+    let mut other = World::open(alloc, config)?;
+    let same = other.run(events).is_ok() && same_worlds(world, &other);
+    let _reports = other.close();
+    Ok(same)
+}
+
+/// Whether these are a row's replies past so many of them.
+fn answers_rest(
+    alloc: Global,
+    row: &Row,
+    past: usize,
+    replies: &[Reply],
+) -> Result<bool, AllocError> {
+    let text = text_of(alloc, replies)?;
+    let rest = row.replies.lines().skip(past).count();
+    Ok(replies.len() == rest && row.replies.ends_with(text.as_str().trim_end()))
+}
+
+/// Whether a world that stopped is as one that ran only the events before, and answers the rest as the row says.
+fn goes_on(alloc: Global, world: &mut World, row: &Row, answered: usize) -> Result<bool, Fail> {
+    let before = commands(alloc, world.config(), row.script, 0, answered)?;
+    let rest = commands(alloc, world.config(), row.script, answered, usize::MAX)?;
+    if before.len() != answered || !is_after(alloc, world, before.as_slice())? {
+        return Ok(false);
+    }
+    match world.run(rest.as_slice()) {
+        Ok(replies) => Ok(answers_rest(alloc, row, answered, replies.as_slice())?),
+        Err(_) => Ok(false),
+    }
+}
+
+/// Whether these are all of a row's replies.
+fn answers_all(alloc: Global, row: &Row, replies: &[Reply]) -> Result<bool, Fail> {
+    Ok(twice!(answers_rest(alloc, row, 0, replies)))
+}
+
+/// Runs a row's events. How many were answered before memory was refused, if it was.
+fn stopped_at(rt: &(impl Abort + AllocGlobal), row: &Row) -> Result<Option<usize>, Fail> {
+    let alloc = rt.alloc();
+    let (mut world, events) = twice!(opened(alloc, row.script));
+    let (right, stopped) = match world.run(events.as_slice()) {
+        Ok(replies) => (answers_all(alloc, row, replies.as_slice()), None),
+        Err(Stopped { answered }) => (goes_on(alloc, &mut world, row, answered), Some(answered)),
+    };
+    let _reports = world.close();
+    assert!(rt; right?, "{}", row.name);
+    Ok(stopped)
+}
+
+#[test]
+fn refuse_each(rt: HostRuntime) -> Result<(), Fail> {
+    for name in [
+        "deposit_reaches_the_other_site",
+        "two_cancels_of_one_withdrawal",
+        "batch_all_or_nothing",
+        "as_of_each_position",
+    ] {
+        let row = row_named(name)?;
+        if let Some(answered) = stopped_at(&rt, &row)? {
+            let reply = row.replies.lines().nth(answered).ok_or("no such event")?;
+            println!(rt; "{name} stopped where it answers {reply}")?;
+        }
+    }
+    Ok(())
+}
+
+#[test]
+fn refuse_script(rt: HostRuntime) -> Result<(), Fail> {
+    let row = row_named("deposit_reaches_the_other_site")?;
+    let mut reader = FromBytes::new(row.script.as_bytes());
+    let mut writer = ToBytes::new(rt.alloc());
+    // Spare capacity for the text, so that no write takes memory.
+    twice!(writer.taken.reserve(row.replies.len().saturating_add(1)));
+    let result = run_script(rt.alloc(), &mut reader, &mut writer);
+    let count = row.replies.lines().count() as u64;
+    let written = writer.taken.as_slice();
+    let written = written.strip_suffix(b"\n".as_slice()).unwrap_or(written);
+    let wrote = written.len();
+    match result {
+        Ok(answered) => assert_eq!(rt; (answered, wrote), (count, row.replies.len())),
+        Err(fault) => {
+            assert_eq!(rt; fault, ScriptFault::OutOfMemory);
+            println!(rt; "{} stopped where it wrote {wrote} bytes", row.name)?;
+        }
+    }
+    assert!(rt; row.replies.as_bytes().starts_with(written));
+    Ok(())
+}
+
+/// A ledger and a log without operations, with room for so many.
+fn roomy(alloc: Global, config: &Config, count: usize) -> Result<(Ledger, UndoLog), AllocError>
+    ensures { IfOk result (λ it. (it.0.entries ≡ []) × (it.1.parts ≡ [])) }
+{
+    let mut ledger = Ledger::open(alloc, config)?;
+    ledger.reserve(count)?;
+    let mut log = UndoLog::new(alloc);
+    match log.reserve(count) {
+        Ok(()) => Ok((ledger, log)),
+        Err(refused) => {
+            log.close();
+            Err(refused)
+        }
+    }
+}
+
+/// Applies the operation and keeps its record. The balance that follows is the one that is wanted.
+fn climb(rt: &impl Abort, ledger: &mut Ledger, log: &mut UndoLog, shadow: &Shadow, balance: u64)
+    requires { log.old.parts ≡ records_of ledger.old.settings ledger.old.entries }
+    ensures { log.new.parts ≡ records_of ledger.new.settings ledger.new.entries }
+{
+    assert!(rt; apply_next(ledger, log, shadow));
+    assert_eq!(rt; ledger.balance(Place(0)), Some(balance));
+}
+
+/// Undoes the last operation. The balance that was before it is the one that is wanted.
+fn descend(rt: &impl Abort, ledger: &mut Ledger, log: &mut UndoLog, balance: u64)
+    requires { log.old.parts ≡ records_of ledger.old.settings ledger.old.entries }
+    ensures { log.new.parts ≡ records_of ledger.new.settings ledger.new.entries }
+{
+    assert!(rt; undo_last(ledger, log));
+    assert_eq!(rt; ledger.balance(Place(0)), Some(balance));
+}
+
+/// Rewinds to a position and goes forward again. The balance there is the one that is wanted.
+fn look_back(
+    rt: &impl Abort,
+    ledger: Ledger,
+    log: UndoLog,
+    position: u32,
+    balance: u64,
+) -> (Ledger, UndoLog)
+    requires { log.parts ≡ records_of ledger.settings ledger.entries }
+    ensures ledger { result.0 ≡ ledger }
+    ensures log { result.1 ≡ log }
+{
+    match ledger.rewind(log, position) {
+        Ok(rewound) => {
+            assert_eq!(rt; rewound.balance(Place(0)), Some(balance));
+            rewound.forward()
+        }
+        Err((ledger, log, _)) => {
+            assert!(rt; false, "no such position");
+            (ledger, log)
+        }
+    }
+}
+
+/// Once there is room for them, operations are applied, rewound and undone without memory.
+#[test]
+fn reserved(rt: HostRuntime) -> Result<(), Fail> {
+    let alloc = rt.alloc();
+    let script = row_named("two_cancels_of_one_withdrawal")?.script;
+    let reports = twice!(reports_of(alloc, script));
+    let applied = &reports.get(0).ok_or("no report")?.entries;
+    let [withdrawal, cancel, again] = applied.as_slice() else {
+        return Err(Fail::from("not three operations"));
+    };
+    let config = twice!(config_of(alloc, script));
+    let (mut ledger, mut log) = twice!(roomy(alloc, &config, 3));
+    climb(&rt, &mut ledger, &mut log, withdrawal, 700);
+    climb(&rt, &mut ledger, &mut log, cancel, 1000);
+    climb(&rt, &mut ledger, &mut log, again, 1000);
+    let (ledger, log) = look_back(&rt, ledger, log, 0, 1000);
+    let (ledger, log) = look_back(&rt, ledger, log, 1, 700);
+    let (ledger, log) = look_back(&rt, ledger, log, 2, 1000);
+    let (mut ledger, mut log) = look_back(&rt, ledger, log, 3, 1000);
+    descend(&rt, &mut ledger, &mut log, 1000);
+    descend(&rt, &mut ledger, &mut log, 700);
+    descend(&rt, &mut ledger, &mut log, 1000);
+    log.close();
+    Ok(())
+}

@@ -1,0 +1,267 @@
+//! Worked rows through seats and links. What is delivered is what the links brought, in the order of sending,
+//! and what is applied is what the site has ready.
+//!
+//! `refuse_seats` passes whether or not an allocation is refused, and at most one of its process is: `make
+//! refuse` runs it with each refused in turn.
+
+use crate::branch::{Case, gathered};
+use crate::rows::{Row, row_named, row_of};
+use rb_branch::{
+    Branch, CallFault, Entries, Gate, GatherFault, Inlet, NoGate, Outbox, Seat, links,
+};
+use rb_commands::{LineFault, read_command, read_config, write_reply};
+use rb_money::Config;
+use rb_scratch::Request;
+use rb_site::{Event, Message, Reply, SiteReport, WorldEvent};
+use std::alloc::Global;
+use std::process::Abort;
+use std::sync::Wait;
+use std::sync::ledger::Ledger;
+use std::test::Fail;
+
+/// What is asked for, or, where that is refused memory, what is given when it is asked for again.
+macro_rules! twice {
+    ($call:expr) => {
+        match $call {
+            Ok(given) => given,
+            Err(_) => $call?,
+        }
+    };
+}
+
+/// The seats of two sites, the links between them, and what they brought so far: `None` where a link refused a
+/// message.
+#[derive(Drop)]
+struct Desks<E: Entries, R: Ledger> {
+    seats: Vec<Seat<E, R>>,
+    outbox: Outbox,
+    inlets: Vec<Inlet>,
+    sent: Vec<Option<Message>>,
+}
+
+/// The call that an event is. Its receipt's place in the seat, or `None` where nothing is to be applied.
+fn called<E: Entries, R: Ledger, G: Gate + Drop, W: Wait>(
+    rt: &W,
+    branch: &Branch<E, R, G>,
+    seat: &mut Seat<E, R>,
+    outbox: &Outbox,
+    event: Event,
+) -> Result<Option<u32>, CallFault> {
+    let number = match event {
+        Event::Submit(Request::Cancel { target }) => branch.cancel(rt, seat, outbox, target)?,
+        Event::Submit(request) => branch.submit(rt, seat, outbox, request)?,
+        Event::Batch(requests) => branch.batch(rt, seat, outbox, requests)?,
+        Event::Receive(message) => branch.receive(rt, seat, message)?,
+        Event::Apply(_) => return branch.apply_ready(rt, seat),
+        Event::Pass(to) => branch.pass(rt, seat, outbox, to)?,
+        Event::Balance(place) => branch.balance(rt, seat, place)?,
+        Event::AsOf(place, position) => branch.as_of(rt, seat, place, position)?,
+        Event::Statement(place) => branch.statement(rt, seat, place)?,
+    };
+    Ok(Some(number))
+}
+
+/// The same, made again where there was no memory for it: the seat has no receipt more then. Whether it was.
+fn called_again<E: Entries, R: Ledger, G: Gate + Drop, W: Wait + Abort>(
+    rt: &W,
+    alloc: Global,
+    branch: &Branch<E, R, G>,
+    seat: &mut Seat<E, R>,
+    outbox: &Outbox,
+    event: Event,
+) -> Result<(Option<u32>, bool), Fail> {
+    let before = seat.receipts().len();
+    let copy = twice!(event.try_copy(alloc));
+    match called(rt, branch, seat, outbox, event) {
+        Ok(number) => Ok((number, false)),
+        Err(fault) => {
+            assert_eq!(rt; fault, CallFault::OutOfMemory);
+            assert_eq!(rt; seat.receipts().len(), before);
+            Ok((called(rt, branch, seat, outbox, copy)?, true))
+        }
+    }
+}
+
+/// How many messages go out with a reply.
+fn sent_with(reply: &Reply) -> usize {
+    match reply {
+        Reply::Made { .. } | Reply::Passed(_) => 1,
+        Reply::Names(names) => names.as_slice().len(),
+        _ => 0,
+    }
+}
+
+/// Takes in what a link brought, `count` messages but those that it refused. Where it refused any, none is known.
+fn take_in<W: Wait>(
+    rt: &W,
+    inlet: &Inlet,
+    sent: &mut Vec<Option<Message>>,
+    count: usize,
+    refused: usize,
+) -> Result<(), Fail> {
+    for _i in 0..count.saturating_sub(refused) {
+        let message = inlet.next(rt);
+        sent.push(if refused == 0 { message } else { None })?;
+    }
+    for _i in 0..refused.min(count) {
+        sent.push(None)?;
+    }
+    Ok(())
+}
+
+/// The site and the event of a command. `None` where a message is to be delivered that a link refused.
+fn asked(command: WorldEvent, sent: &[Option<Message>]) -> Result<Option<(u8, Event)>, Fail> {
+    match command {
+        WorldEvent::At(site, event) => Ok(Some((site, event))),
+        WorldEvent::Deliver(site, number) => {
+            let place = (number as usize).checked_sub(1).ok_or("message 0")?;
+            let message = sent.get(place).ok_or("no such message")?;
+            Ok(message.map(|message| (site, Event::Receive(message))))
+        }
+    }
+}
+
+impl<E: Entries, R: Ledger> Desks<E, R> {
+    /// A seat at each of two sites.
+    fn open<G: Gate + Drop, W: Wait>(
+        rt: &W,
+        alloc: Global,
+        branch: &Branch<E, R, G>,
+    ) -> Result<Desks<E, R>, Fail> {
+        let (outbox, inlets) = twice!(links(alloc, 2));
+        let mut seats = twice!(Vec::with_capacity(alloc, 2));
+        seats.push_reserved(twice!(branch.seat(rt, 0)));
+        seats.push_reserved(twice!(branch.seat(rt, 1)));
+        let sent = twice!(Vec::with_capacity(alloc, 16));
+        Ok(Desks {
+            seats,
+            outbox,
+            inlets,
+            sent,
+        })
+    }
+
+    /// One command. The reply is the one that is wanted. Whether the call was made twice.
+    fn answers<G: Gate + Drop, W: Wait + Abort>(
+        &mut self,
+        rt: &W,
+        alloc: Global,
+        branch: &Branch<E, R, G>,
+        command: WorldEvent,
+        wanted: &str,
+    ) -> Result<bool, Fail> {
+        let Some((site, event)) = asked(command, self.sent.as_slice())? else {
+            return Ok(false);
+        };
+        let seat = self.seats.get_mut(site as usize).ok_or("no such site")?;
+        let (number, again) = called_again(rt, alloc, branch, seat, &self.outbox, event)?;
+        let receipt = seat
+            .receipt(number.ok_or("nothing to apply")?)
+            .ok_or("no receipt")?;
+        let line = twice!(write_reply(alloc, &receipt.reply));
+        assert_eq!(rt; line.as_str().trim_end(), wanted);
+        let count = sent_with(&receipt.reply);
+        let refused = receipt.unsent as usize;
+        let inlet = self.inlets.get(usize::from(site == 0)).ok_or("no link")?;
+        take_in(rt, inlet, &mut self.sent, count, refused)?;
+        Ok(again)
+    }
+}
+
+/// The worked row batch_all_or_nothing, less the delivery of a message that was never sent.
+const BATCH: &str = r#"batch_through_seats
+{"accounts":[["ann",0]],"sites":2,"version":1}
+{"batch":[{"deposit":["ann",50]},{"withdraw":["ann",80]}],"site":0}
+{"balance":"ann","site":0}
+{"deposit":["ann",7],"site":0}
+{"deliver":1,"site":1}
+{"batch":[{"deposit":["ann",50]},{"withdraw":["ann",57]}],"site":0}
+{"balance":"ann","site":0}
+{"batch":[],"site":0}
+{"batch":[{"deposit":["ann",1]},{"deposit":["ann",1]},{"deposit":["ann",1]},{"deposit":["ann",1]},{"deposit":["ann",1]},{"deposit":["ann",1]},{"deposit":["ann",1]},{"deposit":["ann",1]},{"deposit":["ann",1]},{"deposit":["ann",1]},{"deposit":["ann",1]},{"deposit":["ann",1]},{"deposit":["ann",1]},{"deposit":["ann",1]},{"deposit":["ann",1]},{"deposit":["ann",1]},{"deposit":["ann",1]}],"site":0}
+replies:
+{"cause":"declined","index":1,"refused":13}
+{"balance":0}
+{"kind":"deposit","name":"B0.1"}
+{"held":"B0.1"}
+{"names":["B0.2","R1"]}
+{"balance":0}
+{"refused":12}
+{"refused":12}"#;
+
+/// A row's commands, one after another, by a seat at each site.
+#[derive(Drop)]
+struct Through<'a> {
+    config: &'a Config,
+    row: &'a Row,
+}
+
+impl Case for Through<'_> {
+    fn calls<E: Entries, R: Ledger, G: Gate + Drop, W: Wait + Abort + Print>(
+        &self,
+        rt: &W,
+        alloc: Global,
+        branch: &Branch<E, R, G>,
+    ) -> Result<Vec<Seat<E, R>>, Fail> {
+        let mut desks = Desks::open(rt, alloc, branch)?;
+        let commands = self.row.script.lines().skip(1);
+        for (line, wanted) in commands.zip(self.row.replies.lines()) {
+            let command = twice!(read_command(alloc, self.config, line));
+            if desks.answers(rt, alloc, branch, command, wanted)? {
+                println!(rt; "{} stopped where it answers {wanted}", self.row.name)?;
+            }
+        }
+        let Desks {
+            seats,
+            outbox: _outbox,
+            inlets: _inlets,
+            sent: _sent,
+        } = desks;
+        Ok(seats)
+    }
+}
+
+/// The configuration on a row's first line.
+fn config_of(alloc: Global, row: &Row) -> Result<Config, LineFault> {
+    let first = row.script.lines().next().ok_or(LineFault::Bad)?;
+    read_config(alloc, first)
+}
+
+/// A row through the seats of a branch, which is gathered then.
+fn row_through<W: Wait + Abort + Print>(
+    rt: &W,
+    alloc: Global,
+    row: &Row,
+) -> Result<Result<Vec<SiteReport>, GatherFault>, Fail> {
+    let config = twice!(config_of(alloc, row));
+    let copy = twice!(config.try_copy(alloc));
+    let case = Through {
+        config: &config,
+        row,
+    };
+    gathered(rt, alloc, copy, NoGate, &case)
+}
+
+#[test]
+fn seat_calls(rt: HostRuntime) -> Result<(), Fail> {
+    for name in [
+        "token_waits_for_reds",
+        "two_cancels_of_one_withdrawal",
+        "interest_stays",
+        "transfer_and_cancel",
+    ] {
+        let reports = row_through(&rt, rt.alloc(), &row_named(name)?)??;
+        assert_eq!(rt; reports.len(), 2, "{name}");
+    }
+    Ok(())
+}
+
+#[test]
+fn refuse_seats(rt: HostRuntime) -> Result<(), Fail> {
+    let row = row_of(BATCH).ok_or("no row")?;
+    match row_through(&rt, rt.alloc(), &row)? {
+        Ok(reports) => assert_eq!(rt; reports.len(), 2),
+        Err(fault) => assert_eq!(rt; fault, GatherFault::OutOfMemory),
+    }
+    Ok(())
+}

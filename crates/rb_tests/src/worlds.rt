@@ -1,0 +1,270 @@
+//! Tests of worlds, and of undoing a tail of operations. Whole runs of the worked rows are made by tests/cases.py.
+ghost use Rattle.std.specs.Prelude.{◌≡◌, ◌<◌, All, IfOk, IsTrue, OnOk, length};
+ghost use Rattle.rb_ledger.specs.Records.{records_of};
+ghost use Rattle.rb_site.specs.Worlds.{IsCommand};
+
+use crate::rows::row_named;
+use rb_commands::{LineFault, read_command, read_config, write_reply};
+use rb_ledger::Ledger;
+use rb_money::{Config, Place};
+use rb_shadow::Shadow;
+use rb_site::{Reply, SiteReport, WorldEvent};
+use rb_undo::UndoLog;
+use rb_world::World;
+use std::alloc::{AllocError, Global};
+use std::process::Abort;
+use std::test::Fail;
+
+/// The commands on the lines after the configuration's: past so many of them, at most so many.
+pub fn commands(
+    alloc: Global,
+    config: &Config,
+    script: &str,
+    past: usize,
+    most: usize,
+) -> Result<Vec<WorldEvent>, LineFault>
+    ensures { IfOk result (λ events. All IsCommand events.items) }
+{
+    let mut events = Vec::new(alloc);
+    for line in script.lines().skip(1).skip(past).take(most) {
+        let event = match read_command(alloc, config, line) {
+            Ok(event) => event,
+            Err(fault) => return Err(fault),
+        };
+        match events.push(event) {
+            Ok(()) => {}
+            Err(_) => return Err(LineFault::OutOfMemory),
+        }
+    }
+    Ok(events)
+}
+
+/// The configuration on the first line.
+pub fn config_of(alloc: Global, script: &str) -> Result<Config, LineFault> {
+    let first = script.lines().next().ok_or(LineFault::Bad)?;
+    read_config(alloc, first)
+}
+
+/// The world of a script before any event, and its events.
+pub fn opened(alloc: Global, script: &str) -> Result<(World, Vec<WorldEvent>), LineFault>
+    ensures { IfOk result (λ it. All IsCommand it.1.items) }
+{
+    let config = config_of(alloc, script)?;
+    let events = commands(alloc, &config, script, 0, usize::MAX)?;
+    match World::open(alloc, config) {
+        Ok(world) => Ok((world, events)),
+        Err(_) => Err(LineFault::OutOfMemory),
+    }
+}
+
+/// The lines of replies.
+pub fn text_of(alloc: Global, replies: &[Reply]) -> Result<String, AllocError> {
+    let mut text = String::new(alloc);
+    for reply in replies {
+        text.push_str(write_reply(alloc, reply)?.as_str())?;
+    }
+    Ok(text)
+}
+
+#[test]
+fn nothing_is_recorded_where_no_site_or_message_is(rt: HostRuntime) -> Result<(), Fail> {
+    let alloc = rt.alloc();
+    let config = read_config(alloc, r#"{"accounts":[["ann",0]],"sites":2,"version":1}"#)?;
+    let mut world = World::open(alloc, config)?;
+    let event = WorldEvent::Deliver(0, 1);
+    let _reply = world.step(event).expect(&rt, "answered");
+    assert!(rt; world.events().is_empty());
+    assert!(rt; world.messages().is_empty());
+    for place in 0..2u8 {
+        let site = world.site(place).expect(&rt, "a site");
+        assert!(rt; site.history().is_empty());
+    }
+    assert!(rt; world.site(2).is_none());
+    let _reports = world.close();
+    Ok(())
+}
+
+#[test]
+fn reports_of_sites(rt: HostRuntime) -> Result<(), Fail> {
+    let alloc = rt.alloc();
+    let script = row_named("two_cancels_of_one_withdrawal")?.script;
+    for (place, report) in reports_of(alloc, script)?.iter().enumerate() {
+        let numbers = [
+            report.me as usize,
+            report.entries.len(),
+            report.waiting as usize,
+        ];
+        assert_eq!(rt; numbers, [place, 3, 0]);
+        assert_eq!(rt; report.balances.as_slice(), [1000].as_slice());
+        assert_eq!(rt; report.counts.as_slice(), [2, 0, 0].as_slice());
+        let reds = (report.clock.deps().red, report.token.view().held);
+        assert_eq!(rt; reds, (1, place == 0));
+    }
+    let script = row_named("history_full")?.script;
+    for (report, recorded) in reports_of(alloc, script)?.iter().zip([2, 1]) {
+        assert_eq!(rt; report.history.len(), recorded);
+    }
+    Ok(())
+}
+
+/// Whether two ledgers answer each look-up of a position alike.
+fn same_at(ledger: &Ledger, other: &Ledger, position: u32) -> bool {
+    let mut same = ledger.entry(position) == other.entry(position)
+        && ledger.count(position) == other.count(position)
+        && ledger.first_cancel(position) == other.first_cancel(position);
+    for place in 0..3u16 {
+        let place = Place(place);
+        same = same && ledger.moved(position, place) == other.moved(position, place);
+        if position <= ledger.len() && position <= other.len() {
+            let then = ledger.balance_after(position, place);
+            same = same && then == other.balance_after(position, place);
+        }
+    }
+    same
+}
+
+/// Whether two ledgers answer each look-up alike.
+pub fn same_answers(ledger: &Ledger, other: &Ledger) -> bool {
+    let mut same = ledger.len() == other.len()
+        && ledger.clock().deps() == other.clock().deps()
+        && ledger.red_row() == other.red_row();
+    for number in 0..3u8 {
+        let place = Place(u16::from(number));
+        same = same
+            && ledger.balance(place) == other.balance(place)
+            && ledger.blue_row(number) == other.blue_row(number);
+    }
+    for position in 0..ledger.len() + 2 {
+        same = same && same_at(ledger, other, position);
+    }
+    for shadow in ledger.entries() {
+        same = same && ledger.find(&shadow.name) == other.find(&shadow.name);
+    }
+    same
+}
+
+/// A ledger after these operations.
+fn ledger_of(alloc: Global, config: &Config, shadows: &[Shadow]) -> Result<Ledger, Fail> {
+    let mut ledger = Ledger::open(alloc, config)?;
+    for shadow in shadows {
+        match ledger.apply(*shadow) {
+            Ok(undo) => undo.seal(),
+            Err(_) => return Err(Fail::from("refused")),
+        }
+    }
+    Ok(ledger)
+}
+
+/// Whether a ledger answers as one that applied just as many of the operations.
+fn is_after(alloc: Global, ledger: &Ledger, shadows: &[Shadow]) -> Result<bool, Fail> {
+    let prefix = shadows.get(..ledger.len() as usize).ok_or("no prefix")?;
+    let other = ledger_of(alloc, ledger.config(), prefix)?;
+    Ok(same_answers(ledger, &other))
+}
+
+/// Applies an operation, and keeps the record to undo it. Whether neither was refused.
+pub fn apply_next(ledger: &mut Ledger, log: &mut UndoLog, shadow: &Shadow) -> bool
+    requires { log.old.parts ≡ records_of ledger.old.settings ledger.old.entries }
+    ensures { IsTrue result → log.new.parts ≡ records_of ledger.new.settings ledger.new.entries }
+{
+    let Ok(undo) = ledger.apply(*shadow) else {
+        return false;
+    };
+    if let Err(undo) = log.push(undo) {
+        undo.seal();
+        return false;
+    }
+    true
+}
+
+/// Applies operations, and keeps the record to undo each.
+fn apply_all(ledger: &mut Ledger, log: &mut UndoLog, shadows: &[Shadow]) -> Result<(), Fail>
+    requires { log.old.parts ≡ records_of ledger.old.settings ledger.old.entries }
+    ensures { OnOk result (log.new.parts ≡ records_of ledger.new.settings ledger.new.entries) }
+{
+    'shadows: for shadow in shadows {
+        if !apply_next(ledger, log, shadow) {
+            return Err(Fail::from("refused"));
+        }
+    }
+    Ok(())
+}
+
+/// Undoes the last operation, if there is one. Whether there was.
+pub fn undo_last(ledger: &mut Ledger, log: &mut UndoLog) -> bool
+    requires { log.old.parts ≡ records_of ledger.old.settings ledger.old.entries }
+    ensures records { log.new.parts ≡ records_of ledger.new.settings ledger.new.entries }
+    ensures shorter { IsTrue result → length log.new.parts < length log.old.parts }
+{
+    match log.pop() {
+        Some(undo) => {
+            ledger.undo(undo);
+            true
+        }
+        None => false,
+    }
+}
+
+/// Undoes all operations backwards. Whether at each length the ledger answers as one that applied no
+/// more.
+fn undo_all(
+    alloc: Global,
+    ledger: &mut Ledger,
+    log: &mut UndoLog,
+    shadows: &[Shadow],
+) -> Result<bool, Fail>
+    requires { log.old.parts ≡ records_of ledger.old.settings ledger.old.entries }
+{
+    let mut same = true;
+    'undos: while undo_last(ledger, log) {
+        let here = is_after(alloc, ledger, shadows)?;
+        same = same & here;
+    }
+    Ok(same)
+}
+
+/// Whether a ledger with these operations answers, at each length on the way back, as one that applied
+/// no more.
+pub fn there_and_back(alloc: Global, config: &Config, shadows: &[Shadow]) -> Result<bool, Fail> {
+    let mut ledger = Ledger::open(alloc, config)?;
+    let mut log = UndoLog::new(alloc);
+    if let Err(fail) = apply_all(&mut ledger, &mut log, shadows) {
+        log.close();
+        return Err(fail);
+    }
+    let same = undo_all(alloc, &mut ledger, &mut log, shadows);
+    log.close();
+    Ok(same? & ledger.is_empty())
+}
+
+/// The reports of the sites after a script.
+pub fn reports_of(alloc: Global, script: &str) -> Result<Vec<SiteReport>, LineFault> {
+    let (mut world, events) = opened(alloc, script)?;
+    let ran = world.run(events.as_slice()).is_ok();
+    let reports = world.close();
+    if ran {
+        Ok(reports)
+    } else {
+        Err(LineFault::OutOfMemory)
+    }
+}
+
+#[test]
+fn tail_back(rt: HostRuntime) -> Result<(), Fail> {
+    let alloc = rt.alloc();
+    for name in [
+        "two_cancels_of_one_withdrawal",
+        "cancelled_deposit_later",
+        "batch_all_or_nothing",
+        "interest_stays",
+        "transfer_and_cancel",
+    ] {
+        let script = row_named(name)?.script;
+        let reports = reports_of(alloc, script)?;
+        let applied = &reports.get(0).ok_or("no report")?.entries;
+        let config = config_of(alloc, script)?;
+        assert!(rt; there_and_back(alloc, &config, applied.as_slice())?);
+        assert!(rt; !applied.is_empty());
+    }
+    Ok(())
+}

@@ -1,0 +1,166 @@
+#!/usr/bin/env python3
+"""Runs the cases of tests/cases, the worked rows and some runs that are made here through a built program.
+
+usage: cases.py [--quiet] PROGRAM      (--quiet prints only what is different)
+
+A case begins with its name in brackets. Its lines:
+  $ WORDS   the words after the program's name
+  < TEXT    a line of standard input; <\\ TEXT: bytes as Python escapes them, with no line feed of their own
+  > TEXT    a line of standard output; >~ TEXT: lines that it has somewhere, in this order, the first maybe in part
+  <> TEXT   a line of input that is a line of the output too; the case runs again with a space before each of them
+  ? TEXT    a line of input behind the others: the case runs once with each such line
+  ! TEXT    a line of standard error; !~ TEXT: a part of it
+  = N       the exit status, where it isn't 0
+"""
+import codecs
+import glob
+import os
+import re
+import subprocess
+import sys
+from typing import NamedTuple
+
+HERE = os.path.dirname(os.path.abspath(__file__))
+sys.path.insert(0, os.path.join(os.path.dirname(HERE), "examples"))
+import from_rows  # noqa: E402
+
+BANK = '{"accounts":[["ann",0]],"sites":2,"version":1}'
+BALANCE = '{"balance":"ann","site":0}'
+LINE_LIMIT = 1_048_576  # bytes of a line without its line feed (docs/FORMAT.md)
+TELLERS_BANK = (
+    '{"accounts":[["a0",1000],["a1",1000],["a2",1000],["a3",1000]],'
+    '"blue":1000000,"epoch":4000000000,"history":100000000,"inbox":4096,"red":1000000'
+)
+CALL = re.compile(r'\{"event":\{"(deposit|withdraw|interest|cancel|pass)"')
+
+
+class Case(NamedTuple):
+    """A run of the program, and what is wanted of it: its output and its errors, whole or in part, and its status."""
+
+    name: str
+    words: list
+    given: bytes
+    out: str = ""
+    part_of_out: str = ""
+    err: str = ""
+    part_of_err: str = ""
+    status: int = 0
+
+
+def parsed(name, text):
+    """The runs of a case."""
+    words, given, both, each, status = [], b"", [], [], 0
+    wanted = {">": "", ">~": "", "!": "", "!~": ""}
+    for line in text.splitlines():
+        mark, _, rest = line.partition(" ")
+        if mark == "$":
+            words = rest.split()
+        elif mark == "<":
+            given += rest.encode() + b"\n"
+        elif mark == "<\\":
+            given += codecs.escape_decode(rest.encode())[0]
+        elif mark == "<>":
+            both.append(rest)
+        elif mark == "?":
+            each.append(rest)
+        elif mark in wanted:
+            wanted[mark] += rest + "\n"
+        elif mark == "=":
+            status = int(rest)
+        elif line and not line.startswith("#"):
+            sys.exit(f"cases: no such line: {line}")
+    wanted[">"] += "".join(line + "\n" for line in both)
+    for space in ["", " "] if both else [""]:
+        lines = "".join(space + line + "\n" for line in both)
+        for last in each or [""]:
+            known = f"{name} {last}".rstrip()
+            yield Case(known, words, given + (lines + last).encode(), *wanted.values(), status)
+
+
+def written_down():
+    """The cases of the files, each by its file's name and its own."""
+    for path in sorted(glob.glob(os.path.join(HERE, "cases", "*.cases"))):
+        with open(path, encoding="utf-8") as file:
+            parts = re.split(r"^\[(.+)\]\n", file.read(), flags=re.M)
+        kind = os.path.basename(path).removesuffix(".cases")
+        for name, text in zip(parts[1::2], parts[2::2]):
+            yield from parsed(f"{kind}: {name}", text)
+
+
+def two_hundred_backwards():
+    """200 deposits at site 0 reach site 1 last to first; each is held there until all before it are applied."""
+    numbers = range(1, 201)
+    commands = ['{"deposit":["ann",1],"site":0}' for _ in numbers]
+    commands += [f'{{"deliver":{n},"site":1}}' for n in reversed(numbers)]
+    commands += ['{"apply":"B0.2","site":1}'] + [f'{{"apply":"B0.{n}","site":1}}' for n in numbers]
+    replies = [f'{{"kind":"deposit","name":"B0.{n}"}}' for n in numbers]
+    replies += [f'{{"held":"B0.{n}"}}' for n in reversed(numbers)]
+    replies += ['{"refused":15}'] + [f'{{"applied":"B0.{n}"}}' for n in numbers]
+    lines = [BANK, *commands, '{"balance":"ann","site":1}']
+    out = "\n".join([*replies, '{"balance":200}', ""])
+    return Case("two_hundred_backwards", ["script"], "\n".join(lines).encode(), out)
+
+
+def long_lines(program, out="", err="", status=0):
+    """The longest line is read, and then the line behind it; a line of one byte more is too long."""
+    first = BANK.ljust(LINE_LIMIT)
+    yield Case(f"longest line: {program}", [program], f"{first}\n{BALANCE}".encode(), out, err=err, status=status)
+    too_long = "rbbank: line 1: line too long\n"
+    yield Case(f"line too long: {program}", [program], f"{first} \n{BALANCE}".encode(), err=too_long, status=2)
+
+
+def many_accounts(count, **wanted):
+    accounts = ",".join(f'["a{n}",{n}]' for n in range(count))
+    config = f'{{"accounts":[{accounts}],"sites":2,"version":1}}'
+    last = f'{{"balance":"a{count - 1}","site":0}}'
+    return Case(f"{count} accounts", ["script"], f"{config}\n{last}".encode(), **wanted)
+
+
+def made_here():
+    for name, (given, replies) in from_rows.rows().items():
+        yield Case(f"row: {name}", ["script"], given.encode(), replies)
+    yield two_hundred_backwards()
+    yield many_accounts(1000, out='{"balance":999}\n')
+    yield many_accounts(1001, err="rbbank: line 1: bad configuration\n", status=2)
+    yield from long_lines("script", out='{"balance":0}\n')
+    yield from long_lines("audit", err="rbbank: line 2: bad line\n", status=2)
+
+
+def is_wanted(written, whole, part):
+    """Whether a run wrote the whole, or, where a part is named, that part of it."""
+    return part.removesuffix("\n") in written if part else written == whole
+
+
+def passes(program, case):
+    run = subprocess.run([program, *case.words], input=case.given, capture_output=True)
+    fine = is_wanted(run.stdout.decode(), case.out, case.part_of_out)
+    return fine and is_wanted(run.stderr.decode(), case.err, case.part_of_err) and run.returncode == case.status
+
+
+def audit_accepts(program, sites, tellers, version):
+    """Whether an audit accepts what a run of tellers wrote, which has a hundred calls of each."""
+    words = ["threads", "--sites", str(sites), "--tellers", str(tellers), "--seed", "7"]
+    run = subprocess.run([program, *words], capture_output=True)
+    audit = subprocess.run([program, "audit"], input=run.stdout, capture_output=True)
+    bank, *entries = run.stdout.decode().splitlines()
+    calls = sum(bool(CALL.match(line)) for line in entries)
+    right = bank == f'{TELLERS_BANK},"sites":{sites},"version":{version}}}' and calls == 100 * tellers
+    return right and (run.returncode, audit.returncode) == (0, 0) and audit.stdout.startswith(b'{"order":[')
+
+
+def main():
+    words = [word for word in sys.argv[1:] if word != "--quiet"]
+    if len(words) != 1:
+        sys.exit(__doc__)
+    results = [(case.name, passes(words[0], case)) for case in [*written_down(), *made_here()]]
+    for sites, tellers, version in [(3, 4, 1), (8, 2, 1), (9, 2, 2), (16, 16, 2)]:
+        results.append((f"{tellers} tellers at {sites} sites", audit_accepts(words[0], sites, tellers, version)))
+    for name, same in results:
+        if not same or "--quiet" not in sys.argv:
+            print("same     " if same else "DIFFERENT", name)
+    if not all(same for _, same in results):
+        sys.exit(1)
+
+
+if __name__ == "__main__":
+    main()
