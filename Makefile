@@ -1,14 +1,20 @@
 .PHONY: help demo build test toolchain check examples bench refuse wrong-bodies
 
 help:
-	@echo 'make demo      the stored run, drawn, each command beside its reply'
-	@echo 'make build     proves and builds the program, and prints where it lies'
-	@echo 'make examples  every script, history and migration of examples/ through the program'
-	@echo 'make check     proves every crate, over what earlier checks kept'
-	@echo 'make test      the gate: everything from nothing (docs/GATE.md)'
-	@echo 'make bench     the measurements of bench/README.md, some ten minutes'
-	@echo 'make refuse    each allocation of the program and of four tests refused in turn'
-	@echo 'make wrong-bodies  the wrong bodies that the gate leaves out'
+	@echo 'At once:'
+	@echo '  make demo          the stored run, drawn, each command beside its reply; a minute'
+	@echo
+	@echo 'With time (on four processors; on two it takes about twice as long):'
+	@echo '  make build         proves and builds the program; less than an hour the first time'
+	@echo '  make examples      every example, and every case of tests/cases, through the program, after make build'
+	@echo '  make test          the gate; about an hour the first time, half a minute where nothing changed since (docs/GATE.md)'
+	@echo
+	@echo 'While you change something:'
+	@echo '  make check         proves every crate, over what earlier checks kept'
+	@echo '  make wrong-bodies CRATE=rb_ledger'
+	@echo '                     the mutants of a crate that the gate leaves out; without CRATE all of them, some hours'
+	@echo '  make refuse        each allocation of the program and of four tests refused in turn'
+	@echo '  make bench         the measurements of bench/README.md, some ten minutes'
 
 # The stored run, drawn, each command beside its reply.
 demo:
@@ -19,16 +25,19 @@ build:
 	@cd crates/rbbank && rt run -- script < stdin > /dev/null
 	@echo $(CURDIR)/crates/rbbank/out/rbbank
 
-# Every script, all histories and migrations of examples/ through the program.
+# Every script, all histories and migrations of examples/, and the cases of tests/cases, through the program.
 examples: build
 	@examples/check.py crates/rbbank/out/rbbank
+	@tests/cases.py crates/rbbank/out/rbbank
 
-# The gate: everything from nothing. The last line is 'N passed, 0 failed', or an example that is answered otherwise.
+# The gate. The last line is 'N passed, 0 failed', or an example or a case that is answered otherwise.
 test: toolchain
 	examples/from_rows.py --check
 	tests/closure.py --check
+	tests/wrong_bodies.py --check
 	rt ci
 	@examples/check.py --quiet crates/rbbank/out/rbbank
+	@tests/cases.py --quiet crates/rbbank/out/rbbank
 
 # Whether README.md names the toolchain that proves it.
 toolchain:
@@ -44,10 +53,9 @@ bench: build
 
 # Each allocation of the program and of four tests refused in turn (docs/GATE.md, "Beside the gate").
 refuse: build
-	@cd crates/rbbank && rt test
-	@cd crates/rb_threads && rt test
-	@tests/refuse.py crates/rbbank/out/rbbank crates/rbbank/out/rbbank_tests crates/rb_threads/out/rb_threads_tests
+	@cd crates/rb_tests && rt test
+	@tests/refuse.py crates/rbbank/out/rbbank crates/rb_tests/out/rb_tests_tests
 
-# The wrong bodies that the gate leaves out for its time.
+# The mutants that the gate leaves out for its time.
 wrong-bodies:
-	@tests/wrong_bodies.py
+	@tests/wrong_bodies.py $(or $(CRATE),--all)
