@@ -8,6 +8,7 @@ mod cents;
 mod checks;
 mod config;
 mod fault;
+mod figures;
 mod interest;
 mod limits;
 mod number;
@@ -20,6 +21,7 @@ pub use amount::Amount;
 pub use cents::{Cents, MOST_CENTS};
 pub use config::Config;
 pub use fault::ConfigFault;
+pub use figures::numbers;
 pub use interest::interest_of;
 pub use limits::{
     Limits, MOST_ACCOUNTS, MOST_BALANCE, MOST_BLUE, MOST_EPOCH, MOST_HISTORY, MOST_INBOX,

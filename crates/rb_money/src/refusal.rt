@@ -51,7 +51,7 @@ pub enum Refusal {
     Conflict,
     /// No message has the number.
     NoMessage,
-    /// There is no such site, or the token would go to the site that has it.
+    /// There is no such site, or a site would pass the token to itself.
     NoSite,
     /// The token message is for another site.
     NotYours,

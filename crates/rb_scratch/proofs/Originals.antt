@@ -1,5 +1,5 @@
 -- What an operation does to every balance is what the published bank does.
-use Rattle.std.proofs.Common.{◌≡◌, ℕ, Bool, true, false, cond, not, ◌&&◌, List, refl, ap, sym, ◌∙◌, Result, Ok, Err}
+use Rattle.std.proofs.Common.{◌≡◌, ℕ, Bool, true, false, cond, not, ◌&&◌, List, [], ◌∷◌, ◌++◌, refl, ap, sym, ◌∙◌, Option, Some, None, Result, Ok, Err}
 use Rattle.std.specs.Prelude.{ℤ, IfOk, pos, neg_ℤ, ◌+ℤ◌, ◌==◌, int_lt, nat_lt}
 use Rattle.rb_money.specs.Amounts.{is_amount}
 use Rattle.rb_money.specs.Settings.{Settings, is_account}
@@ -8,16 +8,18 @@ use Rattle.rb_money.specs.declared.refusal.Refusal.{Refusal}
 use Rattle.rb_money.specs.declared.cents.TheConstants.{MOST_CENTS}
 use Rattle.rb_money.specs.declared.rate.TheConstants.{MOST_RATE}
 use Rattle.rb_shadow.specs.declared.kind.Kind.{Kind}
-use Rattle.rb_shadow.specs.declared.kind.Kind.TheVariants.{Deposit, Withdraw, Declined, Interest, Transfer}
+use Rattle.rb_shadow.specs.declared.kind.Kind.TheVariants.{Deposit, Withdraw, Declined, Interest, Cancel, Transfer}
+use Rattle.rb_shadow.specs.declared.op_name.OpName.{OpName}
 use Rattle.rb_shadow.specs.declared.shadow.Shadow.{Shadow}
-use Rattle.rb_shadow.specs.Operations.{bal, is_cancel, is_cancelled, moved, arrived, receiver_of}
+use Rattle.rb_shadow.specs.Operations.{bal, is_cancel, is_cancelled, find_in, may_be_cancelled, moved, arrived, receiver_of, target_of}
 use Rattle.rb_ledger.proofs.Public.Pushes
 use Rattle.rb_ledger.specs.Valid.{IsValid}
 use Rattle.rb_ledger.proofs.Public.Legal
 use Rattle.rb_scratch.specs.declared.request.Request.{Request}
 use Rattle.rb_scratch.specs.declared.request.Request.TheVariants.{Deposit as AskDeposit, Withdraw as AskWithdraw, Interest as AskInterest, Cancel as AskCancel, Transfer as AskTransfer}
-use Rattle.rb_scratch.specs.Originals.{DoesOriginal, IsOriginal, after_accrue, after_deposit, after_withdraw, after_transfer}
-use Rattle.rb_scratch.specs.Requests.{Plan, colour_of_plan, interest_on, next_name, operation_of, plan_of, if_covered}
+use Rattle.rb_scratch.specs.Originals.{DoesOriginal, granted_kind, after_accrue, after_deposit, after_withdraw, after_transfer}
+use Rattle.rb_scratch.specs.Requests.{Plan, colour_of_plan, interest_on, next_name, operation_of, plan_of, plan_of_cancel, if_covered}
+use Rattle.rb_scratch.proofs.LeftOut
 use Rattle.rb_scratch.proofs.Public.Made
 use Rattle.rb_scratch.proofs.Public.Makes
 
@@ -41,7 +43,14 @@ carried true false n to q = refl
 carried false true n to q = refl
 carried false false n to q = refl
 
-pub is_original : (s : Settings) (us : List Shadow) (v : Shadow) → is_cancelled us v.name ≡ false → IsOriginal s us v
+-- what an operation that isn't a cancellation does to every balance at the end of a list, by its kind
+record IsOriginal (s : Settings) (us : List Shadow) (v : Shadow) : Type 0 where
+  deposit : v.kind ≡ Deposit → (q : Place) → bal s (us ++ v ∷ []) q ≡ after_deposit (bal s us) v.account v.amount q
+  withdraw : v.kind ≡ if_covered s us v.account v.amount Withdraw → (q : Place) → bal s (us ++ v ∷ []) q ≡ after_withdraw (bal s us) v.account v.amount q
+  accrue : (rate : ℕ) → v.kind ≡ Interest → v.amount ≡ interest_on (bal s us) v.account rate → (q : Place) → bal s (us ++ v ∷ []) q ≡ after_accrue (bal s us) v.account rate q
+  transfer : (to : Place) → v.kind ≡ if_covered s us v.account v.amount (Transfer to) → (q : Place) → bal s (us ++ v ∷ []) q ≡ after_transfer (bal s us) v.account to v.amount q
+
+is_original : (s : Settings) (us : List Shadow) (v : Shadow) → is_cancelled us v.name ≡ false → IsOriginal s us v
 is_original s us v free = record {
   deposit = λ e q. Pushes.bal-push_plain s us v q (ap is_cancel e) free ∙ ap (λ k. bal s us q +ℤ moves k v.amount q (v.account.0 == q.0)) e;
   withdraw = λ e q. Pushes.bal-push_plain s us v q (ap is_cancel e ∙ not_cancel (int_lt (bal s us v.account) (pos v.amount)) Withdraw refl) free
@@ -95,6 +104,47 @@ plan_of_transfer s us a c n p e =
     let (_, e4) = Made.passed_by (a.0 == c.0) _ _ p e3 in
     accepted p _ e4
 
+-- what is known where a cancellation is planned
+record HasTargetFor (us : List Shadow) (x : OpName) (p : Plan) : Type 0 where
+  target : Shadow
+  found : find_in us x ≡ Some target
+  may : may_be_cancelled target.kind ≡ true
+  free : is_cancelled us x ≡ false
+  kind : p.kind ≡ Cancel x
+
+plan_of_target : (s : Settings) (us : List Shadow) (x : OpName) (p : Plan) → plan_of s us (AskCancel x) ≡ Ok p → HasTargetFor us x p
+unfolding plan_of
+plan_of_target s us x p e = by (find_in us x) refl e
+  where
+    by : (o : Option Shadow) → find_in us x ≡ o → plan_of_cancel us x o ≡ Ok p → HasTargetFor us x p
+    by None at e = cc
+    by (Some t) at e =
+        let (m, e1) = Made.passed_by (not (may_be_cancelled t.kind)) _ _ p e in
+        let (f, e2) = Made.passed_by (is_cancelled us x) _ _ p e1 in
+        record { target = t; found = at; may = Made.not_true (may_be_cancelled t.kind) m; free = f; kind = sym (ap (λ (q : Plan). q.kind) (accepted p _ e2)) }
+
+-- an operation has the kind of its plan
+pub kind_of_plan : (me : ℕ) (us : List Shadow) (p : Plan) (v : Shadow) → v ≡ operation_of me us p → v.kind ≡ p.kind
+unfolding operation_of
+kind_of_plan me us p v is = ap (λ (x : Shadow). x.kind) is
+
+declined_if_not : (b : Bool) (k : Kind) → cond b Declined k ≡ cond (not b) k Declined
+declined_if_not true k = refl
+declined_if_not false k = refl
+
+-- a plan has the kind that is granted
+pub granted : (s : Settings) (us : List Shadow) (r : Request) (p : Plan) → plan_of s us r ≡ Ok p → p.kind ≡ granted_kind (bal s us) r
+granted s us (AskDeposit a n) p e = sym (ap (λ (q : Plan). q.kind) (plan_of_deposit s us a n p e))
+granted s us (AskWithdraw a n) p e = sym (ap (λ (q : Plan). q.kind) (plan_of_withdraw s us a n p e)) ∙ declined_if_not (int_lt (bal s us a) (pos n)) Withdraw
+granted s us (AskInterest a rate) p e = sym (ap (λ (q : Plan). q.kind) (plan_of_interest s us a rate p e))
+granted s us (AskCancel x) p e = (plan_of_target s us x p e).kind
+granted s us (AskTransfer a c n) p e = sym (ap (λ (q : Plan). q.kind) (plan_of_transfer s us a c n p e)) ∙ declined_if_not (int_lt (bal s us a) (pos n)) (Transfer c)
+
+-- the kind of what was made, where it is known by another name
+pub of_kind : (made : Result Shadow Refusal) (k g : Kind) → IfOk made (λ v. v.kind ≡ k) → k ≡ g → IfOk made (λ v. v.kind ≡ g)
+of_kind (Ok v) k g h e = h ∙ e
+of_kind (Err why) k g h e = tt
+
 -- the parts of what a plan makes
 record HasParts (v : Shadow) (a : Place) (n : ℕ) (k : Kind) : Type 0 where
   account : v.account ≡ a
@@ -128,7 +178,10 @@ plan_original s me us p v (AskInterest a rate) valid is planned =
     let h = parts_of me us v p a (interest_on (bal s us) a rate) Interest is (plan_of_interest s us a rate p planned) in
     λ q. (is_original s us v (uncancelled s me us v p valid is)).accrue rate h.kind (h.amount ∙ sym (ap (λ x. interest_on (bal s us) x rate) h.account)) q
     ∙ ap (λ x. after_accrue (bal s us) x rate q) h.account
-plan_original s me us p v (AskCancel x) valid is planned = tt
+plan_original s me us p v (AskCancel x) valid is planned =
+    let cancelled = plan_of_target s us x p planned in
+    let target : target_of v.kind ≡ Some x = ap target_of (kind_of_plan me us p v is ∙ cancelled.kind) in
+    λ q. LeftOut.cancelled_left_out s us v cancelled.target x q target valid.unique cancelled.found (Pushes.plain_if_cancellable cancelled.target.kind cancelled.may) cancelled.free
 plan_original s me us p v (AskTransfer a c n) valid is planned =
     let h = parts_of me us v p a n (if_covered s us a n (Transfer c)) is (plan_of_transfer s us a c n p planned) in
     λ q. (is_original s us v (uncancelled s me us v p valid is)).transfer c (h.kind ∙ sym (ap (λ x. if_covered s us x v.amount (Transfer c)) h.account ∙ ap (λ m. if_covered s us a m (Transfer c)) h.amount)) q

@@ -102,3 +102,8 @@ no_memory s us h why n valid (inl e) =
     let clash : Some why ≡ None = sym e ∙ fine in
     cc
 no_memory s us h why n valid (inr k) = k.0
+
+-- without records nothing was tried
+pub none_tried : (base made : List Shadow) (book : Book) (parts : List UndoParts) → IsTried base made book parts → length parts ≡ 0 → made ≡ []
+none_tried base [] book parts tried e = refl
+none_tried base (v ∷ vs) book parts tried e = absurd (omega (arith, tried_length base (v ∷ vs) book parts tried, e))

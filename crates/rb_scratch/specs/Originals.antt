@@ -1,14 +1,15 @@
 -- The bank of the published paper: what each operation does to a map from accounts to balances.
-use Rattle.std.specs.Prelude.{ℕ, Bool, if◌then◌else◌, not, ◌&&◌, ◌==◌, ℤ, pos, ◌+ℤ◌, neg_ℤ, int_lt}
-use Rattle.std.specs.Prelude.{◌≡◌, List, [], ◌∷◌, ◌++◌, false, ⊤}
+use Rattle.std.specs.Prelude.{◌≡◌, ℕ, Bool, if◌then◌else◌, not, ◌&&◌, ◌==◌, ℤ, pos, ◌+ℤ◌, neg_ℤ, int_lt, List, [], ◌∷◌, ◌++◌, filter}
 use Rattle.rb_money.specs.Settings.{Settings}
 use Rattle.rb_money.specs.declared.place.Place.{Place}
 use Rattle.rb_shadow.specs.declared.shadow.Shadow.{Shadow}
-use Rattle.rb_shadow.specs.declared.kind.Kind.TheVariants.{Deposit, Withdraw, Interest, Transfer}
-use Rattle.rb_shadow.specs.Operations.{bal, is_cancelled}
+use Rattle.rb_shadow.specs.declared.kind.Kind.{Kind}
+use Rattle.rb_shadow.specs.declared.kind.Kind.TheVariants.{Deposit, Withdraw, Declined, Interest, Cancel, Transfer}
+use Rattle.rb_shadow.specs.declared.op_name.OpName.{OpName}
+use Rattle.rb_shadow.specs.Operations.{bal, same_name}
 use Rattle.rb_scratch.specs.declared.request.Request.{Request}
 use Rattle.rb_scratch.specs.declared.request.Request.TheVariants.{Deposit as AskDeposit, Withdraw as AskWithdraw, Interest as AskInterest, Cancel as AskCancel, Transfer as AskTransfer}
-use Rattle.rb_scratch.specs.Requests.{if_covered, interest_on}
+use Rattle.rb_scratch.specs.Requests.{interest_on}
 
 -- so much is added to an account
 abbrev pub after_deposit : (Place → ℤ) → Place → ℕ → Place → ℤ
@@ -30,21 +31,22 @@ after_transfer b a c x = λ q. b q +ℤ (if grants b a x then (if a.0 == q.0 the
 abbrev pub after_accrue : (Place → ℤ) → Place → ℕ → Place → ℤ
 after_accrue b a rate = λ q. b q +ℤ (if a.0 == q.0 then pos (interest_on b a rate) else pos 0)
 
--- an operation at the end of a list does to every balance what the published bank does
-pub record IsOriginal (s : Settings) (us : List Shadow) (v : Shadow) : Type 0 where
-  pub deposit : v.kind ≡ Deposit → (q : Place) → bal s (us ++ v ∷ []) q ≡ after_deposit (bal s us) v.account v.amount q
-  pub withdraw : v.kind ≡ if_covered s us v.account v.amount Withdraw → (q : Place) → bal s (us ++ v ∷ []) q ≡ after_withdraw (bal s us) v.account v.amount q
-  pub accrue : (rate : ℕ) → v.kind ≡ Interest → v.amount ≡ interest_on (bal s us) v.account rate → (q : Place) → bal s (us ++ v ∷ []) q ≡ after_accrue (bal s us) v.account rate q
-  pub transfer : (to : Place) → v.kind ≡ if_covered s us v.account v.amount (Transfer to) → (q : Place) → bal s (us ++ v ∷ []) q ≡ after_transfer (bal s us) v.account to v.amount q
+-- the kind of operation that a request is granted on these balances; where there isn't enough, it is a declined one
+abbrev pub granted_kind : (Place → ℤ) → Request → Kind
+granted_kind b (AskDeposit a n) = Deposit
+granted_kind b (AskWithdraw a n) = if grants b a n then Withdraw else Declined
+granted_kind b (AskInterest a rate) = Interest
+granted_kind b (AskCancel x) = Cancel x
+granted_kind b (AskTransfer a c n) = if grants b a n then Transfer c else Declined
 
--- so it is for every operation whose name none of them cancels
-abbrev pub EachIsOriginal : Type 0
-EachIsOriginal = (s : Settings) (us : List Shadow) (v : Shadow) → is_cancelled us v.name ≡ false → IsOriginal s us v
+-- the operations without the one of the name
+abbrev pub left_out : OpName → List Shadow → List Shadow
+left_out x us = filter (λ (u : Shadow). not (same_name u.name x)) us
 
--- the operation that a request makes does to every balance, at the end of a list, what the published bank does on that request; it has no cancellation
+-- the operation that a request makes does to every balance, at the end of a list, what the published bank does on that request. That bank has no cancellation: after one each balance is as if its target had never been made
 abbrev pub DoesOriginal : Settings → List Shadow → Request → Shadow → Type 0
 DoesOriginal s us (AskDeposit a n) v = (q : Place) → bal s (us ++ v ∷ []) q ≡ after_deposit (bal s us) a n q
 DoesOriginal s us (AskWithdraw a n) v = (q : Place) → bal s (us ++ v ∷ []) q ≡ after_withdraw (bal s us) a n q
 DoesOriginal s us (AskInterest a rate) v = (q : Place) → bal s (us ++ v ∷ []) q ≡ after_accrue (bal s us) a rate q
-DoesOriginal s us (AskCancel x) v = ⊤
+DoesOriginal s us (AskCancel x) v = (q : Place) → bal s (us ++ v ∷ []) q ≡ bal s (left_out x us) q
 DoesOriginal s us (AskTransfer a c n) v = (q : Place) → bal s (us ++ v ∷ []) q ≡ after_transfer (bal s us) a c n q

@@ -2,7 +2,7 @@
 ghost use Rattle.std.specs.Prelude.{◌≡◌, ◌+◌, ◌<◌, ◌≤◌, ◌∷◌, ◌++◌, [], if◌then◌else◌, Some, None, Ok, Err, MatchResult, IfOk};
 ghost use Rattle.rb_money.specs.declared.limits.TheConstants.{MOST_SITES};
 ghost use Rattle.rb_shadow.specs.Sound.{limit_of};
-ghost use Rattle.rb_shadow.specs.Operations.{number_of};
+ghost use Rattle.rb_shadow.specs.Operations.{bal, number_of};
 ghost use Rattle.rb_ledger.specs.Valid.{IsValid};
 ghost use Rattle.rb_ledger.specs.Checks.{refusal_of, overdraws};
 ghost use Rattle.rb_token.specs.Token.{Token};
@@ -11,7 +11,7 @@ ghost use Rattle.rb_scratch.specs.declared.request.Request.TheVariants.{Deposit 
 ghost use Rattle.rb_scratch.specs.declared.request.Request.{Request as TheRequest};
 ghost use Rattle.rb_scratch.specs.Requests.{plan_of, next_name, colour_of_plan, operation_of, allowed, allowed_red, made_of};
 ghost use Rattle.rb_scratch.specs.Effects.{IsColoured, IsDecision, plan_of_effect};
-ghost use Rattle.rb_scratch.specs.Originals.{DoesOriginal};
+ghost use Rattle.rb_scratch.specs.Originals.{DoesOriginal, granted_kind};
 
 use crate::effect::Effect;
 use crate::plan::cancel_of;
@@ -239,6 +239,7 @@ pub(crate) fn carry_out(
     requires colour { effect.colour ≡ colour_of_plan ledger.now.entries (plan_of_effect effect) }
     ensures made { (known : Token) → Shows token.now known → result ≡ allowed ledger.now.settings ledger.now.entries known (operation_of token.now.me ledger.now.entries (plan_of_effect effect)) }
     ensures valid { IfOk result (λ made. IsValid ledger.now.settings (ledger.now.entries ++ made ∷ [])) }
+    ensures kind { IfOk result (λ made. made.kind ≡ effect.kind) }
     ensures original { IfOk result (λ made. (request : TheRequest) → plan_of ledger.now.settings ledger.now.entries request ≡ Ok (plan_of_effect effect) → DoesOriginal ledger.now.settings ledger.now.entries request made) }
 {
     let sites = ledger.config().sites();
@@ -269,6 +270,7 @@ pub fn generate(ledger: &Ledger, token: &TokenView, request: &Request) -> Result
     requires { token.now.me < ledger.now.settings.sites }
     ensures made { (known : Token) → Shows token.now known → result ≡ made_of ledger.now.settings token.now.me ledger.now.entries known request.now }
     ensures valid { IfOk result (λ made. IsValid ledger.now.settings (ledger.now.entries ++ made ∷ [])) }
+    ensures kind { IfOk result (λ made. made.kind ≡ granted_kind (bal ledger.now.settings ledger.now.entries) request.now) }
     ensures original { IfOk result (λ made. DoesOriginal ledger.now.settings ledger.now.entries request.now made) }
 {
     match decide(ledger, request) {

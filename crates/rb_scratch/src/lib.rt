@@ -2,8 +2,9 @@
 //! Tests: rb_tests, requests.rt, batches.rt.
 #![tactic(auto)]
 
-ghost use Rattle.rb_scratch.specs.Originals.{EachIsOriginal};
+ghost use Rattle.std.specs.Prelude.{◌≡◌};
 ghost use Rattle.rb_scratch.specs.Requests.{MadeIsValid};
+ghost use Rattle.rb_scratch.specs.declared.request.TheConstants.{MOST_REQUESTS as THE_MOST_REQUESTS};
 
 mod effect;
 mod exact;
@@ -21,9 +22,9 @@ pub use request::{MOST_REQUESTS, Request};
 pub use run_fault::RunFault;
 pub use scratch::Scratch;
 
-/// A deposit, a withdrawal, a transfer and interest do to every balance what the published bank does.
-pub fn is_original()
-    ensures { EachIsOriginal }
+/// The most requests of a batch, in figures.
+pub fn requests_of_a_batch()
+    ensures { THE_MOST_REQUESTS ≡ 16 }
 {}
 
 /// What a request makes at a valid list may be added to it.

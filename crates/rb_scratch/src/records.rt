@@ -69,6 +69,7 @@ impl Records {
         ensures log { OnOk result (log.new.parts ≡ log.old.parts ++ self.parts) }
         ensures back { IfErr result (λ back. back ≡ self) }
         ensures unchanged { OnErr result (log.new.parts ≡ log.old.parts) }
+        ensures short { OnErr result (log.old.room < length self.parts) }
         ensures grows { OnErr result (log.old.room ≤ log.new.room) }
     {
         if log.reserve(self.len).is_err() {

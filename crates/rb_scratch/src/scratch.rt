@@ -44,13 +44,18 @@ fn undo_all(ledger: &mut Ledger, undos: Records)
     undos.close();
 }
 
-/// The last entries of a ledger, as many as there are records.
+/// The last entries of a ledger, as many as there are records; none take no memory.
 fn last_entries(alloc: Global, ledger: &Ledger, undos: &Records) -> Result<Vec<Shadow>, AllocError>
     requires { IsOfTheLast ledger.now undos.now.parts }
-    ensures { IfOk result (λ shadows. (base made : List TheShadow) → IsTried base made ledger.now undos.now.parts → shadows.items ≡ made) }
+    ensures made { IfOk result (λ shadows. (base made : List TheShadow) → IsTried base made ledger.now undos.now.parts → shadows.items ≡ made) }
+    ensures some { OnErr result (0 < length undos.now.parts) }
 {
+    let count = undos.len();
+    if count == 0 {
+        return Ok(Vec::new(alloc));
+    }
     let entries = ledger.entries();
-    let first = entries.len() - undos.len();
+    let first = entries.len() - count;
     let shadows = entries[first..].to_vec(alloc)?;
     Ok(shadows)
 }
@@ -130,8 +135,9 @@ impl<'a> Scratch<'a> {
         try_one(self.ledger, &mut self.undos, token, request)
     }
 
-    /// Keeps what was run: gives the shadows in order, and puts their records at the log's end. Out
-    /// of memory the scratch comes back, and nothing changes but that the log may have more room.
+    /// Keeps what was run: gives the shadows in order, and puts their records at the log's end. Out of
+    /// memory the scratch comes back, and nothing changes but that the log may have more spare capacity.
+    /// That can be only where something was run.
     pub fn commit(self, log: &mut UndoLog) -> Result<Vec<Shadow>, Scratch<'a>>
         requires { IsOfTheLast self.ledger.now self.undos.parts }
         ensures* ledger { sem 𝓛 (RestsIfOk the_row self.entry.ledger (λ scratch. scratch.ledger.ghost_name) result (λ book. book ≡ self.entry.ledger.now)) }
@@ -139,6 +145,7 @@ impl<'a> Scratch<'a> {
         ensures log { OnOk result (log.new.parts ≡ log.old.parts ++ self.entry.undos.parts) }
         ensures back { IfErr result (λ back. (back.ledger.ghost_name ≡ self.entry.ledger.ghost_name) × (back.ledger.now ≡ self.entry.ledger.now) × (back.token ≡ self.entry.token) × (back.undos ≡ self.entry.undos)) }
         ensures unchanged { OnErr result (log.new.parts ≡ log.old.parts) }
+        ensures some { OnErr result (0 < length self.entry.undos.parts) }
         ensures grows { OnErr result (log.old.room ≤ log.new.room) }
     {
         let Scratch {
@@ -170,14 +177,15 @@ impl<'a> Scratch<'a> {
     }
 
     /// Keeps what was run: puts the records at the log's end, and answers how many operations that are,
-    /// the ledger's last. It takes memory only where the log has no room for them. Out of memory the
-    /// scratch comes back, and nothing changes but that the log may have more room.
+    /// the ledger's last. It takes memory only where the log has too little spare capacity. Out of memory
+    /// the scratch comes back, and nothing changes but that the log may have more spare capacity.
     pub fn keep(self, log: &mut UndoLog) -> Result<usize, Scratch<'a>>
         ensures* ledger { sem 𝓛 (RestsIfOk the_row self.entry.ledger (λ scratch. scratch.ledger.ghost_name) result (λ book. book ≡ self.entry.ledger.now)) }
         ensures count { IfOk result (λ count. count ≡ length self.entry.undos.parts) }
         ensures log { OnOk result (log.new.parts ≡ log.old.parts ++ self.entry.undos.parts) }
         ensures back { IfErr result (λ back. (back.ledger.ghost_name ≡ self.entry.ledger.ghost_name) × (back.ledger.now ≡ self.entry.ledger.now) × (back.token ≡ self.entry.token) × (back.undos ≡ self.entry.undos)) }
         ensures unchanged { OnErr result (log.new.parts ≡ log.old.parts) }
+        ensures short { OnErr result (log.old.room < length self.entry.undos.parts) }
         ensures grows { OnErr result (log.old.room ≤ log.new.room) }
     {
         let Scratch {

@@ -61,9 +61,9 @@ pub fault_made : (base vs : List Shadow) (book : Book) (parts : List UndoParts) 
     → IsFault book parts me known r fault → (fault ≡ RefusedFault OutOfMemory → ⊥) → made_in_batch book.settings me book.entries known r ≡ Err fault
 fault_made base vs book parts me known rs r fault tried more few is other = by (is.few (omega (arith, tried_length base vs book parts tried, more, few)))
   where
-    by : (made_in_batch book.settings me book.entries known r ≡ Err fault) ⊎ ((v : Shadow) × (made_in_batch book.settings me book.entries known r ≡ Ok v) × (fault ≡ RefusedFault OutOfMemory)) → made_in_batch book.settings me book.entries known r ≡ Err fault
+    by : (made_in_batch book.settings me book.entries known r ≡ Err fault) ⊎ ((v : Shadow) × (made_in_batch book.settings me book.entries known r ≡ Ok v) × (fault ≡ RefusedFault OutOfMemory) × (book.room ≡ 0)) → made_in_batch book.settings me book.entries known r ≡ Err fault
     by (inl e) = e
-    by (inr (v, made, e)) = absurd (other e)
+    by (inr (v, made, e, room)) = absurd (other e)
 
 -- there are as many records as requests
 pub as_many : (s : Settings) (me : ℕ) (base vs : List Shadow) (view : TokenView) (book : Book) (parts : List UndoParts) (rs : List Request) → IsTried base vs book parts

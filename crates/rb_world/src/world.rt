@@ -1,11 +1,11 @@
 //! The sites of a bank, together.
-ghost use Rattle.std.specs.Prelude.{◌≡◌, ◌+◌, ◌≤◌, ◌++◌, Some, IsSomeAnd, IfSome, IfOk, IfErr, OnErr, All, is_some, length, false, map, option_map, slice_get, take, vec_len, vec_capacity};
+ghost use Rattle.std.specs.Prelude.{◌≡◌, ◌+◌, ◌≤◌, ◌++◌, Some, IsSomeAnd, IfSome, IfOk, IfErr, OnErr, All, is_some, length, true, false, map, option_map, slice_get, take, vec_len, vec_capacity};
 ghost use Rattle.std.specs.List.{range_with_len};
 ghost use Rattle.rb_site.specs.Events.{first_site, is_full};
 ghost use Rattle.rb_site.specs.Reports.{AreReports};
 ghost use Rattle.rb_site.specs.Seen.{state_of};
 ghost use Rattle.rb_site.specs.Histories.{site_of};
-ghost use Rattle.rb_site.specs.Worlds.{IsCommand, arrival, message_at};
+ghost use Rattle.rb_site.specs.Worlds.{IsCommand, arrival, is_recorded, message_at};
 ghost use Rattle.rb_world.specs.Laws.{Holds, IsRunOf, next_replies, next_reply, next_world, next_worlds, opened};
 
 use crate::{KeepsEvent, Stopped};
@@ -138,12 +138,13 @@ impl<E: KeepsEntry, R: KeepsEvent> World<E, R> {
         })
     }
 
-    /// One event, and its reply. It is listed where a site recorded it. `Err` means out of memory:
-    /// the world is then as before.
+    /// One event, and its reply. It is listed where a site recorded it. `Err` means out of memory, and comes
+    /// only for an event that a site would record: the world is then as before.
     pub fn step(&mut self, event: WorldEvent) -> Result<Reply, AllocError>
         requires { IsCommand event }
         ensures ok { IfOk result (λ reply. (reply ≡ next_reply self.old event) × (self.new ≡ next_world self.old event)) }
         ensures err { OnErr result (self.new ≡ self.old) }
+        ensures recordable { OnErr result (is_recorded self.old.settings self.old.world event ≡ true) }
     {
         let number = event.site();
         let Some(site) = self.site(number) else {

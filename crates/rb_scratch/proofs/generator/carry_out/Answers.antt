@@ -49,6 +49,12 @@ pub returns-in-Err-permit_red-clause-made : goal.returns-in-Err-permit_red-claus
 returns-in-Err-permit_red-clause-made c =
     λ known shows. sym (Generated.red_made _ _ _ known _ _ _ (c.requires.plan).1 c.in-Ok.ensures.0 c.in-Ok.ensures.1 (sym c.requires.colour ∙ c.in-Red.is) ∙ c.in-Err-permit_red.ensures known shows) ∙ Generated.planned _ _ _ known _ _ (c.requires.plan).1
 
+pub returns-in-Blue-clause-kind : goal.returns-in-Blue-clause-kind
+returns-in-Blue-clause-kind c = Originals.kind_of_plan c.args.token.now.me _ _ _ c.in-Ok.ensures.0
+
+pub returns-in-Ok-permit_red-clause-kind : goal.returns-in-Ok-permit_red-clause-kind
+returns-in-Ok-permit_red-clause-kind c = Originals.kind_of_plan c.args.token.now.me _ _ _ c.in-Ok.ensures.0
+
 pub returns-in-Blue-clause-original : goal.returns-in-Blue-clause-original
 returns-in-Blue-clause-original c = λ request planned. Originals.plan_original _ c.args.token.now.me _ _ _ request c.config.ensures.valid c.in-Ok.ensures.0 planned
 

@@ -21,5 +21,5 @@ returns-in-Ok-apply_valid-clause-ran c = (
 pub returns-in-Err-apply_valid-clause-fault : goal.returns-in-Err-apply_valid-clause-fault
 returns-in-Err-apply_valid-clause-fault c = λ known shows. record {
   many = λ h. absurd (omega arith);
-  few = λ h. inr (c.in-Ok.shadow, sym (c.in-Ok.ensures.made known shows), refl);
+  few = λ h. inr (c.in-Ok.shadow, sym (c.in-Ok.ensures.made known shows), refl, c.in-Err-apply_valid.ensures.err.1);
 }
