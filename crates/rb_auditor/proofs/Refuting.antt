@@ -58,7 +58,7 @@ recorded_at s w e r all = subst (AllAtTheirs s) (sym r.is) each
     t1 : ModelSite
     t1 = after_event s r.site r.event
 
-    each : AllAtTheirs s (world_at s w (site_of e) r.event (Some r.site))
+    each : AllAtTheirs s (world_at s w (site_of e) (Some r.event) (Some r.site))
     each j u at = elim (Places.same_number (site_of e) j) [
       | inl q ↦
           let k : Some t1 ≡ Some u = sym (Places.get_set_same w.sites (site_of e) r.site t1 r.at) ∙ ap (slice_get (slice_set w.sites (site_of e) t1)) (sym q) ∙ at in

@@ -58,7 +58,7 @@ pub site_next : (p : Progress) (i k : ℕ) (h : List Entry) (x : Entry) → IsNe
 site_next p i k h x n = Lists.get_site p.settings 0 p.histories p.taken i k h n.there n.at ∙ ap Some (site_now p.settings i k h)
 
 -- the world goes on by the entry
-pub world_next : (p : Progress) (i k : ℕ) (h : List Entry) (x : Entry) → IsTaking p → IsNextEntry p i k h x → world_of (taken_next p i k h x) ≡ world_at p.settings (world_of p) i x.event (Some (site_after p.settings i (take k h)))
+pub world_next : (p : Progress) (i k : ℕ) (h : List Entry) (x : Entry) → IsTaking p → IsNextEntry p i k h x → world_of (taken_next p i k h x) ≡ world_at p.settings (world_of p) i (Some x.event) (Some (site_after p.settings i (take k h)))
 world_next p i k h x g n = ap (λ ts. as_world ts) same
   where
     s : Settings

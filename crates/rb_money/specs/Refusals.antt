@@ -1,27 +1,17 @@
--- Refusals, and the first of several.
-use Rattle.std.specs.Prelude.{ℕ, Bool, true, false, Option, Some, None, Result, Ok, Err}
+-- Refusals, and what comes where there is none.
+use Rattle.std.specs.Prelude.{ℕ, Option, Some, None, Result, Ok, Err}
 use Rattle.rb_money.specs.declared.refusal.Refusal.{Refusal}
 use Rattle.rb_money.specs.declared.refusal.Refusal.TheVariants.{OutOfMemory, UnknownAccount, BadAmount, BadRate, UnknownOperation, NotCancellable, AlreadyCancelled, NumbersExhausted, NeedToken, RedBehind, WouldOverdraw, DeltaTooLarge, BadBatch, BatchRefused, NotHeld, NotReady, InboxFull, BadMessage, Conflict, NoMessage, NoSite, NotYours, PositionBeyond, HistoryFull, SameAccount}
 
--- the refusal where the condition holds, and else what comes next
-abbrev pub first_if : Bool → Refusal → Option Refusal → Option Refusal
-first_if true why next = Some why
-first_if false why next = next
+-- what comes of a refusal where there is one, and else what comes next
+abbrev pub unless : {A E : Type 0} → (E → A) → Option E → A → A
+unless refused (Some why) next = refused why
+unless refused None next = next
 
--- the same, where something comes of it
-abbrev pub refused_if : {A : Type 0} → Bool → Refusal → Result A Refusal → Result A Refusal
-refused_if true why next = Err why
-refused_if false why next = next
-
--- what comes of it where there is no refusal
-abbrev pub unless_refused : {A : Type 0} → Option Refusal → Result A Refusal → Result A Refusal
-unless_refused (Some why) next = Err why
-unless_refused None next = next
-
--- what comes of a result
-abbrev pub and_then : {A B : Type 0} → Result A Refusal → (A → Result B Refusal) → Result B Refusal
-and_then (Ok x) next = next x
-and_then (Err why) next = Err why
+-- what comes of a result: of its refusal, or else what comes next of it
+abbrev pub and_then : {A B E : Type 0} → (E → B) → Result A E → (A → B) → B
+and_then refused (Ok x) next = next x
+and_then refused (Err why) next = refused why
 
 -- a refusal's number
 abbrev pub number_of_refusal : Refusal → ℕ

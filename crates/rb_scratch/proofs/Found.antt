@@ -8,7 +8,6 @@ use Rattle.rb_shadow.specs.declared.kind.Kind.TheVariants.{Cancel}
 use Rattle.rb_shadow.proofs.Public.Lookups
 use Rattle.rb_money.specs.declared.refusal.Refusal.{Refusal}
 use Rattle.rb_money.specs.declared.refusal.Refusal.TheVariants.{UnknownOperation, NotCancellable, AlreadyCancelled}
-use Rattle.rb_money.specs.Refusals.{refused_if}
 use Rattle.rb_ledger.specs.Valid.{operation_at, find_position, first_cancel_in, position_from, first_cancel_from}
 use Rattle.rb_scratch.specs.Requests.{Plan, plan_of_cancel}
 use Rattle.rb_scratch.proofs.Public.Positions.{no_position, at_position}
@@ -30,11 +29,11 @@ pub unknown : (us : List Shadow) (x : OpName) → find_position us x ≡ None �
 unknown us x h = ap (plan_of_cancel us x) (no_position us x h)
 
 pub uncancellable : (us : List Shadow) (x : OpName) (t : Shadow) → find_in us x ≡ Some t → may_be_cancelled t.kind ≡ false → plan_of_cancel us x (find_in us x) ≡ Err NotCancellable
-uncancellable us x t found h = ap (plan_of_cancel us x) found ∙ ap (λ b. refused_if (not b) NotCancellable (refused_if (is_cancelled us x) (AlreadyCancelled (first_cancel_from 1 us x)) (Ok (cancelling x t)))) h
+uncancellable us x t found h = ap (plan_of_cancel us x) found ∙ ap (λ b. cond (not b) (Err NotCancellable) (cond (is_cancelled us x) (Err (AlreadyCancelled (first_cancel_from 1 us x))) (Ok (cancelling x t)))) h
 
 -- what is found is planned, unless it is cancelled
-past_kind : (us : List Shadow) (x : OpName) (t : Shadow) → find_in us x ≡ Some t → may_be_cancelled t.kind ≡ true → plan_of_cancel us x (find_in us x) ≡ refused_if (is_cancelled us x) (AlreadyCancelled (first_cancel_from 1 us x)) (Ok (cancelling x t))
-past_kind us x t found h = ap (plan_of_cancel us x) found ∙ ap (λ b. refused_if (not b) NotCancellable (refused_if (is_cancelled us x) (AlreadyCancelled (first_cancel_from 1 us x)) (Ok (cancelling x t)))) h
+past_kind : (us : List Shadow) (x : OpName) (t : Shadow) → find_in us x ≡ Some t → may_be_cancelled t.kind ≡ true → plan_of_cancel us x (find_in us x) ≡ cond (is_cancelled us x) (Err (AlreadyCancelled (first_cancel_from 1 us x))) (Ok (cancelling x t))
+past_kind us x t found h = ap (plan_of_cancel us x) found ∙ ap (λ b. cond (not b) (Err NotCancellable) (cond (is_cancelled us x) (Err (AlreadyCancelled (first_cancel_from 1 us x))) (Ok (cancelling x t)))) h
 
 -- the operation of the name stands at the position
 pub record IsFound (us : List Shadow) (x : OpName) (p : ℕ) (t : Shadow) : Type 0 where
@@ -64,7 +63,7 @@ cancelled_at us x p t o n is kind e some = past_kind us x t is.found kind ∙ at
     refused : ℕ → Result Plan Refusal
     refused n = Err (AlreadyCancelled n)
 
-    at : (b : Bool) → cond b (Some (first_cancel_from 1 us x)) None ≡ Some n → refused_if b (AlreadyCancelled (first_cancel_from 1 us x)) (Ok (cancelling x t)) ≡ Err (AlreadyCancelled n)
+    at : (b : Bool) → cond b (Some (first_cancel_from 1 us x)) None ≡ Some n → cond b (Err (AlreadyCancelled (first_cancel_from 1 us x))) (Ok (cancelling x t)) ≡ Err (AlreadyCancelled n)
     at true h = let same : first_cancel_from 1 us x ≡ n = cc in ap refused same
     at false h = cc
 
@@ -72,7 +71,7 @@ pub planned_to_cancel : (us : List Shadow) (x : OpName) (p : ℕ) (t : Shadow) (
     → o ≡ option_and_then (λ (u : Shadow). first_cancel_in us u.name) (operation_at us p) → o ≡ None → plan_of_cancel us x (find_in us x) ≡ Ok (record { account = t.account; amount = t.amount; kind = Cancel x })
 planned_to_cancel us x p t o is kind e none = past_kind us x t is.found kind ∙ at (is_cancelled us x) (sym (first_cancel us x p t o is e) ∙ none)
   where
-    at : (b : Bool) → cond b (Some (first_cancel_from 1 us x)) None ≡ None → refused_if b (AlreadyCancelled (first_cancel_from 1 us x)) (Ok (cancelling x t)) ≡ Ok (cancelling x t)
+    at : (b : Bool) → cond b (Some (first_cancel_from 1 us x)) None ≡ None → cond b (Err (AlreadyCancelled (first_cancel_from 1 us x))) (Ok (cancelling x t)) ≡ Ok (cancelling x t)
     at true h = cc
     at false h = refl
 

@@ -1,7 +1,7 @@
 -- What a request makes.
 use Rattle.std.specs.Prelude.{ℕ, ℤ, ◌+◌, if◌then◌else◌, not, ◌&&◌, nat_lt, ◌==◌, List, Option, Some, None, Result, Ok, Err, pos, int_lt, option_and_then}
 use Rattle.rb_money.specs.Amounts.{cents, is_amount, interest}
-use Rattle.rb_money.specs.Refusals.{refused_if, and_then, unless_refused}
+use Rattle.rb_money.specs.Refusals.{and_then, unless}
 use Rattle.std.specs.Prelude.{◌≡◌, ℕ, ◌<◌, ◌≤◌, [], ◌∷◌, ◌++◌}
 use Rattle.rb_ledger.specs.Valid.{IsValid}
 use Rattle.rb_money.specs.Settings.{Settings, is_account}
@@ -11,7 +11,7 @@ use Rattle.rb_money.specs.declared.refusal.Refusal.{Refusal}
 use Rattle.rb_money.specs.declared.refusal.Refusal.TheVariants.{UnknownAccount, BadAmount, BadRate, UnknownOperation, NotCancellable, AlreadyCancelled, NumbersExhausted, WouldOverdraw, DeltaTooLarge, SameAccount}
 use Rattle.rb_money.specs.declared.cents.TheConstants.{MOST_CENTS}
 use Rattle.rb_money.specs.declared.rate.TheConstants.{MOST_RATE}
-use Rattle.rb_shadow.specs.Operations.{is_cancelled, bal, red_count, find_in, may_be_cancelled, is_cancel, colour_of, kind_in, target_of, blue_count, clock_of, number_of}
+use Rattle.rb_shadow.specs.Operations.{is_cancelled, bal, red_count, find_in, may_be_cancelled, is_cancel, is_red, colour_of, kind_in, target_of, blue_count, clock_of, number_of}
 use Rattle.rb_shadow.specs.Sound.{limit_of}
 use Rattle.rb_shadow.specs.declared.colour.Colour.{Colour}
 use Rattle.rb_shadow.specs.declared.colour.Colour.TheVariants.{Blue as BlueColour, Red as RedColour}
@@ -44,32 +44,32 @@ interest_on b a rate = interest (cents (b a)) rate
 abbrev pub plan_of_cancel : List Shadow → OpName → Option Shadow → Result Plan Refusal
 plan_of_cancel us x None = Err UnknownOperation
 plan_of_cancel us x (Some t) =
-    refused_if (not (may_be_cancelled t.kind)) NotCancellable
-    (refused_if (is_cancelled us x) (AlreadyCancelled (first_cancel_from 1 us x))
-    (Ok (record { account = t.account; amount = t.amount; kind = Cancel x })))
+    if not (may_be_cancelled t.kind) then Err NotCancellable
+    else if is_cancelled us x then Err (AlreadyCancelled (first_cancel_from 1 us x))
+    else Ok (record { account = t.account; amount = t.amount; kind = Cancel x })
 
 -- what a request would make at a site that applied us
 unfoldable pub plan_of : Settings → List Shadow → Request → Result Plan Refusal
 plan_of s us (AskDeposit a n) =
-    refused_if (not (is_account s a)) UnknownAccount
-    (refused_if (not (is_amount n)) BadAmount
-    (Ok (record { account = a; amount = n; kind = Deposit })))
+    if not (is_account s a) then Err UnknownAccount
+    else if not (is_amount n) then Err BadAmount
+    else Ok (record { account = a; amount = n; kind = Deposit })
 plan_of s us (AskWithdraw a n) =
-    refused_if (not (is_account s a)) UnknownAccount
-    (refused_if (not (is_amount n)) BadAmount
-    (Ok (record { account = a; amount = n; kind = if_covered s us a n Withdraw })))
+    if not (is_account s a) then Err UnknownAccount
+    else if not (is_amount n) then Err BadAmount
+    else Ok (record { account = a; amount = n; kind = if_covered s us a n Withdraw })
 plan_of s us (AskInterest a rate) =
-    refused_if (not (is_account s a)) UnknownAccount
-    (refused_if (nat_lt MOST_RATE rate) BadRate
-    (refused_if (nat_lt MOST_CENTS (interest_on (bal s us) a rate)) DeltaTooLarge
-    (Ok (record { account = a; amount = interest_on (bal s us) a rate; kind = Interest }))))
+    if not (is_account s a) then Err UnknownAccount
+    else if nat_lt MOST_RATE rate then Err BadRate
+    else if nat_lt MOST_CENTS (interest_on (bal s us) a rate) then Err DeltaTooLarge
+    else Ok (record { account = a; amount = interest_on (bal s us) a rate; kind = Interest })
 plan_of s us (AskCancel x) = plan_of_cancel us x (find_in us x)
 plan_of s us (AskTransfer a b n) =
-    refused_if (not (is_account s a)) UnknownAccount
-    (refused_if (not (is_account s b)) UnknownAccount
-    (refused_if (not (is_amount n)) BadAmount
-    (refused_if (a.0 == b.0) SameAccount
-    (Ok (record { account = a; amount = n; kind = if_covered s us a n (Transfer b) })))))
+    if not (is_account s a) then Err UnknownAccount
+    else if not (is_account s b) then Err UnknownAccount
+    else if not (is_amount n) then Err BadAmount
+    else if a.0 == b.0 then Err SameAccount
+    else Ok (record { account = a; amount = n; kind = if_covered s us a n (Transfer b) })
 
 -- the next name of a colour at a site
 abbrev pub next_name : ℕ → List Shadow → Colour → OpName
@@ -95,24 +95,19 @@ operation_of me us p =
 -- a red operation needs the token, and all red operations before it; a red cancellation needs the money
 abbrev pub allowed_red : Settings → List Shadow → Token → Shadow → Result Shadow Refusal
 allowed_red s us token v =
-    unless_refused (refusal_of_red token (red_count us))
-    (refused_if (is_cancel v.kind && overdraws s us v) WouldOverdraw
-    (Ok v))
+    unless Err (refusal_of_red token (red_count us))
+    (if is_cancel v.kind && overdraws s us v then Err WouldOverdraw else Ok v)
 
--- only a red name asks for more
-abbrev pub allowed_by_colour : Settings → List Shadow → Token → Shadow → OpName → Result Shadow Refusal
-allowed_by_colour s us token v (Blue i n) = Ok v
-allowed_by_colour s us token v (Red n) = allowed_red s us token v
-
--- whether the site may make the operation
+-- whether the site may make the operation: only a red one asks for more than a number
 unfoldable pub allowed : Settings → List Shadow → Token → Shadow → Result Shadow Refusal
 allowed s us token v =
-    refused_if (nat_lt (limit_of s.limits v.name) (number_of v.name)) NumbersExhausted
-    (allowed_by_colour s us token v v.name)
+    if nat_lt (limit_of s.limits v.name) (number_of v.name) then Err NumbersExhausted
+    else if is_red v.name then allowed_red s us token v
+    else Ok v
 
 -- the operation that a request makes at a site that applied us, or why it is refused
 unfoldable pub made_of : Settings → ℕ → List Shadow → Token → Request → Result Shadow Refusal
-made_of s me us token r = and_then (plan_of s us r) (λ p. allowed s us token (operation_of me us p))
+made_of s me us token r = and_then Err (plan_of s us r) (λ p. allowed s us token (operation_of me us p))
 
 -- what a request makes at a valid list may be added to it
 abbrev pub MadeIsValid : Type 0

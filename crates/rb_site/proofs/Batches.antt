@@ -1,7 +1,8 @@
 -- The requests of a batch, one by one.
-use Rattle.std.proofs.Common.{◌≡◌, ◌∙◌, ℕ, ◌+◌, ◌<◌, ◌≤◌, ◌⊎◌, inl, inr, List, [], ◌∷◌, ◌++◌, drop, get_or, length, take, ap, arith, refl, subst, sym, Bool, true, false, not, ◌&&◌, Result, Ok, Err, IfOk, IfErr, map}
+use Rattle.std.proofs.Common.{◌≡◌, ◌∙◌, ℕ, ◌+◌, ◌<◌, ◌≤◌, ◌⊎◌, inl, inr, List, [], ◌∷◌, ◌++◌, drop, get_or, length, take, ap, arith, refl, subst, sym, Bool, true, false, cond, not, ◌&&◌, Result, Ok, Err, IfOk, IfErr, map}
 use Rattle.std.specs.Prelude.{nat_le}
 use Rattle.std.proofs.lemmas.List.{drop_more, length-take-le, take-append-drop, take_more}
+use Rattle.rb_money.specs.Refusals.{and_then}
 use Rattle.rb_money.specs.Settings.{Settings}
 use Rattle.rb_money.specs.declared.refusal.Refusal.{Refusal}
 use Rattle.rb_money.specs.declared.refusal.Refusal.TheVariants.{BadBatch, BatchRefused, OutOfMemory}
@@ -27,7 +28,7 @@ use Rattle.rb_site.specs.declared.event.Event.TheVariants.{Batch}
 use Rattle.rb_site.specs.declared.message.Message.{Message}
 use Rattle.rb_site.specs.declared.message.Message.TheVariants.{Shadow as ShadowMessage}
 use Rattle.rb_site.specs.declared.reply.Reply.TheVariants.{Names as NamesMade, Refused}
-use Rattle.rb_site.specs.Events.{ModelSite, outcome_of, outcome_of_batch, refuses_if}
+use Rattle.rb_site.specs.Events.{Makes, ModelSite, Outcome, Refuses, outcome_of}
 use Rattle.rb_site.specs.States.{Follows, Says, SiteState}
 use Rattle.rb_site.proofs.Handlers.{AnswersAlone, answers_as, follows_as, site_as, state_as}
 
@@ -103,9 +104,13 @@ journaled X Y (Err why) s now us later ps qs same kept more less ok err =
 abbrev pub is_of_size : List Request → Bool
 is_of_size rs = nat_le 1 (length rs) && nat_le (length rs) MOST_REQUESTS
 
-batch_comes : (s : Settings) (t : ModelSite) (rs : List Request) (b : Bool) → is_of_size rs ≡ b → outcome_of s t (Batch rs) ≡ refuses_if (not b) BadBatch (outcome_of_batch (batch_of s t.me t.ops t.token 0 rs))
+-- what comes of a batch's operations
+abbrev of_batch : Result (List Shadow) Refusal → Outcome
+of_batch q = and_then Refuses q (λ vs. Makes (NamesMade (names_of_all vs)) vs)
+
+batch_comes : (s : Settings) (t : ModelSite) (rs : List Request) (b : Bool) → is_of_size rs ≡ b → outcome_of s t (Batch rs) ≡ cond (not b) (Refuses BadBatch) (of_batch (batch_of s t.me t.ops t.token 0 rs))
 unfolding outcome_of
-batch_comes s t rs b e = ap (λ c. refuses_if (not c) BadBatch (outcome_of_batch (batch_of s t.me t.ops t.token 0 rs))) e
+batch_comes s t rs b e = ap (λ c. cond (not c) (Refuses BadBatch) (of_batch (batch_of s t.me t.ops t.token 0 rs))) e
 
 pub refuses_size : (z : SiteState) (rs : List Request) (a : Answer) → is_of_size rs ≡ false → Says true a (Refused BadBatch) → AnswersAlone z z (outcome_of z.settings z.site (Batch rs)) a
 refuses_size z rs a size is = answers_as _ _ _ _ a (batch_comes z.settings z.site rs false size) (refl, is, refl)
@@ -113,11 +118,11 @@ refuses_size z rs a size is = answers_as _ _ _ _ a (batch_comes z.settings z.sit
 pub makes_batch : (keeps : Bool) (s : Settings) (me : ℕ) (ops held : List Shadow) (token : Token) (rs : List Request) (vs : List Shadow) (before after : List Message) (a : Answer) → is_of_size rs ≡ true → batch_of s me ops token 0 rs ≡ Ok vs
     → Says keeps a (NamesMade (names_of_all vs)) → after ≡ before ++ map ShadowMessage vs
     → Follows keeps (state_as s me ops held token) (state_as s me (ops ++ vs) held token) before after (outcome_of s (site_as me ops held token) (Batch rs)) a
-makes_batch keeps s me ops held token rs vs before after a size made is posted = follows_as keeps _ _ before after _ _ a (batch_comes s (site_as me ops held token) rs true size ∙ ap outcome_of_batch made) (refl, is, posted)
+makes_batch keeps s me ops held token rs vs before after a size made is posted = follows_as keeps _ _ before after _ _ a (batch_comes s (site_as me ops held token) rs true size ∙ ap of_batch made) (refl, is, posted)
 
 pub refuses_batch : (s : Settings) (me : ℕ) (ops held : List Shadow) (token : Token) (rs : List Request) (why : Refusal) (a : Answer) → is_of_size rs ≡ true → batch_of s me ops token 0 rs ≡ Err why → Says true a (Refused why)
     → AnswersAlone (state_as s me ops held token) (state_as s me ops held token) (outcome_of s (site_as me ops held token) (Batch rs)) a
-refuses_batch s me ops held token rs why a size refused is = answers_as _ _ _ _ a (batch_comes s (site_as me ops held token) rs true size ∙ ap outcome_of_batch refused) (refl, is, refl)
+refuses_batch s me ops held token rs why a size refused is = answers_as _ _ _ _ a (batch_comes s (site_as me ops held token) rs true size ∙ ap of_batch refused) (refl, is, refl)
 
 -- what refused a batch, but for running out of memory
 pub refused_batch : (why : Refusal) (X : Type 0) → (why ≡ OutOfMemory) ⊎ X → (why ≡ OutOfMemory → ⊥) → X

@@ -2,6 +2,7 @@
 use Rattle.std.proofs.Common.{◌≡◌, ℕ, ◌≤◌, Bool, true, false, cond, not, ◌&&◌, ◌⊎◌, inl, inr, List, [], ◌∷◌, ◌++◌, length, refl, ap, sym, subst, ◌∙◌, arith, Option, Some, None, append-nil}
 use Rattle.std.specs.Prelude.{nat_le}
 use Rattle.std.proofs.lemmas.Bool.Decides.{nat_tests}
+use Rattle.rb_money.specs.Refusals.{unless}
 use Rattle.rb_money.specs.Settings.{Settings}
 use Rattle.rb_money.specs.declared.limits.TheConstants.{MOST_SITES}
 use Rattle.rb_money.specs.declared.refusal.Refusal.{Refusal}
@@ -26,9 +27,10 @@ use Rattle.rb_site.specs.declared.answer.Answer.{Answer}
 use Rattle.rb_site.specs.declared.reply.Reply.{Reply}
 use Rattle.rb_site.specs.Notes.{IsNoted, is_plain}
 use Rattle.rb_site.specs.declared.reply.Reply.TheVariants.{Held, Already, Applied, Passed, Refused}
+use Rattle.rb_site.specs.declared.event.Event.TheVariants.{Pass}
 use Rattle.rb_site.specs.declared.message.Message.{Message}
 use Rattle.rb_site.specs.declared.message.Message.TheVariants.{Token as TokenOnItsWay}
-use Rattle.rb_site.specs.Events.{ModelSite, Outcome, Refuses, Drops, Answers, Holds, Passes, outcome_of_apply, outcome_of_check, outcome_of_new, outcome_of_pass, refuses_first, refuses_if, reply_of, unless_known}
+use Rattle.rb_site.specs.Events.{ModelSite, Outcome, Refuses, Drops, Answers, Holds, Passes, outcome_of, outcome_of_apply, outcome_of_check, outcome_of_new, reply_of, unless_known}
 use Rattle.rb_site.specs.States.{Follows, IsTied, Says, SiteState}
 
 -- what follows an outcome follows an equal one
@@ -73,10 +75,10 @@ site_as me ops held token = record { me = me; ops = ops; held = held; token = to
 
 pub passes : (s : Settings) (me : ℕ) (ops held : List Shadow) (token later : Token) (to reds : ℕ) (m : TokenMessage) (before after : List Message) (a : Answer)
     → refusal_of_pass s.sites s.limits me token to ≡ None → reds ≡ red_count ops → m ≡ pass_message token to reds → later ≡ passed_token token m → Says true a (Passed m.epoch) → after ≡ before ++ TokenOnItsWay m ∷ []
-    → Follows true (state_as s me ops held token) (state_as s me ops held later) before after (outcome_of_pass s (site_as me ops held token) to) a
-unfolding outcome_of_pass
+    → Follows true (state_as s me ops held token) (state_as s me ops held later) before after (outcome_of s (site_as me ops held token) (Pass to)) a
+unfolding outcome_of
 passes s me ops held token later to reds m before after a allowed count sent passed is posted =
-    let comes : refuses_first (refusal_of_pass s.sites s.limits me token to) (Passes (pass_message token to (red_count ops))) ≡ Passes m = ap (λ r. refuses_first r (Passes (pass_message token to (red_count ops)))) allowed ∙ ap Passes (ap (pass_message token to) (sym count) ∙ sym sent) in
+    let comes : unless Refuses (refusal_of_pass s.sites s.limits me token to) (Passes (pass_message token to (red_count ops))) ≡ Passes m = ap (λ r. unless Refuses r (Passes (pass_message token to (red_count ops)))) allowed ∙ ap Passes (ap (pass_message token to) (sym count) ∙ sym sent) in
     follows_as true _ _ before after _ _ a comes (ap (state_as s me ops held) passed, is, posted)
 
 -- ---- a held shadow is applied, or is let go
@@ -94,7 +96,7 @@ comes_to_check : (s : Settings) (t : ModelSite) (x : OpName) (v : Shadow) (o : O
 unfolding outcome_of_apply
 comes_to_check s t x v o found eligible sound refusal =
     ap (outcome_of_apply s t) found
-    ∙ ap (λ b. refuses_if (not b) NotReady (outcome_of_check v (refusal_of_sound s t.ops v))) eligible
+    ∙ ap (λ b. cond (not b) (Refuses NotReady) (outcome_of_check v (refusal_of_sound s t.ops v))) eligible
     ∙ ap (outcome_of_check v) (sym (refusal-sound s t.ops v sound) ∙ refusal)
 
 pub applies : (s : Settings) (me : ℕ) (ops held more less : List Shadow) (token : Token) (x : OpName) (v : Shadow) (a : Answer) → find_in held x ≡ Some v → is_eligible ops v ≡ true → IsSound s v → refusal_of s ops v ≡ None
@@ -156,15 +158,15 @@ abbrev pub is_too_many : Settings → ModelSite → Shadow → Bool
 is_too_many s t v = nat_le s.limits.inbox (length t.held) && not (is_eligible t.ops v)
 
 -- a shadow of a name that nothing held has
-new_comes : (s : Settings) (t : ModelSite) (v : Shadow) (b : Bool) → find_in t.held v.name ≡ None → is_too_many s t v ≡ b → outcome_of_new s t v ≡ refuses_if b InboxFull (Holds v)
+new_comes : (s : Settings) (t : ModelSite) (v : Shadow) (b : Bool) → find_in t.held v.name ≡ None → is_too_many s t v ≡ b → outcome_of_new s t v ≡ cond b (Refuses InboxFull) (Holds v)
 new_comes s t v b none test =
-    ap (λ o. unless_known v o (refuses_if (is_too_many s t v) InboxFull (Holds v))) none
-    ∙ ap (λ c. refuses_if c InboxFull (Holds v)) test
+    ap (λ o. unless_known v o (cond (is_too_many s t v) (Refuses InboxFull) (Holds v))) none
+    ∙ ap (λ c. cond c (Refuses InboxFull) (Holds v)) test
 
 -- a shadow of a name that a held one has
 known_comes : (s : Settings) (t : ModelSite) (v u : Shadow) (b : Bool) → find_in t.held v.name ≡ Some u → same_shadow u v ≡ b → outcome_of_new s t v ≡ cond b (Answers (Already v.name)) (Refuses Conflict)
 known_comes s t v u b found test =
-    ap (λ o. unless_known v o (refuses_if (is_too_many s t v) InboxFull (Holds v))) found
+    ap (λ o. unless_known v o (cond (is_too_many s t v) (Refuses InboxFull) (Holds v))) found
     ∙ ap (λ c. cond c (Answers (Already v.name)) (Refuses Conflict)) test
 
 pub holds : (s : Settings) (me : ℕ) (ops : List Shadow) (inbox later : Holding) (token : Token) (c : Deps) (v : Shadow) (a : Answer) → s.sites ≤ MOST_SITES → IsValid s ops → c ≡ clock_of ops → inbox.limit ≡ s.limits.inbox

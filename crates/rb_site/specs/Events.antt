@@ -1,7 +1,8 @@
 -- One event of a site.
-use Rattle.std.specs.Prelude.{ℕ, Bool, true, false, if◌then◌else◌, not, ◌&&◌, nat_le, nat_lt, ◌==◌, List, [], ◌∷◌, ◌++◌, length, map, take, Option, Some, None, Result, Ok, Err}
+use Rattle.std.specs.Prelude.{ℕ, Bool, if◌then◌else◌, not, ◌&&◌, nat_le, nat_lt, ◌==◌, List, [], ◌∷◌, ◌++◌, length, map, take, Option, Some, None}
 use Rattle.rb_scratch.specs.declared.request.TheConstants.{MOST_REQUESTS}
 use Rattle.rb_money.specs.Amounts.{cents}
+use Rattle.rb_money.specs.Refusals.{and_then, unless}
 use Rattle.rb_money.specs.Settings.{Settings, is_account}
 use Rattle.rb_money.specs.declared.refusal.Refusal.{Refusal}
 use Rattle.rb_money.specs.declared.refusal.Refusal.TheVariants.{UnknownAccount, BadBatch, NotHeld, NotReady, InboxFull, BadMessage, Conflict, PositionBeyond, HistoryFull}
@@ -50,34 +51,7 @@ pub data Outcome : Type 0 where
   Takes : (m : TokenMessage) → Outcome
   Passes : (m : TokenMessage) → Outcome
 
--- the refusal where the condition holds, and else what comes next
-abbrev pub refuses_if : Bool → Refusal → Outcome → Outcome
-refuses_if true why next = Refuses why
-refuses_if false why next = next
-
--- the refusal where there is one, and else what comes next
-abbrev pub refuses_first : Option Refusal → Outcome → Outcome
-refuses_first (Some why) next = Refuses why
-refuses_first None next = next
-
--- ---- Submit and Batch
-
--- what a request's operation comes to
-abbrev pub outcome_of_made : Result Shadow Refusal → Outcome
-outcome_of_made (Ok v) = Makes (Made v.name (label_of v.kind)) (v ∷ [])
-outcome_of_made (Err why) = Refuses why
-
--- what a batch's operations come to
-abbrev pub outcome_of_batch : Result (List Shadow) Refusal → Outcome
-outcome_of_batch (Ok vs) = Makes (NamesMade (names_of_all vs)) vs
-outcome_of_batch (Err why) = Refuses why
-
--- ---- Receive and Apply
-
--- a shadow that is wrong by itself is refused
-abbrev pub unless_faulty : Option ℕ → Outcome → Outcome
-unless_faulty (Some why) next = Refuses (BadMessage why)
-unless_faulty None next = next
+-- ---- shadows that are received or applied
 
 -- a shadow that is known under its name: the same comes again, or another is a conflict
 abbrev pub unless_known : Shadow → Option Shadow → Outcome → Outcome
@@ -88,22 +62,16 @@ unless_known v (Some u) next = if same_shadow u v then Answers (Already v.name) 
 abbrev pub outcome_of_new : Settings → ModelSite → Shadow → Outcome
 outcome_of_new s t v =
     unless_known v (find_in t.held v.name)
-    (refuses_if (nat_le s.limits.inbox (length t.held) && not (is_eligible t.ops v)) InboxFull
-    (Holds v))
+    (if nat_le s.limits.inbox (length t.held) && not (is_eligible t.ops v) then Refuses InboxFull
+    else Holds v)
 
--- what a received shadow comes to
+-- what a received shadow comes to: one that is wrong by itself is refused
 unfoldable pub outcome_of_shadow : Settings → ModelSite → Shadow → Outcome
 outcome_of_shadow s t v =
-    unless_faulty (fault_in s v)
+    unless (λ why. Refuses (BadMessage why)) (fault_in s v)
     (unless_known v (find_in t.ops v.name)
-    (refuses_if (v.home == t.me) Conflict
-    (outcome_of_new s t v)))
-
--- what a token message comes to
-unfoldable pub outcome_of_token : Settings → ModelSite → TokenMessage → Outcome
-outcome_of_token s t m =
-    refuses_first (refusal_of_token s.limits t.me m)
-    (if is_stale t.token m then Answers (Stale m.epoch) else Takes m)
+    (if v.home == t.me then Refuses Conflict
+    else outcome_of_new s t v))
 
 -- a held operation that may not be applied stays while it isn't ready, and else is let go
 abbrev pub outcome_of_check : Shadow → Option Refusal → Outcome
@@ -115,35 +83,31 @@ outcome_of_check v (Some why) = Drops v.name why
 unfoldable pub outcome_of_apply : Settings → ModelSite → Option Shadow → Outcome
 outcome_of_apply s t None = Refuses NotHeld
 outcome_of_apply s t (Some v) =
-    refuses_if (not (is_eligible t.ops v)) NotReady
-    (outcome_of_check v (refusal_of_sound s t.ops v))
-
--- ---- Pass
-
--- what the passing of the token comes to
-unfoldable pub outcome_of_pass : Settings → ModelSite → ℕ → Outcome
-outcome_of_pass s t to =
-    refuses_first (refusal_of_pass s.sites s.limits t.me t.token to)
-    (Passes (pass_message t.token to (red_count t.ops)))
+    if not (is_eligible t.ops v) then Refuses NotReady
+    else outcome_of_check v (refusal_of_sound s t.ops v)
 
 -- ---- one event
 
 -- what an event comes to at a site
 unfoldable pub outcome_of : Settings → ModelSite → Event → Outcome
-outcome_of s t (Submit r) = outcome_of_made (made_of s t.me t.ops t.token r)
+outcome_of s t (Submit r) = and_then Refuses (made_of s t.me t.ops t.token r) (λ v. Makes (Made v.name (label_of v.kind)) (v ∷ []))
 outcome_of s t (Batch rs) =
-    refuses_if (not (nat_le 1 (length rs) && nat_le (length rs) MOST_REQUESTS)) BadBatch
-    (outcome_of_batch (batch_of s t.me t.ops t.token 0 rs))
+    if not (nat_le 1 (length rs) && nat_le (length rs) MOST_REQUESTS) then Refuses BadBatch
+    else and_then Refuses (batch_of s t.me t.ops t.token 0 rs) (λ vs. Makes (NamesMade (names_of_all vs)) vs)
 outcome_of s t (Receive (ShadowMessage v)) = outcome_of_shadow s t v
-outcome_of s t (Receive (TokenOnItsWay m)) = outcome_of_token s t m
+outcome_of s t (Receive (TokenOnItsWay m)) =
+    unless Refuses (refusal_of_token s.limits t.me m)
+    (if is_stale t.token m then Answers (Stale m.epoch) else Takes m)
 outcome_of s t (Apply x) = outcome_of_apply s t (find_in t.held x)
-outcome_of s t (Pass to) = outcome_of_pass s t to
-outcome_of s t (Balance a) = refuses_if (not (is_account s a)) UnknownAccount (Answers (BalanceIs (cents (bal s t.ops a))))
+outcome_of s t (Pass to) =
+    unless Refuses (refusal_of_pass s.sites s.limits t.me t.token to)
+    (Passes (pass_message t.token to (red_count t.ops)))
+outcome_of s t (Balance a) = if not (is_account s a) then Refuses UnknownAccount else Answers (BalanceIs (cents (bal s t.ops a)))
 outcome_of s t (AsOf a n) =
-    refuses_if (not (is_account s a)) UnknownAccount
-    (refuses_if (nat_lt (length t.ops) n) PositionBeyond
-    (Answers (BalanceIs (cents (bal s (take n t.ops) a)))))
-outcome_of s t (AskStatement a) = refuses_if (not (is_account s a)) UnknownAccount (Answers (StatementIs (statement_of s t.ops a)))
+    if not (is_account s a) then Refuses UnknownAccount
+    else if nat_lt (length t.ops) n then Refuses PositionBeyond
+    else Answers (BalanceIs (cents (bal s (take n t.ops) a)))
+outcome_of s t (AskStatement a) = if not (is_account s a) then Refuses UnknownAccount else Answers (StatementIs (statement_of s t.ops a))
 
 -- the reply
 abbrev pub reply_of : Outcome → Reply

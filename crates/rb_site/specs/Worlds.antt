@@ -41,36 +41,27 @@ abbrev pub message_at : List Message → ℕ → Option Message
 message_at ms zero = None
 message_at ms (suc k) = slice_get ms k
 
--- an event at a site
-abbrev pub world_at : Settings → World → ℕ → Event → Option ModelSite → World
-world_at s w i e None = w
-world_at s w i e (Some t) = record { sites = slice_set w.sites i (after_event s t e); messages = w.messages ++ sent_at s t e }
+-- an event that is brought to a site: where there is no such event, or no such site, nothing happens
+abbrev pub world_at : Settings → World → ℕ → Option Event → Option ModelSite → World
+world_at s w i None t = w
+world_at s w i (Some e) None = w
+world_at s w i (Some e) (Some t) = record { sites = slice_set w.sites i (after_event s t e); messages = w.messages ++ sent_at s t e }
 
--- the reply to an event at a site
-abbrev pub reply_at : Settings → Event → Option ModelSite → Reply
-reply_at s e None = Refused NoSite
-reply_at s e (Some t) = reply_to s t e
+-- the reply to it
+abbrev pub reply_at : Settings → Option ModelSite → Option Event → Reply
+reply_at s None e = Refused NoSite
+reply_at s (Some t) None = Refused NoMessage
+reply_at s (Some t) (Some e) = reply_to s t e
 
--- a delivery: a message that was sent is received
-abbrev pub world_delivered : Settings → World → ℕ → Option Message → World
-world_delivered s w i None = w
-world_delivered s w i (Some m) = world_at s w i (Receive m) (slice_get w.sites i)
-
--- the reply to a delivery
-abbrev pub reply_delivered : Settings → World → ℕ → Option ModelSite → Option Message → Reply
-reply_delivered s w i None m = Refused NoSite
-reply_delivered s w i (Some t) None = Refused NoMessage
-reply_delivered s w i (Some t) (Some m) = reply_to s t (Receive m)
-
--- one event of the world
+-- one event of the world: an event at a site, or a delivery, which brings it the receipt of a message that was sent
 abbrev pub world_after : Settings → World → WorldEvent → World
-world_after s w (At i e) = world_at s w i e (slice_get w.sites i)
-world_after s w (Deliver i k) = world_delivered s w i (message_at w.messages k)
+world_after s w (At i e) = world_at s w i (Some e) (slice_get w.sites i)
+world_after s w (Deliver i k) = world_at s w i (option_map Receive (message_at w.messages k)) (slice_get w.sites i)
 
 -- the reply to an event of the world
 abbrev pub reply_in : Settings → World → WorldEvent → Reply
-reply_in s w (At i e) = reply_at s e (slice_get w.sites i)
-reply_in s w (Deliver i k) = reply_delivered s w i (slice_get w.sites i) (message_at w.messages k)
+reply_in s w (At i e) = reply_at s (slice_get w.sites i) (Some e)
+reply_in s w (Deliver i k) = reply_at s (slice_get w.sites i) (option_map Receive (message_at w.messages k))
 
 -- the world before any event
 abbrev pub first_world : Settings → World

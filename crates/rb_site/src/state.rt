@@ -4,7 +4,7 @@ ghost use Rattle.rb_shadow.specs.Operations.{clock_of, find_in, same_shadow};
 ghost use Rattle.rb_ledger.specs.Records.{records_of};
 ghost use Rattle.rb_shadow.specs.Sound.{IsSound};
 ghost use Rattle.rb_scratch.specs.declared.request.TheConstants.{MOST_REQUESTS};
-ghost use Rattle.rb_site.specs.Events.{first_site, outcome_of, outcome_of_new, outcome_of_shadow, outcome_of_token, outcome_of_apply, outcome_of_pass};
+ghost use Rattle.rb_site.specs.Events.{first_site, outcome_of, outcome_of_new, outcome_of_shadow, outcome_of_apply};
 ghost use Rattle.rb_site.specs.States.{Follows, Says};
 
 use crate::answer::Answer;
@@ -235,10 +235,10 @@ impl State {
         Ok(Answer::plain(Reply::Refused(why)))
     }
 
-    #[tactic(auto, unfolding(crate::specs::Events::outcome_of_token))]
+    #[tactic(auto, unfolding(crate::specs::Events::outcome_of))]
     /// A token message makes this site the holder, unless its epoch was seen.
     fn accept(&mut self, message: TokenMessage) -> Answer
-        ensures { Follows true self.old self.new [] [] (outcome_of_token self.old.settings self.old.site message) result }
+        ensures { Follows true self.old self.new [] [] (outcome_of self.old.settings self.old.site (Event.Receive (Message.Token message))) result }
     {
         match self.token.accept(message) {
             Ok(Accepted::Taken) => Answer::plain(Reply::Taken(message.epoch)),
@@ -277,10 +277,10 @@ impl State {
         }
     }
 
-    #[tactic(auto, unfolding(crate::specs::Events::outcome_of_pass))]
+    #[tactic(auto, unfolding(crate::specs::Events::outcome_of))]
     /// The token goes to another site.
     fn pass(&mut self, to: u8, sent: &mut Vec<Message>) -> Result<Answer, AllocError>
-        ensures ok { IfOk result (Follows true self.old self.new sent.old.items sent.new.items (outcome_of_pass self.old.settings self.old.site to)) }
+        ensures ok { IfOk result (Follows true self.old self.new sent.old.items sent.new.items (outcome_of self.old.settings self.old.site (Event.Pass to))) }
         ensures err { OnErr result ((self.new ≡ self.old) × (sent.new.items ≡ sent.old.items)) }
     {
         let mut passed = self.token.copy();

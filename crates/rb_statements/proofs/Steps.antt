@@ -19,7 +19,7 @@ use Rattle.rb_ledger.specs.Changes.{moved_at}
 use Rattle.rb_ledger.specs.OnAccount.{IsOn, IsLast}
 use Rattle.rb_ledger.proofs.Public.OnAccount
 use Rattle.rb_ledger.proofs.Public.Fronts
-use Rattle.rb_statements.specs.Statements.{row_after, rows_here, rows_of, statement_of}
+use Rattle.rb_statements.specs.Statements.{row_after, rows_of, statement_of}
 use Rattle.rb_statements.specs.declared.row.Row.{Row}
 use Rattle.rb_statements.specs.declared.account.Statement.{Statement}
 use Rattle.rb_statements.proofs.Same.{of_fields, same_fields}
@@ -57,6 +57,10 @@ pub moved_there : (s : Settings) (us : List Shadow) (a : Place) (p : ℕ) (o : O
 moved_there s us a p o z on some e is = let same : Some z ≡ Some (bal s (take p us) a +ℤ neg_ℤ (bal s (take (p - 1) us) a)) = sym is ∙ e ∙ moved_here s us a p on some in cc
 
 -- ---- the rows of the first operations
+
+-- the rows that an operation adds
+abbrev rows_here : Settings → List Shadow → Place → List Shadow → Shadow → List Row
+rows_here s all a before u = cond (is_on before u a) (row_after s all a before u ∷ []) []
 
 -- one more operation adds its own rows
 rows_push : (s : Settings) (all : List Shadow) (a : Place) (before vs : List Shadow) (u : Shadow) → rows_of s all a before (vs ++ u ∷ []) ≡ rows_of s all a before vs ++ rows_here s all a (before ++ vs) u

@@ -23,14 +23,10 @@ row_after s all a before u =
       balance = cents (bal s (before ++ u ∷ []) a);
     }
 
--- the rows that such an operation has in the account's statement: one if it is on the account, else none
-abbrev pub rows_here : Settings → List Shadow → Place → List Shadow → Shadow → List Row
-rows_here s all a before u = if is_on before u a then row_after s all a before u ∷ [] else []
-
--- the rows of the operations after before, in the whole list
+-- the rows of the operations after before, in the whole list: one for each that is on the account
 abbrev pub rows_of : Settings → List Shadow → Place → List Shadow → List Shadow → List Row
 rows_of s all a before [] = []
-rows_of s all a before (u ∷ us) = rows_here s all a before u ++ rows_of s all a (before ++ u ∷ []) us
+rows_of s all a before (u ∷ us) = (if is_on before u a then row_after s all a before u ∷ [] else []) ++ rows_of s all a (before ++ u ∷ []) us
 
 -- the start, the rows and the balance of an account
 unfoldable pub statement_of : Settings → List Shadow → Place → Statement

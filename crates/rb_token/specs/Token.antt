@@ -1,6 +1,5 @@
 -- The red token.
-use Rattle.std.specs.Prelude.{ℕ, ◌+◌, Bool, true, false, not, ◌||◌, nat_le, nat_lt, ◌==◌, max, Option, None}
-use Rattle.rb_money.specs.Refusals.{first_if}
+use Rattle.std.specs.Prelude.{ℕ, ◌+◌, Bool, true, false, if◌then◌else◌, not, ◌||◌, nat_le, nat_lt, ◌==◌, max, Option, Some, None}
 use Rattle.rb_money.specs.declared.limits.Limits.{Limits}
 use Rattle.rb_money.specs.declared.refusal.Refusal.{Refusal}
 use Rattle.rb_money.specs.declared.refusal.Refusal.TheVariants.{NumbersExhausted, NeedToken, RedBehind, BadMessage, NoSite, NotYours}
@@ -23,10 +22,10 @@ pass_message t to reds = record { epoch = t.epoch + 1; to = to; red = max t.need
 -- why site `me` of so many may not pass the token to another
 abbrev pub refusal_of_pass : ℕ → Limits → ℕ → Token → ℕ → Option Refusal
 refusal_of_pass sites limits me t to =
-    first_if (nat_le sites to || (to == me)) NoSite
-    (first_if (nat_lt limits.epoch (t.epoch + 1)) NumbersExhausted
-    (first_if (not t.held) NeedToken
-    None))
+    if nat_le sites to || (to == me) then Some NoSite
+    else if nat_lt limits.epoch (t.epoch + 1) then Some NumbersExhausted
+    else if not t.held then Some NeedToken
+    else None
 
 -- what a site knows once it sent the message
 abbrev pub passed_token : Token → TokenMessage → Token
@@ -35,9 +34,9 @@ passed_token t m = record { epoch = m.epoch; held = false; needed = t.needed }
 -- why a site refuses a token message
 abbrev pub refusal_of_token : Limits → ℕ → TokenMessage → Option Refusal
 refusal_of_token limits me m =
-    first_if (not (m.to == me)) NotYours
-    (first_if (nat_lt limits.epoch m.epoch || nat_lt limits.red m.red) (BadMessage 2)
-    None)
+    if not (m.to == me) then Some NotYours
+    else if nat_lt limits.epoch m.epoch || nat_lt limits.red m.red then Some (BadMessage 2)
+    else None
 
 -- the message is of an epoch that the site has seen
 abbrev pub is_stale : Token → TokenMessage → Bool
@@ -50,6 +49,6 @@ taken_token m = record { epoch = m.epoch; held = true; needed = m.red }
 -- why a site that applied so many red operations may not make another
 abbrev pub refusal_of_red : Token → ℕ → Option Refusal
 refusal_of_red t reds =
-    first_if (not t.held) NeedToken
-    (first_if (nat_lt reds t.needed) (RedBehind reds t.needed)
-    None)
+    if not t.held then Some NeedToken
+    else if nat_lt reds t.needed then Some (RedBehind reds t.needed)
+    else None

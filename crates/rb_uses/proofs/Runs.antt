@@ -11,7 +11,7 @@ use Rattle.rb_scratch.specs.Batches.{made_in_batch, batch_of}
 use Rattle.rb_scratch.specs.Requests.{plan_of, operation_of, allowed, made_of}
 use Rattle.rb_scratch.specs.declared.request.Request.{Request}
 use Rattle.rb_scratch.specs.declared.request.Request.TheVariants.{Deposit, Withdraw, Cancel}
-use Rattle.rb_site.specs.Events.{outcome_of, outcome_of_shadow, outcome_of_token, outcome_of_apply, outcome_of_pass}
+use Rattle.rb_site.specs.Events.{outcome_of, outcome_of_shadow, outcome_of_apply}
 use Rattle.rb_site.specs.declared.event.Event.TheVariants.{Submit, Batch, Apply}
 use Rattle.rb_site.specs.declared.reply.Reply.TheVariants.{Refused}
 use Rattle.rb_site.specs.declared.world_event.WorldEvent.{WorldEvent}
@@ -29,11 +29,11 @@ abbrev pub deposited : SeenWorld
 deposited = next_worlds (opened bank) deposit_events
 
 pub deposited_here : balance_in deposited 0 ann ≡ Some 1500
-unfolding bal past clock_of is_eligible same_shadow names_listed fault_of plan_of operation_of allowed made_of outcome_of outcome_of_shadow outcome_of_token outcome_of_apply outcome_of_pass
+unfolding bal past clock_of is_eligible same_shadow names_listed fault_of plan_of operation_of allowed made_of outcome_of outcome_of_shadow outcome_of_apply
 deposited_here = refl
 
 pub deposited_there : balance_in deposited 1 ann ≡ Some 1500
-unfolding bal past clock_of is_eligible same_shadow names_listed fault_of plan_of operation_of allowed made_of outcome_of outcome_of_shadow outcome_of_token outcome_of_apply outcome_of_pass
+unfolding bal past clock_of is_eligible same_shadow names_listed fault_of plan_of operation_of allowed made_of outcome_of outcome_of_shadow outcome_of_apply
 deposited_there = refl
 
 abbrev pub withdrawal_events : List WorldEvent
@@ -43,14 +43,14 @@ abbrev pub withdrawn : SeenWorld
 withdrawn = next_worlds (opened bank) withdrawal_events
 
 pub withdrawn_here : balance_in withdrawn 0 ann ≡ Some 700
-unfolding bal past clock_of is_eligible same_shadow names_listed fault_of plan_of operation_of allowed made_of outcome_of outcome_of_shadow outcome_of_token outcome_of_apply outcome_of_pass
+unfolding bal past clock_of is_eligible same_shadow names_listed fault_of plan_of operation_of allowed made_of outcome_of outcome_of_shadow outcome_of_apply
 withdrawn_here = refl
 
 abbrev pub cancellation : WorldEvent
 cancellation = At 0 (Submit (Cancel (Red 1)))
 
 pub cancelled_here : balance_in (next_world withdrawn cancellation) 0 ann ≡ Some 1000
-unfolding bal past clock_of is_eligible same_shadow names_listed fault_of plan_of operation_of allowed made_of outcome_of outcome_of_shadow outcome_of_token outcome_of_apply outcome_of_pass
+unfolding bal past clock_of is_eligible same_shadow names_listed fault_of plan_of operation_of allowed made_of outcome_of outcome_of_shadow outcome_of_apply
 cancelled_here = refl
 
 abbrev pub asked : List Request
@@ -60,13 +60,13 @@ abbrev pub batch : WorldEvent
 batch = At 0 (Batch asked)
 
 pub batch_reply : next_reply (opened bank) batch ≡ Refused (BatchRefused 1 Declined)
-unfolding bal past clock_of is_eligible same_shadow names_listed fault_of plan_of operation_of allowed made_of outcome_of outcome_of_shadow outcome_of_token outcome_of_apply outcome_of_pass made_in_batch batch_of
+unfolding bal past clock_of is_eligible same_shadow names_listed fault_of plan_of operation_of allowed made_of outcome_of outcome_of_shadow outcome_of outcome_of_apply (Receive (TokenOnItsWay made_in_batch)) batch_of
 batch_reply = refl
 
 pub batch_here : balance_in (next_world (opened bank) batch) 0 ann ≡ Some 1000
-unfolding bal past clock_of is_eligible same_shadow names_listed fault_of plan_of operation_of allowed made_of outcome_of outcome_of_shadow outcome_of_token outcome_of_apply outcome_of_pass made_in_batch batch_of
+unfolding bal past clock_of is_eligible same_shadow names_listed fault_of plan_of operation_of allowed made_of outcome_of outcome_of_shadow outcome_of outcome_of_apply (Receive (TokenOnItsWay made_in_batch)) batch_of
 batch_here = refl
 
 pub batch_sends : (next_world (opened bank) batch).world.messages ≡ []
-unfolding bal past clock_of is_eligible same_shadow names_listed fault_of plan_of operation_of allowed made_of outcome_of outcome_of_shadow outcome_of_token outcome_of_apply outcome_of_pass made_in_batch batch_of
+unfolding bal past clock_of is_eligible same_shadow names_listed fault_of plan_of operation_of allowed made_of outcome_of outcome_of_shadow outcome_of outcome_of_apply (Receive (TokenOnItsWay made_in_batch)) batch_of
 batch_sends = refl

@@ -1,6 +1,6 @@
 -- A site can be brought to all that was made.
 use Rattle.std.proofs.Common.{◌≡◌, ℕ, suc, ◌+◌, ◌<◌, ◌≤◌, Bool, true, false, cond, ◌||◌, List, [], ◌∷◌, ◌++◌, length, refl, ap, sym, ◌∙◌, arith, ◌⊎◌, inl, inr, subst, Some, append_assoc, length-append}
-use Rattle.std.specs.Prelude.{slice_get, nat_le}
+use Rattle.std.specs.Prelude.{option_map, slice_get, nat_le}
 use Rattle.std.proofs.lemmas.Bool.Decides.{nat_tests}
 use Rattle.std.proofs.lemmas.List.{append-nil}
 use Rattle.rb_money.specs.Settings.{Settings}
@@ -18,7 +18,7 @@ use Rattle.rb_site.specs.declared.world_event.WorldEvent.{WorldEvent}
 use Rattle.rb_site.specs.declared.world_event.WorldEvent.TheVariants.{At, Deliver}
 use Rattle.rb_site.specs.Events.{Answers, Applies, Drops, Holds, Makes, ModelSite, Outcome, Passes, Refuses, Takes, after_event, changed, is_full, noted, outcome_of, outcome_of_shadow, reply_of, sent_at}
 use Rattle.rb_inbox.specs.Held.{stands_before, with_held}
-use Rattle.rb_site.specs.Worlds.{AreOwn, World, made_in, message_at, shadows_in, world_after, world_after_all, world_at, world_delivered}
+use Rattle.rb_site.specs.Worlds.{AreOwn, World, made_in, message_at, shadows_in, world_after, world_after_all, world_at}
 use Rattle.rb_world.specs.Laws.{CanCatchUp, catching_up}
 use Rattle.rb_world.proofs.Steps
 use Rattle.rb_site.proofs.Public.Places.{get_set_same}
@@ -69,15 +69,15 @@ at_place : (front rest : List Message) (m : Message) → slice_get (front ++ m �
 at_place [] rest m = refl
 at_place (n ∷ front) rest m = at_place front rest m
 
-deliver_is : (s : Settings) (w : World) (i k : ℕ) (t : ModelSite) (m : Message) → slice_get w.sites i ≡ Some t → message_at w.messages k ≡ Some m → world_after s w (Deliver i k) ≡ world_at s w i (Receive m) (Some t)
-deliver_is s w i k t m at h = ap (world_delivered s w i) h ∙ ap (world_at s w i (Receive m)) at
+deliver_is : (s : Settings) (w : World) (i k : ℕ) (t : ModelSite) (m : Message) → slice_get w.sites i ≡ Some t → message_at w.messages k ≡ Some m → world_after s w (Deliver i k) ≡ world_at s w i (Some (Receive m)) (Some t)
+deliver_is s w i k t m at h = ap (λ o. world_at s w i (option_map Receive o) (slice_get w.sites i)) h ∙ ap (world_at s w i (Some (Receive m))) at
 
-apply_is : (s : Settings) (w : World) (i : ℕ) (t : ModelSite) (x : OpName) → slice_get w.sites i ≡ Some t → world_after s w (At i (Apply x)) ≡ world_at s w i (Apply x) (Some t)
-apply_is s w i t x at = ap (world_at s w i (Apply x)) at
+apply_is : (s : Settings) (w : World) (i : ℕ) (t : ModelSite) (x : OpName) → slice_get w.sites i ≡ Some t → world_after s w (At i (Apply x)) ≡ world_at s w i (Some (Apply x)) (Some t)
+apply_is s w i t x at = ap (world_at s w i (Some (Apply x))) at
 
 -- an event at the site keeps the stage, but for what was sent meanwhile
 stage_after : (s : Settings) (w : World) (i : ℕ) (t : ModelSite) (known : List Shadow) (front rest extra : List Message) (e : WorldEvent) (x : Event)
-    → AreOwn (e ∷ []) → world_after s w e ≡ world_at s w i x (Some t) → is_full s t ≡ false → IsStage s w i t known front rest extra
+    → AreOwn (e ∷ []) → world_after s w e ≡ world_at s w i (Some x) (Some t) → is_full s t ≡ false → IsStage s w i t known front rest extra
     → IsStage s (world_after s w e) i (after_event s t x) known front rest (extra ++ sent_at s t x)
 stage_after s w i t known front rest extra e x own is room g =
     record {

@@ -1,9 +1,10 @@
 -- A site's replies and its state but for the history don't hang on refused messages.
 use Rattle.std.proofs.Common.{◌≡◌, ℕ, ◌+◌, ◌≤◌, Bool, true, false, cond, not, ◌&&◌, List, [], ◌∷◌, ◌++◌, length, refl, ap, sym, ◌∙◌, arith, subst, Option, Some, None, length-append}
 use Rattle.std.specs.Prelude.{nat_le, ◌==◌}
+use Rattle.rb_money.specs.Refusals.{unless}
 use Rattle.rb_money.specs.Settings.{Settings}
 use Rattle.rb_money.specs.declared.refusal.Refusal.{Refusal}
-use Rattle.rb_money.specs.declared.refusal.Refusal.TheVariants.{Conflict, InboxFull}
+use Rattle.rb_money.specs.declared.refusal.Refusal.TheVariants.{BadMessage, Conflict, InboxFull}
 use Rattle.rb_shadow.specs.declared.shadow.Shadow.{Shadow}
 use Rattle.rb_shadow.specs.Operations.{find_in, is_eligible, same_shadow}
 use Rattle.rb_shadow.specs.Sound.{fault_in}
@@ -15,7 +16,7 @@ use Rattle.rb_site.specs.declared.entry.Entry.{Entry}
 use Rattle.rb_site.specs.declared.reply.Reply.{Reply}
 use Rattle.rb_site.specs.declared.reply.Reply.TheVariants.{Already, Stale}
 use Rattle.rb_site.proofs.Public.Outcomes.{same_outcome, with_history, changed-with_history}
-use Rattle.rb_site.specs.Events.{refuses_first, Answers, Holds, ModelSite, Outcome, Refuses, Takes, after_event, after_events, changed, first_site, is_full, noted, outcome_of, outcome_of_shadow, outcome_of_token, refuses_if, replies_to_events, reply_of, reply_to, unless_faulty, unless_known}
+use Rattle.rb_site.specs.Events.{Answers, Holds, ModelSite, Outcome, Refuses, Takes, after_event, after_events, changed, first_site, is_full, noted, outcome_of, outcome_of_shadow, replies_to_events, reply_of, reply_to, unless_known}
 use Rattle.rb_world.specs.Laws.{AreAlike, is_receive, is_refused, is_refused_receive, other_replies, without_refused}
 use Rattle.rb_world.proofs.CaughtUp
 use Rattle.rb_world.proofs.Ready
@@ -25,7 +26,7 @@ use Rattle.rb_world.proofs.Ready
 abbrev Lets : Outcome → Type 0
 Lets o = (t : ModelSite) → is_refused (reply_of o) ≡ true → changed t o ≡ t
 
-lets_if : (b : Bool) (why : Refusal) (next : Outcome) → Lets next → Lets (refuses_if b why next)
+lets_if : (b : Bool) (why : Refusal) (next : Outcome) → Lets next → Lets (cond b (Refuses why) next)
 lets_if true why next h t e = refl
 lets_if false why next h t e = h t e
 
@@ -37,28 +38,24 @@ lets_known v (Some u) next h t e = by (same_shadow u v) e
     by true k = refl
     by false k = refl
 
-lets_refusal : (o : Option Refusal) (next : Outcome) → Lets next → Lets (refuses_first o next)
-lets_refusal None next h t e = h t e
-lets_refusal (Some why) next h t e = refl
-
-lets_fault : (o : Option ℕ) (next : Outcome) → Lets next → Lets (unless_faulty o next)
-lets_fault None next h t e = h t e
-lets_fault (Some why) next h t e = refl
+lets_refusal : {E : Type 0} (refused : E → Refusal) (o : Option E) (next : Outcome) → Lets next → Lets (unless (λ why. Refuses (refused why)) o next)
+lets_refusal refused None next h t e = h t e
+lets_refusal refused (Some why) next h t e = refl
 
 refused_changes_nothing : (s : Settings) (t : ModelSite) (e : Event) → is_receive e ≡ true → is_refused (reply_of (outcome_of s t e)) ≡ true → changed t (outcome_of s t e) ≡ t
-unfolding outcome_of outcome_of_shadow outcome_of_token
+unfolding outcome_of outcome_of_shadow
 refused_changes_nothing s t (Receive (ShadowMessage v)) h k =
-    lets_fault (fault_in s v) (unless_known v (find_in t.ops v.name) held) (lets_known v (find_in t.ops v.name) held
+    lets_refusal BadMessage (fault_in s v) (unless_known v (find_in t.ops v.name) held) (lets_known v (find_in t.ops v.name) held
     (lets_if (v.home == t.me) Conflict (unless_known v (find_in t.held v.name) room) (lets_known v (find_in t.held v.name) room
     (lets_if (nat_le s.limits.inbox (length t.held) && not (is_eligible t.ops v)) InboxFull (Holds v) (λ u q. cc))))) t k
   where
     room : Outcome
-    room = refuses_if (nat_le s.limits.inbox (length t.held) && not (is_eligible t.ops v)) InboxFull (Holds v)
+    room = cond (nat_le s.limits.inbox (length t.held) && not (is_eligible t.ops v)) (Refuses InboxFull) (Holds v)
 
     held : Outcome
-    held = refuses_if (v.home == t.me) Conflict (unless_known v (find_in t.held v.name) room)
+    held = cond (v.home == t.me) (Refuses Conflict) (unless_known v (find_in t.held v.name) room)
 refused_changes_nothing s t (Receive (TokenOnItsWay m)) h k =
-    lets_refusal (refusal_of_token s.limits t.me m) (cond (nat_le m.epoch t.token.epoch) (Answers (Stale m.epoch)) (Takes m)) (last (nat_le m.epoch t.token.epoch)) t k
+    lets_refusal (λ why. why) (refusal_of_token s.limits t.me m) (cond (nat_le m.epoch t.token.epoch) (Answers (Stale m.epoch)) (Takes m)) (last (nat_le m.epoch t.token.epoch)) t k
   where
     last : (b : Bool) → Lets (cond b (Answers (Stale m.epoch)) (Takes m))
     last true u q = refl

@@ -1,7 +1,8 @@
 -- No operation of the world is refused where its past is there.
 use Rattle.std.proofs.Common.{◌≡◌, ℕ, ◌≤◌, Bool, true, false, cond, not, ◌&&◌, ◌||◌, List, [], ◌∷◌, ◌++◌, length, refl, ap, sym, ◌∙◌, arith, ◌⊎◌, inl, inr, subst, Option, Some, None}
-use Rattle.std.specs.Prelude.{slice_get, nat_lt, nat_le, ◌==◌}
+use Rattle.std.specs.Prelude.{option_map, slice_get, nat_lt, nat_le, ◌==◌}
 use Rattle.std.proofs.lemmas.Bool.Decides.{nat_tests}
+use Rattle.rb_money.specs.Refusals.{unless}
 use Rattle.rb_money.specs.Settings.{Settings}
 use Rattle.rb_money.specs.declared.refusal.Refusal.TheVariants.{BadMessage, Conflict, HistoryFull, InboxFull, NotReady, NotYours}
 use Rattle.rb_shadow.specs.declared.shadow.Shadow.{Shadow}
@@ -14,7 +15,6 @@ use Rattle.rb_shadow.proofs.Public.SameShadows.{same_shadow-refl}
 use Rattle.rb_ledger.specs.Checks.{refusal_of_sound}
 use Rattle.rb_ledger.proofs.Public.Pasts
 use Rattle.rb_token.specs.declared.message.TokenMessage.{TokenMessage}
-use Rattle.rb_money.specs.Refusals.{first_if}
 use Rattle.rb_site.specs.declared.message.Message.{Message}
 use Rattle.rb_site.specs.declared.message.Message.TheVariants.{Shadow as ShadowMessage, Token as TokenOnItsWay}
 use Rattle.rb_site.specs.declared.event.Event.{Event}
@@ -22,8 +22,8 @@ use Rattle.rb_site.specs.declared.event.Event.TheVariants.{Apply, Receive}
 use Rattle.rb_site.specs.declared.reply.Reply.{Reply}
 use Rattle.rb_site.specs.declared.reply.Reply.TheVariants.{Already, Refused, Stale}
 use Rattle.rb_site.specs.declared.world_event.WorldEvent.TheVariants.{Deliver}
-use Rattle.rb_site.specs.Events.{refuses_first, Answers, Applies, Holds, ModelSite, Outcome, Refuses, Takes, is_full, outcome_of, outcome_of_apply, outcome_of_check, outcome_of_shadow, outcome_of_token, refuses_if, reply_of, reply_to, unless_faulty, unless_known}
-use Rattle.rb_site.specs.Worlds.{World, made_in, message_at, reply_at, reply_delivered, reply_in}
+use Rattle.rb_site.specs.Events.{Answers, Applies, Holds, ModelSite, Outcome, Refuses, Takes, is_full, outcome_of, outcome_of_apply, outcome_of_check, outcome_of_shadow, reply_of, reply_to, unless_known}
+use Rattle.rb_site.specs.Worlds.{World, made_in, message_at, reply_at, reply_in}
 use Rattle.rb_world.specs.Laws.{NeverStuck, TrustsItsOwn}
 use Rattle.rb_world.proofs.Steps
 use Rattle.rb_world.proofs.Order
@@ -61,7 +61,7 @@ site_applies s w i t v g at held within =
     let is : u ≡ v = found_is (made_in w) t.held u v g.order.unique here.held (here.held v held) e in
     let ok : refusal_of_sound s t.ops v ≡ None = applied_if_ready s w i t v g here (here.held v held) (here.inbox v held) within in
     ap (outcome_of_apply s t) e ∙ ap (λ (x : Shadow). outcome_of_apply s t (Some x)) is
-    ∙ ap (λ b. refuses_if (not b) NotReady (outcome_of_check v (refusal_of_sound s t.ops v))) (Eligible.eligible_from t.ops v within)
+    ∙ ap (λ b. cond (not b) (Refuses NotReady) (outcome_of_check v (refusal_of_sound s t.ops v))) (Eligible.eligible_from t.ops v within)
     ∙ ap (outcome_of_check v) ok
   where
     here : IsInOrder s (made_in w) i t
@@ -73,22 +73,22 @@ IsTrusting s t v o = ((o ≡ Answers (Already v.name)) × ((names t.ops v.name �
 
 pub site_receives : (s : Settings) (w : World) (i : ℕ) (t : ModelSite) (v : Shadow) → IsGood s w → slice_get w.sites i ≡ Some t → Among v (made_in w) → IsTrusting s t v (outcome_of_shadow s t v)
 unfolding outcome_of_shadow
-site_receives s w i t v g at made = subst (IsTrusting s t v) (sym (ap (λ o. unless_faulty o next) (sound_in s w v g made))) (by_ops (find_in t.ops v.name) refl)
+site_receives s w i t v g at made = subst (IsTrusting s t v) (sym (ap (λ o. unless (λ why. Refuses (BadMessage why)) o next) (sound_in s w v g made))) (by_ops (find_in t.ops v.name) refl)
   where
     here : IsInOrder s (made_in w) i t
     here = g.sites i t at
 
     room : Outcome
-    room = refuses_if (nat_le s.limits.inbox (length t.held) && not (is_eligible t.ops v)) InboxFull (Holds v)
+    room = cond (nat_le s.limits.inbox (length t.held) && not (is_eligible t.ops v)) (Refuses InboxFull) (Holds v)
 
     next : Outcome
-    next = unless_known v (find_in t.ops v.name) (refuses_if (v.home == t.me) Conflict (unless_known v (find_in t.held v.name) room))
+    next = unless_known v (find_in t.ops v.name) (cond (v.home == t.me) (Refuses Conflict) (unless_known v (find_in t.held v.name) room))
 
     known : (u : Shadow) (us : List Shadow) (o : Outcome) → IsPart us (made_in w) → find_in us v.name ≡ Some u → unless_known v (Some u) o ≡ Answers (Already v.name)
     known u us o part e = let is : u ≡ v = found_is (made_in w) us u v g.order.unique part made e in
         ap (λ c. cond c (Answers (Already v.name)) (Refuses Conflict)) (ap (λ (x : Shadow). same_shadow x v) is ∙ same_shadow-refl v)
 
-    by_room : (b : Bool) (c : Bool) → is_eligible t.ops v ≡ c → IsTrusting s t v (refuses_if (b && not c) InboxFull (Holds v))
+    by_room : (b : Bool) (c : Bool) → is_eligible t.ops v ≡ c → IsTrusting s t v (cond (b && not c) (Refuses InboxFull) (Holds v))
     by_room false c e = inr (inl refl)
     by_room true true e = inr (inl refl)
     by_room true false e = inr (inr (refl, e))
@@ -106,9 +106,9 @@ site_receives s w i t v g at made = subst (IsTrusting s t v) (sym (ap (λ o. unl
         home : (a b : ℕ) → (a == b) ≡ true → a ≡ b
         home a b h = grind (arith, nat_tests)
 
-    by_ops : (o : Option Shadow) → find_in t.ops v.name ≡ o → IsTrusting s t v (unless_known v o (refuses_if (v.home == t.me) Conflict (unless_known v (find_in t.held v.name) room)))
-    by_ops (Some u) e = inl (known u t.ops (refuses_if (v.home == t.me) Conflict (unless_known v (find_in t.held v.name) room)) here.part e, inl (let f : Among u t.ops × (u.name ≡ v.name) = Lookups.found t.ops v.name u e in ap (names t.ops) (sym f.1) ∙ Members.named t.ops u f.0))
-    by_ops None e = subst (λ c. IsTrusting s t v (refuses_if c Conflict (unless_known v (find_in t.held v.name) room))) (sym (away e)) (by_held (find_in t.held v.name) refl)
+    by_ops : (o : Option Shadow) → find_in t.ops v.name ≡ o → IsTrusting s t v (unless_known v o (cond (v.home == t.me) (Refuses Conflict) (unless_known v (find_in t.held v.name) room)))
+    by_ops (Some u) e = inl (known u t.ops (cond (v.home == t.me) (Refuses Conflict) (unless_known v (find_in t.held v.name) room)) here.part e, inl (let f : Among u t.ops × (u.name ≡ v.name) = Lookups.found t.ops v.name u e in ap (names t.ops) (sym f.1) ∙ Members.named t.ops u f.0))
+    by_ops None e = subst (λ c. IsTrusting s t v (cond c (Refuses Conflict) (unless_known v (find_in t.held v.name) room))) (sym (away e)) (by_held (find_in t.held v.name) refl)
 
 -- ---- the laws
 
@@ -120,15 +120,11 @@ pub received : (s : Settings) (t : ModelSite) (v : Shadow) → outcome_of s t (R
 unfolding outcome_of
 received s t v = refl
 
-received_token : (s : Settings) (t : ModelSite) (m : TokenMessage) → outcome_of s t (Receive (TokenOnItsWay m)) ≡ outcome_of_token s t m
-unfolding outcome_of
-received_token s t m = refl
-
 sent_shadow : (w : World) (k : ℕ) (v : Shadow) → message_at w.messages k ≡ Some (ShadowMessage v) → Among v (made_in w)
 sent_shadow w k v h = Steps.sent_message w.messages k (ShadowMessage v) h
 
 reply_there : (s : Settings) (w : World) (i k : ℕ) (t : ModelSite) (m : Message) → slice_get w.sites i ≡ Some t → message_at w.messages k ≡ Some m → reply_in s w (Deliver i k) ≡ reply_to s t (Receive m)
-reply_there s w i k t m at h = ap (λ o. reply_delivered s w i o (message_at w.messages k)) at ∙ ap (reply_delivered s w i (Some t)) h
+reply_there s w i k t m at h = ap (λ o. reply_at s o (option_map Receive (message_at w.messages k))) at ∙ ap (λ o. reply_at s (Some t) (option_map Receive o)) h
 
 pub never_stuck : (s : Settings) (w : World) → IsGood s w → NeverStuck s w
 never_stuck s w g = record {
@@ -142,7 +138,7 @@ never_stuck s w g = record {
         ]
       ];
   applied = λ i t at room v held within.
-      ap (reply_at s (Apply v.name)) at ∙ reply_roomy s t (Apply v.name) room ∙ ap reply_of (site_applies s w i t v g at held within);
+      ap (λ o. reply_at s o (Some (Apply v.name))) at ∙ reply_roomy s t (Apply v.name) room ∙ ap reply_of (site_applies s w i t v g at held within);
 }
 
 -- neither refusal
@@ -157,8 +153,8 @@ trusts_shadow s t v o (inl e) = subst (λ o. Trusts (reply_of o)) (sym e.0) (λ 
 trusts_shadow s t v o (inr (inl e)) = subst (λ o. Trusts (reply_of o)) (sym e) (λ e. cc, λ why e. cc)
 trusts_shadow s t v o (inr (inr e)) = subst (λ o. Trusts (reply_of o)) (sym e.0) (λ e. cc, λ why e. cc)
 
-trusts_token : (s : Settings) (t : ModelSite) (m : TokenMessage) → m.epoch ≤ s.limits.epoch → m.red ≤ s.limits.red → Trusts (reply_of (outcome_of_token s t m))
-unfolding outcome_of_token
+trusts_token : (s : Settings) (t : ModelSite) (m : TokenMessage) → m.epoch ≤ s.limits.epoch → m.red ≤ s.limits.red → Trusts (reply_of (outcome_of s t (Receive (TokenOnItsWay m))))
+unfolding outcome_of
 trusts_token s t m epoch red = by_to (not (m.to == t.me))
   where
     rest : Outcome
@@ -171,16 +167,16 @@ trusts_token s t m epoch red = by_to (not (m.to == t.me))
     last true = (λ e. cc, λ why e. cc)
     last false = (λ e. cc, λ why e. cc)
 
-    by_to : (b : Bool) → Trusts (reply_of (refuses_first (first_if b NotYours (first_if (nat_lt s.limits.epoch m.epoch || nat_lt s.limits.red m.red) (BadMessage 2) None)) rest))
+    by_to : (b : Bool) → Trusts (reply_of (unless Refuses (cond b (Some NotYours) (cond (nat_lt s.limits.epoch m.epoch || nat_lt s.limits.red m.red) (Some (BadMessage 2)) None)) rest))
     by_to true = (λ e. cc, λ why e. cc)
-    by_to false = subst (λ b. Trusts (reply_of (refuses_first (first_if b (BadMessage 2) None) rest))) (sym within) (last (nat_le m.epoch t.token.epoch))
+    by_to false = subst (λ b. Trusts (reply_of (unless Refuses (cond b (Some (BadMessage 2)) None) rest))) (sym within) (last (nat_le m.epoch t.token.epoch))
 
 trusts_site : (s : Settings) (w : World) (i : ℕ) (t : ModelSite) (m : Message) → IsGood s w → slice_get w.sites i ≡ Some t → Steps.IsSent w.messages m → Trusts (reply_to s t (Receive m))
 trusts_site s w i t m g at sent = by_room (is_full s t)
   where
     by_message : (m : Message) → Steps.IsSent w.messages m → Trusts (reply_of (outcome_of s t (Receive m)))
     by_message (ShadowMessage v) h = subst (λ o. Trusts (reply_of o)) (sym (received s t v)) (trusts_shadow s t v (outcome_of_shadow s t v) (site_receives s w i t v g at h))
-    by_message (TokenOnItsWay m) h = let q = g.tokens m h in subst (λ o. Trusts (reply_of o)) (sym (received_token s t m)) (trusts_token s t m q.0 q.1)
+    by_message (TokenOnItsWay m) h = let q = g.tokens m h in trusts_token s t m q.0 q.1
 
     by_room : (c : Bool) → Trusts (cond c (Refused HistoryFull) (reply_of (outcome_of s t (Receive m))))
     by_room true = trusts_full
@@ -189,10 +185,10 @@ trusts_site s w i t m g at sent = by_room (is_full s t)
 pub trusts_its_own : (s : Settings) (w : World) → IsGood s w → TrustsItsOwn s w
 trusts_its_own s w g i k = by_site (slice_get w.sites i) refl
   where
-    by_message : (t : ModelSite) → slice_get w.sites i ≡ Some t → (o : Option Message) → message_at w.messages k ≡ o → Trusts (reply_delivered s w i (Some t) o)
+    by_message : (t : ModelSite) → slice_get w.sites i ≡ Some t → (o : Option Message) → message_at w.messages k ≡ o → Trusts (reply_at s (Some t) (option_map Receive o))
     by_message t at None h = (λ e. cc, λ why e. cc)
     by_message t at (Some m) h = trusts_site s w i t m g at (Steps.sent_message w.messages k m h)
 
-    by_site : (o : Option ModelSite) → slice_get w.sites i ≡ o → Trusts (reply_delivered s w i o (message_at w.messages k))
+    by_site : (o : Option ModelSite) → slice_get w.sites i ≡ o → Trusts (reply_at s o (option_map Receive (message_at w.messages k)))
     by_site None h = (λ e. cc, λ why e. cc)
     by_site (Some t) h = by_message t h (message_at w.messages k) refl

@@ -16,7 +16,7 @@ use Rattle.rb_site.specs.declared.world_event.WorldEvent.TheVariants.{At, Delive
 use Rattle.rb_site.specs.Events.{ModelSite, after_event, is_full, outcome_of, reply_of, reply_to, sent_at}
 use Rattle.rb_site.specs.Histories.{site_of}
 use Rattle.rb_site.specs.Seen.{SeenSite, next_site, state_of}
-use Rattle.rb_site.specs.Worlds.{AreOwn, IsCommand, World, arrival, first_world, is_recorded, is_recorded_at, message_at, reply_at, reply_delivered, reply_in, world_after, world_at, world_delivered}
+use Rattle.rb_site.specs.Worlds.{AreOwn, IsCommand, World, arrival, first_world, is_recorded, is_recorded_at, message_at, reply_at, reply_in, world_after, world_at}
 use Rattle.rb_site.proofs.Public.Runs
 use Rattle.rb_site.proofs.Public.Seen
 use Rattle.rb_world.specs.Laws.{IsRunOf, SeenWorld, next_replies, next_reply, next_world, next_worlds}
@@ -25,7 +25,7 @@ use Rattle.rb_world.specs.Laws.{IsRunOf, SeenWorld, next_replies, next_reply, ne
 
 -- the world's step is that of the site at which something arrives
 pub record Arrives (s : Settings) (w : World) (ev : WorldEvent) (e : Event) (t : ModelSite) : Type 0 where
-  pub world : world_after s w ev ≡ world_at s w (site_of ev) e (Some t)
+  pub world : world_after s w ev ≡ world_at s w (site_of ev) (Some e) (Some t)
   pub reply : reply_in s w ev ≡ reply_to s t e
   pub recorded : is_recorded s w ev ≡ not (is_full s t)
 
@@ -35,8 +35,8 @@ and_true false = refl
 
 pub arrives : (s : Settings) (w : World) (ev : WorldEvent) (e : Event) (t : ModelSite) → arrival w.messages ev ≡ Some e → slice_get w.sites (site_of ev) ≡ Some t → Arrives s w ev e t
 arrives s w (At i d) e t arrived at = record {
-  world = ap (world_at s w i d) at ∙ ap (λ x. world_at s w i x (Some t)) same;
-  reply = ap (reply_at s d) at ∙ ap (reply_to s t) same;
+  world = ap (world_at s w i (Some d)) at ∙ ap (λ x. world_at s w i (Some x) (Some t)) same;
+  reply = ap (λ o. reply_at s o (Some d)) at ∙ ap (reply_to s t) same;
   recorded = ap (is_recorded_at s) at;
 }
   where
@@ -49,8 +49,8 @@ arrives s w (Deliver i k) e t arrived at = by (message_at w.messages k) refl arr
     by (Some m) q h =
         let same : Receive m ≡ e = cc in
         record {
-          world = ap (world_delivered s w i) q ∙ ap (world_at s w i (Receive m)) at ∙ ap (λ x. world_at s w i x (Some t)) same;
-          reply = ap (λ o. reply_delivered s w i (slice_get w.sites i) o) q ∙ ap (λ o. reply_delivered s w i o (Some m)) at ∙ ap (reply_to s t) same;
+          world = ap (λ o. world_at s w i (option_map Receive o) (slice_get w.sites i)) q ∙ ap (world_at s w i (Some (Receive m))) at ∙ ap (λ x. world_at s w i (Some x) (Some t)) same;
+          reply = ap (λ o. reply_at s (slice_get w.sites i) (option_map Receive o)) q ∙ ap (λ o. reply_at s o (Some (Receive m))) at ∙ ap (reply_to s t) same;
           recorded = ap (λ o. is_recorded_at s (slice_get w.sites i) && is_some o) q ∙ ap (λ o. is_recorded_at s o && true) at ∙ and_true (is_full s t);
         }
 

@@ -1,17 +1,20 @@
 -- What an event of the world comes to, case by case.
 use Rattle.std.proofs.Common.{◌≡◌, ◌≢◌, ℕ, zero, suc, ◌+◌, ◌<◌, ◌≤◌, Bool, true, false, cond, not, ◌&&◌, ◌||◌, List, [], ◌∷◌, ◌++◌, length, refl, ap, sym, ◌∙◌, arith, ◌⊎◌, inl, inr, subst, Option, Some, None, Result, Ok, Err, append_assoc}
-use Rattle.std.specs.Prelude.{slice_get, slice_set, map, nat_lt, nat_le, ◌==◌, max, take}
+use Rattle.std.specs.Prelude.{option_map, slice_get, slice_set, map, nat_lt, nat_le, ◌==◌, max, take}
 use Rattle.std.proofs.lemmas.List.{append-nil}
 use Rattle.std.proofs.lemmas.Bool.Decides.{nat_tests}
 use Rattle.rb_site.proofs.Public.Places.{get_set_other, get_set_same, same_number, set_set}
+use Rattle.rb_money.specs.Refusals.{and_then, unless}
 use Rattle.rb_money.specs.Settings.{Settings, is_account}
 use Rattle.rb_money.specs.declared.refusal.Refusal.{Refusal}
-use Rattle.rb_money.specs.declared.refusal.Refusal.TheVariants.{Conflict, NotReady, InboxFull, PositionBeyond}
-use Rattle.rb_site.specs.declared.reply.Reply.TheVariants.{Already, Stale, Balance as BalanceIs}
+use Rattle.rb_money.specs.declared.refusal.Refusal.TheVariants.{BadMessage, Conflict, NotReady, InboxFull, PositionBeyond}
+use Rattle.rb_site.specs.declared.reply.Reply.TheVariants.{Made, Names as NamesMade, Already, Stale, Balance as BalanceIs}
 use Rattle.rb_shadow.specs.declared.op_name.OpName.{OpName}
 use Rattle.rb_shadow.specs.declared.shadow.Shadow.{Shadow}
 use Rattle.rb_shadow.specs.Operations.{Among, names, red_count, bal, find_in, is_eligible, same_shadow}
+use Rattle.rb_shadow.specs.Labels.{label_of}
 use Rattle.rb_shadow.specs.Sound.{fault_in}
+use Rattle.rb_scratch.specs.Batches.{names_of_all}
 use Rattle.rb_shadow.proofs.Public.Members
 use Rattle.rb_shadow.proofs.Public.Lookups
 use Rattle.rb_ledger.specs.Checks.{refusal_of_sound}
@@ -26,9 +29,9 @@ use Rattle.rb_site.specs.declared.world_event.WorldEvent.TheVariants.{At, Delive
 use Rattle.rb_token.specs.Token.{refusal_of_pass, refusal_of_token}
 use Rattle.rb_money.specs.Amounts.{cents}
 use Rattle.rb_scratch.proofs.Public.Made.{AreMadeAt, IsMadeAt, batch_is, made_is, not_true, past_first}
-use Rattle.rb_site.specs.Events.{refuses_first, ModelSite, Outcome, Refuses, Drops, Answers, Makes, Holds, Applies, Takes, Passes, outcome_of, outcome_of_made, outcome_of_batch, outcome_of_shadow, outcome_of_token, outcome_of_apply, outcome_of_pass, refuses_if, changed, noted, is_full, sent_by, reply_of, outcome_of_check, unless_faulty, unless_known}
+use Rattle.rb_site.specs.Events.{ModelSite, Outcome, Refuses, Drops, Answers, Makes, Holds, Applies, Takes, Passes, outcome_of, outcome_of_shadow, outcome_of_apply, changed, noted, is_full, sent_by, reply_of, outcome_of_check, unless_known}
 use Rattle.rb_inbox.specs.Held.{with_held, without}
-use Rattle.rb_site.specs.Worlds.{World, shadows_in, tokens_in, message_at, world_at, world_delivered, world_after, world_after_all, IsOwn, AreOwn}
+use Rattle.rb_site.specs.Worlds.{World, shadows_in, tokens_in, message_at, world_at, world_after, world_after_all, IsOwn, AreOwn}
 use Rattle.rb_world.specs.Laws.{EachSite}
 
 -- ---- what is known where an event comes to an outcome
@@ -88,17 +91,13 @@ Comes s ms t (Takes m) = MayTake ms t m
 Comes s ms t (Passes m) = MayPass s t m
 
 -- a test that refuses leaves what holds where it doesn't
-past_test : (s : Settings) (ms : List Message) (t : ModelSite) (b : Bool) (why : Refusal) (next : Outcome) → (b ≡ false → Comes s ms t next) → Comes s ms t (refuses_if b why next)
+past_test : (s : Settings) (ms : List Message) (t : ModelSite) (b : Bool) (why : Refusal) (next : Outcome) → (b ≡ false → Comes s ms t next) → Comes s ms t (cond b (Refuses why) next)
 past_test s ms t true why next h = tt
 past_test s ms t false why next h = h refl
 
-past_refusal : (s : Settings) (ms : List Message) (t : ModelSite) (o : Option Refusal) (next : Outcome) → (o ≡ None → Comes s ms t next) → Comes s ms t (refuses_first o next)
-past_refusal s ms t (Some why) next h = tt
-past_refusal s ms t None next h = h refl
-
-past_fault : (s : Settings) (ms : List Message) (t : ModelSite) (o : Option ℕ) (next : Outcome) → Comes s ms t next → Comes s ms t (unless_faulty o next)
-past_fault s ms t (Some why) next h = tt
-past_fault s ms t None next h = h
+past_refusal : {E : Type 0} (s : Settings) (ms : List Message) (t : ModelSite) (refused : E → Refusal) (o : Option E) (next : Outcome) → (o ≡ None → Comes s ms t next) → Comes s ms t (unless (λ why. Refuses (refused why)) o next)
+past_refusal s ms t refused (Some why) next h = tt
+past_refusal s ms t refused None next h = h refl
 
 past_known : (s : Settings) (ms : List Message) (t : ModelSite) (v : Shadow) (o : Option Shadow) (next : Outcome) → (o ≡ None → Comes s ms t next) → Comes s ms t (unless_known v o next)
 past_known s ms t v None next h = h refl
@@ -116,17 +115,17 @@ past_check s ms t v (Some why) h = tt
 comes_shadow : (s : Settings) (ms : List Message) (t : ModelSite) (v : Shadow) → Among v (shadows_in ms) → Comes s ms t (outcome_of_shadow s t v)
 unfolding outcome_of_shadow
 comes_shadow s ms t v sent =
-    past_fault s ms t (fault_in s v) _
-    (past_known s ms t v (find_in t.ops v.name) _ (λ a.
+    past_refusal s ms t BadMessage (fault_in s v) _ (λ _.
+    past_known s ms t v (find_in t.ops v.name) _ (λ a.
     past_test s ms t (v.home == t.me) _ _ (λ b.
     past_known s ms t v (find_in t.held v.name) _ (λ c.
     past_test s ms t (nat_le s.limits.inbox (length t.held) && not (is_eligible t.ops v)) InboxFull (Holds v) (λ d.
     let r : MayHold ms t v = record { sent = sent; fresh = Lookups.unnamed t.ops v.name a; foreign = grind (arith, nat_tests); free = Lookups.unnamed t.held v.name c } in r)))))
 
-comes_token : (s : Settings) (ms : List Message) (t : ModelSite) (m : TokenMessage) → AmongTokens m (tokens_in ms) → Comes s ms t (outcome_of_token s t m)
-unfolding outcome_of_token
+comes_token : (s : Settings) (ms : List Message) (t : ModelSite) (m : TokenMessage) → AmongTokens m (tokens_in ms) → Comes s ms t (outcome_of s t (Receive (TokenOnItsWay m)))
+unfolding outcome_of
 comes_token s ms t m sent =
-    past_refusal s ms t (refusal_of_token s.limits t.me m) _ (λ a.
+    past_refusal s ms t (λ why. why) (refusal_of_token s.limits t.me m) _ (λ a.
     at (nat_le m.epoch t.token.epoch) refl (not_true (m.to == t.me) (past_first (not (m.to == t.me)) _ _ a).0))
   where
     at : (b : Bool) → nat_le m.epoch t.token.epoch ≡ b → (m.to == t.me) ≡ true → Comes s ms t (cond b (Answers (Stale m.epoch)) (Takes m))
@@ -141,10 +140,10 @@ comes_apply s ms t (Some v) found =
     past_check s ms t v (refusal_of_sound s t.ops v) (λ b.
     record { held = found v refl; eligible = not_true _ a; right = b }))
 
-comes_pass : (s : Settings) (ms : List Message) (t : ModelSite) (to : ℕ) → Comes s ms t (outcome_of_pass s t to)
-unfolding outcome_of_pass
+comes_pass : (s : Settings) (ms : List Message) (t : ModelSite) (to : ℕ) → Comes s ms t (outcome_of s t (Pass to))
+unfolding outcome_of
 comes_pass s ms t to =
-    past_refusal s ms t (refusal_of_pass s.sites s.limits t.me t.token to) _ (λ e.
+    past_refusal s ms t (λ why. why) (refusal_of_pass s.sites s.limits t.me t.token to) _ (λ e.
     let a : ((nat_le s.sites to || (to == t.me)) ≡ false) × _ = past_first (nat_le s.sites to || (to == t.me)) _ _ e in
     let b : (nat_lt s.limits.epoch (t.token.epoch + 1) ≡ false) × _ = past_first (nat_lt s.limits.epoch (t.token.epoch + 1)) _ _ a.1 in
     let c : (not t.token.held ≡ false) × _ = past_first (not t.token.held) _ _ b.1 in
@@ -158,12 +157,12 @@ comes_pass s ms t to =
       red = refl;
     })
 
-comes_made : (s : Settings) (ms : List Message) (t : ModelSite) (q : Result Shadow Refusal) → ((v : Shadow) → q ≡ Ok v → IsMadeAt s t.me t.ops t.token v) → Comes s ms t (outcome_of_made q)
+comes_made : (s : Settings) (ms : List Message) (t : ModelSite) (q : Result Shadow Refusal) → ((v : Shadow) → q ≡ Ok v → IsMadeAt s t.me t.ops t.token v) → Comes s ms t (and_then Refuses q (λ v. Makes (Made v.name (label_of v.kind)) (v ∷ [])))
 comes_made s ms t (Ok v) h = (h v refl, tt)
 comes_made s ms t (Err why) h = tt
 
 -- what comes of a batch is made one after another
-comes_batch : (s : Settings) (ms : List Message) (t : ModelSite) (q : Result (List Shadow) Refusal) → ((vs : List Shadow) → q ≡ Ok vs → AreMadeAt s t.me t.ops t.token vs) → Comes s ms t (outcome_of_batch q)
+comes_batch : (s : Settings) (ms : List Message) (t : ModelSite) (q : Result (List Shadow) Refusal) → ((vs : List Shadow) → q ≡ Ok vs → AreMadeAt s t.me t.ops t.token vs) → Comes s ms t (and_then Refuses q (λ vs. Makes (NamesMade (names_of_all vs)) vs))
 comes_batch s ms t (Ok vs) h = h vs refl
 comes_batch s ms t (Err why) h = tt
 
@@ -239,7 +238,7 @@ keeps_outcome s P keeps w i t o p at c = by o c
     by (Takes m) c = quiet _ (keeps.takes w i t m p at c)
     by (Passes m) c = keeps.passes w i t m p at c
 
-keeps_event : (s : Settings) (P : World → Type 0) → Keeps s P → (w : World) (i : ℕ) (t : ModelSite) (e : Event) → P w → slice_get w.sites i ≡ Some t → IsSourced w.messages e → P (world_at s w i e (Some t))
+keeps_event : (s : Settings) (P : World → Type 0) → Keeps s P → (w : World) (i : ℕ) (t : ModelSite) (e : Event) → P w → slice_get w.sites i ≡ Some t → IsSourced w.messages e → P (world_at s w i (Some e) (Some t))
 keeps_event s P keeps w i t e p at sourced = by (is_full s t)
   where
     o : Outcome
@@ -282,17 +281,17 @@ pub sent_message : (ms : List Message) (k : ℕ) (m : Message) → message_at ms
 sent_message ms zero m h = cc
 sent_message ms (suc k) m h = sent_at_place ms k m h
 
-keeps_at : (s : Settings) (P : World → Type 0) → Keeps s P → (w : World) (i : ℕ) (e : Event) → P w → IsSourced w.messages e → P (world_at s w i e (slice_get w.sites i))
+keeps_at : (s : Settings) (P : World → Type 0) → Keeps s P → (w : World) (i : ℕ) (e : Event) → P w → IsSourced w.messages e → P (world_at s w i (Some e) (slice_get w.sites i))
 keeps_at s P keeps w i e p sourced = by (slice_get w.sites i) refl
   where
-    by : (o : Option ModelSite) → slice_get w.sites i ≡ o → P (world_at s w i e o)
+    by : (o : Option ModelSite) → slice_get w.sites i ≡ o → P (world_at s w i (Some e) o)
     by None h = p
     by (Some t) h = keeps_event s P keeps w i t e p h sourced
 
 keeps_delivery : (s : Settings) (P : World → Type 0) → Keeps s P → (w : World) (i k : ℕ) → P w → P (world_after s w (Deliver i k))
 keeps_delivery s P keeps w i k p = by (message_at w.messages k) refl
   where
-    by : (o : Option Message) → message_at w.messages k ≡ o → P (world_delivered s w i o)
+    by : (o : Option Message) → message_at w.messages k ≡ o → P (world_at s w i (option_map Receive o) (slice_get w.sites i))
     by None h = p
     by (Some m) h = keeps_at s P keeps w i (Receive m) p (sent_message w.messages k m h)
 

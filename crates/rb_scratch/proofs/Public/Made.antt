@@ -5,19 +5,21 @@ use Rattle.std.proofs.lemmas.Bool.Decides.{nat_tests}
 pub use Rattle.std.proofs.lemmas.Bool.{not-false as not_true}
 use Rattle.rb_money.specs.Settings.{Settings}
 use Rattle.rb_money.specs.declared.refusal.Refusal.{Refusal}
+use Rattle.rb_money.specs.declared.refusal.Refusal.TheVariants.{BatchRefused}
 use Rattle.rb_shadow.specs.declared.op_name.OpName.{OpName}
 use Rattle.rb_shadow.specs.declared.op_name.OpName.TheVariants.{Blue, Red}
 use Rattle.rb_shadow.specs.declared.shadow.Shadow.{Shadow}
-use Rattle.rb_shadow.specs.Operations.{is_cancel, red_count, number_of}
+use Rattle.rb_shadow.specs.declared.kind.Kind.TheVariants.{Declined}
+use Rattle.rb_shadow.specs.Operations.{is_cancel, is_red, red_count, number_of, same_kind}
 use Rattle.rb_shadow.specs.Sound.{limit_of}
 use Rattle.rb_ledger.specs.Checks.{overdraws}
 use Rattle.rb_scratch.specs.declared.request.Request.{Request}
 use Rattle.rb_scratch.specs.declared.run_fault.RunFault.{RunFault}
-use Rattle.rb_scratch.specs.declared.run_fault.RunFault.TheVariants.{Declined as DeclinedFault}
-use Rattle.rb_scratch.specs.Batches.{batch_of, made_in_batch, is_declined, planned_in_batch, stopped, then_rest, with_first}
+use Rattle.rb_scratch.specs.declared.run_fault.RunFault.TheVariants.{Declined as DeclinedFault, Refused as RefusedFault}
+use Rattle.rb_scratch.specs.Batches.{batch_of, cause_of, made_in_batch}
 use Rattle.rb_token.specs.Token.{Token, refusal_of_red}
-use Rattle.rb_scratch.specs.Requests.{Plan, plan_of, operation_of, allowed, allowed_by_colour, made_of}
-use Rattle.rb_money.specs.Refusals.{refused_if, and_then, first_if, unless_refused}
+use Rattle.rb_scratch.specs.Requests.{Plan, plan_of, operation_of, allowed, allowed_red, made_of}
+use Rattle.rb_money.specs.Refusals.{and_then, unless}
 
 -- a red one needs the token, all red operations before it, and a cancellation the money
 abbrev pub IsAllowed : Settings → List Shadow → Token → Shadow → OpName → Type 0
@@ -36,20 +38,20 @@ abbrev pub AreMadeAt : Settings → ℕ → List Shadow → Token → List Shado
 AreMadeAt s me us token [] = Unit {0}
 AreMadeAt s me us token (v ∷ vs) = IsMadeAt s me us token v × AreMadeAt s me (us ++ v ∷ []) token vs
 
-pub passed_by : {A : Type 0} (b : Bool) (why : Refusal) (next : Result A Refusal) (v : A) → refused_if b why next ≡ Ok v → (b ≡ false) × (next ≡ Ok v)
+pub passed_by : {A : Type 0} (b : Bool) (why : Refusal) (next : Result A Refusal) (v : A) → cond b (Err why) next ≡ Ok v → (b ≡ false) × (next ≡ Ok v)
 passed_by true why next v e = cc
 passed_by false why next v e = (refl, e)
 
 -- a condition that refuses doesn't hold where nothing is refused
-pub past_first : (b : Bool) (why : Refusal) (next : Option Refusal) → first_if b why next ≡ None → (b ≡ false) × (next ≡ None)
+pub past_first : (b : Bool) (why : Refusal) (next : Option Refusal) → cond b (Some why) next ≡ None → (b ≡ false) × (next ≡ None)
 past_first true why next e = cc
 past_first false why next e = (refl, e)
 
-pub unrefused : {A : Type 0} (o : Option Refusal) (next : Result A Refusal) (v : A) → unless_refused o next ≡ Ok v → (o ≡ None) × (next ≡ Ok v)
+pub unrefused : {A : Type 0} (o : Option Refusal) (next : Result A Refusal) (v : A) → unless Err o next ≡ Ok v → (o ≡ None) × (next ≡ Ok v)
 unrefused (Some why) next v e = cc
 unrefused None next v e = (refl, e)
 
-allowed_facts : (s : Settings) (us : List Shadow) (token : Token) (u v : Shadow) (x : OpName) → allowed_by_colour s us token u x ≡ Ok v → (v ≡ u) × IsAllowed s us token u x
+allowed_facts : (s : Settings) (us : List Shadow) (token : Token) (u v : Shadow) (x : OpName) → cond (is_red x) (allowed_red s us token u) (Ok u) ≡ Ok v → (v ≡ u) × IsAllowed s us token u x
 allowed_facts s us token u v (Blue i n) e = (let h : v ≡ u = cc in h, tt)
 allowed_facts s us token u v (Red n) e =
     let q : (refusal_of_red token (red_count us) ≡ None) × _ = unrefused (refusal_of_red token (red_count us)) _ v e in
@@ -84,20 +86,25 @@ pub made_is : (s : Settings) (me : ℕ) (us : List Shadow) (token : Token) (r : 
 unfolding made_of
 made_is s me us token r v e = at (plan_of s us r) refl e
   where
-    at : (q : Result Plan Refusal) → plan_of s us r ≡ q → and_then q (λ p. allowed s us token (operation_of me us p)) ≡ Ok v → IsMadeAt s me us token v
+    at : (q : Result Plan Refusal) → plan_of s us r ≡ q → and_then Err q (λ p. allowed s us token (operation_of me us p)) ≡ Ok v → IsMadeAt s me us token v
     at (Ok p) planned h = made_if_allowed s me us token r p v planned h
     at (Err why) planned h = cc
 
+-- a refusal stops a batch
+abbrev pub stopped_by : {A : Type 0} → Refusal → Result A RunFault
+stopped_by why = Err (RefusedFault why)
+
 -- what comes of a plan in a batch that makes an operation
-planned_is : (s : Settings) (me : ℕ) (us : List Shadow) (token : Token) (r : Request) (v : Shadow) (q : Result Plan Refusal) → plan_of s us r ≡ q → planned_in_batch s me us token q ≡ Ok v → IsMadeAt s me us token v
+planned_is : (s : Settings) (me : ℕ) (us : List Shadow) (token : Token) (r : Request) (v : Shadow) (q : Result Plan Refusal) → plan_of s us r ≡ q
+    → and_then stopped_by q (λ p. cond (same_kind p.kind Declined) (Err DeclinedFault) (and_then stopped_by (allowed s us token (operation_of me us p)) Ok)) ≡ Ok v → IsMadeAt s me us token v
 planned_is s me us token r v (Err why) planned h = cc
-planned_is s me us token r v (Ok p) planned h = at (is_declined p.kind) h
+planned_is s me us token r v (Ok p) planned h = at (same_kind p.kind Declined) h
   where
-    here : (q : Result Shadow Refusal) → allowed s us token (operation_of me us p) ≡ q → stopped q ≡ Ok v → IsMadeAt s me us token v
+    here : (q : Result Shadow Refusal) → allowed s us token (operation_of me us p) ≡ q → and_then stopped_by q Ok ≡ Ok v → IsMadeAt s me us token v
     here (Ok u) e k = made_if_allowed s me us token r p v planned (subst (λ w. allowed s us token (operation_of me us p) ≡ Ok w) (let a : u ≡ v = cc in a) e)
     here (Err why) e k = cc
 
-    at : (b : Bool) → cond b (Err DeclinedFault) (stopped (allowed s us token (operation_of me us p))) ≡ Ok v → IsMadeAt s me us token v
+    at : (b : Bool) → cond b (Err DeclinedFault) (and_then stopped_by (allowed s us token (operation_of me us p)) Ok) ≡ Ok v → IsMadeAt s me us token v
     at true k = cc
     at false k = here (allowed s us token (operation_of me us p)) refl k
 
@@ -115,11 +122,11 @@ batch_is s me us token index (r ∷ rs) vs e = at (made_in_batch s me us token r
     Rest : Type 0
     Rest = (v : Shadow) (ws : List Shadow) → batch_of s me (us ++ v ∷ []) token (index + 1) rs ≡ Ok ws → AreMadeAt s me (us ++ v ∷ []) token ws
 
-    first : (v : Shadow) → made_in_batch s me us token r ≡ Ok v → (q : Result (List Shadow) Refusal) → batch_of s me (us ++ v ∷ []) token (index + 1) rs ≡ q → with_first v q ≡ Ok vs → Rest → AreMadeAt s me us token vs
+    first : (v : Shadow) → made_in_batch s me us token r ≡ Ok v → (q : Result (List Shadow) Refusal) → batch_of s me (us ++ v ∷ []) token (index + 1) rs ≡ q → and_then Err q (λ ws. Ok (v ∷ ws)) ≡ Ok vs → Rest → AreMadeAt s me us token vs
     first v made (Ok ws) k h rest = subst (AreMadeAt s me us token) (let a : v ∷ ws ≡ vs = cc in a) (made_in_batch_is s me us token r v made, rest v ws k)
     first v made (Err why) k h rest = cc
 
-    at : (q : Result Shadow RunFault) → made_in_batch s me us token r ≡ q → then_rest index q (λ v. batch_of s me (us ++ v ∷ []) token (index + 1) rs) ≡ Ok vs → Rest → AreMadeAt s me us token vs
+    at : (q : Result Shadow RunFault) → made_in_batch s me us token r ≡ q → and_then (λ fault. Err (BatchRefused index (cause_of fault))) q (λ v. and_then Err (batch_of s me (us ++ v ∷ []) token (index + 1) rs) (λ ws. Ok (v ∷ ws))) ≡ Ok vs → Rest → AreMadeAt s me us token vs
     at (Ok v) made h rest = first v made (batch_of s me (us ++ v ∷ []) token (index + 1) rs) refl h rest
     at (Err fault) made h rest = cc
 
@@ -132,10 +139,10 @@ batch_length s me us token index (r ∷ rs) vs e = at (made_in_batch s me us tok
     Rest : Type 0
     Rest = (v : Shadow) (ws : List Shadow) → batch_of s me (us ++ v ∷ []) token (index + 1) rs ≡ Ok ws → length ws ≡ length rs
 
-    first : (v : Shadow) (q : Result (List Shadow) Refusal) → batch_of s me (us ++ v ∷ []) token (index + 1) rs ≡ q → with_first v q ≡ Ok vs → Rest → length vs ≡ length (r ∷ rs)
+    first : (v : Shadow) (q : Result (List Shadow) Refusal) → batch_of s me (us ++ v ∷ []) token (index + 1) rs ≡ q → and_then Err q (λ ws. Ok (v ∷ ws)) ≡ Ok vs → Rest → length vs ≡ length (r ∷ rs)
     first v (Ok ws) k h rest = ap length (let a : vs ≡ v ∷ ws = cc in a) ∙ ap suc (rest v ws k)
     first v (Err why) k h rest = cc
 
-    at : (q : Result Shadow RunFault) → then_rest index q (λ v. batch_of s me (us ++ v ∷ []) token (index + 1) rs) ≡ Ok vs → Rest → length vs ≡ length (r ∷ rs)
+    at : (q : Result Shadow RunFault) → and_then (λ fault. Err (BatchRefused index (cause_of fault))) q (λ v. and_then Err (batch_of s me (us ++ v ∷ []) token (index + 1) rs) (λ ws. Ok (v ∷ ws))) ≡ Ok vs → Rest → length vs ≡ length (r ∷ rs)
     at (Ok v) h rest = first v (batch_of s me (us ++ v ∷ []) token (index + 1) rs) refl h rest
     at (Err fault) h rest = cc

@@ -1,15 +1,17 @@
 -- What an event makes of a site.
-use Rattle.std.proofs.Common.{◌≡◌, ℕ, not, ◌&&◌, ◌==◌, nat_le, nat_lt, ◌<◌, ◌≤◌, Bool, true, false, cond, List, [], length, lit≤, take, refl, ap, sym, subst, ◌∙◌, arith, Option, Some, None, Result, Ok, Err}
+use Rattle.std.proofs.Common.{◌≡◌, not, ◌&&◌, ◌==◌, nat_le, nat_lt, ◌<◌, ◌≤◌, Bool, true, false, cond, List, [], ◌∷◌, length, lit≤, take, refl, ap, sym, subst, ◌∙◌, arith, Option, Some, None, Result, Ok, Err}
 use Rattle.std.proofs.lemmas.Bool.Decides.{nat_tests}
 use Rattle.std.proofs.lemmas.List.{length-map}
+use Rattle.rb_money.specs.Refusals.{and_then, unless}
 use Rattle.rb_money.specs.Settings.{Settings, is_account}
 use Rattle.rb_money.specs.declared.refusal.Refusal.{Refusal}
 use Rattle.rb_money.specs.Amounts.{cents}
-use Rattle.rb_money.specs.declared.refusal.Refusal.TheVariants.{BadBatch, UnknownAccount, NotReady, InboxFull, Conflict, PositionBeyond}
+use Rattle.rb_money.specs.declared.refusal.Refusal.TheVariants.{BadBatch, BadMessage, UnknownAccount, NotReady, InboxFull, Conflict, PositionBeyond}
 use Rattle.rb_ledger.specs.Checks.{refusal_of_sound}
 use Rattle.rb_shadow.specs.Operations.{bal, is_eligible, red_count, find_in, same_shadow}
+use Rattle.rb_shadow.specs.Labels.{label_of}
 use Rattle.rb_shadow.specs.Sound.{fault_in}
-use Rattle.rb_scratch.specs.Batches.{batch_of}
+use Rattle.rb_scratch.specs.Batches.{batch_of, names_of_all}
 use Rattle.rb_scratch.specs.Requests.{made_of}
 use Rattle.rb_scratch.specs.declared.request.Request.{Request}
 use Rattle.rb_scratch.specs.declared.request.TheConstants.{MOST_REQUESTS}
@@ -22,8 +24,8 @@ use Rattle.rb_site.specs.declared.event.Event.{Event}
 use Rattle.rb_site.specs.declared.event.Event.TheVariants.{Submit, Batch, Receive, Apply, Pass, Balance, AsOf, Statement as AskStatement}
 use Rattle.rb_site.specs.declared.message.Message.{Message}
 use Rattle.rb_site.specs.declared.message.Message.TheVariants.{Shadow as ShadowMessage, Token as TokenOnItsWay}
-use Rattle.rb_site.specs.declared.reply.Reply.TheVariants.{Already, Stale, Balance as BalanceIs, Statement as StatementIs}
-use Rattle.rb_site.specs.Events.{ModelSite, Outcome, Refuses, Drops, Answers, Makes, Holds, Applies, Takes, Passes, changed, is_full, outcome_of, outcome_of_apply, outcome_of_batch, outcome_of_check, outcome_of_made, outcome_of_pass, outcome_of_shadow, outcome_of_token, refuses_first, refuses_if, sent_at, sent_by, unless_faulty, unless_known}
+use Rattle.rb_site.specs.declared.reply.Reply.TheVariants.{Made, Names as NamesMade, Already, Stale, Balance as BalanceIs, Statement as StatementIs}
+use Rattle.rb_site.specs.Events.{ModelSite, Outcome, Refuses, Drops, Answers, Makes, Holds, Applies, Takes, Passes, changed, is_full, outcome_of, outcome_of_apply, outcome_of_check, outcome_of_shadow, sent_at, sent_by, unless_known}
 use Rattle.rb_site.specs.Seen.{SeenSite, IsReplayed, state_of}
 use Rattle.rb_site.proofs.Public.Seen
 
@@ -33,7 +35,7 @@ with_history t h = record t { history = h }
 
 -- what an event comes to doesn't depend on the history
 pub same_outcome : (s : Settings) (t : ModelSite) (h : List Entry) (e : Event) → outcome_of s (with_history t h) e ≡ outcome_of s t e
-unfolding outcome_of outcome_of_shadow outcome_of_token outcome_of_apply outcome_of_pass
+unfolding outcome_of outcome_of_shadow outcome_of_apply
 same_outcome s t h (Submit r) = refl
 same_outcome s t h (Batch rs) = refl
 same_outcome s t h (Receive (ShadowMessage v)) = refl
@@ -76,13 +78,13 @@ room_left x kept free =
 abbrev SendsFew : Outcome → Type 0
 SendsFew o = length (sent_by o) ≤ MOST_REQUESTS
 
-few_if : (b : Bool) (why : Refusal) (next : Outcome) → SendsFew next → SendsFew (refuses_if b why next)
+few_if : (b : Bool) (why : Refusal) (next : Outcome) → SendsFew next → SendsFew (cond b (Refuses why) next)
 few_if true why next h = lit≤ tt
 few_if false why next h = h
 
-few_first : (o : Option Refusal) (next : Outcome) → SendsFew next → SendsFew (refuses_first o next)
-few_first (Some why) next h = lit≤ tt
-few_first None next h = h
+few_first : {E : Type 0} (refused : E → Refusal) (o : Option E) (next : Outcome) → SendsFew next → SendsFew (unless (λ why. Refuses (refused why)) o next)
+few_first refused (Some why) next h = lit≤ tt
+few_first refused None next h = h
 
 few_known : (v : Shadow) (o : Option Shadow) (next : Outcome) → SendsFew next → SendsFew (unless_known v o next)
 few_known v None next h = h
@@ -91,10 +93,6 @@ few_known v (Some u) next h = by (same_shadow u v)
     by : (b : Bool) → SendsFew (cond b (Answers (Already v.name)) (Refuses Conflict))
     by true = lit≤ tt
     by false = lit≤ tt
-
-few_faulty : (o : Option ℕ) (next : Outcome) → SendsFew next → SendsFew (unless_faulty o next)
-few_faulty (Some why) next h = lit≤ tt
-few_faulty None next h = h
 
 few_test : (b : Bool) (o p : Outcome) → SendsFew o → SendsFew p → SendsFew (cond b o p)
 few_test true o p h k = h
@@ -105,7 +103,7 @@ few_check v None = lit≤ tt
 few_check v (Some NotReady) = lit≤ tt
 few_check v (Some why) = lit≤ tt
 
-few_made : (q : Result Shadow Refusal) → SendsFew (outcome_of_made q)
+few_made : (q : Result Shadow Refusal) → SendsFew (and_then Refuses q (λ v. Makes (Made v.name (label_of v.kind)) (v ∷ [])))
 few_made (Ok v) = lit≤ tt
 few_made (Err why) = lit≤ tt
 
@@ -114,29 +112,29 @@ few_batch : (s : Settings) (t : ModelSite) (rs : List Request) → SendsFew (out
 unfolding outcome_of
 few_batch s t rs = by (nat_le 1 (length rs)) (nat_le (length rs) MOST_REQUESTS) refl
   where
-    made : length rs ≤ MOST_REQUESTS → (q : Result (List Shadow) Refusal) → batch_of s t.me t.ops t.token 0 rs ≡ q → SendsFew (outcome_of_batch q)
+    made : length rs ≤ MOST_REQUESTS → (q : Result (List Shadow) Refusal) → batch_of s t.me t.ops t.token 0 rs ≡ q → SendsFew (and_then Refuses q (λ vs. Makes (NamesMade (names_of_all vs)) vs))
     made few (Ok vs) e = subst (λ n. n ≤ MOST_REQUESTS) (sym (length-map vs ShadowMessage ∙ batch_length s t.me t.ops t.token 0 rs vs e)) few
     made few (Err why) e = lit≤ tt
 
-    by : (b c : Bool) → nat_le (length rs) MOST_REQUESTS ≡ c → SendsFew (refuses_if (not (b && c)) BadBatch (outcome_of_batch (batch_of s t.me t.ops t.token 0 rs)))
+    by : (b c : Bool) → nat_le (length rs) MOST_REQUESTS ≡ c → SendsFew (cond (not (b && c)) (Refuses BadBatch) (and_then Refuses (batch_of s t.me t.ops t.token 0 rs) (λ vs. Makes (NamesMade (names_of_all vs)) vs)))
     by false c e = lit≤ tt
     by true false e = lit≤ tt
     by true true e = made (grind (arith, nat_tests)) (batch_of s t.me t.ops t.token 0 rs) refl
 
 -- an event sends at most as many messages as a batch may have requests
 pub sends_few : (s : Settings) (t : ModelSite) (e : Event) → length (sent_by (outcome_of s t e)) ≤ MOST_REQUESTS
-unfolding outcome_of outcome_of_shadow outcome_of_token outcome_of_apply outcome_of_pass
+unfolding outcome_of outcome_of_shadow outcome_of_apply
 sends_few s t (Submit r) = few_made (made_of s t.me t.ops t.token r)
 sends_few s t (Batch rs) = few_batch s t rs
 sends_few s t (Receive (ShadowMessage v)) =
-    few_faulty (fault_in s v) _ (few_known v (find_in t.ops v.name) _ (few_if (v.home == t.me) Conflict _ (few_known v (find_in t.held v.name) _ (few_if (nat_le s.limits.inbox (length t.held) && not (is_eligible t.ops v)) InboxFull (Holds v) (lit≤ tt)))))
-sends_few s t (Receive (TokenOnItsWay m)) = few_first (refusal_of_token s.limits t.me m) _ (few_test (nat_le m.epoch t.token.epoch) (Answers (Stale m.epoch)) (Takes m) (lit≤ tt) (lit≤ tt))
+    few_first BadMessage (fault_in s v) _ (few_known v (find_in t.ops v.name) _ (few_if (v.home == t.me) Conflict _ (few_known v (find_in t.held v.name) _ (few_if (nat_le s.limits.inbox (length t.held) && not (is_eligible t.ops v)) InboxFull (Holds v) (lit≤ tt)))))
+sends_few s t (Receive (TokenOnItsWay m)) = few_first (λ why. why) (refusal_of_token s.limits t.me m) _ (few_test (nat_le m.epoch t.token.epoch) (Answers (Stale m.epoch)) (Takes m) (lit≤ tt) (lit≤ tt))
 sends_few s t (Apply x) = by (find_in t.held x)
   where
     by : (o : Option Shadow) → SendsFew (outcome_of_apply s t o)
     by None = lit≤ tt
     by (Some v) = few_if (not (is_eligible t.ops v)) NotReady _ (few_check v (refusal_of_sound s t.ops v))
-sends_few s t (Pass to) = few_first (refusal_of_pass s.sites s.limits t.me t.token to) (Passes (pass_message t.token to (red_count t.ops))) (lit≤ tt)
+sends_few s t (Pass to) = few_first (λ why. why) (refusal_of_pass s.sites s.limits t.me t.token to) (Passes (pass_message t.token to (red_count t.ops))) (lit≤ tt)
 sends_few s t (Balance a) = few_if (not (is_account s a)) UnknownAccount (Answers (BalanceIs (cents (bal s t.ops a)))) (lit≤ tt)
 sends_few s t (AsOf a n) = few_if (not (is_account s a)) UnknownAccount _ (few_if (nat_lt (length t.ops) n) PositionBeyond (Answers (BalanceIs (cents (bal s (take n t.ops) a)))) (lit≤ tt))
 sends_few s t (AskStatement a) = few_if (not (is_account s a)) UnknownAccount (Answers (StatementIs (statement_of s t.ops a))) (lit≤ tt)

@@ -1,6 +1,6 @@
 -- What a recorded event is, and where a site goes on.
 use Rattle.std.proofs.Common.{◌≡◌, ℕ, Bool, true, false, cond, not, ◌&&◌, List, [], ◌∷◌, ◌++◌, refl, ap, sym, ◌∙◌, inl, inr, Option, Some, None, append_assoc}
-use Rattle.std.specs.Prelude.{slice_get, slice_set, is_some}
+use Rattle.std.specs.Prelude.{option_map, slice_get, slice_set, is_some}
 use Rattle.std.proofs.lemmas.List.{append-nil}
 use Rattle.rb_site.proofs.Public.Places.{get_set_other, get_set_same, same_number}
 use Rattle.rb_money.specs.Settings.{Settings}
@@ -15,7 +15,7 @@ use Rattle.rb_site.specs.declared.message.Message.{Message}
 use Rattle.rb_site.specs.declared.world_event.WorldEvent.{WorldEvent}
 use Rattle.rb_site.specs.declared.world_event.WorldEvent.TheVariants.{At, Deliver}
 use Rattle.rb_site.specs.Events.{ModelSite, after_event, changed, is_full, noted, outcome_of, reply_of, reply_to}
-use Rattle.rb_site.specs.Worlds.{AreOwn, IsOwn, World, is_recorded, is_recorded_at, message_at, world_after, world_after_all, world_at, world_delivered}
+use Rattle.rb_site.specs.Worlds.{AreOwn, IsOwn, World, is_recorded, is_recorded_at, message_at, world_after, world_after_all, world_at}
 use Rattle.rb_site.specs.Histories.{site_of}
 
 -- the site i has gone on from t
@@ -41,7 +41,7 @@ event_later s t e = elim (Members.bool_cases (is_full s t)) [
   | inr h ↦ ((record { event = e; reply = reply_to s t e }) ∷ [], noted_history s t e h)
 ]
 
-later_at : (s : Settings) (w : World) (i j : ℕ) (t : ModelSite) (e : Event) → slice_get w.sites i ≡ Some t → (o : Option ModelSite) → slice_get w.sites j ≡ o → Later (world_at s w j e o) i t
+later_at : (s : Settings) (w : World) (i j : ℕ) (t : ModelSite) (e : Event) → slice_get w.sites i ≡ Some t → (o : Option ModelSite) → slice_get w.sites j ≡ o → Later (world_at s w j (Some e) o) i t
 later_at s w i j t e at None h = not_yet w i t at
 later_at s w i j t e at (Some u) h = elim (same_number j i) [
   | inl q ↦ (let same : t ≡ u = (let k : Some t ≡ Some u = sym at ∙ ap (slice_get w.sites) q ∙ h in cc) in
@@ -59,7 +59,7 @@ later_event : (s : Settings) (w : World) (i : ℕ) (t : ModelSite) (e : WorldEve
 later_event s w i t (At j x) at = later_at s w i j t x at (slice_get w.sites j) refl
 later_event s w i t (Deliver j k) at = by (message_at w.messages k)
   where
-    by : (o : Option Message) → Later (world_delivered s w j o) i t
+    by : (o : Option Message) → Later (world_at s w j (option_map Receive o) (slice_get w.sites j)) i t
     by None = not_yet w i t at
     by (Some m) = later_at s w i j t (Receive m) at (slice_get w.sites j) refl
 
@@ -88,7 +88,7 @@ pub record IsRecorded (s : Settings) (w : World) (e : WorldEvent) : Type 0 where
   pub at : slice_get w.sites (site_of e) ≡ Some site
   pub room : is_full s site ≡ false
   pub source : IsFrom w.messages event
-  pub is : world_after s w e ≡ world_at s w (site_of e) event (Some site)
+  pub is : world_after s w e ≡ world_at s w (site_of e) (Some event) (Some site)
 
 own_from : (ms : List Message) (e : Event) → IsOwn e → IsFrom ms e
 own_from ms (Receive m) h = elim h [ ]
@@ -109,7 +109,7 @@ roomy s (Some t) h = (t, refl, not_true (is_full s t) h)
     not_true false k = refl
 
 pub is_recorded_event : (s : Settings) (w : World) (e : WorldEvent) → AreOwn (e ∷ []) → is_recorded s w e ≡ true → IsRecorded s w e
-is_recorded_event s w (At i x) own h = let (t, at, room) = roomy s (slice_get w.sites i) h in record { event = x; site = t; at = at; room = room; source = own_from w.messages x own.0; is = ap (world_at s w i x) at }
+is_recorded_event s w (At i x) own h = let (t, at, room) = roomy s (slice_get w.sites i) h in record { event = x; site = t; at = at; room = room; source = own_from w.messages x own.0; is = ap (world_at s w i (Some x)) at }
 is_recorded_event s w (Deliver i k) own h = by (message_at w.messages k) refl h
   where
     first : (b c : Bool) → (b && c) ≡ true → b ≡ true
@@ -122,7 +122,7 @@ is_recorded_event s w (Deliver i k) own h = by (message_at w.messages k) refl h
 
     by : (o : Option Message) → message_at w.messages k ≡ o → (is_recorded_at s (slice_get w.sites i) && is_some o) ≡ true → IsRecorded s w (Deliver i k)
     by None e q = absurd (none (is_recorded_at s (slice_get w.sites i)) q)
-    by (Some m) e q = let (t, at, room) = roomy s (slice_get w.sites i) (first (is_recorded_at s (slice_get w.sites i)) true q) in record { event = Receive m; site = t; at = at; room = room; source = (k, e); is = ap (world_delivered s w i) e ∙ ap (world_at s w i (Receive m)) at }
+    by (Some m) e q = let (t, at, room) = roomy s (slice_get w.sites i) (first (is_recorded_at s (slice_get w.sites i)) true q) in record { event = Receive m; site = t; at = at; room = room; source = (k, e); is = ap (λ o. world_at s w i (option_map Receive o) (slice_get w.sites i)) e ∙ ap (world_at s w i (Some (Receive m))) at }
 
 pub split_own : (e : WorldEvent) (es : List WorldEvent) → AreOwn (e ∷ es) → AreOwn (e ∷ []) × AreOwn es
 split_own (At i x) es h = ((h.0, tt), h.1)

@@ -1,6 +1,6 @@
 -- Runs, one event after another.
 use Rattle.std.proofs.Common.{◌≡◌, ℕ, zero, suc, Bool, true, false, cond, not, ◌&&◌, List, [], ◌∷◌, ◌++◌, refl, ap, ◌∙◌, Option, Some, None}
-use Rattle.std.specs.Prelude.{map, slice_get, slice_set, is_some}
+use Rattle.std.specs.Prelude.{map, option_map, slice_get, slice_set, is_some}
 use Rattle.std.proofs.lemmas.List.{append-nil}
 use Rattle.std.proofs.lemmas.List.{map-append}
 use Rattle.rb_money.specs.Settings.{Settings}
@@ -11,7 +11,7 @@ use Rattle.rb_site.specs.declared.message.Message.{Message}
 use Rattle.rb_site.specs.declared.world_event.WorldEvent.{WorldEvent}
 use Rattle.rb_site.specs.declared.world_event.WorldEvent.TheVariants.{At, Deliver}
 use Rattle.rb_site.specs.Events.{Answers, Applies, Drops, Holds, Makes, ModelSite, Outcome, Passes, Refuses, Takes, after_event, after_events, changed, first_site, is_full, noted, outcome_of, reply_of, sent_by}
-use Rattle.rb_site.specs.Worlds.{World, is_recorded, is_recorded_at, message_at, world_after, world_after_all, world_at, world_delivered}
+use Rattle.rb_site.specs.Worlds.{World, is_recorded, is_recorded_at, message_at, world_after, world_after_all, world_at}
 
 pub after_events-append : (s : Settings) (es fs : List Event) (t : ModelSite) → after_events s t (es ++ fs) ≡ after_events s (after_events s t es) fs
 after_events-append s [] fs t = refl
@@ -70,7 +70,7 @@ set-same [] i t h = refl
 set-same (u ∷ ts) zero t h = ap (λ x. x ∷ ts) (let e : t ≡ u = cc in e)
 set-same (u ∷ ts) (suc i) t h = ap (λ xs. u ∷ xs) (set-same ts i t h)
 
-unrecorded_at : (s : Settings) (w : World) (i : ℕ) (e : Event) (o : Option ModelSite) → slice_get w.sites i ≡ o → is_recorded_at s o ≡ false → world_at s w i e o ≡ w
+unrecorded_at : (s : Settings) (w : World) (i : ℕ) (e : Event) (o : Option ModelSite) → slice_get w.sites i ≡ o → is_recorded_at s o ≡ false → world_at s w i (Some e) o ≡ w
 unrecorded_at s w i e None at h = refl
 unrecorded_at s w i e (Some t) at h = by (is_full s t) h
   where
@@ -90,6 +90,6 @@ unrecorded s w (Deliver i k) h = by (message_at w.messages k) h
     first true q = cc
     first false q = refl
 
-    by : (o : Option Message) → (is_recorded_at s (slice_get w.sites i) && is_some o) ≡ false → world_delivered s w i o ≡ w
+    by : (o : Option Message) → (is_recorded_at s (slice_get w.sites i) && is_some o) ≡ false → world_at s w i (option_map Receive o) (slice_get w.sites i) ≡ w
     by None q = refl
     by (Some m) q = unrecorded_at s w i (Receive m) (slice_get w.sites i) refl (first _ q)

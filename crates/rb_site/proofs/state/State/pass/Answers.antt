@@ -4,8 +4,9 @@ use Rattle.rb_shadow.specs.Operations.{clock_of}
 use Rattle.rb_shadow.specs.declared.deps.Deps.{Deps}
 use Rattle.rb_token.specs.Seen.{SeenToken}
 use Rattle.rb_token.specs.Token.{pass_message, passed_token, refusal_of_pass}
+use Rattle.rb_site.specs.declared.event.Event.TheVariants.{Pass}
 use Rattle.rb_site.specs.declared.message.Message.TheVariants.{Token as TokenOnItsWay}
-use Rattle.rb_site.specs.Events.{outcome_of_pass}
+use Rattle.rb_site.specs.Events.{outcome_of}
 use Rattle.rb_site.specs.States.{Follows, SiteState}
 use Rattle.rb_site.proofs.Handlers.{passes, state_as}
 use Rattle.rb_site.proofs.state.State.pass.Goals as goal
@@ -13,10 +14,10 @@ use Rattle.rb_site.proofs.state.State.pass.Goals as goal
 pub returns-clause-ok : goal.returns-clause-ok
 unfolding clock_of
 returns-clause-ok c =
-    let P : SiteState → Type 0 = λ z. Follows true z (state_as c.self.inside.journal.settings c.pass.new.self.me c.self.inside.journal.ops c.self.inside.inbox.held c.pass.new.self.token) c.args.sent.now.items c.push_reserved.new.self.items (outcome_of_pass z.settings z.site c.args.to) c.plain-2.result in
+    let P : SiteState → Type 0 = λ z. Follows true z (state_as c.self.inside.journal.settings c.pass.new.self.me c.self.inside.journal.ops c.self.inside.inbox.held c.pass.new.self.token) c.args.sent.now.items c.push_reserved.new.self.items (outcome_of z.settings z.site (Pass c.args.to)) c.plain-2.result in
     subst P c.self.view_is
     (let old : SiteState = state_as c.self.inside.journal.settings c.self.inside.token.me c.self.inside.journal.ops c.self.inside.inbox.held c.self.inside.token.token in
-    let Q : SeenToken → Type 0 = λ seen. Follows true old (state_as c.self.inside.journal.settings seen.me c.self.inside.journal.ops c.self.inside.inbox.held seen.token) c.args.sent.now.items c.push_reserved.new.self.items (outcome_of_pass old.settings old.site c.args.to) c.plain-2.result in
+    let Q : SeenToken → Type 0 = λ seen. Follows true old (state_as c.self.inside.journal.settings seen.me c.self.inside.journal.ops c.self.inside.inbox.held seen.token) c.args.sent.now.items c.push_reserved.new.self.items (outcome_of old.settings old.site (Pass c.args.to)) c.plain-2.result in
     subst Q (sym (c.in-Ok.ensures.passed ∙ ap (λ (seen : SeenToken). record seen { token = passed_token seen.token c.in-Ok.message }) c.copy-passed.ensures))
     (passes c.self.inside.journal.settings c.self.inside.token.me c.self.inside.journal.ops c.self.inside.inbox.held c.self.inside.token.token _ c.args.to c.clock.result.now.red c.in-Ok.message c.args.sent.now.items c.push_reserved.new.self.items c.plain-2.result
     (ap (λ n. refusal_of_pass n c.self.inside.journal.settings.limits c.self.inside.token.me c.self.inside.token.token c.args.to) (sym c.self.invariant.sites)
