@@ -159,6 +159,7 @@ stuck p g rests left = record {
   numbers = Lists.next_numbers p.histories p.taken g.counts g.within;
   order = p.order;
   certified = certified p g;
+  replayed = g.replays;
   stuck = record {
     cut = cut;
     site = left.site;
