@@ -49,7 +49,8 @@ impl Buffers {
         self.pending.skip(if n < len { n + 1 } else { n });
     }
 
-    /// Reads once more. Each whole line was answered before, and each answer written.
+    /// Reads once more. That each whole line was answered before, and each answer written, are premises here, since
+    /// no clause of `next_line` speaks of the moments between: it says that while a line waits nothing is read.
     fn read_more<S: Source>(&mut self, reader: &mut S) -> Result<(), NoLine>
         requires counted { Counts (S.calls reader.old) self.old.reads }
         requires going { self.old.ended ≡ false }
@@ -100,6 +101,9 @@ impl Buffers {
         ensures sent { MatchResult result
             (λ _. Sends (W.contents writer.old) (W.contents writer.new) self.old.owed.items self.new.owed.items)
             (λ why. why ≢ Write → Sends (W.contents writer.old) (W.contents writer.new) self.old.owed.items self.new.owed.items) }
+
+        // No read while a line waits.
+        ensures waits { line_len self.old.pending < length self.old.pending → S.calls reader.new ≡ S.calls reader.old }
 
         // Each reason.
         ensures line { IfOk result (IsNextLine self.new) }

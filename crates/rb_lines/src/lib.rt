@@ -5,6 +5,7 @@
 mod buffers;
 mod fault;
 mod from_bytes;
+mod from_reader;
 mod limits;
 mod line;
 mod no_line;
@@ -12,11 +13,13 @@ mod pending;
 mod sink;
 mod source;
 mod to_bytes;
+mod to_writer;
 mod write;
 
 pub use buffers::Buffers;
 pub use fault::{ScriptFault, message, status};
 pub use from_bytes::FromBytes;
+pub use from_reader::FromReader;
 pub use limits::{LINE_LIMIT, MOST_OWED, MOST_READS, READ_SIZE};
 pub use line::{is_blank, text_on};
 pub use no_line::NoLine;
@@ -24,4 +27,5 @@ pub use pending::Pending;
 pub use sink::{Sink, WriteFailed};
 pub use source::{ReadFailed, Source};
 pub use to_bytes::ToBytes;
+pub use to_writer::ToWriter;
 pub use write::{flush, write_all};

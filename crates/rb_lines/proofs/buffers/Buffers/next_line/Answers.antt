@@ -21,5 +21,6 @@ reads-preserved g c =
       was_going = search rules;
       fresh = search rules;
       read = Reads-then _ (g.S.Source.remaining c.reads.reader) _ _ _ _ before.read (search rules);
+      waited = search rules;
       sent = Sends-then _ (g.W.Sink.contents c.reads.writer) _ _ _ _ before.sent (Sends-all _ _ _ _ flushed.written.0 (search rules));
     }
