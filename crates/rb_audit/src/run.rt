@@ -1,5 +1,5 @@
 //! A whole audit, from bytes to bytes.
-ghost use Rattle.std.specs.Prelude.{◌≡◌, ◌↔◌, ◌≢◌, ◌⊎◌, List, [], ℕ, true, false, Err, None, IfSome, IfOk, OnErr, OnOk};
+ghost use Rattle.std.specs.Prelude.{◌≡◌, ◌↔◌, ◌≢◌, ◌+◌, ◌≤◌, ◌⊎◌, List, [], ℕ, true, false, Err, None, IfSome, OnOk};
 ghost use Rattle.std.specs.Io.KnownBytes.{Appends};
 ghost use Rattle.rb_lines.specs.declared.fault.ScriptFault.TheVariants.{Read, Write};
 ghost use Rattle.rb_lines.specs.declared.limits.TheConstants.{MOST_READS};
@@ -27,6 +27,7 @@ fn collect<S: Source, W: Sink>(
     ensures input { IfSome (S.remaining reader.old) (λ input. CollectsAs result collected.new input (S.remaining reader.new)) }
     ensures read { result ≡ Err Read → (S.failed reader.new ≡ true) ⊎ (S.calls reader.new ≡ MOST_READS) }
     ensures write { result ≢ Err Write }
+    ensures calls { S.calls reader.new ≤ S.calls reader.old + MOST_READS }
 {
     let mut buffers = Buffers::new(alloc);
     'lines: loop {
@@ -66,6 +67,8 @@ pub fn run_audit<S: Source, W: Sink>(
         × IfSome (S.remaining reader.old) (λ input. AuditEndsAs result input (S.remaining reader.new) text) }
     ensures read { result ≡ Err Read → (S.failed reader.new ≡ true) ⊎ (S.calls reader.new ≡ MOST_READS) }
     ensures write { (result ≡ Err Write) ↔ (W.failed writer.new ≡ true) }
+    // At most so many reads are made, whatever is answered.
+    ensures calls { S.calls reader.new ≤ S.calls reader.old + MOST_READS }
 {
     let mut collected = Collected::new(alloc);
     match collect(alloc, reader, writer, &mut collected) {
