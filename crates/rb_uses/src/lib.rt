@@ -3,6 +3,7 @@
 #![tactic(auto)]
 
 mod bank;
+mod reversal;
 
 ghost use Rattle.std.specs.Prelude.{◌≡◌, IfOk};
 ghost use Rattle.rb_money.specs.declared.refusal.Refusal.TheVariants.{BatchRefused};
@@ -10,6 +11,7 @@ ghost use Rattle.rb_money.specs.declared.refusal.Cause.TheVariants.{Declined};
 ghost use Rattle.rb_site.specs.declared.reply.Reply.TheVariants.{Refused};
 
 pub use bank::{ANN, balance, bank_after, open_bank};
+pub use reversal::{as_of_by_rewinding, back_to, there_and_back, tried_and_aborted};
 use rb_list::List;
 use rb_scratch::Request;
 use rb_shadow::OpName;
