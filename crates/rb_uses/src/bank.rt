@@ -13,16 +13,24 @@ use std::alloc::{AllocError, Global};
 pub const ANN: Place = Place(0);
 
 /// Two sites, and one account that starts with 1,000 cents. Nothing is wrong with the configuration, so `Err` means out of memory.
-pub fn open_bank(alloc: Global) -> Result<World, AllocError>
-    ensures { IfOk result (λ world. world ≡ opened bank) }
+pub(crate) fn config(alloc: Global) -> Result<Config, AllocError>
+    ensures { IfOk result (λ config. config ≡ bank) }
 {
     let mut accounts = Vec::new(alloc);
     accounts.push((String::from_str(alloc, "ann")?, 1_000))?;
     match Config::new(alloc, 2, accounts, Limits::largest()) {
-        Ok(config) => World::open(alloc, config),
+        Ok(config) => Ok(config),
         Err(ConfigFault::OutOfMemory) => Err(AllocError),
         Err(_) => unreachable!(),
     }
+}
+
+/// The bank before any event. `Err` means out of memory.
+pub fn open_bank(alloc: Global) -> Result<World, AllocError>
+    ensures { IfOk result (λ world. world ≡ opened bank) }
+{
+    let config = config(alloc)?;
+    World::open(alloc, config)
 }
 
 /// The bank after a list of events. `Err` means out of memory.
