@@ -3,6 +3,7 @@
 #![tactic(auto)]
 
 mod bank;
+mod numbers;
 mod reversal;
 
 ghost use Rattle.std.specs.Prelude.{◌≡◌, [], ◌∷◌, IfOk, Some, length};
@@ -13,6 +14,7 @@ ghost use Rattle.rb_world.specs.Laws.{next_reply};
 ghost use Rattle.rb_uses.specs.Bank.{after, ann, balance_in, batch, cancellation, deposit_events, withdrawal};
 
 pub use bank::{ANN, balance, bank_after, open_bank};
+pub use numbers::other_numbers;
 use rb_list::List;
 use rb_scratch::Request;
 use rb_shadow::OpName;
