@@ -19,3 +19,4 @@ mod EntryLine
 mod FitsLaws
 mod NumbersFit
 mod ReadFits
+mod OneLine

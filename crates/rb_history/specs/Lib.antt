@@ -7,3 +7,4 @@ pub mod Entries
 pub mod Fits
 pub mod Tells
 pub mod Verdicts
+pub mod OneLine

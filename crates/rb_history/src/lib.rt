@@ -26,6 +26,7 @@ mod verdict;
 
 ghost use Rattle.rb_history.specs.ConfigLines.{ConfigsAreRead};
 ghost use Rattle.rb_history.specs.Fits.{EntriesAreRead, ReadEntriesFit};
+ghost use Rattle.rb_history.specs.OneLine.{ConfigsAreLines, EntriesAreLines};
 
 pub use config_write::write_config;
 pub use entry::{append_line, read_line, write_line};
@@ -45,4 +46,10 @@ pub fn entries_are_read()
 /// Each entry that is read from a line is one that `entries_are_read` speaks of.
 pub fn read_entries_fit()
     ensures { ReadEntriesFit }
+{}
+
+/// What is written for a configuration or an entry is one line: UTF-8 with no line feed in it.
+pub fn lines_are_single()
+    ensures configs { ConfigsAreLines }
+    ensures entries { EntriesAreLines }
 {}
