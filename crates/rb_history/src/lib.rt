@@ -1,4 +1,5 @@
 //! Lines of histories as JSON: the configuration written, entries written and read, and the verdicts of an audit.
+//! A configuration, a command and a reply are read and written by [`rb_commands`], whose calls for that are here too.
 //! Tests: rb_tests, entries.rt.
 #![tactic(auto)]
 
@@ -30,6 +31,7 @@ ghost use Rattle.rb_history.specs.OneLine.{ConfigsAreLines, EntriesAreLines};
 
 pub use config_write::write_config;
 pub use entry::{append_line, read_line, write_line};
+pub use rb_commands::{LineFault, read_command, read_config, write_reply};
 pub use verdict::{order_line, stuck_line, wrong_reply_line};
 
 /// The line that is written for a configuration is read as the configuration.
