@@ -7,3 +7,4 @@ mod Verbs
 mod Scanned
 mod Batches
 mod Versions
+mod Configured

@@ -8,3 +8,4 @@ pub mod Configurations
 pub mod Adds
 pub mod Verbs
 pub mod Spelled
+pub mod Laws

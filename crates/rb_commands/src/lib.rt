@@ -21,6 +21,7 @@ pub mod values;
 mod verb;
 
 ghost use Rattle.rb_commands.specs.Commands.{CommandsAreRead};
+ghost use Rattle.rb_commands.specs.Laws.{ReadConfigsAreConfigured};
 
 pub use command::{event, read_command};
 pub use config_line::read_config;
@@ -31,4 +32,9 @@ pub use request::account;
 /// Each command is read from the JSON object that tells it.
 pub fn commands_are_read()
     ensures { CommandsAreRead }
+{}
+
+/// Whatever a configuration's line is read as, nothing is wrong with it: all that a `Config` keeps.
+pub fn read_configs_are_configured()
+    ensures { ReadConfigsAreConfigured }
 {}

@@ -1,2 +1,3 @@
 -- What other crates cite.
 pub mod Tests
+pub mod Configured
