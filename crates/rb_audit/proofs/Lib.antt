@@ -3,3 +3,4 @@ mod Histories
 mod Owed
 mod Taken
 mod Told
+mod ReadBack

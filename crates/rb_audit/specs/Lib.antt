@@ -1,3 +1,4 @@
 pub mod Collects
 pub mod Inputs
 pub mod Run
+pub mod Laws

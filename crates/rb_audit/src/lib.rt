@@ -4,6 +4,8 @@
 
 mod answer;
 mod collected;
+mod laws;
 mod run;
 
+pub use laws::inputs_are_read_back;
 pub use run::run_audit;
