@@ -93,6 +93,17 @@ abbrev pub AllGathered : List SiteReport → List SeenSeat → Type 0
 AllGathered reports seats =
     (k : ℕ) (r : SiteReport) → slice_get reports k ≡ Some r → (r.me ≡ k) × IsGathered k r.history.items seats
 
+-- the same of the sites before the n-th, from 0
+abbrev pub GatheredBefore : ℕ → List SiteReport → List SeenSeat → Type 0
+GatheredBefore n reports seats =
+    (k : ℕ) → k < n → (r : SiteReport) → slice_get reports k ≡ Some r → (r.me ≡ k) × IsGathered k r.history.items seats
+
+-- the site of a fault is the first at fault: the history of each site before it is the receipts of that site's seats, interleaved
+abbrev pub IsFirst : List SiteReport → List SeenSeat → GatherFault → Type 0
+IsFirst reports seats (Missing site) = GatheredBefore site reports seats
+IsFirst reports seats (Mixed site) = GatheredBefore site reports seats
+IsFirst reports seats OutOfMemory = Unit {0}
+
 -- what a fault says: there are fewer receipts than entries, at that site and in all; or its history isn't its seats' receipts, interleaved. Out of memory says nothing
 abbrev pub Explains : List SiteReport → List SeenSeat → GatherFault → Type 0
 Explains reports seats (Missing site) =

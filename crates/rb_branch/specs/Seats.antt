@@ -1,9 +1,13 @@
 -- What a call does to a desk and to a seat.
-use Rattle.std.specs.Prelude.{◌≡◌, ◌≢◌, ◌⊎◌, ℕ, ◌+◌, ◌≤◌, ◌<◌, true, Option, None, zero, suc, slice_get, List, [], ◌∷◌, ◌++◌, length, All}
+use Rattle.std.specs.Prelude.{◌≡◌, ◌≢◌, ◌⊎◌, ℕ, ◌+◌, ◌≤◌, ◌<◌, true, Option, Some, None, zero, suc, slice_get, List, [], ◌∷◌, ◌++◌, length, All}
 use Rattle.rb_money.specs.Settings.{Settings}
 use Rattle.rb_money.specs.declared.limits.TheConstants.{MOST_SITES}
 use Rattle.rb_branch.specs.declared.limits.TheConstants.{MOST_RECEIPTS, MOST_SEATS, RECEIPT_PARTS}
 use Rattle.rb_branch.specs.declared.receipt.Receipt.{Receipt}
+use Rattle.rb_inbox.specs.Held.{IsReady}
+use Rattle.rb_shadow.specs.Operations.{clock_of, find_in}
+use Rattle.rb_shadow.specs.declared.op_name.OpName.{OpName}
+use Rattle.rb_shadow.specs.declared.shadow.Shadow.{Shadow}
 use Rattle.rb_site.specs.declared.event.Event.{Event}
 use Rattle.rb_site.specs.declared.event.Event.TheVariants.{Receive, Apply}
 use Rattle.rb_site.specs.declared.message.Message.{Message}
@@ -27,12 +31,22 @@ pub record IsDesk (s : Settings) (site : SeenSite) (parts amount : ℕ) : Type 0
   pub one_part : parts ≡ 1
   pub counted : amount ≡ length site.entries
 
--- a seat's site is one of the configuration's; its share of the receipts is one part, whose amount is their number
+-- the reply of a receipt is what some site of this number of the configuration, whose history replays and is one shorter than the receipt's number, answers to its event
+pub record IsSiteReply (s : Settings) (site : ℕ) (r : Receipt) : Type 0 where
+  pub before : SeenSite
+  pub settings : before.settings ≡ s
+  pub me : before.me ≡ site
+  pub replays : Replays s (first_site site) before.entries
+  pub number : r.number ≡ length before.entries + 1
+  pub reply : r.reply ≡ reply_to s (state_of before) r.event
+
+-- a seat's site is one of the configuration's; its share of the receipts is one part, whose amount is their number; the reply of each is what such a site answers
 pub record IsSeat (s : Settings) (site : ℕ) (receipts : List Receipt) (parts amount : ℕ) : Type 0 where
   pub within : site < s.sites
   pub one_part : parts ≡ 1
   pub counted : amount ≡ length receipts
   pub few : length receipts ≤ MOST_RECEIPTS
+  pub answered : All (IsSiteReply s site) receipts
 
 -- there are as many entries as receipts; of the parts of the receipts each seat that was given has one, and the rest counts nothing
 pub record AreBooks (all seats entries receipts parts amount : ℕ) : Type 0 where
@@ -76,6 +90,10 @@ pub record HasOneMore (old new : SeenSeat) (P : Event → Type 0) (number : ℕ)
   pub seat : new ≡ record old { receipts = old.receipts ++ last ∷ [] }
   pub event_is : P last.event
   pub number_is : number ≡ length new.receipts
+
+-- the site holds an operation of this name, whose past it applied
+abbrev pub IsReadyAt : SeenSite → OpName → Type 0
+IsReadyAt x name = (u : Shadow) × (find_in (state_of x).held name ≡ Some u) × IsReady (clock_of (state_of x).ops) u
 
 -- a held operation is to be applied
 abbrev pub IsApply : Event → Type 0

@@ -1,5 +1,5 @@
 //! The books of a branch.
-ghost use Rattle.std.specs.Prelude.{◌≡◌, ◌+◌, ◌<◌, ◌↔◌, [], IsSome, IfSome, OnSome};
+ghost use Rattle.std.specs.Prelude.{◌≡◌, ◌+◌, ◌<◌, ◌≤◌, ◌↔◌, [], IsSome, IfSome, OnSome};
 ghost use Rattle.rb_branch.specs.declared.limits.TheConstants.{MOST_SEATS, RECEIPT_PARTS};
 
 use crate::{Entries, MOST_SEATS, Seat};
@@ -66,6 +66,14 @@ impl<E: Entries, R: Ledger> Books<E, R> {
         let share = rest.split_off(1, 0);
         *seats += 1;
         Some(Seat::open(alloc, site, share))
+    }
+
+    /// How many seats were given.
+    pub(crate) fn seats(&self) -> u32
+        ensures same { result ≡ self.now }
+        ensures few { result ≤ MOST_SEATS }
+    {
+        self.seats
     }
 
     /// Counts an entry and its receipt.

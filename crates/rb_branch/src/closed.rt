@@ -1,7 +1,8 @@
 //! The closed sites of a branch, and the seats that are given back to them.
 ghost use Rattle.std.specs.Prelude.{◌≡◌, ◌≢◌, ◌+◌, ◌^◌, ◌<◌, ◌≤◌, ℕ, All, IfOk, IfErr, OnOk, IsTrue, Err, length, vec_len};
-ghost use Rattle.rb_branch.specs.Gathered.{AllGathered, Explains, IsClosedReport, IsGathered, entries_in, receipts_at, receipts_in};
+ghost use Rattle.rb_branch.specs.Gathered.{AllGathered, Explains, IsClosedReport, IsFirst, IsGathered, entries_in, receipts_at, receipts_in};
 ghost use Rattle.rb_branch.specs.declared.gather_fault.GatherFault.TheVariants.{Missing, Mixed};
+ghost use Rattle.rb_branch.specs.declared.limits.TheConstants.{MOST_SEATS};
 ghost use Rattle.rb_money.specs.declared.limits.TheConstants.{MOST_SITES};
 
 use crate::closing::take_back;
@@ -64,12 +65,21 @@ impl<E: Entries, R: Ledger> Closed<E, R> {
         self.reports.as_slice()
     }
 
+    /// How many seats were given.
+    pub fn seats(&self) -> u32
+        ensures same { result ≡ self.now.seats }
+        ensures few { result ≤ MOST_SEATS }
+    {
+        self.books.seats()
+    }
+
     /// The reports, where each history is the receipts of the seats given back for it, interleaved. Else the
     /// first site where it isn't so: where receipts are missing in all, the first where they are missing or
     /// are others. Where every seat is given back, none is missing.
     pub fn settle(self, seats: Vec<Seat<E, R>>) -> Result<Vec<SiteReport>, GatherFault>
         ensures ok { IfOk result (λ reports. (reports.items ≡ self.reports) × AllGathered reports.items seats.items) }
         ensures err { IfErr result (Explains self.reports seats.items) }
+        ensures first { IfErr result (IsFirst self.reports seats.items) }
         ensures every { vec_len seats ≡ self.seats → (site : ℕ) → result ≢ Err (Missing site) }
     {
         let Closed {
@@ -105,6 +115,7 @@ fn look_at_all(
     requires missing { IsTrue missing → receipts_in seats.now < entries_in reports.now }
     ensures ok { OnOk result (AllGathered reports.now seats.now) }
     ensures err { IfErr result (Explains reports.now seats.now) }
+    ensures first { IfErr result (IsFirst reports.now seats.now) }
 {
     for k in 0..reports.len() {
         let report = &reports[k];

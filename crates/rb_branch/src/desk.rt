@@ -1,12 +1,15 @@
 //! Desks, seats, and the one call that makes a receipt.
-ghost use Rattle.std.specs.Prelude.{◌≡◌, ◌<◌, ◌≤◌, [], IfOk, OnErr, Err, length};
+ghost use Rattle.std.specs.Prelude.{◌≡◌, ◌<◌, ◌≤◌, [], All, IfNone, IfOk, IfSome, List, OnErr, Err, Ok, None, length};
 ghost use Rattle.std.specs.Option.{option_copied};
 ghost use Rattle.rb_site.specs.Events.{first_site};
 ghost use Rattle.rb_site.specs.Seen.{Replays, first_seen};
 ghost use Rattle.rb_branch.specs.Gathered.{IsClosedReport};
-ghost use Rattle.rb_branch.specs.Seats.{Records, SetsUnsent, CannotRecord, receipt_at};
+ghost use Rattle.rb_branch.specs.Seats.{Records, SetsUnsent, CannotRecord, IsReadyAt, IsSiteReply, receipt_at};
 ghost use Rattle.rb_branch.specs.declared.call_fault.CallFault.TheVariants.{HistoryFull};
 ghost use Rattle.rb_branch.specs.declared.limits.TheConstants.{MOST_RECEIPTS};
+ghost use Rattle.rb_shadow.specs.declared.op_name.OpName.{OpName as NameOf};
+ghost use Rattle.rb_site.specs.declared.message.Message.{Message as MessageOf};
+ghost use Rattle.rb_site.specs.declared.event.Event.TheVariants.{Apply};
 
 use crate::given::Given;
 use crate::{Books, CallFault, Entries, MOST_RECEIPTS, Receipt};
@@ -90,6 +93,26 @@ pub fn record<E: Entries, R: Ledger, W: Wait>(
     Ok((seat.receipts.len() as u32, posted))
 }
 
+/// A held operation whose past the desk's site applied is applied, and its receipt is the last of the seat, as
+/// `record` puts it. `None` comes only where there is none; there is no event then.
+pub fn record_ready<E: Entries, R: Ledger, W: Wait>(
+    rt: &W,
+    alloc: Global,
+    desk: &mut Desk<E>,
+    seat: &mut Seat<E, R>,
+    books: &Mutex<Books<E, R>>,
+) -> Result<Option<u32>, CallFault>
+    ensures some { IfOk result (λ o. IfSome o (λ n. (x : NameOf) × (posted : List MessageOf) × IsReadyAt desk.old x × Records desk.old desk.new (Apply x) seat.old seat.new n posted)) }
+    ensures none { result ≡ Ok None → ((x : NameOf) → ¬ IsReadyAt desk.old x) × (desk.new ≡ desk.old) × (seat.new ≡ seat.old) }
+    ensures err { OnErr result ((desk.new ≡ desk.old) × (seat.new ≡ seat.old)) }
+{
+    let Some(name) = desk.ready() else {
+        return Ok(None);
+    };
+    let (number, _posted) = record(rt, alloc, desk, seat, books, Event::Apply(name))?;
+    Ok(Some(number))
+}
+
 impl<E: Entries> Desk<E> {
     /// The desk of a site before any event.
     pub(crate) fn open(site: Site, share: Share<E>) -> Desk<E>
@@ -113,7 +136,11 @@ impl<E: Entries> Desk<E> {
     }
 
     /// The name of a held operation whose past the site applied, by the site's own clock, if there is one.
-    pub(crate) fn ready(&self) -> Option<OpName> {
+    #[tactic(auto, using(crate::proofs::Ready::none_ready))]
+    pub(crate) fn ready(&self) -> Option<OpName>
+        ensures some { IfSome result (IsReadyAt self.now) }
+        ensures none { IfNone result ((x : NameOf) → ¬ IsReadyAt self.now x) }
+    {
         self.site.inbox().ready(self.site.ledger().clock())
     }
 
@@ -163,6 +190,7 @@ impl<E: Entries, R: Ledger> Seat<E, R> {
     pub fn receipts(&self) -> &[Receipt]
         ensures same { result.now ≡ self.now.receipts }
         ensures few { length self.now.receipts ≤ MOST_RECEIPTS }
+        ensures answered { All (IsSiteReply E.settings self.now.site) self.now.receipts }
     {
         self.receipts.as_slice()
     }

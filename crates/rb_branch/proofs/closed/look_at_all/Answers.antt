@@ -1,5 +1,5 @@
 use Rattle.std.proofs.Common.{rules}
-use Rattle.rb_branch.proofs.Reports.{fine_more, fine_all, explained}
+use Rattle.rb_branch.proofs.Reports.{fine_more, fine_all, first_at, explained}
 use Rattle.rb_branch.proofs.closed.look_at_all.Goals as goal
 
 pub returns-in-Err-clause-err : goal.returns-in-Err-clause-err
@@ -10,3 +10,8 @@ loop-k-preserved c = fine_more c.args.reports.now c.args.seats.now c.loop-k.k c.
 
 pub returns-clause-ok : goal.returns-clause-ok
 returns-clause-ok c = fine_all c.args.reports.now c.args.seats.now c.loop-k.k (search rules) c.loop-k.invariant
+
+pub returns-in-Err-clause-first : goal.returns-in-Err-clause-first
+returns-in-Err-clause-first c =
+    first_at c.args.reports.now c.args.seats.now c.loop-k.k c.in-Err.fault
+    (λ s is. (c.in-Err.ensures.missing s is).0) (λ s is. (c.in-Err.ensures.mixed s is).0) c.loop-k.invariant
