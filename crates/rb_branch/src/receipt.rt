@@ -11,6 +11,7 @@ pub struct Receipt {
     pub event: Event,
     /// What the site answered.
     pub reply: Reply,
-    /// How many links refused a message that was sent with it, or weren't there.
+    /// How many sendings failed: each message that went with it counts once for each link that refused it, as
+    /// its inlet was dropped, or that wasn't there.
     pub unsent: u32,
 }

@@ -10,6 +10,9 @@ use std::sync::ledger::Ledger;
 impl<E: Entries, R: Ledger, G: Gate + Drop> Branch<E, R, G> {
     /// Receives what comes by a link until it closes, and after each message applies what is ready. It tells
     /// how many receipts the seat has more. After an `Err` the seat keeps those of the events before.
+    ///
+    /// The link closes once all outboxes are dropped, so a thread that serves must not hold one of them: it
+    /// would wait for itself.
     pub fn serve<W: Wait>(
         &self,
         rt: &W,
