@@ -1,8 +1,7 @@
 //! The threads of a run, hired and joined.
-ghost use Rattle.std.specs.Prelude.{◌≡◌, ◌+◌, ◌%◌, ◌<◌, ◌++◌, ℕ, All, map, IfOk, Ok, Some, vec_len, slice_get};
-ghost use Rattle.rb_branch.specs.Seats.{IsServed, SeenSeat};
-ghost use Rattle.rb_branch.specs.declared.receipt.Receipt.{Receipt};
-ghost use Rattle.rb_crew.specs.Tellers.{IsTeller};
+ghost use Rattle.std.specs.Prelude.{◌≡◌, ◌+◌, ◌%◌, ◌<◌, ◌++◌, ℕ, map, IfOk, Ok, Some, vec_len, slice_get};
+ghost use Rattle.rb_branch.specs.Seats.{SeenSeat};
+ghost use Rattle.rb_crew.specs.Tellers.{IsServer, IsTeller};
 
 use crate::RunFault;
 use crate::starting::{ServerHandle, TellerHandle, start_server, start_teller};
@@ -48,7 +47,7 @@ pub(crate) fn hire_tellers<
     Ok(handles)
 }
 
-/// A serving thread for each site.
+/// A serving thread for each site, in order.
 pub(crate) fn hire_servers<
     's,
     X,
@@ -65,6 +64,8 @@ pub(crate) fn hire_servers<
     sites: u8,
 ) -> Result<Vec<ServerHandle<E, R>>, RunFault>
     requires { vec_len inlets ≡ sites }
+    ensures len { IfOk result (λ v. vec_len v ≡ sites) }
+    ensures each { IfOk result (λ v. (k : ℕ) (h : _) → slice_get v.items k ≡ Some h → h.promise ≡ record { site = k }) }
 {
     let mut handles = Vec::with_capacity(alloc, usize::from(sites))?;
     for site in 0..sites {
@@ -72,7 +73,8 @@ pub(crate) fn hire_servers<
             return Err(RunFault::OutOfMemory);
         };
         let inlet = inlets.remove(0);
-        handles.push_reserved(start_server(scope, rt, branch, seat, inlet)?);
+        let handle = start_server(scope, rt, branch, seat, inlet)?;
+        handles.push_reserved(handle);
     }
     Ok(handles)
 }
@@ -102,8 +104,12 @@ pub(crate) fn join_servers<E: Entries, R: Ledger, W: Threads>(
     rt: &W,
     alloc: Global,
     handles: Vec<ServerHandle<E, R>>,
+    sites: u8,
 ) -> Result<Vec<Seat<E, R>>, RunFault>
-    ensures { IfOk result (λ v. (k : ℕ) (seat : SeenSeat) → slice_get v.items k ≡ Some seat → All (λ (r : Receipt). IsServed r.event) seat.receipts) }
+    requires len { vec_len handles ≡ sites }
+    requires each { (k : ℕ) (h : _) → slice_get handles.items k ≡ Some h → h.promise ≡ record { site = k } }
+    ensures len { IfOk result (λ v. vec_len v ≡ sites) }
+    ensures each { IfOk result (λ v. (k : ℕ) (seat : SeenSeat) → slice_get v.items k ≡ Some seat → IsServer k seat) }
 {
     let Ok(results) = thread::join_promised(rt, handles) else {
         return Err(RunFault::OutOfMemory);

@@ -33,6 +33,7 @@ pub fn run_bank<G: Gate + Drop + Sync, W: Threads + Wait + Sync>(
 ) -> Result<Vec<SiteReport>, RunFault>
     ensures all { IfOk result (λ reports. vec_len reports ≡ config.sites) }
     ensures closed { IfOk result (λ reports. All (IsClosedReport config) reports.items) }
+    ensures gathered { IfOk result (λ reports. (seats : List SeenSeat) × IsCrew seed tellers config.sites seats × AllGathered reports.items seats) }
     ensures tellers { IfOk result (λ reports. (k : ℕ) (r : SiteReport) → slice_get reports.items k ≡ Some r → (r.me ≡ k) × TellersAt seed tellers config.sites k r.history.items) }
 {
     let entries = Blank::new(u64::from(config.sites()));
@@ -130,6 +131,6 @@ fn run_scope<
     let hired = hire_tellers(scope, rt, alloc, branch, &outbox, sites, tellers, seed)?;
     drop(outbox);
     let hired = join_tellers(rt, alloc, hired, tellers, sites, seed)?;
-    let servers = join_servers(rt, alloc, servers)?;
+    let servers = join_servers(rt, alloc, servers, sites)?;
     together(hired, servers)
 }
