@@ -11,17 +11,23 @@ A case begins with its name in brackets. Its lines:
   ? TEXT    a line of input behind the others: the case runs once with each such line
   ! TEXT    a line of standard error; !~ TEXT: a part of it
   = N       the exit status, where it isn't 0
+  & FILE    the file that standard output goes to
+  % BYTES   the addresses that the program may have
 """
 import codecs
 import glob
 import os
 import re
+import resource
 import subprocess
 import sys
-from typing import NamedTuple
+from typing import NamedTuple, Optional
+
+import one_teller
 
 HERE = os.path.dirname(os.path.abspath(__file__))
-sys.path.insert(0, os.path.join(os.path.dirname(HERE), "examples"))
+EXAMPLES = os.path.join(os.path.dirname(HERE), "examples")
+sys.path.insert(0, EXAMPLES)
 import from_rows  # noqa: E402
 
 BANK = '{"accounts":[["ann",0]],"sites":2,"version":1}'
@@ -32,6 +38,11 @@ TELLERS_BANK = (
     '"blue":1000000,"epoch":4000000000,"history":100000000,"inbox":4096,"red":1000000'
 )
 CALL = re.compile(r'\{"event":\{"(deposit|withdraw|interest|cancel|pass)"')
+# an operation that a site made or applied: which of the two, the operation's name and the site's number
+HAS = re.compile(r'"reply":\{"(applied|kind":"\w+","name)":"([^"]+)"\},"site":(\d+)\}$')
+# runs of one teller, which end the same each time: the sites and the seed. The second has each of a teller's answers,
+# and the third tells clocks by pairs
+ONE_TELLER = [(2, 0), (3, 1281), (9, 4294967295)]
 
 
 class Case(NamedTuple):
@@ -45,11 +56,13 @@ class Case(NamedTuple):
     err: str = ""
     part_of_err: str = ""
     status: int = 0
+    output: Optional[str] = None
+    addresses: Optional[int] = None
 
 
 def parsed(name, text):
     """The runs of a case."""
-    words, given, both, each, status = [], b"", [], [], 0
+    words, given, both, each, status, output, addresses = [], b"", [], [], 0, None, None
     wanted = {">": "", ">~": "", "!": "", "!~": ""}
     for line in text.splitlines():
         mark, _, rest = line.partition(" ")
@@ -67,6 +80,10 @@ def parsed(name, text):
             wanted[mark] += rest + "\n"
         elif mark == "=":
             status = int(rest)
+        elif mark == "&":
+            output = rest
+        elif mark == "%":
+            addresses = int(rest)
         elif line and not line.startswith("#"):
             sys.exit(f"cases: no such line: {line}")
     wanted[">"] += "".join(line + "\n" for line in both)
@@ -74,7 +91,7 @@ def parsed(name, text):
         lines = "".join(space + line + "\n" for line in both)
         for last in each or [""]:
             known = f"{name} {last}".rstrip()
-            yield Case(known, words, given + (lines + last).encode(), *wanted.values(), status)
+            yield Case(known, words, given + (lines + last).encode(), *wanted.values(), status, output, addresses)
 
 
 def written_down():
@@ -124,6 +141,9 @@ def made_here():
     yield many_accounts(1001, err="rbbank: line 1: bad configuration\n", status=2)
     yield from long_lines("script", out='{"balance":0}\n')
     yield from long_lines("audit", err="rbbank: line 2: bad line\n", status=2)
+    for sites, seed in ONE_TELLER:
+        words = ["threads", "--sites", str(sites), "--tellers", "1", "--seed", str(seed)]
+        yield Case(f"one teller at {sites} sites", words, b"", one_teller.text(sites, seed))
 
 
 def is_wanted(written, whole, part):
@@ -131,21 +151,48 @@ def is_wanted(written, whole, part):
     return part.removesuffix("\n") in written if part else written == whole
 
 
+def run_of(program, case):
+    """A run of the program on a case."""
+    limit = case.addresses and (lambda: resource.setrlimit(resource.RLIMIT_AS, (case.addresses,) * 2))
+    words = [program, *case.words]
+    if case.output is None:
+        return subprocess.run(words, input=case.given, capture_output=True, preexec_fn=limit)
+    with open(case.output, "wb") as output:
+        return subprocess.run(words, input=case.given, stdout=output, stderr=subprocess.PIPE, preexec_fn=limit)
+
+
 def passes(program, case):
-    run = subprocess.run([program, *case.words], input=case.given, capture_output=True)
-    fine = is_wanted(run.stdout.decode(), case.out, case.part_of_out)
+    run = run_of(program, case)
+    fine = is_wanted((run.stdout or b"").decode(), case.out, case.part_of_out)
     return fine and is_wanted(run.stderr.decode(), case.err, case.part_of_err) and run.returncode == case.status
 
 
-def audit_accepts(program, sites, tellers, version):
-    """Whether an audit accepts what a run of tellers wrote, which has a hundred calls of each."""
+def catches_up(entries, sites):
+    """Whether each site made or applied all operations that were made at any of them."""
+    made, held = set(), [set() for _ in range(sites)]
+    for how, name, site in (found.groups() for found in map(HAS.search, entries) if found):
+        held[int(site)].add(name)
+        if how != "applied":
+            made.add(name)
+    return made != set() and all(names == made for names in held)
+
+
+def tellers_run(program, sites, tellers, version):
+    """Whether a run of tellers makes a hundred calls of each, and every site catches up, and an audit accepts it."""
     words = ["threads", "--sites", str(sites), "--tellers", str(tellers), "--seed", "7"]
     run = subprocess.run([program, *words], capture_output=True)
     audit = subprocess.run([program, "audit"], input=run.stdout, capture_output=True)
     bank, *entries = run.stdout.decode().splitlines()
     calls = sum(bool(CALL.match(line)) for line in entries)
     right = bank == f'{TELLERS_BANK},"sites":{sites},"version":{version}}}' and calls == 100 * tellers
-    return right and (run.returncode, audit.returncode) == (0, 0) and audit.stdout.startswith(b'{"order":[')
+    answered = (run.returncode, audit.returncode) == (0, 0) and audit.stdout.startswith(b'{"order":[')
+    return right and answered and catches_up(entries, sites)
+
+
+def is_example():
+    """Whether the run of examples/ is the one of the same sites and seed that is made here."""
+    with open(os.path.join(EXAMPLES, "tellers.histories.jsonl"), encoding="utf-8") as file:
+        return file.read() == one_teller.text(2, 0)
 
 
 def main():
@@ -154,7 +201,8 @@ def main():
         sys.exit(__doc__)
     results = [(case.name, passes(words[0], case)) for case in [*written_down(), *made_here()]]
     for sites, tellers, version in [(3, 4, 1), (8, 2, 1), (9, 2, 2), (16, 16, 2)]:
-        results.append((f"{tellers} tellers at {sites} sites", audit_accepts(words[0], sites, tellers, version)))
+        results.append((f"{tellers} tellers at {sites} sites", tellers_run(words[0], sites, tellers, version)))
+    results.append(("example of one teller", is_example()))
     for name, same in results:
         if not same or "--quiet" not in sys.argv:
             print("same     " if same else "DIFFERENT", name)

@@ -1,12 +1,16 @@
 #!/usr/bin/env python3
-"""Refuses each allocation in turn: of the program on four scripts and a migration, and of four tests.
+"""Refuses each allocation in turn: of the program on four scripts, a migration and a run of one teller, and of four
+tests.
 
 usage: refuse.py PROGRAM TESTS      (what `rt run` built in crates/rbbank/out, and `rt test` in crates/rb_tests/out)
 
 A process is run with its first allocation refused, another with its second, and so on until a run meets
-no refusal. The program has to write a front of what is expected and end in status 4, or all of it in status 0;
+no refusal. The program has to write a prefix of what is expected and end in status 4, or all of it in status 0;
 a test (crates/rb_tests/src/refused.rt, seats.rt) has to pass. Ends in status 1 where a
 run does otherwise, and where no run of an input was stopped on the way, or none inside a batch.
+
+A run of one teller writes nothing before it ends in status 4. Its threads take memory in an order that differs from
+run to run. Where it was a link that was refused memory, one message is lost, and the other site goes on without it.
 """
 import itertools
 import os
@@ -14,6 +18,8 @@ import re
 import subprocess
 import sys
 import tempfile
+
+import one_teller
 
 HERE = os.path.dirname(os.path.abspath(__file__))
 EXAMPLES = os.path.join(os.path.dirname(HERE), "examples")
@@ -25,6 +31,7 @@ ROWS = [
 ]
 # what the program is run on, and by which command
 RUNS = [(name, "script") for name in ROWS] + [("migrated_history.migration", "migrate")]
+ONE_TELLER = (2, 0)  # the sites and the seed of a run of one teller
 SECONDS = 60
 
 
@@ -82,6 +89,29 @@ def program_on(refuser, program, name, command):
     return refusals
 
 
+def one_teller_on(refuser, program):
+    """The program for a run of one teller. The number of refusals."""
+    sites, seed = map(str, ONE_TELLER)
+    whole = one_teller.text(*ONE_TELLER)
+    messages = len(one_teller.Teller(*ONE_TELLER).sent)
+    one_lost = {one_teller.text(*ONE_TELLER, lost).encode() for lost in range(messages)}
+    refusals = stopped = lost = 0
+    for nth, run, refused in refuser.runs([program, "threads", "--sites", sites, "--tellers", "1", "--seed", seed]):
+        wrote = (run.returncode, run.stderr) == (0, b"")
+        wrote_all = wrote and run.stdout == whole.encode()
+        lost_one = wrote and run.stdout in one_lost
+        gave_up = (run.returncode, run.stdout, run.stderr) == (4, b"", b"rbbank: out of memory\n")
+        if not wrote_all and not (refused and (gave_up or lost_one)):
+            fail("one teller", nth, run)
+        refusals += refused
+        stopped += gave_up
+        lost += lost_one
+    print(f"one teller: {refusals} refusals, {stopped} runs stopped, a message lost in {lost}")
+    if stopped == 0:
+        sys.exit("refuse: no run of one teller was stopped")
+    return refusals
+
+
 def test(refuser, tests, name):
     """A test. The number of refusals, and where they stopped it, as it says: a row, and what came there."""
     refusals, stops = 0, []
@@ -126,6 +156,7 @@ def main():
     with tempfile.TemporaryDirectory() as folder:
         refuser = Refuser(folder)
         refusals = sum(program_on(refuser, program, name, command) for name, command in RUNS)
+        refusals += one_teller_on(refuser, program)
         refusals += all_tests(refuser, tests)
     print(f"{refusals} refusals tried, and all is as it has to be")
 

@@ -1,17 +1,19 @@
 /* Loaded before the C library: refuses one allocation of a process, the one whose number, from 1, is
-   REFUSE_NTH, and then makes the file REFUSE_MARK. All others are the C library's. */
+   REFUSE_NTH, and then makes the file REFUSE_MARK. All others are the C library's. All threads of the process
+   count together. */
 #define _GNU_SOURCE
 #include <dlfcn.h>
 #include <errno.h>
 #include <fcntl.h>
+#include <stdatomic.h>
 #include <stdlib.h>
 #include <unistd.h>
 
 static int is_refused(void)
 {
-    static long count;
+    static atomic_long count;
     const char *nth = getenv("REFUSE_NTH");
-    if (nth == NULL || ++count != atol(nth))
+    if (nth == NULL || atomic_fetch_add(&count, 1) + 1 != atol(nth))
         return 0;
     int mark = open(getenv("REFUSE_MARK"), O_WRONLY | O_CREAT, 0600);
     if (mark < 0)

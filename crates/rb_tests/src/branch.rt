@@ -3,8 +3,8 @@ ghost use Rattle.std.specs.Prelude.{◌≡◌};
 ghost use Rattle.rb_branch.specs.declared.limits.TheConstants.{RECEIPT_PARTS};
 
 use rb_branch::{
-    Branch, CallFault, Entries, Gate, GatherFault, MOST_SEATS, NoGate, Outbox, RECEIPT_PARTS, Seat,
-    SeatFault, links,
+    Branch, CallFault, Entries, Gate, GatherFault, Inlet, NoGate, RECEIPT_PARTS, Seat, SeatFault,
+    links,
 };
 use rb_money::{Config, Limits, Place};
 use rb_scratch::Request;
@@ -18,12 +18,17 @@ use std::sync::atomic::{AtomicBool, Ordering};
 use std::sync::ledger::{Blank, Ledger};
 use std::test::Fail;
 use std::thread;
-use std::thread::{Threads, join};
+use std::thread::Threads;
 use std::time::Duration;
 
 /// What one thread does at a branch, and the seats that it gives back.
 pub trait Case {
-    fn calls<E: Entries, R: Ledger, G: Gate + Drop, W: Wait + Abort + Print>(
+    fn calls<
+        E: Entries + Send + Sync,
+        R: Ledger + Send + Sync,
+        G: Gate + Drop + Sync,
+        W: Threads + Wait + Abort + Print + Clock + Sync,
+    >(
         &self,
         rt: &W,
         alloc: Global,
@@ -46,7 +51,13 @@ fn gathered_with<E: Entries, R: Ledger, G: Gate + Drop>(
     }
 }
 
-fn gathered_over<E: Entries, R: Ledger, G: Gate + Drop, W: Wait + Abort + Print, C: Case>(
+fn gathered_over<
+    E: Entries + Send + Sync,
+    R: Ledger + Send + Sync,
+    G: Gate + Drop + Sync,
+    W: Threads + Wait + Abort + Print + Clock + Sync,
+    C: Case,
+>(
     rt: &W,
     alloc: Global,
     config: Config,
@@ -70,7 +81,11 @@ fn gathered_over<E: Entries, R: Ledger, G: Gate + Drop, W: Wait + Abort + Print,
 }
 
 /// The branch after the calls, gathered with the seats that they gave back.
-pub fn gathered<G: Gate + Drop, W: Wait + Abort + Print, C: Case>(
+pub fn gathered<
+    G: Gate + Drop + Sync,
+    W: Threads + Wait + Abort + Print + Clock + Sync,
+    C: Case,
+>(
     rt: &W,
     alloc: Global,
     config: Config,
@@ -89,15 +104,15 @@ pub fn gathered<G: Gate + Drop, W: Wait + Abort + Print, C: Case>(
     )
 }
 
-/// Two sites with one account, that starts with nothing.
-fn two_sites(alloc: Global, limits: Limits) -> Result<Config, Fail> {
+/// So many sites with one account, that starts with nothing.
+pub fn some_sites(alloc: Global, sites: u8, limits: Limits) -> Result<Config, Fail> {
     let mut accounts = Vec::new(alloc);
     accounts.push((String::from_str(alloc, "ann")?, 0))?;
-    Ok(Config::new(alloc, 2, accounts, limits)?)
+    Ok(Config::new(alloc, sites, accounts, limits)?)
 }
 
 /// A deposit of so many cents on the first account.
-fn deposit(amount: u64) -> Request {
+pub fn deposit(amount: u64) -> Request {
     Request::Deposit {
         account: Place(0),
         amount,
@@ -109,7 +124,12 @@ pub const TURNS: u32 = 10_000;
 
 /// Waits for a flag, and says whether it came.
 pub fn comes<C: Clock>(clock: &C, flag: &AtomicBool) -> bool {
-    for _ in 0..TURNS {
+    comes_within(clock, flag, TURNS)
+}
+
+/// Waits for a flag for so many looks, and says whether it came.
+pub fn comes_within<C: Clock>(clock: &C, flag: &AtomicBool, looks: u32) -> bool {
+    for _ in 0..looks {
         if flag.load(Ordering::SeqCst) {
             return true;
         }
@@ -118,138 +138,26 @@ pub fn comes<C: Clock>(clock: &C, flag: &AtomicBool) -> bool {
     false
 }
 
-/// A gate that holds a call at site 0 until one at site 1 was answered.
-#[derive(Drop)]
-struct Holding<'a, C> {
-    clock: &'a C,
-    inside: &'a AtomicBool,
-    answered: &'a AtomicBool,
-    late: &'a AtomicBool,
-}
-
-impl<C: Clock> Gate for Holding<'_, C> {
-    fn enter(&self, site: u8) {
-        if site == 0 {
-            self.inside.store(true, Ordering::SeqCst);
-            if !comes(self.clock, self.answered) {
-                self.late.store(true, Ordering::SeqCst);
-            }
-        }
-    }
-
-    fn leave(&self, _site: u8) {}
-}
-
-/// A question at a seat's site.
-fn asked<E: Entries, R: Ledger, G: Gate + Drop, W: Wait>(
+/// Serves a site until its link closes. How many receipts the seat has more.
+pub fn served_by<E: Entries, R: Ledger, G: Gate + Drop, W: Wait>(
     rt: &W,
     branch: &Branch<E, R, G>,
-    mut seat: Seat<E, R>,
-) -> Result<Seat<E, R>, CallFault> {
-    let _number = branch.balance(rt, &mut seat, Place(0))?;
-    Ok(seat)
-}
-
-/// A call at site 0, and, once it is held there, one at site 1.
-fn one_beside<
-    E: Entries + Send + Sync,
-    R: Ledger + Send + Sync,
-    G: Gate + Drop + Sync,
-    W: Threads + Wait + Clock + Sync,
->(
-    rt: &W,
-    alloc: Global,
-    branch: &Branch<E, R, G>,
-    inside: &AtomicBool,
-    answered: &AtomicBool,
-) -> Result<Vec<Seat<E, R>>, Fail> {
-    let held = branch.seat(rt, 0)?;
-    let other = branch.seat(rt, 1)?;
-    let (held, other) = join(
-        rt,
-        || asked(rt, branch, held),
-        || {
-            let _held_there = comes(rt, inside);
-            let answer = asked(rt, branch, other);
-            answered.store(true, Ordering::SeqCst);
-            answer
-        },
-    );
-    let mut seats = Vec::with_capacity(alloc, 2)?;
-    seats.push_reserved(held?);
-    seats.push_reserved(other?);
-    Ok(seats)
-}
-
-fn threaded_over<
-    E: Entries + Send + Sync,
-    R: Ledger + Send + Sync,
-    G: Gate + Drop + Sync,
-    W: Threads + Wait + Clock + Sync,
->(
-    rt: &W,
-    alloc: Global,
-    config: Config,
-    gate: G,
-    inside: &AtomicBool,
-    answered: &AtomicBool,
-    entries: Blank,
-    receipts: Blank,
-) -> Result<Result<Vec<SiteReport>, GatherFault>, Fail>
-    requires config { config ≡ E.settings }
-    requires entries { (entries.name ≡ E.name) × (entries.parts ≡ E.parts) × (entries.parts ≡ config.sites) }
-    requires receipts { (receipts.name ≡ R.name) × (receipts.parts ≡ R.parts) × (receipts.parts ≡ RECEIPT_PARTS) }
-{
-    let branch: Branch<E, R, G> = Branch::open(alloc, config, gate, entries, receipts)?;
-    let seats = one_beside(rt, alloc, &branch, inside, answered);
-    gathered_with(alloc, branch, seats)
-}
-
-/// The branch after what two threads do, gathered with the seats that they gave back.
-fn threaded<G: Gate + Drop + Sync, W: Threads + Wait + Clock + Sync>(
-    rt: &W,
-    alloc: Global,
-    config: Config,
-    gate: G,
-    inside: &AtomicBool,
-    answered: &AtomicBool,
-) -> Result<Result<Vec<SiteReport>, GatherFault>, Fail> {
-    let sites = u64::from(config.sites());
-    threaded_over::<Brand, Brand, G, W>(
-        rt,
-        alloc,
-        config,
-        gate,
-        inside,
-        answered,
-        Blank::new(sites),
-        Blank::new(RECEIPT_PARTS),
-    )
-}
-
-#[test]
-fn gate(rt: HostRuntime) -> Result<(), Fail> {
-    let inside = AtomicBool::new(false);
-    let answered = AtomicBool::new(false);
-    let late = AtomicBool::new(false);
-    let gate = Holding {
-        clock: &rt,
-        inside: &inside,
-        answered: &answered,
-        late: &late,
-    };
-    let config = two_sites(rt.alloc(), Limits::largest())?;
-    let reports = threaded(&rt, rt.alloc(), config, gate, &inside, &answered)??;
-    assert_eq!(rt; reports.len(), 2);
-    assert!(rt; inside.load(Ordering::SeqCst) && !late.load(Ordering::SeqCst));
-    Ok(())
+    seat: &mut Seat<E, R>,
+    inlet: Inlet,
+) -> Result<u64, CallFault> {
+    branch.serve(rt, seat, inlet)
 }
 
 /// A deposit at site 0, and a server at site 1.
 struct OneServed;
 
 impl Case for OneServed {
-    fn calls<E: Entries, R: Ledger, G: Gate + Drop, W: Wait + Abort + Print>(
+    fn calls<
+        E: Entries + Send + Sync,
+        R: Ledger + Send + Sync,
+        G: Gate + Drop + Sync,
+        W: Threads + Wait + Abort + Print + Clock + Sync,
+    >(
         &self,
         rt: &W,
         alloc: Global,
@@ -263,7 +171,7 @@ impl Case for OneServed {
         drop(outbox);
         drop(copy);
         let inlet = inlets.pop().ok_or("no inlet")?;
-        assert_eq!(rt; branch.serve(rt, &mut server, inlet).ok(), Some(2));
+        assert_eq!(rt; served_by(rt, branch, &mut server, inlet).ok(), Some(2));
         let number = branch.balance(rt, &mut server, Place(0))?;
         let receipt = server.receipt(number).ok_or("no receipt")?;
         assert!(rt; receipt.reply.same(&Reply::Balance(5)));
@@ -278,7 +186,7 @@ impl Case for OneServed {
 
 #[test]
 fn served(rt: HostRuntime) -> Result<(), Fail> {
-    let config = two_sites(rt.alloc(), Limits::largest())?;
+    let config = some_sites(rt.alloc(), 2, Limits::largest())?;
     let reports = gathered(&rt, rt.alloc(), config, NoGate, &OneServed)??;
     for report in &reports {
         assert_eq!(rt; report.balances.first().copied(), Some(5));
@@ -290,7 +198,12 @@ fn served(rt: HostRuntime) -> Result<(), Fail> {
 struct Seats;
 
 impl Case for Seats {
-    fn calls<E: Entries, R: Ledger, G: Gate + Drop, W: Wait + Abort + Print>(
+    fn calls<
+        E: Entries + Send + Sync,
+        R: Ledger + Send + Sync,
+        G: Gate + Drop + Sync,
+        W: Threads + Wait + Abort + Print + Clock + Sync,
+    >(
         &self,
         rt: &W,
         alloc: Global,
@@ -298,7 +211,7 @@ impl Case for Seats {
     ) -> Result<Vec<Seat<E, R>>, Fail> {
         assert_eq!(rt; branch.seat(rt, 2).err(), Some(SeatFault::NoSite));
         let mut seats = Vec::new(alloc);
-        for _i in 0..MOST_SEATS {
+        for _i in 0..1_024 {
             let seat = branch.seat(rt, 0)?;
             if seats.push(seat).is_err() {
                 return Err(Fail::from("no memory"));
@@ -313,7 +226,12 @@ impl Case for Seats {
 struct Full;
 
 impl Case for Full {
-    fn calls<E: Entries, R: Ledger, G: Gate + Drop, W: Wait + Abort + Print>(
+    fn calls<
+        E: Entries + Send + Sync,
+        R: Ledger + Send + Sync,
+        G: Gate + Drop + Sync,
+        W: Threads + Wait + Abort + Print + Clock + Sync,
+    >(
         &self,
         rt: &W,
         alloc: Global,
@@ -336,7 +254,12 @@ impl Case for Full {
 struct OneMissing;
 
 impl Case for OneMissing {
-    fn calls<E: Entries, R: Ledger, G: Gate + Drop, W: Wait + Abort + Print>(
+    fn calls<
+        E: Entries + Send + Sync,
+        R: Ledger + Send + Sync,
+        G: Gate + Drop + Sync,
+        W: Threads + Wait + Abort + Print + Clock + Sync,
+    >(
         &self,
         rt: &W,
         alloc: Global,
@@ -361,13 +284,13 @@ impl Case for OneMissing {
 #[test]
 fn seat_faults(rt: HostRuntime) -> Result<(), Fail> {
     let alloc = rt.alloc();
-    let config = two_sites(alloc, Limits::largest())?;
+    let config = some_sites(alloc, 2, Limits::largest())?;
     assert!(rt; gathered(&rt, alloc, config, NoGate, &Seats)?.is_ok());
     let mut limits = Limits::largest();
     limits.history = 1;
-    let config = two_sites(alloc, limits)?;
+    let config = some_sites(alloc, 2, limits)?;
     assert!(rt; gathered(&rt, alloc, config, NoGate, &Full)?.is_ok());
-    let config = two_sites(alloc, Limits::largest())?;
+    let config = some_sites(alloc, 2, Limits::largest())?;
     let missing = gathered(&rt, alloc, config, NoGate, &OneMissing)?;
     assert_eq!(rt; missing.err(), Some(GatherFault::Missing { site: 0 }));
     Ok(())

@@ -20,9 +20,13 @@ mod entries;
 #[cfg(test)]
 mod forged;
 #[cfg(test)]
+mod gates;
+#[cfg(test)]
 mod inbox;
 #[cfg(test)]
 mod ledger;
+#[cfg(test)]
+mod links;
 #[cfg(test)]
 mod migrations;
 #[cfg(test)]

@@ -15,9 +15,11 @@ use rb_scratch::Request;
 use rb_site::{Event, Message, Reply, SiteReport, WorldEvent};
 use std::alloc::Global;
 use std::process::Abort;
+use std::rt::Clock;
 use std::sync::Wait;
 use std::sync::ledger::Ledger;
 use std::test::Fail;
+use std::thread::Threads;
 
 /// What is asked for, or, where that is refused memory, what is given when it is asked for again.
 macro_rules! twice {
@@ -30,13 +32,14 @@ macro_rules! twice {
 }
 
 /// The seats of two sites, the links between them, and what they brought so far: `None` where a link refused a
-/// message.
+/// message, which it does only where memory may be refused.
 #[derive(Drop)]
 struct Desks<E: Entries, R: Ledger> {
     seats: Vec<Seat<E, R>>,
     outbox: Outbox,
     inlets: Vec<Inlet>,
     sent: Vec<Option<Message>>,
+    may_lose: bool,
 }
 
 /// The call that an event is. Its receipt's place in the seat, or `None` where nothing is to be applied.
@@ -127,6 +130,7 @@ impl<E: Entries, R: Ledger> Desks<E, R> {
         rt: &W,
         alloc: Global,
         branch: &Branch<E, R, G>,
+        may_lose: bool,
     ) -> Result<Desks<E, R>, Fail> {
         let (outbox, inlets) = twice!(links(alloc, 2));
         let mut seats = twice!(Vec::with_capacity(alloc, 2));
@@ -138,6 +142,7 @@ impl<E: Entries, R: Ledger> Desks<E, R> {
             outbox,
             inlets,
             sent,
+            may_lose,
         })
     }
 
@@ -151,6 +156,7 @@ impl<E: Entries, R: Ledger> Desks<E, R> {
         wanted: &str,
     ) -> Result<bool, Fail> {
         let Some((site, event)) = asked(command, self.sent.as_slice())? else {
+            assert!(rt; self.may_lose, "a message never came");
             return Ok(false);
         };
         let seat = self.seats.get_mut(site as usize).ok_or("no such site")?;
@@ -194,16 +200,22 @@ replies:
 struct Through<'a> {
     config: &'a Config,
     row: &'a Row,
+    may_lose: bool,
 }
 
 impl Case for Through<'_> {
-    fn calls<E: Entries, R: Ledger, G: Gate + Drop, W: Wait + Abort + Print>(
+    fn calls<
+        E: Entries + Send + Sync,
+        R: Ledger + Send + Sync,
+        G: Gate + Drop + Sync,
+        W: Threads + Wait + Abort + Print + Clock + Sync,
+    >(
         &self,
         rt: &W,
         alloc: Global,
         branch: &Branch<E, R, G>,
     ) -> Result<Vec<Seat<E, R>>, Fail> {
-        let mut desks = Desks::open(rt, alloc, branch)?;
+        let mut desks = Desks::open(rt, alloc, branch, self.may_lose)?;
         let commands = self.row.script.lines().skip(1);
         for (line, wanted) in commands.zip(self.row.replies.lines()) {
             let command = twice!(read_command(alloc, self.config, line));
@@ -216,6 +228,7 @@ impl Case for Through<'_> {
             outbox: _outbox,
             inlets: _inlets,
             sent: _sent,
+            may_lose: _,
         } = desks;
         Ok(seats)
     }
@@ -227,17 +240,19 @@ fn config_of(alloc: Global, row: &Row) -> Result<Config, LineFault> {
     read_config(alloc, first)
 }
 
-/// A row through the seats of a branch, which is gathered then.
-fn row_through<W: Wait + Abort + Print>(
+/// A row through the seats of a branch, which is gathered then. Whether a link may refuse a message.
+fn row_through<W: Threads + Wait + Abort + Print + Clock + Sync>(
     rt: &W,
     alloc: Global,
     row: &Row,
+    may_lose: bool,
 ) -> Result<Result<Vec<SiteReport>, GatherFault>, Fail> {
     let config = twice!(config_of(alloc, row));
     let copy = twice!(config.try_copy(alloc));
     let case = Through {
         config: &config,
         row,
+        may_lose,
     };
     gathered(rt, alloc, copy, NoGate, &case)
 }
@@ -250,7 +265,7 @@ fn seat_calls(rt: HostRuntime) -> Result<(), Fail> {
         "interest_stays",
         "transfer_and_cancel",
     ] {
-        let reports = row_through(&rt, rt.alloc(), &row_named(name)?)??;
+        let reports = row_through(&rt, rt.alloc(), &row_named(name)?, false)??;
         assert_eq!(rt; reports.len(), 2, "{name}");
     }
     Ok(())
@@ -259,7 +274,7 @@ fn seat_calls(rt: HostRuntime) -> Result<(), Fail> {
 #[test]
 fn refuse_seats(rt: HostRuntime) -> Result<(), Fail> {
     let row = row_of(BATCH).ok_or("no row")?;
-    match row_through(&rt, rt.alloc(), &row)? {
+    match row_through(&rt, rt.alloc(), &row, true)? {
         Ok(reports) => assert_eq!(rt; reports.len(), 2),
         Err(fault) => assert_eq!(rt; fault, GatherFault::OutOfMemory),
     }

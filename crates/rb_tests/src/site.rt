@@ -1,10 +1,9 @@
 //! Tests of entries, commands and sites.
-use crate::common::{ANN, config_of};
+use crate::common::config_of;
 use rb_commands::read_command;
 use rb_history::read_line;
 use rb_money::{Config, Limits};
-use rb_scratch::Request;
-use rb_site::{Entry, Event, Reply, Site};
+use rb_site::{Entry, Site};
 use std::alloc::Global;
 use std::test::Fail;
 
@@ -80,26 +79,39 @@ fn commands_are_compared(rt: HostRuntime) -> Result<(), Fail> {
     Ok(())
 }
 
-/// Site 0 of two, replayed from a deposit of 5 cents to ann and a look at her balance.
+/// The history of site 1 of two, to which a deposit of site 0 comes.
+const RECEIVED: &str = r#"{"event":{"balance":"ann"},"reply":{"balance":0},"site":1}
+{"event":{"shadow":{"account":"ann","amount":500,"deps":[[0,0,0,0,0,0,0,0],0],"home":0,"kind":"deposit","name":"B0.1"}},"reply":{"held":"B0.1"},"site":1}
+{"event":{"apply":"B0.1"},"reply":{"applied":"B0.1"},"site":1}
+{"event":{"balance":"ann"},"reply":{"balance":500},"site":1}"#;
+
+/// The entries of these lines.
+fn entries_of(alloc: Global, config: &Config, lines: &str) -> Result<Vec<Entry>, Fail> {
+    let mut entries = Vec::new(alloc);
+    for line in lines.lines() {
+        let (_site, entry) = read_line(alloc, config, line)?;
+        entries.push(entry)?;
+    }
+    Ok(entries)
+}
+
+/// Site 1 is replayed from the events of its history, gives that history, and is closed.
 #[test]
 fn a_site_is_replayed_and_closed(rt: HostRuntime) -> Result<(), Fail> {
     let alloc = rt.alloc();
-    let config = bank(alloc)?;
+    let config = config_of(alloc, 2, &[("ann", 0), ("bob", 0)], Limits::largest())?;
+    let wanted = entries_of(alloc, &config, RECEIVED)?;
+    let mut events = Vec::new(alloc);
+    for entry in &wanted {
+        events.push(entry.event.try_copy(alloc)?)?;
+    }
     let sites = config.sites();
-    prove!(0 < sites);
-    let deposit = Request::Deposit {
-        account: ANN,
-        amount: 5,
-    };
-    let events = [Event::Submit(deposit), Event::Balance(ANN)];
-    let site = Site::replay(alloc, &config, 0, events.as_slice())?;
-    let shown = matches!(
-        site.history().get(1),
-        Some(Entry {
-            reply: Reply::Balance(5),
-            ..
-        })
-    );
+    prove!(1 < sites);
+    let site = Site::replay(alloc, &config, 1, events.as_slice())?;
+    let mut same = true;
+    for (entry, it) in site.history().iter().zip(&wanted) {
+        same = same && entry.same(it);
+    }
     let lengths = [
         site.history().len(),
         site.ledger().len() as usize,
@@ -108,8 +120,8 @@ fn a_site_is_replayed_and_closed(rt: HostRuntime) -> Result<(), Fail> {
     ];
     let held = site.token().view().held;
     let report = site.close();
-    assert_eq!(rt; (shown, held, lengths), (true, true, [2, 1, 1, 0]));
-    assert_eq!(rt; report.balances.as_slice(), [5, 0].as_slice());
-    assert_eq!(rt; report.history.len(), 2);
+    assert_eq!(rt; (same, held, lengths), (true, false, [4, 1, 1, 0]));
+    assert_eq!(rt; report.balances.as_slice(), [500, 0].as_slice());
+    assert_eq!(rt; report.history.len(), 4);
     Ok(())
 }

@@ -1,0 +1,170 @@
+//! What goes by the links between sites, and what is served of it.
+
+use crate::branch::{Case, deposit, gathered, served_by, some_sites};
+use rb_branch::{Branch, Entries, Gate, Inlet, NoGate, Outbox, Seat, links};
+use rb_list::List;
+use rb_money::{Limits, Place};
+use rb_shadow::write_name;
+use rb_site::{Message, Reply};
+use std::alloc::{AllocError, Global};
+use std::process::Abort;
+use std::rt::Clock;
+use std::sync::Wait;
+use std::sync::ledger::Ledger;
+use std::test::Fail;
+use std::thread::Threads;
+
+/// A deposit, a passing of the token to site 2 and a batch of two at site 0 of three: over so many links, of which
+/// only so many are read, how many of each call's messages weren't taken, and what each of these links brought.
+struct Sent {
+    links: u8,
+    read: usize,
+    unsent: [u32; 3],
+    brought: [&'static str; 3],
+}
+
+/// What links 1 and 2 bring.
+const BLUES: &str = "B0.1 B0.2 B0.3 ";
+const ALL: &str = "B0.1 token B0.2 B0.3 ";
+
+const SENT: [Sent; 5] = [
+    Sent {
+        links: 3,
+        read: 3,
+        unsent: [0, 0, 0],
+        brought: ["", BLUES, ALL],
+    },
+    Sent {
+        links: 3,
+        read: 2,
+        unsent: [1, 1, 2],
+        brought: ["", BLUES, ""],
+    },
+    Sent {
+        links: 3,
+        read: 1,
+        unsent: [2, 1, 4],
+        brought: ["", "", ""],
+    },
+    Sent {
+        links: 2,
+        read: 2,
+        unsent: [1, 1, 2],
+        brought: ["", BLUES, ""],
+    },
+    Sent {
+        links: 1,
+        read: 1,
+        unsent: [2, 1, 4],
+        brought: ["", "", ""],
+    },
+];
+
+/// What a link brings to its end.
+fn brought<W: Wait>(rt: &W, alloc: Global, inlet: &Inlet) -> Result<String, AllocError> {
+    let mut text = String::new(alloc);
+    // One more than can come.
+    for _ in 0..5 {
+        match inlet.next(rt) {
+            Some(Message::Shadow(shadow)) => write_name(shadow.name, &mut text)?,
+            Some(Message::Token(_)) => text.push_str("token")?,
+            None => break,
+        }
+        text.push(' ')?;
+    }
+    Ok(text)
+}
+
+/// The three calls.
+fn three_calls<E: Entries, R: Ledger, G: Gate + Drop, W: Wait>(
+    rt: &W,
+    alloc: Global,
+    branch: &Branch<E, R, G>,
+    seat: &mut Seat<E, R>,
+    outbox: &Outbox,
+) -> Result<(), Fail> {
+    let two = vec![in alloc; deposit(2), deposit(3)]?;
+    let _first = branch.submit(rt, seat, outbox, deposit(1))?;
+    let _second = branch.pass(rt, seat, outbox, 2)?;
+    let _third = branch.batch(rt, seat, outbox, List::new(two))?;
+    Ok(())
+}
+
+impl Case for Sent {
+    fn calls<
+        E: Entries + Send + Sync,
+        R: Ledger + Send + Sync,
+        G: Gate + Drop + Sync,
+        W: Threads + Wait + Abort + Print + Clock + Sync,
+    >(
+        &self,
+        rt: &W,
+        alloc: Global,
+        branch: &Branch<E, R, G>,
+    ) -> Result<Vec<Seat<E, R>>, Fail> {
+        let (outbox, mut inlets) = links(alloc, self.links)?;
+        inlets.truncate(self.read);
+        let mut seat = branch.seat(rt, 0)?;
+        three_calls(rt, alloc, branch, &mut seat, &outbox)?;
+        drop(outbox);
+        for (receipt, unsent) in seat.receipts().iter().zip(self.unsent) {
+            assert_eq!(rt; receipt.unsent, unsent);
+        }
+        for (inlet, wanted) in inlets.iter().zip(self.brought) {
+            assert_eq!(rt; brought(rt, alloc, inlet)?.as_str(), wanted);
+        }
+        Ok(vec![in alloc; seat]?)
+    }
+}
+
+#[test]
+fn sent(rt: HostRuntime) -> Result<(), Fail> {
+    for case in &SENT {
+        let config = some_sites(rt.alloc(), 3, Limits::largest())?;
+        let reports = gathered(&rt, rt.alloc(), config, NoGate, case)??;
+        assert_eq!(rt; reports.len(), 3);
+    }
+    Ok(())
+}
+
+/// Two deposits at site 0, which come to site 1 in turned order: none is ready after the first, and both are after the
+/// second.
+struct Turned;
+
+impl Case for Turned {
+    fn calls<
+        E: Entries + Send + Sync,
+        R: Ledger + Send + Sync,
+        G: Gate + Drop + Sync,
+        W: Threads + Wait + Abort + Print + Clock + Sync,
+    >(
+        &self,
+        rt: &W,
+        alloc: Global,
+        branch: &Branch<E, R, G>,
+    ) -> Result<Vec<Seat<E, R>>, Fail> {
+        let (outbox, mut inlets) = links(alloc, 2)?;
+        let mut teller = branch.seat(rt, 0)?;
+        let mut server = branch.seat(rt, 1)?;
+        let _first = branch.submit(rt, &mut teller, &outbox, deposit(1))?;
+        let _second = branch.submit(rt, &mut teller, &outbox, deposit(2))?;
+        let inlet = inlets.pop().ok_or("no inlet")?;
+        let first = inlet.next(rt).ok_or("nothing came")?;
+        let second = inlet.next(rt).ok_or("one came")?;
+        assert_eq!(rt; outbox.post(rt, 0, 2, [second, first].as_slice()), 0);
+        drop(outbox);
+        assert_eq!(rt; served_by(rt, branch, &mut server, inlet).ok(), Some(4));
+        let number = branch.balance(rt, &mut server, Place(0))?;
+        let receipt = server.receipt(number).ok_or("no receipt")?;
+        assert!(rt; receipt.reply.same(&Reply::Balance(3)));
+        Ok(vec![in alloc; teller, server]?)
+    }
+}
+
+#[test]
+fn served_in_turned_order(rt: HostRuntime) -> Result<(), Fail> {
+    let config = some_sites(rt.alloc(), 2, Limits::largest())?;
+    let reports = gathered(&rt, rt.alloc(), config, NoGate, &Turned)??;
+    assert_eq!(rt; reports.len(), 2);
+    Ok(())
+}
