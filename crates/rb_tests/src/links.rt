@@ -118,7 +118,7 @@ impl Case for Sent {
 }
 
 #[test]
-fn sent(rt: HostRuntime) -> Result<(), Fail> {
+fn sent_by_links(rt: HostRuntime) -> Result<(), Fail> {
     for case in &SENT {
         let config = some_sites(rt.alloc(), 3, Limits::largest())?;
         let reports = gathered(&rt, rt.alloc(), config, NoGate, case)??;
