@@ -40,6 +40,7 @@ TELLERS_BANK = (
 CALL = re.compile(r'\{"event":\{"(deposit|withdraw|interest|cancel|pass)"')
 # an operation that a site made or applied: which of the two, the operation's name and the site's number
 HAS = re.compile(r'"reply":\{"(applied|kind":"\w+","name)":"([^"]+)"\},"site":(\d+)\}$')
+TOKEN = re.compile(r'"reply":\{"(passed|taken)":(\d+)\}')
 # runs of one teller, which end the same each time: the sites and the seed. The second has each of a teller's answers,
 # and the third tells clocks by pairs
 ONE_TELLER = [(2, 0), (3, 1281), (9, 4294967295)]
@@ -168,13 +169,16 @@ def passes(program, case):
 
 
 def catches_up(entries, sites):
-    """Whether each site made or applied all operations that were made at any of them."""
+    """Whether each site made or applied all operations that were made at any of them, and each passing of the token was
+    taken."""
     made, held = set(), [set() for _ in range(sites)]
     for how, name, site in (found.groups() for found in map(HAS.search, entries) if found):
         held[int(site)].add(name)
         if how != "applied":
             made.add(name)
-    return made != set() and all(names == made for names in held)
+    passings = sorted(found.groups() for found in map(TOKEN.search, entries) if found)
+    passed, taken = ([epoch for how, epoch in passings if how == it] for it in ("passed", "taken"))
+    return made != set() and all(names == made for names in held) and passed == taken
 
 
 def tellers_run(program, sites, tellers, version):

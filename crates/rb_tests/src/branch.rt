@@ -28,12 +28,7 @@ pub trait Case {
         R: Ledger + Send + Sync,
         G: Gate + Drop + Sync,
         W: Threads + Wait + Abort + Print + Clock + Sync,
-    >(
-        &self,
-        rt: &W,
-        alloc: Global,
-        branch: &Branch<E, R, G>,
-    ) -> Result<Vec<Seat<E, R>>, Fail>;
+    >(&self, rt: &W, alloc: Global, branch: &Branch<E, R, G>) -> Result<Vec<Seat<E, R>>, Fail>;
 }
 
 /// The branch, gathered with the seats that were given back.
@@ -81,11 +76,7 @@ fn gathered_over<
 }
 
 /// The branch after the calls, gathered with the seats that they gave back.
-pub fn gathered<
-    G: Gate + Drop + Sync,
-    W: Threads + Wait + Abort + Print + Clock + Sync,
-    C: Case,
->(
+pub fn gathered<G: Gate + Drop + Sync, W: Threads + Wait + Abort + Print + Clock + Sync, C: Case>(
     rt: &W,
     alloc: Global,
     config: Config,
@@ -157,12 +148,7 @@ impl Case for OneServed {
         R: Ledger + Send + Sync,
         G: Gate + Drop + Sync,
         W: Threads + Wait + Abort + Print + Clock + Sync,
-    >(
-        &self,
-        rt: &W,
-        alloc: Global,
-        branch: &Branch<E, R, G>,
-    ) -> Result<Vec<Seat<E, R>>, Fail> {
+    >(&self, rt: &W, alloc: Global, branch: &Branch<E, R, G>) -> Result<Vec<Seat<E, R>>, Fail> {
         let (outbox, mut inlets) = links(alloc, 2)?;
         let copy = outbox.try_copy(alloc)?;
         let mut teller = branch.seat(rt, 0)?;
@@ -203,12 +189,7 @@ impl Case for Seats {
         R: Ledger + Send + Sync,
         G: Gate + Drop + Sync,
         W: Threads + Wait + Abort + Print + Clock + Sync,
-    >(
-        &self,
-        rt: &W,
-        alloc: Global,
-        branch: &Branch<E, R, G>,
-    ) -> Result<Vec<Seat<E, R>>, Fail> {
+    >(&self, rt: &W, alloc: Global, branch: &Branch<E, R, G>) -> Result<Vec<Seat<E, R>>, Fail> {
         assert_eq!(rt; branch.seat(rt, 2).err(), Some(SeatFault::NoSite));
         let mut seats = Vec::new(alloc);
         for _i in 0..1_024 {
@@ -231,12 +212,7 @@ impl Case for Full {
         R: Ledger + Send + Sync,
         G: Gate + Drop + Sync,
         W: Threads + Wait + Abort + Print + Clock + Sync,
-    >(
-        &self,
-        rt: &W,
-        alloc: Global,
-        branch: &Branch<E, R, G>,
-    ) -> Result<Vec<Seat<E, R>>, Fail> {
+    >(&self, rt: &W, alloc: Global, branch: &Branch<E, R, G>) -> Result<Vec<Seat<E, R>>, Fail> {
         let mut seat = branch.seat(rt, 0)?;
         assert_eq!(rt; branch.apply_ready(rt, &mut seat).ok(), Some(None));
         assert_eq!(rt; seat.receipts().len(), 0);
@@ -259,12 +235,7 @@ impl Case for OneMissing {
         R: Ledger + Send + Sync,
         G: Gate + Drop + Sync,
         W: Threads + Wait + Abort + Print + Clock + Sync,
-    >(
-        &self,
-        rt: &W,
-        alloc: Global,
-        branch: &Branch<E, R, G>,
-    ) -> Result<Vec<Seat<E, R>>, Fail> {
+    >(&self, rt: &W, alloc: Global, branch: &Branch<E, R, G>) -> Result<Vec<Seat<E, R>>, Fail> {
         let (outbox, inlets) = links(alloc, 2)?;
         drop(inlets);
         let mut first = branch.seat(rt, 0)?;

@@ -1,7 +1,7 @@
 //! Which calls go on while one is inside a gate.
 
 use crate::branch::{Case, comes, comes_within, gathered, some_sites};
-use rb_branch::{Branch, CallFault, Entries, Gate, Seat};
+use rb_branch::{Branch, Entries, Gate, Seat};
 use rb_money::{Limits, Place};
 use std::alloc::Global;
 use std::process::Abort;
@@ -10,7 +10,8 @@ use std::sync::Wait;
 use std::sync::atomic::{AtomicBool, AtomicU64, Ordering};
 use std::sync::ledger::Ledger;
 use std::test::Fail;
-use std::thread::{Threads, join};
+use std::thread;
+use std::thread::Threads;
 
 /// For how many looks the call behind the held one is watched.
 const WATCHED: u32 = 50;
@@ -109,46 +110,59 @@ impl<C: Clock> Gate for Holding<'_, C> {
     }
 }
 
-/// A question at a seat's site.
+/// A question by a seat of its own at a site.
 fn asked<E: Entries, R: Ledger, G: Gate + Drop, W: Wait>(
     rt: &W,
     branch: &Branch<E, R, G>,
-    mut seat: Seat<E, R>,
-) -> Result<Seat<E, R>, CallFault> {
-    let _number = branch.balance(rt, &mut seat, Place(0))?;
-    Ok(seat)
+    site: u8,
+) -> Option<Seat<E, R>> {
+    let mut seat = branch.seat(rt, site).ok()?;
+    let _number = branch.balance(rt, &mut seat, Place(0)).ok()?;
+    Some(seat)
 }
 
 /// A question and an application at site 1, once a call is held at site 0. Nothing is ready there.
 fn asked_beside<E: Entries, R: Ledger, G: Gate + Drop, W: Wait + Clock>(
     rt: &W,
     branch: &Branch<E, R, G>,
-    seat: Seat<E, R>,
     signs: &Signs,
-) -> Result<Seat<E, R>, CallFault> {
+) -> Option<Seat<E, R>> {
     signs.wants(rt, &signs.held);
-    let mut seat = asked(rt, branch, seat)?;
-    let _none = branch.apply_ready(rt, &mut seat)?;
+    let mut seat = asked(rt, branch, 1)?;
+    let _none = branch.apply_ready(rt, &mut seat).ok()?;
     signs.beside.store(true, Ordering::SeqCst);
-    Ok(seat)
+    Some(seat)
 }
 
 /// A question at site 0, once a call is held there.
 fn asked_behind<E: Entries, R: Ledger, G: Gate + Drop, W: Wait + Clock>(
     rt: &W,
     branch: &Branch<E, R, G>,
-    seat: Seat<E, R>,
     signs: &Signs,
-) -> Result<Seat<E, R>, CallFault> {
+) -> Option<Seat<E, R>> {
     signs.wants(rt, &signs.held);
     signs.tried.store(true, Ordering::SeqCst);
-    let answer = asked(rt, branch, seat);
+    let seat = asked(rt, branch, 0);
     signs.passes();
     signs.behind.store(true, Ordering::SeqCst);
-    answer
+    seat
 }
 
-/// The held call, one at the other site, and one behind it, each in a thread of its own.
+/// What each of three threads does.
+fn asked_by<E: Entries, R: Ledger, G: Gate + Drop, W: Wait + Clock>(
+    rt: &W,
+    branch: &Branch<E, R, G>,
+    signs: &Signs,
+    thread: usize,
+) -> Option<Seat<E, R>> {
+    match thread {
+        0 => asked(rt, branch, 0),
+        1 => asked_behind(rt, branch, signs),
+        _ => asked_beside(rt, branch, signs),
+    }
+}
+
+/// The held call, one behind it, and one at the other site, each in a thread of its own.
 #[derive(Drop)]
 struct Three<'a>(&'a Signs);
 
@@ -158,31 +172,16 @@ impl Case for Three<'_> {
         R: Ledger + Send + Sync,
         G: Gate + Drop + Sync,
         W: Threads + Wait + Abort + Print + Clock + Sync,
-    >(
-        &self,
-        rt: &W,
-        alloc: Global,
-        branch: &Branch<E, R, G>,
-    ) -> Result<Vec<Seat<E, R>>, Fail> {
+    >(&self, rt: &W, alloc: Global, branch: &Branch<E, R, G>) -> Result<Vec<Seat<E, R>>, Fail> {
         let signs = self.0;
-        let first = branch.seat(rt, 0)?;
-        let second = branch.seat(rt, 0)?;
-        let other = branch.seat(rt, 1)?;
-        let (first, (second, other)) = join(
-            rt,
-            || asked(rt, branch, first),
-            || {
-                join(
-                    rt,
-                    || asked_behind(rt, branch, second, signs),
-                    || asked_beside(rt, branch, other, signs),
-                )
-            },
-        );
+        let given = thread::map_indices(rt, alloc, 3, &|k| asked_by(rt, branch, signs, k))?;
         let mut seats = Vec::with_capacity(alloc, 3)?;
-        seats.push_reserved(first?);
-        seats.push_reserved(second?);
-        seats.push_reserved(other?);
+        for seat in given {
+            let seat = seat.ok_or("no answer")?;
+            if seats.push(seat).is_err() {
+                return Err(Fail::from("no memory"));
+            }
+        }
         Ok(seats)
     }
 }

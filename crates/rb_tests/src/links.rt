@@ -25,6 +25,7 @@ struct Sent {
 
 /// What links 1 and 2 bring.
 const BLUES: &str = "B0.1 B0.2 B0.3 ";
+
 const ALL: &str = "B0.1 token B0.2 B0.3 ";
 
 const SENT: [Sent; 5] = [
@@ -96,12 +97,7 @@ impl Case for Sent {
         R: Ledger + Send + Sync,
         G: Gate + Drop + Sync,
         W: Threads + Wait + Abort + Print + Clock + Sync,
-    >(
-        &self,
-        rt: &W,
-        alloc: Global,
-        branch: &Branch<E, R, G>,
-    ) -> Result<Vec<Seat<E, R>>, Fail> {
+    >(&self, rt: &W, alloc: Global, branch: &Branch<E, R, G>) -> Result<Vec<Seat<E, R>>, Fail> {
         let (outbox, mut inlets) = links(alloc, self.links)?;
         inlets.truncate(self.read);
         let mut seat = branch.seat(rt, 0)?;
@@ -137,12 +133,7 @@ impl Case for Turned {
         R: Ledger + Send + Sync,
         G: Gate + Drop + Sync,
         W: Threads + Wait + Abort + Print + Clock + Sync,
-    >(
-        &self,
-        rt: &W,
-        alloc: Global,
-        branch: &Branch<E, R, G>,
-    ) -> Result<Vec<Seat<E, R>>, Fail> {
+    >(&self, rt: &W, alloc: Global, branch: &Branch<E, R, G>) -> Result<Vec<Seat<E, R>>, Fail> {
         let (outbox, mut inlets) = links(alloc, 2)?;
         let mut teller = branch.seat(rt, 0)?;
         let mut server = branch.seat(rt, 1)?;

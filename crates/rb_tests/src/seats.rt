@@ -209,12 +209,7 @@ impl Case for Through<'_> {
         R: Ledger + Send + Sync,
         G: Gate + Drop + Sync,
         W: Threads + Wait + Abort + Print + Clock + Sync,
-    >(
-        &self,
-        rt: &W,
-        alloc: Global,
-        branch: &Branch<E, R, G>,
-    ) -> Result<Vec<Seat<E, R>>, Fail> {
+    >(&self, rt: &W, alloc: Global, branch: &Branch<E, R, G>) -> Result<Vec<Seat<E, R>>, Fail> {
         let mut desks = Desks::open(rt, alloc, branch, self.may_lose)?;
         let commands = self.row.script.lines().skip(1);
         for (line, wanted) in commands.zip(self.row.replies.lines()) {
