@@ -18,21 +18,20 @@ use std::sync::atomic::{AtomicBool, Ordering};
 use std::sync::ledger::{Blank, Ledger};
 use std::test::Fail;
 use std::thread;
-use std::thread::Threads;
 use std::time::Duration;
 
 /// What one thread does at a branch, and the seats that it gives back.
 pub trait Case {
-    fn calls<
-        E: Entries + Send + Sync,
-        R: Ledger + Send + Sync,
-        G: Gate + Drop + Sync,
-        W: Threads + Wait + Abort + Print + Clock + Sync,
-    >(&self, rt: &W, alloc: Global, branch: &Branch<E, R, G>) -> Result<Vec<Seat<E, R>>, Fail>;
+    fn calls<E: Entries, R: Ledger, G: Gate + Drop, W: Wait + Abort + Print>(
+        &self,
+        rt: &W,
+        alloc: Global,
+        branch: &Branch<E, R, G>,
+    ) -> Result<Vec<Seat<E, R>>, Fail>;
 }
 
 /// The branch, gathered with the seats that were given back.
-fn gathered_with<E: Entries, R: Ledger, G: Gate + Drop>(
+pub fn gathered_with<E: Entries, R: Ledger, G: Gate + Drop>(
     alloc: Global,
     branch: Branch<E, R, G>,
     seats: Result<Vec<Seat<E, R>>, Fail>,
@@ -46,13 +45,7 @@ fn gathered_with<E: Entries, R: Ledger, G: Gate + Drop>(
     }
 }
 
-fn gathered_over<
-    E: Entries + Send + Sync,
-    R: Ledger + Send + Sync,
-    G: Gate + Drop + Sync,
-    W: Threads + Wait + Abort + Print + Clock + Sync,
-    C: Case,
->(
+fn gathered_over<E: Entries, R: Ledger, G: Gate + Drop, W: Wait + Abort + Print, C: Case>(
     rt: &W,
     alloc: Global,
     config: Config,
@@ -76,7 +69,7 @@ fn gathered_over<
 }
 
 /// The branch after the calls, gathered with the seats that they gave back.
-pub fn gathered<G: Gate + Drop + Sync, W: Threads + Wait + Abort + Print + Clock + Sync, C: Case>(
+pub fn gathered<G: Gate + Drop, W: Wait + Abort + Print, C: Case>(
     rt: &W,
     alloc: Global,
     config: Config,
@@ -143,12 +136,12 @@ pub fn served_by<E: Entries, R: Ledger, G: Gate + Drop, W: Wait>(
 struct OneServed;
 
 impl Case for OneServed {
-    fn calls<
-        E: Entries + Send + Sync,
-        R: Ledger + Send + Sync,
-        G: Gate + Drop + Sync,
-        W: Threads + Wait + Abort + Print + Clock + Sync,
-    >(&self, rt: &W, alloc: Global, branch: &Branch<E, R, G>) -> Result<Vec<Seat<E, R>>, Fail> {
+    fn calls<E: Entries, R: Ledger, G: Gate + Drop, W: Wait + Abort + Print>(
+        &self,
+        rt: &W,
+        alloc: Global,
+        branch: &Branch<E, R, G>,
+    ) -> Result<Vec<Seat<E, R>>, Fail> {
         let (outbox, mut inlets) = links(alloc, 2)?;
         let copy = outbox.try_copy(alloc)?;
         let mut teller = branch.seat(rt, 0)?;
@@ -184,12 +177,12 @@ fn served(rt: HostRuntime) -> Result<(), Fail> {
 struct Seats;
 
 impl Case for Seats {
-    fn calls<
-        E: Entries + Send + Sync,
-        R: Ledger + Send + Sync,
-        G: Gate + Drop + Sync,
-        W: Threads + Wait + Abort + Print + Clock + Sync,
-    >(&self, rt: &W, alloc: Global, branch: &Branch<E, R, G>) -> Result<Vec<Seat<E, R>>, Fail> {
+    fn calls<E: Entries, R: Ledger, G: Gate + Drop, W: Wait + Abort + Print>(
+        &self,
+        rt: &W,
+        alloc: Global,
+        branch: &Branch<E, R, G>,
+    ) -> Result<Vec<Seat<E, R>>, Fail> {
         assert_eq!(rt; branch.seat(rt, 2).err(), Some(SeatFault::NoSite));
         let mut seats = Vec::new(alloc);
         for _i in 0..1_024 {
@@ -207,12 +200,12 @@ impl Case for Seats {
 struct Full;
 
 impl Case for Full {
-    fn calls<
-        E: Entries + Send + Sync,
-        R: Ledger + Send + Sync,
-        G: Gate + Drop + Sync,
-        W: Threads + Wait + Abort + Print + Clock + Sync,
-    >(&self, rt: &W, alloc: Global, branch: &Branch<E, R, G>) -> Result<Vec<Seat<E, R>>, Fail> {
+    fn calls<E: Entries, R: Ledger, G: Gate + Drop, W: Wait + Abort + Print>(
+        &self,
+        rt: &W,
+        alloc: Global,
+        branch: &Branch<E, R, G>,
+    ) -> Result<Vec<Seat<E, R>>, Fail> {
         let mut seat = branch.seat(rt, 0)?;
         assert_eq!(rt; branch.apply_ready(rt, &mut seat).ok(), Some(None));
         assert_eq!(rt; seat.receipts().len(), 0);
@@ -230,12 +223,12 @@ impl Case for Full {
 struct OneMissing;
 
 impl Case for OneMissing {
-    fn calls<
-        E: Entries + Send + Sync,
-        R: Ledger + Send + Sync,
-        G: Gate + Drop + Sync,
-        W: Threads + Wait + Abort + Print + Clock + Sync,
-    >(&self, rt: &W, alloc: Global, branch: &Branch<E, R, G>) -> Result<Vec<Seat<E, R>>, Fail> {
+    fn calls<E: Entries, R: Ledger, G: Gate + Drop, W: Wait + Abort + Print>(
+        &self,
+        rt: &W,
+        alloc: Global,
+        branch: &Branch<E, R, G>,
+    ) -> Result<Vec<Seat<E, R>>, Fail> {
         let (outbox, inlets) = links(alloc, 2)?;
         drop(inlets);
         let mut first = branch.seat(rt, 0)?;

@@ -1,28 +1,28 @@
 //! Which calls go on while one is inside a gate.
+ghost use Rattle.std.specs.Prelude.{◌≡◌};
+ghost use Rattle.rb_branch.specs.declared.limits.TheConstants.{RECEIPT_PARTS};
 
-use crate::branch::{Case, comes, comes_within, gathered, some_sites};
-use rb_branch::{Branch, Entries, Gate, Seat};
-use rb_money::{Limits, Place};
+use crate::branch::{comes, comes_within, gathered_with, some_sites};
+use rb_branch::{Branch, CallFault, Entries, Gate, GatherFault, RECEIPT_PARTS, Seat};
+use rb_money::{Config, Limits, Place};
+use rb_site::SiteReport;
 use std::alloc::Global;
-use std::process::Abort;
+use std::marker::Brand;
 use std::rt::Clock;
 use std::sync::Wait;
 use std::sync::atomic::{AtomicBool, AtomicU64, Ordering};
-use std::sync::ledger::Ledger;
+use std::sync::ledger::{Blank, Ledger};
 use std::test::Fail;
-use std::thread;
-use std::thread::Threads;
+use std::thread::{Threads, join};
 
 /// For how many looks the call behind the held one is watched.
-const WATCHED: u32 = 50;
+const WATCHED: u32 = 100;
 
 /// What the gate and the calls show one another. The held call is the first at site 0.
 #[derive(Drop)]
 struct Signs {
     held: AtomicBool,
-    /// A second call is made at site 0.
-    tried: AtomicBool,
-    /// A call at site 1 was answered.
+    /// A call at site 1 was answered, and a second one is made at site 0.
     beside: AtomicBool,
     /// The held call goes on.
     released: AtomicBool,
@@ -43,7 +43,6 @@ impl Signs {
     fn none() -> Signs {
         Signs {
             held: AtomicBool::new(false),
-            tried: AtomicBool::new(false),
             beside: AtomicBool::new(false),
             released: AtomicBool::new(false),
             left_first: AtomicBool::new(false),
@@ -79,7 +78,7 @@ fn count(counts: &[AtomicU64; 2], site: u8) -> u64 {
 }
 
 /// A gate that holds the first call at site 0 until a call at site 1 was answered and a second at site 0 had its
-/// time. The second enters once the first leaves, and is answered before it has left.
+/// time. The second goes on once the first leaves, and is answered before it has left.
 #[derive(Drop)]
 struct Holding<'a, C> {
     clock: &'a C,
@@ -92,7 +91,6 @@ impl<C: Clock> Gate for Holding<'_, C> {
         if site == 0 && before == 0 {
             self.signs.held.store(true, Ordering::SeqCst);
             self.signs.wants(self.clock, &self.signs.beside);
-            self.signs.wants(self.clock, &self.signs.tried);
             let _early = comes_within(self.clock, &self.signs.early, WATCHED);
             self.signs.released.store(true, Ordering::SeqCst);
         } else if site == 0 {
@@ -110,80 +108,99 @@ impl<C: Clock> Gate for Holding<'_, C> {
     }
 }
 
-/// A question by a seat of its own at a site.
+/// A question at a seat's site.
 fn asked<E: Entries, R: Ledger, G: Gate + Drop, W: Wait>(
     rt: &W,
     branch: &Branch<E, R, G>,
-    site: u8,
-) -> Option<Seat<E, R>> {
-    let mut seat = branch.seat(rt, site).ok()?;
-    let _number = branch.balance(rt, &mut seat, Place(0)).ok()?;
-    Some(seat)
+    mut seat: Seat<E, R>,
+) -> Result<Seat<E, R>, CallFault> {
+    let _number = branch.balance(rt, &mut seat, Place(0))?;
+    Ok(seat)
 }
 
-/// A question and an application at site 1, once a call is held at site 0. Nothing is ready there.
-fn asked_beside<E: Entries, R: Ledger, G: Gate + Drop, W: Wait + Clock>(
+/// Once a call is held at site 0: a question and an application at site 1, where nothing is ready, and then one more
+/// question at site 0.
+fn asked_meanwhile<E: Entries, R: Ledger, G: Gate + Drop, W: Wait + Clock>(
     rt: &W,
     branch: &Branch<E, R, G>,
+    other: Seat<E, R>,
+    second: Seat<E, R>,
     signs: &Signs,
-) -> Option<Seat<E, R>> {
+) -> Result<(Seat<E, R>, Seat<E, R>), CallFault> {
     signs.wants(rt, &signs.held);
-    let mut seat = asked(rt, branch, 1)?;
-    let _none = branch.apply_ready(rt, &mut seat).ok()?;
+    let mut other = asked(rt, branch, other)?;
+    let _none = branch.apply_ready(rt, &mut other)?;
     signs.beside.store(true, Ordering::SeqCst);
-    Some(seat)
-}
-
-/// A question at site 0, once a call is held there.
-fn asked_behind<E: Entries, R: Ledger, G: Gate + Drop, W: Wait + Clock>(
-    rt: &W,
-    branch: &Branch<E, R, G>,
-    signs: &Signs,
-) -> Option<Seat<E, R>> {
-    signs.wants(rt, &signs.held);
-    signs.tried.store(true, Ordering::SeqCst);
-    let seat = asked(rt, branch, 0);
+    let second = asked(rt, branch, second);
     signs.passes();
     signs.behind.store(true, Ordering::SeqCst);
-    seat
+    Ok((other, second?))
 }
 
-/// What each of three threads does.
-fn asked_by<E: Entries, R: Ledger, G: Gate + Drop, W: Wait + Clock>(
+/// The held call in a thread of its own, and the calls meanwhile in another.
+fn in_two_threads<
+    E: Entries + Send + Sync,
+    R: Ledger + Send + Sync,
+    G: Gate + Drop + Sync,
+    W: Threads + Wait + Clock + Sync,
+>(rt: &W, alloc: Global, branch: &Branch<E, R, G>, signs: &Signs) -> Result<Vec<Seat<E, R>>, Fail> {
+    let first = branch.seat(rt, 0)?;
+    let second = branch.seat(rt, 0)?;
+    let other = branch.seat(rt, 1)?;
+    let (first, others) = join(
+        rt,
+        || asked(rt, branch, first),
+        || asked_meanwhile(rt, branch, other, second, signs),
+    );
+    let (other, second) = others?;
+    let mut seats = Vec::with_capacity(alloc, 3)?;
+    seats.push_reserved(first?);
+    seats.push_reserved(second);
+    seats.push_reserved(other);
+    Ok(seats)
+}
+
+fn threaded_over<
+    E: Entries + Send + Sync,
+    R: Ledger + Send + Sync,
+    G: Gate + Drop + Sync,
+    W: Threads + Wait + Clock + Sync,
+>(
     rt: &W,
-    branch: &Branch<E, R, G>,
+    alloc: Global,
+    config: Config,
+    gate: G,
     signs: &Signs,
-    thread: usize,
-) -> Option<Seat<E, R>> {
-    match thread {
-        0 => asked(rt, branch, 0),
-        1 => asked_behind(rt, branch, signs),
-        _ => asked_beside(rt, branch, signs),
-    }
+    entries: Blank,
+    receipts: Blank,
+) -> Result<Result<Vec<SiteReport>, GatherFault>, Fail>
+    requires config { config ≡ E.settings }
+    requires entries { (entries.name ≡ E.name) × (entries.parts ≡ E.parts) × (entries.parts ≡ config.sites) }
+    requires receipts { (receipts.name ≡ R.name) × (receipts.parts ≡ R.parts) × (receipts.parts ≡ RECEIPT_PARTS) }
+{
+    let branch: Branch<E, R, G> = Branch::open(alloc, config, gate, entries, receipts)?;
+    let seats = in_two_threads(rt, alloc, &branch, signs);
+    gathered_with(alloc, branch, seats)
 }
 
-/// The held call, one behind it, and one at the other site, each in a thread of its own.
-#[derive(Drop)]
-struct Three<'a>(&'a Signs);
-
-impl Case for Three<'_> {
-    fn calls<
-        E: Entries + Send + Sync,
-        R: Ledger + Send + Sync,
-        G: Gate + Drop + Sync,
-        W: Threads + Wait + Abort + Print + Clock + Sync,
-    >(&self, rt: &W, alloc: Global, branch: &Branch<E, R, G>) -> Result<Vec<Seat<E, R>>, Fail> {
-        let signs = self.0;
-        let given = thread::map_indices(rt, alloc, 3, &|k| asked_by(rt, branch, signs, k))?;
-        let mut seats = Vec::with_capacity(alloc, 3)?;
-        for seat in given {
-            let seat = seat.ok_or("no answer")?;
-            if seats.push(seat).is_err() {
-                return Err(Fail::from("no memory"));
-            }
-        }
-        Ok(seats)
-    }
+/// The branch after what two threads do, gathered with the seats that they gave back.
+fn threaded<G: Gate + Drop + Sync, W: Threads + Wait + Clock + Sync>(
+    rt: &W,
+    alloc: Global,
+    config: Config,
+    gate: G,
+    signs: &Signs,
+) -> Result<Result<Vec<SiteReport>, GatherFault>, Fail> {
+    let sites = u64::from(config.sites());
+    threaded_over::<Brand, Brand, G, W>(
+        rt,
+        alloc,
+        config,
+        gate,
+        signs,
+        Blank::new(sites),
+        Blank::new(RECEIPT_PARTS),
+    )
 }
 
 #[test]
@@ -194,7 +211,7 @@ fn gate(rt: HostRuntime) -> Result<(), Fail> {
         signs: &signs,
     };
     let config = some_sites(rt.alloc(), 2, Limits::largest())?;
-    let reports = gathered(&rt, rt.alloc(), config, gate, &Three(&signs))??;
+    let reports = threaded(&rt, rt.alloc(), config, gate, &signs)??;
     assert_eq!(rt; reports.len(), 2);
     assert!(rt; !signs.late.load(Ordering::SeqCst), "late");
     assert!(rt; !signs.early.load(Ordering::SeqCst), "early");

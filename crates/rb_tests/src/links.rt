@@ -8,11 +8,9 @@ use rb_shadow::write_name;
 use rb_site::{Message, Reply};
 use std::alloc::{AllocError, Global};
 use std::process::Abort;
-use std::rt::Clock;
 use std::sync::Wait;
 use std::sync::ledger::Ledger;
 use std::test::Fail;
-use std::thread::Threads;
 
 /// A deposit, a passing of the token to site 2 and a batch of two at site 0 of three: over so many links, of which
 /// only so many are read, how many of each call's messages weren't taken, and what each of these links brought.
@@ -92,12 +90,12 @@ fn three_calls<E: Entries, R: Ledger, G: Gate + Drop, W: Wait>(
 }
 
 impl Case for Sent {
-    fn calls<
-        E: Entries + Send + Sync,
-        R: Ledger + Send + Sync,
-        G: Gate + Drop + Sync,
-        W: Threads + Wait + Abort + Print + Clock + Sync,
-    >(&self, rt: &W, alloc: Global, branch: &Branch<E, R, G>) -> Result<Vec<Seat<E, R>>, Fail> {
+    fn calls<E: Entries, R: Ledger, G: Gate + Drop, W: Wait + Abort + Print>(
+        &self,
+        rt: &W,
+        alloc: Global,
+        branch: &Branch<E, R, G>,
+    ) -> Result<Vec<Seat<E, R>>, Fail> {
         let (outbox, mut inlets) = links(alloc, self.links)?;
         inlets.truncate(self.read);
         let mut seat = branch.seat(rt, 0)?;
@@ -128,12 +126,12 @@ fn sent_by_links(rt: HostRuntime) -> Result<(), Fail> {
 struct Turned;
 
 impl Case for Turned {
-    fn calls<
-        E: Entries + Send + Sync,
-        R: Ledger + Send + Sync,
-        G: Gate + Drop + Sync,
-        W: Threads + Wait + Abort + Print + Clock + Sync,
-    >(&self, rt: &W, alloc: Global, branch: &Branch<E, R, G>) -> Result<Vec<Seat<E, R>>, Fail> {
+    fn calls<E: Entries, R: Ledger, G: Gate + Drop, W: Wait + Abort + Print>(
+        &self,
+        rt: &W,
+        alloc: Global,
+        branch: &Branch<E, R, G>,
+    ) -> Result<Vec<Seat<E, R>>, Fail> {
         let (outbox, mut inlets) = links(alloc, 2)?;
         let mut teller = branch.seat(rt, 0)?;
         let mut server = branch.seat(rt, 1)?;

@@ -15,11 +15,9 @@ use rb_scratch::Request;
 use rb_site::{Event, Message, Reply, SiteReport, WorldEvent};
 use std::alloc::Global;
 use std::process::Abort;
-use std::rt::Clock;
 use std::sync::Wait;
 use std::sync::ledger::Ledger;
 use std::test::Fail;
-use std::thread::Threads;
 
 /// What is asked for, or, where that is refused memory, what is given when it is asked for again.
 macro_rules! twice {
@@ -204,12 +202,12 @@ struct Through<'a> {
 }
 
 impl Case for Through<'_> {
-    fn calls<
-        E: Entries + Send + Sync,
-        R: Ledger + Send + Sync,
-        G: Gate + Drop + Sync,
-        W: Threads + Wait + Abort + Print + Clock + Sync,
-    >(&self, rt: &W, alloc: Global, branch: &Branch<E, R, G>) -> Result<Vec<Seat<E, R>>, Fail> {
+    fn calls<E: Entries, R: Ledger, G: Gate + Drop, W: Wait + Abort + Print>(
+        &self,
+        rt: &W,
+        alloc: Global,
+        branch: &Branch<E, R, G>,
+    ) -> Result<Vec<Seat<E, R>>, Fail> {
         let mut desks = Desks::open(rt, alloc, branch, self.may_lose)?;
         let commands = self.row.script.lines().skip(1);
         for (line, wanted) in commands.zip(self.row.replies.lines()) {
@@ -236,7 +234,7 @@ fn config_of(alloc: Global, row: &Row) -> Result<Config, LineFault> {
 }
 
 /// A row through the seats of a branch, which is gathered then. Whether a link may refuse a message.
-fn row_through<W: Threads + Wait + Abort + Print + Clock + Sync>(
+fn row_through<W: Wait + Abort + Print>(
     rt: &W,
     alloc: Global,
     row: &Row,
