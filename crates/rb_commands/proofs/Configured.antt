@@ -61,8 +61,8 @@ of_parts : (version sites : ℕ) (limits : Limits) (accounts : List Account) →
 of_parts version sites limits accounts =
     let fault = config_fault sites accounts limits in
     where_true IsConfigured (is_version version sites && is_none fault) _ (λ e.
-        let p = and_parts (is_version version sites) (is_none fault) e in
-        in_version (settings_of sites accounts limits) version (parts_configured sites accounts limits (nothing fault p.1)) (may_be version sites p.0))
+    let p = and_parts (is_version version sites) (is_none fault) e in
+    in_version (settings_of sites accounts limits) version (parts_configured sites accounts limits (nothing fault p.1)) (may_be version sites p.0))
 
 of_values : (d : Data) → IfSome (config_in d) IsConfigured
 of_values d =
