@@ -7,10 +7,10 @@ usage: closure.py                  the headline's: the functions and laws of REA
        closure.py --rooms          the four rooms of docs/MODEL.md: the headline, the program's text, what contracts of
                                    other public functions rest on, and what only ties inner code to proofs
        closure.py --check          whether docs/MODEL.md tells each definition in its room and names none that there
-                                   isn't, whether the clauses of README.md's table are there and rest on as many definitions
-                                   as it says, and whether other crates
-                                   cite each file of proofs/Public and none else of proofs/, and whether no two
-                                   definitions share a name; this is silent where all is well
+                                   isn't, whether the clauses of README.md's table are there and rest on as many
+                                   definitions as it says, and whether other crates cite each file of proofs/Public and
+                                   none else of proofs/, and whether no two definitions share a name; this is silent
+                                   where all is well
 
 Words are resolved by the 'use' lines of their file. A type of the code stands for the types of its fields, and one that
 clients see as a value of a model for that value.
@@ -205,10 +205,13 @@ def headline():
 
 def counted(things):
     """The rows of README.md's table whose number isn't that of the definitions that their statements rest on."""
-    for row in re.findall(r"(?m)^\| .*\|$", re.search(r"(?ms)^\| The sentence.*?\n\n", read("README.md")).group(0)):
+    table = re.search(r"(?ms)^\| The sentence.*?\n\n", read("README.md")).group(0)
+    for row in re.findall(r"(?m)^\| .*\|$", table):
         number = re.search(r"\| (\d+)\b[^|]*\|$", row)
-        names = [name for name, _ in CALL.findall(row)] + ["rb_world::" + law for law in re.findall(r"law `(\w+)`", row)]
-        rests = sum(it.kind == "definition" for it in things.closure([it for name in names for it in things.statements(name)]))
+        names = [name for name, _ in CALL.findall(row)]
+        names += ["rb_world::" + law for law in re.findall(r"law `(\w+)`", row)]
+        found = things.closure([it for name in names for it in things.statements(name)])
+        rests = sum(it.kind == "definition" for it in found)
         if number and int(number.group(1)) != rests:
             yield f"README.md: {', '.join(names)} rests on {rests} definitions, and not on {number.group(1)}"
 

@@ -4,9 +4,9 @@ ghost use Rattle.std.specs.Prelude.{◌≡◌, false};
 use crate::source::{ReadFailed, Source};
 use std::io::Read;
 
-/// Any reader of std, to read lines from: standard input, a file, bytes in memory. It counts its reads, up to `u64::MAX`,
-/// and remembers whether one has failed; the error itself is dropped. Each of its reads is one of the reader's, so a
-/// reader that answers `Interrupted` fails.
+/// Any reader of std, to read lines from: standard input, a file, bytes in memory. It counts its reads, up to
+/// `u64::MAX`, and remembers whether one has failed; the error itself is dropped. Each of its reads is one of the
+/// reader's, so a reader that answers `Interrupted` fails.
 #[derive(Drop)]
 pub struct FromReader<R: Read + Drop> {
     pub reader: R,

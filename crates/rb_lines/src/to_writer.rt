@@ -4,8 +4,9 @@ ghost use Rattle.std.specs.Prelude.{◌≡◌, false};
 use crate::sink::{Sink, WriteFailed};
 use std::io::Write;
 
-/// Any writer of std, to write lines to: standard output, a file, bytes in memory. It remembers whether a write has failed
-/// or has taken nothing; the error itself is dropped. Each of its writes is one of the writer's, and it flushes nothing.
+/// Any writer of std, to write lines to: standard output, a file, bytes in memory. It remembers whether a write has
+/// failed or has taken nothing; the error itself is dropped. Each of its writes is one of the writer's, and it
+/// flushes nothing.
 #[derive(Drop)]
 pub struct ToWriter<W: Write + Drop> {
     pub writer: W,

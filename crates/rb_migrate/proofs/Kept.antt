@@ -9,6 +9,7 @@ use Rattle.rb_shadow.specs.declared.shadow.Shadow.{Shadow}
 use Rattle.rb_site.specs.declared.event.Event.{Event}
 use Rattle.rb_site.specs.declared.event.Event.TheVariants.{Submit, Batch, Receive, Apply, Pass, Balance, AsOf, Statement}
 use Rattle.rb_site.specs.declared.message.Message.TheVariants.{Shadow as ShadowMessage, Token as TokenOnItsWay}
+use Rattle.rb_commands.specs.Laws.{ReadConfigsAreConfigured}
 use Rattle.rb_history.specs.Fits.{Each, EntriesAreRead, IsEvent, IsKind, IsRequest, IsShadow, ReadEntriesFit}
 use Rattle.rb_migrate.specs.Laws.{MigratedEntriesAreRead}
 
@@ -62,7 +63,7 @@ shadow s v h = record {
   kind = kind s v.kind h.kind;
 }
 
-event : (s : Settings) (e : Event) → IsEvent s e → IsEvent (in_version_2 s) e
+pub event : (s : Settings) (e : Event) → IsEvent s e → IsEvent (in_version_2 s) e
 event s (Submit r) h = request s r h
 event s (Batch rs) h = requests s rs h
 event s (Receive (ShadowMessage v)) h = shadow s v h
@@ -73,7 +74,7 @@ event s (Balance a) h = h
 event s (AsOf a n) h = h
 event s (Statement a) h = h
 
-pub entries : EntriesAreRead → ReadEntriesFit → MigratedEntriesAreRead
-entries back fits s c line site x is =
+pub entries : ReadConfigsAreConfigured → EntriesAreRead → ReadEntriesFit → MigratedEntriesAreRead
+entries made back fits first s read line site x is =
     let told = fits s line site x is in
-    back (in_version_2 s) (configured s c) site x told.0 (event s x.event told.1) told.2
+    back (in_version_2 s) (configured s (made first s read)) site x told.0 (event s x.event told.1) told.2

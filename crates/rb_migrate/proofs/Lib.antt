@@ -2,3 +2,4 @@ mod Ended
 mod Ends
 mod Kept
 mod Replays
+mod ReadAgain

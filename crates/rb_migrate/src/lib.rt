@@ -7,5 +7,5 @@ mod run;
 mod session;
 mod versions;
 
-pub use laws::{migrated_lines_are_read, migrated_replays_are_equal};
+pub use laws::{migrated_lines_are_read, migrated_replays_are_equal, migrations_are_read};
 pub use run::run_migrate;
