@@ -1,13 +1,22 @@
 -- Receipts of a serving seat, put together.
-use Rattle.std.proofs.Common.{◌≡◌, ℕ, zero, suc, ◌+◌, ◌-◌, ◌≤◌, List, [], ◌∷◌, ◌++◌, length, refl, sym, ap, ◌∙◌, subst, arith, length-append, append_assoc, append-nil, get_or, set}
-use Rattle.std.specs.Prelude.{All, OnErr, Result, Ok, Err}
+use Rattle.std.proofs.Common.{◌≡◌, ℕ, zero, suc, ◌+◌, ◌-◌, ◌≤◌, List, [], ◌∷◌, ◌++◌, length, refl, sym, ap, ◌∙◌, subst, arith, length-append, append_assoc, append-nil, get_or, set, remove, Bool, true, false, true≢false, Some, ◌⊎◌, inl, inr}
+use Rattle.std.specs.Prelude.{All, OnErr, MatchBool, MatchOption, Option, Result, Ok, Err, slice_get}
 use Rattle.std.proofs.lemmas.List.Elements.{All-append}
 use Rattle.std.proofs.Math.Seq.{set-append_seam, get_or-append_seam}
 use Rattle.rb_site.specs.declared.event.Event.{Event}
 use Rattle.rb_site.specs.declared.event.Event.TheVariants as ev
 use Rattle.rb_site.specs.declared.message.Message.{Message}
 use Rattle.rb_branch.specs.declared.receipt.Receipt.{Receipt}
-use Rattle.rb_branch.specs.Seats.{HasOneMore, HasServed, IsApply, IsServed, SeenSeat}
+use Rattle.rb_branch.specs.Seats.{HasOneMore, HasServed, IsApply, IsOneOf, IsServed, WasReceived, WasRefused, NoneLost, SeenSeat, Any, is_full_inbox}
+
+abbrev Refuses : Message → Receipt → Type 0
+Refuses m r = (r.event ≡ ev.Receive m) × (is_full_inbox r.reply ≡ true)
+
+abbrev Takes : Message → Receipt → Type 0
+Takes m r = (r.event ≡ ev.Receive m) × (is_full_inbox r.reply ≡ false)
+
+same_message : (m n : Message) → ev.Receive m ≡ ev.Receive n → m ≡ n
+same_message m n h = cc
 
 abbrev Served : Receipt → Type 0
 Served r = IsServed r.event
@@ -22,35 +31,157 @@ served_single : (r : Receipt) → Served r → All Served (r ∷ [])
 served_single r s zero d h = s
 served_single r s (suc k) d h = absurd (omega arith)
 
-pub served_none : (c : SeenSeat) → HasServed c c 0
-served_none c = record { more = []; seat = ap (λ (xs : List Receipt). record c { receipts = xs }) (sym (append-nil c.receipts)); served = served_nothing; count_is = refl }
+-- an item of one of two lists
+some_left : {X : Type 0} (P : X → Type 0) (xs ys : List X) → Any P xs → Any P (xs ++ ys)
+some_left P [] ys h = absurd h
+some_left P (x ∷ xs) ys (inl p) = inl p
+some_left P (x ∷ xs) ys (inr h) = inr (some_left P xs ys h)
 
-pub served_more : (a b c : SeenSeat) (n m : ℕ) → HasServed a b n → HasServed b c m → HasServed a c (n + m)
-served_more a b c n m h k = record {
-  more = h.more ++ k.more;
-  seat =
-      k.seat ∙ (λ i. record (h.seat i) { receipts = (h.seat i).receipts ++ k.more })
-      ∙ ap (λ (xs : List Receipt). record a { receipts = xs }) (append_assoc a.receipts h.more k.more);
-  served = All-append Served h.more k.more h.served k.served;
-  count_is = omega (arith, h.count_is, k.count_is, length-append h.more k.more);
+some_right : {X : Type 0} (P : X → Type 0) (xs ys : List X) → Any P ys → Any P (xs ++ ys)
+some_right P [] ys h = h
+some_right P (x ∷ xs) ys h = inr (some_right P xs ys h)
+
+some_of : {X : Type 0} (P : X → Type 0) (xs ys : List X) → Any P (xs ++ ys) → Any P xs ⊎ Any P ys
+some_of P [] ys h = inr h
+some_of P (x ∷ xs) ys (inl p) = inl (inl p)
+some_of P (x ∷ xs) ys (inr h) = elim (some_of P xs ys h) [ inl l ↦ inl (inr l) | inr r ↦ inr r ]
+
+-- the item at an index
+some_at : {X : Type 0} (P : X → Type 0) (xs : List X) (k : ℕ) (x : X) → slice_get xs k ≡ Some x → P x → Any P xs
+some_at P [] k x at p = cc
+some_at P (y ∷ ys) zero x at p = inl (let same : x ≡ y = cc in subst P same p)
+some_at P (y ∷ ys) (suc k) x at p = inr (some_at P ys k x at p)
+
+-- without the item at an index, the others are left
+some_removed : {X : Type 0} (P : X → Type 0) (xs : List X) (k : ℕ) (x : X) → slice_get xs k ≡ Some x → Any P xs → Any P (remove xs k) ⊎ P x
+some_removed P [] k x at h = absurd h
+some_removed P (y ∷ ys) zero x at (inl p) = inr (let same : y ≡ x = cc in subst P same p)
+some_removed P (y ∷ ys) zero x at (inr h) = inl h
+some_removed P (y ∷ ys) (suc k) x at (inl p) = inl (inl p)
+some_removed P (y ∷ ys) (suc k) x at (inr h) = elim (some_removed P ys k x at h) [ inl l ↦ inl (inr l) | inr r ↦ inr r ]
+
+lost_nothing : (kept : List Message) → NoneLost kept kept []
+lost_nothing kept = record { kept = λ m h. inl h; refused = λ m h. absurd h }
+
+-- no message is lost in two steps
+lost_more : (a b c : List Message) (xs ys : List Receipt) → NoneLost a b xs → NoneLost b c ys → NoneLost a c (xs ++ ys)
+lost_more a b c xs ys h k = record {
+  kept = λ m i. onward m (h.kept m i);
+  refused = λ m i. elim (some_of (Refuses m) xs ys i) [
+    | inl l ↦ onward m (h.refused m l)
+    | inr r ↦ later m (k.refused m r)
+  ];
+}
+  where
+    later : (m : Message) → IsOneOf m c ⊎ WasReceived m ys → IsOneOf m c ⊎ WasReceived m (xs ++ ys)
+    later m (inl l) = inl l
+    later m (inr r) = inr (some_right (Takes m) xs ys r)
+
+    onward : (m : Message) → IsOneOf m b ⊎ WasReceived m xs → IsOneOf m c ⊎ WasReceived m (xs ++ ys)
+    onward m (inl l) = later m (k.kept m l)
+    onward m (inr r) = inr (some_left (Takes m) xs ys r)
+
+-- a message that is kept behind the others
+lost_taken : (a b : List Message) (m : Message) → b ≡ a ++ m ∷ [] → NoneLost a b []
+lost_taken a b m is =
+    let P : List Message → Type 0 = λ l. NoneLost a l [] in
+    subst P (sym is) (record { kept = λ x h. inl (some_left (λ k. x ≡ k) a (m ∷ []) h); refused = λ x h. absurd h })
+
+-- a kept message that is refused and stays
+lost_refused : (kept : List Message) (k : ℕ) (m : Message) (r : Receipt) → slice_get kept k ≡ Some m → r.event ≡ ev.Receive m → NoneLost kept kept (r ∷ [])
+lost_refused kept k m r at is = record {
+  kept = λ x h. inl h;
+  refused = λ x h. elim h [
+    | inl p ↦ inl (let same : x ≡ m = same_message x m (sym p.0 ∙ is) in some_at (λ y. x ≡ y) kept k m at same)
+    | inr n ↦ absurd n
+  ];
 }
 
-pub served_one : (b c : SeenSeat) (P : Event → Type 0) (n : ℕ) → ((e : Event) → P e → IsServed e) → HasOneMore b c P n → HasServed b c 1
-served_one b c P n is h = record { more = h.last ∷ []; seat = h.seat; served = served_single h.last (is h.last.event h.event_is); count_is = refl }
+-- a kept message that is received and goes
+lost_received : (kept : List Message) (k : ℕ) (m : Message) (r : Receipt) → slice_get kept k ≡ Some m → r.event ≡ ev.Receive m → is_full_inbox r.reply ≡ false
+    → NoneLost kept (remove kept k) (r ∷ [])
+lost_received kept k m r at is not = record {
+  kept = λ x h. elim (some_removed (λ y. x ≡ y) kept k m at h) [
+    | inl l ↦ inl l
+    | inr same ↦ inr (inl (is ∙ ap ev.Receive (sym same), not))
+  ];
+  refused = λ x h. elim h [
+    | inl p ↦ absurd (true≢false (sym p.1 ∙ not))
+    | inr n ↦ absurd n
+  ];
+}
 
-pub served_apply : (a b c : SeenSeat) (n k : ℕ) → HasServed a b n → HasOneMore b c IsApply k → HasServed a c (n + 1)
-served_apply a b c n k h one =
-    let is : (e : Event) → IsApply e → IsServed e = applied in
-    served_more a b c n 1 h (served_one b c IsApply k is one)
+pub served_none : (c : SeenSeat) (kept : List Message) → HasServed c c kept kept 0
+served_none c kept = record {
+  more = [];
+  seat = ap (λ (xs : List Receipt). record c { receipts = xs }) (sym (append-nil c.receipts));
+  served = served_nothing;
+  count_is = refl;
+  none_lost = lost_nothing kept;
+}
+
+pub served_more : (a b c : SeenSeat) (k l m : List Message) (n p : ℕ) → HasServed a b k l n → HasServed b c l m p → HasServed a c k m (n + p)
+served_more a b c k l m n p h t = record {
+  more = h.more ++ t.more;
+  seat =
+      t.seat ∙ (λ i. record (h.seat i) { receipts = (h.seat i).receipts ++ t.more })
+      ∙ ap (λ (xs : List Receipt). record a { receipts = xs }) (append_assoc a.receipts h.more t.more);
+  served = All-append Served h.more t.more h.served t.served;
+  count_is = omega (arith, h.count_is, t.count_is, length-append h.more t.more);
+  none_lost = lost_more k l m h.more t.more h.none_lost t.none_lost;
+}
+
+pub served_taken : (a : SeenSeat) (k l : List Message) (m : Message) → l ≡ k ++ m ∷ [] → HasServed a a k l 0
+served_taken a k l m is = record {
+  more = [];
+  seat = ap (λ (xs : List Receipt). record a { receipts = xs }) (sym (append-nil a.receipts));
+  served = served_nothing;
+  count_is = refl;
+  none_lost = lost_taken k l m is;
+}
+
+pub served_apply : (b c : SeenSeat) (kept : List Message) (n : ℕ) → HasOneMore b c IsApply n → HasServed b c kept kept 1
+served_apply b c kept n h = record {
+  more = h.last ∷ [];
+  seat = h.seat;
+  served = served_single h.last (applied h.last.event h.event_is);
+  count_is = refl;
+  none_lost = record { kept = λ m i. inl i; refused = λ m i. elim i [ inl p ↦ absurd (apart h.last.event m h.event_is p.0) | inr rest ↦ absurd rest ] };
+}
   where
     applied : (e : Event) → IsApply e → IsServed e
     applied (ev.Apply a) h = h
     applied _ h = absurd h
 
-pub served_receive : (a b c : SeenSeat) (n k : ℕ) (m : Message) → HasServed a b n → HasOneMore b c (λ e. e ≡ ev.Receive m) k → HasServed a c (n + 1)
-served_receive a b c n k m h one =
-    let is : (e : Event) → e ≡ ev.Receive m → IsServed e = λ e s. subst IsServed (sym s) tt in
-    served_more a b c n 1 h (served_one b c (λ e. e ≡ ev.Receive m) k is one)
+    apart : (e : Event) (m : Message) → IsApply e → e ≡ ev.Receive m → ⊥
+    apart e m i same = subst IsApply same i
+
+-- the reply of the last receipt
+last_reply : (b c : SeenSeat) (P : Event → Type 0) (n : ℕ) (full : Bool) (h : HasOneMore b c P n)
+    → ((xs : List Receipt) (r : Receipt) → c.receipts ≡ xs ++ r ∷ [] → full ≡ is_full_inbox r.reply) → full ≡ is_full_inbox h.last.reply
+last_reply b c P n full h found = found b.receipts h.last (ap (λ (s : SeenSeat). s.receipts) h.seat)
+
+served_message : (b c : SeenSeat) (old new : List Message) (m : Message) (n : ℕ) (h : HasOneMore b c (λ e. e ≡ ev.Receive m) n) → NoneLost old new (h.last ∷ []) → HasServed b c old new 1
+served_message b c old new m n h lost = record {
+  more = h.last ∷ [];
+  seat = h.seat;
+  served = served_single h.last (subst IsServed (sym h.event_is) tt);
+  count_is = refl;
+  none_lost = lost;
+}
+
+-- a kept message is received, and stays
+pub served_refused : (b c : SeenSeat) (kept : List Message) (k n : ℕ) (m : Message) → slice_get kept k ≡ Some m → HasOneMore b c (λ e. e ≡ ev.Receive m) n → HasServed b c kept kept 1
+served_refused b c kept k n m at h = served_message b c kept kept m n h (lost_refused kept k m h.last at h.event_is)
+
+-- a kept message is received, and goes
+pub served_received : (b c : SeenSeat) (old new : List Message) (k n : ℕ) (m : Message) (full : Bool) → slice_get old k ≡ Some m → HasOneMore b c (λ e. e ≡ ev.Receive m) n
+    → ((xs : List Receipt) (r : Receipt) → c.receipts ≡ xs ++ r ∷ [] → full ≡ is_full_inbox r.reply) → full ≡ false
+    → new ≡ remove old k → HasServed b c old new 1
+served_received b c old new k n m full at h found not is =
+    let P : List Message → Type 0 = λ l. NoneLost old l (h.last ∷ []) in
+    let reply : is_full_inbox h.last.reply ≡ false = sym (last_reply b c (λ e. e ≡ ev.Receive m) n full h found) ∙ not in
+    served_message b c old new m n h (subst P (sym is) (lost_received old k m h.last at h.event_is reply))
 
 pub set_last : (items items' xs : List Receipt) (r now : Receipt) (n count : ℕ)
     → items ≡ xs ++ r ∷ [] → n ≡ length items → now ≡ get_or items (n - 1) now
@@ -61,17 +192,59 @@ set_last items items' xs r now n count is len at left =
     let found : now ≡ r = at ∙ (λ i. get_or (is i) (here i) now) ∙ get_or-append_seam xs r [] now in
     left ∙ (λ i. set (is i) (here i) (record (found i) { unsent = count })) ∙ set-append_seam xs r [] (record r { unsent = count })
 
--- the count is within the receipts
-pub served_count : (a b : SeenSeat) (n : ℕ) → HasServed a b n → n ≤ length b.receipts
-served_count a b n h = omega (arith, h.count_is, ap (λ (c : SeenSeat). length c.receipts) h.seat, length-append a.receipts h.more)
+-- seat and inlet as they were
+pub served_same : (a b b' : SeenSeat) (k l l' : List Message) (n : ℕ) → HasServed a b k l n → b' ≡ b → l' ≡ l → HasServed a b' k l' n
+served_same a b b' k l l' n h seat inlet =
+    let P : SeenSeat → Type 0 = λ s. HasServed a s k l' n in
+    let Q : List Message → Type 0 = λ m. HasServed a b k m n in
+    subst P (sym seat) (subst Q (sym inlet) h)
 
-pub received_then : (a b c : SeenSeat) (k n : ℕ) (m : Message) → HasOneMore a b (λ e. e ≡ ev.Receive m) k → HasServed b c n → HasServed a c (n + 1)
-received_then a b c k n m one h =
-    let first : HasServed a b 1 = served_one a b (λ e. e ≡ ev.Receive m) k (λ e s. subst IsServed (sym s) tt) one in
-    let all : HasServed a c (1 + n) = served_more a b c 1 n first h in
-    let P : ℕ → Type 0 = HasServed a c in
+-- nothing was done
+pub served_unchanged : (a b : SeenSeat) (k l : List Message) → b ≡ a → l ≡ k → HasServed a b k l 0
+served_unchanged a b k l seat inlet = served_same a a b k k l 0 (served_none a k) seat inlet
+
+-- a step of one receipt, and more after it
+served_then : (a b c : SeenSeat) (k l m : List Message) (n : ℕ) → HasServed a b k l 1 → HasServed b c l m n → HasServed a c k m (n + 1)
+served_then a b c k l m n h t =
+    let P : ℕ → Type 0 = HasServed a c k m in
     let swap : 1 + n ≡ n + 1 = omega arith in
-    subst P swap all
+    subst P swap (served_more a b c k l m 1 n h t)
+
+-- an application, and more after it
+pub applied_then : (a b c : SeenSeat) (k m : List Message) (p n : ℕ) → HasOneMore a b IsApply p → HasServed b c k m n → HasServed a c k m (n + 1)
+applied_then a b c k m p n h t = served_then a b c k k m n (served_apply a b k p h) t
+
+-- a message is kept behind the others, and more after it
+pub served_after : (a b : SeenSeat) (k l l' : List Message) (m : Message) (n : ℕ) → l ≡ k ++ m ∷ [] → HasServed a b l l' n → HasServed a b k l' n
+served_after a b k l l' m n is t =
+    let P : ℕ → Type 0 = HasServed a b k l' in
+    let same : 0 + n ≡ n = omega arith in
+    subst P same (served_more a a b k l l' 0 n (served_taken a k l m is) t)
+
+-- the same, where it is received at once
+pub taken_then : (a b c : SeenSeat) (k l l' q : List Message) (m : Message) (n : ℕ) → l ≡ k ++ m ∷ [] → HasServed a b l l' 1 → HasServed b c l' q n → HasServed a c k q (n + 1)
+taken_then a b c k l l' q m n is h t = served_after a c k l q m (n + 1) is (served_then a b c l l' q n h t)
+
+-- the application that an answer is of
+pub applied_of : (a b : SeenSeat) (o : Option ℕ) (n : ℕ) → o ≡ Some n → MatchOption o (b ≡ a) (λ k. HasOneMore a b IsApply k) → HasOneMore a b IsApply n
+applied_of a b o n is h =
+    let P : Option ℕ → Type 0 = λ x. MatchOption x (b ≡ a) (λ k. HasOneMore a b IsApply k) in
+    subst P is h
+
+-- the message that was taken from a link
+pub kept_one : (b : Bool) (k l : List Message) → b ≡ true → MatchBool b ((m : Message) × (l ≡ k ++ m ∷ [])) (l ≡ k) → (m : Message) × (l ≡ k ++ m ∷ [])
+kept_one true k l is h = h
+kept_one false k l is h = absurd (true≢false (sym is))
+
+-- the same, of equal ends
+pub served_along : (a b b' : SeenSeat) (k l l' : List Message) (n n' : ℕ) → HasServed a b k l n → b' ≡ b → l' ≡ l → n' ≡ n → HasServed a b' k l' n'
+served_along a b b' k l l' n n' h seat inlet count =
+    let P : ℕ → Type 0 = HasServed a b' k l' in
+    subst P (sym count) (served_same a b b' k l l' n h seat inlet)
+
+-- the count is within the receipts
+pub served_count : (a b : SeenSeat) (k l : List Message) (n : ℕ) → HasServed a b k l n → n ≤ length b.receipts
+served_count a b k l n h = omega (arith, h.count_is, ap (λ (c : SeenSeat). length c.receipts) h.seat, length-append a.receipts h.more)
 
 pub on_err : {T E : Type 0} (P : Type 0) (r : Result T E) → P → OnErr r P
 on_err P (Ok x) p = tt

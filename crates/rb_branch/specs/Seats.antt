@@ -1,5 +1,5 @@
 -- What a call does to a desk and to a seat.
-use Rattle.std.specs.Prelude.{◌≡◌, ◌≢◌, ◌⊎◌, ℕ, ◌+◌, ◌≤◌, ◌<◌, true, Option, Some, None, zero, suc, slice_get, List, [], ◌∷◌, ◌++◌, length, All}
+use Rattle.std.specs.Prelude.{◌≡◌, ◌≢◌, ◌⊎◌, ℕ, ◌+◌, ◌≤◌, ◌<◌, Bool, true, false, Option, Some, None, zero, suc, slice_get, List, [], ◌∷◌, ◌++◌, length, All}
 use Rattle.rb_money.specs.Settings.{Settings}
 use Rattle.rb_money.specs.declared.limits.TheConstants.{MOST_SITES}
 use Rattle.rb_branch.specs.declared.limits.TheConstants.{MOST_RECEIPTS, MOST_SEATS, RECEIPT_PARTS}
@@ -11,7 +11,9 @@ use Rattle.rb_shadow.specs.declared.shadow.Shadow.{Shadow}
 use Rattle.rb_site.specs.declared.event.Event.{Event}
 use Rattle.rb_site.specs.declared.event.Event.TheVariants.{Receive, Apply}
 use Rattle.rb_site.specs.declared.message.Message.{Message}
+use Rattle.rb_money.specs.declared.refusal.Refusal.TheVariants.{InboxFull}
 use Rattle.rb_site.specs.declared.reply.Reply.{Reply}
+use Rattle.rb_site.specs.declared.reply.Reply.TheVariants.{Refused}
 use Rattle.rb_site.specs.Events.{first_site, is_full, reply_to, sent_at}
 use Rattle.rb_site.specs.Seen.{SeenSite, Replays, state_of, stepped}
 
@@ -106,12 +108,42 @@ IsServed (Receive m) = Unit {0}
 IsServed (Apply x) = Unit {0}
 IsServed _ = ⊥
 
--- the seat has so many receipts more, at its end, all of events that serve its site
-pub record HasServed (old new : SeenSeat) (count : ℕ) : Type 0 where
+-- ---- messages that are kept
+
+-- some item of the list is so
+abbrev pub Any : {X : Type 0} → (X → Type 0) → List X → Type 0
+Any P [] = ⊥
+Any P (x ∷ xs) = P x ⊎ Any P xs
+
+-- whether the reply is that the inbox is full
+abbrev pub is_full_inbox : Reply → Bool
+is_full_inbox (Refused InboxFull) = true
+is_full_inbox _ = false
+
+-- the message is one of these
+abbrev pub IsOneOf : Message → List Message → Type 0
+IsOneOf m kept = Any (λ k. m ≡ k) kept
+
+-- one of these receipts says that the message came and was refused, as the inbox was full
+abbrev pub WasRefused : Message → List Receipt → Type 0
+WasRefused m receipts = Any (λ r. (r.event ≡ Receive m) × (is_full_inbox r.reply ≡ true)) receipts
+
+-- one of these receipts says that the message came, with another reply
+abbrev pub WasReceived : Message → List Receipt → Type 0
+WasReceived m receipts = Any (λ r. (r.event ≡ Receive m) × (is_full_inbox r.reply ≡ false)) receipts
+
+-- no message is lost: each that was kept, or was refused by one of these receipts as the inbox was full, is kept, or was received by one of them with another reply
+pub record NoneLost (old new : List Message) (receipts : List Receipt) : Type 0 where
+  pub kept : (m : Message) → IsOneOf m old → IsOneOf m new ⊎ WasReceived m receipts
+  pub refused : (m : Message) → WasRefused m receipts → IsOneOf m new ⊎ WasReceived m receipts
+
+-- the seat has so many receipts more, at its end, all of events that serve its site; and no message is lost between these receipts and what the inlet kept before and keeps now
+pub record HasServed (old new : SeenSeat) (before now : List Message) (count : ℕ) : Type 0 where
   pub more : List Receipt
   pub seat : new ≡ record old { receipts = old.receipts ++ more }
   pub served : All (λ (r : Receipt). IsServed r.event) more
   pub count_is : count ≡ length more
+  pub none_lost : NoneLost before now more
 
 -- the last receipt's messages were refused by so many links, and all else is as before
 abbrev pub SetsUnsent : SeenSeat → SeenSeat → ℕ → Type 0

@@ -1,20 +1,22 @@
 //! Desks, seats, and the one call that makes a receipt.
-ghost use Rattle.std.specs.Prelude.{◌≡◌, ◌<◌, ◌≤◌, [], All, IfNone, IfOk, IfSome, List, OnErr, Err, Ok, None, length};
+ghost use Rattle.std.specs.Prelude.{◌≡◌, ◌<◌, ◌≤◌, ◌++◌, ◌∷◌, [], All, IfNone, IfOk, IfSome, List, OnErr, Err, Ok, None, length};
 ghost use Rattle.std.specs.Option.{option_copied};
 ghost use Rattle.rb_site.specs.Events.{first_site};
 ghost use Rattle.rb_site.specs.Seen.{Replays, first_seen};
 ghost use Rattle.rb_branch.specs.Gathered.{IsClosedReport};
-ghost use Rattle.rb_branch.specs.Seats.{Records, SetsUnsent, CannotRecord, IsReadyAt, IsSiteReply, receipt_at};
+ghost use Rattle.rb_branch.specs.Seats.{Records, SetsUnsent, CannotRecord, IsReadyAt, IsSiteReply, is_full_inbox, receipt_at};
 ghost use Rattle.rb_branch.specs.declared.call_fault.CallFault.TheVariants.{HistoryFull};
 ghost use Rattle.rb_branch.specs.declared.limits.TheConstants.{MOST_RECEIPTS};
+ghost use Rattle.rb_branch.specs.declared.receipt.Receipt.{Receipt as ReceiptOf};
 ghost use Rattle.rb_shadow.specs.declared.op_name.OpName.{OpName as NameOf};
 ghost use Rattle.rb_site.specs.declared.message.Message.{Message as MessageOf};
 ghost use Rattle.rb_site.specs.declared.event.Event.TheVariants.{Apply};
 
 use crate::given::Given;
 use crate::{Books, CallFault, Entries, MOST_RECEIPTS, Receipt};
+use rb_money::Refusal;
 use rb_shadow::OpName;
-use rb_site::{Event, Posted, Site, SiteReport};
+use rb_site::{Event, Posted, Reply, Site, SiteReport};
 use std::alloc::Global;
 use std::marker::{Model, PhantomData};
 use std::sync::ledger::{Ledger, Share};
@@ -113,6 +115,16 @@ pub fn record_ready<E: Entries, R: Ledger, W: Wait>(
     Ok(Some(number))
 }
 
+/// Whether the reply is that the inbox is full.
+fn is_full_inbox(reply: &Reply) -> bool
+    ensures { result ≡ is_full_inbox reply.now }
+{
+    match reply {
+        Reply::Refused(Refusal::InboxFull) => true,
+        _ => false,
+    }
+}
+
 impl<E: Entries> Desk<E> {
     /// The desk of a site before any event.
     pub(crate) fn open(site: Site, share: Share<E>) -> Desk<E>
@@ -203,6 +215,16 @@ impl<E: Entries, R: Ledger> Seat<E, R> {
             return None;
         }
         self.receipts.get(number as usize - 1)
+    }
+
+    /// Whether the last receipt's reply is that the inbox is full.
+    pub(crate) fn found_full(&self) -> bool
+        ensures { (before : List ReceiptOf) (last : ReceiptOf) → self.now.receipts ≡ before ++ last ∷ [] → result ≡ is_full_inbox last.reply }
+    {
+        match self.receipts.last() {
+            Some(receipt) => is_full_inbox(&receipt.reply),
+            None => false,
+        }
     }
 
     /// Notes how many links refused a message of the last receipt.

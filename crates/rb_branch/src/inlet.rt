@@ -1,23 +1,82 @@
 //! The receiving ends of links.
+ghost use Rattle.std.specs.Prelude.{◌≡◌, ◌<◌, ◌++◌, ◌∷◌, [], IfOk, MatchBool, OnErr, Some, length, slice_get};
+ghost use Rattle.std.specs.List.{remove};
+ghost use Rattle.rb_site.specs.declared.message.Message.{Message as MessageOf};
 
 use crossbeam_channel::Receiver;
 use rb_site::Message;
+use std::alloc::{AllocError, Global};
+use std::marker::Model;
 use std::sync::Wait;
 
-/// The receiving end of a site's link.
+/// The receiving end of a site's link. It keeps what was taken from the link and not yet received, as its
+/// site's inbox was full. Clients see what it keeps, in the order in which it was taken.
 #[derive(Drop)]
 pub struct Inlet {
     link: Receiver<Message>,
+    kept: Vec<Message>,
+}
+
+impl Model for Inlet {
+    ghost use Rattle.std.specs.Prelude.{List};
+    ghost use Rattle.rb_site.specs.declared.message.Message.{Message};
+
+    ghost Value = { List Message };
+
+    ghost view = { λ inlet. inlet.kept.items };
 }
 
 impl Inlet {
-    /// The end of this link.
-    pub(crate) fn new(link: Receiver<Message>) -> Inlet {
-        Inlet { link }
+    /// The end of this link, which keeps nothing.
+    pub(crate) fn new(alloc: Global, link: Receiver<Message>) -> Inlet
+        ensures { result ≡ [] }
+    {
+        Inlet {
+            link,
+            kept: Vec::new(alloc),
+        }
     }
 
-    /// The next message, once there is one. `None` once every outbox is dropped and nothing is left.
+    /// The next message of the link, once there is one, which isn't kept. `None` once every outbox is dropped
+    /// and nothing is left in the link.
     pub fn next<W: Wait>(&self, rt: &W) -> Option<Message> {
         self.link.recv(rt).ok()
+    }
+
+    /// What it keeps.
+    pub fn kept(&self) -> &[Message]
+        ensures { result.now ≡ self.now }
+    {
+        self.kept.as_slice()
+    }
+
+    /// Takes the next message from the link, once there is one, and keeps it behind the others. `false` once
+    /// the link is closed. After an `Err`, out of memory, nothing was taken.
+    pub(crate) fn take<W: Wait>(&mut self, rt: &W) -> Result<bool, AllocError>
+        ensures ok { IfOk result (λ b. MatchBool b ((m : MessageOf) × (self.new ≡ self.old ++ m ∷ [])) (self.new ≡ self.old)) }
+        ensures err { OnErr result (self.new ≡ self.old) }
+    {
+        self.kept.reserve(1)?;
+        let Some(message) = self.next(rt) else {
+            return Ok(false);
+        };
+        self.kept.push_reserved(message);
+        Ok(true)
+    }
+
+    /// The kept message at this index, from 0.
+    pub(crate) fn message(&self, index: usize) -> Message
+        requires { index < length self.now }
+        ensures { slice_get self.now index ≡ Some result }
+    {
+        self.kept[index]
+    }
+
+    /// Keeps the message at this index, from 0, no longer.
+    pub(crate) fn let_go(&mut self, index: usize)
+        requires { index < length self.old }
+        ensures { self.new ≡ remove self.old index }
+    {
+        self.kept.remove(index);
     }
 }

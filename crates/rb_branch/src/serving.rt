@@ -1,15 +1,17 @@
 //! The serving of a site: what comes by its link is received, and what is ready is applied.
-ghost use Rattle.std.specs.Prelude.{◌≡◌, ℕ, IfOk, OnErr};
+ghost use Rattle.std.specs.Prelude.{◌≡◌, ◌<◌, ℕ, IfOk, OnErr, length};
 ghost use Rattle.rb_branch.specs.Seats.{HasServed};
 
 use crate::{Branch, CallFault, Entries, Gate, Inlet, Seat};
-use rb_site::Message;
 use std::sync::Wait;
 use std::sync::ledger::Ledger;
 
 impl<E: Entries, R: Ledger, G: Gate + Drop> Branch<E, R, G> {
-    /// Receives what comes by a link until it closes, and after each message applies what is ready. It tells
-    /// how many receipts the seat has more. After an `Err` the seat keeps those of the events before.
+    /// Receives what the inlet keeps and then what comes by its link until it closes, and after each message
+    /// applies what is ready. Ok is how many receipts the seat has more. What the site refuses as its inbox is
+    /// full is kept in the inlet, and all that is kept is received again after each application. After an `Err`
+    /// the seat has the receipts of the events before, the inlet keeps what was taken and not received, and
+    /// `serve` may be called again.
     ///
     /// The link closes once all outboxes are dropped, so a thread that serves must not hold one of them: it
     /// would wait for itself.
@@ -17,52 +19,161 @@ impl<E: Entries, R: Ledger, G: Gate + Drop> Branch<E, R, G> {
         &self,
         rt: &W,
         seat: &mut Seat<E, R>,
-        inlet: Inlet,
+        inlet: &mut Inlet,
     ) -> Result<u64, CallFault>
-        ensures ok { IfOk result (λ n. HasServed seat.old seat.new n) }
-        ensures err { OnErr result ((n : ℕ) × HasServed seat.old seat.new n) }
+        ensures ok { IfOk result (λ n. HasServed seat.old seat.new inlet.old inlet.new n) }
+        ensures err { OnErr result ((n : ℕ) × HasServed seat.old seat.new inlet.old inlet.new n) }
+    {
+        let resumed = self.resume(rt, seat, inlet)?;
+        let taken = self.take_all(rt, seat, inlet)?;
+        let _few = seat.receipts().len();
+        Ok(resumed + taken)
+    }
+
+    /// Takes in what comes until the link closes.
+    fn take_all<W: Wait>(
+        &self,
+        rt: &W,
+        seat: &mut Seat<E, R>,
+        inlet: &mut Inlet,
+    ) -> Result<u64, CallFault>
+        ensures ok { IfOk result (λ n. HasServed seat.old seat.new inlet.old inlet.new n) }
+        ensures err { OnErr result ((n : ℕ) × HasServed seat.old seat.new inlet.old inlet.new n) }
     {
         let mut made: u64 = 0;
         for _ in rt.forever() {
-            let Some(message) = inlet.next(rt) else {
-                break;
-            };
-            let more = self.take_in(rt, seat, message)?;
+            let more = self.take_in(rt, seat, inlet)?;
             let _few = seat.receipts().len();
             made += more;
+            if more == 0 {
+                break;
+            }
         }
         Ok(made)
     }
 
-    /// Receives a message, and applies what is ready.
+    /// Receives what is kept, and applies what is ready.
+    fn resume<W: Wait>(
+        &self,
+        rt: &W,
+        seat: &mut Seat<E, R>,
+        inlet: &mut Inlet,
+    ) -> Result<u64, CallFault>
+        ensures ok { IfOk result (λ n. HasServed seat.old seat.new inlet.old inlet.new n) }
+        ensures err { OnErr result ((n : ℕ) × HasServed seat.old seat.new inlet.old inlet.new n) }
+    {
+        let received = self.receive_kept(rt, seat, inlet)?;
+        let applied = self.apply_all(rt, seat, inlet)?;
+        let _few = seat.receipts().len();
+        Ok(received + applied)
+    }
+
+    /// Takes the next message and receives it, and applies what is ready: how many receipts the seat has more,
+    /// which is 0 once the link is closed.
     fn take_in<W: Wait>(
         &self,
         rt: &W,
         seat: &mut Seat<E, R>,
-        message: Message,
+        inlet: &mut Inlet,
     ) -> Result<u64, CallFault>
-        ensures ok { IfOk result (λ n. HasServed seat.old seat.new n) }
-        ensures err { OnErr result ((n : ℕ) × HasServed seat.old seat.new n) }
+        ensures ok { IfOk result (λ n. HasServed seat.old seat.new inlet.old inlet.new n) }
+        ensures err { OnErr result ((n : ℕ) × HasServed seat.old seat.new inlet.old inlet.new n) }
     {
-        let _number = self.receive(rt, seat, message)?;
-        let applied = self.apply_all(rt, seat)?;
+        let taken = inlet.take(rt)?;
+        if !taken {
+            return Ok(0);
+        }
+        let last = inlet.kept().len() - 1;
+        let _gone = self.receive_at(rt, seat, inlet, last)?;
+        let applied = self.apply_all(rt, seat, inlet)?;
         let _few = seat.receipts().len();
         Ok(applied + 1)
     }
 
     /// Applies what is ready until nothing is.
-    fn apply_all<W: Wait>(&self, rt: &W, seat: &mut Seat<E, R>) -> Result<u64, CallFault>
-        ensures ok { IfOk result (λ n. HasServed seat.old seat.new n) }
-        ensures err { OnErr result ((n : ℕ) × HasServed seat.old seat.new n) }
+    fn apply_all<W: Wait>(
+        &self,
+        rt: &W,
+        seat: &mut Seat<E, R>,
+        inlet: &mut Inlet,
+    ) -> Result<u64, CallFault>
+        ensures ok { IfOk result (λ n. HasServed seat.old seat.new inlet.old inlet.new n) }
+        ensures err { OnErr result ((n : ℕ) × HasServed seat.old seat.new inlet.old inlet.new n) }
     {
         let mut made: u64 = 0;
         for _ in rt.forever() {
+            let more = self.apply_one(rt, seat, inlet)?;
             let _few = seat.receipts().len();
-            let Some(_number) = self.apply_ready(rt, seat)? else {
+            made += more;
+            if more == 0 {
                 break;
-            };
-            made += 1;
+            }
         }
         Ok(made)
+    }
+
+    /// Applies what is ready, once, and then receives what is kept: how many receipts the seat has more, which
+    /// is 0 where nothing is ready.
+    fn apply_one<W: Wait>(
+        &self,
+        rt: &W,
+        seat: &mut Seat<E, R>,
+        inlet: &mut Inlet,
+    ) -> Result<u64, CallFault>
+        ensures ok { IfOk result (λ n. HasServed seat.old seat.new inlet.old inlet.new n) }
+        ensures err { OnErr result ((n : ℕ) × HasServed seat.old seat.new inlet.old inlet.new n) }
+    {
+        let Some(_number) = self.apply_ready(rt, seat)? else {
+            return Ok(0);
+        };
+        let more = self.receive_kept(rt, seat, inlet)?;
+        let _few = seat.receipts().len();
+        Ok(more + 1)
+    }
+
+    /// Receives each kept message once more, from the first: how many receipts the seat has more.
+    fn receive_kept<W: Wait>(
+        &self,
+        rt: &W,
+        seat: &mut Seat<E, R>,
+        inlet: &mut Inlet,
+    ) -> Result<u64, CallFault>
+        ensures ok { IfOk result (λ n. HasServed seat.old seat.new inlet.old inlet.new n) }
+        ensures err { OnErr result ((n : ℕ) × HasServed seat.old seat.new inlet.old inlet.new n) }
+    {
+        let mut made: u64 = 0;
+        let mut index: usize = 0;
+        for _ in rt.forever() {
+            if index >= inlet.kept().len() {
+                break;
+            }
+            let gone = self.receive_at(rt, seat, inlet, index)?;
+            let _few = seat.receipts().len();
+            made += 1;
+            index = if gone { index } else { index + 1 };
+        }
+        Ok(made)
+    }
+
+    /// Receives the kept message at this index. It stays where the inbox is full, and goes otherwise: whether
+    /// it went.
+    fn receive_at<W: Wait>(
+        &self,
+        rt: &W,
+        seat: &mut Seat<E, R>,
+        inlet: &mut Inlet,
+        index: usize,
+    ) -> Result<bool, CallFault>
+        requires { index < length inlet.old }
+        ensures ok { IfOk result (λ _. HasServed seat.old seat.new inlet.old inlet.new 1) }
+        ensures err { OnErr result ((seat.new ≡ seat.old) × (inlet.new ≡ inlet.old)) }
+    {
+        let message = inlet.message(index);
+        let _number = self.receive(rt, seat, message)?;
+        if seat.found_full() {
+            return Ok(false);
+        }
+        inlet.let_go(index);
+        Ok(true)
     }
 }

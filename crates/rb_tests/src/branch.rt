@@ -127,9 +127,9 @@ pub fn served_by<E: Entries, R: Ledger, G: Gate + Drop, W: Wait>(
     rt: &W,
     branch: &Branch<E, R, G>,
     seat: &mut Seat<E, R>,
-    inlet: Inlet,
+    mut inlet: Inlet,
 ) -> Result<u64, CallFault> {
-    branch.serve(rt, seat, inlet)
+    branch.serve(rt, seat, &mut inlet)
 }
 
 /// A deposit at site 0, and a server at site 1.

@@ -1,4 +1,4 @@
-use Rattle.std.proofs.Common.{rules, ap, ◌∙◌}
+use Rattle.std.proofs.Common.{rules}
 use Rattle.rb_branch.proofs.Ready.{none_ready}
 use Rattle.rb_branch.proofs.desk.Desk.ready.Goals as goal
 
