@@ -1,1 +1,2 @@
 pub mod Bank
+pub mod Served

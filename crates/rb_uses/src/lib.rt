@@ -5,6 +5,7 @@
 mod bank;
 mod numbers;
 mod reversal;
+mod threads;
 
 ghost use Rattle.std.specs.Prelude.{◌≡◌, [], ◌∷◌, IfOk, Some, length};
 ghost use Rattle.rb_money.specs.declared.refusal.Refusal.TheVariants.{BatchRefused};
@@ -21,6 +22,7 @@ use rb_shadow::OpName;
 use rb_site::{Event, Reply, WorldEvent};
 pub use reversal::{as_of_by_rewinding, back_to, there_and_back, tried_and_aborted};
 use std::alloc::{AllocError, Global};
+pub use threads::deposit_while_served;
 
 /// A deposit at site 0 comes to site 1 and is applied there: the balance at each, in cents. It is refused
 /// where it isn't of 1 to `MOST_CENTS` cents.
