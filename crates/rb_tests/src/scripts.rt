@@ -36,6 +36,13 @@ const DEPOSIT_AND_BAD: &str = r#"{"accounts":[["ann",0]],"sites":2,"version":1}
 {"deposit":["ann",500],"site":0}
 deposit"#;
 
+/// A deposit, a bad line, and a command behind it.
+const COMMAND_BEHIND_BAD: &str = r#"{"accounts":[["ann",0]],"sites":2,"version":1}
+{"deposit":["ann",500],"site":0}
+deposit
+{"balance":"ann","site":0}
+"#;
+
 /// Two commands, of which the second has no line feed.
 const TWO_BALANCES: &str = r#"{"accounts":[["ann",0]],"sites":2,"version":1}
 {"balance":"ann","site":0}
@@ -268,6 +275,17 @@ fn replies_go_out_before_the_next_read(rt: HostRuntime) {
         Step::Read(0),
     ];
     assert_eq!(rt; (result, steps.as_slice()), (Ok(6), want.as_slice()));
+}
+
+#[test]
+fn nothing_is_read_behind_a_bad_line(rt: HostRuntime) {
+    // The first piece ends with the bad line.
+    let (result, steps) = calls(rt.alloc(), COMMAND_BEHIND_BAD.as_bytes(), 47 + 33 + 8);
+    let want = [Step::Read(88), Step::Write(33)];
+    assert_eq!(rt;
+        (result, steps.as_slice()),
+        (Err(ScriptFault::BadLine { line: 3 }), want.as_slice())
+    );
 }
 
 /// A configuration and ten thousand commands.
