@@ -7,7 +7,9 @@ use Rattle.clap.specs.declared.error.kind.ErrorKind.TheVariants.{DisplayHelp, Di
 use Rattle.rb_lines.specs.declared.fault.ScriptFault.{ScriptFault}
 use Rattle.rb_lines.specs.declared.fault.ScriptFault.TheVariants.{NoConfig, OutOfMemory}
 use Rattle.rb_lines.specs.Messages.{status_of}
-use Rattle.rbbank.specs.Statuses.{IsEnd, IsEndOfAudit, IsEndOfScript, IsEndOfThreads, IsToldFault, status_of_unread, status_of_words}
+use Rattle.rbbank.specs.declared.answer.Answered.{Answered}
+use Rattle.rbbank.specs.declared.answer.Answered.TheVariants.{Script, Audit, Migrate, Threads}
+use Rattle.rbbank.specs.Statuses.{IsEnd, IsEndOf, IsEndOfAudit, IsEndOfScript, IsEndOfThreads, IsToldFault, status_of_unread, status_of_words}
 
 pub no_memory : (n : ℕ) → n ≡ 4 → IsEnd n
 no_memory n e = inr (inr (OutOfMemory, e))
@@ -16,18 +18,24 @@ fault_end : (n : ℕ) (fault : ScriptFault) → IsToldFault fault n → IsEnd n
 fault_end n fault (inl e) = inr (inr (fault, e))
 fault_end n fault (inr e) = no_memory n e
 
-pub script_end : (n : ℕ) (answered : Result ℕ ScriptFault) → IsEndOfScript answered n → IsEnd n
+script_end : (n : ℕ) (answered : Result ℕ ScriptFault) → IsEndOfScript answered n → IsEnd n
 script_end n (Ok count) e = inl e
 script_end n (Err fault) e = fault_end n fault e
 
-pub audit_end : (n : ℕ) (answered : Result Bool ScriptFault) → IsEndOfAudit answered n → IsEnd n
+audit_end : (n : ℕ) (answered : Result Bool ScriptFault) → IsEndOfAudit answered n → IsEnd n
 audit_end n (Ok true) e = inl e
 audit_end n (Ok false) e = inr (inl e)
 audit_end n (Err fault) e = fault_end n fault e
 
-pub threads_end : (n : ℕ) (ran : Result Unit ScriptFault) → IsEndOfThreads ran n → IsEnd n
+threads_end : (n : ℕ) (ran : Result Unit ScriptFault) → IsEndOfThreads ran n → IsEnd n
 threads_end n (Ok u) e = inl e
 threads_end n (Err fault) e = fault_end n fault e
+
+pub any_end : (n : ℕ) (answered : Answered) → IsEndOf answered n → IsEnd n
+any_end n (Script ran) e = script_end n ran e
+any_end n (Audit ran) e = audit_end n ran e
+any_end n (Migrate ran) e = script_end n ran e
+any_end n (Threads ran) e = threads_end n ran e
 
 pub words_end : (n : ℕ) (kind : ErrorKind) → n ≡ status_of_words kind → IsEnd n
 words_end n NoMemory e = no_memory n e

@@ -6,6 +6,8 @@ use Rattle.clap.specs.declared.error.kind.ErrorKind.{ErrorKind}
 use Rattle.clap.specs.declared.error.kind.ErrorKind.TheVariants.{DisplayHelp, DisplayVersion, OutOfMemory}
 use Rattle.rb_lines.specs.declared.fault.ScriptFault.{ScriptFault}
 use Rattle.rb_lines.specs.Messages.{status_of}
+use Rattle.rbbank.specs.declared.answer.Answered.{Answered}
+use Rattle.rbbank.specs.declared.answer.Answered.TheVariants.{Script, Audit, Migrate, Threads}
 
 -- where the words ask for nothing: help or the version that was asked for is no fault
 abbrev pub status_of_words : ErrorKind → ℕ
@@ -38,6 +40,13 @@ IsEndOfAudit (Err fault) n = IsToldFault fault n
 abbrev pub IsEndOfThreads : Result Unit ScriptFault → ℕ → Type 0
 IsEndOfThreads (Ok u) n = n ≡ 0
 IsEndOfThreads (Err fault) n = IsToldFault fault n
+
+-- whatever was done ends as a script, an audit, a migration or a run of threads does
+abbrev pub IsEndOf : Answered → ℕ → Type 0
+IsEndOf (Script ran) n = IsEndOfScript ran n
+IsEndOf (Audit ran) n = IsEndOfAudit ran n
+IsEndOf (Migrate ran) n = IsEndOfScript ran n
+IsEndOf (Threads ran) n = IsEndOfThreads ran n
 
 -- 0, 1, or the status of a fault
 abbrev pub IsEnd : ℕ → Type 0

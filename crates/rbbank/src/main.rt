@@ -2,31 +2,22 @@
 //! Tests: rb_tests, words.rt; the program itself runs in the gate and on examples/.
 #![tactic(auto)]
 
-ghost use Rattle.std.specs.Prelude.{◌≡◌, ◌≤◌};
+ghost use Rattle.std.specs.Prelude.{◌≡◌};
 ghost use Rattle.std.specs.IoError.{error_kind};
 ghost use Rattle.std.specs.Process.{exit_status};
 ghost use Rattle.clap.specs.Words.{kind_of};
-ghost use Rattle.rb_money.specs.declared.limits.TheConstants.{MOST_SITES};
-ghost use Rattle.rbbank.specs.Statuses.{IsEnd, IsEndOfAudit, IsEndOfScript, IsEndOfThreads, IsToldFault, status_of_unread, status_of_words};
+ghost use Rattle.rbbank.specs.Statuses.{IsEnd, IsEndOf, IsEndOfAudit, IsEndOfScript, IsEndOfThreads, IsToldFault, status_of_unread, status_of_words};
 
-mod from_reader;
-mod to_writer;
+mod answer;
 
+use answer::{Answered, answer};
 use clap::error::ErrorKind;
-use from_reader::FromReader;
-use rb_audit::run_audit;
-use rb_branch::NoGate;
-use rb_lines::{ScriptFault, message, status};
-use rb_migrate::run_migrate;
-use rb_script::run_script;
-use rb_threads::run_threads;
-use rb_words::{Words, read_words};
+use rb_lines::{FromReader, ScriptFault, ToWriter, message, status};
 use std::alloc::AllocError;
 use std::process::ExitCode;
 use std::sync::Wait;
 use std::thread::Threads;
 use std::{env, io};
-use to_writer::ToWriter;
 
 /// The status where histories are no world's.
 const FAULT_FOUND: u8 = 1;
@@ -88,20 +79,20 @@ fn tell_unread(rt: &HostRuntime, error: io::Error) -> ExitCode
 }
 
 /// How a script or a migration ends the program.
-fn end_of_script(rt: &HostRuntime, answered: Result<u64, ScriptFault>) -> ExitCode
-    ensures { IsEndOfScript answered (exit_status result) }
+fn end_of_script(rt: &HostRuntime, ran: Result<u64, ScriptFault>) -> ExitCode
+    ensures { IsEndOfScript ran (exit_status result) }
 {
-    match answered {
+    match ran {
         Ok(_) => ExitCode::SUCCESS,
         Err(fault) => tell_fault(rt, fault),
     }
 }
 
 /// How an audit ends the program.
-fn end_of_audit(rt: &HostRuntime, answered: Result<bool, ScriptFault>) -> ExitCode
-    ensures { IsEndOfAudit answered (exit_status result) }
+fn end_of_audit(rt: &HostRuntime, ran: Result<bool, ScriptFault>) -> ExitCode
+    ensures { IsEndOfAudit ran (exit_status result) }
 {
-    match answered {
+    match ran {
         Ok(true) => ExitCode::SUCCESS,
         Ok(false) => ExitCode::from(FAULT_FOUND),
         Err(fault) => tell_fault(rt, fault),
@@ -118,56 +109,20 @@ fn end_of_threads(rt: &HostRuntime, ran: Result<(), ScriptFault>) -> ExitCode
     }
 }
 
-/// Answers the script on standard input.
-fn script(rt: &HostRuntime) -> ExitCode
-    ensures { IsEnd (exit_status result) }
+/// How whatever was asked for ends the program.
+fn end(rt: &HostRuntime, answered: Answered) -> ExitCode
+    ensures { IsEndOf answered (exit_status result) }
 {
-    let mut reader = FromReader::new(rt.reader());
-    let mut writer = ToWriter::new(io::writer(rt));
-    let answered = run_script(rt.alloc(), &mut reader, &mut writer);
-    end_of_script(rt, answered)
+    match answered {
+        Answered::Script(ran) => end_of_script(rt, ran),
+        Answered::Audit(ran) => end_of_audit(rt, ran),
+        Answered::Migrate(ran) => end_of_script(rt, ran),
+        Answered::Threads(ran) => end_of_threads(rt, ran),
+    }
 }
 
-/// Audits the histories on standard input.
-fn audit(rt: &HostRuntime) -> ExitCode
-    ensures { IsEnd (exit_status result) }
-{
-    let mut reader = FromReader::new(rt.reader());
-    let mut writer = ToWriter::new(io::writer(rt));
-    let answered = run_audit(rt.alloc(), &mut reader, &mut writer);
-    end_of_audit(rt, answered)
-}
-
-/// Writes the histories on standard input again, in version 2 of their lines.
-fn migrate(rt: &HostRuntime) -> ExitCode
-    ensures { IsEnd (exit_status result) }
-{
-    let mut reader = FromReader::new(rt.reader());
-    let mut writer = ToWriter::new(io::writer(rt));
-    let written = run_migrate(rt.alloc(), &mut reader, &mut writer);
-    end_of_script(rt, written)
-}
-
-/// Runs tellers at the sites, and writes their histories.
-fn threads<W: Threads + Wait + Sync>(
-    rt: &HostRuntime,
-    handle: &W,
-    sites: u8,
-    tellers: u8,
-    seed: u32,
-) -> ExitCode
-    requires some_sites { 2 ≤ sites }
-    requires few_sites { sites ≤ MOST_SITES }
-    ensures { IsEnd (exit_status result) }
-{
-    let alloc = rt.alloc();
-    let mut writer = ToWriter::new(io::writer(rt));
-    let ran = run_threads(handle, alloc, sites, tellers, seed, NoGate, &mut writer);
-    end_of_threads(rt, ran)
-}
-
-/// Does what the words ask for. The handle starts threads, and waits for them.
-fn run<W: Threads + Wait + Sync>(rt: &HostRuntime, handle: &W) -> ExitCode
+/// Does what the words ask for, between standard input and output. The handle starts threads, and waits for them.
+fn run<H: Threads + Wait + Sync>(rt: &HostRuntime, handle: &H) -> ExitCode
     ensures { IsEnd (exit_status result) }
 {
     let alloc = rt.alloc();
@@ -185,17 +140,10 @@ fn run<W: Threads + Wait + Sync>(rt: &HostRuntime, handle: &W) -> ExitCode
     else {
         return out_of_memory(rt);
     };
-    match read_words(alloc, views.as_slice()) {
-        Ok(Words::Script) => script(rt),
-        Ok(Words::Audit) => audit(rt),
-        Ok(Words::Migrate) => migrate(rt),
-        Ok(
-            Words::Threads {
-                sites,
-                tellers,
-                seed,
-            },
-        ) => threads(rt, handle, sites, tellers, seed),
+    let mut reader = FromReader::new(rt.reader());
+    let mut writer = ToWriter::new(io::writer(rt));
+    match answer(handle, alloc, views.as_slice(), &mut reader, &mut writer) {
+        Ok(answered) => end(rt, answered),
         Err(error) => tell_words(rt, error),
     }
 }

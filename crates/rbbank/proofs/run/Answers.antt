@@ -1,4 +1,4 @@
-use Rattle.rbbank.proofs.Ends.{no_memory, unread_end, words_end}
+use Rattle.rbbank.proofs.Ends.{any_end, no_memory, unread_end, words_end}
 use Rattle.rbbank.proofs.run.Goals as goal
 
 pub returns-in-Err : goal.returns-in-Err
@@ -12,3 +12,6 @@ returns-in_default-collect g c = no_memory _ c.out_of_memory-in_default-collect.
 
 pub returns : goal.returns
 returns g c = words_end _ _ c.tell_words.ensures
+
+pub returns-in-Ok-answer : goal.returns-in-Ok-answer
+returns-in-Ok-answer g c = any_end _ _ c.end.ensures

@@ -1,0 +1,68 @@
+//! What the words ask for, done between any reader and any writer.
+ghost use Rattle.std.specs.Prelude.{◌≡◌, ◌+◌, ◌≤◌, ℕ, List, false, map, IfOk, IfErr, OnErr};
+ghost use Rattle.std.specs.Io.KnownBytes.{Appends};
+ghost use Rattle.rb_lines.specs.declared.limits.TheConstants.{MOST_READS};
+ghost use Rattle.rb_words.specs.declared.words.Words.{Words as TheWords};
+ghost use Rattle.rb_words.specs.Words.{Ask};
+ghost use Rattle.rbbank.specs.Asked.{DoesAsAsked};
+
+use rb_audit::run_audit;
+use rb_branch::NoGate;
+use rb_lines::{ScriptFault, Sink, Source};
+use rb_migrate::run_migrate;
+use rb_script::run_script;
+use rb_threads::run_threads;
+use rb_words::{Words, read_words};
+use std::alloc::Global;
+use std::sync::Wait;
+use std::thread::Threads;
+
+/// What was done, and what it came to.
+#[derive(Clone, Copy, Debug, PartialEq, Eq)]
+pub enum Answered {
+    /// A script was answered.
+    Script(Result<u64, ScriptFault>),
+    /// Histories were audited.
+    Audit(Result<bool, ScriptFault>),
+    /// Histories were written again.
+    Migrate(Result<u64, ScriptFault>),
+    /// Tellers ran.
+    Threads(Result<(), ScriptFault>),
+}
+
+/// Does what the words after the program's name ask for, from this reader to this writer. Tellers read nothing;
+/// the handle starts their threads, and waits for them. Where the words ask for nothing, the error says so, and
+/// nothing is read or written.
+pub fn answer<'a, H: Threads + Wait + Sync, S: Source, W: Sink>(
+    handle: &H,
+    alloc: Global,
+    words: &'a [&'a str],
+    reader: &mut S,
+    writer: &mut W,
+) -> Result<Answered, clap::Error>
+    requires unread { S.calls reader.old ≡ 0 }
+    requires fresh { W.failed writer.old ≡ false }
+    ensures done { IfOk result (λ answered. (asked : TheWords) × Ask (map (λ word. word.now) words.entry.now) asked
+        × (text : List ℕ) × Appends (W.contents writer.old) (W.contents writer.new) text
+        × DoesAsAsked asked answered (S.remaining reader.old) (S.remaining reader.new) text) }
+    ensures unasked { IfErr result (λ _. (asked : TheWords) → ¬ Ask (map (λ word. word.now) words.entry.now) asked) }
+    ensures untouched { OnErr result ((reader.new ≡ reader.old) × (writer.new ≡ writer.old)) }
+    ensures calls { S.calls reader.new ≤ S.calls reader.old + MOST_READS }
+{
+    match read_words(alloc, words) {
+        Ok(Words::Script) => Ok(Answered::Script(run_script(alloc, reader, writer))),
+        Ok(Words::Audit) => Ok(Answered::Audit(run_audit(alloc, reader, writer))),
+        Ok(Words::Migrate) => Ok(Answered::Migrate(run_migrate(alloc, reader, writer))),
+        Ok(
+            Words::Threads {
+                sites,
+                tellers,
+                seed,
+            },
+        ) => {
+            let ran = run_threads(handle, alloc, sites, tellers, seed, NoGate, writer);
+            Ok(Answered::Threads(ran))
+        }
+        Err(error) => Err(error),
+    }
+}
