@@ -23,7 +23,7 @@ import sys
 
 ROOT = os.path.dirname(os.path.dirname(os.path.abspath(__file__)))
 ROOMS = ["The headline", "The program's text", "Other public contracts", "Inner contracts"]
-PROGRAM = ["rb_script::run_script", "rb_audit::run_audit", "rb_migrate::run_migrate", "rb_threads::run_threads", "rb_words::read_words"]
+PROGRAM = ["rb_run_script::run_script", "rb_run_audit::run_audit", "rb_run_migrate::run_migrate", "rb_run_threads::run_threads", "rb_cli::read_words"]
 WORD = re.compile(r"[^\W\d]\w*")
 
 # a type of the code with its fields, and a trait with its functions

@@ -9,7 +9,7 @@ ghost use Rattle.rb_auditor.specs.Replays.{RecordsEntry, IsWrongIn, sends_by, se
 use crate::AuditFault;
 use crate::sends::Sends;
 use rb_money::Config;
-use rb_site::{Entry, Message, Site, UnkeptEntry};
+use rb_site::{Entry, ErasedEntry, Message, Site};
 use std::alloc::{AllocError, Global};
 
 /// What each entry of a history sends, if the site of this number records them all.
@@ -38,7 +38,7 @@ pub fn replay(
 fn note_all(
     alloc: Global,
     config: &Config,
-    site: &mut Site<UnkeptEntry>,
+    site: &mut Site<ErasedEntry>,
     history: &[Entry],
 ) -> Result<Sends, AuditFault>
     requires site { site.old ≡ first_seen config.now site.old.me }
@@ -72,7 +72,7 @@ fn note_all(
 /// Whether the site records the entry. What it sends goes to the end of the messages.
 fn note(
     alloc: Global,
-    site: &mut Site<UnkeptEntry>,
+    site: &mut Site<ErasedEntry>,
     entry: &Entry,
     messages: &mut Vec<Message>,
 ) -> Result<bool, AllocError>

@@ -3,7 +3,7 @@ ghost use Rattle.std.specs.Prelude.{◌≡◌, IfOk, OnErr};
 ghost use Rattle.rb_branch.specs.Seats.{HasOneMore};
 
 use crate::{Branch, CallFault, Entries, Gate, Outbox, Seat};
-use rb_list::List;
+use rb_kit::List;
 use rb_money::Place;
 use rb_scratch::Request;
 use rb_shadow::OpName;

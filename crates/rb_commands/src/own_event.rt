@@ -2,7 +2,7 @@
 ghost use Rattle.std.specs.Prelude.{◌≡◌};
 ghost use Rattle.rb_commands.specs.Verbs.{event_told};
 
-use rb_list::List;
+use rb_kit::List;
 use rb_money::Place;
 use rb_scratch::Request;
 use rb_shadow::OpName;

@@ -11,7 +11,7 @@ ghost use Rattle.rb_commands.specs.declared.told.Told.TheVariants.{Event as Told
 use crate::own_event::OwnEvent;
 use crate::request::place;
 use crate::told::Told;
-use rb_list::List;
+use rb_kit::List;
 use rb_money::Config;
 use rb_scratch::Request;
 use rb_shadow::OpName;

@@ -12,7 +12,7 @@ use crate::refusal::refusal;
 use crate::shown::{names, rows};
 use rb_commands::LineFault;
 use rb_commands::values::{byte, long, name, size, word};
-use rb_list::List;
+use rb_kit::List;
 use rb_shadow::OpName;
 use rb_site::Reply;
 use rb_statements::Statement;

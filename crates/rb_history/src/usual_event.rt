@@ -7,7 +7,7 @@ ghost use Rattle.rb_history.specs.Tells.{TellsEach, TellsEvent, TellsRequest};
 use crate::usual_part::{account_between, asked, byte_between, name_between, word_between};
 use crate::usual_shadow::usual_shadow;
 use rb_commands::scan::after;
-use rb_list::List;
+use rb_kit::List;
 use rb_money::Config;
 use rb_scratch::Request;
 use rb_site::{Event, Message};

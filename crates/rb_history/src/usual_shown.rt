@@ -12,7 +12,7 @@ ghost use Rattle.rb_history.specs.Tells.{TellsEach, TellsReply};
 
 use crate::usual_part::{label, long_between, name, word_between};
 use rb_commands::scan::{after, number};
-use rb_list::List;
+use rb_kit::List;
 use rb_shadow::OpName;
 use rb_site::Reply;
 use rb_statements::{Row, Statement};

@@ -1,7 +1,7 @@
 //! Types whose test of equality is exact.
 
 use crate::Request;
-use rb_list::Exact;
+use rb_kit::Exact;
 
 impl Exact for Request {
     ghost use Rattle.rb_scratch.specs.Exact.{requests_exact};

@@ -1,7 +1,7 @@
 //! Types whose test of equality is exact.
 
 use crate::OpName;
-use rb_list::Exact;
+use rb_kit::Exact;
 
 impl Exact for OpName {
     ghost use Rattle.rb_shadow.specs.Exact.{names_exact};

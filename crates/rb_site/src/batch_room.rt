@@ -6,7 +6,7 @@ ghost use Rattle.rb_site.specs.States.{Says};
 
 use crate::answer::Answer;
 use crate::{Message, Reply};
-use rb_list::List;
+use rb_kit::List;
 use rb_shadow::{OpName, Shadow};
 use std::alloc::{AllocError, Global};
 use std::marker::Model;

@@ -3,7 +3,7 @@ ghost use Rattle.std.specs.Prelude.{◌≡◌, ◌↔◌, IfOk, IsTrue};
 
 use crate::Message;
 use crate::same::{same_in, same_name, same_place, same_request};
-use rb_list::List;
+use rb_kit::List;
 use rb_money::Place;
 use rb_scratch::Request;
 use rb_shadow::OpName;

@@ -4,7 +4,7 @@ ghost use Rattle.rb_site.specs.Notes.{IsNoted};
 ghost use Rattle.rb_site.specs.declared.entry.Entry.{Entry as TheEntry};
 
 use crate::{Entry, Event, Reply};
-use rb_unkept::Unkept;
+use rb_kit::Erased;
 
 /// What is kept of an entry: all of it, or nothing that takes memory.
 pub trait KeepsEntry: Drop {
@@ -37,22 +37,22 @@ impl KeepsEntry for Entry {
 
 /// An entry that isn't kept. Only proofs read it.
 #[derive(Drop)]
-pub struct UnkeptEntry {
-    event: Unkept<Event>,
-    reply: Unkept<Reply>,
+pub struct ErasedEntry {
+    event: Erased<Event>,
+    reply: Erased<Reply>,
 }
 
-impl KeepsEntry for UnkeptEntry {
+impl KeepsEntry for ErasedEntry {
     ghost entry = { λ x. record { event = x.event.value; reply = x.reply.value } };
 
     ghost KEEPS = { false };
 
     const KEEPS: bool = false;
 
-    fn note(event: Event, reply: &Reply, _noted: Option<Reply>) -> UnkeptEntry {
-        UnkeptEntry {
-            event: Unkept::of(&event),
-            reply: Unkept::of(reply),
+    fn note(event: Event, reply: &Reply, _noted: Option<Reply>) -> ErasedEntry {
+        ErasedEntry {
+            event: Erased::of(&event),
+            reply: Erased::of(reply),
         }
     }
 }

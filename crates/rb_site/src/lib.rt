@@ -22,7 +22,7 @@ ghost use Rattle.rb_site.specs.Histories.{StuckIsFinal};
 
 pub use entry::Entry;
 pub use event::Event;
-pub use keeps_entry::{KeepsEntry, UnkeptEntry};
+pub use keeps_entry::{ErasedEntry, KeepsEntry};
 pub use message::Message;
 pub use reply::Reply;
 pub use report::SiteReport;

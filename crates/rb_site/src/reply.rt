@@ -3,7 +3,7 @@ ghost use Rattle.std.specs.Prelude.{◌≡◌, ◌↔◌, true, IfOk, IsTrue};
 ghost use Rattle.rb_site.specs.Notes.{IsNoted};
 
 use crate::same::{same_in, same_label, same_name, same_refusal};
-use rb_list::List;
+use rb_kit::List;
 use rb_money::Refusal;
 use rb_shadow::{Label, OpName};
 use rb_statements::Statement;

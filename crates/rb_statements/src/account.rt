@@ -2,7 +2,7 @@
 ghost use Rattle.std.specs.Prelude.{◌≡◌, ◌↔◌, IfOk, IsTrue};
 
 use crate::Row;
-use rb_list::List;
+use rb_kit::List;
 use std::alloc::{AllocError, Global};
 
 /// An account's start, its entries and its balance.

@@ -1,7 +1,7 @@
 //! Types whose test of equality is exact.
 
 use crate::Row;
-use rb_list::Exact;
+use rb_kit::Exact;
 
 impl Exact for Row {
     ghost use Rattle.rb_statements.specs.Exact.{rows_exact};

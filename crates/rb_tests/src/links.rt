@@ -2,7 +2,7 @@
 
 use crate::branch::{Case, deposit, gathered, served_by, some_sites};
 use rb_branch::{Branch, Entries, Gate, Inlet, NoGate, Outbox, Seat, links};
-use rb_list::List;
+use rb_kit::List;
 use rb_money::{Limits, Place};
 use rb_shadow::write_name;
 use rb_site::{Message, Reply};

@@ -11,7 +11,7 @@ use crate::worlds::{
 use rb_ledger::Ledger;
 use rb_lines::{FromBytes, ScriptFault, ToBytes};
 use rb_money::{Config, Place};
-use rb_script::run_script;
+use rb_run_script::run_script;
 use rb_shadow::Shadow;
 use rb_site::{Message, Reply, Site, WorldEvent};
 use rb_undo::UndoLog;

@@ -2,12 +2,12 @@
 //! What scripts answer is in the worked rows and in tests/cases.
 ghost use Rattle.std.specs.Prelude.{◌≡◌, false, None};
 
-use rb_audit::run_audit;
 use rb_lines::{
     FromBytes, ReadFailed, ScriptFault, Sink, Source, ToBytes, WriteFailed, message, status,
 };
-use rb_migrate::run_migrate;
-use rb_script::run_script;
+use rb_run_audit::run_audit;
+use rb_run_migrate::run_migrate;
+use rb_run_script::run_script;
 use std::alloc::{AllocError, Global};
 use std::cell::RefCell;
 use std::process::Abort;

@@ -3,7 +3,7 @@
 use crate::branch::comes;
 use rb_branch::{Gate, NoGate};
 use rb_lines::{ScriptFault, ToBytes};
-use rb_threads::run_threads;
+use rb_run_threads::run_threads;
 use std::rt::Clock;
 use std::sync::atomic::{AtomicBool, Ordering};
 use std::test::Fail;

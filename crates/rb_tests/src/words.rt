@@ -1,7 +1,7 @@
 //! The words of the command line: their limits in the help. What words are taken is in tests/cases.
 
+use rb_cli::{MOST_TELLERS, read_words};
 use rb_money::MOST_SITES;
-use rb_words::{MOST_TELLERS, read_words};
 use std::test::Fail;
 
 /// Help names the limits of sites and tellers as the code has them.

@@ -16,7 +16,7 @@ ghost use Rattle.rb_uses.specs.Bank.{after, ann, balance_in, batch, cancellation
 
 pub use bank::{ANN, balance, bank_after, open_bank};
 pub use numbers::other_numbers;
-use rb_list::List;
+use rb_kit::List;
 use rb_scratch::Request;
 use rb_shadow::OpName;
 use rb_site::{Event, Reply, WorldEvent};

@@ -10,10 +10,10 @@ use crate::bank::{ANN, config};
 use rb_branch::{
     Branch, CallFault, Entries, GatherFault, Inlet, NoGate, Outbox, RECEIPT_PARTS, Seat, links,
 };
-use rb_crew::RunFault;
 use rb_money::Config;
 use rb_scratch::Request;
 use rb_site::SiteReport;
+use rb_tellers::RunFault;
 use std::alloc::Global;
 use std::marker::Brand;
 use std::sync::Wait;

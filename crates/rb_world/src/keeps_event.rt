@@ -2,8 +2,8 @@
 ghost use Rattle.std.specs.Prelude.{◌≡◌, IfOk};
 ghost use Rattle.rb_site.specs.declared.world_event.WorldEvent.{WorldEvent as TheEvent};
 
+use rb_kit::Erased;
 use rb_site::WorldEvent;
-use rb_unkept::Unkept;
 use std::alloc::{AllocError, Global};
 
 /// What is kept of an event: the event, or nothing that takes memory.
@@ -25,12 +25,12 @@ impl KeepsEvent for WorldEvent {
 }
 
 /// An event that isn't kept. Only proofs read it.
-pub type UnkeptEvent = Unkept<WorldEvent>;
+pub type ErasedEvent = Erased<WorldEvent>;
 
-impl KeepsEvent for UnkeptEvent {
+impl KeepsEvent for ErasedEvent {
     ghost noted = { λ e. e.value };
 
-    fn note(_alloc: Global, event: &WorldEvent) -> Result<UnkeptEvent, AllocError> {
-        Ok(Unkept::of(event))
+    fn note(_alloc: Global, event: &WorldEvent) -> Result<ErasedEvent, AllocError> {
+        Ok(Erased::of(event))
     }
 }

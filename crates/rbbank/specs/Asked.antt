@@ -1,11 +1,11 @@
 -- What the program does for its words.
 use Rattle.std.specs.Prelude.{◌≡◌, ℕ, List, Option, IfSome}
-use Rattle.rb_words.specs.declared.words.Words.{Words}
-use Rattle.rb_words.specs.declared.words.Words.TheVariants.{Script, Audit, Migrate, Threads}
-use Rattle.rb_script.specs.Run.{ScriptEndsAs}
-use Rattle.rb_audit.specs.Run.{AuditEndsAs}
-use Rattle.rb_migrate.specs.Run.{MigrationEndsAs}
-use Rattle.rb_threads.specs.Runs.{ThreadsEndAs}
+use Rattle.rb_cli.specs.declared.words.Words.{Words}
+use Rattle.rb_cli.specs.declared.words.Words.TheVariants.{Script, Audit, Migrate, Threads}
+use Rattle.rb_run_script.specs.Run.{ScriptEndsAs}
+use Rattle.rb_run_audit.specs.Run.{AuditEndsAs}
+use Rattle.rb_run_migrate.specs.Run.{MigrationEndsAs}
+use Rattle.rb_run_threads.specs.Runs.{ThreadsEndAs}
 use Rattle.rbbank.specs.declared.answer.Answered.{Answered}
 use Rattle.rbbank.specs.declared.answer.Answered.TheVariants.{Script as ScriptRan, Audit as AuditRan, Migrate as MigrationRan, Threads as TellersRan}
 

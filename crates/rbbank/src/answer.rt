@@ -2,17 +2,17 @@
 ghost use Rattle.std.specs.Prelude.{◌≡◌, ◌+◌, ◌≤◌, ℕ, List, false, map, IfOk, IfErr, OnErr};
 ghost use Rattle.std.specs.Io.KnownBytes.{Appends};
 ghost use Rattle.rb_lines.specs.declared.limits.TheConstants.{MOST_READS};
-ghost use Rattle.rb_words.specs.declared.words.Words.{Words as TheWords};
-ghost use Rattle.rb_words.specs.Words.{Ask};
+ghost use Rattle.rb_cli.specs.declared.words.Words.{Words as TheWords};
+ghost use Rattle.rb_cli.specs.Words.{Ask};
 ghost use Rattle.rbbank.specs.Asked.{DoesAsAsked};
 
-use rb_audit::run_audit;
 use rb_branch::NoGate;
+use rb_cli::{Words, read_words};
 use rb_lines::{ScriptFault, Sink, Source};
-use rb_migrate::run_migrate;
-use rb_script::run_script;
-use rb_threads::run_threads;
-use rb_words::{Words, read_words};
+use rb_run_audit::run_audit;
+use rb_run_migrate::run_migrate;
+use rb_run_script::run_script;
+use rb_run_threads::run_threads;
 use std::alloc::Global;
 use std::sync::Wait;
 use std::thread::Threads;

@@ -1,0 +1,26 @@
+-- What the command line says of words that ask for nothing.
+use Rattle.std.proofs.Common.{◌≡◌, true, refl, ap, ◌∙◌, map, [], ◌∷◌, inl, inr, subst}
+use Rattle.std.proofs.lemmas.Result.{err_from_is_err_and}
+use Rattle.clap.specs.Kinds.{or_else}
+use Rattle.clap.specs.Words.{App, HasKind, Kinds, fault_of, is_simple_and_free}
+use Rattle.clap.specs.declared.error.Error.{Error}
+use Rattle.clap.proofs.OnLiterals.{clap_on_literals}
+use Rattle.rb_cli.specs.Words.{command_line}
+use Rattle.rb_cli.proofs.words.read_words.Goals as goal
+
+-- the command line is one whose errors are known
+is_known : is_simple_and_free command_line ≡ true
+unfolding clap_on_literals
+is_known = refl
+
+-- of the first kinds, where there are any
+of_first : (ks next : Kinds) (e : Error) → HasKind ks e → HasKind (or_else ks next) e
+of_first [] next e (inl none) = inl none
+of_first [] next e (inr never) = absurd never
+of_first (k ∷ ks) next e has = has
+
+pub returns-in_err-_matches-clause-kinds : goal.returns-in_err-_matches-clause-kinds
+returns-in_err-_matches-clause-kinds c =
+    let told = err_from_is_err_and c.from_residual-in_err-_matches.result c.from_residual-in_err-_matches.ensures.1 in
+    let has = c.in_err-_matches.ensures.kinds (ap is_simple_and_free c.in_ok-command.ensures ∙ is_known) in
+    rw (told.1, told.2) (of_first _ _ c.in_err-_matches.field-0.0 (subst (λ (a : App). HasKind (fault_of a (map (λ word. word.now) c.args.words.now)) c.in_err-_matches.field-0.0) c.in_ok-command.ensures has))

@@ -1,0 +1,74 @@
+//! What a command line asks for.
+ghost use Rattle.std.specs.Prelude.{◌≡◌, codes, length, map, slice_get, IfErr, IfNone, IfOk, IfSome, Some};
+ghost use Rattle.clap.specs.Words.{HasKind};
+ghost use Rattle.rb_cli.specs.Words.{Ask, kinds_of};
+
+use crate::command_line::command_line;
+use crate::options::number_of;
+use clap::Error;
+use clap::error::ErrorKind;
+use rb_money::MOST_SITES;
+use std::alloc::Global;
+
+/// The most tellers of a run.
+pub const MOST_TELLERS: u32 = 64;
+
+/// What the program is asked to do.
+#[derive(Clone, Copy, Debug, PartialEq, Eq)]
+pub enum Words {
+    /// To answer the script on standard input.
+    Script,
+    /// To audit the histories on standard input.
+    Audit,
+    /// To write the histories on standard input again, in the newest version of their lines.
+    Migrate,
+    /// To run so many tellers, 1 to `MOST_TELLERS`, at so many sites, 2 to `MOST_SITES`. The first numbers of the tellers begin at the seed.
+    Threads { sites: u8, tellers: u8, seed: u32 },
+}
+
+/// The run of threads that seven words ask for, the first of which is its name.
+fn threads(words: &[&str]) -> Option<Words>
+    requires count { length words.now ≡ 7 }
+    requires first { slice_get (map (λ word. word.now) words.now) 0 ≡ Some (codes "threads") }
+    ensures some { IfSome result (Ask (map (λ word. word.now) words.now)) }
+    ensures none { IfNone result ((asked : Words) → ¬ Ask (map (λ word. word.now) words.now) asked) }
+{
+    let sites = number_of(words, "--sites", 2, MOST_SITES as u32)?;
+    let tellers = number_of(words, "--tellers", 1, MOST_TELLERS)?;
+    let seed = number_of(words, "--seed", 0, u32::MAX)?;
+    Some(Words::Threads {
+        sites: sites as u8,
+        tellers: tellers as u8,
+        seed,
+    })
+}
+
+/// What the words ask for, where they are just its words.
+fn asked_for(words: &[&str]) -> Option<Words>
+    ensures some { IfSome result (Ask (map (λ word. word.now) words.now)) }
+    ensures none { IfNone result ((asked : Words) → ¬ Ask (map (λ word. word.now) words.now) asked) }
+{
+    match words {
+        ["script"] => Some(Words::Script),
+        ["audit"] => Some(Words::Audit),
+        ["migrate"] => Some(Words::Migrate),
+        ["threads", _, _, _, _, _, _] => threads(words),
+        _ => None,
+    }
+}
+
+/// What the words after the program's name ask for. The error has the text to show: `ErrorKind::DisplayHelp` is help that was asked for, `ErrorKind::DisplayVersion` the version.
+pub fn read_words<'a>(alloc: Global, words: &'a [&'a str]) -> Result<Words, Error>
+    ensures ok { IfOk result (Ask (map (λ word. word.now) words.entry.now)) }
+    // Words that ask for something never fail.
+    ensures err { IfErr result (λ _. (asked : Words) → ¬ Ask (map (λ word. word.now) words.entry.now) asked) }
+    // An error tells what the words are for: help and the version only where they ask for it.
+    ensures kinds { IfErr result (HasKind (kinds_of (map (λ word. word.now) words.entry.now))) }
+{
+    if let Some(asked) = asked_for(words) {
+        return Ok(asked);
+    }
+    let mut command = command_line(alloc)?;
+    let _matches = command.try_get_matches_from_mut(words)?;
+    Err(command.error(ErrorKind::InvalidSubcommand, "no such command")?)
+}

@@ -1,0 +1,33 @@
+//! What a migration keeps, as laws.
+ghost use Rattle.rb_run_migrate.specs.Laws.{MigratedConfigsAreRead, MigratedEntriesAreRead, MigratedReplaysAreEqual, MigrationsAreRead};
+
+use rb_commands::read_configs_are_configured;
+use rb_history::{configs_are_read, entries_are_read, read_entries_fit};
+use rb_run_audit::inputs_are_read_back;
+
+/// What is written in version 2 for lines that were read is read, under the configuration in version 2, as what
+/// they were read as.
+pub fn migrated_lines_are_read()
+    ensures configs { MigratedConfigsAreRead }
+    ensures entries { MigratedEntriesAreRead }
+{
+    read_configs_are_configured();
+    configs_are_read();
+    entries_are_read();
+    read_entries_fit();
+}
+
+/// A replay under the configuration in version 2 gives the same site, and the same replies.
+pub fn migrated_replays_are_equal()
+    ensures { MigratedReplaysAreEqual }
+{}
+
+/// Where a migration of some bytes has no fault, an audit takes the text that it writes as what it takes the bytes
+/// as, in version 2, unless a line of the text is too long.
+pub fn migrations_are_read()
+    ensures { MigrationsAreRead }
+{
+    read_configs_are_configured();
+    read_entries_fit();
+    inputs_are_read_back();
+}

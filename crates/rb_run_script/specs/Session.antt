@@ -1,0 +1,41 @@
+-- Where a script stands between two lines, and what one line does.
+use Rattle.std.specs.Prelude.{◌≡◌, ℕ, ◌+◌, List, ◌++◌, Option, Some, None}
+use Rattle.rb_site.specs.declared.world_event.WorldEvent.{WorldEvent}
+use Rattle.rb_world.specs.Laws.{SeenWorld, next_reply, next_world}
+use Rattle.rb_commands.specs.Replies.{line}
+use Rattle.rb_run_script.specs.declared.session.Session.{Session}
+use Rattle.rb_lines.specs.Answers.{AnswersLine, EndsAtLine, LinesOutcome, Stand}
+use Rattle.rb_lines.specs.declared.fault.ScriptFault.{ScriptFault}
+use Rattle.rb_run_script.specs.Script.{command_on, commands_from, script_outcome, script_from}
+
+-- before the first line
+abbrev pub first_session : Session
+first_session = record { world = None; number = 1; count = 0 }
+
+-- the outcome of the lines to come, the first of which is line n: before the configuration and after it
+abbrev pub session_rest_from : Option SeenWorld → ℕ → List (List ℕ) → LinesOutcome
+session_rest_from None n ls = script_from n ls
+session_rest_from (Some w) n ls = script_outcome w (commands_from w.settings n ls)
+
+-- the outcome of the lines to come of a session
+abbrev pub session_rest : Session → List (List ℕ) → LinesOutcome
+session_rest s ls = session_rest_from s.world s.number ls
+
+-- where a run with the session stands
+abbrev pub session_stand : Session → Stand
+session_stand s = record { rest = session_rest s; count = s.count }
+
+-- the line was answered by this text, and the session goes on with the next
+abbrev pub Answers : Session → Session → List ℕ → List ℕ → Type 0
+Answers old new l text = AnswersLine (session_stand old) (session_stand new) l text × (new.number ≡ old.number + 1)
+
+-- the script ends at this line
+abbrev pub ScriptEndsAt : Session → List ℕ → ScriptFault → Type 0
+ScriptEndsAt old l f = EndsAtLine (session_stand old) l f
+
+-- the line is a command, the world took it, and the line of its reply is owed
+pub record AnswersCommand (old new : SeenWorld) (l owed owed' : List ℕ) : Type 0 where
+  pub command : WorldEvent
+  pub is_command : command_on old.settings l ≡ Some command
+  pub world : new ≡ next_world old command
+  pub owes : owed' ≡ owed ++ line (next_reply old command)

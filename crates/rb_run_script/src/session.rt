@@ -1,0 +1,141 @@
+//! The lines of a script, one at a time.
+ghost use Rattle.std.specs.Prelude.{◌≡◌, ◌+◌, ◌++◌, ◌^◌, ◌<◌, ◌≤◌, ℕ, List, None, Some, length, MatchResult, OnOk, OnErr};
+ghost use Rattle.rb_money.specs.Settings.{Settings};
+ghost use Rattle.rb_world.specs.Laws.{opened};
+ghost use Rattle.rb_commands.specs.declared.fault.LineFault.TheVariants.{Bad};
+ghost use Rattle.rb_commands.specs.Configurations.{config_on};
+ghost use Rattle.rb_lines.specs.declared.limits.TheConstants.{LINE_LIMIT};
+ghost use Rattle.rb_run_script.specs.Script.{command_on};
+ghost use Rattle.rb_run_script.specs.Session.{Answers, AnswersCommand, ScriptEndsAt, first_session};
+
+use rb_commands::{LineFault, append_reply, read_command, read_config};
+use rb_lines::{ScriptFault, is_blank, text_on};
+use rb_world::LeanWorld;
+use std::alloc::Global;
+
+/// Where a script stands: the world once there is a configuration, the number of the next line, and the replies so far.
+pub struct Session {
+    pub world: Option<LeanWorld>,
+    pub number: u64,
+    pub count: u64,
+}
+
+/// The world before any event of the configuration on a line.
+#[tactic(auto, unfolding(rb_commands::specs::Configurations::config_on))]
+fn open_world(alloc: Global, line: &[u8]) -> Result<LeanWorld, LineFault>
+    ensures { MatchResult result
+        (λ world. (s : Settings) × (config_on line.now ≡ Some s) × (world ≡ opened s))
+        (λ why. why ≡ Bad → config_on line.now ≡ None) }
+{
+    let Some(text) = text_on(line) else {
+        return Err(LineFault::Bad);
+    };
+    let config = match read_config(alloc, text) {
+        Ok(config) => config,
+        Err(fault) => return Err(fault),
+    };
+    match LeanWorld::open_keeping(alloc, config) {
+        Ok(world) => Ok(world),
+        Err(_) => Err(LineFault::OutOfMemory),
+    }
+}
+
+/// Gives the world the command on a line, and owes its reply. After an `Err` nothing more is owed, and the script ends.
+#[inline(always)]
+#[tactic(auto, unfolding(crate::specs::Script::command_on))]
+fn answer_command(
+    alloc: Global,
+    world: &mut LeanWorld,
+    line: &[u8],
+    owed: &mut Vec<u8>,
+) -> Result<(), LineFault>
+    ensures answered { MatchResult result
+        (λ _. AnswersCommand world.old world.new line.now owed.old.items owed.new.items)
+        (λ why. why ≡ Bad → command_on world.old.settings line.now ≡ None) }
+    ensures err { OnErr result (owed.new.items ≡ owed.old.items) }
+{
+    let Some(text) = text_on(line) else {
+        return Err(LineFault::Bad);
+    };
+    let stepped = match read_command(alloc, world.config(), text) {
+        Ok(command) => world.step(command),
+        Err(fault) => return Err(fault),
+    };
+    let Ok(reply) = stepped else {
+        return Err(LineFault::OutOfMemory);
+    };
+    match append_reply(owed, &reply) {
+        Ok(()) => Ok(()),
+        Err(_) => Err(LineFault::OutOfMemory),
+    }
+}
+
+impl Session {
+    /// Before the first line.
+    pub fn new() -> Session
+        ensures { result ≡ first_session }
+    {
+        Session {
+            world: None,
+            number: 1,
+            count: 0,
+        }
+    }
+
+    /// The script goes on with this world. One that stood there is ended.
+    fn start(&mut self, world: LeanWorld)
+        ensures { self.new ≡ record self.old { world = Some world } }
+    {
+        if let Some(before) = self.world.replace(world) {
+            before.end();
+        }
+    }
+
+    /// Takes one line, which isn't too long, and owes its reply. After an `Err` nothing more is owed, and the script ends.
+    pub fn answer_line(
+        &mut self,
+        alloc: Global,
+        line: &[u8],
+        owed: &mut Vec<u8>,
+    ) -> Result<(), ScriptFault>
+        requires short { length line.now ≤ LINE_LIMIT }
+        requires number { self.old.number < 2 ^ 63 }
+        requires count { self.old.count < 2 ^ 63 }
+        ensures answered { MatchResult result
+            (λ _. (text : List ℕ) × (owed.new.items ≡ owed.old.items ++ text) × Answers self.old self.new line.now text)
+            (λ fault. (owed.new.items ≡ owed.old.items) × ScriptEndsAt self.old line.now fault) }
+        ensures count { OnOk result (self.new.count ≤ self.old.count + 1) }
+    {
+        let number = self.number;
+        self.number = number + 1;
+        if is_blank(line) {
+            return Ok(());
+        }
+        let Some(world) = &mut self.world else {
+            match open_world(alloc, line) {
+                Ok(world) => self.start(world),
+                Err(LineFault::Bad) => return Err(ScriptFault::BadConfig { line: number }),
+                Err(LineFault::OutOfMemory) => return Err(ScriptFault::OutOfMemory),
+            }
+            return Ok(());
+        };
+        match answer_command(alloc, world, line, owed) {
+            Ok(()) => self.count += 1,
+            Err(LineFault::Bad) => return Err(ScriptFault::BadLine { line: number }),
+            Err(LineFault::OutOfMemory) => return Err(ScriptFault::OutOfMemory),
+        }
+        Ok(())
+    }
+
+    /// Ends the world.
+    pub fn close(self) {
+        let Session {
+            world,
+            number: _,
+            count: _,
+        } = self;
+        if let Some(world) = world {
+            world.end();
+        }
+    }
+}

@@ -1,0 +1,131 @@
+//! Histories as text: the lines that an audit reads.
+ghost use Rattle.std.specs.Prelude.{◌≡◌, ◌↔◌, ◌++◌, ◌≤◌, List, [], Err, false, true, length, map, IfOk, OnOk};
+ghost use Rattle.rb_money.specs.declared.limits.TheConstants.{MOST_SITES};
+ghost use Rattle.rb_site.specs.declared.report.SiteReport.{SiteReport};
+ghost use Rattle.rb_run_threads.specs.Texts.{config_line, entry_line, histories_text, history_text, text_of};
+ghost use Rattle.rb_run_threads.specs.Writing.{Writes};
+ghost use Rattle.rb_run_threads.specs.declared.unwritten.Unwritten.TheVariants.{Write};
+
+use crate::unwritten::Unwritten;
+use rb_history::{append_line, write_config};
+use rb_lines::{Sink, WriteFailed, flush};
+use rb_money::Config;
+use rb_site::{Entry, SiteReport};
+use std::alloc::{AllocError, Global};
+
+/// Lines go out once they have so many bytes.
+const MOST_OWED: usize = 65_536;
+
+/// Owes the line of a configuration.
+#[tactic(auto, unfolding(crate::specs::Texts::config_line))]
+fn owe_config(alloc: Global, owed: &mut Vec<u8>, config: &Config) -> Result<(), AllocError>
+    ensures { OnOk result (owed.new.items ≡ owed.old.items ++ config_line config.now) }
+{
+    let line = write_config(alloc, config)?;
+    owed.extend_from_slice(line.as_bytes())?;
+    owed.push(b'\n')?;
+    Ok(())
+}
+
+/// Owes the line of an entry.
+#[tactic(auto, unfolding(crate::specs::Texts::entry_line))]
+fn owe_entry(owed: &mut Vec<u8>, config: &Config, site: u8, entry: &Entry) -> Result<(), AllocError>
+    ensures { OnOk result (owed.new.items ≡ owed.old.items ++ entry_line config.now site entry.now) }
+{
+    append_line(owed, config, site, entry)?;
+    owed.push(b'\n')?;
+    Ok(())
+}
+
+/// Writes the line of an entry, or owes it until there is more.
+fn write_entry<W: Sink>(
+    writer: &mut W,
+    owed: &mut Vec<u8>,
+    config: &Config,
+    site: u8,
+    entry: &Entry,
+) -> Result<(), Unwritten>
+    requires fresh { W.failed writer.old ≡ false }
+    ensures written { Writes result (W.contents writer.old) (W.contents writer.new) (owed.old.items ++ entry_line config.now site entry.now) owed.new.items }
+    ensures write { (result ≡ Err Write) ↔ (W.failed writer.new ≡ true) }
+{
+    let Ok(()) = owe_entry(owed, config, site, entry) else {
+        return Err(Unwritten::OutOfMemory);
+    };
+    if owed.len() < MOST_OWED {
+        return Ok(());
+    }
+    match flush(writer, owed) {
+        Ok(()) => Ok(()),
+        Err(WriteFailed) => Err(Unwritten::Write),
+    }
+}
+
+/// Writes the lines of a site's history, the last of which may still be owed.
+fn write_history<W: Sink>(
+    writer: &mut W,
+    owed: &mut Vec<u8>,
+    config: &Config,
+    site: u8,
+    history: &[Entry],
+) -> Result<(), Unwritten>
+    requires fresh { W.failed writer.old ≡ false }
+    ensures written { Writes result (W.contents writer.old) (W.contents writer.new) (owed.old.items ++ history_text config.now site history.now) owed.new.items }
+    ensures write { (result ≡ Err Write) ↔ (W.failed writer.new ≡ true) }
+{
+    for entry in history {
+        match write_entry(writer, owed, config, site, entry) {
+            Ok(()) => {}
+            Err(why) => return Err(why),
+        }
+    }
+    Ok(())
+}
+
+/// Writes the lines of the histories of sites, the first of which is site 0. The last may still be owed.
+fn write_histories<W: Sink>(
+    writer: &mut W,
+    owed: &mut Vec<u8>,
+    config: &Config,
+    reports: &[SiteReport],
+) -> Result<(), Unwritten>
+    requires fresh { W.failed writer.old ≡ false }
+    requires few { length reports.now ≤ MOST_SITES }
+    ensures written { Writes result (W.contents writer.old) (W.contents writer.new) (owed.old.items ++ histories_text config.now 0 (map (λ (r : SiteReport). r.history.items) reports.now)) owed.new.items }
+    ensures write { (result ≡ Err Write) ↔ (W.failed writer.new ≡ true) }
+{
+    for site in 0..reports.len() {
+        let history = reports[site].history.as_slice();
+        match write_history(writer, owed, config, site as u8, history) {
+            Ok(()) => {}
+            Err(why) => return Err(why),
+        }
+    }
+    Ok(())
+}
+
+/// Writes the lines of a configuration and of its sites' histories. After an `Err` a front of them went out.
+pub fn write_text<W: Sink>(
+    alloc: Global,
+    writer: &mut W,
+    config: &Config,
+    reports: &[SiteReport],
+) -> Result<(), Unwritten>
+    requires fresh { W.failed writer.old ≡ false }
+    requires few { length reports.now ≤ MOST_SITES }
+    ensures written { Writes result (W.contents writer.old) (W.contents writer.new) (text_of config.now (map (λ (r : SiteReport). r.history.items) reports.now)) [] }
+    ensures write { (result ≡ Err Write) ↔ (W.failed writer.new ≡ true) }
+{
+    let mut owed = Vec::new(alloc);
+    let Ok(()) = owe_config(alloc, &mut owed, config) else {
+        return Err(Unwritten::OutOfMemory);
+    };
+    match write_histories(writer, &mut owed, config, reports) {
+        Ok(()) => {}
+        Err(why) => return Err(why),
+    }
+    match flush(writer, &mut owed) {
+        Ok(()) => Ok(()),
+        Err(WriteFailed) => Err(Unwritten::Write),
+    }
+}
