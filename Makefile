@@ -39,9 +39,9 @@ test: toolchain
 	@examples/check.py --quiet crates/rbbank/out/rbbank
 	@tests/cases.py --quiet crates/rbbank/out/rbbank
 
-# Whether README.md names the toolchain that proves it.
+# Whether README.md names this machine's toolchain, as one that the gate has passed with.
 toolchain:
-	@grep -qF "$$(rt version)" README.md || { echo "README.md names another toolchain than $$(rt version)"; exit 1; }
+	@grep -qF "\`$$(rt version)\`" README.md || { echo "README.md names no toolchain '$$(rt version)'"; exit 1; }
 
 # Every crate, over what earlier checks kept.
 check:
