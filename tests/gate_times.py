@@ -22,9 +22,9 @@ KINDS = ("proof", "tests", "mutants")
 def fields_of(pid):
     """The command line, the working folder and the seconds of processor time of a process; none where it has ended."""
     try:
-        with open(f"/proc/{pid}/comm", encoding="utf-8") as it:
-            if it.read().strip() != PROVER:
-                return None
+        # (a check's further processes have names of their own)
+        if os.path.basename(os.readlink(f"/proc/{pid}/exe")) != PROVER:
+            return None
         with open(f"/proc/{pid}/cmdline", encoding="utf-8", errors="replace") as it:
             words = it.read().split("\0")
         with open(f"/proc/{pid}/stat", encoding="utf-8", errors="replace") as it:
