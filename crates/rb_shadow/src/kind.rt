@@ -32,7 +32,11 @@ impl Kind {
     {
         match self {
             Kind::Cancel { target } => Some(target),
-            _ => None,
+            Kind::Deposit => None,
+            Kind::Withdraw => None,
+            Kind::Declined => None,
+            Kind::Interest => None,
+            Kind::Transfer { .. } => None,
         }
     }
 
@@ -43,7 +47,11 @@ impl Kind {
     {
         match self {
             Kind::Transfer { to } => Some(to),
-            _ => None,
+            Kind::Deposit => None,
+            Kind::Withdraw => None,
+            Kind::Declined => None,
+            Kind::Interest => None,
+            Kind::Cancel { .. } => None,
         }
     }
 
@@ -55,12 +63,15 @@ impl Kind {
         ensures { result ≡ colour_of self target }
     {
         match self {
-            Kind::Withdraw | Kind::Transfer { .. } => Colour::Red,
+            Kind::Deposit => Colour::Blue,
+            Kind::Withdraw => Colour::Red,
+            Kind::Declined => Colour::Blue,
+            Kind::Interest => Colour::Blue,
             Kind::Cancel { .. } => match target {
                 Some(Kind::Withdraw) => Colour::Blue,
                 _ => Colour::Red,
             },
-            _ => Colour::Blue,
+            Kind::Transfer { .. } => Colour::Red,
         }
     }
 
@@ -84,7 +95,7 @@ impl Kind {
     {
         match self {
             Kind::Deposit | Kind::Withdraw | Kind::Interest | Kind::Transfer { .. } => true,
-            _ => false,
+            Kind::Declined | Kind::Cancel { .. } => false,
         }
     }
 
@@ -97,9 +108,12 @@ impl Kind {
         ensures taken { result.1 ≤ amount }
     {
         match self {
-            Kind::Deposit | Kind::Interest => (amount, 0),
-            Kind::Withdraw | Kind::Transfer { .. } => (0, amount),
-            _ => (0, 0),
+            Kind::Deposit => (amount, 0),
+            Kind::Withdraw => (0, amount),
+            Kind::Declined => (0, 0),
+            Kind::Interest => (amount, 0),
+            Kind::Cancel { .. } => (0, 0),
+            Kind::Transfer { .. } => (0, amount),
         }
     }
 
@@ -109,7 +123,7 @@ impl Kind {
     {
         match self {
             Kind::Interest | Kind::Cancel { .. } => true,
-            _ => false,
+            Kind::Deposit | Kind::Withdraw | Kind::Declined | Kind::Transfer { .. } => false,
         }
     }
 

@@ -1,0 +1,18 @@
+use Rattle.std.proofs.Common.{◌≡◌, ◌∙◌, sym, []}
+use Rattle.std.proofs.lemmas.List.{append-nil}
+use Rattle.rb_shadow.specs.Labels.{word_of}
+use Rattle.rb_shadow.specs.declared.label.Label.{Label}
+use Rattle.rb_shadow.proofs.label.Label.from_word.Goals as goal
+use Rattle.rb_shadow.proofs.Words.{no_word}
+
+-- the text is no kind's word, since it begins with none
+unknown : (c : goal.After-from_residual) (label : Label) → c.args.word.now ≡ word_of label → ⊥
+unknown c label e = c.strip_word.ensures.none c.in_err-label.was label [] (e ∙ sym (append-nil (word_of label)))
+
+-- src/label.rt:39:29
+pub returns-in_err-label-clause-value : goal.returns-in_err-label-clause-value
+returns-in_err-label-clause-value c = c.from_residual.ensures ∙ sym (no_word c.args.word.now (unknown c))
+
+-- src/label.rt:39:29
+pub returns-in_err-label-clause-only : goal.returns-in_err-label-clause-only
+returns-in_err-label-clause-only c = λ label e. absurd (unknown c label e)
