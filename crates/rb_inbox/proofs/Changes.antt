@@ -1,5 +1,6 @@
 -- The rows of the held operations, before and after a change.
-use Rattle.std.proofs.Common.{◌≡◌, ℕ, ◌+◌, ◌-◌, ◌<◌, ◌≤◌, Bool, true, false, cond, not, List, [], ◌∷◌, ◌++◌, length, set, replicate, refl, ap, sym, ◌∙◌, arith, ◌⊎◌, inl, inr, subst, get_or}
+use Rattle.std.proofs.Common.{◌≡◌, ℕ, ◌+◌, ◌-◌, ◌<◌, ◌≤◌, Bool, true, false, cond, not, List, [], ◌∷◌, ◌++◌, length, set, replicate, refl}
+use Rattle.std.proofs.Common.{ap, sym, ◌∙◌, arith, ◌⊎◌, inl, inr, subst, get_or}
 use Rattle.std.specs.Prelude.{Some, None, filter, insert, remove, nat_lt}
 use Rattle.std.proofs.lemmas.Bool.Decides.{nat_tests}
 use Rattle.std.proofs.lemmas.List.{get_or_default, get_or_past}
@@ -11,7 +12,8 @@ use Rattle.rb_inbox.specs.Held.{IsNumbered, held_before, stands_before, with_hel
 use Rattle.rb_inbox.specs.Rows.{AreCounted, AreHeldRows, IsHeldRow, held_of}
 use Rattle.rb_inbox.proofs.Order.{found_within, in_order-filter, in_order-with_held, insert-index, remove-index}
 use Rattle.rb_inbox.proofs.Public.Holding.{held_cases, kept_among}
-use Rattle.rb_inbox.proofs.Rows.{find_in_row, held-change, held-length, held-more, is_of, putting, removing, row_at, row_is, rows-more, rows-set}
+use Rattle.rb_inbox.proofs.Rows.{find_in_row, held-change, held-length, held-more, is_of, putting, removing, row_at, row_is, rows-more}
+use Rattle.rb_inbox.proofs.Rows.{rows-set}
 
 -- ---- the row of a name
 
@@ -20,11 +22,14 @@ pub finds : (row held : List Shadow) (x : OpName) (r : ℕ) → r ≡ row_of x �
 finds row held x r e h =
     ap (λ (us : List Shadow). find_in us x) (h ∙ ap (λ (k : ℕ). filter (is_of k) held) e) ∙ find_in_row held x
 
-pub finds_at : (rows : List (List Shadow)) (x : OpName) (r : ℕ) → r ≡ row_of x → AreHeldRows 0 rows → find_in (get_or rows r []) x ≡ find_in (held_of rows) x
+-- a name is found in its row alone
+pub finds_at : (rows : List (List Shadow)) (x : OpName) (r : ℕ) → r ≡ row_of x → AreHeldRows 0 rows →
+    find_in (get_or rows r []) x ≡ find_in (held_of rows) x
 finds_at rows x r e h = finds (get_or rows r []) (held_of rows) x r e (row_is rows r h)
 
 -- what is held has a row
-pub row_within : (rows : List (List Shadow)) (x : OpName) (u : Shadow) (r : ℕ) → r ≡ row_of x → AreHeldRows 0 rows → find_in (held_of rows) x ≡ Some u → r < length rows
+pub row_within : (rows : List (List Shadow)) (x : OpName) (u : Shadow) (r : ℕ) → r ≡ row_of x → AreHeldRows 0 rows →
+    find_in (held_of rows) x ≡ Some u → r < length rows
 row_within rows x u r e h found = at (nat_lt r (length rows)) refl
   where
     at : (b : Bool) → nat_lt r (length rows) ≡ b → r < length rows
@@ -35,7 +40,8 @@ row_within rows x u r e h found = at (nat_lt r (length rows)) refl
         let some : find_in (get_or rows r []) x ≡ Some u = finds_at rows x r e h ∙ found in cc)
 
 -- the place of a held name is one of its row
-pub index_within : (rows : List (List Shadow)) (x : OpName) (u : Shadow) (r : ℕ) → r ≡ row_of x → AreHeldRows 0 rows → find_in (held_of rows) x ≡ Some u
+pub index_within : (rows : List (List Shadow)) (x : OpName) (u : Shadow) (r : ℕ) → r ≡ row_of x → AreHeldRows 0 rows →
+    find_in (held_of rows) x ≡ Some u
     → held_before (get_or rows r []) x < length (get_or rows r [])
 index_within rows x u r e h found = found_within (get_or rows r []) x u (row_at rows r h).in_order (finds_at rows x r e h ∙ found)
 
@@ -43,7 +49,9 @@ index_within rows x u r e h found = found_within (get_or rows r []) x u (row_at 
 pub row_there : (rows : List (List Shadow)) (r : ℕ) (row : List Shadow) → r < length rows → row ≡ get_or rows r row → row ≡ get_or rows r []
 row_there rows r row l e = e ∙ get_or_default rows r row [] l
 
-pub slice_there : (rows items : List (List Shadow)) (r : ℕ) (row slice : List Shadow) → items ≡ rows → r < length items → row ≡ get_or items r row → slice ≡ row → slice ≡ get_or rows r []
+-- a row that was read
+pub slice_there : (rows items : List (List Shadow)) (r : ℕ) (row slice : List Shadow) → items ≡ rows → r < length items →
+    row ≡ get_or items r row → slice ≡ row → slice ≡ get_or rows r []
 slice_there rows items r row slice same l e s = s ∙ row_there items r row l e ∙ ap (λ (ws : List (List Shadow)). get_or ws r []) same
 
 -- a row that was changed at the place of a name
@@ -53,13 +61,19 @@ changed_there f row old looked there index x made o p l = made ∙ ap (λ us. f 
 
 -- ---- the rows after a change
 
+-- more empty rows keep the count
 pub grown : (rows more : List (List Shadow)) (count n : ℕ) → more ≡ rows ++ replicate n [] → AreCounted rows count → AreCounted more count
-grown rows more count n e h = subst (λ ws. AreCounted ws count) (sym e) (record { each = rows-more 0 n rows h.each; counted = h.counted ∙ ap length (sym (held-more rows n)) })
+grown rows more count n e h = subst (λ ws. AreCounted ws count) (sym e) (record {
+  each = rows-more 0 n rows h.each;
+  counted = h.counted ∙ ap length (sym (held-more rows n));
+})
 
+-- and hold the same
 pub grown_holds : (rows more : List (List Shadow)) (n : ℕ) → more ≡ rows ++ replicate n [] → held_of more ≡ held_of rows
 grown_holds rows more n e = ap held_of e ∙ held-more rows n
 
-row-put : (r : ℕ) (v : Shadow) (us : List Shadow) → IsHeldRow r us → r ≡ row_of v.name → IsNumbered v → find_in us v.name ≡ None → IsHeldRow r (with_held v us)
+row-put : (r : ℕ) (v : Shadow) (us : List Shadow) → IsHeldRow r us → r ≡ row_of v.name → IsNumbered v → find_in us v.name ≡ None →
+    IsHeldRow r (with_held v us)
 row-put r v us h e numbered new = record {
   placed = λ u a. by u (held_cases v us u a);
   in_order = in_order-with_held v us h.in_order new;
@@ -90,7 +104,8 @@ with_held-length v (u ∷ us) = at (stands_before v.name u.name) (with_held-leng
     at false e = omega arith
 
 -- the row of a new operation has it in its place
-pub after_put : (rows : List (List Shadow)) (count : ℕ) (v : Shadow) (r : ℕ) (row : List Shadow) → AreCounted rows count → IsNumbered v → find_in (held_of rows) v.name ≡ None
+pub after_put : (rows : List (List Shadow)) (count : ℕ) (v : Shadow) (r : ℕ) (row : List Shadow) → AreCounted rows count → IsNumbered v →
+    find_in (held_of rows) v.name ≡ None
     → r ≡ row_of v.name → r < length rows → row ≡ insert (get_or rows r []) (held_before (get_or rows r []) v.name) v
     → AreCounted (set rows r row) (count + 1) × (held_of (set rows r row) ≡ with_held v (held_of rows))
 after_put rows count v r row h numbered new e l made = (
@@ -111,13 +126,20 @@ after_put rows count v r row h numbered new e l made = (
     is = made ∙ insert-index v (get_or rows r []) was.in_order none
 
 -- the row of a held name is without it
-pub after_remove : (rows : List (List Shadow)) (count : ℕ) (x : OpName) (u : Shadow) (r : ℕ) (row : List Shadow) → AreCounted rows count → find_in (held_of rows) x ≡ Some u
+pub after_remove : (rows : List (List Shadow)) (count : ℕ) (x : OpName) (u : Shadow) (r : ℕ) (row : List Shadow) → AreCounted rows count →
+    find_in (held_of rows) x ≡ Some u
     → r ≡ row_of x → row ≡ remove (get_or rows r []) (held_before (get_or rows r []) x)
     → AreCounted (set rows r row) (count - 1) × (held_of (set rows r row) ≡ without x (held_of rows))
 after_remove rows count x u r row h found e made = (
   record {
     each = rows-set rows r row h.each (subst (IsHeldRow r) (sym is) (row-without r x (get_or rows r []) was));
-    counted = omega (arith, h.counted, held-length rows r row within, ap length made, length-remove (get_or rows r []) (held_before (get_or rows r []) x) (index_within rows x u r e h.each found));
+    counted = omega (
+      arith,
+      h.counted,
+      held-length rows r row within,
+      ap length made,
+      length-remove (get_or rows r []) (held_before (get_or rows r []) x) (index_within rows x u r e h.each found),
+    );
   },
   ap (λ us. held_of (set rows r us)) is ∙ held-change x (without x) (removing x) rows r e h.each within,
 )

@@ -1,5 +1,6 @@
 -- What is ready in a row.
-use Rattle.std.proofs.Common.{◌≡◌, ℕ, suc, zero, ◌+◌, ◌<◌, Bool, true, false, cond, ◌&&◌, List, [], ◌∷◌, length, drop, refl, ap, sym, ◌∙◌, arith, ◌⊎◌, inl, inr, subst, get_or}
+use Rattle.std.proofs.Common.{◌≡◌, ℕ, suc, zero, ◌+◌, ◌<◌, Bool, true, false, cond, ◌&&◌, List, [], ◌∷◌, length, drop, refl, ap, sym, ◌∙◌}
+use Rattle.std.proofs.Common.{arith, ◌⊎◌, inl, inr, subst, get_or}
 use Rattle.std.specs.Prelude.{Some, filter, nat_le, slice_index}
 use Rattle.std.proofs.lemmas.Bool.Decides.{nat_tests}
 use Rattle.rb_shadow.specs.Operations.{Among, entry_of, find_in, number_of, past, row_of}
@@ -28,14 +29,16 @@ waits u c numbered l ready = at u.name numbered.next l
         let counted : nat_le 1 m && nat_le m c.red ≡ true = ready (Red m) named in grind (arith, nat_tests)
 
 -- of two names of a row the later has the greater number, at the same entry
-later_number : (x y : OpName) (c : Deps) → row_of x ≡ row_of y → stands_before x y ≡ true → (number_of x < number_of y) × (entry_of c x ≡ entry_of c y)
+later_number : (x y : OpName) (c : Deps) → row_of x ≡ row_of y → stands_before x y ≡ true →
+    (number_of x < number_of y) × (entry_of c x ≡ entry_of c y)
 later_number (Blue i m) (Blue j n) c e h = (grind (arith, nat_tests), ap (slice_index c.blue) (let same : i ≡ j = omega arith in same))
 later_number (Blue i m) (Red n) c e h = absurd (omega arith)
 later_number (Red m) (Blue j n) c e h = absurd (omega arith)
 later_number (Red m) (Red n) c e h = (grind (arith, nat_tests), refl)
 
 -- from such an operation on, none of its row is ready
-pub none_from : (r : ℕ) (us : List Shadow) (k : ℕ) (d u : Shadow) (c : Deps) → IsHeldRow r us → k < length us → entry_of c (get_or us k d).name + 1 < number_of (get_or us k d).name
+pub none_from : (r : ℕ) (us : List Shadow) (k : ℕ) (d u : Shadow) (c : Deps) → IsHeldRow r us → k < length us →
+    entry_of c (get_or us k d).name + 1 < number_of (get_or us k d).name
     → Among u us → Among u (drop k us) → IsReady c u → ⊥
 none_from r us k d u c row within l a left ready = waits u c (row.numbered u a) (at (left_cases us k d u row.in_order within left)) ready
   where
@@ -56,11 +59,15 @@ Among-filter p (v ∷ us) u (inr a) e = at (p v) (Among-filter p us u a e)
     at true k = inr k
     at false k = k
 
-pub among_row : (rows : List (List Shadow)) (u : Shadow) → AreHeldRows 0 rows → Among u (held_of rows) → Among u (get_or rows (row_of u.name) [])
-among_row rows u h a = subst (Among u) (sym (row_is rows (row_of u.name) h)) (Among-filter (is_of (row_of u.name)) (held_of rows) u a (is_of-yes (row_of u.name) u refl))
+-- what is held stands in the row of its name
+pub among_row : (rows : List (List Shadow)) (u : Shadow) → AreHeldRows 0 rows → Among u (held_of rows) →
+    Among u (get_or rows (row_of u.name) [])
+among_row rows u h a = subst (Among u) (sym (row_is rows (row_of u.name) h))
+    (Among-filter (is_of (row_of u.name)) (held_of rows) u a (is_of-yes (row_of u.name) u refl))
 
 -- what is in a row is held
-pub held_there : (rows : List (List Shadow)) (r : ℕ) (u : Shadow) → AreHeldRows 0 rows → Among u (get_or rows r []) → find_in (held_of rows) u.name ≡ Some u
+pub held_there : (rows : List (List Shadow)) (r : ℕ) (u : Shadow) → AreHeldRows 0 rows → Among u (get_or rows r []) →
+    find_in (held_of rows) u.name ≡ Some u
 held_there rows r u h a =
     let row : IsHeldRow r (get_or rows r []) = row_at rows r h in
     sym (finds_at rows u.name r (sym (row.placed u a)) h) ∙ Among-find (get_or rows r []) u row.in_order a

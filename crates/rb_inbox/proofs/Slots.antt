@@ -1,12 +1,14 @@
 -- Lists behind slots that are free.
-use Rattle.std.proofs.Common.{◌≡◌, ℕ, suc, zero, ◌+◌, ◌-◌, ◌*◌, ◌≤◌, List, [], ◌∷◌, ◌++◌, length, take, drop, replicate, refl, ap, ◌∙◌, arith}
+use Rattle.std.proofs.Common.{◌≡◌, ℕ, suc, zero, ◌+◌, ◌-◌, ◌*◌, ◌≤◌, List, [], ◌∷◌, ◌++◌, length, take, drop, replicate, refl, ap, ◌∙◌}
+use Rattle.std.proofs.Common.{arith}
 use Rattle.std.specs.Prelude.{insert, remove}
 use Rattle.std.proofs.Math.Seq.{drop-append_seam, take-append_seam}
 use Rattle.std.proofs.lemmas.List.{take_all}
 use Rattle.rb_shadow.specs.declared.shadow.Shadow.{Shadow}
 
 -- an insertion behind them is one in the list
-pub insert_behind : (us : List Shadow) (n i k : ℕ) (v : Shadow) → k ≡ n + i → n ≤ length us → drop n (insert us k v) ≡ insert (drop n us) i v
+pub insert_behind : (us : List Shadow) (n i k : ℕ) (v : Shadow) → k ≡ n + i → n ≤ length us →
+    drop n (insert us k v) ≡ insert (drop n us) i v
 insert_behind us zero i k v e l = ap (λ j. insert us j v) (omega arith)
 insert_behind [] (suc n) i k v e l = absurd (omega arith)
 insert_behind (u ∷ us) (suc n) i zero v e l = absurd (omega arith)
@@ -31,7 +33,8 @@ drop-copies : (n : ℕ) (v : Shadow) (us : List Shadow) → drop n (replicate (s
 drop-copies zero v us = refl
 drop-copies (suc n) v us = drop-copies n v us
 
--- copies of an operation, one more than a list has operations, are added at its end and then turned to its front: the last of them is the operation, behind free slots
+-- copies of an operation, one more than a list has operations, are added at its end and then turned to its front: the last of them is the
+-- operation, behind free slots
 pub front_made : (us more turned : List Shadow) (n m k : ℕ) (v : Shadow) → n ≡ length us → m ≡ n → k ≡ n
     → more ≡ take (2 * n + 1) us ++ replicate (2 * n + 1 - k) v → turned ≡ drop m more ++ take m more → drop n turned ≡ v ∷ us
 front_made us more turned n m k v count same whole grown round =
@@ -41,4 +44,5 @@ front_made us more turned n m k v count same whole grown round =
     ∙ drop-copies n v us
   where
     all : more ≡ us ++ replicate (suc n) v
-    all = grown ∙ ap (λ ws. ws ++ replicate (2 * n + 1 - k) v) (take_all (2 * n + 1) us (omega arith)) ∙ ap (λ k. us ++ replicate k v) (let e : 2 * n + 1 - k ≡ suc n = omega arith in e)
+    all = grown ∙ ap (λ ws. ws ++ replicate (2 * n + 1 - k) v) (take_all (2 * n + 1) us (omega arith))
+        ∙ ap (λ k. us ++ replicate k v) (let e : 2 * n + 1 - k ≡ suc n = omega arith in e)

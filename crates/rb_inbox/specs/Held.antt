@@ -1,5 +1,6 @@
 -- The list of held operations: one for each name, in the order of the names.
-use Rattle.std.specs.Prelude.{◌≡◌, ◌≢◌, ℕ, suc, ◌+◌, ◌≤◌, Bool, true, false, if◌then◌else◌, not, ◌&&◌, ◌||◌, nat_lt, ◌==◌, List, [], ◌∷◌, length, filter, Some, None}
+use Rattle.std.specs.Prelude.{◌≡◌, ◌≢◌, ℕ, suc, ◌+◌, ◌≤◌, Bool, true, false, if◌then◌else◌, not, ◌&&◌, ◌||◌, nat_lt, ◌==◌, List, [], ◌∷◌}
+use Rattle.std.specs.Prelude.{length, filter, Some, None}
 use Rattle.rb_shadow.specs.Operations.{entry_of, find_in, names_of_clock, number_of, past, same_name, IsWithin}
 use Rattle.rb_shadow.specs.Sound.{is_foreign}
 use Rattle.rb_shadow.specs.declared.deps.Deps.{Deps}
@@ -43,7 +44,8 @@ abbrev pub held_before : List Shadow → OpName → ℕ
 held_before [] x = 0
 held_before (u ∷ us) x = if stands_before u.name x then suc (held_before us x) else 0
 
--- an operation that may be held: a blue name's site is its home, and the name's number, so at least 1, is one more than the entry of its past for the name
+-- an operation that may be held: a blue name's site is its home, and the name's number, so at least 1, is one more than the entry of its
+-- past for the name
 pub record IsNumbered (v : Shadow) : Type 0 where
   pub home : is_foreign v.name v.home ≡ false
   pub next : number_of v.name ≡ entry_of v.deps v.name + 1

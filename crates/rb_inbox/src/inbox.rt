@@ -1,10 +1,12 @@
 //! Inboxes.
-ghost use Rattle.std.specs.Prelude.{◌≡◌, ◌⊎◌, ◌==◌, ℕ, ◌+◌, ◌<◌, ◌≤◌, List, [], ◌++◌, filter, length, replicate, IfErr, IfNone, IfOk, IfSome, OnErr, OnOk, Some, None, Ok, Err};
+ghost use Rattle.std.specs.Prelude.{◌≡◌, ◌⊎◌, ◌==◌, ℕ, ◌+◌, ◌<◌, ◌≤◌, List, [], ◌++◌, filter, length, replicate, IfErr};
+ghost use Rattle.std.specs.Prelude.{IfNone, IfOk, IfSome, OnErr, OnOk, Some, None, Ok, Err};
 ghost use Rattle.std.specs.Bool.{OnFalse, OnTrue};
 ghost use Rattle.std.specs.Option.{option_copied};
 ghost use Rattle.rb_shadow.specs.Operations.{Among, find_in, is_blue_of, is_red, row_of};
 ghost use Rattle.rb_shadow.specs.declared.shadow.Shadow.{Shadow};
-ghost use Rattle.rb_inbox.specs.Held.{HoldsReady, HoldsWaiting, IsInConflict, IsInOrder, IsNumbered, IsReady, IsTooMany, IsWelcome, held_before, stands_before, with_held, without};
+ghost use Rattle.rb_inbox.specs.Held.{HoldsReady, HoldsWaiting, IsInConflict, IsInOrder, IsNumbered, IsReady};
+ghost use Rattle.rb_inbox.specs.Held.{IsTooMany, IsWelcome, held_before, stands_before, with_held, without};
 ghost use Rattle.rb_inbox.specs.Rows.{IsHeldRow};
 
 use crate::PutAnswer;
@@ -57,7 +59,8 @@ impl Inbox {
     /// reached and it isn't ready; `OutOfMemory`. Each leaves the inbox as it was.
     pub fn put(&mut self, shadow: Shadow, clock: &Clock) -> Result<PutAnswer, Refusal>
         requires { IsNumbered shadow }
-        ensures held { result ≡ Ok PutAnswer.Held → self.new ≡ record self.old { held = with_held shadow self.old.held } }
+        ensures held { result ≡ Ok PutAnswer.Held → self.new
+            ≡ record self.old { held = with_held shadow self.old.held } }
         ensures welcome { result ≡ Ok PutAnswer.Held → IsWelcome self.old clock.now shadow }
         ensures already { result ≡ Ok PutAnswer.Already → find_in self.old.held shadow.name ≡ Some shadow }
         ensures unchanged { result ≡ Ok PutAnswer.Already → self.new ≡ self.old }
@@ -65,7 +68,8 @@ impl Inbox {
         ensures conflict { result ≡ Err Refusal.Conflict → IsInConflict self.old shadow }
         ensures full { result ≡ Err Refusal.InboxFull → IsTooMany self.old clock.now shadow }
         ensures memory { result ≡ Err Refusal.OutOfMemory → IsWelcome self.old clock.now shadow }
-        ensures refusals { IfErr result (λ why. (why ≡ Refusal.Conflict) ⊎ (why ≡ Refusal.InboxFull) ⊎ (why ≡ Refusal.OutOfMemory)) }
+        ensures refusals { IfErr result (λ why. (why ≡ Refusal.Conflict) ⊎ (why ≡ Refusal.InboxFull)
+            ⊎ (why ≡ Refusal.OutOfMemory)) }
         ensures err { OnErr result (self.new ≡ self.old) }
     {
         if let Some(held) = self.held(&shadow.name) {
@@ -93,7 +97,7 @@ impl Inbox {
     {
         // There is no memory for more shadows than a `usize` counts.
         let count = self.count.checked_add(1).ok_or(AllocError)?;
-        let row = row_index(shadow.name);
+        let row = shadow.name.row();
         add_rows(&mut self.rows, row + 1, self.alloc)?;
         let index = index_of(self.rows[row].as_slice(), shadow.name);
         self.rows[row].insert(index, shadow)?;
@@ -128,7 +132,7 @@ impl Inbox {
     pub fn held(&self, name: &OpName) -> Option<&Shadow>
         ensures { option_copied result ≡ find_in self.now.held name.now }
     {
-        let row = self.row(row_index(*name));
+        let row = self.row(name.row());
         let shadow = row.get(index_of(row, *name))?;
         if shadow.name == *name {
             Some(shadow)
@@ -169,7 +173,7 @@ impl Inbox {
         match self.held(name) {
             None => {}
             Some(_) => {
-                let row = row_index(*name);
+                let row = name.row();
                 let index = index_of(self.rows[row].as_slice(), *name);
                 self.rows[row].remove(index);
                 self.count -= 1;
@@ -211,16 +215,6 @@ impl Inbox {
             Some(row) => row.as_slice(),
             None => &[],
         }
-    }
-}
-
-/// The index of a name's row.
-fn row_index(name: OpName) -> usize
-    ensures { result ≡ row_of name }
-{
-    match name {
-        OpName::Blue { site, .. } => usize::from(site) + 1,
-        OpName::Red { .. } => 0,
     }
 }
 

@@ -26,24 +26,30 @@ pub record Latest (s : Settings) (us : List Shadow) (n : ℕ) (x : Index) (ps : 
   pub parts : r ≡ parts_of s (take n us) last
   pub records : ps ≡ records_of s (take n us)
 
-pub latest : (s : Settings) (us : List Shadow) (m n : ℕ) (ls : List Links) (x : Index) (l : Log) (ps : List UndoParts) (r : UndoParts) → IsAt s us m ls x l → m ≡ n + 1 → l.parts ≡ ps ++ r ∷ [] → Latest s us n x ps r
+-- what the last record of the log says, where a rewound ledger goes back one operation
+pub latest : (s : Settings) (us : List Shadow) (m n : ℕ) (ls : List Links) (x : Index) (l : Log) (ps : List UndoParts) (r : UndoParts) →
+    IsAt s us m ls x l → m ≡ n + 1 → l.parts ≡ ps ++ r ∷ [] → Latest s us n x ps r
 latest s us m n ls x l ps r at next popped =
     let (last, there) = OnAccount.element us n (omega (arith, at.within, next)) in
     let more : take m us ≡ take n us ++ last ∷ [] = ap (λ k. take k us) next ∙ Fronts.one_more us n last there in
-    let (front, is) = Records.ends ps (records_of s (take n us)) r (parts_of s (take n us) last) (sym popped ∙ at.records ∙ ap (records_of s) more ∙ Records.records_of-push s (take n us) last) in
+    let (front, is) = Records.ends ps (records_of s (take n us)) r (parts_of s (take n us) last) (sym popped ∙ at.records
+        ∙ ap (records_of s) more ∙ Records.records_of-push s (take n us) last) in
     record { last = last; there = there; index = subst (λ vs. IsIndex s vs x) more at.index; parts = is; records = front }
 
 -- after some operations there are records
-pub some_records : (s : Settings) (us : List Shadow) (m : ℕ) (ls : List Links) (x : Index) (l : Log) → IsAt s us m ls x l → 0 < m → l.parts ≡ [] → ⊥
+pub some_records : (s : Settings) (us : List Shadow) (m : ℕ) (ls : List Links) (x : Index) (l : Log) → IsAt s us m ls x l → 0 < m →
+    l.parts ≡ [] → ⊥
 some_records s us m ls x l at some none =
     omega (arith, some, ap length none, ap length at.records, Records.logged-length s [] (take m us), length-take-le m us at.within)
 
 -- its links
-pub linked : (s : Settings) (us : List Shadow) (ls : List Links) (n : ℕ) (u : Shadow) (k : Links) → AreLinks s us ls → slice_get us n ≡ Some u → slice_get ls n ≡ Some k → IsLinked s (take n us) u k
+pub linked : (s : Settings) (us : List Shadow) (ls : List Links) (n : ℕ) (u : Shadow) (k : Links) → AreLinks s us ls →
+    slice_get us n ≡ Some u → slice_get ls n ≡ Some k → IsLinked s (take n us) u k
 linked s us ls n u k are there beside = are.each n u k there beside
 
 -- back by one operation
-pub back : (s : Settings) (us : List Shadow) (m n : ℕ) (ls : List Links) (x y : Index) (l k : Log) (r : UndoParts) → IsAt s us m ls x l → m ≡ n + 1 → l.parts ≡ k.parts ++ r ∷ [] → k.room ≡ l.room + 1 → IsIndex s (take n us) y → IsAt y.config us n ls y k
+pub back : (s : Settings) (us : List Shadow) (m n : ℕ) (ls : List Links) (x y : Index) (l k : Log) (r : UndoParts) → IsAt s us m ls x l →
+    m ≡ n + 1 → l.parts ≡ k.parts ++ r ∷ [] → k.room ≡ l.room + 1 → IsIndex s (take n us) y → IsAt y.config us n ls y k
 back s us m n ls x y l k r at next popped more index =
     subst (λ t. IsAt t us n ls y k) (sym index.config) (record {
       valid = at.valid;
@@ -56,10 +62,13 @@ back s us m n ls x y l k r at next popped more index =
 
 -- the operation after the first ones may follow them
 pub next : (s : Settings) (us : List Shadow) (n : ℕ) (u : Shadow) → IsValid s us → slice_get us n ≡ Some u → IsValid s (take n us ++ u ∷ [])
-next s us n u valid there = subst (IsValid s) (Fronts.one_more us n u there) (Legal.IsValid-front s (take (n + 1) us) (drop (n + 1) us) (subst (IsValid s) (sym (take-append-drop (n + 1) us)) valid))
+next s us n u valid there = subst (IsValid s) (Fronts.one_more us n u there)
+    (Legal.IsValid-front s (take (n + 1) us) (drop (n + 1) us) (subst (IsValid s) (sym (take-append-drop (n + 1) us)) valid))
 
 -- on by one operation
-pub forth : (s : Settings) (us : List Shadow) (n m : ℕ) (ls : List Links) (x y : Index) (l k : Log) (u : Shadow) (r : UndoParts) → IsAt s us n ls x l → m ≡ n + 1 → slice_get us n ≡ Some u → r ≡ parts_of s (take n us) u → k.parts ≡ l.parts ++ r ∷ [] → k.room + 1 ≡ l.room → IsIndex s (take n us ++ u ∷ []) y → IsAt y.config us m ls y k
+pub forth : (s : Settings) (us : List Shadow) (n m : ℕ) (ls : List Links) (x y : Index) (l k : Log) (u : Shadow) (r : UndoParts) →
+    IsAt s us n ls x l → m ≡ n + 1 → slice_get us n ≡ Some u → r ≡ parts_of s (take n us) u → k.parts ≡ l.parts ++ r ∷ [] →
+    k.room + 1 ≡ l.room → IsIndex s (take n us ++ u ∷ []) y → IsAt y.config us m ls y k
 forth s us n m ls x y l k u r at next there is pushed less index =
     let more : take m us ≡ take n us ++ u ∷ [] = ap (λ j. take j us) next ∙ Fronts.one_more us n u there in
     subst (λ t. IsAt t us m ls y k) (sym index.config) (record {
@@ -67,6 +76,7 @@ forth s us n m ls x y l k u r at next there is pushed less index =
       within = omega (arith, slice_get_within us n u there, next);
       links = at.links;
       index = subst (λ vs. IsIndex s vs y) (sym more) index;
-      records = pushed ∙ ap (λ ps. ps ++ r ∷ []) at.records ∙ ap (λ q. records_of s (take n us) ++ q ∷ []) is ∙ sym (Records.records_of-push s (take n us) u) ∙ ap (records_of s) (sym more);
+      records = pushed ∙ ap (λ ps. ps ++ r ∷ []) at.records ∙ ap (λ q. records_of s (take n us) ++ q ∷ []) is
+          ∙ sym (Records.records_of-push s (take n us) u) ∙ ap (records_of s) (sym more);
       room = omega (arith, at.room, next, less);
     })

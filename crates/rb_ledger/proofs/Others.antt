@@ -1,5 +1,7 @@
 -- The second account of an operation, and the heads of both its accounts.
-use Rattle.std.proofs.Common.{◌≡◌, ℕ, zero, suc, ◌+◌, ◌<◌, true, false, ◌||◌, List, [], ◌∷◌, ◌++◌, length, take, drop, get_or, refl, ap, sym, ◌∙◌, subst, arith, ◌⊎◌, inl, inr, Some, None, length-set}
+use Rattle.rb_ledger.proofs.Public.Pushes.{other_by}
+use Rattle.std.proofs.Common.{◌≡◌, ℕ, zero, suc, ◌+◌, ◌<◌, true, false, ◌||◌, List, [], ◌∷◌, ◌++◌, length, take, drop, get_or, refl, ap}
+use Rattle.std.proofs.Common.{sym, ◌∙◌, subst, arith, ◌⊎◌, inl, inr, Some, None, length-set}
 use Rattle.std.specs.Prelude.{pos, ◌==◌, nat_le, slice_get, Option, option_map, option_and_then, unwrap_or}
 use Rattle.std.proofs.lemmas.List.{take-append-drop, get_or-set_other}
 use Rattle.std.proofs.lemmas.Option.{slice_get_within}
@@ -10,7 +12,7 @@ use Rattle.rb_money.specs.declared.place.TheConstants.Place.{NOWHERE}
 use Rattle.rb_money.proofs.Public.Tests.{above, equal, same_place}
 use Rattle.rb_shadow.specs.declared.shadow.Shadow.{Shadow}
 use Rattle.rb_shadow.specs.declared.op_name.OpName.{OpName}
-use Rattle.rb_shadow.specs.Operations.{Among, bal, target_of, receiver_of, other_by, other_of, is_on, kind_in}
+use Rattle.rb_shadow.specs.Operations.{Among, bal, target_of, receiver_of, other_of, is_on, kind_in}
 use Rattle.rb_shadow.specs.Sound.{IsSound, is_misdirected}
 use Rattle.rb_shadow.proofs.Public.Members
 use Rattle.rb_shadow.proofs.Public.SoundFacts
@@ -32,32 +34,41 @@ use Rattle.rb_ledger.proofs.Public.OnAccount
 -- ---- the second account
 
 -- a receiver is one of the accounts, and not the own one
-received : (s : Settings) (v : Shadow) (b : Place) → SoundFacts.SoundFacts s v → receiver_of v.kind ≡ Some b → (b.0 < length s.starts) × (v.account.0 ≡ b.0 → ⊥)
+received : (s : Settings) (v : Shadow) (b : Place) → SoundFacts.SoundFacts s v → receiver_of v.kind ≡ Some b →
+    (b.0 < length s.starts) × (v.account.0 ≡ b.0 → ⊥)
 received s v b facts e = at (ap (is_misdirected (length s.starts) v.account) (sym e) ∙ facts.receiver)
   where
     at : (nat_le (length s.starts) b.0 || (b.0 == v.account.0)) ≡ false → (b.0 < length s.starts) × (v.account.0 ≡ b.0 → ⊥)
-    at k = let (first, second) = Members.or-false _ _ k in (above (length s.starts) b.0 first, λ k. Members.true≢false (sym (equal b.0 v.account.0 (sym k)) ∙ second))
+    at k = let (first, second) = Members.or-false _ _ k in (above (length s.starts) b.0 first,
+        λ k. Members.true≢false (sym (equal b.0 v.account.0 (sym k)) ∙ second))
 
 -- and so is a second account
-pub second_apart : (s : Settings) (us : List Shadow) (h : Shadow) (b : Place) → IsValid s us → IsSound s h → HasTarget us h (target_of h.kind) → other_of us h ≡ Some b → (b.0 < length s.starts) × (h.account.0 ≡ b.0 → ⊥)
+pub second_apart : (s : Settings) (us : List Shadow) (h : Shadow) (b : Place) → IsValid s us → IsSound s h →
+    HasTarget us h (target_of h.kind) → other_of us h.kind ≡ Some b → (b.0 < length s.starts) × (h.account.0 ≡ b.0 → ⊥)
 second_apart s us h b valid sound target e = at (Pushes.other_cases us h b target valid.unique e)
   where
-    at : (receiver_of h.kind ≡ Some b) ⊎ ((t : Shadow) × Among t us × (t.account ≡ h.account) × (receiver_of t.kind ≡ Some b)) → (b.0 < length s.starts) × (h.account.0 ≡ b.0 → ⊥)
+    at : (receiver_of h.kind ≡ Some b) ⊎ ((t : Shadow) × Among t us × (t.account ≡ h.account) × (receiver_of t.kind ≡ Some b)) →
+        (b.0 < length s.starts) × (h.account.0 ≡ b.0 → ⊥)
     at (inl k) = received s h b (SoundFacts.sound_facts s h sound) k
     at (inr (t, there, account, k)) =
         let (near, apart) = received s t b (ValidClocks.member_sound s us t valid there) k in
         (near, λ e. apart (ap (λ (p : Place). p.0) account ∙ e))
 
-pub other_apart : (s : Settings) (us : List Shadow) (h : Shadow) (b : Place) → IsValid s us → Legal.MayFollow s us h → other_of us h ≡ Some b → (b.0 < length s.starts) × (h.account.0 ≡ b.0 → ⊥)
+-- the second account is one of the configuration, and isn't the own one
+pub other_apart : (s : Settings) (us : List Shadow) (h : Shadow) (b : Place) → IsValid s us → Legal.MayFollow s us h →
+    other_of us h.kind ≡ Some b → (b.0 < length s.starts) × (h.account.0 ≡ b.0 → ⊥)
 other_apart s us h b valid may e = second_apart s us h b valid may.sound may.target e
 
 -- what stands at an index may follow what stands before it
-pub may_there : (s : Settings) (us : List Shadow) (i : ℕ) (u : Shadow) → IsValid s us → slice_get us i ≡ Some u → Legal.MayFollow s (take i us) u
+pub may_there : (s : Settings) (us : List Shadow) (i : ℕ) (u : Shadow) → IsValid s us → slice_get us i ≡ Some u →
+    Legal.MayFollow s (take i us) u
 may_there s us i u valid there =
-    Legal.IsValid-last s (take i us) u (subst (IsValid s) (Fronts.one_more us i u there) (Legal.IsValid-front s (take (i + 1) us) (drop (i + 1) us) (subst (IsValid s) (sym (take-append-drop (i + 1) us)) valid)))
+    Legal.IsValid-last s (take i us) u (subst (IsValid s) (Fronts.one_more us i u there)
+        (Legal.IsValid-front s (take (i + 1) us) (drop (i + 1) us) (subst (IsValid s) (sym (take-append-drop (i + 1) us)) valid)))
 
 -- each account that an operation is on is one of the configuration's
-pub on_near : (s : Settings) (us : List Shadow) (i : ℕ) (u : Shadow) (a : Place) → IsValid s us → slice_get us i ≡ Some u → is_on (take i us) u a ≡ true → a.0 < length s.starts
+pub on_near : (s : Settings) (us : List Shadow) (i : ℕ) (u : Shadow) (a : Place) → IsValid s us → slice_get us i ≡ Some u →
+    is_on (take i us) u a ≡ true → a.0 < length s.starts
 on_near s us i u a valid there own =
     let (front, target) = Moves.target_there s us i u valid there in
     let may = may_there s us i u valid there in
@@ -67,7 +78,8 @@ on_near s us i u a valid there own =
     ]
 
 -- the second account doesn't depend on what follows
-pub other_whole : (s : Settings) (us : List Shadow) (i : ℕ) (u : Shadow) → IsValid s us → slice_get us i ≡ Some u → other_of (take i us) u ≡ other_of us u
+pub other_whole : (s : Settings) (us : List Shadow) (i : ℕ) (u : Shadow) → IsValid s us → slice_get us i ≡ Some u →
+    other_of (take i us) u.kind ≡ other_of us u.kind
 other_whole s us i u valid there =
     let (front, target) = Moves.target_there s us i u valid there in
     at (target_of u.kind) target front
@@ -77,11 +89,13 @@ other_whole s us i u valid there =
     at (Some x) (t, here, named, right) front =
         let whole : Among t us = subst (Among t) (take-append-drop i us) (Members.Among-left (take i us) (drop i us) t here) in
         ap (λ y. option_and_then receiver_of (kind_in (take i us) y)) (sym named)
-        ∙ ap (option_and_then receiver_of) (Pushes.kind_in-named (take i us) t front.unique here ∙ sym (Pushes.kind_in-named us t valid.unique whole))
+        ∙ ap (option_and_then receiver_of) (Pushes.kind_in-named (take i us) t front.unique here
+            ∙ sym (Pushes.kind_in-named us t valid.unique whole))
         ∙ ap (λ y. option_and_then receiver_of (kind_in us y)) named
 
 -- ---- the heads of both accounts
 
+-- an index within the list has its item
 pub item : {X : Type 0} (xs : List X) (i : ℕ) (d : X) → i < length xs → slice_get xs i ≡ Some (get_or xs i d)
 item [] i d h = absurd (omega arith)
 item (x ∷ xs) zero d h = refl
@@ -90,12 +104,16 @@ item (x ∷ xs) (suc i) d h = item xs i d (omega arith)
 -- a head after a change on the own account and one on the second
 abbrev pub IsChanged : List Shadow → Shadow → List Head → (Head → Head) → (Head → Head) → Place → Head → Type 0
 IsChanged us h hs f g a new =
-    ((is_on us h a ≡ true) × ((old : Head) × (slice_get hs a.0 ≡ Some old) × (((h.account ≡ a) × (f old ≡ new)) ⊎ ((other_of us h ≡ Some a) × (g old ≡ new)))))
+    ((is_on us h a ≡ true) × ((old : Head) × (slice_get hs a.0 ≡ Some old)
+        × (((h.account ≡ a) × (f old ≡ new)) ⊎ ((other_of us h.kind ≡ Some a) × (g old ≡ new)))))
     ⊎ ((is_on us h a ≡ false) × (slice_get hs a.0 ≡ Some new))
 
-pub changed : (s : Settings) (us : List Shadow) (h : Shadow) (hs : List Head) (f g : Head → Head) → IsConfigured s → IsValid s us → Legal.MayFollow s us h → length hs ≡ length s.starts
-    → (a : Place) (new : Head) → slice_get (heads_at (unwrap_or (other_of us h) NOWHERE).0 g (heads_at h.account.0 f hs)) a.0 ≡ Some new → IsChanged us h hs f g a new
-changed s us h hs f g configured valid may many a new e = at (other_of us h) refl e
+-- what both changes of heads make of a head: of the own account, of the second one, or of neither
+pub changed : (s : Settings) (us : List Shadow) (h : Shadow) (hs : List Head) (f g : Head → Head) → IsConfigured s → IsValid s us →
+    Legal.MayFollow s us h → length hs ≡ length s.starts
+    → (a : Place) (new : Head) → slice_get (heads_at (unwrap_or (other_of us h.kind) NOWHERE).0 g (heads_at h.account.0 f hs)) a.0
+        ≡ Some new → IsChanged us h hs f g a new
+changed s us h hs f g configured valid may many a new e = at (other_of us h.kind) refl e
   where
     first : List Head
     first = heads_at h.account.0 f hs
@@ -104,70 +122,92 @@ changed s us h hs f g configured valid may many a new e = at (other_of us h) ref
     own_near = omega (arith, many, Overdraws.sound_account s h may.sound)
 
     -- none of the two is the account
-    off : (o : Option Place) → other_of us h ≡ o → (a.0 ≡ (unwrap_or o NOWHERE).0 → ⊥) → (a.0 ≡ h.account.0 → ⊥) → is_on us h a ≡ false
+    off : (o : Option Place) → other_of us h.kind ≡ o → (a.0 ≡ (unwrap_or o NOWHERE).0 → ⊥) → (a.0 ≡ h.account.0 → ⊥) → is_on us h a ≡ false
     off o is other own = elim (Members.bool_cases (is_on us h a)) [ inl k ↦ absurd (neither (OnAccount.on_sides us h a k)) | inr k ↦ k ]
       where
-        neither : (h.account ≡ a) ⊎ (other_of us h ≡ Some a) → ⊥
+        neither : (h.account ≡ a) ⊎ (other_of us h.kind ≡ Some a) → ⊥
         neither (inl j) = own (ap (λ (p : Place). p.0) (sym j))
         neither (inr j) = other (ap (λ o. (unwrap_or o NOWHERE).0) (sym j ∙ is))
 
-    on_first : (o : Option Place) → other_of us h ≡ o → (a.0 ≡ (unwrap_or o NOWHERE).0 → ⊥)
-        → ((a.0 ≡ h.account.0) × (f (get_or hs h.account.0 no_head) ≡ new)) ⊎ ((a.0 ≡ h.account.0 → ⊥) × (slice_get hs a.0 ≡ Some new)) → IsChanged us h hs f g a new
+    on_first : (o : Option Place) → other_of us h.kind ≡ o → (a.0 ≡ (unwrap_or o NOWHERE).0 → ⊥)
+        → ((a.0 ≡ h.account.0) × (f (get_or hs h.account.0 no_head) ≡ new)) ⊎ ((a.0 ≡ h.account.0 → ⊥) × (slice_get hs a.0 ≡ Some new)) →
+            IsChanged us h hs f g a new
     on_first o is other (inl (own, k)) =
-        inl (OnAccount.on_own us h a (sym own), (get_or hs h.account.0 no_head, ap (slice_get hs) own ∙ item hs h.account.0 no_head own_near, inl (same_place h.account a (sym own), k)))
+        inl (OnAccount.on_own us h a (sym own), (get_or hs h.account.0 no_head,
+            ap (slice_get hs) own ∙ item hs h.account.0 no_head own_near, inl (same_place h.account a (sym own), k)))
     on_first o is other (inr (own, k)) = inr (off o is other own, k)
 
     none_there : (now : List Head) → length now ≡ length hs → slice_get now a.0 ≡ Some new → a.0 ≡ NOWHERE.0 → ⊥
-    none_there now same read e = omega (arith, e, same, many, slice_get_within now a.0 new read, configured.starts_of_all, configured.few_accounts)
+    none_there now same read e = omega (arith, e, same, many, slice_get_within now a.0 new read, configured.starts_of_all,
+        configured.few_accounts)
 
-    at : (o : Option Place) → other_of us h ≡ o → slice_get (heads_at (unwrap_or o NOWHERE).0 g first) a.0 ≡ Some new → IsChanged us h hs f g a new
+    at : (o : Option Place) → other_of us h.kind ≡ o → slice_get (heads_at (unwrap_or o NOWHERE).0 g first) a.0 ≡ Some new →
+        IsChanged us h hs f g a new
     at o is read = either (IndexLists.get_set first (unwrap_or o NOWHERE).0 (g (get_or first (unwrap_or o NOWHERE).0 no_head)) new a.0 read)
       where
-        second : (o : Option Place) → other_of us h ≡ o → slice_get (heads_at (unwrap_or o NOWHERE).0 g first) a.0 ≡ Some new → a.0 ≡ (unwrap_or o NOWHERE).0 → g (get_or first (unwrap_or o NOWHERE).0 no_head) ≡ new → IsChanged us h hs f g a new
+        second : (o : Option Place) → other_of us h.kind ≡ o → slice_get (heads_at (unwrap_or o NOWHERE).0 g first) a.0 ≡ Some new →
+            a.0 ≡ (unwrap_or o NOWHERE).0 → g (get_or first (unwrap_or o NOWHERE).0 no_head) ≡ new → IsChanged us h hs f g a new
         second None is read other k =
-            absurd (none_there (heads_at NOWHERE.0 g first) (length-set first NOWHERE.0 (g (get_or first NOWHERE.0 no_head)) ∙ length-set hs h.account.0 (f (get_or hs h.account.0 no_head))) read other)
+            absurd (none_there (heads_at NOWHERE.0 g first) (length-set first NOWHERE.0 (g (get_or first NOWHERE.0 no_head))
+                ∙ length-set hs h.account.0 (f (get_or hs h.account.0 no_head))) read other)
         second (Some b) is read other k =
             let (near, apart) = other_apart s us h b valid may is in
             let place : b ≡ a = same_place b a (sym other) in
-            let same : get_or first b.0 no_head ≡ get_or hs b.0 no_head = get_or-set_other hs h.account.0 b.0 (f (get_or hs h.account.0 no_head)) no_head (λ e. apart (sym e)) in
+            let same : get_or first b.0 no_head ≡ get_or hs b.0 no_head =
+                get_or-set_other hs h.account.0 b.0 (f (get_or hs h.account.0 no_head)) no_head (λ e. apart (sym e)) in
             inl (
               OnAccount.on_other us h a (is ∙ ap Some place),
-              (get_or hs b.0 no_head, ap (slice_get hs) other ∙ item hs b.0 no_head (omega (arith, near, many)), inr (is ∙ ap Some place, ap g (sym same) ∙ k)),
+              (get_or hs b.0 no_head, ap (slice_get hs) other ∙ item hs b.0 no_head (omega (arith, near, many)),
+                  inr (is ∙ ap Some place, ap g (sym same) ∙ k)),
             )
 
-        either : ((a.0 ≡ (unwrap_or o NOWHERE).0) × (g (get_or first (unwrap_or o NOWHERE).0 no_head) ≡ new)) ⊎ ((a.0 ≡ (unwrap_or o NOWHERE).0 → ⊥) × (slice_get first a.0 ≡ Some new)) → IsChanged us h hs f g a new
+        either : ((a.0 ≡ (unwrap_or o NOWHERE).0) × (g (get_or first (unwrap_or o NOWHERE).0 no_head) ≡ new))
+            ⊎ ((a.0 ≡ (unwrap_or o NOWHERE).0 → ⊥) × (slice_get first a.0 ≡ Some new)) → IsChanged us h hs f g a new
         either (inl (other, k)) = second o is read other k
         either (inr (other, k)) = on_first o is other (IndexLists.get_set hs h.account.0 (f (get_or hs h.account.0 no_head)) new a.0 k)
 
+-- changes of two heads keep their number
 pub both_lengths : (hs : List Head) (i j : ℕ) (f g : Head → Head) → length (heads_at j g (heads_at i f hs)) ≡ length hs
-both_lengths hs i j f g = length-set (heads_at i f hs) j (g (get_or (heads_at i f hs) j no_head)) ∙ length-set hs i (f (get_or hs i no_head))
+both_lengths hs i j f g = length-set (heads_at i f hs) j (g (get_or (heads_at i f hs) j no_head))
+    ∙ length-set hs i (f (get_or hs i no_head))
 
 -- with one more operation
-pub heads_push : (s : Settings) (us : List Shadow) (h : Shadow) (hs : List Head) (l : Links) → IsConfigured s → IsValid s us → IsValid s (us ++ h ∷ []) → AreHeads s us hs → IsLinked s us h l
-    → AreHeads s (us ++ h ∷ []) (heads_at (unwrap_or (other_of us h) NOWHERE).0 (head_more (length us + 1) l.other.balance) (heads_at h.account.0 (head_more (length us + 1) l.own.balance) hs))
+pub heads_push : (s : Settings) (us : List Shadow) (h : Shadow) (hs : List Head) (l : Links) → IsConfigured s → IsValid s us →
+    IsValid s (us ++ h ∷ []) → AreHeads s us hs → IsLinked s us h l
+    → AreHeads s (us ++ h ∷ []) (heads_at (unwrap_or (other_of us h.kind) NOWHERE).0 (head_more (length us
+        + 1) l.other.balance) (heads_at h.account.0 (head_more (length us + 1) l.own.balance) hs))
 heads_push s us h hs l configured valid longer are linked =
-    ChainFacts.heads_push s us h hs _ longer are (both_lengths hs h.account.0 (unwrap_or (other_of us h) NOWHERE).0 (head_more (length us + 1) l.own.balance) (head_more (length us + 1) l.other.balance))
-    (λ a new e. at a new (changed s us h hs (head_more (length us + 1) l.own.balance) (head_more (length us + 1) l.other.balance) configured valid (Legal.IsValid-last s us h longer) are.count a new e))
+    ChainFacts.heads_push s us h hs _ longer are (both_lengths hs h.account.0 (unwrap_or (other_of us h.kind) NOWHERE).0
+        (head_more (length us + 1) l.own.balance) (head_more (length us + 1) l.other.balance))
+    (λ a new e. at a new (changed s us h hs (head_more (length us + 1) l.own.balance) (head_more (length us
+        + 1) l.other.balance) configured valid (Legal.IsValid-last s us h longer) are.count a new e))
   where
-    at : (a : Place) (new : Head) → IsChanged us h hs (head_more (length us + 1) l.own.balance) (head_more (length us + 1) l.other.balance) a new → ChainFacts.IsCounted s us h hs a new
+    at : (a : Place) (new : Head) → IsChanged us h hs (head_more (length us + 1) l.own.balance) (head_more (length us
+        + 1) l.other.balance) a new → ChainFacts.IsCounted s us h hs a new
     at a new (inr off) = inr off
     at a new (inl (on, (old, read, inl (own, is)))) =
-        inl (on, (old, read, ap (λ (k : Head). k.last) (sym is), ap (λ (k : Head). k.count) (sym is), ap (λ (k : Head). pos k.balance) (sym is) ∙ linked.own.balance ∙ ap (bal s (us ++ h ∷ [])) own))
+        inl (on, (old, read, ap (λ (k : Head). k.last) (sym is), ap (λ (k : Head). k.count) (sym is),
+            ap (λ (k : Head). pos k.balance) (sym is) ∙ linked.own.balance ∙ ap (bal s (us ++ h ∷ [])) own))
     at a new (inl (on, (old, read, inr (other, is)))) =
-        inl (on, (old, read, ap (λ (k : Head). k.last) (sym is), ap (λ (k : Head). k.count) (sym is), ap (λ (k : Head). pos k.balance) (sym is) ∙ (linked.other a other).balance))
+        inl (on, (old, read, ap (λ (k : Head). k.last) (sym is), ap (λ (k : Head). k.count) (sym is),
+            ap (λ (k : Head). pos k.balance) (sym is) ∙ (linked.other a other).balance))
 
 -- without the last operation
-pub heads_front : (s : Settings) (us : List Shadow) (h : Shadow) (hs : List Head) (l : Links) → IsConfigured s → IsValid s us → IsValid s (us ++ h ∷ []) → AreHeads s (us ++ h ∷ []) hs → IsLinked s us h l
-    → AreHeads s us (heads_at (unwrap_or (other_of us h) NOWHERE).0 (head_less l.other.earlier (unwrap_or (option_map (λ a. cents (bal s us a)) (other_of us h)) 0)) (heads_at h.account.0 (head_less l.own.earlier (cents (bal s us h.account))) hs))
+pub heads_front : (s : Settings) (us : List Shadow) (h : Shadow) (hs : List Head) (l : Links) → IsConfigured s → IsValid s us →
+    IsValid s (us ++ h ∷ []) → AreHeads s (us ++ h ∷ []) hs → IsLinked s us h l
+    → AreHeads s us (heads_at (unwrap_or (other_of us h.kind) NOWHERE).0
+        (head_less l.other.earlier (unwrap_or (option_map (λ a. cents (bal s us a)) (other_of us h.kind)) 0))
+        (heads_at h.account.0 (head_less l.own.earlier (cents (bal s us h.account))) hs))
 heads_front s us h hs l configured valid longer are linked =
-    ChainFacts.heads_front s us h hs _ longer are (both_lengths hs h.account.0 (unwrap_or (other_of us h) NOWHERE).0 own_less other_less)
+    ChainFacts.heads_front s us h hs _ longer are (both_lengths hs h.account.0 (unwrap_or (other_of us h.kind) NOWHERE).0 own_less
+        other_less)
     (λ a new e. at a new (changed s us h hs own_less other_less configured valid (Legal.IsValid-last s us h longer) are.count a new e))
   where
     own_less : Head → Head
     own_less = head_less l.own.earlier (cents (bal s us h.account))
 
     other_less : Head → Head
-    other_less = head_less l.other.earlier (unwrap_or (option_map (λ a. cents (bal s us a)) (other_of us h)) 0)
+    other_less = head_less l.other.earlier (unwrap_or (option_map (λ a. cents (bal s us a)) (other_of us h.kind)) 0)
 
     at : (a : Place) (new : Head) → IsChanged us h hs own_less other_less a new → ChainFacts.IsUncounted s us h hs a new
     at a new (inr off) = inr off
@@ -188,6 +228,7 @@ heads_front s us h hs l configured valid longer are linked =
         read,
         subst (λ (k : Head). IsLast us a k.last) is (linked.other a other).earlier,
         ap (λ (k : Head). k.count) (sym is),
-        ap (λ (k : Head). pos k.balance) (sym is) ∙ Legal.kept_balance s us a _ valid (ap (λ o. unwrap_or (option_map (λ a. cents (bal s us a)) o) 0) other),
+        ap (λ (k : Head). pos k.balance) (sym is) ∙ Legal.kept_balance s us a _ valid
+            (ap (λ o. unwrap_or (option_map (λ a. cents (bal s us a)) o) 0) other),
       ),
     )

@@ -1,5 +1,6 @@
 //! What changes a ledger.
-ghost use Rattle.std.specs.Prelude.{◌≡◌, ◌≤◌, ◌<◌, ◌+◌, length, Some, None, List, [], ◌∷◌, ◌++◌, ◌⊎◌, OnOk, OnErr, IfOk, IfErr};
+ghost use Rattle.std.specs.Prelude.{◌≡◌, ◌≤◌, ◌<◌, ◌+◌, length, Some, None, List, [], ◌∷◌, ◌++◌, ◌⊎◌, OnOk, OnErr};
+ghost use Rattle.std.specs.Prelude.{IfOk, IfErr};
 ghost use Rattle.rb_shadow.specs.declared.shadow.Shadow.{Shadow as TheShadow};
 ghost use Rattle.rb_ledger.specs.Valid.{IsValid, parts_of};
 ghost use Rattle.rb_ledger.specs.Checks.{refusal_of};
@@ -14,14 +15,16 @@ impl Ledger {
     /// Adds a shadow at the end, and gives the record to undo that. A shadow that is refused comes
     /// back, with the refusal of `check`, or else, where there was no room, `OutOfMemory`.
     pub fn apply(&mut self, shadow: Shadow) -> Result<Undo, (Shadow, Refusal)>
-        ensures applied { IfOk result (λ undo. (self.new.entries ≡ self.old.entries ++ shadow ∷ []) × (undo ≡ parts_of self.old.settings self.old.entries shadow)) }
+        ensures applied { IfOk result (λ undo. (self.new.entries ≡ self.old.entries ++ shadow ∷ [])
+            × (undo ≡ parts_of self.old.settings self.old.entries shadow)) }
         ensures taken { OnOk result (refusal_of self.old.settings self.old.entries shadow ≡ None) }
         ensures settings { self.new.settings ≡ self.old.settings }
         ensures room { OnOk result (0 < self.old.room → self.new.room + 1 ≡ self.old.room) }
 
         ensures refused { IfErr result (λ back. (self.new ≡ self.old) × (back.0 ≡ shadow)) }
         ensures reason { IfErr result (λ back. (refusal_of self.old.settings self.old.entries shadow ≡ Some back.1)
-            ⊎ ((back.1 ≡ Refusal.OutOfMemory) × (refusal_of self.old.settings self.old.entries shadow ≡ None) × (self.old.room ≡ 0))) }
+            ⊎ ((back.1 ≡ Refusal.OutOfMemory) × (refusal_of self.old.settings self.old.entries shadow ≡ None)
+                × (self.old.room ≡ 0))) }
     {
         if let Err(refusal) = self.check(&shadow) {
             return Err((shadow, refusal));
@@ -36,7 +39,8 @@ impl Ledger {
     /// record to undo it. An error means out of memory.
     pub fn apply_valid(&mut self, shadow: Shadow) -> Result<Undo, AllocError>
         requires { IsValid self.old.settings (self.old.entries ++ shadow ∷ []) }
-        ensures applied { IfOk result (λ undo. (self.new.entries ≡ self.old.entries ++ shadow ∷ []) × (undo ≡ parts_of self.old.settings self.old.entries shadow)) }
+        ensures applied { IfOk result (λ undo. (self.new.entries ≡ self.old.entries ++ shadow ∷ [])
+            × (undo ≡ parts_of self.old.settings self.old.entries shadow)) }
         ensures settings { self.new.settings ≡ self.old.settings }
         ensures room { OnOk result (0 < self.old.room → self.new.room + 1 ≡ self.old.room) }
         ensures err { OnErr result ((self.new ≡ self.old) × (self.old.room ≡ 0)) }
@@ -52,7 +56,8 @@ impl Ledger {
 
     /// Takes the last entry out again. The record is that of this entry.
     pub fn undo(&mut self, undo: Undo)
-        requires { (front : List TheShadow) × (last : TheShadow) × (self.old.entries ≡ front ++ last ∷ []) × (undo ≡ parts_of self.old.settings front last) }
+        requires { (front : List TheShadow) × (last : TheShadow) × (self.old.entries ≡ front ++ last ∷ [])
+            × (undo ≡ parts_of self.old.settings front last) }
         ensures entries { (last : TheShadow) × (self.old.entries ≡ self.new.entries ++ last ∷ []) }
         ensures settings { self.new.settings ≡ self.old.settings }
         ensures room { self.new.room ≡ self.old.room + 1 }

@@ -1,10 +1,12 @@
 //! The index of a list of operations.
-ghost use Rattle.std.specs.Prelude.{◌≡◌, ◌≤◌, ◌<◌, ◌+◌, length, pos, [], ◌∷◌, ◌++◌, List, IfOk, ℕ, slice_index, slice_index_or, vec_len, vec_capacity};
+ghost use Rattle.std.specs.Prelude.{◌≡◌, ◌≤◌, ◌<◌, ◌+◌, length, pos, [], ◌∷◌, ◌++◌, List, IfOk, ℕ, slice_index};
+ghost use Rattle.std.specs.Prelude.{slice_index_or, vec_len, vec_capacity};
 ghost use Rattle.rb_money.specs.declared.limits.TheConstants.{MOST_OPERATIONS};
 ghost use Rattle.rb_shadow.specs.declared.shadow.Shadow.{Shadow as TheShadow};
-ghost use Rattle.rb_shadow.specs.Operations.{target_of, row_of, other_by, is_on};
+ghost use Rattle.rb_shadow.specs.Operations.{target_of, is_on, other_of};
 ghost use Rattle.rb_ledger.specs.Valid.{IsValid, find_position, parts_of, position_of};
-ghost use Rattle.rb_ledger.specs.Index.{AreHeads, IsIndex, changed_at, one_more, one_less, no_cancels, IsLinked, heads_at, head_more, head_less, no_head};
+ghost use Rattle.rb_ledger.specs.Index.{AreHeads, IsIndex, changed_at, one_more, one_less, no_cancels, IsLinked};
+ghost use Rattle.rb_ledger.specs.Index.{heads_at, head_more, head_less, no_head};
 
 use crate::marks::{Cancels, Head, Links};
 use crate::rows::Rows;
@@ -53,14 +55,15 @@ impl Index {
     pub fn find(&self, name: &OpName) -> Option<u32>
         ensures { (us : List TheShadow) → IsIndex self.now.config us self.now → result ≡ find_position us name.now }
     {
-        let row = self.rows.row(row_of(*name));
+        let row = self.rows.row(name.row());
         let index = name.number().checked_sub(1)?;
         row.get(index as usize).copied()
     }
 
     /// The position of what an operation of the kind cancels, or 0.
     fn target(&self, kind: Kind) -> u32
-        ensures { (us : List TheShadow) → IsIndex self.now.config us self.now → result ≡ position_of us (target_of kind) }
+        ensures { (us : List TheShadow) → IsIndex self.now.config us self.now →
+            result ≡ position_of us (target_of kind) }
     {
         match kind.target() {
             Some(target) => self.find(&target).unwrap_or(0),
@@ -73,7 +76,7 @@ impl Index {
     #[inline(always)]
     pub fn other(&self, before: &[Shadow], kind: Kind) -> Option<Place>
         requires { IsIndex self.now.config before.now self.now }
-        ensures { result ≡ other_by before.now kind (target_of kind) }
+        ensures { result ≡ other_of before.now kind }
     {
         match kind.target() {
             Some(target) => match self.find(&target) {
@@ -152,20 +155,21 @@ impl Index {
         self.cancels.push_reserved(Cancels { count: 0, first: 0 });
         count_on(&mut self.heads, parts.place, position, links.own.balance);
         count_on(&mut self.heads, parts.other, position, links.other.balance);
-        self.rows.push(row_of(shadow.name), position);
+        self.rows.push(shadow.name.row(), position);
         self.clock.advance(&shadow.name);
     }
 
     /// Lets the operation after those before out again: the last one, of which the parts were kept. The
     /// links are its links.
     pub fn pop(&mut self, before: &[Shadow], parts: UndoParts, links: &Links)
-        requires { (last : TheShadow) × IsIndex self.old.config (before.now ++ last ∷ []) self.old × (parts ≡ parts_of self.old.config before.now last) × IsLinked self.old.config before.now last links.now }
+        requires { (last : TheShadow) × IsIndex self.old.config (before.now ++ last ∷ []) self.old
+            × (parts ≡ parts_of self.old.config before.now last) × IsLinked self.old.config before.now last links.now }
         ensures index { IsIndex self.old.config before.now self.new }
         ensures limit { self.new.rows.limit ≡ self.old.rows.limit }
         ensures capacity { vec_capacity self.new.cancels ≡ vec_capacity self.old.cancels }
     {
         self.clock.retreat(&parts.name);
-        self.rows.pop(row_of(parts.name));
+        self.rows.pop(parts.name.row());
         self.cancels.truncate(before.len());
         cancel_one_less(&mut self.cancels, parts.target);
         let own = links.own.earlier;
@@ -234,16 +238,6 @@ pub fn start(config: &Config, place: Place) -> u64
     match config.accounts().start(place) {
         Some(start) => start.0,
         None => unreachable!(),
-    }
-}
-
-/// The row of a name: first that of the red ones, then that of the first site's blue ones, and so on.
-fn row_of(name: OpName) -> usize
-    ensures { result ≡ row_of name }
-{
-    match name {
-        OpName::Blue { site, .. } => usize::from(site) + 1,
-        OpName::Red { .. } => 0,
     }
 }
 

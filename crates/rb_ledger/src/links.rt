@@ -59,7 +59,8 @@ impl Ledger {
     pub(crate) fn link_at(&self, position: u32, place: Place) -> Link
         requires on { IsOn self.now.entries place position }
         requires some { 0 < position }
-        ensures { IsLink self.now.settings (take (position - 1) self.now.entries) (take position self.now.entries) place result }
+        ensures { IsLink self.now.settings (take (position - 1) self.now.entries) (take position self.now.entries) place
+            result }
     {
         let index = position as usize - 1;
         let links = self.links[index];

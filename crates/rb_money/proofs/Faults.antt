@@ -1,5 +1,6 @@
 -- What follows where nothing is wrong with a configuration that is asked for.
-use Rattle.std.proofs.Common.{◌≡◌, List, [], ◌∷◌, ◌++◌, ℕ, ◌+◌, zero, suc, Bool, true, false, Option, Some, None, refl, ap, sym, subst, ◌∙◌, ◌≤◌, length, slice_get, inl, inr}
+use Rattle.std.proofs.Common.{◌≡◌, List, [], ◌∷◌, ◌++◌, ℕ, ◌+◌, zero, suc, Bool, true, false, Option, Some, None, refl, ap, sym, subst, ◌∙◌}
+use Rattle.std.proofs.Common.{◌≤◌, length, slice_get, inl, inr}
 use Rattle.std.specs.Prelude.{map, not, ◌&&◌, nat_le, nat_lt, if◌then◌else◌}
 use Rattle.std.specs.Option.{option_or}
 use Rattle.std.specs.Str.{bytes_eq}
@@ -12,7 +13,8 @@ use Rattle.rb_money.specs.declared.fault.ConfigFault.TheVariants.{Sites, Account
 use Rattle.rb_money.specs.declared.limits.Limits.{Limits}
 use Rattle.rb_money.specs.declared.cents.TheConstants.{MOST_CENTS}
 use Rattle.rb_money.specs.Settings.{IsConfigured, IsLimit, IsVersion, is_account_name, version_of}
-use Rattle.rb_money.specs.declared.limits.TheConstants.{MOST_SITES, MOST_SITES_OF_VERSION_1, MOST_ACCOUNTS, MOST_BLUE, MOST_RED, MOST_INBOX, MOST_HISTORY, MOST_EPOCH}
+use Rattle.rb_money.specs.declared.limits.TheConstants.{MOST_SITES, MOST_SITES_OF_VERSION_1, MOST_ACCOUNTS, MOST_BLUE, MOST_RED, MOST_INBOX}
+use Rattle.rb_money.specs.declared.limits.TheConstants.{MOST_HISTORY, MOST_EPOCH}
 use Rattle.rb_money.specs.Faults.{Account, settings_of, is_among, account_fault, is_limit, are_limits, config_fault}
 
 -- the first of two faults is not there, so the test fails and the second is not there
@@ -35,7 +37,9 @@ pub record IsFine (before : List (List ℕ)) (i : ℕ) (a : Account) (later : Li
   pub small : nat_lt MOST_CENTS a.1 ≡ false
   pub rest : account_fault (before ++ a.0 ∷ []) (i + 1) later ≡ None
 
-pub fine : (before : List (List ℕ)) (i : ℕ) (a : Account) (later : List Account) → account_fault before i (a ∷ later) ≡ None → IsFine before i a later
+-- an account that isn't wrong
+pub fine : (before : List (List ℕ)) (i : ℕ) (a : Account) (later : List Account) → account_fault before i (a ∷ later) ≡ None →
+    IsFine before i a later
 fine before i a later h =
     let third = account_fault (before ++ a.0 ∷ []) (i + 1) later in
     let second : Option ConfigFault = if nat_lt MOST_CENTS a.1 then Some (Start i) else third in
@@ -51,14 +55,17 @@ names accounts = map (λ a. a.0) accounts
 abbrev starts : List Account → List ℕ
 starts accounts = map (λ a. a.1) accounts
 
-proper_name : (before : List (List ℕ)) (i : ℕ) (accounts : List Account) → account_fault before i accounts ≡ None → (k : ℕ) (name : List ℕ) → slice_get (names accounts) k ≡ Some name → is_account_name name ≡ true
+proper_name : (before : List (List ℕ)) (i : ℕ) (accounts : List Account) → account_fault before i accounts ≡ None → (k : ℕ) (name : List ℕ)
+    → slice_get (names accounts) k ≡ Some name → is_account_name name ≡ true
 proper_name before i [] none k name at = absurd (cc)
 proper_name before i (a ∷ later) none zero name at =
     let P : List ℕ → Type 0 = λ n. is_account_name n ≡ true in
     subst P (same_Some a.0 name at) (fine before i a later none).named
-proper_name before i (a ∷ later) none (suc k) name at = proper_name (before ++ a.0 ∷ []) (i + 1) later (fine before i a later none).rest k name at
+proper_name before i (a ∷ later) none (suc k) name at = proper_name (before ++ a.0 ∷ []) (i
+    + 1) later (fine before i a later none).rest k name at
 
-small_start : (before : List (List ℕ)) (i : ℕ) (accounts : List Account) → account_fault before i accounts ≡ None → (k n : ℕ) → slice_get (starts accounts) k ≡ Some n → n ≤ MOST_CENTS
+small_start : (before : List (List ℕ)) (i : ℕ) (accounts : List Account) → account_fault before i accounts ≡ None → (k n : ℕ) →
+    slice_get (starts accounts) k ≡ Some n → n ≤ MOST_CENTS
 small_start before i [] none k n at = absurd (cc)
 small_start before i (a ∷ later) none zero n at =
     let P : ℕ → Type 0 = λ m. m ≤ MOST_CENTS in
@@ -66,28 +73,35 @@ small_start before i (a ∷ later) none zero n at =
 small_start before i (a ∷ later) none (suc k) n at = small_start (before ++ a.0 ∷ []) (i + 1) later (fine before i a later none).rest k n at
 
 -- no name is among the earlier ones
-unseen : (before : List (List ℕ)) (i : ℕ) (accounts : List Account) → account_fault before i accounts ≡ None → (k : ℕ) (name : List ℕ) → slice_get (names accounts) k ≡ Some name → is_among before name ≡ false
+unseen : (before : List (List ℕ)) (i : ℕ) (accounts : List Account) → account_fault before i accounts ≡ None → (k : ℕ) (name : List ℕ) →
+    slice_get (names accounts) k ≡ Some name → is_among before name ≡ false
 unseen before i [] none k name at = absurd (cc)
 unseen before i (a ∷ later) none zero name at =
     let P : List ℕ → Type 0 = λ n. is_among before n ≡ false in
     subst P (same_Some a.0 name at) (fine before i a later none).fresh
 unseen before i (a ∷ later) none (suc k) name at =
-    (or_parts (is_among before name) (is_among (a.0 ∷ []) name) (sym (list_any-append (λ n. bytes_eq name n) before (a.0 ∷ [])) ∙ unseen (before ++ a.0 ∷ []) (i + 1) later (fine before i a later none).rest k name at)).0
+    (or_parts (is_among before name) (is_among (a.0 ∷ []) name) (sym (list_any-append (λ n. bytes_eq name n) before (a.0 ∷ []))
+    ∙ unseen (before ++ a.0 ∷ []) (i + 1) later (fine before i a later none).rest k name at)).0
 
 -- a name is among the names of which it is the last
 is_last : (before : List (List ℕ)) (name : List ℕ) → is_among (before ++ name ∷ []) name ≡ true
-is_last before name = list_any-append (λ n. bytes_eq name n) before (name ∷ []) ∙ or_right (is_among before name) (is_among (name ∷ []) name) (or_left (bytes_eq name name) false ((bytes_eq-Decides name name).1 refl))
+is_last before name = list_any-append (λ n. bytes_eq name n) before (name ∷ [])
+    ∙ or_right (is_among before name) (is_among (name ∷ []) name) (or_left (bytes_eq name name) false ((bytes_eq-Decides name name).1 refl))
 
 -- and so no later account has it
-not_later : (before : List (List ℕ)) (i : ℕ) (a : Account) (later : List Account) → account_fault before i (a ∷ later) ≡ None → (k : ℕ) → slice_get (names later) k ≡ Some a.0 → ⊥
-not_later before i a later none k at = true≢false (sym (is_last before a.0) ∙ unseen (before ++ a.0 ∷ []) (i + 1) later (fine before i a later none).rest k a.0 at)
+not_later : (before : List (List ℕ)) (i : ℕ) (a : Account) (later : List Account) → account_fault before i (a ∷ later) ≡ None → (k : ℕ) →
+    slice_get (names later) k ≡ Some a.0 → ⊥
+not_later before i a later none k at = true≢false (sym (is_last before a.0)
+    ∙ unseen (before ++ a.0 ∷ []) (i + 1) later (fine before i a later none).rest k a.0 at)
 
-one_place : (before : List (List ℕ)) (i : ℕ) (accounts : List Account) → account_fault before i accounts ≡ None → (j k : ℕ) (name : List ℕ) → slice_get (names accounts) j ≡ Some name → slice_get (names accounts) k ≡ Some name → j ≡ k
+one_place : (before : List (List ℕ)) (i : ℕ) (accounts : List Account) → account_fault before i accounts ≡ None → (j k : ℕ) (name : List ℕ)
+    → slice_get (names accounts) j ≡ Some name → slice_get (names accounts) k ≡ Some name → j ≡ k
 one_place before i [] none j k name p q = absurd (cc)
 one_place before i (a ∷ later) none zero zero name p q = refl
 one_place before i (a ∷ later) none zero (suc k) name p q = absurd (not_later before i a later none k (q ∙ sym p))
 one_place before i (a ∷ later) none (suc j) zero name p q = absurd (not_later before i a later none j (p ∙ sym q))
-one_place before i (a ∷ later) none (suc j) (suc k) name p q = ap suc (one_place (before ++ a.0 ∷ []) (i + 1) later (fine before i a later none).rest j k name p q)
+one_place before i (a ∷ later) none (suc j) (suc k) name p q = ap suc (one_place (before ++ a.0 ∷ []) (i
+    + 1) later (fine before i a later none).rest j k name p q)
 
 in_range : (n most : ℕ) → is_limit n most ≡ true → IsLimit n most
 in_range n most h =
@@ -111,7 +125,9 @@ pub record IsProper (sites : ℕ) (accounts : List Account) (limits : Limits) : 
   pub each_account : account_fault [] 0 accounts ≡ None
   pub each_limit : are_limits limits ≡ true
 
-pub proper : (sites : ℕ) (accounts : List Account) (limits : Limits) → config_fault sites accounts limits ≡ None → IsProper sites accounts limits
+-- a configuration in which nothing is wrong
+pub proper : (sites : ℕ) (accounts : List Account) (limits : Limits) → config_fault sites accounts limits ≡ None →
+    IsProper sites accounts limits
 proper sites accounts limits none =
     let last : Option ConfigFault = if are_limits limits then None else Some Limit in
     let third = option_or (account_fault [] 0 accounts) last in
@@ -140,7 +156,8 @@ allowed sites = at (nat_le sites MOST_SITES_OF_VERSION_1) refl
     at false q = inr refl
 
 -- it is a configuration
-pub configured : (sites : ℕ) (accounts : List Account) (limits : Limits) → config_fault sites accounts limits ≡ None → IsConfigured (settings_of sites accounts limits)
+pub configured : (sites : ℕ) (accounts : List Account) (limits : Limits) → config_fault sites accounts limits ≡ None →
+    IsConfigured (settings_of sites accounts limits)
 configured sites accounts limits none =
     let p = proper sites accounts limits none in
     let blue = is_limit limits.blue MOST_BLUE in

@@ -20,7 +20,8 @@ AllFresh before [] = Unit {0}
 AllFresh before (e ∷ later) = (is_among before (string_bytes e.0) ≡ false) × AllFresh (before ++ string_bytes e.0 ∷ []) later
 
 -- they are so where nothing is wrong with them
-pub fresh_if_proper : (before : List (List ℕ)) (i : ℕ) (es : Entries) → account_fault before i (map account_of es) ≡ None → AllFresh before es
+pub fresh_if_proper : (before : List (List ℕ)) (i : ℕ) (es : Entries) → account_fault before i (map account_of es) ≡ None →
+    AllFresh before es
 fresh_if_proper before i [] none = tt
 fresh_if_proper before i (e ∷ es) none =
     let f = fine before i (account_of e) (map account_of es) none in
@@ -30,12 +31,16 @@ abbrev AreUnseen : List (List ℕ) → Entries → Type 0
 AreUnseen before [] = Unit {0}
 AreUnseen before (e ∷ es) = (is_among before (string_bytes e.0) ≡ false) × AreUnseen before es
 
-unseen_more : (before : List (List ℕ)) (k : String Global) (es : Entries) → AreUnseen before es → AllByRecursion (λ q. string_eq k q ≡ false) (keys_of es) → AreUnseen (before ++ string_bytes k ∷ []) es
+unseen_more : (before : List (List ℕ)) (k : String Global) (es : Entries) → AreUnseen before es →
+    AllByRecursion (λ q. string_eq k q ≡ false) (keys_of es) → AreUnseen (before ++ string_bytes k ∷ []) es
 unseen_more before k [] u d = tt
 unseen_more before k (e ∷ es) u d =
     let name = string_bytes e.0 in
-    let not_k : is_among (string_bytes k ∷ []) name ≡ false = or_from (string_eq e.0 k) false (string_eq_equiv.symm e.0 k ∙ d.0) refl in
-    (list_any-append (λ n. bytes_eq name n) before (string_bytes k ∷ []) ∙ or_from (is_among before name) (is_among (string_bytes k ∷ []) name) u.0 not_k, unseen_more before k es u.1 d.1)
+    let not_k : is_among (string_bytes k ∷ []) name ≡ false = or_from (string_eq e.0 k) false (string_eq_equiv.symm e.0 k ∙ d.0) refl in (
+      list_any-append (λ n. bytes_eq name n) before (string_bytes k ∷ [])
+          ∙ or_from (is_among before name) (is_among (string_bytes k ∷ []) name) u.0 not_k,
+      unseen_more before k es u.1 d.1,
+    )
 
 fresh_behind : (before : List (List ℕ)) (es : Entries) → AreUnseen before es → IsDistinct string_eq (keys_of es) → AllFresh before es
 unfolding IsDistinct
@@ -58,7 +63,8 @@ pub record IsFilling (names : List (List ℕ)) (starts : List ℕ) (rest : Entri
   pub room : length names + length rest ≤ MOST_ACCOUNTS
 
 -- it begins with none
-pub filling : (list : AccountList) (rest : Entries) (all : AccountList) → list.names ≡ [] → list.starts ≡ [] → names_of rest ≡ all.names → starts_of rest ≡ all.starts → AllFresh [] rest → length rest ≤ MOST_ACCOUNTS → IsFilling list.names list.starts rest all
+pub filling : (list : AccountList) (rest : Entries) (all : AccountList) → list.names ≡ [] → list.starts ≡ [] → names_of rest ≡ all.names →
+    starts_of rest ≡ all.starts → AllFresh [] rest → length rest ≤ MOST_ACCOUNTS → IsFilling list.names list.starts rest all
 filling list rest all no_names no_starts same_names same_starts fresh few = record {
   all_names = rw no_names same_names;
   all_starts = rw no_starts same_starts;

@@ -1,5 +1,6 @@
 -- The first thing that is wrong with a configuration that is asked for.
-use Rattle.std.specs.Prelude.{ℕ, ◌+◌, ◌&&◌, Bool, not, List, [], ◌∷◌, ◌++◌, length, map, Option, Some, None, nat_le, nat_lt, if◌then◌else◌, String, string_bytes}
+use Rattle.std.specs.Prelude.{ℕ, ◌+◌, ◌&&◌, Bool, not, List, [], ◌∷◌, ◌++◌, length, map, Option, Some, None, nat_le, nat_lt, if◌then◌else◌}
+use Rattle.std.specs.Prelude.{String, string_bytes}
 use Rattle.std.specs.List.{list_any}
 use Rattle.std.specs.Option.{option_or}
 use Rattle.std.specs.Str.{bytes_eq}
@@ -9,7 +10,8 @@ use Rattle.rb_money.specs.declared.fault.ConfigFault.TheVariants.{Sites, Account
 use Rattle.rb_money.specs.declared.limits.Limits.{Limits}
 use Rattle.rb_money.specs.declared.cents.TheConstants.{MOST_CENTS}
 use Rattle.rb_money.specs.Settings.{AccountList, Settings, is_account_name, version_of}
-use Rattle.rb_money.specs.declared.limits.TheConstants.{MOST_SITES, MOST_ACCOUNTS, MOST_BLUE, MOST_RED, MOST_INBOX, MOST_HISTORY, MOST_EPOCH}
+use Rattle.rb_money.specs.declared.limits.TheConstants.{MOST_SITES, MOST_ACCOUNTS, MOST_BLUE, MOST_RED, MOST_INBOX, MOST_HISTORY}
+use Rattle.rb_money.specs.declared.limits.TheConstants.{MOST_EPOCH}
 
 -- an account that is asked for: its name, and what it is to start with
 abbrev pub Account : Type 0
@@ -25,7 +27,13 @@ listed accounts = record { names = map (λ a. a.0) accounts; starts = map (λ a.
 
 -- what is asked for, as a configuration has it
 abbrev pub settings_of : ℕ → List Account → Limits → Settings
-settings_of sites accounts limits = record { sites = sites; names = (listed accounts).names; starts = (listed accounts).starts; limits = limits; version = version_of sites }
+settings_of sites accounts limits = record {
+  sites = sites;
+  names = (listed accounts).names;
+  starts = (listed accounts).starts;
+  limits = limits;
+  version = version_of sites;
+}
 
 -- the name is one of these
 abbrev pub is_among : List (List ℕ) → List ℕ → Bool
@@ -46,7 +54,8 @@ is_limit n most = nat_le 1 n && nat_le n most
 
 -- each limit is in its range
 abbrev pub are_limits : Limits → Bool
-are_limits l = is_limit l.blue MOST_BLUE && is_limit l.red MOST_RED && is_limit l.inbox MOST_INBOX && is_limit l.history MOST_HISTORY && is_limit l.epoch MOST_EPOCH
+are_limits l = is_limit l.blue MOST_BLUE && is_limit l.red MOST_RED && is_limit l.inbox MOST_INBOX && is_limit l.history MOST_HISTORY
+    && is_limit l.epoch MOST_EPOCH
 
 -- the first thing that is wrong
 abbrev pub config_fault : ℕ → List Account → Limits → Option ConfigFault

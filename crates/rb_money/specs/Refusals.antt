@@ -1,9 +1,13 @@
 -- Refusals, and what comes where there is none.
 use Rattle.std.specs.Prelude.{ℕ, Option, Some, None, Result, Ok, Err}
 use Rattle.rb_money.specs.declared.refusal.Refusal.{Refusal}
-use Rattle.rb_money.specs.declared.refusal.Refusal.TheVariants.{OutOfMemory, UnknownAccount, BadAmount, BadRate, UnknownOperation, NotCancellable, AlreadyCancelled, NumbersExhausted, NeedToken, RedBehind, WouldOverdraw, DeltaTooLarge, BadBatch, BatchRefused, NotHeld, NotReady, InboxFull, BadMessage, Conflict, NoMessage, NoSite, NotYours, PositionBeyond, HistoryFull, SameAccount}
+use Rattle.rb_money.specs.declared.refusal.Refusal.TheVariants.{OutOfMemory, UnknownAccount, BadAmount, BadRate, UnknownOperation}
+use Rattle.rb_money.specs.declared.refusal.Refusal.TheVariants.{NotCancellable, AlreadyCancelled, NumbersExhausted, NeedToken, RedBehind}
+use Rattle.rb_money.specs.declared.refusal.Refusal.TheVariants.{WouldOverdraw, DeltaTooLarge, BadBatch, BatchRefused, NotHeld, NotReady}
+use Rattle.rb_money.specs.declared.refusal.Refusal.TheVariants.{InboxFull, BadMessage, Conflict, NoMessage, NoSite, NotYours}
+use Rattle.rb_money.specs.declared.refusal.Refusal.TheVariants.{PositionBeyond, HistoryFull, SameAccount}
 
--- what comes of a refusal where there is one, and else what comes next
+-- what comes of a refusal, or of whatever else there may be, and where there is none what comes next
 abbrev pub unless : {A E : Type 0} → (E → A) → Option E → A → A
 unless refused (Some why) next = refused why
 unless refused None next = next

@@ -1,14 +1,17 @@
 -- What a configuration fixes.
 use Rattle.std.specs.List.{list_all}
-use Rattle.std.specs.Prelude.{◌≡◌, ℕ, Bool, true, ◌&&◌, ◌||◌, nat_le, nat_lt, ◌==◌, List, length, Option, Some, option_map, position, slice_get, slice_index, ◌≤◌, ◌⊎◌, if◌then◌else◌}
+use Rattle.std.specs.Prelude.{◌≡◌, ℕ, Bool, true, ◌&&◌, ◌||◌, nat_le, nat_lt, ◌==◌, List, length, Option, Some, option_map, position}
+use Rattle.std.specs.Prelude.{slice_get, slice_index, ◌≤◌, ◌⊎◌, if◌then◌else◌}
 use Rattle.std.specs.Str.{bytes_eq}
 use Rattle.rb_money.specs.declared.accounts.TheConstants.{LONGEST_NAME}
 use Rattle.rb_money.specs.declared.cents.TheConstants.{MOST_CENTS}
 use Rattle.rb_money.specs.declared.limits.Limits.{Limits}
-use Rattle.rb_money.specs.declared.limits.TheConstants.{MOST_SITES, MOST_SITES_OF_VERSION_1, MOST_ACCOUNTS, MOST_BLUE, MOST_RED, MOST_INBOX, MOST_HISTORY, MOST_EPOCH}
+use Rattle.rb_money.specs.declared.limits.TheConstants.{MOST_SITES, MOST_SITES_OF_VERSION_1, MOST_ACCOUNTS, MOST_BLUE, MOST_RED, MOST_INBOX}
+use Rattle.rb_money.specs.declared.limits.TheConstants.{MOST_HISTORY, MOST_EPOCH}
 use Rattle.rb_money.specs.declared.place.Place.{Place}
 
--- the sites, the name and the starting balance of each account in order of place, the limits, and the version of the lines, which nothing but lines looks at
+-- the sites, the name and the starting balance of each account in order of place, the limits, and the version of the lines, which nothing
+-- but lines looks at
 pub record Settings : Type 0 where
   pub sites : ℕ
   pub names : List (List ℕ)

@@ -1,5 +1,6 @@
 //! The accounts of a bank.
-ghost use Rattle.std.specs.Prelude.{◌≡◌, ◌<◌, ◌≤◌, ◌++◌, ◌∷◌, [], false, length, map, nat_lt, is_some, option_map, slice_get, slice_index, string_bytes, None, IfOk, IfSome, OnOk};
+ghost use Rattle.std.specs.Prelude.{◌≡◌, ◌<◌, ◌≤◌, ◌++◌, ◌∷◌, [], false, length, map, nat_lt, is_some, option_map};
+ghost use Rattle.std.specs.Prelude.{slice_get, slice_index, string_bytes, None, IfOk, IfSome, OnOk};
 ghost use Rattle.rb_money.specs.Faults.{account_fault, account_of, is_among, listed};
 ghost use Rattle.rb_money.specs.Settings.{place_in};
 ghost use Rattle.rb_money.specs.declared.limits.TheConstants.{MOST_ACCOUNTS};
@@ -26,7 +27,10 @@ impl Model for Accounts {
 
     ghost Value = { AccountList };
 
-    ghost view = { λ a. record { names = map (λ e. string_bytes e.0) a.by_name.entries; starts = map (λ e. e.1) a.by_name.entries } };
+    ghost view = { λ a. record {
+      names = map (λ e. string_bytes e.0) a.by_name.entries;
+      starts = map (λ e. e.1) a.by_name.entries;
+    } };
 
     ghost invariant = { λ a. length a.by_name.entries ≤ MOST_ACCOUNTS };
 }

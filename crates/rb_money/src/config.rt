@@ -25,9 +25,21 @@ impl Model for Config {
 
     ghost Value = { Settings };
 
-    ghost view = { λ c. record { sites = c.sites; names = c.accounts.names; starts = c.accounts.starts; limits = c.limits; version = c.version } };
+    ghost view = { λ c. record {
+      sites = c.sites;
+      names = c.accounts.names;
+      starts = c.accounts.starts;
+      limits = c.limits;
+      version = c.version;
+    } };
 
-    ghost invariant = { λ c. IsConfigured (record { sites = c.sites; names = c.accounts.names; starts = c.accounts.starts; limits = c.limits; version = c.version }) };
+    ghost invariant = { λ c. IsConfigured (record {
+      sites = c.sites;
+      names = c.accounts.names;
+      starts = c.accounts.starts;
+      limits = c.limits;
+      version = c.version;
+    }) };
 }
 
 /// The version of a configuration of so many sites.
@@ -53,8 +65,10 @@ impl Config {
     ) -> Result<Config, ConfigFault>
         ensures config { IfOk result (λ config. config ≡ settings_of sites (map account_of accounts.items) limits) }
         ensures proper { OnOk result (config_fault sites (map account_of accounts.items) limits ≡ None) }
-        ensures first { IfErr result (λ fault. fault ≢ ConfigFault.OutOfMemory → config_fault sites (map account_of accounts.items) limits ≡ Some fault) }
-        ensures memory_last { result ≡ Err ConfigFault.OutOfMemory → config_fault sites (map account_of accounts.items) limits ≡ None }
+        ensures first { IfErr result (λ fault. fault ≢ ConfigFault.OutOfMemory →
+            config_fault sites (map account_of accounts.items) limits ≡ Some fault) }
+        ensures memory_last { result ≡ Err ConfigFault.OutOfMemory →
+            config_fault sites (map account_of accounts.items) limits ≡ None }
     {
         if let Some(fault) = checks::config_fault(sites, &accounts, &limits) {
             return Err(fault);

@@ -2,7 +2,9 @@
 ghost use Rattle.std.specs.Prelude.{◌≡◌, ◌<◌};
 ghost use Rattle.rb_money.specs.declared.accounts.TheConstants.{LONGEST_NAME};
 ghost use Rattle.rb_money.specs.declared.cents.TheConstants.{MOST_CENTS};
-ghost use Rattle.rb_money.specs.declared.limits.TheConstants.{MOST_ACCOUNTS, MOST_BALANCE, MOST_BLUE, MOST_EPOCH, MOST_HISTORY, MOST_INBOX, MOST_OPERATIONS, MOST_RED, MOST_SITES, MOST_SITES_OF_VERSION_1};
+ghost use Rattle.rb_money.specs.declared.limits.TheConstants.{MOST_ACCOUNTS, MOST_BALANCE, MOST_BLUE, MOST_EPOCH};
+ghost use Rattle.rb_money.specs.declared.limits.TheConstants.{MOST_HISTORY, MOST_INBOX, MOST_OPERATIONS, MOST_RED};
+ghost use Rattle.rb_money.specs.declared.limits.TheConstants.{MOST_SITES, MOST_SITES_OF_VERSION_1};
 ghost use Rattle.rb_money.specs.declared.rate.TheConstants.{BASIS_POINTS_OF_ALL, MOST_RATE};
 
 /// The numbers that definitions and code name, each in figures: how many of a thing there may be at most, an

@@ -1,6 +1,7 @@
 //! What a configuration limits.
 ghost use Rattle.std.specs.Prelude.{◌≡◌};
-ghost use Rattle.rb_money.specs.declared.limits.TheConstants.{MOST_BLUE, MOST_EPOCH, MOST_HISTORY, MOST_INBOX, MOST_RED};
+ghost use Rattle.rb_money.specs.declared.limits.TheConstants.{MOST_BLUE, MOST_EPOCH, MOST_HISTORY, MOST_INBOX};
+ghost use Rattle.rb_money.specs.declared.limits.TheConstants.{MOST_RED};
 
 use crate::cents::MOST_CENTS;
 
@@ -52,7 +53,13 @@ pub struct Limits {
 impl Limits {
     /// The largest of each.
     pub fn largest() -> Limits
-        ensures { result ≡ record { blue = MOST_BLUE; red = MOST_RED; inbox = MOST_INBOX; history = MOST_HISTORY; epoch = MOST_EPOCH } }
+        ensures { result ≡ record {
+          blue = MOST_BLUE;
+          red = MOST_RED;
+          inbox = MOST_INBOX;
+          history = MOST_HISTORY;
+          epoch = MOST_EPOCH;
+        } }
     {
         Limits {
             blue: MOST_BLUE,

@@ -22,23 +22,30 @@ stopped q = and_then stopped_by q Ok
 
 -- what comes of a plan
 abbrev of_plan : Settings → ℕ → List Shadow → Token → Result Plan Refusal → Result Shadow RunFault
-of_plan s me us token q = and_then stopped_by q (λ p. cond (same_kind p.kind Declined) (Err DeclinedFault) (stopped (allowed s us token (operation_of me us p))))
+of_plan s me us token q = and_then stopped_by q (λ p. cond (same_kind p.kind Declined) (Err DeclinedFault)
+    (stopped (allowed s us token (operation_of me us p))))
 
 -- a request without a plan stops the batch
-pub refused_in_batch : (s : Settings) (me : ℕ) (us : List Shadow) (token : Token) (r : Request) (why : Refusal) → plan_of s us r ≡ Err why → made_in_batch s me us token r ≡ Err (RefusedFault why)
+pub refused_in_batch : (s : Settings) (me : ℕ) (us : List Shadow) (token : Token) (r : Request) (why : Refusal) → plan_of s us r ≡ Err why →
+    made_in_batch s me us token r ≡ Err (RefusedFault why)
 unfolding made_in_batch
 refused_in_batch s me us token r why e = ap (of_plan s me us token) e
 
-planned_test : (s : Settings) (me : ℕ) (us : List Shadow) (token : Token) (r : Request) (p : Plan) (b : Bool) → plan_of s us r ≡ Ok p → same_kind p.kind Declined ≡ b → made_in_batch s me us token r ≡ cond b (Err DeclinedFault) (stopped (allowed s us token (operation_of me us p)))
+planned_test : (s : Settings) (me : ℕ) (us : List Shadow) (token : Token) (r : Request) (p : Plan) (b : Bool) → plan_of s us r ≡ Ok p →
+    same_kind p.kind Declined ≡ b → made_in_batch s me us token r ≡ cond b (Err DeclinedFault)
+    (stopped (allowed s us token (operation_of me us p)))
 unfolding made_in_batch
-planned_test s me us token r p b e test = ap (of_plan s me us token) e ∙ ap (λ c. cond c (Err DeclinedFault) (stopped (allowed s us token (operation_of me us p)))) test
+planned_test s me us token r p b e test = ap (of_plan s me us token) e
+    ∙ ap (λ c. cond c (Err DeclinedFault) (stopped (allowed s us token (operation_of me us p)))) test
 
 -- so does a withdrawal that would be declined
-pub declined_in_batch : (s : Settings) (me : ℕ) (us : List Shadow) (token : Token) (r : Request) (p : Plan) → plan_of s us r ≡ Ok p → p.kind ≡ Declined → made_in_batch s me us token r ≡ Err DeclinedFault
+pub declined_in_batch : (s : Settings) (me : ℕ) (us : List Shadow) (token : Token) (r : Request) (p : Plan) → plan_of s us r ≡ Ok p →
+    p.kind ≡ Declined → made_in_batch s me us token r ≡ Err DeclinedFault
 declined_in_batch s me us token r p e kind = planned_test s me us token r p true e (ap (λ k. same_kind k Declined) kind)
 
 -- anything else makes what it makes by itself
-pub plain_in_batch : (s : Settings) (me : ℕ) (us : List Shadow) (token : Token) (r : Request) (p : Plan) → plan_of s us r ≡ Ok p → (p.kind ≡ Declined → ⊥) → made_in_batch s me us token r ≡ stopped (allowed s us token (operation_of me us p))
+pub plain_in_batch : (s : Settings) (me : ℕ) (us : List Shadow) (token : Token) (r : Request) (p : Plan) → plan_of s us r ≡ Ok p →
+    (p.kind ≡ Declined → ⊥) → made_in_batch s me us token r ≡ stopped (allowed s us token (operation_of me us p))
 plain_in_batch s me us token r p e other = planned_test s me us token r p false e (by p.kind other)
   where
     by : (k : Kind) → (k ≡ Declined → ⊥) → same_kind k Declined ≡ false

@@ -1,5 +1,6 @@
 -- What is tried on a ledger, operation by operation.
-use Rattle.std.proofs.Common.{◌≡◌, ℕ, ◌-◌, List, [], ◌∷◌, ◌++◌, length, drop, refl, ap, sym, ◌∙◌, arith, append_assoc, length-append, ◌⊎◌, inl, inr}
+use Rattle.std.proofs.Common.{◌≡◌, ℕ, ◌-◌, List, [], ◌∷◌, ◌++◌, length, drop, refl, ap, sym, ◌∙◌, arith, append_assoc, length-append, ◌⊎◌}
+use Rattle.std.proofs.Common.{inl, inr}
 use Rattle.std.proofs.lemmas.List.{append-nil}
 use Rattle.std.proofs.Math.Seq.{drop-append_seam}
 use Rattle.rb_money.specs.Settings.{Settings}
@@ -18,7 +19,8 @@ use Rattle.rb_scratch.specs.Tried.{IsTried, IsAdded}
 use Rattle.rb_scratch.proofs.Public.Batches.{tried_length}
 
 -- one operation more
-pub added : (was now : Book) (records more : List UndoParts) (v : Shadow) → now.settings ≡ was.settings → now.entries ≡ was.entries ++ v ∷ [] → more ≡ records ++ parts_of was.settings was.entries v ∷ [] → IsAdded was now records more v
+pub added : (was now : Book) (records more : List UndoParts) (v : Shadow) → now.settings ≡ was.settings →
+    now.entries ≡ was.entries ++ v ∷ [] → more ≡ records ++ parts_of was.settings was.entries v ∷ [] → IsAdded was now records more v
 added was now records more v same longer recorded =
     record {
       settings = same;
@@ -51,7 +53,9 @@ pub record IsLastOf (base : List Shadow) (book : Book) (rest : List UndoParts) (
   pub record_is : p ≡ parts_of book.settings (base ++ left) last
   pub records : rest ≡ logged book.settings base left
 
-pub last_record : (base made : List Shadow) (book : Book) (records : List UndoParts) (rest : List UndoParts) (p : UndoParts) → IsTried base made book records → records ≡ rest ++ p ∷ [] → IsLastOf base book rest p
+-- the last record is that of the last operation
+pub last_record : (base made : List Shadow) (book : Book) (records : List UndoParts) (rest : List UndoParts) (p : UndoParts) →
+    IsTried base made book records → records ≡ rest ++ p ∷ [] → IsLastOf base book rest p
 last_record base made book records rest p tried e = at (last_of made)
   where
     never : (ps : List UndoParts) (p : UndoParts) → ps ++ p ∷ [] ≡ [] → ⊥
@@ -72,7 +76,9 @@ last_record base made book records rest p tried e = at (last_of made)
         }
 
 -- what is left where it was taken out
-pub tried_less : (base : List Shadow) (book now : Book) (rest : List UndoParts) (p : UndoParts) (v : Shadow) → (last : IsLastOf base book rest p) → book.entries ≡ now.entries ++ v ∷ [] → now.settings ≡ book.settings → IsTried base last.left now rest
+pub tried_less : (base : List Shadow) (book now : Book) (rest : List UndoParts) (p : UndoParts) (v : Shadow) →
+    (last : IsLastOf base book rest p) → book.entries ≡ now.entries ++ v ∷ [] → now.settings ≡ book.settings →
+    IsTried base last.left now rest
 tried_less base book now rest p v last e same =
     record {
       entries = (Records.ends now.entries (base ++ last.left) v last.last (sym e ∙ last.entries)).0;
@@ -80,7 +86,8 @@ tried_less base book now rest p v last e same =
     }
 
 -- without records nothing is left to take out
-pub tried_all : (base made : List Shadow) (book : Book) (records : List UndoParts) → IsTried base made book records → records ≡ [] → book.entries ≡ base
+pub tried_all : (base made : List Shadow) (book : Book) (records : List UndoParts) → IsTried base made book records → records ≡ [] →
+    book.entries ≡ base
 tried_all base made book records tried e =
     let none : length made ≡ 0 = sym (tried_length base made book records tried) ∙ ap length e in
     tried.entries ∙ ap (λ us. base ++ us) (empty made none) ∙ append-nil base
@@ -90,13 +97,16 @@ tried_all base made book records tried e =
     empty (u ∷ us) e = absurd (omega arith)
 
 -- the operations that were made are the last
-pub last_made : (base made : List Shadow) (book : Book) (records : List UndoParts) (n : ℕ) → IsTried base made book records → n ≡ length book.entries - length records → drop n book.entries ≡ made
+pub last_made : (base made : List Shadow) (book : Book) (records : List UndoParts) (n : ℕ) → IsTried base made book records →
+    n ≡ length book.entries - length records → drop n book.entries ≡ made
 last_made base made book records n tried e =
-    let at : n ≡ length base = omega (arith, tried_length base made book records tried, ap length tried.entries, length-append base made, e) in
+    let at : n ≡ length base = omega (arith, tried_length base made book records tried, ap length tried.entries, length-append base made, e)
+        in
     ap (drop n) tried.entries ∙ ap (λ k. drop k (base ++ made)) at ∙ drop-append_seam base made
 
 -- what may be added is refused only where memory runs out
-pub no_memory : (s : Settings) (us : List Shadow) (h : Shadow) (why : Refusal) (n : ℕ) → IsValid s (us ++ h ∷ []) → (refusal_of s us h ≡ Some why) ⊎ ((why ≡ OutOfMemory) × (refusal_of s us h ≡ None) × (n ≡ 0)) → why ≡ OutOfMemory
+pub no_memory : (s : Settings) (us : List Shadow) (h : Shadow) (why : Refusal) (n : ℕ) → IsValid s (us ++ h ∷ []) →
+    (refusal_of s us h ≡ Some why) ⊎ ((why ≡ OutOfMemory) × (refusal_of s us h ≡ None) × (n ≡ 0)) → why ≡ OutOfMemory
 no_memory s us h why n valid (inl e) =
     let fine : refusal_of s us h ≡ None = (Legal.refuses_rightly s us h (Legal.IsValid-front s us (h ∷ []) valid)).1 valid in
     let clash : Some why ≡ None = sym e ∙ fine in
@@ -104,6 +114,7 @@ no_memory s us h why n valid (inl e) =
 no_memory s us h why n valid (inr k) = k.0
 
 -- without records nothing was tried
-pub none_tried : (base made : List Shadow) (book : Book) (parts : List UndoParts) → IsTried base made book parts → length parts ≡ 0 → made ≡ []
+pub none_tried : (base made : List Shadow) (book : Book) (parts : List UndoParts) → IsTried base made book parts → length parts ≡ 0 →
+    made ≡ []
 none_tried base [] book parts tried e = refl
 none_tried base (v ∷ vs) book parts tried e = absurd (omega (arith, tried_length base (v ∷ vs) book parts tried, e))

@@ -1,11 +1,12 @@
 -- What a generator decides on a request.
+use Rattle.rb_shadow.specs.Operations.{colour_in}
 use Rattle.std.specs.Prelude.{◌≡◌, List, Result, Ok, Err, MatchResult, IfOk}
 use Rattle.rb_money.specs.Settings.{Settings}
 use Rattle.rb_money.specs.declared.refusal.Refusal.{Refusal}
 use Rattle.rb_shadow.specs.declared.shadow.Shadow.{Shadow}
 use Rattle.rb_scratch.specs.declared.effect.Effect.{Effect}
 use Rattle.rb_scratch.specs.declared.request.Request.{Request}
-use Rattle.rb_scratch.specs.Requests.{Plan, plan_of, colour_of_plan}
+use Rattle.rb_scratch.specs.Requests.{Plan, plan_of}
 
 -- the plan with the effect's account, amount and kind
 abbrev pub plan_of_effect : Effect → Plan
@@ -17,4 +18,4 @@ IsDecision s us r decision = MatchResult decision (λ e. plan_of s us r ≡ Ok (
 
 -- what was decided has its plan's colour
 abbrev pub IsColoured : List Shadow → Result Effect Refusal → Type 0
-IsColoured us decision = IfOk decision (λ e. e.colour ≡ colour_of_plan us (plan_of_effect e))
+IsColoured us decision = IfOk decision (λ e. e.colour ≡ colour_in us e.kind)

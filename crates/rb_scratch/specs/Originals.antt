@@ -8,7 +8,8 @@ use Rattle.rb_shadow.specs.declared.kind.Kind.TheVariants.{Deposit, Withdraw, De
 use Rattle.rb_shadow.specs.declared.op_name.OpName.{OpName}
 use Rattle.rb_shadow.specs.Operations.{bal, same_name}
 use Rattle.rb_scratch.specs.declared.request.Request.{Request}
-use Rattle.rb_scratch.specs.declared.request.Request.TheVariants.{Deposit as AskDeposit, Withdraw as AskWithdraw, Interest as AskInterest, Cancel as AskCancel, Transfer as AskTransfer}
+use Rattle.rb_scratch.specs.declared.request.Request.TheVariants.{Deposit as AskDeposit, Withdraw as AskWithdraw, Interest as AskInterest}
+use Rattle.rb_scratch.specs.declared.request.Request.TheVariants.{Cancel as AskCancel, Transfer as AskTransfer}
 use Rattle.rb_scratch.specs.Requests.{interest_on}
 
 -- so much is added to an account
@@ -25,7 +26,8 @@ after_withdraw b a x = λ q. b q +ℤ (if grants b a x && (a.0 == q.0) then neg_
 
 -- so much goes from an account to another where there is enough
 abbrev pub after_transfer : (Place → ℤ) → Place → Place → ℕ → Place → ℤ
-after_transfer b a c x = λ q. b q +ℤ (if grants b a x then (if a.0 == q.0 then neg_ℤ (pos x) else (if c.0 == q.0 then pos x else pos 0)) else pos 0)
+after_transfer b a c x = λ q. b q +ℤ (if grants b a x then (if a.0 == q.0 then neg_ℤ (pos x) else (if c.0 == q.0 then pos x else pos 0))
+    else pos 0)
 
 -- an account gets its interest at the rate
 abbrev pub after_accrue : (Place → ℤ) → Place → ℕ → Place → ℤ
@@ -43,7 +45,8 @@ granted_kind b (AskTransfer a c n) = if grants b a n then Transfer c else Declin
 abbrev pub left_out : OpName → List Shadow → List Shadow
 left_out x us = filter (λ (u : Shadow). not (same_name u.name x)) us
 
--- the operation that a request makes does to every balance, at the end of a list, what the published bank does on that request. That bank has no cancellation: after one each balance is as if its target had never been made
+-- the operation that a request makes does to every balance, at the end of a list, what the published bank does on that request. That bank
+-- has no cancellation: after one each balance is as if its target had never been made
 abbrev pub DoesOriginal : Settings → List Shadow → Request → Shadow → Type 0
 DoesOriginal s us (AskDeposit a n) v = (q : Place) → bal s (us ++ v ∷ []) q ≡ after_deposit (bal s us) a n q
 DoesOriginal s us (AskWithdraw a n) v = (q : Place) → bal s (us ++ v ∷ []) q ≡ after_withdraw (bal s us) a n q

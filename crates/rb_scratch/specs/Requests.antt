@@ -1,5 +1,6 @@
 -- What a request makes.
-use Rattle.std.specs.Prelude.{ℕ, ℤ, ◌+◌, if◌then◌else◌, not, ◌&&◌, nat_lt, ◌==◌, List, Option, Some, None, Result, Ok, Err, pos, int_lt, option_and_then}
+use Rattle.std.specs.Prelude.{ℕ, ℤ, ◌+◌, if◌then◌else◌, not, ◌&&◌, nat_lt, ◌==◌, List, Option, Some, None, Result, Ok, Err, pos, int_lt}
+use Rattle.std.specs.Prelude.{option_and_then, is_some}
 use Rattle.rb_money.specs.Amounts.{cents, is_amount, interest}
 use Rattle.rb_money.specs.Refusals.{and_then, unless}
 use Rattle.std.specs.Prelude.{◌≡◌, ℕ, ◌<◌, ◌≤◌, [], ◌∷◌, ◌++◌}
@@ -8,10 +9,13 @@ use Rattle.rb_money.specs.Settings.{Settings, is_account}
 use Rattle.rb_money.specs.declared.limits.TheConstants.{MOST_SITES}
 use Rattle.rb_money.specs.declared.place.Place.{Place}
 use Rattle.rb_money.specs.declared.refusal.Refusal.{Refusal}
-use Rattle.rb_money.specs.declared.refusal.Refusal.TheVariants.{UnknownAccount, BadAmount, BadRate, UnknownOperation, NotCancellable, AlreadyCancelled, NumbersExhausted, WouldOverdraw, DeltaTooLarge, SameAccount}
+use Rattle.rb_money.specs.declared.refusal.Refusal.TheVariants.{UnknownAccount, BadAmount, BadRate, UnknownOperation, NotCancellable}
+use Rattle.rb_money.specs.declared.refusal.Refusal.TheVariants.{AlreadyCancelled, NumbersExhausted, WouldOverdraw, DeltaTooLarge}
+use Rattle.rb_money.specs.declared.refusal.Refusal.TheVariants.{SameAccount}
 use Rattle.rb_money.specs.declared.cents.TheConstants.{MOST_CENTS}
 use Rattle.rb_money.specs.declared.rate.TheConstants.{MOST_RATE}
-use Rattle.rb_shadow.specs.Operations.{is_cancelled, bal, red_count, find_in, may_be_cancelled, is_cancel, is_red, colour_of, kind_in, target_of, blue_count, clock_of, number_of}
+use Rattle.rb_shadow.specs.Operations.{is_cancelled, bal, red_count, find_in, may_be_cancelled, is_red, colour_of, kind_in, target_of}
+use Rattle.rb_shadow.specs.Operations.{blue_count, clock_of, number_of, colour_in}
 use Rattle.rb_shadow.specs.Sound.{limit_of}
 use Rattle.rb_shadow.specs.declared.colour.Colour.{Colour}
 use Rattle.rb_shadow.specs.declared.colour.Colour.TheVariants.{Blue as BlueColour, Red as RedColour}
@@ -23,7 +27,8 @@ use Rattle.rb_shadow.specs.declared.shadow.Shadow.{Shadow}
 use Rattle.rb_ledger.specs.Checks.{overdraws}
 use Rattle.rb_ledger.specs.Valid.{first_cancel_from}
 use Rattle.rb_scratch.specs.declared.request.Request.{Request}
-use Rattle.rb_scratch.specs.declared.request.Request.TheVariants.{Deposit as AskDeposit, Withdraw as AskWithdraw, Interest as AskInterest, Cancel as AskCancel, Transfer as AskTransfer}
+use Rattle.rb_scratch.specs.declared.request.Request.TheVariants.{Deposit as AskDeposit, Withdraw as AskWithdraw, Interest as AskInterest}
+use Rattle.rb_scratch.specs.declared.request.Request.TheVariants.{Cancel as AskCancel, Transfer as AskTransfer}
 use Rattle.rb_token.specs.Token.{Token, refusal_of_red}
 
 -- what a request would make: its account, its amount and its kind
@@ -40,14 +45,6 @@ if_covered s us a n k = if int_lt (bal s us a) (pos n) then Declined else k
 abbrev pub interest_on : (Place → ℤ) → Place → ℕ → ℕ
 interest_on b a rate = interest (cents (b a)) rate
 
--- what a request to cancel would make, by the operation of its target's name
-abbrev pub plan_of_cancel : List Shadow → OpName → Option Shadow → Result Plan Refusal
-plan_of_cancel us x None = Err UnknownOperation
-plan_of_cancel us x (Some t) =
-    if not (may_be_cancelled t.kind) then Err NotCancellable
-    else if is_cancelled us x then Err (AlreadyCancelled (first_cancel_from 1 us x))
-    else Ok (record { account = t.account; amount = t.amount; kind = Cancel x })
-
 -- what a request would make at a site that applied us
 unfoldable pub plan_of : Settings → List Shadow → Request → Result Plan Refusal
 plan_of s us (AskDeposit a n) =
@@ -63,7 +60,12 @@ plan_of s us (AskInterest a rate) =
     else if nat_lt MOST_RATE rate then Err BadRate
     else if nat_lt MOST_CENTS (interest_on (bal s us) a rate) then Err DeltaTooLarge
     else Ok (record { account = a; amount = interest_on (bal s us) a rate; kind = Interest })
-plan_of s us (AskCancel x) = plan_of_cancel us x (find_in us x)
+plan_of s us (AskCancel x) =
+    unless (λ t.
+    if not (may_be_cancelled t.kind) then Err NotCancellable
+    else if is_cancelled us x then Err (AlreadyCancelled (first_cancel_from 1 us x))
+    else Ok (record { account = t.account; amount = t.amount; kind = Cancel x }))
+    (find_in us x) (Err UnknownOperation)
 plan_of s us (AskTransfer a b n) =
     if not (is_account s a) then Err UnknownAccount
     else if not (is_account s b) then Err UnknownAccount
@@ -76,15 +78,11 @@ abbrev pub next_name : ℕ → List Shadow → Colour → OpName
 next_name me us BlueColour = Blue me (blue_count us me + 1)
 next_name me us RedColour = Red (red_count us + 1)
 
--- the colour of a plan: that of its kind, and of what it cancels
-abbrev pub colour_of_plan : List Shadow → Plan → Colour
-colour_of_plan us p = colour_of p.kind (option_and_then (kind_in us) (target_of p.kind))
-
 -- what the plan makes at a site that applied us: the past is what it has applied
 unfoldable pub operation_of : ℕ → List Shadow → Plan → Shadow
 operation_of me us p =
     record {
-      name = next_name me us (colour_of_plan us p);
+      name = next_name me us (colour_in us p.kind);
       home = me;
       deps = clock_of us;
       account = p.account;
@@ -96,7 +94,7 @@ operation_of me us p =
 abbrev pub allowed_red : Settings → List Shadow → Token → Shadow → Result Shadow Refusal
 allowed_red s us token v =
     unless Err (refusal_of_red token (red_count us))
-    (if is_cancel v.kind && overdraws s us v then Err WouldOverdraw else Ok v)
+    (if is_some (target_of v.kind) && overdraws s us v then Err WouldOverdraw else Ok v)
 
 -- whether the site may make the operation: only a red one asks for more than a number
 unfoldable pub allowed : Settings → List Shadow → Token → Shadow → Result Shadow Refusal
@@ -111,4 +109,5 @@ made_of s me us token r = and_then Err (plan_of s us r) (λ p. allowed s us toke
 
 -- what a request makes at a valid list may be added to it
 abbrev pub MadeIsValid : Type 0
-MadeIsValid = (s : Settings) (me : ℕ) (us : List Shadow) (token : Token) (r : Request) (v : Shadow) → s.sites ≤ MOST_SITES → me < s.sites → IsValid s us → made_of s me us token r ≡ Ok v → IsValid s (us ++ v ∷ [])
+MadeIsValid = (s : Settings) (me : ℕ) (us : List Shadow) (token : Token) (r : Request) (v : Shadow) → s.sites ≤ MOST_SITES → me < s.sites →
+    IsValid s us → made_of s me us token r ≡ Ok v → IsValid s (us ++ v ∷ [])

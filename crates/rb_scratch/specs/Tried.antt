@@ -32,10 +32,12 @@ pub record IsAdded (was now : Book) (parts more : List UndoParts) (v : Shadow) :
   -- so the records are still those of the last operations
   pub tried : (base made : List Shadow) → IsTried base made was parts → IsTried base (made ++ v ∷ []) now more
 
--- why a request of a batch is not made: there are the most already, or it makes nothing, or there is no memory, and then the ledger has no spare capacity
+-- why a request of a batch is not made: there are the most already, or it makes nothing, or there is no memory, and then the ledger has no
+-- spare capacity
 pub record IsFault (book : Book) (parts : List UndoParts) (me : ℕ) (known : Token) (r : Request) (fault : RunFault) : Type 0 where
   pub many : MOST_REQUESTS ≤ length parts → fault ≡ RefusedFault BadBatch
-  pub few : length parts < MOST_REQUESTS → (made_in_batch book.settings me book.entries known r ≡ Err fault) ⊎ ((v : Shadow) × (made_in_batch book.settings me book.entries known r ≡ Ok v) × (fault ≡ RefusedFault OutOfMemory) × (book.room ≡ 0))
+  pub few : length parts < MOST_REQUESTS → (made_in_batch book.settings me book.entries known r ≡ Err fault)
+      ⊎ ((v : Shadow) × (made_in_batch book.settings me book.entries known r ≡ Ok v) × (fault ≡ RefusedFault OutOfMemory) × (book.room ≡ 0))
 
 -- a name at an error
 abbrev pub name_if_err : {A E : Type 0} → (E → GName) → Result A E → maybe.Option GName

@@ -1,15 +1,18 @@
 //! The generator: what a request makes at a site.
-ghost use Rattle.std.specs.Prelude.{◌≡◌, ◌+◌, ◌<◌, ◌≤◌, ◌∷◌, ◌++◌, [], if◌then◌else◌, Some, None, Ok, Err, MatchResult, IfOk};
+ghost use Rattle.std.specs.Prelude.{◌≡◌, ◌+◌, ◌<◌, ◌≤◌, ◌∷◌, ◌++◌, [], if◌then◌else◌, Some, None, Ok, Err, MatchResult};
+ghost use Rattle.std.specs.Prelude.{IfOk};
 ghost use Rattle.rb_money.specs.declared.limits.TheConstants.{MOST_SITES};
 ghost use Rattle.rb_shadow.specs.Sound.{limit_of};
-ghost use Rattle.rb_shadow.specs.Operations.{bal, number_of};
+ghost use Rattle.rb_shadow.specs.Operations.{bal, number_of, colour_in};
 ghost use Rattle.rb_ledger.specs.Valid.{IsValid};
 ghost use Rattle.rb_ledger.specs.Checks.{refusal_of, overdraws};
 ghost use Rattle.rb_token.specs.Token.{Token};
 ghost use Rattle.rb_token.specs.Seen.{Shows};
-ghost use Rattle.rb_scratch.specs.declared.request.Request.TheVariants.{Deposit as AskDeposit, Withdraw as AskWithdraw, Interest as AskInterest, Cancel as AskCancel, Transfer as AskTransfer};
+ghost use Rattle.rb_scratch.specs.declared.request.Request.TheVariants.{Deposit as AskDeposit, Withdraw as AskWithdraw};
+ghost use Rattle.rb_scratch.specs.declared.request.Request.TheVariants.{Interest as AskInterest, Cancel as AskCancel};
+ghost use Rattle.rb_scratch.specs.declared.request.Request.TheVariants.{Transfer as AskTransfer};
 ghost use Rattle.rb_scratch.specs.declared.request.Request.{Request as TheRequest};
-ghost use Rattle.rb_scratch.specs.Requests.{plan_of, next_name, colour_of_plan, operation_of, allowed, allowed_red, made_of};
+ghost use Rattle.rb_scratch.specs.Requests.{plan_of, next_name, operation_of, allowed, allowed_red, made_of};
 ghost use Rattle.rb_scratch.specs.Effects.{IsColoured, IsDecision, plan_of_effect};
 ghost use Rattle.rb_scratch.specs.Originals.{DoesOriginal, granted_kind};
 
@@ -30,9 +33,7 @@ fn deposit(ledger: &Ledger, account: Place, amount: u64) -> Result<Effect, Refus
     if ledger.config().accounts().len() <= account.0 as usize {
         return Err(Refusal::UnknownAccount);
     }
-    if let Err(why) = Amount::new(amount) {
-        return Err(why);
-    }
+    Amount::new(amount)?;
     Ok(Effect {
         account,
         amount,
@@ -50,9 +51,7 @@ fn withdrawal(ledger: &Ledger, account: Place, amount: u64) -> Result<Effect, Re
     let Some(balance) = ledger.balance(account) else {
         return Err(Refusal::UnknownAccount);
     };
-    if let Err(why) = Amount::new(amount) {
-        return Err(why);
-    }
+    Amount::new(amount)?;
     let kind = if balance < amount {
         Kind::Declined
     } else {
@@ -78,9 +77,7 @@ fn transfer(ledger: &Ledger, from: Place, to: Place, amount: u64) -> Result<Effe
     if ledger.config().accounts().len() <= to.0 as usize {
         return Err(Refusal::UnknownAccount);
     }
-    if let Err(why) = Amount::new(amount) {
-        return Err(why);
-    }
+    Amount::new(amount)?;
     if from.0 == to.0 {
         return Err(Refusal::SameAccount);
     }
@@ -107,19 +104,14 @@ fn interest(ledger: &Ledger, account: Place, rate: u32) -> Result<Effect, Refusa
     let Some(balance) = ledger.balance(account) else {
         return Err(Refusal::UnknownAccount);
     };
-    let rate = match Rate::new(rate) {
-        Ok(rate) => rate,
-        Err(why) => return Err(why),
-    };
-    match interest_of(Cents(balance), rate) {
-        Ok(delta) => Ok(Effect {
-            account,
-            amount: delta.0,
-            kind: Kind::Interest,
-            colour: Colour::Blue,
-        }),
-        Err(why) => Err(why),
-    }
+    let rate = Rate::new(rate)?;
+    let delta = interest_of(Cents(balance), rate)?;
+    Ok(Effect {
+        account,
+        amount: delta.0,
+        kind: Kind::Interest,
+        colour: Colour::Blue,
+    })
 }
 
 /// What a cancellation would do.
@@ -128,15 +120,13 @@ fn cancellation(ledger: &Ledger, target: OpName) -> Result<Effect, Refusal>
     ensures plan { IsDecision ledger.now.settings ledger.now.entries (AskCancel target) result }
     ensures colour { IsColoured ledger.now.entries result }
 {
-    match cancel_of(ledger, target) {
-        Ok(plan) => Ok(Effect {
-            account: plan.account,
-            amount: plan.amount,
-            kind: Kind::Cancel { target },
-            colour: plan.colour,
-        }),
-        Err(why) => Err(why),
-    }
+    let plan = cancel_of(ledger, target)?;
+    Ok(Effect {
+        account: plan.account,
+        amount: plan.amount,
+        kind: Kind::Cancel { target },
+        colour: plan.colour,
+    })
 }
 
 /// What the request would do, decided on the ledger as it is.
@@ -156,7 +146,8 @@ pub(crate) fn decide(ledger: &Ledger, request: &Request) -> Result<Effect, Refus
 
 /// The number after this one, up to the limit.
 fn number_after(count: u32, limit: u32) -> Result<u32, Refusal>
-    ensures { MatchResult result (λ n. (n ≡ count + 1) × (count < limit)) (λ why. (why ≡ Refusal.NumbersExhausted) × (limit ≤ count)) }
+    ensures { MatchResult result (λ n. (n ≡ count + 1) × (count < limit)) (λ why. (why ≡ Refusal.NumbersExhausted)
+        × (limit ≤ count)) }
 {
     if limit <= count {
         return Err(Refusal::NumbersExhausted);
@@ -169,20 +160,22 @@ fn number_after(count: u32, limit: u32) -> Result<u32, Refusal>
 fn name_after(ledger: &Ledger, me: u8, colour: Colour) -> Result<OpName, Refusal>
     requires { me < MOST_SITES }
     ensures { MatchResult result
-        (λ name. (name ≡ next_name me ledger.now.entries colour) × (number_of name ≤ limit_of ledger.now.settings.limits name))
-        (λ why. (why ≡ Refusal.NumbersExhausted) × (limit_of ledger.now.settings.limits (next_name me ledger.now.entries colour) < number_of (next_name me ledger.now.entries colour))) }
+        (λ name. (name ≡ next_name me ledger.now.entries colour)
+            × (number_of name ≤ limit_of ledger.now.settings.limits name))
+        (λ why. (why ≡ Refusal.NumbersExhausted) × (limit_of ledger.now.settings.limits
+            (next_name me ledger.now.entries colour) < number_of (next_name me ledger.now.entries colour))) }
 {
     let limits = ledger.config().limits();
     let counts = ledger.clock().deps();
     match colour {
-        Colour::Blue => match number_after(counts.blue[me as usize], limits.blue) {
-            Ok(n) => Ok(OpName::Blue { site: me, n }),
-            Err(why) => Err(why),
-        },
-        Colour::Red => match number_after(counts.red, limits.red) {
-            Ok(n) => Ok(OpName::Red { n }),
-            Err(why) => Err(why),
-        },
+        Colour::Blue => {
+            let n = number_after(counts.blue[me as usize], limits.blue)?;
+            Ok(OpName::Blue { site: me, n })
+        }
+        Colour::Red => {
+            let n = number_after(counts.red, limits.red)?;
+            Ok(OpName::Red { n })
+        }
     }
 }
 
@@ -190,28 +183,30 @@ fn name_after(ledger: &Ledger, me: u8, colour: Colour) -> Result<OpName, Refusal
 #[tactic(auto, unfolding(crate::specs::Requests::operation_of))]
 fn operation(ledger: &Ledger, me: u8, effect: Effect) -> Result<Shadow, Refusal>
     requires here { me < MOST_SITES }
-    requires colour { effect.colour ≡ colour_of_plan ledger.now.entries (plan_of_effect effect) }
+    requires colour { effect.colour ≡ colour_in ledger.now.entries effect.kind }
     ensures { MatchResult result
-        (λ made. (made ≡ operation_of me ledger.now.entries (plan_of_effect effect)) × (number_of made.name ≤ limit_of ledger.now.settings.limits made.name))
-        (λ why. (why ≡ Refusal.NumbersExhausted) × (limit_of ledger.now.settings.limits (operation_of me ledger.now.entries (plan_of_effect effect)).name < number_of (operation_of me ledger.now.entries (plan_of_effect effect)).name)) }
+        (λ made. (made ≡ operation_of me ledger.now.entries (plan_of_effect effect))
+            × (number_of made.name ≤ limit_of ledger.now.settings.limits made.name))
+        (λ why. (why ≡ Refusal.NumbersExhausted) × (limit_of ledger.now.settings.limits
+            (operation_of me ledger.now.entries (plan_of_effect effect)).name
+            < number_of (operation_of me ledger.now.entries (plan_of_effect effect)).name)) }
 {
-    match name_after(ledger, me, effect.colour) {
-        Ok(name) => Ok(Shadow {
-            name,
-            home: me,
-            deps: ledger.clock().deps(),
-            account: effect.account,
-            amount: effect.amount,
-            kind: effect.kind,
-        }),
-        Err(why) => Err(why),
-    }
+    let name = name_after(ledger, me, effect.colour)?;
+    Ok(Shadow {
+        name,
+        home: me,
+        deps: ledger.clock().deps(),
+        account: effect.account,
+        amount: effect.amount,
+        kind: effect.kind,
+    })
 }
 
 /// Whether the site may make the red operation: it needs the token and all red operations before
 /// it, and a cancellation needs the money that it takes back.
 fn permit_red(ledger: &Ledger, token: &TokenView, shadow: &Shadow) -> Result<(), Refusal>
-    requires { refusal_of ledger.now.settings ledger.now.entries shadow.now ≡ (if overdraws ledger.now.settings ledger.now.entries shadow.now then Some Refusal.WouldOverdraw else None) }
+    requires { refusal_of ledger.now.settings ledger.now.entries shadow.now
+        ≡ (if overdraws ledger.now.settings ledger.now.entries shadow.now then Some Refusal.WouldOverdraw else None) }
     ensures { (known : Token) → Shows token.now known → MatchResult result
         (λ _. allowed_red ledger.now.settings ledger.now.entries known shadow.now ≡ Ok shadow.now)
         (λ why. allowed_red ledger.now.settings ledger.now.entries known shadow.now ≡ Err why) }
@@ -235,12 +230,17 @@ pub(crate) fn carry_out(
     effect: Effect,
 ) -> Result<Shadow, Refusal>
     requires site { token.now.me < ledger.now.settings.sites }
-    requires plan { (request : TheRequest) × (plan_of ledger.now.settings ledger.now.entries request ≡ Ok (plan_of_effect effect)) }
-    requires colour { effect.colour ≡ colour_of_plan ledger.now.entries (plan_of_effect effect) }
-    ensures made { (known : Token) → Shows token.now known → result ≡ allowed ledger.now.settings ledger.now.entries known (operation_of token.now.me ledger.now.entries (plan_of_effect effect)) }
+    requires plan { (request : TheRequest) × (plan_of ledger.now.settings ledger.now.entries request
+        ≡ Ok (plan_of_effect effect)) }
+    requires colour { effect.colour ≡ colour_in ledger.now.entries effect.kind }
+    ensures made { (known : Token) → Shows token.now known →
+        result ≡ allowed ledger.now.settings ledger.now.entries known
+        (operation_of token.now.me ledger.now.entries (plan_of_effect effect)) }
     ensures valid { IfOk result (λ made. IsValid ledger.now.settings (ledger.now.entries ++ made ∷ [])) }
     ensures kind { IfOk result (λ made. made.kind ≡ effect.kind) }
-    ensures original { IfOk result (λ made. (request : TheRequest) → plan_of ledger.now.settings ledger.now.entries request ≡ Ok (plan_of_effect effect) → DoesOriginal ledger.now.settings ledger.now.entries request made) }
+    ensures original { IfOk result (λ made. (request : TheRequest) →
+        plan_of ledger.now.settings ledger.now.entries request ≡ Ok (plan_of_effect effect) →
+        DoesOriginal ledger.now.settings ledger.now.entries request made) }
 {
     let sites = ledger.config().sites();
     prove!(token.me < sites);
@@ -268,9 +268,11 @@ pub(crate) fn carry_out(
 /// `NumbersExhausted`; for a red operation `NeedToken`, `RedBehind`; for a red cancellation `WouldOverdraw`.
 pub fn generate(ledger: &Ledger, token: &TokenView, request: &Request) -> Result<Shadow, Refusal>
     requires { token.now.me < ledger.now.settings.sites }
-    ensures made { (known : Token) → Shows token.now known → result ≡ made_of ledger.now.settings token.now.me ledger.now.entries known request.now }
+    ensures made { (known : Token) → Shows token.now known →
+        result ≡ made_of ledger.now.settings token.now.me ledger.now.entries known request.now }
     ensures valid { IfOk result (λ made. IsValid ledger.now.settings (ledger.now.entries ++ made ∷ [])) }
-    ensures kind { IfOk result (λ made. made.kind ≡ granted_kind (bal ledger.now.settings ledger.now.entries) request.now) }
+    ensures kind { IfOk result (λ made. made.kind ≡ granted_kind (bal ledger.now.settings ledger.now.entries)
+        request.now) }
     ensures original { IfOk result (λ made. DoesOriginal ledger.now.settings ledger.now.entries request.now made) }
 {
     match decide(ledger, request) {

@@ -20,7 +20,8 @@ pub fn generate_in_batch(
     request: &Request,
 ) -> Result<Shadow, RunFault>
     requires { token.now.me < ledger.now.settings.sites }
-    ensures made { (known : Token) → Shows token.now known → result ≡ made_in_batch ledger.now.settings token.now.me ledger.now.entries known request.now }
+    ensures made { (known : Token) → Shows token.now known →
+        result ≡ made_in_batch ledger.now.settings token.now.me ledger.now.entries known request.now }
     ensures valid { IfOk result (λ made. IsValid ledger.now.settings (ledger.now.entries ++ made ∷ [])) }
 {
     let effect = match decide(ledger, request) {

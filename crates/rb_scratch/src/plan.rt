@@ -1,7 +1,8 @@
 //! Plans to cancel.
 ghost use Rattle.std.specs.Prelude.{◌≡◌, IfOk, IfErr, Ok, Err};
-ghost use Rattle.rb_shadow.specs.Operations.{colour_of, find_in, kind_in};
-ghost use Rattle.rb_scratch.specs.Requests.{plan_of_cancel};
+ghost use Rattle.rb_shadow.specs.Operations.{colour_of, kind_in};
+ghost use Rattle.rb_scratch.specs.Requests.{plan_of};
+ghost use Rattle.rb_scratch.specs.declared.request.Request.TheVariants.{Cancel as AskCancel};
 
 use rb_ledger::Ledger;
 use rb_money::{Place, Refusal};
@@ -22,9 +23,11 @@ pub struct CancelPlan {
 /// `NotCancellable` where it is a declined withdrawal or transfer, or a cancellation, then with
 /// `AlreadyCancelled` and the position of the first cancellation where the ledger has one.
 pub fn cancel_of(ledger: &Ledger, target: OpName) -> Result<CancelPlan, Refusal>
-    ensures planned { IfOk result (λ plan. plan_of_cancel ledger.now.entries target (find_in ledger.now.entries target) ≡ Ok (record { account = plan.account; amount = plan.amount; kind = Kind.Cancel target })) }
-    ensures colour { IfOk result (λ plan. plan.colour ≡ colour_of (Kind.Cancel target) (kind_in ledger.now.entries target)) }
-    ensures reason { IfErr result (λ why. plan_of_cancel ledger.now.entries target (find_in ledger.now.entries target) ≡ Err why) }
+    ensures planned { IfOk result (λ plan. plan_of ledger.now.settings ledger.now.entries (AskCancel target)
+        ≡ Ok (record { account = plan.account; amount = plan.amount; kind = Kind.Cancel target })) }
+    ensures colour { IfOk result (λ plan. plan.colour ≡ colour_of (Kind.Cancel target)
+        (kind_in ledger.now.entries target)) }
+    ensures reason { IfErr result (λ why. plan_of ledger.now.settings ledger.now.entries (AskCancel target) ≡ Err why) }
 {
     let Some(position) = ledger.find(&target) else {
         return Err(Refusal::UnknownOperation);

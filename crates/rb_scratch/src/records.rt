@@ -55,7 +55,8 @@ impl Records {
 
     /// Takes the last record out.
     pub fn pop(&mut self) -> Option<Undo>
-        ensures { MatchOption result ((self.old.parts ≡ []) × (self.new ≡ self.old)) (λ undo. self.old.parts ≡ self.new.parts ++ undo ∷ []) }
+        ensures { MatchOption result ((self.old.parts ≡ []) × (self.new ≡ self.old)) (λ undo. self.old.parts
+            ≡ self.new.parts ++ undo ∷ []) }
     {
         let last = self.len.checked_sub(1)?;
         self.len = last;

@@ -34,7 +34,8 @@ pub struct Scratch<'a> {
 fn undo_all(ledger: &mut Ledger, undos: Records)
     requires { IsOfTheLast ledger.old undos.parts }
     ensures settings { ledger.new.settings ≡ ledger.old.settings }
-    ensures entries { (base made : List TheShadow) → IsTried base made ledger.old undos.parts → ledger.new.entries ≡ base }
+    ensures entries { (base made : List TheShadow) → IsTried base made ledger.old undos.parts →
+        ledger.new.entries ≡ base }
     ensures room { ledger.new.room ≡ ledger.old.room + length undos.parts }
 {
     let mut undos = undos;
@@ -47,7 +48,8 @@ fn undo_all(ledger: &mut Ledger, undos: Records)
 /// The last entries of a ledger, as many as there are records; none take no memory.
 fn last_entries(alloc: Global, ledger: &Ledger, undos: &Records) -> Result<Vec<Shadow>, AllocError>
     requires { IsOfTheLast ledger.now undos.now.parts }
-    ensures made { IfOk result (λ shadows. (base made : List TheShadow) → IsTried base made ledger.now undos.now.parts → shadows.items ≡ made) }
+    ensures made { IfOk result (λ shadows. (base made : List TheShadow) → IsTried base made ledger.now undos.now.parts →
+        shadows.items ≡ made) }
     ensures some { OnErr result (0 < length undos.now.parts) }
 {
     let count = undos.len();
@@ -69,18 +71,18 @@ fn try_one(
 ) -> Result<OpName, RunFault>
     requires { token.me < ledger.old.settings.sites }
     ensures few { OnOk result (length undos.old.parts < MOST_REQUESTS) }
-    ensures ran { IfOk result (λ name. (v : TheShadow) × (name ≡ v.name) × IsAdded ledger.old ledger.new undos.old.parts undos.new.parts v
-        × ((known : Token) → Shows token known → made_in_batch ledger.old.settings token.me ledger.old.entries known request.now ≡ Ok v)) }
-    ensures fault { IfErr result (λ fault. (known : Token) → Shows token known → IsFault ledger.old undos.old.parts token.me known request.now fault) }
+    ensures ran { IfOk result (λ name. (v : TheShadow) × (name ≡ v.name)
+        × IsAdded ledger.old ledger.new undos.old.parts undos.new.parts v
+        × ((known : Token) → Shows token known → made_in_batch ledger.old.settings token.me ledger.old.entries known
+            request.now ≡ Ok v)) }
+    ensures fault { IfErr result (λ fault. (known : Token) → Shows token known →
+        IsFault ledger.old undos.old.parts token.me known request.now fault) }
     ensures unchanged { OnErr result ((ledger.new ≡ ledger.old) × (undos.new.parts ≡ undos.old.parts)) }
 {
     if undos.len() >= MOST_REQUESTS {
         return Err(RunFault::Refused(Refusal::BadBatch));
     }
-    let shadow = match generate_in_batch(ledger, &token, request) {
-        Ok(shadow) => shadow,
-        Err(fault) => return Err(fault),
-    };
+    let shadow = generate_in_batch(ledger, &token, request)?;
     match ledger.apply_valid(shadow) {
         Ok(undo) => {
             undos.push(undo);
@@ -124,12 +126,18 @@ impl<'a> Scratch<'a> {
         ensures same_reference { self.new.ledger.ghost_name ≡ self.old.ledger.ghost_name }
         ensures token { self.new.token ≡ self.old.token }
         ensures settings { self.new.ledger.now.settings ≡ self.old.ledger.now.settings }
-        ensures last { IsOfTheLast self.old.ledger.now self.old.undos.parts → IsOfTheLast self.new.ledger.now self.new.undos.parts }
+        ensures last { IsOfTheLast self.old.ledger.now self.old.undos.parts →
+            IsOfTheLast self.new.ledger.now self.new.undos.parts }
         ensures few { OnOk result (length self.old.undos.parts < MOST_REQUESTS) }
-        ensures ran { IfOk result (λ name. (v : TheShadow) × (name ≡ v.name) × IsAdded self.old.ledger.now self.new.ledger.now self.old.undos.parts self.new.undos.parts v
-            × ((known : Token) → Shows self.old.token known → made_in_batch self.old.ledger.now.settings self.old.token.me self.old.ledger.now.entries known request.now ≡ Ok v)) }
-        ensures fault { IfErr result (λ fault. (known : Token) → Shows self.old.token known → IsFault self.old.ledger.now self.old.undos.parts self.old.token.me known request.now fault) }
-        ensures unchanged { OnErr result ((self.new.ledger.now ≡ self.old.ledger.now) × (self.new.undos.parts ≡ self.old.undos.parts)) }
+        ensures ran { IfOk result (λ name. (v : TheShadow) × (name ≡ v.name)
+            × IsAdded self.old.ledger.now self.new.ledger.now self.old.undos.parts self.new.undos.parts v
+            × ((known : Token) → Shows self.old.token known →
+                made_in_batch self.old.ledger.now.settings self.old.token.me self.old.ledger.now.entries known
+                request.now ≡ Ok v)) }
+        ensures fault { IfErr result (λ fault. (known : Token) → Shows self.old.token known →
+            IsFault self.old.ledger.now self.old.undos.parts self.old.token.me known request.now fault) }
+        ensures unchanged { OnErr result ((self.new.ledger.now ≡ self.old.ledger.now)
+            × (self.new.undos.parts ≡ self.old.undos.parts)) }
     {
         let token = self.token;
         try_one(self.ledger, &mut self.undos, token, request)
@@ -140,10 +148,14 @@ impl<'a> Scratch<'a> {
     /// That can be only where something was run.
     pub fn commit(self, log: &mut UndoLog) -> Result<Vec<Shadow>, Scratch<'a>>
         requires { IsOfTheLast self.ledger.now self.undos.parts }
-        ensures* ledger { sem 𝓛 (RestsIfOk the_row self.entry.ledger (λ scratch. scratch.ledger.ghost_name) result (λ book. book ≡ self.entry.ledger.now)) }
-        ensures made { IfOk result (λ shadows. (base made : List TheShadow) → IsTried base made self.entry.ledger.now self.entry.undos.parts → shadows.items ≡ made) }
+        ensures* ledger { sem 𝓛 (RestsIfOk the_row self.entry.ledger (λ scratch. scratch.ledger.ghost_name) result
+            (λ book. book ≡ self.entry.ledger.now)) }
+        ensures made { IfOk result (λ shadows. (base made : List TheShadow) →
+            IsTried base made self.entry.ledger.now self.entry.undos.parts → shadows.items ≡ made) }
         ensures log { OnOk result (log.new.parts ≡ log.old.parts ++ self.entry.undos.parts) }
-        ensures back { IfErr result (λ back. (back.ledger.ghost_name ≡ self.entry.ledger.ghost_name) × (back.ledger.now ≡ self.entry.ledger.now) × (back.token ≡ self.entry.token) × (back.undos ≡ self.entry.undos)) }
+        ensures back { IfErr result (λ back. (back.ledger.ghost_name ≡ self.entry.ledger.ghost_name)
+            × (back.ledger.now ≡ self.entry.ledger.now) × (back.token ≡ self.entry.token)
+            × (back.undos ≡ self.entry.undos)) }
         ensures unchanged { OnErr result (log.new.parts ≡ log.old.parts) }
         ensures some { OnErr result (0 < length self.entry.undos.parts) }
         ensures grows { OnErr result (log.old.room ≤ log.new.room) }
@@ -180,10 +192,13 @@ impl<'a> Scratch<'a> {
     /// the ledger's last. It takes memory only where the log has too little spare capacity. Out of memory
     /// the scratch comes back, and nothing changes but that the log may have more spare capacity.
     pub fn keep(self, log: &mut UndoLog) -> Result<usize, Scratch<'a>>
-        ensures* ledger { sem 𝓛 (RestsIfOk the_row self.entry.ledger (λ scratch. scratch.ledger.ghost_name) result (λ book. book ≡ self.entry.ledger.now)) }
+        ensures* ledger { sem 𝓛 (RestsIfOk the_row self.entry.ledger (λ scratch. scratch.ledger.ghost_name) result
+            (λ book. book ≡ self.entry.ledger.now)) }
         ensures count { IfOk result (λ count. count ≡ length self.entry.undos.parts) }
         ensures log { OnOk result (log.new.parts ≡ log.old.parts ++ self.entry.undos.parts) }
-        ensures back { IfErr result (λ back. (back.ledger.ghost_name ≡ self.entry.ledger.ghost_name) × (back.ledger.now ≡ self.entry.ledger.now) × (back.token ≡ self.entry.token) × (back.undos ≡ self.entry.undos)) }
+        ensures back { IfErr result (λ back. (back.ledger.ghost_name ≡ self.entry.ledger.ghost_name)
+            × (back.ledger.now ≡ self.entry.ledger.now) × (back.token ≡ self.entry.token)
+            × (back.undos ≡ self.entry.undos)) }
         ensures unchanged { OnErr result (log.new.parts ≡ log.old.parts) }
         ensures short { OnErr result (log.old.room < length self.entry.undos.parts) }
         ensures grows { OnErr result (log.old.room ≤ log.new.room) }
@@ -210,7 +225,8 @@ impl<'a> Scratch<'a> {
     pub fn abort(self)
         requires { IsOfTheLast self.ledger.now self.undos.parts }
         ensures settings { self.exit.0.now.settings ≡ self.entry.ledger.now.settings }
-        ensures entries { (base made : List TheShadow) → IsTried base made self.entry.ledger.now self.entry.undos.parts → self.exit.0.now.entries ≡ base }
+        ensures entries { (base made : List TheShadow) → IsTried base made self.entry.ledger.now self.entry.undos.parts
+            → self.exit.0.now.entries ≡ base }
         ensures room { self.exit.0.now.room ≡ self.entry.ledger.now.room + length self.entry.undos.parts }
     {
         let Scratch {

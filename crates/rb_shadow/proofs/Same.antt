@@ -10,7 +10,7 @@ use Rattle.rb_shadow.specs.declared.op_name.OpName.TheVariants.{Blue, Red}
 use Rattle.rb_shadow.specs.declared.kind.Kind.{Kind}
 use Rattle.rb_shadow.specs.declared.kind.Kind.TheVariants.{Deposit, Withdraw, Declined, Interest, Cancel, Transfer}
 use Rattle.rb_shadow.specs.declared.shadow.Shadow.{Shadow}
-use Rattle.rb_shadow.specs.Operations.{same_name, same_kind, same_numbers, same_shadow}
+use Rattle.rb_shadow.specs.Operations.{same_name, same_kind, same_shadow}
 use Rattle.rb_shadow.proofs.Public.SameShadows.{same_shadow-refl, same_shadow-true}
 
 -- ---- the derived test
@@ -30,12 +30,6 @@ kind_tested (Cancel x) (Cancel y) = name_tested x y
 kind_tested (Transfer a) (Transfer b) = refl
 kind_tested _ _ = refl
 
-numbers_tested : (ms ns : List ℕ) → pointwise nat_eq ms ns ≡ same_numbers ms ns
-numbers_tested [] [] = refl
-numbers_tested [] (n ∷ ns) = refl
-numbers_tested (m ∷ ms) [] = refl
-numbers_tested (m ∷ ms) (n ∷ ns) = ap (λ b. (m == n) && b) (numbers_tested ms ns)
-
 -- two ways to put seven tests together
 other_way : (a b c d e f g : Bool) → (a && (b && ((c && d) && (e && (f && g))))) ≡ (a && b && c && d && e && f && g)
 other_way false b c d e f g = refl
@@ -52,9 +46,10 @@ unfolding same_shadow
 tests_fields u v =
     other_way (name_test.eq u.name v.name) (u.home == v.home) (pointwise nat_eq u.deps.blue v.deps.blue) (u.deps.red == v.deps.red)
     (u.account.0 == v.account.0) (u.amount == v.amount) (kind_test.eq u.kind v.kind)
-    ∙ ap (λ b. b && (u.home == v.home) && pointwise nat_eq u.deps.blue v.deps.blue && (u.deps.red == v.deps.red) && (u.account.0 == v.account.0) && (u.amount == v.amount) && kind_test.eq u.kind v.kind) (name_tested u.name v.name)
-    ∙ ap (λ b. same_name u.name v.name && (u.home == v.home) && b && (u.deps.red == v.deps.red) && (u.account.0 == v.account.0) && (u.amount == v.amount) && kind_test.eq u.kind v.kind) (numbers_tested u.deps.blue v.deps.blue)
-    ∙ ap (λ b. same_name u.name v.name && (u.home == v.home) && same_numbers u.deps.blue v.deps.blue && (u.deps.red == v.deps.red) && (u.account.0 == v.account.0) && (u.amount == v.amount) && b) (kind_tested u.kind v.kind)
+    ∙ ap (λ b. b && (u.home == v.home) && pointwise nat_eq u.deps.blue v.deps.blue && (u.deps.red == v.deps.red)
+    && (u.account.0 == v.account.0) && (u.amount == v.amount) && kind_test.eq u.kind v.kind) (name_tested u.name v.name)
+    ∙ ap (λ b. same_name u.name v.name && (u.home == v.home) && pointwise nat_eq u.deps.blue v.deps.blue && (u.deps.red == v.deps.red)
+    && (u.account.0 == v.account.0) && (u.amount == v.amount) && b) (kind_tested u.kind v.kind)
 
 -- so it is true exactly where the shadows are equal
 pub same_means : (b : Bool) (u v : Shadow) → b ≡ same_shadow u v → IsTrue b ↔ (u ≡ v)

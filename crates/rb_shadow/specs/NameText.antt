@@ -1,5 +1,6 @@
 -- The text of an operation's name.
-use Rattle.std.specs.Prelude.{ℕ, ◌<◌, ◌^◌, ◌==◌, ◌&&◌, List, [], ◌∷◌, ◌++◌, Option, Some, None, decimal, codes, bytes_eq, nat_lt, Bool, if◌then◌else◌}
+use Rattle.std.specs.Prelude.{ℕ, ◌<◌, ◌^◌, ◌==◌, ◌&&◌, List, [], ◌∷◌, ◌++◌, Option, Some, None, decimal, codes, bytes_eq, nat_lt, Bool}
+use Rattle.std.specs.Prelude.{if◌then◌else◌}
 use Rattle.std.specs.List.{before_first, after_first}
 use Rattle.std.specs.Str.Parse.{digits_value}
 use Rattle.rb_shadow.specs.declared.op_name.OpName.{OpName}
@@ -23,7 +24,8 @@ is_name (Red n) = nat_lt n (2 ^ 32)
 -- the one name that a text could be: after an `R` (82) its digits, else its digits before and after the first dot (46)
 abbrev pub candidate : List ℕ → OpName
 candidate [] = Red 0
-candidate (b ∷ bs) = if b == 82 then Red (digits_value 10 bs) else Blue (digits_value 10 (before_first (λ c. c == 46) bs)) (digits_value 10 (after_first (λ c. c == 46) bs))
+candidate (b ∷ bs) = if b == 82 then Red (digits_value 10 bs) else Blue (digits_value 10 (before_first (λ c. c == 46) bs))
+    (digits_value 10 (after_first (λ c. c == 46) bs))
 
 -- the name whose text this is
 abbrev pub name_of : List ℕ → Option OpName

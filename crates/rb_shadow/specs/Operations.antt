@@ -1,6 +1,10 @@
 -- Operations, their order, serializations and balances.
-use Rattle.std.specs.Prelude.{◌≡◌, ◌≢◌, ℕ, suc, ◌+◌, ◌<◌, Bool, true, false, if◌then◌else◌, not, ◌&&◌, nat_le, ◌==◌, List, [], ◌∷◌, ◌++◌, Option, Some, None, is_some, option_and_then, slice_index, ◌⊎◌, ℤ, pos, neg_ℤ, ◌+ℤ◌, filter, map, find, count_by}
+use Rattle.std.specs.Prelude.{◌≡◌, ◌≢◌, ℕ, suc, ◌+◌, ◌<◌, Bool, true, false, if◌then◌else◌, not, ◌&&◌, nat_le, nat_eq, ◌==◌, List, [], ◌∷◌}
+use Rattle.std.specs.Prelude.{◌++◌, Option, Some, None, is_some, option_and_then, option_to_list, slice_index, ◌⊎◌, ℤ, pos, neg_ℤ, ◌+ℤ◌}
+use Rattle.std.specs.Prelude.{filter, map, find, count_by}
 use Rattle.std.specs.List.{range_with_len, list_all, list_any}
+use Rattle.std.specs.Cmp.Lexicographic.{pointwise}
+use Rattle.rb_money.specs.Refusals.{unless}
 use Rattle.rb_money.specs.Settings.{Settings, start_of}
 use Rattle.rb_money.specs.declared.limits.TheConstants.{MOST_SITES}
 use Rattle.rb_money.specs.declared.place.Place.{Place}
@@ -69,20 +73,12 @@ abbrev pub receiver_of : Kind → Option Place
 receiver_of (Transfer to) = Some to
 receiver_of _ = None
 
--- whether it is a cancellation
-abbrev pub is_cancel : Kind → Bool
-is_cancel k = is_some (target_of k)
-
--- the name is that of the target, if there is one
-abbrev pub is_target : Option OpName → OpName → Bool
-is_target None y = false
-is_target (Some x) y = same_name x y
-
--- it cancels the operation of the name
+-- it cancels the operation of the name: its target, if it has one, is of that name
 abbrev pub cancels : Kind → OpName → Bool
-cancels k y = is_target (target_of k) y
+cancels k y = unless (λ x. same_name x y) (target_of k) false
 
--- an operation's colour, by its kind and by its target's: a withdrawal and a transfer are red, and so is a cancellation of anything but a withdrawal
+-- an operation's colour, by its kind and by its target's: a withdrawal and a transfer are red, and so is a cancellation of anything but a
+-- withdrawal
 abbrev pub colour_of : Kind → Option Kind → Colour
 colour_of Withdraw target = RedColour
 colour_of (Transfer to) target = RedColour
@@ -115,34 +111,21 @@ arrived (Some to) n a = if to.0 == a.0 then pos n else pos 0
 abbrev pub delta : Shadow → Place → ℤ
 delta u a = if u.account.0 == a.0 then moved u.kind u.amount else arrived (receiver_of u.kind) u.amount a
 
--- the second account of an operation, by its target: a transfer's, or that of the transfer that it cancels
-abbrev pub other_by : List Shadow → Kind → Option OpName → Option Place
-other_by us k None = receiver_of k
-other_by us k (Some x) = option_and_then receiver_of (kind_in us x)
+-- the second account of an operation of a kind: a transfer's, or that of the transfer that it cancels
+abbrev pub other_of : List Shadow → Kind → Option Place
+other_of us k = unless (λ x. option_and_then receiver_of (kind_in us x)) (target_of k) (receiver_of k)
 
-abbrev pub other_of : List Shadow → Shadow → Option Place
-other_of us v = other_by us v.kind (target_of v.kind)
-
--- an account, and a second one, if there is one
-abbrev pub both_accounts : Place → Option Place → List Place
-both_accounts a None = a ∷ []
-both_accounts a (Some b) = a ∷ b ∷ []
-
--- the accounts whose balances an operation may change: its own, and its second one
+-- the accounts whose balances an operation may change: its own, and its second one, if it has one
 abbrev pub accounts_on : List Shadow → Shadow → List Place
-accounts_on us v = both_accounts v.account (other_of us v)
+accounts_on us v = v.account ∷ option_to_list (other_of us v.kind)
 
 -- the account is one of those
 abbrev pub is_on : List Shadow → Shadow → Place → Bool
 is_on us v a = list_any (λ (p : Place). p.0 == a.0) (accounts_on us v)
 
--- neither a cancellation nor cancelled
-abbrev pub is_kept : List Shadow → Shadow → Bool
-is_kept us u = not (is_cancel u.kind) && not (is_cancelled us u.name)
-
--- the operations without the cancellations and without what they cancel
+-- the operations without the cancellations, which have targets, and without what they cancel
 abbrev pub kept : List Shadow → List Shadow
-kept us = filter (is_kept us) us
+kept us = filter (λ u. not (is_some (target_of u.kind)) && not (is_cancelled us u.name)) us
 
 -- the sum of a number of each operation
 abbrev pub total : (Shadow → ℤ) → List Shadow → ℤ
@@ -162,9 +145,9 @@ IsUnique (u ∷ us) = (names us u.name ≡ false) × IsUnique us
 abbrev pub EachEntry : List Shadow → (List Shadow → Shadow → Type 0) → Type 0
 EachEntry us P = (before : List Shadow) (v : Shadow) (after : List Shadow) → us ≡ before ++ v ∷ after → P before v
 
--- the colour of one of the operations, by its kind and by its target's among them
-abbrev pub colour_in : List Shadow → Shadow → Colour
-colour_in us v = colour_of v.kind (option_and_then (kind_in us) (target_of v.kind))
+-- the colour of an operation of a kind, by its target's kind among the operations
+abbrev pub colour_in : List Shadow → Kind → Colour
+colour_in us k = colour_of k (option_and_then (kind_in us) (target_of k))
 
 -- of two different operations one precedes the other
 abbrev pub AreOrdered : Shadow → Shadow → Type 0
@@ -176,7 +159,7 @@ pub record IsLawful (us : List Shadow) : Type 0 where
   pub closed : (v : Shadow) → Among v us → IsWithin (past v) (names us)
   pub transitive : (t u v : Shadow) → Among t us → Among u us → Among v us → Precedes t u → Precedes u v → Precedes t v
   pub irreflexive : (u : Shadow) → Among u us → ¬ Precedes u u
-  pub reds : (u v : Shadow) → Among u us → Among v us → colour_in us u ≡ RedColour → colour_in us v ≡ RedColour → AreOrdered u v
+  pub reds : (u v : Shadow) → Among u us → Among v us → colour_in us u.kind ≡ RedColour → colour_in us v.kind ≡ RedColour → AreOrdered u v
   pub homes : (u v : Shadow) → Among u us → Among v us → u.home ≡ v.home → AreOrdered u v
 
 -- a causal serialization at a site: an operation comes after its past, and one of this site after just its past
@@ -275,17 +258,10 @@ same_kind (Cancel x) (Cancel y) = same_name x y
 same_kind (Transfer a) (Transfer b) = a.0 == b.0
 same_kind _ _ = false
 
--- two lists of numbers are the same
-abbrev pub same_numbers : List ℕ → List ℕ → Bool
-same_numbers [] [] = true
-same_numbers (m ∷ ms) (n ∷ ns) = (m == n) && same_numbers ms ns
-same_numbers [] (n ∷ ns) = false
-same_numbers (m ∷ ms) [] = false
-
 -- two shadows are the same, field by field
 unfoldable pub same_shadow : Shadow → Shadow → Bool
 same_shadow u v =
-    same_name u.name v.name && (u.home == v.home) && same_numbers u.deps.blue v.deps.blue && (u.deps.red == v.deps.red)
+    same_name u.name v.name && (u.home == v.home) && pointwise nat_eq u.deps.blue v.deps.blue && (u.deps.red == v.deps.red)
     && (u.account.0 == v.account.0) && (u.amount == v.amount) && same_kind u.kind v.kind
 
 -- the operation of the name

@@ -1,5 +1,7 @@
 -- What is wrong with a shadow by itself.
-use Rattle.std.specs.Prelude.{◌≡◌, ℕ, ◌+◌, ◌-◌, Bool, true, false, if◌then◌else◌, not, ◌&&◌, ◌||◌, nat_le, nat_lt, ◌==◌, List, [], ◌∷◌, length, Option, Some, None}
+use Rattle.std.specs.Prelude.{◌≡◌, ℕ, ◌+◌, ◌-◌, Bool, true, false, if◌then◌else◌, not, ◌&&◌, ◌||◌, nat_le, nat_lt, ◌==◌, List, [], ◌∷◌}
+use Rattle.std.specs.Prelude.{length, Option, Some, None, is_some}
+use Rattle.rb_money.specs.Refusals.{unless}
 use Rattle.rb_money.specs.Settings.{Settings}
 use Rattle.rb_money.specs.declared.limits.Limits.{Limits}
 use Rattle.rb_money.specs.declared.cents.TheConstants.{MOST_CENTS}
@@ -10,7 +12,7 @@ use Rattle.rb_shadow.specs.declared.kind.Kind.{Kind}
 use Rattle.rb_shadow.specs.declared.kind.Kind.TheVariants.{Interest, Cancel}
 use Rattle.rb_shadow.specs.declared.deps.Deps.{Deps}
 use Rattle.rb_shadow.specs.declared.shadow.Shadow.{Shadow}
-use Rattle.rb_shadow.specs.Operations.{names_of_clock, number_of, entry_of, target_of, receiver_of, is_cancel, colour_of, shown_colour, same_colour}
+use Rattle.rb_shadow.specs.Operations.{names_of_clock, number_of, entry_of, target_of, receiver_of, colour_of, shown_colour, same_colour}
 
 -- a blue name's site isn't the home
 abbrev pub is_foreign : OpName → ℕ → Bool
@@ -40,16 +42,11 @@ is_misdirected accounts own (Some to) = nat_le accounts to.0 || (to.0 == own.0)
 
 -- by its kind alone the name can't be of this colour: a kind that isn't a cancellation has one colour
 abbrev pub is_miscoloured : Kind → OpName → Bool
-is_miscoloured k x = not (is_cancel k) && not (same_colour (shown_colour x) (colour_of k None))
+is_miscoloured k x = not (is_some (target_of k)) && not (same_colour (shown_colour x) (colour_of k None))
 
--- a home can't have applied the target, if there is one: it is of none of so many sites, or the clock doesn't count it
-abbrev pub is_unseen : ℕ → Deps → Option OpName → Bool
-is_unseen sites c None = false
-is_unseen sites c (Some x) = is_absent sites x || not (names_of_clock c x)
-
--- it cancels what its home can't have applied
+-- it cancels what its home can't have applied: a target of none of so many sites, or one that the clock doesn't count
 abbrev pub cancels_unseen : ℕ → Kind → Deps → Bool
-cancels_unseen sites k c = is_unseen sites c (target_of k)
+cancels_unseen sites k c = unless (λ x. is_absent sites x || not (names_of_clock c x)) (target_of k) false
 
 -- each entry is within the limit, and 0 past the sites
 abbrev pub are_entries : ℕ → ℕ → List ℕ → Bool
@@ -60,22 +57,18 @@ are_entries sites limit (n ∷ ns) = (if sites == 0 then n == 0 else nat_le n li
 abbrev pub is_clock : ℕ → Limits → Deps → Bool
 is_clock sites l c = are_entries sites l.blue c.blue && nat_le c.red l.red
 
--- the first thing that is wrong with a shadow by itself, where there are so many sites and accounts
-unfoldable pub fault_of : ℕ → ℕ → Limits → Shadow → Option ℕ
-fault_of sites accounts l v =
-    if nat_le sites v.home || is_foreign v.name v.home then Some 1
-    else (if number_of v.name == 0 || nat_lt (limit_of l v.name) (number_of v.name) then Some 2
-    else (if nat_le accounts v.account.0 || is_misdirected accounts v.account (receiver_of v.kind) then Some 3
+-- the first thing that is wrong with a shadow by itself, in a configuration
+unfoldable pub fault_of : Settings → Shadow → Option ℕ
+fault_of s v =
+    if nat_le s.sites v.home || is_foreign v.name v.home then Some 1
+    else (if number_of v.name == 0 || nat_lt (limit_of s.limits v.name) (number_of v.name) then Some 2
+    else (if nat_le (length s.starts) v.account.0 || is_misdirected (length s.starts) v.account (receiver_of v.kind) then Some 3
     else (if nat_lt MOST_CENTS v.amount || (v.amount == 0 && not (may_be_nothing v.kind)) then Some 4
     else (if is_miscoloured v.kind v.name then Some 5
-    else (if cancels_unseen sites v.kind v.deps then Some 6
-    else (if not (is_clock sites l v.deps) || not (entry_of v.deps v.name + 1 == number_of v.name) then Some 7
+    else (if cancels_unseen s.sites v.kind v.deps then Some 6
+    else (if not (is_clock s.sites s.limits v.deps) || not (entry_of v.deps v.name + 1 == number_of v.name) then Some 7
     else None))))))
-
--- the same, in a configuration
-abbrev pub fault_in : Settings → Shadow → Option ℕ
-fault_in s v = fault_of s.sites (length s.starts) s.limits v
 
 -- nothing is wrong with it by itself
 abbrev pub IsSound : Settings → Shadow → Type 0
-IsSound s v = fault_in s v ≡ None
+IsSound s v = fault_of s v ≡ None

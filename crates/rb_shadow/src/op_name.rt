@@ -1,6 +1,6 @@
 //! Names of operations.
 ghost use Rattle.std.specs.Prelude.{◌≡◌};
-ghost use Rattle.rb_shadow.specs.Operations.{number_of, shown_colour};
+ghost use Rattle.rb_shadow.specs.Operations.{number_of, row_of, shown_colour};
 ghost use Rattle.rb_shadow.specs.Sound.{is_absent, is_foreign, limit_of};
 
 use crate::Colour;
@@ -22,6 +22,17 @@ impl OpName {
         match self {
             OpName::Blue { n, .. } => n,
             OpName::Red { n } => n,
+        }
+    }
+
+    /// The row of the name, where operations stand in rows: first that of the red ones, then that of the
+    /// first site's blue ones, and so on.
+    pub fn row(self) -> usize
+        ensures { result ≡ row_of self }
+    {
+        match self {
+            OpName::Blue { site, .. } => usize::from(site) + 1,
+            OpName::Red { .. } => 0,
         }
     }
 

@@ -1,10 +1,10 @@
 //! Shadow operations.
 ghost use Rattle.std.specs.Prelude.{◌≡◌, ◌↔◌, ℕ, Some, None, IsTrue, OnOk, IfErr};
 ghost use Rattle.rb_shadow.specs.Operations.{same_shadow};
-ghost use Rattle.rb_shadow.specs.Sound.{fault_in, fault_of};
+ghost use Rattle.rb_shadow.specs.Sound.{fault_of};
 
 use crate::{Deps, Kind, OpName};
-use rb_money::{Config, Limits, MOST_CENTS, Place, Refusal};
+use rb_money::{Config, MOST_CENTS, Place, Refusal};
 
 /// What a request did, as every site is told.
 #[derive(Clone, Copy, Debug, PartialEq, Eq)]
@@ -35,11 +35,11 @@ impl Shadow {
     ///    name isn't that name's number less 1.
     #[inline(always)]
     pub fn sound(&self, config: &Config) -> Result<(), Refusal>
-        ensures sound { OnOk result (fault_in config.now self.now ≡ None) }
-        ensures faulty { IfErr result (λ refusal. (why : ℕ) × (refusal ≡ Refusal.BadMessage why) × (fault_in config.now self.now ≡ Some why)) }
+        ensures sound { OnOk result (fault_of config.now self.now ≡ None) }
+        ensures faulty { IfErr result (λ refusal. (why : ℕ) × (refusal ≡ Refusal.BadMessage why)
+            × (fault_of config.now self.now ≡ Some why)) }
     {
-        let accounts = config.accounts().len();
-        match self.fault(config.sites(), accounts, config.limits()) {
+        match self.fault(config) {
             None => Ok(()),
             Some(why) => Err(Refusal::BadMessage { why }),
         }
@@ -47,9 +47,11 @@ impl Shadow {
 
     #[tactic(auto, unfolding(crate::specs::Sound::fault_of))]
     #[inline(always)]
-    fn fault(&self, sites: u8, accounts: usize, limits: Limits) -> Option<u8>
-        ensures { result ≡ fault_of sites accounts limits self.now }
+    fn fault(&self, config: &Config) -> Option<u8>
+        ensures { result ≡ fault_of config.now self.now }
     {
+        let (sites, limits) = (config.sites(), config.limits());
+        let accounts = config.accounts().len();
         if self.home >= sites || self.name.is_foreign(self.home) {
             return Some(1);
         }

@@ -39,7 +39,9 @@ row_sound u v h =
 
 row_same : (u : Row) → row_test.eq u u ≡ true
 row_same u =
-    both _ _ (number_same u.position) (both _ _ ((names_exact u.name u.name).1 refl) (both _ _ ((labels_exact u.kind u.kind).1 refl) (both _ _ ((Decides-int_eq u.moved u.moved).1 refl) (both _ _ (bool_same u.cancelled) (number_same u.balance)))))
+    both _ _ (number_same u.position) (both _ _ ((names_exact u.name u.name).1 refl)
+    (both _ _ ((labels_exact u.kind u.kind).1 refl) (both _ _ ((Decides-int_eq u.moved u.moved).1 refl)
+    (both _ _ (bool_same u.cancelled) (number_same u.balance)))))
 
 pub rows_exact : (u v : Row) → IsTrue (row_test.eq u v) ↔ (u ≡ v)
 rows_exact = exact_if row_test.eq row_sound row_same

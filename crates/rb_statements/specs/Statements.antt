@@ -26,7 +26,8 @@ row_after s all a before u =
 -- the rows of the operations after before, in the whole list: one for each that is on the account
 abbrev pub rows_of : Settings → List Shadow → Place → List Shadow → List Shadow → List Row
 rows_of s all a before [] = []
-rows_of s all a before (u ∷ us) = (if is_on before u a then row_after s all a before u ∷ [] else []) ++ rows_of s all a (before ++ u ∷ []) us
+rows_of s all a before (u ∷ us) = (if is_on before u a then row_after s all a before u ∷ [] else [])
+    ++ rows_of s all a (before ++ u ∷ []) us
 
 -- the start, the rows and the balance of an account
 unfoldable pub statement_of : Settings → List Shadow → Place → Statement

@@ -1,6 +1,7 @@
 //! What a site keeps of the token.
 ghost use Rattle.std.specs.Prelude.{◌≡◌, ◌<◌, true, false, Some, None, OnOk, OnErr, IfOk, IfErr, MatchResult};
-ghost use Rattle.rb_token.specs.Token.{first_token, refusal_of_pass, pass_message, passed_token, refusal_of_token, is_stale, taken_token, refusal_of_red};
+ghost use Rattle.rb_token.specs.Token.{first_token, refusal_of_pass, pass_message, passed_token, refusal_of_token};
+ghost use Rattle.rb_token.specs.Token.{is_stale, taken_token, refusal_of_red};
 ghost use Rattle.rb_token.specs.Seen.{Shows};
 
 use crate::{Accepted, TokenMessage, TokenView};
@@ -25,7 +26,12 @@ impl Model for TokenState {
 
     ghost Value = { SeenToken };
 
-    ghost view = { λ s. record { me = s.me; sites = s.sites; limits = s.limits; token = record { epoch = s.epoch; held = s.held; needed = s.needed } } };
+    ghost view = { λ s. record {
+      me = s.me;
+      sites = s.sites;
+      limits = s.limits;
+      token = record { epoch = s.epoch; held = s.held; needed = s.needed };
+    } };
 }
 
 impl TokenState {
@@ -87,11 +93,14 @@ impl TokenState {
     /// Refuses, and changes nothing: with `NoSite` where there is no other site `to`, then with
     /// `NumbersExhausted` where the epochs are used up, then with `NeedToken` where it hasn't the token.
     pub fn pass(&mut self, to: u8, clock: &Clock) -> Result<TokenMessage, Refusal>
-        ensures allowed { OnOk result (refusal_of_pass self.old.sites self.old.limits self.old.me self.old.token to ≡ None) }
+        ensures allowed { OnOk result (refusal_of_pass self.old.sites self.old.limits self.old.me self.old.token to
+            ≡ None) }
         ensures sent { IfOk result (λ message. message ≡ pass_message self.old.token to clock.now.red) }
         // the site, the number of sites and the limits stay
-        ensures passed { IfOk result (λ message. self.new ≡ record self.old { token = passed_token self.old.token message }) }
-        ensures reason { IfErr result (λ why. refusal_of_pass self.old.sites self.old.limits self.old.me self.old.token to ≡ Some why) }
+        ensures passed { IfOk result (λ message. self.new ≡ record self.old
+            { token = passed_token self.old.token message }) }
+        ensures reason { IfErr result (λ why. refusal_of_pass self.old.sites self.old.limits self.old.me self.old.token
+            to ≡ Some why) }
         ensures unchanged { OnErr result (self.new ≡ self.old) }
     {
         if to >= self.sites || to == self.me {
@@ -118,9 +127,12 @@ impl TokenState {
     /// with `BadMessage {why: 2}` where its epoch or its count of red operations is over the limit.
     pub fn accept(&mut self, message: TokenMessage) -> Result<Accepted, Refusal>
         ensures allowed { OnOk result (refusal_of_token self.old.limits self.old.me message ≡ None) }
-        ensures stale { is_stale self.old.token message ≡ true → IfOk result (λ accepted. (accepted ≡ Accepted.Stale) × (self.new ≡ self.old)) }
+        ensures stale { is_stale self.old.token message ≡ true →
+            IfOk result (λ accepted. (accepted ≡ Accepted.Stale) × (self.new ≡ self.old)) }
         // the site, the number of sites and the limits stay
-        ensures taken { is_stale self.old.token message ≡ false → IfOk result (λ accepted. (accepted ≡ Accepted.Taken) × (self.new ≡ record self.old { token = taken_token message })) }
+        ensures taken { is_stale self.old.token message ≡ false →
+            IfOk result (λ accepted. (accepted ≡ Accepted.Taken)
+            × (self.new ≡ record self.old { token = taken_token message })) }
         ensures reason { IfErr result (λ why. refusal_of_token self.old.limits self.old.me message ≡ Some why) }
         ensures unchanged { OnErr result (self.new ≡ self.old) }
     {
@@ -144,7 +156,8 @@ impl TokenState {
     /// Refuses with `NeedToken` where it hasn't the token, then with `RedBehind` where it applied
     /// fewer red operations than it needs.
     pub fn may_red(&self, clock: &Clock) -> Result<(), Refusal>
-        ensures { MatchResult result (λ _. refusal_of_red self.now.token clock.now.red ≡ None) (λ why. refusal_of_red self.now.token clock.now.red ≡ Some why) }
+        ensures { MatchResult result (λ _. refusal_of_red self.now.token clock.now.red
+            ≡ None) (λ why. refusal_of_red self.now.token clock.now.red ≡ Some why) }
     {
         self.view().may_red(clock)
     }

@@ -23,7 +23,8 @@ impl TokenView {
     /// Refuses with `NeedToken` where it hasn't the token, then with `RedBehind` where it applied
     /// fewer red operations than it needs.
     pub fn may_red(&self, clock: &Clock) -> Result<(), Refusal>
-        ensures { (known : Token) → Shows self.now known → MatchResult result (λ _. refusal_of_red known clock.now.red ≡ None) (λ why. refusal_of_red known clock.now.red ≡ Some why) }
+        ensures { (known : Token) → Shows self.now known → MatchResult result (λ _. refusal_of_red known clock.now.red
+            ≡ None) (λ why. refusal_of_red known clock.now.red ≡ Some why) }
     {
         if !self.held {
             return Err(Refusal::NeedToken);

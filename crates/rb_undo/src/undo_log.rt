@@ -1,5 +1,6 @@
 //! Logs of undo records.
-ghost use Rattle.std.specs.Prelude.{◌≡◌, ◌↔◌, ◌+◌, ◌<◌, ◌≤◌, [], ◌∷◌, ◌++◌, length, MatchResult, MatchOption, OnOk, OnErr, IfErr};
+ghost use Rattle.std.specs.Prelude.{◌≡◌, ◌↔◌, ◌+◌, ◌<◌, ◌≤◌, [], ◌∷◌, ◌++◌, length, MatchResult, MatchOption, OnOk};
+ghost use Rattle.std.specs.Prelude.{OnErr, IfErr};
 
 use crate::Undo;
 use std::alloc::{AllocError, Global};

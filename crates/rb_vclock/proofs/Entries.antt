@@ -15,10 +15,12 @@ entry_low : (few many : ℕ) → ((n : ℕ) → (nat_le 1 n && nat_le n few) ≡
 entry_low zero many h = omega arith
 entry_low (suc k) many h = (Clocks.in_range-true (suc k) many (h (suc k) (Clocks.in_range (suc k) (suc k) (omega arith) (omega arith)))).1
 
+-- a clock with no entry below counts all names
 pub at_least_within : (c d : Deps) → IsAtLeast c d → IsWithin (names_of_clock d) (names_of_clock c)
 at_least_within c d least (Blue i n) e = wider n _ _ (least.blue i) e
 at_least_within c d least (Red n) e = wider n d.red c.red least.red e
 
+-- a clock that counts all names has no entry below
 pub within_at_least : (c d : Deps) → IsWithin (names_of_clock d) (names_of_clock c) → IsAtLeast c d
 within_at_least c d within = record {
   blue = λ i. entry_low _ _ (λ n e. within (Blue i n) e);

@@ -60,7 +60,8 @@ impl Clock {
 
     /// Whether the clock has an entry for the shadow's name, which has its next number: what `advance` asks for.
     pub fn is_next(&self, shadow: &Shadow) -> bool
-        ensures { IsTrue result ↔ (HasEntry shadow.now.name × (number_of shadow.now.name ≡ entry_of self.now shadow.now.name + 1)) }
+        ensures { IsTrue result ↔ (HasEntry shadow.now.name ×
+            (number_of shadow.now.name ≡ entry_of self.now shadow.now.name + 1)) }
     {
         has_entry(shadow.name)
             && self.entries.entry(shadow.name).checked_add(1) == Some(shadow.name.number())
@@ -85,7 +86,8 @@ impl Clock {
         requires positive { 1 ≤ number_of name.now }
         requires entry { HasEntry name.now }
         ensures entries { self.new ≡ lowered self.old name.now }
-        ensures names { (x : OpName) → names_of_clock self.new x ≡ (names_of_clock self.old x && not (same_name name.now x)) }
+        ensures names { (x : OpName) → names_of_clock self.new x
+            ≡ (names_of_clock self.old x && not (same_name name.now x)) }
     {
         match *name {
             OpName::Blue { site, n } => self.entries.blue[usize::from(site)] = n - 1,

@@ -8,6 +8,7 @@ use Rattle.rb_inbox.specs.Held.{IsNumbered, stands_before, with_held}
 use Rattle.std.specs.Prelude.{filter}
 use Rattle.rb_shadow.specs.Operations.{Among}
 
+-- a sound shadow may be held
 pub sound_numbered : (s : Settings) (v : Shadow) → IsSound s v → IsNumbered v
 sound_numbered s v h = record { home = (sound_facts s v h).own; next = sym (is_next s v h).own }
 
@@ -27,7 +28,8 @@ held_cases v [] u (inl e) = inl e
 held_cases v [] u (inr h) = elim h [ ]
 held_cases v (w ∷ us) u h = at (stands_before v.name w.name) h (held_cases v us u)
   where
-    at : (b : Bool) → Among u (cond b (v ∷ w ∷ us) (w ∷ with_held v us)) → (Among u (with_held v us) → (u ≡ v) ⊎ Among u us) → (u ≡ v) ⊎ Among u (w ∷ us)
+    at : (b : Bool) → Among u (cond b (v ∷ w ∷ us) (w ∷ with_held v us)) → (Among u (with_held v us) → (u ≡ v) ⊎ Among u us) →
+        (u ≡ v) ⊎ Among u (w ∷ us)
     at true (inl e) rest = inl e
     at true (inr k) rest = inr k
     at false (inl e) rest = inr (inl e)

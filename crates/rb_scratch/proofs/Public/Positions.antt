@@ -16,7 +16,8 @@ find_in-unnamed (u ∷ us) x h =
     ap (λ b. cond b (Some u) (find_in us x)) first ∙ find_in-unnamed us x rest
 
 -- what stands at the position of a named operation is what is found
-position-found : (us : List Shadow) (x : OpName) (k : ℕ) → names us x ≡ true → (k ≤ position_from k us x) × (slice_get us (position_from k us x - k) ≡ find_in us x)
+position-found : (us : List Shadow) (x : OpName) (k : ℕ) → names us x ≡ true →
+    (k ≤ position_from k us x) × (slice_get us (position_from k us x - k) ≡ find_in us x)
 position-found [] x k h = cc
 position-found (u ∷ us) x k h = at (same_name u.name x) h (position-found us x (k + 1))
   where
@@ -26,13 +27,16 @@ position-found (u ∷ us) x k h = at (same_name u.name x) h (position-found us x
     further : (p n : ℕ) → n + 1 ≤ p → slice_get us (p - (n + 1)) ≡ find_in us x → slice_get (u ∷ us) (p - n) ≡ find_in us x
     further p n low e = let step : p - n ≡ suc (p - (n + 1)) = omega arith in rw step e
 
-    at : (b : Bool) → (b || names us x) ≡ true → (names us x ≡ true → (k + 1 ≤ position_from (k + 1) us x) × (slice_get us (position_from (k + 1) us x - (k + 1)) ≡ find_in us x))
-        → (k ≤ cond b k (position_from (k + 1) us x)) × (slice_get (u ∷ us) (cond b k (position_from (k + 1) us x) - k) ≡ cond b (Some u) (find_in us x))
+    at : (b : Bool) → (b || names us x) ≡ true → (names us x ≡ true → (k + 1 ≤ position_from (k + 1) us x)
+        × (slice_get us (position_from (k + 1) us x - (k + 1)) ≡ find_in us x))
+        → (k ≤ cond b k (position_from (k + 1) us x)) × (slice_get (u ∷ us) (cond b k (position_from (k + 1) us x) - k)
+            ≡ cond b (Some u) (find_in us x))
     at true h more = (omega arith, rw (first k) refl)
     at false h more =
         let q : (k + 1 ≤ position_from (k + 1) us x) × (slice_get us (position_from (k + 1) us x - (k + 1)) ≡ find_in us x) = more h in
         (let low = q.0 in omega arith, further (position_from (k + 1) us x) k q.0 q.1)
 
+-- under a name that wasn't found no operation stands
 pub no_position : (us : List Shadow) (x : OpName) → find_position us x ≡ None → find_in us x ≡ None
 no_position us x h = at (names us x) refl h
   where
@@ -40,6 +44,7 @@ no_position us x h = at (names us x) refl h
     at true e h = cc
     at false e h = find_in-unnamed us x e
 
+-- at the position of a name its operation stands
 pub at_position : (us : List Shadow) (x : OpName) (p : ℕ) → find_position us x ≡ Some p → operation_at us p ≡ find_in us x
 at_position us x p h = at (names us x) refl h
   where
@@ -47,5 +52,6 @@ at_position us x p h = at (names us x) refl h
     at true e h =
         let q : (1 ≤ position_from 1 us x) × (slice_get us (position_from 1 us x - 1) ≡ find_in us x) = position-found us x 1 e in
         let is : position_from 1 us x ≡ p = cc in
-        subst (λ n. operation_at us n ≡ find_in us x) is (ap (λ b. cond b None (slice_get us (position_from 1 us x - 1))) (positive (position_from 1 us x) q.0) ∙ q.1)
+        subst (λ n. operation_at us n ≡ find_in us x) is (ap (λ b. cond b None (slice_get us (position_from 1 us x - 1)))
+            (positive (position_from 1 us x) q.0) ∙ q.1)
     at false e h = cc

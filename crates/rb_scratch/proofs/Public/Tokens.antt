@@ -16,13 +16,16 @@ use Rattle.rb_shadow.specs.declared.colour.Colour.{Colour}
 abbrev pub seen : TokenView → Token
 seen w = record { epoch = 0; held = w.held; needed = w.needed }
 
+-- a view shows the token that it is made of
 pub seen_shows : (w : TokenView) → Shows w (seen w)
 seen_shows w = record { held = refl; needed = refl }
 
+-- the next name of a colour shows that colour
 pub shows : (me : ℕ) (us : List Shadow) (c : Colour) → shown_colour (next_name me us c) ≡ c
 shows me us BlueColour = refl
 shows me us RedColour = refl
 
+-- a balance that isn't below an amount has it
 pub enough : (z : ℤ) (n : ℕ) → int_lt z (pos n) ≡ false → pos n ≤ℤ z
 enough (pos m) n h = let low : n ≤ m = grind (arith, nat_tests) in omega (arith, ints)
 enough (negsuc m) n h = cc

@@ -1,6 +1,7 @@
 -- No balance is negative in a closed part of a lawful set whose red operations were covered where they were made.
-use Rattle.std.proofs.Common.{◌≡◌, ◌≢◌, ℕ, Bool, true, false, cond, not, ◌&&◌, ◌||◌, List, [], ◌∷◌, ◌++◌, refl, ap, sym, ◌∙◌, arith, ◌⊎◌, inl, inr, subst}
-use Rattle.std.specs.Prelude.{ℤ, pos, ◌≤ℤ◌, ◌==◌, Option, Some, None}
+use Rattle.std.proofs.Common.{◌≡◌, ◌≢◌, ℕ, Bool, true, false, cond, not, ◌&&◌, ◌||◌, List, [], ◌∷◌, ◌++◌, refl, ap, sym, ◌∙◌, arith, ◌⊎◌}
+use Rattle.std.proofs.Common.{inl, inr, subst}
+use Rattle.std.specs.Prelude.{ℤ, pos, ◌≤ℤ◌, ◌==◌, Option, Some, None, is_some}
 use Rattle.std.proofs.lemmas.Int.{ints}
 use Rattle.rb_money.specs.Settings.{Settings, start_of}
 use Rattle.rb_money.specs.declared.place.Place.{Place}
@@ -8,7 +9,8 @@ use Rattle.rb_shadow.specs.declared.shadow.Shadow.{Shadow}
 use Rattle.rb_shadow.specs.declared.op_name.OpName.{OpName}
 use Rattle.rb_shadow.specs.declared.kind.Kind.{Kind}
 use Rattle.rb_shadow.specs.declared.kind.Kind.TheVariants.{Deposit, Withdraw, Interest, Transfer}
-use Rattle.rb_shadow.specs.Operations.{Among, same_name, names, past, Precedes, IsUnique, IsWithin, AreSame, delta, moved, arrived, receiver_of, bal, is_kept, is_cancelled, is_cancel, cancels, is_red}
+use Rattle.rb_shadow.specs.Operations.{Among, same_name, names, past, Precedes, IsUnique, IsWithin, AreSame, delta, moved, arrived}
+use Rattle.rb_shadow.specs.Operations.{receiver_of, bal, is_cancelled, cancels, is_red, target_of}
 use Rattle.rb_shadow.specs.Laws.{IsClosed, IsFunded, IsPart}
 use Rattle.rb_shadow.proofs.Public.Members
 use Rattle.rb_shadow.proofs.Public.Totals
@@ -46,7 +48,7 @@ delta-none_taken u a e = at (u.account.0 == a.0) u.kind e
     at true _ e = omega (arith, ints)
 
 worth-none_taken : (us : List Shadow) (a : Place) (u : Shadow) → takes u.kind ≡ false → pos 0 ≤ℤ Balances.worth us a u
-worth-none_taken us a u e = at (is_kept us u) (delta-none_taken u a e)
+worth-none_taken us a u e = at (Balances.is_kept us u) (delta-none_taken u a e)
   where
     at : (b : Bool) → pos 0 ≤ℤ delta u a → pos 0 ≤ℤ cond b (delta u a) (pos 0)
     at true h = h
@@ -61,7 +63,8 @@ takes_more true false true z h k = h
 takes_more true false false z h k = omega (arith, ints)
 
 adds_same : (p b c : Bool) (z : ℤ) → b ≡ c → cond (p && not b) z (pos 0) ≤ℤ cond (p && not c) z (pos 0)
-adds_same p b c z e = let same : cond (p && not b) z (pos 0) ≡ cond (p && not c) z (pos 0) = ap (λ b. cond (p && not b) z (pos 0)) e in omega (arith, ints, same)
+adds_same p b c z e = let same : cond (p && not b) z (pos 0) ≡ cond (p && not c) z (pos 0) = ap (λ b. cond (p && not b) z (pos 0)) e in
+    omega (arith, ints, same)
 
 nothing_added : (k : Kind) (n : ℕ) (a : Place) (d : Bool) → adds k ≡ false → cond d (moved k n) (arrived (receiver_of k) n a) ≤ℤ pos 0
 nothing_added Deposit n a d e = absurd (Members.true≢false e)
@@ -71,10 +74,13 @@ nothing_added _ n a true e = omega (arith, ints)
 nothing_added _ n a false e = omega (arith, ints)
 
 -- an operation is worth no less where nothing that adds is cancelled besides
-worth-more : (us vs : List Shadow) (a : Place) (u : Shadow) → (is_cancelled us u.name ≡ true → is_cancelled vs u.name ≡ true) → (adds u.kind ≡ true → is_cancelled vs u.name ≡ true → is_cancelled us u.name ≡ true) → Balances.worth us a u ≤ℤ Balances.worth vs a u
+worth-more : (us vs : List Shadow) (a : Place) (u : Shadow) → (is_cancelled us u.name ≡ true → is_cancelled vs u.name ≡ true) →
+    (adds u.kind ≡ true → is_cancelled vs u.name ≡ true → is_cancelled us u.name ≡ true) → Balances.worth us a u ≤ℤ Balances.worth vs a u
 worth-more us vs a u there back = elim (Members.bool_cases (adds u.kind)) [
-  | inl e ↦ adds_same (not (is_cancel u.kind)) (is_cancelled us u.name) (is_cancelled vs u.name) (delta u a) (Members.both-same _ _ there (back e))
-  | inr e ↦ takes_more (not (is_cancel u.kind)) (is_cancelled us u.name) (is_cancelled vs u.name) (delta u a) (nothing_added u.kind u.amount a (u.account.0 == a.0) e) there
+  | inl e ↦ adds_same (not (is_some (target_of u.kind))) (is_cancelled us u.name) (is_cancelled vs u.name) (delta u a)
+      (Members.both-same _ _ there (back e))
+  | inr e ↦ takes_more (not (is_some (target_of u.kind))) (is_cancelled us u.name) (is_cancelled vs u.name) (delta u a)
+      (nothing_added u.kind u.amount a (u.account.0 == a.0) e) there
 ]
 
 -- a balance is no less with more operations, of which none takes and none cancels what adds
@@ -88,48 +94,59 @@ bal-more s us vs a uu uv part none_taken none_undone =
       ints,
       Balances.bal-worth s us a,
       Balances.bal-worth s vs a,
-      Totals.total-le (Balances.worth us a) (Balances.worth vs a) us (λ u h. worth-more us vs a u (Balances.cancelled-part us vs u.name part) (undone u h)),
+      Totals.total-le (Balances.worth us a) (Balances.worth vs a) us (λ u h. worth-more us vs a u
+          (Balances.cancelled-part us vs u.name part) (undone u h)),
       Balances.total-part (Balances.worth vs a) us vs uu uv part (λ v h k. worth-none_taken vs a v (none_taken v h k)),
     )
   where
     undone : (u : Shadow) → Among u us → adds u.kind ≡ true → is_cancelled vs u.name ≡ true → is_cancelled us u.name ≡ true
-    undone u h e k = let (c, there, by) = Balances.cancelled_by vs u.name k in Balances.cancelled us c u.name (none_undone u c h there by e) by
+    undone u h e k = let (c, there, by) = Balances.cancelled_by vs u.name k in
+        Balances.cancelled us c u.name (none_undone u c h there by e) by
 
 -- ---- the last red operation
 
 -- of two different red operations one precedes the other
 abbrev pub RedsInLine : List Shadow → Type 0
-RedsInLine all = (u v : Shadow) → Among u all → Among v all → is_red u.name ≡ true → is_red v.name ≡ true → u.name ≢ v.name → Precedes u v ⊎ Precedes v u
+RedsInLine all = (u v : Shadow) → Among u all → Among v all → is_red u.name ≡ true → is_red v.name ≡ true → u.name ≢ v.name →
+    Precedes u v ⊎ Precedes v u
 
+-- what precedes one that precedes another precedes it
 abbrev pub IsTransitive : List Shadow → Type 0
 IsTransitive all = (t u v : Shadow) → Among t all → Among u all → Among v all → Precedes t u → Precedes u v → Precedes t v
 
 -- no operation is red, or one is and all red ones precede it or are it
 abbrev pub LastRed : List Shadow → Type 0
-LastRed vs = ((v : Shadow) → Among v vs → is_red v.name ≡ false) ⊎ ((r : Shadow) × Among r vs × (is_red r.name ≡ true) × ((v : Shadow) → Among v vs → is_red v.name ≡ true → (v.name ≡ r.name) ⊎ Precedes v r))
+LastRed vs = ((v : Shadow) → Among v vs → is_red v.name ≡ false) ⊎ ((r : Shadow) × Among r vs × (is_red r.name ≡ true)
+    × ((v : Shadow) → Among v vs → is_red v.name ≡ true → (v.name ≡ r.name) ⊎ Precedes v r))
 
+-- a part has a last red operation, or none
 pub last_red : (all vs : List Shadow) → RedsInLine all → IsTransitive all → IsPart vs all → LastRed vs
 last_red all [] line trans part = inl (λ v h. elim h [ ])
 last_red all (v ∷ vs) line trans part = at (Members.bool_cases (is_red v.name)) (last_red all vs line trans (λ u h. part u (inr h)))
   where
-    first : ((u : Shadow) → Among u vs → is_red u.name ≡ false) → (u : Shadow) → Among u (v ∷ vs) → is_red u.name ≡ true → (u.name ≡ v.name) ⊎ Precedes u v
+    first : ((u : Shadow) → Among u vs → is_red u.name ≡ false) → (u : Shadow) → Among u (v ∷ vs) → is_red u.name ≡ true →
+        (u.name ≡ v.name) ⊎ Precedes u v
     first none u (inl h) k = inl (ap (λ (w : Shadow). w.name) h)
     first none u (inr h) k = absurd (Members.true≢false (sym k ∙ none u h))
 
-    no : is_red v.name ≡ false → ((u : Shadow) → Among u vs → is_red u.name ≡ false) → (u : Shadow) → Among u (v ∷ vs) → is_red u.name ≡ false
+    no : is_red v.name ≡ false → ((u : Shadow) → Among u vs → is_red u.name ≡ false) → (u : Shadow) → Among u (v ∷ vs) →
+        is_red u.name ≡ false
     no e none u (inl h) = ap (λ (w : Shadow). is_red w.name) h ∙ e
     no e none u (inr h) = none u h
 
-    same : (r : Shadow) → is_red v.name ≡ false → ((u : Shadow) → Among u vs → is_red u.name ≡ true → (u.name ≡ r.name) ⊎ Precedes u r) → (u : Shadow) → Among u (v ∷ vs) → is_red u.name ≡ true → (u.name ≡ r.name) ⊎ Precedes u r
+    same : (r : Shadow) → is_red v.name ≡ false → ((u : Shadow) → Among u vs → is_red u.name ≡ true → (u.name ≡ r.name) ⊎ Precedes u r) →
+        (u : Shadow) → Among u (v ∷ vs) → is_red u.name ≡ true → (u.name ≡ r.name) ⊎ Precedes u r
     same r e last u (inl h) k = absurd (Members.true≢false (sym k ∙ ap (λ (w : Shadow). is_red w.name) h ∙ e))
     same r e last u (inr h) k = last u h k
 
-    before : (r : Shadow) → (v.name ≡ r.name) ⊎ Precedes v r → ((u : Shadow) → Among u vs → is_red u.name ≡ true → (u.name ≡ r.name) ⊎ Precedes u r) → (u : Shadow) → Among u (v ∷ vs) → is_red u.name ≡ true → (u.name ≡ r.name) ⊎ Precedes u r
+    before : (r : Shadow) → (v.name ≡ r.name) ⊎ Precedes v r → ((u : Shadow) → Among u vs → is_red u.name ≡ true →
+        (u.name ≡ r.name) ⊎ Precedes u r) → (u : Shadow) → Among u (v ∷ vs) → is_red u.name ≡ true → (u.name ≡ r.name) ⊎ Precedes u r
     before r (inl e) last u (inl h) k = inl (ap (λ (w : Shadow). w.name) h ∙ e)
     before r (inr p) last u (inl h) k = inr (subst (λ w. Precedes w r) (sym h) p)
     before r e last u (inr h) k = last u h k
 
-    after : (r : Shadow) → Among r vs → Precedes r v → ((u : Shadow) → Among u vs → is_red u.name ≡ true → (u.name ≡ r.name) ⊎ Precedes u r) → (u : Shadow) → Among u (v ∷ vs) → is_red u.name ≡ true → (u.name ≡ v.name) ⊎ Precedes u v
+    after : (r : Shadow) → Among r vs → Precedes r v → ((u : Shadow) → Among u vs → is_red u.name ≡ true → (u.name ≡ r.name) ⊎ Precedes u r)
+        → (u : Shadow) → Among u (v ∷ vs) → is_red u.name ≡ true → (u.name ≡ v.name) ⊎ Precedes u v
     after r there p last u (inl h) k = inl (ap (λ (w : Shadow). w.name) h)
     after r there p last u (inr h) k = elim (last u h k) [
       | inl e ↦ inr (ap (past v) e ∙ p)
@@ -142,10 +159,11 @@ last_red all (v ∷ vs) line trans part = at (Members.bool_cases (is_red v.name)
     at (inr e) (inr (r, there, red, last)) = inr (r, inr there, red, same r e last)
     at (inl e) (inr (r, there, red, last)) = elim (Members.bool_cases (same_name v.name r.name)) [
       | inl q ↦ inr (r, inr there, red, before r (inl (Members.same_name-true v.name r.name q)) last)
-      | inr q ↦ elim (line v r (part v (inl refl)) (part r (inr there)) e red (λ n. Members.true≢false (sym (Members.same_name-refl v.name) ∙ ap (same_name v.name) n ∙ q))) [
-        | inl p ↦ inr (r, inr there, red, before r (inr p) last)
-        | inr p ↦ inr (v, inl refl, e, after r there p last)
-      ]
+      | inr q ↦ elim (line v r (part v (inl refl)) (part r (inr there)) e red (λ n. Members.true≢false (sym (Members.same_name-refl v.name)
+          ∙ ap (same_name v.name) n ∙ q))) [
+            | inl p ↦ inr (r, inr there, red, before r (inr p) last)
+            | inr p ↦ inr (v, inl refl, e, after r there p last)
+          ]
     ]
 
 -- ---- a closed part of the operations covers every account
@@ -155,13 +173,15 @@ pub record IsCovered (s : Settings) (all : List Shadow) : Type 0 where
   pub taken_red : (u : Shadow) → Among u all → takes u.kind ≡ true → is_red u.name ≡ true
   pub cancel_red : (u c : Shadow) → Among u all → Among c all → cancels c.kind u.name ≡ true → adds u.kind ≡ true → is_red c.name ≡ true
   pub checked : (r : Shadow) → Among r all → is_red r.name ≡ true →
-      (before : List Shadow) × IsPart before all × IsUnique before × AreSame (names before) (past r) × ((a : Place) → pos 0 ≤ℤ bal s (before ++ r ∷ []) a)
+      (before : List Shadow) × IsPart before all × IsUnique before × AreSame (names before) (past r)
+      × ((a : Place) → pos 0 ≤ℤ bal s (before ++ r ∷ []) a)
 
 -- where there are no operations, a balance is the start
 at_start : (s : Settings) (a : Place) → pos (start_of s a) ≤ℤ bal s [] a
 unfolding bal
 at_start s a = omega (arith, ints)
 
+-- no operations leave no balance below zero
 pub nothing_less : (s : Settings) (a : Place) → pos 0 ≤ℤ bal s [] a
 nothing_less s a = let start : pos 0 ≤ℤ pos (start_of s a) = omega (arith, ints) in omega (arith, ints, start, at_start s a)
 
@@ -185,10 +205,14 @@ above_last s all vs before r a unique covered alone part uv closed there last in
 
     named_in : (x : OpName) → (names before x ≡ true) ⊎ (r.name ≡ x) → names us x ≡ true
     named_in x (inl e) = Members.names-append before (r ∷ []) x ∙ ap (λ b. b || names (r ∷ []) x) e
-    named_in x (inr e) = Members.names-append before (r ∷ []) x ∙ Members.or-right (names before x) (names (r ∷ []) x) (ap (λ b. b || false) (ap (same_name r.name) (sym e) ∙ Members.same_name-refl r.name))
+    named_in x (inr e) = Members.names-append before (r ∷ []) x ∙ Members.or-right (names before x) (names (r ∷ []) x) (ap (λ b. b
+        || false) (ap (same_name r.name) (sym e) ∙ Members.same_name-refl r.name))
 
     uu : IsUnique us
-    uu = Members.IsUnique-push before r ub (is_past r.name ∙ elim (Members.bool_cases (past r r.name)) [ inl e ↦ absurd (alone e) | inr e ↦ e ])
+    uu = Members.IsUnique-push before r ub (is_past r.name ∙ elim (Members.bool_cases (past r r.name)) [
+      | inl e ↦ absurd (alone e)
+      | inr e ↦ e
+    ])
 
     us_in_all : IsPart us all
     us_in_all u h = elim (Members.Among-cases before (r ∷ []) u h) [ inl k ↦ inside u k | inr k ↦ one u k ]
@@ -204,7 +228,10 @@ above_last s all vs before r a unique covered alone part uv closed there last in
     ]
       where
         only : (x : OpName) → names (r ∷ []) x ≡ true → r.name ≡ x
-        only x e = elim (Members.or-true (same_name r.name x) false e) [ inl k ↦ Members.same_name-true r.name x k | inr k ↦ absurd (Members.true≢false (sym k)) ]
+        only x e = elim (Members.or-true (same_name r.name x) false e) [
+          | inl k ↦ Members.same_name-true r.name x k
+          | inr k ↦ absurd (Members.true≢false (sym k))
+        ]
 
     us_in_vs : IsPart us vs
     us_in_vs = Balances.part_by_names all us vs unique us_in_all part within
@@ -216,7 +243,8 @@ above_last s all vs before r a unique covered alone part uv closed there last in
     ]
 
     us_has : (c : Shadow) → Among c vs → names us c.name ≡ true → Among c us
-    us_has c h k = let (w, here, e) = Members.find_named us c.name k in subst (λ u. Among u us) (Members.same_named all w c unique (us_in_all w here) (part c h) e) here
+    us_has c h k = let (w, here, e) = Members.find_named us c.name k in
+        subst (λ u. Among u us) (Members.same_named all w c unique (us_in_all w here) (part c h) e) here
 
 -- each balance of a closed part has its source
 pub funded : (s : Settings) (all vs : List Shadow) (a : Place)
@@ -241,13 +269,26 @@ funded s all vs a unique line trans irreflexive covered part uv closed = at (las
     )
     at (inr (r, there, red, last)) =
         let (before, inside, ub, is_past, ok) = covered.checked r (part r there) red in
-        inr (r, there, red, last, before, inside, ub, is_past, ok a, above_last s all vs before r a unique covered (irreflexive r (part r there)) part uv closed there last inside ub is_past)
+        inr (
+          r,
+          there,
+          red,
+          last,
+          before,
+          inside,
+          ub,
+          is_past,
+          ok a,
+          above_last s all vs before r a unique covered
+              (irreflexive r (part r there)) part uv closed there last inside ub is_past,
+        )
 
 -- no balance of a closed part is negative
 pub never_negative : (s : Settings) (all vs : List Shadow) (a : Place)
     → IsUnique all → RedsInLine all → IsTransitive all → ((u : Shadow) → Among u all → ¬ Precedes u u) → IsCovered s all
     → IsPart vs all → IsUnique vs → IsClosed vs → pos 0 ≤ℤ bal s vs a
-never_negative s all vs a unique line trans irreflexive covered part uv closed = at (funded s all vs a unique line trans irreflexive covered part uv closed)
+never_negative s all vs a unique line trans irreflexive covered part uv closed =
+    at (funded s all vs a unique line trans irreflexive covered part uv closed)
   where
     at : IsFunded s all vs a → pos 0 ≤ℤ bal s vs a
     at (inl (none, enough)) = let start : pos 0 ≤ℤ pos (start_of s a) = omega (arith, ints) in omega (arith, ints, start, enough)

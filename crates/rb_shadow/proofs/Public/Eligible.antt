@@ -1,5 +1,6 @@
 -- The test of eligibility says that the past is among the names.
-use Rattle.std.proofs.Common.{◌≡◌, ℕ, suc, zero, ◌+◌, ◌<◌, ◌≤◌, Bool, true, ◌&&◌, List, [], ◌∷◌, ◌++◌, refl, ap, ◌∙◌, arith, ◌⊎◌, inl, inr, subst, get_or}
+use Rattle.std.proofs.Common.{◌≡◌, ℕ, suc, zero, ◌+◌, ◌<◌, ◌≤◌, Bool, true, ◌&&◌, List, [], ◌∷◌, ◌++◌, refl, ap, ◌∙◌, arith, ◌⊎◌, inl, inr}
+use Rattle.std.proofs.Common.{subst, get_or}
 use Rattle.std.specs.Prelude.{◌==◌, map}
 use Rattle.std.specs.List.{range_with_len, list_all}
 use Rattle.std.proofs.lemmas.Bool.Decides.{nat_tests}
@@ -57,20 +58,31 @@ blue_row : (i k n : ℕ) (ns : List ℕ) → 1 ≤ n → n ≤ get_or ns k 0 →
 blue_row i k n [] h l = absurd (let none : get_or {A = ℕ} [] k 0 ≡ 0 = refl in omega arith)
 blue_row i zero n (c ∷ ns) h l =
     Listed-left (Blue (i + 0) n) (map (λ m. Blue i m) (range_with_len 1 c)) (blue_listed (i + 1) ns)
-    (subst (λ j. Listed (Blue j n) (map (λ m. Blue i m) (range_with_len 1 c))) (let e : i ≡ i + 0 = omega arith in e) (row_listed (λ m. Blue i m) 1 c n h (omega arith)))
+    (subst (λ j. Listed (Blue j n) (map (λ m. Blue i m) (range_with_len 1 c))) (let e : i ≡ i + 0 = omega arith in
+    e) (row_listed (λ m. Blue i m) 1 c n h (omega arith)))
 blue_row i (suc k) n (c ∷ ns) h l =
     Listed-right (Blue (i + suc k) n) (map (λ m. Blue i m) (range_with_len 1 c)) (blue_listed (i + 1) ns)
-    (subst (λ j. Listed (Blue j n) (blue_listed (i + 1) ns)) (let e : (i + 1) + k ≡ i + suc k = omega arith in e) (blue_row (i + 1) k n ns h l))
+    (subst (λ j. Listed (Blue j n) (blue_listed (i + 1) ns)) (let e : (i + 1) + k ≡ i + suc k = omega arith in
+    e) (blue_row (i + 1) k n ns h l))
 
-row_blue : (i : ℕ) (ns : List ℕ) (x : OpName) → Listed x (blue_listed i ns) → (k : ℕ) × (n : ℕ) × (x ≡ Blue (i + k) n) × (1 ≤ n) × (n ≤ get_or ns k 0)
+row_blue : (i : ℕ) (ns : List ℕ) (x : OpName) → Listed x (blue_listed i ns) →
+    (k : ℕ) × (n : ℕ) × (x ≡ Blue (i + k) n) × (1 ≤ n) × (n ≤ get_or ns k 0)
 row_blue i [] x h = elim h [ ]
 row_blue i (c ∷ ns) x h = at (Listed-cases x (map (λ m. Blue i m) (range_with_len 1 c)) (blue_listed (i + 1) ns) h) (row_blue (i + 1) ns x)
   where
     at : Listed x (map (λ m. Blue i m) (range_with_len 1 c)) ⊎ Listed x (blue_listed (i + 1) ns)
         → (Listed x (blue_listed (i + 1) ns) → (k : ℕ) × (n : ℕ) × (x ≡ Blue ((i + 1) + k) n) × (1 ≤ n) × (n ≤ get_or ns k 0))
         → (k : ℕ) × (n : ℕ) × (x ≡ Blue (i + k) n) × (1 ≤ n) × (n ≤ get_or (c ∷ ns) k 0)
-    at (inl t) more = let (m, low, high, e) = listed_row (λ m. Blue i m) 1 c x t in (0, m, e ∙ ap (λ j. Blue j m) (let q : i ≡ i + 0 = omega arith in q), low, omega arith)
-    at (inr t) more = let (k, n, e, low, high) = more t in (suc k, n, e ∙ ap (λ j. Blue j n) (let q : (i + 1) + k ≡ i + suc k = omega arith in q), low, high)
+    at (inl t) more = let (m, low, high, e) = listed_row (λ m. Blue i m) 1 c x t in
+        (0, m, e ∙ ap (λ j. Blue j m) (let q : i ≡ i + 0 = omega arith in q), low, omega arith)
+    at (inr t) more = let (k, n, e, low, high) = more t in (
+      suc k,
+      n,
+      e
+          ∙ ap (λ j. Blue j n) (let q : (i + 1) + k ≡ i + suc k = omega arith in q),
+      low,
+      high,
+    )
 
 -- the list has just the clock's names
 pub listed_names : (c : Deps) (x : OpName) → names_of_clock c x ≡ true → Listed x (names_listed c)
@@ -81,22 +93,27 @@ listed_names c (Blue i n) h =
     (subst (λ j. Listed (Blue j n) (blue_listed 0 c.blue)) (let e : 0 + i ≡ i = omega arith in e) (blue_row 0 i n c.blue low high))
 listed_names c (Red n) h =
     let (low, high) = Clocks.in_range-true n c.red h in
-    Listed-right (Red n) (blue_listed 0 c.blue) (map (λ m. Red m) (range_with_len 1 c.red)) (row_listed (λ m. Red m) 1 c.red n low (omega arith))
+    Listed-right (Red n) (blue_listed 0 c.blue) (map (λ m. Red m) (range_with_len 1 c.red))
+    (row_listed (λ m. Red m) 1 c.red n low (omega arith))
 
+-- a listed name is one that the clock counts
 pub names_in_list : (c : Deps) (x : OpName) → Listed x (names_listed c) → names_of_clock c x ≡ true
 unfolding names_listed
 names_in_list c x h = at (Listed-cases x (blue_listed 0 c.blue) (map (λ m. Red m) (range_with_len 1 c.red)) h)
   where
     at : Listed x (blue_listed 0 c.blue) ⊎ Listed x (map (λ m. Red m) (range_with_len 1 c.red)) → names_of_clock c x ≡ true
     at (inl t) = let (k, n, e, low, high) = row_blue 0 c.blue x t in
-        ap (names_of_clock c) (e ∙ ap (λ j. Blue j n) (let q : 0 + k ≡ k = omega arith in q)) ∙ Clocks.in_range n (get_or c.blue k 0) low high
-    at (inr t) = let (m, low, high, e) = listed_row (λ m. Red m) 1 c.red x t in ap (names_of_clock c) e ∙ Clocks.in_range m c.red low (omega arith)
+        ap (names_of_clock c) (e ∙ ap (λ j. Blue j n) (let q : 0 + k ≡ k = omega arith in q))
+        ∙ Clocks.in_range n (get_or c.blue k 0) low high
+    at (inr t) = let (m, low, high, e) = listed_row (λ m. Red m) 1 c.red x t in
+        ap (names_of_clock c) e ∙ Clocks.in_range m c.red low (omega arith)
 
 -- eligible: its past is among the names
 pub eligible_means : (us : List Shadow) (v : Shadow) → is_eligible us v ≡ true → IsWithin (past v) (names us)
 unfolding is_eligible past
 eligible_means us v h x k = all_listed (names us) (names_listed v.deps) h x (listed_names v.deps x k)
 
+-- an operation whose past is among the names is eligible
 pub eligible_from : (us : List Shadow) (v : Shadow) → IsWithin (past v) (names us) → is_eligible us v ≡ true
 unfolding is_eligible past
 eligible_from us v h = listed_all (names us) (names_listed v.deps) (λ x k. h x (names_in_list v.deps x k))

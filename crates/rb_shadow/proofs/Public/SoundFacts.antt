@@ -10,7 +10,8 @@ use Rattle.rb_shadow.specs.declared.shadow.Shadow.{Shadow}
 use Rattle.rb_shadow.specs.declared.op_name.OpName.{OpName}
 use Rattle.rb_shadow.specs.declared.op_name.OpName.TheVariants.{Blue, Red}
 use Rattle.rb_shadow.specs.Operations.{number_of, entry_of, receiver_of}
-use Rattle.rb_shadow.specs.Sound.{fault_of, IsSound, is_absent, is_foreign, limit_of, may_be_nothing, is_misdirected, is_miscoloured, cancels_unseen, is_clock}
+use Rattle.rb_shadow.specs.Sound.{fault_of, IsSound, is_absent, is_foreign, limit_of, may_be_nothing, is_misdirected, is_miscoloured}
+use Rattle.rb_shadow.specs.Sound.{cancels_unseen, is_clock}
 use Rattle.rb_shadow.proofs.Public.Members
 use Rattle.rb_shadow.proofs.Public.Clocks.{IsNext, IsHoused}
 
@@ -33,6 +34,7 @@ go_on : (b : Bool) (w : ℕ) (r : Option ℕ) → cond b (Some w) r ≡ None →
 go_on true w r e = cc
 go_on false w r e = (refl, e)
 
+-- the tests that a sound shadow passes
 pub sound_facts : (s : Settings) (v : Shadow) → IsSound s v → SoundFacts s v
 unfolding fault_of
 sound_facts s v h =
@@ -58,12 +60,17 @@ sound_facts s v h =
       entry = (Members.or-false _ _ f7).1;
     }
 
+-- its number is the next after its past
 pub is_next : (s : Settings) (v : Shadow) → IsSound s v → IsNext v
-is_next s v h = let f = sound_facts s v h in record { positive = positive (number_of v.name) f.numbered; own = alike (entry_of v.deps v.name + 1) (number_of v.name) f.entry }
+is_next s v h = let f = sound_facts s v h in record {
+  positive = positive (number_of v.name) f.numbered;
+  own = alike (entry_of v.deps v.name + 1) (number_of v.name) f.entry;
+}
   where
     positive : (n : ℕ) → (n == 0) ≡ false → 1 ≤ n
     positive n e = grind (arith, nat_tests)
 
+-- its site is one of those that there may be
 pub is_housed : (s : Settings) (v : Shadow) → s.sites ≤ MOST_SITES → IsSound s v → IsHoused v.name
 is_housed s v few h = let f = sound_facts s v h in at v.name s.sites v.home few f.home f.own
   where

@@ -8,4 +8,5 @@ use Rattle.rb_inbox.proofs.inbox.index_of.Goals as goal
 pub returns-clause-index : goal.returns-clause-index
 returns-clause-index c =
     point-index c.args.shadows.now c.args.name _ c.partition_point.ensures.bound
-    (IsPartitionPoint-from_clause (λ (u : Shadow). stands_before u.name c.args.name) _ _ c.partition_point.ensures.partitioned (parted c.args.shadows.now c.args.name c.requires) (λ a r q k. search rules))
+    (IsPartitionPoint-from_clause (λ (u : Shadow). stands_before u.name c.args.name) _ _ c.partition_point.ensures.partitioned
+    (parted c.args.shadows.now c.args.name c.requires) (λ a r q k. search rules))

@@ -12,11 +12,14 @@ use Rattle.rb_inbox.proofs.inbox.ready_in.Goals as goal
 pub returns-then-number-saturating_add-clause-none : goal.returns-then-number-saturating_add-clause-none
 returns-then-number-saturating_add-clause-none c = λ u a r.
     let high : c.number.result ≡ number_of (get_or c.args.row.now c.loop-shadow.shadow-index u).name =
-    c.number.ensures ∙ ap (λ (w : Shadow). number_of w.name) (get_or_default c.args.row.now c.loop-shadow.shadow-index _ u c.loop-shadow-test.true) in
+    c.number.ensures ∙ ap (λ (w : Shadow). number_of w.name) (get_or_default c.args.row.now c.loop-shadow.shadow-index _ u
+    c.loop-shadow-test.true) in
     let low : c.entry.result ≡ entry_of c.args.clock.now (get_or c.args.row.now c.loop-shadow.shadow-index u).name =
-    c.entry.ensures ∙ ap (λ (w : Shadow). entry_of c.deps-entries.result w.name) (get_or_default c.args.row.now c.loop-shadow.shadow-index _ u c.loop-shadow-test.true)
+    c.entry.ensures ∙ ap (λ (w : Shadow). entry_of c.deps-entries.result w.name)
+    (get_or_default c.args.row.now c.loop-shadow.shadow-index _ u c.loop-shadow-test.true)
     ∙ ap (λ (d : Deps). entry_of d (get_or c.args.row.now c.loop-shadow.shadow-index u).name) c.deps-entries.ensures in
-    none_from c.requires.0 c.args.row.now c.loop-shadow.shadow-index u u c.args.clock.now c.requires.1 (omega arith) (omega arith) a (c.loop-shadow.invariant u a r) r
+    none_from c.requires.0 c.args.row.now c.loop-shadow.shadow-index u u c.args.clock.now c.requires.1 (omega arith) (omega arith) a
+    (c.loop-shadow.invariant u a r) r
 
 pub returns-then-at_least-clause-some : goal.returns-then-at_least-clause-some
 unfolding past
@@ -26,7 +29,8 @@ pub loop-shadow-preserved : goal.loop-shadow-preserved
 unfolding past
 loop-shadow-preserved c = λ u a r.
     Among-more c.args.row.now c.loop-shadow.shadow-index u u (omega arith) (c.loop-shadow.invariant u a r)
-    (λ e. cc (c.if-at_least.ensures.names.1 (subst (IsReady c.args.clock.now) (e ∙ get_or_default c.args.row.now c.loop-shadow.shadow-index u _ c.loop-shadow-test.true) r)))
+    (λ e. cc (c.if-at_least.ensures.names.1 (subst (IsReady c.args.clock.now) (e
+    ∙ get_or_default c.args.row.now c.loop-shadow.shadow-index u _ c.loop-shadow-test.true) r)))
 
 pub returns-clause-none : goal.returns-clause-none
 returns-clause-none c = λ u a r. Among-end _ c.loop-shadow.shadow-index u (omega arith) (c.loop-shadow.invariant u a r)

@@ -5,4 +5,5 @@ use Rattle.rb_ledger.proofs.index.count_on.Goals as goal
 
 -- where there is no such account
 pub returns-then-index-len : goal.returns-then-index-len
-returns-then-index-len c = sym (set_past c.args.heads.now.items c.args.place.0 (head_more c.args.position c.args.balance (get_or c.args.heads.now.items c.args.place.0 no_head)) (omega arith))
+returns-then-index-len c = sym (set_past c.args.heads.now.items c.args.place.0
+    (head_more c.args.position c.args.balance (get_or c.args.heads.now.items c.args.place.0 no_head)) (omega arith))

@@ -8,14 +8,16 @@ pub carry_out-requires-clause-plan : goal.carry_out-requires-clause-plan
 carry_out-requires-clause-plan c = (c.args.request.now, c.in-Ok.ensures.plan)
 
 pub returns-in-Ok-clause-made : goal.returns-in-Ok-clause-made
-returns-in-Ok-clause-made c = λ known shows. c.carry_out.ensures.made known shows ∙ sym (Generated.planned _ _ _ known _ _ c.in-Ok.ensures.plan)
+returns-in-Ok-clause-made c = λ known shows. c.carry_out.ensures.made known shows
+    ∙ sym (Generated.planned _ _ _ known _ _ c.in-Ok.ensures.plan)
 
 pub returns-in-Err-clause-made : goal.returns-in-Err-clause-made
 returns-in-Err-clause-made c = λ known shows. sym (Generated.unplanned _ _ _ known _ _ c.in-Err.ensures.plan)
 
 pub returns-in-Ok-clause-kind : goal.returns-in-Ok-clause-kind
 returns-in-Ok-clause-kind c =
-    Originals.of_kind c.carry_out.result _ _ c.carry_out.ensures.kind (Originals.granted c.args.ledger.now.settings c.args.ledger.now.entries c.args.request.now _ c.in-Ok.ensures.plan)
+    Originals.of_kind c.carry_out.result _ _ c.carry_out.ensures.kind (Originals.granted c.args.ledger.now.settings
+        c.args.ledger.now.entries c.args.request.now _ c.in-Ok.ensures.plan)
 
 pub returns-in-Ok-clause-original : goal.returns-in-Ok-clause-original
 returns-in-Ok-clause-original c = Originals.of_request _ _ _ _ c.carry_out.result c.carry_out.ensures.original c.in-Ok.ensures.plan

@@ -13,7 +13,9 @@ pub carry_out-requires-clause-plan : goal.carry_out-requires-clause-plan
 carry_out-requires-clause-plan c = (c.args.request.now, c.in-Ok.ensures.plan)
 
 pub returns-in-Ok-carry_out-clause-made : goal.returns-in-Ok-carry_out-clause-made
-returns-in-Ok-carry_out-clause-made c = λ known shows. ap InBatch.stopped (c.in-Ok-carry_out.ensures.made known shows) ∙ sym (InBatch.plain_in_batch _ _ _ known _ _ c.in-Ok.ensures.plan c.in_default.not-Declined)
+returns-in-Ok-carry_out-clause-made c = λ known shows. ap InBatch.stopped (c.in-Ok-carry_out.ensures.made known shows)
+    ∙ sym (InBatch.plain_in_batch _ _ _ known _ _ c.in-Ok.ensures.plan c.in_default.not-Declined)
 
 pub returns-in-Err-carry_out-clause-made : goal.returns-in-Err-carry_out-clause-made
-returns-in-Err-carry_out-clause-made c = λ known shows. ap InBatch.stopped (c.in-Err-carry_out.ensures.made known shows) ∙ sym (InBatch.plain_in_batch _ _ _ known _ _ c.in-Ok.ensures.plan c.in_default.not-Declined)
+returns-in-Err-carry_out-clause-made c = λ known shows. ap InBatch.stopped (c.in-Err-carry_out.ensures.made known shows)
+    ∙ sym (InBatch.plain_in_batch _ _ _ known _ _ c.in-Ok.ensures.plan c.in_default.not-Declined)

@@ -9,17 +9,18 @@ use Rattle.rb_scratch.proofs.scratch.try_one.Goals as goal
 abbrev refused : Refusal → RunFault
 refused why = RefusedFault why
 
-pub returns-in-Ok-apply_valid-clause-ran : goal.returns-in-Ok-apply_valid-clause-ran
-returns-in-Ok-apply_valid-clause-ran c = (
-  c.in-Ok.shadow,
+pub returns-in-Ok-clause-ran : goal.returns-in-Ok-clause-ran
+returns-in-Ok-clause-ran c = (
+  c.in_ok-shadow.shadow,
   refl,
-  Tries.added c.args.ledger.now c.apply_valid.new.self c.args.undos.now.parts c.push.new.self.parts c.in-Ok.shadow c.in-Ok-apply_valid.ensures.settings c.in-Ok-apply_valid.ensures.applied.0
-      (c.push.ensures ∙ ap (λ (p : UndoParts). c.args.undos.now.parts ++ p ∷ []) c.in-Ok-apply_valid.ensures.applied.1),
-  λ known shows. sym (c.in-Ok.ensures.made known shows),
+  Tries.added c.args.ledger.now c.apply_valid.new.self c.args.undos.now.parts c.push.new.self.parts c.in_ok-shadow.shadow
+      c.in-Ok.ensures.settings c.in-Ok.ensures.applied.0
+      (c.push.ensures ∙ ap (λ (p : UndoParts). c.args.undos.now.parts ++ p ∷ []) c.in-Ok.ensures.applied.1),
+  λ known shows. sym (c.in_ok-shadow.ensures.made known shows),
 )
 
-pub returns-in-Err-apply_valid-clause-fault : goal.returns-in-Err-apply_valid-clause-fault
-returns-in-Err-apply_valid-clause-fault c = λ known shows. record {
+pub returns-in-Err-clause-fault : goal.returns-in-Err-clause-fault
+returns-in-Err-clause-fault c = λ known shows. record {
   many = λ h. absurd (omega arith);
-  few = λ h. inr (c.in-Ok.shadow, sym (c.in-Ok.ensures.made known shows), refl, c.in-Err-apply_valid.ensures.err.1);
+  few = λ h. inr (c.in_ok-shadow.shadow, sym (c.in_ok-shadow.ensures.made known shows), refl, c.in-Err.ensures.err.1);
 }

@@ -6,7 +6,8 @@ use Rattle.rb_scratch.proofs.scratch.undo_all.Given as goal
 abbrev pub invariant-undos : goal.invariant-undos
 invariant-undos l = record {
   settings : l.ledger.settings ≡ l.initial.ledger.settings;
-  tried : (base made : List Shadow) → IsTried base made l.initial.ledger l.fn.undos.parts → (left : List Shadow) × IsTried base left l.ledger l.undos.parts;
+  tried : (base made : List Shadow) → IsTried base made l.initial.ledger l.fn.undos.parts →
+      (left : List Shadow) × IsTried base left l.ledger l.undos.parts;
   room : l.ledger.room + length l.undos.parts ≡ l.initial.ledger.room + length l.fn.undos.parts;
 }
 

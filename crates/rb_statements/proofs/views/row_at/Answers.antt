@@ -13,12 +13,16 @@ unwrap-moved-requires c = Steps.has_moved _ _ _ _ _ c.requires.on c.requires.som
 pub returns-clause-row : goal.returns-clause-row
 returns-clause-row c =
     let fits : FitsSigned w64 c.unwrap-moved.result = search rules in
-    let (there, own) = Steps.found_there _ _ _ _ c.unwrap-entry.result c.requires.on c.requires.some c.entry.ensures c.unwrap-entry.ensures in
-    let moved = to_z-of_z w64 c.unwrap-moved.result fits ∙ Steps.moved_there _ _ _ _ _ _ c.requires.on c.requires.some c.moved.ensures.moved c.unwrap-moved.ensures in
-    Steps.own_row _ _ _ _ c.unwrap-entry.result.now _ _ c.first_cancel.result _ _ c.requires.some there own c.label.ensures moved c.first_cancel.ensures c.is_some.ensures c.requires.sum
+    let (there, own) = Steps.found_there _ _ _ _ c.unwrap-entry.result c.requires.on c.requires.some c.entry.ensures c.unwrap-entry.ensures
+    in
+    let moved = to_z-of_z w64 c.unwrap-moved.result fits ∙ Steps.moved_there _ _ _ _ _ _ c.requires.on c.requires.some c.moved.ensures.moved
+    c.unwrap-moved.ensures in
+    Steps.own_row _ _ _ _ c.unwrap-entry.result.now _ _ c.first_cancel.result _ _ c.requires.some there own c.label.ensures moved
+    c.first_cancel.ensures c.is_some.ensures c.requires.sum
 
 pub returns-clause-moved : goal.returns-clause-moved
 returns-clause-moved c =
     let fits : FitsSigned w64 c.unwrap-moved.result = search rules in
-    let moved = to_z-of_z w64 c.unwrap-moved.result fits ∙ Steps.moved_there _ _ _ _ _ _ c.requires.on c.requires.some c.moved.ensures.moved c.unwrap-moved.ensures in
+    let moved = to_z-of_z w64 c.unwrap-moved.result fits ∙ Steps.moved_there _ _ _ _ _ _ c.requires.on c.requires.some c.moved.ensures.moved
+    c.unwrap-moved.ensures in
     omega (arith, ints, moved, c.requires.sum)

@@ -22,7 +22,8 @@ before-balance-requires c =
     let fits : FitsSigned w64 c.row_at-row.result.moved = search rules in
     let same = sym (to_z-of_z w64 c.row_at-row.result.moved fits) in
     record {
-      covered = subst (λ z. z ≤ℤ pos c.loop-position.balance) same (Steps.covered _ _ _ _ _ _ c.config-valid.ensures.valid c.row_at-row.ensures.moved);
+      covered = subst (λ z. z ≤ℤ pos c.loop-position.balance) same (Steps.covered _ _ _ _ _ _ c.config-valid.ensures.valid
+          c.row_at-row.ensures.moved);
       least = subst (λ z. neg_ℤ (pos MOST_CENTS) ≤ℤ z) same c.row_at-row.ensures.least;
       bounded = omega (arith, c.loop-position.invariant.bounded);
     }
@@ -34,10 +35,13 @@ loop-position-preserved c =
     let last = c.earlier-position.ensures.last in
     record {
       on = OnAccount.on_taken _ _ c.args.place _ last.on;
-      rows = Steps.rows_back _ _ _ _ _ c.row_at-row.result _ _ low last c.loop-position.invariant.rows c.row_at-row.ensures.row c.in_ok-push.ensures.items;
-      sum = Steps.bal_back _ _ _ _ _ _ _ _ c.config-valid.ensures.valid low last c.row_at-row.ensures.moved (c.before-balance.ensures.sum ∙ ap (λ z. pos c.before-balance.result +ℤ z) (to_z-of_z w64 c.row_at-row.result.moved fits));
+      rows = Steps.rows_back _ _ _ _ _ c.row_at-row.result _ _ low last c.loop-position.invariant.rows c.row_at-row.ensures.row
+          c.in_ok-push.ensures.items;
+      sum = Steps.bal_back _ _ _ _ _ _ _ _ c.config-valid.ensures.valid low last c.row_at-row.ensures.moved (c.before-balance.ensures.sum
+          ∙ ap (λ z. pos c.before-balance.result +ℤ z) (to_z-of_z w64 c.row_at-row.result.moved fits));
       bounded = omega (arith, c.loop-position.invariant.bounded, c.before-balance.ensures.bounded, c.earlier-position.ensures.before);
     }
 
 pub returns : goal.returns
-returns c = c.reverse.ensures.items ∙ sym (Steps.rows_end _ _ _ _ c.loop-position.rows.items c.loop-position-test.false c.loop-position.invariant.rows)
+returns c = c.reverse.ensures.items ∙ sym (Steps.rows_end _ _ _ _ c.loop-position.rows.items c.loop-position-test.false
+    c.loop-position.invariant.rows)

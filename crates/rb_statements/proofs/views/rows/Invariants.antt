@@ -10,7 +10,8 @@ use Rattle.rb_statements.proofs.views.rows.Given as goal
 abbrev pub invariant-loop-position : goal.invariant-loop-position
 invariant-loop-position l = record {
   on : IsOn l.ledger.entries l.place l.position;
-  rows : rows_of l.ledger.settings l.ledger.entries l.place [] l.ledger.entries ≡ rows_of l.ledger.settings l.ledger.entries l.place [] (take l.position l.ledger.entries) ++ reverse l.rows.items;
+  rows : rows_of l.ledger.settings l.ledger.entries l.place [] l.ledger.entries
+      ≡ rows_of l.ledger.settings l.ledger.entries l.place [] (take l.position l.ledger.entries) ++ reverse l.rows.items;
   sum : pos l.balance ≡ bal l.ledger.settings (take l.position l.ledger.entries) l.place;
   bounded : l.balance + MOST_CENTS * l.position ≤ 2 * MOST_BALANCE;
 }

@@ -20,20 +20,23 @@ invariant_of-self c = grown c.self.inside.rows.items _ c.self.inside.count _ c.a
 
 pub returns-in_err-add_rows-clause-err : goal.returns-in_err-add_rows-clause-err
 returns-in_err-add_rows-clause-err c =
-    on_err c.from_residual-in_err-add_rows.result (unchanged c.self.inside.limit _ _ c.args.self.now (grown_holds c.self.inside.rows.items _ _ c.add_rows.ensures.rows.1) c.self.view_is)
+    on_err c.from_residual-in_err-add_rows.result (unchanged c.self.inside.limit _ _ c.args.self.now
+    (grown_holds c.self.inside.rows.items _ _ c.add_rows.ensures.rows.1) c.self.view_is)
 
 pub index_of-index-requires : goal.index_of-index-requires
 index_of-index-requires c =
-    let within : c.row_index-row.result < length c.add_rows.new.rows.items = omega (arith, c.in_ok-add_rows.ensures.ok) in
+    let within : c.row-row.result < length c.add_rows.new.rows.items = omega (arith, c.in_ok-add_rows.ensures.ok) in
     let all = grown c.self.inside.rows.items c.add_rows.new.rows.items c.self.inside.count _ c.add_rows.ensures.rows.1 c.self.invariant in
-    subst IsInOrder (sym (c.as_slice.ensures ∙ row_there c.add_rows.new.rows.items c.row_index-row.result c.index.result.now within c.index.ensures))
-    (row_at c.add_rows.new.rows.items c.row_index-row.result all.each).in_order
+    subst IsInOrder (sym (c.as_slice.ensures ∙ row_there c.add_rows.new.rows.items c.row-row.result c.index.result.now within
+    c.index.ensures))
+    (row_at c.add_rows.new.rows.items c.row-row.result all.each).in_order
 
 -- where the row couldn't grow, the rows are as before
-as_before : (c : goal.After-from_residual-in_err-insert) → set c.add_rows.new.rows.items c.row_index-row.result c.insert.new.self ≡ c.add_rows.new.rows.items
+as_before : (c : goal.After-from_residual-in_err-insert) → set c.add_rows.new.rows.items c.row-row.result c.insert.new.self
+    ≡ c.add_rows.new.rows.items
 as_before c =
-    ap (set c.add_rows.new.rows.items c.row_index-row.result) (c.in_err-insert.ensures.err ∙ c.index_mut.ensures.value)
-    ∙ set-get_or c.add_rows.new.rows.items c.row_index-row.result c.index_mut.result.now
+    ap (set c.add_rows.new.rows.items c.row-row.result) (c.in_err-insert.ensures.err ∙ c.index_mut.ensures.value)
+    ∙ set-get_or c.add_rows.new.rows.items c.row-row.result c.index_mut.result.now
 
 pub invariant_of-self-in_err-insert : goal.invariant_of-self-in_err-insert
 invariant_of-self-in_err-insert c =
@@ -42,21 +45,27 @@ invariant_of-self-in_err-insert c =
 pub returns-in_err-insert-clause-err : goal.returns-in_err-insert-clause-err
 returns-in_err-insert-clause-err c =
     on_err c.from_residual-in_err-insert.result
-    (unchanged c.self.inside.limit _ _ c.args.self.now (grown_holds c.self.inside.rows.items _ _ (as_before c ∙ c.add_rows.ensures.rows.1)) c.self.view_is)
+    (unchanged c.self.inside.limit _ _ c.args.self.now (grown_holds c.self.inside.rows.items _ _ (as_before c
+    ∙ c.add_rows.ensures.rows.1)) c.self.view_is)
 
 -- the rows with the shadow in its place
-with_it : (c : goal.After-self-2-1) → AreCounted (set c.add_rows.new.rows.items c.row_index-row.result c.insert.new.self) (c.self.inside.count + 1)
-    × (held_of (set c.add_rows.new.rows.items c.row_index-row.result c.insert.new.self) ≡ with_held c.args.shadow (held_of c.self.inside.rows.items))
+with_it : (c : goal.After-self-2-1) → AreCounted (set c.add_rows.new.rows.items c.row-row.result c.insert.new.self) (c.self.inside.count
+    + 1)
+    × (held_of (set c.add_rows.new.rows.items c.row-row.result c.insert.new.self)
+    ≡ with_held c.args.shadow (held_of c.self.inside.rows.items))
 with_it c =
     let rows : List (List Shadow) = c.add_rows.new.rows.items in
-    let row = c.row_index-row.result in
+    let row = c.row-row.result in
     let within : row < length rows = omega (arith, c.in_ok-add_rows.ensures.ok) in
     let same = grown_holds c.self.inside.rows.items rows _ c.add_rows.ensures.rows.1 in
     let new : find_in (held_of rows) c.args.shadow.name ≡ None =
-    ap (λ (us : List Shadow). find_in us c.args.shadow.name) same ∙ ap (λ (b : Holding). find_in b.held c.args.shadow.name) c.self.view_is ∙ c.requires.new in
-    let put = after_put rows c.self.inside.count c.args.shadow row c.insert.new.self (grown c.self.inside.rows.items rows c.self.inside.count _ c.add_rows.ensures.rows.1 c.self.invariant) c.requires.numbered new
-    c.row_index-row.ensures within
-    (changed_there (λ us index. insert us index c.args.shadow) c.insert.new.self c.index_mut.result.now c.as_slice.result.now (get_or rows row []) c.index_of-index.result c.args.shadow.name
+    ap (λ (us : List Shadow). find_in us c.args.shadow.name) same ∙ ap (λ (b : Holding). find_in b.held c.args.shadow.name) c.self.view_is
+    ∙ c.requires.new in
+    let put = after_put rows c.self.inside.count c.args.shadow row c.insert.new.self
+    (grown c.self.inside.rows.items rows c.self.inside.count _ c.add_rows.ensures.rows.1 c.self.invariant) c.requires.numbered new
+    c.row-row.ensures within
+    (changed_there (λ us index. insert us index c.args.shadow) c.insert.new.self c.index_mut.result.now c.as_slice.result.now
+    (get_or rows row []) c.index_of-index.result c.args.shadow.name
     c.in_ok-insert.ensures.ok (row_there rows row c.index_mut.result.now within c.index_mut.ensures.value) c.index_of-index.ensures.index
     (c.as_slice.ensures ∙ row_there rows row c.index.result.now within c.index.ensures)) in
     (put.0, put.1 ∙ ap (with_held c.args.shadow) same)
@@ -65,4 +74,5 @@ pub invariant_of-self-2 : goal.invariant_of-self-2
 invariant_of-self-2 c = let next : c.self.inside.count + 1 ≡ c.in_ok-count.count = search rules in subst (AreCounted _) next (with_it c).0
 
 pub returns-clause-ok : goal.returns-clause-ok
-returns-clause-ok c = changed c.self.inside.limit _ (held_of c.self.inside.rows.items) c.args.self.now (with_held c.args.shadow) (with_it c).1 c.self.view_is
+returns-clause-ok c = changed c.self.inside.limit _ (held_of c.self.inside.rows.items) c.args.self.now (with_held c.args.shadow)
+    (with_it c).1 c.self.view_is

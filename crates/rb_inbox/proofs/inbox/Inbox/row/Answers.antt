@@ -10,20 +10,26 @@ use Rattle.rb_inbox.proofs.inbox.Inbox.row.Goals as goal
 -- the row is the one at the place
 there : (c : goal.After-as_slice) → c.as_slice.result.now ≡ get_or c.self.inside.rows.items c.args.index []
 there c =
-    slice_there c.self.inside.rows.items c.deref.result.now c.args.index c.in-Some.row.now c.as_slice.result.now c.deref.ensures.value (omega (arith, c.in-Some.ensures.lookup.3.0)) c.in-Some.ensures.lookup.1 c.as_slice.ensures
+    slice_there c.self.inside.rows.items c.deref.result.now c.args.index c.in-Some.row.now c.as_slice.result.now c.deref.ensures.value
+    (omega (arith, c.in-Some.ensures.lookup.3.0)) c.in-Some.ensures.lookup.1 c.as_slice.ensures
 
 pub returns-in-Some-clause-held : goal.returns-in-Some-clause-held
 returns-in-Some-clause-held c =
-    there c ∙ row_is c.self.inside.rows.items c.args.index c.self.invariant.each ∙ ap (λ (b : Holding). filter (is_of c.args.index) b.held) c.self.view_is
+    there c ∙ row_is c.self.inside.rows.items c.args.index c.self.invariant.each
+    ∙ ap (λ (b : Holding). filter (is_of c.args.index) b.held) c.self.view_is
 
 pub returns-in-Some-clause-in_order : goal.returns-in-Some-clause-in_order
-returns-in-Some-clause-in_order c = subst IsInOrder (sym (there c)) (row_at c.self.inside.rows.items c.args.index c.self.invariant.each).in_order
+returns-in-Some-clause-in_order c = subst IsInOrder (sym (there c)) (row_at c.self.inside.rows.items c.args.index
+    c.self.invariant.each).in_order
 
 pub returns-in-Some-clause-numbered : goal.returns-in-Some-clause-numbered
-returns-in-Some-clause-numbered c = λ u a. (row_at c.self.inside.rows.items c.args.index c.self.invariant.each).numbered u (subst (Among u) (there c) a)
+returns-in-Some-clause-numbered c = λ u a. (row_at c.self.inside.rows.items c.args.index c.self.invariant.each).numbered u
+    (subst (Among u) (there c) a)
 
 pub returns-in-None-clause-held : goal.returns-in-None-clause-held
 returns-in-None-clause-held c =
-    let past : length c.self.inside.rows.items ≤ c.args.index = omega (arith, c.in-None.ensures.lookup.3, ap length c.deref.ensures.value) in
+    let past : length c.self.inside.rows.items ≤ c.args.index = omega (arith, c.in-None.ensures.lookup.3, ap length c.deref.ensures.value)
+    in
     sym (get_or_past c.self.inside.rows.items c.args.index [] past)
-    ∙ row_is c.self.inside.rows.items c.args.index c.self.invariant.each ∙ ap (λ (b : Holding). filter (is_of c.args.index) b.held) c.self.view_is
+    ∙ row_is c.self.inside.rows.items c.args.index c.self.invariant.each
+    ∙ ap (λ (b : Holding). filter (is_of c.args.index) b.held) c.self.view_is

@@ -6,25 +6,31 @@ use Rattle.rb_money.specs.declared.place.TheConstants.Place.{NOWHERE}
 use Rattle.rb_shadow.specs.Operations.{target_of, other_of, bal}
 use Rattle.rb_ledger.specs.Index.{no_head}
 use Rattle.rb_ledger.specs.Valid.{position_of}
-use Rattle.rb_ledger.proofs.Calls
+use Rattle.rb_ledger.proofs.HeadReads
 use Rattle.rb_ledger.proofs.Public.Legal
 use Rattle.rb_ledger.proofs.Lengths
 use Rattle.rb_ledger.proofs.Overdraws
 use Rattle.rb_ledger.proofs.index.Index.parts.Goals as goal
 
 pub overflow_cast-result : goal.overflow_cast-result
-overflow_cast-result c = omega (arith, Lengths.kept_length _ _ _ c.requires.index.kept)
+overflow_cast-result c = omega (arith, Lengths.clocked_length _ _ _ c.requires.index.clocked)
 
 pub overflow_add-result : goal.overflow_add-result
-overflow_add-result c = omega (arith, Lengths.kept_length _ _ _ c.requires.index.kept)
+overflow_add-result c = omega (arith, Lengths.clocked_length _ _ _ c.requires.index.clocked)
 
 pub returns : goal.returns
 returns c =
-    let near = Overdraws.sound_account c.args.self.now.config c.args.shadow.now (Legal.IsValid-last _ _ c.args.shadow.now c.requires.longer).sound in
-    let balance : c.balance-balance.result ≡ cents (bal c.args.self.now.config c.args.before.now c.args.shadow.now.account) = Calls.head_balance _ _ _ c.args.shadow.now.account _ c.requires.index.heads near c.balance-balance.ensures in
-    let other : c.unwrap_or-other.result ≡ unwrap_or (other_of c.args.before.now c.args.shadow.now) NOWHERE = c.unwrap_or-other.ensures ∙ ap (λ o. unwrap_or o NOWHERE) c.other-second.ensures in
-    let other_balance : c.balance-other_balance.result ≡ unwrap_or (option_map (λ a. cents (bal c.args.self.now.config c.args.before.now a)) (other_of c.args.before.now c.args.shadow.now)) 0 =
-    Calls.other_balance _ _ _ _ c.args.shadow.now _ c.requires.index.kept.configured c.requires.index.kept c.requires.index.heads c.requires.longer
+    let near = Overdraws.sound_account c.args.self.now.config c.args.shadow.now
+        (Legal.IsValid-last _ _ c.args.shadow.now c.requires.longer).sound in
+    let balance : c.balance-balance.result ≡ cents (bal c.args.self.now.config c.args.before.now c.args.shadow.now.account) =
+        HeadReads.head_balance _ _ _ c.args.shadow.now.account _ c.requires.index.heads near c.balance-balance.ensures in
+    let other : c.unwrap_or-other.result ≡ unwrap_or (other_of c.args.before.now c.args.shadow.now.kind) NOWHERE =
+        c.unwrap_or-other.ensures ∙ ap (λ o. unwrap_or o NOWHERE) c.other-second.ensures in
+    let other_balance : c.balance-other_balance.result ≡ unwrap_or (option_map (λ a. cents (bal c.args.self.now.config c.args.before.now a))
+        (other_of c.args.before.now c.args.shadow.now.kind)) 0 =
+    HeadReads.other_balance _ _ _ _ c.args.shadow.now _ c.requires.index.clocked.configured c.requires.index.clocked c.requires.index.heads
+        c.requires.longer
     (c.balance-other_balance.ensures ∙ ap (λ (a : Place). (get_or c.args.self.now.heads.items a.0 no_head).balance) other) in
-    let target : c.target.result ≡ position_of c.args.before.now (target_of c.args.shadow.now.kind) = c.target.ensures c.args.before.now c.requires.index in
+    let target : c.target.result ≡ position_of c.args.before.now (target_of c.args.shadow.now.kind) =
+        c.target.ensures c.args.before.now c.requires.index in
     cc

@@ -3,52 +3,65 @@ use Rattle.rb_ledger.specs.declared.marks.Head.{Head}
 use Rattle.rb_shadow.specs.Operations.{row_of}
 use Rattle.rb_ledger.specs.Index.{changed_at, one_more, no_cancels, no_head, heads_at, head_more}
 use Rattle.rb_undo.specs.declared.parts.UndoParts.{UndoParts}
-use Rattle.rb_ledger.proofs.Calls
+use Rattle.rb_ledger.proofs.CancelReads
+use Rattle.rb_ledger.proofs.HeadReads
 use Rattle.rb_ledger.proofs.Indexed
 use Rattle.rb_ledger.proofs.Public.Legal
 use Rattle.rb_ledger.proofs.LedgerClocks
 use Rattle.rb_ledger.proofs.index.Index.push.Goals as goal
 
 pub cancel_one_more-requires-clause-within : goal.cancel_one_more-requires-clause-within
-cancel_one_more-requires-clause-within c = Calls.target_near _ _ _ c.args.shadow.now _ c.requires.index c.requires.longer (ap (λ (p : UndoParts). p.target) c.requires.parts)
+cancel_one_more-requires-clause-within c = CancelReads.target_near _ _ _ c.args.shadow.now _ c.requires.index c.requires.longer
+    (ap (λ (p : UndoParts). p.target) c.requires.parts)
 
 pub cancel_one_more-requires-clause-fits : goal.cancel_one_more-requires-clause-fits
-cancel_one_more-requires-clause-fits c = λ i. Calls.counts_few _ _ _ i c.requires.index
+cancel_one_more-requires-clause-fits c = λ i. CancelReads.counts_few _ _ _ i c.requires.index
 
 pub count_on-requires : goal.count_on-requires
-count_on-requires c = Calls.heads_few _ _ _ _ c.args.parts.now.place.0 c.requires.index.kept c.requires.index.heads
+count_on-requires c = HeadReads.heads_few _ _ _ _ c.args.parts.now.place.0 c.requires.index.clocked c.requires.index.heads
 
 pub count_on-requires-2 : goal.count_on-requires-2
 count_on-requires-2 c =
     let few =
-    Calls.other_few _ _ _ c.args.self.now.heads.items c.args.shadow.now (head_more (length c.args.before.now + 1) c.args.links.now.own.balance) c.requires.index.kept.configured c.requires.index.kept c.requires.index.heads c.requires.longer in
+    HeadReads.other_few _ _ _ c.args.self.now.heads.items c.args.shadow.now (head_more (length c.args.before.now
+        + 1) c.args.links.now.own.balance) c.requires.index.clocked.configured c.requires.index.clocked c.requires.index.heads
+        c.requires.longer in
     let same =
     ap (λ (hs : List Head). (get_or hs c.args.parts.now.other.0 no_head).count) c.count_on.ensures
-    ∙ ap (λ (p : UndoParts). (get_or (heads_at p.place.0 (head_more p.position c.args.links.now.own.balance) c.args.self.now.heads.items) p.other.0 no_head).count) c.requires.parts in
+    ∙ ap (λ (p : UndoParts). (get_or (heads_at p.place.0 (head_more p.position c.args.links.now.own.balance) c.args.self.now.heads.items)
+        p.other.0 no_head).count) c.requires.parts in
     omega (arith, same, few)
 
 pub push-requires-clause-within : goal.push-requires-clause-within
-push-requires-clause-within c = omega (arith, c.row_of.ensures, Indexed.row_within _ _ _ c.args.shadow.now c.requires.index.rows (Legal.IsValid-last _ _ c.args.shadow.now c.requires.longer).sound)
+push-requires-clause-within c = omega (arith, c.row.ensures, Indexed.row_within _ _ _ c.args.shadow.now c.requires.index.rows
+    (Legal.IsValid-last _ _ c.args.shadow.now c.requires.longer).sound)
 
 pub push-requires-clause-room : goal.push-requires-clause-room
-push-requires-clause-room c = Calls.row_room _ _ _ c.args.shadow.now _ _ _ c.requires.index.rows (Legal.IsValid-last _ _ c.args.shadow.now c.requires.longer).sound c.row_of.ensures refl c.requires.rows
+push-requires-clause-room c = Indexed.row_room _ _ _ c.args.shadow.now _ _ _ c.requires.index.rows
+    (Legal.IsValid-last _ _ c.args.shadow.now c.requires.longer).sound c.row.ensures refl c.requires.rows
 
 pub advance-requires-clause-next : goal.advance-requires-clause-next
-advance-requires-clause-next c = LedgerClocks.may_advance _ _ _ c.args.shadow.now c.requires.index.kept c.requires.longer
+advance-requires-clause-next c = LedgerClocks.may_advance _ _ _ c.args.shadow.now c.requires.index.clocked c.requires.longer
 
 pub advance-requires-clause-entry : goal.advance-requires-clause-entry
-advance-requires-clause-entry c = LedgerClocks.may_entry _ _ _ c.args.shadow.now c.requires.index.kept c.requires.longer
+advance-requires-clause-entry c = LedgerClocks.may_entry _ _ _ c.args.shadow.now c.requires.index.clocked c.requires.longer
 
 pub returns-clause-index : goal.returns-clause-index
 returns-clause-index c =
-    Indexed.indexed_push _ c.args.before.now c.args.self.now _ c.args.shadow.now c.args.links.now c.requires.index c.requires.longer c.requires.links
+    Indexed.indexed_push _ c.args.before.now c.args.self.now _ c.args.shadow.now c.args.links.now c.requires.index c.requires.longer
+        c.requires.links
     refl c.advance.ensures.entries
-    (c.push_reserved.ensures.items ∙ ap (λ xs. xs ++ no_cancels ∷ []) (c.cancel_one_more.ensures.items ∙ ap (λ (p : UndoParts). changed_at p.target (one_more p.position) c.args.self.now.cancels.items) c.requires.parts))
+    (c.push_reserved.ensures.items ∙ ap (λ xs. xs ++ no_cancels ∷ []) (c.cancel_one_more.ensures.items
+        ∙ ap (λ (p : UndoParts). changed_at p.target (one_more p.position) c.args.self.now.cancels.items) c.requires.parts))
     (
-    c.count_on-2.ensures ∙ ap (heads_at c.args.parts.now.other.0 (head_more c.args.parts.now.position c.args.links.now.other.balance)) c.count_on.ensures
-    ∙ ap (λ (p : UndoParts). heads_at p.other.0 (head_more p.position c.args.links.now.other.balance) (heads_at p.place.0 (head_more p.position c.args.links.now.own.balance) c.args.self.now.heads.items)) c.requires.parts
+    c.count_on-2.ensures ∙ ap (heads_at c.args.parts.now.other.0 (head_more c.args.parts.now.position c.args.links.now.other.balance))
+        c.count_on.ensures
+    ∙ ap (λ (p : UndoParts). heads_at p.other.0 (head_more p.position c.args.links.now.other.balance)
+        (heads_at p.place.0 (head_more p.position c.args.links.now.own.balance) c.args.self.now.heads.items)) c.requires.parts
     )
     (
-    c.push.ensures.rows ∙ ap (λ k. set c.args.self.now.rows.rows k (get_or c.args.self.now.rows.rows k [] ++ c.args.parts.now.position ∷ [])) c.row_of.ensures
-    ∙ ap (λ (p : UndoParts). set c.args.self.now.rows.rows (row_of c.args.shadow.now.name) (get_or c.args.self.now.rows.rows (row_of c.args.shadow.now.name) [] ++ p.position ∷ [])) c.requires.parts
+    c.push.ensures.rows ∙ ap (λ k. set c.args.self.now.rows.rows k (get_or c.args.self.now.rows.rows k [] ++ c.args.parts.now.position
+        ∷ [])) c.row.ensures
+    ∙ ap (λ (p : UndoParts). set c.args.self.now.rows.rows (row_of c.args.shadow.now.name)
+        (get_or c.args.self.now.rows.rows (row_of c.args.shadow.now.name) [] ++ p.position ∷ [])) c.requires.parts
     )

@@ -2,7 +2,7 @@ use Rattle.std.proofs.Common.{◌≡◌, ◌+◌, ◌-◌, ◌<◌, ◌++◌, �
 use Rattle.rb_ledger.specs.Valid.{parts_of}
 use Rattle.rb_ledger.specs.Index.{IsIndex, IsLinked}
 use Rattle.rb_ledger.specs.Rewinding.{Rewinding}
-use Rattle.rb_ledger.proofs.Calls
+use Rattle.rb_ledger.proofs.ReadItems
 use Rattle.rb_ledger.proofs.Cursors
 use Rattle.rb_ledger.proofs.rewound.Rewound.back.Goals as goal
 
@@ -12,12 +12,17 @@ pop-requires-in-Some c =
     let next : c.self.inside.at ≡ c.self.inside.at - 1 + 1 = omega (arith, c.requires, here) in
     let latest = Cursors.latest _ _ _ (c.self.inside.at - 1) _ _ _ _ c.in-Some.undo c.self.invariant.at next c.in-Some.ensures.0 in
     let many : vec_len c.self.inside.links ≡ length c.self.inside.links.items = omega arith in
-    let near : c.self.inside.at - 1 < vec_len c.self.inside.links = omega (arith, many, c.self.invariant.at.links.count, c.self.invariant.at.within, next) in
-    let link = Cursors.linked _ _ _ _ latest.last c.index.result.now c.self.invariant.at.links latest.there (Calls.read_item _ _ _ _ _ many near refl c.index.ensures) in (
+    let near : c.self.inside.at - 1 < vec_len c.self.inside.links = omega (arith, many, c.self.invariant.at.links.count,
+        c.self.invariant.at.within, next) in
+    let link = Cursors.linked _ _ _ _ latest.last c.index.result.now c.self.invariant.at.links latest.there
+        (ReadItems.read_item _ _ _ _ _ many near refl c.index.ensures) in (
       latest.last,
-      subst (λ us. IsIndex c.self.inside.index.config (take (c.self.inside.at - 1) us ++ latest.last ∷ []) c.self.inside.index) (sym c.deref.ensures.value) latest.index,
-      c.spend.ensures ∙ latest.parts ∙ ap (λ us. parts_of c.self.inside.index.config (take (c.self.inside.at - 1) us) latest.last) (sym c.deref.ensures.value),
-      subst (λ us. IsLinked c.self.inside.index.config (take (c.self.inside.at - 1) us) latest.last c.index.result.now) (sym c.deref.ensures.value) link,
+      subst (λ us. IsIndex c.self.inside.index.config (take (c.self.inside.at - 1) us ++ latest.last
+          ∷ []) c.self.inside.index) (sym c.deref.ensures.value) latest.index,
+      c.spend.ensures ∙ latest.parts ∙ ap (λ us. parts_of c.self.inside.index.config (take (c.self.inside.at - 1) us) latest.last)
+          (sym c.deref.ensures.value),
+      subst (λ us. IsLinked c.self.inside.index.config (take (c.self.inside.at - 1) us) latest.last c.index.result.now)
+          (sym c.deref.ensures.value) link,
     )
 
 pub invariant_of-self : goal.invariant_of-self
@@ -27,7 +32,8 @@ invariant_of-self c =
     let room = c.self.invariant.room in
     record {
       at = Cursors.back _ _ _ _ _ _ _ _ _ c.in-Some.undo c.self.invariant.at next c.in-Some.ensures.0 c.in-Some.ensures.1
-          (subst (λ us. IsIndex c.self.inside.index.config (take (c.self.inside.at - 1) us) c.pop-in-Some.new.self) c.deref.ensures.value c.pop-in-Some.ensures.index);
+          (subst (λ us. IsIndex c.self.inside.index.config (take (c.self.inside.at - 1) us) c.pop-in-Some.new.self) c.deref.ensures.value
+              c.pop-in-Some.ensures.index);
       room = record {
         within = omega (arith, c.pop-in-Some.ensures.limit, room.within);
         entries = omega (arith, c.pop-in-Some.ensures.limit, room.entries);

@@ -1,9 +1,12 @@
 use Rattle.std.proofs.Common.{refl}
 use Rattle.std.proofs.lemmas.Option.{slice_get_read}
-use Rattle.rb_ledger.proofs.Calls
+use Rattle.rb_ledger.proofs.HeadReads
+use Rattle.rb_ledger.proofs.ReadItems
 use Rattle.rb_ledger.proofs.rewound.Rewound.balance.Goals as goal
 
 pub returns-clause-bounded : goal.returns-clause-bounded
 returns-clause-bounded c =
     let index = c.self.invariant.at.index in
-    Calls.head_small _ _ _ _ c.args.place _ index.kept index.heads (Calls.read_at _ _ _ _ _ c.deref.ensures.value c.from.ensures (slice_get_read _ _ _ _ refl c.in_ok-head.ensures.lookup.3.0 c.in_ok-head.ensures.lookup.1))
+    HeadReads.head_small _ _ _ _ c.args.place _ index.clocked index.heads
+        (ReadItems.read_at _ _ _ _ _ c.deref.ensures.value c.from.ensures (slice_get_read _ _ _ _ refl c.in_ok-head.ensures.lookup.3.0
+        c.in_ok-head.ensures.lookup.1))

@@ -11,11 +11,13 @@ returns-clause-names c =
     let es = c.self.inside.by_name.entries in
     let P : AccountList → Type 0 = λ list. is_among list.names (string_bytes c.args.name) ≡ false in
     let fresh = subst P (sym c.self.view_is) c.requires.fresh in
-    rw (← c.self.view_is) (ap names_of (c.in_ok-insert.ensures.entries ∙ added es c.args.name c.args.start fresh) ∙ map-append _ es ((c.args.name, c.args.start) ∷ []))
+    rw (← c.self.view_is) (ap names_of (c.in_ok-insert.ensures.entries ∙ added es c.args.name c.args.start fresh)
+    ∙ map-append _ es ((c.args.name, c.args.start) ∷ []))
 
 pub returns-clause-starts : goal.returns-clause-starts
 returns-clause-starts c =
     let es = c.self.inside.by_name.entries in
     let P : AccountList → Type 0 = λ list. is_among list.names (string_bytes c.args.name) ≡ false in
     let fresh = subst P (sym c.self.view_is) c.requires.fresh in
-    rw (← c.self.view_is) (ap starts_of (c.in_ok-insert.ensures.entries ∙ added es c.args.name c.args.start fresh) ∙ map-append _ es ((c.args.name, c.args.start) ∷ []))
+    rw (← c.self.view_is) (ap starts_of (c.in_ok-insert.ensures.entries ∙ added es c.args.name c.args.start fresh)
+    ∙ map-append _ es ((c.args.name, c.args.start) ∷ []))
