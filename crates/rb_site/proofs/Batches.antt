@@ -28,7 +28,7 @@ use Rattle.rb_site.specs.declared.event.Event.TheVariants.{Batch}
 use Rattle.rb_site.specs.declared.message.Message.{Message}
 use Rattle.rb_site.specs.declared.message.Message.TheVariants.{Shadow as ShadowMessage}
 use Rattle.rb_site.specs.declared.reply.Reply.TheVariants.{Names as NamesMade, Refused}
-use Rattle.rb_site.specs.Events.{Makes, ModelSite, Outcome, Refuses, outcome_of}
+use Rattle.rb_site.specs.Events.{MakesAll, ModelSite, Outcome, Refuses, outcome_of}
 use Rattle.rb_site.specs.States.{Follows, Says, SiteState}
 use Rattle.rb_site.proofs.Handlers.{AnswersAlone, answers_as, follows_as, site_as, state_as}
 
@@ -106,7 +106,7 @@ is_of_size rs = nat_le 1 (length rs) && nat_le (length rs) MOST_REQUESTS
 
 -- what comes of a batch's operations
 abbrev of_batch : Result (List Shadow) Refusal → Outcome
-of_batch q = and_then Refuses q (λ vs. Makes (NamesMade (names_of_all vs)) vs)
+of_batch q = and_then Refuses q MakesAll
 
 batch_comes : (s : Settings) (t : ModelSite) (rs : List Request) (b : Bool) → is_of_size rs ≡ b → outcome_of s t (Batch rs) ≡ cond (not b) (Refuses BadBatch) (of_batch (batch_of s t.me t.ops t.token 0 rs))
 unfolding outcome_of

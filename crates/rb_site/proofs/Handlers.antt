@@ -6,7 +6,7 @@ use Rattle.rb_money.specs.Refusals.{unless}
 use Rattle.rb_money.specs.Settings.{Settings}
 use Rattle.rb_money.specs.declared.limits.TheConstants.{MOST_SITES}
 use Rattle.rb_money.specs.declared.refusal.Refusal.{Refusal}
-use Rattle.rb_money.specs.declared.refusal.Refusal.TheVariants.{NotReady, InboxFull, Conflict, OutOfMemory}
+use Rattle.rb_money.specs.declared.refusal.Refusal.TheVariants.{NotHeld, NotReady, InboxFull, Conflict, OutOfMemory}
 use Rattle.rb_shadow.proofs.Public.Eligible
 use Rattle.rb_shadow.proofs.Public.SameShadows
 use Rattle.rb_shadow.specs.Operations.{Among, find_in, is_eligible, names_of_clock, red_count, same_shadow, clock_of}
@@ -27,10 +27,10 @@ use Rattle.rb_site.specs.declared.answer.Answer.{Answer}
 use Rattle.rb_site.specs.declared.reply.Reply.{Reply}
 use Rattle.rb_site.specs.Notes.{IsNoted, is_plain}
 use Rattle.rb_site.specs.declared.reply.Reply.TheVariants.{Held, Already, Applied, Passed, Refused}
-use Rattle.rb_site.specs.declared.event.Event.TheVariants.{Pass}
+use Rattle.rb_site.specs.declared.event.Event.TheVariants.{Apply, Pass}
 use Rattle.rb_site.specs.declared.message.Message.{Message}
 use Rattle.rb_site.specs.declared.message.Message.TheVariants.{Token as TokenOnItsWay}
-use Rattle.rb_site.specs.Events.{ModelSite, Outcome, Refuses, Drops, Answers, Holds, Passes, outcome_of, outcome_of_apply, outcome_of_check, outcome_of_new, reply_of, unless_known}
+use Rattle.rb_site.specs.Events.{ModelSite, Outcome, Refuses, Drops, Answers, Holds, Passes, outcome_of, outcome_of_check, outcome_of_new, reply_of, unless_known}
 use Rattle.rb_site.specs.States.{Follows, IsTied, Says, SiteState}
 
 -- what follows an outcome follows an equal one
@@ -54,7 +54,7 @@ noted_less keeps reply None h = by (is_plain reply) h
     by false e = cc
 
 pub follows_less : (keeps : Bool) (old now : SiteState) (before after : List Message) (o : Outcome) (a : Answer) → Follows true old now before after o a → Follows keeps old now before after o a
-follows_less keeps old now before after o a h = (h.0, (h.1.0, noted_less keeps (reply_of o) a.noted h.1.1), h.2)
+follows_less keeps old now before after o a h = (h.0, (h.1.0, noted_less keeps (reply_of old.settings old.site.ops o) a.noted h.1.1), h.2)
 
 -- where nothing is sent, the messages stay
 pub follows_silent : (keeps : Bool) (old now : SiteState) (before : List Message) (o : Outcome) (a : Answer) → Follows keeps old now [] [] o a → Follows keeps old now before before o a
@@ -92,29 +92,29 @@ dropped v NotReady h = absurd (h refl)
 dropped v why h = refl
 
 -- a held shadow whose past is applied comes to what the ledger's check says
-comes_to_check : (s : Settings) (t : ModelSite) (x : OpName) (v : Shadow) (o : Option Refusal) → find_in t.held x ≡ Some v → is_eligible t.ops v ≡ true → IsSound s v → refusal_of s t.ops v ≡ o → outcome_of_apply s t (find_in t.held x) ≡ outcome_of_check v o
-unfolding outcome_of_apply
+comes_to_check : (s : Settings) (t : ModelSite) (x : OpName) (v : Shadow) (o : Option Refusal) → find_in t.held x ≡ Some v → is_eligible t.ops v ≡ true → IsSound s v → refusal_of s t.ops v ≡ o → outcome_of s t (Apply x) ≡ outcome_of_check v o
+unfolding outcome_of
 comes_to_check s t x v o found eligible sound refusal =
-    ap (outcome_of_apply s t) found
+    ap (λ q. unless (λ u. cond (not (is_eligible t.ops u)) (Refuses NotReady) (outcome_of_check u (refusal_of_sound s t.ops u))) q (Refuses NotHeld)) found
     ∙ ap (λ b. cond (not b) (Refuses NotReady) (outcome_of_check v (refusal_of_sound s t.ops v))) eligible
     ∙ ap (outcome_of_check v) (sym (refusal-sound s t.ops v sound) ∙ refusal)
 
 pub applies : (s : Settings) (me : ℕ) (ops held more less : List Shadow) (token : Token) (x : OpName) (v : Shadow) (a : Answer) → find_in held x ≡ Some v → is_eligible ops v ≡ true → IsSound s v → refusal_of s ops v ≡ None
     → more ≡ ops ++ v ∷ [] → less ≡ without v.name held → Says true a (Applied v.name)
-    → AnswersAlone (state_as s me ops held token) (state_as s me more less token) (outcome_of_apply s (site_as me ops held token) (find_in held x)) a
+    → AnswersAlone (state_as s me ops held token) (state_as s me more less token) (outcome_of s (site_as me ops held token) (Apply x)) a
 applies s me ops held more less token x v a found eligible sound refusal grown taken is =
     answers_as _ _ _ _ a (comes_to_check s (site_as me ops held token) x v None found eligible sound refusal)
     (ap (λ us. state_as s me us less token) grown ∙ ap (λ vs. state_as s me (ops ++ v ∷ []) vs token) taken, is, refl)
 
 pub drops : (s : Settings) (me : ℕ) (ops held less : List Shadow) (token : Token) (x : OpName) (v : Shadow) (why : Refusal) (a : Answer) → find_in held x ≡ Some v → is_eligible ops v ≡ true → IsSound s v → refusal_of s ops v ≡ Some why → (why ≡ NotReady → ⊥)
     → less ≡ without v.name held → Says true a (Refused why)
-    → AnswersAlone (state_as s me ops held token) (state_as s me ops less token) (outcome_of_apply s (site_as me ops held token) (find_in held x)) a
+    → AnswersAlone (state_as s me ops held token) (state_as s me ops less token) (outcome_of s (site_as me ops held token) (Apply x)) a
 drops s me ops held less token x v why a found eligible sound refusal other taken is =
     answers_as _ _ _ _ a (comes_to_check s (site_as me ops held token) x v (Some why) found eligible sound refusal ∙ dropped v why other)
     (ap (λ vs. state_as s me ops vs token) taken, is, refl)
 
 pub waits : (s : Settings) (me : ℕ) (ops held : List Shadow) (token : Token) (x : OpName) (v : Shadow) (a : Answer) → find_in held x ≡ Some v → is_eligible ops v ≡ true → IsSound s v → refusal_of s ops v ≡ Some NotReady → Says true a (Refused NotReady)
-    → AnswersAlone (state_as s me ops held token) (state_as s me ops held token) (outcome_of_apply s (site_as me ops held token) (find_in held x)) a
+    → AnswersAlone (state_as s me ops held token) (state_as s me ops held token) (outcome_of s (site_as me ops held token) (Apply x)) a
 waits s me ops held token x v a found eligible sound refusal is =
     answers_as _ _ _ _ a (comes_to_check s (site_as me ops held token) x v (Some NotReady) found eligible sound refusal)
     (refl, is, refl)

@@ -13,7 +13,7 @@ use Rattle.rb_site.specs.declared.entry.Entry.{Entry}
 use Rattle.rb_site.specs.declared.event.Event.{Event}
 use Rattle.rb_site.specs.declared.message.Message.{Message}
 use Rattle.rb_site.specs.declared.message.Message.TheVariants.{Shadow as ShadowMessage}
-use Rattle.rb_site.specs.Events.{Answers, Applies, Drops, Holds, Makes, ModelSite, Outcome, Passes, Refuses, Takes, after_event, after_events, changed, first_site, is_full, noted, outcome_of, reply_of, sent_by}
+use Rattle.rb_site.specs.Events.{Answers, Applies, Drops, Holds, Makes, MakesAll, ModelSite, Outcome, Passes, Refuses, Shows, Takes, after_event, after_events, changed, first_site, is_full, outcome_of, sent_by}
 use Rattle.rb_site.specs.Histories.{events_of}
 use Rattle.rb_site.specs.Reports.{IsEnough, RoomFor}
 use Rattle.rb_site.specs.Seen.{SeenSite, next_site, next_sites, state_of}
@@ -27,7 +27,9 @@ ops_grow : (t : ModelSite) (o : Outcome) → length (sent_by o) ≤ MOST_REQUEST
 ops_grow t (Refuses why) h = omega arith
 ops_grow t (Answers r) h = omega arith
 ops_grow t (Drops x why) h = omega arith
-ops_grow t (Makes r vs) h = omega (arith, length-append t.ops vs, length-map vs ShadowMessage, h)
+ops_grow t (Shows a) h = omega arith
+ops_grow t (Makes v) h = omega (arith, length-append t.ops (v ∷ []))
+ops_grow t (MakesAll vs) h = omega (arith, length-append t.ops vs, length-map vs ShadowMessage, h)
 ops_grow t (Holds v) h = omega arith
 ops_grow t (Applies v) h = omega (arith, length-append t.ops (v ∷ []))
 ops_grow t (Takes m) h = omega arith
@@ -55,7 +57,9 @@ held_grow : (t : ModelSite) (o : Outcome) → length (changed t o).held ≤ leng
 held_grow t (Refuses why) = omega arith
 held_grow t (Answers r) = omega arith
 held_grow t (Drops x why) = omega (arith, length-filter (λ (u : Shadow). not (same_name u.name x)) t.held, count_by-le-length (λ (u : Shadow). not (same_name u.name x)) t.held)
-held_grow t (Makes r vs) = omega arith
+held_grow t (Shows a) = omega arith
+held_grow t (Makes v) = omega arith
+held_grow t (MakesAll vs) = omega arith
 held_grow t (Holds v) = with_held-few v t.held
 held_grow t (Applies v) = omega (arith, length-filter (λ (u : Shadow). not (same_name u.name v.name)) t.held, count_by-le-length (λ (u : Shadow). not (same_name u.name v.name)) t.held)
 held_grow t (Takes m) = omega arith
@@ -64,7 +68,7 @@ held_grow t (Passes m) = omega arith
 held_after : (s : Settings) (t : ModelSite) (e : Event) → length (after_event s t e).held ≤ length t.held + 1
 held_after s t e = by (is_full s t) (held_grow t (outcome_of s t e))
   where
-    by : (b : Bool) → length (changed t (outcome_of s t e)).held ≤ length t.held + 1 → length (cond b t (noted (changed t (outcome_of s t e)) e (reply_of (outcome_of s t e)))).held ≤ length t.held + 1
+    by : (b : Bool) → length (changed t (outcome_of s t e)).held ≤ length t.held + 1 → length (cond b t (Runs.noted s t e)).held ≤ length t.held + 1
     by true one = omega arith
     by false one = one
 
@@ -94,16 +98,3 @@ pub more_counts : (f : Shadow → ℕ) (us : List Shadow) (k n : ℕ) → option
 more_counts f [] k n h = cc
 more_counts f (u ∷ us) zero n h = let same : f u ≡ n = cc in ap (λ m. m ∷ []) (sym same)
 more_counts f (u ∷ us) (suc k) n h = ap (λ ns. f u ∷ ns) (more_counts f us k n h)
-
--- ---- where a site stands
-
-me_of_run : (s : Settings) (t : ModelSite) (es : List Event) → (after_events s t es).me ≡ t.me
-me_of_run s t [] = refl
-me_of_run s t (e ∷ es) = me_of_run s (after_event s t e) es ∙ by (is_full s t)
-  where
-    by : (b : Bool) → (cond b t (noted (changed t (outcome_of s t e)) e (reply_of (outcome_of s t e)))).me ≡ t.me
-    by true = refl
-    by false = Runs.same_me t (outcome_of s t e)
-
-pub me-state : (x : SeenSite) → (state_of x).me ≡ x.me
-me-state x = me_of_run x.settings (first_site x.me) (events_of x.entries)

@@ -8,7 +8,7 @@ use Rattle.rb_site.specs.declared.event.Event.{Event}
 use Rattle.rb_site.specs.declared.message.Message.{Message}
 use Rattle.rb_site.specs.declared.reply.Reply.{Reply}
 use Rattle.rb_site.specs.declared.reply.Reply.TheVariants.{Refused}
-use Rattle.rb_site.specs.Events.{ModelSite, Outcome, changed, is_full, noted, outcome_of, reply_of, reply_to, sent_at, sent_by}
+use Rattle.rb_site.specs.Events.{ModelSite, Outcome, changed, is_full, outcome_of, reply_of, reply_to, sent_at, sent_by}
 use Rattle.rb_site.specs.Seen.{SeenSite, entry, next_site, state_of, stepped}
 use Rattle.rb_site.specs.States.{Follows, IsStanding, SiteState, without_history}
 use Rattle.rb_site.proofs.Public.Runs
@@ -40,7 +40,7 @@ is_step keeps x old now before after e a free standing follows =
             ∙ ap (changed old.site) same
             ∙ ap (λ u. changed u o) standing.site
             ∙ changed-with_history t [] o
-            ∙ ap (λ b. without_history (cond b t (noted (changed t o) e (reply_of o)))) (sym free)
+            ∙ ap (λ b. without_history (cond b t (Runs.noted s t e))) (sym free)
             ∙ ap without_history (sym (Seen.state-stepped x e));
       });
     }
@@ -57,8 +57,12 @@ is_step keeps x old now before after e a free standing follows =
     same : outcome_of old.settings old.site e ≡ o
     same = ap (λ z. outcome_of z old.site e) standing.settings ∙ ap (λ u. outcome_of s u e) standing.site ∙ same_outcome s t [] e
 
-    told : reply_of (outcome_of old.settings old.site e) ≡ reply_to s t e
-    told = ap reply_of same ∙ sym (ap (λ b. cond b (Refused HistoryFull) (reply_of o)) free)
+    told : reply_of old.settings old.site.ops (outcome_of old.settings old.site e) ≡ reply_to s t e
+    told =
+        ap (reply_of old.settings old.site.ops) same
+        ∙ ap (λ z. reply_of z old.site.ops o) standing.settings
+        ∙ ap (λ (u : ModelSite). reply_of s u.ops o) standing.site
+        ∙ sym (ap (λ b. cond b (Refused HistoryFull) (reply_of s t.ops o)) free)
 
     noted_reply : a.reply ≡ reply_to s t e
     noted_reply = follows.1.0 ∙ told

@@ -4,6 +4,7 @@ use Rattle.rb_scratch.specs.declared.request.TheConstants.{MOST_REQUESTS}
 use Rattle.rb_money.specs.Amounts.{cents}
 use Rattle.rb_money.specs.Refusals.{and_then, unless}
 use Rattle.rb_money.specs.Settings.{Settings, is_account}
+use Rattle.rb_money.specs.declared.place.Place.{Place}
 use Rattle.rb_money.specs.declared.refusal.Refusal.{Refusal}
 use Rattle.rb_money.specs.declared.refusal.Refusal.TheVariants.{UnknownAccount, BadBatch, NotHeld, NotReady, InboxFull, BadMessage, Conflict, PositionBeyond, HistoryFull}
 use Rattle.rb_shadow.specs.Labels.{label_of}
@@ -15,7 +16,6 @@ use Rattle.rb_ledger.specs.Checks.{refusal_of_sound}
 use Rattle.rb_inbox.specs.Held.{with_held, without}
 use Rattle.rb_scratch.specs.Batches.{batch_of, names_of_all}
 use Rattle.rb_scratch.specs.Requests.{made_of}
-use Rattle.rb_site.specs.declared.entry.Entry.{Entry}
 use Rattle.rb_site.specs.declared.event.Event.{Event}
 use Rattle.rb_site.specs.declared.event.Event.TheVariants.{Submit, Batch, Receive, Apply, Pass, Balance, AsOf, Statement as AskStatement}
 use Rattle.rb_site.specs.declared.message.Message.{Message}
@@ -28,24 +28,28 @@ use Rattle.rb_token.specs.declared.message.TokenMessage.{TokenMessage}
 
 -- ---- what a site is
 
--- a site: its number, the operations that it applied, in their order, those that it holds, one for each name and in the order of the names, what it knows of the token, and its events with their replies
+-- a site: its number, the operations that it applied, in their order, those that it holds, one for each name and in the order of the names, what it knows of the token, and its events
 pub record ModelSite : Type 0 where
   pub me : ℕ
   pub ops : List Shadow
   pub held : List Shadow
   pub token : Token
-  pub history : List Entry
+  pub history : List Event
 
 -- ---- what an event comes to
 
--- what an event comes to. Only these change more than the history: Drops, Makes, Holds, Applies, Takes and Passes
+-- what an event comes to. Only these change more than the history: Drops, Makes, MakesAll, Holds, Applies, Takes and Passes
 pub data Outcome : Type 0 where
   Refuses : (why : Refusal) → Outcome
   -- what is held under the name can't be applied, and is let go
   Drops : (name : OpName) → (why : Refusal) → Outcome
   Answers : (reply : Reply) → Outcome
-  -- operations are made here, one after another, and sent
-  Makes : (reply : Reply) → (made : List Shadow) → Outcome
+  -- the account's statement is shown
+  Shows : (a : Place) → Outcome
+  -- an operation is made here and sent
+  Makes : (made : Shadow) → Outcome
+  -- those of a batch are, one after another
+  MakesAll : (made : List Shadow) → Outcome
   Holds : (v : Shadow) → Outcome
   Applies : (v : Shadow) → Outcome
   Takes : (m : TokenMessage) → Outcome
@@ -65,40 +69,31 @@ outcome_of_new s t v =
     (if nat_le s.limits.inbox (length t.held) && not (is_eligible t.ops v) then Refuses InboxFull
     else Holds v)
 
--- what a received shadow comes to: one that is wrong by itself is refused
-unfoldable pub outcome_of_shadow : Settings → ModelSite → Shadow → Outcome
-outcome_of_shadow s t v =
-    unless (λ why. Refuses (BadMessage why)) (fault_in s v)
-    (unless_known v (find_in t.ops v.name)
-    (if v.home == t.me then Refuses Conflict
-    else outcome_of_new s t v))
-
 -- a held operation that may not be applied stays while it isn't ready, and else is let go
 abbrev pub outcome_of_check : Shadow → Option Refusal → Outcome
 outcome_of_check v None = Applies v
 outcome_of_check v (Some NotReady) = Refuses NotReady
 outcome_of_check v (Some why) = Drops v.name why
 
--- what the application of a held operation comes to
-unfoldable pub outcome_of_apply : Settings → ModelSite → Option Shadow → Outcome
-outcome_of_apply s t None = Refuses NotHeld
-outcome_of_apply s t (Some v) =
-    if not (is_eligible t.ops v) then Refuses NotReady
-    else outcome_of_check v (refusal_of_sound s t.ops v)
-
 -- ---- one event
 
 -- what an event comes to at a site
 unfoldable pub outcome_of : Settings → ModelSite → Event → Outcome
-outcome_of s t (Submit r) = and_then Refuses (made_of s t.me t.ops t.token r) (λ v. Makes (Made v.name (label_of v.kind)) (v ∷ []))
+outcome_of s t (Submit r) = and_then Refuses (made_of s t.me t.ops t.token r) Makes
 outcome_of s t (Batch rs) =
     if not (nat_le 1 (length rs) && nat_le (length rs) MOST_REQUESTS) then Refuses BadBatch
-    else and_then Refuses (batch_of s t.me t.ops t.token 0 rs) (λ vs. Makes (NamesMade (names_of_all vs)) vs)
-outcome_of s t (Receive (ShadowMessage v)) = outcome_of_shadow s t v
+    else and_then Refuses (batch_of s t.me t.ops t.token 0 rs) MakesAll
+outcome_of s t (Receive (ShadowMessage v)) =
+    unless (λ why. Refuses (BadMessage why)) (fault_in s v)
+    (unless_known v (find_in t.ops v.name)
+    (if v.home == t.me then Refuses Conflict
+    else outcome_of_new s t v))
 outcome_of s t (Receive (TokenOnItsWay m)) =
     unless Refuses (refusal_of_token s.limits t.me m)
     (if is_stale t.token m then Answers (Stale m.epoch) else Takes m)
-outcome_of s t (Apply x) = outcome_of_apply s t (find_in t.held x)
+outcome_of s t (Apply x) =
+    unless (λ v. if not (is_eligible t.ops v) then Refuses NotReady else outcome_of_check v (refusal_of_sound s t.ops v)) (find_in t.held x)
+    (Refuses NotHeld)
 outcome_of s t (Pass to) =
     unless Refuses (refusal_of_pass s.sites s.limits t.me t.token to)
     (Passes (pass_message t.token to (red_count t.ops)))
@@ -107,51 +102,33 @@ outcome_of s t (AsOf a n) =
     if not (is_account s a) then Refuses UnknownAccount
     else if nat_lt (length t.ops) n then Refuses PositionBeyond
     else Answers (BalanceIs (cents (bal s (take n t.ops) a)))
-outcome_of s t (AskStatement a) = if not (is_account s a) then Refuses UnknownAccount else Answers (StatementIs (statement_of s t.ops a))
-
--- the reply
-abbrev pub reply_of : Outcome → Reply
-reply_of (Refuses why) = Refused why
-reply_of (Drops x why) = Refused why
-reply_of (Answers reply) = reply
-reply_of (Makes reply vs) = reply
-reply_of (Holds v) = Held v.name
-reply_of (Applies v) = Applied v.name
-reply_of (Takes m) = Taken m.epoch
-reply_of (Passes m) = Passed m.epoch
+outcome_of s t (AskStatement a) = if not (is_account s a) then Refuses UnknownAccount else Shows a
 
 -- what is sent
 abbrev pub sent_by : Outcome → List Message
-sent_by (Makes reply vs) = map ShadowMessage vs
+sent_by (Makes v) = ShadowMessage v ∷ []
+sent_by (MakesAll vs) = map ShadowMessage vs
 sent_by (Passes m) = TokenOnItsWay m ∷ []
 sent_by _ = []
 
 -- the site after it, but for the history
 abbrev pub changed : ModelSite → Outcome → ModelSite
-changed t (Refuses why) = t
-changed t (Answers reply) = t
 changed t (Drops x why) = record t { held = without x t.held }
-changed t (Makes reply vs) = record t { ops = t.ops ++ vs }
+changed t (Makes v) = record t { ops = t.ops ++ v ∷ [] }
+changed t (MakesAll vs) = record t { ops = t.ops ++ vs }
 changed t (Holds v) = record t { held = with_held v t.held }
 changed t (Applies v) = record t { ops = t.ops ++ v ∷ []; held = without v.name t.held }
 changed t (Takes m) = record t { token = taken_token m }
 changed t (Passes m) = record t { token = passed_token t.token m }
-
--- the site with the event and its reply in its history
-abbrev pub noted : ModelSite → Event → Reply → ModelSite
-noted t e reply = record t { history = t.history ++ (record { event = e; reply = reply }) ∷ [] }
+changed t _ = t
 
 -- there is no room in the history
 abbrev pub is_full : Settings → ModelSite → Bool
 is_full s t = nat_le s.limits.history (length t.history)
 
--- the reply to an event
-abbrev pub reply_to : Settings → ModelSite → Event → Reply
-reply_to s t e = if is_full s t then Refused HistoryFull else reply_of (outcome_of s t e)
-
 -- the site after an event
 abbrev pub after_event : Settings → ModelSite → Event → ModelSite
-after_event s t e = if is_full s t then t else noted (changed t (outcome_of s t e)) e (reply_of (outcome_of s t e))
+after_event s t e = if is_full s t then t else record (changed t (outcome_of s t e)) { history = t.history ++ e ∷ [] }
 
 -- what an event sends
 abbrev pub sent_at : Settings → ModelSite → Event → List Message
@@ -165,6 +142,25 @@ first_site me = record { me = me; ops = []; held = []; token = first_token me; h
 abbrev pub after_events : Settings → ModelSite → List Event → ModelSite
 after_events s t [] = t
 after_events s t (e ∷ es) = after_events s (after_event s t e) es
+
+-- ---- replies
+
+-- the reply, at a site that applied us
+abbrev pub reply_of : Settings → List Shadow → Outcome → Reply
+reply_of s us (Refuses why) = Refused why
+reply_of s us (Drops x why) = Refused why
+reply_of s us (Answers reply) = reply
+reply_of s us (Shows a) = StatementIs (statement_of s us a)
+reply_of s us (Makes v) = Made v.name (label_of v.kind)
+reply_of s us (MakesAll vs) = NamesMade (names_of_all vs)
+reply_of s us (Holds v) = Held v.name
+reply_of s us (Applies v) = Applied v.name
+reply_of s us (Takes m) = Taken m.epoch
+reply_of s us (Passes m) = Passed m.epoch
+
+-- the reply to an event
+abbrev pub reply_to : Settings → ModelSite → Event → Reply
+reply_to s t e = if is_full s t then Refused HistoryFull else reply_of s t.ops (outcome_of s t e)
 
 -- the replies to a list of events
 abbrev pub replies_to_events : Settings → ModelSite → List Event → List Reply

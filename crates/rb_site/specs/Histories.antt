@@ -7,12 +7,21 @@ use Rattle.rb_site.specs.declared.world_event.WorldEvent.TheVariants.{At, Delive
 use Rattle.rb_site.specs.declared.event.Event.{Event}
 use Rattle.rb_site.specs.declared.event.Event.TheVariants.{Receive}
 use Rattle.rb_site.specs.declared.message.Message.{Message}
-use Rattle.rb_site.specs.Events.{ModelSite, after_event, first_site, sent_at}
+use Rattle.rb_site.specs.Events.{ModelSite, after_event, first_site, reply_to, sent_at}
 use Rattle.rb_site.specs.Worlds.{AreOwn, World, world_of_run}
 
+-- the entries of a list of events: each with its reply
+abbrev pub with_replies : Settings → ModelSite → List Event → List Entry
+with_replies s t [] = []
+with_replies s t (e ∷ es) = (record { event = e; reply = reply_to s t e }) ∷ with_replies s (after_event s t e) es
+
+-- a site's history: its events with their replies
+abbrev pub history_of : Settings → ModelSite → List Entry
+history_of s t = with_replies s (first_site t.me) t.history
+
 -- the histories of a world's sites
-abbrev pub histories_of : World → List (List Entry)
-histories_of w = map (λ (t : ModelSite). t.history) w.sites
+abbrev pub histories_of : Settings → World → List (List Entry)
+histories_of s w = map (history_of s) w.sites
 
 -- the site that an event of the world is for
 abbrev pub site_of : WorldEvent → ℕ
@@ -23,7 +32,7 @@ site_of (Deliver i k) = i
 pub record AreOneWorlds (s : Settings) (hs : List (List Entry)) : Type 0 where
   pub events : List WorldEvent
   pub own : AreOwn events
-  pub gives : histories_of (world_of_run s events) ≡ hs
+  pub gives : histories_of s (world_of_run s events) ≡ hs
 
 -- ---- histories that no world has
 
@@ -40,6 +49,11 @@ events_of h = map (λ (x : Entry). x.event) h
 abbrev pub IsAmong : Message → List Message → Type 0
 IsAmong m [] = ⊥
 IsAmong m (n ∷ ns) = (m ≡ n) ⊎ IsAmong m ns
+
+-- the event is a site's own, or receives one of these messages
+abbrev pub IsFrom : List Message → Event → Type 0
+IsFrom ms (Receive m) = IsAmong m ms
+IsFrom ms _ = Unit {0}
 
 -- no site sends the message in the fronts of the histories
 abbrev pub IsUnsent : Settings → List (List Entry) → Message → Type 0

@@ -7,6 +7,7 @@ use Rattle.rb_shadow.specs.declared.shadow.Shadow.{Shadow}
 use Rattle.rb_shadow.specs.Operations.{bal, cancel_count, clock_of}
 use Rattle.rb_site.specs.declared.report.SiteReport.{SiteReport}
 use Rattle.rb_site.specs.Events.{ModelSite}
+use Rattle.rb_site.specs.Histories.{history_of}
 use Rattle.rb_site.specs.States.{SiteState}
 
 -- the balance of each account, in the order of the configuration
@@ -29,7 +30,7 @@ pub record IsReport (s : Settings) (t : ModelSite) (r : SiteReport) : Type 0 whe
   pub token_limits : r.token.limits ≡ s.limits
   pub token : r.token.token ≡ t.token
   pub waiting : r.waiting ≡ length t.held
-  pub history : r.history.items ≡ t.history
+  pub history : r.history.items ≡ history_of s t
 
 -- room for so many balances and so many counts
 pub record RoomFor : Type 0 where

@@ -17,13 +17,13 @@ pub record SeenSite : Type 0 where
 abbrev pub first_seen : Settings → ℕ → SeenSite
 first_seen s me = record { settings = s; me = me; entries = [] }
 
--- where a site stands: the run of its events
-abbrev pub state_of : SeenSite → ModelSite
-state_of x = after_events x.settings (first_site x.me) (events_of x.entries)
-
 -- an event with its reply
 abbrev pub entry : Event → Reply → Entry
 entry e reply = record { event = e; reply = reply }
+
+-- where a site stands: the run of its events
+abbrev pub state_of : SeenSite → ModelSite
+state_of x = after_events x.settings (first_site x.me) (events_of x.entries)
 
 -- the site with one event more, where there is room for it
 abbrev pub stepped : SeenSite → Event → SeenSite

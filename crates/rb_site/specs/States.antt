@@ -43,7 +43,7 @@ Says keeps answer reply = (answer.reply ≡ reply) × IsNoted keeps reply answer
 abbrev pub Follows : Bool → SiteState → SiteState → List Message → List Message → Outcome → Answer → Type 0
 Follows keeps old new before after o answer =
     (new ≡ record old { site = changed old.site o })
-    × Says keeps answer (reply_of o)
+    × Says keeps answer (reply_of old.settings old.site.ops o)
     × (after ≡ before ++ sent_by o)
 
 -- a site's history replays, and it stands where the run of it leaves it

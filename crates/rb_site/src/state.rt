@@ -1,10 +1,10 @@
 //! Where a site stands between two events.
 ghost use Rattle.std.specs.Prelude.{◌≡◌, ◌<◌, ◌&&◌, [], true, nat_le, if◌then◌else◌, IfOk, OnErr};
-ghost use Rattle.rb_shadow.specs.Operations.{clock_of, find_in, same_shadow};
+ghost use Rattle.rb_shadow.specs.Operations.{clock_of, same_shadow};
 ghost use Rattle.rb_ledger.specs.Records.{records_of};
 ghost use Rattle.rb_shadow.specs.Sound.{IsSound};
 ghost use Rattle.rb_scratch.specs.declared.request.TheConstants.{MOST_REQUESTS};
-ghost use Rattle.rb_site.specs.Events.{first_site, outcome_of, outcome_of_new, outcome_of_shadow, outcome_of_apply};
+ghost use Rattle.rb_site.specs.Events.{first_site, outcome_of, outcome_of_new};
 ghost use Rattle.rb_site.specs.States.{Follows, Says};
 
 use crate::answer::Answer;
@@ -199,10 +199,10 @@ impl State {
     }
 
     #[inline(always)]
-    #[tactic(auto, unfolding(crate::specs::Events::outcome_of_shadow))]
+    #[tactic(auto, unfolding(crate::specs::Events::outcome_of))]
     /// A shadow from another site is held until it is applied.
     fn receive(&mut self, shadow: &Shadow) -> Result<Answer, AllocError>
-        ensures ok { IfOk result (Follows true self.old self.new [] [] (outcome_of_shadow self.old.settings self.old.site shadow.now)) }
+        ensures ok { IfOk result (Follows true self.old self.new [] [] (outcome_of self.old.settings self.old.site (Event.Receive (Message.Shadow shadow.now)))) }
         ensures err { OnErr result (self.new ≡ self.old) }
     {
         if let Err(why) = shadow.sound(self.journal.config()) {
@@ -247,10 +247,10 @@ impl State {
         }
     }
 
-    #[tactic(auto, unfolding(crate::specs::Events::outcome_of_apply))]
+    #[tactic(auto, unfolding(crate::specs::Events::outcome_of))]
     /// A held shadow whose past is applied is applied too, or is let go where it can't be.
     fn apply(&mut self, name: OpName) -> Result<Answer, AllocError>
-        ensures ok { IfOk result (Follows true self.old self.new [] [] (outcome_of_apply self.old.settings self.old.site (find_in self.old.site.held name))) }
+        ensures ok { IfOk result (Follows true self.old self.new [] [] (outcome_of self.old.settings self.old.site (Event.Apply name))) }
         ensures err { OnErr result (self.new ≡ self.old) }
     {
         let Some(held) = self.inbox.held(&name) else {

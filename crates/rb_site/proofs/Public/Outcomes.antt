@@ -6,56 +6,46 @@ use Rattle.rb_money.specs.Refusals.{and_then, unless}
 use Rattle.rb_money.specs.Settings.{Settings, is_account}
 use Rattle.rb_money.specs.declared.refusal.Refusal.{Refusal}
 use Rattle.rb_money.specs.Amounts.{cents}
-use Rattle.rb_money.specs.declared.refusal.Refusal.TheVariants.{BadBatch, BadMessage, UnknownAccount, NotReady, InboxFull, Conflict, PositionBeyond}
+use Rattle.rb_money.specs.declared.refusal.Refusal.TheVariants.{BadBatch, BadMessage, UnknownAccount, NotHeld, NotReady, InboxFull, Conflict, PositionBeyond}
 use Rattle.rb_ledger.specs.Checks.{refusal_of_sound}
 use Rattle.rb_shadow.specs.Operations.{bal, is_eligible, red_count, find_in, same_shadow}
-use Rattle.rb_shadow.specs.Labels.{label_of}
 use Rattle.rb_shadow.specs.Sound.{fault_in}
-use Rattle.rb_scratch.specs.Batches.{batch_of, names_of_all}
+use Rattle.rb_scratch.specs.Batches.{batch_of}
 use Rattle.rb_scratch.specs.Requests.{made_of}
 use Rattle.rb_scratch.specs.declared.request.Request.{Request}
 use Rattle.rb_scratch.specs.declared.request.TheConstants.{MOST_REQUESTS}
 use Rattle.rb_scratch.proofs.Public.Made.{batch_length}
-use Rattle.rb_statements.specs.Statements.{statement_of}
 use Rattle.rb_token.specs.Token.{pass_message, refusal_of_pass, refusal_of_token}
 use Rattle.rb_shadow.specs.declared.shadow.Shadow.{Shadow}
-use Rattle.rb_site.specs.declared.entry.Entry.{Entry}
 use Rattle.rb_site.specs.declared.event.Event.{Event}
 use Rattle.rb_site.specs.declared.event.Event.TheVariants.{Submit, Batch, Receive, Apply, Pass, Balance, AsOf, Statement as AskStatement}
 use Rattle.rb_site.specs.declared.message.Message.{Message}
 use Rattle.rb_site.specs.declared.message.Message.TheVariants.{Shadow as ShadowMessage, Token as TokenOnItsWay}
-use Rattle.rb_site.specs.declared.reply.Reply.TheVariants.{Made, Names as NamesMade, Already, Stale, Balance as BalanceIs, Statement as StatementIs}
-use Rattle.rb_site.specs.Events.{ModelSite, Outcome, Refuses, Drops, Answers, Makes, Holds, Applies, Takes, Passes, changed, is_full, outcome_of, outcome_of_apply, outcome_of_check, outcome_of_shadow, sent_at, sent_by, unless_known}
+use Rattle.rb_site.specs.declared.reply.Reply.TheVariants.{Already, Stale, Balance as BalanceIs}
+use Rattle.rb_site.specs.Events.{ModelSite, Outcome, Refuses, Drops, Answers, Shows, Makes, MakesAll, Holds, Applies, Takes, Passes, changed, is_full, outcome_of, outcome_of_check, sent_at, sent_by, unless_known}
+use Rattle.rb_site.specs.declared.entry.Entry.{Entry}
 use Rattle.rb_site.specs.Seen.{SeenSite, IsReplayed, state_of}
 use Rattle.rb_site.proofs.Public.Seen
 
 -- the site with another history
-abbrev pub with_history : ModelSite → List Entry → ModelSite
+abbrev pub with_history : ModelSite → List Event → ModelSite
 with_history t h = record t { history = h }
 
 -- what an event comes to doesn't depend on the history
-pub same_outcome : (s : Settings) (t : ModelSite) (h : List Entry) (e : Event) → outcome_of s (with_history t h) e ≡ outcome_of s t e
-unfolding outcome_of outcome_of_shadow outcome_of_apply
-same_outcome s t h (Submit r) = refl
-same_outcome s t h (Batch rs) = refl
+pub same_outcome : (s : Settings) (t : ModelSite) (h : List Event) (e : Event) → outcome_of s (with_history t h) e ≡ outcome_of s t e
+unfolding outcome_of
 same_outcome s t h (Receive (ShadowMessage v)) = refl
 same_outcome s t h (Receive (TokenOnItsWay m)) = refl
-same_outcome s t h (Apply x) = by (find_in t.held x)
-  where
-    by : (o : Option Shadow) → outcome_of_apply s (with_history t h) o ≡ outcome_of_apply s t o
-    by None = refl
-    by (Some v) = refl
-same_outcome s t h (Pass to) = refl
-same_outcome s t h (Balance a) = refl
-same_outcome s t h (AsOf a n) = refl
-same_outcome s t h (AskStatement a) = refl
+same_outcome s t h _ = refl
 
 -- nor does what it changes
-pub changed-with_history : (t : ModelSite) (h : List Entry) (o : Outcome) → changed (with_history t h) o ≡ with_history (changed t o) h
+pub changed-with_history : (t : ModelSite) (h : List Event) (o : Outcome) → changed (with_history t h) o ≡ with_history (changed t o) h
 changed-with_history t h (Refuses why) = refl
 changed-with_history t h (Answers r) = refl
+changed-with_history t h (Shows a) = refl
 changed-with_history t h (Drops x why) = refl
-changed-with_history t h (Makes r vs) = refl
+changed-with_history t h (Makes v) = refl
+changed-with_history t h (MakesAll vs) = refl
 changed-with_history t h (Holds v) = refl
 changed-with_history t h (Applies v) = refl
 changed-with_history t h (Takes m) = refl
@@ -65,7 +55,7 @@ changed-with_history t h (Passes m) = refl
 
 -- the history has room exactly where the model site's has
 pub is_full-state : (x : SeenSite) → IsReplayed x → nat_le x.settings.limits.history (length x.entries) ≡ is_full x.settings (state_of x)
-is_full-state x kept = ap (λ h. nat_le x.settings.limits.history (length h)) (sym (Seen.history-state x kept))
+is_full-state x kept = ap (nat_le x.settings.limits.history) (sym (ap length (Seen.history-state x kept) ∙ length-map x.entries (λ (y : Entry). y.event)))
 
 pub room_left : (x : SeenSite) → IsReplayed x → is_full x.settings (state_of x) ≡ false → length x.entries < x.settings.limits.history
 room_left x kept free =
@@ -103,7 +93,7 @@ few_check v None = lit≤ tt
 few_check v (Some NotReady) = lit≤ tt
 few_check v (Some why) = lit≤ tt
 
-few_made : (q : Result Shadow Refusal) → SendsFew (and_then Refuses q (λ v. Makes (Made v.name (label_of v.kind)) (v ∷ [])))
+few_made : (q : Result Shadow Refusal) → SendsFew (and_then Refuses q Makes)
 few_made (Ok v) = lit≤ tt
 few_made (Err why) = lit≤ tt
 
@@ -112,18 +102,18 @@ few_batch : (s : Settings) (t : ModelSite) (rs : List Request) → SendsFew (out
 unfolding outcome_of
 few_batch s t rs = by (nat_le 1 (length rs)) (nat_le (length rs) MOST_REQUESTS) refl
   where
-    made : length rs ≤ MOST_REQUESTS → (q : Result (List Shadow) Refusal) → batch_of s t.me t.ops t.token 0 rs ≡ q → SendsFew (and_then Refuses q (λ vs. Makes (NamesMade (names_of_all vs)) vs))
+    made : length rs ≤ MOST_REQUESTS → (q : Result (List Shadow) Refusal) → batch_of s t.me t.ops t.token 0 rs ≡ q → SendsFew (and_then Refuses q MakesAll)
     made few (Ok vs) e = subst (λ n. n ≤ MOST_REQUESTS) (sym (length-map vs ShadowMessage ∙ batch_length s t.me t.ops t.token 0 rs vs e)) few
     made few (Err why) e = lit≤ tt
 
-    by : (b c : Bool) → nat_le (length rs) MOST_REQUESTS ≡ c → SendsFew (cond (not (b && c)) (Refuses BadBatch) (and_then Refuses (batch_of s t.me t.ops t.token 0 rs) (λ vs. Makes (NamesMade (names_of_all vs)) vs)))
+    by : (b c : Bool) → nat_le (length rs) MOST_REQUESTS ≡ c → SendsFew (cond (not (b && c)) (Refuses BadBatch) (and_then Refuses (batch_of s t.me t.ops t.token 0 rs) MakesAll))
     by false c e = lit≤ tt
     by true false e = lit≤ tt
     by true true e = made (grind (arith, nat_tests)) (batch_of s t.me t.ops t.token 0 rs) refl
 
 -- an event sends at most as many messages as a batch may have requests
 pub sends_few : (s : Settings) (t : ModelSite) (e : Event) → length (sent_by (outcome_of s t e)) ≤ MOST_REQUESTS
-unfolding outcome_of outcome_of_shadow outcome_of_apply
+unfolding outcome_of
 sends_few s t (Submit r) = few_made (made_of s t.me t.ops t.token r)
 sends_few s t (Batch rs) = few_batch s t rs
 sends_few s t (Receive (ShadowMessage v)) =
@@ -131,13 +121,13 @@ sends_few s t (Receive (ShadowMessage v)) =
 sends_few s t (Receive (TokenOnItsWay m)) = few_first (λ why. why) (refusal_of_token s.limits t.me m) _ (few_test (nat_le m.epoch t.token.epoch) (Answers (Stale m.epoch)) (Takes m) (lit≤ tt) (lit≤ tt))
 sends_few s t (Apply x) = by (find_in t.held x)
   where
-    by : (o : Option Shadow) → SendsFew (outcome_of_apply s t o)
+    by : (o : Option Shadow) → SendsFew (unless (λ v. cond (not (is_eligible t.ops v)) (Refuses NotReady) (outcome_of_check v (refusal_of_sound s t.ops v))) o (Refuses NotHeld))
     by None = lit≤ tt
     by (Some v) = few_if (not (is_eligible t.ops v)) NotReady _ (few_check v (refusal_of_sound s t.ops v))
 sends_few s t (Pass to) = few_first (λ why. why) (refusal_of_pass s.sites s.limits t.me t.token to) (Passes (pass_message t.token to (red_count t.ops))) (lit≤ tt)
 sends_few s t (Balance a) = few_if (not (is_account s a)) UnknownAccount (Answers (BalanceIs (cents (bal s t.ops a)))) (lit≤ tt)
 sends_few s t (AsOf a n) = few_if (not (is_account s a)) UnknownAccount _ (few_if (nat_lt (length t.ops) n) PositionBeyond (Answers (BalanceIs (cents (bal s (take n t.ops) a)))) (lit≤ tt))
-sends_few s t (AskStatement a) = few_if (not (is_account s a)) UnknownAccount (Answers (StatementIs (statement_of s t.ops a))) (lit≤ tt)
+sends_few s t (AskStatement a) = few_if (not (is_account s a)) UnknownAccount (Shows a) (lit≤ tt)
 
 pub sent_few : (s : Settings) (t : ModelSite) (e : Event) → length (sent_at s t e) ≤ MOST_REQUESTS
 sent_few s t e = few (is_full s t) (sent_by (outcome_of s t e)) (sends_few s t e)

@@ -1,16 +1,14 @@
 -- Runs, one event after another.
 use Rattle.std.proofs.Common.{◌≡◌, ℕ, zero, suc, Bool, true, false, cond, not, ◌&&◌, List, [], ◌∷◌, ◌++◌, refl, ap, ◌∙◌, Option, Some, None}
-use Rattle.std.specs.Prelude.{map, option_map, slice_get, slice_set, is_some}
+use Rattle.std.specs.Prelude.{option_map, slice_get, slice_set, is_some}
 use Rattle.std.proofs.lemmas.List.{append-nil}
-use Rattle.std.proofs.lemmas.List.{map-append}
 use Rattle.rb_money.specs.Settings.{Settings}
-use Rattle.rb_site.specs.declared.entry.Entry.{Entry}
 use Rattle.rb_site.specs.declared.event.Event.{Event}
 use Rattle.rb_site.specs.declared.event.Event.TheVariants.{Receive}
 use Rattle.rb_site.specs.declared.message.Message.{Message}
 use Rattle.rb_site.specs.declared.world_event.WorldEvent.{WorldEvent}
 use Rattle.rb_site.specs.declared.world_event.WorldEvent.TheVariants.{At, Deliver}
-use Rattle.rb_site.specs.Events.{Answers, Applies, Drops, Holds, Makes, ModelSite, Outcome, Passes, Refuses, Takes, after_event, after_events, changed, first_site, is_full, noted, outcome_of, reply_of, sent_by}
+use Rattle.rb_site.specs.Events.{Answers, Applies, Drops, Holds, Makes, MakesAll, ModelSite, Outcome, Passes, Refuses, Shows, Takes, after_event, after_events, changed, first_site, is_full, outcome_of, sent_by}
 use Rattle.rb_site.specs.Worlds.{World, is_recorded, is_recorded_at, message_at, world_after, world_after_all, world_at}
 
 pub after_events-append : (s : Settings) (es fs : List Event) (t : ModelSite) → after_events s t (es ++ fs) ≡ after_events s (after_events s t es) fs
@@ -24,43 +22,35 @@ world-append s (e ∷ es) fs w = world-append s es fs (world_after s w e)
 pub same_me : (t : ModelSite) (o : Outcome) → (changed t o).me ≡ t.me
 same_me t (Refuses why) = refl
 same_me t (Answers r) = refl
+same_me t (Shows a) = refl
 same_me t (Drops x why) = refl
-same_me t (Makes r vs) = refl
+same_me t (Makes v) = refl
+same_me t (MakesAll vs) = refl
 same_me t (Holds v) = refl
 same_me t (Applies v) = refl
 same_me t (Takes m) = refl
 same_me t (Passes m) = refl
 
-pub same_past : (t : ModelSite) (o : Outcome) → (changed t o).history ≡ t.history
-same_past t (Refuses why) = refl
-same_past t (Answers r) = refl
-same_past t (Drops x why) = refl
-same_past t (Makes r vs) = refl
-same_past t (Holds v) = refl
-same_past t (Applies v) = refl
-same_past t (Takes m) = refl
-same_past t (Passes m) = refl
+-- the site after an event for which its history has room
+abbrev pub noted : Settings → ModelSite → Event → ModelSite
+noted s t e = record (changed t (outcome_of s t e)) { history = t.history ++ e ∷ [] }
 
 -- the site stands as the run of its own history leaves it
 abbrev pub IsRunOfItsHistory : Settings → ModelSite → Type 0
-IsRunOfItsHistory s t = after_events s (first_site t.me) (map (λ (x : Entry). x.event) t.history) ≡ t
+IsRunOfItsHistory s t = after_events s (first_site t.me) t.history ≡ t
 
 -- a site stays the run of its own history
 pub run_goes_on : (s : Settings) (t : ModelSite) (e : Event) → IsRunOfItsHistory s t → IsRunOfItsHistory s (after_event s t e)
 run_goes_on s t e run = by (is_full s t) refl
   where
-    o : Outcome
-    o = outcome_of s t e
-
     n : ModelSite
-    n = noted (changed t o) e (reply_of o)
+    n = noted s t e
 
     by : (b : Bool) → is_full s t ≡ b → IsRunOfItsHistory s (cond b t n)
     by true q = run
     by false q =
-        ap (λ me. after_events s (first_site me) (map (λ (x : Entry). x.event) n.history)) (same_me t o)
-        ∙ ap (after_events s (first_site t.me)) (map-append (λ (x : Entry). x.event) (changed t o).history _ ∙ ap (λ h. map (λ (x : Entry). x.event) h ++ e ∷ []) (same_past t o))
-        ∙ after_events-append s (map (λ (x : Entry). x.event) t.history) (e ∷ []) (first_site t.me)
+        ap (λ me. after_events s (first_site me) n.history) (same_me t (outcome_of s t e))
+        ∙ after_events-append s t.history (e ∷ []) (first_site t.me)
         ∙ ap (λ u. after_event s u e) run
         ∙ ap (λ b. cond b t n) q
 
@@ -77,7 +67,7 @@ unrecorded_at s w i e (Some t) at h = by (is_full s t) h
     with_sites : List ModelSite → List Message → World
     with_sites ts ms = record { sites = ts; messages = ms }
 
-    by : (b : Bool) → not b ≡ false → with_sites (slice_set w.sites i (cond b t (noted (changed t (outcome_of s t e)) e (reply_of (outcome_of s t e))))) (w.messages ++ cond b [] (sent_by (outcome_of s t e))) ≡ w
+    by : (b : Bool) → not b ≡ false → with_sites (slice_set w.sites i (cond b t (noted s t e))) (w.messages ++ cond b [] (sent_by (outcome_of s t e))) ≡ w
     by true q = ap (λ ts. with_sites ts (w.messages ++ [])) (set-same w.sites i t at) ∙ ap (with_sites w.sites) (append-nil w.messages)
     by false q = cc
 

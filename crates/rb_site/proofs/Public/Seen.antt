@@ -1,15 +1,14 @@
 -- A site stays the run of its history.
-use Rattle.std.proofs.Common.{◌≡◌, ◌+◌, ◌<◌, ◌≤◌, Bool, true, false, cond, List, [], ◌∷◌, ◌++◌, length, refl, ap, sym, ◌∙◌, arith, length-append, append_assoc}
+use Rattle.std.proofs.Common.{◌≡◌, suc, ◌+◌, ◌<◌, ◌≤◌, Bool, true, false, cond, List, [], ◌∷◌, ◌++◌, length, refl, ap, sym, ◌∙◌, arith, length-append, append_assoc}
 use Rattle.std.proofs.lemmas.Bool.Decides.{nat_tests}
-use Rattle.std.proofs.lemmas.List.{append-nil, map-append}
+use Rattle.std.proofs.lemmas.List.{append-nil, length-map, map-append}
 use Rattle.rb_money.specs.Settings.{Settings}
 use Rattle.rb_site.specs.declared.entry.Entry.{Entry}
 use Rattle.rb_site.specs.declared.event.Event.{Event}
-use Rattle.rb_site.specs.declared.reply.Reply.TheVariants.{Refused}
-use Rattle.rb_money.specs.declared.refusal.Refusal.TheVariants.{HistoryFull}
-use Rattle.rb_site.specs.Events.{ModelSite, Outcome, after_event, after_events, changed, first_site, is_full, noted, outcome_of, reply_of, reply_to}
-use Rattle.rb_site.specs.Histories.{events_of}
+use Rattle.rb_site.specs.Events.{ModelSite, after_event, after_events, first_site, is_full, reply_to}
+use Rattle.rb_site.specs.Histories.{with_replies, events_of, history_of}
 use Rattle.rb_site.specs.Seen.{IsReplayed, Replays, SeenSite, entry, next_site, state_of, stepped}
+use Rattle.rb_site.proofs.Public.Recorded.{me_after, noted_history}
 use Rattle.rb_site.proofs.Public.Runs
 
 -- the state after one event more
@@ -26,7 +25,7 @@ state-next x e = by (is_full x.settings (state_of x)) refl
     t = state_of x
 
     after : ModelSite
-    after = noted (changed t (outcome_of x.settings t e)) e (reply_of (outcome_of x.settings t e))
+    after = Runs.noted x.settings t e
 
     by : (b : Bool) → is_full x.settings t ≡ b → state_of (cond b x (stepped x e)) ≡ cond b t after
     by true q = refl
@@ -52,28 +51,67 @@ replayed-stepped x e room kept = record {
   room = let longer : length (x.entries ++ entry e (reply_to x.settings (state_of x) e) ∷ []) ≡ length x.entries + 1 = length-append x.entries _ in omega arith;
 }
 
--- an event where there is room adds its entry to the history
-history_after : (s : Settings) (t : ModelSite) (x : Entry) → is_full s t ≡ false → x.reply ≡ reply_to s t x.event → (after_event s t x.event).history ≡ t.history ++ x ∷ []
-history_after s t x room e =
-    ap (λ b. (cond b t n).history) room
-    ∙ ap (λ h. h ++ (record { event = x.event; reply = reply_of o }) ∷ []) (Runs.same_past t o)
-    ∙ ap (λ r. t.history ++ (record { event = x.event; reply = r }) ∷ []) (sym (e ∙ ap (λ b. cond b (Refused HistoryFull) (reply_of o)) room))
-  where
-    o : Outcome
-    o = outcome_of s t x.event
-
-    n : ModelSite
-    n = noted (changed t o) x.event (reply_of o)
-
--- the history of the run is the history that was run
-pub history_of_run : (s : Settings) (t : ModelSite) (xs : List Entry) → Replays s t xs → length t.history + length xs ≤ s.limits.history → (after_events s t (events_of xs)).history ≡ t.history ++ xs
-history_of_run s t [] h room = sym (append-nil t.history)
-history_of_run s t (x ∷ xs) h room =
+-- the history of the run is what was run
+pub history_of_run : (s : Settings) (t : ModelSite) (es : List Event) → length t.history + length es ≤ s.limits.history → (after_events s t es).history ≡ t.history ++ es
+history_of_run s t [] room = sym (append-nil t.history)
+history_of_run s t (e ∷ es) room =
     let free : is_full s t ≡ false = grind (arith, nat_tests) in
-    let one : (after_event s t x.event).history ≡ t.history ++ x ∷ [] = history_after s t x free h.0 in
-    let longer : length (after_event s t x.event).history ≡ length t.history + 1 = ap length one ∙ length-append t.history (x ∷ []) in
-    history_of_run s (after_event s t x.event) xs h.1 (omega arith)
-    ∙ ap (λ h. h ++ xs) one ∙ append_assoc t.history (x ∷ []) xs
+    let one : (after_event s t e).history ≡ t.history ++ e ∷ [] = noted_history s t e free in
+    let longer : length (after_event s t e).history ≡ length t.history + 1 = ap length one ∙ length-append t.history (e ∷ []) in
+    history_of_run s (after_event s t e) es (omega arith)
+    ∙ ap (λ h. h ++ es) one ∙ append_assoc t.history (e ∷ []) es
 
-pub history-state : (x : SeenSite) → IsReplayed x → (state_of x).history ≡ x.entries
-history-state x kept = history_of_run x.settings (first_site x.me) x.entries kept.replays (let room : length x.entries ≤ x.settings.limits.history = kept.room in omega arith)
+-- the events of a site as clients see it are those of its model
+pub history-state : (x : SeenSite) → IsReplayed x → (state_of x).history ≡ events_of x.entries
+history-state x kept =
+    let room : length x.entries ≤ x.settings.limits.history = kept.room in
+    let same : length (events_of x.entries) ≡ length x.entries = length-map x.entries (λ (y : Entry). y.event) in
+    history_of_run x.settings (first_site x.me) (events_of x.entries) (omega arith)
+
+-- no event changes the site's number
+pub me_of_run : (s : Settings) (t : ModelSite) (es : List Event) → (after_events s t es).me ≡ t.me
+me_of_run s t [] = refl
+me_of_run s t (e ∷ es) = me_of_run s (after_event s t e) es ∙ me_after s t e
+
+pub me-state : (x : SeenSite) → (state_of x).me ≡ x.me
+me-state x = me_of_run x.settings (first_site x.me) (events_of x.entries)
+
+-- ---- the entries of a run
+
+-- entries that replay are those of their events
+pub entries_replayed : (s : Settings) (t : ModelSite) (xs : List Entry) → Replays s t xs → with_replies s t (events_of xs) ≡ xs
+entries_replayed s t [] h = refl
+entries_replayed s t (x ∷ xs) h = ap (λ ys. entry x.event (reply_to s t x.event) ∷ ys) (entries_replayed s (after_event s t x.event) xs h.1) ∙ ap (λ r. entry x.event r ∷ xs) (sym h.0)
+
+-- the history of the model site is the site's
+pub entries-state : (x : SeenSite) → IsReplayed x → history_of x.settings (state_of x) ≡ x.entries
+entries-state x kept =
+    ap (λ me. with_replies x.settings (first_site me) (state_of x).history) (me-state x)
+    ∙ ap (with_replies x.settings (first_site x.me)) (history-state x kept)
+    ∙ entries_replayed x.settings (first_site x.me) x.entries kept.replays
+
+-- there is an entry for each event
+pub entries-length : (s : Settings) (t : ModelSite) (es : List Event) → length (with_replies s t es) ≡ length es
+entries-length s t [] = refl
+entries-length s t (e ∷ es) = ap (λ n. suc n) (entries-length s (after_event s t e) es)
+
+-- the entries of a list of events are those events'
+pub events_from : (s : Settings) (t : ModelSite) (es : List Event) → events_of (with_replies s t es) ≡ es
+events_from s t [] = refl
+events_from s t (e ∷ es) = ap (λ xs. e ∷ xs) (events_from s (after_event s t e) es)
+
+pub entries-append : (s : Settings) (t : ModelSite) (es fs : List Event) → with_replies s t (es ++ fs) ≡ with_replies s t es ++ with_replies s (after_events s t es) fs
+entries-append s t [] fs = refl
+entries-append s t (e ∷ es) fs = ap (λ xs. entry e (reply_to s t e) ∷ xs) (entries-append s (after_event s t e) es fs)
+
+-- where a site goes on, its history does
+pub history-grown : (s : Settings) (t u : ModelSite) (more : List Event) → u.me ≡ t.me → u.history ≡ t.history ++ more → Runs.IsRunOfItsHistory s t → history_of s u ≡ history_of s t ++ with_replies s t more
+history-grown s t u more me longer run =
+    ap (λ i. with_replies s (first_site i) u.history) me
+    ∙ ap (with_replies s (first_site t.me)) longer
+    ∙ entries-append s (first_site t.me) t.history more
+    ∙ ap (λ v. history_of s t ++ with_replies s v more) run
+
+-- an event for which there is room adds its entry
+pub history-noted : (s : Settings) (t : ModelSite) (e : Event) → is_full s t ≡ false → Runs.IsRunOfItsHistory s t → history_of s (after_event s t e) ≡ history_of s t ++ entry e (reply_to s t e) ∷ []
+history-noted s t e room run = history-grown s t (after_event s t e) (e ∷ []) (me_after s t e) (noted_history s t e room) run

@@ -1,5 +1,5 @@
 -- Histories that are stuck are not one world's.
-use Rattle.std.proofs.Common.{◌≡◌, ℕ, zero, suc, ◌+◌, false, cond, List, [], ◌∷◌, ◌++◌, refl, ap, sym, ◌∙◌, arith, ◌⊎◌, inl, inr, subst, Option, Some, None, append_assoc}
+use Rattle.std.proofs.Common.{◌≡◌, ℕ, zero, suc, ◌+◌, false, List, [], ◌∷◌, ◌++◌, refl, ap, sym, ◌∙◌, arith, ◌⊎◌, inl, inr, subst, Option, Some, None, append_assoc}
 use Rattle.std.specs.Prelude.{map, slice_get, slice_set}
 use Rattle.std.specs.Option.{option_map}
 use Rattle.std.specs.List.{range_with_len}
@@ -12,13 +12,14 @@ use Rattle.rb_site.specs.declared.event.Event.{Event}
 use Rattle.rb_site.specs.declared.event.Event.TheVariants.{Receive}
 use Rattle.rb_site.specs.declared.message.Message.{Message}
 use Rattle.rb_site.specs.declared.world_event.WorldEvent.{WorldEvent}
-use Rattle.rb_site.specs.Events.{ModelSite, after_event, after_events, changed, first_site, is_full, noted, outcome_of, reply_of, reply_to, sent_at}
-use Rattle.rb_site.specs.Worlds.{AreOwn, World, first_world, is_recorded, message_at, world_after, world_after_all, world_of_run}
-use Rattle.rb_site.specs.Histories.{IsAmong, IsBlocked, IsCut, StuckIsFinal, events_of, histories_of, site_of, sends_of}
+use Rattle.rb_site.specs.Events.{ModelSite, after_event, after_events, first_site, is_full, reply_to, sent_at}
+use Rattle.rb_site.specs.Worlds.{AreOwn, World, first_world, is_recorded, world_after, world_after_all, world_of_run}
+use Rattle.rb_site.specs.Histories.{IsAmong, IsBlocked, IsCut, StuckIsFinal, IsFrom, with_replies, events_of, histories_of, history_of, site_of, sends_of}
 use Rattle.rb_site.proofs.Public.Runs
 use Rattle.rb_site.proofs.Public.Runs.{IsRunOfItsHistory}
 use Rattle.rb_site.proofs.Public.Recorded
-use Rattle.rb_site.proofs.Public.Recorded.{IsFrom, IsRecorded, Later}
+use Rattle.rb_site.proofs.Public.Recorded.{IsRecorded, Later}
+use Rattle.rb_site.proofs.Public.Seen
 use Rattle.rb_site.proofs.Public.Places.{get_set_other, get_set_same, same_number}
 
 -- ---- messages
@@ -37,15 +38,6 @@ among-cases m [] ns h = inr h
 among-cases m (n ∷ ms) ns (inl e) = inl (inl e)
 among-cases m (n ∷ ms) ns (inr h) = elim (among-cases m ms ns h) [ inl k ↦ inl (inr k) | inr k ↦ inr k ]
 
-pub at_place : (ms : List Message) (k : ℕ) (m : Message) → slice_get ms k ≡ Some m → IsAmong m ms
-at_place [] k m h = cc
-at_place (n ∷ ms) zero m h = inl (let e : m ≡ n = cc in e)
-at_place (n ∷ ms) (suc k) m h = inr (at_place ms k m h)
-
-pub placed : (ms : List Message) (k : ℕ) (m : Message) → message_at ms k ≡ Some m → IsAmong m ms
-placed ms zero m h = cc
-placed ms (suc k) m h = at_place ms k m h
-
 pub sends-append : (s : Settings) (es fs : List Event) (t : ModelSite) → sends_of s t (es ++ fs) ≡ sends_of s t es ++ sends_of s (after_events s t es) fs
 sends-append s [] fs t = refl
 sends-append s (e ∷ es) fs t = ap (λ ms. sent_at s t e ++ ms) (sends-append s es fs (after_event s t e)) ∙ sym (append_assoc (sent_at s t e) (sends_of s (after_event s t e) es) (sends_of s (after_events s (after_event s t e) es) fs))
@@ -62,39 +54,33 @@ pub record IsWithinFront (s : Settings) (fronts : List (List Entry)) (i : ℕ) (
   pub front : List Entry
   pub there : slice_get fronts i ≡ Some front
   pub more : List Entry
-  pub goes_on : front ≡ t.history ++ more
+  pub goes_on : front ≡ history_of s t ++ more
 
 pub record IsWithinFronts (s : Settings) (fronts : List (List Entry)) (w : World) : Type 0 where
   pub sites : (i : ℕ) (t : ModelSite) → slice_get w.sites i ≡ Some t → IsWithinFront s fronts i t
   pub sent : (m : Message) → IsAmong m w.messages → (j : ℕ) × (f : List Entry) × (slice_get fronts j ≡ Some f) × IsAmong m (sends_of s (first_site j) (events_of f))
 
 -- what a site sends next it sends in its front
-sent_in_front : (s : Settings) (t t1 : ModelSite) (i : ℕ) (e : Event) (x : Entry) (front more : List Entry) (m : Message) → t.me ≡ i → IsRunOfItsHistory s t → x.event ≡ e → front ≡ (t.history ++ x ∷ []) ++ more → IsAmong m (sent_at s t e) → IsAmong m (sends_of s (first_site i) (events_of front))
+sent_in_front : (s : Settings) (t t1 : ModelSite) (i : ℕ) (e : Event) (x : Entry) (front more : List Entry) (m : Message) → t.me ≡ i → IsRunOfItsHistory s t → x.event ≡ e → front ≡ (history_of s t ++ x ∷ []) ++ more → IsAmong m (sent_at s t e) → IsAmong m (sends_of s (first_site i) (events_of front))
 sent_in_front s t t1 i e x front more m me run ev is h =
     subst (λ f. IsAmong m (sends_of s (first_site i) (events_of f))) (sym is)
-    (front_sends s (first_site i) (t.history ++ x ∷ []) more m
-    (subst (IsAmong m) (sym (ap (sends_of s (first_site i)) (map-append (λ (x : Entry). x.event) t.history (x ∷ [])) ∙ sends-append s (events_of t.history) (x.event ∷ []) (first_site i)))
-    (among-right m (sends_of s (first_site i) (events_of t.history)) _
-    (subst (λ u. IsAmong m (sends_of s u (x.event ∷ []))) (sym (ap (λ j. after_events s (first_site j) (events_of t.history)) (sym me) ∙ run))
+    (front_sends s (first_site i) (history_of s t ++ x ∷ []) more m
+    (subst (IsAmong m) (sym (ap (sends_of s (first_site i)) (map-append (λ (x : Entry). x.event) (history_of s t) (x ∷ []) ∙ ap (λ es. es ++ x.event ∷ []) (Seen.events_from s (first_site t.me) t.history)) ∙ sends-append s t.history (x.event ∷ []) (first_site i)))
+    (among-right m (sends_of s (first_site i) t.history) _
+    (subst (λ u. IsAmong m (sends_of s u (x.event ∷ []))) (sym (ap (λ j. after_events s (first_site j) t.history) (sym me) ∙ run))
     (subst (IsAmong m) (sym (append-nil (sent_at s t x.event))) (subst (λ e. IsAmong m (sent_at s t e)) (sym ev) h))))))
 
 cancel : (h xs ys : List Entry) → h ++ xs ≡ h ++ ys → xs ≡ ys
 cancel [] xs ys e = e
 cancel (x ∷ h) xs ys e = cancel h xs ys (let a : h ++ xs ≡ h ++ ys = cc in a)
 
-me_after : (s : Settings) (t : ModelSite) (e : Event) → is_full s t ≡ false → (after_event s t e).me ≡ t.me
-me_after s t e room = ap (λ b. (cond b t (noted (changed t (outcome_of s t e)) e (reply_of (outcome_of s t e)))).me) room ∙ Runs.same_me t (outcome_of s t e)
-
 from_sent : (ms : List Message) (e : Event) (m : Message) → e ≡ Receive m → IsFrom ms e → IsAmong m ms
-from_sent ms e m is h = let (k, at) = the (subst (IsFrom ms) is h) in placed ms k m at
-  where
-    the : IsFrom ms (Receive m) → (k : ℕ) × (message_at ms k ≡ Some m)
-    the h = h
+from_sent ms e m is h = subst (IsFrom ms) is h
 
 -- a recorded event stays within the fronts
 within_event : (s : Settings) (hs fronts : List (List Entry)) (w : World) (e : WorldEvent) (es : List WorldEvent)
     → ((i : ℕ) (h : List Entry) → slice_get hs i ≡ Some h → IsCut s fronts i h)
-    → histories_of (world_after_all s (world_after s w e) es) ≡ hs
+    → histories_of s (world_after_all s (world_after s w e) es) ≡ hs
     → IsRecorded s w e → IsWithinFronts s fronts w → IsWithinFronts s fronts (world_after s w e)
 within_event s hs fronts w e es cut gives r g = subst (IsWithinFronts s fronts) (sym r.is) (record { sites = sites; sent = sent })
   where
@@ -116,17 +102,27 @@ within_event s hs fronts w e es cut gives r g = subst (IsWithinFronts s fronts) 
     last : Later (world_after_all s (world_after s w e) es) i t1
     last = Recorded.later_all s es (world_after s w e) i t1 at1
 
-    grown : t1.history ≡ t.history ++ x ∷ []
-    grown = Recorded.noted_history s t r.event r.room
-
-    there : slice_get hs i ≡ Some last.site.history
-    there = ap (λ ks. slice_get ks i) (sym gives) ∙ slice_get-map (λ (t : ModelSite). t.history) (world_after_all s (world_after s w e) es).sites i ∙ ap (option_map (λ (t : ModelSite). t.history)) last.at
-
-    c : IsCut s fronts i last.site.history
-    c = cut i last.site.history there
-
     old : IsWithinFront s fronts i t
     old = g.sites i t r.at
+
+    grown : history_of s t1 ≡ history_of s t ++ x ∷ []
+    grown = Seen.history-noted s t r.event r.room old.run
+
+    -- the site's history in the end, and what comes after this entry
+    whole : List Entry
+    whole = history_of s last.site
+
+    later : List Entry
+    later = with_replies s t1 last.more
+
+    longer : whole ≡ history_of s t1 ++ later
+    longer = Seen.history-grown s t1 last.site last.more last.me last.longer (Runs.run_goes_on s t r.event old.run)
+
+    there : slice_get hs i ≡ Some whole
+    there = ap (λ ks. slice_get ks i) (sym gives) ∙ slice_get-map (history_of s) (world_after_all s (world_after s w e) es).sites i ∙ ap (option_map (history_of s)) last.at
+
+    c : IsCut s fronts i whole
+    c = cut i whole there
 
     same : c.front ≡ old.front
     same = at (slice_get fronts i) c.there old.there
@@ -134,13 +130,13 @@ within_event s hs fronts w e es cut gives r g = subst (IsWithinFronts s fronts) 
         at : (o : Option (List Entry)) → o ≡ Some c.front → o ≡ Some old.front → c.front ≡ old.front
         at o p q = cc
 
-    left : old.more ++ c.rest ≡ x ∷ last.more
-    left = cancel t.history (old.more ++ c.rest) (x ∷ last.more)
-        (sym (append_assoc t.history old.more c.rest) ∙ ap (λ f. f ++ c.rest) (sym old.goes_on ∙ sym same) ∙ sym c.goes_on
-        ∙ last.longer ∙ ap (λ h. h ++ last.more) grown ∙ append_assoc t.history (x ∷ []) last.more)
+    left : old.more ++ c.rest ≡ x ∷ later
+    left = cancel (history_of s t) (old.more ++ c.rest) (x ∷ later)
+        (sym (append_assoc (history_of s t) old.more c.rest) ∙ ap (λ f. f ++ c.rest) (sym old.goes_on ∙ sym same) ∙ sym c.goes_on
+        ∙ longer ∙ ap (λ h. h ++ later) grown ∙ append_assoc (history_of s t) (x ∷ []) later)
 
     -- the new entry is in the front
-    in_front : (more rest : List Entry) → more ++ rest ≡ x ∷ last.more → IsBlocked s fronts rest → (more' : List Entry) × (more ≡ x ∷ more')
+    in_front : (more rest : List Entry) → more ++ rest ≡ x ∷ later → IsBlocked s fronts rest → (more' : List Entry) × (more ≡ x ∷ more')
     in_front (y ∷ more) rest e b = (more, let a : y ∷ more ≡ x ∷ more = (let q : y ≡ x = cc in ap (λ z. z ∷ more) q) in a)
     in_front [] [] e b = cc
     in_front [] (y ∷ rest) e (m, is, unsent) =
@@ -152,12 +148,12 @@ within_event s hs fronts w e es cut gives r g = subst (IsWithinFronts s fronts) 
     next : (more' : List Entry) × (old.more ≡ x ∷ more')
     next = in_front old.more c.rest left c.blocked
 
-    front_is : old.front ≡ (t.history ++ x ∷ []) ++ next.0
-    front_is = old.goes_on ∙ ap (λ m. t.history ++ m) next.1 ∙ sym (append_assoc t.history (x ∷ []) next.0)
+    front_is : old.front ≡ (history_of s t ++ x ∷ []) ++ next.0
+    front_is = old.goes_on ∙ ap (λ m. history_of s t ++ m) next.1 ∙ sym (append_assoc (history_of s t) (x ∷ []) next.0)
 
     here : IsWithinFront s fronts i t1
     here = record {
-      me = me_after s t r.event r.room ∙ old.me;
+      me = Recorded.me_after s t r.event ∙ old.me;
       run = Runs.run_goes_on s t r.event old.run;
       front = old.front;
       there = old.there;
@@ -181,7 +177,7 @@ within_event s hs fronts w e es cut gives r g = subst (IsWithinFronts s fronts) 
 
 within_all : (s : Settings) (hs fronts : List (List Entry)) (es : List WorldEvent) (w : World)
     → ((i : ℕ) (h : List Entry) → slice_get hs i ≡ Some h → IsCut s fronts i h)
-    → AreOwn es → histories_of (world_after_all s w es) ≡ hs → IsWithinFronts s fronts w → IsWithinFronts s fronts (world_after_all s w es)
+    → AreOwn es → histories_of s (world_after_all s w es) ≡ hs → IsWithinFronts s fronts w → IsWithinFronts s fronts (world_after_all s w es)
 within_all s hs fronts [] w cut own gives g = g
 within_all s hs fronts (e ∷ es) w cut own gives g =
     let owns : AreOwn (e ∷ []) × AreOwn es = Recorded.split_own e es own in
@@ -196,8 +192,8 @@ first_sites a (suc n) zero t h = let e : t ≡ first_site a = cc in e ∙ ap fir
 first_sites a (suc n) (suc i) t h = first_sites (a + 1) n i t h ∙ ap first_site (let q : (a + 1) + i ≡ a + suc i = omega arith in q)
 
 -- each site's history ends where its front does
-ends_at_front : (s : Settings) (hs fronts : List (List Entry)) (w : World) (i : ℕ) (h : List Entry) → IsWithinFronts s fronts w → histories_of w ≡ hs → IsCut s fronts i h → slice_get hs i ≡ Some h → slice_get fronts i ≡ Some h
-ends_at_front s hs fronts w i h g gives c at = by (slice_get w.sites i) refl (sym (slice_get-map (λ (t : ModelSite). t.history) w.sites i) ∙ ap (λ ks. slice_get ks i) gives ∙ at)
+ends_at_front : (s : Settings) (hs fronts : List (List Entry)) (w : World) (i : ℕ) (h : List Entry) → IsWithinFronts s fronts w → histories_of s w ≡ hs → IsCut s fronts i h → slice_get hs i ≡ Some h → slice_get fronts i ≡ Some h
+ends_at_front s hs fronts w i h g gives c at = by (slice_get w.sites i) refl (sym (slice_get-map (history_of s) w.sites i) ∙ ap (λ ks. slice_get ks i) gives ∙ at)
   where
     nothing : (front h more rest : List Entry) → front ≡ h ++ more → h ≡ front ++ rest → rest ≡ []
     nothing front h more rest e k = empty more rest (cancel h (more ++ rest) [] (sym (append_assoc h more rest) ∙ ap (λ f. f ++ rest) (sym e) ∙ sym k ∙ sym (append-nil h)))
@@ -206,11 +202,11 @@ ends_at_front s hs fronts w i h g gives c at = by (slice_get w.sites i) refl (sy
         empty [] ys e = e
         empty (x ∷ xs) ys e = cc
 
-    by : (o : Option ModelSite) → slice_get w.sites i ≡ o → option_map (λ (t : ModelSite). t.history) o ≡ Some h → slice_get fronts i ≡ Some h
+    by : (o : Option ModelSite) → slice_get w.sites i ≡ o → option_map (history_of s) o ≡ Some h → slice_get fronts i ≡ Some h
     by None e k = cc
     by (Some t) e k =
         let old : IsWithinFront s fronts i t = g.sites i t e in
-        let is : t.history ≡ h = cc in
+        let is : history_of s t ≡ h = cc in
         let same : c.front ≡ old.front = both (slice_get fronts i) c.there old.there in
         let none : c.rest ≡ [] = nothing c.front h old.more c.rest (same ∙ old.goes_on ∙ ap (λ k. k ++ old.more) is) c.goes_on in
         c.there ∙ ap Some (sym (c.goes_on ∙ ap (λ r. c.front ++ r) none ∙ append-nil c.front))
@@ -240,6 +236,6 @@ stuck_final s hs fronts stuck one =
     has : HasFronts s fronts
     has i t at =
         let last : Later (world_of_run s one.events) i t = Recorded.later_all s one.events (first_world s) i t at in
-        let there : slice_get hs i ≡ Some last.site.history = ap (λ ks. slice_get ks i) (sym one.gives) ∙ slice_get-map (λ (t : ModelSite). t.history) (world_of_run s one.events).sites i ∙ ap (option_map (λ (t : ModelSite). t.history)) last.at in
-        let c : IsCut s fronts i last.site.history = stuck.cut i last.site.history there in
+        let there : slice_get hs i ≡ Some (history_of s last.site) = ap (λ ks. slice_get ks i) (sym one.gives) ∙ slice_get-map (history_of s) (world_of_run s one.events).sites i ∙ ap (option_map (history_of s)) last.at in
+        let c : IsCut s fronts i (history_of s last.site) = stuck.cut i (history_of s last.site) there in
         (c.front, c.there)

@@ -5,10 +5,10 @@ use Rattle.rb_money.specs.Settings.{Settings}
 use Rattle.rb_shadow.specs.Operations.{clock_of}
 use Rattle.rb_site.specs.declared.entry.Entry.{Entry}
 use Rattle.rb_site.specs.Events.{ModelSite}
+use Rattle.rb_site.specs.Histories.{history_of}
 use Rattle.rb_site.specs.Reports.{balances_of, counts_of}
 use Rattle.rb_site.specs.Seen.{SeenSite, state_of}
 use Rattle.rb_site.specs.States.{without_history}
-use Rattle.rb_site.proofs.Reports.{me-state}
 use Rattle.rb_site.proofs.Public.Seen
 use Rattle.rb_site.proofs.site.Site.close.Goals as goal
 
@@ -22,13 +22,13 @@ map-id : (xs : List Entry) → map (λ x. x) xs ≡ xs
 map-id [] = refl
 map-id (x ∷ xs) = ap (λ ys. x ∷ ys) (map-id xs)
 
-history : (c : goal.After-close-entries) → c.self.inside.history.items ≡ (state_of c.args.self).history
-history c = sym (map-id c.self.inside.history.items) ∙ sym (Seen.history-state _ (c.self.invariant.0).kept) ∙ ap (λ (x : SeenSite). (state_of x).history) c.self.view_is
+history : (c : goal.After-close-entries) → c.self.inside.history.items ≡ history_of c.args.self.settings (state_of c.args.self)
+history c = sym (map-id c.self.inside.history.items) ∙ sym (Seen.entries-state _ (c.self.invariant.0).kept) ∙ ap (λ (x : SeenSite). history_of x.settings (state_of x)) c.self.view_is
 
 pub returns : goal.returns
 returns c =
     record {
-      me = c.me-me.ensures.same ∙ sym (me-state c.args.self);
+      me = c.me-me.ensures.same ∙ sym (Seen.me-state c.args.self);
       balances =
           c.filled-balances.ensures.balances
           ∙ ap (λ s. balances_of s c.ledger.result.now.entries) (c.ledger.ensures.settings ∙ settings c)

@@ -2,8 +2,8 @@
 use Rattle.std.proofs.Common.{◌∙◌, Some, sym, ap, subst}
 use Rattle.rb_money.specs.Settings.{Settings}
 use Rattle.rb_inbox.specs.Held.{Holding}
-use Rattle.rb_shadow.specs.Operations.{find_in}
-use Rattle.rb_site.specs.Events.{outcome_of_apply}
+use Rattle.rb_site.specs.declared.event.Event.TheVariants.{Apply}
+use Rattle.rb_site.specs.Events.{outcome_of}
 use Rattle.rb_site.specs.States.{SeenLedger, SiteState}
 use Rattle.rb_site.proofs.Handlers.{AnswersAlone, applies, drops, held_sound, not_memory, refusal_is, state_as, tied_without, waits}
 use Rattle.rb_site.proofs.state.State.apply.Goals as goal
@@ -14,10 +14,10 @@ invariant_of-self c = tied_without c.self.inside.journal.settings c.apply.new.se
 pub returns-in-Ok-clause-ok : goal.returns-in-Ok-clause-ok
 returns-in-Ok-clause-ok c =
     let now : SiteState = state_as c.apply.new.self.settings c.self.inside.token.me c.apply.new.self.ops c.remove.new.self.held c.self.inside.token.token in
-    let P : SiteState → Type 0 = λ z. AnswersAlone z now (outcome_of_apply z.settings z.site (find_in z.site.held c.args.name)) c.plain-in-Ok.result in
+    let P : SiteState → Type 0 = λ z. AnswersAlone z now (outcome_of z.settings z.site (Apply c.args.name)) c.plain-in-Ok.result in
     subst P c.self.view_is
     (let old : SiteState = state_as c.self.inside.journal.settings c.self.inside.token.me c.self.inside.journal.ops c.self.inside.inbox.held c.self.inside.token.token in
-    let Q : Settings → Type 0 = λ s. AnswersAlone old (state_as s c.self.inside.token.me c.apply.new.self.ops c.remove.new.self.held c.self.inside.token.token) (outcome_of_apply old.settings old.site (find_in old.site.held c.args.name)) c.plain-in-Ok.result in
+    let Q : Settings → Type 0 = λ s. AnswersAlone old (state_as s c.self.inside.token.me c.apply.new.self.ops c.remove.new.self.held c.self.inside.token.token) (outcome_of old.settings old.site (Apply c.args.name)) c.plain-in-Ok.result in
     subst Q (sym (ap (λ (b : SeenLedger). b.settings) c.in-Ok.ensures.applied))
     (applies c.self.inside.journal.settings c.self.inside.token.me c.self.inside.journal.ops c.self.inside.inbox.held c.apply.new.self.ops c.remove.new.self.held c.self.inside.token.token c.args.name c.in-Some.held.now c.plain-in-Ok.result
     (sym c.in-Some.ensures) (sym c.is_eligible.ensures ∙ c.if-not-is_eligible.false)
@@ -30,10 +30,10 @@ invariant_of-self-in_default-why c = tied_without c.self.inside.journal.settings
 pub returns-in-NotReady-clause-ok : goal.returns-in-NotReady-clause-ok
 returns-in-NotReady-clause-ok c =
     let now : SiteState = state_as c.apply.new.self.settings c.self.inside.token.me c.apply.new.self.ops c.self.inside.inbox.held c.self.inside.token.token in
-    let P : SiteState → Type 0 = λ z. AnswersAlone z now (outcome_of_apply z.settings z.site (find_in z.site.held c.args.name)) c.plain-in-NotReady.result in
+    let P : SiteState → Type 0 = λ z. AnswersAlone z now (outcome_of z.settings z.site (Apply c.args.name)) c.plain-in-NotReady.result in
     subst P c.self.view_is
     (let old : SiteState = state_as c.self.inside.journal.settings c.self.inside.token.me c.self.inside.journal.ops c.self.inside.inbox.held c.self.inside.token.token in
-    let Q : SeenLedger → Type 0 = λ b. AnswersAlone old (state_as b.settings c.self.inside.token.me b.ops c.self.inside.inbox.held c.self.inside.token.token) (outcome_of_apply old.settings old.site (find_in old.site.held c.args.name)) c.plain-in-NotReady.result in
+    let Q : SeenLedger → Type 0 = λ b. AnswersAlone old (state_as b.settings c.self.inside.token.me b.ops c.self.inside.inbox.held c.self.inside.token.token) (outcome_of old.settings old.site (Apply c.args.name)) c.plain-in-NotReady.result in
     subst Q (sym c.in-Err.ensures.refused.0)
     (waits c.self.inside.journal.settings c.self.inside.token.me c.self.inside.journal.ops c.self.inside.inbox.held c.self.inside.token.token c.args.name c.in-Some.held.now c.plain-in-NotReady.result
     (sym c.in-Some.ensures) (sym c.is_eligible.ensures ∙ c.if-not-is_eligible.false)
@@ -43,10 +43,10 @@ returns-in-NotReady-clause-ok c =
 pub returns-in_default-why-clause-ok : goal.returns-in_default-why-clause-ok
 returns-in_default-why-clause-ok c =
     let now : SiteState = state_as c.apply.new.self.settings c.self.inside.token.me c.apply.new.self.ops c.remove-in_default-why.new.self.held c.self.inside.token.token in
-    let P : SiteState → Type 0 = λ z. AnswersAlone z now (outcome_of_apply z.settings z.site (find_in z.site.held c.args.name)) c.plain-in_default-why.result in
+    let P : SiteState → Type 0 = λ z. AnswersAlone z now (outcome_of z.settings z.site (Apply c.args.name)) c.plain-in_default-why.result in
     subst P c.self.view_is
     (let old : SiteState = state_as c.self.inside.journal.settings c.self.inside.token.me c.self.inside.journal.ops c.self.inside.inbox.held c.self.inside.token.token in
-    let Q : SeenLedger → Type 0 = λ b. AnswersAlone old (state_as b.settings c.self.inside.token.me b.ops c.remove-in_default-why.new.self.held c.self.inside.token.token) (outcome_of_apply old.settings old.site (find_in old.site.held c.args.name)) c.plain-in_default-why.result in
+    let Q : SeenLedger → Type 0 = λ b. AnswersAlone old (state_as b.settings c.self.inside.token.me b.ops c.remove-in_default-why.new.self.held c.self.inside.token.token) (outcome_of old.settings old.site (Apply c.args.name)) c.plain-in_default-why.result in
     subst Q (sym c.in-Err.ensures.refused.0)
     (drops c.self.inside.journal.settings c.self.inside.token.me c.self.inside.journal.ops c.self.inside.inbox.held c.remove-in_default-why.new.self.held c.self.inside.token.token c.args.name c.in-Some.held.now c.in-Err.why c.plain-in_default-why.result
     (sym c.in-Some.ensures) (sym c.is_eligible.ensures ∙ c.if-not-is_eligible.false)
