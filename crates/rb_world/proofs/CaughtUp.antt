@@ -16,12 +16,13 @@ use Rattle.rb_site.specs.declared.event.Event.TheVariants.{Apply, Receive}
 use Rattle.rb_site.specs.declared.reply.Reply.TheVariants.{Already}
 use Rattle.rb_site.specs.declared.world_event.WorldEvent.{WorldEvent}
 use Rattle.rb_site.specs.declared.world_event.WorldEvent.TheVariants.{At, Deliver}
-use Rattle.rb_site.specs.Events.{Answers, Applies, Drops, Holds, Makes, ModelSite, Outcome, Passes, Refuses, Takes, after_event, changed, is_full, noted, outcome_of, outcome_of_shadow, reply_of, sent_at}
+use Rattle.rb_site.specs.Events.{Answers, Applies, Drops, Holds, Makes, MakesAll, ModelSite, Outcome, Passes, Refuses, Shows, Takes, after_event, changed, is_full, outcome_of, sent_at}
 use Rattle.rb_inbox.specs.Held.{stands_before, with_held}
 use Rattle.rb_site.specs.Worlds.{AreOwn, World, made_in, message_at, shadows_in, world_after, world_after_all, world_at}
 use Rattle.rb_world.specs.Laws.{CanCatchUp, catching_up}
 use Rattle.rb_world.proofs.Steps
 use Rattle.rb_site.proofs.Public.Places.{get_set_same}
+use Rattle.rb_site.proofs.Public.Outcomes.{with_history}
 use Rattle.rb_site.proofs.Public.Runs
 use Rattle.rb_world.proofs.Token
 use Rattle.rb_world.proofs.Good
@@ -37,21 +38,21 @@ changed_grows : (t : ModelSite) (o : Outcome) → IsWithin (names t.ops) (names 
 changed_grows t (Refuses why) x h = h
 changed_grows t (Answers r) x h = h
 changed_grows t (Drops y why) x h = h
-changed_grows t (Makes r vs) x h = names-left t.ops vs x h
+changed_grows t (Shows a) x h = h
+changed_grows t (Makes v) x h = names-left t.ops (v ∷ []) x h
+changed_grows t (MakesAll vs) x h = names-left t.ops vs x h
 changed_grows t (Holds v) x h = h
 changed_grows t (Applies v) x h = names-left t.ops (v ∷ []) x h
 changed_grows t (Takes m) x h = h
 changed_grows t (Passes m) x h = h
 
 -- the site after an event for which it has room
-pub after_roomy : (s : Settings) (t : ModelSite) (e : Event) → is_full s t ≡ false → after_event s t e ≡ noted (changed t (outcome_of s t e)) e (reply_of (outcome_of s t e))
-after_roomy s t e h = ap (λ b. cond b t (noted (changed t (outcome_of s t e)) e (reply_of (outcome_of s t e)))) h
+pub after_roomy : (s : Settings) (t : ModelSite) (e : Event) → is_full s t ≡ false → after_event s t e ≡ Runs.noted s t e
+after_roomy s t e h = ap (λ b. cond b t (Runs.noted s t e)) h
 
 pub history_after : (s : Settings) (t : ModelSite) (e : Event) → is_full s t ≡ false → length (after_event s t e).history ≡ length t.history + 1
 history_after s t e h =
-    ap (λ (u : ModelSite). length u.history) (after_roomy s t e h)
-    ∙ length-append (changed t (outcome_of s t e)).history _
-    ∙ ap (λ n. n + 1) (ap length (Runs.same_past t (outcome_of s t e)))
+    ap (λ (u : ModelSite). length u.history) (after_roomy s t e h) ∙ length-append t.history (e ∷ [])
 
 -- ---- what stands while a site catches up
 
@@ -121,8 +122,8 @@ delivered_there s w i t v g at room made within = elim (Ready.site_receives s w 
   ]
 ]
   where
-    is : (o : Outcome) → outcome_of_shadow s t v ≡ o → after_event s t (Receive (ShadowMessage v)) ≡ noted (changed t o) (Receive (ShadowMessage v)) (reply_of o)
-    is o e = after_roomy s t (Receive (ShadowMessage v)) room ∙ ap (λ o. noted (changed t o) (Receive (ShadowMessage v)) (reply_of o)) (Ready.received s t v ∙ e)
+    is : (o : Outcome) → outcome_of s t (Receive (ShadowMessage v)) ≡ o → after_event s t (Receive (ShadowMessage v)) ≡ record (changed t o) { history = t.history ++ Receive (ShadowMessage v) ∷ [] }
+    is o e = after_roomy s t (Receive (ShadowMessage v)) room ∙ ap (λ o. with_history (changed t o) (t.history ++ Receive (ShadowMessage v) ∷ [])) e
 
 -- after the event Apply it was applied
 applied_there : (s : Settings) (w : World) (i : ℕ) (t : ModelSite) (v : Shadow) → IsGood s w → slice_get w.sites i ≡ Some t → is_full s t ≡ false → IsWithin (past v) (names t.ops) → (names t.ops v.name ≡ true) ⊎ Among v t.held → names (after_event s t (Apply v.name)).ops v.name ≡ true

@@ -11,12 +11,11 @@ use Rattle.rb_shadow.specs.Sound.{fault_in}
 use Rattle.rb_token.specs.Token.{refusal_of_token}
 use Rattle.rb_site.specs.declared.message.Message.TheVariants.{Shadow as ShadowMessage, Token as TokenOnItsWay}
 use Rattle.rb_site.specs.declared.event.Event.{Event}
-use Rattle.rb_site.specs.declared.event.Event.TheVariants.{Submit, Batch, Receive, Apply, Pass, Balance, AsOf, Statement as AskStatement}
-use Rattle.rb_site.specs.declared.entry.Entry.{Entry}
+use Rattle.rb_site.specs.declared.event.Event.TheVariants.{Receive}
 use Rattle.rb_site.specs.declared.reply.Reply.{Reply}
 use Rattle.rb_site.specs.declared.reply.Reply.TheVariants.{Already, Stale}
 use Rattle.rb_site.proofs.Public.Outcomes.{same_outcome, with_history, changed-with_history}
-use Rattle.rb_site.specs.Events.{Answers, Holds, ModelSite, Outcome, Refuses, Takes, after_event, after_events, changed, first_site, is_full, noted, outcome_of, outcome_of_shadow, replies_to_events, reply_of, reply_to, unless_known}
+use Rattle.rb_site.specs.Events.{Answers, Holds, ModelSite, Outcome, Refuses, Takes, after_event, after_events, changed, first_site, is_full, outcome_of, replies_to_events, reply_of, reply_to, unless_known}
 use Rattle.rb_world.specs.Laws.{AreAlike, is_receive, is_refused, is_refused_receive, other_replies, without_refused}
 use Rattle.rb_world.proofs.CaughtUp
 use Rattle.rb_world.proofs.Ready
@@ -24,30 +23,30 @@ use Rattle.rb_world.proofs.Ready
 -- ---- a refused Receive changes nothing
 
 abbrev Lets : Outcome → Type 0
-Lets o = (t : ModelSite) → is_refused (reply_of o) ≡ true → changed t o ≡ t
+Lets o = (s : Settings) (t : ModelSite) → is_refused (reply_of s t.ops o) ≡ true → changed t o ≡ t
 
 lets_if : (b : Bool) (why : Refusal) (next : Outcome) → Lets next → Lets (cond b (Refuses why) next)
-lets_if true why next h t e = refl
-lets_if false why next h t e = h t e
+lets_if true why next h s t e = refl
+lets_if false why next h s t e = h s t e
 
 lets_known : (v : Shadow) (o : Option Shadow) (next : Outcome) → Lets next → Lets (unless_known v o next)
-lets_known v None next h t e = h t e
-lets_known v (Some u) next h t e = by (same_shadow u v) e
+lets_known v None next h s t e = h s t e
+lets_known v (Some u) next h s t e = by (same_shadow u v) e
   where
-    by : (b : Bool) → is_refused (reply_of (cond b (Answers (Already v.name)) (Refuses Conflict))) ≡ true → changed t (cond b (Answers (Already v.name)) (Refuses Conflict)) ≡ t
+    by : (b : Bool) → is_refused (reply_of s t.ops (cond b (Answers (Already v.name)) (Refuses Conflict))) ≡ true → changed t (cond b (Answers (Already v.name)) (Refuses Conflict)) ≡ t
     by true k = refl
     by false k = refl
 
 lets_refusal : {E : Type 0} (refused : E → Refusal) (o : Option E) (next : Outcome) → Lets next → Lets (unless (λ why. Refuses (refused why)) o next)
-lets_refusal refused None next h t e = h t e
-lets_refusal refused (Some why) next h t e = refl
+lets_refusal refused None next h s t e = h s t e
+lets_refusal refused (Some why) next h s t e = refl
 
-refused_changes_nothing : (s : Settings) (t : ModelSite) (e : Event) → is_receive e ≡ true → is_refused (reply_of (outcome_of s t e)) ≡ true → changed t (outcome_of s t e) ≡ t
-unfolding outcome_of outcome_of_shadow
+refused_changes_nothing : (s : Settings) (t : ModelSite) (e : Event) → is_receive e ≡ true → is_refused (reply_of s t.ops (outcome_of s t e)) ≡ true → changed t (outcome_of s t e) ≡ t
+unfolding outcome_of
 refused_changes_nothing s t (Receive (ShadowMessage v)) h k =
     lets_refusal BadMessage (fault_in s v) (unless_known v (find_in t.ops v.name) held) (lets_known v (find_in t.ops v.name) held
     (lets_if (v.home == t.me) Conflict (unless_known v (find_in t.held v.name) room) (lets_known v (find_in t.held v.name) room
-    (lets_if (nat_le s.limits.inbox (length t.held) && not (is_eligible t.ops v)) InboxFull (Holds v) (λ u q. cc))))) t k
+    (lets_if (nat_le s.limits.inbox (length t.held) && not (is_eligible t.ops v)) InboxFull (Holds v) (λ z u q. cc))))) s t k
   where
     room : Outcome
     room = cond (nat_le s.limits.inbox (length t.held) && not (is_eligible t.ops v)) (Refuses InboxFull) (Holds v)
@@ -55,41 +54,32 @@ refused_changes_nothing s t (Receive (ShadowMessage v)) h k =
     held : Outcome
     held = cond (v.home == t.me) (Refuses Conflict) (unless_known v (find_in t.held v.name) room)
 refused_changes_nothing s t (Receive (TokenOnItsWay m)) h k =
-    lets_refusal (λ why. why) (refusal_of_token s.limits t.me m) (cond (nat_le m.epoch t.token.epoch) (Answers (Stale m.epoch)) (Takes m)) (last (nat_le m.epoch t.token.epoch)) t k
+    lets_refusal (λ why. why) (refusal_of_token s.limits t.me m) (cond (nat_le m.epoch t.token.epoch) (Answers (Stale m.epoch)) (Takes m)) (last (nat_le m.epoch t.token.epoch)) s t k
   where
     last : (b : Bool) → Lets (cond b (Answers (Stale m.epoch)) (Takes m))
-    last true u q = refl
-    last false u q = cc
-refused_changes_nothing s t (Submit r) h k = cc
-refused_changes_nothing s t (Batch rs) h k = cc
-refused_changes_nothing s t (Apply x) h k = cc
-refused_changes_nothing s t (Pass to) h k = cc
-refused_changes_nothing s t (Balance a) h k = cc
-refused_changes_nothing s t (AsOf a n) h k = cc
-refused_changes_nothing s t (AskStatement a) h k = cc
+    last true z u q = refl
+    last false z u q = cc
+refused_changes_nothing s t _ h k = cc
 
 -- ---- one event
 
 -- the site with another history goes on alike
-goes_alike : (s : Settings) (t : ModelSite) (h : List Entry) (e : Event) → is_full s t ≡ false → is_full s (with_history t h) ≡ false
-    → (k : List Entry) × (after_event s (with_history t h) e ≡ with_history (after_event s t e) k) × (length k ≡ length h + 1)
+goes_alike : (s : Settings) (t : ModelSite) (h : List Event) (e : Event) → is_full s t ≡ false → is_full s (with_history t h) ≡ false
+    → (k : List Event) × (after_event s (with_history t h) e ≡ with_history (after_event s t e) k) × (length k ≡ length h + 1)
 goes_alike s t h e room room' = (k, is, length-append h _)
   where
-    o : Outcome
-    o = outcome_of s t e
-
-    k : List Entry
-    k = h ++ (record { event = e; reply = reply_of o }) ∷ []
+    k : List Event
+    k = h ++ e ∷ []
 
     is : after_event s (with_history t h) e ≡ with_history (after_event s t e) k
     is =
         CaughtUp.after_roomy s (with_history t h) e room'
-        ∙ ap (λ o. noted (changed (with_history t h) o) e (reply_of o)) (same_outcome s t h e)
-        ∙ ap (λ u. noted u e (reply_of o)) (changed-with_history t h o)
+        ∙ ap (λ o. with_history (changed (with_history t h) o) k) (same_outcome s t h e)
+        ∙ ap (λ u. with_history u k) (changed-with_history t h (outcome_of s t e))
         ∙ sym (ap (λ u. with_history u k) (CaughtUp.after_roomy s t e room))
 
 -- a refused Receive leaves the site but for the history
-stays_alike : (s : Settings) (t : ModelSite) (h : List Entry) (e : Event) → is_full s t ≡ false → is_refused_receive s t e ≡ true → with_history (after_event s t e) h ≡ with_history t h
+stays_alike : (s : Settings) (t : ModelSite) (h : List Event) (e : Event) → is_full s t ≡ false → is_refused_receive s t e ≡ true → with_history (after_event s t e) h ≡ with_history t h
 stays_alike s t h e room b =
     ap (λ u. with_history u h) (CaughtUp.after_roomy s t e room)
     ∙ ap (λ u. with_history u h) (refused_changes_nothing s t e (first _ _ b) (ap is_refused (sym (Ready.reply_roomy s t e room)) ∙ second _ _ b))
@@ -104,7 +94,7 @@ stays_alike s t h e room b =
 
 -- ---- a list of events
 
-no_trace_from : (s : Settings) (es : List Event) (t : ModelSite) (h : List Entry) → length t.history + length es ≤ s.limits.history → length h + length es ≤ s.limits.history
+no_trace_from : (s : Settings) (es : List Event) (t : ModelSite) (h : List Event) → length t.history + length es ≤ s.limits.history → length h + length es ≤ s.limits.history
     → AreAlike (after_events s (with_history t h) (without_refused s t es)) (after_events s t es) × (replies_to_events s (with_history t h) (without_refused s t es) ≡ other_replies s t es)
 no_trace_from s [] t h room room' = (record { me = refl; ops = refl; held = refl; token = refl }, refl)
 no_trace_from s (e ∷ es) t h room room' = by (is_refused_receive s t e) refl (λ k r r'. no_trace_from s es (after_event s t e) k r r')
@@ -125,7 +115,7 @@ no_trace_from s (e ∷ es) t h room room' = by (is_refused_receive s t e) refl (
     Says u fs rs = AreAlike (after_events s u fs) (after_events s t2 es) × (replies_to_events s u fs ≡ rs)
 
     Rest : Type 0
-    Rest = (k : List Entry) → length t2.history + length es ≤ s.limits.history → length k + length es ≤ s.limits.history → Says (with_history t2 k) (without_refused s t2 es) (other_replies s t2 es)
+    Rest = (k : List Event) → length t2.history + length es ≤ s.limits.history → length k + length es ≤ s.limits.history → Says (with_history t2 k) (without_refused s t2 es) (other_replies s t2 es)
 
     by : (b : Bool) → is_refused_receive s t e ≡ b → Rest → Says (with_history t h) (cond b (without_refused s t2 es) (e ∷ without_refused s t2 es)) (cond b (other_replies s t2 es) (reply_to s t e ∷ other_replies s t2 es))
     by true q go = subst (λ u. Says u (without_refused s t2 es) (other_replies s t2 es)) (stays_alike s t h e full q) (go h (omega (arith, longer)) (omega arith))
@@ -133,7 +123,7 @@ no_trace_from s (e ∷ es) t h room room' = by (is_refused_receive s t e) refl (
         let (k, is, more) = goes_alike s t h e full full' in
         let r : Says (with_history t2 k) (without_refused s t2 es) (other_replies s t2 es) = go k (omega (arith, longer)) (omega arith) in
         let r' : Says (after_event s (with_history t h) e) (without_refused s t2 es) (other_replies s t2 es) = subst (λ u. Says u (without_refused s t2 es) (other_replies s t2 es)) (sym is) r in
-        let first : reply_to s (with_history t h) e ≡ reply_to s t e = Ready.reply_roomy s (with_history t h) e full' ∙ ap reply_of (same_outcome s t h e) ∙ sym (Ready.reply_roomy s t e full) in
+        let first : reply_to s (with_history t h) e ≡ reply_to s t e = Ready.reply_roomy s (with_history t h) e full' ∙ ap (reply_of s t.ops) (same_outcome s t h e) ∙ sym (Ready.reply_roomy s t e full) in
         (r'.0, ap (λ x. x ∷ replies_to_events s (after_event s (with_history t h) e) (without_refused s t2 es)) first ∙ ap (λ rs. reply_to s t e ∷ rs) r'.1)
 
 pub no_trace : (s : Settings) (me : ℕ) (es : List Event) → length es ≤ s.limits.history

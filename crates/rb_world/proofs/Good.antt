@@ -29,7 +29,7 @@ use Rattle.rb_scratch.proofs.Public.Made.{IsAllowed, IsMadeAt}
 use Rattle.rb_scratch.proofs.Public.Makes
 use Rattle.rb_site.specs.declared.message.Message.{Message}
 use Rattle.rb_site.specs.declared.message.Message.TheVariants.{Shadow as ShadowMessage, Token as TokenOnItsWay}
-use Rattle.rb_site.specs.declared.entry.Entry.{Entry}
+use Rattle.rb_site.specs.declared.event.Event.{Event}
 use Rattle.rb_site.specs.declared.world_event.WorldEvent.{WorldEvent}
 use Rattle.rb_site.specs.Events.{ModelSite}
 use Rattle.rb_site.specs.Worlds.{AreOwn, World, first_world, made_in, shadows_in, tokens_in, world_of_run}
@@ -177,7 +177,7 @@ made_site s all i t v o n = record {
 }
 
 -- a site whose list is the same
-same_list : (s : Settings) (all : List Shadow) (i : ℕ) (t : ModelSite) (hs : List Shadow) (k : Token) (h : List Entry) → IsInOrder s all i t → IsPart hs all → ((u : Shadow) → Among u hs → names t.ops u.name ≡ false) → k.needed ≤ s.limits.red
+same_list : (s : Settings) (all : List Shadow) (i : ℕ) (t : ModelSite) (hs : List Shadow) (k : Token) (h : List Event) → IsInOrder s all i t → IsPart hs all → ((u : Shadow) → Among u hs → names t.ops u.name ≡ false) → k.needed ≤ s.limits.red
     → IsInOrder s all i (record { me = t.me; ops = t.ops; held = hs; token = k; history = h })
 same_list s all i t hs k h o part inbox needed = record { low = o.low; valid = o.valid; own_past = o.own_past; part = o.part; own = o.own; held = part; inbox = inbox; needed = needed }
 

@@ -4,7 +4,7 @@ use Rattle.std.specs.Prelude.{option_map, slice_get, nat_lt, nat_le, ◌==◌}
 use Rattle.std.proofs.lemmas.Bool.Decides.{nat_tests}
 use Rattle.rb_money.specs.Refusals.{unless}
 use Rattle.rb_money.specs.Settings.{Settings}
-use Rattle.rb_money.specs.declared.refusal.Refusal.TheVariants.{BadMessage, Conflict, HistoryFull, InboxFull, NotReady, NotYours}
+use Rattle.rb_money.specs.declared.refusal.Refusal.TheVariants.{BadMessage, Conflict, HistoryFull, InboxFull, NotHeld, NotReady, NotYours}
 use Rattle.rb_shadow.specs.declared.shadow.Shadow.{Shadow}
 use Rattle.rb_shadow.specs.Operations.{Among, IsUnique, IsWithin, find_in, is_eligible, names, past, same_shadow}
 use Rattle.rb_shadow.proofs.Public.Members
@@ -22,7 +22,7 @@ use Rattle.rb_site.specs.declared.event.Event.TheVariants.{Apply, Receive}
 use Rattle.rb_site.specs.declared.reply.Reply.{Reply}
 use Rattle.rb_site.specs.declared.reply.Reply.TheVariants.{Already, Refused, Stale}
 use Rattle.rb_site.specs.declared.world_event.WorldEvent.TheVariants.{Deliver}
-use Rattle.rb_site.specs.Events.{Answers, Applies, Holds, ModelSite, Outcome, Refuses, Takes, is_full, outcome_of, outcome_of_apply, outcome_of_check, outcome_of_shadow, reply_of, reply_to, unless_known}
+use Rattle.rb_site.specs.Events.{Answers, Applies, Holds, ModelSite, Outcome, Refuses, Takes, is_full, outcome_of, outcome_of_check, reply_of, reply_to, unless_known}
 use Rattle.rb_site.specs.Worlds.{World, made_in, message_at, reply_at, reply_in}
 use Rattle.rb_world.specs.Laws.{NeverStuck, TrustsItsOwn}
 use Rattle.rb_world.proofs.Steps
@@ -55,24 +55,27 @@ applied_if_ready s w i t v g here there fresh within =
 -- ---- the replies
 
 pub site_applies : (s : Settings) (w : World) (i : ℕ) (t : ModelSite) (v : Shadow) → IsGood s w → slice_get w.sites i ≡ Some t → Among v t.held → IsWithin (past v) (names t.ops) → outcome_of s t (Apply v.name) ≡ Applies v
-unfolding outcome_of outcome_of_apply
+unfolding outcome_of
 site_applies s w i t v g at held within =
     let (u, e) = Lookups.found_named t.held v.name (Members.named t.held v held) in
     let is : u ≡ v = found_is (made_in w) t.held u v g.order.unique here.held (here.held v held) e in
     let ok : refusal_of_sound s t.ops v ≡ None = applied_if_ready s w i t v g here (here.held v held) (here.inbox v held) within in
-    ap (outcome_of_apply s t) e ∙ ap (λ (x : Shadow). outcome_of_apply s t (Some x)) is
+    ap (λ o. unless applying o (Refuses NotHeld)) e ∙ ap applying is
     ∙ ap (λ b. cond (not b) (Refuses NotReady) (outcome_of_check v (refusal_of_sound s t.ops v))) (Eligible.eligible_from t.ops v within)
     ∙ ap (outcome_of_check v) ok
   where
     here : IsInOrder s (made_in w) i t
     here = g.sites i t at
 
+    applying : Shadow → Outcome
+    applying u = cond (not (is_eligible t.ops u)) (Refuses NotReady) (outcome_of_check u (refusal_of_sound s t.ops u))
+
 -- what a site answers to an operation of the world
 abbrev pub IsTrusting : Settings → ModelSite → Shadow → Outcome → Type 0
 IsTrusting s t v o = ((o ≡ Answers (Already v.name)) × ((names t.ops v.name ≡ true) ⊎ Among v t.held)) ⊎ ((o ≡ Holds v) ⊎ ((o ≡ Refuses InboxFull) × (is_eligible t.ops v ≡ false)))
 
-pub site_receives : (s : Settings) (w : World) (i : ℕ) (t : ModelSite) (v : Shadow) → IsGood s w → slice_get w.sites i ≡ Some t → Among v (made_in w) → IsTrusting s t v (outcome_of_shadow s t v)
-unfolding outcome_of_shadow
+pub site_receives : (s : Settings) (w : World) (i : ℕ) (t : ModelSite) (v : Shadow) → IsGood s w → slice_get w.sites i ≡ Some t → Among v (made_in w) → IsTrusting s t v (outcome_of s t (Receive (ShadowMessage v)))
+unfolding outcome_of
 site_receives s w i t v g at made = subst (IsTrusting s t v) (sym (ap (λ o. unless (λ why. Refuses (BadMessage why)) o next) (sound_in s w v g made))) (by_ops (find_in t.ops v.name) refl)
   where
     here : IsInOrder s (made_in w) i t
@@ -113,12 +116,8 @@ site_receives s w i t v g at made = subst (IsTrusting s t v) (sym (ap (λ o. unl
 -- ---- the laws
 
 -- the reply of a site with room
-pub reply_roomy : (s : Settings) (t : ModelSite) (e : Event) → is_full s t ≡ false → reply_to s t e ≡ reply_of (outcome_of s t e)
-reply_roomy s t e h = ap (λ b. cond b (Refused HistoryFull) (reply_of (outcome_of s t e))) h
-
-pub received : (s : Settings) (t : ModelSite) (v : Shadow) → outcome_of s t (Receive (ShadowMessage v)) ≡ outcome_of_shadow s t v
-unfolding outcome_of
-received s t v = refl
+pub reply_roomy : (s : Settings) (t : ModelSite) (e : Event) → is_full s t ≡ false → reply_to s t e ≡ reply_of s t.ops (outcome_of s t e)
+reply_roomy s t e h = ap (λ b. cond b (Refused HistoryFull) (reply_of s t.ops (outcome_of s t e))) h
 
 sent_shadow : (w : World) (k : ℕ) (v : Shadow) → message_at w.messages k ≡ Some (ShadowMessage v) → Among v (made_in w)
 sent_shadow w k v h = Steps.sent_message w.messages k (ShadowMessage v) h
@@ -129,16 +128,16 @@ reply_there s w i k t m at h = ap (λ o. reply_at s o (option_map Receive (messa
 pub never_stuck : (s : Settings) (w : World) → IsGood s w → NeverStuck s w
 never_stuck s w g = record {
   delivered = λ i t at room v k h within.
-      let reply : reply_in s w (Deliver i k) ≡ reply_of (outcome_of_shadow s t v) = reply_there s w i k t (ShadowMessage v) at h ∙ reply_roomy s t (Receive (ShadowMessage v)) room ∙ ap reply_of (received s t v) in
+      let reply : reply_in s w (Deliver i k) ≡ reply_of s t.ops (outcome_of s t (Receive (ShadowMessage v))) = reply_there s w i k t (ShadowMessage v) at h ∙ reply_roomy s t (Receive (ShadowMessage v)) room in
       elim (site_receives s w i t v g at (sent_shadow w k v h)) [
-        | inl e ↦ inr (reply ∙ ap reply_of e.0)
+        | inl e ↦ inr (reply ∙ ap (reply_of s t.ops) e.0)
         | inr q ↦ elim q [
-          | inl e ↦ inl (reply ∙ ap reply_of e)
+          | inl e ↦ inl (reply ∙ ap (reply_of s t.ops) e)
           | inr e ↦ absurd (Members.true≢false (sym (Eligible.eligible_from t.ops v within) ∙ e.1))
         ]
       ];
   applied = λ i t at room v held within.
-      ap (λ o. reply_at s o (Some (Apply v.name))) at ∙ reply_roomy s t (Apply v.name) room ∙ ap reply_of (site_applies s w i t v g at held within);
+      ap (λ o. reply_at s o (Some (Apply v.name))) at ∙ reply_roomy s t (Apply v.name) room ∙ ap (reply_of s t.ops) (site_applies s w i t v g at held within);
 }
 
 -- neither refusal
@@ -148,12 +147,12 @@ Trusts r = (r ≡ Refused Conflict → ⊥) × ((why : ℕ) → r ≡ Refused (B
 trusts_full : Trusts (Refused HistoryFull)
 trusts_full = (λ e. cc, λ why e. cc)
 
-trusts_shadow : (s : Settings) (t : ModelSite) (v : Shadow) (o : Outcome) → IsTrusting s t v o → Trusts (reply_of o)
-trusts_shadow s t v o (inl e) = subst (λ o. Trusts (reply_of o)) (sym e.0) (λ e. cc, λ why e. cc)
-trusts_shadow s t v o (inr (inl e)) = subst (λ o. Trusts (reply_of o)) (sym e) (λ e. cc, λ why e. cc)
-trusts_shadow s t v o (inr (inr e)) = subst (λ o. Trusts (reply_of o)) (sym e.0) (λ e. cc, λ why e. cc)
+trusts_shadow : (s : Settings) (t : ModelSite) (v : Shadow) (o : Outcome) → IsTrusting s t v o → Trusts (reply_of s t.ops o)
+trusts_shadow s t v o (inl e) = subst (λ o. Trusts (reply_of s t.ops o)) (sym e.0) (λ e. cc, λ why e. cc)
+trusts_shadow s t v o (inr (inl e)) = subst (λ o. Trusts (reply_of s t.ops o)) (sym e) (λ e. cc, λ why e. cc)
+trusts_shadow s t v o (inr (inr e)) = subst (λ o. Trusts (reply_of s t.ops o)) (sym e.0) (λ e. cc, λ why e. cc)
 
-trusts_token : (s : Settings) (t : ModelSite) (m : TokenMessage) → m.epoch ≤ s.limits.epoch → m.red ≤ s.limits.red → Trusts (reply_of (outcome_of s t (Receive (TokenOnItsWay m))))
+trusts_token : (s : Settings) (t : ModelSite) (m : TokenMessage) → m.epoch ≤ s.limits.epoch → m.red ≤ s.limits.red → Trusts (reply_of s t.ops (outcome_of s t (Receive (TokenOnItsWay m))))
 unfolding outcome_of
 trusts_token s t m epoch red = by_to (not (m.to == t.me))
   where
@@ -163,22 +162,22 @@ trusts_token s t m epoch red = by_to (not (m.to == t.me))
     within : (nat_lt s.limits.epoch m.epoch || nat_lt s.limits.red m.red) ≡ false
     within = Members.false-or (nat_lt s.limits.epoch m.epoch) (nat_lt s.limits.red m.red) (grind (arith, nat_tests)) (grind (arith, nat_tests))
 
-    last : (b : Bool) → Trusts (reply_of (cond b (Answers (Stale m.epoch)) (Takes m)))
+    last : (b : Bool) → Trusts (reply_of s t.ops (cond b (Answers (Stale m.epoch)) (Takes m)))
     last true = (λ e. cc, λ why e. cc)
     last false = (λ e. cc, λ why e. cc)
 
-    by_to : (b : Bool) → Trusts (reply_of (unless Refuses (cond b (Some NotYours) (cond (nat_lt s.limits.epoch m.epoch || nat_lt s.limits.red m.red) (Some (BadMessage 2)) None)) rest))
+    by_to : (b : Bool) → Trusts (reply_of s t.ops (unless Refuses (cond b (Some NotYours) (cond (nat_lt s.limits.epoch m.epoch || nat_lt s.limits.red m.red) (Some (BadMessage 2)) None)) rest))
     by_to true = (λ e. cc, λ why e. cc)
-    by_to false = subst (λ b. Trusts (reply_of (unless Refuses (cond b (Some (BadMessage 2)) None) rest))) (sym within) (last (nat_le m.epoch t.token.epoch))
+    by_to false = subst (λ b. Trusts (reply_of s t.ops (unless Refuses (cond b (Some (BadMessage 2)) None) rest))) (sym within) (last (nat_le m.epoch t.token.epoch))
 
 trusts_site : (s : Settings) (w : World) (i : ℕ) (t : ModelSite) (m : Message) → IsGood s w → slice_get w.sites i ≡ Some t → Steps.IsSent w.messages m → Trusts (reply_to s t (Receive m))
 trusts_site s w i t m g at sent = by_room (is_full s t)
   where
-    by_message : (m : Message) → Steps.IsSent w.messages m → Trusts (reply_of (outcome_of s t (Receive m)))
-    by_message (ShadowMessage v) h = subst (λ o. Trusts (reply_of o)) (sym (received s t v)) (trusts_shadow s t v (outcome_of_shadow s t v) (site_receives s w i t v g at h))
+    by_message : (m : Message) → Steps.IsSent w.messages m → Trusts (reply_of s t.ops (outcome_of s t (Receive m)))
+    by_message (ShadowMessage v) h = trusts_shadow s t v (outcome_of s t (Receive (ShadowMessage v))) (site_receives s w i t v g at h)
     by_message (TokenOnItsWay m) h = let q = g.tokens m h in trusts_token s t m q.0 q.1
 
-    by_room : (c : Bool) → Trusts (cond c (Refused HistoryFull) (reply_of (outcome_of s t (Receive m))))
+    by_room : (c : Bool) → Trusts (cond c (Refused HistoryFull) (reply_of s t.ops (outcome_of s t (Receive m))))
     by_room true = trusts_full
     by_room false = by_message m sent
 

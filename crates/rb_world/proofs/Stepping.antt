@@ -69,7 +69,7 @@ still w ev h =
 pub full_step : (w : SeenWorld) (ev : WorldEvent) (e : Event) (t : ModelSite) → arrival w.world.messages ev ≡ Some e → slice_get w.world.sites (site_of ev) ≡ Some t → is_full w.settings t ≡ true → (Refused HistoryFull ≡ next_reply w ev) × (w ≡ next_world w ev)
 full_step w ev e t arrived at full =
     let here = arrives w.settings w.world ev e t arrived at in (
-      sym (here.reply ∙ ap (λ b. cond b (Refused HistoryFull) (reply_of (outcome_of w.settings t e))) full),
+      sym (here.reply ∙ ap (λ b. cond b (Refused HistoryFull) (reply_of w.settings t.ops (outcome_of w.settings t e))) full),
       still w ev (here.recorded ∙ ap not full),
     )
 

@@ -4,17 +4,17 @@ use Rattle.std.specs.Prelude.{option_map, slice_get, slice_set, map, nat_lt, nat
 use Rattle.std.proofs.lemmas.List.{append-nil}
 use Rattle.std.proofs.lemmas.Bool.Decides.{nat_tests}
 use Rattle.rb_site.proofs.Public.Places.{get_set_other, get_set_same, same_number, set_set}
+use Rattle.rb_site.proofs.Public.Recorded.{own_from, placed}
+use Rattle.rb_site.proofs.Public.Runs.{noted}
 use Rattle.rb_money.specs.Refusals.{and_then, unless}
 use Rattle.rb_money.specs.Settings.{Settings, is_account}
 use Rattle.rb_money.specs.declared.refusal.Refusal.{Refusal}
-use Rattle.rb_money.specs.declared.refusal.Refusal.TheVariants.{BadMessage, Conflict, NotReady, InboxFull, PositionBeyond}
-use Rattle.rb_site.specs.declared.reply.Reply.TheVariants.{Made, Names as NamesMade, Already, Stale, Balance as BalanceIs}
+use Rattle.rb_money.specs.declared.refusal.Refusal.TheVariants.{BadMessage, Conflict, NotHeld, NotReady, InboxFull, PositionBeyond}
+use Rattle.rb_site.specs.declared.reply.Reply.TheVariants.{Already, Stale, Balance as BalanceIs}
 use Rattle.rb_shadow.specs.declared.op_name.OpName.{OpName}
 use Rattle.rb_shadow.specs.declared.shadow.Shadow.{Shadow}
 use Rattle.rb_shadow.specs.Operations.{Among, names, red_count, bal, find_in, is_eligible, same_shadow}
-use Rattle.rb_shadow.specs.Labels.{label_of}
 use Rattle.rb_shadow.specs.Sound.{fault_in}
-use Rattle.rb_scratch.specs.Batches.{names_of_all}
 use Rattle.rb_shadow.proofs.Public.Members
 use Rattle.rb_shadow.proofs.Public.Lookups
 use Rattle.rb_ledger.specs.Checks.{refusal_of_sound}
@@ -23,15 +23,15 @@ use Rattle.rb_site.specs.declared.message.Message.{Message}
 use Rattle.rb_site.specs.declared.message.Message.TheVariants.{Shadow as ShadowMessage, Token as TokenOnItsWay}
 use Rattle.rb_site.specs.declared.event.Event.{Event}
 use Rattle.rb_site.specs.declared.event.Event.TheVariants.{Submit, Batch, Receive, Apply, Pass, Balance, AsOf, Statement as AskStatement}
-use Rattle.rb_site.specs.declared.entry.Entry.{Entry}
 use Rattle.rb_site.specs.declared.world_event.WorldEvent.{WorldEvent}
 use Rattle.rb_site.specs.declared.world_event.WorldEvent.TheVariants.{At, Deliver}
 use Rattle.rb_token.specs.Token.{refusal_of_pass, refusal_of_token}
 use Rattle.rb_money.specs.Amounts.{cents}
 use Rattle.rb_scratch.proofs.Public.Made.{AreMadeAt, IsMadeAt, batch_is, made_is, not_true, past_first}
-use Rattle.rb_site.specs.Events.{ModelSite, Outcome, Refuses, Drops, Answers, Makes, Holds, Applies, Takes, Passes, outcome_of, outcome_of_shadow, outcome_of_apply, changed, noted, is_full, sent_by, reply_of, outcome_of_check, unless_known}
+use Rattle.rb_site.specs.Events.{ModelSite, Outcome, Refuses, Drops, Answers, Shows, Makes, MakesAll, Holds, Applies, Takes, Passes, outcome_of, changed, is_full, sent_by, outcome_of_check, unless_known}
 use Rattle.rb_inbox.specs.Held.{with_held, without}
-use Rattle.rb_site.specs.Worlds.{World, shadows_in, tokens_in, message_at, world_at, world_after, world_after_all, IsOwn, AreOwn}
+use Rattle.rb_site.specs.Histories.{IsAmong, IsFrom}
+use Rattle.rb_site.specs.Worlds.{World, shadows_in, tokens_in, message_at, world_at, world_after, world_after_all, AreOwn}
 use Rattle.rb_world.specs.Laws.{EachSite}
 
 -- ---- what is known where an event comes to an outcome
@@ -46,15 +46,25 @@ abbrev pub IsSent : List Message → Message → Type 0
 IsSent ms (ShadowMessage v) = Among v (shadows_in ms)
 IsSent ms (TokenOnItsWay m) = AmongTokens m (tokens_in ms)
 
-abbrev pub IsSourced : List Message → Event → Type 0
-IsSourced ms (Receive m) = IsSent ms m
-IsSourced ms (Submit r) = Unit {0}
-IsSourced ms (Batch rs) = Unit {0}
-IsSourced ms (Apply x) = Unit {0}
-IsSourced ms (Pass to) = Unit {0}
-IsSourced ms (Balance a) = Unit {0}
-IsSourced ms (AsOf a n) = Unit {0}
-IsSourced ms (AskStatement a) = Unit {0}
+sent_one_more : (ms : List Message) (n m : Message) → IsSent ms m → IsSent (n ∷ ms) m
+sent_one_more ms (ShadowMessage u) (ShadowMessage v) h = inr h
+sent_one_more ms (ShadowMessage u) (TokenOnItsWay m) h = h
+sent_one_more ms (TokenOnItsWay n) (ShadowMessage v) h = h
+sent_one_more ms (TokenOnItsWay n) (TokenOnItsWay m) h = inr h
+
+sent_first : (ms : List Message) (m : Message) → IsSent (m ∷ ms) m
+sent_first ms (ShadowMessage v) = inl refl
+sent_first ms (TokenOnItsWay m) = inl refl
+
+-- each of the messages was sent
+sent_among : (m : Message) (ms : List Message) → IsAmong m ms → IsSent ms m
+sent_among m [] h = elim h [ ]
+sent_among m (n ∷ ms) (inl e) = subst (IsSent (n ∷ ms)) (sym e) (sent_first ms n)
+sent_among m (n ∷ ms) (inr h) = sent_one_more ms n m (sent_among m ms h)
+
+-- the message of a number was sent
+pub sent_message : (ms : List Message) (k : ℕ) (m : Message) → message_at ms k ≡ Some m → IsSent ms m
+sent_message ms k m h = sent_among m ms (placed ms k m h)
 
 pub record MayHold (ms : List Message) (t : ModelSite) (v : Shadow) : Type 0 where
   pub sent : Among v (shadows_in ms)
@@ -83,8 +93,10 @@ pub record MayPass (s : Settings) (t : ModelSite) (m : TokenMessage) : Type 0 wh
 abbrev pub Comes : Settings → List Message → ModelSite → Outcome → Type 0
 Comes s ms t (Refuses why) = Unit {0}
 Comes s ms t (Answers reply) = Unit {0}
+Comes s ms t (Shows a) = Unit {0}
 Comes s ms t (Drops x why) = Unit {0}
-Comes s ms t (Makes reply vs) = AreMadeAt s t.me t.ops t.token vs
+Comes s ms t (Makes v) = IsMadeAt s t.me t.ops t.token v
+Comes s ms t (MakesAll vs) = AreMadeAt s t.me t.ops t.token vs
 Comes s ms t (Holds v) = MayHold ms t v
 Comes s ms t (Applies v) = MayApply s t v
 Comes s ms t (Takes m) = MayTake ms t m
@@ -112,8 +124,8 @@ past_check s ms t v None h = h refl
 past_check s ms t v (Some NotReady) h = tt
 past_check s ms t v (Some why) h = tt
 
-comes_shadow : (s : Settings) (ms : List Message) (t : ModelSite) (v : Shadow) → Among v (shadows_in ms) → Comes s ms t (outcome_of_shadow s t v)
-unfolding outcome_of_shadow
+comes_shadow : (s : Settings) (ms : List Message) (t : ModelSite) (v : Shadow) → Among v (shadows_in ms) → Comes s ms t (outcome_of s t (Receive (ShadowMessage v)))
+unfolding outcome_of
 comes_shadow s ms t v sent =
     past_refusal s ms t BadMessage (fault_in s v) _ (λ _.
     past_known s ms t v (find_in t.ops v.name) _ (λ a.
@@ -132,8 +144,8 @@ comes_token s ms t m sent =
     at true e h = tt
     at false e h = record { sent = sent; mine = grind (arith, nat_tests); later = grind (arith, nat_tests) }
 
-comes_apply : (s : Settings) (ms : List Message) (t : ModelSite) (o : Option Shadow) → ((v : Shadow) → o ≡ Some v → Among v t.held) → Comes s ms t (outcome_of_apply s t o)
-unfolding outcome_of_apply
+comes_apply : (s : Settings) (ms : List Message) (t : ModelSite) (o : Option Shadow) → ((v : Shadow) → o ≡ Some v → Among v t.held)
+    → Comes s ms t (unless (λ v. cond (not (is_eligible t.ops v)) (Refuses NotReady) (outcome_of_check v (refusal_of_sound s t.ops v))) o (Refuses NotHeld))
 comes_apply s ms t None found = tt
 comes_apply s ms t (Some v) found =
     past_test s ms t (not (is_eligible t.ops v)) _ _ (λ a.
@@ -157,22 +169,22 @@ comes_pass s ms t to =
       red = refl;
     })
 
-comes_made : (s : Settings) (ms : List Message) (t : ModelSite) (q : Result Shadow Refusal) → ((v : Shadow) → q ≡ Ok v → IsMadeAt s t.me t.ops t.token v) → Comes s ms t (and_then Refuses q (λ v. Makes (Made v.name (label_of v.kind)) (v ∷ [])))
-comes_made s ms t (Ok v) h = (h v refl, tt)
+comes_made : (s : Settings) (ms : List Message) (t : ModelSite) (q : Result Shadow Refusal) → ((v : Shadow) → q ≡ Ok v → IsMadeAt s t.me t.ops t.token v) → Comes s ms t (and_then Refuses q Makes)
+comes_made s ms t (Ok v) h = h v refl
 comes_made s ms t (Err why) h = tt
 
 -- what comes of a batch is made one after another
-comes_batch : (s : Settings) (ms : List Message) (t : ModelSite) (q : Result (List Shadow) Refusal) → ((vs : List Shadow) → q ≡ Ok vs → AreMadeAt s t.me t.ops t.token vs) → Comes s ms t (and_then Refuses q (λ vs. Makes (NamesMade (names_of_all vs)) vs))
+comes_batch : (s : Settings) (ms : List Message) (t : ModelSite) (q : Result (List Shadow) Refusal) → ((vs : List Shadow) → q ≡ Ok vs → AreMadeAt s t.me t.ops t.token vs) → Comes s ms t (and_then Refuses q MakesAll)
 comes_batch s ms t (Ok vs) h = h vs refl
 comes_batch s ms t (Err why) h = tt
 
 -- what is known of each event's outcome
-pub comes : (s : Settings) (ms : List Message) (t : ModelSite) (e : Event) → IsSourced ms e → Comes s ms t (outcome_of s t e)
+pub comes : (s : Settings) (ms : List Message) (t : ModelSite) (e : Event) → IsFrom ms e → Comes s ms t (outcome_of s t e)
 unfolding outcome_of
 comes s ms t (Submit r) h = comes_made s ms t _ (λ v k. made_is s t.me t.ops t.token r v k)
 comes s ms t (Batch rs) h = past_test s ms t _ _ _ (λ a. comes_batch s ms t _ (λ vs k. batch_is s t.me t.ops t.token 0 rs vs k))
-comes s ms t (Receive (ShadowMessage v)) h = comes_shadow s ms t v h
-comes s ms t (Receive (TokenOnItsWay m)) h = comes_token s ms t m h
+comes s ms t (Receive (ShadowMessage v)) h = comes_shadow s ms t v (sent_among (ShadowMessage v) ms h)
+comes s ms t (Receive (TokenOnItsWay m)) h = comes_token s ms t m (sent_among (TokenOnItsWay m) ms h)
 comes s ms t (Apply x) h = comes_apply s ms t (find_in t.held x) (λ v k. (Lookups.found t.held x v k).0)
 comes s ms t (Pass to) h = comes_pass s ms t to
 comes s ms t (Balance a) h = past_test s ms t (not (is_account s a)) _ _ (λ b. tt)
@@ -200,7 +212,7 @@ each_moved w i t n ms P at others this j u h = elim (same_number i j) [
 
 -- a fact of the world that each kind of step keeps
 pub record Keeps (s : Settings) (P : World → Type 0) : Type 0 where
-  pub notes : (w : World) (i : ℕ) (t : ModelSite) (h : List Entry) → P w → slice_get w.sites i ≡ Some t → P (moved w i (record t { history = h }) w.messages)
+  pub notes : (w : World) (i : ℕ) (t : ModelSite) (h : List Event) → P w → slice_get w.sites i ≡ Some t → P (moved w i (record t { history = h }) w.messages)
   pub makes : (w : World) (i : ℕ) (t : ModelSite) (v : Shadow) → P w → slice_get w.sites i ≡ Some t → IsMadeAt s t.me t.ops t.token v → P (moved w i (record t { ops = t.ops ++ v ∷ [] }) (w.messages ++ ShadowMessage v ∷ []))
   pub drops : (w : World) (i : ℕ) (t : ModelSite) (x : OpName) → P w → slice_get w.sites i ≡ Some t → P (moved w i (record t { held = without x t.held }) w.messages)
   pub holds : (w : World) (i : ℕ) (t : ModelSite) (v : Shadow) → P w → slice_get w.sites i ≡ Some t → MayHold w.messages t v → P (moved w i (record t { held = with_held v t.held }) w.messages)
@@ -231,57 +243,30 @@ keeps_outcome s P keeps w i t o p at c = by o c
     by : (o : Outcome) → Comes s w.messages t o → P (moved w i (changed t o) (w.messages ++ sent_by o))
     by (Refuses why) c = quiet t (keeps.notes w i t t.history p at)
     by (Answers reply) c = quiet t (keeps.notes w i t t.history p at)
+    by (Shows a) c = quiet t (keeps.notes w i t t.history p at)
     by (Drops x why) c = quiet _ (keeps.drops w i t x p at)
-    by (Makes reply vs) c = keeps_made s P keeps vs w i t p at c
+    by (Makes v) c = keeps.makes w i t v p at c
+    by (MakesAll vs) c = keeps_made s P keeps vs w i t p at c
     by (Holds v) c = quiet _ (keeps.holds w i t v p at c)
     by (Applies v) c = quiet _ (keeps.applies w i t v p at c)
     by (Takes m) c = quiet _ (keeps.takes w i t m p at c)
     by (Passes m) c = keeps.passes w i t m p at c
 
-keeps_event : (s : Settings) (P : World → Type 0) → Keeps s P → (w : World) (i : ℕ) (t : ModelSite) (e : Event) → P w → slice_get w.sites i ≡ Some t → IsSourced w.messages e → P (world_at s w i (Some e) (Some t))
+keeps_event : (s : Settings) (P : World → Type 0) → Keeps s P → (w : World) (i : ℕ) (t : ModelSite) (e : Event) → P w → slice_get w.sites i ≡ Some t → IsFrom w.messages e → P (world_at s w i (Some e) (Some t))
 keeps_event s P keeps w i t e p at sourced = by (is_full s t)
   where
     o : Outcome
     o = outcome_of s t e
 
-    by : (b : Bool) → P (moved w i (cond b t (noted (changed t o) e (reply_of o))) (w.messages ++ cond b [] (sent_by o)))
+    by : (b : Bool) → P (moved w i (cond b t (noted s t e)) (w.messages ++ cond b [] (sent_by o)))
     by true = subst (λ (ms : List Message). P (moved w i t ms)) (sym (append-nil w.messages)) (keeps.notes w i t t.history p at)
     by false =
         let n : ModelSite = changed t o in
         let q : P (moved w i n (w.messages ++ sent_by o)) = keeps_outcome s P keeps w i t o p at (comes s w.messages t e sourced) in
-        subst (λ (ts : List ModelSite). P (record { sites = ts; messages = w.messages ++ sent_by o })) (set_set w.sites i n (noted n e (reply_of o)))
-        (keeps.notes (moved w i n (w.messages ++ sent_by o)) i n (noted n e (reply_of o)).history q (get_set_same w.sites i t n at))
+        subst (λ (ts : List ModelSite). P (record { sites = ts; messages = w.messages ++ sent_by o })) (set_set w.sites i n (noted s t e))
+        (keeps.notes (moved w i n (w.messages ++ sent_by o)) i n (t.history ++ e ∷ []) q (get_set_same w.sites i t n at))
 
-sourced_own : (ms : List Message) (e : Event) → IsOwn e → IsSourced ms e
-sourced_own ms (Receive m) h = elim h [ ]
-sourced_own ms (Submit r) h = tt
-sourced_own ms (Batch rs) h = tt
-sourced_own ms (Apply x) h = tt
-sourced_own ms (Pass to) h = tt
-sourced_own ms (Balance a) h = tt
-sourced_own ms (AsOf a n) h = tt
-sourced_own ms (AskStatement a) h = tt
-
-sent_one_more : (ms : List Message) (n m : Message) → IsSent ms m → IsSent (n ∷ ms) m
-sent_one_more ms (ShadowMessage u) (ShadowMessage v) h = inr h
-sent_one_more ms (ShadowMessage u) (TokenOnItsWay m) h = h
-sent_one_more ms (TokenOnItsWay n) (ShadowMessage v) h = h
-sent_one_more ms (TokenOnItsWay n) (TokenOnItsWay m) h = inr h
-
-sent_first : (ms : List Message) (m : Message) → IsSent (m ∷ ms) m
-sent_first ms (ShadowMessage v) = inl refl
-sent_first ms (TokenOnItsWay m) = inl refl
-
-sent_at_place : (ms : List Message) (k : ℕ) (m : Message) → slice_get ms k ≡ Some m → IsSent ms m
-sent_at_place [] k m h = cc
-sent_at_place (n ∷ ms) zero m h = subst (IsSent (n ∷ ms)) (let e : n ≡ m = cc in e) (sent_first ms n)
-sent_at_place (n ∷ ms) (suc k) m h = sent_one_more ms n m (sent_at_place ms k m h)
-
-pub sent_message : (ms : List Message) (k : ℕ) (m : Message) → message_at ms k ≡ Some m → IsSent ms m
-sent_message ms zero m h = cc
-sent_message ms (suc k) m h = sent_at_place ms k m h
-
-keeps_at : (s : Settings) (P : World → Type 0) → Keeps s P → (w : World) (i : ℕ) (e : Event) → P w → IsSourced w.messages e → P (world_at s w i (Some e) (slice_get w.sites i))
+keeps_at : (s : Settings) (P : World → Type 0) → Keeps s P → (w : World) (i : ℕ) (e : Event) → P w → IsFrom w.messages e → P (world_at s w i (Some e) (slice_get w.sites i))
 keeps_at s P keeps w i e p sourced = by (slice_get w.sites i) refl
   where
     by : (o : Option ModelSite) → slice_get w.sites i ≡ o → P (world_at s w i (Some e) o)
@@ -293,10 +278,10 @@ keeps_delivery s P keeps w i k p = by (message_at w.messages k) refl
   where
     by : (o : Option Message) → message_at w.messages k ≡ o → P (world_at s w i (option_map Receive o) (slice_get w.sites i))
     by None h = p
-    by (Some m) h = keeps_at s P keeps w i (Receive m) p (sent_message w.messages k m h)
+    by (Some m) h = keeps_at s P keeps w i (Receive m) p (placed w.messages k m h)
 
 -- what each kind of step keeps holds after every run
 pub after_all : (s : Settings) (P : World → Type 0) → Keeps s P → (es : List WorldEvent) (w : World) → AreOwn es → P w → P (world_after_all s w es)
 after_all s P keeps [] w own p = p
-after_all s P keeps (At i e ∷ es) w own p = after_all s P keeps es (world_after s w (At i e)) own.1 (keeps_at s P keeps w i e p (sourced_own w.messages e own.0))
+after_all s P keeps (At i e ∷ es) w own p = after_all s P keeps es (world_after s w (At i e)) own.1 (keeps_at s P keeps w i e p (own_from w.messages e own.0))
 after_all s P keeps (Deliver i k ∷ es) w own p = after_all s P keeps es (world_after s w (Deliver i k)) own (keeps_delivery s P keeps w i k p)

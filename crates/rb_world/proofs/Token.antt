@@ -17,7 +17,7 @@ use Rattle.rb_shadow.proofs.Public.Clocks
 use Rattle.rb_token.specs.declared.message.TokenMessage.{TokenMessage}
 use Rattle.rb_site.specs.declared.message.Message.{Message}
 use Rattle.rb_site.specs.declared.message.Message.TheVariants.{Shadow as ShadowMessage, Token as TokenOnItsWay}
-use Rattle.rb_site.specs.declared.entry.Entry.{Entry}
+use Rattle.rb_site.specs.declared.event.Event.{Event}
 use Rattle.rb_scratch.specs.Requests.{operation_of, next_name, colour_of_plan}
 use Rattle.rb_site.specs.Events.{ModelSite, first_site}
 use Rattle.rb_inbox.specs.Held.{with_held, without}
@@ -101,7 +101,7 @@ pub same_site : (w : World) (k : ℕ) (t u : ModelSite) → slice_get w.sites k 
 same_site w k t u a b = cc
 
 -- the site changes, but for its number and its token
-abbrev pub quietly : ModelSite → List Shadow → List Shadow → List Entry → ModelSite
+abbrev pub quietly : ModelSite → List Shadow → List Shadow → List Event → ModelSite
 quietly t os hs h = record { me = t.me; ops = os; held = hs; token = t.token; history = h }
 
 -- what may have been sent: a red one only by who has the token
@@ -123,7 +123,7 @@ reds_there w t os ms r few unheld reds v h = elim (few v h) [
   | inr k ↦ elim k [ inl e ↦ omega arith | inr e ↦ absurd (true≢false' t.token.held e.0 unheld) ]
 ]
 
-quiet : (w : World) (i : ℕ) (t : ModelSite) (os hs : List Shadow) (h : List Entry) (ms : List Message) → IsInOnePlace w → slice_get w.sites i ≡ Some t → tokens_in ms ≡ tokens_in w.messages → red_count t.ops ≤ red_count os → SendsFew w t os ms → IsInOnePlace (moved w i (quietly t os hs h) ms)
+quiet : (w : World) (i : ℕ) (t : ModelSite) (os hs : List Shadow) (h : List Event) (ms : List Message) → IsInOnePlace w → slice_get w.sites i ≡ Some t → tokens_in ms ≡ tokens_in w.messages → red_count t.ops ≤ red_count os → SendsFew w t os ms → IsInOnePlace (moved w i (quietly t os hs h) ms)
 quiet w i t os hs h ms p at toks more few = record { numbered = numbered_quietly w i t n ms p.numbered at refl; place = by p.place }
   where
     n : ModelSite

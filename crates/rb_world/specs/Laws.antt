@@ -25,7 +25,7 @@ EachSite w P = (i : ℕ) (t : ModelSite) → slice_get w.sites i ≡ Some t → 
 
 -- a law of the world that any events of its own lead to, at any configuration of no more sites than there may be
 abbrev pub Always : (Settings → World → Type 0) → Type 0
-Always P = (s : Settings) (es : List WorldEvent) → 1 ≤ s.sites → s.sites ≤ MOST_SITES → AreOwn es → P s (world_of_run s es)
+Always P = (s : Settings) (es : List WorldEvent) → 1 ≤ s.sites → s.sites ≤ MOST_SITES → AreOwn es → P s (world_after_all s (first_world s) es)
 
 -- at most one site has the token
 abbrev pub OneToken : Settings → World → Type 0
