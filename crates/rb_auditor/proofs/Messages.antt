@@ -5,11 +5,10 @@ use Rattle.std.proofs.lemmas.List.{append-nil, map-append}
 use Rattle.rb_money.specs.Settings.{Settings}
 use Rattle.rb_site.specs.declared.entry.Entry.{Entry}
 use Rattle.rb_site.specs.declared.event.Event.{Event}
-use Rattle.rb_site.specs.declared.event.Event.TheVariants.{Submit, Batch, Receive, Apply, Pass, Balance, AsOf, Statement as AskStatement}
+use Rattle.rb_site.specs.declared.event.Event.TheVariants.{Receive}
 use Rattle.rb_site.specs.declared.message.Message.{Message}
 use Rattle.rb_site.specs.Events.{ModelSite, after_events, sent_at}
-use Rattle.rb_site.specs.Histories.{IsAmong, events_of, sends_of}
-use Rattle.rb_site.proofs.Public.Recorded.{IsFrom}
+use Rattle.rb_site.specs.Histories.{IsAmong, IsFrom, events_of, sends_of}
 use Rattle.rb_site.proofs.Public.Stuck
 use Rattle.rb_auditor.specs.Progress.{IsHeldUp, MayCome}
 
@@ -21,14 +20,8 @@ numbered m (n ∷ ms) (inr h) = let (k, at) = numbered m ms h in (suc k, at)
 
 -- what comes from the messages may come
 pub may_come : (ms : List Message) (e : Event) → IsFrom ms e → MayCome ms e
-may_come ms (Receive m) (k, at) = Stuck.placed ms k m at
-may_come ms (Submit r) h = tt
-may_come ms (Batch rs) h = tt
-may_come ms (Apply x) h = tt
-may_come ms (Pass to) h = tt
-may_come ms (Balance a) h = tt
-may_come ms (AsOf a n) h = tt
-may_come ms (AskStatement a) h = tt
+may_come ms (Receive m) h = h
+may_come ms _ h = tt
 
 -- what is held up can't come
 pub held_up : (ms : List Message) (xs rest : List Entry) (x : Entry) → IsHeldUp ms xs → xs ≡ x ∷ rest → MayCome ms x.event → ⊥

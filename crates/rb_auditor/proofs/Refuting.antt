@@ -10,13 +10,14 @@ use Rattle.rb_shadow.proofs.Public.Members
 use Rattle.rb_site.specs.declared.entry.Entry.{Entry}
 use Rattle.rb_site.specs.declared.world_event.WorldEvent.{WorldEvent}
 use Rattle.rb_site.specs.Events.{ModelSite, after_event, first_site, is_full, reply_to}
-use Rattle.rb_site.specs.Histories.{AreOneWorlds, site_of}
+use Rattle.rb_site.specs.Histories.{AreOneWorlds, history_of, site_of}
 use Rattle.rb_site.specs.Seen.{entry}
 use Rattle.rb_site.specs.Worlds.{AreOwn, World, first_world, is_recorded, world_after, world_after_all, world_at, world_of_run}
 use Rattle.rb_site.proofs.Public.Places
 use Rattle.rb_site.proofs.Public.Recorded
 use Rattle.rb_site.proofs.Public.Recorded.{IsRecorded}
 use Rattle.rb_site.proofs.Public.Runs as SiteRuns
+use Rattle.rb_site.proofs.Public.Runs.{IsRunOfItsHistory}
 use Rattle.rb_site.proofs.Public.Seen
 use Rattle.rb_site.proofs.Public.Stuck
 use Rattle.std.proofs.lemmas.List.{length-map}
@@ -31,25 +32,27 @@ use Rattle.rb_auditor.proofs.Runs
 
 -- a site stands where its history leaves it, and that replays
 pub record IsAtItsHistory (s : Settings) (i : ℕ) (t : ModelSite) : Type 0 where
-  pub stands : site_after s i t.history ≡ t
-  pub replays : IsReplay s i t.history
+  pub run : IsRunOfItsHistory s t
+  pub stands : site_after s i (history_of s t) ≡ t
+  pub replays : IsReplay s i (history_of s t)
 
 abbrev AllAtTheirs : Settings → World → Type 0
 AllAtTheirs s w = (i : ℕ) (t : ModelSite) → slice_get w.sites i ≡ Some t → IsAtItsHistory s i t
 
-room_below : (s : Settings) (t : ModelSite) → is_full s t ≡ false → length t.history < s.limits.history
-room_below s t free = grind (arith, nat_tests)
+room_below : (s : Settings) (t : ModelSite) → is_full s t ≡ false → length (history_of s t) < s.limits.history
+room_below s t free = let same : length (history_of s t) ≡ length t.history = Seen.entries-length s (first_site t.me) t.history in grind (arith, nat_tests)
 
 goes_on : (s : Settings) (i : ℕ) (t : ModelSite) (x : Entry) → is_full s t ≡ false → x.reply ≡ reply_to s t x.event → IsAtItsHistory s i t → IsAtItsHistory s i (after_event s t x.event)
 goes_on s i t x free reply a = record {
-  stands = ap (site_after s i) grown ∙ Replaying.after_more s (first_site i) t.history x ∙ ap (λ u. after_event s u x.event) a.stands;
-  replays = subst (IsReplay s i) (sym grown) (subst (λ e. IsReplay s i (t.history ++ e ∷ [])) noted (Seen.replayed-stepped (record { settings = s; me = i; entries = t.history }) x.event (room_below s t free) a.replays));
+  run = SiteRuns.run_goes_on s t x.event a.run;
+  stands = ap (site_after s i) grown ∙ Replaying.after_more s (first_site i) (history_of s t) x ∙ ap (λ u. after_event s u x.event) a.stands;
+  replays = subst (IsReplay s i) (sym grown) (subst (λ e. IsReplay s i (history_of s t ++ e ∷ [])) noted (Seen.replayed-stepped (record { settings = s; me = i; entries = history_of s t }) x.event (room_below s t free) a.replays));
 }
   where
-    grown : (after_event s t x.event).history ≡ t.history ++ x ∷ []
-    grown = Recorded.noted_history s t x.event free ∙ ap (λ r. t.history ++ entry x.event r ∷ []) (sym reply)
+    grown : history_of s (after_event s t x.event) ≡ history_of s t ++ x ∷ []
+    grown = Seen.history-noted s t x.event free a.run ∙ ap (λ r. history_of s t ++ entry x.event r ∷ []) (sym reply)
 
-    noted : entry x.event (reply_to s (site_after s i t.history) x.event) ≡ x
+    noted : entry x.event (reply_to s (site_after s i (history_of s t)) x.event) ≡ x
     noted = ap (λ u. entry x.event (reply_to s u x.event)) a.stands ∙ ap (entry x.event) (sym reply)
 
 recorded_at : (s : Settings) (w : World) (e : WorldEvent) → IsRecorded s w e → AllAtTheirs s w → AllAtTheirs s (world_after s w e)
@@ -80,15 +83,15 @@ first_all : (s : Settings) → AllAtTheirs s (first_world s)
 first_all s i t at =
     let is : t ≡ first_site i = Stuck.first_sites 0 s.sites i t at ∙ ap first_site (let q : 0 + i ≡ i = omega arith in q) in
     let less : i < s.sites = subst (λ n. i < n) (length-map (range_with_len 0 s.sites) first_site ∙ length-range_with_len 0 s.sites) (slice_get_within (first_world s).sites i t at) in
-    subst (IsAtItsHistory s i) (sym is) (record { stands = refl; replays = record { within = less; replays = tt; room = omega arith } })
+    subst (IsAtItsHistory s i) (sym is) (record { run = refl; stands = refl; replays = record { within = less; replays = tt; room = omega arith } })
 
 -- the histories of one world replay
 pub one_worlds_replay : (s : Settings) (hs : List (List Entry)) (i : ℕ) (h : List Entry) → AreOneWorlds s hs → slice_get hs i ≡ Some h → IsReplay s i h
-one_worlds_replay s hs i h one at = by (slice_get (world_of_run s one.events).sites i) refl (sym (slice_get-map (λ (t : ModelSite). t.history) (world_of_run s one.events).sites i) ∙ ap (λ ks. slice_get ks i) one.gives ∙ at)
+one_worlds_replay s hs i h one at = by (slice_get (world_of_run s one.events).sites i) refl (sym (slice_get-map (history_of s) (world_of_run s one.events).sites i) ∙ ap (λ ks. slice_get ks i) one.gives ∙ at)
   where
-    by : (o : Option ModelSite) → slice_get (world_of_run s one.events).sites i ≡ o → option_map (λ (t : ModelSite). t.history) o ≡ Some h → IsReplay s i h
+    by : (o : Option ModelSite) → slice_get (world_of_run s one.events).sites i ≡ o → option_map (history_of s) o ≡ Some h → IsReplay s i h
     by None e k = cc
-    by (Some t) e k = let is : t.history ≡ h = cc in subst (IsReplay s i) is (run_at s one.events (first_world s) one.own (first_all s) i t e).replays
+    by (Some t) e k = let is : history_of s t ≡ h = cc in subst (IsReplay s i) is (run_at s one.events (first_world s) one.own (first_all s) i t e).replays
 
 -- an entry that its site doesn't record
 pub wrong_is_final : (s : Settings) (hs : List (List Entry)) (site event : ℕ) → IsFirstWrong s hs site event → ¬ AreOneWorlds s hs
@@ -111,7 +114,7 @@ one_worlds s hs order c = record { events = c.events; own = c.own; gives = c.giv
 pub one_for_each : (s : Settings) (hs : List (List Entry)) (order : List ℕ) → Certifies s hs order → length hs ≡ s.sites
 one_for_each s hs order c =
     ap length (sym c.gives)
-    ∙ length-map (world_of_run s c.events).sites (λ (t : ModelSite). t.history)
+    ∙ length-map (world_of_run s c.events).sites (history_of s)
     ∙ Runs.same_sites s c.events (first_world s)
     ∙ length-map (range_with_len 0 s.sites) first_site
     ∙ length-range_with_len 0 s.sites

@@ -2,13 +2,13 @@
 use Rattle.std.proofs.Common.{◌≡◌, ℕ, zero, suc, Bool, IsTrue, MatchBool, ◌↔◌, cond, ◌+◌, ◌*◌, ◌<◌, ◌≤◌, true, false, List, [], ◌∷◌, ◌++◌, length, take, drop, get_or, refl, ap, sym, subst, ◌∙◌, arith, Some, length-append}
 use Rattle.std.specs.Prelude.{map, slice_get, nat_le}
 use Rattle.std.proofs.lemmas.Bool.Decides.{nat_tests}
-use Rattle.std.proofs.lemmas.List.{length-take-le, take-append-drop, take_more, map-append}
+use Rattle.std.proofs.lemmas.List.{length-map, length-take-le, take-append-drop, take_more, map-append}
 use Rattle.rb_scratch.specs.declared.request.TheConstants.{MOST_REQUESTS}
 use Rattle.rb_money.specs.declared.limits.TheConstants.{MOST_HISTORY}
 use Rattle.rb_money.specs.Settings.{IsConfigured, Settings}
 use Rattle.rb_site.specs.declared.entry.Entry.{Entry}
 use Rattle.rb_site.specs.Events.{ModelSite, after_event, after_events, first_site, is_full, reply_to, sent_at}
-use Rattle.rb_site.specs.Histories.{events_of}
+use Rattle.rb_site.specs.Histories.{events_of, history_of}
 use Rattle.rb_site.specs.declared.event.Event.{Event}
 use Rattle.rb_site.specs.declared.message.Message.{Message}
 use Rattle.rb_site.specs.declared.reply.Reply.{Reply}
@@ -43,14 +43,25 @@ pub replay-take : (s : Settings) (i k : ℕ) (h : List Entry) → IsReplay s i h
 replay-take s i k h r = replay-front s i (take k h) (drop k h) (subst (IsReplay s i) (sym (take-append-drop k h)) r)
 
 -- where the site stands, its history is what was replayed
-pub history_after : (s : Settings) (i : ℕ) (h : List Entry) → IsReplay s i h → (site_after s i h).history ≡ h
-history_after s i h r = Seen.history-state (record { settings = s; me = i; entries = h }) r
+pub history_after : (s : Settings) (i : ℕ) (h : List Entry) → IsReplay s i h → history_of s (site_after s i h) ≡ h
+history_after s i h r = Seen.entries-state (record { settings = s; me = i; entries = h }) r
+
+-- the site stands as the run of its own history leaves it
+pub run_after : (s : Settings) (i : ℕ) (h : List Entry) → IsReplay s i h → Runs.IsRunOfItsHistory s (site_after s i h)
+run_after s i h r =
+    let x : SeenSite = record { settings = s; me = i; entries = h } in
+    ap (λ me. after_events s (first_site me) (site_after s i h).history) (Seen.me-state x)
+    ∙ ap (after_events s (first_site i)) (Seen.history-state x r)
+
+-- its history has as many events
+length_after : (s : Settings) (i : ℕ) (h : List Entry) → IsReplay s i h → length (site_after s i h).history ≡ length h
+length_after s i h r = ap length (Seen.history-state (record { settings = s; me = i; entries = h }) r) ∙ length-map h (λ (x : Entry). x.event)
 
 -- an entry of a history that replays
 pub record IsReplayedAt (s : Settings) (i : ℕ) (h : List Entry) (k : ℕ) (x : Entry) : Type 0 where
   pub reply : x.reply ≡ reply_to s (site_after s i (take k h)) x.event
   pub room : is_full s (site_after s i (take k h)) ≡ false
-  pub history : (site_after s i (take k h)).history ≡ take k h
+  pub history : history_of s (site_after s i (take k h)) ≡ take k h
   pub more : site_after s i (take (k + 1) h) ≡ after_event s (site_after s i (take k h)) x.event
 
 pub after_more : (s : Settings) (t : ModelSite) (xs : List Entry) (x : Entry) → after_events s t (events_of (xs ++ x ∷ [])) ≡ after_event s (after_events s t (events_of xs)) x.event
@@ -62,22 +73,22 @@ not_full s t k e lt = grind (arith, nat_tests)
 pub replayed_at : (s : Settings) (i : ℕ) (h : List Entry) (k : ℕ) (x : Entry) → IsReplay s i h → slice_get h k ≡ Some x → IsReplayedAt s i h k x
 replayed_at s i h k x r at =
     let sp : IsSplit h k x = split_at h k x at in
-    let past : (site_after s i (take k h)).history ≡ take k h = history_after s i (take k h) (replay-take s i k h r) in
+    let replays : IsReplay s i (take k h) = replay-take s i k h r in
     let room : length h ≤ s.limits.history = r.room in
     let place : k < length h = sp.within in
     record {
       reply = replays-at s (first_site i) (take k h) sp.rest x (subst (Replays s (first_site i)) sp.whole r.replays);
-      room = not_full s (site_after s i (take k h)) k (ap length past ∙ sp.front) (omega arith);
-      history = past;
+      room = not_full s (site_after s i (take k h)) k (length_after s i (take k h) replays ∙ sp.front) (omega arith);
+      history = history_after s i (take k h) replays;
       more = ap (site_after s i) sp.more ∙ after_more s (first_site i) (take k h) x;
     }
 
 -- the histories of sites after fronts are the fronts
-pub histories_after : (s : Settings) (a : ℕ) (hs : List (List Entry)) (ks : List ℕ) → ((i : ℕ) (h : List Entry) → slice_get hs i ≡ Some h → IsReplay s (a + i) h) → map (λ (t : ModelSite). t.history) (sites_after s a hs ks) ≡ fronts_of hs ks
+pub histories_after : (s : Settings) (a : ℕ) (hs : List (List Entry)) (ks : List ℕ) → ((i : ℕ) (h : List Entry) → slice_get hs i ≡ Some h → IsReplay s (a + i) h) → map (history_of s) (sites_after s a hs ks) ≡ fronts_of hs ks
 histories_after s a [] ks all = refl
 histories_after s a (h ∷ hs) [] all = refl
 histories_after s a (h ∷ hs) (k ∷ ks) all =
-    ap (λ f. f ∷ map (λ (t : ModelSite). t.history) (sites_after s (a + 1) hs ks)) (history_after s a (take k h) (replay-take s a k h (subst (λ j. IsReplay s j h) (let q : a + 0 ≡ a = omega arith in q) (all 0 h refl))))
+    ap (λ f. f ∷ map (history_of s) (sites_after s (a + 1) hs ks)) (history_after s a (take k h) (replay-take s a k h (subst (λ j. IsReplay s j h) (let q : a + 0 ≡ a = omega arith in q) (all 0 h refl))))
     ∙ ap (λ fs. take k h ∷ fs) (histories_after s (a + 1) hs ks (λ i g at. subst (λ j. IsReplay s j g) (let q : a + suc i ≡ a + 1 + i = omega arith in q) (all (suc i) g at)))
 
 -- ---- one entry more

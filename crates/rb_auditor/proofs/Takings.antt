@@ -144,7 +144,7 @@ certified p g = record {
   own = g.reached.own;
   sites = g.reached.sites;
   recorded = g.reached.recorded;
-  gives = ap histories_of g.reached.gives ∙ Replaying.histories_after p.settings 0 p.histories p.taken (λ i h at. subst (λ j. IsReplay p.settings j h) (let q : i ≡ 0 + i = omega arith in q) (g.replays i h at));
+  gives = ap (histories_of p.settings) g.reached.gives ∙ Replaying.histories_after p.settings 0 p.histories p.taken (λ i h at. subst (λ j. IsReplay p.settings j h) (let q : i ≡ 0 + i = omega arith in q) (g.replays i h at));
 }
 
 pub whole : (p : Progress) → IsTaking p → IsDone p → fronts_of p.histories p.taken ≡ p.histories

@@ -2,12 +2,12 @@
 use Rattle.std.proofs.Common.{◌≡◌, ◌∙◌, ◌<◌, IsTrue, ap, sym, subst, arith, slice_get, get_or, length, inl, inr}
 use Rattle.std.proofs.lemmas.Option.{get_or_from_slice_get, slice_get_within}
 use Rattle.rb_site.proofs.Public.Places.{same_number}
-use Rattle.rb_site.proofs.Public.Stuck
+use Rattle.rb_site.proofs.Public.Recorded
 use Rattle.rb_auditor.proofs.Listed
 use Rattle.rb_auditor.proofs.listing.is_at_one.Goals as goal
 
 pub returns-then-is_at-clause-known : goal.returns-then-is_at-clause-known
-returns-then-is_at-clause-known c = λ yes. Stuck.at_place c.args.messages.now (get_or c.args.positions.now c.loop-position.position-index 0) c.args.message.now (c.is_at.ensures.0 (subst IsTrue (sym c.if-is_at.true) yes))
+returns-then-is_at-clause-known c = λ yes. Recorded.at_place c.args.messages.now (get_or c.args.positions.now c.loop-position.position-index 0) c.args.message.now (c.is_at.ensures.0 (subst IsTrue (sym c.if-is_at.true) yes))
 
 pub loop-position-preserved : goal.loop-position-preserved
 loop-position-preserved c = λ k position less at known. elim (same_number c.loop-position.position-index k) [

@@ -2,7 +2,7 @@
 use Rattle.std.proofs.Common.{◌≡◌, ◌∙◌, ℕ, ◌≤◌, ap, sym, subst, slice_get, Some, None, length, refl, Global, Vec}
 use Rattle.std.specs.Option.{option_map}
 use Rattle.std.proofs.lemmas.Option.{slice_get-map, slice_get_past, slice_get_read}
-use Rattle.rb_site.proofs.Public.Stuck
+use Rattle.rb_site.proofs.Public.Recorded
 use Rattle.rb_auditor.specs.Findings.{lists_of}
 use Rattle.rb_auditor.specs.Sent.{row_of_message, slot_of}
 use Rattle.rb_auditor.proofs.Listed
@@ -10,7 +10,7 @@ use Rattle.rb_auditor.proofs.Lists
 use Rattle.rb_auditor.proofs.listing.is_in_row.Goals as goal
 
 pub returns-in-Some-get-clause-known : goal.returns-in-Some-get-clause-known
-returns-in-Some-get-clause-known c = λ yes. Stuck.at_place c.args.messages.now c.in-Some-get.position.now c.args.message.now (c.is_at.ensures.0 yes)
+returns-in-Some-get-clause-known c = λ yes. Recorded.at_place c.args.messages.now c.in-Some-get.position.now c.args.message.now (c.is_at.ensures.0 yes)
 
 pub returns-in-Some-get-clause-found : goal.returns-in-Some-get-clause-found
 returns-in-Some-get-clause-found c = λ positions position there at known.
