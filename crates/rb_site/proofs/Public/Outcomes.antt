@@ -1,5 +1,5 @@
 -- What an event makes of a site.
-use Rattle.std.proofs.Common.{◌≡◌, not, ◌&&◌, ◌==◌, nat_le, nat_lt, ◌<◌, ◌≤◌, Bool, true, false, cond, List, [], ◌∷◌, length, lit≤, take, refl, ap, sym, subst, ◌∙◌, arith, Option, Some, None, Result, Ok, Err}
+use Rattle.std.proofs.Common.{◌≡◌, not, ◌&&◌, ◌==◌, nat_le, nat_lt, ◌<◌, ◌≤◌, Bool, true, false, cond, List, [], length, lit≤, take, refl, ap, sym, subst, ◌∙◌, arith, Option, Some, None, Result, Ok, Err}
 use Rattle.std.proofs.lemmas.Bool.Decides.{nat_tests}
 use Rattle.std.proofs.lemmas.List.{length-map}
 use Rattle.rb_money.specs.Refusals.{and_then, unless}
