@@ -1,30 +1,30 @@
 -- A site answers each event in version 2 as before.
-use Rattle.std.proofs.Common.{◌≡◌, ◌+◌, ℕ, List, [], ◌∷◌, ◌++◌, length, not, ◌&&◌, Option, Some, None, Ok, Err, refl, ap, ap₂, ◌∙◌}
+use Rattle.std.proofs.Common.{◌≡◌, ◌+◌, ℕ, List, [], ◌∷◌, ◌++◌, length, not, ◌&&◌, Ok, Err, refl, ap, ap₂, ◌∙◌}
 use Rattle.std.specs.Prelude.{if◌then◌else◌, nat_le, nat_lt}
 use Rattle.rb_money.specs.Amounts.{cents}
 use Rattle.rb_money.specs.Refusals.{and_then}
-use Rattle.rb_money.specs.Settings.{Settings, in_version_2, is_account, start_of}
+use Rattle.rb_money.specs.Settings.{Settings, in_version_2, start_of}
 use Rattle.rb_money.specs.declared.place.Place.{Place}
-use Rattle.rb_money.specs.declared.refusal.Refusal.TheVariants.{BadBatch, BatchRefused, HistoryFull, NumbersExhausted, UnknownAccount}
+use Rattle.rb_money.specs.declared.refusal.Refusal.TheVariants.{BadBatch, BatchRefused, HistoryFull, NumbersExhausted}
 use Rattle.rb_shadow.specs.declared.kind.Kind.TheVariants.{Declined}
-use Rattle.rb_shadow.specs.Operations.{bal, find_in, is_on, is_red, number_of, same_kind}
-use Rattle.rb_shadow.specs.Labels.{label_of}
+use Rattle.rb_shadow.specs.Operations.{bal, is_on, is_red, number_of, same_kind}
 use Rattle.rb_shadow.specs.Sound.{limit_of}
 use Rattle.rb_shadow.specs.declared.shadow.Shadow.{Shadow}
 use Rattle.rb_token.specs.Token.{Token}
-use Rattle.rb_scratch.specs.Batches.{batch_of, cause_of, made_in_batch, names_of_all}
+use Rattle.rb_scratch.specs.Batches.{batch_of, cause_of, made_in_batch}
 use Rattle.rb_scratch.specs.Requests.{allowed, allowed_red, made_of, operation_of, plan_of}
 use Rattle.rb_scratch.specs.declared.request.Request.{Request}
 use Rattle.rb_scratch.specs.declared.request.Request.TheVariants.{Deposit, Withdraw, Interest, Cancel, Transfer}
 use Rattle.rb_scratch.specs.declared.request.TheConstants.{MOST_REQUESTS}
 use Rattle.rb_scratch.specs.declared.run_fault.RunFault.TheVariants.{Declined as DeclinedFault}
 use Rattle.rb_statements.specs.Statements.{row_after, rows_of, statement_of}
-use Rattle.rb_site.specs.Events.{ModelSite, Answers, Makes, Refuses, after_event, after_events, changed, is_full, noted, outcome_of, outcome_of_apply, outcome_of_shadow, replies_to_events, reply_of, reply_to}
+use Rattle.rb_site.specs.Events.{ModelSite, Makes, MakesAll, Outcome, Refuses, Shows, after_event, after_events, changed, is_full, outcome_of, replies_to_events, reply_of, reply_to}
 use Rattle.rb_site.specs.declared.event.Event.{Event}
 use Rattle.rb_site.specs.declared.event.Event.TheVariants.{Submit, Batch, Receive, Apply, Pass, Balance, AsOf, Statement}
 use Rattle.rb_site.specs.declared.message.Message.TheVariants.{Shadow as ShadowMessage, Token as TokenOnItsWay}
-use Rattle.rb_site.specs.declared.reply.Reply.TheVariants.{Made, Names as NamesMade, Statement as StatementIs, Refused}
+use Rattle.rb_site.specs.declared.reply.Reply.TheVariants.{Statement as StatementIs, Refused}
 use Rattle.rb_scratch.proofs.Public.Made.{stopped_by}
+use Rattle.rb_site.proofs.Public.Outcomes.{with_history}
 use Rattle.rb_run_migrate.specs.Laws.{ReplaysAreEqual}
 
 -- ---- requests
@@ -73,29 +73,31 @@ statement s us a = λ j. record { start = start_of s a; rows = rows s us a [] us
 
 -- ---- events
 
-apply : (s : Settings) (t : ModelSite) (o : Option Shadow) → outcome_of_apply (in_version_2 s) t o ≡ outcome_of_apply s t o
-unfolding bal outcome_of_apply
-apply s t None = refl
-apply s t (Some v) = refl
-
 outcome : (s : Settings) (t : ModelSite) (e : Event) → outcome_of (in_version_2 s) t e ≡ outcome_of s t e
-unfolding bal outcome_of outcome_of_shadow
-outcome s t (Submit r) = ap (λ q. and_then Refuses q (λ v. Makes (Made v.name (label_of v.kind)) (v ∷ []))) (made s t.me t.ops t.token r)
+unfolding bal outcome_of
+outcome s t (Submit r) = ap (λ q. and_then Refuses q Makes) (made s t.me t.ops t.token r)
 outcome s t (Batch rs) =
-    ap (λ q. if not (nat_le 1 (length rs) && nat_le (length rs) MOST_REQUESTS) then Refuses BadBatch else and_then Refuses q (λ vs. Makes (NamesMade (names_of_all vs)) vs)) (batch s t.me t.ops t.token 0 rs)
+    ap (λ q. if not (nat_le 1 (length rs) && nat_le (length rs) MOST_REQUESTS) then Refuses BadBatch else and_then Refuses q MakesAll) (batch s t.me t.ops t.token 0 rs)
 outcome s t (Receive (ShadowMessage v)) = refl
 outcome s t (Receive (TokenOnItsWay m)) = refl
-outcome s t (Apply x) = apply s t (find_in t.held x)
+outcome s t (Apply x) = refl
 outcome s t (Pass to) = refl
 outcome s t (Balance a) = refl
 outcome s t (AsOf a n) = refl
-outcome s t (Statement a) = ap (λ shown. if not (is_account s a) then Refuses UnknownAccount else Answers (StatementIs shown)) (statement s t.ops a)
+outcome s t (Statement a) = refl
+
+-- the reply to what it comes to
+reply_in_2 : (s : Settings) (us : List Shadow) (o : Outcome) → reply_of (in_version_2 s) us o ≡ reply_of s us o
+reply_in_2 s us (Shows a) = ap StatementIs (statement s us a)
+reply_in_2 s us _ = refl
 
 reply : (s : Settings) (t : ModelSite) (e : Event) → reply_to (in_version_2 s) t e ≡ reply_to s t e
-reply s t e = ap (λ o. if is_full s t then Refused HistoryFull else reply_of o) (outcome s t e)
+reply s t e =
+    ap (λ o. if is_full s t then Refused HistoryFull else reply_of (in_version_2 s) t.ops o) (outcome s t e)
+    ∙ ap (λ r. if is_full s t then Refused HistoryFull else r) (reply_in_2 s t.ops (outcome_of s t e))
 
 after : (s : Settings) (t : ModelSite) (e : Event) → after_event (in_version_2 s) t e ≡ after_event s t e
-after s t e = ap (λ o. if is_full s t then t else noted (changed t o) e (reply_of o)) (outcome s t e)
+after s t e = ap (λ o. if is_full s t then t else with_history (changed t o) (t.history ++ e ∷ [])) (outcome s t e)
 
 pub replays : (s : Settings) (t : ModelSite) (es : List Event) → ReplaysAreEqual s t es
 replays s t [] = record { site = refl; replies = refl }
