@@ -6,7 +6,7 @@ use Rattle.rb_money.specs.Refusals.{unless}
 use Rattle.rb_money.specs.Settings.{Settings}
 use Rattle.rb_money.specs.declared.limits.TheConstants.{MOST_SITES}
 use Rattle.rb_money.specs.declared.refusal.Refusal.{Refusal}
-use Rattle.rb_money.specs.declared.refusal.Refusal.TheVariants.{NotHeld, NotReady, InboxFull, Conflict, OutOfMemory}
+use Rattle.rb_money.specs.declared.refusal.Refusal.TheVariants.{BadMessage, NotHeld, NotReady, InboxFull, Conflict, OutOfMemory}
 use Rattle.rb_shadow.proofs.Public.Eligible
 use Rattle.rb_shadow.proofs.Public.SameShadows
 use Rattle.rb_shadow.specs.Operations.{Among, find_in, is_eligible, names_of_clock, red_count, same_shadow, clock_of}
@@ -15,7 +15,7 @@ use Rattle.rb_shadow.specs.declared.op_name.OpName.{OpName}
 use Rattle.rb_shadow.specs.declared.deps.Deps.{Deps}
 use Rattle.rb_shadow.specs.declared.shadow.Shadow.{Shadow}
 use Rattle.rb_ledger.proofs.Public.ValidClocks
-use Rattle.rb_ledger.specs.Checks.{refusal_after, refusal_of, refusal_of_sound}
+use Rattle.rb_ledger.specs.Checks.{refusal_of, refusal_of_sound}
 use Rattle.rb_ledger.specs.Valid.{IsValid}
 use Rattle.rb_inbox.proofs.Public.Holding.{held_cases, kept_among}
 use Rattle.rb_shadow.proofs.Public.Lookups
@@ -85,7 +85,7 @@ passes s me ops held token later to reds m before after a allowed count sent pas
 
 -- a sound shadow is refused for the list alone
 pub refusal-sound : (s : Settings) (us : List Shadow) (v : Shadow) → IsSound s v → refusal_of s us v ≡ refusal_of_sound s us v
-refusal-sound s us v sound = ap (refusal_after s us v) sound
+refusal-sound s us v sound = ap (λ o. unless (λ why. Some (BadMessage why)) o (refusal_of_sound s us v)) sound
 
 dropped : (v : Shadow) (why : Refusal) → (why ≡ NotReady → ⊥) → outcome_of_check v (Some why) ≡ Drops v.name why
 dropped v NotReady h = absurd (h refl)

@@ -9,7 +9,7 @@ use Rattle.rb_money.specs.declared.refusal.Refusal.{Refusal}
 use Rattle.rb_money.specs.declared.refusal.Refusal.TheVariants.{UnknownAccount, BadBatch, NotHeld, NotReady, InboxFull, BadMessage, Conflict, PositionBeyond, HistoryFull}
 use Rattle.rb_shadow.specs.Labels.{label_of}
 use Rattle.rb_shadow.specs.Operations.{bal, red_count, find_in, same_shadow, is_eligible}
-use Rattle.rb_shadow.specs.Sound.{fault_in}
+use Rattle.rb_shadow.specs.Sound.{fault_of}
 use Rattle.rb_shadow.specs.declared.op_name.OpName.{OpName}
 use Rattle.rb_shadow.specs.declared.shadow.Shadow.{Shadow}
 use Rattle.rb_ledger.specs.Checks.{refusal_of_sound}
@@ -84,7 +84,7 @@ outcome_of s t (Batch rs) =
     if not (nat_le 1 (length rs) && nat_le (length rs) MOST_REQUESTS) then Refuses BadBatch
     else and_then Refuses (batch_of s t.me t.ops t.token 0 rs) MakesAll
 outcome_of s t (Receive (ShadowMessage v)) =
-    unless (λ why. Refuses (BadMessage why)) (fault_in s v)
+    unless (λ why. Refuses (BadMessage why)) (fault_of s v)
     (unless_known v (find_in t.ops v.name)
     (if v.home == t.me then Refuses Conflict
     else outcome_of_new s t v))

@@ -7,7 +7,7 @@ use Rattle.rb_money.specs.declared.refusal.Refusal.{Refusal}
 use Rattle.rb_money.specs.declared.refusal.Refusal.TheVariants.{BadMessage, Conflict, InboxFull}
 use Rattle.rb_shadow.specs.declared.shadow.Shadow.{Shadow}
 use Rattle.rb_shadow.specs.Operations.{find_in, is_eligible, same_shadow}
-use Rattle.rb_shadow.specs.Sound.{fault_in}
+use Rattle.rb_shadow.specs.Sound.{fault_of}
 use Rattle.rb_token.specs.Token.{refusal_of_token}
 use Rattle.rb_site.specs.declared.message.Message.TheVariants.{Shadow as ShadowMessage, Token as TokenOnItsWay}
 use Rattle.rb_site.specs.declared.event.Event.{Event}
@@ -44,7 +44,7 @@ lets_refusal refused (Some why) next h s t e = refl
 refused_changes_nothing : (s : Settings) (t : ModelSite) (e : Event) → is_receive e ≡ true → is_refused (reply_of s t.ops (outcome_of s t e)) ≡ true → changed t (outcome_of s t e) ≡ t
 unfolding outcome_of
 refused_changes_nothing s t (Receive (ShadowMessage v)) h k =
-    lets_refusal BadMessage (fault_in s v) (unless_known v (find_in t.ops v.name) held) (lets_known v (find_in t.ops v.name) held
+    lets_refusal BadMessage (fault_of s v) (unless_known v (find_in t.ops v.name) held) (lets_known v (find_in t.ops v.name) held
     (lets_if (v.home == t.me) Conflict (unless_known v (find_in t.held v.name) room) (lets_known v (find_in t.held v.name) room
     (lets_if (nat_le s.limits.inbox (length t.held) && not (is_eligible t.ops v)) InboxFull (Holds v) (λ z u q. cc))))) s t k
   where

@@ -9,7 +9,7 @@ use Rattle.rb_shadow.specs.declared.op_name.OpName.TheVariants.{Blue, Red}
 use Rattle.rb_shadow.specs.declared.colour.Colour.{Colour}
 use Rattle.rb_shadow.specs.declared.colour.Colour.TheVariants.{Blue as BlueColour, Red as RedColour}
 use Rattle.rb_shadow.specs.declared.shadow.Shadow.{Shadow}
-use Rattle.rb_shadow.specs.Operations.{Among, AreSame, EachEntry, blue_count, clock_of, is_red, names, number_of, past, red_count, same_name}
+use Rattle.rb_shadow.specs.Operations.{Among, AreSame, EachEntry, blue_count, clock_of, is_red, names, number_of, past, red_count, same_name, colour_in}
 use Rattle.rb_shadow.specs.Laws.{IsPart}
 use Rattle.rb_shadow.specs.Sound.{IsSound, is_foreign}
 use Rattle.rb_shadow.proofs.Public.Members
@@ -24,7 +24,7 @@ use Rattle.rb_token.specs.declared.message.TokenMessage.{TokenMessage}
 use Rattle.rb_token.specs.Token.{Token}
 use Rattle.rb_inbox.specs.Held.{with_held, without}
 use Rattle.rb_inbox.proofs.Public.Holding.{kept_among, held_cases}
-use Rattle.rb_scratch.specs.Requests.{Plan, colour_of_plan, next_name, operation_of}
+use Rattle.rb_scratch.specs.Requests.{Plan, next_name, operation_of}
 use Rattle.rb_scratch.proofs.Public.Made.{IsAllowed, IsMadeAt}
 use Rattle.rb_scratch.proofs.Public.Makes
 use Rattle.rb_site.specs.declared.message.Message.{Message}
@@ -78,7 +78,7 @@ deps_of : (me : ℕ) (us : List Shadow) (p : Plan) → (operation_of me us p).de
 unfolding operation_of
 deps_of me us p = refl
 
-name_of : (me : ℕ) (us : List Shadow) (p : Plan) → (operation_of me us p).name ≡ next_name me us (colour_of_plan us p)
+name_of : (me : ℕ) (us : List Shadow) (p : Plan) → (operation_of me us p).name ≡ next_name me us (colour_in us p.kind)
 unfolding operation_of
 name_of me us p = refl
 
@@ -107,7 +107,7 @@ new_made s w i t v g at made = record {
   valid = Legal.IsValid-push s t.ops v here.valid (Makes.made_follows s t.me t.ops t.token v g.few low here.valid made);
   is_past = λ x. sym (ValidClocks.clock_past s t.ops v g.few here.valid (ap (λ (x : Shadow). x.deps) made.is ∙ deps_of t.me t.ops made.plan) x);
   fresh = elim (Members.bool_cases (names all v.name)) [
-    | inl e ↦ absurd (fresh (colour_of_plan t.ops made.plan) v.name (ap (λ (x : Shadow). x.name) made.is ∙ name_of t.me t.ops made.plan) made.fair e)
+    | inl e ↦ absurd (fresh (colour_in t.ops made.plan.kind) v.name (ap (λ (x : Shadow). x.name) made.is ∙ name_of t.me t.ops made.plan) made.fair e)
     | inr e ↦ e
   ];
   reds = λ e u h k. by v.name e made.fair u h k;

@@ -14,7 +14,7 @@ use Rattle.rb_site.specs.declared.reply.Reply.TheVariants.{Already, Stale, Balan
 use Rattle.rb_shadow.specs.declared.op_name.OpName.{OpName}
 use Rattle.rb_shadow.specs.declared.shadow.Shadow.{Shadow}
 use Rattle.rb_shadow.specs.Operations.{Among, names, red_count, bal, find_in, is_eligible, same_shadow}
-use Rattle.rb_shadow.specs.Sound.{fault_in}
+use Rattle.rb_shadow.specs.Sound.{fault_of}
 use Rattle.rb_shadow.proofs.Public.Members
 use Rattle.rb_shadow.proofs.Public.Lookups
 use Rattle.rb_ledger.specs.Checks.{refusal_of_sound}
@@ -127,7 +127,7 @@ past_check s ms t v (Some why) h = tt
 comes_shadow : (s : Settings) (ms : List Message) (t : ModelSite) (v : Shadow) → Among v (shadows_in ms) → Comes s ms t (outcome_of s t (Receive (ShadowMessage v)))
 unfolding outcome_of
 comes_shadow s ms t v sent =
-    past_refusal s ms t BadMessage (fault_in s v) _ (λ _.
+    past_refusal s ms t BadMessage (fault_of s v) _ (λ _.
     past_known s ms t v (find_in t.ops v.name) _ (λ a.
     past_test s ms t (v.home == t.me) _ _ (λ b.
     past_known s ms t v (find_in t.held v.name) _ (λ c.

@@ -11,14 +11,14 @@ use Rattle.rb_shadow.specs.declared.op_name.OpName.TheVariants.{Blue, Red}
 use Rattle.rb_shadow.specs.declared.colour.Colour.{Colour}
 use Rattle.rb_shadow.specs.declared.colour.Colour.TheVariants.{Blue as BlueColour, Red as RedColour}
 use Rattle.rb_shadow.specs.declared.shadow.Shadow.{Shadow}
-use Rattle.rb_shadow.specs.Operations.{Among, red_count, is_red}
+use Rattle.rb_shadow.specs.Operations.{Among, red_count, is_red, colour_in}
 use Rattle.rb_shadow.proofs.Public.Members
 use Rattle.rb_shadow.proofs.Public.Clocks
 use Rattle.rb_token.specs.declared.message.TokenMessage.{TokenMessage}
 use Rattle.rb_site.specs.declared.message.Message.{Message}
 use Rattle.rb_site.specs.declared.message.Message.TheVariants.{Shadow as ShadowMessage, Token as TokenOnItsWay}
 use Rattle.rb_site.specs.declared.event.Event.{Event}
-use Rattle.rb_scratch.specs.Requests.{operation_of, next_name, colour_of_plan}
+use Rattle.rb_scratch.specs.Requests.{operation_of, next_name}
 use Rattle.rb_site.specs.Events.{ModelSite, first_site}
 use Rattle.rb_inbox.specs.Held.{with_held, without}
 use Rattle.rb_site.specs.Worlds.{World, shadows_in, tokens_in, made_in, first_world}
@@ -182,7 +182,7 @@ sends_made : (s : Settings) (w : World) (t : ModelSite) (v : Shadow) → IsMadeA
 unfolding operation_of
 sends_made s w t v made u h = elim (Members.Among-cases (made_in w) (v ∷ []) u (subst (Among u) (made_more w.messages v) h)) [
   | inl k ↦ inl k
-  | inr k ↦ elim k [ inl e ↦ inr (subst (λ (x : Shadow). (red_number x.name ≡ 0) ⊎ ((t.token.held ≡ true) × (red_number x.name ≤ red_count (t.ops ++ v ∷ [])))) (sym e) (by v.name refl (colour_of_plan t.ops made.plan) (ap (λ (x : Shadow). x.name) made.is) made.fair (Clocks.red_count-append t.ops (v ∷ [])))) | inr e ↦ elim e [ ] ]
+  | inr k ↦ elim k [ inl e ↦ inr (subst (λ (x : Shadow). (red_number x.name ≡ 0) ⊎ ((t.token.held ≡ true) × (red_number x.name ≤ red_count (t.ops ++ v ∷ [])))) (sym e) (by v.name refl (colour_in t.ops made.plan.kind) (ap (λ (x : Shadow). x.name) made.is) made.fair (Clocks.red_count-append t.ops (v ∷ [])))) | inr e ↦ elim e [ ] ]
 ]
   where
     by : (x : OpName) → v.name ≡ x → (c : Colour) → x ≡ next_name t.me t.ops c → IsAllowed s t.ops t.token v x → red_count (t.ops ++ v ∷ []) ≡ red_count t.ops + (0 + cond (is_red v.name) 1 0) → (red_number x ≡ 0) ⊎ ((t.token.held ≡ true) × (red_number x ≤ red_count (t.ops ++ v ∷ [])))

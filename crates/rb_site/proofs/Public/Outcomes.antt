@@ -9,7 +9,7 @@ use Rattle.rb_money.specs.Amounts.{cents}
 use Rattle.rb_money.specs.declared.refusal.Refusal.TheVariants.{BadBatch, BadMessage, UnknownAccount, NotHeld, NotReady, InboxFull, Conflict, PositionBeyond}
 use Rattle.rb_ledger.specs.Checks.{refusal_of_sound}
 use Rattle.rb_shadow.specs.Operations.{bal, is_eligible, red_count, find_in, same_shadow}
-use Rattle.rb_shadow.specs.Sound.{fault_in}
+use Rattle.rb_shadow.specs.Sound.{fault_of}
 use Rattle.rb_scratch.specs.Batches.{batch_of}
 use Rattle.rb_scratch.specs.Requests.{made_of}
 use Rattle.rb_scratch.specs.declared.request.Request.{Request}
@@ -117,7 +117,7 @@ unfolding outcome_of
 sends_few s t (Submit r) = few_made (made_of s t.me t.ops t.token r)
 sends_few s t (Batch rs) = few_batch s t rs
 sends_few s t (Receive (ShadowMessage v)) =
-    few_first BadMessage (fault_in s v) _ (few_known v (find_in t.ops v.name) _ (few_if (v.home == t.me) Conflict _ (few_known v (find_in t.held v.name) _ (few_if (nat_le s.limits.inbox (length t.held) && not (is_eligible t.ops v)) InboxFull (Holds v) (lit≤ tt)))))
+    few_first BadMessage (fault_of s v) _ (few_known v (find_in t.ops v.name) _ (few_if (v.home == t.me) Conflict _ (few_known v (find_in t.held v.name) _ (few_if (nat_le s.limits.inbox (length t.held) && not (is_eligible t.ops v)) InboxFull (Holds v) (lit≤ tt)))))
 sends_few s t (Receive (TokenOnItsWay m)) = few_first (λ why. why) (refusal_of_token s.limits t.me m) _ (few_test (nat_le m.epoch t.token.epoch) (Answers (Stale m.epoch)) (Takes m) (lit≤ tt) (lit≤ tt))
 sends_few s t (Apply x) = by (find_in t.held x)
   where
