@@ -10,7 +10,8 @@ use Rattle.rb_money.specs.Settings.{IsConfigured, IsVersion, Settings}
 use Rattle.rb_money.specs.declared.limits.Limits.{Limits}
 use Rattle.rb_money.specs.declared.limits.TheConstants.{MOST_SITES_OF_VERSION_1}
 use Rattle.rb_money.proofs.Public.Configured.{parts_configured}
-use Rattle.rb_commands.specs.Configurations.{accounts_at, config_from, config_in, config_of, has_known_keys, is_version, limits_of, version_at}
+use Rattle.rb_commands.specs.Configurations.{accounts_at, config_from, config_in, config_of, has_known_keys, is_version, limits_of}
+use Rattle.rb_commands.specs.Configurations.{version_at}
 use Rattle.rb_commands.specs.Laws.{ReadConfigsAreConfigured}
 use Rattle.rb_commands.specs.Values.{number_below}
 
@@ -31,7 +32,8 @@ nothing (Some x) e = absurd (cc)
 may_be : (version sites : ℕ) → is_version version sites ≡ true → IsVersion version sites
 may_be version sites e = at (version == 1) (nat_le sites MOST_SITES_OF_VERSION_1) (version == 2) refl refl refl e
   where
-    at : (one few two : Bool) → (version == 1) ≡ one → nat_le sites MOST_SITES_OF_VERSION_1 ≡ few → (version == 2) ≡ two → ((one && few) || two) ≡ true → IsVersion version sites
+    at : (one few two : Bool) → (version == 1) ≡ one → nat_le sites MOST_SITES_OF_VERSION_1 ≡ few → (version == 2) ≡ two →
+        ((one && few) || two) ≡ true → IsVersion version sites
     at true true two a b c h = inl (eqb-true version 1 a, leb-true sites MOST_SITES_OF_VERSION_1 b)
     at true false true a b c h = inr (eqb-true version 2 c)
     at false few true a b c h = inr (eqb-true version 2 c)
@@ -62,17 +64,21 @@ of_parts version sites limits accounts =
     let fault = config_fault sites accounts limits in
     where_true IsConfigured (is_version version sites && is_none fault) _ (λ e.
     let p = and_parts (is_version version sites) (is_none fault) e in
-    in_version (settings_of sites accounts limits) version (parts_configured sites accounts limits (nothing fault p.1)) (may_be version sites p.0))
+    in_version (settings_of sites accounts limits) version (parts_configured sites accounts limits (nothing fault p.1))
+    (may_be version sites p.0))
 
 of_values : (d : Data) → IfSome (config_in d) IsConfigured
 of_values d =
     after_any IsConfigured _ (version_at d) (λ version.
     after_any IsConfigured _ (option_and_then (number_below (2 ^ 8)) (get (codes "sites") d)) (λ sites.
     after_any IsConfigured _ (limits_of d) (λ limits.
-    after_any IsConfigured (config_from version sites limits) (option_and_then accounts_at (get (codes "accounts") d)) (of_parts version sites limits))))
+    after_any IsConfigured (config_from version sites limits) (option_and_then accounts_at (get (codes "accounts") d))
+    (of_parts version sites limits))))
 
 of_line : (line : List ℕ) → IfSome (option_and_then config_of (read line)) IsConfigured
-of_line line = after_any IsConfigured config_of (read line) (λ d. where_true IsConfigured (has_known_keys d) (config_in d) (λ known. of_values d))
+of_line line = after_any IsConfigured config_of (read line) (λ d. where_true IsConfigured (has_known_keys d) (config_in d)
+    (λ known. of_values d))
 
+-- whatever line is read as settings, they are a configuration's
 pub read_configured : ReadConfigsAreConfigured
 read_configured line s e = subst (λ o. IfSome o IsConfigured) e (of_line line)

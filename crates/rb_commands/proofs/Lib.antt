@@ -3,7 +3,8 @@ mod Shapes
 mod Back
 mod Sited
 mod UsualLines
-mod Verbs
+mod Spellings
+mod Members
 mod Scanned
 mod Batches
 mod Versions

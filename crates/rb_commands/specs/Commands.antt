@@ -37,7 +37,8 @@ command_for s d site = either (get (codes "deliver") d) (λ m. option_map (Deliv
 
 -- a command is an object of two members, one of which is its site
 abbrev pub command_of : Settings → Data → Option WorldEvent
-command_of s d = if size_of d == 2 then option_and_then (command_for s d) (option_and_then (number_below (2 ^ 8)) (get (codes "site") d)) else None
+command_of s d = if size_of d == 2 then option_and_then (command_for s d) (option_and_then (number_below (2 ^ 8)) (get (codes "site") d))
+    else None
 
 -- the command that a line is
 abbrev pub command_at : Settings → List ℕ → Option WorldEvent
@@ -49,19 +50,36 @@ sited_json key value site = object (put key value (member (codes "site") (number
 
 -- each command is read from the object that tells it
 pub record ReadsCommands (s : Settings) : Type 0 where
-  pub deposit : (site amount : ℕ) (name : List ℕ) → site < 2 ^ 8 → amount < 2 ^ 64 → command_of s (sited_json (codes "deposit") (pair_json (string name) (number_json amount)) site) ≡ Some (At site (Submit (Deposit (account_place s name) amount)))
-  pub withdraw : (site amount : ℕ) (name : List ℕ) → site < 2 ^ 8 → amount < 2 ^ 64 → command_of s (sited_json (codes "withdraw") (pair_json (string name) (number_json amount)) site) ≡ Some (At site (Submit (Withdraw (account_place s name) amount)))
-  pub interest : (site rate : ℕ) (name : List ℕ) → site < 2 ^ 8 → rate < 2 ^ 32 → command_of s (sited_json (codes "interest") (pair_json (string name) (number_json rate)) site) ≡ Some (At site (Submit (Interest (account_place s name) rate)))
-  pub cancel : (site : ℕ) (x : OpName) → site < 2 ^ 8 → IsName x → command_of s (sited_json (codes "cancel") (name_json x) site) ≡ Some (At site (Submit (Cancel x)))
-  pub transfer : (site amount : ℕ) (from to : List ℕ) → site < 2 ^ 8 → amount < 2 ^ 64 → command_of s (sited_json (codes "transfer") (three_json (string from) (string to) (number_json amount)) site) ≡ Some (At site (Submit (Transfer (account_place s from) (account_place s to) amount)))
+  pub deposit : (site amount : ℕ) (name : List ℕ) → site < 2 ^ 8 → amount < 2 ^ 64 →
+      command_of s (sited_json (codes "deposit") (pair_json (string name) (number_json amount)) site)
+      ≡ Some (At site (Submit (Deposit (account_place s name) amount)))
+  pub withdraw : (site amount : ℕ) (name : List ℕ) → site < 2 ^ 8 → amount < 2 ^ 64 →
+      command_of s (sited_json (codes "withdraw") (pair_json (string name) (number_json amount)) site)
+      ≡ Some (At site (Submit (Withdraw (account_place s name) amount)))
+  pub interest : (site rate : ℕ) (name : List ℕ) → site < 2 ^ 8 → rate < 2 ^ 32 →
+      command_of s (sited_json (codes "interest") (pair_json (string name) (number_json rate)) site)
+      ≡ Some (At site (Submit (Interest (account_place s name) rate)))
+  pub cancel : (site : ℕ) (x : OpName) → site < 2 ^ 8 → IsName x → command_of s (sited_json (codes "cancel") (name_json x) site)
+      ≡ Some (At site (Submit (Cancel x)))
+  pub transfer : (site amount : ℕ) (from to : List ℕ) → site < 2 ^ 8 → amount < 2 ^ 64 →
+      command_of s (sited_json (codes "transfer") (three_json (string from) (string to) (number_json amount)) site)
+      ≡ Some (At site (Submit (Transfer (account_place s from) (account_place s to) amount)))
   pub alone : ReadsRequests s
-  pub batch : (site : ℕ) (list : List Data) (rs : List Request) → site < 2 ^ 8 → map (request_alone s) list ≡ map Some rs → command_of s (sited_json (codes "batch") (array (items_of list)) site) ≡ Some (At site (Batch rs))
-  pub apply : (site : ℕ) (x : OpName) → site < 2 ^ 8 → IsName x → command_of s (sited_json (codes "apply") (name_json x) site) ≡ Some (At site (Apply x))
-  pub pass : (site to : ℕ) → site < 2 ^ 8 → to < 2 ^ 8 → command_of s (sited_json (codes "pass") (number_json to) site) ≡ Some (At site (Pass to))
-  pub balance : (site : ℕ) (name : List ℕ) → site < 2 ^ 8 → command_of s (sited_json (codes "balance") (string name) site) ≡ Some (At site (Balance (account_place s name)))
-  pub asof : (site n : ℕ) (name : List ℕ) → site < 2 ^ 8 → n < 2 ^ 32 → command_of s (sited_json (codes "asof") (pair_json (string name) (number_json n)) site) ≡ Some (At site (AsOf (account_place s name) n))
-  pub statement : (site : ℕ) (name : List ℕ) → site < 2 ^ 8 → command_of s (sited_json (codes "statement") (string name) site) ≡ Some (At site (Statement (account_place s name)))
-  pub deliver : (site m : ℕ) → site < 2 ^ 8 → m < 2 ^ 32 → command_of s (sited_json (codes "deliver") (number_json m) site) ≡ Some (Deliver site m)
+  pub batch : (site : ℕ) (list : List Data) (rs : List Request) → site < 2 ^ 8 → map (request_alone s) list ≡ map Some rs →
+      command_of s (sited_json (codes "batch") (array (items_of list)) site) ≡ Some (At site (Batch rs))
+  pub apply : (site : ℕ) (x : OpName) → site < 2 ^ 8 → IsName x → command_of s (sited_json (codes "apply") (name_json x) site)
+      ≡ Some (At site (Apply x))
+  pub pass : (site to : ℕ) → site < 2 ^ 8 → to < 2 ^ 8 → command_of s (sited_json (codes "pass") (number_json to) site)
+      ≡ Some (At site (Pass to))
+  pub balance : (site : ℕ) (name : List ℕ) → site < 2 ^ 8 → command_of s (sited_json (codes "balance") (string name) site)
+      ≡ Some (At site (Balance (account_place s name)))
+  pub asof : (site n : ℕ) (name : List ℕ) → site < 2 ^ 8 → n < 2 ^ 32 →
+      command_of s (sited_json (codes "asof") (pair_json (string name) (number_json n)) site)
+      ≡ Some (At site (AsOf (account_place s name) n))
+  pub statement : (site : ℕ) (name : List ℕ) → site < 2 ^ 8 → command_of s (sited_json (codes "statement") (string name) site)
+      ≡ Some (At site (Statement (account_place s name)))
+  pub deliver : (site m : ℕ) → site < 2 ^ 8 → m < 2 ^ 32 → command_of s (sited_json (codes "deliver") (number_json m) site)
+      ≡ Some (Deliver site m)
 
 -- the same in every configuration
 abbrev pub CommandsAreRead : Type 0

@@ -1,5 +1,6 @@
 -- Which configuration a line is.
-use Rattle.std.specs.Prelude.{ℕ, ◌+◌, ◌^◌, ◌==◌, ◌&&◌, ◌||◌, Bool, List, [], ◌∷◌, Option, Some, None, is_none, is_some, codes, if◌then◌else◌, option_and_then, option_map, nat_le}
+use Rattle.std.specs.Prelude.{ℕ, ◌+◌, ◌^◌, ◌==◌, ◌&&◌, ◌||◌, Bool, List, [], ◌∷◌, Option, Some, None, is_none, is_some, codes}
+use Rattle.std.specs.Prelude.{if◌then◌else◌, option_and_then, option_map, nat_le}
 use Rattle.std.specs.Str.{is_utf8}
 use Rattle.serde_json.specs.Data.{Data, Items, no_items, item}
 use Rattle.serde_json.specs.Find.{get, as_array, as_str}
@@ -12,7 +13,8 @@ use Rattle.rb_commands.specs.Values.{number_below, pair_of, size_of, either}
 
 -- an account's name and starting balance, from the list of both
 abbrev pub account_at : Data → Option Account
-account_at d = option_and_then (λ p. option_and_then (λ name. option_map (λ start. (name, start)) (number_below (2 ^ 64) p.1)) (as_str p.0)) (pair_of d)
+account_at d = option_and_then (λ p. option_and_then (λ name. option_map (λ start. (name, start)) (number_below (2 ^ 64) p.1)) (as_str p.0))
+    (pair_of d)
 
 -- the accounts of a list, in its order
 abbrev pub accounts_in : Items → Option (List Account)
@@ -30,7 +32,8 @@ abbrev pub limits_from : ℕ → ℕ → ℕ → ℕ → ℕ → Limits
 limits_from blue red inbox history epoch = record { blue = blue; red = red; inbox = inbox; history = history; epoch = epoch }
 
 abbrev pub limits_of : Data → Option Limits
-limits_of d = option_and_then (λ blue. option_and_then (λ red. option_and_then (λ inbox. option_and_then (λ history. option_map (limits_from blue red inbox history)
+limits_of d = option_and_then (λ blue. option_and_then (λ red. option_and_then
+    (λ inbox. option_and_then (λ history. option_map (limits_from blue red inbox history)
     (limit_read (codes "epoch") MOST_EPOCH d))
     (limit_read (codes "history") MOST_HISTORY d))
     (limit_read (codes "inbox") MOST_INBOX d))
@@ -43,7 +46,8 @@ has key d = if is_some (get key d) then 1 else 0
 
 -- no key but the three that are required and the five of the limits
 abbrev pub has_known_keys : Data → Bool
-has_known_keys d = size_of d == 3 + has (codes "blue") d + has (codes "red") d + has (codes "inbox") d + has (codes "history") d + has (codes "epoch") d
+has_known_keys d = size_of d == 3 + has (codes "blue") d + has (codes "red") d + has (codes "inbox") d + has (codes "history") d
+    + has (codes "epoch") d
 
 -- the version of the format
 abbrev pub version_at : Data → Option ℕ
@@ -55,11 +59,13 @@ is_version version sites = ((version == 1) && nat_le sites MOST_SITES_OF_VERSION
 
 -- the configuration of these parts, where nothing is wrong with it
 abbrev pub config_from : ℕ → ℕ → Limits → List Account → Option Settings
-config_from version sites limits accounts = if is_version version sites && is_none (config_fault sites accounts limits) then Some (record (settings_of sites accounts limits) { version = version }) else None
+config_from version sites limits accounts = if is_version version sites && is_none (config_fault sites accounts limits)
+    then Some (record (settings_of sites accounts limits) { version = version }) else None
 
 -- the configuration that the values of an object's keys come to
 abbrev pub config_in : Data → Option Settings
-config_in d = option_and_then (λ version. option_and_then (λ sites. option_and_then (λ limits. option_and_then (config_from version sites limits)
+config_in d = option_and_then (λ version. option_and_then (λ sites. option_and_then
+    (λ limits. option_and_then (config_from version sites limits)
     (option_and_then accounts_at (get (codes "accounts") d)))
     (limits_of d))
     (option_and_then (number_below (2 ^ 8)) (get (codes "sites") d)))

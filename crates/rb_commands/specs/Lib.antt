@@ -6,6 +6,5 @@ pub mod Requests
 pub mod Commands
 pub mod Configurations
 pub mod Adds
-pub mod Verbs
 pub mod Spelled
 pub mod Laws

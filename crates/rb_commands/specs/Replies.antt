@@ -10,7 +10,8 @@ use Rattle.rb_money.specs.declared.refusal.Refusal.TheVariants.{AlreadyCancelled
 use Rattle.rb_shadow.specs.declared.op_name.OpName.{OpName}
 use Rattle.rb_shadow.specs.declared.label.Label.{Label}
 use Rattle.rb_site.specs.declared.reply.Reply.{Reply}
-use Rattle.rb_site.specs.declared.reply.Reply.TheVariants.{Made, Names, Held, Already, Taken, Stale, Applied, Passed, Balance, Statement, Refused}
+use Rattle.rb_site.specs.declared.reply.Reply.TheVariants.{Made, Names, Held, Already, Taken, Stale, Applied, Passed, Balance, Statement}
+use Rattle.rb_site.specs.declared.reply.Reply.TheVariants.{Refused}
 use Rattle.rb_commands.specs.Statements.{statement_json}
 use Rattle.rb_commands.specs.Values.{number_json, name_json, label_text, list_json, one_json}
 
@@ -29,11 +30,13 @@ cancelled_json position = object (member (codes "position") (number_json positio
 
 -- too few red operations applied: how many are needed, and how many the site has seen
 abbrev pub behind_json : ℕ → ℕ → Data
-behind_json seen needed = object (member (codes "needed") (number_json needed) (member (codes "refused") (number_json 9) (member (codes "seen") (number_json seen) no_members)))
+behind_json seen needed = object (member (codes "needed") (number_json needed)
+    (member (codes "refused") (number_json 9) (member (codes "seen") (number_json seen) no_members)))
 
 -- a batch refused: what stopped it, and at which request, from 0
 abbrev pub batch_json : ℕ → Cause → Data
-batch_json index cause = object (member (codes "cause") (cause_json cause) (member (codes "index") (number_json index) (member (codes "refused") (number_json 13) no_members)))
+batch_json index cause = object (member (codes "cause") (cause_json cause)
+    (member (codes "index") (number_json index) (member (codes "refused") (number_json 13) no_members)))
 
 -- a bad message: what is wrong with it
 abbrev pub message_json : ℕ → Data

@@ -9,12 +9,26 @@ use Rattle.serde_json.specs.View.{items_of}
 use Rattle.serde_json.specs.Written.{compact_text, items_text, outline, items_outline}
 use Rattle.rb_money.specs.Settings.{Settings}
 use Rattle.rb_scratch.specs.declared.request.Request.{Request}
+use Rattle.rb_site.specs.declared.event.Event.TheVariants.{Submit as ToSubmit, Batch as ToBatch, Apply as ToApply, Pass as ToPass}
+use Rattle.rb_site.specs.declared.event.Event.TheVariants.{Balance as OfBalance, AsOf as OfPosition, Statement as OfStatement}
+use Rattle.rb_site.specs.declared.world_event.WorldEvent.{WorldEvent}
+use Rattle.rb_site.specs.declared.world_event.WorldEvent.TheVariants.{At, Deliver as ToDeliver}
+use Rattle.rb_commands.specs.Commands.{command_for}
 use Rattle.rb_commands.specs.Requests.{request_alone}
 use Rattle.rb_commands.specs.Values.{one_json}
-use Rattle.rb_commands.specs.Verbs.{told_of}
-use Rattle.rb_commands.specs.declared.own_event.OwnEvent.TheVariants.{Submit}
-use Rattle.rb_commands.specs.declared.told.Told.{Told}
-use Rattle.rb_commands.specs.declared.told.Told.TheVariants.{Event as ToldEvent}
+use Rattle.rb_commands.specs.declared.site_command.SiteCommand.{SiteCommand}
+use Rattle.rb_commands.specs.declared.site_command.SiteCommand.TheVariants.{Submit, Batch, Apply, Pass, Balance, AsOf, Statement, Deliver}
+
+-- the command for a site
+abbrev pub with_site : ℕ → SiteCommand → WorldEvent
+with_site site (Submit r) = At site (ToSubmit r)
+with_site site (Batch rs) = At site (ToBatch rs)
+with_site site (Apply x) = At site (ToApply x)
+with_site site (Pass to) = At site (ToPass to)
+with_site site (Balance a) = At site (OfBalance a)
+with_site site (AsOf a n) = At site (OfPosition a n)
+with_site site (Statement a) = At site (OfStatement a)
+with_site site (Deliver m) = ToDeliver site m
 
 -- a value that is read from its own text
 pub record IsRead (value : Data) : Type 0 where
@@ -26,23 +40,24 @@ pub record IsRead (value : Data) : Type 0 where
 abbrev pub IsMember : List ℕ → Data → List ℕ → List ℕ → Type 0
 IsMember key value text rest = codes "\"" ++ text ≡ quoted key ++ (codes ":" ++ (compact_text value ++ rest))
 
--- a member that tells this, whatever its object's site is
-pub record IsToldBy (s : Settings) (told : Told) (key : List ℕ) (value : Data) : Type 0 where
+-- a member that tells this command, whatever its object's site is
+pub record IsToldBy (s : Settings) (command : SiteCommand) (key : List ℕ) (value : Data) : Type 0 where
   pub other : key ≡ codes "site" → ⊥
-  pub alone : told_of s (one_json key value) ≡ Some told
+  pub alone : (site : ℕ) → command_for s (one_json key value) site ≡ Some (with_site site command)
 
--- the text begins with a member that tells this, and then the rest follows; a request's value has no list in a list
-pub record Tells (s : Settings) (told : Told) (text rest : List ℕ) : Type 0 where
+-- the text begins with a member that tells this command, and then the rest follows
+pub record Tells (s : Settings) (command : SiteCommand) (text rest : List ℕ) : Type 0 where
   pub key : List ℕ
   pub value : Data
   pub member : IsMember key value text rest
   pub read : IsRead value
-  pub flat : (r : Request) → told ≡ ToldEvent (Submit r) → tree.depth (outline value) ≤ 1
-  pub is : IsToldBy s told key value
+  pub is : IsToldBy s command key value
 
--- the same of a request, which may stand in a batch too
-abbrev pub Asks : Settings → Request → List ℕ → List ℕ → Type 0
-Asks s r = Tells s (ToldEvent (Submit r))
+-- the same of a request, which may stand in a batch too: its value has no list in a list
+pub record Asks (s : Settings) (r : Request) (text rest : List ℕ) : Type 0 where
+  pub told : Tells s (Submit r) text rest
+  pub flat : tree.depth (outline told.value) ≤ 1
+  pub alone : request_alone s (one_json told.key told.value) ≡ Some r
 
 -- the text begins with the objects of a list that asks these, and its closing bracket, and then the rest follows
 pub record AsksEach (s : Settings) (rs : List Request) (text rest : List ℕ) : Type 0 where

@@ -7,8 +7,10 @@ use Rattle.rb_commands.specs.Values.{number_json, integer_json, name_json, label
 
 -- a row: its position, name and kind, what it moved, whether it is cancelled, and the balance after it
 abbrev pub row_json : Row → Data
-row_json r = array (item (number_json r.position) (item (name_json r.name) (item (string (label_text r.kind)) (item (integer_json r.moved) (item (boolean r.cancelled) (item (number_json r.balance) no_items))))))
+row_json r = array (item (number_json r.position) (item (name_json r.name)
+    (item (string (label_text r.kind)) (item (integer_json r.moved) (item (boolean r.cancelled) (item (number_json r.balance) no_items))))))
 
 -- a statement: its balance, its rows and its start
 abbrev pub statement_json : Statement → Data
-statement_json t = object (member (codes "balance") (number_json t.balance) (member (codes "rows") (list_json row_json t.rows) (member (codes "start") (number_json t.start) no_members)))
+statement_json t = object (member (codes "balance") (number_json t.balance)
+    (member (codes "rows") (list_json row_json t.rows) (member (codes "start") (number_json t.start) no_members)))

@@ -1,33 +1,26 @@
 //! Lines of a script: its configuration, commands and replies as JSON.
 //!
-//! What lines of histories are made of as well is public beside them: [`append`], [`scan`], [`values`], an event or
-//! an account from a JSON value, and a reply's object.
+//! Lines are written in [`write`], read by the JSON value in [`read`], and, as programs spell them, in one pass in
+//! [`fast`]. What lines of histories are made of as well is public beside them: [`write::append`], [`fast::scan`],
+//! [`read::value`], an event or an account from a JSON value, and a reply's object.
 //! Tests: rb_tests, commands.rt, replies.rt.
 #![tactic(auto)]
 
-pub mod append;
-mod command;
-mod config_line;
+pub mod fast;
 mod fault;
-mod line;
-mod lists;
-mod own_event;
-mod parts;
-mod request;
-pub mod scan;
-mod told;
-mod usual;
-pub mod values;
-mod verb;
+pub mod read;
+mod site_command;
+pub mod write;
 
 ghost use Rattle.rb_commands.specs.Commands.{CommandsAreRead};
 ghost use Rattle.rb_commands.specs.Laws.{ReadConfigsAreConfigured};
 
-pub use command::{event, read_command};
-pub use config_line::read_config;
 pub use fault::LineFault;
-pub use line::{append_reply, append_value, write_reply};
-pub use request::account;
+pub use read::command::read_command;
+pub use read::config::read_config;
+pub use read::event::event;
+pub use read::request::account;
+pub use write::reply::{append_reply, append_value, write_reply};
 
 /// Each command is read from the JSON object that tells it.
 pub fn commands_are_read()

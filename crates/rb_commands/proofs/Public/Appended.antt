@@ -5,10 +5,12 @@ use Rattle.std.specs.Result.{IsErr}
 use Rattle.std.proofs.lemmas.List.{take_at}
 use Rattle.rb_commands.specs.Adds.{Adds}
 
+-- what was there before a text was added is there after more was added
 pub front_stays : (old mid new a : List ℕ) → mid ≡ old ++ a → take (length mid) new ≡ mid → take (length old) new ≡ old
 front_stays old mid new a e h =
     let rest = drop (length mid) new in
-    let whole : new ≡ old ++ (a ++ rest) = sym (take-append-drop (length mid) new) ∙ ap (λ l. l ++ rest) (h ∙ e) ∙ append_assoc old a rest in
+    let whole : new ≡ old ++ (a ++ rest) = sym (take-append-drop (length mid) new) ∙ ap (λ l. l ++ rest) (h ∙ e) ∙ append_assoc old a rest
+    in
     ap (take (length old)) whole ∙ take_at old (a ++ rest) (length old) refl
 
 -- a front of a front
@@ -17,6 +19,7 @@ front_of_front old mid new e h =
     let more = drop (length old) mid in
     front_stays old mid new more (sym (take-append-drop (length old) mid) ∙ ap (λ l. l ++ more) e) h
 
+-- what a text was added to is there before it
 pub front_of_sum : (old new a : List ℕ) → new ≡ old ++ a → take (length old) new ≡ old
 front_of_sum old new a e = ap (take (length old)) e ∙ take_at old a (length old) refl
 
@@ -30,6 +33,7 @@ then (Ok x) old mid new a b t e h f = both old mid new a b e h ∙ ap (λ l. old
 then (Err x) old mid new a b t e h f = front_stays old mid new a e h
 
 -- a failed call, behind what another added
-pub failed : {A E : Type 0} (r : Result A E) (old mid new a t : List ℕ) → IsErr r → mid ≡ old ++ a → take (length mid) new ≡ mid → Adds r old new t
+pub failed : {A E : Type 0} (r : Result A E) (old mid new a t : List ℕ) → IsErr r → mid ≡ old ++ a → take (length mid) new ≡ mid →
+    Adds r old new t
 failed (Ok x) old mid new a t is e h = absurd (cc)
 failed (Err x) old mid new a t is e h = front_stays old mid new a e h

@@ -1,5 +1,6 @@
 -- Bytes that stand in a string as they are.
-use Rattle.std.proofs.Common.{◌≡◌, ◌<◌, ◌≤◌, ◌^◌, ℕ, suc, List, [], ◌∷◌, ◌++◌, length, get_or, decimal, codes, refl, sym, true, ◌∙◌, append_assoc, arith}
+use Rattle.std.proofs.Common.{◌≡◌, ◌<◌, ◌≤◌, ◌^◌, ℕ, suc, List, [], ◌∷◌, ◌++◌, length, get_or, decimal, codes, refl, sym, true, ◌∙◌}
+use Rattle.std.proofs.Common.{append_assoc, arith}
 use Rattle.std.specs.Prelude.{⊤, ◌&&◌, nat_le}
 use Rattle.std.specs.List.{list_all}
 use Rattle.std.proofs.lemmas.Bool.{and_parts}
@@ -23,10 +24,12 @@ abbrev pub ArePlain : List ℕ → Type 0
 ArePlain [] = ⊤
 ArePlain (x ∷ xs) = (escape_byte x ≡ x ∷ []) × ArePlain xs
 
+-- bytes that need no escape are written as they are
 pub escape_plain : (xs : List ℕ) → ArePlain xs → escape xs ≡ xs
 escape_plain [] h = refl
 escape_plain (x ∷ xs) h = rw (h.0, escape_plain xs h.1) refl
 
+-- so are two texts that need none
 pub plain-append : (xs ys : List ℕ) → ArePlain xs → ArePlain ys → ArePlain (xs ++ ys)
 plain-append [] ys h k = k
 plain-append (x ∷ xs) ys h k = (h.0, plain-append xs ys h.1 k)
@@ -37,31 +40,44 @@ plain_by (x ∷ xs) h =
     let first = h 0 (omega arith) in
     (escape_byte_plain x (λ e. omega arith) (λ e. omega arith) (omega arith), plain_by xs (λ i k. h (suc i) (omega arith)))
 
+-- digits need no escape
 pub plain_decimal : (n : ℕ) → n < 2 ^ 64 → ArePlain (decimal n)
-plain_decimal n h = plain_by (decimal n) (λ i k. let d = digit_at (decimal n) i (digits_decimal in_digits n h) k in (omega arith, omega arith))
+plain_decimal n h = plain_by (decimal n) (λ i k. let d = digit_at (decimal n) i (digits_decimal in_digits n h) k in
+    (omega arith, omega arith))
 
+-- nor does an operation's name
 pub plain_name : (x : OpName) → IsName x → ArePlain (name_text x)
 unfolding escape_byte
-plain_name (Blue s n) h = plain-append ((codes "B" ++ decimal s) ++ codes ".") (decimal n) (plain-append (codes "B" ++ decimal s) (codes ".") (plain-append (codes "B") (decimal s) (refl, tt) (plain_decimal s (omega arith))) (refl, tt)) (plain_decimal n (omega arith))
+plain_name (Blue s n) h = plain-append ((codes "B" ++ decimal s) ++ codes ".") (decimal n) (plain-append (codes "B"
+    ++ decimal s) (codes ".") (plain-append (codes "B") (decimal s) (refl, tt) (plain_decimal s (omega arith))) (
+      refl,
+      tt,
+    )) (plain_decimal n (omega arith))
 plain_name (Red n) h = plain-append (codes "R") (decimal n) (refl, tt) (plain_decimal n (omega arith))
 
+-- bytes that need no escape stand between the quotes as they are
 pub quoted_plain : (xs : List ℕ) → ArePlain xs → quoted xs ≡ 34 ∷ (xs ++ 34 ∷ [])
 quoted_plain xs h = rw (escape_plain xs h) refl
 
+-- so does a kind's word
 pub quoted_label : (k : Label) → quoted (label_text k) ≡ 34 ∷ (label_text k ++ 34 ∷ [])
 unfolding escape_byte
 quoted_label Deposit = refl
 quoted_label _ = refl
 
-pub quoted_blue : (s n : ℕ) → s < 2 ^ 8 → n < 2 ^ 32 → quoted (name_text (Blue s n)) ≡ codes "\"B" ++ (decimal s ++ (codes "." ++ (decimal n ++ codes "\"")))
+-- a blue operation's name in quotes, piece by piece
+pub quoted_blue : (s n : ℕ) → s < 2 ^ 8 → n < 2 ^ 32 → quoted (name_text (Blue s n)) ≡ codes "\"B"
+    ++ (decimal s ++ (codes "." ++ (decimal n ++ codes "\"")))
 quoted_blue s n h k = quoted_plain (name_text (Blue s n)) (plain_name (Blue s n) (h, k)) ∙ simp append_assoc
 
+-- a red operation's name in quotes, piece by piece
 pub quoted_red : (n : ℕ) → n < 2 ^ 32 → quoted (name_text (Red n)) ≡ codes "\"R" ++ (decimal n ++ codes "\"")
 quoted_red n h = quoted_plain (name_text (Red n)) (plain_name (Red n) h) ∙ simp append_assoc
 
 -- a byte of an account's name
 byte_plain : (b : ℕ) → is_name_byte b ≡ true → escape_byte b ≡ b ∷ []
-byte_plain b h = escape_byte_plain b (λ e. let f : is_name_byte 34 ≡ true = (λ j. is_name_byte (sym e j)) ∙ h in cc) (λ e. let f : is_name_byte 92 ≡ true = (λ j. is_name_byte (sym e j)) ∙ h in cc) (grind (arith, nat_tests))
+byte_plain b h = escape_byte_plain b (λ e. let f : is_name_byte 34 ≡ true = (λ j. is_name_byte (sym e j)) ∙ h in
+    cc) (λ e. let f : is_name_byte 92 ≡ true = (λ j. is_name_byte (sym e j)) ∙ h in cc) (grind (arith, nat_tests))
 
 bytes_plain : (name : List ℕ) → list_all is_name_byte name ≡ true → ArePlain name
 bytes_plain [] h = tt

@@ -19,13 +19,16 @@ use Rattle.serde_json.proofs.Texts.{print-outline}
 abbrev pub with_front : {A : Type 0} → List A → Option (List A) → Option (List A)
 with_front front o = option_map (λ later. front ++ later) o
 
+-- an operation's name is read from its own text
 pub back : (x : OpName) → IsName x → name_of (name_text x) ≡ Some x
 back x h = sym (value_is (name_text x) (Some x) refl h (λ y k e. ap Some (sym (candidate_is x h) ∙ ap candidate e ∙ candidate_is y k)))
 
 -- an object's text, its keys in any order, is read as the object with its keys in byte order
-pub compact_read : (turned d : Data) → HasNumbers (outline turned) → tree.depth (outline turned) ≤ max_depth → of_json (outline turned) ≡ Some d → read (compact_text turned) ≡ Some d
+pub compact_read : (turned d : Data) → HasNumbers (outline turned) → tree.depth (outline turned) ≤ max_depth →
+    of_json (outline turned) ≡ Some d → read (compact_text turned) ≡ Some d
 compact_read turned d numbers shallow same =
     let j = outline turned in
-    let text : tokens (compact_text turned) ≡ json_tokens j ++ [] = ap tokens (sym (print-outline turned)) ∙ tokens-print (json_tokens j) (ArePrintable-json_tokens j numbers) ∙ sym (append-nil (json_tokens j)) in
+    let text : tokens (compact_text turned) ≡ json_tokens j ++ [] = ap tokens (sym (print-outline turned))
+    ∙ tokens-print (json_tokens j) (ArePrintable-json_tokens j numbers) ∙ sym (append-nil (json_tokens j)) in
     ap (λ ts. option_and_then of_json (option_and_then (λ p. json.if_last p.0 p.1) (json.value max_depth ts))) text
     ∙ ap (λ o. option_and_then of_json (option_and_then (λ p. json.if_last p.0 p.1) o)) (value-json_tokens j max_depth [] shallow) ∙ same

@@ -1,0 +1,13 @@
+use Rattle.std.proofs.Common.{◌++◌, codes, decimal, ap, ◌∙◌}
+use Rattle.rb_commands.specs.Commands.{command_at}
+use Rattle.rb_commands.proofs.UsualLines.{first_line}
+use Rattle.rb_commands.proofs.fast.command.parse_site_first.Goals as goal
+
+pub returns-clause-value : goal.returns-clause-value
+returns-clause-value c =
+    let s = c.args.config.now in
+    let site = c.in_ok-site.site in
+    let text = c.in_ok-parse_prefix.field-0.now in
+    let told = c.in_ok-command in
+    ap (λ l. command_at s (codes "{\"site\":" ++ l)) (c.in_ok-site.ensures.1 ∙ ap (λ l. decimal site ++ l) c.in_ok-parse_prefix.ensures)
+    ∙ rw c.at.ensures.value (first_line s told.command site text told.end.now told.ensures c.in_ok-site.ensures.0 c.in_ok-parse_end.ensures)

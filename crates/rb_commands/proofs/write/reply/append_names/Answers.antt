@@ -1,0 +1,27 @@
+use Rattle.std.proofs.Common.{codes, add-one, drop-cons, arith, rules}
+use Rattle.json.specs.Print.{escape_byte}
+use Rattle.rb_shadow.specs.declared.op_name.OpName.TheVariants.{Blue}
+use Rattle.rb_commands.specs.Values.{name_json}
+use Rattle.rb_commands.proofs.Public.Appended.{front_of_front, front_of_sum}
+use Rattle.rb_commands.proofs.Public.Listed.{item_written, list_between}
+use Rattle.rb_commands.proofs.write.reply.append_names.Goals as goal
+
+pub loop-name-preserved : goal.loop-name-preserved
+loop-name-preserved c =
+    let out = c.loop-name.out.items in
+    let new = c.append_listed.new.out.items in
+    let names = c.args.names.now in
+    let i = c.loop-name.name-index in
+    record {
+      utf8 = search rules;
+      front = front_of_front c.args.out.now.items out new c.loop-name.invariant.front
+          (front_of_sum out new _ c.in_ok-append_listed.ensures);
+      written = item_written name_json out new c.loop-name.comma.now _ names i _ (rw add-one (drop-cons names i (Blue 0 0) (omega arith)))
+          c.in_ok-append_listed.ensures c.loop-name.invariant.written;
+    }
+
+pub returns : goal.returns
+unfolding escape_byte
+returns c = list_between name_json c.append-2.result c.args.out.now.items c.loop-name.out.items c.append-2.new.out.items
+    c.loop-name.comma.now (codes "{\"names\":[") (codes "}") c.args.names.now c.loop-name.name-index (omega arith)
+    c.loop-name.invariant.written c.append-2.ensures

@@ -1,0 +1,29 @@
+use Rattle.std.proofs.Common.{◌++◌, codes, [], add-one, drop-cons, arith, rules}
+use Rattle.std.specs.Prelude.{map}
+use Rattle.rb_commands.specs.Statements.{row_json}
+use Rattle.rb_commands.proofs.Public.Appended.{front_of_front, front_of_sum, then}
+use Rattle.rb_commands.proofs.Public.Listed.{rest_text, whole_text, item_written, items_written}
+use Rattle.rb_commands.proofs.write.statement.append_rows.Goals as goal
+
+pub loop-row-preserved : goal.loop-row-preserved
+loop-row-preserved c =
+    let out = c.loop-row.out.items in
+    let new = c.append_row.new.out.items in
+    let rows = c.args.rows.now in
+    let i = c.loop-row.row-index in
+    record {
+      utf8 = search rules;
+      front = front_of_front c.args.out.now.items out new c.loop-row.invariant.front (front_of_sum out new _ c.in_ok-append_row.ensures);
+      written = item_written row_json out new c.loop-row.comma.now _ rows i _ (rw add-one (drop-cons rows i _ (omega arith)))
+          c.in_ok-append_row.ensures c.loop-row.invariant.written;
+    }
+
+pub returns : goal.returns
+returns c =
+    let old = c.args.out.now.items in
+    let out = c.loop-row.out.items in
+    let rows = c.args.rows.now in
+    let list = rest_text [] (map row_json rows) in
+    let total = old ++ list in
+    let all = items_written row_json out c.loop-row.comma.now total rows c.loop-row.row-index (omega arith) c.loop-row.invariant.written in
+    then c.append.result old out c.append.new.out.items list (codes "]") _ all c.append.ensures (whole_text (map row_json rows))

@@ -1,0 +1,103 @@
+//! Lines of replies.
+ghost use Rattle.std.specs.Prelude.{◌≡◌, ◌++◌, codes, IfOk, OnOk, OnErr, string_bytes};
+ghost use Rattle.serde_json.specs.Written.{compact_text};
+ghost use Rattle.rb_commands.specs.Adds.{Adds};
+ghost use Rattle.rb_commands.specs.Replies.{line, reply_json, made_json};
+ghost use Rattle.rb_commands.specs.Values.{name_json, list_json, one_json};
+
+use crate::write::append::{append, append_named, append_number};
+use crate::write::refusal::append_refusal;
+use crate::write::statement::append_statement;
+use rb_shadow::{Label, OpName};
+use rb_site::Reply;
+use std::alloc::{AllocError, Global};
+
+/// An operation that was made: its kind and its name.
+#[tactic(auto, unfolding(json::specs::Print::escape_byte))]
+fn append_made(out: &mut Vec<u8>, name: OpName, kind: Label) -> Result<(), AllocError>
+    ensures { Adds result out.old.items out.new.items (compact_text (made_json name kind)) }
+{
+    let front = match kind {
+        Label::Deposit => "{\"kind\":\"deposit\",\"name\":",
+        Label::Withdraw => "{\"kind\":\"withdraw\",\"name\":",
+        Label::Declined => "{\"kind\":\"declined\",\"name\":",
+        Label::Interest => "{\"kind\":\"interest\",\"name\":",
+        Label::Cancel => "{\"kind\":\"cancel\",\"name\":",
+        Label::Transfer => "{\"kind\":\"transfer\",\"name\":",
+    };
+    append_named(out, front, name, "}")
+}
+
+/// A name, behind a text.
+fn append_listed(out: &mut Vec<u8>, comma: &str, name: OpName) -> Result<(), AllocError>
+    ensures { Adds result out.old.items out.new.items (comma.now ++ compact_text (name_json name)) }
+{
+    append_named(out, comma, name, "")
+}
+
+/// A list of names, as the one member of an object.
+pub fn append_names(out: &mut Vec<u8>, names: &[OpName]) -> Result<(), AllocError>
+    ensures { Adds result out.old.items out.new.items (compact_text (one_json (codes "names") (list_json name_json names.now))) }
+{
+    append(out, "{\"names\":[")?;
+    let mut comma = "";
+    for name in names {
+        append_listed(out, comma, *name)?;
+        comma = ",";
+    }
+    append(out, "]}")
+}
+
+/// The JSON object of a reply, on one line.
+#[tactic(auto, unfolding(json::specs::Print::escape_byte))]
+pub fn append_value(out: &mut Vec<u8>, reply: &Reply) -> Result<(), AllocError>
+    ensures { Adds result out.old.items out.new.items (compact_text (reply_json reply.now)) }
+{
+    match reply {
+        Reply::Made { name, kind } => append_made(out, *name, *kind),
+        Reply::Names(names) => append_names(out, names.as_slice()),
+        Reply::Held(name) => append_named(out, "{\"held\":", *name, "}"),
+        Reply::Already(name) => append_named(out, "{\"already\":", *name, "}"),
+        Reply::Taken(epoch) => append_number(out, "{\"taken\":", *epoch as u64, "}"),
+        Reply::Stale(epoch) => append_number(out, "{\"stale\":", *epoch as u64, "}"),
+        Reply::Applied(name) => append_named(out, "{\"applied\":", *name, "}"),
+        Reply::Passed(epoch) => append_number(out, "{\"passed\":", *epoch as u64, "}"),
+        Reply::Balance(cents) => append_number(out, "{\"balance\":", *cents, "}"),
+        Reply::Statement(shown) => append_statement(out, shown),
+        Reply::Refused(refusal) => append_refusal(out, *refusal),
+    }
+}
+
+fn append_line(out: &mut Vec<u8>, reply: &Reply) -> Result<(), AllocError>
+    ensures { Adds result out.old.items out.new.items (line reply.now) }
+{
+    append_value(out, reply)?;
+    append(out, "\n")
+}
+
+/// Adds the line of a reply, with its line feed. An `Err` means out of memory, and adds nothing.
+pub fn append_reply(out: &mut Vec<u8>, reply: &Reply) -> Result<(), AllocError>
+    ensures ok { OnOk result (out.new.items ≡ out.old.items ++ line reply.now) }
+    ensures err { OnErr result (out.new.items ≡ out.old.items) }
+{
+    let before = out.len();
+    match append_line(out, reply) {
+        Ok(()) => Ok(()),
+        Err(refused) => {
+            out.truncate(before);
+            Err(refused)
+        }
+    }
+}
+
+/// The line of a reply, with its line feed. An `Err` means out of memory.
+pub fn write_reply(alloc: Global, reply: &Reply) -> Result<String, AllocError>
+    ensures { IfOk result (λ s. string_bytes s ≡ line reply.now) }
+{
+    let mut bytes = Vec::new(alloc);
+    append_reply(&mut bytes, reply)?;
+    match String::from_utf8(bytes) {
+        Ok(text) => Ok(text),
+        Err(_) => unreachable!(),
+    }
+}
