@@ -19,7 +19,7 @@ reads_requests s = record {
   transfer = λ amount from to k. rw (below amount (2 ^ 64) k) refl;
 }
 
--- where each value of a list tells a request, the list tells these requests
+-- where each value of a list is a request, the list is read as these requests
 pub list_back : (s : Settings) (list : List Data) (rs : List Request) → map (request_alone s) list ≡ map Some rs →
     requests_in s (items_of list) ≡ Some rs
 list_back s [] [] h = refl
@@ -30,7 +30,7 @@ list_back s (d ∷ list) (r ∷ rs) h =
     let later : map (request_alone s) list ≡ map Some rs = cc in
     rw (first, list_back s list rs later) refl
 
--- each command is read from the object that tells it, in every configuration
+-- each command is read from its object, in every configuration
 pub reads_commands : (s : Settings) → ReadsCommands s
 reads_commands s = record {
   deposit = λ site amount name h k. rw (below site (2 ^ 8) h, below amount (2 ^ 64) k) refl;

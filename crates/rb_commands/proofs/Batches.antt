@@ -9,7 +9,7 @@ use Rattle.serde_json.specs.Written.{compact_text, items_text}
 use Rattle.rb_money.specs.Settings.{Settings}
 use Rattle.rb_scratch.specs.declared.request.Request.{Request}
 use Rattle.rb_commands.specs.Requests.{request_alone}
-use Rattle.rb_commands.specs.Spelled.{Asks, AsksEach}
+use Rattle.rb_commands.specs.Spelled.{SpellsRequest, SpellsRequests}
 use Rattle.rb_commands.specs.Values.{one_json}
 
 object_text : (key value more : List ℕ)
@@ -20,20 +20,21 @@ object_text key value more =
     ∙ sym (append_assoc key (codes ":" ++ (value ++ codes "}")) more))
 
 -- the object of a request
-abbrev object_of : (s : Settings) (r : Request) (text rest : List ℕ) → Asks s r text rest → Data
-object_of s r text rest a = one_json a.told.key a.told.value
+abbrev object_of : (s : Settings) (r : Request) (text rest : List ℕ) → SpellsRequest s r text rest → Data
+object_of s r text rest a = one_json a.spelled.key a.spelled.value
 
 -- a request alone in its object, and what follows
-alone_text : (s : Settings) (r : Request) (text rest more : List ℕ) (a : Asks s r text rest) → rest ≡ codes "}" ++ more
+alone_text : (s : Settings) (r : Request) (text rest more : List ℕ) (a : SpellsRequest s r text rest) → rest ≡ codes "}" ++ more
     → codes "{\"" ++ text ≡ compact_text (object_of s r text rest a) ++ more
 alone_text s r text rest more a e =
-    let told = a.told in
-    ap (λ l. codes "{" ++ l) (told.member ∙ ap (λ l. quoted told.key ++ (codes ":" ++ (compact_text told.value ++ l))) e)
-    ∙ object_text (quoted told.key) (compact_text told.value) more
+    let spelled = a.spelled in
+    ap (λ l. codes "{" ++ l) (spelled.member ∙ ap (λ l. quoted spelled.key ++ (codes ":" ++ (compact_text spelled.value ++ l))) e)
+    ∙ object_text (quoted spelled.key) (compact_text spelled.value) more
 
 -- the last request of a batch
-pub last_asked : (s : Settings) (r : Request) (text behind rest : List ℕ) → Asks s r text behind → behind ≡ codes "}" ++ (codes "]" ++ rest)
-    → AsksEach s (r ∷ []) (codes "{\"" ++ text) rest
+pub last_asked : (s : Settings) (r : Request) (text behind rest : List ℕ) → SpellsRequest s r text behind
+    → behind ≡ codes "}" ++ (codes "]" ++ rest)
+    → SpellsRequests s (r ∷ []) (codes "{\"" ++ text) rest
 last_asked s r text behind rest a e =
     let flat = a.flat in
     let this = object_of s r text behind a in
@@ -41,9 +42,9 @@ last_asked s r text behind rest a e =
       list = this ∷ [];
       each = λ j. a.alone j ∷ [];
       spelled = alone_text s r text behind (codes "]" ++ rest) a e ∙ sym (append_assoc (compact_text this) (codes "]") rest);
-      numbers = ((a.told.read.numbers, tt), tt);
+      numbers = ((a.spelled.read.numbers, tt), tt);
       shallow = omega arith;
-      same = rw a.told.read.same refl;
+      same = rw a.spelled.read.same refl;
     }
 
 -- the items of a list that isn't empty, behind another
@@ -53,8 +54,9 @@ later_items s [] r rs h = absurd (cc)
 later_items s (d ∷ list) r rs h = refl
 
 -- a request in front of others
-pub more_asked : (s : Settings) (r q : Request) (rs : List Request) (text behind more rest : List ℕ) → Asks s r text behind
-    → behind ≡ codes "}" ++ (codes "," ++ more) → AsksEach s (q ∷ rs) more rest → AsksEach s (r ∷ q ∷ rs) (codes "{\"" ++ text) rest
+pub more_asked : (s : Settings) (r q : Request) (rs : List Request) (text behind more rest : List ℕ) → SpellsRequest s r text behind
+    → behind ≡ codes "}" ++ (codes "," ++ more) → SpellsRequests s (q ∷ rs) more rest
+    → SpellsRequests s (r ∷ q ∷ rs) (codes "{\"" ++ text) rest
 more_asked s r q rs text behind more rest a e t =
     let flat = a.flat in
     let shallow = t.shallow in
@@ -67,18 +69,19 @@ more_asked s r q rs text behind more rest a e t =
       each = λ j. a.alone j ∷ t.each j;
       spelled = alone_text s r text behind (codes "," ++ more) a e ∙ ap (λ l. compact_text this ++ l) commas
           ∙ sym (append_assoc (compact_text this) later rest);
-      numbers = ((a.told.read.numbers, tt), t.numbers);
+      numbers = ((a.spelled.read.numbers, tt), t.numbers);
       shallow = omega arith;
-      same = rw (a.told.read.same, t.same) refl;
+      same = rw (a.spelled.read.same, t.same) refl;
     }
 
 -- the requests of a list, by an equal list
-pub as_listed : (s : Settings) (rs qs : List Request) (text rest : List ℕ) → rs ≡ qs → AsksEach s qs text rest → AsksEach s rs text rest
-as_listed s rs qs text rest e a = let P : List Request → Type 0 = λ l. AsksEach s l text rest in subst P (sym e) a
+pub as_listed : (s : Settings) (rs qs : List Request) (text rest : List ℕ) → rs ≡ qs → SpellsRequests s qs text rest
+    → SpellsRequests s rs text rest
+as_listed s rs qs text rest e a = let P : List Request → Type 0 = λ l. SpellsRequests s l text rest in subst P (sym e) a
 
 -- what follows a request is no longer than its text
-pub shorter : (s : Settings) (r : Request) (text rest : List ℕ) → Asks s r text rest → length rest ≤ length text
+pub shorter : (s : Settings) (r : Request) (text rest : List ℕ) → SpellsRequest s r text rest → length rest ≤ length text
 shorter s r text rest a =
-    let told = a.told in
-    let value = compact_text told.value in
-    omega (arith, ap length told.member, length-append (quoted told.key) (codes ":" ++ (value ++ rest)), length-append value rest)
+    let spelled = a.spelled in
+    let value = compact_text spelled.value in
+    omega (arith, ap length spelled.member, length-append (quoted spelled.key) (codes ":" ++ (value ++ rest)), length-append value rest)

@@ -1,4 +1,4 @@
--- A command in the usual spelling is the compact text of the object that tells it, and so is read as the command.
+-- A command in the usual spelling is the compact text of its object, and so is read as the command.
 use Rattle.std.proofs.Common.{◌≡◌, ◌<◌, ◌≤◌, ◌^◌, ℕ, List, ◌++◌, Some, codes, decimal, refl, ap, ◌∙◌, arith}
 use Rattle.std.specs.Prelude.{option_and_then}
 use Rattle.json.specs.Print.{escape_byte, quoted}
@@ -12,10 +12,10 @@ use Rattle.serde_json.proofs.Numbers.{number_of-decimal}
 use Rattle.rb_money.specs.Settings.{Settings}
 use Rattle.rb_site.specs.declared.world_event.WorldEvent.{WorldEvent}
 use Rattle.rb_commands.specs.Commands.{command_at, command_of, sited_json}
-use Rattle.rb_commands.specs.Spelled.{Tells, with_site}
+use Rattle.rb_commands.specs.Spelled.{Spells, with_site}
 use Rattle.rb_commands.specs.Values.{number_json}
 use Rattle.rb_commands.specs.declared.site_command.SiteCommand.{SiteCommand}
-use Rattle.rb_commands.proofs.Sited.{told_first, told_last}
+use Rattle.rb_commands.proofs.Sited.{site_after, site_before}
 use Rattle.rb_commands.proofs.Public.Reading.{compact_read}
 
 command_read : (s : Settings) (turned d : Data) (c : WorldEvent) (line : List ℕ) → line ≡ compact_text turned → HasNumbers (outline turned)
@@ -27,7 +27,7 @@ short : (n : ℕ) → n < 2 ^ 8 → n < 2 ^ 64
 short n h = omega arith
 
 -- the site last
-pub last_line : (s : Settings) (command : SiteCommand) (site : ℕ) (text rest : List ℕ) → Tells s command text rest → site < 2 ^ 8
+pub last_line : (s : Settings) (command : SiteCommand) (site : ℕ) (text rest : List ℕ) → Spells s command text rest → site < 2 ^ 8
     → rest ≡ codes ",\"site\":" ++ (decimal site ++ codes "}") → command_at s (codes "{\"" ++ text) ≡ Some (with_site site command)
 unfolding escape_byte
 last_line s command site text rest t h e =
@@ -42,10 +42,10 @@ last_line s command site text rest t h e =
       is.numbers,
       (IsNumber-decimal site k, tt),
     ) (omega arith)
-    (rw (is.same, number_of-decimal site k) refl) (told_last s command t.key t.value site h t.is)
+    (rw (is.same, number_of-decimal site k) refl) (site_before s command t.key t.value site h t.is)
 
 -- the site first
-pub first_line : (s : Settings) (command : SiteCommand) (site : ℕ) (text rest : List ℕ) → Tells s command text rest → site < 2 ^ 8
+pub first_line : (s : Settings) (command : SiteCommand) (site : ℕ) (text rest : List ℕ) → Spells s command text rest → site < 2 ^ 8
     → rest ≡ codes "}" → command_at s (codes "{\"site\":" ++ (decimal site ++ (codes ",\"" ++ text))) ≡ Some (with_site site command)
 unfolding escape_byte
 first_line s command site text rest t h e =
@@ -60,4 +60,4 @@ first_line s command site text rest t h e =
       IsNumber-decimal site k,
       (is.numbers, tt),
     ) (omega arith)
-    (rw (number_of-decimal site k, is.same) refl) (told_first s command t.key t.value site h t.is)
+    (rw (number_of-decimal site k, is.same) refl) (site_after s command t.key t.value site h t.is)

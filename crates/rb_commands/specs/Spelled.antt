@@ -40,27 +40,27 @@ pub record IsRead (value : Data) : Type 0 where
 abbrev pub IsMember : List ℕ → Data → List ℕ → List ℕ → Type 0
 IsMember key value text rest = codes "\"" ++ text ≡ quoted key ++ (codes ":" ++ (compact_text value ++ rest))
 
--- a member that tells this command, whatever its object's site is
-pub record IsToldBy (s : Settings) (command : SiteCommand) (key : List ℕ) (value : Data) : Type 0 where
+-- the member of this command, whatever its object's site is
+pub record IsCommandOf (s : Settings) (command : SiteCommand) (key : List ℕ) (value : Data) : Type 0 where
   pub other : key ≡ codes "site" → ⊥
   pub alone : (site : ℕ) → command_for s (one_json key value) site ≡ Some (with_site site command)
 
--- the text begins with a member that tells this command, and then the rest follows
-pub record Tells (s : Settings) (command : SiteCommand) (text rest : List ℕ) : Type 0 where
+-- the text begins with the member of this command, and then the rest follows
+pub record Spells (s : Settings) (command : SiteCommand) (text rest : List ℕ) : Type 0 where
   pub key : List ℕ
   pub value : Data
   pub member : IsMember key value text rest
   pub read : IsRead value
-  pub is : IsToldBy s command key value
+  pub is : IsCommandOf s command key value
 
 -- the same of a request, which may stand in a batch too: its value has no list in a list
-pub record Asks (s : Settings) (r : Request) (text rest : List ℕ) : Type 0 where
-  pub told : Tells s (Submit r) text rest
-  pub flat : tree.depth (outline told.value) ≤ 1
-  pub alone : request_alone s (one_json told.key told.value) ≡ Some r
+pub record SpellsRequest (s : Settings) (r : Request) (text rest : List ℕ) : Type 0 where
+  pub spelled : Spells s (Submit r) text rest
+  pub flat : tree.depth (outline spelled.value) ≤ 1
+  pub alone : request_alone s (one_json spelled.key spelled.value) ≡ Some r
 
--- the text begins with the objects of a list that asks these, and its closing bracket, and then the rest follows
-pub record AsksEach (s : Settings) (rs : List Request) (text rest : List ℕ) : Type 0 where
+-- the text begins with the objects of these requests in a list, and its closing bracket, and then the rest follows
+pub record SpellsRequests (s : Settings) (rs : List Request) (text rest : List ℕ) : Type 0 where
   pub list : List Data
   pub each : map (request_alone s) list ≡ map Some rs
   pub spelled : text ≡ items_text false (items_of list) ++ rest

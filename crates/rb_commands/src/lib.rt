@@ -22,7 +22,7 @@ pub use read::event::event;
 pub use read::request::account;
 pub use write::reply::{append_reply, append_value, write_reply};
 
-/// Each command is read from the JSON object that tells it.
+/// Each command is read from its JSON object.
 pub fn commands_are_read()
     ensures { CommandsAreRead }
 {}

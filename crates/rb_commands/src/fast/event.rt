@@ -1,6 +1,6 @@
 //! What a command has beside its site, from its key on. `None` says nothing of a text.
 ghost use Rattle.std.specs.Prelude.{IfSome};
-ghost use Rattle.rb_commands.specs.Spelled.{Tells};
+ghost use Rattle.rb_commands.specs.Spelled.{Spells};
 
 use crate::fast::request::{parse_request, parse_requests};
 use crate::fast::scan::{
@@ -13,7 +13,7 @@ use rb_money::Config;
 use std::alloc::Global;
 
 fn parse_batch<'a>(alloc: Global, config: &Config, text: &'a str) -> Option<(SiteCommand, &'a str)>
-    ensures { IfSome result (λ p. Tells config.now p.0 text.now p.1.now) }
+    ensures { IfSome result (λ p. Spells config.now p.0 text.now p.1.now) }
 {
     let list = parse_prefix(text, "batch\":[")?;
     let (requests, rest) = parse_requests(alloc, config, list)?;
@@ -22,7 +22,7 @@ fn parse_batch<'a>(alloc: Global, config: &Config, text: &'a str) -> Option<(Sit
 
 #[inline(always)]
 fn parse_apply<'a>(config: &Config, text: &'a str) -> Option<(SiteCommand, &'a str)>
-    ensures { IfSome result (λ p. Tells config.now p.0 text.now p.1.now) }
+    ensures { IfSome result (λ p. Spells config.now p.0 text.now p.1.now) }
 {
     let (name, rest) = parse_name(parse_prefix(text, "apply\":\"")?)?;
     Some((SiteCommand::Apply(name), rest))
@@ -30,7 +30,7 @@ fn parse_apply<'a>(config: &Config, text: &'a str) -> Option<(SiteCommand, &'a s
 
 #[inline(always)]
 fn parse_pass<'a>(config: &Config, text: &'a str) -> Option<(SiteCommand, &'a str)>
-    ensures { IfSome result (λ p. Tells config.now p.0 text.now p.1.now) }
+    ensures { IfSome result (λ p. Spells config.now p.0 text.now p.1.now) }
 {
     let (to, rest) = parse_byte(parse_prefix(text, "pass\":")?)?;
     Some((SiteCommand::Pass(to), rest))
@@ -38,7 +38,7 @@ fn parse_pass<'a>(config: &Config, text: &'a str) -> Option<(SiteCommand, &'a st
 
 #[inline(always)]
 fn parse_balance<'a>(config: &Config, text: &'a str) -> Option<(SiteCommand, &'a str)>
-    ensures { IfSome result (λ p. Tells config.now p.0 text.now p.1.now) }
+    ensures { IfSome result (λ p. Spells config.now p.0 text.now p.1.now) }
 {
     let (name, rest) = parse_string(parse_prefix(text, "balance\":\"")?)?;
     let account = place(config, name);
@@ -47,7 +47,7 @@ fn parse_balance<'a>(config: &Config, text: &'a str) -> Option<(SiteCommand, &'a
 
 #[inline(always)]
 fn parse_as_of<'a>(config: &Config, text: &'a str) -> Option<(SiteCommand, &'a str)>
-    ensures { IfSome result (λ p. Tells config.now p.0 text.now p.1.now) }
+    ensures { IfSome result (λ p. Spells config.now p.0 text.now p.1.now) }
 {
     let (name, n, rest) = parse_pair(parse_prefix(text, "asof\":[\"")?)?;
     let account = place(config, name);
@@ -57,7 +57,7 @@ fn parse_as_of<'a>(config: &Config, text: &'a str) -> Option<(SiteCommand, &'a s
 
 #[inline(always)]
 fn parse_statement<'a>(config: &Config, text: &'a str) -> Option<(SiteCommand, &'a str)>
-    ensures { IfSome result (λ p. Tells config.now p.0 text.now p.1.now) }
+    ensures { IfSome result (λ p. Spells config.now p.0 text.now p.1.now) }
 {
     let (name, rest) = parse_string(parse_prefix(text, "statement\":\"")?)?;
     let account = place(config, name);
@@ -66,7 +66,7 @@ fn parse_statement<'a>(config: &Config, text: &'a str) -> Option<(SiteCommand, &
 
 #[inline(always)]
 fn parse_delivery<'a>(config: &Config, text: &'a str) -> Option<(SiteCommand, &'a str)>
-    ensures { IfSome result (λ p. Tells config.now p.0 text.now p.1.now) }
+    ensures { IfSome result (λ p. Spells config.now p.0 text.now p.1.now) }
 {
     let (message, rest) = parse_word(parse_prefix(text, "deliver\":")?)?;
     Some((SiteCommand::Deliver(message), rest))
@@ -74,7 +74,7 @@ fn parse_delivery<'a>(config: &Config, text: &'a str) -> Option<(SiteCommand, &'
 
 /// Any but a request.
 fn parse_other<'a>(alloc: Global, config: &Config, text: &'a str) -> Option<(SiteCommand, &'a str)>
-    ensures { IfSome result (λ p. Tells config.now p.0 text.now p.1.now) }
+    ensures { IfSome result (λ p. Spells config.now p.0 text.now p.1.now) }
 {
     match text.as_bytes().first() {
         Some(b'a') => match parse_apply(config, text) {
@@ -98,7 +98,7 @@ pub fn parse_event<'a>(
     config: &Config,
     text: &'a str,
 ) -> Option<(SiteCommand, &'a str)>
-    ensures { IfSome result (λ p. Tells config.now p.0 text.now p.1.now) }
+    ensures { IfSome result (λ p. Spells config.now p.0 text.now p.1.now) }
 {
     match parse_request(config, text) {
         Some((request, rest)) => Some((SiteCommand::Submit(request), rest)),

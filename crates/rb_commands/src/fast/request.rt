@@ -1,6 +1,6 @@
 //! Requests, from their key on. `None` says nothing of a text.
 ghost use Rattle.std.specs.Prelude.{IfSome};
-ghost use Rattle.rb_commands.specs.Spelled.{Asks, AsksEach};
+ghost use Rattle.rb_commands.specs.Spelled.{SpellsRequest, SpellsRequests};
 
 use crate::fast::scan::{narrow, parse_name, parse_pair, parse_prefix, parse_three};
 use crate::read::request::place;
@@ -10,7 +10,7 @@ use std::alloc::Global;
 
 #[inline(always)]
 fn parse_deposit<'a>(config: &Config, text: &'a str) -> Option<(Request, &'a str)>
-    ensures { IfSome result (λ p. Asks config.now p.0 text.now p.1.now) }
+    ensures { IfSome result (λ p. SpellsRequest config.now p.0 text.now p.1.now) }
 {
     let (name, amount, rest) = parse_pair(parse_prefix(text, "deposit\":[\"")?)?;
     let account = place(config, name);
@@ -19,7 +19,7 @@ fn parse_deposit<'a>(config: &Config, text: &'a str) -> Option<(Request, &'a str
 
 #[inline(always)]
 fn parse_withdrawal<'a>(config: &Config, text: &'a str) -> Option<(Request, &'a str)>
-    ensures { IfSome result (λ p. Asks config.now p.0 text.now p.1.now) }
+    ensures { IfSome result (λ p. SpellsRequest config.now p.0 text.now p.1.now) }
 {
     let (name, amount, rest) = parse_pair(parse_prefix(text, "withdraw\":[\"")?)?;
     let account = place(config, name);
@@ -28,7 +28,7 @@ fn parse_withdrawal<'a>(config: &Config, text: &'a str) -> Option<(Request, &'a 
 
 #[inline(always)]
 fn parse_interest<'a>(config: &Config, text: &'a str) -> Option<(Request, &'a str)>
-    ensures { IfSome result (λ p. Asks config.now p.0 text.now p.1.now) }
+    ensures { IfSome result (λ p. SpellsRequest config.now p.0 text.now p.1.now) }
 {
     let (name, n, rest) = parse_pair(parse_prefix(text, "interest\":[\"")?)?;
     let account = place(config, name);
@@ -38,7 +38,7 @@ fn parse_interest<'a>(config: &Config, text: &'a str) -> Option<(Request, &'a st
 
 #[inline(always)]
 fn parse_cancellation<'a>(config: &Config, text: &'a str) -> Option<(Request, &'a str)>
-    ensures { IfSome result (λ p. Asks config.now p.0 text.now p.1.now) }
+    ensures { IfSome result (λ p. SpellsRequest config.now p.0 text.now p.1.now) }
 {
     let (target, rest) = parse_name(parse_prefix(text, "cancel\":\"")?)?;
     Some((Request::Cancel { target }, rest))
@@ -46,7 +46,7 @@ fn parse_cancellation<'a>(config: &Config, text: &'a str) -> Option<(Request, &'
 
 #[inline(always)]
 fn parse_transfer<'a>(config: &Config, text: &'a str) -> Option<(Request, &'a str)>
-    ensures { IfSome result (λ p. Asks config.now p.0 text.now p.1.now) }
+    ensures { IfSome result (λ p. SpellsRequest config.now p.0 text.now p.1.now) }
 {
     let (from, to, amount, rest) = parse_three(parse_prefix(text, "transfer\":[\"")?)?;
     let from = place(config, from);
@@ -56,7 +56,7 @@ fn parse_transfer<'a>(config: &Config, text: &'a str) -> Option<(Request, &'a st
 
 /// A request.
 pub fn parse_request<'a>(config: &Config, text: &'a str) -> Option<(Request, &'a str)>
-    ensures { IfSome result (λ p. Asks config.now p.0 text.now p.1.now) }
+    ensures { IfSome result (λ p. SpellsRequest config.now p.0 text.now p.1.now) }
 {
     match text.as_bytes().first() {
         Some(b'd') => parse_deposit(config, text),
@@ -74,7 +74,7 @@ pub fn parse_requests<'a>(
     config: &Config,
     text: &'a str,
 ) -> Option<(Vec<Request>, &'a str)>
-    ensures { IfSome result (λ p. AsksEach config.now p.0.items text.now p.1.now) }
+    ensures { IfSome result (λ p. SpellsRequests config.now p.0.items text.now p.1.now) }
 {
     let mut requests = Vec::new(alloc);
     let mut left = text;

@@ -1,5 +1,7 @@
-//! What stands at the front of a text as this program spells it, and what follows it: no space, no escape. `None` says nothing of a text.
-ghost use Rattle.std.specs.Prelude.{◌≡◌, ◌<◌, ◌≤◌, ◌^◌, ◌++◌, IfSome, IsTrue, codes, decimal, length, slice_index, take};
+//! What a text begins with as this program spells it, and what follows it: no space, no escape. `None` says nothing
+//! of a text.
+ghost use Rattle.std.specs.Prelude.{◌≡◌, ◌<◌, ◌≤◌, ◌^◌, ◌++◌, IfSome, IsTrue, codes, decimal, length, slice_index};
+ghost use Rattle.std.specs.Prelude.{take};
 ghost use Rattle.json.specs.Print.{escape};
 ghost use Rattle.rb_shadow.specs.NameText.{IsName, name_text};
 
@@ -38,7 +40,7 @@ pub fn parse_prefix<'a>(text: &'a str, front: &str) -> Option<&'a str>
 /// The most that is read of a number, so that one more digit fits.
 const MOST: u64 = 1_000_000_000_000_000_000;
 
-/// The number at the front, and how many digits it has. A zero is a number by itself.
+/// The number that the text begins with, and how many digits it has. A zero is a number by itself.
 #[inline(always)]
 fn parse_digits(text: &[u8]) -> Option<(u64, usize)>
     ensures { IfSome result (λ p. (p.0 < 2 ^ 64) × (p.1 ≤ length text.now) × (take p.1 text.now ≡ decimal p.0)) }
@@ -59,7 +61,7 @@ fn parse_digits(text: &[u8]) -> Option<(u64, usize)>
     Some((n, len))
 }
 
-/// The number at the front, and what follows it.
+/// The number that the text begins with, and what follows it.
 #[inline(always)]
 pub fn parse_number(text: &str) -> Option<(u64, &str)>
     ensures { IfSome result (λ p. (p.0 < 2 ^ 64) × (text.now ≡ decimal p.0 ++ p.1.now)) }
@@ -80,7 +82,7 @@ pub fn narrow(n: u64) -> Option<u32>
     }
 }
 
-/// The number below 2^32 at the front, and what follows it.
+/// The number below 2^32 that the text begins with, and what follows it.
 #[inline(always)]
 pub fn parse_word(text: &str) -> Option<(u32, &str)>
     ensures { IfSome result (λ p. (p.0 < 2 ^ 32) × (text.now ≡ decimal p.0 ++ p.1.now)) }
@@ -89,7 +91,7 @@ pub fn parse_word(text: &str) -> Option<(u32, &str)>
     Some((narrow(n)?, rest))
 }
 
-/// The number below 2^8 at the front, and what follows it.
+/// The number below 2^8 that the text begins with, and what follows it.
 #[inline(always)]
 pub fn parse_byte(text: &str) -> Option<(u8, &str)>
     ensures { IfSome result (λ p. (p.0 < 2 ^ 8) × (text.now ≡ decimal p.0 ++ p.1.now)) }
@@ -112,10 +114,11 @@ pub fn parse_name(text: &str) -> Option<(OpName, &str)>
     Some((OpName::Blue { site, n }, parse_prefix(rest, "\"")?))
 }
 
-/// How many bytes stand before a quote, where none is part of an escape.
+/// How many bytes come before a quote, where none is part of an escape.
 #[inline(always)]
 fn find_quote(text: &[u8]) -> Option<usize>
-    ensures { IfSome result (λ len. (len < length text.now) × (slice_index text.now len ≡ 34) × (escape (take len text.now) ≡ take len text.now)) }
+    ensures { IfSome result (λ len. (len < length text.now) × (slice_index text.now len ≡ 34)
+        × (escape (take len text.now) ≡ take len text.now)) }
 {
     let mut len = 0;
     while len < text.len() {
@@ -143,7 +146,8 @@ pub fn parse_string(text: &str) -> Option<(&str, &str)>
 /// An account's name and a number, in a list of two.
 #[inline(always)]
 pub fn parse_pair(text: &str) -> Option<(&str, u64, &str)>
-    ensures { IfSome result (λ p. (p.1 < 2 ^ 64) × (escape p.0.now ≡ p.0.now) × (text.now ≡ p.0.now ++ (codes "\"," ++ (decimal p.1 ++ (codes "]" ++ p.2.now))))) }
+    ensures { IfSome result (λ p. (p.1 < 2 ^ 64) × (escape p.0.now ≡ p.0.now)
+        × (text.now ≡ p.0.now ++ (codes "\"," ++ (decimal p.1 ++ (codes "]" ++ p.2.now))))) }
 {
     let (name, rest) = parse_string(text)?;
     let (n, rest) = parse_number(parse_prefix(rest, ",")?)?;
@@ -153,7 +157,9 @@ pub fn parse_pair(text: &str) -> Option<(&str, u64, &str)>
 /// Two accounts' names and a number, in a list of three.
 #[inline(always)]
 pub fn parse_three(text: &str) -> Option<(&str, &str, u64, &str)>
-    ensures { IfSome result (λ p. (p.2 < 2 ^ 64) × (escape p.0.now ≡ p.0.now) × (escape p.1.now ≡ p.1.now) × (text.now ≡ p.0.now ++ (codes "\",\"" ++ (p.1.now ++ (codes "\"," ++ (decimal p.2 ++ (codes "]" ++ p.3.now))))))) }
+    ensures { IfSome result (λ p. (p.2 < 2 ^ 64) × (escape p.0.now ≡ p.0.now) × (escape p.1.now ≡ p.1.now)
+        × (text.now ≡ p.0.now ++ (codes "\",\"" ++ (p.1.now ++
+        (codes "\"," ++ (decimal p.2 ++ (codes "]" ++ p.3.now))))))) }
 {
     let (first, rest) = parse_string(text)?;
     let (second, n, rest) = parse_pair(parse_prefix(rest, ",\"")?)?;

@@ -2,7 +2,9 @@
 ghost use Rattle.std.specs.Prelude.{◌≡◌, ◌≤◌, ◌^◌, codes, map, option_and_then, option_map, OnOk, true, ◌++◌, ◌∷◌, []};
 ghost use Rattle.serde_json.specs.Find.{get};
 ghost use Rattle.serde_json.specs.View.{view};
-ghost use Rattle.rb_commands.specs.Configurations.{account_at, accounts_at, limit_read, limits_of, has, has_known_keys, is_version, version_at, config_from, config_in, config_of, config_at};
+ghost use Rattle.rb_commands.specs.Configurations.{account_at, accounts_at, limit_read, limits_of, has, has_known_keys};
+ghost use Rattle.rb_commands.specs.Configurations.{is_version, version_at, config_from, config_in, config_of};
+ghost use Rattle.rb_commands.specs.Configurations.{config_at};
 ghost use Rattle.rb_money.specs.Faults.{account_of};
 ghost use Rattle.rb_money.specs.Settings.{version_of};
 ghost use Rattle.rb_commands.specs.Lines.{Gives, GivesAs};
@@ -31,7 +33,8 @@ fn add(
     name: &str,
     start: u64,
 ) -> Result<(), AllocError>
-    ensures { OnOk result (map account_of accounts.new.items ≡ map account_of accounts.old.items ++ (name.now, start) ∷ []) }
+    ensures { OnOk result (map account_of accounts.new.items
+        ≡ map account_of accounts.old.items ++ (name.now, start) ∷ []) }
 {
     let name = String::from_str(alloc, name)?;
     accounts.push((name, start))?;

@@ -3,7 +3,8 @@ ghost use Rattle.std.specs.Prelude.{◌≡◌, ◌^◌, option_map};
 ghost use Rattle.serde_json.specs.View.{view};
 ghost use Rattle.rb_scratch.specs.declared.request.Request.TheVariants.{Cancel, Deposit, Interest, Withdraw};
 ghost use Rattle.rb_commands.specs.Lines.{GivesAs};
-ghost use Rattle.rb_commands.specs.Requests.{account_place, asked_of, place_at, request_of, request_alone, requests_at, transfer_at};
+ghost use Rattle.rb_commands.specs.Requests.{account_place, asked_of, place_at, request_of, request_alone, requests_at};
+ghost use Rattle.rb_commands.specs.Requests.{transfer_at};
 ghost use Rattle.rb_commands.specs.Values.{name_at};
 
 use crate::fault::LineFault;

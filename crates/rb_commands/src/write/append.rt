@@ -1,4 +1,5 @@
-//! Pieces of a line, added at the end of bytes. After an `Err`, which means out of memory, a front of a piece may stand there.
+//! Pieces of a line, added at the end of bytes. After an `Err`, which means out of memory, a prefix of a piece may
+//! have been added.
 ghost use Rattle.std.specs.Prelude.{◌++◌, codes, decimal};
 ghost use Rattle.std.specs.Fmt.{signed_decimal};
 ghost use Rattle.json.specs.Print.{quoted};
@@ -50,7 +51,8 @@ pub fn append_integer(out: &mut Vec<u8>, front: &str, n: i64, back: &str) -> Res
 /// A blue operation's name in quotes.
 #[inline(always)]
 fn append_blue(out: &mut Vec<u8>, site: u8, n: u32) -> Result<(), AllocError>
-    ensures { Adds result out.old.items out.new.items (codes "\"B" ++ (decimal site ++ (codes "." ++ (decimal n ++ codes "\"")))) }
+    ensures { Adds result out.old.items out.new.items
+        (codes "\"B" ++ (decimal site ++ (codes "." ++ (decimal n ++ codes "\"")))) }
 {
     append_number(out, "\"B", site as u64, ".")?;
     append_number(out, "", n as u64, "\"")

@@ -25,7 +25,8 @@ fn append_behind(out: &mut Vec<u8>, seen: u32, needed: u32) -> Result<(), AllocE
 /// What stopped a batch, with its key and the next.
 #[tactic(auto, unfolding(json::specs::Print::escape_byte))]
 fn append_cause(out: &mut Vec<u8>, cause: Cause) -> Result<(), AllocError>
-    ensures { Adds result out.old.items out.new.items (codes "{\"cause\":" ++ (compact_text (cause_json cause) ++ codes ",\"index\":")) }
+    ensures { Adds result out.old.items out.new.items
+        (codes "{\"cause\":" ++ (compact_text (cause_json cause) ++ codes ",\"index\":")) }
 {
     match cause {
         Cause::Declined => append(out, "{\"cause\":\"declined\",\"index\":"),

@@ -37,7 +37,8 @@ fn append_listed(out: &mut Vec<u8>, comma: &str, name: OpName) -> Result<(), All
 
 /// A list of names, as the one member of an object.
 pub fn append_names(out: &mut Vec<u8>, names: &[OpName]) -> Result<(), AllocError>
-    ensures { Adds result out.old.items out.new.items (compact_text (one_json (codes "names") (list_json name_json names.now))) }
+    ensures { Adds result out.old.items out.new.items
+        (compact_text (one_json (codes "names") (list_json name_json names.now))) }
 {
     append(out, "{\"names\":[")?;
     let mut comma = "";

@@ -22,9 +22,11 @@ fn cancelled_word(cancelled: bool) -> &'static str
     if cancelled { ",true," } else { ",false," }
 }
 
-/// The front of a row, behind a text: its position and name.
+/// The first part of a row, behind a text: its position and name.
 fn append_row_front(out: &mut Vec<u8>, comma: &str, row: Row) -> Result<(), AllocError>
-    ensures { Adds result out.old.items out.new.items (comma.now ++ (codes "[" ++ (decimal row.position ++ (codes "," ++ (quoted (name_text row.name) ++ codes ","))))) }
+    ensures { Adds result out.old.items out.new.items
+        (comma.now ++ (codes "[" ++ (decimal row.position
+        ++ (codes "," ++ (quoted (name_text row.name) ++ codes ","))))) }
 {
     append(out, comma)?;
     append_number(out, "[", row.position as u64, ",")?;
@@ -33,7 +35,10 @@ fn append_row_front(out: &mut Vec<u8>, comma: &str, row: Row) -> Result<(), Allo
 
 /// The rest of a row: its kind, what it moved, whether it is cancelled, and the balance after it.
 fn append_row_back(out: &mut Vec<u8>, row: Row) -> Result<(), AllocError>
-    ensures { Adds result out.old.items out.new.items (codes "\"" ++ (label_text row.kind ++ (codes "\"," ++ (signed_decimal row.moved ++ (codes "," ++ (token_text (boolean row.cancelled) ++ (codes "," ++ (decimal row.balance ++ codes "]")))))))) }
+    ensures { Adds result out.old.items out.new.items
+        (codes "\"" ++ (label_text row.kind ++ (codes "\"," ++ (signed_decimal row.moved
+        ++ (codes "," ++ (token_text (boolean row.cancelled)
+        ++ (codes "," ++ (decimal row.balance ++ codes "]")))))))) }
 {
     append_three(out, "\"", label_word(row.kind), "\",")?;
     append_integer(out, "", row.moved, cancelled_word(row.cancelled))?;

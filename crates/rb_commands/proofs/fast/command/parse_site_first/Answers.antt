@@ -8,6 +8,7 @@ returns-clause-value c =
     let s = c.args.config.now in
     let site = c.in_ok-site.site in
     let text = c.in_ok-parse_prefix.field-0.now in
-    let told = c.in_ok-command in
+    let spelled = c.in_ok-command in
+    let line = first_line s spelled.command site text spelled.end.now spelled.ensures c.in_ok-site.ensures.0 c.in_ok-parse_end.ensures in
     ap (λ l. command_at s (codes "{\"site\":" ++ l)) (c.in_ok-site.ensures.1 ∙ ap (λ l. decimal site ++ l) c.in_ok-parse_prefix.ensures)
-    ∙ rw c.at.ensures.value (first_line s told.command site text told.end.now told.ensures c.in_ok-site.ensures.0 c.in_ok-parse_end.ensures)
+    ∙ rw c.at.ensures.value line

@@ -4,7 +4,7 @@ use Rattle.rb_commands.proofs.fast.command.parse_site_last.Goals as goal
 
 pub returns-clause-value : goal.returns-clause-value
 returns-clause-value c =
-    let told = c.in_ok-command in
+    let spelled = c.in_ok-command in
     rw c.at.ensures.value
-    (last_line c.args.config.now told.command c.in_ok-site.site c.args.text.now told.rest.now told.ensures (omega arith)
+    (last_line c.args.config.now spelled.command c.in_ok-site.site c.args.text.now spelled.rest.now spelled.ensures (omega arith)
     c.in_ok-site.ensures)

@@ -1,4 +1,4 @@
-use Rattle.rb_commands.proofs.Members.{asof_told}
+use Rattle.rb_commands.proofs.Members.{asof_spelled}
 use Rattle.rb_commands.proofs.fast.event.parse_as_of.Goals as goal
 
 pub returns : goal.returns
@@ -7,4 +7,4 @@ returns c =
     let read = c.in_ok-name in
     let position = c.in_ok-position in
     rw (c.in_ok-parse_prefix.ensures, read.ensures.2, c.place-account.ensures, position.ensures.1)
-    (asof_told s read.name.now position.position read.rest.now position.ensures.0 read.ensures.1)
+    (asof_spelled s read.name.now position.position read.rest.now position.ensures.0 read.ensures.1)

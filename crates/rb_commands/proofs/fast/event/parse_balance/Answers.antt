@@ -1,8 +1,9 @@
-use Rattle.rb_commands.proofs.Members.{balance_told}
+use Rattle.rb_commands.proofs.Members.{balance_spelled}
 use Rattle.rb_commands.proofs.fast.event.parse_balance.Goals as goal
 
 pub returns : goal.returns
 returns c =
     let s = c.args.config.now in
     let read = c.in_ok-name in
-    rw (c.in_ok-parse_prefix.ensures, read.ensures.1, c.place-account.ensures) (balance_told s read.name.now read.rest.now read.ensures.0)
+    rw (c.in_ok-parse_prefix.ensures, read.ensures.1, c.place-account.ensures)
+    (balance_spelled s read.name.now read.rest.now read.ensures.0)

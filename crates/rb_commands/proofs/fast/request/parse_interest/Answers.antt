@@ -1,4 +1,4 @@
-use Rattle.rb_commands.proofs.Members.{interest_asks}
+use Rattle.rb_commands.proofs.Members.{interest_spelled}
 use Rattle.rb_commands.proofs.fast.request.parse_interest.Goals as goal
 
 pub returns : goal.returns
@@ -7,4 +7,4 @@ returns c =
     let asked = c.in_ok-name in
     let rate = c.in_ok-rate in
     rw (c.in_ok-parse_prefix.ensures, asked.ensures.2, c.place-account.ensures, rate.ensures.1)
-    (interest_asks s asked.name.now rate.rate asked.rest.now rate.ensures.0 asked.ensures.1)
+    (interest_spelled s asked.name.now rate.rate asked.rest.now rate.ensures.0 asked.ensures.1)

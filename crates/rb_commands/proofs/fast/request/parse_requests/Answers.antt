@@ -1,5 +1,5 @@
 use Rattle.std.proofs.Common.{◌≡◌, [], ◌∷◌, ◌++◌, length, codes, ap, ◌∙◌, append_assoc, arith, rules}
-use Rattle.rb_commands.specs.Spelled.{AsksEach}
+use Rattle.rb_commands.specs.Spelled.{SpellsRequests}
 use Rattle.rb_commands.proofs.Batches.{last_asked, more_asked, as_listed, shorter}
 use Rattle.rb_commands.proofs.fast.request.parse_requests.Goals as goal
 
@@ -12,7 +12,7 @@ items-preserved c = (
       let asked = c.in_ok-request.request in
       let pushed : c.push.new.self.items ≡ done ++ (asked ∷ []) = search rules in
       let closed = c.in_ok-rest.ensures ∙ ap (λ l. codes "}" ++ l) c.in-Some.ensures in
-      let more : AsksEach s (asked ∷ r ∷ rs) c.items.left.now rest = rw c.in_ok-parse_prefix.ensures
+      let more : SpellsRequests s (asked ∷ r ∷ rs) c.items.left.now rest = rw c.in_ok-parse_prefix.ensures
       (more_asked s asked r rs c.in_ok-parse_prefix.field-0.now c.in_ok-request.rest.now c.in-Some.more.now rest c.in_ok-request.ensures
       closed a) in
       as_listed s (c.push.new.self.items ++ (r ∷ rs)) (done ++ (asked ∷ r ∷ rs)) c.args.text.now rest (ap (λ l. l ++ (r ∷ rs)) pushed
@@ -33,6 +33,6 @@ returns-in-None c =
     let rest = c.in_ok-parse_prefix-in-None.field-0.now in
     let pushed : c.push.new.self.items ≡ done ++ (asked ∷ []) = search rules in
     let closed = c.in_ok-rest.ensures ∙ ap (λ l. codes "}" ++ l) c.in_ok-parse_prefix-in-None.ensures in
-    let last : AsksEach s (asked ∷ []) c.items.left.now rest = rw c.in_ok-parse_prefix.ensures
+    let last : SpellsRequests s (asked ∷ []) c.items.left.now rest = rw c.in_ok-parse_prefix.ensures
     (last_asked s asked c.in_ok-parse_prefix.field-0.now c.in_ok-request.rest.now rest c.in_ok-request.ensures closed) in
     as_listed s c.push.new.self.items (done ++ (asked ∷ [])) c.args.text.now rest pushed (c.items.invariant.1 asked [] rest last)

@@ -8,4 +8,5 @@ pub returns : goal.returns
 returns c =
     let mid = c.append_value.new.out.items in
     let value = compact_text (reply_json c.args.reply.now) in
-    then c.append.result c.args.out.now.items mid c.append.new.out.items value (codes "\n") _ c.in_ok-append_value.ensures c.append.ensures refl
+    then c.append.result c.args.out.now.items mid c.append.new.out.items value (codes "\n") _ c.in_ok-append_value.ensures c.append.ensures
+    refl

@@ -12,4 +12,5 @@ returns c =
     let position = codes "[" ++ (decimal c.args.row.position ++ codes ",") in
     let name = quoted (name_text c.args.row.name) ++ codes "," in
     let two = both old c.append.new.out.items mid comma position c.in_ok-append.ensures c.in_ok-append_number.ensures in
-    then c.append_named.result old mid c.append_named.new.out.items (comma ++ position) name _ two c.append_named.ensures (simp append_assoc)
+    then c.append_named.result old mid c.append_named.new.out.items (comma ++ position) name _ two c.append_named.ensures
+    (simp append_assoc)
