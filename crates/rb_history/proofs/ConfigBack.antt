@@ -1,5 +1,6 @@
 -- The line of a configuration is read as the configuration.
-use Rattle.std.proofs.Common.{◌≡◌, ◌<◌, ◌≤◌, ◌+◌, ◌^◌, ℕ, suc, List, [], ◌∷◌, ◌++◌, length, Some, None, true, false, refl, sym, ap, ◌∙◌, inl, inr, arith}
+use Rattle.std.proofs.Common.{◌≡◌, ◌<◌, ◌≤◌, ◌+◌, ◌^◌, ℕ, suc, List, [], ◌∷◌, ◌++◌, length, Some, None, true, false, refl, sym, ap, ◌∙◌}
+use Rattle.std.proofs.Common.{inl, inr, arith}
 use Rattle.std.specs.Prelude.{◌==◌, ◌&&◌, map, nat_le, nat_lt, bytes_eq, slice_get, option_and_then}
 use Rattle.std.proofs.lemmas.Bool.{le-leb, or_parts, or_right}
 use Rattle.std.proofs.lemmas.Bool.Decides.{nat_tests}
@@ -10,7 +11,8 @@ use Rattle.serde_json.specs.Written.{compact_text}
 use Rattle.rb_money.specs.declared.cents.TheConstants.{MOST_CENTS}
 use Rattle.rb_money.specs.Faults.{Account, account_fault, config_fault, is_among}
 use Rattle.rb_money.specs.Settings.{IsConfigured, IsVersion, Settings, is_account_name}
-use Rattle.rb_money.specs.declared.limits.TheConstants.{MOST_SITES, MOST_SITES_OF_VERSION_1, MOST_ACCOUNTS, MOST_BLUE, MOST_RED, MOST_INBOX, MOST_HISTORY, MOST_EPOCH}
+use Rattle.rb_money.specs.declared.limits.TheConstants.{MOST_SITES, MOST_SITES_OF_VERSION_1, MOST_ACCOUNTS, MOST_BLUE, MOST_RED, MOST_INBOX}
+use Rattle.rb_money.specs.declared.limits.TheConstants.{MOST_HISTORY, MOST_EPOCH}
 use Rattle.rb_commands.specs.Configurations.{accounts_in, config_at, config_of, is_version}
 use Rattle.rb_history.specs.ConfigLines.{accounts_of, config_json, start_json}
 use Rattle.rb_history.specs.Fits.{Each}
@@ -31,17 +33,21 @@ starts_back [] (start ∷ starts) e = absurd (omega arith)
 starts_back (name ∷ names) [] e = absurd (omega arith)
 starts_back (name ∷ names) (start ∷ starts) e = ap (λ l. start ∷ l) (starts_back names starts (omega arith))
 
-accounts_length : (names : List (List ℕ)) (starts : List ℕ) → length starts ≡ length names → length (accounts_of names starts) ≡ length names
+accounts_length : (names : List (List ℕ)) (starts : List ℕ) → length starts ≡ length names
+    → length (accounts_of names starts) ≡ length names
 accounts_length [] starts e = refl
 accounts_length (name ∷ names) [] e = absurd (omega arith)
 accounts_length (name ∷ names) (start ∷ starts) e = ap suc (accounts_length names starts (omega arith))
 
-small_starts : (names : List (List ℕ)) (starts : List ℕ) → ((i n : ℕ) → slice_get starts i ≡ Some n → n ≤ MOST_CENTS) → Each (λ (a : Account). a.1 < 2 ^ 64) (accounts_of names starts)
+small_starts : (names : List (List ℕ)) (starts : List ℕ) → ((i n : ℕ) → slice_get starts i ≡ Some n → n ≤ MOST_CENTS)
+    → Each (λ (a : Account). a.1 < 2 ^ 64) (accounts_of names starts)
 small_starts [] starts most = tt
 small_starts (name ∷ names) [] most = tt
-small_starts (name ∷ names) (start ∷ starts) most = let small : start ≤ MOST_CENTS = most 0 start refl in (omega arith, small_starts names starts (λ i. most (suc i)))
+small_starts (name ∷ names) (start ∷ starts) most = let small : start ≤ MOST_CENTS = most 0 start refl in
+    (omega arith, small_starts names starts (λ i. most (suc i)))
 
-accounts_back : (accounts : List Account) → Each (λ (a : Account). a.1 < 2 ^ 64) accounts → accounts_in (items_of (map start_json accounts)) ≡ Some accounts
+accounts_back : (accounts : List Account) → Each (λ (a : Account). a.1 < 2 ^ 64) accounts
+    → accounts_in (items_of (map start_json accounts)) ≡ Some accounts
 accounts_back [] h = refl
 accounts_back (a ∷ accounts) h = rw (below a.1 (2 ^ 64) h.0, accounts_back accounts h.1) refl
 
@@ -49,13 +55,15 @@ accounts_back (a ∷ accounts) h = rw (below a.1 (2 ^ 64) h.0, accounts_back acc
 
 among_more : (before : List (List ℕ)) (a n : List ℕ) → is_among before n ≡ false → (n ≡ a → ⊥) → is_among (before ++ a ∷ []) n ≡ false
 among_more [] a n e apart = rw (fails (bytes_eq n a) (n ≡ a) (bytes_eq-Decides n a) apart) refl
-among_more (b ∷ before) a n e apart = let p = or_parts (bytes_eq n b) (is_among before n) e in rw (p.0, among_more before a n p.1 apart) refl
+among_more (b ∷ before) a n e apart = let p = or_parts (bytes_eq n b) (is_among before n) e in
+    rw (p.0, among_more before a n p.1 apart) refl
 
 at_most : (n : ℕ) → n ≤ MOST_CENTS → nat_lt MOST_CENTS n ≡ false
 at_most n h = grind (arith, nat_tests)
 
 no_account_fault : (before : List (List ℕ)) (i : ℕ) (names : List (List ℕ)) (starts : List ℕ) → length starts ≡ length names
-    → ((j : ℕ) (name : List ℕ) → slice_get names j ≡ Some name → is_account_name name ≡ true) → ((j n : ℕ) → slice_get starts j ≡ Some n → n ≤ MOST_CENTS)
+    → ((j : ℕ) (name : List ℕ) → slice_get names j ≡ Some name → is_account_name name ≡ true)
+    → ((j n : ℕ) → slice_get starts j ≡ Some n → n ≤ MOST_CENTS)
     → ((j : ℕ) (name : List ℕ) → slice_get names j ≡ Some name → is_among before name ≡ false)
     → ((j k : ℕ) (name : List ℕ) → slice_get names j ≡ Some name → slice_get names k ≡ Some name → j ≡ k)
     → account_fault before i (accounts_of names starts) ≡ None
@@ -134,7 +142,8 @@ config_back s c =
 config_text : (s : Settings) → IsConfigured s → read (compact_text (config_json s)) ≡ Some (config_json s)
 config_text s c =
     let few = c.few_sites in
-    let accounts = list_text start_json (λ a. a.1 < 2 ^ 64) 1 (λ a small. pair_text _ _ 0 (string_text a.0) (number_text a.1 small)) (accounts_of s.names s.starts) (small_starts s.names s.starts c.starts) in
+    let accounts = list_text start_json (λ a. a.1 < 2 ^ 64) 1 (λ a small. pair_text _ _ 0 (string_text a.0) (number_text a.1 small))
+    (accounts_of s.names s.starts) (small_starts s.names s.starts c.starts) in
     let blue = number_text s.limits.blue (omega (arith, c.blue.1)) in
     let epoch = number_text s.limits.epoch (omega (arith, c.epoch.1)) in
     let history = number_text s.limits.history (omega (arith, c.history.1)) in
@@ -145,8 +154,12 @@ config_text s c =
     let version = number_text s.version (omega arith) in
     let depth = accounts.shallow in
     let line = config_json s in
-    compact_read line line (accounts.numbers, (blue.numbers, (epoch.numbers, (history.numbers, (inbox.numbers, (red.numbers, (sites.numbers, (version.numbers, tt))))))))
+    compact_read line line (
+      accounts.numbers,
+      (blue.numbers, (epoch.numbers, (history.numbers, (inbox.numbers, (red.numbers, (sites.numbers, (version.numbers, tt))))))),
+    )
     (omega arith) (rw (accounts.same, blue.same, epoch.same, history.same, inbox.same, red.same, sites.same, version.same) refl)
 
+-- the line of a configuration is read as it
 pub config_line : (s : Settings) → IsConfigured s → config_at (compact_text (config_json s)) ≡ Some s
 config_line s c = ap (option_and_then config_of) (config_text s c) ∙ config_back s c

@@ -1,6 +1,6 @@
 -- What is written for an event or a line's entry is read as it.
 use Rattle.std.proofs.Common.{◌≡◌, ◌<◌, ◌^◌, ℕ, List, [], ◌∷◌, Some, refl, ap}
-use Rattle.std.specs.Prelude.{map}
+use Rattle.std.specs.Prelude.{map, option_map}
 use Rattle.serde_json.specs.View.{items_of}
 use Rattle.rb_money.specs.Settings.{IsConfigured, Settings}
 use Rattle.rb_money.specs.declared.place.Place.{Place}
@@ -25,46 +25,69 @@ use Rattle.rb_history.proofs.KnownPlaces.{known_place}
 use Rattle.rb_history.proofs.ReplyBack.{reply_back}
 
 request_back : (s : Settings) → IsConfigured s → (r : Request) → IsRequest s r → request_alone s (request_json s r) ≡ Some r
-request_back s c (Deposit a amount) (known, fits) = rw (below amount (2 ^ 64) fits) (ap (λ p. Some (Deposit p amount)) (known_place s a c known))
-request_back s c (Withdraw a amount) (known, fits) = rw (below amount (2 ^ 64) fits) (ap (λ p. Some (Withdraw p amount)) (known_place s a c known))
-request_back s c (Interest a rate) (known, fits) = rw (below rate (2 ^ 32) fits) (ap (λ p. Some (Interest p rate)) (known_place s a c known))
+request_back s c (Deposit a amount) (known, fits) = rw (below amount (2 ^ 64) fits)
+    (ap (λ p. Some (Deposit p amount)) (known_place s a c known))
+request_back s c (Withdraw a amount) (known, fits) = rw (below amount (2 ^ 64) fits)
+    (ap (λ p. Some (Withdraw p amount)) (known_place s a c known))
+request_back s c (Interest a rate) (known, fits) = rw (below rate (2 ^ 32) fits)
+    (ap (λ p. Some (Interest p rate)) (known_place s a c known))
 request_back s c (Cancel x) h = rw (back x h) refl
-request_back s c (Transfer from to amount) (leaves, arrives, fits) = rw (below amount (2 ^ 64) fits) (λ j. Some (Transfer (known_place s from c leaves j) (known_place s to c arrives j) amount))
+request_back s c (Transfer from to amount) (leaves, arrives, fits) = rw (below amount (2 ^ 64) fits)
+    (λ j. Some (Transfer (known_place s from c leaves j) (known_place s to c arrives j) amount))
 
-requests_back : (s : Settings) → IsConfigured s → (rs : List Request) → Each (IsRequest s) rs → requests_in s (items_of (map (request_json s) rs)) ≡ Some rs
+requests_back : (s : Settings) → IsConfigured s → (rs : List Request) → Each (IsRequest s) rs
+    → requests_in s (items_of (map (request_json s) rs)) ≡ Some rs
 requests_back s c [] h = refl
 requests_back s c (r ∷ rs) h = rw (request_back s c r h.0, requests_back s c rs h.1) refl
 
 abbrev shadow_with : OpName → ℕ → List ℕ → ℕ → Place → ℕ → Kind → Shadow
-shadow_with name home blue red account amount kind = record { name = name; home = home; deps = record { blue = blue; red = red }; account = account; amount = amount; kind = kind }
+shadow_with name home blue red account amount kind =
+    record { name = name; home = home; deps = record { blue = blue; red = red }; account = account; amount = amount; kind = kind }
 
-kind_back : (s : Settings) → IsConfigured s → (name : OpName) (home : ℕ) (blue : List ℕ) (red : ℕ) (account : Place) (amount : ℕ) (kind : Kind) → IsKind s kind → kind_at s (shadow_json s (shadow_with name home blue red account amount kind)) ≡ Some kind
+kind_back : (s : Settings) → IsConfigured s
+    → (name : OpName) (home : ℕ) (blue : List ℕ) (red : ℕ) (account : Place) (amount : ℕ) (kind : Kind) → IsKind s kind
+    → kind_at s (shadow_json s (shadow_with name home blue red account amount kind)) ≡ Some kind
 kind_back s c name home blue red account amount (CancelKind x) h = rw (back x h) refl
 kind_back s c name home blue red account amount (TransferKind to) h = ap (λ p. Some (TransferKind p)) (known_place s to c h)
 kind_back s c name home blue red account amount _ h = refl
 
-shadow_by : (s : Settings) → IsConfigured s → (name : OpName) (home : ℕ) (blue : List ℕ) (red : ℕ) (account : Place) (amount : ℕ) (kind : Kind) → IsShadow s (shadow_with name home blue red account amount kind) → shadow_at s (shadow_json s (shadow_with name home blue red account amount kind)) ≡ Some (shadow_with name home blue red account amount kind)
+shadow_by : (s : Settings) → IsConfigured s
+    → (name : OpName) (home : ℕ) (blue : List ℕ) (red : ℕ) (account : Place) (amount : ℕ) (kind : Kind)
+    → IsShadow s (shadow_with name home blue red account amount kind)
+    → shadow_at s (shadow_json s (shadow_with name home blue red account amount kind))
+    ≡ Some (shadow_with name home blue red account amount kind)
 shadow_by s c name home blue red account amount kind h =
-    rw (below amount (2 ^ 64) h.amount, blue_back s.version s.sites blue c.version h.sites h.blue h.further, below red (2 ^ 32) h.red, below home (2 ^ 8) h.home, kind_back s c name home blue red account amount kind h.kind, back name h.name)
+    rw (
+      below amount (2 ^ 64) h.amount,
+      blue_back s.version s.sites blue c.version h.sites h.blue h.further,
+      below red (2 ^ 32) h.red,
+      below home (2 ^ 8) h.home,
+      kind_back s c name home blue red account amount kind h.kind,
+      back name h.name,
+    )
     (ap (λ p. Some (shadow_with name home blue red p amount kind)) (known_place s account c h.account))
 
 shadow_back : (s : Settings) → IsConfigured s → (v : Shadow) → IsShadow s v → shadow_at s (shadow_json s v) ≡ Some v
 shadow_back s c v h = shadow_by s c v.name v.home v.deps.blue v.deps.red v.account v.amount v.kind h
 
-event_back : (s : Settings) → IsConfigured s → (e : Event) → IsEvent s e → event_at s (event_json s e) ≡ Some e
-event_back s c (Submit (Deposit a amount)) (known, fits) = rw (below amount (2 ^ 64) fits) (ap (λ p. Some (Submit (Deposit p amount))) (known_place s a c known))
-event_back s c (Submit (Withdraw a amount)) (known, fits) = rw (below amount (2 ^ 64) fits) (ap (λ p. Some (Submit (Withdraw p amount))) (known_place s a c known))
-event_back s c (Submit (Interest a rate)) (known, fits) = rw (below rate (2 ^ 32) fits) (ap (λ p. Some (Submit (Interest p rate))) (known_place s a c known))
-event_back s c (Submit (Cancel x)) h = rw (back x h) refl
-event_back s c (Submit (Transfer from to amount)) (leaves, arrives, fits) = rw (below amount (2 ^ 64) fits) (λ j. Some (Submit (Transfer (known_place s from c leaves j) (known_place s to c arrives j) amount)))
+submit_back : (s : Settings) (r : Request) → request_alone s (request_json s r) ≡ Some r → event_at s (request_json s r) ≡ Some (Submit r)
+submit_back s (Deposit a amount) e = ap (option_map Submit) e
+submit_back s _ e = ap (option_map Submit) e
+
+-- the object of an event is read as the event
+pub event_back : (s : Settings) → IsConfigured s → (e : Event) → IsEvent s e → event_at s (event_json s e) ≡ Some e
+event_back s c (Submit r) h = submit_back s r (request_back s c r h)
 event_back s c (Batch rs) h = rw (requests_back s c rs h) refl
 event_back s c (Receive (ShadowMessage v)) h = rw (shadow_back s c v h) refl
-event_back s c (Receive (TokenOnItsWay m)) (epoch, to, red) = rw (below m.epoch (2 ^ 32) epoch, below m.to (2 ^ 8) to, below m.red (2 ^ 32) red) refl
+event_back s c (Receive (TokenOnItsWay m)) (epoch, to, red) =
+    rw (below m.epoch (2 ^ 32) epoch, below m.to (2 ^ 8) to, below m.red (2 ^ 32) red) refl
 event_back s c (Apply x) h = rw (back x h) refl
 event_back s c (Pass to) h = rw (below to (2 ^ 8) h) refl
 event_back s c (Balance a) known = ap (λ p. Some (Balance p)) (known_place s a c known)
 event_back s c (AsOf a n) (known, fits) = rw (below n (2 ^ 32) fits) (ap (λ p. Some (AsOf p n)) (known_place s a c known))
 event_back s c (Statement a) known = ap (λ p. Some (Statement p)) (known_place s a c known)
 
-pub entry_back : (s : Settings) → IsConfigured s → (site : ℕ) (x : Entry) → site < s.sites → IsEvent s x.event → IsReply x.reply → entry_of_object s (entry_json s site x) ≡ Some (site, x)
+-- the object of an entry is read as the entry
+pub entry_back : (s : Settings) → IsConfigured s → (site : ℕ) (x : Entry) → site < s.sites → IsEvent s x.event → IsReply x.reply
+    → entry_of_object s (entry_json s site x) ≡ Some (site, x)
 entry_back s c site x h e r = rw (below site s.sites h, event_back s c x.event e, reply_back x.reply r) refl

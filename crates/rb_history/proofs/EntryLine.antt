@@ -6,7 +6,9 @@ use Rattle.rb_history.specs.Fits.{EntriesAreRead}
 use Rattle.rb_history.proofs.EntryBack.{entry_back}
 use Rattle.rb_history.proofs.EntryText.{entry_text}
 
+-- the line of an entry is read as the entry
 pub entry_line : EntriesAreRead
 entry_line s configured site x within event reply =
     let few = configured.few_sites in
-    ap (option_and_then (entry_of_object s)) (entry_text s site x (omega arith) event reply) ∙ entry_back s configured site x within event reply
+    ap (option_and_then (entry_of_object s)) (entry_text s site x (omega arith) event reply)
+    ∙ entry_back s configured site x within event reply

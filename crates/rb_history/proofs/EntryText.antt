@@ -1,5 +1,6 @@
 -- The text of an entry is read as the entry's JSON object.
 use Rattle.std.proofs.Common.{◌≡◌, ◌<◌, ◌≤◌, ◌^◌, ℕ, suc, ℤ, pos, negsuc, List, [], ◌∷◌, length, take, Some, Bool, true, false, refl, arith}
+use Rattle.std.proofs.Common.{lit<}
 use Rattle.std.specs.Prelude.{◌==◌, map, if◌then◌else◌}
 use Rattle.json.specs.Tree.{HasNumbers, ItemsHaveNumbers}
 use Rattle.json.specs.Tree as tree
@@ -12,9 +13,11 @@ use Rattle.serde_json.proofs.Numbers.{number_of-decimal, number_of-negative}
 use Rattle.rb_money.specs.Settings.{Settings}
 use Rattle.rb_money.specs.declared.limits.TheConstants.{MOST_SITES, MOST_SITES_OF_VERSION_1}
 use Rattle.rb_money.specs.declared.place.Place.{Place}
+use Rattle.rb_money.specs.declared.refusal.Cause.{Cause}
 use Rattle.rb_money.specs.declared.refusal.Cause.TheVariants.{Declined as CauseDeclined, Refused as CauseRefused}
 use Rattle.rb_money.specs.declared.refusal.Refusal.{Refusal}
-use Rattle.rb_money.specs.declared.refusal.Refusal.TheVariants.{OutOfMemory, UnknownAccount, BadAmount, BadRate, UnknownOperation, NotCancellable, AlreadyCancelled, NumbersExhausted, NeedToken, RedBehind, WouldOverdraw, DeltaTooLarge, BadBatch, BatchRefused, NotHeld, NotReady, InboxFull, BadMessage, Conflict, NoMessage, NoSite, NotYours, PositionBeyond, HistoryFull, SameAccount}
+use Rattle.rb_money.specs.declared.refusal.Refusal.TheVariants.{OutOfMemory, AlreadyCancelled, RedBehind, BatchRefused, BadMessage}
+use Rattle.rb_money.specs.Refusals.{number_of_refusal}
 use Rattle.rb_scratch.specs.declared.request.Request.{Request}
 use Rattle.rb_scratch.specs.declared.request.Request.TheVariants.{Deposit, Withdraw, Interest, Cancel, Transfer}
 use Rattle.rb_shadow.specs.NameText.{IsName}
@@ -26,12 +29,13 @@ use Rattle.rb_site.specs.declared.event.Event.{Event}
 use Rattle.rb_site.specs.declared.event.Event.TheVariants.{Submit, Batch, Receive, Apply, Pass, Balance, AsOf, Statement}
 use Rattle.rb_site.specs.declared.message.Message.TheVariants.{Shadow as ShadowMessage, Token as TokenOnItsWay}
 use Rattle.rb_site.specs.declared.reply.Reply.{Reply}
-use Rattle.rb_site.specs.declared.reply.Reply.TheVariants.{Made, Names, Held, Already, Taken, Stale, Applied, Passed, Balance as BalanceIs, Statement as StatementIs, Refused}
+use Rattle.rb_site.specs.declared.reply.Reply.TheVariants.{Made, Names, Held, Already, Taken, Stale, Applied, Passed, Balance as BalanceIs}
+use Rattle.rb_site.specs.declared.reply.Reply.TheVariants.{Statement as StatementIs, Refused}
 use Rattle.rb_statements.specs.declared.row.Row.{Row}
 use Rattle.rb_history.specs.Counts.{blue_json, numbered_from, numbered_json}
 use Rattle.rb_history.specs.Entries.{asked_json, deps_json, entry_json, event_json, request_json, shadow_json}
-use Rattle.rb_history.specs.Fits.{Each, IsEvent, IsMoved, IsRefusal, IsReply, IsRequest, IsStatementRow, IsShadow}
-use Rattle.rb_commands.specs.Replies.{refusal_json, reply_json}
+use Rattle.rb_history.specs.Fits.{Each, IsCause, IsEvent, IsMoved, IsRefusal, IsReply, IsRequest, IsStatementRow, IsShadow}
+use Rattle.rb_commands.specs.Replies.{cause_json, refusal_json, reply_json}
 use Rattle.rb_commands.specs.Statements.{row_json}
 use Rattle.rb_commands.specs.Values.{integer_json, list_json, name_json, number_json, one_json, pair_json, three_json}
 use Rattle.rb_commands.proofs.Public.Reading.{compact_read}
@@ -52,20 +56,24 @@ record AreTexts (ds : List Data) (most : ℕ) : Type 0 where
 
 -- ---- values by their shapes
 
+-- a string
 pub string_text : (text : List ℕ) → IsText (string text) 0
 string_text text = record { numbers = tt; shallow = omega arith; same = refl }
 
 boolean_text : (b : Bool) → IsText (boolean b) 0
 boolean_text b = record { numbers = tt; shallow = omega arith; same = refl }
 
+-- a number of 64 bits
 pub number_text : (n : ℕ) → n < 2 ^ 64 → IsText (number_json n) 0
 number_text n h = record { numbers = IsNumber-decimal n h; shallow = omega arith; same = rw (number_of-decimal n h) refl }
 
 integer_text : (z : ℤ) → IsMoved z → IsText (integer_json z) 0
 integer_text (pos n) h = number_text n (omega arith)
-integer_text (negsuc n) h = record { numbers = IsNumber-signed_decimal (negsuc n) h; shallow = omega arith; same = rw (number_of-negative n h) refl }
+integer_text (negsuc n) h =
+    record { numbers = IsNumber-signed_decimal (negsuc n) h; shallow = omega arith; same = rw (number_of-negative n h) refl }
 
-texts : {A : Type 0} (written : A → Data) (P : A → Type 0) (most : ℕ) → ((x : A) → P x → IsText (written x) most) → (xs : List A) → Each P xs → AreTexts (map written xs) most
+texts : {A : Type 0} (written : A → Data) (P : A → Type 0) (most : ℕ) → ((x : A) → P x → IsText (written x) most) → (xs : List A)
+    → Each P xs → AreTexts (map written xs) most
 texts written P most each [] h = record { numbers = tt; shallow = omega arith; same = refl }
 texts written P most each (x ∷ xs) h =
     let first = each x h.0 in
@@ -74,7 +82,9 @@ texts written P most each (x ∷ xs) h =
     let b = later.shallow in
     record { numbers = (first.numbers, later.numbers); shallow = omega arith; same = rw (first.same, later.same) refl }
 
-pub list_text : {A : Type 0} (written : A → Data) (P : A → Type 0) (most : ℕ) → ((x : A) → P x → IsText (written x) most) → (xs : List A) → Each P xs → IsText (list_json written xs) (suc most)
+-- a list, one deeper than its items
+pub list_text : {A : Type 0} (written : A → Data) (P : A → Type 0) (most : ℕ) → ((x : A) → P x → IsText (written x) most) → (xs : List A)
+    → Each P xs → IsText (list_json written xs) (suc most)
 list_text written P most each xs h =
     let all = texts written P most each xs h in
     let a = all.shallow in
@@ -85,6 +95,7 @@ one_text key value most v =
     let a = v.shallow in
     record { numbers = (v.numbers, tt); shallow = omega arith; same = rw v.same refl }
 
+-- a pair, one deeper than its parts
 pub pair_text : (a b : Data) (most : ℕ) → IsText a most → IsText b most → IsText (pair_json a b) (suc most)
 pair_text a b most x y =
     let d = x.shallow in
@@ -113,18 +124,26 @@ request_text s (Deposit a amount) (known, fits) = one_text _ _ 1 (asked_text s a
 request_text s (Withdraw a amount) (known, fits) = one_text _ _ 1 (asked_text s a amount fits)
 request_text s (Interest a rate) (known, fits) = one_text _ _ 1 (asked_text s a rate (omega arith))
 request_text s (Cancel x) h = deeper (request_json s (Cancel x)) 1 2 (one_text _ (name_json x) 0 (string_text _)) (omega arith)
-request_text s (Transfer from to amount) (leaves, arrives, fits) = one_text _ _ 1 (three_text _ _ (number_json amount) 0 (string_text _) (string_text _) (number_text amount fits))
+request_text s (Transfer from to amount) (leaves, arrives, fits) = one_text _ _ 1
+    (three_text _ _ (number_json amount) 0 (string_text _) (string_text _) (number_text amount fits))
 
 blue_text : (version : ℕ) (blue : List ℕ) → length blue ≡ MOST_SITES → Each (λ n. n < 2 ^ 32) blue → IsText (blue_json version blue) 2
 unfolding blue_json
 blue_text version blue long h = at (version == 1)
   where
-    at : (b : Bool) → IsText (if b then list_json number_json (take MOST_SITES_OF_VERSION_1 blue) else list_json numbered_json (numbered_from 0 blue)) 2
-    at true = deeper (list_json number_json (take MOST_SITES_OF_VERSION_1 blue)) 1 2 (list_text number_json (λ n. n < 2 ^ 32) 0 (λ n small. number_text n (omega arith)) (take MOST_SITES_OF_VERSION_1 blue) (each_take (λ n. n < 2 ^ 32) MOST_SITES_OF_VERSION_1 blue h)) (omega arith)
-    at false = list_text numbered_json (λ (p : ℕ × ℕ). (p.0 < 2 ^ 64) × (p.1 < 2 ^ 64)) 1 (λ p fits. pair_text (number_json p.0) (number_json p.1) 0 (number_text p.0 fits.0) (number_text p.1 fits.1)) (numbered_from 0 blue) (numbered_fit 0 blue (omega arith) h)
+    at : (b : Bool) → IsText (if b then list_json number_json (take MOST_SITES_OF_VERSION_1 blue)
+        else list_json numbered_json (numbered_from 0 blue)) 2
+    at true = deeper (list_json number_json (take MOST_SITES_OF_VERSION_1 blue)) 1 2
+        (list_text number_json (λ n. n < 2 ^ 32) 0 (λ n small. number_text n (omega arith)) (take MOST_SITES_OF_VERSION_1 blue)
+        (each_take (λ n. n < 2 ^ 32) MOST_SITES_OF_VERSION_1 blue h)) (omega arith)
+    at false = list_text numbered_json (λ (p : ℕ × ℕ). (p.0 < 2 ^ 64) × (p.1 < 2 ^ 64)) 1
+        (λ p fits. pair_text (number_json p.0) (number_json p.1) 0 (number_text p.0 fits.0) (number_text p.1 fits.1))
+        (numbered_from 0 blue) (numbered_fit 0 blue (omega arith) h)
 
-deps_text : (version : ℕ) (blue : List ℕ) (red : ℕ) → length blue ≡ MOST_SITES → Each (λ n. n < 2 ^ 32) blue → red < 2 ^ 32 → IsText (deps_json version (record { blue = blue; red = red })) 3
-deps_text version blue red long h k = pair_text (blue_json version blue) (number_json red) 2 (blue_text version blue long h) (deeper (number_json red) 0 2 (number_text red (omega arith)) (omega arith))
+deps_text : (version : ℕ) (blue : List ℕ) (red : ℕ) → length blue ≡ MOST_SITES → Each (λ n. n < 2 ^ 32) blue → red < 2 ^ 32
+    → IsText (deps_json version (record { blue = blue; red = red })) 3
+deps_text version blue red long h k = pair_text (blue_json version blue) (number_json red) 2 (blue_text version blue long h)
+    (deeper (number_json red) 0 2 (number_text red (omega arith)) (omega arith))
 
 abbrev with_kind : Shadow → Kind → Shadow
 with_kind v kind = record { name = v.name; home = v.home; deps = v.deps; account = v.account; amount = v.amount; kind = kind }
@@ -142,16 +161,34 @@ shadow_text s v h = of_kind v.kind
     home = let small = h.home in number_text v.home (omega arith)
 
     of_kind : (kind : Kind) → IsText (shadow_json s (with_kind v kind)) 4
-    of_kind (CancelKind x) = let d = deps.shallow in record { numbers = (tt, (amount.numbers, (deps.numbers, (home.numbers, (tt, (tt, (tt, tt))))))); shallow = omega arith; same = rw (amount.same, deps.same, home.same) refl }
-    of_kind (TransferKind to) = let d = deps.shallow in record { numbers = (tt, (amount.numbers, (deps.numbers, (home.numbers, (tt, (tt, (tt, tt))))))); shallow = omega arith; same = rw (amount.same, deps.same, home.same) refl }
-    of_kind _ = let d = deps.shallow in record { numbers = (tt, (amount.numbers, (deps.numbers, (home.numbers, (tt, (tt, tt)))))); shallow = omega arith; same = rw (amount.same, deps.same, home.same) refl }
+    of_kind (CancelKind x) = let d = deps.shallow in
+        record {
+          numbers = (tt, (amount.numbers, (deps.numbers, (home.numbers, (tt, (tt, (tt, tt)))))));
+          shallow = omega arith;
+          same = rw (amount.same, deps.same, home.same) refl;
+        }
+    of_kind (TransferKind to) = let d = deps.shallow in
+        record {
+          numbers = (tt, (amount.numbers, (deps.numbers, (home.numbers, (tt, (tt, (tt, tt)))))));
+          shallow = omega arith;
+          same = rw (amount.same, deps.same, home.same) refl;
+        }
+    of_kind _ = let d = deps.shallow in
+        record {
+          numbers = (tt, (amount.numbers, (deps.numbers, (home.numbers, (tt, (tt, tt))))));
+          shallow = omega arith;
+          same = rw (amount.same, deps.same, home.same) refl;
+        }
 
-event_text : (s : Settings) (e : Event) → IsEvent s e → IsText (event_json s e) 5
+-- the text of an event is read as its JSON object
+pub event_text : (s : Settings) (e : Event) → IsEvent s e → IsText (event_json s e) 5
 event_text s (Submit r) h = deeper (request_json s r) 2 5 (request_text s r h) (omega arith)
-event_text s (Batch rs) h = deeper (event_json s (Batch rs)) 4 5 (one_text _ _ 3 (list_text (request_json s) (IsRequest s) 2 (request_text s) rs h)) (omega arith)
+event_text s (Batch rs) h = deeper (event_json s (Batch rs)) 4 5
+    (one_text _ _ 3 (list_text (request_json s) (IsRequest s) 2 (request_text s) rs h)) (omega arith)
 event_text s (Receive (ShadowMessage v)) h = one_text _ _ 4 (shadow_text s v h)
 event_text s (Receive (TokenOnItsWay m)) (epoch, to, red) =
-    let told = three_text (number_json m.epoch) (number_json m.to) (number_json m.red) 0 (number_text m.epoch (omega arith)) (number_text m.to (omega arith)) (number_text m.red (omega arith)) in
+    let told = three_text (number_json m.epoch) (number_json m.to) (number_json m.red) 0 (number_text m.epoch (omega arith))
+    (number_text m.to (omega arith)) (number_text m.red (omega arith)) in
     deeper (event_json s (Receive (TokenOnItsWay m))) 2 5 (one_text _ _ 1 told) (omega arith)
 event_text s (Apply x) h = deeper (event_json s (Apply x)) 1 5 (one_text _ (name_json x) 0 (string_text _)) (omega arith)
 event_text s (Pass to) h = deeper (event_json s (Pass to)) 1 5 (one_text _ (number_json to) 0 (number_text to (omega arith))) (omega arith)
@@ -167,7 +204,11 @@ row_text r (position, name, moved, balance) =
     let b = integer_text r.moved moved in
     let c = number_text r.balance balance in
     let depth = b.shallow in
-    record { numbers = (a.numbers, (tt, (tt, (b.numbers, (tt, (c.numbers, tt)))))); shallow = omega arith; same = rw (a.same, b.same, c.same) refl }
+    record {
+      numbers = (a.numbers, (tt, (tt, (b.numbers, (tt, (c.numbers, tt))))));
+      shallow = omega arith;
+      same = rw (a.same, b.same, c.same) refl;
+    }
 
 number_told : (key : List ℕ) (n : ℕ) → n < 2 ^ 64 → IsText (one_json key (number_json n)) 4
 number_told key n h = deeper (one_json key (number_json n)) 1 4 (one_text key (number_json n) 0 (number_text n h)) (omega arith)
@@ -175,54 +216,41 @@ number_told key n h = deeper (one_json key (number_json n)) 1 4 (one_text key (n
 string_told : (key text : List ℕ) → IsText (one_json key (string text)) 4
 string_told key text = deeper (one_json key (string text)) 1 4 (one_text key (string text) 0 (string_text text)) (omega arith)
 
+small_number : (r : Refusal) → number_of_refusal r < 2 ^ 64
+small_number OutOfMemory = lit< tt
+small_number _ = lit< tt
+
+cause_text : (c : Cause) → IsCause c → IsText (cause_json c) 0
+cause_text CauseDeclined h = string_text _
+cause_text (CauseRefused n) h = number_text n (omega arith)
+
 refusal_text : (r : Refusal) → IsRefusal r → IsText (refusal_json r) 4
 refusal_text OutOfMemory h = absurd h
-refusal_text UnknownAccount h = number_told _ 1 (omega arith)
-refusal_text BadAmount h = number_told _ 2 (omega arith)
-refusal_text BadRate h = number_told _ 3 (omega arith)
-refusal_text UnknownOperation h = number_told _ 4 (omega arith)
-refusal_text NotCancellable h = number_told _ 5 (omega arith)
 refusal_text (AlreadyCancelled position) h =
     let a = number_text position (omega arith) in
-    let b = number_text 6 (omega arith) in
+    let b = number_text 6 (lit< tt) in
     record { numbers = (a.numbers, (b.numbers, tt)); shallow = omega arith; same = rw (a.same, b.same) refl }
-refusal_text NumbersExhausted h = number_told _ 7 (omega arith)
-refusal_text NeedToken h = number_told _ 8 (omega arith)
 refusal_text (RedBehind seen needed) (h, k) =
     let a = number_text needed (omega arith) in
-    let b = number_text 9 (omega arith) in
+    let b = number_text 9 (lit< tt) in
     let c = number_text seen (omega arith) in
     record { numbers = (a.numbers, (b.numbers, (c.numbers, tt))); shallow = omega arith; same = rw (a.same, b.same, c.same) refl }
-refusal_text WouldOverdraw h = number_told _ 10 (omega arith)
-refusal_text DeltaTooLarge h = number_told _ 11 (omega arith)
-refusal_text BadBatch h = number_told _ 12 (omega arith)
-refusal_text (BatchRefused index CauseDeclined) (h, k) =
-    let a = number_text index (omega arith) in
-    let b = number_text 13 (omega arith) in
-    record { numbers = (tt, (a.numbers, (b.numbers, tt))); shallow = omega arith; same = rw (a.same, b.same) refl }
-refusal_text (BatchRefused index (CauseRefused n)) (h, k) =
-    let a = number_text index (omega arith) in
-    let b = number_text 13 (omega arith) in
-    let c = number_text n (omega arith) in
-    record { numbers = (c.numbers, (a.numbers, (b.numbers, tt))); shallow = omega arith; same = rw (c.same, a.same, b.same) refl }
-refusal_text NotHeld h = number_told _ 14 (omega arith)
-refusal_text NotReady h = number_told _ 15 (omega arith)
-refusal_text InboxFull h = number_told _ 16 (omega arith)
+refusal_text (BatchRefused index cause) (h, k) =
+    let a = cause_text cause k in
+    let b = number_text index (omega arith) in
+    let c = number_text 13 (lit< tt) in
+    let depth = a.shallow in
+    record { numbers = (a.numbers, (b.numbers, (c.numbers, tt))); shallow = omega arith; same = rw (a.same, b.same, c.same) refl }
 refusal_text (BadMessage why) h =
     let a = number_text why (omega arith) in
-    let b = number_text 17 (omega arith) in
+    let b = number_text 17 (lit< tt) in
     record { numbers = (b.numbers, (a.numbers, tt)); shallow = omega arith; same = rw (b.same, a.same) refl }
-refusal_text Conflict h = number_told _ 18 (omega arith)
-refusal_text NoMessage h = number_told _ 19 (omega arith)
-refusal_text NoSite h = number_told _ 20 (omega arith)
-refusal_text NotYours h = number_told _ 21 (omega arith)
-refusal_text PositionBeyond h = number_told _ 22 (omega arith)
-refusal_text HistoryFull h = number_told _ 23 (omega arith)
-refusal_text SameAccount h = number_told _ 24 (omega arith)
+refusal_text r h = number_told _ (number_of_refusal r) (small_number r)
 
 reply_text : (r : Reply) → IsReply r → IsText (reply_json r) 4
 reply_text (Made x kind) h = record { numbers = (tt, (tt, tt)); shallow = omega arith; same = refl }
-reply_text (Names xs) h = deeper (reply_json (Names xs)) 2 4 (one_text _ _ 1 (list_text name_json IsName 0 (λ x k. string_text _) xs h)) (omega arith)
+reply_text (Names xs) h = deeper (reply_json (Names xs)) 2 4 (one_text _ _ 1 (list_text name_json IsName 0 (λ x k. string_text _) xs h))
+    (omega arith)
 reply_text (Held x) h = string_told _ _
 reply_text (Already x) h = string_told _ _
 reply_text (Taken n) h = number_told _ n (omega arith)
@@ -240,7 +268,9 @@ reply_text (Refused why) h = refusal_text why h
 
 -- ---- the line
 
-pub entry_text : (s : Settings) (site : ℕ) (x : Entry) → site < 2 ^ 8 → IsEvent s x.event → IsReply x.reply → read (compact_text (entry_json s site x)) ≡ Some (entry_json s site x)
+-- the line of an entry is read as its JSON object
+pub entry_text : (s : Settings) (site : ℕ) (x : Entry) → site < 2 ^ 8 → IsEvent s x.event → IsReply x.reply
+    → read (compact_text (entry_json s site x)) ≡ Some (entry_json s site x)
 entry_text s site x h e r =
     let a = event_text s x.event e in
     let b = reply_text x.reply r in

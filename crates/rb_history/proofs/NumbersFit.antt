@@ -7,12 +7,14 @@ use Rattle.std.specs.Ordering.{match_ordering, nat_cmp}
 use Rattle.std.specs.Cmp.Lexicographic.{slice_cmp}
 use Rattle.std.proofs.lemmas.Bool.{and_parts, leb-true, ltb-true}
 use Rattle.json.specs.Json as json
-use Rattle.serde_json.specs.Data.{Num, unsigned, negative, float, Data, null, boolean, number, string, array, object, Items, no_items, item, Members, no_members, member, put}
+use Rattle.serde_json.specs.Data.{Num, unsigned, negative, float, Data, null, boolean, number, string, array, object, Items, no_items, item}
+use Rattle.serde_json.specs.Data.{Members, no_members, member, put}
 use Rattle.serde_json.specs.Find.{as_array, as_number, get, get_member}
 use Rattle.serde_json.specs.Read.{number_of, of_items, of_json, of_members, read}
 use Rattle.rb_history.specs.Fits.{IsMoved}
 use Rattle.rb_history.proofs.FitsLaws.{fits_map, fits_then}
 
+-- a negative number fits 64 bits
 abbrev pub FitsNumber : Num → Type 0
 FitsNumber (unsigned n) = ⊤
 FitsNumber (negative z) = IsMoved z
@@ -50,10 +52,12 @@ unsigned_fits : (b : Bool) (n : ℕ) (o : Option Num) → IfSome o FitsNumber �
 unsigned_fits true n o h = tt
 unsigned_fits false n o h = h
 
-negative_fits : (integer : Bool) (n : ℕ) (o : Option Num) → IfSome o FitsNumber → IfSome (if integer && nat_lt 0 n && nat_le n (2 ^ 63) then Some (negative (neg_ℤ (pos n))) else o) FitsNumber
+negative_fits : (integer : Bool) (n : ℕ) (o : Option Num) → IfSome o FitsNumber
+    → IfSome (if integer && nat_lt 0 n && nat_le n (2 ^ 63) then Some (negative (neg_ℤ (pos n))) else o) FitsNumber
 negative_fits integer n o h = by (integer && nat_lt 0 n && nat_le n (2 ^ 63)) refl
   where
-    by : (b : Bool) → (integer && nat_lt 0 n && nat_le n (2 ^ 63)) ≡ b → IfSome (if b then Some (negative (neg_ℤ (pos n))) else o) FitsNumber
+    by : (b : Bool) → (integer && nat_lt 0 n && nat_le n (2 ^ 63)) ≡ b
+        → IfSome (if b then Some (negative (neg_ℤ (pos n))) else o) FitsNumber
     by false e = h
     by true e =
         let front = and_parts (integer && nat_lt 0 n) (nat_le n (2 ^ 63)) e in
@@ -72,7 +76,8 @@ fits_put : (k : List ℕ) (d : Data) (ms : Members) → Fits d → FitMembers ms
 fits_put k d no_members h f = (h, tt)
 fits_put k d (member l e ms) h f = by (fits_put k d ms h f.1) (slice_cmp nat_cmp k l)
   where
-    by : FitMembers (put k d ms) → (o : Ordering) → FitMembers (match_ordering o (member k d (member l e ms)) (member l d ms) (member l e (put k d ms)))
+    by : FitMembers (put k d ms) → (o : Ordering)
+        → FitMembers (match_ordering o (member k d (member l e ms)) (member l d ms) (member l e (put k d ms)))
     by later Less = (h, f)
     by later Equal = (h, f.1)
     by later Greater = (f.0, later)
@@ -88,16 +93,19 @@ mutual
 
   fits_items : (js : json.Items) → IfSome (of_items js) FitItems
   fits_items json.no_items = tt
-  fits_items (json.item j js) = fits_then Fits FitItems (λ d. option_map (item d) (of_items js)) (of_json j) (fits_json j) (λ d h. fits_map FitItems FitItems (item d) (of_items js) (fits_items js) (λ ds k. (h, k)))
+  fits_items (json.item j js) = fits_then Fits FitItems (λ d. option_map (item d) (of_items js)) (of_json j) (fits_json j)
+      (λ d h. fits_map FitItems FitItems (item d) (of_items js) (fits_items js) (λ ds k. (h, k)))
 
   fits_members : (ms : json.Members) (found : Members) → FitMembers found → IfSome (of_members ms found) FitMembers
   fits_members json.no_members found f = f
-  fits_members (json.member k j ms) found f = fits_then Fits FitMembers (λ d. of_members ms (put k d found)) (of_json j) (fits_json j) (λ d h. fits_members ms (put k d found) (fits_put k d found h f))
+  fits_members (json.member k j ms) found f = fits_then Fits FitMembers (λ d. of_members ms (put k d found)) (of_json j) (fits_json j)
+      (λ d h. fits_members ms (put k d found) (fits_put k d found h f))
 
 fits_parsed : (o : Option json.Json) → IfSome (option_and_then of_json o) Fits
 fits_parsed None = tt
 fits_parsed (Some j) = fits_json j
 
+-- so do those of the value that a text is
 pub fits_read : (text : List ℕ) → IfSome (read text) Fits
 fits_read text = search (fits_parsed)
 
@@ -112,6 +120,7 @@ fits_member k (member l e ms) f = by (fits_member k ms f.1) (slice_cmp nat_cmp k
     by later Equal = f.0
     by later Greater = later
 
+-- and those of the value of a key
 pub fits_get : (k : List ℕ) (d : Data) → Fits d → IfSome (get k d) Fits
 fits_get k null f = tt
 fits_get k (boolean b) f = tt
@@ -120,6 +129,7 @@ fits_get k (string s) f = tt
 fits_get k (array ds) f = tt
 fits_get k (object ms) f = fits_member k ms f
 
+-- and those of a list's items
 pub fits_array : (d : Data) → Fits d → IfSome (as_array d) FitItems
 fits_array null f = tt
 fits_array (boolean b) f = tt
@@ -128,6 +138,7 @@ fits_array (string s) f = tt
 fits_array (array ds) f = f
 fits_array (object ms) f = tt
 
+-- and the number that a value is
 pub fits_signed : (d : Data) → Fits d → IfSome (as_number d) FitsNumber
 fits_signed null f = tt
 fits_signed (boolean b) f = tt

@@ -1,5 +1,6 @@
 -- No byte of a written value is a line feed.
-use Rattle.std.proofs.Common.{◌≡◌, ◌+◌, ◌/◌, ◌%◌, ◌<◌, ◌≤◌, ◌==◌, ◌&&◌, ℕ, pos, negsuc, zero, suc, List, [], ◌∷◌, ◌++◌, Bool, true, false, cond, codes, decimal, refl, ap, ap₂, ◌∙◌, inl, inr, arith, rules}
+use Rattle.std.proofs.Common.{◌≡◌, ◌+◌, ◌/◌, ◌%◌, ◌<◌, ◌≤◌, ◌==◌, ◌&&◌, ℕ, pos, negsuc, zero, suc, List, [], ◌∷◌, ◌++◌, Bool, true, false}
+use Rattle.std.proofs.Common.{cond, codes, decimal, refl, ap, ap₂, ◌∙◌, inl, inr, arith, rules}
 use Rattle.std.specs.Prelude.{not, nat_lt}
 use Rattle.std.specs.List.{list_all}
 use Rattle.std.specs.Fmt.{digits, digits_onto, digit_glyph}
@@ -8,7 +9,8 @@ use Rattle.std.proofs.lemmas.List.Folds.{list_all-append}
 use Rattle.std.proofs.lemmas.Str.{is_utf8-from_IsUtf8}
 use Rattle.json.proofs.Printed.Strings.{escape_byte_plain}
 use Rattle.json.specs.Print.{escape, escape_byte, quoted}
-use Rattle.serde_json.specs.Data.{Num, unsigned, negative, float, Data, null, boolean, number, string, array, object, Items, no_items, item, Members, no_members, member}
+use Rattle.serde_json.specs.Data.{Num, unsigned, negative, float, Data, null, boolean, number, string, array, object, Items, no_items, item}
+use Rattle.serde_json.specs.Data.{Members, no_members, member}
 use Rattle.serde_json.specs.Written.{comma_if, number_text, compact_text, items_text, members_text}
 use Rattle.rb_history.specs.OneLine.{ConfigsAreLines, EntriesAreLines}
 use Rattle.rb_history.specs.ConfigLines.{config_json}
@@ -99,17 +101,29 @@ mutual
 
   items_single : (later : Bool) (ds : Items) → single (items_text later ds) ≡ true
   items_single later no_items = refl
-  items_single later (item d ds) = both (comma_if later) (compact_text d ++ items_text true ds) (comma_single later) (both (compact_text d) (items_text true ds) (value_single d) (items_single true ds))
+  items_single later (item d ds) = both (comma_if later) (compact_text d ++ items_text true ds) (comma_single later)
+      (both (compact_text d) (items_text true ds) (value_single d) (items_single true ds))
 
   members_single : (later : Bool) (ms : Members) → single (members_text later ms) ≡ true
   members_single later no_members = refl
   members_single later (member k d ms) =
       let rest = compact_text d ++ members_text true ms in
       let value = both (compact_text d) (members_text true ms) (value_single d) (members_single true ms) in
-      both (comma_if later) (quoted k ++ 58 ∷ rest) (comma_single later) (both (quoted k) (58 ∷ rest) (quoted_single k) (both (codes ":") rest refl value))
+      both (comma_if later) (quoted k ++ 58 ∷ rest) (comma_single later)
+      (both (quoted k) (58 ∷ rest) (quoted_single k) (both (codes ":") rest refl value))
 
+-- what is written for a configuration is one line
 pub configs_lines : ConfigsAreLines
-configs_lines s c = record { utf8 = is_utf8-from_IsUtf8 (compact_text (config_json s)) (config_utf8 s c); no_feed = value_single (config_json s) }
+configs_lines s c = record {
+  utf8 = is_utf8-from_IsUtf8 (compact_text (config_json s)) (config_utf8 s c);
+  no_feed = value_single
+      (config_json s);
+}
 
+-- what is written for an entry is one line
 pub entries_lines : EntriesAreLines
-entries_lines s c site x = record { utf8 = is_utf8-from_IsUtf8 (compact_text (entry_json s site x)) (entry_utf8 s site x c); no_feed = value_single (entry_json s site x) }
+entries_lines s c site x = record {
+  utf8 = is_utf8-from_IsUtf8 (compact_text (entry_json s site x)) (entry_utf8 s site x c);
+  no_feed = value_single
+      (entry_json s site x);
+}

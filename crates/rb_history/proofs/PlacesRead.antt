@@ -13,10 +13,12 @@ same : (xs ys : List ℕ) → bytes_eq xs ys ≡ true → xs ≡ ys
 same xs ys e = (bytes_eq-Decides xs ys).0 e
 
 -- the name at the place that it leads to
-pub name_there : (names : List (List ℕ)) (name : List ℕ) (place : Place) → place_in names name ≡ Some place → slice_get names place.0 ≡ Some name
+pub name_there : (names : List (List ℕ)) (name : List ℕ) (place : Place) → place_in names name ≡ Some place
+    → slice_get names place.0 ≡ Some name
 name_there names name place e = by_position (position (λ n. bytes_eq name n) names) refl e
   where
-    by_position : (o : Option ℕ) → position (λ n. bytes_eq name n) names ≡ o → option_map (λ i. record { 0 = i }) o ≡ Some place → slice_get names place.0 ≡ Some name
+    by_position : (o : Option ℕ) → position (λ n. bytes_eq name n) names ≡ o → option_map (λ i. record { 0 = i }) o ≡ Some place
+        → slice_get names place.0 ≡ Some name
     by_position None at is = absurd (cc)
     by_position (Some i) at is =
         let found = position-Some (λ n. bytes_eq name n) names i [] at in

@@ -4,13 +4,14 @@ use Rattle.std.specs.Prelude.{map}
 use Rattle.serde_json.specs.View.{items_of}
 use Rattle.rb_money.specs.declared.refusal.Cause.TheVariants.{Declined as CauseDeclined, Refused as CauseRefused}
 use Rattle.rb_money.specs.declared.refusal.Refusal.{Refusal}
-use Rattle.rb_money.specs.declared.refusal.Refusal.TheVariants.{OutOfMemory, UnknownAccount, BadAmount, BadRate, UnknownOperation, NotCancellable, AlreadyCancelled, NumbersExhausted, NeedToken, RedBehind, WouldOverdraw, DeltaTooLarge, BadBatch, BatchRefused, NotHeld, NotReady, InboxFull, BadMessage, Conflict, NoMessage, NoSite, NotYours, PositionBeyond, HistoryFull, SameAccount}
+use Rattle.rb_money.specs.declared.refusal.Refusal.TheVariants.{OutOfMemory, AlreadyCancelled, RedBehind, BatchRefused, BadMessage}
 use Rattle.rb_shadow.specs.NameText.{IsName}
 use Rattle.rb_shadow.specs.declared.label.Label.{Label}
 use Rattle.rb_shadow.specs.declared.label.Label.TheVariants.{Deposit}
 use Rattle.rb_shadow.specs.declared.op_name.OpName.{OpName}
 use Rattle.rb_site.specs.declared.reply.Reply.{Reply}
-use Rattle.rb_site.specs.declared.reply.Reply.TheVariants.{Made, Names, Held, Already, Taken, Stale, Applied, Passed, Balance, Statement, Refused}
+use Rattle.rb_site.specs.declared.reply.Reply.TheVariants.{Made, Names, Held, Already, Taken, Stale, Applied, Passed, Balance, Statement}
+use Rattle.rb_site.specs.declared.reply.Reply.TheVariants.{Refused}
 use Rattle.rb_statements.specs.declared.row.Row.{Row}
 use Rattle.rb_history.specs.Fits.{Each, IsMoved, IsRefusal, IsReply, IsStatementRow}
 use Rattle.rb_commands.specs.Replies.{refusal_json, reply_json}
@@ -34,10 +35,14 @@ moved_back (pos n) h = rw (below n (2 ^ 63) h) refl
 moved_back (negsuc n) h = refl
 
 abbrev row_with : ℕ → OpName → Label → ℤ → Bool → ℕ → Row
-row_with position name kind moved cancelled balance = record { position = position; name = name; kind = kind; moved = moved; cancelled = cancelled; balance = balance }
+row_with position name kind moved cancelled balance = record
+    { position = position; name = name; kind = kind; moved = moved; cancelled = cancelled; balance = balance }
 
-row_by : (position : ℕ) (name : OpName) (kind : Label) (moved : ℤ) (cancelled : Bool) (balance : ℕ) → IsStatementRow (row_with position name kind moved cancelled balance) → row_at (row_json (row_with position name kind moved cancelled balance)) ≡ Some (row_with position name kind moved cancelled balance)
-row_by position name kind moved cancelled balance (a, b, d, e) = rw (below position (2 ^ 32) a, back name b, label_back kind, moved_back moved d, below balance (2 ^ 64) e) refl
+row_by : (position : ℕ) (name : OpName) (kind : Label) (moved : ℤ) (cancelled : Bool) (balance : ℕ)
+    → IsStatementRow (row_with position name kind moved cancelled balance)
+    → row_at (row_json (row_with position name kind moved cancelled balance)) ≡ Some (row_with position name kind moved cancelled balance)
+row_by position name kind moved cancelled balance
+    (a, b, d, e) = rw (below position (2 ^ 32) a, back name b, label_back kind, moved_back moved d, below balance (2 ^ 64) e) refl
 
 rows_back : (rs : List Row) → Each IsStatementRow rs → rows_in (items_of (map row_json rs)) ≡ Some rs
 rows_back [] h = refl
@@ -45,32 +50,14 @@ rows_back (r ∷ rs) h = rw (row_by r.position r.name r.kind r.moved r.cancelled
 
 refusal_back : (r : Refusal) → IsRefusal r → reply_told (refusal_json r) ≡ Some (Refused r)
 refusal_back OutOfMemory h = absurd h
-refusal_back UnknownAccount h = refl
-refusal_back BadAmount h = refl
-refusal_back BadRate h = refl
-refusal_back UnknownOperation h = refl
-refusal_back NotCancellable h = refl
 refusal_back (AlreadyCancelled position) h = rw (below position (2 ^ 32) h) refl
-refusal_back NumbersExhausted h = refl
-refusal_back NeedToken h = refl
 refusal_back (RedBehind seen needed) (a, b) = rw (below seen (2 ^ 32) a, below needed (2 ^ 32) b) refl
-refusal_back WouldOverdraw h = refl
-refusal_back DeltaTooLarge h = refl
-refusal_back BadBatch h = refl
 refusal_back (BatchRefused index CauseDeclined) (a, b) = rw (below index (2 ^ 8) a) refl
 refusal_back (BatchRefused index (CauseRefused n)) (a, b) = rw (below index (2 ^ 8) a, below n (2 ^ 8) b) refl
-refusal_back NotHeld h = refl
-refusal_back NotReady h = refl
-refusal_back InboxFull h = refl
 refusal_back (BadMessage why) h = rw (below why (2 ^ 8) h) refl
-refusal_back Conflict h = refl
-refusal_back NoMessage h = refl
-refusal_back NoSite h = refl
-refusal_back NotYours h = refl
-refusal_back PositionBeyond h = refl
-refusal_back HistoryFull h = refl
-refusal_back SameAccount h = refl
+refusal_back _ h = refl
 
+-- the object of each reply of which a line has all is read as the reply
 pub reply_back : (r : Reply) → IsReply r → reply_told (reply_json r) ≡ Some r
 reply_back (Made x kind) h = rw (label_back kind, back x h) refl
 reply_back (Names xs) h = rw (names_back xs h) refl

@@ -2,12 +2,15 @@
 use Rattle.std.proofs.Common.{◌≡◌, ◌<◌, ◌≤◌, ℕ, zero, suc, List, [], ◌∷◌, length, drop, get_or, refl, arith}
 use Rattle.rb_history.specs.ConfigLines.{accounts_of}
 
-pub drop_accounts : (names : List (List ℕ)) (starts : List ℕ) (i : ℕ) → i < length names → i < length starts → drop i (accounts_of names starts) ≡ (get_or names i [], get_or starts i 0) ∷ drop (suc i) (accounts_of names starts)
+-- the accounts from a place on begin with the account there
+pub drop_accounts : (names : List (List ℕ)) (starts : List ℕ) (i : ℕ) → i < length names → i < length starts
+    → drop i (accounts_of names starts) ≡ (get_or names i [], get_or starts i 0) ∷ drop (suc i) (accounts_of names starts)
 drop_accounts [] starts i h k = absurd (omega arith)
 drop_accounts (name ∷ names) [] i h k = absurd (omega arith)
 drop_accounts (name ∷ names) (start ∷ starts) zero h k = refl
 drop_accounts (name ∷ names) (start ∷ starts) (suc i) h k = drop_accounts names starts i (omega arith) (omega arith)
 
+-- there are no more accounts than starting balances
 pub few_accounts : (names : List (List ℕ)) (starts : List ℕ) → length (accounts_of names starts) ≤ length starts
 few_accounts [] starts = omega arith
 few_accounts (name ∷ names) [] = omega arith

@@ -21,7 +21,8 @@ use Rattle.rb_site.specs.declared.event.Event.{Event}
 use Rattle.rb_site.specs.declared.event.Event.TheVariants.{Submit, Batch, Receive, Apply, Pass, Balance, AsOf, Statement}
 use Rattle.rb_site.specs.declared.message.Message.TheVariants.{Shadow as ShadowMessage, Token as TokenOnItsWay}
 use Rattle.rb_commands.specs.Values.{list_json, number_json}
-use Rattle.rb_commands.proofs.Public.Utf8.{HasTexts, ItemsHaveTexts, MembersHaveTexts, label_utf8, list_texts, name_utf8, reply_texts, text_utf8}
+use Rattle.rb_commands.proofs.Public.Utf8.{HasTexts, ItemsHaveTexts, MembersHaveTexts, label_utf8, list_texts, name_utf8, reply_texts}
+use Rattle.rb_commands.proofs.Public.Utf8.{text_utf8}
 use Rattle.rb_history.specs.Counts.{blue_json, numbered_from, numbered_json}
 use Rattle.rb_history.specs.ConfigLines.{accounts_of, config_json, start_json}
 use Rattle.rb_history.specs.Entries.{account_json, deps_json, entry_json, event_json, last_members, request_json, shadow_json}
@@ -60,14 +61,18 @@ blue_texts : (version : ℕ) (blue : List ℕ) → HasTexts (blue_json version b
 unfolding blue_json
 blue_texts version blue = at (version == 1)
   where
-    at : (b : Bool) → HasTexts (if b then list_json number_json (take MOST_SITES_OF_VERSION_1 blue) else list_json numbered_json (numbered_from 0 blue))
+    at : (b : Bool) → HasTexts (if b then list_json number_json (take MOST_SITES_OF_VERSION_1 blue)
+        else list_json numbered_json (numbered_from 0 blue))
     at true = list_texts number_json (λ n. tt) (take MOST_SITES_OF_VERSION_1 blue)
     at false = list_texts numbered_json (λ p. (tt, (tt, tt))) (numbered_from 0 blue)
 
 shadow_texts : (s : Settings) → IsConfigured s → (v : Shadow) → HasTexts (shadow_json s v)
 shadow_texts s c v =
-    let deps : HasTexts (deps_json s.version v.deps) = (blue_texts s.version v.deps.blue, (tt, tt)) in
-    (refl, account_texts s c v.account, (refl, tt, (refl, deps, (refl, tt, (refl, label_utf8 (label_of v.kind), (refl, name_utf8 v.name, last_texts s c v.kind))))))
+    let deps : HasTexts (deps_json s.version v.deps) = (blue_texts s.version v.deps.blue, (tt, tt)) in (
+      refl,
+      account_texts s c v.account,
+      (refl, tt, (refl, deps, (refl, tt, (refl, label_utf8 (label_of v.kind), (refl, name_utf8 v.name, last_texts s c v.kind))))),
+    )
 
 event_texts : (s : Settings) → IsConfigured s → (e : Event) → HasTexts (event_json s e)
 event_texts s c (Submit r) = request_texts s c r
@@ -80,13 +85,18 @@ event_texts s c (Balance a) = (refl, account_texts s c a, tt)
 event_texts s c (AsOf a n) = (refl, (account_texts s c a, (tt, tt)), tt)
 event_texts s c (Statement a) = (refl, account_texts s c a, tt)
 
+-- the line of an entry is UTF-8
 pub entry_utf8 : (s : Settings) (site : ℕ) (x : Entry) → IsConfigured s → IsUtf8 (compact_text (entry_json s site x))
 entry_utf8 s site x c = text_utf8 (entry_json s site x) (refl, event_texts s c x.event, (refl, reply_texts x.reply, (refl, tt, tt)))
 
-starts_texts : (names : List (List ℕ)) (starts : List ℕ) → ((i : ℕ) (name : List ℕ) → slice_get names i ≡ Some name → is_account_name name ≡ true) → ItemsHaveTexts (items_of (map start_json (accounts_of names starts)))
+starts_texts : (names : List (List ℕ)) (starts : List ℕ)
+    → ((i : ℕ) (name : List ℕ) → slice_get names i ≡ Some name → is_account_name name ≡ true)
+    → ItemsHaveTexts (items_of (map start_json (accounts_of names starts)))
 starts_texts [] starts h = tt
 starts_texts (name ∷ names) [] h = tt
 starts_texts (name ∷ names) (start ∷ starts) h = ((name_text name (h 0 name refl), (tt, tt)), starts_texts names starts (λ i. h (suc i)))
 
+-- the line of a configuration is UTF-8
 pub config_utf8 : (s : Settings) → IsConfigured s → IsUtf8 (compact_text (config_json s))
-config_utf8 s c = text_utf8 (config_json s) (refl, starts_texts s.names s.starts c.names, (refl, tt, (refl, tt, (refl, tt, (refl, tt, (refl, tt, (refl, tt, (refl, tt, tt))))))))
+config_utf8 s c = text_utf8 (config_json s)
+    (refl, starts_texts s.names s.starts c.names, (refl, tt, (refl, tt, (refl, tt, (refl, tt, (refl, tt, (refl, tt, (refl, tt, tt))))))))

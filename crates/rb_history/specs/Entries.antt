@@ -39,7 +39,8 @@ request_json s (Deposit a amount) = one_json (codes "deposit") (asked_json s a a
 request_json s (Withdraw a amount) = one_json (codes "withdraw") (asked_json s a amount)
 request_json s (Interest a rate) = one_json (codes "interest") (asked_json s a rate)
 request_json s (Cancel x) = one_json (codes "cancel") (name_json x)
-request_json s (Transfer from to amount) = one_json (codes "transfer") (three_json (account_json s from) (account_json s to) (number_json amount))
+request_json s (Transfer from to amount) = one_json (codes "transfer")
+    (three_json (account_json s from) (account_json s to) (number_json amount))
 
 -- what the home had applied, in this version of the format: how many of each site's blue operations, and how many red ones
 abbrev pub deps_json : ℕ → Deps → Data

@@ -19,7 +19,8 @@ use Rattle.rb_site.specs.declared.event.Event.{Event}
 use Rattle.rb_site.specs.declared.event.Event.TheVariants.{Submit, Batch, Receive, Apply, Pass, Balance, AsOf, Statement}
 use Rattle.rb_site.specs.declared.message.Message.TheVariants.{Shadow as ShadowMessage, Token as TokenOnItsWay}
 use Rattle.rb_site.specs.declared.reply.Reply.{Reply}
-use Rattle.rb_site.specs.declared.reply.Reply.TheVariants.{Made, Names, Held, Already, Taken, Stale, Applied, Passed, Balance as BalanceIs, Statement as StatementIs, Refused}
+use Rattle.rb_site.specs.declared.reply.Reply.TheVariants.{Made, Names, Held, Already, Taken, Stale, Applied, Passed, Balance as BalanceIs}
+use Rattle.rb_site.specs.declared.reply.Reply.TheVariants.{Statement as StatementIs, Refused}
 use Rattle.rb_statements.specs.declared.row.Row.{Row}
 use Rattle.rb_history.specs.Entries.{entry_of_line, entry_json}
 use Rattle.rb_money.specs.declared.place.TheConstants.Place.{NOWHERE}
@@ -104,8 +105,10 @@ IsReply (Refused why) = IsRefusal why
 
 -- the line of each such entry of a site of the configuration is read as the entry
 abbrev pub EntriesAreRead : Type 0
-EntriesAreRead = (s : Settings) → IsConfigured s → (site : ℕ) (x : Entry) → site < s.sites → IsEvent s x.event → IsReply x.reply → entry_of_line s (compact_text (entry_json s site x)) ≡ Some (site, x)
+EntriesAreRead = (s : Settings) → IsConfigured s → (site : ℕ) (x : Entry) → site < s.sites → IsEvent s x.event → IsReply x.reply
+    → entry_of_line s (compact_text (entry_json s site x)) ≡ Some (site, x)
 
 -- what is read of any line is an entry of a site of the configuration that a line tells whole
 abbrev pub ReadEntriesFit : Type 0
-ReadEntriesFit = (s : Settings) (line : List ℕ) (site : ℕ) (x : Entry) → entry_of_line s line ≡ Some (site, x) → (site < s.sites) × IsEvent s x.event × IsReply x.reply
+ReadEntriesFit = (s : Settings) (line : List ℕ) (site : ℕ) (x : Entry) → entry_of_line s line ≡ Some (site, x)
+    → (site < s.sites) × IsEvent s x.event × IsReply x.reply

@@ -5,7 +5,8 @@ use Rattle.serde_json.specs.Find.{get}
 use Rattle.rb_money.specs.Settings.{Settings}
 use Rattle.rb_shadow.specs.declared.deps.Deps.{Deps}
 use Rattle.rb_shadow.specs.declared.kind.Kind.{Kind}
-use Rattle.rb_shadow.specs.declared.kind.Kind.TheVariants.{Deposit as DepositKind, Withdraw as WithdrawKind, Declined as DeclinedKind, Interest as InterestKind, Cancel as CancelKind, Transfer as TransferKind}
+use Rattle.rb_shadow.specs.declared.kind.Kind.TheVariants.{Deposit as DepositKind, Withdraw as WithdrawKind, Declined as DeclinedKind}
+use Rattle.rb_shadow.specs.declared.kind.Kind.TheVariants.{Interest as InterestKind, Cancel as CancelKind, Transfer as TransferKind}
 use Rattle.rb_shadow.specs.declared.label.Label.{Label}
 use Rattle.rb_shadow.specs.declared.label.Label.TheVariants.{Deposit, Withdraw, Declined, Interest, Cancel, Transfer}
 use Rattle.rb_shadow.specs.declared.shadow.Shadow.{Shadow}
@@ -21,7 +22,9 @@ use Rattle.rb_history.specs.Fields.{field, label_at}
 
 -- what the home had applied, from the list of its blue counts, as the version tells them, and its red one
 abbrev pub deps_at : ℕ → Data → Option Deps
-deps_at version d = option_and_then (λ p. option_and_then (λ blue. option_map (λ red. record { blue = blue; red = red }) (number_below (2 ^ 32) p.1)) (blue_at version p.0)) (pair_of d)
+deps_at version d = option_and_then
+    (λ p. option_and_then (λ blue. option_map (λ red. record { blue = blue; red = red }) (number_below (2 ^ 32) p.1))
+    (blue_at version p.0)) (pair_of d)
 
 -- a cancellation has a target as the seventh of its members, a transfer an account to which it goes, and no other kind has a seventh
 abbrev pub kind_of : Settings → Data → Label → Option Kind
@@ -37,7 +40,8 @@ kind_at s d = option_and_then (kind_of s d) (field (codes "kind") label_at d)
 
 abbrev pub shadow_at : Settings → Data → Option Shadow
 shadow_at s d =
-    option_and_then (λ account. option_and_then (λ amount. option_and_then (λ deps. option_and_then (λ home. option_and_then (λ kind. option_map (λ name.
+    option_and_then (λ account. option_and_then
+    (λ amount. option_and_then (λ deps. option_and_then (λ home. option_and_then (λ kind. option_map (λ name.
     record { name = name; home = home; deps = deps; account = account; amount = amount; kind = kind })
     (field (codes "name") name_at d))
     (kind_at s d))
@@ -48,7 +52,9 @@ shadow_at s d =
 
 -- the token on its way, from the list of its epoch, the site that it goes to, and its red count
 abbrev pub token_at : Data → Option TokenMessage
-token_at d = option_and_then (λ p. option_and_then (λ epoch. option_and_then (λ to. option_map (λ red. record { epoch = epoch; to = to; red = red }) (number_below (2 ^ 32) p.2)) (number_below (2 ^ 8) p.1)) (number_below (2 ^ 32) p.0)) (three_of d)
+token_at d = option_and_then (λ p. option_and_then
+    (λ epoch. option_and_then (λ to. option_map (λ red. record { epoch = epoch; to = to; red = red }) (number_below (2 ^ 32) p.2))
+    (number_below (2 ^ 8) p.1)) (number_below (2 ^ 32) p.0)) (three_of d)
 
 -- the event that an object's key tells
 abbrev pub recorded_of : Settings → Data → Option Event

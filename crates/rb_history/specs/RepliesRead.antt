@@ -1,15 +1,21 @@
 -- Which reply an object is.
-use Rattle.std.specs.Prelude.{ℕ, ℤ, ◌^◌, ◌==◌, Bool, false, List, [], ◌∷◌, Option, Some, None, bytes_eq, codes, unwrap_or, if◌then◌else◌, option_and_then, option_map}
+use Rattle.std.specs.Prelude.{ℕ, ℤ, ◌^◌, ◌==◌, Bool, false, List, [], ◌∷◌, Option, Some, None, bytes_eq, codes, unwrap_or, if◌then◌else◌}
+use Rattle.std.specs.Prelude.{option_and_then, option_map}
 use Rattle.serde_json.specs.Data.{Data, Items, no_items, item}
 use Rattle.serde_json.specs.Find.{get, as_array, as_bool, as_i64, as_number, as_str}
 use Rattle.rb_money.specs.Refusals.{number_of_refusal}
 use Rattle.rb_money.specs.declared.refusal.Cause.{Cause}
 use Rattle.rb_money.specs.declared.refusal.Cause.TheVariants.{Declined as CauseDeclined, Refused as CauseRefused}
 use Rattle.rb_money.specs.declared.refusal.Refusal.{Refusal}
-use Rattle.rb_money.specs.declared.refusal.Refusal.TheVariants.{UnknownAccount, BadAmount, BadRate, UnknownOperation, NotCancellable, AlreadyCancelled, NumbersExhausted, NeedToken, RedBehind, WouldOverdraw, DeltaTooLarge, BadBatch, BatchRefused, NotHeld, NotReady, InboxFull, BadMessage, Conflict, NoMessage, NoSite, NotYours, PositionBeyond, HistoryFull, SameAccount}
+use Rattle.rb_money.specs.declared.refusal.Refusal.TheVariants.{UnknownAccount, BadAmount, BadRate, UnknownOperation, NotCancellable}
+use Rattle.rb_money.specs.declared.refusal.Refusal.TheVariants.{AlreadyCancelled, NumbersExhausted, NeedToken, RedBehind, WouldOverdraw}
+use Rattle.rb_money.specs.declared.refusal.Refusal.TheVariants.{DeltaTooLarge, BadBatch, BatchRefused, NotHeld, NotReady, InboxFull}
+use Rattle.rb_money.specs.declared.refusal.Refusal.TheVariants.{BadMessage, Conflict, NoMessage, NoSite, NotYours, PositionBeyond}
+use Rattle.rb_money.specs.declared.refusal.Refusal.TheVariants.{HistoryFull, SameAccount}
 use Rattle.rb_shadow.specs.declared.op_name.OpName.{OpName}
 use Rattle.rb_site.specs.declared.reply.Reply.{Reply}
-use Rattle.rb_site.specs.declared.reply.Reply.TheVariants.{Made, Names, Held, Already, Taken, Stale, Applied, Passed, Balance, Statement, Refused}
+use Rattle.rb_site.specs.declared.reply.Reply.TheVariants.{Made, Names, Held, Already, Taken, Stale, Applied, Passed, Balance, Statement}
+use Rattle.rb_site.specs.declared.reply.Reply.TheVariants.{Refused}
 use Rattle.rb_statements.specs.declared.row.Row.{Row}
 use Rattle.rb_commands.specs.Values.{either, name_at, number_below, size_of}
 use Rattle.rb_history.specs.Fields.{field, label_at, six_of}
@@ -30,11 +36,14 @@ cancelled_of d = if size_of d == 2 then option_map AlreadyCancelled (field (code
 
 -- too few red operations applied, from an object of three members
 abbrev pub behind_of : Data → Option Refusal
-behind_of d = if size_of d == 3 then option_and_then (λ seen. option_map (RedBehind seen) (field (codes "needed") (number_below (2 ^ 32)) d)) (field (codes "seen") (number_below (2 ^ 32)) d) else None
+behind_of d = if size_of d == 3 then option_and_then
+    (λ seen. option_map (RedBehind seen) (field (codes "needed") (number_below (2 ^ 32)) d))
+    (field (codes "seen") (number_below (2 ^ 32)) d) else None
 
 -- a batch refused, from an object of three members
 abbrev pub refused_batch_told : Data → Option Refusal
-refused_batch_told d = if size_of d == 3 then option_and_then (λ index. option_map (BatchRefused index) (field (codes "cause") cause_at d)) (field (codes "index") (number_below (2 ^ 8)) d) else None
+refused_batch_told d = if size_of d == 3 then option_and_then
+    (λ index. option_map (BatchRefused index) (field (codes "cause") cause_at d)) (field (codes "index") (number_below (2 ^ 8)) d) else None
 
 -- a bad message, from an object of two members
 abbrev pub bad_message_told : Data → Option Refusal
@@ -42,7 +51,9 @@ bad_message_told d = if size_of d == 2 then option_map BadMessage (field (codes 
 
 -- the refusals that their numbers alone tell; of running out of memory no line tells
 abbrev pub plain_refusals : List Refusal
-plain_refusals = UnknownAccount ∷ BadAmount ∷ BadRate ∷ UnknownOperation ∷ NotCancellable ∷ NumbersExhausted ∷ NeedToken ∷ WouldOverdraw ∷ DeltaTooLarge ∷ BadBatch ∷ NotHeld ∷ NotReady ∷ InboxFull ∷ Conflict ∷ NoMessage ∷ NoSite ∷ NotYours ∷ PositionBeyond ∷ HistoryFull ∷ SameAccount ∷ []
+plain_refusals = UnknownAccount ∷ BadAmount ∷ BadRate ∷ UnknownOperation ∷ NotCancellable ∷ NumbersExhausted ∷ NeedToken ∷ WouldOverdraw
+    ∷ DeltaTooLarge ∷ BadBatch ∷ NotHeld ∷ NotReady ∷ InboxFull ∷ Conflict ∷ NoMessage ∷ NoSite ∷ NotYours ∷ PositionBeyond ∷ HistoryFull
+    ∷ SameAccount ∷ []
 
 -- the first of these that has the number
 abbrev pub find_refusal : ℕ → List Refusal → Option Refusal
@@ -55,7 +66,9 @@ plain_of d n = if size_of d == 1 then find_refusal n plain_refusals else None
 
 -- the refusal of this number that an object tells
 abbrev pub refusal_told : Data → ℕ → Option Refusal
-refusal_told d n = if n == 6 then cancelled_of d else (if n == 9 then behind_of d else (if n == 13 then refused_batch_told d else (if n == 17 then bad_message_told d else plain_of d n)))
+refusal_told d n = if n == 6 then cancelled_of d
+    else (if n == 9 then behind_of d
+    else (if n == 13 then refused_batch_told d else (if n == 17 then bad_message_told d else plain_of d n)))
 
 -- ---- the other replies
 
@@ -74,7 +87,9 @@ moved_told d = option_and_then as_i64 (as_number d)
 -- a row, from the list of its position, name and kind, what it moved, whether it is cancelled, and the balance after it
 abbrev pub row_at : Data → Option Row
 row_at d =
-    option_and_then (λ p. option_and_then (λ position. option_and_then (λ name. option_and_then (λ kind. option_and_then (λ moved. option_and_then (λ cancelled. option_map (λ balance.
+    option_and_then (λ p. option_and_then
+    (λ position. option_and_then (λ name. option_and_then
+    (λ kind. option_and_then (λ moved. option_and_then (λ cancelled. option_map (λ balance.
     record { position = position; name = name; kind = kind; moved = moved; cancelled = cancelled; balance = balance })
     (number_below (2 ^ 64) p.5))
     (as_bool p.4))
@@ -120,8 +135,10 @@ statement_told d = option_and_then (λ start. option_and_then (λ balance. optio
 
 -- the reply that tells no refusal
 abbrev pub answer_of : Data → Option Reply
-answer_of d = if size_of d == 1 then short_of d else (if size_of d == 2 then made_told d else (if size_of d == 3 then statement_told d else None))
+answer_of d = if size_of d == 1 then short_of d
+    else (if size_of d == 2 then made_told d else (if size_of d == 3 then statement_told d else None))
 
 -- the reply that an object is
 abbrev pub reply_told : Data → Option Reply
-reply_told d = either (get (codes "refused") d) (λ n. option_map Refused (option_and_then (refusal_told d) (number_below (2 ^ 8) n))) (answer_of d)
+reply_told d = either (get (codes "refused") d) (λ n. option_map Refused (option_and_then (refusal_told d) (number_below (2 ^ 8) n)))
+    (answer_of d)

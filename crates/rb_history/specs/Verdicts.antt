@@ -10,7 +10,9 @@ order_json sites = one_json (codes "order") (list_json number_json sites)
 
 -- the first entry that its site doesn't record: its position in the history, from 1, and its site
 abbrev pub wrong_reply_json : ℕ → ℕ → Data
-wrong_reply_json site event = object (member (codes "event") (number_json event) (member (codes "fault") (string (codes "reply")) (member (codes "site") (number_json site) no_members)))
+wrong_reply_json site event = object
+    (member (codes "event") (number_json event)
+    (member (codes "fault") (string (codes "reply")) (member (codes "site") (number_json site) no_members)))
 
 -- each site's next entry, by its position from 1, where none of them can be taken
 abbrev pub stuck_json : List ℕ → Data

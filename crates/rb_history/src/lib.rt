@@ -3,36 +3,19 @@
 //! Tests: rb_tests, entries.rt.
 #![tactic(auto)]
 
-mod answer;
-mod config_write;
-mod counts;
-mod entry;
-mod event;
-mod items;
-mod label;
-mod numbers;
-mod receipt;
-mod refusal;
-mod shadow;
-mod shown;
-mod usual_counts;
-mod usual_event;
-mod usual_line;
-mod usual_part;
-mod usual_refusal;
-mod usual_reply;
-mod usual_shadow;
-mod usual_shown;
-mod verdict;
+mod fast;
+mod read;
+mod write;
 
 ghost use Rattle.rb_history.specs.ConfigLines.{ConfigsAreRead};
 ghost use Rattle.rb_history.specs.Fits.{EntriesAreRead, ReadEntriesFit};
 ghost use Rattle.rb_history.specs.OneLine.{ConfigsAreLines, EntriesAreLines};
 
-pub use config_write::write_config;
-pub use entry::{append_line, read_line, write_line};
 pub use rb_commands::{LineFault, read_command, read_config, write_reply};
-pub use verdict::{order_line, stuck_line, wrong_reply_line};
+pub use read::entry::read_line;
+pub use write::config::write_config;
+pub use write::entry::{append_line, write_line};
+pub use write::verdict::{order_line, stuck_line, wrong_reply_line};
 
 /// The line that is written for a configuration is read as the configuration.
 pub fn configs_are_read()

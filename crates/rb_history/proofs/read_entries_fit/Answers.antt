@@ -1,4 +1,4 @@
-use Rattle.rb_history.proofs.ReadFits.{read_fits}
+use Rattle.rb_history.proofs.EntriesFit.{read_fits}
 use Rattle.rb_history.proofs.read_entries_fit.Goals as goal
 
 pub returns : goal.returns

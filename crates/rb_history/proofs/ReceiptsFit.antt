@@ -1,0 +1,89 @@
+-- What is read of a shadow, of a token or of any event fits a line.
+use Rattle.std.proofs.Common.{◌^◌, ℕ, Some, codes}
+use Rattle.std.specs.Prelude.{◌==◌, IfSome, option_map}
+use Rattle.serde_json.specs.Data.{Data}
+use Rattle.serde_json.specs.Find.{get}
+use Rattle.rb_money.specs.Settings.{Settings}
+use Rattle.rb_shadow.specs.NameText.{IsName}
+use Rattle.rb_shadow.specs.declared.deps.Deps.{Deps}
+use Rattle.rb_shadow.specs.declared.kind.Kind.TheVariants.{Deposit as DepositKind, Withdraw as WithdrawKind, Declined as DeclinedKind}
+use Rattle.rb_shadow.specs.declared.kind.Kind.TheVariants.{Interest as InterestKind, Cancel as CancelKind, Transfer as TransferKind}
+use Rattle.rb_shadow.specs.declared.label.Label.{Label}
+use Rattle.rb_shadow.specs.declared.label.Label.TheVariants.{Deposit, Withdraw, Declined, Interest, Cancel, Transfer}
+use Rattle.rb_site.specs.declared.event.Event.TheVariants.{Receive}
+use Rattle.rb_site.specs.declared.message.Message.TheVariants.{Token as TokenOnItsWay}
+use Rattle.rb_commands.specs.Requests.{place_at}
+use Rattle.rb_commands.specs.Values.{name_at, number_below, pair_of, size_of, three_of}
+use Rattle.rb_history.specs.Counts.{blue_at}
+use Rattle.rb_history.specs.Fields.{field, label_at}
+use Rattle.rb_history.specs.Fits.{IsEvent, IsKind, IsKnown, IsShadow}
+use Rattle.rb_history.specs.Recorded.{deps_at, event_at, kind_at, kind_of, recorded_of, shadow_at, token_at}
+use Rattle.rb_history.proofs.CountsFit.{AreBlue, blue}
+use Rattle.rb_history.proofs.EventsFit.{command}
+use Rattle.rb_history.proofs.FitsLaws.{IsByte, IsLong, IsWord, fits_either, fits_field, fits_if, fits_map, fits_next, fits_then}
+use Rattle.rb_history.proofs.PartsFit.{byte_at, long_at, name, number, place}
+
+abbrev AreDeps : ℕ → Deps → Type 0
+AreDeps version c = AreBlue version c.blue × IsWord c.red
+
+deps : (version : ℕ) (d : Data) → IfSome (deps_at version d) (AreDeps version)
+deps version d =
+    let Q = AreDeps version in
+    fits_next Q _ (pair_of d) (λ p.
+    fits_then (AreBlue version) Q _ (blue_at version p.0) (blue version p.0) (λ ns h.
+    fits_map IsWord Q (λ red. record { blue = ns; red = red }) (number_below (2 ^ 32) p.1) (number (2 ^ 32) p.1) (λ n small. (h, small))))
+
+kind_by : (s : Settings) (d : Data) (label : Label) → IfSome (kind_of s d label) (IsKind s)
+kind_by s d Cancel = fits_if (IsKind s) (size_of d == 7) _ (λ e.
+    fits_map IsName (IsKind s) CancelKind (field (codes "target") name_at d) (fits_field IsName (codes "target") name_at d name) (λ x h. h))
+kind_by s d Transfer = fits_if (IsKind s) (size_of d == 7) _ (λ e.
+    fits_map (IsKnown s) (IsKind s) TransferKind (field (codes "to") (place_at s) d)
+    (fits_field (IsKnown s) (codes "to") (place_at s) d (place s)) (λ a h. h))
+kind_by s d Deposit = fits_if (IsKind s) (size_of d == 6) (Some DepositKind) (λ e. tt)
+kind_by s d Withdraw = fits_if (IsKind s) (size_of d == 6) (Some WithdrawKind) (λ e. tt)
+kind_by s d Declined = fits_if (IsKind s) (size_of d == 6) (Some DeclinedKind) (λ e. tt)
+kind_by s d Interest = fits_if (IsKind s) (size_of d == 6) (Some InterestKind) (λ e. tt)
+
+kind : (s : Settings) (d : Data) → IfSome (kind_at s d) (IsKind s)
+kind s d = fits_next (IsKind s) (kind_of s d) (field (codes "kind") label_at d) (kind_by s d)
+
+shadow : (s : Settings) (d : Data) → IfSome (shadow_at s d) (IsShadow s)
+shadow s d =
+    let Q = IsShadow s in
+    let account_there = fits_field (IsKnown s) (codes "account") (place_at s) d (place s) in
+    let deps_there = fits_field (AreDeps s.version) (codes "deps") (deps_at s.version) d (deps s.version) in
+    let name_there = fits_field IsName (codes "name") name_at d name in
+    fits_then (IsKnown s) Q _ (field (codes "account") (place_at s) d) account_there (λ account a.
+    fits_then IsLong Q _ (field (codes "amount") (number_below (2 ^ 64)) d) (long_at (codes "amount") d) (λ amount b.
+    fits_then (AreDeps s.version) Q _ (field (codes "deps") (deps_at s.version) d) deps_there (λ c e.
+    fits_then IsByte Q _ (field (codes "home") (number_below (2 ^ 8)) d) (byte_at (codes "home") d) (λ home f.
+    fits_then (IsKind s) Q _ (kind_at s d) (kind s d) (λ k g.
+    fits_map IsName Q _ (field (codes "name") name_at d) name_there (λ x h.
+    record {
+      name = h;
+      home = f;
+      sites = e.0.sites;
+      blue = e.0.fit;
+      further = e.0.further;
+      red = e.1;
+      account = a;
+      amount = b;
+      kind = g;
+    }))))))
+
+token : (s : Settings) (d : Data) → IfSome (option_map (λ sent. Receive (TokenOnItsWay sent)) (token_at d)) (IsEvent s)
+token s d =
+    fits_map (λ m. IsWord m.epoch × IsByte m.to × IsWord m.red) (IsEvent s) (λ sent. Receive (TokenOnItsWay sent)) (token_at d)
+    (fits_next _ _ (three_of d) (λ p.
+    fits_then IsWord _ _ (number_below (2 ^ 32) p.0) (number (2 ^ 32) p.0) (λ epoch a.
+    fits_then IsByte _ _ (number_below (2 ^ 8) p.1) (number (2 ^ 8) p.1) (λ to b.
+    fits_map IsWord _ (λ red. record { epoch = epoch; to = to; red = red }) (number_below (2 ^ 32) p.2) (number (2 ^ 32) p.2)
+    (λ red c. (a, b, c))))))
+    (λ m h. h)
+
+-- an event
+pub event : (s : Settings) (d : Data) → IfSome (event_at s d) (IsEvent s)
+event s d = fits_if (IsEvent s) (size_of d == 1) (recorded_of s d) (λ e.
+    fits_either (IsEvent s) (get (codes "shadow") d) _ _
+    (λ v. fits_map (IsShadow s) (IsEvent s) _ (shadow_at s v) (shadow s v) (λ made h. h))
+    (fits_either (IsEvent s) (get (codes "token") d) _ _ (token s) (command s d)))

@@ -1,0 +1,12 @@
+use Rattle.rb_shadow.specs.NameText.{name_text}
+use Rattle.rb_history.specs.Tells.{behind_quote}
+use Rattle.rb_history.proofs.Joined.{between}
+use Rattle.rb_history.proofs.fast.name.parse_name_between.Goals as goal
+
+pub returns : goal.returns
+returns c = (
+  c.in_ok-name.ensures.0,
+  between c.args.text.now c.args.front.now c.in_ok-after.field-0.now
+      (behind_quote (name_text c.in_ok-name.name)) c.in_ok-name.rest.now c.args.back.now c.in_ok-after-2.field-0.now c.in_ok-after.ensures
+      c.in_ok-name.ensures.1 c.in_ok-after-2.ensures,
+)

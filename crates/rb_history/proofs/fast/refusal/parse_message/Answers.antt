@@ -1,0 +1,7 @@
+use Rattle.rb_commands.proofs.Public.Numerals.{seventeen}
+use Rattle.json.specs.Print.{escape_byte}
+use Rattle.rb_history.proofs.fast.refusal.parse_message.Goals as goal
+
+pub returns : goal.returns
+unfolding escape_byte
+returns c = (c.in_ok-why.ensures.0, rw seventeen c.in_ok-why.ensures.1)

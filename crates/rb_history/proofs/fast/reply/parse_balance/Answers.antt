@@ -1,0 +1,6 @@
+use Rattle.json.specs.Print.{escape_byte}
+use Rattle.rb_history.proofs.fast.reply.parse_balance.Goals as goal
+
+pub returns : goal.returns
+unfolding escape_byte
+returns c = c.in_ok-cents.ensures

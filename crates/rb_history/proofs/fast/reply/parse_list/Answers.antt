@@ -1,0 +1,41 @@
+use Rattle.std.proofs.Common.{◌≡◌, [], ◌∷◌, ◌++◌, codes, ap, sym, subst, ◌∙◌, rules}
+use Rattle.rb_commands.specs.Values.{name_json}
+use Rattle.rb_shadow.specs.NameText.{IsName}
+use Rattle.rb_history.specs.Fits.{Each}
+use Rattle.rb_history.proofs.ListRead.{BeginsWith, all_read, each_more, one_more}
+use Rattle.rb_history.proofs.fast.reply.parse_list.Goals as goal
+
+pub loop-init : goal.loop-init
+loop-init c =
+    let text = c.args.text.now in
+    let none : c.new-names.result.items ≡ [] = search rules in
+    record {
+      left = search rules;
+      comma = search rules;
+      fit = search rules;
+      read = subst (BeginsWith name_json text text []) (sym none)
+          (λ later rest e. e);
+    }
+
+pub loop-preserved : goal.loop-preserved
+loop-preserved c =
+    let text = c.args.text.now in
+    let names = c.loop.names.items in
+    let next = c.in_ok-name.rest.now in
+    let made = c.in_ok-name in
+    let pushed : c.push.new.self.items ≡ names ++ (made.name ∷ []) = search rules in
+    record {
+      left = search rules;
+      comma = search rules;
+      fit = subst (Each IsName) (sym pushed) (each_more IsName names made.name c.loop.invariant.fit made.ensures.0);
+      read = subst (BeginsWith name_json text made.rest.now (codes ",")) (sym pushed)
+          (one_more name_json text c.loop.left.now c.loop.comma.now c.in_ok-after.field-0.now made.rest.now names made.name
+          c.loop.invariant.read c.in_ok-after.ensures (c.in_ok-after-2.ensures ∙ ap (λ l. codes "\"" ++ l) made.ensures.1));
+    }
+
+pub returns-in-Some : goal.returns-in-Some
+returns-in-Some c = (
+  c.loop.invariant.fit,
+  all_read name_json c.args.text.now c.loop.left.now c.loop.comma.now c.in-Some.rest.now c.loop.names.items c.loop.invariant.read
+      c.in-Some.ensures,
+)

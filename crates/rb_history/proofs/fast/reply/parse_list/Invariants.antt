@@ -1,0 +1,15 @@
+use denote.Text.{Utf8}
+use denote.Shadow.{shadow}
+use Rattle.rb_commands.specs.Values.{name_json}
+use Rattle.rb_shadow.specs.NameText.{IsName}
+use Rattle.rb_history.specs.Fits.{Each}
+use Rattle.rb_history.proofs.ListRead.{BeginsWith}
+use Rattle.rb_history.proofs.fast.reply.parse_list.Given as goal
+
+abbrev pub invariant-loop : goal.invariant-loop
+invariant-loop l = record {
+  left : shadow (Utf8 l.left);
+  comma : shadow (Utf8 l.comma);
+  fit : Each IsName l.names.items;
+  read : BeginsWith name_json l.text l.left l.comma l.names.items;
+}

@@ -1,0 +1,45 @@
+use Rattle.std.proofs.Common.{◌≡◌, to_z, of_z, w64, rules, ◌++◌, List, ℕ, codes, decimal, ap, sym, ◌∙◌, append_assoc}
+use Rattle.std.specs.Fmt.{signed_decimal}
+use Rattle.json.specs.Print.{token_text}
+use Rattle.json.specs.Token.{boolean}
+use Rattle.rb_shadow.specs.NameText.{name_text}
+use Rattle.rb_commands.specs.Values.{label_text}
+use Rattle.rb_commands.proofs.Public.Numerals.{integer_text}
+use Rattle.rb_history.specs.Tells.{behind_quote}
+use Rattle.rb_history.proofs.fast.statement.parse_row.Goals as goal
+
+row_text : (position name kind moved cancelled balance rest : List ℕ)
+    → (codes "[" ++ (position ++ codes ",\"")) ++
+    (name ++ (codes ",\"" ++ (kind ++ (codes
+    "," ++ (moved ++ (codes "," ++ (cancelled ++ ((codes "," ++ (balance ++ codes "]")) ++ rest))))))))
+    ≡ (codes "[" ++ (position ++ (codes
+    ",\"" ++ (name ++ (codes ",\"" ++
+    (kind ++ (codes "," ++ (moved ++ (codes "," ++ (cancelled ++ (codes "," ++ (balance ++ codes "]")))))))))))) ++ rest
+row_text position name kind moved cancelled balance rest = simp append_assoc
+
+pub returns : goal.returns
+returns c =
+    let position = decimal c.in_ok-position.position in
+    let name = behind_quote (name_text c.in_ok-name.name) in
+    let kind = behind_quote (label_text c.in_ok-kind.kind) in
+    let moved = signed_decimal c.in_ok-moved.moved in
+    let cancelled = token_text (boolean c.in_ok-cancelled.cancelled) in
+    let balance = decimal c.in_ok-balance.balance in
+    let rest = c.in_ok-balance.rest.now in
+    let whole = λ (m : List ℕ). (codes
+    "[" ++ (position ++ (codes ",\"" ++
+    (name ++ (codes ",\"" ++ (kind ++ (codes
+    "," ++ (m ++ (codes "," ++ (cancelled ++ (codes "," ++ (balance ++ codes "]")))))))))))) ++ rest in
+    let same : to_z w64 (of_z w64 c.in_ok-moved.moved) ≡ c.in_ok-moved.moved = search rules in
+    rw same (
+      (c.in_ok-position.ensures.0, c.in_ok-name.ensures.0, c.in_ok-moved.ensures.0, c.in_ok-balance.ensures.0),
+      c.in_ok-position.ensures.1 ∙ ap (λ l. (codes "[" ++ (position ++ codes ",\"")) ++ l)
+          (c.in_ok-name.ensures.1 ∙ ap (λ l. name ++ l)
+          (c.in_ok-after.ensures ∙ ap (λ l. codes ",\"" ++ l)
+          (c.in_ok-kind.ensures ∙ ap (λ l. kind ++ l)
+          (c.in_ok-after-2.ensures ∙ ap (λ l. codes "," ++ l)
+          (c.in_ok-moved.ensures.1 ∙ ap (λ l. moved ++ l)
+          (c.in_ok-after-3.ensures ∙ ap (λ l. codes "," ++ l)
+          (c.in_ok-cancelled.ensures ∙ ap (λ l. cancelled ++ l) c.in_ok-balance.ensures.1)))))))
+          ∙ row_text position name kind moved cancelled balance rest ∙ ap whole (sym (integer_text c.in_ok-moved.moved)),
+    )

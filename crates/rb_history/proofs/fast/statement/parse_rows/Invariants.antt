@@ -1,0 +1,14 @@
+use denote.Text.{Utf8}
+use denote.Shadow.{shadow}
+use Rattle.rb_commands.specs.Statements.{row_json}
+use Rattle.rb_history.specs.Fits.{Each, IsStatementRow}
+use Rattle.rb_history.proofs.ListRead.{BeginsWith}
+use Rattle.rb_history.proofs.fast.statement.parse_rows.Given as goal
+
+abbrev pub invariant-loop : goal.invariant-loop
+invariant-loop l = record {
+  left : shadow (Utf8 l.left);
+  comma : shadow (Utf8 l.comma);
+  fit : Each IsStatementRow l.rows.items;
+  read : BeginsWith row_json l.text l.left l.comma l.rows.items;
+}

@@ -1,0 +1,16 @@
+use Rattle.std.proofs.Common.{◌≡◌, ◌≤◌, ◌-◌, length, take, drop}
+use Rattle.std.specs.Prelude.{replicate}
+use Rattle.rb_money.specs.declared.limits.TheConstants.{MOST_SITES}
+use Rattle.serde_json.specs.View.{items_view}
+use Rattle.rb_commands.proofs.Public.Reading.{with_front}
+use Rattle.rb_history.specs.Counts.{numbered_in}
+use Rattle.rb_history.proofs.read.counts.numbered_counts.Given as goal
+
+abbrev pub invariant-loop-item : goal.invariant-loop-item
+invariant-loop-item l = record {
+  few : l.least ≤ MOST_SITES;
+  sites : length l.counts ≡ MOST_SITES;
+  none : drop l.least l.counts ≡ replicate (MOST_SITES - l.least) 0;
+  read : with_front (take l.least l.counts) (numbered_in l.least (items_view (drop l.item-index l.items))) ≡ numbered_in 0
+      (items_view l.items);
+}

@@ -1,0 +1,11 @@
+use Rattle.std.proofs.Common.{◌≡◌, ◌-◌, length, take, drop}
+use Rattle.std.specs.Prelude.{replicate}
+use Rattle.rb_money.specs.declared.limits.TheConstants.{MOST_SITES}
+use Rattle.rb_history.proofs.read.counts.widened.Given as goal
+
+abbrev pub invariant-loop-site : goal.invariant-loop-site
+invariant-loop-site l = record {
+  sites : length l.counts ≡ MOST_SITES;
+  same : take l.site l.counts ≡ take l.site l.first;
+  none : drop l.site l.counts ≡ replicate (MOST_SITES - l.site) 0;
+}

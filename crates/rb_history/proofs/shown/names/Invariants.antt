@@ -1,8 +1,0 @@
-use Rattle.std.proofs.Common.{◌≡◌, drop}
-use Rattle.serde_json.specs.View.{items_view}
-use Rattle.rb_history.specs.RepliesRead.{names_in}
-use Rattle.rb_commands.proofs.Public.Reading.{with_front}
-use Rattle.rb_history.proofs.shown.names.Given as goal
-
-abbrev pub invariant-loop-item : goal.invariant-loop-item
-invariant-loop-item l = with_front l.names.items (names_in (items_view (drop l.item-index l.item-items))) ≡ names_in (items_view l.item-items)

@@ -1,8 +1,0 @@
-use Rattle.std.proofs.Common.{◌≡◌, drop}
-use Rattle.serde_json.specs.View.{items_view}
-use Rattle.rb_history.specs.RepliesRead.{rows_in}
-use Rattle.rb_commands.proofs.Public.Reading.{with_front}
-use Rattle.rb_history.proofs.shown.rows.Given as goal
-
-abbrev pub invariant-loop-item : goal.invariant-loop-item
-invariant-loop-item l = with_front l.rows.items (rows_in (items_view (drop l.item-index l.item-items))) ≡ rows_in (items_view l.item-items)

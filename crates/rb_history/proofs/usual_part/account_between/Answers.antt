@@ -1,6 +1,0 @@
-use Rattle.rb_history.specs.Tells.{account_behind_quote}
-use Rattle.rb_history.proofs.Told.{between}
-use Rattle.rb_history.proofs.usual_part.account_between.Goals as goal
-
-pub returns : goal.returns
-returns c = (c.in_ok-place.ensures.known, between c.args.text.now c.args.front.now c.in_ok-after.field-0.now (account_behind_quote c.args.config.now c.in_ok-place.place) c.in_ok-place.rest.now c.args.back.now c.in_ok-after-2.field-0.now c.in_ok-after.ensures c.in_ok-place.ensures.text c.in_ok-after-2.ensures)

@@ -1,7 +1,0 @@
-use Rattle.rb_commands.proofs.Public.Numerals.{seventeen}
-use Rattle.json.specs.Print.{escape_byte}
-use Rattle.rb_history.proofs.usual_refusal.message.Goals as goal
-
-pub returns : goal.returns
-unfolding escape_byte
-returns c = (c.in_ok-why.ensures.0, rw seventeen c.in_ok-why.ensures.1)

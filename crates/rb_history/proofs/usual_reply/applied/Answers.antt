@@ -1,6 +1,0 @@
-use Rattle.json.specs.Print.{escape_byte}
-use Rattle.rb_history.proofs.usual_reply.applied.Goals as goal
-
-pub returns : goal.returns
-unfolding escape_byte
-returns c = c.in_ok-name.ensures

@@ -1,0 +1,16 @@
+use Rattle.std.proofs.Common.{◌≡◌, ◌++◌, length, take, drop, []}
+use Rattle.std.specs.Prelude.{map}
+use denote.Text.{Utf8}
+use denote.Shadow.{shadow}
+use Rattle.rb_history.specs.ConfigLines.{accounts_of, start_json}
+use Rattle.rb_commands.proofs.Public.Listed.{rest_text}
+use Rattle.rb_history.proofs.write.config.append_accounts.Given as goal
+
+abbrev pub invariant-loop-place : goal.invariant-loop-place
+invariant-loop-place l = record {
+  utf8 : shadow (Utf8 l.comma);
+  front : take (length l.fn.out.items) l.out.items ≡ l.fn.out.items;
+  written : l.out.items ++ rest_text l.comma
+      (map start_json (drop l.place (accounts_of l.config.names l.config.starts))) ≡ l.fn.out.items ++ rest_text []
+      (map start_json (accounts_of l.config.names l.config.starts));
+}

@@ -1,0 +1,34 @@
+use Rattle.std.proofs.Common.{◌≡◌, ◌<◌, ◌++◌, List, ℕ, [], length, get_or, codes, decimal, ap, ◌∙◌, append_assoc, arith, rules}
+use Rattle.std.specs.Prelude.{unwrap_or}
+use Rattle.std.proofs.lemmas.Option.{slice_get-get_or}
+use Rattle.json.specs.Print.{quoted}
+use Rattle.serde_json.specs.Written.{compact_text}
+use Rattle.rb_history.specs.Entries.{account_json}
+use Rattle.rb_commands.proofs.Public.Appended.{both, then}
+use Rattle.rb_history.proofs.write.config.append_start.Goals as goal
+
+start_text : (comma account n : List ℕ)
+    → (comma ++ (codes "[" ++ (account ++ codes ","))) ++ (n ++ codes "]") ≡ comma ++ (codes
+    "[" ++ (account ++ (codes "," ++ (n ++ codes "]"))))
+start_text comma account n = simp append_assoc
+
+pub returns : goal.returns
+returns c =
+    let old = c.args.out.now.items in
+    let comma = c.args.comma.now in
+    let s = c.args.config.now in
+    let place = c.args.place.0 in
+    let start = c.in-Some.field-0.0 in
+    let account = compact_text (account_json s c.args.place) in
+    let listed = codes "[" ++ (account ++ codes ",") in
+    let equal = c.accounts.ensures.configured.starts_of_all in
+    let within : place < length s.names = omega arith in
+    let named : account ≡ quoted (get_or s.names place []) = ap (λ o. quoted (unwrap_or o (codes "?")))
+    (slice_get-get_or s.names place [] within) in
+    let begun : start ≡ get_or s.starts place 0 = search rules in
+    let two = both old c.append.new.out.items c.append_account.new.out.items comma listed c.in_ok-append.ensures
+    c.in_ok-append_account.ensures in
+    then c.append_number.result old c.append_account.new.out.items c.append_number.new.out.items (comma ++ listed)
+    (decimal start ++ codes "]") _ two c.append_number.ensures
+    (start_text comma account (decimal start) ∙ ap (λ l. comma ++ (codes "[" ++ (l ++ (codes "," ++ (decimal start ++ codes "]"))))) named
+    ∙ ap (λ n. comma ++ (codes "[" ++ (quoted (get_or s.names place []) ++ (codes "," ++ (decimal n ++ codes "]"))))) begun)

@@ -1,0 +1,13 @@
+use Rattle.std.proofs.Common.{◌≡◌, IsUtf8, false, true, rules, sym, subst}
+use Rattle.serde_json.specs.Written.{compact_text}
+use Rattle.rb_history.specs.Entries.{entry_json}
+use Rattle.rb_history.proofs.Texts.{entry_utf8}
+use Rattle.rb_history.proofs.write.entry.write_line.Goals as goal
+
+pub unreachable-requires : goal.unreachable-requires
+unreachable-requires c =
+    let line = compact_text (entry_json c.args.config.now c.args.site c.args.entry.now) in
+    let bytes : c.append_line.new.out.items ≡ line = search rules in
+    let never : false ≡ true = c.in-Err.ensures.succeeds
+    (subst IsUtf8 (sym bytes) (entry_utf8 c.args.config.now c.args.site c.args.entry.now c.sites-sites.ensures.configured)) in
+    cc

@@ -1,0 +1,9 @@
+use Rattle.std.proofs.Common.{refl}
+use Rattle.serde_json.specs.Written.{compact_text}
+use Rattle.rb_history.specs.Entries.{request_json}
+use Rattle.rb_commands.proofs.Public.Appended.{then}
+use Rattle.rb_history.proofs.write.event.append_listed.Goals as goal
+
+pub returns : goal.returns
+returns c = then c.append_request.result c.args.out.now.items c.append.new.out.items c.append_request.new.out.items c.args.comma.now
+    (compact_text (request_json c.args.config.now c.args.request)) _ c.in_ok-append.ensures c.append_request.ensures refl

@@ -1,0 +1,26 @@
+use Rattle.std.proofs.Common.{codes, add-one, drop-cons, arith, rules}
+use Rattle.json.specs.Print.{escape_byte}
+use Rattle.rb_history.specs.Entries.{request_json}
+use Rattle.rb_commands.proofs.Public.Appended.{front_of_front, front_of_sum}
+use Rattle.rb_commands.proofs.Public.Listed.{item_written, list_between}
+use Rattle.rb_history.proofs.write.event.append_requests.Goals as goal
+
+pub loop-request-preserved : goal.loop-request-preserved
+loop-request-preserved c =
+    let out = c.loop-request.out.items in
+    let new = c.append_listed.new.out.items in
+    let requests = c.args.requests.now in
+    let i = c.loop-request.request-index in
+    record {
+      utf8 = search rules;
+      front = front_of_front c.args.out.now.items out new c.loop-request.invariant.front
+          (front_of_sum out new _ c.in_ok-append_listed.ensures);
+      written = item_written (request_json c.args.config.now) out new c.loop-request.comma.now _ requests i _
+          (rw add-one (drop-cons requests i _ (omega arith))) c.in_ok-append_listed.ensures c.loop-request.invariant.written;
+    }
+
+pub returns : goal.returns
+unfolding escape_byte
+returns c = list_between (request_json c.args.config.now) c.append-2.result c.args.out.now.items c.loop-request.out.items
+    c.append-2.new.out.items c.loop-request.comma.now (codes "{\"batch\":[") (codes "}") c.args.requests.now c.loop-request.request-index
+    (omega arith) c.loop-request.invariant.written c.append-2.ensures

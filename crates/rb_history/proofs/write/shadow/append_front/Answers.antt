@@ -1,0 +1,28 @@
+use Rattle.std.proofs.Common.{◌≡◌, ◌++◌, List, ℕ, [], codes, decimal, ap, ◌∙◌, append_assoc, append-nil}
+use Rattle.serde_json.specs.Written.{compact_text}
+use Rattle.rb_history.specs.Entries.{account_json, deps_json}
+use Rattle.rb_commands.proofs.Public.Appended.{both, then}
+use Rattle.rb_history.proofs.write.shadow.append_front.Goals as goal
+
+front_text : (account amount deps : List ℕ)
+    → ((codes "{\"shadow\":{\"account\":" ++ (account ++ [])) ++ (codes ",\"amount\":" ++ (amount ++ codes ",\"deps\":"))) ++ deps ≡ codes
+    "{\"shadow\":{\"account\":" ++ (account ++ (codes ",\"amount\":" ++ (amount ++ (codes ",\"deps\":" ++ deps))))
+front_text account amount deps = ap (λ l.
+    ((codes "{\"shadow\":{\"account\":" ++ l) ++ (codes ",\"amount\":" ++ (amount ++ codes ",\"deps\":"))) ++ deps) (append-nil account)
+    ∙ simp append_assoc
+
+pub returns : goal.returns
+returns c =
+    let old = c.args.out.now.items in
+    let made = c.args.shadow.now in
+    let account = compact_text (account_json c.args.config.now made.account) in
+    let told = λ (version : ℕ). compact_text (deps_json version made.deps) in
+    let deps = told c.version.result in
+    let first = codes "{\"shadow\":{\"account\":" ++ (account ++ []) in
+    let second = codes ",\"amount\":" ++ (decimal made.amount ++ codes ",\"deps\":") in
+    let two = both old c.append_account.new.out.items c.append_number.new.out.items first second c.in_ok-append_account.ensures
+    c.in_ok-append_number.ensures in
+    then c.append_deps.result old c.append_number.new.out.items c.append_deps.new.out.items
+    (first ++ second) deps _ two c.append_deps.ensures (front_text account (decimal made.amount) deps
+    ∙ ap (λ v. codes "{\"shadow\":{\"account\":" ++
+    (account ++ (codes ",\"amount\":" ++ (decimal made.amount ++ (codes ",\"deps\":" ++ told v))))) c.version.ensures.same)

@@ -1,0 +1,50 @@
+use Rattle.std.proofs.Common.{◌≡◌, ◌++◌, List, ℕ, true, codes, decimal, append_assoc, ap, sym, ◌∙◌}
+use Rattle.json.specs.Print.{escape_byte}
+use Rattle.serde_json.specs.Written.{compact_text, members_text}
+use Rattle.rb_shadow.specs.Labels.{label_of}
+use Rattle.rb_history.specs.Entries.{account_json, deps_json, last_members}
+use Rattle.rb_commands.specs.Values.{label_text, name_json}
+use Rattle.rb_commands.proofs.Public.Appended.{both, failed, then}
+use Rattle.rb_commands.proofs.Public.Plain.{quoted_label}
+use Rattle.rb_history.proofs.write.shadow.append_shadow.Goals as goal
+
+shadow_text : (account amount deps home kind name last : List ℕ)
+    → ((codes "{\"shadow\":{\"account\":" ++ (account ++ (codes ",\"amount\":" ++ (amount ++ (codes ",\"deps\":" ++ deps))))) ++ (codes
+    ",\"home\":" ++ (home ++ (codes ",\"kind\":\"" ++ (kind ++ (codes "\",\"name\":" ++ (name ++ last))))))) ++ codes "}"
+    ≡ codes "{\"shadow\":" ++ ((codes
+    "{\"account\":" ++ (account ++ (codes
+    ",\"amount\":" ++ (amount ++ (codes
+    ",\"deps\":" ++ (deps ++ (codes
+    ",\"home\":" ++ (home ++ (codes
+    ",\"kind\":" ++ ((codes "\"" ++ (kind ++ codes "\"")) ++ (codes ",\"name\":" ++ (name ++ last)))))))))))) ++ codes
+    "}")
+shadow_text account amount deps home kind name last = simp append_assoc
+
+pub returns-in_err-append_back : goal.returns-in_err-append_back
+returns-in_err-append_back c = failed c.from_residual-in_err-append_back.result c.args.out.now.items c.append_front.new.out.items
+    c.append_back.new.out.items _ _ c.from_residual-in_err-append_back.ensures.0 c.in_ok-append_front.ensures c.in_err-append_back.ensures
+
+pub returns : goal.returns
+unfolding escape_byte
+returns c =
+    let old = c.args.out.now.items in
+    let made = c.args.shadow in
+    let account = compact_text (account_json c.args.config.now made.account) in
+    let deps = compact_text (deps_json c.args.config.now.version made.deps) in
+    let label = label_of made.kind in
+    let name = compact_text (name_json made.name) in
+    let last = members_text true (last_members c.args.config.now made.kind) in
+    let amount = decimal made.amount in
+    let home = decimal made.home in
+    let first = codes "{\"shadow\":{\"account\":" ++ (account ++ (codes ",\"amount\":" ++ (amount ++ (codes ",\"deps\":" ++ deps)))) in
+    let second = codes ",\"home\":" ++ (home ++ (codes ",\"kind\":\"" ++ (label_text label ++ (codes "\",\"name\":" ++ (name ++ last))))) in
+    let whole = λ (kind : List ℕ). codes
+    "{\"shadow\":" ++ ((codes "{\"account\":" ++
+    (account ++ (codes ",\"amount\":" ++
+    (amount ++ (codes ",\"deps\":" ++
+    (deps ++ (codes ",\"home\":" ++
+    (home ++ (codes ",\"kind\":" ++ (kind ++ (codes ",\"name\":" ++ (name ++ last)))))))))))) ++ codes "}") in
+    let two = both old c.append_front.new.out.items c.append_back.new.out.items first second c.in_ok-append_front.ensures
+    c.in_ok-append_back.ensures in
+    then c.append.result old c.append_back.new.out.items c.append.new.out.items (first ++ second) (codes "}") _ two c.append.ensures
+    (shadow_text account amount deps home (label_text label) name last ∙ ap whole (sym (quoted_label label)))

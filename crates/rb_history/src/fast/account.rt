@@ -1,0 +1,51 @@
+//! Accounts, in one pass. `None` says nothing of a text.
+ghost use Rattle.std.specs.Prelude.{◌≡◌, ◌<◌, ◌^◌, ◌++◌, IfSome, codes, decimal};
+ghost use Rattle.rb_history.specs.Fits.{IsKnown};
+ghost use Rattle.rb_history.specs.Tells.{IsBetween, account_behind_quote};
+
+use crate::fast::number::parse_long_between;
+use rb_commands::scan::{after, number, plain};
+use rb_money::{Config, Place};
+
+/// The place of an account's name, behind the first quote. "?" is written for an account that there isn't.
+fn parse_account<'a>(config: &Config, text: &'a str) -> Option<(Place, &'a str)>
+    ensures known { IfSome result (λ p. IsKnown config.now p.0) }
+    ensures text { IfSome result (λ p. text.now ≡ account_behind_quote config.now p.0 ++ p.1.now) }
+{
+    let (name, rest) = plain(text)?;
+    if let Some(place) = config.accounts().place(name) {
+        return Some((place, rest));
+    }
+    if name == "?" {
+        Some((Place::NOWHERE, rest))
+    } else {
+        None
+    }
+}
+
+/// An account's name between two texts, of which the first ends with its first quote.
+#[inline(always)]
+pub fn parse_account_between<'a>(
+    config: &Config,
+    text: &'a str,
+    front: &str,
+    back: &str,
+) -> Option<(Place, &'a str)>
+    ensures { IfSome result (λ p. IsKnown config.now p.0 × IsBetween (account_behind_quote config.now p.0) text.now
+        front.now back.now p.1.now) }
+{
+    let (place, rest) = parse_account(config, after(text, front)?)?;
+    Some((place, after(rest, back)?))
+}
+
+/// An account and a number as the last member of an object, behind a text that ends with the first quote.
+#[inline(always)]
+pub fn parse_asked<'a>(config: &Config, text: &'a str, front: &str) -> Option<(Place, u64, &'a str)>
+    ensures { IfSome result (λ p. IsKnown config.now p.0 × (p.1 < 2 ^ 64) × (text.now ≡ (front.now
+        ++ ((account_behind_quote config.now p.0 ++ (codes "," ++ (decimal p.1 ++ codes "]"))) ++ codes "}"))
+        ++ p.2.now)) }
+{
+    let (place, rest) = parse_account_between(config, text, front, ",")?;
+    let (n, rest) = parse_long_between(rest, "", "]}")?;
+    Some((place, n, rest))
+}

@@ -1,0 +1,184 @@
+//! Events of a history's line, in one pass. `None` says nothing of a text.
+ghost use Rattle.std.specs.Prelude.{IfSome};
+ghost use Rattle.rb_history.specs.Entries.{request_json};
+ghost use Rattle.rb_history.specs.Fits.{IsRequest};
+ghost use Rattle.rb_history.specs.Tells.{TellsEach, TellsEvent, TellsRequest};
+
+use crate::fast::account::{parse_account_between, parse_asked};
+use crate::fast::name::parse_name_between;
+use crate::fast::number::{parse_byte_between, parse_word_between};
+use crate::fast::shadow::parse_shadow;
+use rb_commands::scan::after;
+use rb_kit::List;
+use rb_money::Config;
+use rb_scratch::Request;
+use rb_site::{Event, Message};
+use rb_token::TokenMessage;
+use std::alloc::Global;
+
+fn parse_deposit<'a>(config: &Config, text: &'a str) -> Option<(Request, &'a str)>
+    ensures { IfSome result (λ p. TellsRequest config.now p.0 text.now p.1.now) }
+{
+    let (account, amount, rest) = parse_asked(config, text, "{\"deposit\":[\"")?;
+    Some((Request::Deposit { account, amount }, rest))
+}
+
+fn parse_withdraw<'a>(config: &Config, text: &'a str) -> Option<(Request, &'a str)>
+    ensures { IfSome result (λ p. TellsRequest config.now p.0 text.now p.1.now) }
+{
+    let (account, amount, rest) = parse_asked(config, text, "{\"withdraw\":[\"")?;
+    Some((Request::Withdraw { account, amount }, rest))
+}
+
+fn parse_interest<'a>(config: &Config, text: &'a str) -> Option<(Request, &'a str)>
+    ensures { IfSome result (λ p. TellsRequest config.now p.0 text.now p.1.now) }
+{
+    let (account, rate, rest) = parse_asked(config, text, "{\"interest\":[\"")?;
+    if rate >= 0x1_0000_0000 {
+        return None;
+    }
+    let rate = rate as u32;
+    Some((Request::Interest { account, rate }, rest))
+}
+
+fn parse_cancel<'a>(config: &Config, text: &'a str) -> Option<(Request, &'a str)>
+    ensures { IfSome result (λ p. TellsRequest config.now p.0 text.now p.1.now) }
+{
+    let (target, rest) = parse_name_between(text, "{\"cancel\":\"", "}")?;
+    Some((Request::Cancel { target }, rest))
+}
+
+fn parse_transfer<'a>(config: &Config, text: &'a str) -> Option<(Request, &'a str)>
+    ensures { IfSome result (λ p. TellsRequest config.now p.0 text.now p.1.now) }
+{
+    let (from, rest) = parse_account_between(config, text, "{\"transfer\":[\"", ",\"")?;
+    let (to, amount, rest) = parse_asked(config, rest, "")?;
+    Some((Request::Transfer { from, to, amount }, rest))
+}
+
+/// A request, as the first letter of its key says.
+fn parse_request<'a>(config: &Config, text: &'a str) -> Option<(Request, &'a str)>
+    ensures { IfSome result (λ p. TellsRequest config.now p.0 text.now p.1.now) }
+{
+    match text.as_bytes().get(2) {
+        Some(b'd') => parse_deposit(config, text),
+        Some(b'w') => parse_withdraw(config, text),
+        Some(b'i') => parse_interest(config, text),
+        Some(b't') => parse_transfer(config, text),
+        _ => parse_cancel(config, text),
+    }
+}
+
+fn parse_submit<'a>(config: &Config, text: &'a str) -> Option<(Event, &'a str)>
+    ensures { IfSome result (λ p. TellsEvent config.now p.0 text.now p.1.now) }
+{
+    let (request, rest) = parse_request(config, text)?;
+    Some((Event::Submit(request), rest))
+}
+
+/// The requests of a list, and its closing bracket.
+fn parse_requests<'a>(
+    alloc: Global,
+    config: &Config,
+    text: &'a str,
+) -> Option<(Vec<Request>, &'a str)>
+    ensures { IfSome result
+        (λ p. TellsEach (request_json config.now) (IsRequest config.now) p.0.items text.now p.1.now) }
+{
+    let mut requests = Vec::new(alloc);
+    let mut left = text;
+    let mut comma = "";
+    for _ in 0..text.len() {
+        if let Some(rest) = after(left, "]") {
+            return Some((requests, rest));
+        }
+        let (request, rest) = parse_request(config, after(left, comma)?)?;
+        if requests.push(request).is_err() {
+            return None;
+        }
+        left = rest;
+        comma = ",";
+    }
+    None
+}
+
+fn parse_batch<'a>(alloc: Global, config: &Config, text: &'a str) -> Option<(Event, &'a str)>
+    ensures { IfSome result (λ p. TellsEvent config.now p.0 text.now p.1.now) }
+{
+    let (requests, rest) = parse_requests(alloc, config, after(text, "{\"batch\":[")?)?;
+    Some((Event::Batch(List::new(requests)), after(rest, "}")?))
+}
+
+fn parse_received<'a>(config: &Config, text: &'a str) -> Option<(Event, &'a str)>
+    ensures { IfSome result (λ p. TellsEvent config.now p.0 text.now p.1.now) }
+{
+    let (shadow, rest) = parse_shadow(config, text)?;
+    Some((Event::Receive(Message::Shadow(shadow)), rest))
+}
+
+fn parse_token<'a>(config: &Config, text: &'a str) -> Option<(Event, &'a str)>
+    ensures { IfSome result (λ p. TellsEvent config.now p.0 text.now p.1.now) }
+{
+    let (epoch, rest) = parse_word_between(text, "{\"token\":[", ",")?;
+    let (to, rest) = parse_byte_between(rest, "", ",")?;
+    let (red, rest) = parse_word_between(rest, "", "]}")?;
+    let token = TokenMessage { epoch, to, red };
+    Some((Event::Receive(Message::Token(token)), rest))
+}
+
+fn parse_apply<'a>(config: &Config, text: &'a str) -> Option<(Event, &'a str)>
+    ensures { IfSome result (λ p. TellsEvent config.now p.0 text.now p.1.now) }
+{
+    let (name, rest) = parse_name_between(text, "{\"apply\":\"", "}")?;
+    Some((Event::Apply(name), rest))
+}
+
+fn parse_pass<'a>(config: &Config, text: &'a str) -> Option<(Event, &'a str)>
+    ensures { IfSome result (λ p. TellsEvent config.now p.0 text.now p.1.now) }
+{
+    let (to, rest) = parse_byte_between(text, "{\"pass\":", "}")?;
+    Some((Event::Pass(to), rest))
+}
+
+fn parse_balance<'a>(config: &Config, text: &'a str) -> Option<(Event, &'a str)>
+    ensures { IfSome result (λ p. TellsEvent config.now p.0 text.now p.1.now) }
+{
+    let (account, rest) = parse_account_between(config, text, "{\"balance\":\"", "}")?;
+    Some((Event::Balance(account), rest))
+}
+
+fn parse_as_of<'a>(config: &Config, text: &'a str) -> Option<(Event, &'a str)>
+    ensures { IfSome result (λ p. TellsEvent config.now p.0 text.now p.1.now) }
+{
+    let (account, position, rest) = parse_asked(config, text, "{\"asof\":[\"")?;
+    if position >= 0x1_0000_0000 {
+        return None;
+    }
+    Some((Event::AsOf(account, position as u32), rest))
+}
+
+fn parse_statement<'a>(config: &Config, text: &'a str) -> Option<(Event, &'a str)>
+    ensures { IfSome result (λ p. TellsEvent config.now p.0 text.now p.1.now) }
+{
+    let (account, rest) = parse_account_between(config, text, "{\"statement\":\"", "}")?;
+    Some((Event::Statement(account), rest))
+}
+
+/// An event, as the first letters of its key say.
+pub fn parse_event<'a>(alloc: Global, config: &Config, text: &'a str) -> Option<(Event, &'a str)>
+    ensures { IfSome result (λ p. TellsEvent config.now p.0 text.now p.1.now) }
+{
+    match (text.as_bytes().get(2), text.as_bytes().get(3)) {
+        (Some(b's'), Some(b'h')) => parse_received(config, text),
+        (Some(b's'), _) => parse_statement(config, text),
+        (Some(b'a'), Some(b'p')) => parse_apply(config, text),
+        (Some(b'a'), _) => parse_as_of(config, text),
+        (Some(b'b'), _) => match parse_balance(config, text) {
+            Some(told) => Some(told),
+            None => parse_batch(alloc, config, text),
+        },
+        (Some(b'p'), _) => parse_pass(config, text),
+        (Some(b't'), Some(b'o')) => parse_token(config, text),
+        _ => parse_submit(config, text),
+    }
+}

@@ -1,0 +1,72 @@
+//! Refusals of a history's line, in one pass. `None` says nothing of a text.
+ghost use Rattle.std.specs.Prelude.{◌≡◌, ◌++◌, IfSome};
+ghost use Rattle.serde_json.specs.Written.{compact_text};
+ghost use Rattle.rb_commands.specs.Replies.{cause_json};
+ghost use Rattle.rb_history.specs.Fits.{IsCause};
+ghost use Rattle.rb_history.specs.Tells.{TellsReply};
+
+use crate::fast::number::{parse_byte_between, parse_word_between};
+use crate::read::refusal::plain_refusal;
+use rb_commands::scan::{after, byte};
+use rb_money::{Cause, Refusal};
+use rb_site::Reply;
+
+/// Too few red operations applied.
+pub fn parse_behind(text: &str) -> Option<(Reply, &str)>
+    ensures { IfSome result (λ p. TellsReply p.0 text.now p.1.now) }
+{
+    let (needed, rest) = parse_word_between(text, "{\"needed\":", ",\"refused\":9,\"seen\":")?;
+    let (seen, rest) = parse_word_between(rest, "", "}")?;
+    Some((Reply::Refused(Refusal::RedBehind { seen, needed }), rest))
+}
+
+/// An operation that is already cancelled.
+pub fn parse_cancelled(text: &str) -> Option<(Reply, &str)>
+    ensures { IfSome result (λ p. TellsReply p.0 text.now p.1.now) }
+{
+    let (position, rest) = parse_word_between(text, "{\"position\":", ",\"refused\":6}")?;
+    let refusal = Refusal::AlreadyCancelled { position };
+    Some((Reply::Refused(refusal), rest))
+}
+
+/// What stopped a batch, behind its key.
+fn parse_cause(text: &str) -> Option<(Cause, &str)>
+    ensures { IfSome result (λ p. IsCause p.0 × (text.now ≡ compact_text (cause_json p.0) ++ p.1.now)) }
+{
+    if let Some(rest) = after(text, "\"declined\"") {
+        return Some((Cause::Declined, rest));
+    }
+    let (number, rest) = byte(text)?;
+    Some((Cause::Refused(number), rest))
+}
+
+/// A batch refused.
+pub fn parse_batch(text: &str) -> Option<(Reply, &str)>
+    ensures { IfSome result (λ p. TellsReply p.0 text.now p.1.now) }
+{
+    let (cause, rest) = parse_cause(after(text, "{\"cause\":")?)?;
+    let (index, rest) = parse_byte_between(rest, ",\"index\":", ",\"refused\":13}")?;
+    let refusal = Refusal::BatchRefused { index, cause };
+    Some((Reply::Refused(refusal), rest))
+}
+
+/// A bad message.
+fn parse_message(text: &str) -> Option<(Reply, &str)>
+    ensures { IfSome result (λ p. TellsReply p.0 text.now p.1.now) }
+{
+    let (why, rest) = parse_byte_between(text, "{\"refused\":17,\"why\":", "}")?;
+    Some((Reply::Refused(Refusal::BadMessage { why }), rest))
+}
+
+/// A refusal that its number tells, or a bad message.
+pub fn parse_refused(text: &str) -> Option<(Reply, &str)>
+    ensures { IfSome result (λ p. TellsReply p.0 text.now p.1.now) }
+{
+    match parse_byte_between(text, "{\"refused\":", "}") {
+        Some((number, rest)) => {
+            let refusal = plain_refusal(number)?;
+            Some((Reply::Refused(refusal), rest))
+        }
+        None => parse_message(text),
+    }
+}

@@ -1,0 +1,128 @@
+//! Replies of a history's line, in one pass. `None` says nothing of a text.
+ghost use Rattle.std.specs.Prelude.{IfSome};
+ghost use Rattle.rb_history.specs.Tells.{TellsReply, TellsEach};
+ghost use Rattle.rb_shadow.specs.NameText.{IsName};
+ghost use Rattle.rb_commands.specs.Values.{name_json};
+
+use crate::fast::kind::parse_label;
+use crate::fast::name::{parse_name, parse_name_between};
+use crate::fast::number::{parse_long_between, parse_word_between};
+use crate::fast::refusal::{parse_batch, parse_behind, parse_cancelled, parse_refused};
+use crate::fast::statement::parse_statement;
+use rb_commands::scan::after;
+use rb_kit::List;
+use rb_shadow::OpName;
+use rb_site::Reply;
+use std::alloc::Global;
+
+/// An operation that was made.
+fn parse_made(text: &str) -> Option<(Reply, &str)>
+    ensures { IfSome result (λ p. TellsReply p.0 text.now p.1.now) }
+{
+    let (kind, rest) = parse_label(after(text, "{\"kind\":\"")?)?;
+    let (name, rest) = parse_name_between(rest, ",\"name\":\"", "}")?;
+    Some((Reply::Made { name, kind }, rest))
+}
+
+/// The names of a list, and its closing bracket.
+fn parse_list<'a>(alloc: Global, text: &'a str) -> Option<(Vec<OpName>, &'a str)>
+    ensures { IfSome result (λ p. TellsEach name_json IsName p.0.items text.now p.1.now) }
+{
+    let mut names = Vec::new(alloc);
+    let mut left = text;
+    let mut comma = "";
+    for _ in 0..text.len() {
+        if let Some(rest) = after(left, "]") {
+            return Some((names, rest));
+        }
+        let (name, rest) = parse_name(after(after(left, comma)?, "\"")?)?;
+        if names.push(name).is_err() {
+            return None;
+        }
+        left = rest;
+        comma = ",";
+    }
+    None
+}
+
+/// What a batch made.
+fn parse_names<'a>(alloc: Global, text: &'a str) -> Option<(Reply, &'a str)>
+    ensures { IfSome result (λ p. TellsReply p.0 text.now p.1.now) }
+{
+    let (names, rest) = parse_list(alloc, after(text, "{\"names\":[")?)?;
+    Some((Reply::Names(List::new(names)), after(rest, "}")?))
+}
+
+fn parse_held(text: &str) -> Option<(Reply, &str)>
+    ensures { IfSome result (λ p. TellsReply p.0 text.now p.1.now) }
+{
+    let (name, rest) = parse_name_between(text, "{\"held\":\"", "}")?;
+    Some((Reply::Held(name), rest))
+}
+
+fn parse_already(text: &str) -> Option<(Reply, &str)>
+    ensures { IfSome result (λ p. TellsReply p.0 text.now p.1.now) }
+{
+    let (name, rest) = parse_name_between(text, "{\"already\":\"", "}")?;
+    Some((Reply::Already(name), rest))
+}
+
+fn parse_applied(text: &str) -> Option<(Reply, &str)>
+    ensures { IfSome result (λ p. TellsReply p.0 text.now p.1.now) }
+{
+    let (name, rest) = parse_name_between(text, "{\"applied\":\"", "}")?;
+    Some((Reply::Applied(name), rest))
+}
+
+fn parse_taken(text: &str) -> Option<(Reply, &str)>
+    ensures { IfSome result (λ p. TellsReply p.0 text.now p.1.now) }
+{
+    let (epoch, rest) = parse_word_between(text, "{\"taken\":", "}")?;
+    Some((Reply::Taken(epoch), rest))
+}
+
+fn parse_stale(text: &str) -> Option<(Reply, &str)>
+    ensures { IfSome result (λ p. TellsReply p.0 text.now p.1.now) }
+{
+    let (epoch, rest) = parse_word_between(text, "{\"stale\":", "}")?;
+    Some((Reply::Stale(epoch), rest))
+}
+
+fn parse_passed(text: &str) -> Option<(Reply, &str)>
+    ensures { IfSome result (λ p. TellsReply p.0 text.now p.1.now) }
+{
+    let (epoch, rest) = parse_word_between(text, "{\"passed\":", "}")?;
+    Some((Reply::Passed(epoch), rest))
+}
+
+/// A balance, in cents.
+fn parse_balance(text: &str) -> Option<(Reply, &str)>
+    ensures { IfSome result (λ p. TellsReply p.0 text.now p.1.now) }
+{
+    let (cents, rest) = parse_long_between(text, "{\"balance\":", "}")?;
+    Some((Reply::Balance(cents), rest))
+}
+
+/// A reply, as the first letters of its first key say.
+pub fn parse_reply<'a>(alloc: Global, text: &'a str) -> Option<(Reply, &'a str)>
+    ensures { IfSome result (λ p. TellsReply p.0 text.now p.1.now) }
+{
+    match (text.as_bytes().get(2), text.as_bytes().get(3)) {
+        (Some(b'k'), _) => parse_made(text),
+        (Some(b'h'), _) => parse_held(text),
+        (Some(b'a'), Some(b'p')) => parse_applied(text),
+        (Some(b'a'), _) => parse_already(text),
+        (Some(b'r'), _) => parse_refused(text),
+        (Some(b'b'), _) => match parse_balance(text) {
+            Some(told) => Some(told),
+            None => parse_statement(alloc, text),
+        },
+        (Some(b't'), _) => parse_taken(text),
+        (Some(b's'), _) => parse_stale(text),
+        (Some(b'p'), Some(b'a')) => parse_passed(text),
+        (Some(b'p'), _) => parse_cancelled(text),
+        (Some(b'n'), Some(b'a')) => parse_names(alloc, text),
+        (Some(b'n'), _) => parse_behind(text),
+        _ => parse_batch(text),
+    }
+}

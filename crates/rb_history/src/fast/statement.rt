@@ -1,0 +1,103 @@
+//! Statements of a history's line, in one pass. `None` says nothing of a text.
+ghost use Rattle.std.specs.Prelude.{◌≡◌, ◌++◌, IfSome};
+ghost use Rattle.std.specs.Fmt.{signed_decimal};
+ghost use Rattle.json.specs.Print.{token_text};
+ghost use Rattle.json.specs.Token.{boolean};
+ghost use Rattle.serde_json.specs.Written.{compact_text};
+ghost use Rattle.rb_commands.specs.Statements.{row_json};
+ghost use Rattle.rb_history.specs.Fits.{IsMoved, IsStatementRow};
+ghost use Rattle.rb_history.specs.Tells.{TellsEach, TellsReply};
+
+use crate::fast::kind::parse_label;
+use crate::fast::name::parse_name;
+use crate::fast::number::{parse_long_between, parse_word_between};
+use rb_commands::scan::{after, number};
+use rb_kit::List;
+use rb_site::Reply;
+use rb_statements::{Row, Statement};
+use std::alloc::Global;
+
+/// What an entry moved, with its sign where it is negative.
+fn parse_moved(text: &str) -> Option<(i64, &str)>
+    ensures { IfSome result (λ p. IsMoved p.0 × (text.now ≡ signed_decimal p.0 ++ p.1.now)) }
+{
+    let Some(digits) = after(text, "-") else {
+        let (n, rest) = number(text)?;
+        if n >= 1 << 63 {
+            return None;
+        }
+        return Some((n as i64, rest));
+    };
+    let (n, rest) = number(digits)?;
+    if n == 0 || n >= 1 << 63 {
+        return None;
+    }
+    Some((-(n as i64), rest))
+}
+
+/// Whether a row is cancelled.
+fn parse_cancelled(text: &str) -> Option<(bool, &str)>
+    ensures { IfSome result (λ p. text.now ≡ token_text (boolean p.0) ++ p.1.now) }
+{
+    match after(text, "true") {
+        Some(rest) => Some((true, rest)),
+        None => Some((false, after(text, "false")?)),
+    }
+}
+
+/// A row, in the list of its parts.
+fn parse_row(text: &str) -> Option<(Row, &str)>
+    ensures { IfSome result (λ p. IsStatementRow p.0 × (text.now ≡ compact_text (row_json p.0) ++ p.1.now)) }
+{
+    let (position, rest) = parse_word_between(text, "[", ",\"")?;
+    let (name, rest) = parse_name(rest)?;
+    let (kind, rest) = parse_label(after(rest, ",\"")?)?;
+    let (moved, rest) = parse_moved(after(rest, ",")?)?;
+    let (cancelled, rest) = parse_cancelled(after(rest, ",")?)?;
+    let (balance, rest) = parse_long_between(rest, ",", "]")?;
+    let row = Row {
+        position,
+        name,
+        kind,
+        moved,
+        cancelled,
+        balance,
+    };
+    Some((row, rest))
+}
+
+/// The rows of a list, and its closing bracket.
+fn parse_rows<'a>(alloc: Global, text: &'a str) -> Option<(Vec<Row>, &'a str)>
+    ensures { IfSome result (λ p. TellsEach row_json IsStatementRow p.0.items text.now p.1.now) }
+{
+    let mut rows = Vec::new(alloc);
+    let mut left = text;
+    let mut comma = "";
+    for _ in 0..text.len() {
+        if let Some(rest) = after(left, "]") {
+            return Some((rows, rest));
+        }
+        let (row, rest) = parse_row(after(left, comma)?)?;
+        if rows.push(row).is_err() {
+            return None;
+        }
+        left = rest;
+        comma = ",";
+    }
+    None
+}
+
+/// A statement.
+pub fn parse_statement<'a>(alloc: Global, text: &'a str) -> Option<(Reply, &'a str)>
+    ensures { IfSome result (λ p. TellsReply p.0 text.now p.1.now) }
+{
+    let (balance, rest) = parse_long_between(text, "{\"balance\":", ",\"rows\":[")?;
+    let (rows, rest) = parse_rows(alloc, rest)?;
+    let (start, rest) = parse_long_between(rest, ",\"start\":", "}")?;
+    let shown = Statement {
+        start,
+        rows: List::new(rows),
+        balance,
+    };
+    Some((Reply::Statement(shown), rest))
+}

@@ -1,0 +1,85 @@
+//! Lines of histories, read.
+ghost use Rattle.std.specs.Prelude.{◌≡◌, ◌<◌, codes, IfOk};
+ghost use Rattle.serde_json.specs.View.{view};
+ghost use Rattle.rb_history.specs.Entries.{entry_of_line, entry_of_object};
+ghost use Rattle.rb_commands.specs.Lines.{Gives};
+ghost use Rattle.rb_history.specs.Recorded.{event_at};
+ghost use Rattle.rb_history.specs.RepliesRead.{reply_told};
+ghost use Rattle.rb_commands.specs.Values.{number_below};
+ghost use Rattle.rb_history.specs.Fields.{field};
+
+use crate::fast::entry::parse_entry;
+use crate::read::event::event;
+use crate::read::reply::reply;
+use rb_commands::LineFault;
+use rb_commands::values::{parse, size};
+use rb_money::Config;
+use rb_site::{Entry, Event, Reply};
+use serde_json::Value;
+use std::alloc::Global;
+
+/// The event of an entry.
+fn event_of(alloc: Global, config: &Config, value: &Value) -> Result<Event, LineFault>
+    ensures { Gives result (field (codes "event") (event_at config.now) (view value.now)) }
+{
+    match value.get("event") {
+        Some(made) => event(alloc, config, made),
+        None => Err(LineFault::Bad),
+    }
+}
+
+/// The reply of an entry.
+fn reply_of(alloc: Global, value: &Value) -> Result<Reply, LineFault>
+    ensures { Gives result (field (codes "reply") reply_told (view value.now)) }
+{
+    match value.get("reply") {
+        Some(given) => reply(alloc, given),
+        None => Err(LineFault::Bad),
+    }
+}
+
+/// The number of one of the configuration's sites.
+fn site_of(config: &Config, value: &Value) -> Option<u8>
+    ensures { result ≡ field (codes "site") (number_below config.now.sites) (view value.now) }
+{
+    let site = value.get("site")?.as_u64()?;
+    if site < u64::from(config.sites()) {
+        Some(site as u8)
+    } else {
+        None
+    }
+}
+
+/// An entry of a site, from an object of three members.
+fn entry(alloc: Global, config: &Config, value: &Value) -> Result<(u8, Entry), LineFault>
+    ensures { Gives result (entry_of_object config.now (view value.now)) }
+{
+    if size(value) != 3 {
+        return Err(LineFault::Bad);
+    }
+    let Some(site) = site_of(config, value) else {
+        return Err(LineFault::Bad);
+    };
+    let event = event_of(alloc, config, value)?;
+    let reply = reply_of(alloc, value)?;
+    Ok((site, Entry { event, reply }))
+}
+
+/// The entry that a history's line is, with the number of its site: `Bad` where it is none, `OutOfMemory`
+/// where there was no memory to read it.
+///
+/// An account that the configuration doesn't have is read as `Place::NOWHERE`. The reply may be one that no
+/// site gives, and `why` and the number that stopped a batch may be any byte; but a line that tells want of
+/// memory is bad, as is one of a site that the configuration doesn't have.
+pub fn read_line(alloc: Global, config: &Config, line: &str) -> Result<(u8, Entry), LineFault>
+    ensures read { Gives result (entry_of_line config.now line.now) }
+    ensures site { IfOk result (λ x. x.0 < config.now.sites) }
+{
+    if let Some(read) = parse_entry(alloc, config, line) {
+        return Ok(read);
+    }
+    match parse(alloc, line) {
+        Ok(value) => entry(alloc, config, &value),
+        Err(fault) => Err(fault),
+    }
+}

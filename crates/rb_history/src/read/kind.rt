@@ -1,0 +1,94 @@
+//! Kinds, from their words, and the kind of a shadow.
+ghost use Rattle.std.specs.Prelude.{◌≡◌};
+ghost use Rattle.serde_json.specs.View.{view};
+ghost use Rattle.rb_history.specs.Fields.{label_at, label_of_word};
+ghost use Rattle.rb_money.specs.Settings.{Settings};
+ghost use Rattle.rb_history.specs.Recorded.{kind_at, kind_of};
+
+use rb_commands::account;
+use rb_commands::values::{name, size};
+use rb_money::Config;
+use rb_shadow::{Kind, Label};
+use serde_json::Value;
+
+/// The kind that a word is.
+fn label_of_word(word: &str) -> Option<Label>
+    ensures { result ≡ label_of_word word.now }
+{
+    if word == "deposit" {
+        return Some(Label::Deposit);
+    }
+    if word == "withdraw" {
+        return Some(Label::Withdraw);
+    }
+    if word == "declined" {
+        return Some(Label::Declined);
+    }
+    if word == "interest" {
+        return Some(Label::Interest);
+    }
+    if word == "cancel" {
+        return Some(Label::Cancel);
+    }
+    if word == "transfer" {
+        return Some(Label::Transfer);
+    }
+    None
+}
+
+/// The kind that a value is.
+pub fn label(value: &Value) -> Option<Label>
+    ensures { result ≡ label_at (view value.now) }
+{
+    match value.as_str() {
+        Some(word) => label_of_word(word),
+        None => None,
+    }
+}
+
+/// A cancellation, of its target.
+fn cancel(value: &Value) -> Option<Kind>
+    ensures { (s : Settings) → result ≡ kind_of s (view value.now) Label.Cancel }
+{
+    if size(value) != 7 {
+        return None;
+    }
+    let target = name(value.get("target")?)?;
+    Some(Kind::Cancel { target })
+}
+
+/// A transfer, of the account to which it goes.
+fn transfer(config: &Config, value: &Value) -> Option<Kind>
+    ensures { result ≡ kind_of config.now (view value.now) Label.Transfer }
+{
+    if size(value) != 7 {
+        return None;
+    }
+    let to = account(config, value.get("to")?)?;
+    Some(Kind::Transfer { to })
+}
+
+/// The kind of a shadow of this label.
+fn kind_of(config: &Config, value: &Value, label: Label) -> Option<Kind>
+    ensures { result ≡ kind_of config.now (view value.now) label }
+{
+    let kind = match label {
+        Label::Deposit => Kind::Deposit,
+        Label::Withdraw => Kind::Withdraw,
+        Label::Declined => Kind::Declined,
+        Label::Interest => Kind::Interest,
+        Label::Cancel => return cancel(value),
+        Label::Transfer => return transfer(config, value),
+    };
+    if size(value) != 6 {
+        return None;
+    }
+    Some(kind)
+}
+
+pub fn kind(config: &Config, value: &Value) -> Option<Kind>
+    ensures { result ≡ kind_at config.now (view value.now) }
+{
+    let label = label(value.get("kind")?)?;
+    kind_of(config, value, label)
+}

@@ -1,0 +1,146 @@
+//! Refusals, from a history's line.
+ghost use Rattle.std.specs.Prelude.{◌≡◌};
+ghost use Rattle.serde_json.specs.View.{view};
+ghost use Rattle.rb_history.specs.RepliesRead.{refused_batch_told, behind_of, cancelled_of, cause_at, find_refusal};
+ghost use Rattle.rb_history.specs.RepliesRead.{tells_declined, bad_message_told, plain_of, plain_refusals};
+ghost use Rattle.rb_history.specs.RepliesRead.{refusal_told};
+
+use rb_commands::values::{byte, size, word};
+use rb_money::{Cause, Refusal};
+use serde_json::Value;
+
+/// Whether a value is the word of a withdrawal or a transfer that would be declined.
+fn is_declined(value: &Value) -> bool
+    ensures { result ≡ tells_declined (view value.now) }
+{
+    match value.as_str() {
+        Some(word) => word == "declined",
+        None => false,
+    }
+}
+
+/// What stopped a batch.
+fn cause(value: &Value) -> Option<Cause>
+    ensures { result ≡ cause_at (view value.now) }
+{
+    if is_declined(value) {
+        return Some(Cause::Declined);
+    }
+    match byte(value) {
+        Some(number) => Some(Cause::Refused(number)),
+        None => None,
+    }
+}
+
+fn cancelled(value: &Value) -> Option<Refusal>
+    ensures { result ≡ cancelled_of (view value.now) }
+{
+    if size(value) != 2 {
+        return None;
+    }
+    let position = word(value.get("position")?)?;
+    Some(Refusal::AlreadyCancelled { position })
+}
+
+fn behind(value: &Value) -> Option<Refusal>
+    ensures { result ≡ behind_of (view value.now) }
+{
+    if size(value) != 3 {
+        return None;
+    }
+    let seen = word(value.get("seen")?)?;
+    let needed = word(value.get("needed")?)?;
+    Some(Refusal::RedBehind { seen, needed })
+}
+
+fn batch(value: &Value) -> Option<Refusal>
+    ensures { result ≡ refused_batch_told (view value.now) }
+{
+    if size(value) != 3 {
+        return None;
+    }
+    let index = byte(value.get("index")?)?;
+    let cause = cause(value.get("cause")?)?;
+    Some(Refusal::BatchRefused { index, cause })
+}
+
+fn message(value: &Value) -> Option<Refusal>
+    ensures { result ≡ bad_message_told (view value.now) }
+{
+    if size(value) != 2 {
+        return None;
+    }
+    let why = byte(value.get("why")?)?;
+    Some(Refusal::BadMessage { why })
+}
+
+/// The refusals that their numbers alone tell.
+const PLAIN: [Refusal; 20] = [
+    Refusal::UnknownAccount,
+    Refusal::BadAmount,
+    Refusal::BadRate,
+    Refusal::UnknownOperation,
+    Refusal::NotCancellable,
+    Refusal::NumbersExhausted,
+    Refusal::NeedToken,
+    Refusal::WouldOverdraw,
+    Refusal::DeltaTooLarge,
+    Refusal::BadBatch,
+    Refusal::NotHeld,
+    Refusal::NotReady,
+    Refusal::InboxFull,
+    Refusal::Conflict,
+    Refusal::NoMessage,
+    Refusal::NoSite,
+    Refusal::NotYours,
+    Refusal::PositionBeyond,
+    Refusal::HistoryFull,
+    Refusal::SameAccount,
+];
+
+/// The first of these that has the number.
+fn find_refusal(number: u8, refusals: &[Refusal]) -> Option<Refusal>
+    ensures { result ≡ find_refusal number refusals.now }
+{
+    for refusal in refusals {
+        if refusal.number() == number {
+            return Some(*refusal);
+        }
+    }
+    None
+}
+
+/// The refusal that its number alone tells.
+pub fn plain_refusal(number: u8) -> Option<Refusal>
+    ensures { result ≡ find_refusal number plain_refusals }
+{
+    find_refusal(number, &PLAIN)
+}
+
+fn plain(value: &Value, number: u8) -> Option<Refusal>
+    ensures { result ≡ plain_of (view value.now) number }
+{
+    if size(value) != 1 {
+        return None;
+    }
+    plain_refusal(number)
+}
+
+/// The refusal of this number that an object tells.
+pub fn refusal(value: &Value, number: u8) -> Option<Refusal>
+    ensures { result ≡ refusal_told (view value.now) number }
+{
+    if number == 6 {
+        return cancelled(value);
+    }
+    if number == 9 {
+        return behind(value);
+    }
+    if number == 13 {
+        return batch(value);
+    }
+    if number == 17 {
+        return message(value);
+    }
+    plain(value, number)
+}

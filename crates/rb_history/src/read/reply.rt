@@ -1,0 +1,139 @@
+//! Replies, from a history's line.
+ghost use Rattle.std.specs.Prelude.{◌≡◌, ◌^◌, option_and_then, option_map};
+ghost use Rattle.serde_json.specs.View.{view};
+ghost use Rattle.rb_site.specs.declared.reply.Reply.TheVariants.{Names, Refused};
+ghost use Rattle.rb_commands.specs.Lines.{Gives, GivesAs};
+ghost use Rattle.rb_history.specs.RepliesRead.{answer_of, made_told, names_at, refusal_told, reply_told, short_of};
+ghost use Rattle.rb_history.specs.RepliesRead.{simple_of};
+ghost use Rattle.rb_commands.specs.Values.{number_below};
+
+use crate::read::kind::label;
+use crate::read::refusal::refusal;
+use crate::read::statement::statement;
+use rb_commands::LineFault;
+use rb_commands::values::{byte, long, name, size, word};
+use rb_kit::List;
+use rb_shadow::OpName;
+use rb_site::Reply;
+use serde_json::Value;
+use std::alloc::Global;
+
+/// A reply of one name or one number, by a key of an object that may have others.
+fn simple(value: &Value) -> Option<Reply>
+    ensures { result ≡ simple_of (view value.now) }
+{
+    if let Some(made) = value.get("held") {
+        return Some(Reply::Held(name(made)?));
+    }
+    if let Some(made) = value.get("already") {
+        return Some(Reply::Already(name(made)?));
+    }
+    if let Some(epoch) = value.get("taken") {
+        return Some(Reply::Taken(word(epoch)?));
+    }
+    if let Some(epoch) = value.get("stale") {
+        return Some(Reply::Stale(word(epoch)?));
+    }
+    if let Some(made) = value.get("applied") {
+        return Some(Reply::Applied(name(made)?));
+    }
+    if let Some(epoch) = value.get("passed") {
+        return Some(Reply::Passed(word(epoch)?));
+    }
+    let cents = long(value.get("balance")?)?;
+    Some(Reply::Balance(cents))
+}
+
+/// The names of a list, in its order.
+fn names(alloc: Global, value: &Value) -> Result<Vec<OpName>, LineFault>
+    ensures { GivesAs (λ v. v.items) result (names_at (view value.now)) }
+{
+    let Some(items) = value.as_array() else {
+        return Err(LineFault::Bad);
+    };
+    let mut names = Vec::new(alloc);
+    for item in items {
+        let Some(name) = name(item) else {
+            return Err(LineFault::Bad);
+        };
+        if names.push(name).is_err() {
+            return Err(LineFault::OutOfMemory);
+        }
+    }
+    Ok(names)
+}
+
+/// The names of what a batch made.
+fn made_by_batch(alloc: Global, list: &Value) -> Result<Reply, LineFault>
+    ensures { Gives result (option_map Names (names_at (view list.now))) }
+{
+    match names(alloc, list) {
+        Ok(names) => Ok(Reply::Names(List::new(names))),
+        Err(fault) => Err(fault),
+    }
+}
+
+/// A reply, from an object of one member.
+fn short(alloc: Global, value: &Value) -> Result<Reply, LineFault>
+    ensures { Gives result (short_of (view value.now)) }
+{
+    if let Some(list) = value.get("names") {
+        return made_by_batch(alloc, list);
+    }
+    match simple(value) {
+        Some(reply) => Ok(reply),
+        None => Err(LineFault::Bad),
+    }
+}
+
+/// An operation that was made, from an object of two members.
+fn made(value: &Value) -> Option<Reply>
+    ensures { result ≡ made_told (view value.now) }
+{
+    let name = name(value.get("name")?)?;
+    let kind = label(value.get("kind")?)?;
+    Some(Reply::Made { name, kind })
+}
+
+/// A reply that tells no refusal.
+fn answer(alloc: Global, value: &Value) -> Result<Reply, LineFault>
+    ensures { Gives result (answer_of (view value.now)) }
+{
+    let size = size(value);
+    if size == 1 {
+        return short(alloc, value);
+    }
+    if size == 3 {
+        return statement(alloc, value);
+    }
+    if size != 2 {
+        return Err(LineFault::Bad);
+    }
+    match made(value) {
+        Some(reply) => Ok(reply),
+        None => Err(LineFault::Bad),
+    }
+}
+
+/// A refusal, by the value of its number.
+fn refused(value: &Value, number: &Value) -> Option<Reply>
+    ensures { result ≡ option_map Refused (option_and_then (refusal_told (view value.now))
+        (number_below (2 ^ 8) (view number.now))) }
+{
+    let number = byte(number)?;
+    let refusal = refusal(value, number)?;
+    Some(Reply::Refused(refusal))
+}
+
+/// The reply that an object is.
+pub fn reply(alloc: Global, value: &Value) -> Result<Reply, LineFault>
+    ensures { Gives result (reply_told (view value.now)) }
+{
+    let Some(number) = value.get("refused") else {
+        return answer(alloc, value);
+    };
+    match refused(value, number) {
+        Some(reply) => Ok(reply),
+        None => Err(LineFault::Bad),
+    }
+}

@@ -1,0 +1,42 @@
+//! Shadows, from a history's line.
+ghost use Rattle.std.specs.Prelude.{◌≡◌};
+ghost use Rattle.serde_json.specs.View.{view};
+ghost use Rattle.rb_history.specs.Recorded.{deps_at, shadow_at};
+
+use crate::read::counts::counts;
+use crate::read::kind::kind;
+use rb_commands::account;
+use rb_commands::values::{byte, long, name, pair, word};
+use rb_money::Config;
+use rb_shadow::{Deps, Shadow};
+use serde_json::Value;
+
+/// What the home had applied, from a line of this version of the format.
+fn deps(version: u8, value: &Value) -> Option<Deps>
+    ensures { result ≡ deps_at version (view value.now) }
+{
+    let (blue, red) = pair(value)?;
+    let blue = counts(version, blue)?;
+    let red = word(red)?;
+    Some(Deps { blue, red })
+}
+
+/// An operation that another site made.
+pub fn shadow(config: &Config, value: &Value) -> Option<Shadow>
+    ensures { result ≡ shadow_at config.now (view value.now) }
+{
+    let account = account(config, value.get("account")?)?;
+    let amount = long(value.get("amount")?)?;
+    let deps = deps(config.version(), value.get("deps")?)?;
+    let home = byte(value.get("home")?)?;
+    let kind = kind(config, value)?;
+    let name = name(value.get("name")?)?;
+    Some(Shadow {
+        name,
+        home,
+        deps,
+        account,
+        amount,
+        kind,
+    })
+}

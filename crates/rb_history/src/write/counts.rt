@@ -1,0 +1,70 @@
+//! How many of each site's blue operations a home had applied, added at the end of bytes in either version of the
+//! format.
+ghost use Rattle.std.specs.Prelude.{◌≡◌, ◌<◌, ◌==◌, ◌++◌, [], codes, if◌then◌else◌, IfOk};
+ghost use Rattle.rb_money.specs.declared.limits.TheConstants.{MOST_SITES};
+ghost use Rattle.serde_json.specs.Written.{compact_text};
+ghost use Rattle.rb_commands.specs.Adds.{Adds};
+ghost use Rattle.rb_commands.specs.Values.{list_json};
+ghost use Rattle.rb_history.specs.Counts.{blue_json, numbered_from, numbered_json};
+
+use crate::write::number::append_numbers;
+use rb_commands::append::{append, append_number};
+use rb_money::{MOST_SITES, MOST_SITES_OF_VERSION_1};
+use std::alloc::AllocError;
+
+/// A site's number and its count, behind a text.
+fn append_one(out: &mut Vec<u8>, comma: &str, site: u64, count: u32) -> Result<(), AllocError>
+    ensures { Adds result out.old.items out.new.items (comma.now ++ compact_text (numbered_json (site, count))) }
+{
+    append(out, comma)?;
+    append_number(out, "[", site, ",")?;
+    append_number(out, "", count as u64, "]")
+}
+
+/// A site's number and its count behind a text, where the count isn't 0; and what stands before the next.
+fn append_some<'a>(
+    out: &mut Vec<u8>,
+    comma: &'a str,
+    site: u64,
+    count: u32,
+) -> Result<&'a str, AllocError>
+    ensures added { Adds result out.old.items out.new.items (if count == 0 then []
+        else comma.now ++ compact_text (numbered_json (site, count))) }
+    ensures next { IfOk result (λ next. next.now ≡ (if count == 0 then comma.now else codes ",")) }
+{
+    if count == 0 {
+        return Ok(comma);
+    }
+    append_one(out, comma, site, count)?;
+    Ok(",")
+}
+
+/// The counts above 0, each behind its site's number.
+fn append_numbered(out: &mut Vec<u8>, counts: &[u32]) -> Result<(), AllocError>
+    ensures { Adds result out.old.items out.new.items (compact_text
+        (list_json numbered_json (numbered_from 0 counts.now))) }
+{
+    append(out, "[")?;
+    let mut comma = "";
+    for (site, count) in counts.iter().enumerate() {
+        let next = append_some(out, comma, site as u64, *count)?;
+        comma = next;
+    }
+    append(out, "]")
+}
+
+/// The counts of all sites, in this version of the format.
+#[tactic(auto, unfolding(crate::specs::Counts::blue_json))]
+pub fn append_counts(
+    out: &mut Vec<u8>,
+    version: u8,
+    counts: &[u32; MOST_SITES],
+) -> Result<(), AllocError>
+    ensures { Adds result out.old.items out.new.items (compact_text (blue_json version counts.now)) }
+{
+    if version == 1 {
+        append_numbers(out, &counts[..MOST_SITES_OF_VERSION_1])
+    } else {
+        append_numbered(out, counts)
+    }
+}

@@ -1,0 +1,71 @@
+//! Lines of histories, written.
+ghost use Rattle.std.specs.Prelude.{◌≡◌, ◌<◌, ◌++◌, string_bytes, IfOk, OnErr, OnOk};
+ghost use Rattle.serde_json.specs.Written.{compact_text};
+ghost use Rattle.rb_commands.specs.Adds.{Adds};
+ghost use Rattle.rb_history.specs.Entries.{entry_json};
+
+use crate::write::event::append_event;
+use rb_commands::append::{append, append_number};
+use rb_commands::append_value;
+use rb_money::Config;
+use rb_site::Entry;
+use std::alloc::{AllocError, Global};
+
+/// The JSON object of an entry, on one line.
+fn append_entry(
+    out: &mut Vec<u8>,
+    config: &Config,
+    site: u8,
+    entry: &Entry,
+) -> Result<(), AllocError>
+    ensures { Adds result out.old.items out.new.items (compact_text (entry_json config.now site entry.now)) }
+{
+    append(out, "{\"event\":")?;
+    append_event(out, config, &entry.event)?;
+    append(out, ",\"reply\":")?;
+    append_value(out, &entry.reply)?;
+    append_number(out, ",\"site\":", site as u64, "}")
+}
+
+/// Adds the line of an entry of a site's history, without a line feed. An `Err` means out of memory, and adds
+/// nothing.
+///
+/// A place past the accounts is written "?". A line has no limit: one that tells a long statement may be longer
+/// than what is read.
+pub fn append_line(
+    out: &mut Vec<u8>,
+    config: &Config,
+    site: u8,
+    entry: &Entry,
+) -> Result<(), AllocError>
+    ensures ok { OnOk result (out.new.items ≡ out.old.items ++ compact_text (entry_json config.now site entry.now)) }
+    ensures err { OnErr result (out.new.items ≡ out.old.items) }
+{
+    let before = out.len();
+    match append_entry(out, config, site, entry) {
+        Ok(()) => Ok(()),
+        Err(refused) => {
+            out.truncate(before);
+            Err(refused)
+        }
+    }
+}
+
+/// The line of an entry of a site's history, without a line feed. An `Err` means out of memory.
+pub fn write_line(
+    alloc: Global,
+    config: &Config,
+    site: u8,
+    entry: &Entry,
+) -> Result<String, AllocError>
+    ensures { IfOk result (λ s. string_bytes s ≡ compact_text (entry_json config.now site entry.now)) }
+{
+    // Its names are those of a configuration.
+    let _sites = config.sites();
+    let mut bytes = Vec::new(alloc);
+    append_line(&mut bytes, config, site, entry)?;
+    match String::from_utf8(bytes) {
+        Ok(text) => Ok(text),
+        Err(_) => unreachable!(),
+    }
+}

@@ -1,0 +1,10 @@
+//! What is written: each appends to bytes, or makes a line.
+pub mod account;
+pub mod config;
+pub mod counts;
+pub mod entry;
+pub mod event;
+pub mod kind;
+pub mod number;
+pub mod shadow;
+pub mod verdict;
