@@ -26,3 +26,6 @@ mod RefusalsFit
 mod RepliesFit
 mod EntriesFit
 mod OneLine
+mod MadeFit
+mod SentFits
+mod EventLine

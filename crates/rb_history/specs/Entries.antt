@@ -102,6 +102,10 @@ entry_of_object s d = if size_of d == 3 then entry_in s d else None
 abbrev pub entry_of_line : Settings → List ℕ → Option (ℕ × Entry)
 entry_of_line s line = option_and_then (entry_of_object s) (read line)
 
+-- the event that a line is by itself
+abbrev pub event_of_line : Settings → List ℕ → Option Event
+event_of_line s line = option_and_then (event_at s) (read line)
+
 -- the entry on a line with its site, at these settings
 unfoldable pub entry_on : Settings → List ℕ → Option (ℕ × Entry)
 entry_on s l = if is_utf8 l then entry_of_line s l else None

@@ -22,7 +22,7 @@ use Rattle.rb_site.specs.declared.reply.Reply.{Reply}
 use Rattle.rb_site.specs.declared.reply.Reply.TheVariants.{Made, Names, Held, Already, Taken, Stale, Applied, Passed, Balance as BalanceIs}
 use Rattle.rb_site.specs.declared.reply.Reply.TheVariants.{Statement as StatementIs, Refused}
 use Rattle.rb_statements.specs.declared.row.Row.{Row}
-use Rattle.rb_history.specs.Entries.{entry_of_line, entry_json}
+use Rattle.rb_history.specs.Entries.{entry_json, entry_of_line, event_json, event_of_line}
 use Rattle.rb_money.specs.declared.place.TheConstants.Place.{NOWHERE}
 
 -- the place of one of the configuration's accounts, or the one that no configuration has
@@ -107,6 +107,10 @@ IsReply (Refused why) = IsRefusal why
 abbrev pub EntriesAreRead : Type 0
 EntriesAreRead = (s : Settings) → IsConfigured s → (site : ℕ) (x : Entry) → site < s.sites → IsEvent s x.event → IsReply x.reply
     → entry_of_line s (compact_text (entry_json s site x)) ≡ Some (site, x)
+
+-- the line of each such event by itself is read as the event
+abbrev pub EventsAreRead : Type 0
+EventsAreRead = (s : Settings) → IsConfigured s → (e : Event) → IsEvent s e → event_of_line s (compact_text (event_json s e)) ≡ Some e
 
 -- what is read of any line is an entry of a site of the configuration that a line tells whole
 abbrev pub ReadEntriesFit : Type 0

@@ -8,3 +8,4 @@ pub mod Fits
 pub mod Tells
 pub mod Verdicts
 pub mod OneLine
+pub mod Messages

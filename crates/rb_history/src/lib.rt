@@ -8,13 +8,16 @@ mod read;
 mod write;
 
 ghost use Rattle.rb_history.specs.ConfigLines.{ConfigsAreRead};
-ghost use Rattle.rb_history.specs.Fits.{EntriesAreRead, ReadEntriesFit};
+ghost use Rattle.rb_history.specs.Fits.{EntriesAreRead, EventsAreRead, ReadEntriesFit};
+ghost use Rattle.rb_history.specs.Messages.{MessagesAreRead};
 ghost use Rattle.rb_history.specs.OneLine.{ConfigsAreLines, EntriesAreLines};
 
 pub use rb_commands::{LineFault, read_command, read_config, write_reply};
 pub use read::entry::read_line;
+pub use read::event::read_event;
 pub use write::config::write_config;
 pub use write::entry::{append_line, write_line};
+pub use write::event::append_event;
 pub use write::verdict::{order_line, stuck_line, wrong_reply_line};
 
 /// The line that is written for a configuration is read as the configuration.
@@ -26,6 +29,18 @@ pub fn configs_are_read()
 /// account of the configuration or `Place::NOWHERE`, and its reply isn't *out of memory*.
 pub fn entries_are_read()
     ensures { EntriesAreRead }
+{}
+
+/// The line that is written for an event by itself is read as the event: where each of its places is that of an
+/// account of the configuration or `Place::NOWHERE`.
+pub fn events_are_read()
+    ensures { EventsAreRead }
+{}
+
+/// Each message that a site sends is read by every other site as that message, from the line that is written for
+/// its receipt.
+pub fn messages_are_read()
+    ensures { MessagesAreRead }
 {}
 
 /// Each entry that is read from a line is one that `entries_are_read` speaks of.

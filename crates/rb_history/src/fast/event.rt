@@ -1,6 +1,6 @@
 //! Events of a history's line, in one pass. `None` says nothing of a text.
-ghost use Rattle.std.specs.Prelude.{IfSome};
-ghost use Rattle.rb_history.specs.Entries.{request_json};
+ghost use Rattle.std.specs.Prelude.{◌≡◌, IfSome, Some};
+ghost use Rattle.rb_history.specs.Entries.{event_of_line, request_json};
 ghost use Rattle.rb_history.specs.Fits.{IsRequest};
 ghost use Rattle.rb_history.specs.Tells.{TellsEach, TellsEvent, TellsRequest};
 
@@ -181,4 +181,17 @@ pub fn parse_event<'a>(alloc: Global, config: &Config, text: &'a str) -> Option<
         (Some(b't'), Some(b'o')) => parse_token(config, text),
         _ => parse_submit(config, text),
     }
+}
+
+/// The event of a line as it is written.
+pub fn parse_event_line(alloc: Global, config: &Config, line: &str) -> Option<Event>
+    ensures { IfSome result (λ e. event_of_line config.now line.now ≡ Some e) }
+{
+    // Its settings are those of a configuration.
+    let _sites = config.sites();
+    let (event, rest) = parse_event(alloc, config, line)?;
+    if rest != "" {
+        return None;
+    }
+    Some(event)
 }

@@ -3,9 +3,11 @@ ghost use Rattle.std.specs.Prelude.{◌≡◌};
 ghost use Rattle.serde_json.specs.View.{view};
 ghost use Rattle.rb_history.specs.Recorded.{token_at, event_at, recorded_of};
 ghost use Rattle.rb_commands.specs.Lines.{Gives};
+ghost use Rattle.rb_history.specs.Entries.{event_of_line};
 
+use crate::fast::event::parse_event_line;
 use crate::read::shadow::shadow;
-use rb_commands::values::{byte, size, three, word};
+use rb_commands::values::{byte, parse, size, three, word};
 use rb_commands::{LineFault, event as event_of_command};
 use rb_money::Config;
 use rb_site::{Event, Message};
@@ -51,4 +53,20 @@ pub fn event(alloc: Global, config: &Config, value: &Value) -> Result<Event, Lin
         return Err(LineFault::Bad);
     }
     recorded(alloc, config, value)
+}
+
+/// The event that a line is by itself, as a history's line has it: `Bad` where it is none, `OutOfMemory` where
+/// there was no memory to read it.
+///
+/// An account that the configuration doesn't have is read as `Place::NOWHERE`.
+pub fn read_event(alloc: Global, config: &Config, line: &str) -> Result<Event, LineFault>
+    ensures { Gives result (event_of_line config.now line.now) }
+{
+    if let Some(read) = parse_event_line(alloc, config, line) {
+        return Ok(read);
+    }
+    match parse(alloc, line) {
+        Ok(value) => event(alloc, config, &value),
+        Err(fault) => Err(fault),
+    }
 }

@@ -91,7 +91,9 @@ fn append_token(out: &mut Vec<u8>, token: TokenMessage) -> Result<(), AllocError
     append_number(out, "", token.red as u64, "]}")
 }
 
-/// The JSON object of an event, on one line.
+/// Adds the line of an event, without a line feed. An `Err` means out of memory, and leaves what was there.
+///
+/// A place past the accounts is written "?".
 #[tactic(auto, unfolding(json::specs::Print::escape_byte))]
 pub fn append_event(out: &mut Vec<u8>, config: &Config, event: &Event) -> Result<(), AllocError>
     ensures { Adds result out.old.items out.new.items (compact_text (event_json config.now event.now)) }

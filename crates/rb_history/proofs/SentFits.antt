@@ -1,0 +1,284 @@
+-- What a site sends fits a line, whatever its events.
+use Rattle.std.proofs.Common.{◌≡◌, ◌<◌, ◌≤◌, ◌+◌, ℕ, Bool, true, false, cond, not, ◌&&◌, ◌||◌, List, [], ◌∷◌, ◌++◌, length, Option}
+use Rattle.std.proofs.Common.{Some, None}
+use Rattle.std.proofs.Common.{Result, Ok, Err, refl, sym, ap, subst, ◌∙◌, inl, inr, arith, append-nil, append_assoc}
+use Rattle.std.specs.Prelude.{◌==◌, ◌⊎◌, filter, map, nat_le, nat_lt}
+use Rattle.std.proofs.lemmas.Bool.{and_parts}
+use Rattle.std.proofs.lemmas.Bool.Decides.{nat_tests}
+use Rattle.rb_money.specs.Refusals.{and_then, unless}
+use Rattle.rb_money.specs.Settings.{IsConfigured, Settings, is_account}
+use Rattle.rb_money.specs.declared.refusal.Refusal.{Refusal}
+use Rattle.rb_money.specs.declared.refusal.Refusal.TheVariants.{BadBatch, BadMessage, Conflict, InboxFull, NotHeld, NotReady}
+use Rattle.rb_shadow.specs.Labels.{label_of}
+use Rattle.rb_shadow.specs.Operations.{Among, clock_of, find_in, is_eligible, red_count, same_shadow}
+use Rattle.rb_shadow.specs.Sound.{IsSound, are_entries, fault_in}
+use Rattle.rb_shadow.specs.declared.shadow.Shadow.{Shadow}
+use Rattle.rb_shadow.proofs.Public.Lookups.{found}
+use Rattle.rb_shadow.proofs.Public.Members.{or-false}
+use Rattle.rb_ledger.specs.Checks.{refusal_of_sound}
+use Rattle.rb_ledger.specs.Valid.{IsValid}
+use Rattle.rb_ledger.proofs.Public.Legal.{IsValid-none, IsValid-push, taken_rightly}
+use Rattle.rb_ledger.proofs.Public.ValidClocks.{clock_is_clock}
+use Rattle.rb_inbox.proofs.Public.Holding.{held_cases, kept_among}
+use Rattle.rb_scratch.specs.Batches.{batch_of, names_of_all}
+use Rattle.rb_scratch.specs.Requests.{Plan, made_of, operation_of}
+use Rattle.rb_scratch.specs.declared.request.Request.{Request}
+use Rattle.rb_scratch.specs.declared.request.TheConstants.{MOST_REQUESTS}
+use Rattle.rb_scratch.proofs.Public.Made.{AreMadeAt, IsMadeAt, batch_is, made_is}
+use Rattle.rb_scratch.proofs.Public.Makes.{made_follows}
+use Rattle.rb_token.specs.Token.{Token, is_stale, pass_message, refusal_of_pass, refusal_of_token}
+use Rattle.rb_token.specs.declared.message.TokenMessage.{TokenMessage}
+use Rattle.rb_site.specs.declared.event.Event.{Event}
+use Rattle.rb_site.specs.declared.event.Event.TheVariants.{Submit, Batch, Receive, Apply, Pass, Balance, AsOf, Statement as AskStatement}
+use Rattle.rb_site.specs.declared.message.Message.{Message}
+use Rattle.rb_site.specs.declared.message.Message.TheVariants.{Shadow as ShadowMessage, Token as TokenOnItsWay}
+use Rattle.rb_site.specs.declared.reply.Reply.{Reply}
+use Rattle.rb_site.specs.declared.reply.Reply.TheVariants.{Made, Names as NamesMade, Already, Stale}
+use Rattle.rb_site.specs.Events.{ModelSite, Outcome, Refuses, Answers, Makes, Holds, Takes, Passes, after_event, changed}
+use Rattle.rb_site.specs.Events.{first_site}
+use Rattle.rb_site.specs.Events.{is_full, noted, outcome_of, outcome_of_apply, outcome_of_check, outcome_of_shadow, reply_of, sent_at}
+use Rattle.rb_site.specs.Events.{sent_by, unless_known}
+use Rattle.rb_site.specs.Histories.{IsAmong, sends_of}
+use Rattle.rb_site.proofs.Public.Stuck.{among-cases}
+use Rattle.rb_history.specs.Fits.{IsEvent, IsShadow}
+use Rattle.rb_history.proofs.MadeFit.{made_fits}
+
+-- what holds of a site, whatever its events: its list is valid, what it holds is sound, and the token is within the limits
+record IsInOrder (s : Settings) (t : ModelSite) : Type 0 where
+  me : t.me < s.sites
+  valid : IsValid s t.ops
+  held : (v : Shadow) → Among v t.held → IsSound s v
+  needed : t.token.needed ≤ s.limits.red
+
+abbrev AllFit : Settings → List Message → Type 0
+AllFit s ms = (m : Message) → IsAmong m ms → IsEvent s (Receive m)
+
+-- an outcome keeps a site in order, and what it sends fits
+record Keeps (s : Settings) (t : ModelSite) (o : Outcome) : Type 0 where
+  order : IsInOrder s (changed t o)
+  sends : AllFit s (sent_by o)
+
+none_fit : (s : Settings) → AllFit s []
+none_fit s m h = absurd h
+
+-- ---- outcomes
+
+refuses : (s : Settings) (t : ModelSite) (why : Refusal) → IsInOrder s t → Keeps s t (Refuses why)
+refuses s t why g = record { order = g; sends = none_fit s }
+
+-- a condition that refuses, and else what comes next
+if_not : (s : Settings) (t : ModelSite) (b : Bool) (why : Refusal) (next : Outcome) → IsInOrder s t → (b ≡ false → Keeps s t next)
+    → Keeps s t (cond b (Refuses why) next)
+if_not s t true why next g h = refuses s t why g
+if_not s t false why next g h = h refl
+
+-- a refusal where there is one, and else what comes next
+if_none : {E : Type 0} (s : Settings) (t : ModelSite) (refused : E → Refusal) (o : Option E) (next : Outcome) → IsInOrder s t
+    → (o ≡ None → Keeps s t next) → Keeps s t (unless (λ why. Refuses (refused why)) o next)
+if_none s t refused (Some why) next g h = refuses s t (refused why) g
+if_none s t refused None next g h = h refl
+
+if_unknown : (s : Settings) (t : ModelSite) (v : Shadow) (o : Option Shadow) (next : Outcome) → IsInOrder s t → Keeps s t next
+    → Keeps s t (unless_known v o next)
+if_unknown s t v None next g h = h
+if_unknown s t v (Some u) next g h = by (same_shadow u v)
+  where
+    by : (b : Bool) → Keeps s t (cond b (Answers (Already v.name)) (Refuses Conflict))
+    by true = record { order = g; sends = none_fit s }
+    by false = refuses s t Conflict g
+
+holds : (s : Settings) (t : ModelSite) (v : Shadow) → IsInOrder s t → IsSound s v → Keeps s t (Holds v)
+holds s t v g sound = record {
+  order = record { me = g.me; valid = g.valid; held = λ u h. by u (held_cases v t.held u h); needed = g.needed };
+  sends = none_fit s;
+}
+  where
+    by : (u : Shadow) → (u ≡ v) ⊎ Among u t.held → IsSound s u
+    by u (inl same) = subst (IsSound s) (sym same) sound
+    by u (inr there) = g.held u there
+
+fewer_held : (s : Settings) (t : ModelSite) (p : Shadow → Bool) → IsInOrder s t → (v : Shadow) → Among v (filter p t.held) → IsSound s v
+fewer_held s t p g v h = g.held v (kept_among p t.held v h)
+
+-- a held operation that is checked
+checks : (s : Settings) (t : ModelSite) (v : Shadow) → IsInOrder s t → IsSound s v → (o : Option Refusal) → refusal_of_sound s t.ops v ≡ o
+    → Keeps s t (outcome_of_check v o)
+checks s t v g sound None e = record {
+  order = record { me = g.me; valid = taken_rightly s t.ops v g.valid sound (sym e); held = fewer_held s t _ g; needed = g.needed };
+  sends = none_fit s;
+}
+checks s t v g sound (Some NotReady) e = refuses s t NotReady g
+checks s t v g sound (Some _) e = record {
+  order = record { me = g.me; valid = g.valid; held = fewer_held s t _ g; needed = g.needed };
+  sends = none_fit s;
+}
+
+applies : (s : Settings) (t : ModelSite) → IsInOrder s t → (o : Option Shadow) → ((v : Shadow) → o ≡ Some v → IsSound s v)
+    → Keeps s t (outcome_of_apply s t o)
+unfolding outcome_of_apply
+applies s t g None sound = refuses s t NotHeld g
+applies s t g (Some v) sound =
+    if_not s t (not (is_eligible t.ops v)) NotReady _ g (λ e. checks s t v g (sound v refl) (refusal_of_sound s t.ops v) refl)
+
+-- ---- what is made
+
+deps_of : (me : ℕ) (us : List Shadow) (p : Plan) → (operation_of me us p).deps ≡ clock_of us
+unfolding operation_of
+deps_of me us p = refl
+
+-- a list with what is made after it is valid, and what is made fits
+record Grows (s : Settings) (us vs : List Shadow) : Type 0 where
+  valid : IsValid s (us ++ vs)
+  fit : (v : Shadow) → Among v vs → IsShadow s v
+
+one_grows : (s : Settings) → IsConfigured s → (me : ℕ) (us : List Shadow) (token : Token) (v : Shadow) → me < s.sites → IsValid s us
+    → IsMadeAt s me us token v → IsValid s (us ++ v ∷ []) × IsShadow s v
+one_grows s c me us token v low valid made =
+    let may = made_follows s me us token v c.few_sites low valid made in
+    let clock : v.deps ≡ clock_of us = ap (λ (u : Shadow). u.deps) made.is ∙ deps_of me us made.plan in
+    (IsValid-push s us v valid may, made_fits s c us v valid may clock)
+
+all_grow : (s : Settings) → IsConfigured s → (me : ℕ) (us : List Shadow) (token : Token) (vs : List Shadow) → me < s.sites → IsValid s us
+    → AreMadeAt s me us token vs → Grows s us vs
+all_grow s c me us token [] low valid made = record { valid = subst (IsValid s) (sym (append-nil us)) valid; fit = λ v h. absurd h }
+all_grow s c me us token (v ∷ vs) low valid made =
+    let one = one_grows s c me us token v low valid made.0 in
+    let later = all_grow s c me (us ++ v ∷ []) token vs low one.0 made.1 in
+    record {
+      valid = subst (IsValid s) (append_assoc us (v ∷ []) vs) later.valid;
+      fit = λ u h. by u h one.1 later.fit;
+    }
+  where
+    by : (u : Shadow) → (u ≡ v) ⊎ Among u vs → IsShadow s v → ((w : Shadow) → Among w vs → IsShadow s w) → IsShadow s u
+    by u (inl same) first rest = subst (IsShadow s) (sym same) first
+    by u (inr there) first rest = rest u there
+
+sent_fit : (s : Settings) (vs : List Shadow) → ((v : Shadow) → Among v vs → IsShadow s v) → AllFit s (map ShadowMessage vs)
+sent_fit s [] fit m h = absurd h
+sent_fit s (v ∷ vs) fit m (inl same) = subst (λ n. IsEvent s (Receive n)) (sym same) (fit v (inl refl))
+sent_fit s (v ∷ vs) fit m (inr there) = sent_fit s vs (λ u h. fit u (inr h)) m there
+
+makes : (s : Settings) (t : ModelSite) (reply : Reply) (vs : List Shadow) → IsInOrder s t → Grows s t.ops vs → Keeps s t (Makes reply vs)
+makes s t reply vs g grown = record {
+  order = record { me = g.me; valid = grown.valid; held = g.held; needed = g.needed };
+  sends = sent_fit s vs grown.fit;
+}
+
+submits : (s : Settings) → IsConfigured s → (t : ModelSite) → IsInOrder s t → (r : Request) (q : Result Shadow Refusal)
+    → made_of s t.me t.ops t.token r ≡ q → Keeps s t (and_then Refuses q (λ v. Makes (Made v.name (label_of v.kind)) (v ∷ [])))
+submits s c t g r (Ok v) e =
+    makes s t _ (v ∷ []) g (all_grow s c t.me t.ops t.token (v ∷ []) g.me g.valid (made_is s t.me t.ops t.token r v e, tt))
+submits s c t g r (Err why) e = refuses s t why g
+
+tries : (s : Settings) → IsConfigured s → (t : ModelSite) → IsInOrder s t → (rs : List Request) (q : Result (List Shadow) Refusal)
+    → batch_of s t.me t.ops t.token 0 rs ≡ q → Keeps s t (and_then Refuses q (λ vs. Makes (NamesMade (names_of_all vs)) vs))
+tries s c t g rs (Ok vs) e = makes s t _ vs g (all_grow s c t.me t.ops t.token vs g.me g.valid (batch_is s t.me t.ops t.token 0 rs vs e))
+tries s c t g rs (Err why) e = refuses s t why g
+
+-- ---- the token
+
+past_first : (b : Bool) (why : Refusal) (next : Option Refusal) → cond b (Some why) next ≡ None → (b ≡ false) × (next ≡ None)
+past_first true why next e = absurd (cc)
+past_first false why next e = (refl, e)
+
+takes : (s : Settings) (t : ModelSite) (m : TokenMessage) → IsInOrder s t → refusal_of_token s.limits t.me m ≡ None → Keeps s t (Takes m)
+takes s t m g e =
+    let mine = past_first (not (m.to == t.me)) _ _ e in
+    let within = past_first (nat_lt s.limits.epoch m.epoch || nat_lt s.limits.red m.red) _ _ mine.1 in
+    let few = or-false (nat_lt s.limits.epoch m.epoch) (nat_lt s.limits.red m.red) within.0 in
+    let reds : m.red ≤ s.limits.red = let h = few.1 in grind (arith, nat_tests) in
+    record { order = record { me = g.me; valid = g.valid; held = g.held; needed = reds }; sends = none_fit s }
+
+clock_reds : (us : List Shadow) (most : ℕ) → nat_le (clock_of us).red most ≡ true → red_count us ≤ most
+unfolding clock_of
+clock_reds us most h = grind (arith, nat_tests)
+
+few_reds : (s : Settings) (us : List Shadow) → IsValid s us → red_count us ≤ s.limits.red
+few_reds s us valid = clock_reds us s.limits.red
+    (and_parts (are_entries s.sites s.limits.blue (clock_of us).blue) (nat_le (clock_of us).red s.limits.red) (clock_is_clock s us valid)).1
+
+passes : (s : Settings) → IsConfigured s → (t : ModelSite) (to : ℕ) → IsInOrder s t
+    → refusal_of_pass s.sites s.limits t.me t.token to ≡ None → Keeps s t (Passes (pass_message t.token to (red_count t.ops)))
+passes s c t to g e =
+    let there = past_first (nat_le s.sites to || (to == t.me)) _ _ e in
+    let left = past_first (nat_lt s.limits.epoch (t.token.epoch + 1)) _ _ there.1 in
+    let low : to < s.sites = let h = (or-false (nat_le s.sites to) (to == t.me) there.0).0 in grind (arith, nat_tests) in
+    let epochs : t.token.epoch + 1 ≤ s.limits.epoch = let h = left.0 in grind (arith, nat_tests) in
+    let few = c.few_sites in
+    let most_epochs = c.epoch.1 in
+    let most_reds = c.red.1 in
+    let needed = g.needed in
+    let reds = few_reds s t.ops g.valid in
+    record {
+      order = record { me = g.me; valid = g.valid; held = g.held; needed = g.needed };
+      sends = λ m h. by m h (omega arith, omega arith, omega arith);
+    }
+  where
+    sent : TokenMessage
+    sent = pass_message t.token to (red_count t.ops)
+
+    by : (m : Message) → (m ≡ TokenOnItsWay sent) ⊎ ⊥ → IsEvent s (Receive (TokenOnItsWay sent)) → IsEvent s (Receive m)
+    by m (inl same) fits = subst (λ n. IsEvent s (Receive n)) (sym same) fits
+    by m (inr never) fits = absurd never
+
+-- ---- one event, and all
+
+keeps : (s : Settings) → IsConfigured s → (t : ModelSite) → IsInOrder s t → (e : Event) → Keeps s t (outcome_of s t e)
+unfolding outcome_of outcome_of_shadow
+keeps s c t g (Submit r) = submits s c t g r (made_of s t.me t.ops t.token r) refl
+keeps s c t g (Batch rs) =
+    if_not s t (not (nat_le 1 (length rs) && nat_le (length rs) MOST_REQUESTS)) BadBatch _ g (λ e.
+    tries s c t g rs (batch_of s t.me t.ops t.token 0 rs) refl)
+keeps s c t g (Receive (ShadowMessage v)) =
+    if_none s t BadMessage (fault_in s v) _ g (λ sound.
+    if_unknown s t v (find_in t.ops v.name) _ g
+    (if_not s t (v.home == t.me) Conflict _ g (λ e.
+    if_unknown s t v (find_in t.held v.name) _ g
+    (if_not s t (nat_le s.limits.inbox (length t.held) && not (is_eligible t.ops v)) InboxFull (Holds v) g (λ e. holds s t v g sound)))))
+keeps s c t g (Receive (TokenOnItsWay m)) =
+    if_none s t (λ why. why) (refusal_of_token s.limits t.me m) _ g (λ e. by (is_stale t.token m) e)
+  where
+    by : (b : Bool) → refusal_of_token s.limits t.me m ≡ None → Keeps s t (cond b (Answers (Stale m.epoch)) (Takes m))
+    by true e = record { order = g; sends = none_fit s }
+    by false e = takes s t m g e
+keeps s c t g (Apply x) = applies s t g (find_in t.held x) (λ v e. g.held v (found t.held x v e).0)
+keeps s c t g (Pass to) = if_none s t (λ why. why) (refusal_of_pass s.sites s.limits t.me t.token to) _ g (passes s c t to g)
+keeps s c t g (Balance a) = if_not s t (not (is_account s a)) _ _ g (λ e. record { order = g; sends = none_fit s })
+keeps s c t g (AsOf a n) =
+    if_not s t (not (is_account s a)) _ _ g (λ e. if_not s t (nat_lt (length t.ops) n) _ _ g (λ f. record {
+      order = g;
+      sends = none_fit s;
+    }))
+keeps s c t g (AskStatement a) = if_not s t (not (is_account s a)) _ _ g (λ e. record { order = g; sends = none_fit s })
+
+-- the same of an event that may find no room in the history
+stays : (s : Settings) → IsConfigured s → (t : ModelSite) → IsInOrder s t → (e : Event) →
+    IsInOrder s (after_event s t e) × AllFit s (sent_at s t e)
+stays s c t g e = by (is_full s t) (keeps s c t g e)
+  where
+    by : (b : Bool) → Keeps s t (outcome_of s t e)
+        → IsInOrder s (cond b t (noted (changed t (outcome_of s t e)) e (reply_of (outcome_of s t e))))
+        × AllFit s (cond b [] (sent_by (outcome_of s t e)))
+    by true k = (g, none_fit s)
+    by false k = let o = k.order in (record { me = o.me; valid = o.valid; held = o.held; needed = o.needed }, k.sends)
+
+all_fit : (s : Settings) → IsConfigured s → (es : List Event) (t : ModelSite) → IsInOrder s t → AllFit s (sends_of s t es)
+all_fit s c [] t g m h = absurd h
+all_fit s c (e ∷ es) t g m h =
+    let now = stays s c t g e in
+    by now.1 (all_fit s c es (after_event s t e) now.0) (among-cases m (sent_at s t e) (sends_of s (after_event s t e) es) h)
+  where
+    by : AllFit s (sent_at s t e) → AllFit s (sends_of s (after_event s t e) es)
+        → IsAmong m (sent_at s t e) ⊎ IsAmong m (sends_of s (after_event s t e) es) → IsEvent s (Receive m)
+    by first later (inl here) = first m here
+    by first later (inr there) = later m there
+
+-- each message that a site sends fits a line
+pub sends_fit : (s : Settings) → IsConfigured s → (me : ℕ) → me < s.sites → (es : List Event) (m : Message)
+    → IsAmong m (sends_of s (first_site me) es) → IsEvent s (Receive m)
+sends_fit s c me low es = all_fit s c es (first_site me) (record {
+  me = low;
+  valid = IsValid-none s;
+  held = λ v h. absurd h;
+  needed = omega arith;
+})
