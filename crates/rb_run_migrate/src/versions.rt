@@ -2,7 +2,7 @@
 ghost use Rattle.std.specs.Prelude.{◌≡◌, ◌≤◌, ◌++◌, codes, length, take, IfOk, OnErr, OnOk};
 ghost use Rattle.rb_run_migrate.specs.Migration.{migrated_config_line, migrated_entry_line};
 
-use rb_commands::append::append;
+use rb_commands::write::append::append;
 use rb_history::{append_line, write_config};
 use rb_money::Config;
 use rb_site::Entry;

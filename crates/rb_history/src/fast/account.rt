@@ -4,7 +4,7 @@ ghost use Rattle.rb_history.specs.Fits.{IsKnown};
 ghost use Rattle.rb_history.specs.Tells.{IsBetween, account_behind_quote};
 
 use crate::fast::number::parse_long_between;
-use rb_commands::scan::{after, number, plain};
+use rb_commands::fast::scan::{parse_number, parse_prefix, parse_string};
 use rb_money::{Config, Place};
 
 /// The place of an account's name, behind the first quote. "?" is written for an account that there isn't.
@@ -12,7 +12,7 @@ fn parse_account<'a>(config: &Config, text: &'a str) -> Option<(Place, &'a str)>
     ensures known { IfSome result (λ p. IsKnown config.now p.0) }
     ensures text { IfSome result (λ p. text.now ≡ account_behind_quote config.now p.0 ++ p.1.now) }
 {
-    let (name, rest) = plain(text)?;
+    let (name, rest) = parse_string(text)?;
     if let Some(place) = config.accounts().place(name) {
         return Some((place, rest));
     }
@@ -34,8 +34,8 @@ pub fn parse_account_between<'a>(
     ensures { IfSome result (λ p. IsKnown config.now p.0 × IsBetween (account_behind_quote config.now p.0) text.now
         front.now back.now p.1.now) }
 {
-    let (place, rest) = parse_account(config, after(text, front)?)?;
-    Some((place, after(rest, back)?))
+    let (place, rest) = parse_account(config, parse_prefix(text, front)?)?;
+    Some((place, parse_prefix(rest, back)?))
 }
 
 /// An account and a number as the last member of an object, behind a text that ends with the first quote.

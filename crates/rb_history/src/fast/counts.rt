@@ -9,7 +9,7 @@ ghost use Rattle.rb_history.specs.Tells.{TellsCounts, TellsEach, TellsNumbered};
 
 use crate::fast::number::parse_word_between;
 use crate::read::counts::widened;
-use rb_commands::scan::{after, byte, word};
+use rb_commands::fast::scan::{parse_byte, parse_prefix, parse_word};
 use rb_money::{MOST_SITES, MOST_SITES_OF_VERSION_1};
 
 /// A count for each site that version 1 may have, and the closing bracket.
@@ -20,12 +20,12 @@ fn parse_first(text: &str) -> Option<([u32; MOST_SITES_OF_VERSION_1], &str)>
     let mut left = text;
     let mut comma = "";
     for site in 0..MOST_SITES_OF_VERSION_1 {
-        let (count, rest) = word(after(left, comma)?)?;
+        let (count, rest) = parse_word(parse_prefix(left, comma)?)?;
         counts[site] = count;
         left = rest;
         comma = ",";
     }
-    Some((counts, after(left, "]")?))
+    Some((counts, parse_prefix(left, "]")?))
 }
 
 /// The number of a site, at least this, and its count, above 0.
@@ -34,7 +34,7 @@ fn parse_numbered_one(text: &str, least: usize) -> Option<(usize, u32, &str)>
     ensures some { IfSome result (λ p. (0 < p.1) × (p.1 < 2 ^ 32)) }
     ensures told { IfSome result (λ p. text.now ≡ compact_text (numbered_json (p.0, p.1)) ++ p.2.now) }
 {
-    let (site, rest) = byte(after(text, "[")?)?;
+    let (site, rest) = parse_byte(parse_prefix(text, "[")?)?;
     let (count, rest) = parse_word_between(rest, ",", "]")?;
     let site = usize::from(site);
     if least <= site && site < MOST_SITES && 1 <= count {
@@ -53,10 +53,10 @@ fn parse_numbered(text: &str) -> Option<([u32; MOST_SITES], &str)>
     let mut left = text;
     let mut comma = "";
     'sites: loop {
-        if let Some(rest) = after(left, "]") {
+        if let Some(rest) = parse_prefix(left, "]") {
             return Some((counts, rest));
         }
-        let (site, count, rest) = parse_numbered_one(after(left, comma)?, least)?;
+        let (site, count, rest) = parse_numbered_one(parse_prefix(left, comma)?, least)?;
         counts[site] = count;
         least = site + 1;
         left = rest;
@@ -69,7 +69,7 @@ fn parse_numbered(text: &str) -> Option<([u32; MOST_SITES], &str)>
 pub fn parse_counts(version: u8, text: &str) -> Option<([u32; MOST_SITES], &str)>
     ensures { IfSome result (λ p. TellsCounts version p.0 text.now p.1.now) }
 {
-    let list = after(text, "[")?;
+    let list = parse_prefix(text, "[")?;
     if version == 1 {
         let (first, rest) = parse_first(list)?;
         return Some((widened(&first), rest));

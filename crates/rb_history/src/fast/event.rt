@@ -8,7 +8,7 @@ use crate::fast::account::{parse_account_between, parse_asked};
 use crate::fast::name::parse_name_between;
 use crate::fast::number::{parse_byte_between, parse_word_between};
 use crate::fast::shadow::parse_shadow;
-use rb_commands::scan::after;
+use rb_commands::fast::scan::parse_prefix;
 use rb_kit::List;
 use rb_money::Config;
 use rb_scratch::Request;
@@ -89,10 +89,10 @@ fn parse_requests<'a>(
     let mut left = text;
     let mut comma = "";
     for _ in 0..text.len() {
-        if let Some(rest) = after(left, "]") {
+        if let Some(rest) = parse_prefix(left, "]") {
             return Some((requests, rest));
         }
-        let (request, rest) = parse_request(config, after(left, comma)?)?;
+        let (request, rest) = parse_request(config, parse_prefix(left, comma)?)?;
         if requests.push(request).is_err() {
             return None;
         }
@@ -105,8 +105,8 @@ fn parse_requests<'a>(
 fn parse_batch<'a>(alloc: Global, config: &Config, text: &'a str) -> Option<(Event, &'a str)>
     ensures { IfSome result (λ p. TellsEvent config.now p.0 text.now p.1.now) }
 {
-    let (requests, rest) = parse_requests(alloc, config, after(text, "{\"batch\":[")?)?;
-    Some((Event::Batch(List::new(requests)), after(rest, "}")?))
+    let (requests, rest) = parse_requests(alloc, config, parse_prefix(text, "{\"batch\":[")?)?;
+    Some((Event::Batch(List::new(requests)), parse_prefix(rest, "}")?))
 }
 
 fn parse_received<'a>(config: &Config, text: &'a str) -> Option<(Event, &'a str)>

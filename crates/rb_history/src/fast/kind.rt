@@ -9,7 +9,7 @@ ghost use Rattle.rb_history.specs.Entries.{last_members};
 
 use crate::fast::account::parse_account_between;
 use crate::fast::name::parse_name_between;
-use rb_commands::scan::after;
+use rb_commands::fast::scan::parse_prefix;
 use rb_money::Config;
 use rb_shadow::{Kind, Label};
 
@@ -19,14 +19,14 @@ pub fn parse_label(text: &str) -> Option<(Label, &str)>
     ensures { IfSome result (λ p. text.now ≡ behind_quote (label_text p.0) ++ p.1.now) }
 {
     match text.as_bytes().first() {
-        Some(b'd') => match after(text, "deposit\"") {
+        Some(b'd') => match parse_prefix(text, "deposit\"") {
             Some(rest) => Some((Label::Deposit, rest)),
-            None => Some((Label::Declined, after(text, "declined\"")?)),
+            None => Some((Label::Declined, parse_prefix(text, "declined\"")?)),
         },
-        Some(b'w') => Some((Label::Withdraw, after(text, "withdraw\"")?)),
-        Some(b'i') => Some((Label::Interest, after(text, "interest\"")?)),
-        Some(b't') => Some((Label::Transfer, after(text, "transfer\"")?)),
-        _ => Some((Label::Cancel, after(text, "cancel\"")?)),
+        Some(b'w') => Some((Label::Withdraw, parse_prefix(text, "withdraw\"")?)),
+        Some(b'i') => Some((Label::Interest, parse_prefix(text, "interest\"")?)),
+        Some(b't') => Some((Label::Transfer, parse_prefix(text, "transfer\"")?)),
+        _ => Some((Label::Cancel, parse_prefix(text, "cancel\"")?)),
     }
 }
 
@@ -38,10 +38,10 @@ pub fn parse_kind<'a>(config: &Config, label: Label, text: &'a str) -> Option<(K
     ensures text { IfSome result (λ p. text.now ≡ members_text true (last_members config.now p.0) ++ p.1.now) }
 {
     match label {
-        Label::Deposit => Some((Kind::Deposit, after(text, "}")?)),
-        Label::Withdraw => Some((Kind::Withdraw, after(text, "}")?)),
-        Label::Declined => Some((Kind::Declined, after(text, "}")?)),
-        Label::Interest => Some((Kind::Interest, after(text, "}")?)),
+        Label::Deposit => Some((Kind::Deposit, parse_prefix(text, "}")?)),
+        Label::Withdraw => Some((Kind::Withdraw, parse_prefix(text, "}")?)),
+        Label::Declined => Some((Kind::Declined, parse_prefix(text, "}")?)),
+        Label::Interest => Some((Kind::Interest, parse_prefix(text, "}")?)),
         Label::Cancel => {
             let (target, rest) = parse_name_between(text, ",\"target\":\"", "}")?;
             Some((Kind::Cancel { target }, rest))

@@ -3,15 +3,15 @@ ghost use Rattle.std.specs.Prelude.{◌≡◌, ◌<◌, ◌++◌, IfSome};
 ghost use Rattle.rb_shadow.specs.NameText.{IsName, name_text};
 ghost use Rattle.rb_history.specs.Tells.{IsBetween, behind_quote};
 
-use rb_commands::scan::{after, operation};
+use rb_commands::fast::scan::{parse_name, parse_prefix};
 use rb_shadow::OpName;
 
 /// An operation's name, behind its first quote.
 #[inline(always)]
-pub fn parse_name(text: &str) -> Option<(OpName, &str)>
+pub fn parse_op_name(text: &str) -> Option<(OpName, &str)>
     ensures { IfSome result (λ p. IsName p.0 × (text.now ≡ behind_quote (name_text p.0) ++ p.1.now)) }
 {
-    let (name, rest) = operation(text)?;
+    let (name, rest) = parse_name(text)?;
     Some((name, rest))
 }
 
@@ -21,6 +21,6 @@ pub fn parse_name_between<'a>(text: &'a str, front: &str, back: &str) -> Option<
     ensures { IfSome result (λ p. IsName p.0 × IsBetween (behind_quote (name_text p.0)) text.now front.now back.now
         p.1.now) }
 {
-    let (name, rest) = parse_name(after(text, front)?)?;
-    Some((name, after(rest, back)?))
+    let (name, rest) = parse_op_name(parse_prefix(text, front)?)?;
+    Some((name, parse_prefix(rest, back)?))
 }

@@ -7,7 +7,7 @@ ghost use Rattle.rb_history.specs.Tells.{TellsReply};
 
 use crate::fast::number::{parse_byte_between, parse_word_between};
 use crate::read::refusal::plain_refusal;
-use rb_commands::scan::{after, byte};
+use rb_commands::fast::scan::{parse_byte, parse_prefix};
 use rb_money::{Cause, Refusal};
 use rb_site::Reply;
 
@@ -33,10 +33,10 @@ pub fn parse_cancelled(text: &str) -> Option<(Reply, &str)>
 fn parse_cause(text: &str) -> Option<(Cause, &str)>
     ensures { IfSome result (λ p. IsCause p.0 × (text.now ≡ compact_text (cause_json p.0) ++ p.1.now)) }
 {
-    if let Some(rest) = after(text, "\"declined\"") {
+    if let Some(rest) = parse_prefix(text, "\"declined\"") {
         return Some((Cause::Declined, rest));
     }
-    let (number, rest) = byte(text)?;
+    let (number, rest) = parse_byte(text)?;
     Some((Cause::Refused(number), rest))
 }
 
@@ -44,7 +44,7 @@ fn parse_cause(text: &str) -> Option<(Cause, &str)>
 pub fn parse_batch(text: &str) -> Option<(Reply, &str)>
     ensures { IfSome result (λ p. TellsReply p.0 text.now p.1.now) }
 {
-    let (cause, rest) = parse_cause(after(text, "{\"cause\":")?)?;
+    let (cause, rest) = parse_cause(parse_prefix(text, "{\"cause\":")?)?;
     let (index, rest) = parse_byte_between(rest, ",\"index\":", ",\"refused\":13}")?;
     let refusal = Refusal::BatchRefused { index, cause };
     Some((Reply::Refused(refusal), rest))

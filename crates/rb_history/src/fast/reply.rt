@@ -5,11 +5,11 @@ ghost use Rattle.rb_shadow.specs.NameText.{IsName};
 ghost use Rattle.rb_commands.specs.Values.{name_json};
 
 use crate::fast::kind::parse_label;
-use crate::fast::name::{parse_name, parse_name_between};
+use crate::fast::name::{parse_name_between, parse_op_name};
 use crate::fast::number::{parse_long_between, parse_word_between};
 use crate::fast::refusal::{parse_batch, parse_behind, parse_cancelled, parse_refused};
 use crate::fast::statement::parse_statement;
-use rb_commands::scan::after;
+use rb_commands::fast::scan::parse_prefix;
 use rb_kit::List;
 use rb_shadow::OpName;
 use rb_site::Reply;
@@ -19,7 +19,7 @@ use std::alloc::Global;
 fn parse_made(text: &str) -> Option<(Reply, &str)>
     ensures { IfSome result (λ p. TellsReply p.0 text.now p.1.now) }
 {
-    let (kind, rest) = parse_label(after(text, "{\"kind\":\"")?)?;
+    let (kind, rest) = parse_label(parse_prefix(text, "{\"kind\":\"")?)?;
     let (name, rest) = parse_name_between(rest, ",\"name\":\"", "}")?;
     Some((Reply::Made { name, kind }, rest))
 }
@@ -32,10 +32,10 @@ fn parse_list<'a>(alloc: Global, text: &'a str) -> Option<(Vec<OpName>, &'a str)
     let mut left = text;
     let mut comma = "";
     for _ in 0..text.len() {
-        if let Some(rest) = after(left, "]") {
+        if let Some(rest) = parse_prefix(left, "]") {
             return Some((names, rest));
         }
-        let (name, rest) = parse_name(after(after(left, comma)?, "\"")?)?;
+        let (name, rest) = parse_op_name(parse_prefix(parse_prefix(left, comma)?, "\"")?)?;
         if names.push(name).is_err() {
             return None;
         }
@@ -49,8 +49,8 @@ fn parse_list<'a>(alloc: Global, text: &'a str) -> Option<(Vec<OpName>, &'a str)
 fn parse_names<'a>(alloc: Global, text: &'a str) -> Option<(Reply, &'a str)>
     ensures { IfSome result (λ p. TellsReply p.0 text.now p.1.now) }
 {
-    let (names, rest) = parse_list(alloc, after(text, "{\"names\":[")?)?;
-    Some((Reply::Names(List::new(names)), after(rest, "}")?))
+    let (names, rest) = parse_list(alloc, parse_prefix(text, "{\"names\":[")?)?;
+    Some((Reply::Names(List::new(names)), parse_prefix(rest, "}")?))
 }
 
 fn parse_held(text: &str) -> Option<(Reply, &str)>

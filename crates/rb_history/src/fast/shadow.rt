@@ -5,9 +5,9 @@ ghost use Rattle.rb_history.specs.Tells.{TellsDeps, TellsShadow};
 use crate::fast::account::parse_account_between;
 use crate::fast::counts::parse_counts;
 use crate::fast::kind::{parse_kind, parse_label};
-use crate::fast::name::parse_name;
+use crate::fast::name::parse_op_name;
 use crate::fast::number::{parse_byte_between, parse_long_between, parse_word_between};
-use rb_commands::scan::after;
+use rb_commands::fast::scan::parse_prefix;
 use rb_money::Config;
 use rb_shadow::{Deps, Shadow};
 
@@ -15,7 +15,7 @@ use rb_shadow::{Deps, Shadow};
 fn parse_deps<'a>(config: &Config, text: &'a str) -> Option<(Deps, &'a str)>
     ensures { IfSome result (λ p. TellsDeps config.now.version p.0 text.now p.1.now) }
 {
-    let (blue, rest) = parse_counts(config.version(), after(text, "[")?)?;
+    let (blue, rest) = parse_counts(config.version(), parse_prefix(text, "[")?)?;
     let (red, rest) = parse_word_between(rest, ",", "]")?;
     Some((Deps { blue, red }, rest))
 }
@@ -29,7 +29,7 @@ pub fn parse_shadow<'a>(config: &Config, text: &'a str) -> Option<(Shadow, &'a s
     let (deps, rest) = parse_deps(config, rest)?;
     let (home, rest) = parse_byte_between(rest, ",\"home\":", ",\"kind\":\"")?;
     let (label, rest) = parse_label(rest)?;
-    let (name, rest) = parse_name(after(rest, ",\"name\":\"")?)?;
+    let (name, rest) = parse_op_name(parse_prefix(rest, ",\"name\":\"")?)?;
     let (kind, rest) = parse_kind(config, label, rest)?;
     let shadow = Shadow {
         name,
@@ -39,5 +39,5 @@ pub fn parse_shadow<'a>(config: &Config, text: &'a str) -> Option<(Shadow, &'a s
         amount,
         kind,
     };
-    Some((shadow, after(rest, "}")?))
+    Some((shadow, parse_prefix(rest, "}")?))
 }

@@ -9,9 +9,9 @@ ghost use Rattle.rb_history.specs.Fits.{IsMoved, IsStatementRow};
 ghost use Rattle.rb_history.specs.Tells.{TellsEach, TellsReply};
 
 use crate::fast::kind::parse_label;
-use crate::fast::name::parse_name;
+use crate::fast::name::parse_op_name;
 use crate::fast::number::{parse_long_between, parse_word_between};
-use rb_commands::scan::{after, number};
+use rb_commands::fast::scan::{parse_number, parse_prefix};
 use rb_kit::List;
 use rb_site::Reply;
 use rb_statements::{Row, Statement};
@@ -21,14 +21,14 @@ use std::alloc::Global;
 fn parse_moved(text: &str) -> Option<(i64, &str)>
     ensures { IfSome result (λ p. IsMoved p.0 × (text.now ≡ signed_decimal p.0 ++ p.1.now)) }
 {
-    let Some(digits) = after(text, "-") else {
-        let (n, rest) = number(text)?;
+    let Some(digits) = parse_prefix(text, "-") else {
+        let (n, rest) = parse_number(text)?;
         if n >= 1 << 63 {
             return None;
         }
         return Some((n as i64, rest));
     };
-    let (n, rest) = number(digits)?;
+    let (n, rest) = parse_number(digits)?;
     if n == 0 || n >= 1 << 63 {
         return None;
     }
@@ -39,9 +39,9 @@ fn parse_moved(text: &str) -> Option<(i64, &str)>
 fn parse_cancelled(text: &str) -> Option<(bool, &str)>
     ensures { IfSome result (λ p. text.now ≡ token_text (boolean p.0) ++ p.1.now) }
 {
-    match after(text, "true") {
+    match parse_prefix(text, "true") {
         Some(rest) => Some((true, rest)),
-        None => Some((false, after(text, "false")?)),
+        None => Some((false, parse_prefix(text, "false")?)),
     }
 }
 
@@ -50,10 +50,10 @@ fn parse_row(text: &str) -> Option<(Row, &str)>
     ensures { IfSome result (λ p. IsStatementRow p.0 × (text.now ≡ compact_text (row_json p.0) ++ p.1.now)) }
 {
     let (position, rest) = parse_word_between(text, "[", ",\"")?;
-    let (name, rest) = parse_name(rest)?;
-    let (kind, rest) = parse_label(after(rest, ",\"")?)?;
-    let (moved, rest) = parse_moved(after(rest, ",")?)?;
-    let (cancelled, rest) = parse_cancelled(after(rest, ",")?)?;
+    let (name, rest) = parse_op_name(rest)?;
+    let (kind, rest) = parse_label(parse_prefix(rest, ",\"")?)?;
+    let (moved, rest) = parse_moved(parse_prefix(rest, ",")?)?;
+    let (cancelled, rest) = parse_cancelled(parse_prefix(rest, ",")?)?;
     let (balance, rest) = parse_long_between(rest, ",", "]")?;
     let row = Row {
         position,
@@ -74,10 +74,10 @@ fn parse_rows<'a>(alloc: Global, text: &'a str) -> Option<(Vec<Row>, &'a str)>
     let mut left = text;
     let mut comma = "";
     for _ in 0..text.len() {
-        if let Some(rest) = after(left, "]") {
+        if let Some(rest) = parse_prefix(left, "]") {
             return Some((rows, rest));
         }
-        let (row, rest) = parse_row(after(left, comma)?)?;
+        let (row, rest) = parse_row(parse_prefix(left, comma)?)?;
         if rows.push(row).is_err() {
             return None;
         }

@@ -12,7 +12,7 @@ use crate::fast::entry::parse_entry;
 use crate::read::event::event;
 use crate::read::reply::reply;
 use rb_commands::LineFault;
-use rb_commands::values::{parse, size};
+use rb_commands::read::value::{read_value, size};
 use rb_money::Config;
 use rb_site::{Entry, Event, Reply};
 use serde_json::Value;
@@ -78,7 +78,7 @@ pub fn read_line(alloc: Global, config: &Config, line: &str) -> Result<(u8, Entr
     if let Some(read) = parse_entry(alloc, config, line) {
         return Ok(read);
     }
-    match parse(alloc, line) {
+    match read_value(alloc, line) {
         Ok(value) => entry(alloc, config, &value),
         Err(fault) => Err(fault),
     }

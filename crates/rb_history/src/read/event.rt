@@ -7,7 +7,7 @@ ghost use Rattle.rb_history.specs.Entries.{event_of_line};
 
 use crate::fast::event::parse_event_line;
 use crate::read::shadow::shadow;
-use rb_commands::values::{byte, parse, size, three, word};
+use rb_commands::read::value::{byte, read_value, size, three, word};
 use rb_commands::{LineFault, event as event_of_command};
 use rb_money::Config;
 use rb_site::{Event, Message};
@@ -65,7 +65,7 @@ pub fn read_event(alloc: Global, config: &Config, line: &str) -> Result<Event, L
     if let Some(read) = parse_event_line(alloc, config, line) {
         return Ok(read);
     }
-    match parse(alloc, line) {
+    match read_value(alloc, line) {
         Ok(value) => event(alloc, config, &value),
         Err(fault) => Err(fault),
     }

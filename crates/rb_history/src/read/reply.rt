@@ -11,7 +11,7 @@ use crate::read::kind::label;
 use crate::read::refusal::refusal;
 use crate::read::statement::statement;
 use rb_commands::LineFault;
-use rb_commands::values::{byte, long, name, size, word};
+use rb_commands::read::value::{byte, long, name, size, word};
 use rb_kit::List;
 use rb_shadow::OpName;
 use rb_site::Reply;

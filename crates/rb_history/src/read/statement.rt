@@ -8,7 +8,7 @@ ghost use Rattle.rb_commands.specs.Values.{number_below};
 
 use crate::read::kind::label;
 use rb_commands::LineFault;
-use rb_commands::values::{long, name, word};
+use rb_commands::read::value::{long, name, word};
 use rb_kit::List;
 use rb_site::Reply;
 use rb_statements::{Row, Statement};

@@ -6,7 +6,7 @@ ghost use Rattle.rb_commands.specs.Adds.{Adds};
 ghost use Rattle.rb_history.specs.ConfigLines.{accounts_of, config_json, start_json};
 
 use crate::write::account::append_account;
-use rb_commands::append::{append, append_number};
+use rb_commands::write::append::{append, append_number};
 use rb_money::{Cents, Config, Limits, Place};
 use std::alloc::{AllocError, Global};
 

@@ -8,7 +8,7 @@ ghost use Rattle.rb_commands.specs.Values.{list_json};
 ghost use Rattle.rb_history.specs.Counts.{blue_json, numbered_from, numbered_json};
 
 use crate::write::number::append_numbers;
-use rb_commands::append::{append, append_number};
+use rb_commands::write::append::{append, append_number};
 use rb_money::{MOST_SITES, MOST_SITES_OF_VERSION_1};
 use std::alloc::AllocError;
 

@@ -5,8 +5,8 @@ ghost use Rattle.rb_commands.specs.Adds.{Adds};
 ghost use Rattle.rb_history.specs.Entries.{entry_json};
 
 use crate::write::event::append_event;
-use rb_commands::append::{append, append_number};
 use rb_commands::append_value;
+use rb_commands::write::append::{append, append_number};
 use rb_money::Config;
 use rb_site::Entry;
 use std::alloc::{AllocError, Global};

@@ -8,7 +8,7 @@ ghost use Rattle.rb_commands.specs.Values.{list_json, one_json};
 
 use crate::write::account::{append_account, append_asked};
 use crate::write::shadow::append_shadow;
-use rb_commands::append::{append, append_named, append_number};
+use rb_commands::write::append::{append, append_named, append_number};
 use rb_money::{Config, Place};
 use rb_scratch::Request;
 use rb_site::{Event, Message};

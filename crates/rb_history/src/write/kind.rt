@@ -7,7 +7,7 @@ ghost use Rattle.rb_history.specs.Entries.{last_members};
 ghost use Rattle.rb_commands.specs.Values.{label_text};
 
 use crate::write::account::append_account;
-use rb_commands::append::{append, append_named};
+use rb_commands::write::append::{append, append_named};
 use rb_money::Config;
 use rb_shadow::Kind;
 use std::alloc::AllocError;

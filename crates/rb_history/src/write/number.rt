@@ -4,7 +4,7 @@ ghost use Rattle.serde_json.specs.Written.{compact_text};
 ghost use Rattle.rb_commands.specs.Adds.{Adds};
 ghost use Rattle.rb_commands.specs.Values.{list_json, number_json};
 
-use rb_commands::append::{append, append_number};
+use rb_commands::write::append::{append, append_number};
 use std::alloc::AllocError;
 
 /// A number of at most 64 bits.

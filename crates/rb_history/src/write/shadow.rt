@@ -9,7 +9,7 @@ ghost use Rattle.rb_commands.specs.Values.{label_text, name_json, one_json};
 use crate::write::account::append_account;
 use crate::write::counts::append_counts;
 use crate::write::kind::{append_last, kind_text};
-use rb_commands::append::{append, append_named, append_number};
+use rb_commands::write::append::{append, append_named, append_number};
 use rb_money::Config;
 use rb_shadow::{Deps, Shadow};
 use std::alloc::AllocError;

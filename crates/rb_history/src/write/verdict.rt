@@ -5,7 +5,7 @@ ghost use Rattle.rb_commands.specs.Adds.{Adds};
 ghost use Rattle.rb_history.specs.Verdicts.{verdict_line, order_json, stuck_json, wrong_reply_json};
 
 use crate::write::number::append_numbers;
-use rb_commands::append::{append, append_number};
+use rb_commands::write::append::{append, append_number};
 use std::alloc::{AllocError, Global};
 
 fn append_order(out: &mut Vec<u8>, order: &[u8]) -> Result<(), AllocError>

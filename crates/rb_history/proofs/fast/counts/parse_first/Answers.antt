@@ -22,8 +22,8 @@ loop-site-preserved c =
       sites = search rules;
       fit = subst (Each IsWord) (sym more) (each_more IsWord (take site counts) made.count c.loop-site.invariant.fit made.ensures.0);
       read = subst (BeginsWith number_json text made.rest.now (codes ",")) (sym more)
-          (one_more number_json text c.loop-site.left.now c.loop-site.comma.now c.in_ok-after.field-0.now made.rest.now
-          (take site counts) made.count c.loop-site.invariant.read c.in_ok-after.ensures made.ensures.1);
+          (one_more number_json text c.loop-site.left.now c.loop-site.comma.now c.in_ok-parse_prefix.field-0.now made.rest.now
+          (take site counts) made.count c.loop-site.invariant.read c.in_ok-parse_prefix.ensures made.ensures.1);
     }
 
 pub returns : goal.returns
@@ -33,6 +33,6 @@ returns c =
     let all : take c.loop-site.site counts ≡ counts = take_all c.loop-site.site counts (omega (arith, c.loop-site.invariant.sites)) in
     let read = subst (BeginsWith number_json c.args.text.now c.loop-site.left.now c.loop-site.comma.now) all c.loop-site.invariant.read in (
       subst (Each IsWord) all c.loop-site.invariant.fit,
-      all_read number_json c.args.text.now c.loop-site.left.now c.loop-site.comma.now c.in_ok-after-2.field-0.now counts read
-          c.in_ok-after-2.ensures,
+      all_read number_json c.args.text.now c.loop-site.left.now c.loop-site.comma.now c.in_ok-parse_prefix-2.field-0.now counts read
+          c.in_ok-parse_prefix-2.ensures,
     )

@@ -38,8 +38,8 @@ sites-preserved c =
       none = none_behind counts least site n near.0 near.1 inv.none;
       fit = fit_more IsWord counts least site n inv.sites near.0 near.1 inv.none (omega arith) some.1 inv.fit;
       read = subst (BeginsWith numbered_json text c.in_ok-site.rest.now (codes ",")) (sym more)
-          (one_more numbered_json text c.sites.left.now c.sites.comma.now c.in_ok-after.field-0.now c.in_ok-site.rest.now
-          (numbered_from 0 (take least counts)) (site, n) inv.read c.in_ok-after.ensures c.in_ok-site.ensures.told);
+          (one_more numbered_json text c.sites.left.now c.sites.comma.now c.in_ok-parse_prefix.field-0.now c.in_ok-site.rest.now
+          (numbered_from 0 (take least counts)) (site, n) inv.read c.in_ok-parse_prefix.ensures c.in_ok-site.ensures.told);
     }
 
 pub sites-smaller : goal.sites-smaller

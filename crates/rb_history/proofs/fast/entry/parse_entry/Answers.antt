@@ -19,9 +19,9 @@ returns-clause-value c =
     let last : c.in_ok-site.rest.now ≡ [] = search rules in
     let within : site < s.sites = search rules in
     let text =
-    c.in_ok-after.ensures ∙ ap (λ l. codes "{\"event\":" ++ l)
+    c.in_ok-parse_prefix.ensures ∙ ap (λ l. codes "{\"event\":" ++ l)
     (c.in_ok-event.ensures.1 ∙ ap (λ l. event_text ++ l)
-    (c.in_ok-after-2.ensures ∙ ap (λ l. codes ",\"reply\":" ++ l)
+    (c.in_ok-parse_prefix-2.ensures ∙ ap (λ l. codes ",\"reply\":" ++ l)
     (c.in_ok-reply.ensures.1 ∙ ap (λ l. reply_text ++ l)
     (c.in_ok-site.ensures.1 ∙ ap (λ l. site_text ++ l) last ∙ append-nil site_text)))) in
     ap (entry_of_line s) text ∙ entry_line s c.sites.ensures.configured site

@@ -28,8 +28,8 @@ loop-preserved c =
       fit = subst (Each (IsRequest c.args.config.now)) (sym pushed)
           (each_more (IsRequest c.args.config.now) requests made.request c.loop.invariant.fit made.ensures.0);
       read = subst (BeginsWith (request_json c.args.config.now) text made.rest.now (codes ",")) (sym pushed)
-          (one_more (request_json c.args.config.now) text c.loop.left.now c.loop.comma.now c.in_ok-after.field-0.now made.rest.now
-          requests made.request c.loop.invariant.read c.in_ok-after.ensures made.ensures.1);
+          (one_more (request_json c.args.config.now) text c.loop.left.now c.loop.comma.now c.in_ok-parse_prefix.field-0.now made.rest.now
+          requests made.request c.loop.invariant.read c.in_ok-parse_prefix.ensures made.ensures.1);
     }
 
 pub returns-in-Some : goal.returns-in-Some

@@ -29,8 +29,8 @@ loop-preserved c =
       comma = search rules;
       fit = subst (Each IsName) (sym pushed) (each_more IsName names made.name c.loop.invariant.fit made.ensures.0);
       read = subst (BeginsWith name_json text made.rest.now (codes ",")) (sym pushed)
-          (one_more name_json text c.loop.left.now c.loop.comma.now c.in_ok-after.field-0.now made.rest.now names made.name
-          c.loop.invariant.read c.in_ok-after.ensures (c.in_ok-after-2.ensures ∙ ap (λ l. codes "\"" ++ l) made.ensures.1));
+          (one_more name_json text c.loop.left.now c.loop.comma.now c.in_ok-parse_prefix.field-0.now made.rest.now names made.name
+          c.loop.invariant.read c.in_ok-parse_prefix.ensures (c.in_ok-parse_prefix-2.ensures ∙ ap (λ l. codes "\"" ++ l) made.ensures.1));
     }
 
 pub returns-in-Some : goal.returns-in-Some

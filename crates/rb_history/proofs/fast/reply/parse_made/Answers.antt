@@ -10,8 +10,8 @@ pub returns : goal.returns
 unfolding escape_byte
 returns c = (
   c.in_ok-name.ensures.0,
-  between c.args.text.now (codes "{\"kind\":\"") c.in_ok-after.field-0.now
+  between c.args.text.now (codes "{\"kind\":\"") c.in_ok-parse_prefix.field-0.now
       (behind_quote (label_text c.in_ok-kind.kind)) c.in_ok-kind.rest.now
-      (codes ",\"name\":\"" ++ (behind_quote (name_text c.in_ok-name.name) ++ codes "}")) c.in_ok-name.rest.now c.in_ok-after.ensures
+      (codes ",\"name\":\"" ++ (behind_quote (name_text c.in_ok-name.name) ++ codes "}")) c.in_ok-name.rest.now c.in_ok-parse_prefix.ensures
       c.in_ok-kind.ensures c.in_ok-name.ensures.1,
 )

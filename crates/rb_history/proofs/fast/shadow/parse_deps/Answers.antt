@@ -11,7 +11,7 @@ returns c =
     let blue = c.in_ok-blue.blue in
     let red = c.in_ok-red.red in
     let text = c.args.text.now in
-    let here = c.in_ok-after.field-0.now in
+    let here = c.in_ok-parse_prefix.field-0.now in
     let rest = c.in_ok-blue.rest.now in
     let counts : TellsCounts version blue here rest = subst (λ v. TellsCounts v blue here rest) c.version.ensures.same
     c.in_ok-blue.ensures in
@@ -21,5 +21,5 @@ returns c =
       further = counts.further;
       red = c.in_ok-red.ensures.0;
       told = between text (codes "[") here (compact_text (blue_json version blue)) rest
-          (codes "," ++ (decimal red ++ codes "]")) c.in_ok-red.rest.now c.in_ok-after.ensures counts.told c.in_ok-red.ensures.1;
+          (codes "," ++ (decimal red ++ codes "]")) c.in_ok-red.rest.now c.in_ok-parse_prefix.ensures counts.told c.in_ok-red.ensures.1;
     }

@@ -30,16 +30,16 @@ returns c =
     let label = behind_quote (label_text c.in_ok-label.label) in
     let name = behind_quote (name_text c.in_ok-name.name) in
     let last = members_text true (last_members c.args.config.now c.in_ok-kind.kind) in
-    let rest = c.in_ok-after-2.field-0.now in
+    let rest = c.in_ok-parse_prefix-2.field-0.now in
     let read =
     c.in_ok-account.ensures.1 ∙ ap (λ l. (codes "{\"shadow\":{\"account\":\"" ++ (account ++ codes ",")) ++ l)
     (c.in_ok-amount.ensures.1 ∙ ap (λ l. (codes "\"amount\":" ++ (amount ++ codes ",\"deps\":")) ++ l)
     (c.in_ok-deps.ensures.told ∙ ap (λ l. deps ++ l)
     (c.in_ok-home.ensures.1 ∙ ap (λ l. (codes ",\"home\":" ++ (home ++ codes ",\"kind\":\"")) ++ l)
     (c.in_ok-label.ensures ∙ ap (λ l. label ++ l)
-    (c.in_ok-after.ensures ∙ ap (λ l. codes ",\"name\":\"" ++ l)
+    (c.in_ok-parse_prefix.ensures ∙ ap (λ l. codes ",\"name\":\"" ++ l)
     (c.in_ok-name.ensures.1 ∙ ap (λ l. name ++ l)
-    (c.in_ok-kind.ensures.text ∙ ap (λ l. last ++ l) c.in_ok-after-2.ensures))))))) in
+    (c.in_ok-kind.ensures.text ∙ ap (λ l. last ++ l) c.in_ok-parse_prefix-2.ensures))))))) in
     let whole = λ (kind : List ℕ). (codes
     "{\"shadow\":" ++ ((codes "{\"account\":\"" ++
     (account ++ (codes ",\"amount\":" ++

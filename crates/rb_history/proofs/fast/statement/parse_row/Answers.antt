@@ -35,11 +35,11 @@ returns c =
       (c.in_ok-position.ensures.0, c.in_ok-name.ensures.0, c.in_ok-moved.ensures.0, c.in_ok-balance.ensures.0),
       c.in_ok-position.ensures.1 ∙ ap (λ l. (codes "[" ++ (position ++ codes ",\"")) ++ l)
           (c.in_ok-name.ensures.1 ∙ ap (λ l. name ++ l)
-          (c.in_ok-after.ensures ∙ ap (λ l. codes ",\"" ++ l)
+          (c.in_ok-parse_prefix.ensures ∙ ap (λ l. codes ",\"" ++ l)
           (c.in_ok-kind.ensures ∙ ap (λ l. kind ++ l)
-          (c.in_ok-after-2.ensures ∙ ap (λ l. codes "," ++ l)
+          (c.in_ok-parse_prefix-2.ensures ∙ ap (λ l. codes "," ++ l)
           (c.in_ok-moved.ensures.1 ∙ ap (λ l. moved ++ l)
-          (c.in_ok-after-3.ensures ∙ ap (λ l. codes "," ++ l)
+          (c.in_ok-parse_prefix-3.ensures ∙ ap (λ l. codes "," ++ l)
           (c.in_ok-cancelled.ensures ∙ ap (λ l. cancelled ++ l) c.in_ok-balance.ensures.1)))))))
           ∙ row_text position name kind moved cancelled balance rest ∙ ap whole (sym (integer_text c.in_ok-moved.moved)),
     )

@@ -28,8 +28,8 @@ loop-preserved c =
       comma = search rules;
       fit = subst (Each IsStatementRow) (sym pushed) (each_more IsStatementRow rows made.row c.loop.invariant.fit made.ensures.0);
       read = subst (BeginsWith row_json text made.rest.now (codes ",")) (sym pushed)
-          (one_more row_json text c.loop.left.now c.loop.comma.now c.in_ok-after.field-0.now made.rest.now rows made.row
-          c.loop.invariant.read c.in_ok-after.ensures made.ensures.1);
+          (one_more row_json text c.loop.left.now c.loop.comma.now c.in_ok-parse_prefix.field-0.now made.rest.now rows made.row
+          c.loop.invariant.read c.in_ok-parse_prefix.ensures made.ensures.1);
     }
 
 pub returns-in-Some : goal.returns-in-Some
