@@ -1,5 +1,6 @@
 -- Lists of messages, kept as one.
-use Rattle.std.proofs.Common.{◌≡◌, ◌∙◌, ℕ, zero, suc, ◌+◌, ◌-◌, ◌<◌, ◌≤◌, List, [], ◌∷◌, ◌++◌, length, take, drop, get_or, refl, ap, subst, arith, Some, length-append, length-drop}
+use Rattle.std.proofs.Common.{◌≡◌, ◌∙◌, ℕ, zero, suc, ◌+◌, ◌-◌, ◌<◌, ◌≤◌, List, [], ◌∷◌, ◌++◌, length, take, drop, get_or, refl, ap}
+use Rattle.std.proofs.Common.{subst, arith, Some, length-append, length-drop}
 use Rattle.std.specs.Prelude.{slice_get}
 use Rattle.std.proofs.Math.Seq.{drop-append_seam}
 use Rattle.std.proofs.lemmas.List.{drop-append-le, take-append-le, take_all}
@@ -12,7 +13,8 @@ long ms (a ∷ []) k less = absurd (omega arith)
 long ms (a ∷ b ∷ ends) zero less = omega arith
 long ms (a ∷ b ∷ ends) (suc k) less = let more : suc k < length (b ∷ ends) = long ms (b ∷ ends) k (omega arith) in omega arith
 
-at : {X : Type 0} (ms : List X) (ends : List ℕ) (k : ℕ) → suc k < length ends → slice_get (between ms ends) k ≡ Some (take (get_or ends (suc k) 0 - get_or ends k 0) (drop (get_or ends k 0) ms))
+at : {X : Type 0} (ms : List X) (ends : List ℕ) (k : ℕ) → suc k < length ends
+    → slice_get (between ms ends) k ≡ Some (take (get_or ends (suc k) 0 - get_or ends k 0) (drop (get_or ends k 0) ms))
 at ms [] k less = absurd (omega arith)
 at ms (a ∷ []) k less = absurd (omega arith)
 at ms (a ∷ b ∷ ends) zero less = refl
@@ -22,7 +24,8 @@ first_within : (a : ℕ) (ends : List ℕ) (n : ℕ) → AreEnds (a ∷ ends) n 
 first_within a [] n e = omega arith
 first_within a (b ∷ ends) n (le, rest) = let more : b ≤ n = first_within b ends n rest in omega arith
 
-in_order : (ends : List ℕ) (n k : ℕ) → AreEnds ends n → suc k < length ends → (get_or ends k 0 ≤ get_or ends (suc k) 0) × (get_or ends (suc k) 0 ≤ n)
+in_order : (ends : List ℕ) (n k : ℕ) → AreEnds ends n → suc k < length ends
+    → (get_or ends k 0 ≤ get_or ends (suc k) 0) × (get_or ends (suc k) 0 ≤ n)
 in_order [] n k e less = absurd e
 in_order (a ∷ []) n k e less = absurd (omega arith)
 in_order (a ∷ b ∷ ends) n zero (le, rest) less = (le, first_within b ends n rest)
@@ -38,10 +41,12 @@ pub record IsPart {X : Type 0} (ms : List X) (ends : List ℕ) (k a b : ℕ) : T
 pub next : {X : Type 0} (ms : List X) (ends : List ℕ) (k : ℕ) → k < length (between ms ends) → k + 1 < length ends
 next ms ends k less = let more : suc k < length ends = long ms ends k less in omega arith
 
-pub part : {X : Type 0} (ms : List X) (ends : List ℕ) (k a b : ℕ) → AreEnds ends (length ms) → k < length (between ms ends) → a ≡ get_or ends k a → b ≡ get_or ends (k + 1) b → IsPart ms ends k a b
+pub part : {X : Type 0} (ms : List X) (ends : List ℕ) (k a b : ℕ) → AreEnds ends (length ms) → k < length (between ms ends)
+    → a ≡ get_or ends k a → b ≡ get_or ends (k + 1) b → IsPart ms ends k a b
 part {X} ms ends k a b ends_are less first end =
     subst (λ i. IsPart ms ends k i b) (read k a (omega (arith, more)) first)
-    (subst (IsPart ms ends k (get_or ends k 0)) (ap (λ n. get_or ends n 0) (let q : suc k ≡ k + 1 = omega arith in q) ∙ read (k + 1) b (omega (arith, more)) end)
+    (subst (IsPart ms ends k (get_or ends k 0)) (ap (λ n. get_or ends n 0) (let q : suc k ≡ k + 1 = omega arith in q)
+    ∙ read (k + 1) b (omega (arith, more)) end)
     (record { order = both.0; within = both.1; is = at ms ends k more }))
   where
     more : suc k < length ends
@@ -59,7 +64,8 @@ ends_more [] m n e le = absurd e
 ends_more (a ∷ []) m n e le = (omega arith, refl)
 ends_more (a ∷ b ∷ ends) m n (first, rest) le = (first, ends_more (b ∷ ends) m n rest le)
 
-pub between_more : {X : Type 0} (ms new : List X) (ends : List ℕ) (n : ℕ) → AreEnds ends (length ms) → n ≡ length (ms ++ new) → between (ms ++ new) (ends ++ n ∷ []) ≡ between ms ends ++ new ∷ []
+pub between_more : {X : Type 0} (ms new : List X) (ends : List ℕ) (n : ℕ) → AreEnds ends (length ms) → n ≡ length (ms ++ new)
+    → between (ms ++ new) (ends ++ n ∷ []) ≡ between ms ends ++ new ∷ []
 between_more ms new [] n e is = absurd e
 between_more {X} ms new (a ∷ []) n e is =
     let long : length (ms ++ new) ≡ length ms + length new = length-append ms new in
@@ -68,5 +74,7 @@ between_more {X} ms new (a ∷ []) n e is =
 between_more {X} ms new (a ∷ b ∷ ends) n (le, rest) is =
     let within : b ≤ length ms = first_within b ends (length ms) rest in
     let left : length (drop a ms) ≡ length ms - a = length-drop a ms in
-    let here : take (b - a) (drop a (ms ++ new)) ≡ take (b - a) (drop a ms) = ap (take (b - a)) (drop-append-le a ms new (omega arith)) ∙ take-append-le (b - a) (drop a ms) new (omega arith) in
-    ap (λ xs. xs ∷ between (ms ++ new) (b ∷ (ends ++ n ∷ []))) here ∙ ap (λ xss. take (b - a) (drop a ms) ∷ xss) (between_more ms new (b ∷ ends) n rest is)
+    let here : take (b - a) (drop a (ms ++ new)) ≡ take (b - a) (drop a ms) =
+    ap (take (b - a)) (drop-append-le a ms new (omega arith)) ∙ take-append-le (b - a) (drop a ms) new (omega arith) in
+    ap (λ xs. xs ∷ between (ms ++ new) (b ∷ (ends ++ n ∷ []))) here
+    ∙ ap (λ xss. take (b - a) (drop a ms) ∷ xss) (between_more ms new (b ∷ ends) n rest is)

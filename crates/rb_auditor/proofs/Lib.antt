@@ -8,4 +8,7 @@ mod Takings
 mod Following
 mod Refuting
 mod Listed
-mod Stepping
+mod Counting
+mod Opening
+mod Resting
+mod Sending

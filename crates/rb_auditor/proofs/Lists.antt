@@ -1,5 +1,6 @@
 -- Histories and how many entries of each were taken, place by place.
-use Rattle.std.proofs.Common.{◌≡◌, ℕ, zero, suc, ◌+◌, ◌<◌, ◌≤◌, List, [], ◌∷◌, ◌++◌, length, take, drop, refl, ap, sym, ◌∙◌, arith, Option, Some}
+use Rattle.std.proofs.Common.{◌≡◌, ℕ, zero, suc, ◌+◌, ◌<◌, ◌≤◌, List, [], ◌∷◌, ◌++◌, length, take, drop, refl, ap, sym, ◌∙◌, arith}
+use Rattle.std.proofs.Common.{Option, Some}
 use Rattle.std.specs.Prelude.{map, replicate, slice_get, slice_set}
 use Rattle.std.specs.List.{range_with_len}
 use Rattle.rb_money.specs.Settings.{Settings}
@@ -20,10 +21,29 @@ pub record IsSplit {A : Type 0} (xs : List A) (k : ℕ) (x : A) : Type 0 where
 
 pub split_at : {A : Type 0} (xs : List A) (k : ℕ) (x : A) → slice_get xs k ≡ Some x → IsSplit xs k x
 split_at [] k x h = cc
-split_at (y ∷ ys) zero x h = let e : y ≡ x = cc in record { rest = ys; whole = ap (λ z. z ∷ ys) e; more = ap (λ z. z ∷ []) e; dropped = ap (λ z. z ∷ ys) e; within = omega arith; front = refl }
+split_at (y ∷ ys) zero x h =
+    let e : y ≡ x = cc in record {
+      rest = ys;
+      whole = ap (λ z. z ∷ ys) e;
+      more = ap (λ z. z ∷ []) e;
+      dropped =
+          ap (λ z. z ∷ ys) e;
+      within = omega arith;
+      front = refl;
+    }
 split_at (y ∷ ys) (suc k) x h =
     let i : IsSplit ys k x = split_at ys k x h in
-    record { rest = i.rest; whole = ap (λ zs. y ∷ zs) i.whole; more = ap (λ n. take n (y ∷ ys)) (let q : suc k + 1 ≡ suc (k + 1) = omega arith in q) ∙ ap (λ zs. y ∷ zs) i.more; dropped = i.dropped; within = let q : k < length ys = i.within in omega arith; front = let q : length (take k ys) ≡ k = i.front in omega arith }
+    record {
+      rest = i.rest;
+      whole = ap (λ zs. y ∷ zs) i.whole;
+      more =
+          ap (λ n. take n (y ∷ ys)) (let q : suc k + 1 ≡ suc (k + 1) = omega arith in q) ∙ ap (λ zs. y ∷ zs) i.more;
+      dropped =
+          i.dropped;
+      within = let q : k < length ys = i.within in omega arith;
+      front =
+          let q : length (take k ys) ≡ k = i.front in omega arith;
+    }
 
 pub get_zero : (n i k : ℕ) → slice_get (replicate n 0) i ≡ Some k → k ≡ 0
 get_zero zero i k h = cc
@@ -41,14 +61,17 @@ get_after (z ∷ xs) ys x = get_after xs ys x
 
 -- ---- sites
 
-pub get_site : (s : Settings) (a : ℕ) (hs : List (List Entry)) (ks : List ℕ) (i k : ℕ) (h : List Entry) → slice_get hs i ≡ Some h → slice_get ks i ≡ Some k → slice_get (sites_after s a hs ks) i ≡ Some (site_after s (a + i) (take k h))
+pub get_site : (s : Settings) (a : ℕ) (hs : List (List Entry)) (ks : List ℕ) (i k : ℕ) (h : List Entry) → slice_get hs i ≡ Some h
+    → slice_get ks i ≡ Some k → slice_get (sites_after s a hs ks) i ≡ Some (site_after s (a + i) (take k h))
 get_site s a [] ks i k h p q = cc
 get_site s a (g ∷ hs) [] i k h p q = cc
 get_site s a (g ∷ hs) (n ∷ ks) zero k h p q =
     let e : g ≡ h = cc in
     let f : n ≡ k = cc in
-    ap (λ j. Some (site_after s j (take n g))) (let z : a ≡ a + 0 = omega arith in z) ∙ ap (λ m. Some (site_after s (a + 0) (take m g))) f ∙ ap (λ j. Some (site_after s (a + 0) (take k j))) e
-get_site s a (g ∷ hs) (n ∷ ks) (suc i) k h p q = get_site s (a + 1) hs ks i k h p q ∙ ap (λ j. Some (site_after s j (take k h))) (let z : a + 1 + i ≡ a + suc i = omega arith in z)
+    ap (λ j. Some (site_after s j (take n g))) (let z : a ≡ a + 0 = omega arith in z) ∙ ap (λ m. Some (site_after s (a + 0) (take m g))) f
+    ∙ ap (λ j. Some (site_after s (a + 0) (take k j))) e
+get_site s a (g ∷ hs) (n ∷ ks) (suc i) k h p q =
+    get_site s (a + 1) hs ks i k h p q ∙ ap (λ j. Some (site_after s j (take k h))) (let z : a + 1 + i ≡ a + suc i = omega arith in z)
 
 -- where a site comes from
 pub record IsSiteOf (s : Settings) (hs : List (List Entry)) (ks : List ℕ) (a i : ℕ) (t : ModelSite) : Type 0 where
@@ -58,34 +81,56 @@ pub record IsSiteOf (s : Settings) (hs : List (List Entry)) (ks : List ℕ) (a i
   pub at : slice_get ks i ≡ Some taken
   pub is : t ≡ site_after s (a + i) (take taken history)
 
-pub from_site : (s : Settings) (a : ℕ) (hs : List (List Entry)) (ks : List ℕ) (i : ℕ) (t : ModelSite) → slice_get (sites_after s a hs ks) i ≡ Some t → IsSiteOf s hs ks a i t
+pub from_site : (s : Settings) (a : ℕ) (hs : List (List Entry)) (ks : List ℕ) (i : ℕ) (t : ModelSite)
+    → slice_get (sites_after s a hs ks) i ≡ Some t → IsSiteOf s hs ks a i t
 from_site s a [] ks i t p = cc
 from_site s a (g ∷ hs) [] i t p = cc
-from_site s a (g ∷ hs) (n ∷ ks) zero t p = record { history = g; taken = n; there = refl; at = refl; is = let e : site_after s a (take n g) ≡ t = cc in sym e ∙ ap (λ j. site_after s j (take n g)) (let z : a ≡ a + 0 = omega arith in z) }
+from_site s a (g ∷ hs) (n ∷ ks) zero t p = record {
+  history = g;
+  taken = n;
+  there = refl;
+  at = refl;
+  is =
+      let e : site_after s a (take n g) ≡ t = cc in sym e ∙ ap (λ j. site_after s j (take n g)) (let z : a ≡ a + 0 = omega arith in z);
+}
 from_site s a (g ∷ hs) (n ∷ ks) (suc i) t p =
     let r : IsSiteOf s hs ks (a + 1) i t = from_site s (a + 1) hs ks i t p in
-    record { history = r.history; taken = r.taken; there = r.there; at = r.at; is = r.is ∙ ap (λ j. site_after s j (take r.taken r.history)) (let z : a + 1 + i ≡ a + suc i = omega arith in z) }
+    record {
+      history = r.history;
+      taken = r.taken;
+      there = r.there;
+      at = r.at;
+      is =
+          r.is ∙ ap (λ j. site_after s j (take r.taken r.history)) (let z : a + 1 + i ≡ a + suc i = omega arith in z);
+    }
 
-pub set_site : (s : Settings) (a : ℕ) (hs : List (List Entry)) (ks : List ℕ) (i n : ℕ) (h : List Entry) → slice_get hs i ≡ Some h → sites_after s a hs (slice_set ks i n) ≡ slice_set (sites_after s a hs ks) i (site_after s (a + i) (take n h))
+pub set_site : (s : Settings) (a : ℕ) (hs : List (List Entry)) (ks : List ℕ) (i n : ℕ) (h : List Entry) → slice_get hs i ≡ Some h
+    → sites_after s a hs (slice_set ks i n) ≡ slice_set (sites_after s a hs ks) i (site_after s (a + i) (take n h))
 set_site s a [] ks i n h p = cc
 set_site s a (g ∷ hs) [] zero n h p = refl
 set_site s a (g ∷ hs) [] (suc i) n h p = refl
 set_site s a (g ∷ hs) (k ∷ ks) zero n h p =
     let e : g ≡ h = cc in
-    ap (λ f. site_after s a (take n f) ∷ sites_after s (a + 1) hs ks) e ∙ ap (λ j. site_after s j (take n h) ∷ sites_after s (a + 1) hs ks) (let z : a ≡ a + 0 = omega arith in z)
+    ap (λ f. site_after s a (take n f) ∷ sites_after s (a + 1) hs ks) e
+    ∙ ap (λ j. site_after s j (take n h) ∷ sites_after s (a + 1) hs ks) (let z : a ≡ a + 0 = omega arith in z)
 set_site s a (g ∷ hs) (k ∷ ks) (suc i) n h p =
-    ap (λ ts. site_after s a (take k g) ∷ ts) (set_site s (a + 1) hs ks i n h p ∙ ap (λ j. slice_set (sites_after s (a + 1) hs ks) i (site_after s j (take n h))) (let z : a + 1 + i ≡ a + suc i = omega arith in z))
+    ap (λ ts. site_after s a (take k g) ∷ ts) (set_site s (a + 1) hs ks i n h p
+    ∙ ap (λ j. slice_set (sites_after s (a + 1) hs ks) i (site_after s j (take n h))) (let z : a + 1 + i ≡ a + suc i = omega arith in
+    z))
 
-pub first_sites : (s : Settings) (a : ℕ) (hs : List (List Entry)) → sites_after s a hs (replicate (length hs) 0) ≡ map first_site (range_with_len a (length hs))
+pub first_sites : (s : Settings) (a : ℕ) (hs : List (List Entry))
+    → sites_after s a hs (replicate (length hs) 0) ≡ map first_site (range_with_len a (length hs))
 first_sites s a [] = refl
 first_sites s a (h ∷ hs) = ap (λ ts. first_site a ∷ ts) (first_sites s (a + 1) hs)
 
 -- ---- fronts
 
-pub get_front : (hs : List (List Entry)) (ks : List ℕ) (i k : ℕ) (h : List Entry) → slice_get hs i ≡ Some h → slice_get ks i ≡ Some k → slice_get (fronts_of hs ks) i ≡ Some (take k h)
+pub get_front : (hs : List (List Entry)) (ks : List ℕ) (i k : ℕ) (h : List Entry) → slice_get hs i ≡ Some h → slice_get ks i ≡ Some k
+    → slice_get (fronts_of hs ks) i ≡ Some (take k h)
 get_front [] ks i k h p q = cc
 get_front (g ∷ hs) [] i k h p q = cc
-get_front (g ∷ hs) (n ∷ ks) zero k h p q = let e : g ≡ h = cc in let f : n ≡ k = cc in ap (λ m. Some (take m g)) f ∙ ap (λ x. Some (take k x)) e
+get_front (g ∷ hs) (n ∷ ks) zero k h p q =
+    let e : g ≡ h = cc in let f : n ≡ k = cc in ap (λ m. Some (take m g)) f ∙ ap (λ x. Some (take k x)) e
 get_front (g ∷ hs) (n ∷ ks) (suc i) k h p q = get_front hs ks i k h p q
 
 -- where a front comes from
@@ -96,20 +141,27 @@ pub record IsFront (hs : List (List Entry)) (ks : List ℕ) (i : ℕ) (f : List 
   pub at : slice_get ks i ≡ Some taken
   pub is : f ≡ take taken history
 
-pub from_front : (hs : List (List Entry)) (ks : List ℕ) (i : ℕ) (f : List Entry) → slice_get (fronts_of hs ks) i ≡ Some f → IsFront hs ks i f
+pub from_front : (hs : List (List Entry)) (ks : List ℕ) (i : ℕ) (f : List Entry) → slice_get (fronts_of hs ks) i ≡ Some f
+    → IsFront hs ks i f
 from_front [] ks i f p = cc
 from_front (g ∷ hs) [] i f p = cc
 from_front (g ∷ hs) (n ∷ ks) zero f p = record { history = g; taken = n; there = refl; at = refl; is = let e : take n g ≡ f = cc in sym e }
-from_front (g ∷ hs) (n ∷ ks) (suc i) f p = let r : IsFront hs ks i f = from_front hs ks i f p in record { history = r.history; taken = r.taken; there = r.there; at = r.at; is = r.is }
+from_front (g ∷ hs) (n ∷ ks) (suc i) f p =
+    let r : IsFront hs ks i f = from_front hs ks i f p in
+    record { history = r.history; taken = r.taken; there = r.there; at = r.at; is = r.is }
 
 -- fronts that are whole
-pub whole_fronts : (hs : List (List Entry)) (ks : List ℕ) → length ks ≡ length hs → ((i k : ℕ) (h : List Entry) → slice_get hs i ≡ Some h → slice_get ks i ≡ Some k → take k h ≡ h) → fronts_of hs ks ≡ hs
+pub whole_fronts : (hs : List (List Entry)) (ks : List ℕ) → length ks ≡ length hs
+    → ((i k : ℕ) (h : List Entry) → slice_get hs i ≡ Some h → slice_get ks i ≡ Some k → take k h ≡ h) → fronts_of hs ks ≡ hs
 whole_fronts [] ks n all = refl
 whole_fronts (h ∷ hs) [] n all = absurd (omega arith)
-whole_fronts (h ∷ hs) (k ∷ ks) n all = ap (λ f. f ∷ fronts_of hs ks) (all 0 k h refl refl) ∙ ap (λ fs. h ∷ fs) (whole_fronts hs ks (omega arith) (λ i. all (suc i)))
+whole_fronts (h ∷ hs) (k ∷ ks) n all =
+    ap (λ f. f ∷ fronts_of hs ks) (all 0 k h refl refl) ∙ ap (λ fs. h ∷ fs) (whole_fronts hs ks (omega arith) (λ i. all (suc i)))
 
 -- the numbers after the fronts
-pub next_numbers : (hs : List (List Entry)) (ks : List ℕ) → length ks ≡ length hs → ((i k : ℕ) (h : List Entry) → slice_get hs i ≡ Some h → slice_get ks i ≡ Some k → k ≤ length h) → map (λ (k : ℕ). k + 1) ks ≡ map (λ (f : List Entry). length f + 1) (fronts_of hs ks)
+pub next_numbers : (hs : List (List Entry)) (ks : List ℕ) → length ks ≡ length hs
+    → ((i k : ℕ) (h : List Entry) → slice_get hs i ≡ Some h → slice_get ks i ≡ Some k → k ≤ length h)
+    → map (λ (k : ℕ). k + 1) ks ≡ map (λ (f : List Entry). length f + 1) (fronts_of hs ks)
 next_numbers [] [] n all = refl
 next_numbers [] (k ∷ ks) n all = absurd (omega arith)
 next_numbers (h ∷ hs) [] n all = absurd (omega arith)
@@ -123,11 +175,13 @@ next_numbers (h ∷ hs) (k ∷ ks) n all =
     length_front (suc k) (x ∷ h) p = let q : length (take k h) ≡ k = length_front k h (omega arith) in omega arith
 
 -- one entry fewer is left
-pub left_less : (hs : List (List Entry)) (ks : List ℕ) (i k : ℕ) (h : List Entry) → slice_get hs i ≡ Some h → slice_get ks i ≡ Some k → k < length h → left_of hs (slice_set ks i (k + 1)) < left_of hs ks
+pub left_less : (hs : List (List Entry)) (ks : List ℕ) (i k : ℕ) (h : List Entry) → slice_get hs i ≡ Some h → slice_get ks i ≡ Some k
+    → k < length h → left_of hs (slice_set ks i (k + 1)) < left_of hs ks
 left_less [] ks i k h p q less = cc
 left_less (g ∷ hs) [] i k h p q less = cc
 left_less (g ∷ hs) (n ∷ ks) zero k h p q less =
     let e : n ≡ k = cc in
     let f : length g ≡ length h = ap (λ (o : List Entry). length o) (let z : g ≡ h = cc in z) in
     omega arith
-left_less (g ∷ hs) (n ∷ ks) (suc i) k h p q less = let r : left_of hs (slice_set ks i (k + 1)) < left_of hs ks = left_less hs ks i k h p q less in omega arith
+left_less (g ∷ hs) (n ∷ ks) (suc i) k h p q less =
+    let r : left_of hs (slice_set ks i (k + 1)) < left_of hs ks = left_less hs ks i k h p q less in omega arith

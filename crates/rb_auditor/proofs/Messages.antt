@@ -35,7 +35,8 @@ held_up ms (y ∷ ys) rest x (m, is, not) e come =
     the h = h
 
 -- what one entry more sends
-pub sends_more : (s : Settings) (t : ModelSite) (xs : List Entry) (x : Entry) → sends_of s t (events_of (xs ++ x ∷ [])) ≡ sends_of s t (events_of xs) ++ sent_at s (after_events s t (events_of xs)) x.event
+pub sends_more : (s : Settings) (t : ModelSite) (xs : List Entry) (x : Entry)
+    → sends_of s t (events_of (xs ++ x ∷ [])) ≡ sends_of s t (events_of xs) ++ sent_at s (after_events s t (events_of xs)) x.event
 sends_more s t xs x =
     ap (sends_of s t) (map-append (λ (y : Entry). y.event) xs (x ∷ []))
     ∙ Stuck.sends-append s (events_of xs) (x.event ∷ []) t

@@ -1,5 +1,6 @@
 -- What an audit finds shows that no world has the histories.
-use Rattle.std.proofs.Common.{◌≡◌, ℕ, ◌+◌, ◌<◌, List, [], ◌∷◌, ◌++◌, length, refl, ap, sym, subst, ◌∙◌, inl, inr, arith, Option, Some, None, false}
+use Rattle.std.proofs.Common.{◌≡◌, ℕ, ◌+◌, ◌<◌, List, [], ◌∷◌, ◌++◌, length, refl, ap, sym, subst, ◌∙◌, inl, inr, arith, Option, Some}
+use Rattle.std.proofs.Common.{None, false}
 use Rattle.std.specs.Prelude.{slice_get, slice_set}
 use Rattle.std.specs.Option.{option_map}
 use Rattle.std.specs.List.{range_with_len}
@@ -42,7 +43,8 @@ AllAtTheirs s w = (i : ℕ) (t : ModelSite) → slice_get w.sites i ≡ Some t �
 room_below : (s : Settings) (t : ModelSite) → is_full s t ≡ false → length (history_of s t) < s.limits.history
 room_below s t free = let same : length (history_of s t) ≡ length t.history = Seen.entries-length s (first_site t.me) t.history in grind (arith, nat_tests)
 
-goes_on : (s : Settings) (i : ℕ) (t : ModelSite) (x : Entry) → is_full s t ≡ false → x.reply ≡ reply_to s t x.event → IsAtItsHistory s i t → IsAtItsHistory s i (after_event s t x.event)
+goes_on : (s : Settings) (i : ℕ) (t : ModelSite) (x : Entry) → is_full s t ≡ false → x.reply ≡ reply_to s t x.event → IsAtItsHistory s i t
+    → IsAtItsHistory s i (after_event s t x.event)
 goes_on s i t x free reply a = record {
   run = SiteRuns.run_goes_on s t x.event a.run;
   stands = ap (site_after s i) grown ∙ Replaying.after_more s (first_site i) (history_of s t) x ∙ ap (λ u. after_event s u x.event) a.stands;
@@ -64,9 +66,11 @@ recorded_at s w e r all = subst (AllAtTheirs s) (sym r.is) each
     each : AllAtTheirs s (world_at s w (site_of e) (Some r.event) (Some r.site))
     each j u at = elim (Places.same_number (site_of e) j) [
       | inl q ↦
-          let k : Some t1 ≡ Some u = sym (Places.get_set_same w.sites (site_of e) r.site t1 r.at) ∙ ap (slice_get (slice_set w.sites (site_of e) t1)) (sym q) ∙ at in
+          let k : Some t1 ≡ Some u = sym (Places.get_set_same w.sites (site_of e) r.site t1 r.at)
+          ∙ ap (slice_get (slice_set w.sites (site_of e) t1)) (sym q) ∙ at in
           subst (IsAtItsHistory s j) (let z : t1 ≡ u = cc in z)
-          (goes_on s j r.site (record { event = r.event; reply = reply_to s r.site r.event }) r.room refl (all j r.site (ap (slice_get w.sites) q ∙ r.at)))
+          (goes_on s j r.site (record { event = r.event; reply = reply_to s r.site r.event }) r.room refl
+          (all j r.site (ap (slice_get w.sites) q ∙ r.at)))
       | inr ne ↦ all j u (sym (Places.get_set_other w.sites (site_of e) j t1 ne) ∙ at)
     ]
 
@@ -95,7 +99,8 @@ one_worlds_replay s hs i h one at = by (slice_get (world_of_run s one.events).si
 
 -- an entry that its site doesn't record
 pub wrong_is_final : (s : Settings) (hs : List (List Entry)) (site event : ℕ) → IsFirstWrong s hs site event → ¬ AreOneWorlds s hs
-wrong_is_final s hs site event f one = f.wrong (Replaying.replay-take s site event f.history (one_worlds_replay s hs site f.history one f.there))
+wrong_is_final s hs site event f one =
+    f.wrong (Replaying.replay-take s site event f.history (one_worlds_replay s hs site f.history one f.there))
 
 -- receipts of messages that no entry before sent
 pub stuck_is_final : (s : Settings) (hs : List (List Entry)) (next : List ℕ) → IsStuckAt s hs next → ¬ AreOneWorlds s hs

@@ -41,7 +41,8 @@ pub fn audit(
 
 /// Takes entries until none can be taken.
 fn take_all(taking: &mut Taking<'_>) -> Result<(), AllocError>
-    ensures same { OnOk result ((taking.new.settings ≡ taking.old.settings) × (taking.new.histories ≡ taking.old.histories)) }
+    ensures same { OnOk result ((taking.new.settings ≡ taking.old.settings)
+        × (taking.new.histories ≡ taking.old.histories)) }
     ensures rest { OnOk result (AllRest taking.new) }
 {
     'rounds: loop {
@@ -53,7 +54,8 @@ fn take_all(taking: &mut Taking<'_>) -> Result<(), AllocError>
 
 /// One round: from each site, from 0, as many entries as can be taken. It tells whether any was.
 fn take_round(taking: &mut Taking<'_>) -> Result<bool, AllocError>
-    ensures { IfOk result (λ took. MatchBool took (IsFurther taking.old taking.new) ((taking.new ≡ taking.old) × AllRest taking.old)) }
+    ensures { IfOk result (λ took. MatchBool took (IsFurther taking.old taking.new) ((taking.new ≡ taking.old)
+        × AllRest taking.old)) }
 {
     let mut took = false;
     for site in 0..taking.sites() {
@@ -67,7 +69,8 @@ fn take_round(taking: &mut Taking<'_>) -> Result<bool, AllocError>
 /// From one site as many entries as can be taken. It tells whether any was.
 fn take_site(taking: &mut Taking<'_>, site: usize) -> Result<bool, AllocError>
     requires { site < length taking.old.histories }
-    ensures { IfOk result (λ took. MatchBool took (IsFurther taking.old taking.new) ((taking.new ≡ taking.old) × Rests taking.old site)) }
+    ensures { IfOk result (λ took. MatchBool took (IsFurther taking.old taking.new) ((taking.new ≡ taking.old)
+        × Rests taking.old site)) }
 {
     let mut took = false;
     'entries: loop {

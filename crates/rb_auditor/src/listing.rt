@@ -22,7 +22,8 @@ pub fn is_at(messages: &[Message], position: usize, message: &Message) -> bool
 /// Whether the message stands at the position that is listed for its number.
 pub fn is_in_row(messages: &[Message], rows: &[Vec<usize>], message: &Message) -> bool
     ensures known { IsTrue result → IsAmong message.now messages.now }
-    ensures found { (positions : List ℕ) (position : ℕ) → slice_get (lists_of rows.now) (row_of_message message.now) ≡ Some positions
+    ensures found { (positions : List ℕ) (position : ℕ)
+        → slice_get (lists_of rows.now) (row_of_message message.now) ≡ Some positions
         → slice_get positions (slot_of message.now) ≡ Some position
         → slice_get messages.now position ≡ Some message.now → IsTrue result }
 {

@@ -1,7 +1,8 @@
 //! Entries of histories, taken one after another.
 ghost use Rattle.std.specs.Prelude.{◌≡◌, ◌+◌, ◌<◌, ◌↔◌, IsTrue, IfOk, IfErr, OnErr, MatchBool, length, map};
 ghost use Rattle.rb_auditor.specs.Findings.{lists_of};
-ghost use Rattle.rb_auditor.specs.Progress.{IsDone, IsLeft, IsTaking, IsWrongFound, MayCome, Rests, Took, first_progress};
+ghost use Rattle.rb_auditor.specs.Progress.{IsDone, IsLeft, IsTaking, IsWrongFound, MayCome, Rests, Took};
+ghost use Rattle.rb_auditor.specs.Progress.{first_progress};
 
 use crate::replay::replay;
 use crate::sends::Sends;
@@ -94,7 +95,9 @@ impl<'a> Taking<'a> {
     /// wasn't sent. `Err` means out of memory: nothing is taken then.
     pub fn take(&mut self, site: usize) -> Result<bool, AllocError>
         requires { site < length self.old.histories }
-        ensures ok { IfOk result (λ took. MatchBool took (Took self.old self.new site) ((self.new ≡ self.old) × Rests self.old site)) }
+        ensures ok { IfOk result
+            (λ took. MatchBool took (Took self.old self.new site) ((self.new ≡ self.old)
+            × Rests self.old site)) }
         ensures err { OnErr result (self.new ≡ self.old) }
     {
         let taken = self.taken[site];
@@ -111,9 +114,10 @@ impl<'a> Taking<'a> {
         Ok(true)
     }
 
-    /// How many sites there are.
+    /// How many sites there are. The entries that were taken are in an order that certifies them.
     pub fn sites(&self) -> usize
-        ensures { result ≡ length self.now.histories }
+        ensures sites { result ≡ length self.now.histories }
+        ensures taking { IsTaking self.now }
     {
         self.histories.len()
     }

@@ -7,7 +7,8 @@ use Rattle.rb_auditor.proofs.Takings
 use Rattle.rb_auditor.proofs.auditing.audit.Goals as goal
 
 pub returns-in-Err-clause-refuted : goal.returns-in-Err-clause-refuted
-returns-in-Err-clause-refuted c = Refuting.wrong_refutes c.args.config.now (lists_of c.args.histories.now) c.in-Err.fault c.in-Err.ensures.wrong
+returns-in-Err-clause-refuted c =
+    Refuting.wrong_refutes c.args.config.now (lists_of c.args.histories.now) c.in-Err.fault c.in-Err.ensures.wrong
 
 pub returns-then-is_done-clause-certified : goal.returns-then-is_done-clause-certified
 returns-then-is_done-clause-certified c =
@@ -17,7 +18,8 @@ returns-then-is_done-clause-certified c =
     c.close.ensures.order
     (Takings.all_certified c.take_all.new.taking c.is_done.ensures.taking c.if-is_done.ensures.done)
 
-stuck_at : (c : goal.After-drop-taking-inside-in-Ok-next-6) → IsStuckAt c.args.config.now (lists_of c.args.histories.now) c.in-Ok-next.next.items
+stuck_at : (c : goal.After-drop-taking-inside-in-Ok-next-6)
+    → IsStuckAt c.args.config.now (lists_of c.args.histories.now) c.in-Ok-next.next.items
 stuck_at c =
     Takings.stuck_as c.take_all.new.taking c.args.config.now (lists_of c.args.histories.now) c.in-Ok-next.next.items
     ((c.in-Ok-take_all.ensures.same).0 ∙ ap (λ (p : Progress). p.settings) c.in-Ok.ensures.ok)
@@ -29,4 +31,5 @@ pub returns-in-Ok-next-clause-found : goal.returns-in-Ok-next-clause-found
 returns-in-Ok-next-clause-found c = stuck_at c
 
 pub returns-in-Ok-next-clause-refuted : goal.returns-in-Ok-next-clause-refuted
-returns-in-Ok-next-clause-refuted c = Refuting.stuck_is_final c.args.config.now (lists_of c.args.histories.now) c.in-Ok-next.next.items (stuck_at c)
+returns-in-Ok-next-clause-refuted c =
+    Refuting.stuck_is_final c.args.config.now (lists_of c.args.histories.now) c.in-Ok-next.next.items (stuck_at c)

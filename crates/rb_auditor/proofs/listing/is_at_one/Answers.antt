@@ -12,7 +12,9 @@ returns-then-is_at-clause-known c = λ yes. Recorded.at_place c.args.messages.no
 pub loop-position-preserved : goal.loop-position-preserved
 loop-position-preserved c = λ k position less at known. elim (same_number c.loop-position.position-index k) [
   | inl e ↦
-      let here : get_or c.args.positions.now c.loop-position.position-index 0 ≡ position = get_or_from_slice_get c.args.positions.now c.loop-position.position-index position 0 (ap (slice_get c.args.positions.now) (sym e) ∙ at) in
+      let here : get_or c.args.positions.now c.loop-position.position-index 0 ≡ position =
+      get_or_from_slice_get c.args.positions.now c.loop-position.position-index position 0
+      (ap (slice_get c.args.positions.now) (sym e) ∙ at) in
       Listed.not_false c.is_at.result c.if-is_at.false (c.is_at.ensures.1 (ap (slice_get c.args.messages.now) here ∙ known))
   | inr ne ↦ c.loop-position.invariant k position (omega arith) at known
 ]

@@ -10,7 +10,8 @@ use Rattle.rb_auditor.proofs.taking.Taking.open.Given as goal
 abbrev pub invariant-loop-site : goal.invariant-loop-site
 invariant-loop-site l = record {
   replays : (i : ℕ) (h : List Entry) → i < l.site → slice_get (lists_of l.histories) i ≡ Some h → IsReplay l.config i h;
-  sends_are : (i : ℕ) (h : List Entry) → i < l.site → slice_get (lists_of l.histories) i ≡ Some h → slice_get l.sends.items i ≡ Some (sends_by l.config (first_site i) h);
+  sends_are : (i : ℕ) (h : List Entry) → i < l.site → slice_get (lists_of l.histories) i ≡ Some h
+      → slice_get l.sends.items i ≡ Some (sends_by l.config (first_site i) h);
   sends_len : vec_len l.sends ≡ l.site;
   none_taken : l.taken.items ≡ replicate l.site 0;
   taken_len : vec_len l.taken ≡ l.site;

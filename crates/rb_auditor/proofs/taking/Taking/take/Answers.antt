@@ -1,5 +1,6 @@
 -- The next entry is taken.
-use Rattle.std.proofs.Common.{◌≡◌, ◌∙◌, ℕ, ◌+◌, ◌<◌, ◌≤◌, ◌++◌, ◌∷◌, [], List, Some, Vec, Global, ap, sym, subst, refl, length, get_or, arith}
+use Rattle.std.proofs.Common.{◌≡◌, ◌∙◌, ℕ, ◌+◌, ◌<◌, ◌≤◌, ◌++◌, ◌∷◌, [], List, Some, Vec, Global, ap, sym, subst, refl, length, get_or}
+use Rattle.std.proofs.Common.{arith}
 use Rattle.std.specs.Prelude.{slice_get, slice_set}
 use Rattle.std.proofs.lemmas.Option.{slice_get_read}
 use Rattle.rb_site.specs.declared.entry.Entry.{Entry}
@@ -7,7 +8,9 @@ use Rattle.rb_site.specs.declared.message.Message.{Message}
 use Rattle.rb_auditor.specs.Findings.{lists_of}
 use Rattle.rb_auditor.specs.Progress.{Progress, Rests, Took, taken_next}
 use Rattle.rb_auditor.proofs.Listed
-use Rattle.rb_auditor.proofs.Stepping
+use Rattle.rb_auditor.proofs.Counting
+use Rattle.rb_auditor.proofs.Resting
+use Rattle.rb_auditor.proofs.Sending
 use Rattle.rb_auditor.proofs.Takings
 use Rattle.rb_auditor.proofs.taking.Taking.take.Goals as goal
 
@@ -18,40 +21,55 @@ entry_at xs ys k x same less is = ap (λ zs. slice_get zs k) (sym same) ∙ slic
 pub returns-in_default-clause-ok : goal.returns-in_default-clause-ok
 returns-in_default-clause-ok c =
     let at : slice_get (lists_of c.self.inside.histories.now) c.args.site ≡ Some c.index-self-site.result.items =
-    Stepping.history_at _ c.args.self.now c.self.inside.histories.now c.args.site c.index-self-site.result c.self.view_is refl c.requires c.index-self-site.is in
+    Counting.history_at _ c.args.self.now c.self.inside.histories.now c.args.site c.index-self-site.result c.self.view_is refl c.requires
+    c.index-self-site.is in
     let past : length c.index-self-site.result.items ≤ c.index-taken.result.now =
-    subst (λ (xs : List Entry). length xs ≤ c.index-taken.result.now) (c.deref.ensures.value ∙ ap (λ (v : Vec Entry Global). v.items) (sym c.index-self-site.is)) c.in_default.ensures.lookup.3 in (
+    subst (λ (xs : List Entry). length xs ≤ c.index-taken.result.now) (c.deref.ensures.value
+    ∙ ap (λ (v : Vec Entry Global). v.items) (sym c.index-self-site.is)) c.in_default.ensures.lookup.3 in (
       refl,
       subst (λ p. Rests p c.args.site) c.self.view_is
-          (Stepping.rests_past _ c.args.site c.index-taken.result.now c.index-self-site.result.items at (Stepping.taken_at _ c.args.self.now c.args.site c.index-taken.result.now c.self.view_is c.self.invariant.0 c.requires c.index-taken.ensures) past),
+          (Resting.rests_past _ c.args.site c.index-taken.result.now c.index-self-site.result.items
+          at (Counting.taken_at _ c.args.self.now c.args.site c.index-taken.result.now c.self.view_is c.self.invariant.0 c.requires
+          c.index-taken.ensures) past),
     )
 
 pub returns-then-not-may_come-clause-ok : goal.returns-then-not-may_come-clause-ok
 returns-then-not-may_come-clause-ok c =
     let at : slice_get (lists_of c.self.inside.histories.now) c.args.site ≡ Some c.index-self-site.result.items =
-    Stepping.history_at _ c.args.self.now c.self.inside.histories.now c.args.site c.index-self-site.result c.self.view_is refl c.requires c.index-self-site.is in
+    Counting.history_at _ c.args.self.now c.self.inside.histories.now c.args.site c.index-self-site.result c.self.view_is refl c.requires
+    c.index-self-site.is in
     let next : slice_get c.index-self-site.result.items c.index-taken.result.now ≡ Some c.in-Some.entry.now =
-    entry_at c.deref.result.now c.index-self-site.result.items c.index-taken.result.now c.in-Some.entry.now (c.deref.ensures.value ∙ ap (λ (v : Vec Entry Global). v.items) (sym c.index-self-site.is)) (c.in-Some.ensures.lookup.3).0 c.in-Some.ensures.lookup.1 in (
+    entry_at c.deref.result.now c.index-self-site.result.items c.index-taken.result.now c.in-Some.entry.now (c.deref.ensures.value
+    ∙ ap (λ (v : Vec Entry Global). v.items) (sym c.index-self-site.is)) (c.in-Some.ensures.lookup.3).0 c.in-Some.ensures.lookup.1 in (
       refl,
       subst (λ p. Rests p c.args.site) c.self.view_is
-          (Stepping.rests_here _ c.args.site c.index-taken.result.now c.index-self-site.result.items c.in-Some.entry.now at (Stepping.taken_at _ c.args.self.now c.args.site c.index-taken.result.now c.self.view_is c.self.invariant.0 c.requires c.index-taken.ensures) next
+          (Resting.rests_here _ c.args.site c.index-taken.result.now c.index-self-site.result.items c.in-Some.entry.now
+          at (Counting.taken_at _ c.args.self.now c.args.site c.index-taken.result.now c.self.view_is c.self.invariant.0 c.requires
+          c.index-taken.ensures) next
           (λ come. Listed.not_false c.may_come.result c.if-not-may_come.true (c.may_come.ensures.1 come))),
     )
 
 pub index-requires : goal.index-requires
 index-requires c =
     let at : slice_get (lists_of c.self.inside.histories.now) c.args.site ≡ Some c.index-self-site.result.items =
-    Stepping.history_at _ c.args.self.now c.self.inside.histories.now c.args.site c.index-self-site.result c.self.view_is refl c.requires c.index-self-site.is in
-    let less : c.args.site < length c.self.inside.sends.items = Stepping.sends_long c.self.inside.config.now (lists_of c.self.inside.histories.now) c.self.inside.sends.items c.args.site c.index-self-site.result.items c.self.invariant.1 at in
+    Counting.history_at _ c.args.self.now c.self.inside.histories.now c.args.site c.index-self-site.result c.self.view_is refl c.requires
+    c.index-self-site.is in
+    let less : c.args.site < length c.self.inside.sends.items =
+    Sending.sends_long c.self.inside.config.now (lists_of c.self.inside.histories.now) c.self.inside.sends.items c.args.site
+    c.index-self-site.result.items c.self.invariant.1 at in
     omega (arith, c.self.inside.sends.ok.0)
 
 pub after-requires : goal.after-requires
 after-requires c =
     let at : slice_get (lists_of c.self.inside.histories.now) c.args.site ≡ Some c.index-self-site.result.items =
-    Stepping.history_at _ c.args.self.now c.self.inside.histories.now c.args.site c.index-self-site.result c.self.view_is refl c.requires c.index-self-site.is in
+    Counting.history_at _ c.args.self.now c.self.inside.histories.now c.args.site c.index-self-site.result c.self.view_is refl c.requires
+    c.index-self-site.is in
     let next : slice_get c.index-self-site.result.items c.index-taken.result.now ≡ Some c.in-Some.entry.now =
-    entry_at c.deref.result.now c.index-self-site.result.items c.index-taken.result.now c.in-Some.entry.now (c.deref.ensures.value ∙ ap (λ (v : Vec Entry Global). v.items) (sym c.index-self-site.is)) (c.in-Some.ensures.lookup.3).0 c.in-Some.ensures.lookup.1 in
-    Stepping.sends_long_at c.self.inside.config.now (lists_of c.self.inside.histories.now) c.self.inside.sends.items c.args.site c.index-taken.result.now c.index-self-site.result.items c.in-Some.entry.now c.index.result.now c.self.invariant.1 at next c.index.ensures
+    entry_at c.deref.result.now c.index-self-site.result.items c.index-taken.result.now c.in-Some.entry.now (c.deref.ensures.value
+    ∙ ap (λ (v : Vec Entry Global). v.items) (sym c.index-self-site.is)) (c.in-Some.ensures.lookup.3).0 c.in-Some.ensures.lookup.1 in
+    Sending.sends_long_at c.self.inside.config.now (lists_of c.self.inside.histories.now) c.self.inside.sends.items c.args.site
+    c.index-taken.result.now c.index-self-site.result.items c.in-Some.entry.now c.index.result.now c.self.invariant.1 at next
+    c.index.ensures
 
 -- the value with the entry taken
 abbrev new_progress : goal.After-push_reserved → Progress
@@ -75,19 +93,31 @@ old_progress c = record {
 took : (c : goal.After-push_reserved) → Took (old_progress c) (new_progress c) c.args.site
 took c =
     let at : slice_get (lists_of c.self.inside.histories.now) c.args.site ≡ Some c.index-self-site.result.items =
-    Stepping.history_at (old_progress c) c.args.self.now c.self.inside.histories.now c.args.site c.index-self-site.result c.self.view_is refl c.requires c.index-self-site.is in
+    Counting.history_at (old_progress c) c.args.self.now c.self.inside.histories.now c.args.site c.index-self-site.result c.self.view_is
+    refl c.requires c.index-self-site.is in
     let next : slice_get c.index-self-site.result.items c.index-taken.result.now ≡ Some c.in-Some.entry.now =
-    entry_at c.deref.result.now c.index-self-site.result.items c.index-taken.result.now c.in-Some.entry.now (c.deref.ensures.value ∙ ap (λ (v : Vec Entry Global). v.items) (sym c.index-self-site.is)) (c.in-Some.ensures.lookup.3).0 c.in-Some.ensures.lookup.1 in
-    let order : c.push_reserved.new.self.items ≡ c.self.inside.order.items ++ c.args.site ∷ [] = c.push_reserved.ensures.items ∙ ap (λ js. js ++ c.args.site ∷ []) c.in_ok-reserve.ensures.items in
-    let messages : c.add_all.new.self ≡ (taken_next (old_progress c) c.args.site c.index-taken.result.now c.index-self-site.result.items c.in-Some.entry.now).messages =
+    entry_at c.deref.result.now c.index-self-site.result.items c.index-taken.result.now c.in-Some.entry.now (c.deref.ensures.value
+    ∙ ap (λ (v : Vec Entry Global). v.items) (sym c.index-self-site.is)) (c.in-Some.ensures.lookup.3).0 c.in-Some.ensures.lookup.1 in
+    let order : c.push_reserved.new.self.items ≡ c.self.inside.order.items ++ c.args.site ∷ [] =
+    c.push_reserved.ensures.items ∙ ap (λ js. js ++ c.args.site ∷ []) c.in_ok-reserve.ensures.items in
+    let messages : c.add_all.new.self
+    ≡ (taken_next (old_progress c) c.args.site c.index-taken.result.now c.index-self-site.result.items c.in-Some.entry.now).messages =
     c.in_ok-add_all.ensures.ok
     ∙ ap (λ ms. c.self.inside.sent ++ ms)
-    (Stepping.sends_known c.self.inside.config.now (lists_of c.self.inside.histories.now) c.self.inside.sends.items c.args.site c.index-taken.result.now c.index-self-site.result.items c.in-Some.entry.now c.index.result.now c.after.result.now c.self.invariant.1 at next c.index.ensures c.after.ensures) in
+    (Sending.sends_known c.self.inside.config.now (lists_of c.self.inside.histories.now) c.self.inside.sends.items c.args.site
+    c.index-taken.result.now c.index-self-site.result.items c.in-Some.entry.now c.index.result.now c.after.result.now
+    c.self.invariant.1 at next c.index.ensures c.after.ensures) in
     record {
       taken = c.index-taken.result.now;
       history = c.index-self-site.result.items;
       entry = c.in-Some.entry.now;
-      next = record { there = at; at = Stepping.taken_at (old_progress c) c.args.self.now c.args.site c.index-taken.result.now c.self.view_is c.self.invariant.0 c.requires c.index-taken.ensures; next = next };
+      next = record {
+        there = at;
+        at =
+            Counting.taken_at (old_progress c) c.args.self.now c.args.site c.index-taken.result.now c.self.view_is c.self.invariant.0
+            c.requires c.index-taken.ensures;
+        next = next;
+      };
       source = c.may_come.ensures.0 c.if-not-may_come.false;
       is = ap (λ o. with_both c o c.add_all.new.self) order ∙ ap (with_both c (c.self.inside.order.items ++ c.args.site ∷ [])) messages;
     }
@@ -96,7 +126,11 @@ took c =
     with_both c o ms = record (new_progress c) { order = o; messages = ms }
 
 pub invariant_of-self-2 : goal.invariant_of-self-2
-invariant_of-self-2 c = (Takings.took_one (old_progress c) (new_progress c) c.args.site c.self.invariant.0 (took c), c.self.invariant.1, c.self.invariant.2)
+invariant_of-self-2 c = (
+  Takings.took_one (old_progress c) (new_progress c) c.args.site c.self.invariant.0 (took c),
+  c.self.invariant.1,
+  c.self.invariant.2,
+)
 
 pub returns-clause-ok : goal.returns-clause-ok
 returns-clause-ok c = let P : Progress → Type 0 = λ p. Took p (new_progress c) c.args.site in subst P c.self.view_is (took c)
