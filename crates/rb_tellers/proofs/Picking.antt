@@ -1,5 +1,6 @@
 -- The tellers' part of an interleaving.
-use Rattle.std.proofs.Common.{◌≡◌, ℕ, zero, suc, ◌+◌, ◌/◌, ◌%◌, ◌==◌, ◌⊎◌, inl, inr, List, [], ◌∷◌, ◌++◌, Bool, true, false, Option, Some, None, map, length, set, refl, sym, ap, ◌∙◌, subst, arith}
+use Rattle.std.proofs.Common.{◌≡◌, ℕ, zero, suc, ◌+◌, ◌/◌, ◌%◌, ◌==◌, ◌⊎◌, inl, inr, List, [], ◌∷◌, ◌++◌, Bool, true, false, Option, Some}
+use Rattle.std.proofs.Common.{None, map, length, set, refl, sym, ap, ◌∙◌, subst, arith}
 use Rattle.std.specs.Prelude.{slice_get, if◌then◌else◌, nat_lt, All}
 use Rattle.std.proofs.lemmas.Bool.{eq-eqb}
 use Rattle.std.proofs.lemmas.Bool.Decides.{eqb_tells}
@@ -19,7 +20,8 @@ use Rattle.rb_branch.specs.declared.receipt.Receipt.{Receipt}
 use Rattle.rb_branch.specs.Gathered.{AllEmpty, IsGathered, IsInterleaving, claim, claims, claims_at, numbered}
 use Rattle.rb_branch.specs.Seats.{IsServed, SeenSeat}
 use Rattle.rb_tellers.specs.declared.teller.TheConstants.{CALLS}
-use Rattle.rb_tellers.specs.Tellers.{next_number, call_of, cancel_or, last_after, FollowsCalls, entries_of, IsTeller, IsCrew, is_call, calls_in, IsTellerList, TellersAt}
+use Rattle.rb_tellers.specs.Tellers.{next_number, call_of, cancel_or, last_after, FollowsCalls, entries_of, IsTeller, IsCrew, is_call}
+use Rattle.rb_tellers.specs.Tellers.{calls_in, IsTellerList, TellersAt}
 
 -- the entries that seats make themselves
 abbrev pub pick : List (ℕ × Entry) → List Entry
@@ -41,20 +43,24 @@ set_same (y ∷ xs) zero x at = cc
 set_same (y ∷ xs) (suc k) x at = ap (λ r. y ∷ r) (set_same xs k x at)
 
 pick_step : (b : Bool) (e : Entry) (lists : List (List Entry)) (k : ℕ) (rest xs : List Entry)
-    → slice_get lists k ≡ Some (if b then e ∷ rest else rest) → IsInterleaving (set lists k rest) xs → IsInterleaving lists (if b then e ∷ xs else xs)
+    → slice_get lists k ≡ Some (if b then e ∷ rest else rest) → IsInterleaving (set lists k rest) xs
+    → IsInterleaving lists (if b then e ∷ xs else xs)
 pick_step true e lists k rest xs at h = (k, rest, at, h)
 pick_step false e lists k rest xs at h =
     let P : List (List Entry) → Type 0 = λ ls. IsInterleaving ls xs in
     subst P (set_same lists k rest at) h
 
-pick_interleaved : (lists : List (List (ℕ × Entry))) (xs : List (ℕ × Entry)) → IsInterleaving lists xs → IsInterleaving (map pick lists) (pick xs)
+pick_interleaved : (lists : List (List (ℕ × Entry))) (xs : List (ℕ × Entry)) → IsInterleaving lists xs
+    → IsInterleaving (map pick lists) (pick xs)
 pick_interleaved lists [] h = λ k l at. let b = map_back pick lists k l at in b.2 ∙ ap pick (h k b.0 b.1)
 pick_interleaved lists (x ∷ xs) h =
     let ih = pick_interleaved (set lists h.0 h.1) xs h.3 in
     let P : List (List Entry) → Type 0 = λ ls. IsInterleaving ls (pick xs) in
-    pick_step (is_call x.1.event) x.1 (map pick lists) h.0 (pick h.1) (pick xs) (map_at pick lists h.0 (x ∷ h.1) h.2) (subst P (map_set pick lists h.0 h.1) ih)
+    pick_step (is_call x.1.event) x.1 (map pick lists) h.0 (pick h.1) (pick xs) (map_at pick lists h.0 (x ∷ h.1) h.2)
+    (subst P (map_set pick lists h.0 h.1) ih)
 
-get_split : {X : Type 0} (xs ys : List X) (k : ℕ) (x : X) → slice_get (xs ++ ys) k ≡ Some x → (slice_get xs k ≡ Some x) ⊎ ((j : ℕ) × (slice_get ys j ≡ Some x))
+get_split : {X : Type 0} (xs ys : List X) (k : ℕ) (x : X) → slice_get (xs ++ ys) k ≡ Some x
+    → (slice_get xs k ≡ Some x) ⊎ ((j : ℕ) × (slice_get ys j ≡ Some x))
 get_split [] ys k x at = inr (k, at)
 get_split (z ∷ xs) ys zero x at = inl at
 get_split (z ∷ xs) ys (suc k) x at = get_split xs ys k x at
@@ -71,7 +77,8 @@ front fs bs (x ∷ xs) none h =
       | inr j ↦ (let gone = none j.0 (x ∷ h.1) j.1 in cc)
     ]
 
-call_if : (b c d f : Bool) (p q r s : Request) (n : ℕ) → is_call (if b then ev.Submit p else if c then ev.Submit q else if d then ev.Submit r else if f then ev.Submit s else ev.Pass n) ≡ true
+call_if : (b c d f : Bool) (p q r s : Request) (n : ℕ)
+    → is_call (if b then ev.Submit p else if c then ev.Submit q else if d then ev.Submit r else if f then ev.Submit s else ev.Pass n) ≡ true
 call_if true c d f p q r s n = refl
 call_if false true d f p q r s n = refl
 call_if false false true f p q r s n = refl
@@ -82,9 +89,11 @@ call_is : (x : ℕ) (last : Option OpName) (site sites : ℕ) → is_call (call_
 unfolding call_of
 call_is x last site sites =
     let r = x / 8589934592 in let a : Place = record { 0 = r / 8192 % 4 } in
-    call_if (nat_lt (r % 8) 4) (r % 8 == 4) (r % 8 == 5) (r % 8 == 6) (rq.Deposit a (1 + r / 8 % 1000)) (rq.Withdraw a (1 + r / 8 % 500)) (rq.Interest a (r / 8 % 200)) (cancel_or a last) ((site + 1) % sites)
+    call_if (nat_lt (r % 8) 4) (r % 8 == 4) (r % 8 == 5) (r % 8 == 6) (rq.Deposit a (1 + r / 8 % 1000)) (rq.Withdraw a (1 + r / 8 % 500))
+    (rq.Interest a (r / 8 % 200)) (cancel_or a last) ((site + 1) % sites)
 
-pick_follows : (site sites x : ℕ) (last : Option OpName) (rs : List Receipt) → FollowsCalls site sites x last (entries_of rs) → pick (map claim rs) ≡ entries_of rs
+pick_follows : (site sites x : ℕ) (last : Option OpName) (rs : List Receipt) → FollowsCalls site sites x last (entries_of rs)
+    → pick (map claim rs) ≡ entries_of rs
 pick_follows site sites x last [] f = refl
 pick_follows site sites x last (r ∷ rs) f =
     let is : is_call r.event ≡ true = ap is_call f.0 ∙ call_is (next_number x) last site sites in
@@ -100,13 +109,15 @@ pick_served : (rs : List Receipt) → All (λ (r : Receipt). IsServed r.event) r
 pick_served [] all = refl
 pick_served (r ∷ rs) all =
     let is = served_is r.event (all 0 r (omega arith)) in
-    (λ i. if is i then entry r.event r.reply ∷ pick (map claim rs) else pick (map claim rs)) ∙ pick_served rs (λ k d h. all (suc k) d (omega arith))
+    (λ i. if is i then entry r.event r.reply ∷ pick (map claim rs) else pick (map claim rs))
+    ∙ pick_served rs (λ k d h. all (suc k) d (omega arith))
 
 pick_if : (b : Bool) (rs : List Receipt) → pick (map claim rs) ≡ [] → pick (if b then map claim rs else []) ≡ []
 pick_if true rs h = h
 pick_if false rs h = refl
 
-teller_list : (seed sites site t : ℕ) (c : SeenSeat) → IsTeller (seed + t) (t % sites) sites c → IsTellerList seed sites site t (pick (claims_at site c))
+teller_list : (seed sites site t : ℕ) (c : SeenSeat) → IsTeller (seed + t) (t % sites) sites c
+    → IsTellerList seed sites site t (pick (claims_at site c))
 teller_list seed sites site t c h = (
   (λ here.
       let at : (c.site == site) ≡ true = eq-eqb _ _ (h.site_is ∙ here) in
@@ -123,7 +134,8 @@ teller_list seed sites site t c h = (
 )
 
 -- the tellers' entries of a gathered history
-pub tellers_at : (seed tellers sites site : ℕ) (history : List Entry) (seats : List SeenSeat) → IsCrew seed tellers sites seats → IsGathered site history seats → TellersAt seed tellers sites site history
+pub tellers_at : (seed tellers sites site : ℕ) (history : List Entry) (seats : List SeenSeat) → IsCrew seed tellers sites seats
+    → IsGathered site history seats → TellersAt seed tellers sites site history
 tellers_at seed tellers sites site history seats crew h =
     let ls = map (claims_at site) crew.hired in
     let ss = map (claims_at site) crew.serving in

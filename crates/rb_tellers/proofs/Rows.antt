@@ -1,5 +1,6 @@
 -- Facts of each place of a list.
-use Rattle.std.proofs.Common.{◌≡◌, ℕ, zero, suc, ◌+◌, ◌<◌, List, [], ◌∷◌, ◌++◌, Some, Ok, Result, map, length, sym, ap, ◌∙◌, subst, get_or, ◌%◌}
+use Rattle.std.proofs.Common.{◌≡◌, ℕ, zero, suc, ◌+◌, ◌<◌, List, [], ◌∷◌, ◌++◌, Some, Ok, Result, map, length, sym, ap, ◌∙◌, subst}
+use Rattle.std.proofs.Common.{get_or, ◌%◌}
 use Rattle.std.specs.Prelude.{slice_get}
 use Rattle.std.proofs.lemmas.Option.{slice_get_within, get_or_from_slice_get}
 use Rattle.rb_site.proofs.Public.Lists.{map_at}
@@ -7,22 +8,26 @@ use Rattle.rb_tellers.specs.declared.server_of.ServerOf.{ServerOf}
 use Rattle.rb_tellers.specs.declared.teller_of.TellerOf.{TellerOf}
 
 -- what is known of each place, and of one more
-pub row_push : {X : Type 0} (P : ℕ → X → Type 0) (xs : List X) (x : X) → ((i : ℕ) (y : X) → slice_get xs i ≡ Some y → P i y) → P (length xs) x → (i : ℕ) (y : X) → slice_get (xs ++ x ∷ []) i ≡ Some y → P i y
+pub row_push : {X : Type 0} (P : ℕ → X → Type 0) (xs : List X) (x : X) → ((i : ℕ) (y : X) → slice_get xs i ≡ Some y → P i y)
+    → P (length xs) x → (i : ℕ) (y : X) → slice_get (xs ++ x ∷ []) i ≡ Some y → P i y
 row_push P [] x all here zero y at = (let same : x ≡ y = cc in let Q = P zero in subst Q same here)
 row_push P [] x all here (suc i) y at = cc
 row_push P (z ∷ xs) x all here zero y at = all zero y at
 row_push P (z ∷ xs) x all here (suc i) y at = row_push (λ n. P (suc n)) xs x (λ j w. all (suc j) w) here i y at
 
 -- a thread that ended well, at its place
-pub ended : {C F : Type 0} (cs : List C) (rs : List (Result C F)) (t : ℕ) (c : C) → map Ok cs ≡ rs → slice_get cs t ≡ Some c → (t < length rs) × (get_or rs t (Ok c) ≡ Ok c)
+pub ended : {C F : Type 0} (cs : List C) (rs : List (Result C F)) (t : ℕ) (c : C) → map Ok cs ≡ rs → slice_get cs t ≡ Some c
+    → (t < length rs) × (get_or rs t (Ok c) ≡ Ok c)
 ended {C} {F} cs rs t c is at =
     let P : List (Result C F) → Type 0 = λ xs. slice_get xs t ≡ Some (Ok c) in
     let here = subst P is (map_at Ok cs t c at) in
     (slice_get_within rs t (Ok c) here, get_or_from_slice_get rs t (Ok c) (Ok c) here)
 
+-- what the thread of the teller t promises
 abbrev pub teller_at : ℕ → ℕ → ℕ → TellerOf
 teller_at seed sites t = record { first = seed + t; site = t % sites; sites = sites }
 
+-- what the serving thread of the site k promises
 abbrev pub server_at : ℕ → ServerOf
 server_at k = record { site = k }
 

@@ -18,7 +18,8 @@ abbrev pub last_of : Option OpName → List Entry → Option OpName
 last_of last [] = last
 last_of last (e ∷ es) = last_of (last_after last e.reply) es
 
-Follows-snoc : (site sites x : ℕ) (last : Option OpName) (es : List Entry) (e : Entry) → FollowsCalls site sites x last es → e.event ≡ call_of (next_number (number_after x es)) (last_of last es) site sites → FollowsCalls site sites x last (es ++ e ∷ [])
+Follows-snoc : (site sites x : ℕ) (last : Option OpName) (es : List Entry) (e : Entry) → FollowsCalls site sites x last es
+    → e.event ≡ call_of (next_number (number_after x es)) (last_of last es) site sites → FollowsCalls site sites x last (es ++ e ∷ [])
 Follows-snoc site sites x last [] e f is = (is, tt)
 Follows-snoc site sites x last (y ∷ es) e f is = (f.0, Follows-snoc site sites (next_number x) (last_after last y.reply) es e f.1 is)
 
@@ -42,6 +43,7 @@ pub record Stands (first site sites : ℕ) (c : SeenSeat) (x : ℕ) (last : Opti
   pub number_is : x ≡ number_after first (entries_of c.receipts)
   pub last_is : last ≡ last_of None (entries_of c.receipts)
 
+-- before the first call
 pub stands_first : (first site sites : ℕ) (c : SeenSeat) → c.site ≡ site → c.receipts ≡ [] → Stands first site sites c first None 0
 stands_first first site sites c here none =
     let P : List Receipt → Type 0 = λ rs. FollowsCalls site sites first None (entries_of rs) in
@@ -53,6 +55,7 @@ stands_first first site sites c here none =
       last_is = ap (λ (rs : List Receipt). last_of None (entries_of rs)) (sym none);
     }
 
+-- after one call more
 pub stands_next : (first site sites : ℕ) (old new : SeenSeat) (x x' : ℕ) (last last' : Option OpName) (count number : ℕ) (e : Event)
     → Stands first site sites old x last count
     → x' ≡ next_number x → e ≡ call_of x' last site sites
@@ -67,7 +70,8 @@ stands_next first site sites old new x x' last last' count number e s next call 
     let f : Entry = entry r.event r.reply in
     let all : entries_of new.receipts ≡ es ++ f ∷ [] = ap entries_of now ∙ entries_of-snoc rs r in
     let step : x' ≡ next_number (number_after first es) = next ∙ ap next_number s.number_is in
-    let is : f.event ≡ call_of (next_number (number_after first es)) (last_of None es) site sites = more.event_is ∙ call ∙ (λ i. call_of (step i) (s.last_is i) site sites) in
+    let is : f.event ≡ call_of (next_number (number_after first es)) (last_of None es) site sites =
+    more.event_is ∙ call ∙ (λ i. call_of (step i) (s.last_is i) site sites) in
     let P : List Entry → Type 0 = FollowsCalls site sites first None in
     record {
       site_is = ap (λ (c : SeenSeat). c.site) more.seat ∙ s.site_is;

@@ -1,150 +1,143 @@
-//! The threads of a run, hired and joined.
-ghost use Rattle.std.specs.Prelude.{◌≡◌, ◌+◌, ◌%◌, ◌<◌, ◌++◌, ℕ, map, IfOk, Ok, Some, vec_len, slice_get};
-ghost use Rattle.rb_branch.specs.Seats.{SeenSeat};
-ghost use Rattle.rb_tellers.specs.Tellers.{IsServer, IsTeller};
+//! The threads of a run.
+ghost use Rattle.std.specs.Prelude.{◌≡◌, ◌+◌, ◌%◌, ◌<◌, [], ℕ, IfOk, Some, vec_len, slice_get};
+ghost use Rattle.rb_tellers.specs.Tellers.{IsCrew, IsServer, IsTeller};
 
-use crate::RunFault;
-use crate::starting::{ServerHandle, TellerHandle, start_server, start_teller};
-use rb_branch::{Branch, CallFault, Entries, Gate, Inlet, Outbox, Seat};
+use crate::TellersFault;
+use crate::joining::{join_servers, join_tellers, together};
+use crate::server::attend;
+use crate::server_of::ServerOf;
+use crate::teller::tell;
+use crate::teller_of::TellerOf;
+use rb_branch::{Branch, CallFault, Entries, Gate, Inlet, Outbox, Seat, links};
 use std::alloc::Global;
 use std::sync::Wait;
 use std::sync::ledger::Ledger;
-use std::thread;
-use std::thread::{Scope, Threads};
+use std::thread::{PromisedHandle, Scope, Threads};
 
-/// A thread for each teller, counted from 0: each at the next site, with the next first number.
-pub(crate) fn hire_tellers<
+/// A teller's thread, which gives its seat back.
+pub(crate) type TellerHandle<E, R> = PromisedHandle<Result<Seat<E, R>, CallFault>, TellerOf>;
+
+/// A serving thread, which gives its seat back.
+pub(crate) type ServerHandle<E, R> = PromisedHandle<Result<Seat<E, R>, CallFault>, ServerOf>;
+
+/// What the threads of a run have in common: the scope that they end in, the branch, and how many sites it has.
+#[derive(Drop)]
+pub(crate) struct Crew<'s, X, E: Entries, R: Ledger, G: Gate, W> {
+    pub scope: &'s Scope<'s, X>,
+    pub rt: &'s W,
+    pub alloc: Global,
+    pub branch: &'s Branch<E, R, G>,
+    pub sites: u8,
+}
+
+impl<
     's,
     X,
     E: Entries + Send + Sync + 's,
     R: Ledger + Send + Sync + 's,
     G: Gate + Drop + Sync + 's,
-    W: Wait + Sync + 's,
->(
-    scope: &'s Scope<'s, X>,
-    rt: &'s W,
-    alloc: Global,
-    branch: &'s Branch<E, R, G>,
-    outbox: &Outbox,
-    sites: u8,
-    tellers: u8,
-    seed: u32,
-) -> Result<Vec<TellerHandle<E, R>>, RunFault>
-    requires { 0 < sites }
-    ensures len { IfOk result (λ v. vec_len v ≡ tellers) }
-    ensures each { IfOk result (λ v. (t : ℕ) (h : _) → slice_get v.items t ≡ Some h → h.promise ≡ record { first = seed + t; site = t % sites; sites = sites }) }
-{
-    let mut handles = Vec::with_capacity(alloc, usize::from(tellers))?;
-    for t in 0..tellers {
-        let Ok(seat) = branch.seat(rt, t % sites) else {
-            return Err(RunFault::OutOfMemory);
-        };
-        let own = outbox.try_copy(alloc)?;
-        let first = u64::from(seed) + u64::from(t);
-        let handle = start_teller(scope, rt, branch, seat, own, first, sites)?;
-        handles.push_reserved(handle);
+    W: Threads + Wait + Sync + 's,
+> Crew<'s, X, E, R, G, W> {
+    /// Runs all threads, and gives their seats back. The links close as the tellers end, and then the serving
+    /// threads end.
+    pub(crate) fn run(&self, tellers: u8, seed: u32) -> Result<Vec<Seat<E, R>>, TellersFault>
+        requires { 0 < self.now.sites }
+        ensures { IfOk result (λ seats. IsCrew seed tellers self.now.sites seats.items) }
+    {
+        let (outbox, inlets) = links(self.alloc, self.sites)?;
+        let servers = self.hire_servers(inlets)?;
+        let hired = self.hire_tellers(&outbox, tellers, seed)?;
+        drop(outbox);
+        let hired = join_tellers(self.rt, self.alloc, hired, tellers, self.sites, seed)?;
+        let servers = join_servers(self.rt, self.alloc, servers, self.sites)?;
+        together(hired, servers)
     }
-    Ok(handles)
-}
 
-/// A serving thread for each site, in order.
-pub(crate) fn hire_servers<
-    's,
-    X,
-    E: Entries + Send + Sync + 's,
-    R: Ledger + Send + Sync + 's,
-    G: Gate + Drop + Sync + 's,
-    W: Wait + Sync + 's,
->(
-    scope: &'s Scope<'s, X>,
-    rt: &'s W,
-    alloc: Global,
-    branch: &'s Branch<E, R, G>,
-    mut inlets: Vec<Inlet>,
-    sites: u8,
-) -> Result<Vec<ServerHandle<E, R>>, RunFault>
-    requires { vec_len inlets ≡ sites }
-    ensures len { IfOk result (λ v. vec_len v ≡ sites) }
-    ensures each { IfOk result (λ v. (k : ℕ) (h : _) → slice_get v.items k ≡ Some h → h.promise ≡ record { site = k }) }
-{
-    let mut handles = Vec::with_capacity(alloc, usize::from(sites))?;
-    for site in 0..sites {
-        let Ok(seat) = branch.seat(rt, site) else {
-            return Err(RunFault::OutOfMemory);
-        };
-        let inlet = inlets.remove(0);
-        let handle = start_server(scope, rt, branch, seat, inlet)?;
-        handles.push_reserved(handle);
+    /// A thread for each teller, counted from 0: each at the next site, with the next first number.
+    fn hire_tellers(
+        &self,
+        outbox: &Outbox,
+        tellers: u8,
+        seed: u32,
+    ) -> Result<Vec<TellerHandle<E, R>>, TellersFault>
+        requires { 0 < self.now.sites }
+        ensures len { IfOk result (λ v. vec_len v ≡ tellers) }
+        ensures each { IfOk result (λ v. (t : ℕ) (h : _) → slice_get v.items t ≡ Some h
+            → h.promise ≡ record { first = seed + t; site = t % self.now.sites; sites = self.now.sites }) }
+    {
+        let mut handles = Vec::with_capacity(self.alloc, usize::from(tellers))?;
+        for t in 0..tellers {
+            let Ok(seat) = self.branch.seat(self.rt, t % self.sites) else {
+                return Err(TellersFault::OutOfMemory);
+            };
+            let own = outbox.try_copy(self.alloc)?;
+            let first = u64::from(seed) + u64::from(t);
+            let handle = self.start_teller(seat, own, first)?;
+            handles.push_reserved(handle);
+        }
+        Ok(handles)
     }
-    Ok(handles)
-}
 
-/// Waits for all tellers' threads.
-pub(crate) fn join_tellers<E: Entries, R: Ledger, W: Threads>(
-    rt: &W,
-    alloc: Global,
-    handles: Vec<TellerHandle<E, R>>,
-    tellers: u8,
-    sites: u8,
-    seed: u32,
-) -> Result<Vec<Seat<E, R>>, RunFault>
-    requires len { vec_len handles ≡ tellers }
-    requires each { (t : ℕ) (h : _) → slice_get handles.items t ≡ Some h → h.promise ≡ record { first = seed + t; site = t % sites; sites = sites } }
-    ensures len { IfOk result (λ v. vec_len v ≡ tellers) }
-    ensures each { IfOk result (λ v. (t : ℕ) (seat : SeenSeat) → slice_get v.items t ≡ Some seat → IsTeller (seed + t) (t % sites) sites seat) }
-{
-    let Ok(results) = thread::join_promised(rt, handles) else {
-        return Err(RunFault::OutOfMemory);
-    };
-    all_ok(alloc, results)
-}
+    /// A serving thread for each site, in order.
+    fn hire_servers(&self, mut inlets: Vec<Inlet>) -> Result<Vec<ServerHandle<E, R>>, TellersFault>
+        requires { vec_len inlets ≡ self.now.sites }
+        ensures len { IfOk result (λ v. vec_len v ≡ self.now.sites) }
+        ensures each { IfOk result (λ v. (k : ℕ) (h : _) → slice_get v.items k ≡ Some h
+            → h.promise ≡ record { site = k }) }
+    {
+        let mut handles = Vec::with_capacity(self.alloc, usize::from(self.sites))?;
+        for site in 0..self.sites {
+            let Ok(seat) = self.branch.seat(self.rt, site) else {
+                return Err(TellersFault::OutOfMemory);
+            };
+            let inlet = inlets.remove(0);
+            let handle = self.start_server(seat, inlet)?;
+            handles.push_reserved(handle);
+        }
+        Ok(handles)
+    }
 
-/// Waits for all serving threads.
-pub(crate) fn join_servers<E: Entries, R: Ledger, W: Threads>(
-    rt: &W,
-    alloc: Global,
-    handles: Vec<ServerHandle<E, R>>,
-    sites: u8,
-) -> Result<Vec<Seat<E, R>>, RunFault>
-    requires len { vec_len handles ≡ sites }
-    requires each { (k : ℕ) (h : _) → slice_get handles.items k ≡ Some h → h.promise ≡ record { site = k } }
-    ensures len { IfOk result (λ v. vec_len v ≡ sites) }
-    ensures each { IfOk result (λ v. (k : ℕ) (seat : SeenSeat) → slice_get v.items k ≡ Some seat → IsServer k seat) }
-{
-    let Ok(results) = thread::join_promised(rt, handles) else {
-        return Err(RunFault::OutOfMemory);
-    };
-    all_ok(alloc, results)
-}
-
-/// The seats, where every thread gave one back.
-fn all_ok<E: Entries, R: Ledger>(
-    alloc: Global,
-    results: Vec<Result<Seat<E, R>, CallFault>>,
-) -> Result<Vec<Seat<E, R>>, RunFault>
-    ensures { IfOk result (λ v. map Ok v.items ≡ results.items) }
-{
-    let mut seats = Vec::with_capacity(alloc, results.len())?;
-    for outcome in results {
-        match outcome {
-            Ok(seat) => seats.push_reserved(seat),
-            Err(CallFault::OutOfMemory) => return Err(RunFault::OutOfMemory),
-            Err(CallFault::HistoryFull) => return Err(RunFault::Gather),
+    /// Starts a teller's thread.
+    fn start_teller(
+        &self,
+        seat: Seat<E, R>,
+        outbox: Outbox,
+        first: u64,
+    ) -> Result<TellerHandle<E, R>, TellersFault>
+        requires fresh { seat.receipts ≡ [] }
+        requires within { seat.site < self.now.sites }
+        ensures { IfOk result (λ h. h.promise ≡ record { first = first; site = seat.site; sites = self.now.sites }) }
+    {
+        let (rt, branch, sites) = (self.rt, self.branch, self.sites);
+        let site = seat.site();
+        let job = move || -> Result<Seat<E, R>, CallFault>
+            requires { (seat.receipts ≡ []) × (seat.site < sites) }
+            ensures { IfOk result (IsTeller first seat.site sites) }
+        { tell(rt, branch, seat, outbox, first, sites) };
+        match self.scope.spawn_with(TellerOf { first, site, sites }, job) {
+            Ok(handle) => Ok(handle),
+            Err(_) => Err(TellersFault::OutOfMemory),
         }
     }
-    Ok(seats)
-}
 
-/// All seats, the tellers' first.
-pub(crate) fn together<E: Entries, R: Ledger>(
-    mut tellers: Vec<Seat<E, R>>,
-    servers: Vec<Seat<E, R>>,
-) -> Result<Vec<Seat<E, R>>, RunFault>
-    ensures { IfOk result (λ v. v.items ≡ tellers.items ++ servers.items) }
-{
-    tellers.reserve(servers.len())?;
-    for seat in servers {
-        tellers.push_reserved(seat);
+    /// Starts a serving thread.
+    fn start_server(
+        &self,
+        seat: Seat<E, R>,
+        inlet: Inlet,
+    ) -> Result<ServerHandle<E, R>, TellersFault>
+        requires { seat.receipts ≡ [] }
+        ensures { IfOk result (λ h. h.promise ≡ record { site = seat.site }) }
+    {
+        let (rt, branch) = (self.rt, self.branch);
+        let site = seat.site();
+        let job = move || -> Result<Seat<E, R>, CallFault>
+            requires { seat.receipts ≡ [] }
+            ensures { IfOk result (IsServer seat.site) }
+        { attend(rt, branch, seat, inlet) };
+        match self.scope.spawn_with(ServerOf { site }, job) {
+            Ok(handle) => Ok(handle),
+            Err(_) => Err(TellersFault::OutOfMemory),
+        }
     }
-    Ok(tellers)
 }

@@ -3,14 +3,14 @@
 #![tactic(auto)]
 
 mod crew;
-mod run_fault;
+mod joining;
 mod running;
 mod server;
 mod server_of;
-mod starting;
 mod teller;
 mod teller_of;
+mod tellers_fault;
 
-pub use run_fault::RunFault;
 pub use running::run_bank;
 pub use teller::{CALLS, INCREMENT, MULTIPLIER};
+pub use tellers_fault::TellersFault;

@@ -6,9 +6,9 @@ ghost use Rattle.rb_branch.specs.declared.limits.TheConstants.{RECEIPT_PARTS};
 ghost use Rattle.rb_tellers.specs.Tellers.{IsCrew, TellersAt};
 ghost use Rattle.rb_site.specs.declared.report.SiteReport.{SiteReport};
 
-use crate::RunFault;
-use crate::crew::{hire_servers, hire_tellers, join_servers, join_tellers, together};
-use rb_branch::{Branch, Entries, Gate, GatherFault, RECEIPT_PARTS, Seat, links};
+use crate::TellersFault;
+use crate::crew::Crew;
+use rb_branch::{Branch, Entries, Gate, GatherFault, RECEIPT_PARTS, Seat};
 use rb_money::Config;
 use rb_site::SiteReport;
 use std::alloc::Global;
@@ -16,7 +16,7 @@ use std::marker::Brand;
 use std::sync::Wait;
 use std::sync::ledger::{Blank, Ledger};
 use std::thread;
-use std::thread::{Scope, Threads};
+use std::thread::Threads;
 
 /// So many tellers at the sites of a configuration, each in a thread of its own, and a serving thread for each
 /// site. Teller `t`, from 0, is at site `t` modulo the number of sites, and its first number is `seed + t`. Once
@@ -30,11 +30,13 @@ pub fn run_bank<G: Gate + Drop + Sync, W: Threads + Wait + Sync>(
     gate: G,
     tellers: u8,
     seed: u32,
-) -> Result<Vec<SiteReport>, RunFault>
+) -> Result<Vec<SiteReport>, TellersFault>
     ensures all { IfOk result (λ reports. vec_len reports ≡ config.sites) }
     ensures closed { IfOk result (λ reports. All (IsClosedReport config) reports.items) }
-    ensures gathered { IfOk result (λ reports. (seats : List SeenSeat) × IsCrew seed tellers config.sites seats × AllGathered reports.items seats) }
-    ensures tellers { IfOk result (λ reports. (k : ℕ) (r : SiteReport) → slice_get reports.items k ≡ Some r → (r.me ≡ k) × TellersAt seed tellers config.sites k r.history.items) }
+    ensures gathered { IfOk result (λ reports. (seats : List SeenSeat) × IsCrew seed tellers config.sites seats
+        × AllGathered reports.items seats) }
+    ensures tellers { IfOk result (λ reports. (k : ℕ) (r : SiteReport) → slice_get reports.items k ≡ Some r
+        → (r.me ≡ k) × TellersAt seed tellers config.sites k r.history.items) }
 {
     let entries = Blank::new(u64::from(config.sites()));
     let receipts = Blank::new(RECEIPT_PARTS);
@@ -56,21 +58,22 @@ fn run_with<
     seed: u32,
     entries: Blank,
     receipts: Blank,
-) -> Result<Vec<SiteReport>, RunFault>
+) -> Result<Vec<SiteReport>, TellersFault>
     requires config { config ≡ E.settings }
     requires entries { (entries.name ≡ E.name) × (entries.parts ≡ E.parts) × (entries.parts ≡ config.sites) }
     requires receipts { (receipts.name ≡ R.name) × (receipts.parts ≡ R.parts) × (receipts.parts ≡ RECEIPT_PARTS) }
     ensures all { IfOk result (λ reports. vec_len reports ≡ config.sites) }
     ensures closed { IfOk result (λ reports. All (IsClosedReport config) reports.items) }
-    ensures gathered { IfOk result (λ reports. (seats : List SeenSeat) × IsCrew seed tellers config.sites seats × AllGathered reports.items seats) }
+    ensures gathered { IfOk result (λ reports. (seats : List SeenSeat) × IsCrew seed tellers config.sites seats
+        × AllGathered reports.items seats) }
 {
     let sites = config.sites();
     let branch: Branch<E, R, G> = Branch::open(alloc, config, gate, entries, receipts)?;
     match run_branch(rt, alloc, &branch, sites, tellers, seed) {
         Ok(seats) => match branch.gather(seats) {
             Ok(reports) => Ok(reports),
-            Err(GatherFault::OutOfMemory) => Err(RunFault::OutOfMemory),
-            Err(_) => Err(RunFault::Gather),
+            Err(GatherFault::OutOfMemory) => Err(TellersFault::OutOfMemory),
+            Err(_) => Err(TellersFault::Gather),
         },
         Err(fault) => {
             let _closed = branch.close();
@@ -92,45 +95,25 @@ fn run_branch<
     sites: u8,
     tellers: u8,
     seed: u32,
-) -> Result<Vec<Seat<E, R>>, RunFault>
+) -> Result<Vec<Seat<E, R>>, TellersFault>
     requires { 0 < sites }
     ensures { IfOk result (λ seats. IsCrew seed tellers sites seats.items) }
 {
     thread::scope(
         thread::scope_env(),
         rt,
-        |scope| -> Result<Vec<Seat<E, R>>, RunFault>
+        |scope| -> Result<Vec<Seat<E, R>>, TellersFault>
             requires { 0 < sites }
             ensures { IfOk result (λ seats. IsCrew seed tellers sites seats.items) }
-        { run_scope(scope, rt, alloc, branch, sites, tellers, seed) },
+        {
+            let crew = Crew {
+                scope,
+                rt,
+                alloc,
+                branch,
+                sites,
+            };
+            crew.run(tellers, seed)
+        },
     )
-}
-
-/// Runs all threads in a scope. The links close as the tellers end, and then the serving threads end.
-fn run_scope<
-    's,
-    X,
-    E: Entries + Send + Sync + 's,
-    R: Ledger + Send + Sync + 's,
-    G: Gate + Drop + Sync + 's,
-    W: Threads + Wait + Sync + 's,
->(
-    scope: &'s Scope<'s, X>,
-    rt: &'s W,
-    alloc: Global,
-    branch: &'s Branch<E, R, G>,
-    sites: u8,
-    tellers: u8,
-    seed: u32,
-) -> Result<Vec<Seat<E, R>>, RunFault>
-    requires { 0 < sites }
-    ensures { IfOk result (λ seats. IsCrew seed tellers sites seats.items) }
-{
-    let (outbox, inlets) = links(alloc, sites)?;
-    let servers = hire_servers(scope, rt, alloc, branch, inlets, sites)?;
-    let hired = hire_tellers(scope, rt, alloc, branch, &outbox, sites, tellers, seed)?;
-    drop(outbox);
-    let hired = join_tellers(rt, alloc, hired, tellers, sites, seed)?;
-    let servers = join_servers(rt, alloc, servers, sites)?;
-    together(hired, servers)
 }

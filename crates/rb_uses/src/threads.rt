@@ -13,7 +13,7 @@ use rb_branch::{
 use rb_money::Config;
 use rb_scratch::Request;
 use rb_site::SiteReport;
-use rb_tellers::RunFault;
+use rb_tellers::TellersFault;
 use std::alloc::Global;
 use std::marker::Brand;
 use std::sync::Wait;
@@ -29,7 +29,7 @@ pub fn deposit_while_served<W: Threads + Wait + Sync>(
     rt: &W,
     alloc: Global,
     amount: u64,
-) -> Result<Vec<SiteReport>, RunFault>
+) -> Result<Vec<SiteReport>, TellersFault>
     ensures all { IfOk result (λ reports. vec_len reports ≡ 2) }
     ensures closed { IfOk result (λ reports. All (IsClosedReport bank) reports.items) }
     ensures gathered { IfOk result (λ reports. (seats : List SeenSeat) × AreBoth amount seats × AllGathered reports.items seats) }
@@ -48,7 +48,7 @@ fn with_branch<E: Entries + Send + Sync, R: Ledger + Send + Sync, W: Threads + W
     amount: u64,
     entries: Blank,
     receipts: Blank,
-) -> Result<Vec<SiteReport>, RunFault>
+) -> Result<Vec<SiteReport>, TellersFault>
     requires config { config ≡ E.settings }
     requires bank { config ≡ bank }
     requires entries { (entries.name ≡ E.name) × (entries.parts ≡ E.parts) × (entries.parts ≡ config.sites) }
@@ -61,8 +61,8 @@ fn with_branch<E: Entries + Send + Sync, R: Ledger + Send + Sync, W: Threads + W
     match both(rt, alloc, &branch, amount) {
         Ok(seats) => match branch.gather(seats) {
             Ok(reports) => Ok(reports),
-            Err(GatherFault::OutOfMemory) => Err(RunFault::OutOfMemory),
-            Err(_) => Err(RunFault::Gather),
+            Err(GatherFault::OutOfMemory) => Err(TellersFault::OutOfMemory),
+            Err(_) => Err(TellersFault::Gather),
         },
         Err(fault) => {
             let _closed = branch.close();
@@ -78,14 +78,14 @@ fn both<E: Entries + Send + Sync, R: Ledger + Send + Sync, W: Threads + Wait + S
     alloc: Global,
     branch: &Branch<E, R, NoGate>,
     amount: u64,
-) -> Result<Vec<Seat<E, R>>, RunFault>
+) -> Result<Vec<Seat<E, R>>, TellersFault>
     ensures { IfOk result (λ seats. AreBoth amount seats.items) }
 {
     let mut seats = Vec::with_capacity(alloc, 2)?;
     let (outbox, mut inlets) = links(alloc, 2)?;
     let inlet = inlets.remove(1);
     let (Ok(here), Ok(there)) = (branch.seat(rt, 0), branch.seat(rt, 1)) else {
-        return Err(RunFault::OutOfMemory);
+        return Err(TellersFault::OutOfMemory);
     };
     let (served, deposited) = thread::join(
         rt,
@@ -104,7 +104,7 @@ fn both<E: Entries + Send + Sync, R: Ledger + Send + Sync, W: Threads + Wait + S
             seats.push_reserved(server);
             Ok(seats)
         }
-        _ => Err(RunFault::Gather),
+        _ => Err(TellersFault::Gather),
     }
 }
 

@@ -7,5 +7,6 @@ loop-i-init g c = stands_first _ _ _ _ (sym c.site-site.ensures.same) c.requires
 
 pub loop-i-preserved : goal.loop-i-preserved
 loop-i-preserved g c =
-    stands_next c.args.first c.site-site.result c.args.sites c.loop-i.seat c.send.new.seat c.loop-i.x c.next_x-x.result c.loop-i.last c.last_made-last.result c.loop-i._i c.in_ok-_number._number c.call_at-event.result
+    stands_next c.args.first c.site-site.result c.args.sites c.loop-i.seat c.send.new.seat c.loop-i.x c.next_x-x.result c.loop-i.last
+    c.last_made-last.result c.loop-i._i c.in_ok-_number._number c.call_at-event.result
     c.loop-i.invariant c.next_x-x.ensures c.call_at-event.ensures c.in_ok-_number.ensures.ok c.last_made-last.ensures

@@ -1,11 +1,11 @@
-//! Why a run gives no histories.
+//! Why tellers give no histories.
 
 use std::alloc::AllocError;
 use thiserror::Error;
 
-/// Why a run gives no histories. All threads have ended then, and all sites are closed.
+/// Why a run of tellers gives no histories. All threads have ended then, and all sites are closed.
 #[derive(Clone, Copy, Debug, PartialEq, Eq, Error)]
-pub enum RunFault {
+pub enum TellersFault {
     /// There was no memory, or a thread couldn't be made.
     #[error("out of memory")]
     OutOfMemory,
@@ -14,8 +14,8 @@ pub enum RunFault {
     Gather,
 }
 
-impl From<AllocError> for RunFault {
-    fn from(_: AllocError) -> RunFault {
-        RunFault::OutOfMemory
+impl From<AllocError> for TellersFault {
+    fn from(_: AllocError) -> TellersFault {
+        TellersFault::OutOfMemory
     }
 }

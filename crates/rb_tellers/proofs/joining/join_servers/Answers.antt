@@ -7,10 +7,11 @@ use Rattle.rb_branch.specs.declared.call_fault.CallFault.{CallFault}
 use Rattle.rb_tellers.specs.declared.server_of.ServerOf.{ServerOf}
 use Rattle.rb_tellers.specs.Tellers.{IsServer}
 use Rattle.rb_tellers.proofs.Rows.{ended}
-use Rattle.rb_tellers.proofs.crew.join_servers.Goals as goal
+use Rattle.rb_tellers.proofs.joining.join_servers.Goals as goal
 
 pub returns-clause-each : goal.returns-clause-each
-returns-clause-each g c = IfOk-weaker c.all_ok.result (λ v. map Ok v.items ≡ c.in-Ok.results.items) (λ v. (k : ℕ) (seat : SeenSeat) → slice_get v.items k ≡ Some seat → IsServer k seat)
+returns-clause-each g c = IfOk-weaker c.all_ok.result (λ v. map Ok v.items ≡ c.in-Ok.results.items) (λ v. (k : ℕ) (seat : SeenSeat)
+    → slice_get v.items k ≡ Some seat → IsServer k seat)
     (λ v is t seat at.
     let e = ended v.items c.in-Ok.results.items t seat is at in
     let within : t < vec_len c.args.handles = search rules in

@@ -7,16 +7,18 @@ use Rattle.rb_branch.specs.declared.call_fault.CallFault.{CallFault}
 use Rattle.rb_tellers.specs.declared.teller_of.TellerOf.{TellerOf}
 use Rattle.rb_tellers.specs.Tellers.{IsTeller}
 use Rattle.rb_tellers.proofs.Rows.{ended}
-use Rattle.rb_tellers.proofs.crew.join_tellers.Goals as goal
+use Rattle.rb_tellers.proofs.joining.join_tellers.Goals as goal
 
 pub returns-clause-each : goal.returns-clause-each
-returns-clause-each g c = IfOk-weaker c.all_ok.result (λ v. map Ok v.items ≡ c.in-Ok.results.items) (λ v. (t : ℕ) (d : SeenSeat) → slice_get v.items t ≡ Some d → IsTeller (c.args.seed + t) (t % c.args.sites) c.args.sites d)
+returns-clause-each g c = IfOk-weaker c.all_ok.result (λ v. map Ok v.items ≡ c.in-Ok.results.items) (λ v. (t : ℕ) (d : SeenSeat)
+    → slice_get v.items t ≡ Some d → IsTeller (c.args.seed + t) (t % c.args.sites) c.args.sites d)
     (λ v is t d at.
     let e = ended v.items c.in-Ok.results.items t d is at in
     let within : t < vec_len c.args.handles = search rules in
     let inside : t < length c.args.handles.items = search rules in
     let k = (c.in-Ok.ensures.each t (Ok d) within).1 in
-    let P : Result SeenSeat CallFault → Type 0 = λ r. IfOk r (IsTeller k.handle.promise.first k.handle.promise.site k.handle.promise.sites) in
+    let P : Result SeenSeat CallFault
+    → Type 0 = λ r. IfOk r (IsTeller k.handle.promise.first k.handle.promise.site k.handle.promise.sites) in
     let kept = subst P e.1 k.kept in
     let promise = c.requires.each t k.handle (slice_get-get_or c.args.handles.items t k.handle inside ∙ ap Some (sym k.handle_is)) in
     let Q : TellerOf → Type 0 = λ p. IsTeller p.first p.site p.sites d in
