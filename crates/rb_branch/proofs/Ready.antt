@@ -10,7 +10,9 @@ use Rattle.rb_inbox.specs.Held.{IsReady}
 use Rattle.rb_site.specs.Seen.{SeenSite, state_of}
 use Rattle.rb_branch.specs.Seats.{IsReadyAt}
 
-pub none_ready : (o : Option OpName) (x : SeenSite) (held : List Shadow) (clock : Deps) → held ≡ (state_of x).held → clock ≡ clock_of (state_of x).ops
+-- where no held operation is ready by the clock, the site has none that is
+pub none_ready : (o : Option OpName) (x : SeenSite) (held : List Shadow) (clock : Deps) → held ≡ (state_of x).held
+    → clock ≡ clock_of (state_of x).ops
     → IfNone o ((u : Shadow) → Among u held → ¬ IsReady clock u) → IfNone o ((n : OpName) → ¬ IsReadyAt x n)
 none_ready None x held clock h c none = λ n r.
     let P : List Shadow → Type 0 = λ l. Among r.0 l in

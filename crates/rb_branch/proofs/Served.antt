@@ -1,5 +1,7 @@
 -- Receipts of a serving seat, put together.
-use Rattle.std.proofs.Common.{◌≡◌, ℕ, zero, suc, ◌+◌, ◌-◌, ◌≤◌, List, [], ◌∷◌, ◌++◌, length, refl, sym, ap, ◌∙◌, subst, arith, length-append, append_assoc, append-nil, get_or, set, remove, Bool, true, false, true≢false, Some, ◌⊎◌, inl, inr}
+use Rattle.std.proofs.Common.{◌≡◌, ℕ, zero, suc, ◌+◌, ◌-◌, ◌≤◌, List, [], ◌∷◌, ◌++◌, length, refl, sym, ap, ◌∙◌, subst, arith}
+use Rattle.std.proofs.Common.{length-append, append_assoc, append-nil, get_or, set, remove, Bool, true, false, true≢false, Some, ◌⊎◌, inl}
+use Rattle.std.proofs.Common.{inr}
 use Rattle.std.specs.Prelude.{All, OnErr, MatchBool, MatchOption, Option, Result, Ok, Err, slice_get}
 use Rattle.std.proofs.lemmas.List.Elements.{All-append}
 use Rattle.std.proofs.Math.Seq.{set-append_seam, get_or-append_seam}
@@ -7,7 +9,8 @@ use Rattle.rb_site.specs.declared.event.Event.{Event}
 use Rattle.rb_site.specs.declared.event.Event.TheVariants as ev
 use Rattle.rb_site.specs.declared.message.Message.{Message}
 use Rattle.rb_branch.specs.declared.receipt.Receipt.{Receipt}
-use Rattle.rb_branch.specs.Seats.{HasOneMore, HasServed, IsApply, IsOneOf, IsServed, WasReceived, WasRefused, NoneLost, SeenSeat, Any, is_full_inbox}
+use Rattle.rb_branch.specs.Seats.{HasOneMore, HasServed, IsApply, IsOneOf, IsServed, WasReceived, WasRefused, NoneLost, SeenSeat, Any}
+use Rattle.rb_branch.specs.Seats.{is_full_inbox}
 
 abbrev Refuses : Message → Receipt → Type 0
 Refuses m r = (r.event ≡ ev.Receive m) × (is_full_inbox r.reply ≡ true)
@@ -60,9 +63,6 @@ some_removed P (y ∷ ys) zero x at (inr h) = inl h
 some_removed P (y ∷ ys) (suc k) x at (inl p) = inl (inl p)
 some_removed P (y ∷ ys) (suc k) x at (inr h) = elim (some_removed P ys k x at h) [ inl l ↦ inl (inr l) | inr r ↦ inr r ]
 
-lost_nothing : (kept : List Message) → NoneLost kept kept []
-lost_nothing kept = record { kept = λ m h. inl h; refused = λ m h. absurd h }
-
 -- no message is lost in two steps
 lost_more : (a b c : List Message) (xs ys : List Receipt) → NoneLost a b xs → NoneLost b c ys → NoneLost a c (xs ++ ys)
 lost_more a b c xs ys h k = record {
@@ -88,7 +88,8 @@ lost_taken a b m is =
     subst P (sym is) (record { kept = λ x h. inl (some_left (λ k. x ≡ k) a (m ∷ []) h); refused = λ x h. absurd h })
 
 -- a kept message that is refused and stays
-lost_refused : (kept : List Message) (k : ℕ) (m : Message) (r : Receipt) → slice_get kept k ≡ Some m → r.event ≡ ev.Receive m → NoneLost kept kept (r ∷ [])
+lost_refused : (kept : List Message) (k : ℕ) (m : Message) (r : Receipt) → slice_get kept k ≡ Some m → r.event ≡ ev.Receive m
+    → NoneLost kept kept (r ∷ [])
 lost_refused kept k m r at is = record {
   kept = λ x h. inl h;
   refused = λ x h. elim h [
@@ -98,7 +99,8 @@ lost_refused kept k m r at is = record {
 }
 
 -- a kept message that is received and goes
-lost_received : (kept : List Message) (k : ℕ) (m : Message) (r : Receipt) → slice_get kept k ≡ Some m → r.event ≡ ev.Receive m → is_full_inbox r.reply ≡ false
+lost_received : (kept : List Message) (k : ℕ) (m : Message) (r : Receipt) → slice_get kept k ≡ Some m → r.event ≡ ev.Receive m
+    → is_full_inbox r.reply ≡ false
     → NoneLost kept (remove kept k) (r ∷ [])
 lost_received kept k m r at is not = record {
   kept = λ x h. elim (some_removed (λ y. x ≡ y) kept k m at h) [
@@ -111,16 +113,9 @@ lost_received kept k m r at is not = record {
   ];
 }
 
-pub served_none : (c : SeenSeat) (kept : List Message) → HasServed c c kept kept 0
-served_none c kept = record {
-  more = [];
-  seat = ap (λ (xs : List Receipt). record c { receipts = xs }) (sym (append-nil c.receipts));
-  served = served_nothing;
-  count_is = refl;
-  none_lost = lost_nothing kept;
-}
-
-pub served_more : (a b c : SeenSeat) (k l m : List Message) (n p : ℕ) → HasServed a b k l n → HasServed b c l m p → HasServed a c k m (n + p)
+-- more receipts after the first ones
+pub served_more : (a b c : SeenSeat) (k l m : List Message) (n p : ℕ) → HasServed a b k l n → HasServed b c l m p
+    → HasServed a c k m (n + p)
 served_more a b c k l m n p h t = record {
   more = h.more ++ t.more;
   seat =
@@ -131,7 +126,7 @@ served_more a b c k l m n p h t = record {
   none_lost = lost_more k l m h.more t.more h.none_lost t.none_lost;
 }
 
-pub served_taken : (a : SeenSeat) (k l : List Message) (m : Message) → l ≡ k ++ m ∷ [] → HasServed a a k l 0
+served_taken : (a : SeenSeat) (k l : List Message) (m : Message) → l ≡ k ++ m ∷ [] → HasServed a a k l 0
 served_taken a k l m is = record {
   more = [];
   seat = ap (λ (xs : List Receipt). record a { receipts = xs }) (sym (append-nil a.receipts));
@@ -140,13 +135,18 @@ served_taken a k l m is = record {
   none_lost = lost_taken k l m is;
 }
 
+-- the receipt of an application
 pub served_apply : (b c : SeenSeat) (kept : List Message) (n : ℕ) → HasOneMore b c IsApply n → HasServed b c kept kept 1
 served_apply b c kept n h = record {
   more = h.last ∷ [];
   seat = h.seat;
   served = served_single h.last (applied h.last.event h.event_is);
   count_is = refl;
-  none_lost = record { kept = λ m i. inl i; refused = λ m i. elim i [ inl p ↦ absurd (apart h.last.event m h.event_is p.0) | inr rest ↦ absurd rest ] };
+  none_lost = record {
+    kept = λ m i. inl i;
+    refused =
+        λ m i. elim i [ inl p ↦ absurd (apart h.last.event m h.event_is p.0) | inr rest ↦ absurd rest ];
+  };
 }
   where
     applied : (e : Event) → IsApply e → IsServed e
@@ -161,7 +161,8 @@ last_reply : (b c : SeenSeat) (P : Event → Type 0) (n : ℕ) (full : Bool) (h 
     → ((xs : List Receipt) (r : Receipt) → c.receipts ≡ xs ++ r ∷ [] → full ≡ is_full_inbox r.reply) → full ≡ is_full_inbox h.last.reply
 last_reply b c P n full h found = found b.receipts h.last (ap (λ (s : SeenSeat). s.receipts) h.seat)
 
-served_message : (b c : SeenSeat) (old new : List Message) (m : Message) (n : ℕ) (h : HasOneMore b c (λ e. e ≡ ev.Receive m) n) → NoneLost old new (h.last ∷ []) → HasServed b c old new 1
+served_message : (b c : SeenSeat) (old new : List Message) (m : Message) (n : ℕ) (h : HasOneMore b c (λ e. e ≡ ev.Receive m) n)
+    → NoneLost old new (h.last ∷ []) → HasServed b c old new 1
 served_message b c old new m n h lost = record {
   more = h.last ∷ [];
   seat = h.seat;
@@ -171,11 +172,13 @@ served_message b c old new m n h lost = record {
 }
 
 -- a kept message is received, and stays
-pub served_refused : (b c : SeenSeat) (kept : List Message) (k n : ℕ) (m : Message) → slice_get kept k ≡ Some m → HasOneMore b c (λ e. e ≡ ev.Receive m) n → HasServed b c kept kept 1
+pub served_refused : (b c : SeenSeat) (kept : List Message) (k n : ℕ) (m : Message) → slice_get kept k ≡ Some m
+    → HasOneMore b c (λ e. e ≡ ev.Receive m) n → HasServed b c kept kept 1
 served_refused b c kept k n m at h = served_message b c kept kept m n h (lost_refused kept k m h.last at h.event_is)
 
 -- a kept message is received, and goes
-pub served_received : (b c : SeenSeat) (old new : List Message) (k n : ℕ) (m : Message) (full : Bool) → slice_get old k ≡ Some m → HasOneMore b c (λ e. e ≡ ev.Receive m) n
+pub served_received : (b c : SeenSeat) (old new : List Message) (k n : ℕ) (m : Message) (full : Bool) → slice_get old k ≡ Some m
+    → HasOneMore b c (λ e. e ≡ ev.Receive m) n
     → ((xs : List Receipt) (r : Receipt) → c.receipts ≡ xs ++ r ∷ [] → full ≡ is_full_inbox r.reply) → full ≡ false
     → new ≡ remove old k → HasServed b c old new 1
 served_received b c old new k n m full at h found not is =
@@ -183,6 +186,7 @@ served_received b c old new k n m full at h found not is =
     let reply : is_full_inbox h.last.reply ≡ false = sym (last_reply b c (λ e. e ≡ ev.Receive m) n full h found) ∙ not in
     served_message b c old new m n h (subst P (sym is) (lost_received old k m h.last at h.event_is reply))
 
+-- the last receipt with another count of messages that were not sent
 pub set_last : (items items' xs : List Receipt) (r now : Receipt) (n count : ℕ)
     → items ≡ xs ++ r ∷ [] → n ≡ length items → now ≡ get_or items (n - 1) now
     → items' ≡ set items (n - 1) (record now { unsent = count })
@@ -199,10 +203,6 @@ served_same a b b' k l l' n h seat inlet =
     let Q : List Message → Type 0 = λ m. HasServed a b k m n in
     subst P (sym seat) (subst Q (sym inlet) h)
 
--- nothing was done
-pub served_unchanged : (a b : SeenSeat) (k l : List Message) → b ≡ a → l ≡ k → HasServed a b k l 0
-served_unchanged a b k l seat inlet = served_same a a b k k l 0 (served_none a k) seat inlet
-
 -- a step of one receipt, and more after it
 served_then : (a b c : SeenSeat) (k l m : List Message) (n : ℕ) → HasServed a b k l 1 → HasServed b c l m n → HasServed a c k m (n + 1)
 served_then a b c k l m n h t =
@@ -211,33 +211,44 @@ served_then a b c k l m n h t =
     subst P swap (served_more a b c k l m 1 n h t)
 
 -- an application, and more after it
-pub applied_then : (a b c : SeenSeat) (k m : List Message) (p n : ℕ) → HasOneMore a b IsApply p → HasServed b c k m n → HasServed a c k m (n + 1)
+applied_then : (a b c : SeenSeat) (k m : List Message) (p n : ℕ) → HasOneMore a b IsApply p → HasServed b c k m n
+    → HasServed a c k m (n + 1)
 applied_then a b c k m p n h t = served_then a b c k k m n (served_apply a b k p h) t
 
--- a message is kept behind the others, and more after it
-pub served_after : (a b : SeenSeat) (k l l' : List Message) (m : Message) (n : ℕ) → l ≡ k ++ m ∷ [] → HasServed a b l l' n → HasServed a b k l' n
-served_after a b k l l' m n is t =
-    let P : ℕ → Type 0 = HasServed a b k l' in
-    let same : 0 + n ≡ n = omega arith in
-    subst P same (served_more a a b k l l' 0 n (served_taken a k l m is) t)
+-- an application after all that, and more after it
+pub served_applied : (a b c d : SeenSeat) (k l m : List Message) (n p q : ℕ)
+    → HasServed a b k l n → HasOneMore b c IsApply p → HasServed c d l m q → HasServed a d k m (n + (q + 1))
+served_applied a b c d k l m n p q h one t = served_more a b d k l m n (q + 1) h (applied_then b c d l m p q one t)
 
--- the same, where it is received at once
-pub taken_then : (a b c : SeenSeat) (k l l' q : List Message) (m : Message) (n : ℕ) → l ≡ k ++ m ∷ [] → HasServed a b l l' 1 → HasServed b c l' q n → HasServed a c k q (n + 1)
-taken_then a b c k l l' q m n is h t = served_after a c k l q m (n + 1) is (served_then a b c l l' q n h t)
+-- a message is kept behind the others, after all that
+pub served_and_taken : (a b : SeenSeat) (k l l' : List Message) (m : Message) (n : ℕ)
+    → HasServed a b k l n → l' ≡ l ++ m ∷ [] → HasServed a b k l' n
+served_and_taken a b k l l' m n h is =
+    let P : ℕ → Type 0 = HasServed a b k l' in
+    let same : n + 0 ≡ n = omega arith in
+    subst P same (served_more a b b k l l' n 0 h (served_taken b l l' m is))
 
 -- the application that an answer is of
-pub applied_of : (a b : SeenSeat) (o : Option ℕ) (n : ℕ) → o ≡ Some n → MatchOption o (b ≡ a) (λ k. HasOneMore a b IsApply k) → HasOneMore a b IsApply n
+pub applied_of : (a b : SeenSeat) (o : Option ℕ) (n : ℕ) → o ≡ Some n → MatchOption o (b ≡ a) (λ k. HasOneMore a b IsApply k)
+    → HasOneMore a b IsApply n
 applied_of a b o n is h =
     let P : Option ℕ → Type 0 = λ x. MatchOption x (b ≡ a) (λ k. HasOneMore a b IsApply k) in
     subst P is h
 
 -- the message that was taken from a link
-pub kept_one : (b : Bool) (k l : List Message) → b ≡ true → MatchBool b ((m : Message) × (l ≡ k ++ m ∷ [])) (l ≡ k) → (m : Message) × (l ≡ k ++ m ∷ [])
+pub kept_one : (b : Bool) (k l : List Message) → b ≡ true → MatchBool b ((m : Message) × (l ≡ k ++ m ∷ [])) (l ≡ k)
+    → (m : Message) × (l ≡ k ++ m ∷ [])
 kept_one true k l is h = h
 kept_one false k l is h = absurd (true≢false (sym is))
 
+-- nothing came by a link that is closed
+pub kept_none : (b : Bool) (k l : List Message) → b ≡ false → MatchBool b ((m : Message) × (l ≡ k ++ m ∷ [])) (l ≡ k) → l ≡ k
+kept_none false k l is h = h
+kept_none true k l is h = absurd (true≢false is)
+
 -- the same, of equal ends
-pub served_along : (a b b' : SeenSeat) (k l l' : List Message) (n n' : ℕ) → HasServed a b k l n → b' ≡ b → l' ≡ l → n' ≡ n → HasServed a b' k l' n'
+pub served_along : (a b b' : SeenSeat) (k l l' : List Message) (n n' : ℕ) → HasServed a b k l n → b' ≡ b → l' ≡ l → n' ≡ n
+    → HasServed a b' k l' n'
 served_along a b b' k l l' n n' h seat inlet count =
     let P : ℕ → Type 0 = HasServed a b' k l' in
     subst P (sym count) (served_same a b b' k l l' n h seat inlet)
@@ -246,6 +257,7 @@ served_along a b b' k l l' n n' h seat inlet count =
 pub served_count : (a b : SeenSeat) (k l : List Message) (n : ℕ) → HasServed a b k l n → n ≤ length b.receipts
 served_count a b k l n h = omega (arith, h.count_is, ap (λ (c : SeenSeat). length c.receipts) h.seat, length-append a.receipts h.more)
 
+-- what holds of any error
 pub on_err : {T E : Type 0} (P : Type 0) (r : Result T E) → P → OnErr r P
 on_err P (Ok x) p = tt
 on_err P (Err e) p = p

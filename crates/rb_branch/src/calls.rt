@@ -87,6 +87,15 @@ impl<E: Entries, R: Ledger, G: Gate + Drop> Branch<E, R, G> {
         Ok(number)
     }
 
+    /// One event that sends nothing.
+    fn ask<W: Wait>(&self, rt: &W, seat: &mut Seat<E, R>, event: Event) -> Result<u32, CallFault>
+        ensures ok { IfOk result (λ n. HasOneMore seat.old seat.new (λ e. e ≡ event) n) }
+        ensures err { OnErr result (seat.new ≡ seat.old) }
+    {
+        let (number, _posted) = self.call(rt, seat, event)?;
+        Ok(number)
+    }
+
     /// A message comes.
     pub fn receive<W: Wait>(
         &self,
@@ -97,8 +106,7 @@ impl<E: Entries, R: Ledger, G: Gate + Drop> Branch<E, R, G> {
         ensures ok { IfOk result (λ n. HasOneMore seat.old seat.new (λ e. e ≡ Event.Receive message) n) }
         ensures err { OnErr result (seat.new ≡ seat.old) }
     {
-        let (number, _posted) = self.call(rt, seat, Event::Receive(message))?;
-        Ok(number)
+        self.ask(rt, seat, Event::Receive(message))
     }
 
     /// A question for an account's balance.
@@ -111,8 +119,7 @@ impl<E: Entries, R: Ledger, G: Gate + Drop> Branch<E, R, G> {
         ensures ok { IfOk result (λ n. HasOneMore seat.old seat.new (λ e. e ≡ Event.Balance place) n) }
         ensures err { OnErr result (seat.new ≡ seat.old) }
     {
-        let (number, _posted) = self.call(rt, seat, Event::Balance(place))?;
-        Ok(number)
+        self.ask(rt, seat, Event::Balance(place))
     }
 
     /// A question for an account's balance after so many of the site's operations.
@@ -126,8 +133,7 @@ impl<E: Entries, R: Ledger, G: Gate + Drop> Branch<E, R, G> {
         ensures ok { IfOk result (λ n. HasOneMore seat.old seat.new (λ e. e ≡ Event.AsOf place position) n) }
         ensures err { OnErr result (seat.new ≡ seat.old) }
     {
-        let (number, _posted) = self.call(rt, seat, Event::AsOf(place, position))?;
-        Ok(number)
+        self.ask(rt, seat, Event::AsOf(place, position))
     }
 
     /// A question for an account's statement.
@@ -140,7 +146,6 @@ impl<E: Entries, R: Ledger, G: Gate + Drop> Branch<E, R, G> {
         ensures ok { IfOk result (λ n. HasOneMore seat.old seat.new (λ e. e ≡ Event.Statement place) n) }
         ensures err { OnErr result (seat.new ≡ seat.old) }
     {
-        let (number, _posted) = self.call(rt, seat, Event::Statement(place))?;
-        Ok(number)
+        self.ask(rt, seat, Event::Statement(place))
     }
 }

@@ -1,6 +1,8 @@
 //! The closed sites of a branch, and the seats that are given back to them.
-ghost use Rattle.std.specs.Prelude.{◌≡◌, ◌≢◌, ◌+◌, ◌^◌, ◌<◌, ◌≤◌, ℕ, All, IfOk, IfErr, OnOk, IsTrue, Err, length, vec_len};
-ghost use Rattle.rb_branch.specs.Gathered.{AllGathered, Explains, IsClosedReport, IsFirst, IsGathered, entries_in, receipts_at, receipts_in};
+ghost use Rattle.std.specs.Prelude.{◌≡◌, ◌≢◌, ◌+◌, ◌^◌, ◌<◌, ◌≤◌, ℕ, All, IfOk, IfErr, OnOk, IsTrue, Err, length};
+ghost use Rattle.std.specs.Prelude.{vec_len};
+ghost use Rattle.rb_branch.specs.Gathered.{AllGathered, Explains, IsClosedReport, IsFirst, IsGathered, entries_in};
+ghost use Rattle.rb_branch.specs.Gathered.{receipts_at, receipts_in};
 ghost use Rattle.rb_branch.specs.declared.gather_fault.GatherFault.TheVariants.{Missing, Mixed};
 ghost use Rattle.rb_branch.specs.declared.limits.TheConstants.{MOST_SEATS};
 ghost use Rattle.rb_money.specs.declared.limits.TheConstants.{MOST_SITES};
@@ -137,8 +139,11 @@ fn look_at(
     requires fits { receipts_in seats.now < 2 ^ 64 }
     requires few { length seats.now < 2 ^ 16 }
     ensures ok { OnOk result ((report.now.me ≡ number) × IsGathered number report.now.history.items seats.now) }
-    ensures missing { (s : ℕ) → result ≡ Err (Missing s) → (s ≡ number) × (report.now.me ≡ number) × IsTrue missing × (receipts_at s seats.now < vec_len report.now.history) }
-    ensures mixed { (s : ℕ) → result ≡ Err (Mixed s) → (s ≡ number) × ¬ IsGathered s report.now.history.items seats.now }
+    ensures missing { (s : ℕ) → result ≡ Err (Missing s)
+        → (s ≡ number) × (report.now.me ≡ number) × IsTrue missing
+        × (receipts_at s seats.now < vec_len report.now.history) }
+    ensures mixed { (s : ℕ) → result ≡ Err (Mixed s)
+        → (s ≡ number) × ¬ IsGathered s report.now.history.items seats.now }
 {
     let site = report.me;
     if usize::from(site) != number {

@@ -72,7 +72,8 @@ pub(crate) fn take_back<E: Entries, R: Ledger>(
 ) -> Result<(Vec<Given>, Share<R>), AllocError>
     requires { all.parts ≤ R.parts }
     ensures same { IfOk result (λ r. r.0.items ≡ seats.items) }
-    ensures share { IfOk result (λ r. (r.1.parts ≡ all.parts + vec_len seats) × (r.1.amount ≡ all.amount + receipts_in seats.items)) }
+    ensures share { IfOk result (λ r. (r.1.parts ≡ all.parts + vec_len seats)
+        × (r.1.amount ≡ all.amount + receipts_in seats.items)) }
     ensures few { IfOk result (λ r. r.1.parts ≤ R.parts) }
 {
     let mut given = Vec::with_capacity(alloc, seats.len())?;

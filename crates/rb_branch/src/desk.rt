@@ -1,10 +1,12 @@
 //! Desks, seats, and the one call that makes a receipt.
-ghost use Rattle.std.specs.Prelude.{◌≡◌, ◌<◌, ◌≤◌, ◌++◌, ◌∷◌, [], All, IfNone, IfOk, IfSome, List, OnErr, Err, Ok, None, length};
+ghost use Rattle.std.specs.Prelude.{◌≡◌, ◌<◌, ◌≤◌, ◌++◌, ◌∷◌, [], All, IfNone, IfOk, IfSome, List, OnErr, Err, Ok};
+ghost use Rattle.std.specs.Prelude.{None, length};
 ghost use Rattle.std.specs.Option.{option_copied};
 ghost use Rattle.rb_site.specs.Events.{first_site};
 ghost use Rattle.rb_site.specs.Seen.{Replays, first_seen};
 ghost use Rattle.rb_branch.specs.Gathered.{IsClosedReport};
-ghost use Rattle.rb_branch.specs.Seats.{Records, SetsUnsent, CannotRecord, IsReadyAt, IsSiteReply, is_full_inbox, receipt_at};
+ghost use Rattle.rb_branch.specs.Seats.{Records, SetsUnsent, CannotRecord, IsReadyAt, IsSiteReply, is_full_inbox};
+ghost use Rattle.rb_branch.specs.Seats.{receipt_at};
 ghost use Rattle.rb_branch.specs.declared.call_fault.CallFault.TheVariants.{HistoryFull};
 ghost use Rattle.rb_branch.specs.declared.limits.TheConstants.{MOST_RECEIPTS};
 ghost use Rattle.rb_branch.specs.declared.receipt.Receipt.{Receipt as ReceiptOf};
@@ -104,8 +106,11 @@ pub fn record_ready<E: Entries, R: Ledger, W: Wait>(
     seat: &mut Seat<E, R>,
     books: &Mutex<Books<E, R>>,
 ) -> Result<Option<u32>, CallFault>
-    ensures some { IfOk result (λ o. IfSome o (λ n. (x : NameOf) × (posted : List MessageOf) × IsReadyAt desk.old x × Records desk.old desk.new (Apply x) seat.old seat.new n posted)) }
-    ensures none { result ≡ Ok None → ((x : NameOf) → ¬ IsReadyAt desk.old x) × (desk.new ≡ desk.old) × (seat.new ≡ seat.old) }
+    ensures some { IfOk result
+        (λ o. IfSome o (λ n. (x : NameOf) × (posted : List MessageOf) × IsReadyAt desk.old x
+        × Records desk.old desk.new (Apply x) seat.old seat.new n posted)) }
+    ensures none { result ≡ Ok None
+        → ((x : NameOf) → ¬ IsReadyAt desk.old x) × (desk.new ≡ desk.old) × (seat.new ≡ seat.old) }
     ensures err { OnErr result ((desk.new ≡ desk.old) × (seat.new ≡ seat.old)) }
 {
     let Some(name) = desk.ready() else {
@@ -219,7 +224,8 @@ impl<E: Entries, R: Ledger> Seat<E, R> {
 
     /// Whether the last receipt's reply is that the inbox is full.
     pub(crate) fn found_full(&self) -> bool
-        ensures { (before : List ReceiptOf) (last : ReceiptOf) → self.now.receipts ≡ before ++ last ∷ [] → result ≡ is_full_inbox last.reply }
+        ensures { (before : List ReceiptOf) (last : ReceiptOf) → self.now.receipts ≡ before ++ last ∷ []
+            → result ≡ is_full_inbox last.reply }
     {
         match self.receipts.last() {
             Some(receipt) => is_full_inbox(&receipt.reply),

@@ -15,5 +15,11 @@ impl Entries for Brand {
     ghost use Rattle.std.specs.Prelude.{[]};
     ghost use Rattle.rb_money.specs.Settings.{Settings};
 
-    ghost settings = { record { sites = 0; names = []; starts = []; limits = record { blue = 0; red = 0; inbox = 0; history = 0; epoch = 0 }; version = 0 } };
+    ghost settings = { record {
+      sites = 0;
+      names = [];
+      starts = [];
+      limits = record { blue = 0; red = 0; inbox = 0; history = 0; epoch = 0 };
+      version = 0;
+    } };
 }

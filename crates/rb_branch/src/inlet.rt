@@ -53,7 +53,8 @@ impl Inlet {
     /// Takes the next message from the link, once there is one, and keeps it behind the others. `false` once
     /// the link is closed. After an `Err`, out of memory, nothing was taken.
     pub(crate) fn take<W: Wait>(&mut self, rt: &W) -> Result<bool, AllocError>
-        ensures ok { IfOk result (λ b. MatchBool b ((m : MessageOf) × (self.new ≡ self.old ++ m ∷ [])) (self.new ≡ self.old)) }
+        ensures ok { IfOk result
+            (λ b. MatchBool b ((m : MessageOf) × (self.new ≡ self.old ++ m ∷ [])) (self.new ≡ self.old)) }
         ensures err { OnErr result (self.new ≡ self.old) }
     {
         self.kept.reserve(1)?;

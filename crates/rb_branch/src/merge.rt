@@ -45,7 +45,8 @@ fn holder(site: u8, index: usize, seats: &[Given], next: &[usize], owners: &[u16
     requires owners { AreOwners site seats.now owners.now }
     ensures found { IfSome result (λ k. IsHolder site (index + 1) seats.now next.now k) }
     ensures within { IfSome result (λ k. k < length seats.now) }
-    ensures none { IsNone result → AreDistinct site seats.now → (k : ℕ) → ¬ IsHolder site (index + 1) seats.now next.now k }
+    ensures none { IsNone result → AreDistinct site seats.now → (k : ℕ)
+        → ¬ IsHolder site (index + 1) seats.now next.now k }
 {
     let k = owners[index] as usize;
     if k >= seats.len() {

@@ -29,7 +29,8 @@ pub(crate) fn owners_of(
 /// Puts the seat at k into the table at all numbers of its receipts, if it is of this site.
 fn put_seat(owners: &mut Vec<u16>, k: u16, site: u8, seat: &Given)
     ensures len { vec_len owners.new ≡ vec_len owners.old }
-    ensures owned { (seats : List SeenSeat) → slice_get seats k ≡ Some seat.now → OwnedWithin k site seats owners.old.items → OwnedWithin (k + 1) site seats owners.new.items }
+    ensures owned { (seats : List SeenSeat) → slice_get seats k ≡ Some seat.now
+        → OwnedWithin k site seats owners.old.items → OwnedWithin (k + 1) site seats owners.new.items }
 {
     if seat.site() != site {
         return;

@@ -24,125 +24,58 @@ impl<E: Entries, R: Ledger, G: Gate + Drop> Branch<E, R, G> {
         ensures ok { IfOk result (λ n. HasServed seat.old seat.new inlet.old inlet.new n) }
         ensures err { OnErr result ((n : ℕ) × HasServed seat.old seat.new inlet.old inlet.new n) }
     {
-        let resumed = self.resume(rt, seat, inlet)?;
-        let taken = self.take_all(rt, seat, inlet)?;
-        let _few = seat.receipts().len();
-        Ok(resumed + taken)
-    }
-
-    /// Takes in what comes until the link closes.
-    fn take_all<W: Wait>(
-        &self,
-        rt: &W,
-        seat: &mut Seat<E, R>,
-        inlet: &mut Inlet,
-    ) -> Result<u64, CallFault>
-        ensures ok { IfOk result (λ n. HasServed seat.old seat.new inlet.old inlet.new n) }
-        ensures err { OnErr result ((n : ℕ) × HasServed seat.old seat.new inlet.old inlet.new n) }
-    {
         let mut made: u64 = 0;
+        let mut first: usize = 0;
         for _ in rt.forever() {
-            let more = self.take_in(rt, seat, inlet)?;
+            let more = self.receive_and_apply(rt, seat, inlet, first)?;
             let _few = seat.receipts().len();
             made += more;
-            if more == 0 {
+            first = inlet.kept().len();
+            let taken = inlet.take(rt)?;
+            if !taken {
                 break;
             }
         }
         Ok(made)
     }
 
-    /// Receives what is kept, and applies what is ready.
-    fn resume<W: Wait>(
+    /// Receives what is kept from this index on. Then applies what is ready until nothing is, and receives all
+    /// that is kept after each application.
+    fn receive_and_apply<W: Wait>(
         &self,
         rt: &W,
         seat: &mut Seat<E, R>,
         inlet: &mut Inlet,
+        first: usize,
     ) -> Result<u64, CallFault>
         ensures ok { IfOk result (λ n. HasServed seat.old seat.new inlet.old inlet.new n) }
         ensures err { OnErr result ((n : ℕ) × HasServed seat.old seat.new inlet.old inlet.new n) }
     {
-        let received = self.receive_kept(rt, seat, inlet)?;
-        let applied = self.apply_all(rt, seat, inlet)?;
-        let _few = seat.receipts().len();
-        Ok(received + applied)
-    }
-
-    /// Takes the next message and receives it, and applies what is ready: how many receipts the seat has more,
-    /// which is 0 once the link is closed.
-    fn take_in<W: Wait>(
-        &self,
-        rt: &W,
-        seat: &mut Seat<E, R>,
-        inlet: &mut Inlet,
-    ) -> Result<u64, CallFault>
-        ensures ok { IfOk result (λ n. HasServed seat.old seat.new inlet.old inlet.new n) }
-        ensures err { OnErr result ((n : ℕ) × HasServed seat.old seat.new inlet.old inlet.new n) }
-    {
-        let taken = inlet.take(rt)?;
-        if !taken {
-            return Ok(0);
-        }
-        let last = inlet.kept().len() - 1;
-        let _gone = self.receive_at(rt, seat, inlet, last)?;
-        let applied = self.apply_all(rt, seat, inlet)?;
-        let _few = seat.receipts().len();
-        Ok(applied + 1)
-    }
-
-    /// Applies what is ready until nothing is.
-    fn apply_all<W: Wait>(
-        &self,
-        rt: &W,
-        seat: &mut Seat<E, R>,
-        inlet: &mut Inlet,
-    ) -> Result<u64, CallFault>
-        ensures ok { IfOk result (λ n. HasServed seat.old seat.new inlet.old inlet.new n) }
-        ensures err { OnErr result ((n : ℕ) × HasServed seat.old seat.new inlet.old inlet.new n) }
-    {
-        let mut made: u64 = 0;
+        let mut made: u64 = self.receive_from(rt, seat, inlet, first)?;
         for _ in rt.forever() {
-            let more = self.apply_one(rt, seat, inlet)?;
-            let _few = seat.receipts().len();
-            made += more;
-            if more == 0 {
+            let Some(_number) = self.apply_ready(rt, seat)? else {
                 break;
-            }
+            };
+            let more = self.receive_from(rt, seat, inlet, 0)?;
+            let _few = seat.receipts().len();
+            made += more + 1;
         }
         Ok(made)
     }
 
-    /// Applies what is ready, once, and then receives what is kept: how many receipts the seat has more, which
-    /// is 0 where nothing is ready.
-    fn apply_one<W: Wait>(
+    /// Receives each kept message once, from this index on: how many receipts the seat has more.
+    fn receive_from<W: Wait>(
         &self,
         rt: &W,
         seat: &mut Seat<E, R>,
         inlet: &mut Inlet,
-    ) -> Result<u64, CallFault>
-        ensures ok { IfOk result (λ n. HasServed seat.old seat.new inlet.old inlet.new n) }
-        ensures err { OnErr result ((n : ℕ) × HasServed seat.old seat.new inlet.old inlet.new n) }
-    {
-        let Some(_number) = self.apply_ready(rt, seat)? else {
-            return Ok(0);
-        };
-        let more = self.receive_kept(rt, seat, inlet)?;
-        let _few = seat.receipts().len();
-        Ok(more + 1)
-    }
-
-    /// Receives each kept message once more, from the first: how many receipts the seat has more.
-    fn receive_kept<W: Wait>(
-        &self,
-        rt: &W,
-        seat: &mut Seat<E, R>,
-        inlet: &mut Inlet,
+        first: usize,
     ) -> Result<u64, CallFault>
         ensures ok { IfOk result (λ n. HasServed seat.old seat.new inlet.old inlet.new n) }
         ensures err { OnErr result ((n : ℕ) × HasServed seat.old seat.new inlet.old inlet.new n) }
     {
         let mut made: u64 = 0;
-        let mut index: usize = 0;
+        let mut index = first;
         for _ in rt.forever() {
             if index >= inlet.kept().len() {
                 break;

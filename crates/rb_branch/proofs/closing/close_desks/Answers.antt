@@ -8,6 +8,8 @@ loop-k-preserved g c = record {
   len = search rules;
   room = search rules;
   parts = search rules;
-  amount = entries_in-push c.loop-k.reports.items c.push_reserved.new.self.items c.close-report.result.0 c.loop-k.all.amount c.merge.new.self.amount c.push_reserved.ensures.items c.loop-k.invariant.amount (search rules);
-  reports = reports-push g.E.Entries.settings c.loop-k.reports.items c.push_reserved.new.self.items c.close-report.result.0 c.push_reserved.ensures.items c.loop-k.invariant.reports (search rules);
+  amount = entries_in-push c.loop-k.reports.items c.push_reserved.new.self.items c.close-report.result.0 c.loop-k.all.amount
+      c.merge.new.self.amount c.push_reserved.ensures.items c.loop-k.invariant.amount (search rules);
+  reports = reports-push g.E.Entries.settings c.loop-k.reports.items c.push_reserved.new.self.items c.close-report.result.0
+      c.push_reserved.ensures.items c.loop-k.invariant.reports (search rules);
 }

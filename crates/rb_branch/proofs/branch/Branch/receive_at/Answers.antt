@@ -7,4 +7,5 @@ returns-then-found_full-clause-ok g c =
 
 pub returns-clause-ok : goal.returns-clause-ok
 returns-clause-ok g c =
-    served_received _ _ _ _ c.args.index _ c.message-message.result c.found_full.result c.message-message.ensures c.in_ok-_number.ensures.ok c.found_full.ensures c.if-found_full.false c.let_go.ensures
+    served_received _ _ _ _ c.args.index _ c.message-message.result c.found_full.result c.message-message.ensures
+    c.in_ok-_number.ensures.ok c.found_full.ensures c.if-found_full.false c.let_go.ensures

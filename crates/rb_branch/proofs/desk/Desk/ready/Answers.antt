@@ -3,4 +3,5 @@ use Rattle.rb_branch.proofs.Ready.{none_ready}
 use Rattle.rb_branch.proofs.desk.Desk.ready.Goals as goal
 
 pub returns-clause-none : goal.returns-clause-none
-returns-clause-none g c = none_ready c.ready.result c.args.self.now c.inbox.result.now.held c.clock.result.now (search rules) (search rules) c.ready.ensures.none
+returns-clause-none g c = none_ready c.ready.result c.args.self.now c.inbox.result.now.held c.clock.result.now (search rules)
+    (search rules) c.ready.ensures.none
