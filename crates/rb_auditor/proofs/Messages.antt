@@ -10,7 +10,7 @@ use Rattle.rb_site.specs.declared.message.Message.{Message}
 use Rattle.rb_site.specs.Events.{ModelSite, after_events, sent_at}
 use Rattle.rb_site.specs.Histories.{IsAmong, IsFrom, events_of, sends_of}
 use Rattle.rb_site.proofs.Public.Stuck
-use Rattle.rb_auditor.specs.Progress.{IsHeldUp, MayCome}
+use Rattle.rb_auditor.specs.Progress.{IsHeldUp}
 
 -- the number of a message that was sent
 pub numbered : (m : Message) (ms : List Message) → IsAmong m ms → (k : ℕ) × (slice_get ms k ≡ Some m)
@@ -18,20 +18,15 @@ numbered m [] h = elim h [ ]
 numbered m (n ∷ ms) (inl e) = (0, ap Some (sym e))
 numbered m (n ∷ ms) (inr h) = let (k, at) = numbered m ms h in (suc k, at)
 
--- what comes from the messages may come
-pub may_come : (ms : List Message) (e : Event) → IsFrom ms e → MayCome ms e
-may_come ms (Receive m) h = h
-may_come ms _ h = tt
-
 -- what is held up can't come
-pub held_up : (ms : List Message) (xs rest : List Entry) (x : Entry) → IsHeldUp ms xs → xs ≡ x ∷ rest → MayCome ms x.event → ⊥
+pub held_up : (ms : List Message) (xs rest : List Entry) (x : Entry) → IsHeldUp ms xs → xs ≡ x ∷ rest → IsFrom ms x.event → ⊥
 held_up ms [] rest x h e come = cc
 held_up ms (y ∷ ys) rest x (m, is, not) e come =
     let same : y ≡ x = cc in
     let event : x.event ≡ Receive m = ap (λ (z : Entry). z.event) (sym same) ∙ is in
-    not (the (subst (MayCome ms) event come))
+    not (the (subst (IsFrom ms) event come))
   where
-    the : MayCome ms (Receive m) → IsAmong m ms
+    the : IsFrom ms (Receive m) → IsAmong m ms
     the h = h
 
 -- what one entry more sends

@@ -41,14 +41,21 @@ abbrev AllAtTheirs : Settings → World → Type 0
 AllAtTheirs s w = (i : ℕ) (t : ModelSite) → slice_get w.sites i ≡ Some t → IsAtItsHistory s i t
 
 room_below : (s : Settings) (t : ModelSite) → is_full s t ≡ false → length (history_of s t) < s.limits.history
-room_below s t free = let same : length (history_of s t) ≡ length t.history = Seen.entries-length s (first_site t.me) t.history in grind (arith, nat_tests)
+room_below s t free = let same : length (history_of s t) ≡ length t.history = Seen.entries-length s (first_site t.me) t.history in
+    grind (arith, nat_tests)
 
 goes_on : (s : Settings) (i : ℕ) (t : ModelSite) (x : Entry) → is_full s t ≡ false → x.reply ≡ reply_to s t x.event → IsAtItsHistory s i t
     → IsAtItsHistory s i (after_event s t x.event)
 goes_on s i t x free reply a = record {
   run = SiteRuns.run_goes_on s t x.event a.run;
-  stands = ap (site_after s i) grown ∙ Replaying.after_more s (first_site i) (history_of s t) x ∙ ap (λ u. after_event s u x.event) a.stands;
-  replays = subst (IsReplay s i) (sym grown) (subst (λ e. IsReplay s i (history_of s t ++ e ∷ [])) noted (Seen.replayed-stepped (record { settings = s; me = i; entries = history_of s t }) x.event (room_below s t free) a.replays));
+  stands = ap (site_after s i) grown ∙ Replaying.after_more s (first_site i) (history_of s t) x
+      ∙ ap (λ u. after_event s u x.event) a.stands;
+  replays = subst (IsReplay s i) (sym grown) (subst (λ e. IsReplay s i (history_of s t ++ e
+      ∷ [])) noted (Seen.replayed-stepped (record {
+        settings = s;
+        me = i;
+        entries = history_of s t;
+      }) x.event (room_below s t free) a.replays));
 }
   where
     grown : history_of s (after_event s t x.event) ≡ history_of s t ++ x ∷ []
@@ -86,16 +93,24 @@ run_at s (e ∷ es) w own all =
 first_all : (s : Settings) → AllAtTheirs s (first_world s)
 first_all s i t at =
     let is : t ≡ first_site i = Stuck.first_sites 0 s.sites i t at ∙ ap first_site (let q : 0 + i ≡ i = omega arith in q) in
-    let less : i < s.sites = subst (λ n. i < n) (length-map (range_with_len 0 s.sites) first_site ∙ length-range_with_len 0 s.sites) (slice_get_within (first_world s).sites i t at) in
-    subst (IsAtItsHistory s i) (sym is) (record { run = refl; stands = refl; replays = record { within = less; replays = tt; room = omega arith } })
+    let less : i < s.sites = subst (λ n. i < n) (length-map (range_with_len 0 s.sites) first_site
+    ∙ length-range_with_len 0 s.sites) (slice_get_within (first_world s).sites i t at) in
+    subst (IsAtItsHistory s i) (sym is) (record {
+      run = refl;
+      stands = refl;
+      replays = record { within = less; replays = tt; room = omega arith };
+    })
 
 -- the histories of one world replay
-pub one_worlds_replay : (s : Settings) (hs : List (List Entry)) (i : ℕ) (h : List Entry) → AreOneWorlds s hs → slice_get hs i ≡ Some h → IsReplay s i h
-one_worlds_replay s hs i h one at = by (slice_get (world_of_run s one.events).sites i) refl (sym (slice_get-map (history_of s) (world_of_run s one.events).sites i) ∙ ap (λ ks. slice_get ks i) one.gives ∙ at)
+pub one_worlds_replay : (s : Settings) (hs : List (List Entry)) (i : ℕ) (h : List Entry) → AreOneWorlds s hs → slice_get hs i ≡ Some h →
+    IsReplay s i h
+one_worlds_replay s hs i h one at = by (slice_get (world_of_run s one.events).sites i) refl
+    (sym (slice_get-map (history_of s) (world_of_run s one.events).sites i) ∙ ap (λ ks. slice_get ks i) one.gives ∙ at)
   where
     by : (o : Option ModelSite) → slice_get (world_of_run s one.events).sites i ≡ o → option_map (history_of s) o ≡ Some h → IsReplay s i h
     by None e k = cc
-    by (Some t) e k = let is : history_of s t ≡ h = cc in subst (IsReplay s i) is (run_at s one.events (first_world s) one.own (first_all s) i t e).replays
+    by (Some t) e k = let is : history_of s t ≡ h = cc in subst (IsReplay s i) is
+        (run_at s one.events (first_world s) one.own (first_all s) i t e).replays
 
 -- an entry that its site doesn't record
 pub wrong_is_final : (s : Settings) (hs : List (List Entry)) (site event : ℕ) → IsFirstWrong s hs site event → ¬ AreOneWorlds s hs

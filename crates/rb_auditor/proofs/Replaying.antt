@@ -1,5 +1,6 @@
 -- Histories that replay, and their fronts.
-use Rattle.std.proofs.Common.{◌≡◌, ℕ, zero, suc, Bool, IsTrue, MatchBool, ◌↔◌, cond, ◌+◌, ◌*◌, ◌<◌, ◌≤◌, true, false, List, [], ◌∷◌, ◌++◌, length, take, drop, get_or, refl, ap, sym, subst, ◌∙◌, arith, Some, length-append}
+use Rattle.std.proofs.Common.{◌≡◌, ℕ, zero, suc, Bool, IsTrue, MatchBool, ◌↔◌, cond, ◌+◌, ◌*◌, ◌<◌, ◌≤◌, true, false, List, [], ◌∷◌, ◌++◌}
+use Rattle.std.proofs.Common.{length, take, drop, get_or, refl, ap, sym, subst, ◌∙◌, arith, Some, length-append}
 use Rattle.std.specs.Prelude.{map, slice_get, nat_le}
 use Rattle.std.proofs.lemmas.Bool.Decides.{nat_tests}
 use Rattle.std.proofs.lemmas.List.{length-map, length-take-le, take-append-drop, take_more, map-append}
@@ -27,7 +28,8 @@ replays-front : (s : Settings) (t : ModelSite) (xs ys : List Entry) → Replays 
 replays-front s t [] ys h = tt
 replays-front s t (x ∷ xs) ys h = (h.0, replays-front s (after_event s t x.event) xs ys h.1)
 
-replays-at : (s : Settings) (t : ModelSite) (xs ys : List Entry) (x : Entry) → Replays s t (xs ++ x ∷ ys) → x.reply ≡ reply_to s (after_events s t (events_of xs)) x.event
+replays-at : (s : Settings) (t : ModelSite) (xs ys : List Entry) (x : Entry) → Replays s t (xs ++ x ∷ ys) →
+    x.reply ≡ reply_to s (after_events s t (events_of xs)) x.event
 replays-at s t [] ys x h = h.0
 replays-at s t (y ∷ xs) ys x h = replays-at s (after_event s t y.event) xs ys x h.1
 
@@ -35,7 +37,8 @@ pub replay-front : (s : Settings) (i : ℕ) (xs ys : List Entry) → IsReplay s 
 replay-front s i xs ys h = record {
   within = h.within;
   replays = replays-front s (first_site i) xs ys h.replays;
-  room = let longer : length (xs ++ ys) ≡ length xs + length ys = length-append xs ys in let room : length (xs ++ ys) ≤ s.limits.history = h.room in omega arith;
+  room = let longer : length (xs ++ ys) ≡ length xs + length ys = length-append xs ys in let room : length (xs ++ ys) ≤ s.limits.history =
+      h.room in omega arith;
 }
 
 -- a front of a history that replays replays
@@ -55,7 +58,8 @@ run_after s i h r =
 
 -- its history has as many events
 length_after : (s : Settings) (i : ℕ) (h : List Entry) → IsReplay s i h → length (site_after s i h).history ≡ length h
-length_after s i h r = ap length (Seen.history-state (record { settings = s; me = i; entries = h }) r) ∙ length-map h (λ (x : Entry). x.event)
+length_after s i h r = ap length (Seen.history-state (record { settings = s; me = i; entries = h }) r)
+    ∙ length-map h (λ (x : Entry). x.event)
 
 -- an entry of a history that replays
 pub record IsReplayedAt (s : Settings) (i : ℕ) (h : List Entry) (k : ℕ) (x : Entry) : Type 0 where
@@ -64,13 +68,16 @@ pub record IsReplayedAt (s : Settings) (i : ℕ) (h : List Entry) (k : ℕ) (x :
   pub history : history_of s (site_after s i (take k h)) ≡ take k h
   pub more : site_after s i (take (k + 1) h) ≡ after_event s (site_after s i (take k h)) x.event
 
-pub after_more : (s : Settings) (t : ModelSite) (xs : List Entry) (x : Entry) → after_events s t (events_of (xs ++ x ∷ [])) ≡ after_event s (after_events s t (events_of xs)) x.event
-after_more s t xs x = ap (after_events s t) (map-append (λ (y : Entry). y.event) xs (x ∷ [])) ∙ Runs.after_events-append s (events_of xs) (x.event ∷ []) t
+pub after_more : (s : Settings) (t : ModelSite) (xs : List Entry) (x : Entry) →
+    after_events s t (events_of (xs ++ x ∷ [])) ≡ after_event s (after_events s t (events_of xs)) x.event
+after_more s t xs x = ap (after_events s t) (map-append (λ (y : Entry). y.event) xs (x ∷ []))
+    ∙ Runs.after_events-append s (events_of xs) (x.event ∷ []) t
 
 not_full : (s : Settings) (t : ModelSite) (k : ℕ) → length t.history ≡ k → k < s.limits.history → is_full s t ≡ false
 not_full s t k e lt = grind (arith, nat_tests)
 
-pub replayed_at : (s : Settings) (i : ℕ) (h : List Entry) (k : ℕ) (x : Entry) → IsReplay s i h → slice_get h k ≡ Some x → IsReplayedAt s i h k x
+pub replayed_at : (s : Settings) (i : ℕ) (h : List Entry) (k : ℕ) (x : Entry) → IsReplay s i h → slice_get h k ≡ Some x →
+    IsReplayedAt s i h k x
 replayed_at s i h k x r at =
     let sp : IsSplit h k x = split_at h k x at in
     let replays : IsReplay s i (take k h) = replay-take s i k h r in
@@ -84,28 +91,35 @@ replayed_at s i h k x r at =
     }
 
 -- the histories of sites after fronts are the fronts
-pub histories_after : (s : Settings) (a : ℕ) (hs : List (List Entry)) (ks : List ℕ) → ((i : ℕ) (h : List Entry) → slice_get hs i ≡ Some h → IsReplay s (a + i) h) → map (history_of s) (sites_after s a hs ks) ≡ fronts_of hs ks
+pub histories_after : (s : Settings) (a : ℕ) (hs : List (List Entry)) (ks : List ℕ) →
+    ((i : ℕ) (h : List Entry) → slice_get hs i ≡ Some h → IsReplay s (a + i) h) →
+    map (history_of s) (sites_after s a hs ks) ≡ fronts_of hs ks
 histories_after s a [] ks all = refl
 histories_after s a (h ∷ hs) [] all = refl
 histories_after s a (h ∷ hs) (k ∷ ks) all =
-    ap (λ f. f ∷ map (history_of s) (sites_after s (a + 1) hs ks)) (history_after s a (take k h) (replay-take s a k h (subst (λ j. IsReplay s j h) (let q : a + 0 ≡ a = omega arith in q) (all 0 h refl))))
-    ∙ ap (λ fs. take k h ∷ fs) (histories_after s (a + 1) hs ks (λ i g at. subst (λ j. IsReplay s j g) (let q : a + suc i ≡ a + 1 + i = omega arith in q) (all (suc i) g at)))
+    ap (λ f. f ∷ map (history_of s) (sites_after s (a + 1) hs ks)) (history_after s a (take k h)
+    (replay-take s a k h (subst (λ j. IsReplay s j h) (let q : a + 0 ≡ a = omega arith in q) (all 0 h refl))))
+    ∙ ap (λ fs. take k h ∷ fs) (histories_after s (a + 1) hs ks (λ i g at. subst (λ j. IsReplay s j g) (let q : a + suc i ≡ a + 1
+    + i = omega arith in q) (all (suc i) g at)))
 
 -- ---- one entry more
 
 -- what each entry sends, and one more
-pub sends_by_more : (s : Settings) (t : ModelSite) (xs : List Entry) (x : Entry) → sends_by s t (xs ++ x ∷ []) ≡ sends_by s t xs ++ sent_at s (after_events s t (events_of xs)) x.event ∷ []
+pub sends_by_more : (s : Settings) (t : ModelSite) (xs : List Entry) (x : Entry) →
+    sends_by s t (xs ++ x ∷ []) ≡ sends_by s t xs ++ sent_at s (after_events s t (events_of xs)) x.event ∷ []
 sends_by_more s t [] x = refl
 sends_by_more s t (y ∷ xs) x = ap (λ ms. sent_at s t y.event ∷ ms) (sends_by_more s (after_event s t y.event) xs x)
 
 -- what an entry sends
-pub sends_at : (s : Settings) (t : ModelSite) (xs : List Entry) (k : ℕ) (x : Entry) → slice_get xs k ≡ Some x → slice_get (sends_by s t xs) k ≡ Some (sent_at s (after_events s t (events_of (take k xs))) x.event)
+pub sends_at : (s : Settings) (t : ModelSite) (xs : List Entry) (k : ℕ) (x : Entry) → slice_get xs k ≡ Some x →
+    slice_get (sends_by s t xs) k ≡ Some (sent_at s (after_events s t (events_of (take k xs))) x.event)
 sends_at s t [] k x h = cc
 sends_at s t (y ∷ xs) zero x h = let e : y ≡ x = cc in ap (λ (z : Entry). Some (sent_at s t z.event)) e
 sends_at s t (y ∷ xs) (suc k) x h = sends_at s (after_event s t y.event) xs k x h
 
 -- where the history is full, one more is wrong
-pub full_is_wrong : (x : SeenSite) (y : Entry) → IsReplayed x → is_full x.settings (state_of x) ≡ true → ¬ IsReplayed (seen_at x.settings x.me (x.entries ++ y ∷ []))
+pub full_is_wrong : (x : SeenSite) (y : Entry) → IsReplayed x → is_full x.settings (state_of x) ≡ true →
+    ¬ IsReplayed (seen_at x.settings x.me (x.entries ++ y ∷ []))
 full_is_wrong x y old full new =
     let longer : length (x.entries ++ y ∷ []) ≡ length x.entries + 1 = length-append x.entries (y ∷ []) in
     let within : length (x.entries ++ y ∷ []) ≤ x.settings.limits.history = new.room in
@@ -114,11 +128,14 @@ full_is_wrong x y old full new =
     omega arith
 
 -- another reply than the site's is wrong
-pub other_is_wrong : (x : SeenSite) (y : Entry) → ¬ (reply_to x.settings (state_of x) y.event ≡ y.reply) → ¬ IsReplayed (seen_at x.settings x.me (x.entries ++ y ∷ []))
+pub other_is_wrong : (x : SeenSite) (y : Entry) → ¬ (reply_to x.settings (state_of x) y.event ≡ y.reply) →
+    ¬ IsReplayed (seen_at x.settings x.me (x.entries ++ y ∷ []))
 other_is_wrong x y other r = other (sym (replays-at x.settings (first_site x.me) x.entries [] y r.replays))
 
 -- the site's own is noted
-pub noted : (x new : SeenSite) (e : Event) (y : Entry) (r : Reply) (before after : List Message) → IsReplayed x → is_full x.settings (state_of x) ≡ false → new ≡ next_site x e → r ≡ reply_to x.settings (state_of x) e → r ≡ y.reply → e ≡ y.event → after ≡ before ++ sent_at x.settings (state_of x) e → RecordsEntry x new y before after
+pub noted : (x new : SeenSite) (e : Event) (y : Entry) (r : Reply) (before after : List Message) → IsReplayed x →
+    is_full x.settings (state_of x) ≡ false → new ≡ next_site x e → r ≡ reply_to x.settings (state_of x) e → r ≡ y.reply → e ≡ y.event →
+    after ≡ before ++ sent_at x.settings (state_of x) e → RecordsEntry x new y before after
 noted x new e y r before after old free is reply same event sends = record {
   free = free;
   is = step ∙ ap (λ z. record x { entries = x.entries ++ z ∷ [] }) (ap (entry e) (sym reply ∙ same) ∙ ap (λ f. entry f y.reply) event);
@@ -130,21 +147,28 @@ noted x new e y r before after old free is reply same event sends = record {
     step = is ∙ ap (λ b. cond b x (stepped x e)) free
 
 -- one of the two
-pub noted_or_not : (b : Bool) (x new : SeenSite) (e : Event) (y : Entry) (r : Reply) (before after : List Message) → IsReplayed x → is_full x.settings (state_of x) ≡ false → new ≡ next_site x e → r ≡ reply_to x.settings (state_of x) e → (IsTrue b ↔ (r ≡ y.reply)) → e ≡ y.event → after ≡ before ++ sent_at x.settings (state_of x) e
+pub noted_or_not : (b : Bool) (x new : SeenSite) (e : Event) (y : Entry) (r : Reply) (before after : List Message) → IsReplayed x →
+    is_full x.settings (state_of x) ≡ false → new ≡ next_site x e → r ≡ reply_to x.settings (state_of x) e → (IsTrue b ↔ (r ≡ y.reply)) →
+    e ≡ y.event → after ≡ before ++ sent_at x.settings (state_of x) e
     → MatchBool b (RecordsEntry x new y before after) (¬ IsReplayed (seen_at x.settings x.me (x.entries ++ y ∷ [])))
-noted_or_not true x new e y r before after old free is reply test event sends = noted x new e y r before after old free is reply (test.0 refl) event sends
-noted_or_not false x new e y r before after old free is reply test event sends = other_is_wrong x y (λ same. let wrong : IsTrue false = test.1 (reply ∙ ap (reply_to x.settings (state_of x)) event ∙ same) in cc)
+noted_or_not true x new e y r before after old free is reply test event sends =
+    noted x new e y r before after old free is reply (test.0 refl) event sends
+noted_or_not false x new e y r before after old free is reply test event sends =
+    other_is_wrong x y (λ same. let wrong : IsTrue false = test.1 (reply ∙ ap (reply_to x.settings (state_of x)) event ∙ same) in cc)
 
 -- where a replay stands after so many entries of a history, and what they sent
-pub record IsReplaying (s : Settings) (me : ℕ) (h : List Entry) (k : ℕ) (site : SeenSite) (messages : List Message) (ends : List ℕ) : Type 0 where
-  pub site_is : site ≡ seen_at s me (take k h)
-  pub replays : IsReplay s me (take k h)
-  pub ends_are : AreEnds ends (length messages)
-  pub sends : between messages ends ≡ sends_by s (first_site me) (take k h)
-  pub few : length messages ≤ MOST_REQUESTS * k
+pub record IsReplaying (s : Settings) (me : ℕ) (h : List Entry) (k : ℕ) (site : SeenSite) (messages : List Message) (ends : List ℕ) : Type 0
+  where
+    pub site_is : site ≡ seen_at s me (take k h)
+    pub replays : IsReplay s me (take k h)
+    pub ends_are : AreEnds ends (length messages)
+    pub sends : between messages ends ≡ sends_by s (first_site me) (take k h)
+    pub few : length messages ≤ MOST_REQUESTS * k
 
 -- an entry more
-pub replaying_more : (s : Settings) (me : ℕ) (h : List Entry) (k : ℕ) (x : Entry) (site new : SeenSite) (before after : List Message) (ends : List ℕ) → k < length h → x ≡ get_or h k x → IsReplaying s me h k site before ends → RecordsEntry site new x before after → IsReplaying s me h (k + 1) new after (ends ++ length after ∷ [])
+pub replaying_more : (s : Settings) (me : ℕ) (h : List Entry) (k : ℕ) (x : Entry) (site new : SeenSite) (before after : List Message)
+    (ends : List ℕ) → k < length h → x ≡ get_or h k x → IsReplaying s me h k site before ends → RecordsEntry site new x before after →
+    IsReplaying s me h (k + 1) new after (ends ++ length after ∷ [])
 replaying_more s me h k x site new before after ends less at r n = record {
   site_is = now;
   replays = subst IsReplayed now n.replays;
@@ -175,7 +199,9 @@ replaying_more s me h k x site new before after ends less at r n = record {
     now = n.is ∙ ap (λ (z : SeenSite). record z { entries = z.entries ++ x ∷ [] }) r.site_is ∙ ap (seen_at s me) longer
 
 -- the numbers of entries and messages so far
-pub counts_fit : (s : Settings) (me : ℕ) (h : List Entry) (k : ℕ) (site : SeenSite) (messages : List Message) (ends : List ℕ) → IsConfigured s → k ≤ length h → IsReplaying s me h k site messages ends → (k ≤ MOST_HISTORY) × (length messages ≤ MOST_REQUESTS * MOST_HISTORY)
+pub counts_fit : (s : Settings) (me : ℕ) (h : List Entry) (k : ℕ) (site : SeenSite) (messages : List Message) (ends : List ℕ) →
+    IsConfigured s → k ≤ length h → IsReplaying s me h k site messages ends →
+    (k ≤ MOST_HISTORY) × (length messages ≤ MOST_REQUESTS * MOST_HISTORY)
 counts_fit s me h k site messages ends c less r =
     let taken : length (take k h) ≡ k = length-take-le k h less in
     let room : length (take k h) ≤ s.limits.history = r.replays.room in

@@ -5,8 +5,8 @@ use Rattle.rb_site.specs.declared.entry.Entry.{Entry}
 use Rattle.rb_site.specs.declared.event.Event.{Event}
 use Rattle.rb_site.specs.declared.event.Event.TheVariants.{Submit, Batch, Receive, Apply, Pass, Balance, AsOf, Statement as AskStatement}
 use Rattle.rb_site.specs.declared.message.Message.{Message}
-use Rattle.rb_site.specs.Histories.{IsAmong}
-use Rattle.rb_auditor.specs.Progress.{IsHeldUp, MayCome, Progress, Rests}
+use Rattle.rb_site.specs.Histories.{IsAmong, IsFrom}
+use Rattle.rb_auditor.specs.Progress.{IsHeldUp, Progress, Rests}
 use Rattle.rb_auditor.proofs.Lists
 
 held_past : (ms : List Message) (k : ℕ) (h : List Entry) → length h ≤ k → IsHeldUp ms (drop k h)
@@ -16,7 +16,7 @@ held_past ms (suc k) [] p = tt
 held_past ms (suc k) (x ∷ h) p = held_past ms k h (omega arith)
 
 -- what can't come is the receipt of a message that wasn't sent
-unsent : (ms : List Message) (e : Event) → ¬ MayCome ms e → (m : Message) × (e ≡ Receive m) × ¬ IsAmong m ms
+unsent : (ms : List Message) (e : Event) → ¬ IsFrom ms e → (m : Message) × (e ≡ Receive m) × ¬ IsAmong m ms
 unsent ms (Receive m) h = (m, refl, h)
 unsent ms (Submit r) h = absurd (h tt)
 unsent ms (Batch rs) h = absurd (h tt)
@@ -34,7 +34,7 @@ rests_past p i k h at taken past =
 
 -- a site rests whose next entry can't come yet
 pub rests_here : (p : Progress) (i k : ℕ) (h : List Entry) (x : Entry)
-    → slice_get p.histories i ≡ Some h → slice_get p.taken i ≡ Some k → slice_get h k ≡ Some x → ¬ MayCome p.messages x.event
+    → slice_get p.histories i ≡ Some h → slice_get p.taken i ≡ Some k → slice_get h k ≡ Some x → ¬ IsFrom p.messages x.event
     → Rests p i
 rests_here p i k h x at taken next not =
     record { taken = k; history = h; there = at; at = taken; held = held }

@@ -1,5 +1,6 @@
 -- Entries taken one after another, as a world could have recorded them.
-use Rattle.std.proofs.Common.{◌≡◌, ℕ, ◌+◌, ◌<◌, ◌≤◌, List, [], ◌∷◌, ◌++◌, length, take, drop, refl, ap, sym, subst, ◌∙◌, inl, inr, arith, Some, Bool, true, false, MatchBool}
+use Rattle.std.proofs.Common.{◌≡◌, ℕ, ◌+◌, ◌<◌, ◌≤◌, List, [], ◌∷◌, ◌++◌, length, take, drop, refl, ap, sym, subst, ◌∙◌, inl, inr, arith}
+use Rattle.std.proofs.Common.{Some, Bool, true, false, MatchBool}
 use Rattle.std.specs.Prelude.{map, slice_get, slice_set}
 use Rattle.std.specs.List.{range_with_len}
 use Rattle.std.proofs.lemmas.List.{length-replicate, length-set, length-take-le, take-append-drop, take_all}
@@ -8,14 +9,15 @@ use Rattle.rb_money.specs.Settings.{Settings}
 use Rattle.rb_site.specs.declared.entry.Entry.{Entry}
 use Rattle.rb_site.specs.declared.message.Message.{Message}
 use Rattle.rb_site.specs.Events.{ModelSite, after_event, first_site, sent_at}
-use Rattle.rb_site.specs.Histories.{IsAmong, IsBlocked, IsCut, IsUnsent, events_of, histories_of, sends_of}
+use Rattle.rb_site.specs.Histories.{IsAmong, IsBlocked, IsCut, IsUnsent, events_of, histories_of, sends_of, IsFrom}
 use Rattle.rb_site.specs.Worlds.{World, first_world, world_at}
 use Rattle.rb_site.proofs.Public.Places
 use Rattle.rb_site.proofs.Public.Places.{same_number}
 use Rattle.rb_site.proofs.Public.Stuck
 use Rattle.rb_auditor.specs.Certificates.{Certifies}
 use Rattle.rb_auditor.specs.Findings.{IsReplay, IsStuckAt}
-use Rattle.rb_auditor.specs.Progress.{AllRest, IsDone, IsFurther, IsLeft, left_of, IsHeldUp, MayCome, IsNextEntry, IsReached, IsTaking, Rests, Progress, Took, first_progress, fronts_of, site_after, sites_after, taken_next, world_of}
+use Rattle.rb_auditor.specs.Progress.{AllRest, IsDone, IsFurther, IsLeft, left_of, IsHeldUp, IsNextEntry, IsReached, IsTaking}
+use Rattle.rb_auditor.specs.Progress.{Rests, Progress, Took, first_progress, fronts_of, site_after, sites_after, taken_next, world_of}
 use Rattle.rb_auditor.proofs.Lists
 use Rattle.rb_auditor.proofs.Lists.{IsFront, IsSplit}
 use Rattle.rb_auditor.proofs.Messages
@@ -32,13 +34,15 @@ first_is s hs n = ap (λ ts. as_world ts) (Lists.first_sites s 0 hs ∙ ap (λ k
     as_world : List ModelSite → World
     as_world ts = record { sites = ts; messages = [] }
 
-pub first_taken : (s : Settings) (hs : List (List Entry)) → length hs ≡ s.sites → ((i : ℕ) (h : List Entry) → slice_get hs i ≡ Some h → IsReplay s i h) → IsTaking (first_progress s hs)
+pub first_taken : (s : Settings) (hs : List (List Entry)) → length hs ≡ s.sites →
+    ((i : ℕ) (h : List Entry) → slice_get hs i ≡ Some h → IsReplay s i h) → IsTaking (first_progress s hs)
 first_taken s hs n replays = record {
   sites = n;
   counts = length-replicate (length hs) 0;
   replays = replays;
   within = λ i k h there place. (let z : k ≡ 0 = Lists.get_zero (length hs) i k place in omega arith);
-  sent = λ i k h there place m among. elim (subst (λ j. IsAmong m (sends_of s (first_site i) (events_of (take j h)))) (Lists.get_zero (length hs) i k place) among) [ ];
+  sent = λ i k h there place m among. elim (subst (λ j. IsAmong m (sends_of s (first_site i) (events_of (take j h))))
+      (Lists.get_zero (length hs) i k place) among) [ ];
   reached = record {
     events = [];
     own = tt;
@@ -54,11 +58,13 @@ site_now : (s : Settings) (i k : ℕ) (h : List Entry) → site_after s (0 + i) 
 site_now s i k h = ap (λ j. site_after s j (take k h)) (let q : 0 + i ≡ i = omega arith in q)
 
 -- where the site stands that takes its next entry
-pub site_next : (p : Progress) (i k : ℕ) (h : List Entry) (x : Entry) → IsNextEntry p i k h x → slice_get (world_of p).sites i ≡ Some (site_after p.settings i (take k h))
+pub site_next : (p : Progress) (i k : ℕ) (h : List Entry) (x : Entry) → IsNextEntry p i k h x →
+    slice_get (world_of p).sites i ≡ Some (site_after p.settings i (take k h))
 site_next p i k h x n = Lists.get_site p.settings 0 p.histories p.taken i k h n.there n.at ∙ ap Some (site_now p.settings i k h)
 
 -- the world goes on by the entry
-pub world_next : (p : Progress) (i k : ℕ) (h : List Entry) (x : Entry) → IsTaking p → IsNextEntry p i k h x → world_of (taken_next p i k h x) ≡ world_at p.settings (world_of p) i (Some x.event) (Some (site_after p.settings i (take k h)))
+pub world_next : (p : Progress) (i k : ℕ) (h : List Entry) (x : Entry) → IsTaking p → IsNextEntry p i k h x →
+    world_of (taken_next p i k h x) ≡ world_at p.settings (world_of p) i (Some x.event) (Some (site_after p.settings i (take k h)))
 world_next p i k h x g n = ap (λ ts. as_world ts) same
   where
     s : Settings
@@ -67,19 +73,23 @@ world_next p i k h x g n = ap (λ ts. as_world ts) same
     as_world : List ModelSite → World
     as_world ts = record { sites = ts; messages = p.messages ++ sent_at p.settings (site_after p.settings i (take k h)) x.event }
 
-    same : sites_after s 0 p.histories (slice_set p.taken i (k + 1)) ≡ slice_set (sites_after s 0 p.histories p.taken) i (after_event s (site_after s i (take k h)) x.event)
+    same : sites_after s 0 p.histories (slice_set p.taken i (k + 1)) ≡
+        slice_set (sites_after s 0 p.histories p.taken) i (after_event s (site_after s i (take k h)) x.event)
     same =
         Lists.set_site s 0 p.histories p.taken i (k + 1) h n.there
-        ∙ ap (slice_set (sites_after s 0 p.histories p.taken) i) (site_now s i (k + 1) h ∙ (Replaying.replayed_at s i h k x (g.replays i h n.there) n.next).more)
+        ∙ ap (slice_set (sites_after s 0 p.histories p.taken) i) (site_now s i (k + 1) h
+        ∙ (Replaying.replayed_at s i h k x (g.replays i h n.there) n.next).more)
 
-taken_after : (p : Progress) (i k : ℕ) (h : List Entry) (x : Entry) → IsTaking p → IsNextEntry p i k h x → MayCome p.messages x.event → IsTaking (taken_next p i k h x)
+taken_after : (p : Progress) (i k : ℕ) (h : List Entry) (x : Entry) → IsTaking p → IsNextEntry p i k h x → IsFrom p.messages x.event →
+    IsTaking (taken_next p i k h x)
 taken_after p i k h x g n come = record {
   sites = g.sites;
   counts = length-set p.taken i (k + 1) ∙ g.counts;
   replays = g.replays;
   within = within;
   sent = sent;
-  reached = subst (IsReached s (p.order ++ i ∷ [])) (sym (world_next p i k h x g n)) (Runs.reached_more s p.order (world_of p) i (site_after s i (take k h)) x.event g.reached brought);
+  reached = subst (IsReached s (p.order ++ i ∷ [])) (sym (world_next p i k h x g n))
+      (Runs.reached_more s p.order (world_of p) i (site_after s i (take k h)) x.event g.reached brought);
 }
   where
     s : Settings
@@ -100,7 +110,8 @@ taken_after p i k h x g n come = record {
     same_history : (f : List Entry) → slice_get p.histories i ≡ Some f → f ≡ h
     same_history f e = Lists.same_item (slice_get p.histories i) f h e n.there
 
-    within : (j l : ℕ) (f : List Entry) → slice_get p.histories j ≡ Some f → slice_get (slice_set p.taken i (k + 1)) j ≡ Some l → l ≤ length f
+    within : (j l : ℕ) (f : List Entry) → slice_get p.histories j ≡ Some f → slice_get (slice_set p.taken i (k + 1)) j ≡ Some l →
+        l ≤ length f
     within j l f there place = elim (same_number i j) [
       | inl e ↦
           let q : l ≡ k + 1 = here l (ap (slice_get (slice_set p.taken i (k + 1))) (sym e) ∙ place) in
@@ -113,7 +124,8 @@ taken_after p i k h x g n come = record {
     sends : List Message
     sends = sent_at s (site_after s i (take k h)) x.event
 
-    sent : (j l : ℕ) (f : List Entry) → slice_get p.histories j ≡ Some f → slice_get (slice_set p.taken i (k + 1)) j ≡ Some l → (m : Message) → IsAmong m (sends_of s (first_site j) (events_of (take l f))) → IsAmong m (p.messages ++ sends)
+    sent : (j l : ℕ) (f : List Entry) → slice_get p.histories j ≡ Some f → slice_get (slice_set p.taken i (k + 1)) j ≡ Some l →
+        (m : Message) → IsAmong m (sends_of s (first_site j) (events_of (take l f))) → IsAmong m (p.messages ++ sends)
     sent j l f there place m among = elim (same_number i j) [
       | inl e ↦
           let q : l ≡ k + 1 = here l (ap (slice_get (slice_set p.taken i (k + 1))) (sym e) ∙ place) in
@@ -123,12 +135,14 @@ taken_after p i k h x g n come = record {
           (subst (λ z. IsAmong m (sends_of s (first_site i) (events_of (take z f)))) q
           (subst (λ z. IsAmong m (sends_of s (first_site z) (events_of (take l f)))) e among)) in
           let b : IsAmong m (sends_of s (first_site i) (events_of (take k h)) ++ sends) =
-          subst (IsAmong m) (ap (λ z. sends_of s (first_site i) (events_of z)) sp.more ∙ Messages.sends_more s (first_site i) (take k h) x) a in
+          subst (IsAmong m) (ap (λ z. sends_of s (first_site i) (events_of z)) sp.more
+          ∙ Messages.sends_more s (first_site i) (take k h) x) a in
           elim (Stuck.among-cases m (sends_of s (first_site i) (events_of (take k h))) sends b) [
             | inl c ↦ Stuck.among-left m p.messages sends (g.sent i k h n.there n.at m c)
             | inr c ↦ Stuck.among-right m p.messages sends c
           ]
-      | inr ne ↦ Stuck.among-left m p.messages sends (g.sent j l f there (sym (Places.get_set_other p.taken i j (k + 1) ne) ∙ place) m among)
+      | inr ne ↦ Stuck.among-left m p.messages sends (g.sent j l f there (sym (Places.get_set_other p.taken i j (k + 1) ne)
+          ∙ place) m among)
     ]
 
 -- after one entry more they still are
@@ -144,16 +158,19 @@ certified p g = record {
   own = g.reached.own;
   sites = g.reached.sites;
   recorded = g.reached.recorded;
-  gives = ap (histories_of p.settings) g.reached.gives ∙ Replaying.histories_after p.settings 0 p.histories p.taken (λ i h at. subst (λ j. IsReplay p.settings j h) (let q : i ≡ 0 + i = omega arith in q) (g.replays i h at));
+  gives = ap (histories_of p.settings) g.reached.gives ∙ Replaying.histories_after p.settings 0 p.histories p.taken
+      (λ i h at. subst (λ j. IsReplay p.settings j h) (let q : i ≡ 0 + i = omega arith in q) (g.replays i h at));
 }
 
 pub whole : (p : Progress) → IsTaking p → IsDone p → fronts_of p.histories p.taken ≡ p.histories
-whole p g done = Lists.whole_fronts p.histories p.taken g.counts (λ i k h there place. take_all k h (let e : k ≡ length h = done i k h there place in omega arith))
+whole p g done = Lists.whole_fronts p.histories p.taken g.counts (λ i k h there place. take_all k h (let e : k
+    ≡ length h = done i k h there place in omega arith))
 
 pub all_certified : (p : Progress) → IsTaking p → IsDone p → Certifies p.settings p.histories p.order
 all_certified p g done = subst (λ hs. Certifies p.settings hs p.order) (whole p g done) (certified p g)
 
-pub stuck : (p : Progress) → IsTaking p → ((i : ℕ) (h : List Entry) → slice_get p.histories i ≡ Some h → Rests p i) → IsLeft p → IsStuckAt p.settings p.histories (map (λ (k : ℕ). k + 1) p.taken)
+pub stuck : (p : Progress) → IsTaking p → ((i : ℕ) (h : List Entry) → slice_get p.histories i ≡ Some h → Rests p i) → IsLeft p →
+    IsStuckAt p.settings p.histories (map (λ (k : ℕ). k + 1) p.taken)
 stuck p g rests left = record {
   fronts = fronts_of p.histories p.taken;
   numbers = Lists.next_numbers p.histories p.taken g.counts g.within;
@@ -165,7 +182,9 @@ stuck p g rests left = record {
     site = left.site;
     history = left.history;
     at = left.there;
-    left = λ e. not_whole left.taken left.history left.less (Lists.same_item (slice_get (fronts_of p.histories p.taken) left.site) (take left.taken left.history) left.history (Lists.get_front p.histories p.taken left.site left.taken left.history left.there left.at) e);
+    left = λ e. not_whole left.taken left.history left.less (Lists.same_item (slice_get (fronts_of p.histories p.taken) left.site)
+        (take left.taken left.history) left.history (Lists.get_front p.histories p.taken left.site left.taken left.history left.there
+        left.at) e);
   };
 }
   where
@@ -173,7 +192,8 @@ stuck p g rests left = record {
     s = p.settings
 
     not_whole : (k : ℕ) (h : List Entry) → k < length h → take k h ≡ h → ⊥
-    not_whole k h less e = let shorter : length (take k h) ≡ k = length-take-le k h (omega arith) in let q : length (take k h) ≡ length h = ap length e in absurd (omega arith)
+    not_whole k h less e = let shorter : length (take k h) ≡ k = length-take-le k h (omega arith) in let q : length (take k h) ≡ length h =
+        ap length e in absurd (omega arith)
 
     unsent : (m : Message) → ¬ IsAmong m p.messages → IsUnsent s (fronts_of p.histories p.taken) m
     unsent m not j f at among =
@@ -202,24 +222,32 @@ pub took_further : (p q : Progress) (i : ℕ) → Took p q i → IsFurther p q
 took_further p q i t = record {
   settings = ap (λ (r : Progress). r.settings) t.is;
   histories = ap (λ (r : Progress). r.histories) t.is;
-  less = subst (λ (r : Progress). left_of r.histories r.taken < left_of p.histories p.taken) (sym t.is) (Lists.left_less p.histories p.taken i t.taken t.history t.next.there t.next.at (Lists.split_at t.history t.taken t.entry t.next.next).within);
+  less = subst (λ (r : Progress). left_of r.histories r.taken < left_of p.histories p.taken) (sym t.is)
+      (Lists.left_less p.histories p.taken i t.taken t.history t.next.there t.next.at
+      (Lists.split_at t.history t.taken t.entry t.next.next).within);
 }
 
 pub further_more : (b : Bool) (p q r : Progress) → MatchBool b (IsFurther p q) (q ≡ p) → IsFurther q r → IsFurther p r
 further_more true p q r f g = record {
   settings = g.settings ∙ f.settings;
   histories = g.histories ∙ f.histories;
-  less = let a : left_of q.histories q.taken < left_of p.histories p.taken = f.less in let b : left_of r.histories r.taken < left_of q.histories q.taken = g.less in omega arith;
+  less = let a : left_of q.histories q.taken < left_of p.histories p.taken = f.less in
+      let b : left_of r.histories r.taken < left_of q.histories q.taken = g.less in omega arith;
 }
 further_more false p q r e g = subst (λ o. IsFurther o r) e g
 
 -- ---- what is said of the histories
 
-pub certified_as : (p : Progress) (s : Settings) (hs : List (List Entry)) (order : List ℕ) → p.settings ≡ s → p.histories ≡ hs → order ≡ p.order → Certifies p.settings p.histories p.order → Certifies s hs order
-certified_as p s hs order e f g c = subst (Certifies s hs) (sym g) (subst (λ gs. Certifies s gs p.order) f (subst (λ r. Certifies r p.histories p.order) e c))
+pub certified_as : (p : Progress) (s : Settings) (hs : List (List Entry)) (order : List ℕ) → p.settings ≡ s → p.histories ≡ hs →
+    order ≡ p.order → Certifies p.settings p.histories p.order → Certifies s hs order
+certified_as p s hs order e f g c = subst (Certifies s hs) (sym g) (subst (λ gs. Certifies s gs p.order) f
+    (subst (λ r. Certifies r p.histories p.order) e c))
 
-pub stuck_as : (p : Progress) (s : Settings) (hs : List (List Entry)) (next : List ℕ) → p.settings ≡ s → p.histories ≡ hs → next ≡ map (λ (k : ℕ). k + 1) p.taken → IsTaking p → AllRest p → IsLeft p → IsStuckAt s hs next
-stuck_as p s hs next e f g v rests left = subst (IsStuckAt s hs) (sym g) (subst (λ gs. IsStuckAt s gs numbers) f (subst (λ r. IsStuckAt r p.histories numbers) e (stuck p v (λ i h at. rests i (slice_get_within p.histories i h at)) left)))
+pub stuck_as : (p : Progress) (s : Settings) (hs : List (List Entry)) (next : List ℕ) → p.settings ≡ s → p.histories ≡ hs →
+    next ≡ map (λ (k : ℕ). k + 1) p.taken → IsTaking p → AllRest p → IsLeft p → IsStuckAt s hs next
+stuck_as p s hs next e f g v rests left = subst (IsStuckAt s hs) (sym g)
+    (subst (λ gs. IsStuckAt s gs numbers) f (subst (λ r. IsStuckAt r p.histories numbers) e
+    (stuck p v (λ i h at. rests i (slice_get_within p.histories i h at)) left)))
   where
     numbers : List ℕ
     numbers = map (λ (k : ℕ). k + 1) p.taken

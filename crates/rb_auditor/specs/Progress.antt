@@ -7,7 +7,7 @@ use Rattle.rb_site.specs.declared.event.Event.TheVariants.{Receive}
 use Rattle.rb_site.specs.declared.message.Message.{Message}
 use Rattle.rb_site.specs.declared.world_event.WorldEvent.{WorldEvent}
 use Rattle.rb_site.specs.Events.{ModelSite, after_events, first_site, sent_at}
-use Rattle.rb_site.specs.Histories.{IsAmong, events_of, site_of, sends_of}
+use Rattle.rb_site.specs.Histories.{IsAmong, IsFrom, events_of, site_of, sends_of}
 use Rattle.rb_site.specs.Worlds.{AreOwn, World, first_world, world_of_run}
 use Rattle.rb_auditor.specs.Certificates.{AllRecorded}
 use Rattle.rb_auditor.specs.declared.audit_fault.AuditFault.{AuditFault}
@@ -61,18 +61,13 @@ taken_next p i k h x = record p {
   messages = p.messages ++ sent_at p.settings (site_after p.settings i (take k h)) x.event;
 }
 
--- the event may come where these messages were sent
-abbrev pub MayCome : List Message → Event → Type 0
-MayCome ms (Receive m) = IsAmong m ms
-MayCome ms _ = Unit {0}
-
 -- the next entry of the history i was taken
 pub record Took (p q : Progress) (i : ℕ) : Type 0 where
   pub taken : ℕ
   pub history : List Entry
   pub entry : Entry
   pub next : IsNextEntry p i taken history entry
-  pub source : MayCome p.messages entry.event
+  pub source : IsFrom p.messages entry.event
   pub is : q ≡ taken_next p i taken history entry
 
 -- nothing is left, or the next entry can't come yet

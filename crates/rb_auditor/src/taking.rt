@@ -1,7 +1,8 @@
 //! Entries of histories, taken one after another.
 ghost use Rattle.std.specs.Prelude.{◌≡◌, ◌+◌, ◌<◌, ◌↔◌, IsTrue, IfOk, IfErr, OnErr, MatchBool, length, map};
 ghost use Rattle.rb_auditor.specs.Findings.{lists_of};
-ghost use Rattle.rb_auditor.specs.Progress.{IsDone, IsLeft, IsTaking, IsWrongFound, MayCome, Rests, Took};
+ghost use Rattle.rb_site.specs.Histories.{IsFrom};
+ghost use Rattle.rb_auditor.specs.Progress.{IsDone, IsLeft, IsTaking, IsWrongFound, Rests, Took};
 ghost use Rattle.rb_auditor.specs.Progress.{first_progress};
 
 use crate::replay::replay;
@@ -164,7 +165,7 @@ impl<'a> Taking<'a> {
 
 /// Whether the event is no receipt, or that of a message that was sent.
 fn may_come(sent: &Sent, event: &Event) -> bool
-    ensures { IsTrue result ↔ MayCome sent.now event.now }
+    ensures { IsTrue result ↔ IsFrom sent.now event.now }
 {
     match event {
         Event::Receive(message) => sent.has(message),

@@ -7,7 +7,9 @@ use Rattle.rb_auditor.proofs.Listed
 use Rattle.rb_auditor.proofs.listing.is_at_one.Goals as goal
 
 pub returns-then-is_at-clause-known : goal.returns-then-is_at-clause-known
-returns-then-is_at-clause-known c = λ yes. Recorded.at_place c.args.messages.now (get_or c.args.positions.now c.loop-position.position-index 0) c.args.message.now (c.is_at.ensures.0 (subst IsTrue (sym c.if-is_at.true) yes))
+returns-then-is_at-clause-known c = λ yes. Recorded.at_place c.args.messages.now
+    (get_or c.args.positions.now c.loop-position.position-index 0) c.args.message.now
+    (c.is_at.ensures.0 (subst IsTrue (sym c.if-is_at.true) yes))
 
 pub loop-position-preserved : goal.loop-position-preserved
 loop-position-preserved c = λ k position less at known. elim (same_number c.loop-position.position-index k) [
