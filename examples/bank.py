@@ -1,0 +1,171 @@
+#!/usr/bin/env python3
+"""The program from Python, for the other scripts of this folder: where it is, how it is run, and what a refusal means.
+
+usage: bank.py                    prints which program the scripts would run
+       bank.py --record PROGRAM   notes that the gate passed this program as built from the sources as they are
+
+The program is that of crates/rbbank/out: the proved program where the gate's note beside it names its bytes and those
+of every source, else the built program where no source is newer. Where neither is there, `rt try` runs the sources
+with no proof.
+"""
+import hashlib
+import json
+import os
+import re
+import shutil
+import subprocess
+import sys
+
+HERE = os.path.dirname(os.path.abspath(__file__))
+ROOT = os.path.dirname(HERE)
+CRATE = os.path.join(ROOT, "crates", "rbbank")
+BUILT = os.path.join(CRATE, "out", "rbbank")
+RECORD = os.path.join(CRATE, "out", "gate-record")
+FORMAT = os.path.join(ROOT, "docs", "FORMAT.md")
+WHICH = "the program to ask; else the one that is built, or `rt try`"  # the help of --program
+
+
+class Stop(Exception):
+    """Why a script can't go on, in words for its user."""
+
+
+def read(path):
+    """The bytes of a file, or of standard input for `-`."""
+    if path == "-":
+        return sys.stdin.buffer.read()
+    try:
+        with open(path, "rb") as file:
+            return file.read()
+    except OSError as error:
+        raise Stop(f"{path}: {error.strerror}") from None
+
+
+def sources():
+    """The paths of what the program is made from, in order."""
+    found = [os.path.join(ROOT, "crates.txt")]
+    for folder, folders, files in os.walk(os.path.join(ROOT, "crates")):
+        folders[:] = sorted(name for name in folders if name not in ("out", "must-fail"))
+        found += [os.path.join(folder, name) for name in sorted(files) if name.endswith((".rt", ".antt"))]
+    return found
+
+
+def record_of(program):
+    """What the gate notes of a program: a digest of it, and one of the sources."""
+    digest = hashlib.sha256()
+    for path in sources():
+        digest.update(os.path.relpath(path, ROOT).encode() + b"\0" + read(path) + b"\0")
+    return f"program {hashlib.sha256(read(program)).hexdigest()}\nsources {digest.hexdigest()}\n"
+
+
+class Run:
+    """What a run of the program wrote, its line on standard error, and its status."""
+
+    def __init__(self, out, err, status):
+        self.replies = [line for line in out.split("\n") if line.startswith("{")]
+        self.error = next((line for line in err.split("\n") if line.startswith("rbbank: ")), "")
+        self.status = status
+        at = re.match(r"rbbank: line (\d+): ", self.error)
+        self.bad_line = int(at.group(1)) if at else None
+
+
+class Program:
+    """A way to run the program: the words before its own, the folder to run them in, and what to say of it."""
+
+    def __init__(self, words, folder, what):
+        self.words, self.folder, self.what = words, folder, what
+
+    def run(self, word, given):
+        """Runs a command of the program on these bytes. A run that builds first shows that it lives."""
+        child = subprocess.Popen([*self.words, word], cwd=self.folder, stdin=subprocess.PIPE, stdout=subprocess.PIPE,
+                                 stderr=subprocess.PIPE)
+        dots = 0
+        while True:
+            try:
+                out, err = child.communicate(given, timeout=5)
+                break
+            except subprocess.TimeoutExpired:
+                given, dots = None, dots + 1
+                if self.folder == CRATE:
+                    print("." if dots > 1 else "building ..", end="", file=sys.stderr, flush=True)
+        if dots and self.folder == CRATE:
+            print(file=sys.stderr)
+        run = Run(out.decode("utf-8", "replace"), err.decode("utf-8", "replace"), child.returncode)
+        if not run.replies and not run.error and run.status != 0:
+            last = (err or out).decode("utf-8", "replace").strip()[-300:]
+            raise Stop(f"{' '.join(self.words)} ended in {run.status}: {last}")
+        return run
+
+
+def program(given=None):
+    """The program of this path, else the one that is built from these sources, else a way to run them unproved."""
+    if given is not None:
+        if not os.access(given, os.X_OK) or os.path.isdir(given):
+            raise Stop(f"{given}: no program")
+        return Program([os.path.abspath(given)], ROOT, f"the program {given}")
+    if os.path.exists(BUILT):
+        if os.path.exists(RECORD) and read(RECORD).decode() == record_of(BUILT):
+            return Program([BUILT], ROOT, "the proved program")
+        if os.path.getmtime(BUILT) >= max(map(os.path.getmtime, sources())):
+            return Program([BUILT], ROOT, "the built program")
+    if shutil.which("rt") is None:
+        raise Stop("no program is built from these sources (make build), and the toolchain's command rt isn't on PATH")
+    print("No program is built from these sources, so `rt try` builds one with no proof, a minute each time it runs.",
+          file=sys.stderr, flush=True)
+    return Program(["rt", "try", "--"], CRATE, "`rt try`, with no proof")
+
+
+def meanings():
+    """What each refusal's number means, and each `why` of a bad message, from the tables of docs/FORMAT.md."""
+    text = read(FORMAT).decode().split("\n## Refusals")[1].split("\n## ")[0]
+    numbers, _, whys = text.partition("| Why |")
+    known = {int(n): cell for n, cell in reversed(re.findall(r"\| (\d+) \| ([^|]+?) (?=\|)", numbers))}
+    return known, {int(n): cell for n, cell in re.findall(r"^\| (\d+) \| ([^|]+?) \|$", whys, flags=re.M)}
+
+
+NUMBERS, WHYS = meanings()
+
+
+def refusal(reply, whole=False):
+    """What a refusal means, with what it says beside its number. The whole also has what is wrong with a message."""
+    number = reply["refused"]
+    if number == 13:
+        cause = reply["cause"]
+        why = "would be declined" if cause == "declined" else refusal({"refused": cause})
+        return f"at index {reply['index']} of the batch: {why}"
+    if number == 17 and whole:
+        return f"bad message: {WHYS.get(reply['why'], 'of no such reason')}"
+    words = re.split(r"[;:] `", NUMBERS.get(number, "no such refusal"))[0]
+    return re.sub(r"`(\w+)`", lambda key: str(reply.get(key.group(1), "some")), words)
+
+
+def stops_in_words(name, main):
+    """Runs a script's main, and ends it in words rather than in a traceback."""
+    try:
+        sys.exit(main())
+    except Stop as why:
+        sys.exit(f"{name}: {why}")
+    except BrokenPipeError:
+        os.dup2(os.open(os.devnull, os.O_WRONLY), sys.stdout.fileno())
+    except KeyboardInterrupt:
+        sys.exit(130)
+
+
+def compact(value):
+    return json.dumps(value, separators=(",", ":"))
+
+
+def main():
+    words = sys.argv[1:]
+    if not words:
+        print(program().what)
+    elif words[0] == "--record" and len(words) == 2:
+        with open(RECORD, "w", encoding="utf-8") as file:
+            file.write(record_of(words[1]))
+    else:
+        print(__doc__)
+        return 0 if words in (["--help"], ["-h"]) else 2
+    return 0
+
+
+if __name__ == "__main__":
+    stops_in_words("bank", main)
