@@ -1,0 +1,180 @@
+#!/usr/bin/env python3
+"""Runs a script, or the audit of histories, and says in words what happened.
+
+A script: what each command did, with the meaning of each refusal. Histories: whether one world has them, else which
+line is at fault, which entry that is, and what the site answers there. A bad line: the line, a caret and the reason.
+
+The status is the program's: 0, or 1 where an audit found a fault, or 2 at a bad line.
+"""
+import argparse
+import os
+
+import bad_lines
+import bank
+import saying
+import world
+
+
+WORDS = {
+    "held": "held, and not applied yet",
+    "already": "it came before, and changes nothing",
+    "applied": "applied",
+    "taken": "taken: this site has the token",
+    "passed": "sent, with epoch {}: this site hasn't it any more",
+    "stale": "stale: a token of epoch {} came or left here before, so nothing changes",
+    "balance": "{}",
+}
+
+
+def options():
+    reader = argparse.ArgumentParser(description=__doc__, formatter_class=argparse.RawDescriptionHelpFormatter)
+    reader.add_argument("file", metavar="FILE", help="a script or histories; - is standard input")
+    reader.add_argument("--as", dest="kind", choices=["script", "audit"], help="what to run; else by the second line")
+    reader.add_argument("--program", metavar="PATH", help=bank.WHICH)
+    return reader.parse_args()
+
+
+def request(event):
+    """A request in words."""
+    if "transfer" in event:
+        return "transfer {2} from {0} to {1}".format(*event["transfer"])
+    if "interest" in event:
+        return f"interest of {event['interest'][1] / 100:g} % for {event['interest'][0]}"
+    if "cancel" in event:
+        return f"cancel {event['cancel']}"
+    if "deposit" in event:
+        return "deposit {1} to {0}".format(*event["deposit"])
+    return "withdraw {1} from {0}".format(*event["withdraw"])
+
+
+def message(found, step):
+    """A message in words: what it is, and the site that sent it."""
+    if "deliver" in step.event and not step.came:
+        return f"message {step.event['deliver']}"
+    if step.came:
+        at, what = found.senders[step.came - 1]
+        return f"message {step.came}, {what} from site {found.steps[at].site},"
+    return step.event["shadow"]["name"] if "shadow" in step.event else f"token {step.event['token'][0]}"
+
+
+def asked(found, step):
+    """What a site was asked, in words."""
+    event = step.event
+    if step.verb in ("deliver", "shadow", "token"):
+        return f"{message(found, step)} comes"
+    if step.verb == "batch":
+        return f"a batch: {'; '.join(map(request, event['batch'])) or 'no request'}"
+    words = {"apply": "apply {}", "pass": "pass the token to site {}", "balance": "the balance of {}",
+             "statement": "the statement of {}"}
+    if step.verb in words:
+        return words[step.verb].format(event[step.verb])
+    if step.verb == "asof":
+        return "the balance of {} after the first {} operations".format(*event["asof"])
+    return request(event)
+
+
+def made(step):
+    """What was made, in words."""
+    name = step.reply["name"]
+    if step.reply["kind"] == "declined":
+        return f"declined, since there is less; {name} records it and moves nothing"
+    colour = "red: only the holder of the token makes it" if name[0] == "R" else "blue: any site makes it"
+    return f"made as {name}, {colour}"
+
+
+def answered(step):
+    """A reply in words."""
+    reply = step.reply
+    if "refused" in reply:
+        return f"refused with {reply['refused']}: {bank.refusal(reply, whole=True)}"
+    if "kind" in reply:
+        return made(step)
+    if "names" in reply:
+        return f"made as {', '.join(reply['names'])}"
+    if "rows" in reply:
+        return f"from {reply['start']} by {len(reply['rows'])} operations to {reply['balance']}"
+    key = next(key for key in WORDS if key in reply)
+    return WORDS[key].format(reply[key])
+
+
+def of_step(found, step):
+    balances = saying.balances(step, found.config).replace("\u00a0", " ")
+    if balances and len(found.config["accounts"]) == 1:
+        balances = f"{found.config['accounts'][0][0]} {balances}"
+    return f"site {step.site}: {asked(found, step)} -> {answered(step)}{f' [{balances}]' if balances else ''}"
+
+
+def of_script(found, data):
+    """The lines of an explained script."""
+    wide = len(str(found.steps[-1].line)) if found.steps else 1
+    for step in found.steps:
+        yield f"line {step.line:>{wide}}  {of_step(found, step)}"
+    if found.error:
+        yield bad_lines.explained(data, found.error, found.bad_line, False)
+
+
+def text_of(data, line, most=400):
+    text = data.split(b"\n")[line - 1].decode("utf-8", "replace").strip()
+    return text if len(text) <= most else text[:most] + " …"
+
+
+def of_fault(found, step, data):
+    """An entry at which an audit stops."""
+    yield f"line {step.line}, entry {step.position} of site {step.site}:"
+    yield f"  {text_of(data, step.line)}"
+    yield f"  recorded: {asked(found, step)} -> {answered(step)}"
+    if found.verdict["fault"] != "reply":
+        yield f"  {step.fault}"
+    elif found.answer is not None:
+        right = world.Step(step.line, step.site, step.event, found.answer)
+        yield f"  the site answers: {answered(right)}   {bank.compact(found.answer)}"
+    elif "full" in step.fault:
+        yield f"  {step.fault}"
+    else:
+        yield "  What the site answers can't be asked: it rests on a message that no entry sent."
+
+
+def of_histories(found, data):
+    """The lines of an explained audit."""
+    if found.error:
+        yield bad_lines.explained(data, found.error, found.bad_line, True)
+        return
+    count, sites = len(found.steps), len({step.site for step in found.steps})
+    entries, at_sites = f"{count} entr{'y' if count == 1 else 'ies'}", f"{sites} site{'' if sites == 1 else 's'}"
+    if "order" in found.verdict:
+        yield f"One world has these histories: {entries} at {at_sites}."
+        yield "The audit found an order in which each reply is right, and each message is sent before it comes."
+        return
+    if found.verdict["fault"] == "reply":
+        yield "No world has these histories: a site would not have recorded this reply after the entries before it."
+    else:
+        taken = sum(step.taken for step in found.steps)
+        yield f"No world has these histories: {taken} of {entries} can be taken, and what is next waits for a message."
+    for step in found.steps:
+        if step.fault:
+            yield from of_fault(found, step, data)
+
+
+def status_of(found):
+    """The program's status."""
+    return 2 if found.error else 1 if "fault" in (found.verdict or {}) else 0
+
+
+def explained(program, data, kind=None):
+    """The lines that explain a file, and the status."""
+    is_audit = kind == "audit" or kind is None and world.are_histories(world.lines_of(data))
+    found = (world.of_histories if is_audit else world.of_script)(program, data)
+    return list((of_histories if is_audit else of_script)(found, data)), status_of(found)
+
+
+def main():
+    words = options()
+    data = bank.read(words.file)
+    lines, status = explained(bank.program(words.program), data, words.kind)
+    for line in lines:
+        print(line)
+    return status
+
+
+if __name__ == "__main__":
+    bank.stops_in_words("explain", main)
