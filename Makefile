@@ -28,6 +28,7 @@ build:
 # Every script, all histories and migrations of examples/, and the cases of tests/cases, through the program.
 examples: build
 	@examples/check.py crates/rbbank/out/rbbank
+	@examples/check_drawings.py crates/rbbank/out/rbbank
 	@tests/cases.py crates/rbbank/out/rbbank
 
 # The gate. The last line is 'N passed, 0 failed', or an example or a case that is answered otherwise.
@@ -36,7 +37,9 @@ test: toolchain
 	tests/closure.py --check
 	tests/wrong_bodies.py --check
 	rt ci
+	@examples/bank.py --record crates/rbbank/out/rbbank
 	@examples/check.py --quiet crates/rbbank/out/rbbank
+	@examples/check_drawings.py --quiet crates/rbbank/out/rbbank
 	@tests/cases.py --quiet crates/rbbank/out/rbbank
 
 # Whether README.md names this machine's toolchain, as one that the gate has passed with.

@@ -37,8 +37,8 @@ def answered(program, path):
 
 
 def shown(program, command):
-    """The parts of a command's help that stand further in: its worked input, and the answer. What stands still further in
-    is the rest of the line above it."""
+    """The parts of a command's help that stand further in: its worked input, and the answer. What stands still further
+    in is the rest of the line above it."""
     text = subprocess.run([program, command, "--help"], capture_output=True, text=True).stdout.replace("\n    ", "")
     return [part for part in re.findall(r"(?m)(?:^  \S.*\n)+", text) if "{" in part]
 
@@ -76,7 +76,8 @@ def main():
     results = list(zip(map(os.path.basename, paths), same))
     results += [(command + " --help", helps(words[0], command)) for command in ["script", "audit", "migrate"]]
     results.append(("--version", tells_version(words[0])))
-    results += [(f"threads at {sites} sites, audited", tellers(words[0], sites, count)) for sites, count in [(2, 1), (3, 4), (8, 16), (16, 16)]]
+    for sites, count in [(2, 1), (3, 4), (8, 16), (16, 16)]:
+        results.append((f"threads at {sites} sites, audited", tellers(words[0], sites, count)))
     for name, same in results:
         if not same or "--quiet" not in sys.argv[1:]:
             print(f"{'same' if same else 'DIFFERENT'}  {name}")
