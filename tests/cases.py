@@ -32,6 +32,7 @@ import from_rows  # noqa: E402
 
 BANK = '{"accounts":[["ann",0]],"sites":2,"version":1}'
 BALANCE = '{"balance":"ann","site":0}'
+HELP = re.compile(r'pub const (\w+)_HELP: &str =\s*r#"(.*?)"#;', re.DOTALL)
 LINE_LIMIT = 1_048_576  # bytes of a line without its line feed (docs/FORMAT.md)
 TELLERS_BANK = (
     '{"accounts":[["a0",1000],["a1",1000],["a2",1000],["a3",1000]],'
@@ -59,6 +60,7 @@ class Case(NamedTuple):
     status: int = 0
     output: Optional[str] = None
     addresses: Optional[int] = None
+    end_of_out: str = ""
 
 
 def parsed(name, text):
@@ -119,12 +121,24 @@ def two_hundred_backwards():
     return Case("two_hundred_backwards", ["script"], "\n".join(lines).encode(), out)
 
 
-def long_lines(program, out="", err="", status=0):
-    """The longest line is read, and then the line behind it; a line of one byte more is too long."""
+def long_lines(program, alone, out="", err="", status=0):
+    """The longest line is read, and then the line behind it; a line of one byte more is too long. So it is where the
+    spaces are in front, and nothing is behind."""
     first = BANK.ljust(LINE_LIMIT)
     yield Case(f"longest line: {program}", [program], f"{first}\n{BALANCE}".encode(), out, err=err, status=status)
     too_long = "rbbank: line 1: line too long\n"
     yield Case(f"line too long: {program}", [program], f"{first} \n{BALANCE}".encode(), err=too_long, status=2)
+    first = BANK.rjust(LINE_LIMIT)
+    yield Case(f"longest line alone: {program}", [program], first.encode(), alone)
+    yield Case(f"line too long, alone: {program}", [program], f" {first}".encode(), err=too_long, status=2)
+
+
+def helps():
+    """The help of a command ends in the command's text."""
+    with open(os.path.join(HERE, "..", "crates", "rb_cli", "src", "texts.rt"), encoding="utf-8") as texts:
+        for command, text in HELP.findall(texts.read()):
+            words = [command.lower(), "--help"]
+            yield Case(f"end of the help: {command.lower()}", words, b"", end_of_out=text)
 
 
 def many_accounts(count, **wanted):
@@ -140,15 +154,18 @@ def made_here():
     yield two_hundred_backwards()
     yield many_accounts(1000, out='{"balance":999}\n')
     yield many_accounts(1001, err="rbbank: line 1: bad configuration\n", status=2)
-    yield from long_lines("script", out='{"balance":0}\n')
-    yield from long_lines("audit", err="rbbank: line 2: bad line\n", status=2)
+    yield from long_lines("script", "", out='{"balance":0}\n')
+    yield from long_lines("audit", '{"order":[]}\n', err="rbbank: line 2: bad line\n", status=2)
+    yield from helps()
     for sites, seed in ONE_TELLER:
         words = ["threads", "--sites", str(sites), "--tellers", "1", "--seed", str(seed)]
         yield Case(f"one teller at {sites} sites", words, b"", one_teller.text(sites, seed))
 
 
-def is_wanted(written, whole, part):
-    """Whether a run wrote the whole, or, where a part is named, that part of it."""
+def is_wanted(written, whole, part, end=""):
+    """Whether a run wrote the whole, or, where a part or an end is named, that part of it."""
+    if end:
+        return written.rstrip().endswith(end)
     return part.removesuffix("\n") in written if part else written == whole
 
 
@@ -164,7 +181,7 @@ def run_of(program, case):
 
 def passes(program, case):
     run = run_of(program, case)
-    fine = is_wanted((run.stdout or b"").decode(), case.out, case.part_of_out)
+    fine = is_wanted((run.stdout or b"").decode(), case.out, case.part_of_out, case.end_of_out)
     return fine and is_wanted(run.stderr.decode(), case.err, case.part_of_err) and run.returncode == case.status
 
 
