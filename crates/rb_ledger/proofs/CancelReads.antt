@@ -1,56 +1,27 @@
 -- What is read of the numbers of cancellations.
-use Rattle.std.proofs.Common.{◌≡◌, ℕ, zero, suc, ◌+◌, ◌-◌, ◌<◌, ◌≤◌, Bool, true, false, cond, ◌||◌, List, [], ◌∷◌, ◌++◌, length, take, drop}
-use Rattle.std.proofs.Common.{get_or, map, refl, ap, sym, ◌∙◌, subst, arith, ◌⊎◌, inl, inr, Some, None, Bor}
-use Rattle.std.specs.Prelude.{ℤ, pos, neg_ℤ, ◌+ℤ◌, ◌≤ℤ◌, slice_get, slice_index, ◌==◌, nat_lt, Option, option_map, option_and_then}
-use Rattle.std.specs.Prelude.{option_copied, unwrap_or, option_to_list}
-use Rattle.std.specs.Slice.{IsGetResult}
-use Rattle.std.proofs.lemmas.Int.{ints}
+use Rattle.std.proofs.Common.{◌≡◌, ℕ, zero, suc, ◌-◌, ◌<◌, ◌≤◌, true, false, cond, List, [], ◌∷◌, ◌++◌, length}
+use Rattle.std.proofs.Common.{get_or, map, refl, ap, sym, ◌∙◌, arith, ◌⊎◌, inl, inr, Some, None}
+use Rattle.std.specs.Prelude.{slice_get, nat_lt, Option, option_map, option_and_then}
+use Rattle.std.specs.Prelude.{unwrap_or}
 use Rattle.std.proofs.lemmas.Bool.Decides.{nat_tests}
-use Rattle.std.proofs.lemmas.List.{take-append-drop, length-map}
-use Rattle.std.proofs.lemmas.Option.{slice_get_within, slice_get_read, slice_get_past, slice_get-map, get_or_from_slice_get}
-use Rattle.std.specs.List.{list_any}
-use Rattle.rb_money.specs.Settings.{Settings, IsConfigured}
-use Rattle.rb_money.specs.Amounts.{cents}
-use Rattle.rb_money.specs.declared.place.Place.{Place}
-use Rattle.rb_money.specs.declared.place.TheConstants.Place.{NOWHERE}
+use Rattle.std.proofs.lemmas.List.{length-map}
+use Rattle.std.proofs.lemmas.Option.{slice_get-map}
+use Rattle.rb_money.specs.Settings.{Settings}
 use Rattle.rb_shadow.specs.declared.shadow.Shadow.{Shadow}
 use Rattle.rb_shadow.specs.declared.op_name.OpName.{OpName}
-use Rattle.rb_shadow.specs.declared.deps.Deps.{Deps}
-use Rattle.rb_shadow.specs.declared.kind.Kind.{Kind}
-use Rattle.rb_shadow.specs.declared.kind.Kind.TheVariants.{Withdraw, Transfer}
-use Rattle.rb_shadow.specs.Operations.{bal, names, find_in, is_cancelled, cancel_count, cancels, target_of, Among, IsUnique, moved, delta}
-use Rattle.rb_shadow.specs.Operations.{row_of, kind_in, receiver_of, arrived, other_of, is_on}
+use Rattle.rb_shadow.specs.Operations.{is_cancelled, cancel_count, cancels, target_of}
 use Rattle.rb_shadow.proofs.Public.Members
 use Rattle.rb_ledger.specs.declared.marks.Cancels.{Cancels}
-use Rattle.rb_ledger.specs.declared.marks.Link.{Link}
-use Rattle.rb_ledger.specs.declared.marks.Links.{Links}
-use Rattle.rb_ledger.specs.declared.marks.Head.{Head}
 use Rattle.rb_ledger.specs.declared.index.Index.{Index}
-use Rattle.rb_shadow.specs.Sound.{IsSound}
-use Rattle.std.proofs.lemmas.List.{get_or-set_other}
 use Rattle.std.proofs.lemmas.List.Sums.{count_by-le-length}
-use Rattle.rb_money.specs.declared.limits.TheConstants.{MOST_OPERATIONS, MOST_BALANCE}
-use Rattle.rb_money.specs.declared.cents.TheConstants.{MOST_CENTS}
+use Rattle.rb_money.specs.declared.limits.TheConstants.{MOST_OPERATIONS}
 use Rattle.rb_money.proofs.Public.Tests.{at_most, equal, number_sound}
 use Rattle.rb_money.proofs.Public.Tests
-use Rattle.rb_ledger.proofs.Overdraws
-use Rattle.rb_ledger.proofs.Public.Pushes
-use Rattle.rb_ledger.specs.Valid.{IsValid, position_of, operation_at, find_position, position_from, first_cancel_in, first_cancel_from}
-use Rattle.rb_ledger.specs.Valid.{HasTarget}
-use Rattle.rb_ledger.specs.Changes.{change, change_by, given_back, moved_at}
-use Rattle.rb_ledger.specs.Book.{Book, IsClocked}
-use Rattle.rb_ledger.specs.Index.{AreLinks, AreHeads, AreIndexRows, IsIndex, all_cancels, cancels_of, no_cancels, IsLink, no_head, heads_at}
-use Rattle.rb_ledger.specs.OnAccount.{IsOn, IsLast}
+use Rattle.rb_ledger.specs.Valid.{IsValid, position_of, operation_at, find_position, first_cancel_in, first_cancel_from}
+use Rattle.rb_ledger.specs.Index.{IsIndex, all_cancels, cancels_of, no_cancels}
 use Rattle.rb_ledger.proofs.Public.Legal
 use Rattle.rb_ledger.proofs.Lengths
-use Rattle.rb_ledger.proofs.Public.ValidClocks
-use Rattle.rb_ledger.proofs.Moves
-use Rattle.rb_ledger.proofs.Others
-use Rattle.rb_ledger.proofs.Indexed
 use Rattle.rb_ledger.proofs.CancelFacts
-use Rattle.rb_ledger.proofs.ChainFacts
-use Rattle.rb_ledger.proofs.Public.OnAccount
-use Rattle.rb_shadow.proofs.Public.Lookups
 use Rattle.rb_ledger.proofs.FoundNames.{found_there, found_none}
 
 -- there is one number of cancellations for each operation
@@ -60,8 +31,12 @@ all_counts us cs e = ap length e ∙ length-map us (λ (u : Shadow). cancels_of 
 -- no operation has many cancellations
 pub counts_few : (s : Settings) (us : List Shadow) (x : Index) (i : ℕ) → IsIndex s us x →
     (get_or x.cancels.items i no_cancels).count ≤ MOST_OPERATIONS
-counts_few s us x i index = omega (arith, ap (λ xs. (get_or xs i no_cancels).count) index.cancels,
-    low us i (λ y. count_by-le-length (λ (u : Shadow). cancels u.kind y) us), Lengths.clocked_length s us x.clock index.clocked)
+counts_few s us x i index = omega (
+  arith,
+  ap (λ xs. (get_or xs i no_cancels).count) index.cancels,
+  low us i (λ y. count_by-le-length (λ (u : Shadow). cancels u.kind y) us),
+  Lengths.clocked_length s us x.clock index.clocked,
+)
   where
     low : (vs : List Shadow) (i : ℕ) → ((y : OpName) → cancel_count us y ≤ length us) →
         (get_or (map (λ (u : Shadow). cancels_of us u.name) vs) i no_cancels).count ≤ length us
@@ -93,8 +68,8 @@ pub first_absent : (us : List Shadow) (cs : List Cancels) (p i : ℕ) (c : Cance
 first_absent us cs p i c are some is read none =
     let (u, there, same) = cancels_at us cs p i c are some is read in
     sym (ap (option_and_then (λ (u : Shadow). first_cancel_in us u.name)) there
-        ∙ ap (λ b. cond b (Some (first_cancel_from 1 us u.name)) None)
-        (free u.name (Members.bool_cases (is_cancelled us u.name)) (ap (λ (c : Cancels). c.count) (sym same) ∙ none)))
+    ∙ ap (λ b. cond b (Some (first_cancel_from 1 us u.name)) None)
+    (free u.name (Members.bool_cases (is_cancelled us u.name)) (ap (λ (c : Cancels). c.count) (sym same) ∙ none)))
   where
     free : (x : OpName) → (is_cancelled us x ≡ true) ⊎ (is_cancelled us x ≡ false) → cancel_count us x ≡ 0 → is_cancelled us x ≡ false
     free x (inl e) h = absurd (omega (arith, h, CancelFacts.counted_some us x e))
@@ -107,8 +82,8 @@ first_present us cs p i c are some is read counted =
     let (u, there, same) = cancels_at us cs p i c are some is read in
     ap (λ (c : Cancels). Some c.first) same
     ∙ sym (ap (option_and_then (λ (u : Shadow). first_cancel_in us u.name)) there
-        ∙ ap (λ b. cond b (Some (first_cancel_from 1 us u.name)) None)
-        (cancelled u.name (Members.bool_cases (is_cancelled us u.name)) (λ e. counted (ap (λ (c : Cancels). c.count) same ∙ e))))
+    ∙ ap (λ b. cond b (Some (first_cancel_from 1 us u.name)) None)
+    (cancelled u.name (Members.bool_cases (is_cancelled us u.name)) (λ e. counted (ap (λ (c : Cancels). c.count) same ∙ e))))
   where
     cancelled : (x : OpName) → (is_cancelled us x ≡ true) ⊎ (is_cancelled us x ≡ false) → (cancel_count us x ≡ 0 → ⊥) →
         is_cancelled us x ≡ true
@@ -118,8 +93,12 @@ first_present us cs p i c are some is read counted =
 -- the position of an operation's target is within the numbers of cancellations
 pub target_near : (s : Settings) (us : List Shadow) (x : Index) (h : Shadow) (n : ℕ) → IsIndex s us x → IsValid s (us ++ h ∷ []) →
     n ≡ position_of us (target_of h.kind) → n ≤ length x.cancels.items
-target_near s us x h n index longer is = omega (arith, is, CancelFacts.target_within us h (Legal.IsValid-last s us h longer).target,
-    all_counts us x.cancels.items index.cancels)
+target_near s us x h n index longer is = omega (
+  arith,
+  is,
+  CancelFacts.target_within us h (Legal.IsValid-last s us h longer).target,
+  all_counts us x.cancels.items index.cancels,
+)
 
 -- whether what was found is cancelled
 pub cancelled_found : (us : List Shadow) (x : OpName) (p n : ℕ) → Some p ≡ find_position us x →
@@ -152,5 +131,5 @@ pub counted_or : (us : List Shadow) (x : OpName) (p n : ℕ) {o : Option ℕ} �
 counted_or us x p n {o} e counted is =
     let (t, there, named, found) = found_there us x p e in
     let many : option_map (λ (u : Shadow). cancel_count us u.name) (operation_at us p) ≡ Some (cancel_count us t.name) =
-        ap (option_map (λ (u : Shadow). cancel_count us u.name)) there in
+    ap (option_map (λ (u : Shadow). cancel_count us u.name)) there in
     ap Some (is ∙ ap (λ o. unwrap_or o 0) (counted ∙ many)) ∙ sym many

@@ -33,7 +33,7 @@ latest s us m n ls x l ps r at next popped =
     let (last, there) = OnAccount.element us n (omega (arith, at.within, next)) in
     let more : take m us ≡ take n us ++ last ∷ [] = ap (λ k. take k us) next ∙ Fronts.one_more us n last there in
     let (front, is) = Records.ends ps (records_of s (take n us)) r (parts_of s (take n us) last) (sym popped ∙ at.records
-        ∙ ap (records_of s) more ∙ Records.records_of-push s (take n us) last) in
+    ∙ ap (records_of s) more ∙ Records.records_of-push s (take n us) last) in
     record { last = last; there = there; index = subst (λ vs. IsIndex s vs x) more at.index; parts = is; records = front }
 
 -- after some operations there are records

@@ -1,56 +1,30 @@
 -- What is read of the accounts' heads.
-use Rattle.std.proofs.Common.{◌≡◌, ℕ, zero, suc, ◌+◌, ◌-◌, ◌<◌, ◌≤◌, Bool, true, false, cond, ◌||◌, List, [], ◌∷◌, ◌++◌, length, take, drop}
-use Rattle.std.proofs.Common.{get_or, map, refl, ap, sym, ◌∙◌, subst, arith, ◌⊎◌, inl, inr, Some, None, Bor}
-use Rattle.std.specs.Prelude.{ℤ, pos, neg_ℤ, ◌+ℤ◌, ◌≤ℤ◌, slice_get, slice_index, ◌==◌, nat_lt, Option, option_map, option_and_then}
-use Rattle.std.specs.Prelude.{option_copied, unwrap_or, option_to_list}
-use Rattle.std.specs.Slice.{IsGetResult}
-use Rattle.std.proofs.lemmas.Int.{ints}
-use Rattle.std.proofs.lemmas.Bool.Decides.{nat_tests}
-use Rattle.std.proofs.lemmas.List.{take-append-drop, length-map}
-use Rattle.std.proofs.lemmas.Option.{slice_get_within, slice_get_read, slice_get_past, slice_get-map, get_or_from_slice_get}
-use Rattle.std.specs.List.{list_any}
+use Rattle.std.proofs.Common.{◌≡◌, ℕ, zero, suc, ◌<◌, ◌≤◌, List, [], ◌∷◌, ◌++◌, length}
+use Rattle.std.proofs.Common.{get_or, refl, ap, sym, ◌∙◌, arith, inl, Some, None}
+use Rattle.std.specs.Prelude.{slice_get, Option, option_map}
+use Rattle.std.specs.Prelude.{unwrap_or}
+use Rattle.std.proofs.lemmas.Option.{get_or_from_slice_get}
 use Rattle.rb_money.specs.Settings.{Settings, IsConfigured}
 use Rattle.rb_money.specs.Amounts.{cents}
 use Rattle.rb_money.specs.declared.place.Place.{Place}
 use Rattle.rb_money.specs.declared.place.TheConstants.Place.{NOWHERE}
 use Rattle.rb_shadow.specs.declared.shadow.Shadow.{Shadow}
-use Rattle.rb_shadow.specs.declared.op_name.OpName.{OpName}
 use Rattle.rb_shadow.specs.declared.deps.Deps.{Deps}
-use Rattle.rb_shadow.specs.declared.kind.Kind.{Kind}
-use Rattle.rb_shadow.specs.declared.kind.Kind.TheVariants.{Withdraw, Transfer}
-use Rattle.rb_shadow.specs.Operations.{bal, names, find_in, is_cancelled, cancel_count, cancels, target_of, Among, IsUnique, moved, delta}
-use Rattle.rb_shadow.specs.Operations.{row_of, kind_in, receiver_of, arrived, other_of, is_on}
-use Rattle.rb_shadow.proofs.Public.Members
-use Rattle.rb_ledger.specs.declared.marks.Cancels.{Cancels}
-use Rattle.rb_ledger.specs.declared.marks.Link.{Link}
-use Rattle.rb_ledger.specs.declared.marks.Links.{Links}
+use Rattle.rb_shadow.specs.Operations.{bal}
+use Rattle.rb_shadow.specs.Operations.{other_of}
 use Rattle.rb_ledger.specs.declared.marks.Head.{Head}
-use Rattle.rb_ledger.specs.declared.index.Index.{Index}
-use Rattle.rb_shadow.specs.Sound.{IsSound}
 use Rattle.std.proofs.lemmas.List.{get_or-set_other}
-use Rattle.std.proofs.lemmas.List.Sums.{count_by-le-length}
 use Rattle.rb_money.specs.declared.limits.TheConstants.{MOST_OPERATIONS, MOST_BALANCE}
-use Rattle.rb_money.specs.declared.cents.TheConstants.{MOST_CENTS}
-use Rattle.rb_money.proofs.Public.Tests.{at_most, equal, number_sound}
-use Rattle.rb_money.proofs.Public.Tests
 use Rattle.rb_ledger.proofs.Overdraws
-use Rattle.rb_ledger.proofs.Public.Pushes
-use Rattle.rb_ledger.specs.Valid.{IsValid, position_of, operation_at, find_position, position_from, first_cancel_in, first_cancel_from}
-use Rattle.rb_ledger.specs.Valid.{HasTarget}
-use Rattle.rb_ledger.specs.Changes.{change, change_by, given_back, moved_at}
-use Rattle.rb_ledger.specs.Book.{Book, IsClocked}
-use Rattle.rb_ledger.specs.Index.{AreLinks, AreHeads, AreIndexRows, IsIndex, all_cancels, cancels_of, no_cancels, IsLink, no_head, heads_at}
-use Rattle.rb_ledger.specs.OnAccount.{IsOn, IsLast}
+use Rattle.rb_ledger.specs.Valid.{IsValid}
+use Rattle.rb_ledger.specs.Book.{IsClocked}
+use Rattle.rb_ledger.specs.Index.{AreHeads, no_head, heads_at}
+use Rattle.rb_ledger.specs.OnAccount.{IsLast}
 use Rattle.rb_ledger.proofs.Public.Legal
 use Rattle.rb_ledger.proofs.Lengths
-use Rattle.rb_ledger.proofs.Public.ValidClocks
-use Rattle.rb_ledger.proofs.Moves
 use Rattle.rb_ledger.proofs.Others
 use Rattle.rb_ledger.proofs.Indexed
-use Rattle.rb_ledger.proofs.CancelFacts
 use Rattle.rb_ledger.proofs.ChainFacts
-use Rattle.rb_ledger.proofs.Public.OnAccount
-use Rattle.rb_shadow.proofs.Public.Lookups
 
 -- an account's head is there
 pub own_near : (s : Settings) (us : List Shadow) (hs : List Head) (i m n : ℕ) → AreHeads s us hs → m ≡ length hs → i < length s.starts →
@@ -88,8 +62,13 @@ heads_few s us c hs i kept are = at (slice_get hs i) refl
     at : (o : Option Head) → slice_get hs i ≡ o → (get_or hs i no_head).count ≤ MOST_OPERATIONS
     at None e = omega (arith, ap (λ (h : Head). h.count) (none hs i no_head e))
     at (Some h) e =
-        omega (arith, ap (λ (h : Head). h.count) (get_or_from_slice_get hs i h no_head e), (are.each (record { 0 = i }) h e).count,
-            ChainFacts.count_few [] us (record { 0 = i }), Lengths.clocked_length s us c kept)
+        omega (
+          arith,
+          ap (λ (h : Head). h.count) (get_or_from_slice_get hs i h no_head e),
+          (are.each (record { 0 = i }) h e).count,
+          ChainFacts.count_few [] us (record { 0 = i }),
+          Lengths.clocked_length s us c kept,
+        )
 
 -- the same of the second account, once the own one was changed
 pub other_few : (s : Settings) (us : List Shadow) (c : Deps) (hs : List Head) (h : Shadow) (f : Head → Head) → IsConfigured s →
@@ -103,14 +82,27 @@ other_few s us c hs h f configured kept are longer = at (other_of us h.kind) ref
     at : (o : Option Place) → other_of us h.kind ≡ o → (get_or (heads_at h.account.0 f hs) (unwrap_or o NOWHERE).0 no_head).count
         ≤ MOST_OPERATIONS
     at None is =
-        let apart : h.account.0 ≡ NOWHERE.0 → ⊥ = (λ e. omega (arith, e, Overdraws.sound_account s h may.sound, configured.starts_of_all,
-            configured.few_accounts)) in
-        omega (arith, ap (λ (h : Head). h.count) (get_or-set_other hs h.account.0 NOWHERE.0 (f (get_or hs h.account.0 no_head)) no_head
-            (λ e. apart (sym e))), heads_few s us c hs NOWHERE.0 kept are)
+        let apart : h.account.0 ≡ NOWHERE.0 → ⊥ = (λ e. omega (
+          arith,
+          e,
+          Overdraws.sound_account s h may.sound,
+          configured.starts_of_all,
+          configured.few_accounts,
+        )) in
+        omega (
+          arith,
+          ap (λ (h : Head). h.count) (get_or-set_other hs h.account.0 NOWHERE.0 (f (get_or hs h.account.0 no_head)) no_head
+              (λ e. apart (sym e))),
+          heads_few s us c hs NOWHERE.0 kept are,
+        )
     at (Some b) is =
         let (near, apart) = Others.other_apart s us h b kept.valid may is in
-        omega (arith, ap (λ (h : Head). h.count) (get_or-set_other hs h.account.0 b.0 (f (get_or hs h.account.0 no_head)) no_head
-            (λ e. apart (sym e))), heads_few s us c hs b.0 kept are)
+        omega (
+          arith,
+          ap (λ (h : Head). h.count) (get_or-set_other hs h.account.0 b.0 (f (get_or hs h.account.0 no_head)) no_head
+              (λ e. apart (sym e))),
+          heads_few s us c hs b.0 kept are,
+        )
 
 -- the balance that stands in a head, and the balance of none
 pub head_balance : (s : Settings) (us : List Shadow) (hs : List Head) (a : Place) (n : ℕ) → AreHeads s us hs → a.0 < length s.starts →
@@ -131,6 +123,10 @@ other_balance s us c hs h n configured kept are longer is = at (other_of us h.ki
 
     at : (o : Option Place) → other_of us h.kind ≡ o → n ≡ (get_or hs (unwrap_or o NOWHERE).0 no_head).balance →
         n ≡ unwrap_or (option_map (λ a. cents (bal s us a)) o) 0
-    at None e is = is ∙ ap (λ (h : Head). h.balance) (past hs NOWHERE.0 no_head (omega (arith, are.count, configured.starts_of_all,
-        configured.few_accounts)))
+    at None e is = is ∙ ap (λ (h : Head). h.balance) (past hs NOWHERE.0 no_head (omega (
+      arith,
+      are.count,
+      configured.starts_of_all,
+      configured.few_accounts,
+    )))
     at (Some b) e is = head_balance s us hs b n are (Others.other_apart s us h b kept.valid (Legal.IsValid-last s us h longer) e).0 is

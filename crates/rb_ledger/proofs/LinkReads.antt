@@ -1,56 +1,29 @@
 -- What is read of an account's links, and whether an operation is on an account.
-use Rattle.std.proofs.Common.{◌≡◌, ℕ, zero, suc, ◌+◌, ◌-◌, ◌<◌, ◌≤◌, Bool, true, false, cond, ◌||◌, List, [], ◌∷◌, ◌++◌, length, take, drop}
-use Rattle.std.proofs.Common.{get_or, map, refl, ap, sym, ◌∙◌, subst, arith, ◌⊎◌, inl, inr, Some, None, Bor}
-use Rattle.std.specs.Prelude.{ℤ, pos, neg_ℤ, ◌+ℤ◌, ◌≤ℤ◌, slice_get, slice_index, ◌==◌, nat_lt, Option, option_map, option_and_then}
-use Rattle.std.specs.Prelude.{option_copied, unwrap_or, option_to_list}
-use Rattle.std.specs.Slice.{IsGetResult}
+use Rattle.std.proofs.Common.{◌≡◌, ℕ, ◌+◌, ◌-◌, ◌<◌, ◌≤◌, Bool, true, false, ◌||◌, List, ◌∷◌, length, take, drop}
+use Rattle.std.proofs.Common.{get_or, refl, ap, sym, ◌∙◌, subst, arith, inr, Some, None}
+use Rattle.std.specs.Prelude.{pos, slice_get, slice_index, ◌==◌}
+use Rattle.std.specs.Prelude.{option_to_list}
 use Rattle.std.proofs.lemmas.Int.{ints}
-use Rattle.std.proofs.lemmas.Bool.Decides.{nat_tests}
-use Rattle.std.proofs.lemmas.List.{take-append-drop, length-map}
-use Rattle.std.proofs.lemmas.Option.{slice_get_within, slice_get_read, slice_get_past, slice_get-map, get_or_from_slice_get}
+use Rattle.std.proofs.lemmas.List.{take-append-drop}
+use Rattle.std.proofs.lemmas.Option.{slice_get_read}
 use Rattle.std.specs.List.{list_any}
 use Rattle.rb_money.specs.Settings.{Settings, IsConfigured}
-use Rattle.rb_money.specs.Amounts.{cents}
 use Rattle.rb_money.specs.declared.place.Place.{Place}
-use Rattle.rb_money.specs.declared.place.TheConstants.Place.{NOWHERE}
 use Rattle.rb_shadow.specs.declared.shadow.Shadow.{Shadow}
-use Rattle.rb_shadow.specs.declared.op_name.OpName.{OpName}
-use Rattle.rb_shadow.specs.declared.deps.Deps.{Deps}
-use Rattle.rb_shadow.specs.declared.kind.Kind.{Kind}
-use Rattle.rb_shadow.specs.declared.kind.Kind.TheVariants.{Withdraw, Transfer}
-use Rattle.rb_shadow.specs.Operations.{bal, names, find_in, is_cancelled, cancel_count, cancels, target_of, Among, IsUnique, moved, delta}
-use Rattle.rb_shadow.specs.Operations.{row_of, kind_in, receiver_of, arrived, other_of, is_on}
-use Rattle.rb_shadow.proofs.Public.Members
-use Rattle.rb_ledger.specs.declared.marks.Cancels.{Cancels}
+use Rattle.rb_shadow.specs.Operations.{bal}
+use Rattle.rb_shadow.specs.Operations.{other_of, is_on}
 use Rattle.rb_ledger.specs.declared.marks.Link.{Link}
 use Rattle.rb_ledger.specs.declared.marks.Links.{Links}
-use Rattle.rb_ledger.specs.declared.marks.Head.{Head}
-use Rattle.rb_ledger.specs.declared.index.Index.{Index}
-use Rattle.rb_shadow.specs.Sound.{IsSound}
-use Rattle.std.proofs.lemmas.List.{get_or-set_other}
-use Rattle.std.proofs.lemmas.List.Sums.{count_by-le-length}
-use Rattle.rb_money.specs.declared.limits.TheConstants.{MOST_OPERATIONS, MOST_BALANCE}
-use Rattle.rb_money.specs.declared.cents.TheConstants.{MOST_CENTS}
-use Rattle.rb_money.proofs.Public.Tests.{at_most, equal, number_sound}
-use Rattle.rb_money.proofs.Public.Tests
-use Rattle.rb_ledger.proofs.Overdraws
-use Rattle.rb_ledger.proofs.Public.Pushes
-use Rattle.rb_ledger.specs.Valid.{IsValid, position_of, operation_at, find_position, position_from, first_cancel_in, first_cancel_from}
-use Rattle.rb_ledger.specs.Valid.{HasTarget}
-use Rattle.rb_ledger.specs.Changes.{change, change_by, given_back, moved_at}
-use Rattle.rb_ledger.specs.Book.{Book, IsClocked}
-use Rattle.rb_ledger.specs.Index.{AreLinks, AreHeads, AreIndexRows, IsIndex, all_cancels, cancels_of, no_cancels, IsLink, no_head, heads_at}
-use Rattle.rb_ledger.specs.OnAccount.{IsOn, IsLast}
+use Rattle.rb_money.specs.declared.limits.TheConstants.{MOST_BALANCE}
+use Rattle.rb_money.proofs.Public.Tests.{number_sound}
+use Rattle.rb_ledger.specs.Valid.{IsValid, operation_at}
+use Rattle.rb_ledger.specs.Index.{AreLinks, IsLink}
+use Rattle.rb_ledger.specs.OnAccount.{IsOn}
 use Rattle.rb_ledger.proofs.Public.Legal
-use Rattle.rb_ledger.proofs.Lengths
-use Rattle.rb_ledger.proofs.Public.ValidClocks
-use Rattle.rb_ledger.proofs.Moves
 use Rattle.rb_ledger.proofs.Others
 use Rattle.rb_ledger.proofs.Indexed
-use Rattle.rb_ledger.proofs.CancelFacts
 use Rattle.rb_ledger.proofs.ChainFacts
 use Rattle.rb_ledger.proofs.Public.OnAccount
-use Rattle.rb_shadow.proofs.Public.Lookups
 use Rattle.rb_ledger.proofs.FoundNames.{entry_there}
 
 -- the entry and the links at a position on an account
@@ -61,7 +34,7 @@ place_near us a p m n on some count same = omega (arith, OnAccount.on_within us 
 pub link_read : (s : Settings) (us : List Shadow) (ls : List Links) (a : Place) (p m n : ℕ) (u : Shadow) (l : Links) → AreLinks s us ls →
     IsOn us a p → 0 < p → n ≡ length us → u ≡ get_or us (p - 1) u → m ≡ length ls → l ≡ get_or ls (p - 1) l
     → (u.account.0 ≡ a.0 → IsLink s (take (p - 1) us) (take p us) a l.own)
-        × ((u.account.0 ≡ a.0 → ⊥) → IsLink s (take (p - 1) us) (take p us) a l.other)
+    × ((u.account.0 ≡ a.0 → ⊥) → IsLink s (take (p - 1) us) (take p us) a l.other)
 link_read s us ls a p m n u l are on some many here count beside =
     ChainFacts.link_on s us ls a p u l are on some
     (slice_get_read us n (p - 1) u many (place_near us a p n n on some many refl) here)
@@ -112,7 +85,7 @@ pub on_second : (us : List Shadow) (u : Shadow) (a b : Place) (r : Bool) → (u.
 on_second us u a b r e other is =
     is ∙ or_nothing (b.0 == a.0)
     ∙ sym (ap (λ o. list_any (λ (p : Place). p.0 == a.0) (u.account ∷ option_to_list o)) (sym other)
-        ∙ ap (λ c. c || ((b.0 == a.0) || false)) e)
+    ∙ ap (λ c. c || ((b.0 == a.0) || false)) e)
   where
     or_nothing : (b : Bool) → b ≡ (b || false)
     or_nothing true = refl

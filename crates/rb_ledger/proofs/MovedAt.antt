@@ -1,55 +1,25 @@
 -- What an operation of the list moved, which is little.
-use Rattle.std.proofs.Common.{◌≡◌, ℕ, zero, suc, ◌+◌, ◌-◌, ◌<◌, ◌≤◌, Bool, true, false, cond, ◌||◌, List, [], ◌∷◌, ◌++◌, length, take, drop}
-use Rattle.std.proofs.Common.{get_or, map, refl, ap, sym, ◌∙◌, subst, arith, ◌⊎◌, inl, inr, Some, None, Bor}
-use Rattle.std.specs.Prelude.{ℤ, pos, neg_ℤ, ◌+ℤ◌, ◌≤ℤ◌, slice_get, slice_index, ◌==◌, nat_lt, Option, option_map, option_and_then}
-use Rattle.std.specs.Prelude.{option_copied, unwrap_or, option_to_list}
-use Rattle.std.specs.Slice.{IsGetResult}
+use Rattle.std.proofs.Common.{◌≡◌, ℕ, ◌+◌, ◌-◌, ◌≤◌, Bool, true, false, cond, List, take}
+use Rattle.std.proofs.Common.{refl, ap, sym, ◌∙◌, arith, Some, None}
+use Rattle.std.specs.Prelude.{ℤ, pos, neg_ℤ, ◌+ℤ◌, ◌≤ℤ◌, ◌==◌, Option, option_map}
 use Rattle.std.proofs.lemmas.Int.{ints}
-use Rattle.std.proofs.lemmas.Bool.Decides.{nat_tests}
-use Rattle.std.proofs.lemmas.List.{take-append-drop, length-map}
-use Rattle.std.proofs.lemmas.Option.{slice_get_within, slice_get_read, slice_get_past, slice_get-map, get_or_from_slice_get}
-use Rattle.std.specs.List.{list_any}
-use Rattle.rb_money.specs.Settings.{Settings, IsConfigured}
-use Rattle.rb_money.specs.Amounts.{cents}
+use Rattle.rb_money.specs.Settings.{Settings}
 use Rattle.rb_money.specs.declared.place.Place.{Place}
-use Rattle.rb_money.specs.declared.place.TheConstants.Place.{NOWHERE}
 use Rattle.rb_shadow.specs.declared.shadow.Shadow.{Shadow}
 use Rattle.rb_shadow.specs.declared.op_name.OpName.{OpName}
-use Rattle.rb_shadow.specs.declared.deps.Deps.{Deps}
 use Rattle.rb_shadow.specs.declared.kind.Kind.{Kind}
 use Rattle.rb_shadow.specs.declared.kind.Kind.TheVariants.{Withdraw, Transfer}
-use Rattle.rb_shadow.specs.Operations.{bal, names, find_in, is_cancelled, cancel_count, cancels, target_of, Among, IsUnique, moved, delta}
-use Rattle.rb_shadow.specs.Operations.{row_of, kind_in, receiver_of, arrived, other_of, is_on}
-use Rattle.rb_shadow.proofs.Public.Members
-use Rattle.rb_ledger.specs.declared.marks.Cancels.{Cancels}
+use Rattle.rb_shadow.specs.Operations.{bal, find_in, is_cancelled, target_of, Among, moved, delta}
+use Rattle.rb_shadow.specs.Operations.{receiver_of, arrived, is_on}
 use Rattle.rb_ledger.specs.declared.marks.Link.{Link}
-use Rattle.rb_ledger.specs.declared.marks.Links.{Links}
-use Rattle.rb_ledger.specs.declared.marks.Head.{Head}
-use Rattle.rb_ledger.specs.declared.index.Index.{Index}
-use Rattle.rb_shadow.specs.Sound.{IsSound}
-use Rattle.std.proofs.lemmas.List.{get_or-set_other}
-use Rattle.std.proofs.lemmas.List.Sums.{count_by-le-length}
-use Rattle.rb_money.specs.declared.limits.TheConstants.{MOST_OPERATIONS, MOST_BALANCE}
 use Rattle.rb_money.specs.declared.cents.TheConstants.{MOST_CENTS}
-use Rattle.rb_money.proofs.Public.Tests.{at_most, equal, number_sound}
-use Rattle.rb_money.proofs.Public.Tests
-use Rattle.rb_ledger.proofs.Overdraws
-use Rattle.rb_ledger.proofs.Public.Pushes
-use Rattle.rb_ledger.specs.Valid.{IsValid, position_of, operation_at, find_position, position_from, first_cancel_in, first_cancel_from}
-use Rattle.rb_ledger.specs.Valid.{HasTarget}
+use Rattle.rb_money.proofs.Public.Tests.{at_most}
+use Rattle.rb_ledger.specs.Valid.{IsValid, operation_at}
 use Rattle.rb_ledger.specs.Changes.{change, change_by, given_back, moved_at}
-use Rattle.rb_ledger.specs.Book.{Book, IsClocked}
-use Rattle.rb_ledger.specs.Index.{AreLinks, AreHeads, AreIndexRows, IsIndex, all_cancels, cancels_of, no_cancels, IsLink, no_head, heads_at}
-use Rattle.rb_ledger.specs.OnAccount.{IsOn, IsLast}
-use Rattle.rb_ledger.proofs.Public.Legal
-use Rattle.rb_ledger.proofs.Lengths
+use Rattle.rb_ledger.specs.Index.{IsLink}
 use Rattle.rb_ledger.proofs.Public.ValidClocks
 use Rattle.rb_ledger.proofs.Moves
-use Rattle.rb_ledger.proofs.Others
-use Rattle.rb_ledger.proofs.Indexed
-use Rattle.rb_ledger.proofs.CancelFacts
 use Rattle.rb_ledger.proofs.ChainFacts
-use Rattle.rb_ledger.proofs.Public.OnAccount
 use Rattle.rb_shadow.proofs.Public.Lookups
 use Rattle.rb_ledger.proofs.FoundNames.{among, entry_there}
 use Rattle.rb_ledger.proofs.LinkReads.{linked_there, on_whole}
@@ -60,7 +30,7 @@ moved_entry s us a p u z valid e is =
     let (some, there) = entry_there us p u e in
     let here : p - 1 + 1 ≡ p = omega arith in
     ap Some (is ∙ less _ _ _ (Moves.moved_on s us a (p - 1) u valid there)
-        ∙ ap (λ n. bal s (take n us) a +ℤ neg_ℤ (bal s (take (p - 1) us) a)) here)
+    ∙ ap (λ n. bal s (take n us) a +ℤ neg_ℤ (bal s (take (p - 1) us) a)) here)
     ∙ ap (option_map (λ (u : Shadow). bal s (take p us) a +ℤ neg_ℤ (bal s (take (p - 1) us) a))) e
   where
     less : (x y z : ℤ) → x ≡ y +ℤ z → z ≡ x +ℤ neg_ℤ y
@@ -72,7 +42,7 @@ pub moved_other : (s : Settings) (us : List Shadow) (a : Place) (p : ℕ) (u : S
 moved_other s us a p u valid e apart =
     let (some, there) = entry_there us p u e in
     moved_entry s us a p u (pos 0) valid e (ChainFacts.moved_elsewhere s us a (p - 1) u valid there (on_whole s us a (p - 1) u valid there
-        ∙ sym apart))
+    ∙ sym apart))
 
 moved_bounds : (k : Kind) (n m : ℕ) → n ≤ m → (neg_ℤ (pos m) ≤ℤ moved k n) × (moved k n ≤ℤ pos m)
 moved_bounds Withdraw n m h = (omega (arith, ints), omega (arith, ints))
@@ -117,7 +87,7 @@ pub moved_own : (s : Settings) (us : List Shadow) (a : Place) (p : ℕ) (u : Sha
 moved_own s us a p u l before valid e link was z is =
     let (some, there) = entry_there us p u e in
     moved_entry s us a p u z valid e (ChainFacts.moved_linked s us a (p - 1) u l before z valid there (linked_there s us a p l some link)
-        was is)
+    was is)
 
 -- what was moved is at most the most cents, either way
 pub moved_little : (s : Settings) (us : List Shadow) (a : Place) (p : ℕ) (u : Shadow) (l : Link) (before : ℕ) → IsValid s us →
@@ -127,10 +97,10 @@ moved_little s us a p u l before valid e link was =
     let (some, there) = entry_there us p u e in
     let is : pos l.balance +ℤ neg_ℤ (pos before) ≡ change (take (p - 1) us) u a =
     ChainFacts.moved_linked s us a (p - 1) u l before (pos l.balance +ℤ neg_ℤ (pos before)) valid there (linked_there s us a p l some link)
-        was (omega (arith, ints)) in
+    was (omega (arith, ints)) in
     let (front, target) = Moves.target_there s us (p - 1) u valid there in
     let (least, most) = change_bounds (take (p - 1) us) u a MOST_CENTS (small s us u valid (among us (p - 1) u there))
-        (λ t h. small s (take (p - 1) us) t front h) in
+    (λ t h. small s (take (p - 1) us) t front h) in
     (omega (arith, ints, is, least, most), omega (arith, ints, is, least, most))
   where
     small : (s : Settings) (vs : List Shadow) (v : Shadow) → IsValid s vs → Among v vs → v.amount ≤ MOST_CENTS

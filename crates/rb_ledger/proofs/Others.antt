@@ -39,8 +39,10 @@ received : (s : Settings) (v : Shadow) (b : Place) → SoundFacts.SoundFacts s v
 received s v b facts e = at (ap (is_misdirected (length s.starts) v.account) (sym e) ∙ facts.receiver)
   where
     at : (nat_le (length s.starts) b.0 || (b.0 == v.account.0)) ≡ false → (b.0 < length s.starts) × (v.account.0 ≡ b.0 → ⊥)
-    at k = let (first, second) = Members.or-false _ _ k in (above (length s.starts) b.0 first,
-        λ k. Members.true≢false (sym (equal b.0 v.account.0 (sym k)) ∙ second))
+    at k = let (first, second) = Members.or-false _ _ k in (
+      above (length s.starts) b.0 first,
+      λ k. Members.true≢false (sym (equal b.0 v.account.0 (sym k)) ∙ second),
+    )
 
 -- and so is a second account
 pub second_apart : (s : Settings) (us : List Shadow) (h : Shadow) (b : Place) → IsValid s us → IsSound s h →
@@ -64,7 +66,7 @@ pub may_there : (s : Settings) (us : List Shadow) (i : ℕ) (u : Shadow) → IsV
     Legal.MayFollow s (take i us) u
 may_there s us i u valid there =
     Legal.IsValid-last s (take i us) u (subst (IsValid s) (Fronts.one_more us i u there)
-        (Legal.IsValid-front s (take (i + 1) us) (drop (i + 1) us) (subst (IsValid s) (sym (take-append-drop (i + 1) us)) valid)))
+    (Legal.IsValid-front s (take (i + 1) us) (drop (i + 1) us) (subst (IsValid s) (sym (take-append-drop (i + 1) us)) valid)))
 
 -- each account that an operation is on is one of the configuration's
 pub on_near : (s : Settings) (us : List Shadow) (i : ℕ) (u : Shadow) (a : Place) → IsValid s us → slice_get us i ≡ Some u →
@@ -90,7 +92,7 @@ other_whole s us i u valid there =
         let whole : Among t us = subst (Among t) (take-append-drop i us) (Members.Among-left (take i us) (drop i us) t here) in
         ap (λ y. option_and_then receiver_of (kind_in (take i us) y)) (sym named)
         ∙ ap (option_and_then receiver_of) (Pushes.kind_in-named (take i us) t front.unique here
-            ∙ sym (Pushes.kind_in-named us t valid.unique whole))
+        ∙ sym (Pushes.kind_in-named us t valid.unique whole))
         ∙ ap (λ y. option_and_then receiver_of (kind_in us y)) named
 
 -- ---- the heads of both accounts
@@ -105,14 +107,14 @@ item (x ∷ xs) (suc i) d h = item xs i d (omega arith)
 abbrev pub IsChanged : List Shadow → Shadow → List Head → (Head → Head) → (Head → Head) → Place → Head → Type 0
 IsChanged us h hs f g a new =
     ((is_on us h a ≡ true) × ((old : Head) × (slice_get hs a.0 ≡ Some old)
-        × (((h.account ≡ a) × (f old ≡ new)) ⊎ ((other_of us h.kind ≡ Some a) × (g old ≡ new)))))
+    × (((h.account ≡ a) × (f old ≡ new)) ⊎ ((other_of us h.kind ≡ Some a) × (g old ≡ new)))))
     ⊎ ((is_on us h a ≡ false) × (slice_get hs a.0 ≡ Some new))
 
 -- what both changes of heads make of a head: of the own account, of the second one, or of neither
 pub changed : (s : Settings) (us : List Shadow) (h : Shadow) (hs : List Head) (f g : Head → Head) → IsConfigured s → IsValid s us →
     Legal.MayFollow s us h → length hs ≡ length s.starts
     → (a : Place) (new : Head) → slice_get (heads_at (unwrap_or (other_of us h.kind) NOWHERE).0 g (heads_at h.account.0 f hs)) a.0
-        ≡ Some new → IsChanged us h hs f g a new
+    ≡ Some new → IsChanged us h hs f g a new
 changed s us h hs f g configured valid may many a new e = at (other_of us h.kind) refl e
   where
     first : List Head
@@ -131,15 +133,28 @@ changed s us h hs f g configured valid may many a new e = at (other_of us h.kind
 
     on_first : (o : Option Place) → other_of us h.kind ≡ o → (a.0 ≡ (unwrap_or o NOWHERE).0 → ⊥)
         → ((a.0 ≡ h.account.0) × (f (get_or hs h.account.0 no_head) ≡ new)) ⊎ ((a.0 ≡ h.account.0 → ⊥) × (slice_get hs a.0 ≡ Some new)) →
-            IsChanged us h hs f g a new
+        IsChanged us h hs f g a new
     on_first o is other (inl (own, k)) =
-        inl (OnAccount.on_own us h a (sym own), (get_or hs h.account.0 no_head,
-            ap (slice_get hs) own ∙ item hs h.account.0 no_head own_near, inl (same_place h.account a (sym own), k)))
+        inl (
+          OnAccount.on_own us h a (sym own),
+          (
+            get_or hs h.account.0 no_head,
+            ap (slice_get hs) own ∙ item hs h.account.0 no_head own_near,
+            inl (same_place h.account a (sym own), k),
+          ),
+        )
     on_first o is other (inr (own, k)) = inr (off o is other own, k)
 
     none_there : (now : List Head) → length now ≡ length hs → slice_get now a.0 ≡ Some new → a.0 ≡ NOWHERE.0 → ⊥
-    none_there now same read e = omega (arith, e, same, many, slice_get_within now a.0 new read, configured.starts_of_all,
-        configured.few_accounts)
+    none_there now same read e = omega (
+      arith,
+      e,
+      same,
+      many,
+      slice_get_within now a.0 new read,
+      configured.starts_of_all,
+      configured.few_accounts,
+    )
 
     at : (o : Option Place) → other_of us h.kind ≡ o → slice_get (heads_at (unwrap_or o NOWHERE).0 g first) a.0 ≡ Some new →
         IsChanged us h hs f g a new
@@ -149,16 +164,19 @@ changed s us h hs f g configured valid may many a new e = at (other_of us h.kind
             a.0 ≡ (unwrap_or o NOWHERE).0 → g (get_or first (unwrap_or o NOWHERE).0 no_head) ≡ new → IsChanged us h hs f g a new
         second None is read other k =
             absurd (none_there (heads_at NOWHERE.0 g first) (length-set first NOWHERE.0 (g (get_or first NOWHERE.0 no_head))
-                ∙ length-set hs h.account.0 (f (get_or hs h.account.0 no_head))) read other)
+            ∙ length-set hs h.account.0 (f (get_or hs h.account.0 no_head))) read other)
         second (Some b) is read other k =
             let (near, apart) = other_apart s us h b valid may is in
             let place : b ≡ a = same_place b a (sym other) in
             let same : get_or first b.0 no_head ≡ get_or hs b.0 no_head =
-                get_or-set_other hs h.account.0 b.0 (f (get_or hs h.account.0 no_head)) no_head (λ e. apart (sym e)) in
+            get_or-set_other hs h.account.0 b.0 (f (get_or hs h.account.0 no_head)) no_head (λ e. apart (sym e)) in
             inl (
               OnAccount.on_other us h a (is ∙ ap Some place),
-              (get_or hs b.0 no_head, ap (slice_get hs) other ∙ item hs b.0 no_head (omega (arith, near, many)),
-                  inr (is ∙ ap Some place, ap g (sym same) ∙ k)),
+              (
+                get_or hs b.0 no_head,
+                ap (slice_get hs) other ∙ item hs b.0 no_head (omega (arith, near, many)),
+                inr (is ∙ ap Some place, ap g (sym same) ∙ k),
+              ),
             )
 
         either : ((a.0 ≡ (unwrap_or o NOWHERE).0) × (g (get_or first (unwrap_or o NOWHERE).0 no_head) ≡ new))
@@ -175,32 +193,48 @@ both_lengths hs i j f g = length-set (heads_at i f hs) j (g (get_or (heads_at i 
 pub heads_push : (s : Settings) (us : List Shadow) (h : Shadow) (hs : List Head) (l : Links) → IsConfigured s → IsValid s us →
     IsValid s (us ++ h ∷ []) → AreHeads s us hs → IsLinked s us h l
     → AreHeads s (us ++ h ∷ []) (heads_at (unwrap_or (other_of us h.kind) NOWHERE).0 (head_more (length us
-        + 1) l.other.balance) (heads_at h.account.0 (head_more (length us + 1) l.own.balance) hs))
+    + 1) l.other.balance) (heads_at h.account.0 (head_more (length us + 1) l.own.balance) hs))
 heads_push s us h hs l configured valid longer are linked =
     ChainFacts.heads_push s us h hs _ longer are (both_lengths hs h.account.0 (unwrap_or (other_of us h.kind) NOWHERE).0
-        (head_more (length us + 1) l.own.balance) (head_more (length us + 1) l.other.balance))
+    (head_more (length us + 1) l.own.balance) (head_more (length us + 1) l.other.balance))
     (λ a new e. at a new (changed s us h hs (head_more (length us + 1) l.own.balance) (head_more (length us
-        + 1) l.other.balance) configured valid (Legal.IsValid-last s us h longer) are.count a new e))
+    + 1) l.other.balance) configured valid (Legal.IsValid-last s us h longer) are.count a new e))
   where
     at : (a : Place) (new : Head) → IsChanged us h hs (head_more (length us + 1) l.own.balance) (head_more (length us
         + 1) l.other.balance) a new → ChainFacts.IsCounted s us h hs a new
     at a new (inr off) = inr off
     at a new (inl (on, (old, read, inl (own, is)))) =
-        inl (on, (old, read, ap (λ (k : Head). k.last) (sym is), ap (λ (k : Head). k.count) (sym is),
-            ap (λ (k : Head). pos k.balance) (sym is) ∙ linked.own.balance ∙ ap (bal s (us ++ h ∷ [])) own))
+        inl (
+          on,
+          (
+            old,
+            read,
+            ap (λ (k : Head). k.last) (sym is),
+            ap (λ (k : Head). k.count) (sym is),
+            ap (λ (k : Head). pos k.balance) (sym is) ∙ linked.own.balance ∙ ap (bal s (us ++ h ∷ [])) own,
+          ),
+        )
     at a new (inl (on, (old, read, inr (other, is)))) =
-        inl (on, (old, read, ap (λ (k : Head). k.last) (sym is), ap (λ (k : Head). k.count) (sym is),
-            ap (λ (k : Head). pos k.balance) (sym is) ∙ (linked.other a other).balance))
+        inl (
+          on,
+          (
+            old,
+            read,
+            ap (λ (k : Head). k.last) (sym is),
+            ap (λ (k : Head). k.count) (sym is),
+            ap (λ (k : Head). pos k.balance) (sym is) ∙ (linked.other a other).balance,
+          ),
+        )
 
 -- without the last operation
 pub heads_front : (s : Settings) (us : List Shadow) (h : Shadow) (hs : List Head) (l : Links) → IsConfigured s → IsValid s us →
     IsValid s (us ++ h ∷ []) → AreHeads s (us ++ h ∷ []) hs → IsLinked s us h l
     → AreHeads s us (heads_at (unwrap_or (other_of us h.kind) NOWHERE).0
-        (head_less l.other.earlier (unwrap_or (option_map (λ a. cents (bal s us a)) (other_of us h.kind)) 0))
-        (heads_at h.account.0 (head_less l.own.earlier (cents (bal s us h.account))) hs))
+    (head_less l.other.earlier (unwrap_or (option_map (λ a. cents (bal s us a)) (other_of us h.kind)) 0))
+    (heads_at h.account.0 (head_less l.own.earlier (cents (bal s us h.account))) hs))
 heads_front s us h hs l configured valid longer are linked =
     ChainFacts.heads_front s us h hs _ longer are (both_lengths hs h.account.0 (unwrap_or (other_of us h.kind) NOWHERE).0 own_less
-        other_less)
+    other_less)
     (λ a new e. at a new (changed s us h hs own_less other_less configured valid (Legal.IsValid-last s us h longer) are.count a new e))
   where
     own_less : Head → Head

@@ -24,7 +24,7 @@ impl Ledger {
         ensures refused { IfErr result (λ back. (self.new ≡ self.old) × (back.0 ≡ shadow)) }
         ensures reason { IfErr result (λ back. (refusal_of self.old.settings self.old.entries shadow ≡ Some back.1)
             ⊎ ((back.1 ≡ Refusal.OutOfMemory) × (refusal_of self.old.settings self.old.entries shadow ≡ None)
-                × (self.old.room ≡ 0))) }
+            × (self.old.room ≡ 0))) }
     {
         if let Err(refusal) = self.check(&shadow) {
             return Err((shadow, refusal));

@@ -79,7 +79,7 @@ first_cancel us x p t o is e = e ∙ ap (option_and_then (λ (u : Shadow). first
 pub cancelled_at : (us : List Shadow) (x : OpName) (p : ℕ) (t : Shadow) (o : Option ℕ) (n : ℕ) → IsFound us x p t →
     may_be_cancelled t.kind ≡ true
     → o ≡ option_and_then (λ (u : Shadow). first_cancel_in us u.name) (operation_at us p) → o ≡ Some n →
-        plan_of_cancel us x (find_in us x) ≡ Err (AlreadyCancelled n)
+    plan_of_cancel us x (find_in us x) ≡ Err (AlreadyCancelled n)
 cancelled_at us x p t o n is kind e some = past_kind us x t is.found kind
     ∙ at (is_cancelled us x) (sym (first_cancel us x p t o is e) ∙ some)
   where
@@ -95,7 +95,7 @@ cancelled_at us x p t o n is kind e some = past_kind us x t is.found kind
 pub planned_to_cancel : (us : List Shadow) (x : OpName) (p : ℕ) (t : Shadow) (o : Option ℕ) → IsFound us x p t →
     may_be_cancelled t.kind ≡ true
     → o ≡ option_and_then (λ (u : Shadow). first_cancel_in us u.name) (operation_at us p) → o ≡ None →
-        plan_of_cancel us x (find_in us x) ≡ Ok (record { account = t.account; amount = t.amount; kind = Cancel x })
+    plan_of_cancel us x (find_in us x) ≡ Ok (record { account = t.account; amount = t.amount; kind = Cancel x })
 planned_to_cancel us x p t o is kind e none = past_kind us x t is.found kind
     ∙ at (is_cancelled us x) (sym (first_cancel us x p t o is e) ∙ none)
   where

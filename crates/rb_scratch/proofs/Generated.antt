@@ -42,7 +42,7 @@ unfolding allowed
 within s me us token r p v e is low =
     let fits : nat_lt (limit_of s.limits v.name) (number_of v.name) ≡ false = not_below (limit_of s.limits v.name) (number_of v.name) low in
     planned s me us token r p e ∙ ap (allowed s us token) (sym is) ∙ ap
-        (λ b. cond b (Err NumbersExhausted) (cond (is_red v.name) (allowed_red s us token v) (Ok v))) fits
+    (λ b. cond b (Err NumbersExhausted) (cond (is_red v.name) (allowed_red s us token v) (Ok v))) fits
 
 named : (me : ℕ) (us : List Shadow) (p : Plan) (v : Shadow) → v ≡ operation_of me us p → v.name ≡ next_name me us (colour_in us p.kind)
 unfolding operation_of

@@ -28,7 +28,7 @@ one_left_out x [] back t is absent = ap (λ b. cond (not b) (t ∷ left_out x ba
 one_left_out x (u ∷ front) back t is absent =
     let apart = Members.or-false (same_name u.name x) (names (front ++ back) x) absent in
     ap (λ b. cond (not b) (u ∷ left_out x (front ++ t ∷ back)) (left_out x (front ++ t ∷ back))) apart.0
-        ∙ ap (λ ws. u ∷ ws) (one_left_out x front back t is apart.1)
+    ∙ ap (λ ws. u ∷ ws) (one_left_out x front back t is apart.1)
 
 -- an operation that is no cancellation changes nothing of what is cancelled
 same_cancelled : (front back : List Shadow) (t : Shadow) (y : OpName) → is_some (target_of t.kind) ≡ false →
@@ -46,9 +46,16 @@ less_its_delta s front back t q plain free =
     let was : Balances.worth us q t ≡ delta t q = Pushes.worth-kept us q t plain free in
     let rest : total (Balances.worth us q) (front ++ back) ≡ total (Balances.worth (front ++ back) q) (front ++ back) =
     Totals.total-same (Balances.worth us q) (Balances.worth (front ++ back) q) (front
-        ++ back) (λ u k. Balances.worth-same us (front ++ back) q u (same_cancelled front back t u.name plain)) in
-    omega (arith, ints, was, rest, Balances.bal-worth s us q, Balances.bal-worth s (front ++ back) q,
-        Totals.total-middle (Balances.worth us q) front back t)
+    ++ back) (λ u k. Balances.worth-same us (front ++ back) q u (same_cancelled front back t u.name plain)) in
+    omega (
+      arith,
+      ints,
+      was,
+      rest,
+      Balances.bal-worth s us q,
+      Balances.bal-worth s (front ++ back) q,
+      Totals.total-middle (Balances.worth us q) front back t,
+    )
 
 -- after the first cancellation of an operation each balance is that of the list without it
 pub cancelled_left_out : (s : Settings) (us : List Shadow) (v t : Shadow) (x : OpName) (q : Place) → target_of v.kind ≡ Some x → IsUnique us
@@ -68,10 +75,10 @@ cancelled_left_out s us v t x q target unique found plain free = at (Members.spl
     at : (front : List Shadow) × (back : List Shadow) × (us ≡ front ++ t ∷ back) → bal s (us ++ v ∷ []) q ≡ bal s (left_out x us) q
     at (front, back, e) =
         let apart : IsUnique (front ++ back) × (names (front ++ back) t.name ≡ false) =
-            Members.IsUnique-middle front back t (subst IsUnique e unique) in
+        Members.IsUnique-middle front back t (subst IsUnique e unique) in
         let absent : names (front ++ back) x ≡ false = ap (names (front ++ back)) (sym there.1) ∙ apart.1 in
         let is : same_name t.name x ≡ true = ap (same_name t.name) (sym there.1) ∙ Members.same_name-refl t.name in
         let left : left_out x us ≡ front ++ back = ap (left_out x) e ∙ one_left_out x front back t is absent in
         let less : bal s (front ++ back) q +ℤ delta t q ≡ bal s (front ++ t ∷ back) q =
-            less_its_delta s front back t q plain (ap (λ ws. is_cancelled ws t.name) (sym e) ∙ own) in
+        less_its_delta s front back t q plain (ap (λ ws. is_cancelled ws t.name) (sym e) ∙ own) in
         omega (arith, ints, taken, less, ap (λ ws. bal s ws q) e, ap (λ ws. bal s ws q) left)

@@ -135,8 +135,13 @@ plan_of_target s us x p e = by (find_in us x) refl e
     by (Some t) at e =
         let (m, e1) = Made.passed_by (not (may_be_cancelled t.kind)) _ _ p e in
         let (f, e2) = Made.passed_by (is_cancelled us x) _ _ p e1 in
-        record { target = t; found = at; may = Made.not_true (may_be_cancelled t.kind) m; free = f;
-            kind = sym (ap (λ (q : Plan). q.kind) (accepted p _ e2)) }
+        record {
+          target = t;
+          found = at;
+          may = Made.not_true (may_be_cancelled t.kind) m;
+          free = f;
+          kind = sym (ap (λ (q : Plan). q.kind) (accepted p _ e2));
+        }
 
 -- an operation has the kind of its plan
 pub kind_of_plan : (me : ℕ) (us : List Shadow) (p : Plan) (v : Shadow) → v ≡ operation_of me us p → v.kind ≡ p.kind
@@ -183,7 +188,7 @@ unfolding operation_of
 uncancelled s me us v p valid is =
     let x = next_name me us (colour_in us p.kind) in
     ap (λ (u : Shadow). is_cancelled us u.name) is ∙ Legal.fresh_uncancelled us x valid.targets
-        (Makes.fresh_name s me us (colour_in us p.kind) valid)
+    (Makes.fresh_name s me us (colour_in us p.kind) valid)
 
 -- what a plan makes does what the published bank does on its request
 pub plan_original : (s : Settings) (me : ℕ) (us : List Shadow) (p : Plan) (v : Shadow) (r : Request) → IsValid s us →
@@ -195,22 +200,22 @@ plan_original s me us p v (AskDeposit a n) valid is planned =
 plan_original s me us p v (AskWithdraw a n) valid is planned =
     let h = parts_of me us v p a n (if_covered s us a n Withdraw) is (plan_of_withdraw s us a n p planned) in
     λ q. (is_original s us v (uncancelled s me us v p valid is)).withdraw (h.kind
-        ∙ sym (ap (λ x. if_covered s us x v.amount Withdraw) h.account ∙ ap (λ m. if_covered s us a m Withdraw) h.amount)) q
+    ∙ sym (ap (λ x. if_covered s us x v.amount Withdraw) h.account ∙ ap (λ m. if_covered s us a m Withdraw) h.amount)) q
     ∙ ap (λ x. after_withdraw (bal s us) x v.amount q) h.account ∙ ap (λ m. after_withdraw (bal s us) a m q) h.amount
 plan_original s me us p v (AskInterest a rate) valid is planned =
     let h = parts_of me us v p a (interest_on (bal s us) a rate) Interest is (plan_of_interest s us a rate p planned) in
     λ q. (is_original s us v (uncancelled s me us v p valid is)).accrue rate h.kind (h.amount
-        ∙ sym (ap (λ x. interest_on (bal s us) x rate) h.account)) q
+    ∙ sym (ap (λ x. interest_on (bal s us) x rate) h.account)) q
     ∙ ap (λ x. after_accrue (bal s us) x rate q) h.account
 plan_original s me us p v (AskCancel x) valid is planned =
     let cancelled = plan_of_target s us x p planned in
     let target : target_of v.kind ≡ Some x = ap target_of (kind_of_plan me us p v is ∙ cancelled.kind) in
     λ q. LeftOut.cancelled_left_out s us v cancelled.target x q target valid.unique cancelled.found
-        (Pushes.plain_if_cancellable cancelled.target.kind cancelled.may) cancelled.free
+    (Pushes.plain_if_cancellable cancelled.target.kind cancelled.may) cancelled.free
 plan_original s me us p v (AskTransfer a c n) valid is planned =
     let h = parts_of me us v p a n (if_covered s us a n (Transfer c)) is (plan_of_transfer s us a c n p planned) in
     λ q. (is_original s us v (uncancelled s me us v p valid is)).transfer c (h.kind
-        ∙ sym (ap (λ x. if_covered s us x v.amount (Transfer c)) h.account ∙ ap (λ m. if_covered s us a m (Transfer c)) h.amount)) q
+    ∙ sym (ap (λ x. if_covered s us x v.amount (Transfer c)) h.account ∙ ap (λ m. if_covered s us a m (Transfer c)) h.amount)) q
     ∙ ap (λ x. after_transfer (bal s us) x c v.amount q) h.account ∙ ap (λ m. after_transfer (bal s us) a c m q) h.amount
 
 -- what holds for each request of the plan holds for this one

@@ -47,7 +47,7 @@ red_covered s us token v c is e money none = past_token s us token v c is e
 pub red_overdraws : (s : Settings) (us : List Shadow) (token : Token) (v : Shadow) (c : Deps) (why : Refusal) → c ≡ clock_of us →
     refusal_of_red token c.red ≡ None → is_some (target_of v.kind) ≡ true
     → refusal_of s us v ≡ cond (overdraws s us v) (Some WouldOverdraw) None → refusal_of s us v ≡ Some why →
-        allowed_red s us token v ≡ Err why
+    allowed_red s us token v ≡ Err why
 red_overdraws s us token v c why is e cancel money some = past_token s us token v c is e
     ∙ at (is_some (target_of v.kind)) (overdraws s us v) cancel (sym money ∙ some)
   where
@@ -63,7 +63,7 @@ red_overdraws s us token v c why is e cancel money some = past_token s us token 
 pub red_cancellation : (s : Settings) (us : List Shadow) (token : Token) (v : Shadow) (c : Deps) (r : Result (Unit {0}) Refusal) →
     c ≡ clock_of us → refusal_of_red token c.red ≡ None → is_some (target_of v.kind) ≡ true
     → refusal_of s us v ≡ cond (overdraws s us v) (Some WouldOverdraw) None →
-        MatchResult r (λ _. refusal_of s us v ≡ None) (λ why. refusal_of s us v ≡ Some why)
+    MatchResult r (λ _. refusal_of s us v ≡ None) (λ why. refusal_of s us v ≡ Some why)
     → MatchResult r (λ _. allowed_red s us token v ≡ Ok v) (λ why. allowed_red s us token v ≡ Err why)
 red_cancellation s us token v c (Ok x) is e cancel money none = red_covered s us token v c is e money none
 red_cancellation s us token v c (Err why) is e cancel money some = red_overdraws s us token v c why is e cancel money some

@@ -57,12 +57,22 @@ planned_cancel s us x (Some t) p found e =
     let (a, e1) = passed_by (not (may_be_cancelled t.kind)) _ _ p e in
     let (b, e2) = passed_by (is_cancelled us x) _ _ p e1 in
     let f : Among t us × (t.name ≡ x) = Lookups.found us x t found in
-    subst (λ (q : Plan). IsPlanned s us q q.kind) (at_ok p _ e2) (record { target = t; there = f.0; named = f.1; kind = not_true _ a;
-        account = refl; amount = refl; free = b })
+    subst (λ (q : Plan). IsPlanned s us q q.kind) (at_ok p _ e2) (record {
+      target = t;
+      there = f.0;
+      named = f.1;
+      kind = not_true _ a;
+      account = refl;
+      amount = refl;
+      free = b;
+    })
 
 planned_withdraw : (s : Settings) (us : List Shadow) (a : Place) (n : ℕ) (b : Bool) → int_lt (bal s us a) (pos n) ≡ b →
-    is_account s a ≡ true → is_amount n ≡ true → IsPlanned s us (record { account = a; amount = n;
-    kind = cond b Declined Withdraw }) (cond b Declined Withdraw)
+    is_account s a ≡ true → is_amount n ≡ true → IsPlanned s us (record {
+      account = a;
+      amount = n;
+      kind = cond b Declined Withdraw;
+    }) (cond b Declined Withdraw)
 planned_withdraw s us a n true e h k = record { account = h; amount = k }
 planned_withdraw s us a n false e h k = (record { account = h; amount = k }, e)
 
@@ -83,7 +93,7 @@ planned s us (AskWithdraw a n) p e =
     let (h, e1) = passed_by (not (is_account s a)) _ _ p e in
     let (k, e2) = passed_by (not (is_amount n)) _ _ p e1 in
     subst (λ (q : Plan). IsPlanned s us q q.kind) (at_ok p _ e2) (planned_withdraw s us a n (int_lt (bal s us a) (pos n)) refl
-        (not_true _ h) (not_true _ k))
+    (not_true _ h) (not_true _ k))
 planned s us (AskInterest a rate) p e =
     let (h, e1) = passed_by (not (is_account s a)) _ _ p e in
     let (k, e2) = passed_by (nat_lt MOST_RATE rate) _ _ p e1 in
@@ -96,4 +106,4 @@ planned s us (AskTransfer a c n) p e =
     let (k, e3) = passed_by (not (is_amount n)) _ _ p e2 in
     let (apart, e4) = passed_by (a.0 == c.0) _ _ p e3 in
     subst (λ (q : Plan). IsPlanned s us q q.kind) (at_ok p _ e4) (planned_transfer s us a c n (int_lt (bal s us a) (pos n)) refl
-        (not_true _ h) (not_true _ k) (not_true _ l) apart)
+    (not_true _ h) (not_true _ k) (not_true _ l) apart)

@@ -101,7 +101,7 @@ pub last_made : (base made : List Shadow) (book : Book) (records : List UndoPart
     n ≡ length book.entries - length records → drop n book.entries ≡ made
 last_made base made book records n tried e =
     let at : n ≡ length base = omega (arith, tried_length base made book records tried, ap length tried.entries, length-append base made, e)
-        in
+    in
     ap (drop n) tried.entries ∙ ap (λ k. drop k (base ++ made)) at ∙ drop-append_seam base made
 
 -- what may be added is refused only where memory runs out

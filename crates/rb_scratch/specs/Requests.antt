@@ -1,6 +1,6 @@
 -- What a request makes.
-use Rattle.std.specs.Prelude.{ℕ, ℤ, ◌+◌, if◌then◌else◌, not, ◌&&◌, nat_lt, ◌==◌, List, Option, Some, None, Result, Ok, Err, pos, int_lt}
-use Rattle.std.specs.Prelude.{option_and_then, is_some}
+use Rattle.std.specs.Prelude.{ℕ, ℤ, ◌+◌, if◌then◌else◌, not, ◌&&◌, nat_lt, ◌==◌, List, Result, Ok, Err, pos, int_lt}
+use Rattle.std.specs.Prelude.{is_some}
 use Rattle.rb_money.specs.Amounts.{cents, is_amount, interest}
 use Rattle.rb_money.specs.Refusals.{and_then, unless}
 use Rattle.std.specs.Prelude.{◌≡◌, ℕ, ◌<◌, ◌≤◌, [], ◌∷◌, ◌++◌}
@@ -14,7 +14,7 @@ use Rattle.rb_money.specs.declared.refusal.Refusal.TheVariants.{AlreadyCancelled
 use Rattle.rb_money.specs.declared.refusal.Refusal.TheVariants.{SameAccount}
 use Rattle.rb_money.specs.declared.cents.TheConstants.{MOST_CENTS}
 use Rattle.rb_money.specs.declared.rate.TheConstants.{MOST_RATE}
-use Rattle.rb_shadow.specs.Operations.{is_cancelled, bal, red_count, find_in, may_be_cancelled, is_red, colour_of, kind_in, target_of}
+use Rattle.rb_shadow.specs.Operations.{is_cancelled, bal, red_count, find_in, may_be_cancelled, is_red, target_of}
 use Rattle.rb_shadow.specs.Operations.{blue_count, clock_of, number_of, colour_in}
 use Rattle.rb_shadow.specs.Sound.{limit_of}
 use Rattle.rb_shadow.specs.declared.colour.Colour.{Colour}

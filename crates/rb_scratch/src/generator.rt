@@ -161,9 +161,9 @@ fn name_after(ledger: &Ledger, me: u8, colour: Colour) -> Result<OpName, Refusal
     requires { me < MOST_SITES }
     ensures { MatchResult result
         (λ name. (name ≡ next_name me ledger.now.entries colour)
-            × (number_of name ≤ limit_of ledger.now.settings.limits name))
+        × (number_of name ≤ limit_of ledger.now.settings.limits name))
         (λ why. (why ≡ Refusal.NumbersExhausted) × (limit_of ledger.now.settings.limits
-            (next_name me ledger.now.entries colour) < number_of (next_name me ledger.now.entries colour))) }
+        (next_name me ledger.now.entries colour) < number_of (next_name me ledger.now.entries colour))) }
 {
     let limits = ledger.config().limits();
     let counts = ledger.clock().deps();
@@ -186,10 +186,10 @@ fn operation(ledger: &Ledger, me: u8, effect: Effect) -> Result<Shadow, Refusal>
     requires colour { effect.colour ≡ colour_in ledger.now.entries effect.kind }
     ensures { MatchResult result
         (λ made. (made ≡ operation_of me ledger.now.entries (plan_of_effect effect))
-            × (number_of made.name ≤ limit_of ledger.now.settings.limits made.name))
+        × (number_of made.name ≤ limit_of ledger.now.settings.limits made.name))
         (λ why. (why ≡ Refusal.NumbersExhausted) × (limit_of ledger.now.settings.limits
-            (operation_of me ledger.now.entries (plan_of_effect effect)).name
-            < number_of (operation_of me ledger.now.entries (plan_of_effect effect)).name)) }
+        (operation_of me ledger.now.entries (plan_of_effect effect)).name
+        < number_of (operation_of me ledger.now.entries (plan_of_effect effect)).name)) }
 {
     let name = name_after(ledger, me, effect.colour)?;
     Ok(Shadow {

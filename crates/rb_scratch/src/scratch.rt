@@ -74,7 +74,7 @@ fn try_one(
     ensures ran { IfOk result (λ name. (v : TheShadow) × (name ≡ v.name)
         × IsAdded ledger.old ledger.new undos.old.parts undos.new.parts v
         × ((known : Token) → Shows token known → made_in_batch ledger.old.settings token.me ledger.old.entries known
-            request.now ≡ Ok v)) }
+        request.now ≡ Ok v)) }
     ensures fault { IfErr result (λ fault. (known : Token) → Shows token known →
         IsFault ledger.old undos.old.parts token.me known request.now fault) }
     ensures unchanged { OnErr result ((ledger.new ≡ ledger.old) × (undos.new.parts ≡ undos.old.parts)) }
@@ -132,8 +132,8 @@ impl<'a> Scratch<'a> {
         ensures ran { IfOk result (λ name. (v : TheShadow) × (name ≡ v.name)
             × IsAdded self.old.ledger.now self.new.ledger.now self.old.undos.parts self.new.undos.parts v
             × ((known : Token) → Shows self.old.token known →
-                made_in_batch self.old.ledger.now.settings self.old.token.me self.old.ledger.now.entries known
-                request.now ≡ Ok v)) }
+            made_in_batch self.old.ledger.now.settings self.old.token.me self.old.ledger.now.entries known
+            request.now ≡ Ok v)) }
         ensures fault { IfErr result (λ fault. (known : Token) → Shows self.old.token known →
             IsFault self.old.ledger.now self.old.undos.parts self.old.token.me known request.now fault) }
         ensures unchanged { OnErr result ((self.new.ledger.now ≡ self.old.ledger.now)

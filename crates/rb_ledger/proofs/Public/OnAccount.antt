@@ -41,12 +41,16 @@ pub on_sides : (us : List Shadow) (u : Shadow) (a : Place) → is_on us u a ≡ 
 on_sides us u a e = at (other_of us u.kind) e
   where
     at : (o : Option Place) → list_any (λ (p : Place). p.0 == a.0) (u.account ∷ option_to_list o) ≡ true → (u.account ≡ a) ⊎ (o ≡ Some a)
-    at None e = elim (Members.or-true _ _ e) [ inl k ↦ inl (same_place u.account a (number_sound _ _ k))
-        | inr k ↦ absurd (Members.true≢false (sym k)) ]
+    at None e = elim (Members.or-true _ _ e) [
+      | inl k ↦ inl (same_place u.account a (number_sound _ _ k))
+      | inr k ↦ absurd (Members.true≢false (sym k))
+    ]
     at (Some b) e = elim (Members.or-true _ _ e) [
       | inl k ↦ inl (same_place u.account a (number_sound _ _ k))
-      | inr k ↦ elim (Members.or-true _ _ k) [ inl j ↦ inr (ap Some (same_place b a (number_sound _ _ j)))
-          | inr j ↦ absurd (Members.true≢false (sym j)) ]
+      | inr k ↦ elim (Members.or-true _ _ k) [
+        | inl j ↦ inr (ap Some (same_place b a (number_sound _ _ j)))
+        | inr j ↦ absurd (Members.true≢false (sym j))
+      ]
     ]
 
 -- and that it is on both
@@ -114,7 +118,7 @@ unmoved f us a p (suc d) still low none =
     let apart : is_on (take (p + d) us) u a ≡ false = off (p + d) u refl there (Members.bool_cases (is_on (take (p + d) us) u a)) in
     ap (λ n. f (take n us)) next ∙ still (p + d) u there apart
     ∙ unmoved f us a p d still (omega arith) (none_in_front us (p + d) a p (λ i v near e own. none_of_front us (p
-        + suc d) a p i v none (omega arith) e own))
+    + suc d) a p i v none (omega arith) e own))
   where
     off : (i : ℕ) (u : Shadow) → i ≡ p + d → slice_get us i ≡ Some u → (is_on (take i us) u a ≡ true) ⊎ (is_on (take i us) u a ≡ false) →
         is_on (take i us) u a ≡ false
@@ -129,7 +133,7 @@ as_of_last f us a n p still low last =
     let within : p ≤ n = on_taken_within us n a p last.on in
     let split : p + (n - p) ≡ n = omega arith in
     ap (λ k. f (take k us)) (sym split) ∙ unmoved f us a p (n - p) still (omega arith)
-        (subst (λ k. IsNoneAfter (take k us) a p) (sym split) last.after)
+    (subst (λ k. IsNoneAfter (take k us) a p) (sym split) last.after)
 
 -- an operation changes nothing on an account that it isn't on
 pub unchanged : (s : Settings) (us : List Shadow) (a : Place) (i : ℕ) (u : Shadow) → IsValid s us → slice_get us i ≡ Some u →
@@ -142,5 +146,9 @@ unchanged s us a i u valid there apart =
 pub last_balance : (s : Settings) (us : List Shadow) (a : Place) (n p : ℕ) → IsValid s us → n ≤ length us → IsLast (take n us) a p →
     bal s (take n us) a ≡ bal s (take p us) a
 last_balance s us a n p valid low last =
-    as_of_last (λ vs. bal s vs a) us a n p (λ i u there apart. omega (arith, ints, Moves.moved_on s us a i u valid there,
-        unchanged s us a i u valid there apart)) low last
+    as_of_last (λ vs. bal s vs a) us a n p (λ i u there apart. omega (
+      arith,
+      ints,
+      Moves.moved_on s us a i u valid there,
+      unchanged s us a i u valid there apart,
+    )) low last

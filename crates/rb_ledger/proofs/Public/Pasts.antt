@@ -79,7 +79,7 @@ pub transitive : (s : Settings) (all : List Shadow) (u v : Shadow) → IsUnique 
 transitive s all u v unique h p before x k =
     sym (p.is_past x)
     ∙ past_inside p.before u (Legal.IsValid-front s p.before (v ∷ []) p.valid).past_before
-        (named_there all p.before u unique p.part h (p.is_past u.name ∙ before)) x k
+    (named_there all p.before u unique p.part h (p.is_past u.name ∙ before)) x k
 
 -- ---- the colour
 
@@ -133,8 +133,13 @@ is_covered s all unique pasts = record {
   taken_red = λ u h e. is_red-shown u.name (colour_in all u.kind) (shown s all u unique (pasts u h)) (takes_red u.kind _ e);
   cancel_red = λ u c h k e a. is_red-shown c.name (colour_in all c.kind) (shown s all c unique (pasts c k))
       (undoes_red all u c.kind unique h e a);
-  checked = λ r h red. let p = pasts r h in (p.before, p.part, unique_past s all r p, p.is_past,
-      λ a. Legal.covers s (p.before ++ r ∷ []) a p.valid);
+  checked = λ r h red. let p = pasts r h in (
+    p.before,
+    p.part,
+    unique_past s all r p,
+    p.is_past,
+    λ a. Legal.covers s (p.before ++ r ∷ []) a p.valid,
+  );
 }
 
 -- ---- at a list that has its past

@@ -65,7 +65,7 @@ allowed_facts s us token u v (Red n) e =
     let a : (not token.held ≡ false) × _ = past_first (not token.held) _ _ q.0 in
     let b : (nat_lt (red_count us) token.needed ≡ false) × _ = past_first (nat_lt (red_count us) token.needed) _ _ a.1 in
     let c : ((is_some (target_of u.kind) && overdraws s us u) ≡ false) × _ =
-        passed_by (is_some (target_of u.kind) && overdraws s us u) _ _ v q.1 in
+    passed_by (is_some (target_of u.kind) && overdraws s us u) _ _ v q.1 in
     (let h : v ≡ u = let k = c.1 in cc in h, (not_true token.held a.0, let k = b.0 in grind (arith, nat_tests), c.0))
 
 allowed_is : (s : Settings) (us : List Shadow) (token : Token) (u v : Shadow) → allowed s us token u ≡ Ok v →
@@ -73,7 +73,7 @@ allowed_is : (s : Settings) (us : List Shadow) (token : Token) (u v : Shadow) �
 unfolding allowed
 allowed_is s us token u v e =
     let a : (nat_lt (limit_of s.limits u.name) (number_of u.name) ≡ false) × _ =
-        passed_by (nat_lt (limit_of s.limits u.name) (number_of u.name)) _ _ v e in
+    passed_by (nat_lt (limit_of s.limits u.name) (number_of u.name)) _ _ v e in
     let b : (v ≡ u) × IsAllowed s us token u u.name = allowed_facts s us token u v u.name a.1 in
     (b.0, let k = a.0 in grind (arith, nat_tests), b.1)
 
@@ -111,7 +111,7 @@ stopped_by why = Err (RefusedFault why)
 planned_is : (s : Settings) (me : ℕ) (us : List Shadow) (token : Token) (r : Request) (v : Shadow) (q : Result Plan Refusal) →
     plan_of s us r ≡ q
     → and_then stopped_by q (λ p. cond (same_kind p.kind Declined) (Err DeclinedFault)
-        (and_then stopped_by (allowed s us token (operation_of me us p)) Ok)) ≡ Ok v → IsMadeAt s me us token v
+    (and_then stopped_by (allowed s us token (operation_of me us p)) Ok)) ≡ Ok v → IsMadeAt s me us token v
 planned_is s me us token r v (Err why) planned h = cc
 planned_is s me us token r v (Ok p) planned h = at (same_kind p.kind Declined) h
   where

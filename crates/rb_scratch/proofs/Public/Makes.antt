@@ -46,8 +46,14 @@ use Rattle.rb_ledger.proofs.Public.OnAccount
 
 -- what a plan makes at a site that applied us
 abbrev pub shadow_of : ℕ → List Shadow → Plan → Shadow
-shadow_of me us p = record { name = next_name me us (colour_in us p.kind); home = me; deps = clock_of us; account = p.account;
-    amount = p.amount; kind = p.kind }
+shadow_of me us p = record {
+  name = next_name me us (colour_in us p.kind);
+  home = me;
+  deps = clock_of us;
+  account = p.account;
+  amount = p.amount;
+  kind = p.kind;
+}
 
 operation_is : (me : ℕ) (us : List Shadow) (p : Plan) → operation_of me us p ≡ shadow_of me us p
 unfolding operation_of
@@ -113,7 +119,7 @@ plan_sound s me us p few here valid fit =
     (on _ 5 _ (well_coloured me us p.kind (option_and_then (kind_in us) (target_of p.kind)))
     (on _ 6 _ (all_seen s us (shadow_of me us p) (target_of p.kind) few valid fit.target)
     (on _ 7 _ (Members.false-or _ _ (ap not (ValidClocks.clock_is_clock s us valid))
-        (ap not (next_entry me us (colour_in us p.kind) (omega arith)))) refl))))))
+    (ap not (next_entry me us (colour_in us p.kind) (omega arith)))) refl))))))
   where
     within : (m n : ℕ) → n < m → nat_le m n ≡ false
     within m n h = grind (arith, nat_tests)
@@ -172,8 +178,8 @@ not_overdrawn s me us token v RedColour e fair = fair.2
 -- a plan of the kind, for an account and an amount of the configuration
 fit_plain : (s : Settings) (me : ℕ) (us : List Shadow) (p : Plan) (k : Kind) → p.kind ≡ k
     → is_account s p.account ≡ true → is_misdirected (length s.starts) p.account (receiver_of k) ≡ false →
-        nat_lt MOST_CENTS p.amount ≡ false → (p.amount == 0 && not (may_be_nothing k)) ≡ false →
-        HasTarget us (shadow_of me us p) (target_of k)
+    nat_lt MOST_CENTS p.amount ≡ false → (p.amount == 0 && not (may_be_nothing k)) ≡ false →
+    HasTarget us (shadow_of me us p) (target_of k)
     → number_of (next_name me us (colour_in us p.kind)) ≤ limit_of s.limits (next_name me us (colour_in us p.kind))
     → IsFit s me us p
 fit_plain s me us p k e known right low some target within = record {
@@ -201,8 +207,12 @@ fit_cancel s me us p x valid e c within = record {
   receiver = ap (λ j. is_misdirected (length s.starts) p.account (receiver_of j)) e;
   amount = ap (nat_lt MOST_CENTS) (sym c.amount) ∙ facts.amount;
   something = ap (λ j. p.amount == 0 && not (may_be_nothing j)) e ∙ and-false (p.amount == 0);
-  target = subst (λ j. HasTarget us (shadow_of me us p) (target_of j)) (sym e) (c.target, c.there, c.named,
-      record { kind = c.kind; account = c.account; amount = c.amount });
+  target = subst (λ j. HasTarget us (shadow_of me us p) (target_of j)) (sym e) (
+    c.target,
+    c.there,
+    c.named,
+    record { kind = c.kind; account = c.account; amount = c.amount },
+  );
   within = within;
 }
   where
@@ -227,9 +237,15 @@ covered_plain : (s : Settings) (me : ℕ) (us : List Shadow) (p : Plan) (k : Kin
     → pos 0 ≤ℤ (bal s us p.account +ℤ moved k p.amount) → pos 0 ≤ℤ bal s (us ++ shadow_of me us p ∷ []) p.account
 covered_plain s me us p k valid e plain ok =
     let own : delta (shadow_of me us p) p.account ≡ moved k p.amount =
-        Pushes.own_delta (shadow_of me us p) p.account refl ∙ ap (λ j. moved j p.amount) e in
-    omega (arith, ints, ok, own, Pushes.bal-push_plain s us (shadow_of me us p) p.account (ap (λ k. is_some (target_of k)) e
-        ∙ plain) (uncancelled s me us p valid))
+    Pushes.own_delta (shadow_of me us p) p.account refl ∙ ap (λ j. moved j p.amount) e in
+    omega (
+      arith,
+      ints,
+      ok,
+      own,
+      Pushes.bal-push_plain s us (shadow_of me us p) p.account (ap (λ k. is_some (target_of k)) e
+          ∙ plain) (uncancelled s me us p valid),
+    )
 
 covered_cancel : (s : Settings) (me : ℕ) (us : List Shadow) (token : Token) (p : Plan) (x : OpName) → IsValid s us → p.kind ≡ Cancel x →
     (c : Cancels us x p) → HasTarget us (shadow_of me us p) (target_of p.kind)
@@ -258,20 +274,26 @@ covered_cancel s me us token p x valid e c target fair a side = at (colour_in us
     at : (d : Colour) → colour_in us p.kind ≡ d → pos 0 ≤ℤ bal s (us ++ shadow_of me us p ∷ []) a
     at RedColour q =
         let none : overdraws s us (shadow_of me us p) ≡ false = second (is_some (target_of p.kind)) (overdraws s us (shadow_of me us p))
-            (ap (λ k. is_some (target_of k)) e) (not_overdrawn s me us token (shadow_of me us p) (colour_in us p.kind) q fair) in
+        (ap (λ k. is_some (target_of k)) e) (not_overdrawn s me us token (shadow_of me us p) (colour_in us p.kind) q fair) in
         Legal.covers_nothing _ (Legal.none_of (λ (b : Place). int_lt (bal s (us ++ shadow_of me us p ∷ []) b) (pos 0))
-            (accounts_on us (shadow_of me us p)) a none side)
+        (accounts_on us (shadow_of me us p)) a none side)
     at BlueColour q =
         let coloured : colour_of (Cancel x) (Some c.target.kind) ≡ BlueColour =
-            ap (colour_of (Cancel x)) (sym kind_is) ∙ ap (λ j. colour_of j (option_and_then (kind_in us) (target_of j))) (sym e) ∙ q in
+        ap (colour_of (Cancel x)) (sym kind_is) ∙ ap (λ j. colour_of j (option_and_then (kind_in us) (target_of j))) (sym e) ∙ q in
         let gives : pos 0 ≤ℤ neg_ℤ (moved c.target.kind p.amount) = blue_gives x c.target.kind p.amount coloured in
         let back : Pushes.change us (shadow_of me us p) p.account ≡ neg_ℤ (moved c.target.kind p.amount) =
         ap (λ j. Pushes.change_by us (shadow_of me us p) (target_of j) p.account) e
         ∙ Pushes.change_back us (shadow_of me us p) c.target x valid.unique
-            (subst (λ j. HasTarget us (shadow_of me us p) (target_of j)) e target) found c.free in
+        (subst (λ j. HasTarget us (shadow_of me us p) (target_of j)) e target) found c.free in
         let own : pos 0 ≤ℤ bal s (us ++ shadow_of me us p ∷ []) p.account =
-        omega (arith, ints, gives, back, Legal.covers s us p.account valid,
-            Pushes.bal-push s us (shadow_of me us p) p.account valid.unique (uncancelled s me us p valid) target) in
+        omega (
+          arith,
+          ints,
+          gives,
+          back,
+          Legal.covers s us p.account valid,
+          Pushes.bal-push s us (shadow_of me us p) p.account valid.unique (uncancelled s me us p valid) target,
+        ) in
         elim (OnAccount.on_sides us (shadow_of me us p) a side) [
           | inl k ↦ subst (λ (b : Place). pos 0 ≤ℤ bal s (us ++ shadow_of me us p ∷ []) b) k own
           | inr k ↦ absurd (alone coloured k)
@@ -294,10 +316,16 @@ covered_sides s me us p k valid e plain right own a side = elim (OnAccount.on_si
         let off : (p.account.0 == a.0) ≡ false = apart a (ap (is_misdirected (length s.starts) p.account) (sym h) ∙ right) in
         let more : delta (shadow_of me us p) a ≡ pos p.amount =
         ap (λ c. cond c (moved p.kind p.amount) (arrived (receiver_of p.kind) p.amount a)) off
-            ∙ ap (λ j. arrived (receiver_of j) p.amount a) e ∙ ap (λ o. arrived o p.amount a) h
-            ∙ ap (λ c. cond c (pos p.amount) (pos 0)) (number_same a.0) in
-        omega (arith, ints, more, Legal.covers s us a valid, Pushes.bal-push_plain s us (shadow_of me us p) a
-            (ap (λ k. is_some (target_of k)) e ∙ ap is_some plain) (uncancelled s me us p valid))
+        ∙ ap (λ j. arrived (receiver_of j) p.amount a) e ∙ ap (λ o. arrived o p.amount a) h
+        ∙ ap (λ c. cond c (pos p.amount) (pos 0)) (number_same a.0) in
+        omega (
+          arith,
+          ints,
+          more,
+          Legal.covers s us a valid,
+          Pushes.bal-push_plain s us (shadow_of me us p) a
+              (ap (λ k. is_some (target_of k)) e ∙ ap is_some plain) (uncancelled s me us p valid),
+        )
 
 -- what is planned and allowed leaves none of its accounts less than nothing
 covered : (s : Settings) (me : ℕ) (us : List Shadow) (token : Token) (p : Plan) (k : Kind) → IsValid s us → p.kind ≡ k → IsPlanned s us p k
@@ -306,11 +334,11 @@ covered : (s : Settings) (me : ℕ) (us : List Shadow) (token : Token) (p : Plan
     → (a : Place) → is_on us (shadow_of me us p) a ≡ true → pos 0 ≤ℤ bal s (us ++ shadow_of me us p ∷ []) a
 covered s me us token p Withdraw valid e h target fair =
     covered_sides s me us p Withdraw valid e refl refl (covered_plain s me us p Withdraw valid e refl
-        (let some : pos p.amount ≤ℤ bal s us p.account = enough (bal s us p.account) p.amount h.1 in omega (arith, ints, some)))
+    (let some : pos p.amount ≤ℤ bal s us p.account = enough (bal s us p.account) p.amount h.1 in omega (arith, ints, some)))
 covered s me us token p (Transfer to) valid e (ask, known, account, apart) target fair =
     covered_sides s me us p (Transfer to) valid e refl (directed s p to account apart)
     (covered_plain s me us p (Transfer to) valid e refl (let some : pos p.amount ≤ℤ bal s us p.account = enough (bal s us p.account)
-        p.amount known in omega (arith, ints, some)))
+    p.amount known in omega (arith, ints, some)))
 covered s me us token p (Cancel x) valid e h target fair = covered_cancel s me us token p x valid e h target fair
 covered s me us token p k valid e h target fair = covered_sides s me us p k valid e refl refl
     (covered_plain s me us p k valid e refl (omega (arith, ints, Legal.covers s us p.account valid)))
@@ -322,11 +350,11 @@ made_follows s me us token v few here valid m =
     let is : v ≡ shadow_of me us m.plan = m.is ∙ operation_is me us m.plan in
     let planned : IsPlanned s us m.plan m.plan.kind = Planned.planned s us m.request m.plan m.planned in
     let fits : IsFit s me us m.plan = fit s me us m.plan m.plan.kind valid refl planned (subst (λ (u : Shadow). number_of u.name
-        ≤ limit_of s.limits u.name) is m.within) in
+    ≤ limit_of s.limits u.name) is m.within) in
     subst (Legal.MayFollow s us) (sym is)
     (plan_follows s me us m.plan few here valid fits
     (covered s me us token m.plan m.plan.kind valid refl planned fits.target
-        (subst (λ (u : Shadow). IsAllowed s us token u u.name) is m.fair)))
+    (subst (λ (u : Shadow). IsAllowed s us token u u.name) is m.fair)))
 
 -- what a request makes at a valid list may be added to it
 pub made_is_valid : (s : Settings) (me : ℕ) (us : List Shadow) (token : Token) (r : Request) (v : Shadow) → s.sites ≤ MOST_SITES →
@@ -342,12 +370,12 @@ pub refused_for_money : (s : Settings) (me : ℕ) (us : List Shadow) (r : Reques
 refused_for_money s me us r p v few here valid planned made within =
     let is : v ≡ shadow_of me us p = made ∙ operation_is me us p in
     let fits : IsFit s me us p = fit s me us p p.kind valid refl (Planned.planned s us r p planned) (subst (λ (u : Shadow). number_of u.name
-        ≤ limit_of s.limits u.name) is within) in
+    ≤ limit_of s.limits u.name) is within) in
     subst (λ (u : Shadow). refusal_of s us u ≡ cond (overdraws s us u) (Some WouldOverdraw) None) (sym is)
-        (at (shadow_of me us p) (plan_sound s me us p few here valid fits) (fresh_name s me us (colour_in us p.kind) valid)
-        (Eligible.eligible_from us (shadow_of me us p) (seen_past s me us p few valid))
+    (at (shadow_of me us p) (plan_sound s me us p few here valid fits) (fresh_name s me us (colour_in us p.kind) valid)
+    (Eligible.eligible_from us (shadow_of me us p) (seen_past s me us p few valid))
     (Legal.no_wrong_target us (shadow_of me us p) (target_of p.kind) valid.unique fits.target)
-        (ap (λ c. same_colour c (colour_in us p.kind)) (shows me us (colour_in us p.kind)) ∙ Legal.same_colour-refl (colour_in us p.kind)))
+    (ap (λ c. same_colour c (colour_in us p.kind)) (shows me us (colour_in us p.kind)) ∙ Legal.same_colour-refl (colour_in us p.kind)))
   where
     at : (u : Shadow) → IsSound s u → names us u.name ≡ false → is_eligible us u ≡ true → has_wrong_target us u (target_of u.kind) ≡ false →
         same_colour (shown_colour u.name) (colour_in us u.kind) ≡ true →

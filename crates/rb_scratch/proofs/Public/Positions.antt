@@ -30,7 +30,7 @@ position-found (u ∷ us) x k h = at (same_name u.name x) h (position-found us x
     at : (b : Bool) → (b || names us x) ≡ true → (names us x ≡ true → (k + 1 ≤ position_from (k + 1) us x)
         × (slice_get us (position_from (k + 1) us x - (k + 1)) ≡ find_in us x))
         → (k ≤ cond b k (position_from (k + 1) us x)) × (slice_get (u ∷ us) (cond b k (position_from (k + 1) us x) - k)
-            ≡ cond b (Some u) (find_in us x))
+        ≡ cond b (Some u) (find_in us x))
     at true h more = (omega arith, rw (first k) refl)
     at false h more =
         let q : (k + 1 ≤ position_from (k + 1) us x) × (slice_get us (position_from (k + 1) us x - (k + 1)) ≡ find_in us x) = more h in
@@ -53,5 +53,5 @@ at_position us x p h = at (names us x) refl h
         let q : (1 ≤ position_from 1 us x) × (slice_get us (position_from 1 us x - 1) ≡ find_in us x) = position-found us x 1 e in
         let is : position_from 1 us x ≡ p = cc in
         subst (λ n. operation_at us n ≡ find_in us x) is (ap (λ b. cond b None (slice_get us (position_from 1 us x - 1)))
-            (positive (position_from 1 us x) q.0) ∙ q.1)
+        (positive (position_from 1 us x) q.0) ∙ q.1)
     at false e h = cc

@@ -25,9 +25,9 @@ returns-in-Err-clause-made c = λ known shows. ap refused c.in-Err.ensures.0
 pub permit_red-requires : goal.permit_red-requires
 permit_red-requires c =
     Makes.refused_for_money c.args.ledger.now.settings c.args.token.now.me c.args.ledger.now.entries (c.requires.plan).0
-        (plan_of_effect c.args.effect) c.in-Ok.shadow
+    (plan_of_effect c.args.effect) c.in-Ok.shadow
     (few_sites _ _ _ c.config.ensures.same c.sites-sites.ensures.same c.sites-sites.ensures.few) c.requires.site c.config.ensures.valid
-        (c.requires.plan).1 c.in-Ok.ensures.0 c.in-Ok.ensures.1
+    (c.requires.plan).1 c.in-Ok.ensures.0 c.in-Ok.ensures.1
 
 pub returns-in-Blue-clause-made : goal.returns-in-Blue-clause-made
 returns-in-Blue-clause-made c = λ known shows. sym (Generated.blue_made _ _ _ known _ _ _ (c.requires.plan).1 c.in-Ok.ensures.0
@@ -36,18 +36,18 @@ returns-in-Blue-clause-made c = λ known shows. sym (Generated.blue_made _ _ _ k
 pub returns-in-Blue-clause-valid : goal.returns-in-Blue-clause-valid
 returns-in-Blue-clause-valid c =
     Makes.made_is_valid _ _ _ (Tokens.seen c.args.token.now) (c.requires.plan).0 _
-        (few_sites _ _ _ c.config.ensures.same c.sites-sites.ensures.same c.sites-sites.ensures.few) c.requires.site c.config.ensures.valid
+    (few_sites _ _ _ c.config.ensures.same c.sites-sites.ensures.same c.sites-sites.ensures.few) c.requires.site c.config.ensures.valid
     (Generated.blue_made _ _ _ _ _ _ _ (c.requires.plan).1 c.in-Ok.ensures.0 c.in-Ok.ensures.1 (sym c.requires.colour ∙ c.in-Blue.is))
 
 pub returns-in-Ok-permit_red-clause-made : goal.returns-in-Ok-permit_red-clause-made
 returns-in-Ok-permit_red-clause-made c =
     λ known shows. sym (Generated.red_made _ _ _ known _ _ _ (c.requires.plan).1 c.in-Ok.ensures.0 c.in-Ok.ensures.1 (sym c.requires.colour
-        ∙ c.in-Red.is) ∙ c.in-Ok-permit_red.ensures known shows) ∙ Generated.planned _ _ _ known _ _ (c.requires.plan).1
+    ∙ c.in-Red.is) ∙ c.in-Ok-permit_red.ensures known shows) ∙ Generated.planned _ _ _ known _ _ (c.requires.plan).1
 
 pub returns-in-Ok-permit_red-clause-valid : goal.returns-in-Ok-permit_red-clause-valid
 returns-in-Ok-permit_red-clause-valid c =
     Makes.made_is_valid _ _ _ (Tokens.seen c.args.token.now) (c.requires.plan).0 _
-        (few_sites _ _ _ c.config.ensures.same c.sites-sites.ensures.same c.sites-sites.ensures.few) c.requires.site c.config.ensures.valid
+    (few_sites _ _ _ c.config.ensures.same c.sites-sites.ensures.same c.sites-sites.ensures.few) c.requires.site c.config.ensures.valid
     (
     Generated.red_made _ _ _ _ _ _ _ (c.requires.plan).1 c.in-Ok.ensures.0 c.in-Ok.ensures.1 (sym c.requires.colour ∙ c.in-Red.is)
     ∙ c.in-Ok-permit_red.ensures (Tokens.seen c.args.token.now) (Tokens.seen_shows c.args.token.now)
@@ -56,7 +56,7 @@ returns-in-Ok-permit_red-clause-valid c =
 pub returns-in-Err-permit_red-clause-made : goal.returns-in-Err-permit_red-clause-made
 returns-in-Err-permit_red-clause-made c =
     λ known shows. sym (Generated.red_made _ _ _ known _ _ _ (c.requires.plan).1 c.in-Ok.ensures.0 c.in-Ok.ensures.1 (sym c.requires.colour
-        ∙ c.in-Red.is) ∙ c.in-Err-permit_red.ensures known shows) ∙ Generated.planned _ _ _ known _ _ (c.requires.plan).1
+    ∙ c.in-Red.is) ∙ c.in-Err-permit_red.ensures known shows) ∙ Generated.planned _ _ _ known _ _ (c.requires.plan).1
 
 pub returns-in-Blue-clause-kind : goal.returns-in-Blue-clause-kind
 returns-in-Blue-clause-kind c = Originals.kind_of_plan c.args.token.now.me _ _ _ c.in-Ok.ensures.0

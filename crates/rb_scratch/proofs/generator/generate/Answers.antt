@@ -17,7 +17,7 @@ returns-in-Err-clause-made c = λ known shows. sym (Generated.unplanned _ _ _ kn
 pub returns-in-Ok-clause-kind : goal.returns-in-Ok-clause-kind
 returns-in-Ok-clause-kind c =
     Originals.of_kind c.carry_out.result _ _ c.carry_out.ensures.kind (Originals.granted c.args.ledger.now.settings
-        c.args.ledger.now.entries c.args.request.now _ c.in-Ok.ensures.plan)
+    c.args.ledger.now.entries c.args.request.now _ c.in-Ok.ensures.plan)
 
 pub returns-in-Ok-clause-original : goal.returns-in-Ok-clause-original
 returns-in-Ok-clause-original c = Originals.of_request _ _ _ _ c.carry_out.result c.carry_out.ensures.original c.in-Ok.ensures.plan

@@ -18,31 +18,31 @@ pub returns-then-not-may_be_cancelled-clause-reason : goal.returns-then-not-may_
 unfolding plan_of
 returns-then-not-may_be_cancelled-clause-reason c =
     let is : IsFound c.args.ledger.now.entries c.args.target c.in-Some.position c.unwrap-found.result.now =
-        Found.is_found _ _ _ c.entry.result c.unwrap-found.result (sym c.find.ensures ∙ c.in-Some.is) c.entry.ensures c.unwrap-found.ensures
-        in
+    Found.is_found _ _ _ c.entry.result c.unwrap-found.result (sym c.find.ensures ∙ c.in-Some.is) c.entry.ensures c.unwrap-found.ensures
+    in
     Found.uncancellable c.args.ledger.now.entries c.args.target _ is.found (sym c.may_be_cancelled.ensures ∙ c.if-not-may_be_cancelled.true)
 
 pub returns-in-Some-first_cancel-clause-reason : goal.returns-in-Some-first_cancel-clause-reason
 unfolding plan_of
 returns-in-Some-first_cancel-clause-reason c =
     let is : IsFound c.args.ledger.now.entries c.args.target c.in-Some.position c.unwrap-found.result.now =
-        Found.is_found _ _ _ c.entry.result c.unwrap-found.result (sym c.find.ensures ∙ c.in-Some.is) c.entry.ensures c.unwrap-found.ensures
-        in
+    Found.is_found _ _ _ c.entry.result c.unwrap-found.result (sym c.find.ensures ∙ c.in-Some.is) c.entry.ensures c.unwrap-found.ensures
+    in
     Found.cancelled_at c.args.ledger.now.entries c.args.target _ _ _ _ is (sym c.may_be_cancelled.ensures
-        ∙ c.if-not-may_be_cancelled.false) c.first_cancel.ensures c.in-Some-first_cancel.is
+    ∙ c.if-not-may_be_cancelled.false) c.first_cancel.ensures c.in-Some-first_cancel.is
 
 pub returns-clause-planned : goal.returns-clause-planned
 unfolding plan_of
 returns-clause-planned c =
     let is : IsFound c.args.ledger.now.entries c.args.target c.in-Some.position c.unwrap-found.result.now =
-        Found.is_found _ _ _ c.entry.result c.unwrap-found.result (sym c.find.ensures ∙ c.in-Some.is) c.entry.ensures c.unwrap-found.ensures
-        in
+    Found.is_found _ _ _ c.entry.result c.unwrap-found.result (sym c.find.ensures ∙ c.in-Some.is) c.entry.ensures c.unwrap-found.ensures
+    in
     Found.planned_to_cancel c.args.ledger.now.entries c.args.target _ _ _ is (sym c.may_be_cancelled.ensures
-        ∙ c.if-not-may_be_cancelled.false) c.first_cancel.ensures c.in_default-first_cancel.is
+    ∙ c.if-not-may_be_cancelled.false) c.first_cancel.ensures c.in_default-first_cancel.is
 
 pub returns-clause-colour : goal.returns-clause-colour
 returns-clause-colour c =
     let is : IsFound c.args.ledger.now.entries c.args.target c.in-Some.position c.unwrap-found.result.now =
-        Found.is_found _ _ _ c.entry.result c.unwrap-found.result (sym c.find.ensures ∙ c.in-Some.is) c.entry.ensures c.unwrap-found.ensures
-        in
+    Found.is_found _ _ _ c.entry.result c.unwrap-found.result (sym c.find.ensures ∙ c.in-Some.is) c.entry.ensures c.unwrap-found.ensures
+    in
     c.colour.ensures ∙ ap (colour_of (Cancel c.args.target)) (sym (Found.kind_is _ _ _ _ is))

@@ -15,11 +15,18 @@ undos-preserved c = record {
   tried = λ base made tried.
       let (left, now) = c.undos.invariant.tried base made tried in
       let last = Tries.last_record base left c.undos.ledger c.undos.undos.parts c.pop.new.self.parts c.in-Some.undo now c.in-Some.ensures in
-      let (v, longer) = c.undo.ensures.entries in
-      (last.left, Tries.tried_less base c.undos.ledger c.undo.new.self c.pop.new.self.parts c.in-Some.undo v last longer
-          c.undo.ensures.settings);
-  room = omega (arith, c.undo.ensures.room, c.undos.invariant.room, ap length (c.in-Some.ensures),
-      length-append c.pop.new.self.parts (c.in-Some.undo ∷ []));
+      let (v, longer) = c.undo.ensures.entries in (
+        last.left,
+        Tries.tried_less base c.undos.ledger c.undo.new.self c.pop.new.self.parts c.in-Some.undo v last longer
+            c.undo.ensures.settings,
+      );
+  room = omega (
+    arith,
+    c.undo.ensures.room,
+    c.undos.invariant.room,
+    ap length (c.in-Some.ensures),
+    length-append c.pop.new.self.parts (c.in-Some.undo ∷ []),
+  );
 }
 
 pub returns-clause-entries : goal.returns-clause-entries

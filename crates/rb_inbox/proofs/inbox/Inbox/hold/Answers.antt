@@ -25,11 +25,12 @@ returns-in_err-add_rows-clause-err c =
 
 pub index_of-index-requires : goal.index_of-index-requires
 index_of-index-requires c =
-    let within : c.row-row.result < length c.add_rows.new.rows.items = omega (arith, c.in_ok-add_rows.ensures.ok) in
-    let all = grown c.self.inside.rows.items c.add_rows.new.rows.items c.self.inside.count _ c.add_rows.ensures.rows.1 c.self.invariant in
-    subst IsInOrder (sym (c.as_slice.ensures ∙ row_there c.add_rows.new.rows.items c.row-row.result c.index.result.now within
+    let rows = c.add_rows.new.rows.items in
+    let within : c.row-row.result < length rows = omega (arith, c.in_ok-add_rows.ensures.ok) in
+    let all = grown c.self.inside.rows.items rows c.self.inside.count _ c.add_rows.ensures.rows.1 c.self.invariant in
+    subst IsInOrder (sym (c.as_slice.ensures ∙ row_there rows c.row-row.result c.index.result.now within
     c.index.ensures))
-    (row_at c.add_rows.new.rows.items c.row-row.result all.each).in_order
+    (row_at rows c.row-row.result all.each).in_order
 
 -- where the row couldn't grow, the rows are as before
 as_before : (c : goal.After-from_residual-in_err-insert) → set c.add_rows.new.rows.items c.row-row.result c.insert.new.self

@@ -38,25 +38,29 @@ returns-then-is_some-clause-some c =
     ))
 
 pub loop-row-preserved : goal.loop-row-preserved
-loop-row-preserved c = λ u a r.
-    let there = slice_there c.self.inside.rows.items c.deref-row-items.result.now c.loop-row.row-index c.row-item.result
+loop-row-preserved c =
+    let rows = c.self.inside.rows.items in
+    λ u a r.
+    let there = slice_there rows c.deref-row-items.result.now c.loop-row.row-index c.row-item.result
     c.as_slice.result.now c.deref-row-items.ensures.value (omega arith) c.row-item.is c.as_slice.ensures in
-    let inside : Among u (held_of c.self.inside.rows.items) = subst (Among u) (sym (ap (λ (b : Holding). b.held) c.self.view_is)) a in
+    let inside : Among u (held_of rows) = subst (Among u) (sym (ap (λ (b : Holding). b.held) c.self.view_is)) a in
     let other : c.loop-row.row-index ≡ row_of u.name → ⊥ = λ e.
     at_none _ c.ready_in-name.result c.is_some.result c.is_some.ensures c.if-is_some.false c.ready_in-name.ensures.none u
-    (subst (Among u) (ap (λ k. get_or c.self.inside.rows.items k []) (sym e)
-    ∙ sym there) (among_row c.self.inside.rows.items u c.self.invariant.each inside)) r in
+    (subst (Among u) (ap (λ k. get_or rows k []) (sym e)
+    ∙ sym there) (among_row rows u c.self.invariant.each inside)) r in
     omega (arith, c.loop-row.invariant u a r)
 
 pub returns-clause-none : goal.returns-clause-none
-returns-clause-none c = λ u a r.
-    let inside : Among u (held_of c.self.inside.rows.items) = subst (Among u) (sym (ap (λ (b : Holding). b.held) c.self.view_is)) a in
-    let found = held_there c.self.inside.rows.items (row_of u.name) u c.self.invariant.each
-    (among_row c.self.inside.rows.items u c.self.invariant.each inside) in
+returns-clause-none c =
+    let rows = c.self.inside.rows.items in
+    λ u a r.
+    let inside : Among u (held_of rows) = subst (Among u) (sym (ap (λ (b : Holding). b.held) c.self.view_is)) a in
+    let found = held_there rows (row_of u.name) u c.self.invariant.each
+    (among_row rows u c.self.invariant.each inside) in
     absurd (omega (
       arith,
       c.loop-row.invariant u a r,
-      row_within c.self.inside.rows.items u.name u (row_of u.name) refl
+      row_within rows u.name u (row_of u.name) refl
           c.self.invariant.each found,
       ap length c.deref-row-items.ensures.value,
     ))

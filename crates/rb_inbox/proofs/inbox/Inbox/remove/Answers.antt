@@ -44,16 +44,17 @@ index_mut-requires c =
 
 pub remove-requires : goal.remove-requires
 remove-requires c =
+    let x = c.args.name.now in
     let rows : List (List Shadow) = c.self.inside.rows.items in
     let row = c.row-row.result in
-    let found = found_inside c.self.inside.limit (held_of rows) c.args.self.now c.args.name.now (Some c.in-Some.field-0.now) c.self.view_is
+    let found = found_inside c.self.inside.limit (held_of rows) c.args.self.now x (Some c.in-Some.field-0.now) c.self.view_is
     c.in-Some.ensures in
-    let within = row_within rows c.args.name.now c.in-Some.field-0.now row c.row-row.ensures c.self.invariant.each found in
-    let index : c.index_of-index.result ≡ held_before (get_or rows row []) c.args.name.now =
-    c.index_of-index.ensures.index ∙ ap (λ us. held_before us c.args.name.now) (c.as_slice.ensures
+    let within = row_within rows x c.in-Some.field-0.now row c.row-row.ensures c.self.invariant.each found in
+    let index : c.index_of-index.result ≡ held_before (get_or rows row []) x =
+    c.index_of-index.ensures.index ∙ ap (λ us. held_before us x) (c.as_slice.ensures
     ∙ row_there rows row c.index.result.now within c.index.ensures) in
     let long = ap length (row_there rows row c.index_mut.result.now within c.index_mut.ensures.value) in
-    omega (arith, index, long, index_within rows c.args.name.now c.in-Some.field-0.now row c.row-row.ensures c.self.invariant.each found)
+    omega (arith, index, long, index_within rows x c.in-Some.field-0.now row c.row-row.ensures c.self.invariant.each found)
 
 -- the rows without the name
 without_it : (c : goal.After-self-in-Some-1) → AreCounted (set c.self.inside.rows.items c.row-row.result c.remove.new.self)
@@ -61,15 +62,16 @@ without_it : (c : goal.After-self-in-Some-1) → AreCounted (set c.self.inside.r
     × (held_of (set c.self.inside.rows.items c.row-row.result c.remove.new.self)
     ≡ without c.args.name.now (held_of c.self.inside.rows.items))
 without_it c =
+    let x = c.args.name.now in
     let rows : List (List Shadow) = c.self.inside.rows.items in
     let row = c.row-row.result in
-    let found = found_inside c.self.inside.limit (held_of rows) c.args.self.now c.args.name.now (Some c.in-Some.field-0.now) c.self.view_is
+    let found = found_inside c.self.inside.limit (held_of rows) c.args.self.now x (Some c.in-Some.field-0.now) c.self.view_is
     c.in-Some.ensures in
-    let within = row_within rows c.args.name.now c.in-Some.field-0.now row c.row-row.ensures c.self.invariant.each found in
-    after_remove rows c.self.inside.count c.args.name.now c.in-Some.field-0.now row c.remove.new.self c.self.invariant found
+    let within = row_within rows x c.in-Some.field-0.now row c.row-row.ensures c.self.invariant.each found in
+    after_remove rows c.self.inside.count x c.in-Some.field-0.now row c.remove.new.self c.self.invariant found
     c.row-row.ensures
     (changed_there (λ us index. remove us index) c.remove.new.self c.index_mut.result.now c.as_slice.result.now (get_or rows row [])
-    c.index_of-index.result c.args.name.now
+    c.index_of-index.result x
     c.remove.ensures (row_there rows row c.index_mut.result.now within c.index_mut.ensures.value) c.index_of-index.ensures.index
     (c.as_slice.ensures ∙ row_there rows row c.index.result.now within c.index.ensures))
 

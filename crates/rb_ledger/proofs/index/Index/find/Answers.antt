@@ -8,7 +8,7 @@ use Rattle.rb_ledger.proofs.index.Index.find.Goals as goal
 pub returns-in_err-index : goal.returns-in_err-index
 returns-in_err-index c = λ us index.
     c.from_residual.ensures ∙ RowFacts.find_none _ us c.args.name.now index.clocked.valid (sym c.number.ensures
-        ∙ ReadItems.not_one _ c.in_err-index.ensures)
+    ∙ ReadItems.not_one _ c.in_err-index.ensures)
 
 pub returns : goal.returns
 returns c = λ us index.

@@ -6,8 +6,13 @@ use Rattle.rb_ledger.proofs.index.Index.open.Goals as goal
 
 pub returns-clause-index : goal.returns-clause-index
 returns-clause-index c =
-    let x : Index = record { config = c.in_ok-config.config; clock = c.zero.result; cancels = c.new-2.result; heads = c.in_ok-heads.heads;
-        rows = c.in_ok-rows.rows } in
+    let x : Index = record {
+      config = c.in_ok-config.config;
+      clock = c.zero.result;
+      cancels = c.new-2.result;
+      heads = c.in_ok-heads.heads;
+      rows = c.in_ok-rows.rows;
+    } in
     subst (λ s. IsIndex s [] x) c.in_ok-config.ensures.same
     (Indexed.indexed_none c.in_ok-config.config x _ c.in_ok-config.ensures.configured refl c.zero.ensures.entries c.new-2.ensures.items
-        c.in_ok-heads.ensures c.in_ok-rows.ensures.rows (ap (λ n. n + 1) (c.from.ensures ∙ c.sites.ensures.same)))
+    c.in_ok-heads.ensures c.in_ok-rows.ensures.rows (ap (λ n. n + 1) (c.from.ensures ∙ c.sites.ensures.same)))

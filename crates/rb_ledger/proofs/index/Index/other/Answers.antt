@@ -14,7 +14,7 @@ bounds-before-index c = (FoundNames.other_near c.args.before.now c.in-Some.targe
 pub returns-in-Some-find : goal.returns-in-Some-find
 returns-in-Some-find c =
     FoundNames.other_found c.args.before.now c.in-Some.target c.in-Some-find.position _ _
-        (c.in-Some-find.ensures c.args.before.now c.requires) c.receiver.ensures
+    (c.in-Some-find.ensures c.args.before.now c.requires) c.receiver.ensures
     ∙ ap (other_by c.args.before.now c.args.kind) c.in-Some.ensures
 
 pub returns-in-None-find : goal.returns-in-None-find

@@ -20,17 +20,19 @@ overflow_add-result c = omega (arith, Lengths.clocked_length _ _ _ c.requires.in
 
 pub returns : goal.returns
 returns c =
-    let near = Overdraws.sound_account c.args.self.now.config c.args.shadow.now
-        (Legal.IsValid-last _ _ c.args.shadow.now c.requires.longer).sound in
-    let balance : c.balance-balance.result ≡ cents (bal c.args.self.now.config c.args.before.now c.args.shadow.now.account) =
-        HeadReads.head_balance _ _ _ c.args.shadow.now.account _ c.requires.index.heads near c.balance-balance.ensures in
-    let other : c.unwrap_or-other.result ≡ unwrap_or (other_of c.args.before.now c.args.shadow.now.kind) NOWHERE =
-        c.unwrap_or-other.ensures ∙ ap (λ o. unwrap_or o NOWHERE) c.other-second.ensures in
-    let other_balance : c.balance-other_balance.result ≡ unwrap_or (option_map (λ a. cents (bal c.args.self.now.config c.args.before.now a))
-        (other_of c.args.before.now c.args.shadow.now.kind)) 0 =
-    HeadReads.other_balance _ _ _ _ c.args.shadow.now _ c.requires.index.clocked.configured c.requires.index.clocked c.requires.index.heads
-        c.requires.longer
+    let h = c.args.shadow.now in
+    let before = c.args.before.now in
+    let near = Overdraws.sound_account c.args.self.now.config h
+    (Legal.IsValid-last _ _ h c.requires.longer).sound in
+    let balance : c.balance-balance.result ≡ cents (bal c.args.self.now.config before h.account) =
+    HeadReads.head_balance _ _ _ h.account _ c.requires.index.heads near c.balance-balance.ensures in
+    let other : c.unwrap_or-other.result ≡ unwrap_or (other_of before h.kind) NOWHERE =
+    c.unwrap_or-other.ensures ∙ ap (λ o. unwrap_or o NOWHERE) c.other-second.ensures in
+    let other_balance : c.balance-other_balance.result ≡ unwrap_or (option_map (λ a. cents (bal c.args.self.now.config before a))
+    (other_of before h.kind)) 0 =
+    HeadReads.other_balance _ _ _ _ h _ c.requires.index.clocked.configured c.requires.index.clocked c.requires.index.heads
+    c.requires.longer
     (c.balance-other_balance.ensures ∙ ap (λ (a : Place). (get_or c.args.self.now.heads.items a.0 no_head).balance) other) in
-    let target : c.target.result ≡ position_of c.args.before.now (target_of c.args.shadow.now.kind) =
-        c.target.ensures c.args.before.now c.requires.index in
+    let target : c.target.result ≡ position_of before (target_of h.kind) =
+    c.target.ensures before c.requires.index in
     cc

@@ -24,17 +24,21 @@ pub count_on-requires-2 : goal.count_on-requires-2
 count_on-requires-2 c =
     let few =
     HeadReads.other_few _ _ _ c.args.self.now.heads.items c.args.shadow.now (head_more (length c.args.before.now
-        + 1) c.args.links.now.own.balance) c.requires.index.clocked.configured c.requires.index.clocked c.requires.index.heads
-        c.requires.longer in
+    + 1) c.args.links.now.own.balance) c.requires.index.clocked.configured c.requires.index.clocked c.requires.index.heads
+    c.requires.longer in
     let same =
     ap (λ (hs : List Head). (get_or hs c.args.parts.now.other.0 no_head).count) c.count_on.ensures
     ∙ ap (λ (p : UndoParts). (get_or (heads_at p.place.0 (head_more p.position c.args.links.now.own.balance) c.args.self.now.heads.items)
-        p.other.0 no_head).count) c.requires.parts in
+    p.other.0 no_head).count) c.requires.parts in
     omega (arith, same, few)
 
 pub push-requires-clause-within : goal.push-requires-clause-within
-push-requires-clause-within c = omega (arith, c.row.ensures, Indexed.row_within _ _ _ c.args.shadow.now c.requires.index.rows
-    (Legal.IsValid-last _ _ c.args.shadow.now c.requires.longer).sound)
+push-requires-clause-within c = omega (
+  arith,
+  c.row.ensures,
+  Indexed.row_within _ _ _ c.args.shadow.now c.requires.index.rows
+      (Legal.IsValid-last _ _ c.args.shadow.now c.requires.longer).sound,
+)
 
 pub push-requires-clause-room : goal.push-requires-clause-room
 push-requires-clause-room c = Indexed.row_room _ _ _ c.args.shadow.now _ _ _ c.requires.index.rows
@@ -49,19 +53,19 @@ advance-requires-clause-entry c = LedgerClocks.may_entry _ _ _ c.args.shadow.now
 pub returns-clause-index : goal.returns-clause-index
 returns-clause-index c =
     Indexed.indexed_push _ c.args.before.now c.args.self.now _ c.args.shadow.now c.args.links.now c.requires.index c.requires.longer
-        c.requires.links
+    c.requires.links
     refl c.advance.ensures.entries
     (c.push_reserved.ensures.items ∙ ap (λ xs. xs ++ no_cancels ∷ []) (c.cancel_one_more.ensures.items
-        ∙ ap (λ (p : UndoParts). changed_at p.target (one_more p.position) c.args.self.now.cancels.items) c.requires.parts))
+    ∙ ap (λ (p : UndoParts). changed_at p.target (one_more p.position) c.args.self.now.cancels.items) c.requires.parts))
     (
     c.count_on-2.ensures ∙ ap (heads_at c.args.parts.now.other.0 (head_more c.args.parts.now.position c.args.links.now.other.balance))
-        c.count_on.ensures
+    c.count_on.ensures
     ∙ ap (λ (p : UndoParts). heads_at p.other.0 (head_more p.position c.args.links.now.other.balance)
-        (heads_at p.place.0 (head_more p.position c.args.links.now.own.balance) c.args.self.now.heads.items)) c.requires.parts
+    (heads_at p.place.0 (head_more p.position c.args.links.now.own.balance) c.args.self.now.heads.items)) c.requires.parts
     )
     (
     c.push.ensures.rows ∙ ap (λ k. set c.args.self.now.rows.rows k (get_or c.args.self.now.rows.rows k [] ++ c.args.parts.now.position
-        ∷ [])) c.row.ensures
+    ∷ [])) c.row.ensures
     ∙ ap (λ (p : UndoParts). set c.args.self.now.rows.rows (row_of c.args.shadow.now.name)
-        (get_or c.args.self.now.rows.rows (row_of c.args.shadow.now.name) [] ++ p.position ∷ [])) c.requires.parts
+    (get_or c.args.self.now.rows.rows (row_of c.args.shadow.now.name) [] ++ p.position ∷ [])) c.requires.parts
     )

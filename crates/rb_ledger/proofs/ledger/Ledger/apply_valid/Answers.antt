@@ -13,9 +13,9 @@ links_of-links-requires-clause-configured c = subst (λ (b : Book). IsConfigured
 pub invariant_of-self : goal.invariant_of-self
 invariant_of-self c =
     let links = subst (λ (b : Book). IsLinked b.settings b.entries c.args.shadow c.links_of-links.result) (sym c.self.view_is)
-        c.links_of-links.ensures in
+    c.links_of-links.ensures in
     let free : c.self.inside.index.rows.limit - vec_len c.self.inside.entries ≡ c.make_room.new.self.room =
-        ap (λ (b : Book). b.room) c.self.view_is in
+    ap (λ (b : Book). b.room) c.self.view_is in
     let room = c.self.invariant.room in
     record {
       index = subst (λ us. IsIndex c.push.new.self.config us c.push.new.self) (ap (λ us. us ++ c.args.shadow ∷ []) c.deref-2.ensures.value

@@ -27,7 +27,7 @@ returns-then-eq c =
     let many : vec_len c.self.inside.entries ≡ length c.args.self.now.entries = omega (arith, seen) in
     let read = SeenLists.read_seen _ _ _ _ _ c.self.view_is c.index.ensures in
     (LinkReads.link_read _ _ _ c.args.place c.args.position _ _ _ _ links c.requires.on c.requires.some many read count
-        c.index-links.ensures).0 (Tests.number_sound _ _ (sym c.eq.ensures ∙ c.if-eq.true))
+    c.index-links.ensures).0 (Tests.number_sound _ _ (sym c.eq.ensures ∙ c.if-eq.true))
 
 pub returns-else-eq : goal.returns-else-eq
 returns-else-eq c =
@@ -37,4 +37,4 @@ returns-else-eq c =
     let many : vec_len c.self.inside.entries ≡ length c.args.self.now.entries = omega (arith, seen) in
     let read = SeenLists.read_seen _ _ _ _ _ c.self.view_is c.index.ensures in
     (LinkReads.link_read _ _ _ c.args.place c.args.position _ _ _ _ links c.requires.on c.requires.some many read count
-        c.index-links.ensures).1 (ReadItems.apart_from _ _ (sym c.eq.ensures ∙ c.if-eq.false))
+    c.index-links.ensures).1 (ReadItems.apart_from _ _ (sym c.eq.ensures ∙ c.if-eq.false))

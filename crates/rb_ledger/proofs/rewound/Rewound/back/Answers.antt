@@ -12,10 +12,15 @@ pop-requires-in-Some c =
     let next : c.self.inside.at ≡ c.self.inside.at - 1 + 1 = omega (arith, c.requires, here) in
     let latest = Cursors.latest _ _ _ (c.self.inside.at - 1) _ _ _ _ c.in-Some.undo c.self.invariant.at next c.in-Some.ensures.0 in
     let many : vec_len c.self.inside.links ≡ length c.self.inside.links.items = omega arith in
-    let near : c.self.inside.at - 1 < vec_len c.self.inside.links = omega (arith, many, c.self.invariant.at.links.count,
-        c.self.invariant.at.within, next) in
+    let near : c.self.inside.at - 1 < vec_len c.self.inside.links = omega (
+      arith,
+      many,
+      c.self.invariant.at.links.count,
+      c.self.invariant.at.within,
+      next,
+    ) in
     let link = Cursors.linked _ _ _ _ latest.last c.index.result.now c.self.invariant.at.links latest.there
-        (ReadItems.read_item _ _ _ _ _ many near refl c.index.ensures) in (
+    (ReadItems.read_item _ _ _ _ _ many near refl c.index.ensures) in (
       latest.last,
       subst (λ us. IsIndex c.self.inside.index.config (take (c.self.inside.at - 1) us ++ latest.last
           ∷ []) c.self.inside.index) (sym c.deref.ensures.value) latest.index,
@@ -33,7 +38,7 @@ invariant_of-self c =
     record {
       at = Cursors.back _ _ _ _ _ _ _ _ _ c.in-Some.undo c.self.invariant.at next c.in-Some.ensures.0 c.in-Some.ensures.1
           (subst (λ us. IsIndex c.self.inside.index.config (take (c.self.inside.at - 1) us) c.pop-in-Some.new.self) c.deref.ensures.value
-              c.pop-in-Some.ensures.index);
+          c.pop-in-Some.ensures.index);
       room = record {
         within = omega (arith, c.pop-in-Some.ensures.limit, room.within);
         entries = omega (arith, c.pop-in-Some.ensures.limit, room.entries);

@@ -8,5 +8,5 @@ pub returns-clause-bounded : goal.returns-clause-bounded
 returns-clause-bounded c =
     let index = c.self.invariant.at.index in
     HeadReads.head_small _ _ _ _ c.args.place _ index.clocked index.heads
-        (ReadItems.read_at _ _ _ _ _ c.deref.ensures.value c.from.ensures (slice_get_read _ _ _ _ refl c.in_ok-head.ensures.lookup.3.0
-        c.in_ok-head.ensures.lookup.1))
+    (ReadItems.read_at _ _ _ _ _ c.deref.ensures.value c.from.ensures (slice_get_read _ _ _ _ refl c.in_ok-head.ensures.lookup.3.0
+    c.in_ok-head.ensures.lookup.1))
