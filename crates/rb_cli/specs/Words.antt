@@ -43,16 +43,25 @@ top_line = record (new_app (codes "rbbank")).top { no_binary_name = true; subcom
 
 -- an option that must be given, with a number from the first to the second
 abbrev pub option_rule : List ℕ → ℕ → ℕ → Rule
-option_rule name least most = record (new_rule name) { long = Some name; value_names = 1; parser = Some (Signed (pos least) (pos most)); required = true }
+option_rule name least most =
+    record (new_rule name) { long = Some name; value_names = 1; parser = Some (Signed (pos least) (pos most)); required = true }
 
 -- a run of threads, with its options
 abbrev pub threads_line : App
-threads_line = with_rule (with_rule (with_rule (new_app (codes "threads")) (option_rule (codes "sites") 2 MOST_SITES)) (option_rule (codes "tellers") 1 MOST_TELLERS)) (option_rule (codes "seed") 0 4294967295)
+threads_line =
+    with_rule
+    (with_rule (with_rule (new_app (codes "threads")) (option_rule (codes "sites") 2 MOST_SITES))
+    (option_rule (codes "tellers") 1 MOST_TELLERS)) (option_rule (codes "seed") 0 4294967295)
 
 -- the command line: a subcommand for each thing
 abbrev pub command_line : App
-command_line = with_subcommand (with_subcommand (with_subcommand (with_subcommand (record { top = top_line; subs = [] }) (new_app (codes "script")).top) (new_app (codes "audit")).top) (new_app (codes "migrate")).top) threads_line.top
+command_line =
+    with_subcommand
+    (with_subcommand
+    (with_subcommand (with_subcommand (record { top = top_line; subs = [] }) (new_app (codes "script")).top) (new_app (codes "audit")).top)
+    (new_app (codes "migrate")).top) threads_line.top
 
--- the kinds of error that words may end in, out of memory aside: those of the first word that the command line doesn't take, and where it takes all, that they ask for nothing
+-- the kinds of error that words may end in, out of memory aside: those of the first word that the command line doesn't take, and where it
+-- takes all, that they ask for nothing
 abbrev pub kinds_of : List (List ℕ) → Kinds
 kinds_of words = or_else (fault_of command_line words) (InvalidSubcommand ∷ [])

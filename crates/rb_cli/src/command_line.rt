@@ -49,7 +49,12 @@ fn option<'a>(
     help: &'a str,
     parser: ValueParser<'a>,
 ) -> Arg<'a>
-    ensures rule { rule_of result ≡ record (new_rule name.entry.now) { long = Some name.entry.now; value_names = 1; parser = Some parser.entry; required = true } }
+    ensures rule { rule_of result ≡ record (new_rule name.entry.now) {
+      long = Some name.entry.now;
+      value_names = 1;
+      parser = Some parser.entry;
+      required = true;
+    } }
     ensures local { result.global ≡ false }
 {
     Arg::new(alloc, name)

@@ -20,8 +20,10 @@ fn number_within(text: &str, least: u32, most: u32) -> Option<u32>
 /// The number of an option among the words after the first: they are three options, each with its number, in any order.
 pub fn number_of(words: &[&str], name: &str, least: u32, most: u32) -> Option<u32>
     requires { length words.now ≡ 7 }
-    ensures found { IfSome result (λ n. IsGiven (map (λ word. word.now) words.now) name.now n × (least ≤ n) × (n ≤ most)) }
-    ensures none { IfNone result ((n : ℕ) → least ≤ n → n ≤ most → ¬ IsGiven (map (λ word. word.now) words.now) name.now n) }
+    ensures found { IfSome result (λ n. IsGiven (map (λ word. word.now) words.now) name.now n
+        × (least ≤ n) × (n ≤ most)) }
+    ensures none { IfNone result ((n : ℕ) → least ≤ n → n ≤ most
+        → ¬ IsGiven (map (λ word. word.now) words.now) name.now n) }
 {
     for i in 0..3 {
         if words[2 * i + 1] == name {

@@ -22,7 +22,8 @@ pub enum Words {
     Audit,
     /// To write the histories on standard input again, in the newest version of their lines.
     Migrate,
-    /// To run so many tellers, 1 to `MOST_TELLERS`, at so many sites, 2 to `MOST_SITES`. The first numbers of the tellers begin at the seed.
+    /// To run so many tellers, 1 to `MOST_TELLERS`, at so many sites, 2 to `MOST_SITES`. The first numbers of the
+    /// tellers begin at the seed.
     Threads { sites: u8, tellers: u8, seed: u32 },
 }
 
@@ -57,7 +58,8 @@ fn asked_for(words: &[&str]) -> Option<Words>
     }
 }
 
-/// What the words after the program's name ask for. The error has the text to show: `ErrorKind::DisplayHelp` is help that was asked for, `ErrorKind::DisplayVersion` the version.
+/// What the words after the program's name ask for. The error has the text to show: `ErrorKind::DisplayHelp` is help
+/// that was asked for, `ErrorKind::DisplayVersion` the version.
 pub fn read_words<'a>(alloc: Global, words: &'a [&'a str]) -> Result<Words, Error>
     ensures ok { IfOk result (Ask (map (λ word. word.now) words.entry.now)) }
     // Words that ask for something never fail.

@@ -5,4 +5,5 @@ use Rattle.rb_cli.proofs.options.number_of.Given as goal
 
 abbrev pub invariant-loop-i : goal.invariant-loop-i
 invariant-loop-i l = (n : ℕ) → l.least ≤ n → n ≤ l.most → (k : ℕ) → k < l.i
-    → slice_get (map (λ word. word.now) l.words) (2 * k + 1) ≡ Some l.name → slice_get (map (λ word. word.now) l.words) (2 * k + 2) ≡ Some (decimal n) → ⊥
+    → slice_get (map (λ word. word.now) l.words) (2 * k + 1) ≡ Some l.name
+    → slice_get (map (λ word. word.now) l.words) (2 * k + 2) ≡ Some (decimal n) → ⊥

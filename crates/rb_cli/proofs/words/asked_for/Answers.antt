@@ -2,7 +2,8 @@ use Rattle.std.proofs.Common.{arith, ◌≡◌, map, ℕ, ◌<◌, ◌≤◌, le
 use Rattle.rb_cli.proofs.words.asked_for.Goals as goal
 
 -- a single word
-single : (words : List (Bor (List ℕ))) (d : Bor (List ℕ)) (text : List ℕ) → 1 ≤ length words → length words < 2 → (get_or words 0 d).now ≡ text → map (λ word. word.now) words ≡ text ∷ []
+single : (words : List (Bor (List ℕ))) (d : Bor (List ℕ)) (text : List ℕ) → 1 ≤ length words → length words < 2
+    → (get_or words 0 d).now ≡ text → map (λ word. word.now) words ≡ text ∷ []
 single [] d text some few is = absurd (omega arith)
 single (w ∷ []) d text some few is = ap (λ t. t ∷ []) is
 single (w ∷ x ∷ ws) d text some few is = absurd (omega arith)

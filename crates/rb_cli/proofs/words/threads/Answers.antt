@@ -7,7 +7,8 @@ use Rattle.rb_cli.specs.declared.words.Words.{Words}
 use Rattle.rb_cli.specs.declared.words.Words.TheVariants.{Script, Audit, Migrate, Threads}
 use Rattle.rb_cli.proofs.words.threads.Goals as goal
 
-for_threads : (words : List (List ℕ)) → length words ≡ 7 → ((sites tellers seed : ℕ) → ¬ AskForThreads words sites tellers seed) → (asked : Words) → ¬ Ask words asked
+for_threads : (words : List (List ℕ)) → length words ≡ 7 → ((sites tellers seed : ℕ) → ¬ AskForThreads words sites tellers seed)
+    → (asked : Words) → ¬ Ask words asked
 for_threads words seven none Script is = absurd (omega (arith, ap length is))
 for_threads words seven none Audit is = absurd (omega (arith, ap length is))
 for_threads words seven none Migrate is = absurd (omega (arith, ap length is))
@@ -21,10 +22,19 @@ if_none None P p = p
 if_none (Some x) P p = tt
 
 pub returns-in_err-sites-clause-none : goal.returns-in_err-sites-clause-none
-returns-in_err-sites-clause-none c = if_none _ _ (for_threads _ (seven_texts c.args.words.now c.requires.count) (λ sites tellers seed is. c.in_err-sites.ensures.none sites is.some_sites is.few_sites is.sites_given))
+returns-in_err-sites-clause-none c =
+    if_none _ _
+    (for_threads _ (seven_texts c.args.words.now c.requires.count)
+    (λ sites tellers seed is. c.in_err-sites.ensures.none sites is.some_sites is.few_sites is.sites_given))
 
 pub returns-in_err-tellers-clause-none : goal.returns-in_err-tellers-clause-none
-returns-in_err-tellers-clause-none c = if_none _ _ (for_threads _ (seven_texts c.args.words.now c.requires.count) (λ sites tellers seed is. c.in_err-tellers.ensures.none tellers is.some_tellers is.few_tellers is.tellers_given))
+returns-in_err-tellers-clause-none c =
+    if_none _ _
+    (for_threads _ (seven_texts c.args.words.now c.requires.count)
+    (λ sites tellers seed is. c.in_err-tellers.ensures.none tellers is.some_tellers is.few_tellers is.tellers_given))
 
 pub returns-in_err-seed-clause-none : goal.returns-in_err-seed-clause-none
-returns-in_err-seed-clause-none c = if_none _ _ (for_threads _ (seven_texts c.args.words.now c.requires.count) (λ sites tellers seed is. let fits = is.seed_fits in c.in_err-seed.ensures.none seed (omega arith) (omega (arith, fits)) is.seed_given))
+returns-in_err-seed-clause-none c =
+    if_none _ _
+    (for_threads _ (seven_texts c.args.words.now c.requires.count)
+    (λ sites tellers seed is. c.in_err-seed.ensures.none seed (omega arith) (omega (arith, is.seed_fits)) is.seed_given))
