@@ -4,3 +4,4 @@ mod Ranges
 mod ReadLaws
 mod Follows
 mod Exits
+mod Progress

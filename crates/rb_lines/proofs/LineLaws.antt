@@ -1,12 +1,17 @@
 -- Lines at the front of the bytes.
-use Rattle.std.proofs.Common.{◌≡◌, ◌<◌, ◌≤◌, ◌+◌, ◌==◌, ℕ, zero, suc, Bool, true, false, List, [], ◌∷◌, ◌++◌, length, take, drop, refl, ◌∙◌, arith}
+use Rattle.std.proofs.Common.{◌≡◌, ◌<◌, ◌≤◌, ◌+◌, ◌==◌, ℕ, zero, suc, Bool, true, false, List, [], ◌∷◌, ◌++◌, length, take, drop, refl, ◌∙◌}
+use Rattle.std.proofs.Common.{arith}
 use Rattle.rb_lines.specs.Lines.{lines_of, whole_lines, line_len}
 use Rattle.rb_lines.proofs.Public.LongLines.{len, len_is, first}
 
-pub first_line : (p tail : List ℕ) → line_len p < length p → lines_of (p ++ tail) ≡ take (line_len p) p ∷ lines_of (drop (line_len p + 1) p ++ tail)
+-- where a line feed comes, what is before it is the first line
+pub first_line : (p tail : List ℕ) → line_len p < length p
+    → lines_of (p ++ tail) ≡ take (line_len p) p ∷ lines_of (drop (line_len p + 1) p ++ tail)
 first_line p tail h = rw (len_is p) at (first p tail (rw (len_is p) h)).0
 
-pub first_whole : (p tail : List ℕ) → line_len p < length p → whole_lines (p ++ tail) ≡ take (line_len p) p ∷ whole_lines (drop (line_len p + 1) p ++ tail)
+-- where a line feed comes, what is before it is the first whole line
+pub first_whole : (p tail : List ℕ) → line_len p < length p
+    → whole_lines (p ++ tail) ≡ take (line_len p) p ∷ whole_lines (drop (line_len p + 1) p ++ tail)
 first_whole p tail h = rw (len_is p) at (first p tail (rw (len_is p) h)).1
 
 -- the line that some bytes are, if there are any
@@ -18,7 +23,8 @@ only_line (b ∷ bs) = (b ∷ bs) ∷ []
 abbrev IsLast : List ℕ → Type 0
 IsLast p = (lines_of p ≡ only_line p) × (whole_lines p ≡ [])
 
-last_step : (t : Bool) (b : ℕ) (bs : List ℕ) → (b == 10) ≡ t → (len bs ≡ length bs → IsLast bs) → len (b ∷ bs) ≡ length (b ∷ bs) → IsLast (b ∷ bs)
+last_step : (t : Bool) (b : ℕ) (bs : List ℕ) → (b == 10) ≡ t → (len bs ≡ length bs → IsLast bs) → len (b ∷ bs) ≡ length (b ∷ bs)
+    → IsLast (b ∷ bs)
 last_step true b bs e more h = absurd (omega (arith, rw e at h))
 last_step false b [] e more h = rw e (refl, refl)
 last_step false b (c ∷ bs) e more h =
@@ -30,16 +36,19 @@ last : (p : List ℕ) → len p ≡ length p → IsLast p
 last [] h = (refl, refl)
 last (b ∷ bs) h = last_step (b == 10) b bs refl (last bs) h
 
+-- bytes without a line feed are one line
 pub last_line : (p : List ℕ) → line_len p ≡ length p → 0 < length p → lines_of p ≡ p ∷ []
 last_line [] h some = absurd (omega arith)
 last_line (b ∷ bs) h some = (last (b ∷ bs) (len_is (b ∷ bs) ∙ h)).0
 
+-- bytes without a line feed are no whole line
 pub last_whole : (p : List ℕ) → line_len p ≡ length p → whole_lines p ≡ []
 last_whole p h = (last p (len_is p ∙ h)).1
 
 -- ---- a line that was searched in part
 
-after_step : (t : Bool) (b : ℕ) (bs : List ℕ) (k : ℕ) → (b == 10) ≡ t → (k ≤ len bs → len bs ≡ k + len (drop k bs)) → suc k ≤ len (b ∷ bs) → len (b ∷ bs) ≡ suc k + len (drop k bs)
+after_step : (t : Bool) (b : ℕ) (bs : List ℕ) (k : ℕ) → (b == 10) ≡ t → (k ≤ len bs → len bs ≡ k + len (drop k bs)) → suc k ≤ len (b ∷ bs)
+    → len (b ∷ bs) ≡ suc k + len (drop k bs)
 after_step true b bs k e more h = absurd (omega (arith, rw e at h))
 after_step false b bs k e more h = rw e (omega (arith, more (omega (arith, rw e at h))))
 

@@ -1,5 +1,5 @@
 -- What other crates cite.
+pub mod Chosen
 pub mod LongLines
-pub mod Progress
 pub mod Sending
 pub mod Walks

@@ -17,7 +17,8 @@ left b = length b.pending + READ_SIZE * b.reads
 
 -- a line of n bytes stands whole at the front, with its line feed or at the end of the source
 abbrev pub Stands : Buffers → ℕ → Type 0
-Stands b n = (n ≡ line_len b.pending) × (n ≤ LINE_LIMIT) × (n ≤ length b.pending) × ((n < length b.pending) ⊎ ((n ≡ length b.pending) × (0 < n) × (b.ended ≡ true)))
+Stands b n = (n ≡ line_len b.pending) × (n ≤ LINE_LIMIT) × (n ≤ length b.pending)
+    × ((n < length b.pending) ⊎ ((n ≡ length b.pending) × (0 < n) × (b.ended ≡ true)))
 
 -- the next line, or the end
 abbrev pub IsNextLine : Buffers → Option ℕ → Type 0
@@ -34,7 +35,8 @@ Sends had has owed still = (sent : List ℕ) × Appends had has sent × (owed �
 
 -- a read failed, or there were as many as there may be: nothing else changed
 abbrev pub HasRead : Buffers → Buffers → Option (List ℕ) → Option (List ℕ) → Bool → ℕ → NoLine → Type 0
-HasRead old new had has failed calls Read = (new.pending ≡ old.pending) × (new.ended ≡ false) × Keeps had has × ((failed ≡ true) ⊎ (calls ≡ MOST_READS))
+HasRead old new had has failed calls Read = (new.pending ≡ old.pending) × (new.ended ≡ false) × Keeps had has
+    × ((failed ≡ true) ⊎ (calls ≡ MOST_READS))
 HasRead old new had has failed calls OutOfMemory = new.ended ≡ false
 HasRead old new had has failed calls TooLong = ⊥
 HasRead old new had has failed calls Write = ⊥

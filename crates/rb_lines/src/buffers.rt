@@ -1,5 +1,6 @@
 //! The bytes between a reader and a writer: no read while a whole line waits or a reply is owed.
-ghost use Rattle.std.specs.Prelude.{◌≡◌, ◌≢◌, ◌↔◌, ◌+◌, ◌<◌, ◌≤◌, ◌⊎◌, [], true, false, Err, length, drop, MatchResult, IfOk, OnOk};
+ghost use Rattle.std.specs.Prelude.{◌≡◌, ◌≢◌, ◌↔◌, ◌+◌, ◌<◌, ◌≤◌, ◌⊎◌, [], true, false, Err, length, drop, MatchResult};
+ghost use Rattle.std.specs.Prelude.{IfOk, OnOk};
 ghost use Rattle.std.specs.Io.KnownBytes.{IsAtEnd};
 ghost use Rattle.rb_lines.specs.Lines.{line_len};
 ghost use Rattle.rb_lines.specs.declared.limits.TheConstants.{LINE_LIMIT, MOST_READS};
@@ -10,12 +11,13 @@ ghost use Rattle.rb_lines.specs.declared.no_line.NoLine.TheVariants.{TooLong, Re
 use crate::limits::{LINE_LIMIT, MOST_OWED, MOST_READS};
 use crate::no_line::NoLine;
 use crate::pending::Pending;
-use crate::sink::{Sink, WriteFailed};
+use crate::sink::Sink;
 use crate::source::Source;
 use crate::write::flush;
 use std::alloc::Global;
 
-/// What was read and not yet answered, what was answered and not yet written, how many reads are left, and whether the reader has come to its end.
+/// What was read and not yet answered, what was answered and not yet written, how many reads are left, and whether the
+/// reader has come to its end.
 #[derive(Drop)]
 pub struct Buffers {
     pub pending: Pending,
@@ -62,26 +64,22 @@ impl Buffers {
         ensures owed { self.new.owed ≡ self.old.owed }
         ensures read { MatchResult result
             (λ _. Reads self.old.pending self.new.pending (S.remaining reader.old) (S.remaining reader.new))
-            (HasRead self.old self.new (S.remaining reader.old) (S.remaining reader.new) (S.failed reader.new) (S.calls reader.new)) }
-        ensures end { OnOk result (self.new.ended ≡ true → (self.new.pending ≡ self.old.pending) × IsAtEnd (S.remaining reader.new)) }
+            (HasRead self.old self.new (S.remaining reader.old) (S.remaining reader.new) (S.failed reader.new)
+            (S.calls reader.new)) }
+        ensures end { OnOk result (self.new.ended ≡ true
+            → (self.new.pending ≡ self.old.pending) × IsAtEnd (S.remaining reader.new)) }
     {
         if self.reads == 0 {
             return Err(NoLine::Read);
         }
-        let Ok(read) = self.pending.read(reader) else {
-            return Err(NoLine::OutOfMemory);
-        };
+        let read = self.pending.read(reader)?;
         self.reads -= 1;
-        match read {
-            Ok(n) => {
-                self.ended = n == 0;
-                Ok(())
-            }
-            Err(_) => Err(NoLine::Read),
-        }
+        self.ended = read? == 0;
+        Ok(())
     }
 
-    /// Makes the next line stand at the front, and says how long it is: `None` at the end. What is owed goes out before a read, and where it is much.
+    /// Makes the next line stand at the front, and says how long it is: `None` at the end. What is owed goes out before
+    /// a read, and where it is much.
     #[inline(always)]
     pub fn next_line<S: Source, W: Sink>(
         &mut self,
@@ -97,10 +95,12 @@ impl Buffers {
         ensures was_going { self.new.ended ≡ false → self.old.ended ≡ false }
         ensures kept { MatchResult result
             (λ _. Reads self.old.pending self.new.pending (S.remaining reader.old) (S.remaining reader.new))
-            (λ why. why ≢ OutOfMemory → Reads self.old.pending self.new.pending (S.remaining reader.old) (S.remaining reader.new)) }
+            (λ why. why ≢ OutOfMemory
+            → Reads self.old.pending self.new.pending (S.remaining reader.old) (S.remaining reader.new)) }
         ensures sent { MatchResult result
             (λ _. Sends (W.contents writer.old) (W.contents writer.new) self.old.owed.items self.new.owed.items)
-            (λ why. why ≢ Write → Sends (W.contents writer.old) (W.contents writer.new) self.old.owed.items self.new.owed.items) }
+            (λ why. why ≢ Write
+            → Sends (W.contents writer.old) (W.contents writer.new) self.old.owed.items self.new.owed.items) }
 
         // No read while a line waits.
         ensures waits { line_len self.old.pending < length self.old.pending → S.calls reader.new ≡ S.calls reader.old }
@@ -108,13 +108,17 @@ impl Buffers {
         // Each reason.
         ensures line { IfOk result (IsNextLine self.new) }
         ensures long { result ≡ Err TooLong → LINE_LIMIT < line_len self.new.pending }
-        ensures read { result ≡ Err Read → (self.new.ended ≡ false) × (line_len self.new.pending ≡ length self.new.pending) × ((S.failed reader.new ≡ true) ⊎ (S.calls reader.new ≡ MOST_READS)) }
+        ensures read { result ≡ Err Read → (self.new.ended ≡ false)
+            × (line_len self.new.pending ≡ length self.new.pending)
+            × ((S.failed reader.new ≡ true) ⊎ (S.calls reader.new ≡ MOST_READS)) }
         ensures write { (result ≡ Err Write) ↔ (W.failed writer.new ≡ true) }
         ensures nothing { result ≡ Err Write → 0 < length self.old.owed.items }
-        ensures front { result ≡ Err Write → AppendsFront (W.contents writer.old) (W.contents writer.new) self.old.owed.items × (self.new.owed.items ≡ []) }
+        ensures front { result ≡ Err Write
+            → AppendsFront (W.contents writer.old) (W.contents writer.new) self.old.owed.items
+            × (self.new.owed.items ≡ []) }
     {
-        if self.owed.len() >= MOST_OWED && flush(writer, &mut self.owed).is_err() {
-            return Err(NoLine::Write);
+        if self.owed.len() >= MOST_OWED {
+            flush(writer, &mut self.owed)?;
         }
         'reads: loop {
             let n = self.pending.first_line();
@@ -127,14 +131,8 @@ impl Buffers {
             if self.ended {
                 return Ok(if n == 0 { None } else { Some(n) });
             }
-            match flush(writer, &mut self.owed) {
-                Ok(()) => {}
-                Err(WriteFailed) => return Err(NoLine::Write),
-            }
-            match self.read_more(reader) {
-                Ok(()) => {}
-                Err(why) => return Err(why),
-            }
+            flush(writer, &mut self.owed)?;
+            self.read_more(reader)?;
         }
     }
 }

@@ -1,4 +1,5 @@
-//! Lines between a reader and a writer: the bytes that wait, the bytes that are owed, and why a run stops.
+//! Lines between a reader and a writer: the bytes that wait, the bytes that are owed, a run over lines that are
+//! answered, and why it stops.
 //! Tests: rb_tests, scripts.rt, audits.rt.
 #![tactic(auto)]
 
@@ -10,6 +11,8 @@ mod limits;
 mod line;
 mod no_line;
 mod pending;
+mod responder;
+mod run;
 mod sink;
 mod source;
 mod to_bytes;
@@ -17,13 +20,15 @@ mod to_writer;
 mod write;
 
 pub use buffers::Buffers;
-pub use fault::{ScriptFault, message, status};
+pub use fault::{ScriptFault, StreamFault, message, status};
 pub use from_bytes::FromBytes;
 pub use from_reader::FromReader;
 pub use limits::{LINE_LIMIT, MOST_OWED, MOST_READS, READ_SIZE};
 pub use line::{is_blank, text_on};
 pub use no_line::NoLine;
 pub use pending::Pending;
+pub use responder::Responder;
+pub use run::run_lines;
 pub use sink::{Sink, WriteFailed};
 pub use source::{ReadFailed, Source};
 pub use to_bytes::ToBytes;

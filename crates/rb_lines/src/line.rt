@@ -17,7 +17,8 @@ pub fn is_blank(line: &[u8]) -> bool
 /// The text of a line, where it is UTF-8. Most lines are ASCII, which is seen at once.
 #[inline(always)]
 pub fn text_on(line: &[u8]) -> Option<&str>
-    ensures { MatchOption result (is_utf8 line.now ≡ false) (λ text. (text.now ≡ line.now) × (is_utf8 line.now ≡ true)) }
+    ensures { MatchOption result (is_utf8 line.now ≡ false)
+        (λ text. (text.now ≡ line.now) × (is_utf8 line.now ≡ true)) }
 {
     if line.is_ascii() {
         return Some(unsafe { str::from_utf8_unchecked(line) });

@@ -1,4 +1,11 @@
-//! Why a script has no next line.
+//! Why a run has no next line.
+ghost use Rattle.std.specs.Prelude.{◌≡◌};
+ghost use Rattle.rb_lines.specs.declared.no_line.NoLine.TheVariants.{OutOfMemory as NoMemory, Read as NotRead};
+ghost use Rattle.rb_lines.specs.declared.no_line.NoLine.TheVariants.{Write as NotWritten};
+
+use crate::sink::WriteFailed;
+use crate::source::ReadFailed;
+use std::alloc::AllocError;
 
 /// Why there is no next line.
 #[derive(Clone, Copy, PartialEq, Eq)]
@@ -7,4 +14,28 @@ pub enum NoLine {
     Read,
     Write,
     OutOfMemory,
+}
+
+impl From<ReadFailed> for NoLine {
+    ghost from_gives = { λ _ why. why ≡ NotRead };
+
+    fn from(_: ReadFailed) -> NoLine {
+        NoLine::Read
+    }
+}
+
+impl From<WriteFailed> for NoLine {
+    ghost from_gives = { λ _ why. why ≡ NotWritten };
+
+    fn from(_: WriteFailed) -> NoLine {
+        NoLine::Write
+    }
+}
+
+impl From<AllocError> for NoLine {
+    ghost from_gives = { λ _ why. why ≡ NoMemory };
+
+    fn from(_: AllocError) -> NoLine {
+        NoLine::OutOfMemory
+    }
 }

@@ -1,5 +1,6 @@
 //! Bytes that were read and not yet answered.
-ghost use Rattle.std.specs.Prelude.{◌≡◌, ◌+◌, ◌-◌, ◌^◌, ◌≤◌, ◌||◌, [], Ok, length, take, drop, min, is_err, MatchResult, IfOk, OnOk, OnErr};
+ghost use Rattle.std.specs.Prelude.{◌≡◌, ◌+◌, ◌-◌, ◌^◌, ◌≤◌, ◌||◌, [], Ok, length, take, drop, min, is_err};
+ghost use Rattle.std.specs.Prelude.{MatchResult, IfOk, OnOk, OnErr};
 ghost use Rattle.std.specs.Io.KnownBytes.{IsAtEnd, Keeps};
 ghost use Rattle.rb_lines.specs.Lines.{line_len};
 ghost use Rattle.rb_lines.specs.Buffers.{Reads};
@@ -11,7 +12,8 @@ use memchr::memchr;
 use std::alloc::{AllocError, Global};
 use std::marker::Model;
 
-/// A queue of bytes that is read as one slice, from `start` to `end`; what stands behind them is room for reads. It knows how far it was searched for a line feed, so each byte is looked at once.
+/// A queue of bytes that is read as one slice, from `start` to `end`; what stands behind them is room for reads. It
+/// knows how far it was searched for a line feed, so each byte is looked at once.
 #[derive(Drop)]
 pub struct Pending {
     bytes: Vec<u8>,
@@ -29,7 +31,8 @@ impl Model for Pending {
     ghost view = { λ p. slice_range p.bytes.items p.start p.end };
 
     // No line feed stands in the part that was searched.
-    ghost invariant = { λ p. (p.start ≤ p.end) × (p.end ≤ length p.bytes.items) × (p.searched ≤ line_len (slice_range p.bytes.items p.start p.end)) };
+    ghost invariant = { λ p. (p.start ≤ p.end) × (p.end ≤ length p.bytes.items)
+        × (p.searched ≤ line_len (slice_range p.bytes.items p.start p.end)) };
 }
 
 /// The bytes before the first line feed, or all of them.
@@ -65,7 +68,8 @@ fn read_behind<S: Source>(
     requires { end + READ_SIZE ≤ length bytes.old.items }
     ensures front { take end bytes.new.items ≡ take end bytes.old.items }
     ensures bytes { MatchResult result
-        (λ n. Reads (take end bytes.old.items) (take (end + n) bytes.new.items) (S.remaining reader.old) (S.remaining reader.new))
+        (λ n. Reads (take end bytes.old.items) (take (end + n) bytes.new.items) (S.remaining reader.old)
+        (S.remaining reader.new))
         (λ _. Keeps (S.remaining reader.old) (S.remaining reader.new)) }
     ensures bound { IfOk result (λ n. n ≤ READ_SIZE) }
     ensures room { end + READ_SIZE ≤ length bytes.new.items }
@@ -142,7 +146,8 @@ impl Pending {
         ensures bytes { IfOk result (λ read. MatchResult read
             (λ _. Reads self.old self.new (S.remaining reader.old) (S.remaining reader.new))
             (λ _. (self.new ≡ self.old) × Keeps (S.remaining reader.old) (S.remaining reader.new))) }
-        ensures count { IfOk result (λ read. IfOk read (λ n. (n ≤ READ_SIZE) × (length self.new ≡ length self.old + n))) }
+        ensures count { IfOk result (λ read. IfOk read (λ n. (n ≤ READ_SIZE)
+            × (length self.new ≡ length self.old + n))) }
         ensures end { result ≡ Ok (Ok 0) → (self.new ≡ self.old) × IsAtEnd (S.remaining reader.new) }
         ensures failed { IfOk result (λ read. S.failed reader.new ≡ (S.failed reader.old || is_err read)) }
         ensures calls { OnOk result (S.calls reader.new ≡ min (S.calls reader.old + 1) (2 ^ 64 - 1)) }

@@ -4,8 +4,8 @@ ghost use Rattle.std.specs.Prelude.{◌≡◌, [], false};
 use crate::sink::{Sink, WriteFailed};
 use std::alloc::Global;
 
-/// A writer that keeps what it takes in memory: up to `piece` bytes a write, and up to `left` more in all. Then it takes
-/// nothing.
+/// A writer that keeps what it takes in memory: up to `piece` bytes a write, and up to `left` more in all. Then it
+/// takes nothing.
 #[derive(Drop)]
 pub struct ToBytes {
     pub taken: Vec<u8>,
@@ -55,7 +55,8 @@ impl Sink for ToBytes {
         ensures failed { self.new.failed ≡ (self.old.failed || moved_nothing result) }
 
         // As much as it may take.
-        ensures count { IfOk result (λ n. (n ≡ min (min self.old.piece self.old.left) (length buf.now)) × (self.new.left + n ≡ self.old.left)) }
+        ensures count { IfOk result (λ n. (n ≡ min (min self.old.piece self.old.left) (length buf.now))
+            × (self.new.left + n ≡ self.old.left)) }
         ensures same { (self.new.piece ≡ self.old.piece) × OnErr result (self.new.left ≡ self.old.left) }
     {
         let n = self.piece.min(self.left).min(buf.len());

@@ -8,7 +8,8 @@ use crate::sink::{Sink, WriteFailed};
 /// Writes the text. After an `Err` a front of it went out.
 pub fn write_all<W: Sink>(writer: &mut W, text: &[u8]) -> Result<(), WriteFailed>
     ensures written { MatchResult result
-        (λ _. Appends (W.contents writer.old) (W.contents writer.new) text.now × (W.failed writer.new ≡ W.failed writer.old))
+        (λ _. Appends (W.contents writer.old) (W.contents writer.new) text.now
+        × (W.failed writer.new ≡ W.failed writer.old))
         (λ _. AppendsFront (W.contents writer.old) (W.contents writer.new) text.now × (W.failed writer.new ≡ true)) }
     ensures nothing { OnErr result (0 < length text.now) }
 {
@@ -26,8 +27,10 @@ pub fn write_all<W: Sink>(writer: &mut W, text: &[u8]) -> Result<(), WriteFailed
 /// Writes what is owed, and keeps the room. Nothing is owed afterwards: after an `Err` a front of it went out.
 pub fn flush<W: Sink>(writer: &mut W, owed: &mut Vec<u8>) -> Result<(), WriteFailed>
     ensures written { MatchResult result
-        (λ _. Appends (W.contents writer.old) (W.contents writer.new) owed.old.items × (W.failed writer.new ≡ W.failed writer.old))
-        (λ _. AppendsFront (W.contents writer.old) (W.contents writer.new) owed.old.items × (W.failed writer.new ≡ true)) }
+        (λ _. Appends (W.contents writer.old) (W.contents writer.new) owed.old.items
+        × (W.failed writer.new ≡ W.failed writer.old))
+        (λ _. AppendsFront (W.contents writer.old) (W.contents writer.new) owed.old.items
+        × (W.failed writer.new ≡ true)) }
     ensures emptied { owed.new.items ≡ [] }
     ensures nothing { OnErr result (0 < length owed.old.items) }
 {

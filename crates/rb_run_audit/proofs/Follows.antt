@@ -1,5 +1,6 @@
 -- Where an audit stands between two lines, for a source whose bytes are known.
-use Rattle.std.proofs.Common.{◌≡◌, ◌<◌, ◌≤◌, ◌+◌, ◌⊎◌, ℕ, Bool, true, false, List, [], ◌∷◌, ◌++◌, length, take, drop, Option, Some, None, Ok, Err, refl, sym, ap, ◌∙◌, rules, subst, append-nil, append_assoc}
+use Rattle.std.proofs.Common.{◌≡◌, ◌<◌, ◌≤◌, ◌+◌, ◌⊎◌, ℕ, Bool, true, false, List, [], ◌∷◌, ◌++◌, length, take, drop, Option, Some, None}
+use Rattle.std.proofs.Common.{Ok, Err, refl, sym, ap, ◌∙◌, rules, subst, append-nil, append_assoc}
 use Rattle.std.specs.Prelude.{IfSome}
 use Rattle.std.specs.Io.KnownBytes.{IsAtEnd}
 use Rattle.rb_money.specs.Settings.{Settings}
@@ -8,8 +9,8 @@ use Rattle.rb_auditor.specs.Findings.{lists_of}
 use Rattle.rb_lines.specs.Buffers.{Reads}
 use Rattle.rb_lines.specs.Lines.{lines_of, is_long, line_len}
 use Rattle.rb_lines.specs.declared.limits.TheConstants.{LINE_LIMIT}
-use Rattle.rb_lines.specs.declared.fault.ScriptFault.{ScriptFault}
-use Rattle.rb_lines.specs.declared.fault.ScriptFault.TheVariants.{NoConfig, BadConfig, BadLine, LongLine, Read, Write, OutOfMemory, Gather}
+use Rattle.rb_lines.specs.declared.fault.StreamFault.{StreamFault}
+use Rattle.rb_lines.specs.declared.fault.StreamFault.TheVariants.{NoConfig, BadConfig, BadLine, LongLine, Read, Write, OutOfMemory}
 use Rattle.rb_lines.proofs.Public.LongLines.{long_line}
 use Rattle.rb_lines.proofs.Public.Walks.{Walks, standing}
 use Rattle.rb_lines.proofs.Public.Walks as walk
@@ -24,6 +25,7 @@ pub record Follows (all : List ℕ) (c : Collected) (pending rest : List ℕ) (e
   pub walks : Walks all done pending rest ended
   pub input : (ls : List (List ℕ)) → input_from 1 (done ++ ls) ≡ input_rest c ls
 
+-- these lines were taken, where the source's bytes are known
 abbrev pub FollowsKnown : Option (List ℕ) → Option (List ℕ) → Collected → List ℕ → Bool → Type 0
 FollowsKnown None now c p e = Unit {0}
 FollowsKnown (Some all) None c p e = ⊥
@@ -32,7 +34,9 @@ FollowsKnown (Some all) (Some rest) c p e = Follows all c p rest e
 at_first : (c : Collected) (ls : List (List ℕ)) → c.config ≡ None → c.number ≡ 1 → input_from 1 ls ≡ input_rest c ls
 at_first c ls none one = rw (none, one) refl
 
-pub known_start : (a : Option (List ℕ)) (c : Collected) (p : List ℕ) (e : Bool) → (c.config ≡ None) × (c.number ≡ 1) → p ≡ [] → e ≡ false → FollowsKnown a a c p e
+-- at first no line was taken
+pub known_start : (a : Option (List ℕ)) (c : Collected) (p : List ℕ) (e : Bool) → (c.config ≡ None) × (c.number ≡ 1) → p ≡ [] → e ≡ false
+    → FollowsKnown a a c p e
 known_start None c p e first none going = tt
 known_start (Some all) c p e first none going = record {
   done = [];
@@ -40,17 +44,24 @@ known_start (Some all) c p e first none going = record {
   input = λ ls. at_first c ls first.0 first.1;
 }
 
-pub known_read : (a b b' : Option (List ℕ)) (c : Collected) (p p' : List ℕ) (e e' : Bool) → FollowsKnown a b c p e → Reads p p' b b' → (e' ≡ false → e ≡ false) → FollowsKnown a b' c p' e'
+-- bytes more were read
+pub known_read : (a b b' : Option (List ℕ)) (c : Collected) (p p' : List ℕ) (e e' : Bool) → FollowsKnown a b c p e → Reads p p' b b'
+    → (e' ≡ false → e ≡ false) → FollowsKnown a b' c p' e'
 known_read None b b' c p p' e e' f r was = tt
 known_read (Some all) None b' c p p' e e' f r was = absurd f
 known_read (Some all) (Some x) None c p p' e e' f r was = absurd r.2
-known_read (Some all) (Some x) (Some y) c p p' e e' f r was = record { done = f.done; walks = walk.after_read all f.done p p' x y e e' f.walks r was; input = f.input }
+known_read (Some all) (Some x) (Some y) c p p' e e' f r was =
+    record { done = f.done; walks = walk.after_read all f.done p p' x y e e' f.walks r was; input = f.input }
 
-took : (done : List (List ℕ)) (l : List ℕ) (c c' : Collected) → ((ls : List (List ℕ)) → input_from 1 (done ++ ls) ≡ input_rest c ls) → Takes c c' l → (ls : List (List ℕ)) → input_from 1 ((done ++ l ∷ []) ++ ls) ≡ input_rest c' ls
+took : (done : List (List ℕ)) (l : List ℕ) (c c' : Collected) → ((ls : List (List ℕ)) → input_from 1 (done ++ ls) ≡ input_rest c ls)
+    → Takes c c' l → (ls : List (List ℕ)) → input_from 1 ((done ++ l ∷ []) ++ ls) ≡ input_rest c' ls
 took done l c c' before t ls = ap (input_from 1) (append_assoc done (l ∷ []) ls) ∙ before (l ∷ ls) ∙ t.follows ls
 
-pub known_line : (a b : Option (List ℕ)) (c c' : Collected) (p : List ℕ) (e : Bool) (n : ℕ) → FollowsKnown a b c p e → n ≡ line_len p → n ≤ length p
-    → (n < length p) ⊎ ((n ≡ length p) × (0 < n) × (e ≡ true)) → (e ≡ true → IsAtEnd b) → Takes c c' (take n p) → FollowsKnown a b c' (drop (n + 1) p) e
+-- the line at the front was taken
+pub known_line : (a b : Option (List ℕ)) (c c' : Collected) (p : List ℕ) (e : Bool) (n : ℕ) → FollowsKnown a b c p e → n ≡ line_len p
+    → n ≤ length p
+    → (n < length p) ⊎ ((n ≡ length p) × (0 < n) × (e ≡ true)) → (e ≡ true → IsAtEnd b) → Takes c c' (take n p)
+    → FollowsKnown a b c' (drop (n + 1) p) e
 known_line None b c c' p e n f len fits stands end t = tt
 known_line (Some all) None c c' p e n f len fits stands end t = absurd f
 known_line (Some all) (Some x) c c' p e n f len fits stands end t = record {
@@ -61,31 +72,43 @@ known_line (Some all) (Some x) c c' p e n f len fits stands end t = record {
 
 -- ---- the ends
 
-input_is : (done ls all : List (List ℕ)) (c : Collected) → ((more : List (List ℕ)) → input_from 1 (done ++ more) ≡ input_rest c more) → all ≡ done ++ ls → input_from 1 all ≡ input_rest c ls
+input_is : (done ls all : List (List ℕ)) (c : Collected) → ((more : List (List ℕ)) → input_from 1 (done ++ more) ≡ input_rest c more)
+    → all ≡ done ++ ls → input_from 1 all ≡ input_rest c ls
 input_is done ls all c input e = ap (input_from 1) e ∙ input ls
 
-pub known_end : (a b : Option (List ℕ)) (c : Collected) (p : List ℕ) (e : Bool) → FollowsKnown a b c p e → p ≡ [] → IsAtEnd b → IfSome a (λ input. CollectsAs (Ok tt) c input b)
+-- there are no more lines
+pub known_end : (a b : Option (List ℕ)) (c : Collected) (p : List ℕ) (e : Bool) → FollowsKnown a b c p e → p ≡ [] → IsAtEnd b
+    → IfSome a (λ input. CollectsAs (Ok tt) c input b)
 known_end None b c p e f none end = tt
 known_end (Some all) None c p e f none end = absurd f
-known_end (Some all) (Some x) c p e f none end = (input_is f.done [] _ c f.input (walk.at_end all f.done p x e f.walks none end ∙ sym (append-nil f.done)), ap Some end)
+known_end (Some all) (Some x) c p e f none end =
+    (input_is f.done [] _ c f.input (walk.at_end all f.done p x e f.walks none end ∙ sym (append-nil f.done)), ap Some end)
 
-long_of : (m : Option Settings) (hs : List (List Entry)) (n : ℕ) (l : List ℕ) (ls : List (List ℕ)) → is_long l ≡ true → input_rest_from m hs n (l ∷ ls) ≡ Err (LongLine n)
+long_of : (m : Option Settings) (hs : List (List Entry)) (n : ℕ) (l : List ℕ) (ls : List (List ℕ)) → is_long l ≡ true
+    → input_rest_from m hs n (l ∷ ls) ≡ Err (LongLine n)
 long_of None hs n l ls h = rw h refl
 long_of (Some m) hs n l ls h = rw h refl
 
-pub known_long : (a b : Option (List ℕ)) (c : Collected) (p : List ℕ) (e : Bool) → FollowsKnown a b c p e → LINE_LIMIT < line_len p → IfSome a (λ input. CollectsAs (Err (LongLine c.number)) c input b)
+-- the next line is too long
+pub known_long : (a b : Option (List ℕ)) (c : Collected) (p : List ℕ) (e : Bool) → FollowsKnown a b c p e → LINE_LIMIT < line_len p
+    → IfSome a (λ input. CollectsAs (Err (LongLine c.number)) c input b)
 known_long None b c p e f h = tt
 known_long (Some all) None c p e f h = absurd f
 known_long (Some all) (Some x) c p e f h =
     let (l, more, first, longer) = long_line p x LINE_LIMIT h in
-    let is : is_long l ≡ true = search rules in
-    (input_is f.done (l ∷ more) _ c f.input (f.walks.lines ∙ ap (λ y. f.done ++ y) first) ∙ long_of c.config (lists_of c.histories.items) c.number l more is, refl)
+    let is : is_long l ≡ true = search rules in (
+      input_is f.done (l ∷ more) _ c f.input (f.walks.lines ∙ ap (λ y. f.done ++ y) first)
+          ∙ long_of c.config (lists_of c.histories.items) c.number l more is,
+      refl,
+    )
 
 unfinished : (m : Option Settings) (hs : List (List Entry)) (n : ℕ) → IsUnfinishedInput (input_rest_from m hs n [])
 unfinished None hs n = tt
 unfinished (Some m) hs n = tt
 
-pub known_stop : (a b : Option (List ℕ)) (c : Collected) (p : List ℕ) (e : Bool) → FollowsKnown a b c p e → e ≡ false → line_len p ≡ length p → IfSome a (λ input. CollectsAs (Err Read) c input b)
+-- no more is read
+pub known_stop : (a b : Option (List ℕ)) (c : Collected) (p : List ℕ) (e : Bool) → FollowsKnown a b c p e → e ≡ false
+    → line_len p ≡ length p → IfSome a (λ input. CollectsAs (Err Read) c input b)
 known_stop None b c p e f going none = tt
 known_stop (Some all) None c p e f going none = absurd f
 known_stop (Some all) (Some x) c p e f going none = (
@@ -94,12 +117,16 @@ known_stop (Some all) (Some x) c p e f going none = (
   record {
     taken = f.walks.got;
     whole = f.walks.bytes;
-    unfinished = subst IsUnfinishedInput (sym (input_is f.done [] _ c f.input (walk.at_rest all f.done p x e f.walks going none ∙ sym (append-nil f.done)))) (unfinished c.config (lists_of c.histories.items) c.number);
+    unfinished =
+        subst IsUnfinishedInput
+        (sym (input_is f.done [] _ c f.input (walk.at_rest all f.done p x e f.walks going none ∙ sym (append-nil f.done))))
+        (unfinished c.config (lists_of c.histories.items) c.number);
   },
   refl,
 )
 
-at_fault : (all : List ℕ) (b : Option (List ℕ)) (c : Collected) (l : List ℕ) (more : List (List ℕ)) (f : ScriptFault) → input_of (lines_of all) ≡ input_rest c (l ∷ more) → InputEndsAt c l f → AuditEndsAs (Err f) all b []
+at_fault : (all : List ℕ) (b : Option (List ℕ)) (c : Collected) (l : List ℕ) (more : List (List ℕ)) (f : StreamFault)
+    → input_of (lines_of all) ≡ input_rest c (l ∷ more) → InputEndsAt c l f → AuditEndsAs (Err f) all b []
 at_fault all b c l more (BadConfig n) e h = (e ∙ h more, refl)
 at_fault all b c l more (BadLine n) e h = (e ∙ h more, refl)
 at_fault all b c l more OutOfMemory e h = refl
@@ -107,16 +134,20 @@ at_fault all b c l more NoConfig e h = absurd h
 at_fault all b c l more (LongLine n) e h = absurd h
 at_fault all b c l more Read e h = absurd h
 at_fault all b c l more Write e h = absurd h
-at_fault all b c l more Gather e h = absurd h
 
-pub known_fault : (a b : Option (List ℕ)) (c c' : Collected) (p : List ℕ) (e : Bool) (n : ℕ) (f : ScriptFault) → FollowsKnown a b c p e → n ≡ line_len p → n ≤ length p
-    → (n < length p) ⊎ ((n ≡ length p) × (0 < n) × (e ≡ true)) → (e ≡ true → IsAtEnd b) → InputEndsAt c (take n p) f → IfSome a (λ input. CollectsAs (Err f) c' input b)
+-- the line at the front ends the audit
+pub known_fault : (a b : Option (List ℕ)) (c c' : Collected) (p : List ℕ) (e : Bool) (n : ℕ) (f : StreamFault) → FollowsKnown a b c p e
+    → n ≡ line_len p → n ≤ length p
+    → (n < length p) ⊎ ((n ≡ length p) × (0 < n) × (e ≡ true)) → (e ≡ true → IsAtEnd b) → InputEndsAt c (take n p) f
+    → IfSome a (λ input. CollectsAs (Err f) c' input b)
 known_fault None b c c' p e n f k len fits stands end h = tt
 known_fault (Some all) None c c' p e n f k len fits stands end h = absurd k
 known_fault (Some all) (Some x) c c' p e n f k len fits stands end h =
     let (more, first) = standing p x e n len fits stands end in
-    at_fault all (Some x) c (take n p) more f (input_is k.done (take n p ∷ more) _ c k.input (k.walks.lines ∙ ap (λ y. k.done ++ y) first)) h
+    at_fault all (Some x) c (take n p) more f (input_is k.done (take n p ∷ more) _ c k.input (k.walks.lines ∙ ap (λ y. k.done ++ y) first))
+    h
 
+-- there was no memory
 pub known_out_of_memory : (a b : Option (List ℕ)) (c : Collected) → IfSome a (λ input. CollectsAs (Err OutOfMemory) c input b)
 known_out_of_memory None b c = tt
 known_out_of_memory (Some all) b c = refl

@@ -9,7 +9,9 @@ both_none [] [] e = (refl, refl)
 both_none [] (y ∷ b) e = absurd (cc e)
 both_none (x ∷ a) b e = absurd (cc e)
 
-pub nothing_sent : (w0 w w' : Option (List ℕ)) (owed still : List ℕ) → Appends w0 w [] → owed ≡ [] → Sends w w' owed still → Appends w0 w' [] × (still ≡ [])
+-- where nothing was owed, nothing went out, and nothing is owed
+pub nothing_sent : (w0 w w' : Option (List ℕ)) (owed still : List ℕ) → Appends w0 w [] → owed ≡ [] → Sends w w' owed still
+    → Appends w0 w' [] × (still ≡ [])
 nothing_sent w0 w w' owed still before none sent =
     let parts = both_none sent.0 still (sym none ∙ sent.2) in
     (Appends-trans w0 w w' [] [] before (subst (λ t. Appends w w' t) parts.0 sent.1), parts.1)

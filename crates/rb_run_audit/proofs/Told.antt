@@ -7,7 +7,7 @@ use Rattle.rb_money.specs.Settings.{Settings}
 use Rattle.rb_auditor.specs.Findings.{lists_of}
 use Rattle.rb_lines.specs.Lines.{lines_of}
 use Rattle.rb_lines.specs.Writes.{AppendsFront, IsFront}
-use Rattle.rb_lines.specs.declared.fault.ScriptFault.TheVariants.{Write}
+use Rattle.rb_lines.specs.declared.fault.StreamFault.TheVariants.{Write}
 use Rattle.rb_run_audit.specs.declared.collected.Collected.{Collected}
 use Rattle.rb_run_audit.specs.Inputs.{Input, input_of}
 use Rattle.rb_run_audit.specs.Collects.{input_rest_from}
@@ -17,23 +17,33 @@ use Rattle.rb_run_audit.specs.Run.{CollectsAs, AuditEndsAs, TellsVerdict}
 abbrev input_at : Settings → Collected → Input
 input_at s c = record { settings = s; histories = lists_of c.histories.items }
 
-whole_input : (all : List ℕ) (b : Option (List ℕ)) (c : Collected) (s : Settings) (u : Unit {0}) → CollectsAs (Ok u) c all b → c.config ≡ Some s → input_of (lines_of all) ≡ Ok (input_at s c)
+whole_input : (all : List ℕ) (b : Option (List ℕ)) (c : Collected) (s : Settings) (u : Unit {0}) → CollectsAs (Ok u) c all b
+    → c.config ≡ Some s → input_of (lines_of all) ≡ Ok (input_at s c)
 whole_input all b c s u whole conf = whole.0 ∙ ap (λ m. input_rest_from m (lists_of c.histories.items) c.number []) conf
 
-all_told : (a b : Option (List ℕ)) (c : Collected) (s : Settings) (found : Bool) (line : List ℕ) (u : Unit {0}) → IfSome a (λ input. CollectsAs (Ok u) c input b) → c.config ≡ Some s → TellsVerdict found (input_at s c) line
+all_told : (a b : Option (List ℕ)) (c : Collected) (s : Settings) (found : Bool) (line : List ℕ) (u : Unit {0})
+    → IfSome a (λ input. CollectsAs (Ok u) c input b) → c.config ≡ Some s → TellsVerdict found (input_at s c) line
     → IfSome a (λ input. AuditEndsAs (Ok found) input b line)
 all_told None b c s found line u whole conf tells = tt
 all_told (Some all) b c s found line u whole conf tells = (input_at s c, whole_input all b c s u whole conf, tells, whole.1)
 
-pub told : (w0 w w' a b : Option (List ℕ)) (c : Collected) (s : Settings) (found : Bool) (line : List ℕ) (u : Unit {0}) → Appends w0 w [] → Appends w w' line → IfSome a (λ input. CollectsAs (Ok u) c input b) → c.config ≡ Some s → TellsVerdict found (input_at s c) line
+-- all lines were taken, and the line of the verdict was written
+pub told : (w0 w w' a b : Option (List ℕ)) (c : Collected) (s : Settings) (found : Bool) (line : List ℕ) (u : Unit {0}) → Appends w0 w []
+    → Appends w w' line → IfSome a (λ input. CollectsAs (Ok u) c input b) → c.config ≡ Some s → TellsVerdict found (input_at s c) line
     → (text : List ℕ) × Appends w0 w' text × IfSome a (λ input. AuditEndsAs (Ok found) input b text)
-told w0 w w' a b c s found line u before written whole conf tells = (line, Appends-trans w0 w w' [] line before written, all_told a b c s found line u whole conf tells)
+told w0 w w' a b c s found line u before written whole conf tells =
+    (line, Appends-trans w0 w w' [] line before written, all_told a b c s found line u whole conf tells)
 
-part_told : (a b : Option (List ℕ)) (c : Collected) (s : Settings) (found : Bool) (line front : List ℕ) (u : Unit {0}) → IsFront front line → IfSome a (λ input. CollectsAs (Ok u) c input b) → c.config ≡ Some s → TellsVerdict found (input_at s c) line
+part_told : (a b : Option (List ℕ)) (c : Collected) (s : Settings) (found : Bool) (line front : List ℕ) (u : Unit {0}) → IsFront front line
+    → IfSome a (λ input. CollectsAs (Ok u) c input b) → c.config ≡ Some s → TellsVerdict found (input_at s c) line
     → IfSome a (λ input. AuditEndsAs (Err Write) input b front)
 part_told None b c s found line front u is whole conf tells = tt
-part_told (Some all) b c s found line front u is whole conf tells = (input_at s c, found, line, whole_input all b c s u whole conf, tells, is)
+part_told (Some all) b c s found line front u is whole conf tells =
+    (input_at s c, found, line, whole_input all b c s u whole conf, tells, is)
 
-pub untold : (w0 w w' a b : Option (List ℕ)) (c : Collected) (s : Settings) (found : Bool) (line : List ℕ) (u : Unit {0}) → Appends w0 w [] → AppendsFront w w' line → IfSome a (λ input. CollectsAs (Ok u) c input b) → c.config ≡ Some s → TellsVerdict found (input_at s c) line
+-- all lines were taken, and a front of the line of the verdict was written
+pub untold : (w0 w w' a b : Option (List ℕ)) (c : Collected) (s : Settings) (found : Bool) (line : List ℕ) (u : Unit {0}) → Appends w0 w []
+    → AppendsFront w w' line → IfSome a (λ input. CollectsAs (Ok u) c input b) → c.config ≡ Some s → TellsVerdict found (input_at s c) line
     → (text : List ℕ) × Appends w0 w' text × IfSome a (λ input. AuditEndsAs (Err Write) input b text)
-untold w0 w w' a b c s found line u before part whole conf tells = (part.0, Appends-trans w0 w w' [] part.0 before part.2, part_told a b c s found line part.0 u part.1 whole conf tells)
+untold w0 w w' a b c s found line u before part whole conf tells =
+    (part.0, Appends-trans w0 w w' [] part.0 before part.2, part_told a b c s found line part.0 u part.1 whole conf tells)

@@ -3,17 +3,17 @@ use Rattle.std.specs.Prelude.{◌≡◌, ℕ, ◌+◌, List, ◌∷◌, Option, 
 use Rattle.rb_money.specs.Settings.{Settings}
 use Rattle.rb_site.specs.declared.entry.Entry.{Entry}
 use Rattle.rb_auditor.specs.Findings.{lists_of}
-use Rattle.rb_lines.specs.declared.fault.ScriptFault.{ScriptFault}
-use Rattle.rb_lines.specs.declared.fault.ScriptFault.TheVariants.{NoConfig, BadConfig, BadLine, LongLine, Read, Write, OutOfMemory, Gather}
+use Rattle.rb_lines.specs.declared.fault.StreamFault.{StreamFault}
+use Rattle.rb_lines.specs.declared.fault.StreamFault.TheVariants.{NoConfig, BadConfig, BadLine, LongLine, Read, Write, OutOfMemory}
 use Rattle.rb_run_audit.specs.declared.collected.Collected.{Collected}
 use Rattle.rb_run_audit.specs.Inputs.{Input, input_after, input_from}
 
 -- what the lines to come make of the input: before the configuration and after it
-abbrev pub input_rest_from : Option Settings → List (List Entry) → ℕ → List (List ℕ) → Result Input ScriptFault
+abbrev pub input_rest_from : Option Settings → List (List Entry) → ℕ → List (List ℕ) → Result Input StreamFault
 input_rest_from None hs n ls = input_from n ls
 input_rest_from (Some s) hs n ls = input_after s hs n ls
 
-abbrev pub input_rest : Collected → List (List ℕ) → Result Input ScriptFault
+abbrev pub input_rest : Collected → List (List ℕ) → Result Input StreamFault
 input_rest c ls = input_rest_from c.config (lists_of c.histories.items) c.number ls
 
 -- there is one history for each site of the configuration
@@ -27,7 +27,7 @@ pub record Takes (old new : Collected) (l : List ℕ) : Type 0 where
   pub each : HasEachSite new
 
 -- whatever follows, the input ends at this line; nothing is said of running out of memory
-abbrev pub InputEndsAt : Collected → List ℕ → ScriptFault → Type 0
+abbrev pub InputEndsAt : Collected → List ℕ → StreamFault → Type 0
 InputEndsAt c l OutOfMemory = Unit {0}
 InputEndsAt c l (BadConfig n) = (ls : List (List ℕ)) → input_rest c (l ∷ ls) ≡ Err (BadConfig n)
 InputEndsAt c l (BadLine n) = (ls : List (List ℕ)) → input_rest c (l ∷ ls) ≡ Err (BadLine n)
@@ -35,4 +35,3 @@ InputEndsAt c l NoConfig = ⊥
 InputEndsAt c l (LongLine n) = ⊥
 InputEndsAt c l Read = ⊥
 InputEndsAt c l Write = ⊥
-InputEndsAt c l Gather = ⊥

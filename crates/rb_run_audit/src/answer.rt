@@ -16,7 +16,9 @@ pub fn answer(
     histories: &[History],
 ) -> Result<(bool, Vec<u8>), AllocError>
     requires { length histories.now ≡ config.now.sites }
-    ensures { IfOk result (λ told. TellsVerdict told.0 (record { settings = config.now; histories = lists_of histories.now }) told.1.items) }
+    ensures { IfOk result
+        (λ told. TellsVerdict told.0 (record { settings = config.now; histories = lists_of histories.now })
+        told.1.items) }
 {
     match audit(alloc, config, histories) {
         Ok(order) => Ok((true, order_line(alloc, order.as_slice())?)),

@@ -11,12 +11,13 @@ ghost use Rattle.rb_run_audit.specs.Inputs.{with_entry};
 
 use rb_commands::{LineFault, read_config};
 use rb_history::read_line;
-use rb_lines::{ScriptFault, is_blank, text_on};
+use rb_lines::{StreamFault, is_blank, text_on};
 use rb_money::Config;
 use rb_site::{Entry, History};
 use std::alloc::{AllocError, Global};
 
-/// What was collected of an audit's lines: the configuration once there is one, then each site's history, and the number of the next line.
+/// What was collected of an audit's lines: the configuration once there is one, then each site's history, and the
+/// number of the next line.
 #[derive(Drop)]
 pub struct Collected {
     pub config: Option<Config>,
@@ -76,36 +77,35 @@ impl Collected {
     }
 
     /// Takes the line of the configuration: the histories of its sites come next.
-    fn take_config(&mut self, alloc: Global, number: u64, line: &[u8]) -> Result<(), ScriptFault>
+    fn take_config(&mut self, alloc: Global, number: u64, line: &[u8]) -> Result<(), StreamFault>
         ensures number { self.new.number ≡ self.old.number }
         ensures taken { MatchResult result
-            (λ _. (s : Settings) × (config_on line.now ≡ Some s) × (self.new.config ≡ Some s) × (lists_of self.new.histories.items ≡ replicate s.sites []))
-            (λ fault. (fault ≡ ScriptFault.OutOfMemory) ⊎ ((fault ≡ ScriptFault.BadConfig number) × (config_on line.now ≡ None))) }
+            (λ _. (s : Settings) × (config_on line.now ≡ Some s) × (self.new.config ≡ Some s)
+            × (lists_of self.new.histories.items ≡ replicate s.sites []))
+            (λ fault. (fault ≡ StreamFault.OutOfMemory)
+            ⊎ ((fault ≡ StreamFault.BadConfig number) × (config_on line.now ≡ None))) }
     {
         let config = match config_of(alloc, line) {
             Ok(config) => config,
-            Err(LineFault::Bad) => return Err(ScriptFault::BadConfig { line: number }),
-            Err(LineFault::OutOfMemory) => return Err(ScriptFault::OutOfMemory),
+            Err(LineFault::Bad) => return Err(StreamFault::BadConfig { line: number }),
+            Err(LineFault::OutOfMemory) => return Err(StreamFault::OutOfMemory),
         };
-        let Ok(histories) = none_recorded(alloc, config.sites()) else {
-            return Err(ScriptFault::OutOfMemory);
-        };
-        self.histories = histories;
+        self.histories = none_recorded(alloc, config.sites())?;
         self.config = Some(config);
         Ok(())
     }
 
     /// Takes the line of an entry: it comes to the end of its site's history.
-    fn take_entry(&mut self, site: u8, entry: Entry) -> Result<(), ScriptFault>
+    fn take_entry(&mut self, site: u8, entry: Entry) -> Result<(), StreamFault>
         requires { site < length self.old.histories.items }
         ensures config { self.new.config ≡ self.old.config }
         ensures number { self.new.number ≡ self.old.number }
-        ensures noted { MatchResult result (λ _. lists_of self.new.histories.items ≡ with_entry site entry (lists_of self.old.histories.items)) (λ fault. fault ≡ ScriptFault.OutOfMemory) }
+        ensures noted { MatchResult result
+            (λ _. lists_of self.new.histories.items ≡ with_entry site entry (lists_of self.old.histories.items))
+            (λ fault. fault ≡ StreamFault.OutOfMemory) }
     {
         let history = &mut self.histories[site as usize];
-        let Ok(()) = history.reserve(1) else {
-            return Err(ScriptFault::OutOfMemory);
-        };
+        history.reserve(1)?;
         history.push_reserved(entry);
         Ok(())
     }
@@ -113,7 +113,7 @@ impl Collected {
     /// Takes one line, which isn't too long.
     ///
     /// Refuses with `BadConfig` or `BadLine`, by the line's number, or `OutOfMemory`; the audit ends then.
-    pub fn take_line(&mut self, alloc: Global, line: &[u8]) -> Result<(), ScriptFault>
+    pub fn take_line(&mut self, alloc: Global, line: &[u8]) -> Result<(), StreamFault>
         requires short { length line.now ≤ LINE_LIMIT }
         requires number { self.old.number < 2 ^ 63 }
         requires each { HasEachSite self.old }
@@ -129,8 +129,8 @@ impl Collected {
         };
         match entry_of(alloc, config, line) {
             Ok((site, entry)) => self.take_entry(site, entry),
-            Err(LineFault::Bad) => Err(ScriptFault::BadLine { line: number }),
-            Err(LineFault::OutOfMemory) => Err(ScriptFault::OutOfMemory),
+            Err(LineFault::Bad) => Err(StreamFault::BadLine { line: number }),
+            Err(LineFault::OutOfMemory) => Err(StreamFault::OutOfMemory),
         }
     }
 }

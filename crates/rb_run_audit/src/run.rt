@@ -1,14 +1,14 @@
 //! A whole audit, from bytes to bytes.
 ghost use Rattle.std.specs.Prelude.{◌≡◌, ◌↔◌, ◌≢◌, ◌+◌, ◌≤◌, ◌⊎◌, List, [], ℕ, true, false, Err, None, IfSome, OnOk};
 ghost use Rattle.std.specs.Io.KnownBytes.{Appends};
-ghost use Rattle.rb_lines.specs.declared.fault.ScriptFault.TheVariants.{Read, Write};
+ghost use Rattle.rb_lines.specs.declared.fault.StreamFault.TheVariants.{Read, Write};
 ghost use Rattle.rb_lines.specs.declared.limits.TheConstants.{MOST_READS};
 ghost use Rattle.rb_run_audit.specs.Collects.{HasEachSite};
 ghost use Rattle.rb_run_audit.specs.Run.{CollectsAs, AuditEndsAs};
 
 use crate::answer::answer;
 use crate::collected::Collected;
-use rb_lines::{Buffers, NoLine, ScriptFault, Sink, Source, WriteFailed, write_all};
+use rb_lines::{Buffers, NoLine, ScriptFault, Sink, Source, StreamFault, write_all};
 use std::alloc::Global;
 
 /// Takes each line of the reader's bytes. Nothing is owed, so nothing is written.
@@ -17,14 +17,15 @@ fn collect<S: Source, W: Sink>(
     reader: &mut S,
     writer: &mut W,
     collected: &mut Collected,
-) -> Result<(), ScriptFault>
+) -> Result<(), StreamFault>
     requires unread { S.calls reader.old ≡ 0 }
     requires fresh { W.failed writer.old ≡ false }
     requires first { (collected.old.config ≡ None) × (collected.old.number ≡ 1) }
     ensures written { Appends (W.contents writer.old) (W.contents writer.new) [] }
     ensures fresh { W.failed writer.new ≡ false }
     ensures each { OnOk result (HasEachSite collected.new) }
-    ensures input { IfSome (S.remaining reader.old) (λ input. CollectsAs result collected.new input (S.remaining reader.new)) }
+    ensures input { IfSome (S.remaining reader.old)
+        (λ input. CollectsAs result collected.new input (S.remaining reader.new)) }
     ensures read { result ≡ Err Read → (S.failed reader.new ≡ true) ⊎ (S.calls reader.new ≡ MOST_READS) }
     ensures write { result ≢ Err Write }
     ensures calls { S.calls reader.new ≤ S.calls reader.old + MOST_READS }
@@ -35,26 +36,25 @@ fn collect<S: Source, W: Sink>(
             Ok(Some(n)) => n,
             Ok(None) => return Ok(()),
             Err(NoLine::TooLong) => {
-                return Err(ScriptFault::LongLine {
+                return Err(StreamFault::LongLine {
                     line: collected.number,
                 });
             }
-            Err(NoLine::Read) => return Err(ScriptFault::Read),
-            Err(NoLine::Write) => return Err(ScriptFault::Write),
-            Err(NoLine::OutOfMemory) => return Err(ScriptFault::OutOfMemory),
+            Err(NoLine::Read) => return Err(StreamFault::Read),
+            Err(NoLine::Write) => return Err(StreamFault::Write),
+            Err(NoLine::OutOfMemory) => return Err(StreamFault::OutOfMemory),
         };
         let line = &buffers.pending.as_slice()[..n];
-        match collected.take_line(alloc, line) {
-            Ok(()) => {}
-            Err(fault) => return Err(fault),
-        }
+        collected.take_line(alloc, line)?;
         buffers.skip_line(n);
     }
 }
 
 /// Audits the histories that the reader's bytes tell, answers one line, and says whether it has an order.
 ///
-/// The first line that isn't to be skipped is the configuration, and each later one an entry of a site's history; those of a site stand in their order. The whole input is read before anything is answered. After a fault nothing was written, but for `Write`: then a front of the line.
+/// The first line that isn't to be skipped is the configuration, and each later one an entry of a site's history; those
+/// of a site stand in their order. The whole input is read before anything is answered. After a fault nothing was
+/// written, but for `Write`: then a front of the line.
 pub fn run_audit<S: Source, W: Sink>(
     alloc: Global,
     reader: &mut S,
@@ -71,18 +71,11 @@ pub fn run_audit<S: Source, W: Sink>(
     ensures calls { S.calls reader.new ≤ S.calls reader.old + MOST_READS }
 {
     let mut collected = Collected::new(alloc);
-    match collect(alloc, reader, writer, &mut collected) {
-        Ok(()) => {}
-        Err(fault) => return Err(fault),
-    }
+    collect(alloc, reader, writer, &mut collected)?;
     let Some(config) = &collected.config else {
-        return Err(ScriptFault::NoConfig);
+        return Err(StreamFault::NoConfig);
     };
-    let Ok((found, line)) = answer(alloc, config, collected.histories.as_slice()) else {
-        return Err(ScriptFault::OutOfMemory);
-    };
-    match write_all(writer, line.as_slice()) {
-        Ok(()) => Ok(found),
-        Err(WriteFailed) => Err(ScriptFault::Write),
-    }
+    let (found, line) = answer(alloc, config, collected.histories.as_slice())?;
+    write_all(writer, line.as_slice())?;
+    Ok(found)
 }

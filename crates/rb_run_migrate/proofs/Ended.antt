@@ -9,20 +9,28 @@ use Rattle.rb_history.specs.Entries.{entry_json}
 use Rattle.rb_run_migrate.specs.Migration.{migrated_config_line, migrated_entry_line}
 
 -- a front of what begins with a list is one of the list
-pub cut_back : (old new after : List ℕ) (before : ℕ) → before ≤ length old → take (length old) new ≡ old → after ≡ take before new → after ≡ take before old
+pub cut_back : (old new after : List ℕ) (before : ℕ) → before ≤ length old → take (length old) new ≡ old → after ≡ take before new
+    → after ≡ take before old
 cut_back old new after before within begins is =
     let rest = drop (length old) new in
     is ∙ ap (take before) (sym (take-append-drop (length old) new) ∙ ap (λ l. l ++ rest) begins) ∙ take-append-le before old rest within
 
+-- what was added is cut off: all is as before
 pub taken_back : (old mid new text : List ℕ) (before : ℕ) → before ≡ length old → mid ≡ old ++ text → new ≡ take before mid → new ≡ old
 taken_back old mid new text before many added is = is ∙ ap (take before) added ∙ take_at old text before (sym many)
 
-pub config_ended : (s t : Settings) (old mid new line : List ℕ) → t ≡ in_version_2 s → line ≡ compact_text (config_json t) → mid ≡ old ++ line → new ≡ mid ++ codes "\n" → new ≡ old ++ migrated_config_line s
+-- a configuration's line in version 2, once its line feed was added
+pub config_ended : (s t : Settings) (old mid new line : List ℕ) → t ≡ in_version_2 s → line ≡ compact_text (config_json t)
+    → mid ≡ old ++ line → new ≡ mid ++ codes "\n" → new ≡ old ++ migrated_config_line s
 config_ended s t old mid new line second is added ended =
     let text = compact_text (config_json (in_version_2 s)) in
-    ended ∙ ap (λ l. l ++ codes "\n") (added ∙ ap (λ l. old ++ l) (is ∙ ap (λ (k : Settings). compact_text (config_json k)) second)) ∙ append_assoc old text (codes "\n")
+    ended ∙ ap (λ l. l ++ codes "\n") (added ∙ ap (λ l. old ++ l) (is ∙ ap (λ (k : Settings). compact_text (config_json k)) second))
+    ∙ append_assoc old text (codes "\n")
 
-pub entry_ended : (s t : Settings) (site : ℕ) (x : Entry) (old mid new : List ℕ) → t ≡ in_version_2 s → mid ≡ old ++ compact_text (entry_json t site x) → new ≡ mid ++ codes "\n" → new ≡ old ++ migrated_entry_line s (site, x)
+-- an entry's line in version 2, once its line feed was added
+pub entry_ended : (s t : Settings) (site : ℕ) (x : Entry) (old mid new : List ℕ) → t ≡ in_version_2 s
+    → mid ≡ old ++ compact_text (entry_json t site x) → new ≡ mid ++ codes "\n" → new ≡ old ++ migrated_entry_line s (site, x)
 entry_ended s t site x old mid new second added ended =
     let text = compact_text (entry_json (in_version_2 s) site x) in
-    ended ∙ ap (λ l. l ++ codes "\n") (added ∙ ap (λ (k : Settings). old ++ compact_text (entry_json k site x)) second) ∙ append_assoc old text (codes "\n")
+    ended ∙ ap (λ l. l ++ codes "\n") (added ∙ ap (λ (k : Settings). old ++ compact_text (entry_json k site x)) second)
+    ∙ append_assoc old text (codes "\n")

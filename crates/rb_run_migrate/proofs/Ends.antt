@@ -1,55 +1,40 @@
--- What one line does, and lines at which a migration ends.
+-- What one line does.
 use Rattle.std.proofs.Common.{◌≡◌, ◌+◌, ◌-◌, ℕ, false, true, List, [], ◌∷◌, Option, Some, None, refl, sym, ap, subst, arith}
 use Rattle.rb_money.specs.Settings.{Settings}
 use Rattle.rb_site.specs.declared.entry.Entry.{Entry}
 use Rattle.rb_commands.specs.Configurations.{config_on}
 use Rattle.rb_history.specs.Entries.{entry_on}
-use Rattle.rb_lines.specs.Answers.{IsUnfinished, LinesOutcome, after_text, no_outcome}
-use Rattle.rb_lines.specs.declared.fault.ScriptFault.TheVariants.{LongLine}
+use Rattle.rb_lines.specs.Answers.{AnswersLine, LinesOutcome, after_text}
 use Rattle.rb_lines.specs.Lines.{is_blank, is_long}
 use Rattle.rb_run_migrate.specs.declared.session.Session.{Session}
 use Rattle.rb_run_migrate.specs.Migration.{migrated_config_line, entries_from, migrated_entry_line}
-use Rattle.rb_run_migrate.specs.Session.{Migrates, migration_rest_from, migration_rest}
+use Rattle.rb_run_migrate.specs.Session.{migration_stand}
 
 -- one more line is counted
 one_more : (text : List ℕ) (n : ℕ) (o : LinesOutcome) → after_text text 1 o ≡ after_text text (n + 1 - n) o
 one_more text n o = let one : 1 ≡ n + 1 - n = omega arith in ap (λ k. after_text text k o) one
 
+-- the configuration's line is answered by its line in version 2
 pub opens : (s s' : Session) (l : List ℕ) (k : Settings) → s.versions ≡ None → is_long l ≡ false → is_blank l ≡ false → config_on l ≡ Some k
-    → s' ≡ record { versions = Some k; number = s.number + 1; count = s.count + 1 } → Migrates s s' l (migrated_config_line k)
+    → s' ≡ record { versions = Some k; number = s.number + 1; count = s.count + 1 }
+    → AnswersLine (migration_stand s) (migration_stand s') l (migrated_config_line k)
 opens s s' l k none short some is e =
-    subst (λ x. Migrates s x l (migrated_config_line k)) (sym e) (
-      record {
-        follows = λ ls. rw (none, short, some, is) (one_more (migrated_config_line k) s.count (entries_from k (s.number + 1) ls));
-        count = omega arith;
-      },
-      refl,
-    )
+    subst (λ x. AnswersLine (migration_stand s) (migration_stand x) l (migrated_config_line k)) (sym e) (record {
+      follows = λ ls. rw (none, short, some, is) (one_more (migrated_config_line k) s.count (entries_from k (s.number + 1) ls));
+      number = refl;
+      count = omega arith;
+      one = omega arith;
+    })
 
-pub answers : (s s' : Session) (l : List ℕ) (k : Settings) (x : ℕ × Entry) → s.versions ≡ Some k → is_long l ≡ false → is_blank l ≡ false → entry_on k l ≡ Some x
-    → s' ≡ record { versions = s.versions; number = s.number + 1; count = s.count + 1 } → Migrates s s' l (migrated_entry_line k x)
+-- the line of an entry is answered by its line in version 2
+pub answers : (s s' : Session) (l : List ℕ) (k : Settings) (x : ℕ × Entry) → s.versions ≡ Some k → is_long l ≡ false → is_blank l ≡ false
+    → entry_on k l ≡ Some x
+    → s' ≡ record { versions = s.versions; number = s.number + 1; count = s.count + 1 }
+    → AnswersLine (migration_stand s) (migration_stand s') l (migrated_entry_line k x)
 answers s s' l k x there short some is e =
-    subst (λ y. Migrates s y l (migrated_entry_line k x)) (sym e) (
-      record {
-        follows = λ ls. rw (there, short, some, is) (one_more (migrated_entry_line k x) s.count (entries_from k (s.number + 1) ls));
-        count = omega arith;
-      },
-      refl,
-    )
-
--- ---- the lines to come, before the configuration and after it
-
-pub refuses_long : (s : Session) (l : List ℕ) (ls : List (List ℕ)) → is_long l ≡ true → migration_rest s (l ∷ ls) ≡ no_outcome (LongLine s.number)
-refuses_long s l ls h = by s.versions
-  where
-    by : (c : Option Settings) → migration_rest_from c s.number (l ∷ ls) ≡ no_outcome (LongLine s.number)
-    by None = rw h refl
-    by (Some k) = rw h refl
-
-pub no_text : (c : Option Settings) (n : ℕ) → (migration_rest_from c n []).text ≡ []
-no_text None n = refl
-no_text (Some k) n = refl
-
-pub unfinished : (c : Option Settings) (n : ℕ) → IsUnfinished (migration_rest_from c n []).fault
-unfinished None n = tt
-unfinished (Some k) n = tt
+    subst (λ y. AnswersLine (migration_stand s) (migration_stand y) l (migrated_entry_line k x)) (sym e) (record {
+      follows = λ ls. rw (there, short, some, is) (one_more (migrated_entry_line k x) s.count (entries_from k (s.number + 1) ls));
+      number = refl;
+      count = omega arith;
+      one = omega arith;
+    })

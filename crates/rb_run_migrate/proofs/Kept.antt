@@ -4,7 +4,8 @@ use Rattle.rb_money.specs.Settings.{IsConfigured, Settings, in_version_2}
 use Rattle.rb_scratch.specs.declared.request.Request.{Request}
 use Rattle.rb_scratch.specs.declared.request.Request.TheVariants.{Deposit, Withdraw, Interest, Cancel, Transfer}
 use Rattle.rb_shadow.specs.declared.kind.Kind.{Kind}
-use Rattle.rb_shadow.specs.declared.kind.Kind.TheVariants.{Deposit as DepositKind, Withdraw as WithdrawKind, Declined as DeclinedKind, Interest as InterestKind, Cancel as CancelKind, Transfer as TransferKind}
+use Rattle.rb_shadow.specs.declared.kind.Kind.TheVariants.{Deposit as DepositKind, Withdraw as WithdrawKind, Declined as DeclinedKind}
+use Rattle.rb_shadow.specs.declared.kind.Kind.TheVariants.{Interest as InterestKind, Cancel as CancelKind, Transfer as TransferKind}
 use Rattle.rb_shadow.specs.declared.shadow.Shadow.{Shadow}
 use Rattle.rb_site.specs.declared.event.Event.{Event}
 use Rattle.rb_site.specs.declared.event.Event.TheVariants.{Submit, Batch, Receive, Apply, Pass, Balance, AsOf, Statement}
@@ -13,6 +14,7 @@ use Rattle.rb_commands.specs.Laws.{ReadConfigsAreConfigured}
 use Rattle.rb_history.specs.Fits.{Each, EntriesAreRead, IsEvent, IsKind, IsRequest, IsShadow, ReadEntriesFit}
 use Rattle.rb_run_migrate.specs.Laws.{MigratedEntriesAreRead}
 
+-- what is configured is so in version 2
 pub configured : (s : Settings) → IsConfigured s → IsConfigured (in_version_2 s)
 configured s c = record {
   some_sites = c.some_sites;
@@ -63,6 +65,7 @@ shadow s v h = record {
   kind = kind s v.kind h.kind;
 }
 
+-- an event of a configuration is one of it in version 2
 pub event : (s : Settings) (e : Event) → IsEvent s e → IsEvent (in_version_2 s) e
 event s (Submit r) h = request s r h
 event s (Batch rs) h = requests s rs h
@@ -74,6 +77,7 @@ event s (Balance a) h = h
 event s (AsOf a n) h = h
 event s (Statement a) h = h
 
+-- what a migration writes for an entry is read as that entry
 pub entries : ReadConfigsAreConfigured → EntriesAreRead → ReadEntriesFit → MigratedEntriesAreRead
 entries made back fits first s read line site x is =
     let told = fits s line site x is in

@@ -9,7 +9,7 @@ use Rattle.rb_commands.specs.Laws.{ReadConfigsAreConfigured}
 use Rattle.rb_history.specs.Entries.{entry_of_line, entry_on}
 use Rattle.rb_history.specs.Fits.{Each, ReadEntriesFit}
 use Rattle.rb_lines.specs.Answers.{LinesOutcome, after_text, no_outcome}
-use Rattle.rb_lines.specs.declared.fault.ScriptFault.TheVariants.{BadConfig, BadLine, LongLine}
+use Rattle.rb_lines.specs.declared.fault.StreamFault.TheVariants.{BadConfig, BadLine, LongLine}
 use Rattle.rb_lines.specs.Lines.{is_blank, is_long, lines_of}
 use Rattle.rb_run_audit.specs.Inputs.{input_after, input_from, input_of, with_entry}
 use Rattle.rb_run_audit.specs.Laws.{HasShortLines, InputsAreReadBack, IsWritable, entries_text, by_site, input_text, with_entries}
@@ -40,16 +40,20 @@ writable fits s l x e = let told = fits s l x.0 x.1 (entry_is s l x e) in (told.
 
 -- ---- what an audit makes of one line
 
-skips : (s : Settings) (hs : List (List Entry)) (n : ℕ) (l : List ℕ) (ls : List (List ℕ)) → is_long l ≡ false → is_blank l ≡ true → input_after s hs n (l ∷ ls) ≡ input_after s hs (n + 1) ls
+skips : (s : Settings) (hs : List (List Entry)) (n : ℕ) (l : List ℕ) (ls : List (List ℕ)) → is_long l ≡ false → is_blank l ≡ true
+    → input_after s hs n (l ∷ ls) ≡ input_after s hs (n + 1) ls
 skips s hs n l ls e f = rw (e, f) refl
 
-takes : (s : Settings) (hs : List (List Entry)) (n : ℕ) (l : List ℕ) (ls : List (List ℕ)) (x : ℕ × Entry) → is_long l ≡ false → is_blank l ≡ false → entry_on s l ≡ Some x → input_after s hs n (l ∷ ls) ≡ input_after s (with_entry x.0 x.1 hs) (n + 1) ls
+takes : (s : Settings) (hs : List (List Entry)) (n : ℕ) (l : List ℕ) (ls : List (List ℕ)) (x : ℕ × Entry) → is_long l ≡ false
+    → is_blank l ≡ false → entry_on s l ≡ Some x → input_after s hs n (l ∷ ls) ≡ input_after s (with_entry x.0 x.1 hs) (n + 1) ls
 takes s hs n l ls x e f g = rw (e, f, g) refl
 
-skips_first : (n : ℕ) (l : List ℕ) (ls : List (List ℕ)) → is_long l ≡ false → is_blank l ≡ true → input_from n (l ∷ ls) ≡ input_from (n + 1) ls
+skips_first : (n : ℕ) (l : List ℕ) (ls : List (List ℕ)) → is_long l ≡ false → is_blank l ≡ true
+    → input_from n (l ∷ ls) ≡ input_from (n + 1) ls
 skips_first n l ls e f = rw (e, f) refl
 
-opens : (n : ℕ) (l : List ℕ) (ls : List (List ℕ)) (s : Settings) → is_long l ≡ false → is_blank l ≡ false → config_on l ≡ Some s → input_from n (l ∷ ls) ≡ input_after s (by_site s.sites []) (n + 1) ls
+opens : (n : ℕ) (l : List ℕ) (ls : List (List ℕ)) (s : Settings) → is_long l ≡ false → is_blank l ≡ false → config_on l ≡ Some s
+    → input_from n (l ∷ ls) ≡ input_after s (by_site s.sites []) (n + 1) ls
 opens n l ls s e f g = rw (e, f, g) refl
 
 -- these entries are on the lines: a migration writes them, and an audit takes them
@@ -59,15 +63,22 @@ record HasEntries (s : Settings) (n : ℕ) (ls : List (List ℕ)) : Type 0 where
   text : (entries_from s n ls).text ≡ entries_text (in_version_2 s) entries
   taken : (hs : List (List Entry)) → input_after s hs n ls ≡ Ok (record { settings = s; histories = with_entries entries hs })
 
-one_entry : ReadEntriesFit → (s : Settings) (n : ℕ) (l : List ℕ) (ls : List (List ℕ)) (long blank : Bool) (on : Option (ℕ × Entry)) → is_long l ≡ long → is_blank l ≡ blank → entry_on s l ≡ on
-    → ((entries_from s (n + 1) ls).fault ≡ None → HasEntries s (n + 1) ls) → (entries_from s n (l ∷ ls)).fault ≡ None → HasEntries s n (l ∷ ls)
+one_entry : ReadEntriesFit → (s : Settings) (n : ℕ) (l : List ℕ) (ls : List (List ℕ)) (long blank : Bool) (on : Option (ℕ × Entry))
+    → is_long l ≡ long → is_blank l ≡ blank → entry_on s l ≡ on
+    → ((entries_from s (n + 1) ls).fault ≡ None → HasEntries s (n + 1) ls) → (entries_from s n (l ∷ ls)).fault ≡ None
+    → HasEntries s n (l ∷ ls)
 one_entry fits s n l ls true blank on e f g more none =
     let q : entries_from s n (l ∷ ls) ≡ no_outcome (LongLine n) = rw e refl in
     absurd (cc (sym (ap (λ (o : LinesOutcome). o.fault) q) ∙ none))
 one_entry fits s n l ls false true on e f g more none =
     let q : entries_from s n (l ∷ ls) ≡ entries_from s (n + 1) ls = rw (e, f) refl in
     let h = more (sym (ap (λ (o : LinesOutcome). o.fault) q) ∙ none) in
-    record { entries = h.entries; can = h.can; text = ap (λ (o : LinesOutcome). o.text) q ∙ h.text; taken = λ hs. skips s hs n l ls e f ∙ h.taken hs }
+    record {
+      entries = h.entries;
+      can = h.can;
+      text = ap (λ (o : LinesOutcome). o.text) q ∙ h.text;
+      taken = λ hs. skips s hs n l ls e f ∙ h.taken hs;
+    }
 one_entry fits s n l ls false false None e f g more none =
     let q : entries_from s n (l ∷ ls) ≡ no_outcome (BadLine n) = rw (e, f, g) refl in
     absurd (cc (sym (ap (λ (o : LinesOutcome). o.fault) q) ∙ none))
@@ -83,7 +94,8 @@ one_entry fits s n l ls false false (Some x) e f g more none =
 
 all_entries : ReadEntriesFit → (s : Settings) (n : ℕ) (ls : List (List ℕ)) → (entries_from s n ls).fault ≡ None → HasEntries s n ls
 all_entries fits s n [] none = record { entries = []; can = tt; text = refl; taken = λ hs. refl }
-all_entries fits s n (l ∷ ls) none = one_entry fits s n l ls (is_long l) (is_blank l) (entry_on s l) refl refl refl (all_entries fits s (n + 1) ls) none
+all_entries fits s n (l ∷ ls) none =
+    one_entry fits s n l ls (is_long l) (is_blank l) (entry_on s l) refl refl refl (all_entries fits s (n + 1) ls) none
 
 -- the lines are a configuration and these entries
 record HasInput (n : ℕ) (ls : List (List ℕ)) : Type 0 where
@@ -94,7 +106,8 @@ record HasInput (n : ℕ) (ls : List (List ℕ)) : Type 0 where
   text : (migration_from n ls).text ≡ input_text (in_version_2 settings) entries
   taken : input_from n ls ≡ Ok (record { settings = settings; histories = by_site settings.sites entries })
 
-one_line : ReadConfigsAreConfigured → ReadEntriesFit → (n : ℕ) (l : List ℕ) (ls : List (List ℕ)) (long blank : Bool) (on : Option Settings) → is_long l ≡ long → is_blank l ≡ blank → config_on l ≡ on
+one_line : ReadConfigsAreConfigured → ReadEntriesFit → (n : ℕ) (l : List ℕ) (ls : List (List ℕ)) (long blank : Bool) (on : Option Settings)
+    → is_long l ≡ long → is_blank l ≡ blank → config_on l ≡ on
     → ((migration_from (n + 1) ls).fault ≡ None → HasInput (n + 1) ls) → (migration_from n (l ∷ ls)).fault ≡ None → HasInput n (l ∷ ls)
 one_line are fits n l ls true blank on e f g more none =
     let q : migration_from n (l ∷ ls) ≡ no_outcome (LongLine n) = rw e refl in
@@ -102,7 +115,14 @@ one_line are fits n l ls true blank on e f g more none =
 one_line are fits n l ls false true on e f g more none =
     let q : migration_from n (l ∷ ls) ≡ migration_from (n + 1) ls = rw (e, f) refl in
     let h = more (sym (ap (λ (o : LinesOutcome). o.fault) q) ∙ none) in
-    record { settings = h.settings; made = h.made; entries = h.entries; can = h.can; text = ap (λ (o : LinesOutcome). o.text) q ∙ h.text; taken = skips_first n l ls e f ∙ h.taken }
+    record {
+      settings = h.settings;
+      made = h.made;
+      entries = h.entries;
+      can = h.can;
+      text = ap (λ (o : LinesOutcome). o.text) q ∙ h.text;
+      taken = skips_first n l ls e f ∙ h.taken;
+    }
 one_line are fits n l ls false false None e f g more none =
     let q : migration_from n (l ∷ ls) ≡ no_outcome (BadConfig n) = rw (e, f, g) refl in
     absurd (cc (sym (ap (λ (o : LinesOutcome). o.fault) q) ∙ none))
@@ -120,8 +140,10 @@ one_line are fits n l ls false false (Some s) e f g more none =
 
 all_lines : ReadConfigsAreConfigured → ReadEntriesFit → (n : ℕ) (ls : List (List ℕ)) → (migration_from n ls).fault ≡ None → HasInput n ls
 all_lines are fits n [] none = absurd (cc)
-all_lines are fits n (l ∷ ls) none = one_line are fits n l ls (is_long l) (is_blank l) (config_on l) refl refl refl (all_lines are fits (n + 1) ls) none
+all_lines are fits n (l ∷ ls) none =
+    one_line are fits n l ls (is_long l) (is_blank l) (config_on l) refl refl refl (all_lines are fits (n + 1) ls) none
 
+-- an audit takes the text of a migration without a fault as what it takes the bytes as, in version 2
 pub read_again : ReadConfigsAreConfigured → ReadEntriesFit → InputsAreReadBack → MigrationsAreRead
 read_again are fits back input none =
     let h = all_lines are fits 1 (lines_of input) none in
@@ -129,5 +151,7 @@ read_again are fits back input none =
     record {
       taken = record { settings = h.settings; histories = by_site h.settings.sites h.entries };
       before = h.taken;
-      after = subst (λ t. HasShortLines t → input_of (lines_of t) ≡ Ok (record { settings = s; histories = by_site h.settings.sites h.entries })) (sym h.text) (back s (configured h.settings h.made) h.entries h.can);
+      after = subst (λ t. HasShortLines t
+          → input_of (lines_of t) ≡ Ok (record { settings = s; histories = by_site h.settings.sites h.entries })) (sym h.text)
+          (back s (configured h.settings h.made) h.entries h.can);
     }

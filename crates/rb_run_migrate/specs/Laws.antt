@@ -15,11 +15,14 @@ use Rattle.rb_run_migrate.specs.Migration.{migration_of}
 
 -- whatever a configuration's line is read as, its line in version 2 is read as the same in version 2
 abbrev pub MigratedConfigsAreRead : Type 0
-MigratedConfigsAreRead = (line : List ℕ) (s : Settings) → config_at line ≡ Some s → config_at (compact_text (config_json (in_version_2 s))) ≡ Some (in_version_2 s)
+MigratedConfigsAreRead = (line : List ℕ) (s : Settings) → config_at line ≡ Some s
+    → config_at (compact_text (config_json (in_version_2 s))) ≡ Some (in_version_2 s)
 
--- under whatever a configuration's line was read as: each entry that a line is, in either version, is read again from its line in version 2, the same site and the same entry
+-- under whatever a configuration's line was read as: each entry that a line is, in either version, is read again from its line in version
+-- 2, the same site and the same entry
 abbrev pub MigratedEntriesAreRead : Type 0
-MigratedEntriesAreRead = (first : List ℕ) (s : Settings) → config_at first ≡ Some s → (line : List ℕ) (site : ℕ) (x : Entry) → entry_of_line s line ≡ Some (site, x)
+MigratedEntriesAreRead = (first : List ℕ) (s : Settings) → config_at first ≡ Some s → (line : List ℕ) (site : ℕ) (x : Entry)
+    → entry_of_line s line ≡ Some (site, x)
     → entry_of_line (in_version_2 s) (compact_text (entry_json (in_version_2 s) site x)) ≡ Some (site, x)
 
 -- a site answers a list of events in version 2 as before, and stands afterwards as before: replays are equal
@@ -34,7 +37,8 @@ MigratedReplaysAreEqual = (s : Settings) (t : ModelSite) (es : List Event) → R
 pub record IsSameInput (input text : List ℕ) : Type 0 where
   pub taken : Input
   pub before : input_of (lines_of input) ≡ Ok taken
-  pub after : HasShortLines text → input_of (lines_of text) ≡ Ok (record { settings = in_version_2 taken.settings; histories = taken.histories })
+  pub after : HasShortLines text
+      → input_of (lines_of text) ≡ Ok (record { settings = in_version_2 taken.settings; histories = taken.histories })
 
 -- where a migration of these bytes has no fault, an audit takes the text that it writes as what it takes the bytes as, in version 2
 abbrev pub MigrationsAreRead : Type 0

@@ -9,7 +9,7 @@ use Rattle.rb_history.specs.ConfigLines.{config_json}
 use Rattle.rb_history.specs.Entries.{entry_json, entry_on}
 use Rattle.rb_lines.specs.Answers.{LinesOutcome, after_text, no_outcome}
 use Rattle.rb_lines.specs.Lines.{is_blank, is_long}
-use Rattle.rb_lines.specs.declared.fault.ScriptFault.TheVariants.{NoConfig, BadConfig, BadLine, LongLine}
+use Rattle.rb_lines.specs.declared.fault.StreamFault.TheVariants.{NoConfig, BadConfig, BadLine, LongLine}
 
 -- the line of a configuration in version 2
 abbrev pub migrated_config_line : Settings → List ℕ
@@ -23,7 +23,8 @@ migrated_entry_line s x = compact_text (entry_json (in_version_2 s) x.0 x.1) ++ 
 abbrev pub entries_from : Settings → ℕ → List (List ℕ) → LinesOutcome
 entries_from s n [] = record { text = []; count = 0; fault = None }
 entries_from s n (l ∷ ls) = if is_long l then no_outcome (LongLine n) else (if is_blank l then entries_from s (n + 1) ls
-    else option_map_or (λ (x : ℕ × Entry). after_text (migrated_entry_line s x) 1 (entries_from s (n + 1) ls)) (entry_on s l) (no_outcome (BadLine n)))
+    else option_map_or (λ (x : ℕ × Entry). after_text (migrated_entry_line s x) 1 (entries_from s (n + 1) ls)) (entry_on s l)
+    (no_outcome (BadLine n)))
 
 -- the first line that isn't skipped is the configuration, and entries follow
 abbrev pub migration_from : ℕ → List (List ℕ) → LinesOutcome

@@ -1,9 +1,10 @@
 -- Where a migration stands between two lines.
-use Rattle.std.specs.Prelude.{◌≡◌, ℕ, ◌+◌, List, Option, Some, None}
+use Rattle.std.specs.Prelude.{ℕ, List, Option, Some, None, refl}
+use Rattle.rb_lines.proofs.Public.Chosen.{first_chosen}
+use Rattle.rb_lines.specs.Lines.{is_long}
 use Rattle.rb_money.specs.Settings.{Settings}
 use Rattle.rb_run_migrate.specs.declared.session.Session.{Session}
-use Rattle.rb_lines.specs.Answers.{AnswersLine, EndsAtLine, LinesOutcome, Stand}
-use Rattle.rb_lines.specs.declared.fault.ScriptFault.{ScriptFault}
+use Rattle.rb_lines.specs.Answers.{IsStand, LinesOutcome, Stand}
 use Rattle.rb_run_migrate.specs.Migration.{entries_from, migration_from}
 
 -- before the first line
@@ -21,12 +22,12 @@ migration_rest s ls = migration_rest_from s.versions s.number ls
 
 -- where a run with the session stands
 abbrev pub migration_stand : Session → Stand
-migration_stand s = record { rest = migration_rest s; count = s.count }
+migration_stand s = record { rest = migration_rest s; number = s.number; count = s.count }
 
--- the line was answered by this text, and the session goes on with the next
-abbrev pub Migrates : Session → Session → List ℕ → List ℕ → Type 0
-Migrates old new l text = AnswersLine (migration_stand old) (migration_stand new) l text × (new.number ≡ old.number + 1)
-
--- the migration ends at this line
-abbrev pub MigrationEndsAt : Session → List ℕ → ScriptFault → Type 0
-MigrationEndsAt old l f = EndsAtLine (migration_stand old) l f
+-- a line that is too long ends the migration, and no line is written as nothing
+pub migration_is_stand : (s : Session) → IsStand (migration_stand s)
+migration_is_stand s = of s.versions s.number s.count
+  where
+    of : (c : Option Settings) (n count : ℕ) → IsStand (record { rest = migration_rest_from c n; number = n; count = count })
+    of None n count = record { long = λ l ls long. first_chosen (is_long l) _ _ long; no_text = refl; unfinished = tt }
+    of (Some k) n count = record { long = λ l ls long. first_chosen (is_long l) _ _ long; no_text = refl; unfinished = tt }

@@ -1,5 +1,6 @@
 //! What a migration keeps, as laws.
-ghost use Rattle.rb_run_migrate.specs.Laws.{MigratedConfigsAreRead, MigratedEntriesAreRead, MigratedReplaysAreEqual, MigrationsAreRead};
+ghost use Rattle.rb_run_migrate.specs.Laws.{MigratedConfigsAreRead, MigratedEntriesAreRead, MigratedReplaysAreEqual};
+ghost use Rattle.rb_run_migrate.specs.Laws.{MigrationsAreRead};
 
 use rb_commands::read_configs_are_configured;
 use rb_history::{configs_are_read, entries_are_read, read_entries_fit};

@@ -1,11 +1,13 @@
 -- Where a script stands between two lines, and what one line does.
-use Rattle.std.specs.Prelude.{◌≡◌, ℕ, ◌+◌, List, ◌++◌, Option, Some, None}
+use Rattle.std.specs.Prelude.{◌≡◌, ℕ, List, ◌++◌, Option, Some, None, refl}
+use Rattle.std.proofs.Common.{ap}
+use Rattle.rb_lines.proofs.Public.Chosen.{first_chosen}
+use Rattle.rb_lines.specs.Lines.{is_long}
 use Rattle.rb_site.specs.declared.world_event.WorldEvent.{WorldEvent}
 use Rattle.rb_world.specs.Laws.{SeenWorld, next_reply, next_world}
 use Rattle.rb_commands.specs.Replies.{line}
 use Rattle.rb_run_script.specs.declared.session.Session.{Session}
-use Rattle.rb_lines.specs.Answers.{AnswersLine, EndsAtLine, LinesOutcome, Stand}
-use Rattle.rb_lines.specs.declared.fault.ScriptFault.{ScriptFault}
+use Rattle.rb_lines.specs.Answers.{IsStand, LinesOutcome, Stand}
 use Rattle.rb_run_script.specs.Script.{command_on, commands_from, script_outcome, script_from}
 
 -- before the first line
@@ -23,15 +25,19 @@ session_rest s ls = session_rest_from s.world s.number ls
 
 -- where a run with the session stands
 abbrev pub session_stand : Session → Stand
-session_stand s = record { rest = session_rest s; count = s.count }
+session_stand s = record { rest = session_rest s; number = s.number; count = s.count }
 
--- the line was answered by this text, and the session goes on with the next
-abbrev pub Answers : Session → Session → List ℕ → List ℕ → Type 0
-Answers old new l text = AnswersLine (session_stand old) (session_stand new) l text × (new.number ≡ old.number + 1)
-
--- the script ends at this line
-abbrev pub ScriptEndsAt : Session → List ℕ → ScriptFault → Type 0
-ScriptEndsAt old l f = EndsAtLine (session_stand old) l f
+-- a line that is too long ends the script, and no line asks for nothing
+pub session_is_stand : (s : Session) → IsStand (session_stand s)
+session_is_stand s = of s.world s.number s.count
+  where
+    of : (w : Option SeenWorld) (n count : ℕ) → IsStand (record { rest = session_rest_from w n; number = n; count = count })
+    of None n count = record { long = λ l ls long. first_chosen (is_long l) _ _ long; no_text = refl; unfinished = tt }
+    of (Some w) n count = record {
+      long = λ l ls long. ap (script_outcome w) (first_chosen (is_long l) _ _ long);
+      no_text = refl;
+      unfinished = tt;
+    }
 
 -- the line is a command, the world took it, and the line of its reply is owed
 pub record AnswersCommand (old new : SeenWorld) (l owed owed' : List ℕ) : Type 0 where

@@ -1,15 +1,14 @@
 //! The lines of a script, one at a time.
-ghost use Rattle.std.specs.Prelude.{◌≡◌, ◌+◌, ◌++◌, ◌^◌, ◌<◌, ◌≤◌, ℕ, List, None, Some, length, MatchResult, OnOk, OnErr};
+ghost use Rattle.std.specs.Prelude.{◌≡◌, None, Some, MatchResult, OnErr};
 ghost use Rattle.rb_money.specs.Settings.{Settings};
 ghost use Rattle.rb_world.specs.Laws.{opened};
 ghost use Rattle.rb_commands.specs.declared.fault.LineFault.TheVariants.{Bad};
 ghost use Rattle.rb_commands.specs.Configurations.{config_on};
-ghost use Rattle.rb_lines.specs.declared.limits.TheConstants.{LINE_LIMIT};
 ghost use Rattle.rb_run_script.specs.Script.{command_on};
-ghost use Rattle.rb_run_script.specs.Session.{Answers, AnswersCommand, ScriptEndsAt, first_session};
+ghost use Rattle.rb_run_script.specs.Session.{AnswersCommand, first_session};
 
 use rb_commands::{LineFault, append_reply, read_command, read_config};
-use rb_lines::{ScriptFault, is_blank, text_on};
+use rb_lines::{Responder, StreamFault, is_blank, text_on};
 use rb_world::LeanWorld;
 use std::alloc::Global;
 
@@ -30,10 +29,7 @@ fn open_world(alloc: Global, line: &[u8]) -> Result<LeanWorld, LineFault>
     let Some(text) = text_on(line) else {
         return Err(LineFault::Bad);
     };
-    let config = match read_config(alloc, text) {
-        Ok(config) => config,
-        Err(fault) => return Err(fault),
-    };
+    let config = read_config(alloc, text)?;
     match LeanWorld::open_keeping(alloc, config) {
         Ok(world) => Ok(world),
         Err(_) => Err(LineFault::OutOfMemory),
@@ -57,11 +53,8 @@ fn answer_command(
     let Some(text) = text_on(line) else {
         return Err(LineFault::Bad);
     };
-    let stepped = match read_command(alloc, world.config(), text) {
-        Ok(command) => world.step(command),
-        Err(fault) => return Err(fault),
-    };
-    let Ok(reply) = stepped else {
+    let command = read_command(alloc, world.config(), text)?;
+    let Ok(reply) = world.step(command) else {
         return Err(LineFault::OutOfMemory);
     };
     match append_reply(owed, &reply) {
@@ -91,42 +84,6 @@ impl Session {
         }
     }
 
-    /// Takes one line, which isn't too long, and owes its reply. After an `Err` nothing more is owed, and the script ends.
-    pub fn answer_line(
-        &mut self,
-        alloc: Global,
-        line: &[u8],
-        owed: &mut Vec<u8>,
-    ) -> Result<(), ScriptFault>
-        requires short { length line.now ≤ LINE_LIMIT }
-        requires number { self.old.number < 2 ^ 63 }
-        requires count { self.old.count < 2 ^ 63 }
-        ensures answered { MatchResult result
-            (λ _. (text : List ℕ) × (owed.new.items ≡ owed.old.items ++ text) × Answers self.old self.new line.now text)
-            (λ fault. (owed.new.items ≡ owed.old.items) × ScriptEndsAt self.old line.now fault) }
-        ensures count { OnOk result (self.new.count ≤ self.old.count + 1) }
-    {
-        let number = self.number;
-        self.number = number + 1;
-        if is_blank(line) {
-            return Ok(());
-        }
-        let Some(world) = &mut self.world else {
-            match open_world(alloc, line) {
-                Ok(world) => self.start(world),
-                Err(LineFault::Bad) => return Err(ScriptFault::BadConfig { line: number }),
-                Err(LineFault::OutOfMemory) => return Err(ScriptFault::OutOfMemory),
-            }
-            return Ok(());
-        };
-        match answer_command(alloc, world, line, owed) {
-            Ok(()) => self.count += 1,
-            Err(LineFault::Bad) => return Err(ScriptFault::BadLine { line: number }),
-            Err(LineFault::OutOfMemory) => return Err(ScriptFault::OutOfMemory),
-        }
-        Ok(())
-    }
-
     /// Ends the world.
     pub fn close(self) {
         let Session {
@@ -138,4 +95,50 @@ impl Session {
             world.end();
         }
     }
+}
+
+impl Responder for Session {
+    ghost use Rattle.rb_run_script.specs.Session.{session_is_stand, session_stand};
+
+    ghost stand = { session_stand };
+
+    fn number(&self) -> u64 {
+        self.number
+    }
+
+    fn answer_line(
+        &mut self,
+        alloc: Global,
+        line: &[u8],
+        owed: &mut Vec<u8>,
+    ) -> Result<(), StreamFault> {
+        let number = self.number;
+        self.number = number + 1;
+        if is_blank(line) {
+            return Ok(());
+        }
+        let Some(world) = &mut self.world else {
+            match open_world(alloc, line) {
+                Ok(world) => self.start(world),
+                Err(LineFault::Bad) => return Err(StreamFault::BadConfig { line: number }),
+                Err(LineFault::OutOfMemory) => return Err(StreamFault::OutOfMemory),
+            }
+            return Ok(());
+        };
+        match answer_command(alloc, world, line, owed) {
+            Ok(()) => self.count += 1,
+            Err(LineFault::Bad) => return Err(StreamFault::BadLine { line: number }),
+            Err(LineFault::OutOfMemory) => return Err(StreamFault::OutOfMemory),
+        }
+        Ok(())
+    }
+
+    fn end(&self) -> Result<u64, StreamFault> {
+        match self.world {
+            Some(_) => Ok(self.count),
+            None => Err(StreamFault::NoConfig),
+        }
+    }
+
+    ghost is_stand = { session_is_stand };
 }

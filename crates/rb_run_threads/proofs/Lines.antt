@@ -1,5 +1,6 @@
 -- The text of histories, line by line.
-use Rattle.std.proofs.Common.{◌≡◌, ℕ, ◌+◌, ◌<◌, List, [], ◌∷◌, ◌++◌, length, get_or, map, take, drop, Option, sym, subst, ap, ◌∙◌, append-nil, append_assoc, add-zero, zero-add, arith}
+use Rattle.std.proofs.Common.{◌≡◌, ℕ, ◌+◌, ◌<◌, List, [], ◌∷◌, ◌++◌, length, get_or, map, take, drop, Option, sym, subst, ap, ◌∙◌}
+use Rattle.std.proofs.Common.{append-nil, append_assoc, add-zero, zero-add, arith}
 use Rattle.std.proofs.lemmas.Grind.{flat_map-append}
 use Rattle.std.proofs.lemmas.List.{length-map, length-take-le, map-append, take-append-drop, take_more}
 use Rattle.rb_lines.specs.Buffers.{Sends}
@@ -12,61 +13,91 @@ use Rattle.rb_run_threads.proofs.Parts.{sends_front, sends_more}
 
 -- ---- one history
 
-entry_more : (s : Settings) (site : ℕ) (h : List Entry) (i : ℕ) (x : Entry) → i < length h → x ≡ get_or h i x → history_text s site (take (i + 1) h) ≡ history_text s site (take i h) ++ entry_line s site x
+entry_more : (s : Settings) (site : ℕ) (h : List Entry) (i : ℕ) (x : Entry) → i < length h → x ≡ get_or h i x
+    → history_text s site (take (i + 1) h) ≡ history_text s site (take i h) ++ entry_line s site x
 entry_more s site h i x below is =
-    ap (history_text s site) (take_more h i x below ∙ ap (λ y. take i h ++ y ∷ []) (sym is)) ∙ flat_map-append (entry_line s site) (take i h) (x ∷ []) ∙ ap (λ t. history_text s site (take i h) ++ t) (append-nil (entry_line s site x))
+    ap (history_text s site) (take_more h i x below ∙ ap (λ y. take i h ++ y ∷ []) (sym is))
+    ∙ flat_map-append (entry_line s site) (take i h) (x ∷ [])
+    ∙ ap (λ t. history_text s site (take i h) ++ t) (append-nil (entry_line s site x))
 
 entry_rest : (s : Settings) (site : ℕ) (h : List Entry) (i : ℕ) (x : Entry) → i < length h → x ≡ get_or h i x
     → history_text s site h ≡ history_text s site (take i h) ++ (entry_line s site x ++ history_text s site (drop (i + 1) h))
 entry_rest s site h i x below is =
-    ap (history_text s site) (sym (take-append-drop (i + 1) h)) ∙ flat_map-append (entry_line s site) (take (i + 1) h) (drop (i + 1) h) ∙ ap (λ t. t ++ history_text s site (drop (i + 1) h)) (entry_more s site h i x below is)
+    ap (history_text s site) (sym (take-append-drop (i + 1) h)) ∙ flat_map-append (entry_line s site) (take (i + 1) h) (drop (i + 1) h)
+    ∙ ap (λ t. t ++ history_text s site (drop (i + 1) h)) (entry_more s site h i x below is)
     ∙ append_assoc (history_text s site (take i h)) (entry_line s site x) (history_text s site (drop (i + 1) h))
 
-pub history_goes_on : (w0 w w' : Option (List ℕ)) (s : Settings) (site : ℕ) (h : List Entry) (i : ℕ) (x : Entry) (owed now still : List ℕ) → i < length h → x ≡ get_or h i x → Sends w0 w (owed ++ history_text s site (take i h)) now
+-- one entry's line more went out or is owed
+pub history_goes_on : (w0 w w' : Option (List ℕ)) (s : Settings) (site : ℕ) (h : List Entry) (i : ℕ) (x : Entry) (owed now still : List ℕ)
+    → i < length h → x ≡ get_or h i x → Sends w0 w (owed ++ history_text s site (take i h)) now
     → Sends w w' (now ++ entry_line s site x) still → Sends w0 w' (owed ++ history_text s site (take (i + 1) h)) still
 history_goes_on w0 w w' s site h i x owed now still below is before more =
-    subst (λ t. Sends w0 w' (owed ++ t) still) (sym (entry_more s site h i x below is)) (sends_more w0 w w' owed (history_text s site (take i h)) now (entry_line s site x) still before more)
+    subst (λ t. Sends w0 w' (owed ++ t) still) (sym (entry_more s site h i x below is))
+    (sends_more w0 w w' owed (history_text s site (take i h)) now (entry_line s site x) still before more)
 
-pub history_stops : (w0 w w' : Option (List ℕ)) (s : Settings) (site : ℕ) (h : List Entry) (i : ℕ) (x : Entry) (owed now : List ℕ) → i < length h → x ≡ get_or h i x → Sends w0 w (owed ++ history_text s site (take i h)) now
+-- a write failed at an entry: a front of the history's lines went out
+pub history_stops : (w0 w w' : Option (List ℕ)) (s : Settings) (site : ℕ) (h : List Entry) (i : ℕ) (x : Entry) (owed now : List ℕ)
+    → i < length h → x ≡ get_or h i x → Sends w0 w (owed ++ history_text s site (take i h)) now
     → AppendsFront w w' (now ++ entry_line s site x) → AppendsFront w0 w' (owed ++ history_text s site h)
 history_stops w0 w w' s site h i x owed now below is before front =
-    subst (λ t. AppendsFront w0 w' (owed ++ t)) (sym (entry_rest s site h i x below is)) (sends_front w0 w w' owed (history_text s site (take i h)) now (entry_line s site x) (history_text s site (drop (i + 1) h)) before front)
+    subst (λ t. AppendsFront w0 w' (owed ++ t)) (sym (entry_rest s site h i x below is))
+    (sends_front w0 w w' owed (history_text s site (take i h)) now (entry_line s site x) (history_text s site (drop (i + 1) h)) before
+    front)
 
 -- ---- one history after the other
 
 abbrev history_of : SiteReport → List Entry
 history_of r = r.history.items
 
-histories_append : (s : Settings) (n : ℕ) (gs hs : List (List Entry)) → histories_text s n (gs ++ hs) ≡ histories_text s n gs ++ histories_text s (n + length gs) hs
+histories_append : (s : Settings) (n : ℕ) (gs hs : List (List Entry))
+    → histories_text s n (gs ++ hs) ≡ histories_text s n gs ++ histories_text s (n + length gs) hs
 histories_append s n [] hs = ap (λ k. histories_text s k hs) (sym (add-zero n))
 histories_append s n (g ∷ gs) hs =
-    ap (λ t. history_text s n g ++ t) (histories_append s (n + 1) gs hs ∙ ap (λ k. histories_text s (n + 1) gs ++ histories_text s k hs) (omega arith)) ∙ sym (append_assoc (history_text s n g) (histories_text s (n + 1) gs) (histories_text s (n + length (g ∷ gs)) hs))
+    ap (λ t. history_text s n g ++ t) (histories_append s (n + 1) gs hs
+    ∙ ap (λ k. histories_text s (n + 1) gs ++ histories_text s k hs) (omega arith))
+    ∙ sym (append_assoc (history_text s n g) (histories_text s (n + 1) gs) (histories_text s (n + length (g ∷ gs)) hs))
 
 -- so many come before
 before_are : (rs : List SiteReport) (i : ℕ) → i < length rs → 0 + length (map history_of (take i rs)) ≡ i
 before_are rs i below = zero-add _ ∙ length-map (take i rs) history_of ∙ length-take-le i rs (omega arith)
 
 report_more : (s : Settings) (rs : List SiteReport) (i : ℕ) (r : SiteReport) → i < length rs → r ≡ get_or rs i r
-    → histories_text s 0 (map history_of (take (i + 1) rs)) ≡ histories_text s 0 (map history_of (take i rs)) ++ history_text s i (history_of r)
+    → histories_text s 0 (map history_of (take (i + 1) rs)) ≡ histories_text s 0 (map history_of (take i rs))
+    ++ history_text s i (history_of r)
 report_more s rs i r below is =
-    ap (λ l. histories_text s 0 (map history_of l)) (take_more rs i r below ∙ ap (λ y. take i rs ++ y ∷ []) (sym is)) ∙ ap (histories_text s 0) (map-append history_of (take i rs) (r ∷ [])) ∙ histories_append s 0 (map history_of (take i rs)) (history_of r ∷ [])
-    ∙ ap (λ k. histories_text s 0 (map history_of (take i rs)) ++ (history_text s k (history_of r) ++ [])) (before_are rs i below) ∙ ap (λ t. histories_text s 0 (map history_of (take i rs)) ++ t) (append-nil (history_text s i (history_of r)))
+    ap (λ l. histories_text s 0 (map history_of l)) (take_more rs i r below ∙ ap (λ y. take i rs ++ y ∷ []) (sym is))
+    ∙ ap (histories_text s 0) (map-append history_of (take i rs) (r ∷ []))
+    ∙ histories_append s 0 (map history_of (take i rs)) (history_of r ∷ [])
+    ∙ ap (λ k. histories_text s 0 (map history_of (take i rs)) ++ (history_text s k (history_of r) ++ [])) (before_are rs i below)
+    ∙ ap (λ t. histories_text s 0 (map history_of (take i rs)) ++ t) (append-nil (history_text s i (history_of r)))
 
 abbrev after : Settings → List SiteReport → ℕ → List ℕ
 after s rs i = histories_text s (0 + length (map history_of (take (i + 1) rs))) (map history_of (drop (i + 1) rs))
 
 report_rest : (s : Settings) (rs : List SiteReport) (i : ℕ) (r : SiteReport) → i < length rs → r ≡ get_or rs i r
-    → histories_text s 0 (map history_of rs) ≡ histories_text s 0 (map history_of (take i rs)) ++ (history_text s i (history_of r) ++ after s rs i)
+    → histories_text s 0 (map history_of rs) ≡ histories_text s 0 (map history_of (take i rs))
+    ++ (history_text s i (history_of r) ++ after s rs i)
 report_rest s rs i r below is =
-    ap (λ l. histories_text s 0 (map history_of l)) (sym (take-append-drop (i + 1) rs)) ∙ ap (histories_text s 0) (map-append history_of (take (i + 1) rs) (drop (i + 1) rs)) ∙ histories_append s 0 (map history_of (take (i + 1) rs)) (map history_of (drop (i + 1) rs))
-    ∙ ap (λ t. t ++ after s rs i) (report_more s rs i r below is) ∙ append_assoc (histories_text s 0 (map history_of (take i rs))) (history_text s i (history_of r)) (after s rs i)
+    ap (λ l. histories_text s 0 (map history_of l)) (sym (take-append-drop (i + 1) rs))
+    ∙ ap (histories_text s 0) (map-append history_of (take (i + 1) rs) (drop (i + 1) rs))
+    ∙ histories_append s 0 (map history_of (take (i + 1) rs)) (map history_of (drop (i + 1) rs))
+    ∙ ap (λ t. t ++ after s rs i) (report_more s rs i r below is)
+    ∙ append_assoc (histories_text s 0 (map history_of (take i rs))) (history_text s i (history_of r)) (after s rs i)
 
-pub histories_go_on : (w0 w w' : Option (List ℕ)) (s : Settings) (rs : List SiteReport) (i : ℕ) (r : SiteReport) (owed now still : List ℕ) → i < length rs → r ≡ get_or rs i r → Sends w0 w (owed ++ histories_text s 0 (map history_of (take i rs))) now
-    → Sends w w' (now ++ history_text s i (history_of r)) still → Sends w0 w' (owed ++ histories_text s 0 (map history_of (take (i + 1) rs))) still
+-- one history more went out or is owed
+pub histories_go_on : (w0 w w' : Option (List ℕ)) (s : Settings) (rs : List SiteReport) (i : ℕ) (r : SiteReport) (owed now still : List ℕ)
+    → i < length rs → r ≡ get_or rs i r → Sends w0 w (owed ++ histories_text s 0 (map history_of (take i rs))) now
+    → Sends w w' (now ++ history_text s i (history_of r)) still
+    → Sends w0 w' (owed ++ histories_text s 0 (map history_of (take (i + 1) rs))) still
 histories_go_on w0 w w' s rs i r owed now still below is before more =
-    subst (λ t. Sends w0 w' (owed ++ t) still) (sym (report_more s rs i r below is)) (sends_more w0 w w' owed (histories_text s 0 (map history_of (take i rs))) now (history_text s i (history_of r)) still before more)
+    subst (λ t. Sends w0 w' (owed ++ t) still) (sym (report_more s rs i r below is))
+    (sends_more w0 w w' owed (histories_text s 0 (map history_of (take i rs))) now (history_text s i (history_of r)) still before more)
 
-pub histories_stop : (w0 w w' : Option (List ℕ)) (s : Settings) (rs : List SiteReport) (i : ℕ) (r : SiteReport) (owed now : List ℕ) → i < length rs → r ≡ get_or rs i r → Sends w0 w (owed ++ histories_text s 0 (map history_of (take i rs))) now
+-- a write failed at a history: a front of all histories' lines went out
+pub histories_stop : (w0 w w' : Option (List ℕ)) (s : Settings) (rs : List SiteReport) (i : ℕ) (r : SiteReport) (owed now : List ℕ)
+    → i < length rs → r ≡ get_or rs i r → Sends w0 w (owed ++ histories_text s 0 (map history_of (take i rs))) now
     → AppendsFront w w' (now ++ history_text s i (history_of r)) → AppendsFront w0 w' (owed ++ histories_text s 0 (map history_of rs))
 histories_stop w0 w w' s rs i r owed now below is before front =
-    subst (λ t. AppendsFront w0 w' (owed ++ t)) (sym (report_rest s rs i r below is)) (sends_front w0 w w' owed (histories_text s 0 (map history_of (take i rs))) now (history_text s i (history_of r)) (after s rs i) before front)
+    subst (λ t. AppendsFront w0 w' (owed ++ t)) (sym (report_rest s rs i r below is))
+    (sends_front w0 w w' owed (histories_text s 0 (map history_of (take i rs))) now (history_text s i (history_of r)) (after s rs i)
+    before front)

@@ -6,25 +6,30 @@ use Rattle.rb_lines.specs.Buffers.{Sends}
 use Rattle.rb_lines.specs.Writes.{AppendsFront}
 
 -- a line more went out or is owed
-pub sends_more : (w0 w w' : Option (List ℕ)) (owed text now line still : List ℕ) → Sends w0 w (owed ++ text) now → Sends w w' (now ++ line) still → Sends w0 w' (owed ++ (text ++ line)) still
+pub sends_more : (w0 w w' : Option (List ℕ)) (owed text now line still : List ℕ) → Sends w0 w (owed ++ text) now
+    → Sends w w' (now ++ line) still → Sends w0 w' (owed ++ (text ++ line)) still
 sends_more w0 w w' owed text now line still before more = (
   before.0 ++ more.0,
   Appends-trans w0 w w' before.0 more.0 before.1 more.1,
-  sym (append_assoc owed text line) ∙ ap (λ t. t ++ line) before.2 ∙ append_assoc before.0 now line ∙ ap (λ t. before.0 ++ t) more.2 ∙ sym (append_assoc before.0 more.0 still),
+  sym (append_assoc owed text line) ∙ ap (λ t. t ++ line) before.2 ∙ append_assoc before.0 now line ∙ ap (λ t. before.0 ++ t) more.2
+      ∙ sym (append_assoc before.0 more.0 still),
 )
 
 -- a front of what is owed is one of all that was to be written
-pub sends_front : (w0 w w' : Option (List ℕ)) (owed text now line rest : List ℕ) → Sends w0 w (owed ++ text) now → AppendsFront w w' (now ++ line) → AppendsFront w0 w' (owed ++ (text ++ (line ++ rest)))
+pub sends_front : (w0 w w' : Option (List ℕ)) (owed text now line rest : List ℕ) → Sends w0 w (owed ++ text) now
+    → AppendsFront w w' (now ++ line) → AppendsFront w0 w' (owed ++ (text ++ (line ++ rest)))
 sends_front w0 w w' owed text now line rest before front = (
   before.0 ++ front.0,
   (
     front.1.0 ++ rest,
     sym (append_assoc owed text (line ++ rest)) ∙ ap (λ t. t ++ (line ++ rest)) before.2 ∙ append_assoc before.0 now (line ++ rest)
-        ∙ ap (λ t. before.0 ++ t) (sym (append_assoc now line rest) ∙ ap (λ t. t ++ rest) front.1.1 ∙ append_assoc front.0 front.1.0 rest) ∙ sym (append_assoc before.0 front.0 (front.1.0 ++ rest)),
+        ∙ ap (λ t. before.0 ++ t) (sym (append_assoc now line rest) ∙ ap (λ t. t ++ rest) front.1.1 ∙ append_assoc front.0 front.1.0 rest)
+        ∙ sym (append_assoc before.0 front.0 (front.1.0 ++ rest)),
   ),
   Appends-trans w0 w w' before.0 front.0 before.1 front.2,
 )
 
 -- what was owed went out
 pub sends_all : (w0 w w' : Option (List ℕ)) (text now : List ℕ) → Sends w0 w text now → Appends w w' now → Sends w0 w' text []
-sends_all w0 w w' text now before all = (before.0 ++ now, Appends-trans w0 w w' before.0 now before.1 all, before.2 ∙ sym (append-nil (before.0 ++ now)))
+sends_all w0 w w' text now before all =
+    (before.0 ++ now, Appends-trans w0 w w' before.0 now before.1 all, before.2 ∙ sym (append-nil (before.0 ++ now)))

@@ -10,4 +10,5 @@ accounts = (codes "a0", 1000) ∷ (codes "a1", 1000) ∷ (codes "a2", 1000) ∷ 
 
 -- so many sites, these accounts, and the largest limits
 abbrev pub bank_of : ℕ → Settings
-bank_of sites = settings_of sites accounts (record { blue = MOST_BLUE; red = MOST_RED; inbox = MOST_INBOX; history = MOST_HISTORY; epoch = MOST_EPOCH })
+bank_of sites =
+    settings_of sites accounts (record { blue = MOST_BLUE; red = MOST_RED; inbox = MOST_INBOX; history = MOST_HISTORY; epoch = MOST_EPOCH })

@@ -1,4 +1,5 @@
 pub mod Bank
+pub mod Messages
 pub mod Runs
 pub mod Texts
 pub mod Writing

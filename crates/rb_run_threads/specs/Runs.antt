@@ -5,12 +5,13 @@ use Rattle.rb_site.specs.declared.entry.Entry.{Entry}
 use Rattle.rb_site.specs.Seen.{IsReplayed}
 use Rattle.rb_tellers.specs.Tellers.{TellersAt}
 use Rattle.rb_lines.specs.Writes.{IsFront}
-use Rattle.rb_lines.specs.declared.fault.ScriptFault.{ScriptFault}
-use Rattle.rb_lines.specs.declared.fault.ScriptFault.TheVariants.{NoConfig, BadConfig, BadLine, LongLine, Read, Write, OutOfMemory, Gather}
 use Rattle.rb_run_threads.specs.Bank.{bank_of}
 use Rattle.rb_run_threads.specs.Texts.{text_of}
+use Rattle.rb_run_threads.specs.declared.fault.ThreadsFault.{ThreadsFault}
+use Rattle.rb_run_threads.specs.declared.fault.ThreadsFault.TheVariants.{OutOfMemory, Gather, Write}
 
--- histories of so many tellers, one for each site: it is its own replay, and but for what was received and applied it is what the site's tellers did, interleaved
+-- histories of so many tellers, one for each site: it is its own replay, and but for what was received and applied it is what the site's
+-- tellers did, interleaved
 pub record AreTellers (s : Settings) (tellers seed : ℕ) (hs : List (List Entry)) : Type 0 where
   pub each_site : length hs ≡ s.sites
   pub replays : (k : ℕ) (h : List Entry) → slice_get hs k ≡ Some h → IsReplayed (record { settings = s; me = k; entries = h })
@@ -27,13 +28,8 @@ abbrev pub BeginsRun : ℕ → ℕ → ℕ → List ℕ → Type 0
 BeginsRun sites tellers seed text = (whole : List ℕ) × IsRun sites tellers seed whole × IsFront text whole
 
 -- the result of a run of so many tellers at so many sites, where the text was written
-abbrev pub ThreadsEndAs : Result Unit ScriptFault → ℕ → ℕ → ℕ → List ℕ → Type 0
+abbrev pub ThreadsEndAs : Result Unit ThreadsFault → ℕ → ℕ → ℕ → List ℕ → Type 0
 ThreadsEndAs (Ok u) sites tellers seed text = IsRun sites tellers seed text
 ThreadsEndAs (Err Write) sites tellers seed text = BeginsRun sites tellers seed text
 ThreadsEndAs (Err OutOfMemory) sites tellers seed text = (text ≡ []) ⊎ BeginsRun sites tellers seed text
 ThreadsEndAs (Err Gather) sites tellers seed text = text ≡ []
-ThreadsEndAs (Err NoConfig) sites tellers seed text = ⊥
-ThreadsEndAs (Err (BadConfig n)) sites tellers seed text = ⊥
-ThreadsEndAs (Err (BadLine n)) sites tellers seed text = ⊥
-ThreadsEndAs (Err (LongLine n)) sites tellers seed text = ⊥
-ThreadsEndAs (Err Read) sites tellers seed text = ⊥

@@ -2,9 +2,11 @@
 //! Tests: rb_tests, tellers.rt; tests/cases.py runs tellers through the program.
 #![tactic(auto)]
 
+mod fault;
 mod opening;
 mod run;
 mod text;
 mod unwritten;
 
+pub use fault::{ThreadsFault, threads_message, threads_status};
 pub use run::run_threads;

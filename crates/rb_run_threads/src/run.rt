@@ -1,23 +1,28 @@
 //! A run of tellers at the sites of a bank, and what they did as text.
 ghost use Rattle.std.specs.Prelude.{◌≡◌, ◌↔◌, ◌≤◌, List, ℕ, true, false, Err};
 ghost use Rattle.std.specs.Io.KnownBytes.{Appends};
-ghost use Rattle.rb_lines.specs.declared.fault.ScriptFault.TheVariants.{Write};
+ghost use Rattle.rb_run_threads.specs.declared.fault.ThreadsFault.TheVariants.{Write};
 ghost use Rattle.rb_money.specs.declared.limits.TheConstants.{MOST_SITES};
 ghost use Rattle.rb_run_threads.specs.Runs.{ThreadsEndAs};
 
+use crate::fault::ThreadsFault;
 use crate::opening::bank;
 use crate::text::write_text;
 use crate::unwritten::Unwritten;
 use rb_branch::Gate;
-use rb_lines::{ScriptFault, Sink};
-use rb_tellers::{RunFault, run_bank};
+use rb_lines::Sink;
+use rb_tellers::{TellersFault, run_bank};
 use std::alloc::Global;
 use std::sync::Wait;
 use std::thread::Threads;
 
-/// Runs tellers at the sites of a bank, each in a thread of its own for `rb_tellers::CALLS` calls, and writes the bank's configuration and the sites' histories, which an audit reads.
+/// Runs tellers at the sites of a bank, each in a thread of its own for `rb_tellers::CALLS` calls, and writes the
+/// bank's configuration and the sites' histories, which an audit reads.
 ///
-/// Teller `t`, from 0, is at site `t % sites`; its calls come from its own numbers, the first of which is `seed + t`. One more thread at each site receives what the others send, and applies what is ready. All threads have ended before anything is written. Refuses with `OutOfMemory`, also where a thread can't be made; with `Gather` where a site's history was full, or is no interleaving of the clients' receipts; and with `Write`.
+/// Teller `t`, from 0, is at site `t % sites`; its calls come from its own numbers, the first of which is `seed + t`.
+/// One more thread at each site receives what the others send, and applies what is ready. All threads have ended before
+/// anything is written. Refuses with `OutOfMemory`, also where a thread can't be made; with `Gather` where a site's
+/// history was full, or is no interleaving of the clients' receipts; and with `Write`.
 pub fn run_threads<G: Gate + Drop + Sync, K: Sink, W: Threads + Wait + Sync>(
     rt: &W,
     alloc: Global,
@@ -26,28 +31,25 @@ pub fn run_threads<G: Gate + Drop + Sync, K: Sink, W: Threads + Wait + Sync>(
     seed: u32,
     gate: G,
     writer: &mut K,
-) -> Result<(), ScriptFault>
+) -> Result<(), ThreadsFault>
     requires some_sites { 2 ≤ sites }
     requires few_sites { sites ≤ MOST_SITES }
     requires fresh { K.failed writer.old ≡ false }
     // What is written is the configuration and histories that the tellers made.
-    ensures written { (text : List ℕ) × Appends (K.contents writer.old) (K.contents writer.new) text × ThreadsEndAs result sites tellers seed text }
+    ensures written { (text : List ℕ) × Appends (K.contents writer.old) (K.contents writer.new) text
+        × ThreadsEndAs result sites tellers seed text }
     ensures write { (result ≡ Err Write) ↔ (K.failed writer.new ≡ true) }
 {
-    let Ok(config) = bank(alloc, sites) else {
-        return Err(ScriptFault::OutOfMemory);
-    };
-    let Ok(copy) = config.try_copy(alloc) else {
-        return Err(ScriptFault::OutOfMemory);
-    };
+    let config = bank(alloc, sites)?;
+    let copy = config.try_copy(alloc)?;
     let reports = match run_bank(rt, alloc, copy, gate, tellers, seed) {
         Ok(reports) => reports,
-        Err(RunFault::OutOfMemory) => return Err(ScriptFault::OutOfMemory),
-        Err(RunFault::Gather) => return Err(ScriptFault::Gather),
+        Err(TellersFault::OutOfMemory) => return Err(ThreadsFault::OutOfMemory),
+        Err(TellersFault::Gather) => return Err(ThreadsFault::Gather),
     };
     match write_text(alloc, writer, &config, reports.as_slice()) {
         Ok(()) => Ok(()),
-        Err(Unwritten::Write) => Err(ScriptFault::Write),
-        Err(Unwritten::OutOfMemory) => Err(ScriptFault::OutOfMemory),
+        Err(Unwritten::Write) => Err(ThreadsFault::Write),
+        Err(Unwritten::OutOfMemory) => Err(ThreadsFault::OutOfMemory),
     }
 }

@@ -8,13 +8,10 @@ ghost use Rattle.rb_run_threads.specs.declared.unwritten.Unwritten.TheVariants.{
 
 use crate::unwritten::Unwritten;
 use rb_history::{append_line, write_config};
-use rb_lines::{Sink, WriteFailed, flush};
+use rb_lines::{MOST_OWED, Sink, flush};
 use rb_money::Config;
 use rb_site::{Entry, SiteReport};
 use std::alloc::{AllocError, Global};
-
-/// Lines go out once they have so many bytes.
-const MOST_OWED: usize = 65_536;
 
 /// Owes the line of a configuration.
 #[tactic(auto, unfolding(crate::specs::Texts::config_line))]
@@ -46,19 +43,16 @@ fn write_entry<W: Sink>(
     entry: &Entry,
 ) -> Result<(), Unwritten>
     requires fresh { W.failed writer.old ≡ false }
-    ensures written { Writes result (W.contents writer.old) (W.contents writer.new) (owed.old.items ++ entry_line config.now site entry.now) owed.new.items }
+    ensures written { Writes result (W.contents writer.old) (W.contents writer.new)
+        (owed.old.items ++ entry_line config.now site entry.now) owed.new.items }
     ensures write { (result ≡ Err Write) ↔ (W.failed writer.new ≡ true) }
 {
-    let Ok(()) = owe_entry(owed, config, site, entry) else {
-        return Err(Unwritten::OutOfMemory);
-    };
+    owe_entry(owed, config, site, entry)?;
     if owed.len() < MOST_OWED {
         return Ok(());
     }
-    match flush(writer, owed) {
-        Ok(()) => Ok(()),
-        Err(WriteFailed) => Err(Unwritten::Write),
-    }
+    flush(writer, owed)?;
+    Ok(())
 }
 
 /// Writes the lines of a site's history, the last of which may still be owed.
@@ -70,14 +64,12 @@ fn write_history<W: Sink>(
     history: &[Entry],
 ) -> Result<(), Unwritten>
     requires fresh { W.failed writer.old ≡ false }
-    ensures written { Writes result (W.contents writer.old) (W.contents writer.new) (owed.old.items ++ history_text config.now site history.now) owed.new.items }
+    ensures written { Writes result (W.contents writer.old) (W.contents writer.new)
+        (owed.old.items ++ history_text config.now site history.now) owed.new.items }
     ensures write { (result ≡ Err Write) ↔ (W.failed writer.new ≡ true) }
 {
     for entry in history {
-        match write_entry(writer, owed, config, site, entry) {
-            Ok(()) => {}
-            Err(why) => return Err(why),
-        }
+        write_entry(writer, owed, config, site, entry)?;
     }
     Ok(())
 }
@@ -91,15 +83,14 @@ fn write_histories<W: Sink>(
 ) -> Result<(), Unwritten>
     requires fresh { W.failed writer.old ≡ false }
     requires few { length reports.now ≤ MOST_SITES }
-    ensures written { Writes result (W.contents writer.old) (W.contents writer.new) (owed.old.items ++ histories_text config.now 0 (map (λ (r : SiteReport). r.history.items) reports.now)) owed.new.items }
+    ensures written { Writes result (W.contents writer.old) (W.contents writer.new)
+        (owed.old.items ++ histories_text config.now 0 (map (λ (r : SiteReport). r.history.items) reports.now))
+        owed.new.items }
     ensures write { (result ≡ Err Write) ↔ (W.failed writer.new ≡ true) }
 {
     for site in 0..reports.len() {
         let history = reports[site].history.as_slice();
-        match write_history(writer, owed, config, site as u8, history) {
-            Ok(()) => {}
-            Err(why) => return Err(why),
-        }
+        write_history(writer, owed, config, site as u8, history)?;
     }
     Ok(())
 }
@@ -113,19 +104,13 @@ pub fn write_text<W: Sink>(
 ) -> Result<(), Unwritten>
     requires fresh { W.failed writer.old ≡ false }
     requires few { length reports.now ≤ MOST_SITES }
-    ensures written { Writes result (W.contents writer.old) (W.contents writer.new) (text_of config.now (map (λ (r : SiteReport). r.history.items) reports.now)) [] }
+    ensures written { Writes result (W.contents writer.old) (W.contents writer.new)
+        (text_of config.now (map (λ (r : SiteReport). r.history.items) reports.now)) [] }
     ensures write { (result ≡ Err Write) ↔ (W.failed writer.new ≡ true) }
 {
     let mut owed = Vec::new(alloc);
-    let Ok(()) = owe_config(alloc, &mut owed, config) else {
-        return Err(Unwritten::OutOfMemory);
-    };
-    match write_histories(writer, &mut owed, config, reports) {
-        Ok(()) => {}
-        Err(why) => return Err(why),
-    }
-    match flush(writer, &mut owed) {
-        Ok(()) => Ok(()),
-        Err(WriteFailed) => Err(Unwritten::Write),
-    }
+    owe_config(alloc, &mut owed, config)?;
+    write_histories(writer, &mut owed, config, reports)?;
+    flush(writer, &mut owed)?;
+    Ok(())
 }

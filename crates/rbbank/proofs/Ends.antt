@@ -4,45 +4,56 @@ use Rattle.std.specs.declared.io.ErrorKind.{ErrorKind as IoErrorKind}
 use Rattle.std.specs.declared.io.ErrorKind.TheVariants.{OutOfMemory as IoOutOfMemory}
 use Rattle.clap.specs.declared.error.kind.ErrorKind.{ErrorKind}
 use Rattle.clap.specs.declared.error.kind.ErrorKind.TheVariants.{DisplayHelp, DisplayVersion, OutOfMemory as NoMemory}
-use Rattle.rb_lines.specs.declared.fault.ScriptFault.{ScriptFault}
-use Rattle.rb_lines.specs.declared.fault.ScriptFault.TheVariants.{NoConfig, OutOfMemory}
+use Rattle.rb_lines.specs.declared.fault.StreamFault.{StreamFault}
+use Rattle.rb_lines.specs.declared.fault.StreamFault.TheVariants.{NoConfig, OutOfMemory}
 use Rattle.rb_lines.specs.Messages.{status_of}
+use Rattle.rb_run_threads.specs.declared.fault.ThreadsFault.{ThreadsFault}
+use Rattle.rb_run_threads.specs.Messages.{threads_status_of}
 use Rattle.rbbank.specs.declared.answer.Answered.{Answered}
 use Rattle.rbbank.specs.declared.answer.Answered.TheVariants.{Script, Audit, Migrate, Threads}
-use Rattle.rbbank.specs.Statuses.{IsEnd, IsEndOf, IsEndOfAudit, IsEndOfScript, IsEndOfThreads, IsToldFault, status_of_unread, status_of_words}
+use Rattle.rbbank.specs.Statuses.{IsEnd, IsEndOf, IsEndOfAudit, IsEndOfScript, IsEndOfThreads, IsToldStatus, status_of_unread}
+use Rattle.rbbank.specs.Statuses.{status_of_words}
 
+-- memory ran out
 pub no_memory : (n : ℕ) → n ≡ 4 → IsEnd n
-no_memory n e = inr (inr (OutOfMemory, e))
+no_memory n e = inr (inr (inl (OutOfMemory, e)))
 
-fault_end : (n : ℕ) (fault : ScriptFault) → IsToldFault fault n → IsEnd n
-fault_end n fault (inl e) = inr (inr (fault, e))
+fault_end : (n : ℕ) (fault : StreamFault) → IsToldStatus (status_of fault) n → IsEnd n
+fault_end n fault (inl e) = inr (inr (inl (fault, e)))
 fault_end n fault (inr e) = no_memory n e
 
-script_end : (n : ℕ) (answered : Result ℕ ScriptFault) → IsEndOfScript answered n → IsEnd n
+threads_fault_end : (n : ℕ) (fault : ThreadsFault) → IsToldStatus (threads_status_of fault) n → IsEnd n
+threads_fault_end n fault (inl e) = inr (inr (inr (fault, e)))
+threads_fault_end n fault (inr e) = no_memory n e
+
+script_end : (n : ℕ) (answered : Result ℕ StreamFault) → IsEndOfScript answered n → IsEnd n
 script_end n (Ok count) e = inl e
 script_end n (Err fault) e = fault_end n fault e
 
-audit_end : (n : ℕ) (answered : Result Bool ScriptFault) → IsEndOfAudit answered n → IsEnd n
+audit_end : (n : ℕ) (answered : Result Bool StreamFault) → IsEndOfAudit answered n → IsEnd n
 audit_end n (Ok true) e = inl e
 audit_end n (Ok false) e = inr (inl e)
 audit_end n (Err fault) e = fault_end n fault e
 
-threads_end : (n : ℕ) (ran : Result Unit ScriptFault) → IsEndOfThreads ran n → IsEnd n
+threads_end : (n : ℕ) (ran : Result Unit ThreadsFault) → IsEndOfThreads ran n → IsEnd n
 threads_end n (Ok u) e = inl e
-threads_end n (Err fault) e = fault_end n fault e
+threads_end n (Err fault) e = threads_fault_end n fault e
 
+-- whatever was done
 pub any_end : (n : ℕ) (answered : Answered) → IsEndOf answered n → IsEnd n
 any_end n (Script ran) e = script_end n ran e
 any_end n (Audit ran) e = audit_end n ran e
 any_end n (Migrate ran) e = script_end n ran e
 any_end n (Threads ran) e = threads_end n ran e
 
+-- the words ask for nothing
 pub words_end : (n : ℕ) (kind : ErrorKind) → n ≡ status_of_words kind → IsEnd n
 words_end n NoMemory e = no_memory n e
 words_end n DisplayHelp e = inl e
 words_end n DisplayVersion e = inl e
-words_end n kind e = inr (inr (NoConfig, e))
+words_end n kind e = inr (inr (inl (NoConfig, e)))
 
+-- the words can't be read
 pub unread_end : (n : ℕ) (kind : IoErrorKind) → n ≡ status_of_unread kind → IsEnd n
 unread_end n IoOutOfMemory e = no_memory n e
-unread_end n kind e = inr (inr (NoConfig, e))
+unread_end n kind e = inr (inr (inl (NoConfig, e)))

@@ -7,9 +7,11 @@ use Rattle.rb_run_audit.specs.Run.{AuditEndsAs}
 use Rattle.rb_run_migrate.specs.Run.{MigrationEndsAs}
 use Rattle.rb_run_threads.specs.Runs.{ThreadsEndAs}
 use Rattle.rbbank.specs.declared.answer.Answered.{Answered}
-use Rattle.rbbank.specs.declared.answer.Answered.TheVariants.{Script as ScriptRan, Audit as AuditRan, Migrate as MigrationRan, Threads as TellersRan}
+use Rattle.rbbank.specs.declared.answer.Answered.TheVariants.{Script as ScriptRan, Audit as AuditRan, Migrate as MigrationRan}
+use Rattle.rbbank.specs.declared.answer.Answered.TheVariants.{Threads as TellersRan}
 
--- what was asked for was done, by the definition of its own run: a script on the reader's bytes, an audit of them or a migration, wherever these bytes are known, or a run of tellers, which reads nothing
+-- what was asked for was done, by the definition of its own run: a script on the reader's bytes, an audit of them or a migration, wherever
+-- these bytes are known, or a run of tellers, which reads nothing
 abbrev pub DoesAsAsked : Words → Answered → Option (List ℕ) → Option (List ℕ) → List ℕ → Type 0
 DoesAsAsked Script (ScriptRan r) bytes left text = IfSome bytes (λ input. ScriptEndsAs r input left text)
 DoesAsAsked Audit (AuditRan r) bytes left text = IfSome bytes (λ input. AuditEndsAs r input left text)

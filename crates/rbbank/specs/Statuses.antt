@@ -4,8 +4,10 @@ use Rattle.std.specs.declared.io.ErrorKind.{ErrorKind as IoErrorKind}
 use Rattle.std.specs.declared.io.ErrorKind.TheVariants.{OutOfMemory as IoOutOfMemory}
 use Rattle.clap.specs.declared.error.kind.ErrorKind.{ErrorKind}
 use Rattle.clap.specs.declared.error.kind.ErrorKind.TheVariants.{DisplayHelp, DisplayVersion, OutOfMemory}
-use Rattle.rb_lines.specs.declared.fault.ScriptFault.{ScriptFault}
+use Rattle.rb_lines.specs.declared.fault.StreamFault.{StreamFault}
 use Rattle.rb_lines.specs.Messages.{status_of}
+use Rattle.rb_run_threads.specs.declared.fault.ThreadsFault.{ThreadsFault}
+use Rattle.rb_run_threads.specs.Messages.{threads_status_of}
 use Rattle.rbbank.specs.declared.answer.Answered.{Answered}
 use Rattle.rbbank.specs.declared.answer.Answered.TheVariants.{Script, Audit, Migrate, Threads}
 
@@ -21,25 +23,25 @@ abbrev pub status_of_unread : IoErrorKind → ℕ
 status_of_unread IoOutOfMemory = 4
 status_of_unread _ = 2
 
--- the status of a fault, or 4 where memory runs out for its text
-abbrev pub IsToldFault : ScriptFault → ℕ → Type 0
-IsToldFault fault n = (n ≡ status_of fault) ⊎ (n ≡ 4)
+-- this status of a fault, or 4 where memory runs out for its text
+abbrev pub IsToldStatus : ℕ → ℕ → Type 0
+IsToldStatus status n = (n ≡ status) ⊎ (n ≡ 4)
 
 -- a script, or a migration, that was answered whole is no fault
-abbrev pub IsEndOfScript : Result ℕ ScriptFault → ℕ → Type 0
+abbrev pub IsEndOfScript : Result ℕ StreamFault → ℕ → Type 0
 IsEndOfScript (Ok count) n = n ≡ 0
-IsEndOfScript (Err fault) n = IsToldFault fault n
+IsEndOfScript (Err fault) n = IsToldStatus (status_of fault) n
 
 -- an audit ends in 0 where it found an order, and in 1 where it found that no world has the histories
-abbrev pub IsEndOfAudit : Result Bool ScriptFault → ℕ → Type 0
+abbrev pub IsEndOfAudit : Result Bool StreamFault → ℕ → Type 0
 IsEndOfAudit (Ok true) n = n ≡ 0
 IsEndOfAudit (Ok false) n = n ≡ 1
-IsEndOfAudit (Err fault) n = IsToldFault fault n
+IsEndOfAudit (Err fault) n = IsToldStatus (status_of fault) n
 
 -- a run of threads whose histories were written is no fault
-abbrev pub IsEndOfThreads : Result Unit ScriptFault → ℕ → Type 0
+abbrev pub IsEndOfThreads : Result Unit ThreadsFault → ℕ → Type 0
 IsEndOfThreads (Ok u) n = n ≡ 0
-IsEndOfThreads (Err fault) n = IsToldFault fault n
+IsEndOfThreads (Err fault) n = IsToldStatus (threads_status_of fault) n
 
 -- whatever was done ends as a script, an audit, a migration or a run of threads does
 abbrev pub IsEndOf : Answered → ℕ → Type 0
@@ -50,4 +52,4 @@ IsEndOf (Threads ran) n = IsEndOfThreads ran n
 
 -- 0, 1, or the status of a fault
 abbrev pub IsEnd : ℕ → Type 0
-IsEnd n = (n ≡ 0) ⊎ ((n ≡ 1) ⊎ ((fault : ScriptFault) × (n ≡ status_of fault)))
+IsEnd n = (n ≡ 0) ⊎ ((n ≡ 1) ⊎ (((fault : StreamFault) × (n ≡ status_of fault)) ⊎ ((fault : ThreadsFault) × (n ≡ threads_status_of fault))))

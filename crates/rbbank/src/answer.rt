@@ -12,7 +12,7 @@ use rb_lines::{ScriptFault, Sink, Source};
 use rb_run_audit::run_audit;
 use rb_run_migrate::run_migrate;
 use rb_run_script::run_script;
-use rb_run_threads::run_threads;
+use rb_run_threads::{ThreadsFault, run_threads};
 use std::alloc::Global;
 use std::sync::Wait;
 use std::thread::Threads;
@@ -27,7 +27,7 @@ pub enum Answered {
     /// Histories were written again.
     Migrate(Result<u64, ScriptFault>),
     /// Tellers ran.
-    Threads(Result<(), ScriptFault>),
+    Threads(Result<(), ThreadsFault>),
 }
 
 /// Does what the words after the program's name ask for, from this reader to this writer. Tellers read nothing;

@@ -1,4 +1,5 @@
-//! `rbbank`: the sites of a bank, driven by a script or by tellers in threads, and audits and migrations of their histories.
+//! `rbbank`: the sites of a bank, driven by a script or by tellers in threads, and audits and migrations of their
+//! histories.
 //! Tests: rb_tests, words.rt; the program itself runs in the gate and on examples/.
 #![tactic(auto)]
 
@@ -6,13 +7,16 @@ ghost use Rattle.std.specs.Prelude.{◌≡◌};
 ghost use Rattle.std.specs.IoError.{error_kind};
 ghost use Rattle.std.specs.Process.{exit_status};
 ghost use Rattle.clap.specs.Words.{kind_of};
-ghost use Rattle.rbbank.specs.Statuses.{IsEnd, IsEndOf, IsEndOfAudit, IsEndOfScript, IsEndOfThreads, IsToldFault, status_of_unread, status_of_words};
+ghost use Rattle.rb_lines.specs.Messages.{status_of};
+ghost use Rattle.rbbank.specs.Statuses.{IsEnd, IsEndOf, IsEndOfAudit, IsEndOfScript, IsEndOfThreads, IsToldStatus};
+ghost use Rattle.rbbank.specs.Statuses.{status_of_unread, status_of_words};
 
 mod answer;
 
 use answer::{Answered, answer};
 use clap::error::ErrorKind;
 use rb_lines::{FromReader, ScriptFault, ToWriter, message, status};
+use rb_run_threads::{ThreadsFault, threads_message, threads_status};
 use std::alloc::AllocError;
 use std::process::ExitCode;
 use std::sync::Wait;
@@ -35,20 +39,28 @@ fn out_of_memory(rt: &HostRuntime) -> ExitCode
     ExitCode::from(NO_MEMORY)
 }
 
-/// Says why a script, an audit, a migration or a run of threads stopped.
-fn tell_fault(rt: &HostRuntime, fault: ScriptFault) -> ExitCode
-    ensures { IsToldFault fault (exit_status result) }
+/// Says this line, if there was memory for it, and ends with this status.
+fn tell_line(rt: &HostRuntime, line: Result<String, AllocError>, status: u8) -> ExitCode
+    ensures { IsToldStatus status (exit_status result) }
 {
-    match message(rt.alloc(), fault) {
+    match line {
         Ok(line) => {
             let _ = rt.eprintln(line.as_str());
-            ExitCode::from(status(fault))
+            ExitCode::from(status)
         }
         Err(AllocError) => out_of_memory(rt),
     }
 }
 
-/// Says what is wrong with the words. Help or the version that was asked for goes to standard output, and nothing is wrong.
+/// Says why a script, an audit or a migration stopped.
+fn tell_fault(rt: &HostRuntime, fault: ScriptFault) -> ExitCode
+    ensures { IsToldStatus (status_of fault) (exit_status result) }
+{
+    tell_line(rt, message(rt.alloc(), fault), status(fault))
+}
+
+/// Says what is wrong with the words. Help or the version that was asked for goes to standard output, and nothing is
+/// wrong.
 fn tell_words(rt: &HostRuntime, error: clap::Error) -> ExitCode
     ensures { exit_status result ≡ status_of_words (kind_of error) }
 {
@@ -100,12 +112,16 @@ fn end_of_audit(rt: &HostRuntime, ran: Result<bool, ScriptFault>) -> ExitCode
 }
 
 /// How a run of threads ends the program.
-fn end_of_threads(rt: &HostRuntime, ran: Result<(), ScriptFault>) -> ExitCode
+fn end_of_threads(rt: &HostRuntime, ran: Result<(), ThreadsFault>) -> ExitCode
     ensures { IsEndOfThreads ran (exit_status result) }
 {
     match ran {
         Ok(()) => ExitCode::SUCCESS,
-        Err(fault) => tell_fault(rt, fault),
+        Err(fault) => tell_line(
+            rt,
+            threads_message(rt.alloc(), fault),
+            threads_status(fault),
+        ),
     }
 }
 

@@ -8,7 +8,8 @@ use Rattle.std.proofs.lemmas.Str.{IsUtf8-from_ascii, IsUtf8-from_is_utf8, is_utf
 use Rattle.rb_lines.proofs.line.text_on.Goals as goal
 
 -- what the text is, or that there is none
-found : {E : Type 0} (Q : E → Type 0) (bs : List ℕ) (r : Result (Bor (List ℕ)) E) → MatchResult r (λ s. (s.now ≡ bs) × IsUtf8 bs) (λ e. ¬ (IsUtf8 bs) × Q e)
+found : {E : Type 0} (Q : E → Type 0) (bs : List ℕ) (r : Result (Bor (List ℕ)) E)
+    → MatchResult r (λ s. (s.now ≡ bs) × IsUtf8 bs) (λ e. ¬ (IsUtf8 bs) × Q e)
     → MatchOption (result_ok r) (is_utf8 bs ≡ false) (λ text. (text.now ≡ bs) × (is_utf8 bs ≡ true))
 found Q bs (Ok s) h = (h.0, is_utf8-from_IsUtf8 bs h.1)
 found Q bs (Err e) h = false_from_ne_true (is_utf8 bs) (λ t. h.0 (IsUtf8-from_is_utf8 bs t))

@@ -9,8 +9,10 @@ not_true false h = refl
 
 pub returns-in-Some-clause-length : goal.returns-in-Some-clause-length
 returns-in-Some-clause-length c =
-    sym (position_or_len_is (λ b. b == 10) c.args.bytes.now c.in-Some.found 0 (omega (arith, (c.in-Some.ensures).0.high)) (λ k h. not_true _ ((c.in-Some.ensures).0.before k (omega arith) h)) (λ h. (c.in-Some.ensures).1))
+    sym (position_or_len_is (λ b. b == 10) c.args.bytes.now c.in-Some.found 0 (omega (arith, (c.in-Some.ensures).0.high))
+    (λ k h. not_true _ ((c.in-Some.ensures).0.before k (omega arith) h)) (λ h. (c.in-Some.ensures).1))
 
 pub returns-in-None-clause-length : goal.returns-in-None-clause-length
 returns-in-None-clause-length c =
-    sym (position_or_len_is (λ b. b == 10) c.args.bytes.now (length c.args.bytes.now) 0 (omega arith) (λ k h. not_true _ (c.in-None.ensures k (omega arith) h)) (λ h. absurd (omega arith)))
+    sym (position_or_len_is (λ b. b == 10) c.args.bytes.now (length c.args.bytes.now) 0 (omega arith)
+    (λ k h. not_true _ (c.in-None.ensures k (omega arith) h)) (λ h. absurd (omega arith)))

@@ -13,4 +13,8 @@ returns-in-Ok-clause-bytes g c =
     let full : length buf ≡ end + READ_SIZE - end = search rules in
     let few : n ≤ length buf = c.in-Ok.ensures.bound in
     let len : c.args.bytes.now.len ≡ length old = search rules in
-    rw c.deref_mut.ensures.value (take n buf, over_part_of old buf _ c.args.bytes.now.len end (end + READ_SIZE - end) n len (omega arith) full few, c.in-Ok.ensures.bytes.0)
+    rw c.deref_mut.ensures.value (
+      take n buf,
+      over_part_of old buf _ c.args.bytes.now.len end (end + READ_SIZE - end) n len (omega arith) full few,
+      c.in-Ok.ensures.bytes.0,
+    )

@@ -12,8 +12,12 @@ returns-in_ok-order_line-in-Ok c = record {
 
 pub returns-in_ok-wrong_reply_line-in-Err-WrongReply : goal.returns-in_ok-wrong_reply_line-in-Err-WrongReply
 returns-in_ok-wrong_reply_line-in-Err-WrongReply c =
-    let found = subst (IsFound c.args.config.now (lists_of c.args.histories.now)) c.in-Err-WrongReply.field-0-is c.in-Err-WrongReply.ensures.found in
-    let refuted = subst (Refutes c.args.config.now (lists_of c.args.histories.now)) c.in-Err-WrongReply.field-0-is c.in-Err-WrongReply.ensures.refuted in (
+    let found =
+    subst (IsFound c.args.config.now (lists_of c.args.histories.now)) c.in-Err-WrongReply.field-0-is
+    c.in-Err-WrongReply.ensures.found in
+    let refuted =
+    subst (Refutes c.args.config.now (lists_of c.args.histories.now)) c.in-Err-WrongReply.field-0-is
+    c.in-Err-WrongReply.ensures.refuted in (
       refuted,
       inl (record {
         site = c.in-Err-WrongReply.site;
@@ -26,7 +30,8 @@ returns-in_ok-wrong_reply_line-in-Err-WrongReply c =
 pub returns-in_ok-stuck_line-in-Err-Stuck : goal.returns-in_ok-stuck_line-in-Err-Stuck
 returns-in_ok-stuck_line-in-Err-Stuck c =
     let found = subst (IsFound c.args.config.now (lists_of c.args.histories.now)) c.in-Err-Stuck.field-0-is c.in-Err-Stuck.ensures.found in
-    let refuted = subst (Refutes c.args.config.now (lists_of c.args.histories.now)) c.in-Err-Stuck.field-0-is c.in-Err-Stuck.ensures.refuted in (
+    let refuted =
+    subst (Refutes c.args.config.now (lists_of c.args.histories.now)) c.in-Err-Stuck.field-0-is c.in-Err-Stuck.ensures.refuted in (
       refuted,
       inr (record {
         next = c.in-Err-Stuck.next.items;

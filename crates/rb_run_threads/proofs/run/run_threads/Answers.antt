@@ -4,25 +4,29 @@ use Rattle.rb_run_threads.proofs.run.run_threads.Goals as goal
 
 pub returns-in-Ok-write_text-clause-written : goal.returns-in-Ok-write_text-clause-written
 returns-in-Ok-write_text-clause-written g c =
-    let copy = c.in-Ok-try_copy.copy in
-    let reports = c.in-Ok-run_bank.reports in
-    let all : length reports.items ≡ copy.sites = omega (arith, reports.ok.0, c.in-Ok-run_bank.ensures.all) in
-    let are = gathered copy c.args.tellers c.args.seed reports.items all c.in-Ok-run_bank.ensures.closed c.in-Ok-run_bank.ensures.tellers in
-    whole_run _ _ copy c.args.sites c.args.tellers c.args.seed _ (c.in-Ok-try_copy.ensures.same ∙ c.in-Ok.ensures) are (rw (c.as_slice.ensures.value, sym c.in-Ok-try_copy.ensures.same) at c.in-Ok-write_text.ensures.written)
+    let copy = c.in_ok-copy.copy in
+    let reports = c.in-Ok.reports in
+    let all : length reports.items ≡ copy.sites = omega (arith, reports.ok.0, c.in-Ok.ensures.all) in
+    let are = gathered copy c.args.tellers c.args.seed reports.items all c.in-Ok.ensures.closed c.in-Ok.ensures.tellers in
+    whole_run _ _ copy c.args.sites c.args.tellers c.args.seed _ (c.in_ok-copy.ensures.same ∙ c.in_ok-config.ensures) are
+    (rw (c.as_slice.ensures.value, sym c.in_ok-copy.ensures.same) at c.in-Ok-write_text.ensures.written)
 
 pub returns-in-Err-Write-clause-written : goal.returns-in-Err-Write-clause-written
 returns-in-Err-Write-clause-written g c =
-    let copy = c.in-Ok-try_copy.copy in
-    let reports = c.in-Ok-run_bank.reports in
-    let all : length reports.items ≡ copy.sites = omega (arith, reports.ok.0, c.in-Ok-run_bank.ensures.all) in
-    let are = gathered copy c.args.tellers c.args.seed reports.items all c.in-Ok-run_bank.ensures.closed c.in-Ok-run_bank.ensures.tellers in
-    part_of_run _ _ copy c.args.sites c.args.tellers c.args.seed _ (c.in-Ok-try_copy.ensures.same ∙ c.in-Ok.ensures) are (rw (c.as_slice.ensures.value, sym c.in-Ok-try_copy.ensures.same) at c.in-Err-Write.ensures.written)
+    let copy = c.in_ok-copy.copy in
+    let reports = c.in-Ok.reports in
+    let all : length reports.items ≡ copy.sites = omega (arith, reports.ok.0, c.in-Ok.ensures.all) in
+    let are = gathered copy c.args.tellers c.args.seed reports.items all c.in-Ok.ensures.closed c.in-Ok.ensures.tellers in
+    part_of_run _ _ copy c.args.sites c.args.tellers c.args.seed _ (c.in_ok-copy.ensures.same ∙ c.in_ok-config.ensures) are
+    (rw (c.as_slice.ensures.value, sym c.in_ok-copy.ensures.same) at c.in-Err-Write.ensures.written)
 
 pub returns-clause-written : goal.returns-clause-written
 returns-clause-written g c =
-    let copy = c.in-Ok-try_copy.copy in
-    let reports = c.in-Ok-run_bank.reports in
-    let all : length reports.items ≡ copy.sites = omega (arith, reports.ok.0, c.in-Ok-run_bank.ensures.all) in
-    let are = gathered copy c.args.tellers c.args.seed reports.items all c.in-Ok-run_bank.ensures.closed c.in-Ok-run_bank.ensures.tellers in
-    let part = part_of_run _ _ copy c.args.sites c.args.tellers c.args.seed _ (c.in-Ok-try_copy.ensures.same ∙ c.in-Ok.ensures) are (rw (c.as_slice.ensures.value, sym c.in-Ok-try_copy.ensures.same) at c.in-Err-OutOfMemory-write_text.ensures.written) in
+    let copy = c.in_ok-copy.copy in
+    let reports = c.in-Ok.reports in
+    let all : length reports.items ≡ copy.sites = omega (arith, reports.ok.0, c.in-Ok.ensures.all) in
+    let are = gathered copy c.args.tellers c.args.seed reports.items all c.in-Ok.ensures.closed c.in-Ok.ensures.tellers in
+    let part =
+    part_of_run _ _ copy c.args.sites c.args.tellers c.args.seed _ (c.in_ok-copy.ensures.same ∙ c.in_ok-config.ensures) are
+    (rw (c.as_slice.ensures.value, sym c.in_ok-copy.ensures.same) at c.in-Err-OutOfMemory-write_text.ensures.written) in
     (part.0, part.1, inr part.2)

@@ -7,5 +7,6 @@ use Rattle.rb_run_threads.proofs.text.write_history.Given as goal
 abbrev pub invariant-loop-entry : goal.invariant-loop-entry
 invariant-loop-entry g l = record {
   fresh : g.W.Sink.failed l.writer ≡ false;
-  sent : Sends (g.W.Sink.contents l.fn.writer) (g.W.Sink.contents l.writer) (l.fn.owed.items ++ history_text l.config l.site (take l.entry-index l.history)) l.owed.items;
+  sent : Sends (g.W.Sink.contents l.fn.writer) (g.W.Sink.contents l.writer)
+      (l.fn.owed.items ++ history_text l.config l.site (take l.entry-index l.history)) l.owed.items;
 }

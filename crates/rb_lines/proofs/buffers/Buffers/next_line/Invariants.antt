@@ -12,7 +12,8 @@ invariant-reads g l = record {
   was_going : l.self.ended ≡ false → l.fn.self.ended ≡ false;
   fresh : g.W.Sink.failed l.writer ≡ false;
   read : Reads l.fn.self.pending l.self.pending (g.S.Source.remaining l.fn.reader) (g.S.Source.remaining l.reader);
-  waited : line_len l.fn.self.pending < length l.fn.self.pending → (g.S.Source.calls l.reader ≡ g.S.Source.calls l.fn.reader) × (l.self.pending ≡ l.fn.self.pending);
+  waited : line_len l.fn.self.pending < length l.fn.self.pending
+      → (g.S.Source.calls l.reader ≡ g.S.Source.calls l.fn.reader) × (l.self.pending ≡ l.fn.self.pending);
   sent : Sends (g.W.Sink.contents l.fn.writer) (g.W.Sink.contents l.writer) l.fn.self.owed.items l.self.owed.items;
 }
 

@@ -1,0 +1,67 @@
+use Rattle.std.proofs.Common.{arith, rules, ◌≡◌, ◌+◌, Err, ap, length-drop}
+use Rattle.std.proofs.lemmas.Bool.{false_from_ne_true}
+use Rattle.rb_lines.proofs.Progress.{ends_at_fault, ends_here, ends_long, ends_out_of_memory, ends_unread, ends_unwritten, goes_on}
+use Rattle.rb_lines.proofs.Progress.{reads_on}
+use Rattle.rb_lines.proofs.run.answer_lines.Goals as goal
+
+pub returns-in-Err-TooLong-clause-written : goal.returns-in-Err-TooLong-clause-written
+returns-in-Err-TooLong-clause-written g c =
+    let next = c.in-Err-TooLong.ensures in
+    let kept = next.kept (λ e. cc (e, c.in-Err-TooLong.field-0-is)) in
+    let sent = next.sent (λ e. cc (e, c.in-Err-TooLong.field-0-is)) in
+    let now = reads_on _ _ _ _ _ _ _ _ _ _ _ _ _ _ c.lines.invariant.written kept next.was_going sent in
+    let is = g.met.R.Responder.is_stand c.lines.responder in
+    rw c.number.ensures (ends_long _ _ _ _ _ _ _ _ _ now (next.long (ap Err c.in-Err-TooLong.field-0-is)) is)
+
+pub returns-in-Err-Read-clause-written : goal.returns-in-Err-Read-clause-written
+returns-in-Err-Read-clause-written g c =
+    let next = c.in-Err-Read.ensures in
+    let kept = next.kept (λ e. cc (e, c.in-Err-Read.field-0-is)) in
+    let sent = next.sent (λ e. cc (e, c.in-Err-Read.field-0-is)) in
+    let now = reads_on _ _ _ _ _ _ _ _ _ _ _ _ _ _ c.lines.invariant.written kept next.was_going sent in
+    let stop = next.read (ap Err c.in-Err-Read.field-0-is) in
+    ends_unread _ _ _ _ _ _ _ _ _ now stop.0 stop.1 (g.met.R.Responder.is_stand c.lines.responder)
+
+pub returns-in-Err-Write-clause-written : goal.returns-in-Err-Write-clause-written
+returns-in-Err-Write-clause-written g c =
+    let next = c.in-Err-Write.ensures in
+    ends_unwritten _ _ _ _ _ _ (g.S.Source.remaining c.next_line.new.reader) _ _ _ _ _ c.lines.invariant.written
+    (next.front (ap Err c.in-Err-Write.field-0-is))
+
+pub returns-in-Err-OutOfMemory-clause-written : goal.returns-in-Err-OutOfMemory-clause-written
+returns-in-Err-OutOfMemory-clause-written g c =
+    let next = c.in-Err-OutOfMemory.ensures in
+    let sent = next.sent (λ e. cc (e, c.in-Err-OutOfMemory.field-0-is)) in
+    ends_out_of_memory _ _ _ _ _ _ (g.S.Source.remaining c.next_line.new.reader) _ _ _ _ _ c.lines.invariant.written sent
+
+pub returns-in-Ok-None-clause-written : goal.returns-in-Ok-None-clause-written
+returns-in-Ok-None-clause-written g c =
+    let next = c.in-Ok-None.ensures in
+    let last = rw c.in-Ok-None.field-0-is at next.line in
+    let now = reads_on _ _ _ _ _ _ _ _ _ _ _ _ _ _ c.lines.invariant.written next.kept next.was_going next.sent in
+    ends_here _ _ _ _ _ _ _ _ _ _ now last.0 (next.end last.1) c.end.ensures
+
+pub returns-in_err-answer_line-clause-written : goal.returns-in_err-answer_line-clause-written
+returns-in_err-answer_line-clause-written g c =
+    let next = c.in-Ok-Some.ensures in
+    let stands = rw c.in-Ok-Some.field-0-is at next.line in
+    let now = reads_on _ _ _ _ _ _ _ _ _ _ _ _ _ _ c.lines.invariant.written next.kept next.was_going next.sent in
+    let answered = rw c.as_slice.ensures at c.in_err-answer_line.ensures in
+    let passed : c.from_residual.result ≡ Err c.in_err-answer_line.field-0.0 = search rules in
+    rw passed (ends_at_fault _ _ _ _ _ _ _ _ _ _ c.in-Ok-Some.n _ now stands.0 stands.2 stands.3 next.end answered)
+
+pub lines-preserved : goal.lines-preserved
+lines-preserved g c =
+    let next = c.in-Ok-Some.ensures in
+    let stands = rw c.in-Ok-Some.field-0-is at next.line in
+    let now = reads_on _ _ _ _ _ _ _ _ _ _ _ _ _ _ c.lines.invariant.written next.kept next.was_going next.sent in
+    let answered = rw c.as_slice.ensures at c.in_ok-answer_line.ensures in
+    let rest = length-drop (c.in-Ok-Some.n + 1) c.next_line.new.self.pending in
+    record {
+      counted = rw c.skip_line.ensures next.counted;
+      fresh = false_from_ne_true _ (λ t. cc (next.write.1 t));
+      end = rw c.skip_line.ensures next.end;
+      number = rw c.skip_line.ensures (omega (arith, rest, answered.2.number, next.left, stands.3, c.lines.invariant.number));
+      count = omega (arith, answered.2.number, answered.2.one, c.lines.invariant.count);
+      written = rw c.skip_line.ensures (goes_on _ _ _ _ _ _ _ _ _ _ _ c.in-Ok-Some.n now stands.0 stands.2 stands.3 next.end answered);
+    }

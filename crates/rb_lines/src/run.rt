@@ -1,0 +1,88 @@
+//! A run over lines: each is answered, in order.
+ghost use Rattle.std.specs.Prelude.{◌≡◌, ◌↔◌, ◌+◌, ◌++◌, ◌≤◌, ◌⊎◌, List, [], ℕ, true, false, Err, IfSome};
+ghost use Rattle.std.specs.Io.KnownBytes.{Appends};
+ghost use Rattle.rb_lines.specs.Answers.{RunEndsAs, RunWillEndAs};
+ghost use Rattle.rb_lines.specs.declared.fault.StreamFault.TheVariants.{Read, Write};
+ghost use Rattle.rb_lines.specs.declared.limits.TheConstants.{MOST_READS};
+
+use crate::buffers::Buffers;
+use crate::fault::StreamFault;
+use crate::no_line::NoLine;
+use crate::responder::Responder;
+use crate::sink::Sink;
+use crate::source::Source;
+use crate::write::flush;
+use std::alloc::Global;
+
+/// Answers each line, and says how many were answered. What is owed at the end, or at a fault, is still to be written;
+/// after a failed write nothing is.
+fn answer_lines<S: Source, W: Sink, R: Responder>(
+    alloc: Global,
+    reader: &mut S,
+    writer: &mut W,
+    responder: &mut R,
+    buffers: &mut Buffers,
+) -> Result<u64, StreamFault>
+    requires unread { S.calls reader.old ≡ 0 }
+    requires fresh { W.failed writer.old ≡ false }
+    requires first { (R.stand responder.old).number ≡ 1 }
+    requires none { (R.stand responder.old).count ≡ 0 }
+    requires pending { buffers.old.pending ≡ [] }
+    requires owed { buffers.old.owed.items ≡ [] }
+    requires reads { buffers.old.reads ≡ MOST_READS }
+    requires going { buffers.old.ended ≡ false }
+    ensures written { (text : List ℕ) × Appends (W.contents writer.old) (W.contents writer.new) text
+        × IfSome (S.remaining reader.old)
+        (λ input. RunWillEndAs (R.stand responder.old).rest result input (S.remaining reader.new)
+        (text ++ buffers.new.owed.items)) }
+    ensures read { result ≡ Err Read → (S.failed reader.new ≡ true) ⊎ (S.calls reader.new ≡ MOST_READS) }
+    ensures write { (result ≡ Err Write) ↔ (W.failed writer.new ≡ true) }
+    ensures calls { S.calls reader.new ≤ S.calls reader.old + MOST_READS }
+{
+    'lines: loop {
+        let n = match buffers.next_line(reader, writer) {
+            Ok(Some(n)) => n,
+            Ok(None) => return responder.end(),
+            Err(NoLine::TooLong) => {
+                return Err(StreamFault::LongLine {
+                    line: responder.number(),
+                });
+            }
+            Err(NoLine::Read) => return Err(StreamFault::Read),
+            Err(NoLine::Write) => return Err(StreamFault::Write),
+            Err(NoLine::OutOfMemory) => return Err(StreamFault::OutOfMemory),
+        };
+        let line = &buffers.pending.as_slice()[..n];
+        responder.answer_line(alloc, line, &mut buffers.owed)?;
+        buffers.skip_line(n);
+    }
+}
+
+/// Answers each line of the reader's bytes, and says how many were answered.
+///
+/// The answers to the whole lines of one read go out before the next read, in one write where they fit. What was
+/// answered before a fault goes out before the fault is told; where that write fails, the fault is `Write`.
+pub fn run_lines<S: Source, W: Sink, R: Responder>(
+    alloc: Global,
+    reader: &mut S,
+    writer: &mut W,
+    responder: &mut R,
+) -> Result<u64, StreamFault>
+    requires unread { S.calls reader.old ≡ 0 }
+    requires fresh { W.failed writer.old ≡ false }
+    requires first { (R.stand responder.old).number ≡ 1 }
+    requires none { (R.stand responder.old).count ≡ 0 }
+    // What is written is what the lines come to, and nothing else.
+    ensures written { (text : List ℕ) × Appends (W.contents writer.old) (W.contents writer.new) text
+        × IfSome (S.remaining reader.old)
+        (λ input. RunEndsAs (R.stand responder.old).rest result input (S.remaining reader.new) text) }
+    ensures read { result ≡ Err Read → (S.failed reader.new ≡ true) ⊎ (S.calls reader.new ≡ MOST_READS) }
+    ensures write { (result ≡ Err Write) ↔ (W.failed writer.new ≡ true) }
+    // At most so many reads are made, whatever is answered.
+    ensures calls { S.calls reader.new ≤ S.calls reader.old + MOST_READS }
+{
+    let mut buffers = Buffers::new(alloc);
+    let answered = answer_lines(alloc, reader, writer, responder, &mut buffers);
+    flush(writer, &mut buffers.owed)?;
+    answered
+}
