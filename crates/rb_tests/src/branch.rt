@@ -3,8 +3,8 @@ ghost use Rattle.std.specs.Prelude.{◌≡◌};
 ghost use Rattle.rb_branch.specs.declared.limits.TheConstants.{RECEIPT_PARTS};
 
 use rb_branch::{
-    Branch, CallFault, Entries, Gate, GatherFault, Inlet, NoGate, RECEIPT_PARTS, Seat, SeatFault,
-    links,
+    Branch, CallFault, Entries, Gate, GatherFault, Inlet, NoGate, Outbox, RECEIPT_PARTS, Seat,
+    SeatFault, links,
 };
 use rb_money::{Config, Limits, Place};
 use rb_scratch::Request;
@@ -132,6 +132,26 @@ pub fn served_by<E: Entries, R: Ledger, G: Gate + Drop, W: Wait>(
     branch.serve(rt, seat, &mut inlet)
 }
 
+/// A deposit of 5 cents and then the balance, by a seat that made no call yet: their receipts are read by number.
+fn read_back<E: Entries, R: Ledger, G: Gate + Drop, W: Wait + Abort>(
+    rt: &W,
+    branch: &Branch<E, R, G>,
+    seat: &mut Seat<E, R>,
+    outbox: &Outbox,
+) -> Result<(), CallFault> {
+    let first = branch.submit(rt, seat, outbox, deposit(5))?;
+    let second = branch.balance(rt, seat, Place(0))?;
+    assert_eq!(rt; (first, second), (1, 2));
+    for (receipt, number) in seat.receipts().iter().zip(1..3) {
+        let found = seat.receipt(number).map(|receipt| receipt.number);
+        assert_eq!(rt; (receipt.number, found), (number, Some(number)));
+    }
+    let last = seat.receipts().last();
+    assert!(rt; last.is_some_and(|receipt| receipt.reply.same(&Reply::Balance(5))));
+    assert!(rt; seat.receipt(0).is_none() && seat.receipt(3).is_none());
+    Ok(())
+}
+
 /// A deposit at site 0, and a server at site 1.
 struct OneServed;
 
@@ -146,7 +166,7 @@ impl Case for OneServed {
         let copy = outbox.try_copy(alloc)?;
         let mut teller = branch.seat(rt, 0)?;
         let mut server = branch.seat(rt, 1)?;
-        let _number = branch.submit(rt, &mut teller, &copy, deposit(5))?;
+        read_back(rt, branch, &mut teller, &copy)?;
         drop(outbox);
         drop(copy);
         let inlet = inlets.pop().ok_or("no inlet")?;
@@ -155,7 +175,6 @@ impl Case for OneServed {
         let receipt = server.receipt(number).ok_or("no receipt")?;
         assert!(rt; receipt.reply.same(&Reply::Balance(5)));
         assert_eq!(rt; teller.receipt(1).map(|receipt| receipt.unsent), Some(0));
-        assert!(rt; teller.receipt(0).is_none() && teller.receipt(2).is_none());
         let mut seats = Vec::with_capacity(alloc, 2)?;
         seats.push_reserved(teller);
         seats.push_reserved(server);

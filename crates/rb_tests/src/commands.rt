@@ -1,8 +1,8 @@
 //! Lines of commands and configurations. What a line is read as is compared as Rust's `Debug` writes it. Bad lines are
 //! in tests/cases, bad_lines.cases.
 
-use rb_commands::{read_command, read_config};
-use rb_history::write_config;
+use rb_commands::{LineFault, read_command, read_config};
+use rb_history::{read_line, write_config};
 use std::test::Fail;
 
 const TWO_ACCOUNTS: &str = r#"{"accounts":[["ann",0],["bob",70]],"sites":2,"version":1}"#;
@@ -69,5 +69,19 @@ fn configurations(rt: HostRuntime) -> Result<(), Fail> {
         let again = write_config(alloc, &read_config(alloc, wanted)?)?;
         assert_eq!(rt; again.as_str(), wanted);
     }
+    Ok(())
+}
+
+/// A text without a byte is no line of any kind. The program skips it.
+#[test]
+fn nothing_is_a_bad_line(rt: HostRuntime) -> Result<(), Fail> {
+    let alloc = rt.alloc();
+    let config = read_config(alloc, TWO_ACCOUNTS)?;
+    let faults = [
+        read_config(alloc, "").err(),
+        read_command(alloc, &config, "").err(),
+        read_line(alloc, &config, "").err(),
+    ];
+    assert_eq!(rt; faults, [Some(LineFault::Bad), Some(LineFault::Bad), Some(LineFault::Bad)]);
     Ok(())
 }

@@ -81,7 +81,7 @@ pub fn shadow_of(operation: Operation) -> Shadow {
     }
 }
 
-/// A ledger of two sites after these operations.
+/// A ledger of two sites after these operations, each of which is eligible and has the next position.
 pub fn ledger_after(
     alloc: Global,
     accounts: &[(&str, u64)],
@@ -89,9 +89,15 @@ pub fn ledger_after(
 ) -> Result<Ledger, Fail> {
     let mut ledger = ledger_of(alloc, accounts, Limits::largest())?;
     for operation in operations {
-        match ledger.apply(shadow_of(*operation)) {
-            Ok(undo) => undo.seal(),
-            Err(_) => return Err(Fail::from("refused")),
+        let shadow = shadow_of(*operation);
+        let eligible = ledger.is_eligible(&shadow);
+        let Ok(undo) = ledger.apply(shadow) else {
+            return Err(Fail::from("refused"));
+        };
+        let position = undo.position();
+        undo.seal();
+        if !eligible || position != ledger.len() {
+            return Err(Fail::from("not eligible, or not next"));
         }
     }
     Ok(ledger)

@@ -2,8 +2,10 @@
 ghost use Rattle.std.specs.Prelude.{◌≡◌};
 ghost use Rattle.rb_branch.specs.declared.limits.TheConstants.{RECEIPT_PARTS};
 
-use crate::branch::{comes, comes_within, gathered_with, some_sites};
-use rb_branch::{Branch, CallFault, Entries, Gate, GatherFault, RECEIPT_PARTS, Seat};
+use crate::branch::{comes, comes_within, deposit, gathered_with, some_sites};
+use rb_branch::{
+    Branch, CallFault, Entries, Gate, GatherFault, Outbox, RECEIPT_PARTS, Seat, links,
+};
 use rb_money::{Config, Limits, Place};
 use rb_site::SiteReport;
 use std::alloc::Global;
@@ -118,13 +120,41 @@ fn asked<E: Entries, R: Ledger, G: Gate + Drop, W: Wait>(
     Ok(seat)
 }
 
+/// How many deposits each of the two seats at site 0 makes.
+const DEPOSITS: u64 = 100;
+
+/// A seat's deposits of one cent each.
+fn deposited<E: Entries, R: Ledger, G: Gate + Drop, W: Wait>(
+    rt: &W,
+    branch: &Branch<E, R, G>,
+    mut seat: Seat<E, R>,
+    outbox: &Outbox,
+) -> Result<Seat<E, R>, CallFault> {
+    for _i in 0..DEPOSITS {
+        let _number = branch.submit(rt, &mut seat, outbox, deposit(1))?;
+    }
+    Ok(seat)
+}
+
+/// A question at a seat's site, and then deposits.
+fn asked_and_deposited<E: Entries, R: Ledger, G: Gate + Drop, W: Wait>(
+    rt: &W,
+    branch: &Branch<E, R, G>,
+    seat: Seat<E, R>,
+    outbox: &Outbox,
+) -> Result<Seat<E, R>, CallFault> {
+    let seat = asked(rt, branch, seat)?;
+    deposited(rt, branch, seat, outbox)
+}
+
 /// Once a call is held at site 0: a question and an application at site 1, where nothing is ready, and then one more
-/// question at site 0.
+/// question at site 0, and deposits.
 fn asked_meanwhile<E: Entries, R: Ledger, G: Gate + Drop, W: Wait + Clock>(
     rt: &W,
     branch: &Branch<E, R, G>,
     other: Seat<E, R>,
     second: Seat<E, R>,
+    outbox: &Outbox,
     signs: &Signs,
 ) -> Result<(Seat<E, R>, Seat<E, R>), CallFault> {
     signs.wants(rt, &signs.held);
@@ -134,23 +164,26 @@ fn asked_meanwhile<E: Entries, R: Ledger, G: Gate + Drop, W: Wait + Clock>(
     let second = asked(rt, branch, second);
     signs.passes();
     signs.behind.store(true, Ordering::SeqCst);
-    Ok((other, second?))
+    let second = deposited(rt, branch, second?, outbox)?;
+    Ok((other, second))
 }
 
-/// The held call in a thread of its own, and the calls meanwhile in another.
+/// The held call in a thread of its own, and the calls meanwhile in another. Then the deposits of both seats at site 0,
+/// side by side.
 fn in_two_threads<
     E: Entries + Send + Sync,
     R: Ledger + Send + Sync,
     G: Gate + Drop + Sync,
     W: Threads + Wait + Clock + Sync,
 >(rt: &W, alloc: Global, branch: &Branch<E, R, G>, signs: &Signs) -> Result<Vec<Seat<E, R>>, Fail> {
+    let (outbox, _inlets) = links(alloc, 2)?;
     let first = branch.seat(rt, 0)?;
     let second = branch.seat(rt, 0)?;
     let other = branch.seat(rt, 1)?;
     let (first, others) = join(
         rt,
-        || asked(rt, branch, first),
-        || asked_meanwhile(rt, branch, other, second, signs),
+        || asked_and_deposited(rt, branch, first, &outbox),
+        || asked_meanwhile(rt, branch, other, second, &outbox, signs),
     );
     let (other, second) = others?;
     let mut seats = Vec::with_capacity(alloc, 3)?;
@@ -212,11 +245,15 @@ fn gate(rt: HostRuntime) -> Result<(), Fail> {
     };
     let config = some_sites(rt.alloc(), 2, Limits::largest())?;
     let reports = threaded(&rt, rt.alloc(), config, gate, &signs)??;
-    assert_eq!(rt; reports.len(), 2);
+    let first = reports.first().ok_or("no report")?;
+    let recorded = first.history.len() as u64;
+    assert_eq!(rt; (reports.len(), recorded), (2, 2 * DEPOSITS + 2));
+    assert_eq!(rt; first.balances.first().copied(), Some(2 * DEPOSITS));
     assert!(rt; !signs.late.load(Ordering::SeqCst), "late");
     assert!(rt; !signs.early.load(Ordering::SeqCst), "early");
-    for calls in signs.entered.iter().chain(&signs.left) {
-        assert_eq!(rt; calls.load(Ordering::SeqCst), 2);
+    for counts in [&signs.entered, &signs.left] {
+        let counted = [counts[0].load(Ordering::SeqCst), counts[1].load(Ordering::SeqCst)];
+        assert_eq!(rt; counted, [2 * DEPOSITS + 2, 2]);
     }
     Ok(())
 }

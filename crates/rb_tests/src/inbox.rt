@@ -1,4 +1,4 @@
-//! Tests of the inbox. What a full inbox refuses, and what is held already, is in the worked rows and in forged.rt.
+//! Tests of the inbox.
 ghost use Rattle.std.specs.Prelude.{◌≤◌, ◌<◌};
 ghost use Rattle.rb_money.specs.declared.limits.TheConstants.{MOST_SITES};
 ghost use Rattle.rb_shadow.specs.Operations.{HasEntry};
@@ -6,7 +6,7 @@ ghost use Rattle.rb_inbox.specs.Held.{IsNumbered};
 
 use crate::common::ANN;
 use rb_inbox::{Inbox, PutAnswer};
-use rb_money::MOST_SITES;
+use rb_money::{MOST_SITES, Refusal};
 use rb_shadow::{Deps, Kind, OpName, Shadow};
 use rb_vclock::Clock;
 use std::alloc::{AllocError, Global};
@@ -89,6 +89,53 @@ fn take_next(rt: &impl Abort, inbox: &mut Inbox, clock: &mut Clock, shadow: Shad
     assert_eq!(rt; inbox.take(shadow.name, clock), Ok(shadow));
     assert!(rt; clock.is_next(&shadow));
     clock.advance(&shadow.name);
+}
+
+/// What a shadow is answered that isn't ready, unless it is the first of site 0.
+fn answer_to(inbox: &mut Inbox, shadow: Shadow) -> Result<PutAnswer, Refusal>
+    requires { IsNumbered shadow }
+{
+    inbox.put(shadow, &Clock::zero())
+}
+
+/// What is asked for before anything is applied.
+fn answer_at_taking(inbox: &mut Inbox, name: OpName) -> Result<Shadow, Refusal>
+    requires { HasEntry name }
+{
+    inbox.take(name, &Clock::zero())
+}
+
+/// An inbox of one holds what isn't ready, and takes in what is ready although it is full.
+#[test]
+fn holds_until_ready(rt: HostRuntime) {
+    let mut inbox = Inbox::open(rt.alloc(), 1);
+    let (first, second, third) = (deposit(0, 1), deposit(0, 2), deposit(0, 3));
+    let other = Shadow { amount: 6, ..second };
+    let answers = [
+        answer_to(&mut inbox, second),
+        answer_to(&mut inbox, third),
+        answer_to(&mut inbox, second),
+        answer_to(&mut inbox, other),
+    ];
+    let wanted = [
+        Ok(PutAnswer::Held),
+        Err(Refusal::InboxFull),
+        Ok(PutAnswer::Already),
+        Err(Refusal::Conflict),
+    ];
+    assert_eq!(rt; (answers, inbox.ready(&Clock::zero())), (wanted, None));
+    assert_eq!(rt; answer_to(&mut inbox, first), Ok(PutAnswer::Held));
+    assert_eq!(rt; inbox.ready(&Clock::zero()), Some(first.name));
+    assert_eq!(rt; inbox.blue_row(0), [first, second].as_slice());
+    assert_eq!(rt; (inbox.blue_row(255).len(), inbox.red_row().len()), (0, 0));
+    let taken = [
+        answer_at_taking(&mut inbox, second.name),
+        answer_at_taking(&mut inbox, first.name),
+        answer_at_taking(&mut inbox, first.name),
+    ];
+    let wanted = [Err(Refusal::NotReady), Ok(first), Err(Refusal::NotHeld)];
+    assert_eq!(rt; taken, wanted);
+    assert_eq!(rt; (inbox.held(&second.name), inbox.len()), (Some(&second), 1));
 }
 
 #[test]

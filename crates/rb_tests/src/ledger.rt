@@ -36,8 +36,9 @@ const TRANSFER: [Operation; 3] = [
 /// The balances of ann and bob, in cents.
 type Balances = (Option<u64>, Option<u64>);
 
-/// Operations, with the balances before them and after each. The second cancellation of one operation moves nothing.
-const RUNS: [(&[Operation], [Balances; 4]); 2] = [
+/// Operations, with the balances before them and after each, and the cents that each moved of ann's and bob's. The
+/// second cancellation of one operation moves nothing.
+const RUNS: [(&[Operation], [Balances; 4], [(i64, i64); 3]); 2] = [
     (
         &WITHDRAWAL,
         [
@@ -46,6 +47,7 @@ const RUNS: [(&[Operation], [Balances; 4]); 2] = [
             (Some(1000), Some(0)),
             (Some(1000), Some(0)),
         ],
+        [(-300, 0), (300, 0), (0, 0)],
     ),
     (
         &TRANSFER,
@@ -55,6 +57,7 @@ const RUNS: [(&[Operation], [Balances; 4]); 2] = [
             (Some(1000), Some(0)),
             (Some(1000), Some(0)),
         ],
+        [(-300, 300), (300, -300), (0, 0)],
     ),
 ];
 
@@ -71,17 +74,31 @@ fn balances_are(rt: &impl Abort, ledger: &Ledger, wanted: &[Balances]) {
     assert_eq!(rt; Some(&last), wanted.last());
 }
 
+/// The operations moved this much of ann's and bob's money, and none on an account that isn't there.
+fn moved_are(rt: &impl Abort, ledger: &Ledger, wanted: &[(i64, i64)]) {
+    let places = [ANN, BOB, Place(2)];
+    for (at, (ann, bob)) in wanted.iter().enumerate() {
+        let position = at as u32 + 1;
+        let moved = places.map(|place| ledger.moved(position, place));
+        assert_eq!(rt; moved, [Some(*ann), Some(*bob), Some(0)]);
+    }
+}
+
 #[test]
 fn second_cancellation_moves_nothing(rt: HostRuntime) -> Result<(), Fail> {
     let alloc = rt.alloc();
     let config = config_of(alloc, 2, &ACCOUNTS, Limits::largest())?;
-    for (operations, wanted) in RUNS {
+    for (operations, wanted, moved) in RUNS {
         let ledger = ledger_after(alloc, &ACCOUNTS, operations)?;
         balances_are(&rt, &ledger, &wanted);
+        moved_are(&rt, &ledger, &moved);
         assert!(rt; there_and_back(alloc, &config, ledger.entries())?);
     }
     Ok(())
 }
+
+/// The rows of sites after the withdrawal and its two cancellations. There are two sites.
+const ROWS: [(u8, &[u32]); 4] = [(0, &[2]), (1, &[3]), (2, &[]), (255, &[])];
 
 /// What the ledger finds of the withdrawal and its two cancellations: where names are, where each entry is first
 /// cancelled and how often, and what the rows have.
@@ -100,28 +117,11 @@ fn looks_up(rt: HostRuntime) -> Result<(), Fail> {
         ledger.count(1),
     ];
     assert_eq!(rt; cancelled, [Some(2), None, Some(2)]);
-    let moved = [
-        ledger.moved(1, ANN),
-        ledger.moved(2, ANN),
-        ledger.moved(3, ANN),
-        ledger.moved(4, ANN),
-    ];
-    assert_eq!(rt; moved, [Some(-300), Some(300), Some(0), None]);
-    let rows = [
-        ledger.red_row(),
-        ledger.blue_row(0),
-        ledger.blue_row(1),
-        ledger.blue_row(255),
-    ];
-    assert_eq!(rt;
-        rows,
-        [
-            [1].as_slice(),
-            [2].as_slice(),
-            [3].as_slice(),
-            [].as_slice()
-        ]
-    );
+    assert_eq!(rt; ledger.moved(4, ANN), None);
+    assert_eq!(rt; ledger.red_row(), [1].as_slice());
+    for (site, row) in ROWS {
+        assert_eq!(rt; ledger.blue_row(site), row);
+    }
     let entries = (
         ledger.entries().get(1),
         ledger.entry(4),
@@ -163,22 +163,48 @@ const REFUSED: [(Operation, Refusal); 7] = [
     ),
 ];
 
+/// A transfer of 300 cents to bob, who spends 10 of them.
+const SPENT: [Operation; 2] = [
+    (RED_1, 0, (0, 0), ANN, 300, Kind::Transfer { to: BOB }),
+    (RED_2, 0, (0, 1), BOB, 10, Kind::Withdraw),
+];
+
+/// It can't be cancelled then.
+const STAYS: [(Operation, Refusal); 1] = [(
+    (RED_3, 0, (0, 2), ANN, 300, UNDO_IT),
+    Refusal::WouldOverdraw,
+)];
+
+/// Operations, what is refused after them, and the balances that stay.
+const REFUSALS: [(&[Operation], &[(Operation, Refusal)], Balances); 2] = [
+    (&[KNOWN], &REFUSED, (Some(1100), Some(0))),
+    (&SPENT, &STAYS, (Some(700), Some(290))),
+];
+
+/// Whether the operation is refused so, by a look and by applying it, and handed back then.
+fn is_refused(ledger: &mut Ledger, operation: Operation, refusal: Refusal) -> bool {
+    let shadow = shadow_of(operation);
+    let looked = ledger.check(&shadow) == Err(refusal);
+    match ledger.apply(shadow) {
+        Ok(undo) => {
+            undo.seal();
+            false
+        }
+        Err(back) => looked && back == (shadow, refusal),
+    }
+}
+
 /// What is refused is handed back, and nothing moves.
 #[test]
 fn refuses(rt: HostRuntime) -> Result<(), Fail> {
-    let mut ledger = ledger_after(rt.alloc(), &ACCOUNTS, &[KNOWN])?;
-    for (operation, refusal) in REFUSED {
-        let shadow = shadow_of(operation);
-        assert_eq!(rt; ledger.check(&shadow), Err(refusal));
-        match ledger.apply(shadow) {
-            Ok(undo) => {
-                undo.seal();
-                return Err(Fail::from("applied"));
-            }
-            Err(back) => assert_eq!(rt; back, (shadow, refusal)),
+    for (operations, refused, balances) in REFUSALS {
+        let mut ledger = ledger_after(rt.alloc(), &ACCOUNTS, operations)?;
+        for (operation, refusal) in refused {
+            assert!(rt; is_refused(&mut ledger, *operation, *refusal));
         }
+        let found = (ledger.balance(ANN), ledger.balance(BOB));
+        assert_eq!(rt; (ledger.len() as usize, found), (operations.len(), balances));
     }
-    assert_eq!(rt; (ledger.len(), ledger.balance(ANN)), (1, Some(1100)));
     Ok(())
 }
 

@@ -105,6 +105,23 @@ fn a_thousand_accounts(rt: HostRuntime) -> Result<(), Fail> {
     Ok(())
 }
 
+/// Numbers of sites, with the version that a configuration of so many has. Each can be had in version 2.
+#[test]
+fn versions(rt: HostRuntime) -> Result<(), Fail> {
+    for (sites, version) in [(2, 1), (8, 1), (9, 2), (16, 2)] {
+        let config = config_of(rt.alloc(), sites, LOOKED_UP, MOST)?;
+        assert_eq!(rt; config.version(), version);
+        let second = config.to_version2();
+        let start = second.accounts().start(Place(0));
+        assert_eq!(rt;
+            (second.version(), second.sites(), start),
+            (2, sites, Some(Cents(1000)))
+        );
+        assert_eq!(rt; second.limits(), MOST);
+    }
+    Ok(())
+}
+
 const PLACES: [(&str, Option<Place>); 3] = [
     ("ann", Some(Place(0))),
     ("bob-2_x.y", Some(Place(1))),

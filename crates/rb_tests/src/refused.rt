@@ -202,13 +202,14 @@ fn descend(rt: &impl Abort, ledger: &mut Ledger, log: &mut UndoLog, balance: u64
     assert_eq!(rt; ledger.balance(Place(0)), Some(balance));
 }
 
-/// Rewinds to a position and goes forward again. The balance there is the one that is wanted.
+/// Rewinds to a position and goes forward again. The balance there is the one that is wanted; with none wanted there
+/// is no such position.
 fn look_back(
     rt: &impl Abort,
     ledger: Ledger,
     log: UndoLog,
     position: u32,
-    balance: u64,
+    balance: Option<u64>,
 ) -> (Ledger, UndoLog)
     requires { log.parts ≡ records_of ledger.settings ledger.entries }
     ensures ledger { result.0 ≡ ledger }
@@ -216,11 +217,12 @@ fn look_back(
 {
     match ledger.rewind(log, position) {
         Ok(rewound) => {
-            assert_eq!(rt; rewound.balance(Place(0)), Some(balance));
+            let seen = (rewound.position(), rewound.balance(Place(0)));
+            assert_eq!(rt; seen, (position, balance));
             rewound.forward()
         }
         Err((ledger, log, _)) => {
-            assert!(rt; false, "no such position");
+            assert_eq!(rt; balance, None, "no such position");
             (ledger, log)
         }
     }
@@ -241,10 +243,11 @@ fn reserved(rt: HostRuntime) -> Result<(), Fail> {
     climb(&rt, &mut ledger, &mut log, withdrawal, 700);
     climb(&rt, &mut ledger, &mut log, cancel, 1000);
     climb(&rt, &mut ledger, &mut log, again, 1000);
-    let (ledger, log) = look_back(&rt, ledger, log, 0, 1000);
-    let (ledger, log) = look_back(&rt, ledger, log, 1, 700);
-    let (ledger, log) = look_back(&rt, ledger, log, 2, 1000);
-    let (mut ledger, mut log) = look_back(&rt, ledger, log, 3, 1000);
+    let (ledger, log) = look_back(&rt, ledger, log, 0, Some(1000));
+    let (ledger, log) = look_back(&rt, ledger, log, 1, Some(700));
+    let (ledger, log) = look_back(&rt, ledger, log, 2, Some(1000));
+    let (ledger, log) = look_back(&rt, ledger, log, 3, Some(1000));
+    let (mut ledger, mut log) = look_back(&rt, ledger, log, 4, None);
     descend(&rt, &mut ledger, &mut log, 1000);
     descend(&rt, &mut ledger, &mut log, 700);
     descend(&rt, &mut ledger, &mut log, 1000);

@@ -19,6 +19,9 @@ const BACK: TokenMessage = TokenMessage {
     red: 1,
 };
 
+/// It is passed once more than there are epochs.
+const LATE: TokenMessage = TokenMessage { epoch: 3, ..FIRST };
+
 /// Two epochs are the most.
 const LIMITS: Limits = Limits {
     blue: 1,
@@ -39,8 +42,10 @@ fn the_token_goes_and_comes_back(rt: HostRuntime) -> Result<(), Fail> {
     let red = (first.may_red(&none), second.may_red(&none));
     assert_eq!(rt; red, (Ok(()), Err(Refusal::NeedToken)));
     assert_eq!(rt; first.pass(1, &one), Ok(FIRST));
-    let accepted = (second.accept(FIRST), second.accept(FIRST), second.epoch());
-    assert_eq!(rt; accepted, (Ok(Accepted::Taken), Ok(Accepted::Stale), 1));
+    let accepted = [second.accept(LATE), second.accept(FIRST), second.accept(FIRST)];
+    let over = Err(Refusal::BadMessage { why: 2 });
+    assert_eq!(rt; accepted, [over, Ok(Accepted::Taken), Ok(Accepted::Stale)]);
+    assert_eq!(rt; second.epoch(), 1);
     let behind = Err(Refusal::RedBehind { seen: 0, needed: 1 });
     let red = (second.may_red(&none), second.may_red(&one));
     assert_eq!(rt; red, (behind, Ok(())));

@@ -8,7 +8,7 @@ use rb_commands::{LineFault, read_command, read_config, write_reply};
 use rb_ledger::Ledger;
 use rb_money::{Config, Place};
 use rb_shadow::Shadow;
-use rb_site::{Reply, SiteReport, WorldEvent};
+use rb_site::{Event, Reply, SiteReport, WorldEvent};
 use rb_undo::UndoLog;
 use rb_world::World;
 use std::alloc::{AllocError, Global};
@@ -81,6 +81,35 @@ fn nothing_is_recorded_where_no_site_or_message_is(rt: HostRuntime) -> Result<()
     }
     assert!(rt; world.site(2).is_none());
     let _reports = world.close();
+    Ok(())
+}
+
+/// A world's events, and the entries of site 0.
+fn recorded(alloc: Global, world: &World) -> Result<String, AllocError> {
+    let mut text = format!(in alloc; "{:?}", world.events())?;
+    if let Some(site) = world.site(0) {
+        for entry in site.history() {
+            let shown = format!(in alloc; " {:?} {:?}", entry.event, entry.reply)?;
+            text.push_str(shown.as_str())?;
+        }
+    }
+    Ok(text)
+}
+
+/// An event that a world answers is its only one, and site 0's only entry has it with its reply.
+#[test]
+fn one_event_is_recorded(rt: HostRuntime) -> Result<(), Fail> {
+    let alloc = rt.alloc();
+    let config = read_config(alloc, r#"{"accounts":[["ann",5]],"sites":2,"version":1}"#)?;
+    let mut world = World::open(alloc, config)?;
+    let reply = world.step(WorldEvent::At(0, Event::Balance(Place(0))));
+    let text = recorded(alloc, &world);
+    let _reports = world.close();
+    assert!(rt; reply.is_ok_and(|reply| reply.same(&Reply::Balance(5))));
+    assert_eq!(rt;
+        text?.as_str(),
+        "[At(0, Balance(Place(0)))] Balance(Place(0)) Balance(5)"
+    );
     Ok(())
 }
 
