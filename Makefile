@@ -57,7 +57,8 @@ bench: build
 # Each allocation of the program and of four tests refused in turn (docs/GATE.md, "Beside the gate").
 refuse: build
 	@cd crates/rb_tests && rt test
-	@tests/refuse.py crates/rbbank/out/rbbank crates/rb_tests/out/rb_tests_tests
+	@cd crates/rb_tests_runs && rt test
+	@tests/refuse.py crates/rbbank/out/rbbank crates/rb_tests/out/rb_tests_tests crates/rb_tests_runs/out/rb_tests_runs_tests
 
 # The mutants that the gate leaves out for its time.
 wrong-bodies:

@@ -1,19 +1,37 @@
 #!/usr/bin/env python3
-"""Makes the scripts of this folder, with their replies, from the worked rows of the tests, crates/rb_tests/src/rows.rt.
+"""Makes tables of the tests and computed runs from the scripts of this folder, each with its replies.
 
 usage: from_rows.py [--check]
 
-With --check nothing is written: it ends in 1 where an example isn't the row of its name, or a computed run of
-crates/rb_world/proofs/WorkedRows.antt is missing for a row.
+The source is each NAME.jsonl here that is answered whole, with NAME.expected, and more.rows, and for messages that no
+site sent forged.rows. Made are
+  crates/rb_tests/src/row_texts.rt, forged_texts.rt   the same texts, whole files
+  crates/rb_world/proofs/WorkedRows.antt, ForgedRows.antt
+                                                      the replies as terms, computed, behind the line "-- Made: .."
+With --check nothing is written: it ends in 1 where one of them isn't what would be made.
 """
 import glob
+import json
 import os
 import re
 import sys
 
 HERE = os.path.dirname(os.path.abspath(__file__))
 CRATES = os.path.join(os.path.dirname(HERE), "crates")
-ROWS = re.compile(r'ROWS: &str = r#"(.*?)"#;', re.DOTALL)
+TABLES = os.path.join(CRATES, "rb_tests", "src")
+COMPUTED = os.path.join(CRATES, "rb_world", "proofs")
+WIDTH = 139
+MADE = "-- Made: the rest of this file, by examples/from_rows.py, from the runs in examples/.\n"
+UNFOLDED = re.compile(r"^-- Each run unfolds (.+)\.$", re.MULTILINE)
+# limits that terms name, each as a number of lines
+CENTS, RATE, BLUE, RED, EPOCH = "MOST_CENTS", "MOST_RATE", "MOST_BLUE", "MOST_RED", "MOST_EPOCH"
+LIMITS = {CENTS: 10**11, RATE: 10**4, BLUE: 10**6, RED: 10**6, EPOCH: 4 * 10**9}
+MOST_SITES = 8  # the counts of an operation in version 1
+REFUSALS = (
+    "OutOfMemory UnknownAccount BadAmount BadRate UnknownOperation NotCancellable AlreadyCancelled NumbersExhausted "
+    "NeedToken RedBehind WouldOverdraw DeltaTooLarge BadBatch BatchRefused NotHeld NotReady InboxFull BadMessage Conflict "
+    "NoMessage NoSite NotYours PositionBeyond HistoryFull SameAccount"
+).split()
 
 
 def read(path):
@@ -21,51 +39,237 @@ def read(path):
         return text.read()
 
 
-def rows():
-    """Each row's script and replies, by its name."""
-    known = {}
-    for row in ROWS.search(read(os.path.join(CRATES, "rb_tests", "src", "rows.rt"))).group(1).split("\n\n"):
-        name, rest = row.split("\n", 1)
-        script, replies = rest.split("\nreplies:\n")
-        known[name] = (script + "\n", replies + "\n")
-    return known
+def blocks(name):
+    """The blocks of a file of this folder, each by its name, less the comment at the top."""
+    comment, *parts = read(os.path.join(HERE, name)).split("\n\n")
+    if not all(line.startswith("#") for line in comment.splitlines()):
+        sys.exit(f"from_rows: {name} has no comment at the top")
+    return dict(part.rstrip("\n").split("\n", 1) for part in parts)
 
 
 def examples():
     """The names of the scripts of this folder that are answered whole."""
     stems = (os.path.basename(path).removesuffix(".jsonl") for path in glob.glob(os.path.join(HERE, "*.jsonl")))
-    return sorted(stem for stem in stems if not stem.endswith((".histories", ".migration")) and not os.path.exists(os.path.join(HERE, stem + ".status")))
+    whole = (stem for stem in stems if not os.path.exists(os.path.join(HERE, stem + ".status")))
+    return sorted(stem for stem in whole if not stem.endswith((".histories", ".migration")))
 
 
-def faults():
-    """What isn't as it has to be."""
-    known = rows()
-    computed = read(os.path.join(CRATES, "rb_world", "proofs", "WorkedRows.antt"))
-    for name in known:
-        if f"\n{name} : replies_of_run " not in computed:
-            yield f"WorkedRows.antt computes no run {name}"
+def rows():
+    """Each script with its replies, by its name."""
+    known = {}
     for name in examples():
         stem = os.path.join(HERE, name)
-        if known.get(name) != (read(stem + ".jsonl"), read(stem + ".expected")):
-            yield f"examples/{name} isn't the row of its name"
+        known[name] = (read(stem + ".jsonl"), read(stem + ".expected"))
+    for name, lines in blocks("more.rows").items():
+        script, replies = lines.split("\nreplies:\n")
+        known[name] = (script + "\n", replies + "\n")
+    return known
 
 
-def write():
-    known = rows()
-    for name in examples():
-        for ending, text in zip((".jsonl", ".expected"), known[name]):
-            with open(os.path.join(HERE, name + ending), "w", encoding="utf-8") as example:
-                example.write(text)
+def forged():
+    """The configuration and the entries of each run of messages that no site sent, by its name."""
+    return {name: lines.split("\n") for name, lines in blocks("forged.rows").items()}
+
+
+def listed(terms):
+    """A list of terms."""
+    return " ∷ ".join([*terms, "[]"])
+
+
+def over(number, limit):
+    """A number, by a limit where it is that or one more."""
+    most = LIMITS[limit]
+    return {most: limit, most + 1: f"{limit} + 1"}.get(number, str(number))
+
+
+def part(term):
+    """A term as an argument."""
+    return f"({term})" if " " in term else term
+
+
+def name_of(text):
+    """The term of an operation's name."""
+    if text[0] == "R":
+        return f"(Red {part(over(int(text[1:]), RED))})"
+    site, number = text[1:].split(".")
+    return f"(Blue {site} {part(over(int(number), BLUE))})"
+
+
+class Bank:
+    """A configuration, and the terms of what is asked and answered under it."""
+
+    def __init__(self, line):
+        self.config = json.loads(line)
+        self.places = {name: f"(place {n})" for n, (name, _) in enumerate(self.config["accounts"])}
+
+    def settings(self):
+        names = listed(f'codes "{name}"' for name in self.places)
+        starts = listed(f"({start})" for _, start in self.config["accounts"])
+        keys = ("blue", "red", "inbox", "history", "epoch")
+        given = "; ".join(f"{key} = {self.config[key]}" for key in keys if key in self.config)
+        limits = f"record largest {{ {given} }}" if given else "largest"
+        sites, version = self.config["sites"], self.config["version"]
+        return f"record {{ sites = {sites}; names = {names}; starts = {starts}; limits = {limits}; version = {version} }}"
+
+    def place(self, name):
+        return self.places.get(name, "NOWHERE")
+
+    def request(self, asked):
+        ((kind, given),) = asked.items()
+        if kind == "cancel":
+            return f"(AskCancel {name_of(given)})"
+        if kind == "transfer":
+            return f"(AskTransfer {self.place(given[0])} {self.place(given[1])} {part(over(given[2], CENTS))})"
+        amount = over(given[1], RATE if kind == "interest" else CENTS)
+        return f"(Ask{kind.capitalize()} {self.place(given[0])} {part(amount)})"
+
+    def shadow(self, it):
+        blue, red = it["deps"]
+        while blue and blue[-1] == 0:
+            blue.pop()
+        counts = part(listed(part(over(count, BLUE)) for count in blue))
+        kind = it["kind"].capitalize()
+        if "target" in it:
+            kind = f"({kind} {name_of(it['target'])})"
+        if "to" in it:
+            kind = f"({kind} {self.place(it['to'])})"
+        deps = f"counting {counts} {part(over(red, RED))}"
+        account, amount = self.place(it["account"]), over(it["amount"], CENTS)
+        fields = f"name = {name_of(it['name'])}; home = {it['home']}; deps = {deps}; account = {account}; amount = {amount}"
+        return f"(Receive (ShadowMessage (record {{ {fields}; kind = {kind} }})))"
+
+    def event(self, asked):
+        ((kind, given),) = asked.items()
+        if kind == "shadow":
+            return self.shadow(given)
+        if kind == "token":
+            epoch, to, red = over(given[0], EPOCH), given[1], over(given[2], RED)
+            return f"(Receive (TokenOnItsWay (record {{ epoch = {epoch}; to = {to}; red = {red} }})))"
+        if kind == "batch":
+            return f"(Batch ({listed(map(self.request, given))}))"
+        if kind == "apply":
+            return f"(Apply {name_of(given)})"
+        if kind == "pass":
+            return f"(Pass {given})"
+        if kind == "asof":
+            return f"(AsOf {self.place(given[0])} {given[1]})"
+        if kind in ("balance", "statement"):
+            return f"({'Balance' if kind == 'balance' else 'AskStatement'} {self.place(given)})"
+        return f"(Submit {self.request(asked)})"
+
+    def command(self, line):
+        asked = json.loads(line)
+        site = asked.pop("site")
+        return f"(Deliver {site} {asked['deliver']})" if "deliver" in asked else f"(At {site} {self.event(asked)})"
+
+
+def row_of(position, name, kind, moved, cancelled, balance):
+    """The term of a statement's row."""
+    by = f"(pos {moved})" if moved >= 0 else f"(negsuc {-moved - 1})"
+    what = f"position = {position}; name = {name_of(name)}; kind = {kind.capitalize()}Label; moved = {by}"
+    return f"(record {{ {what}; cancelled = {str(cancelled).lower()}; balance = {over(balance, CENTS)} }})"
+
+
+def refused(why):
+    """The term of a refusal."""
+    it = REFUSALS[why["refused"]]
+    if it == "BatchRefused":
+        cause = "DeclinedCause" if why["cause"] == "declined" else f"(RefusedCause {why['cause']})"
+        return f"(Refused ({it} {why['index']} {cause}))"
+    given = [str(why[key]) for key in ("position", "seen", "needed", "why") if key in why]
+    return f"(Refused {part(' '.join([it, *given]))})"
+
+
+def reply(answer):
+    """The term of a reply."""
+    if "refused" in answer:
+        return refused(answer)
+    if "kind" in answer:
+        return f"(Made {name_of(answer['name'])} {answer['kind'].capitalize()}Label)"
+    if "rows" in answer:
+        lines = listed(row_of(*row) for row in answer["rows"])
+        return f"(StatementIs (record {{ start = {answer['start']}; rows = {lines}; balance = {answer['balance']} }}))"
+    ((kind, given),) = answer.items()
+    if kind == "names":
+        return f"(NamesMade ({listed(map(name_of, given))}))"
+    if kind == "balance":
+        return f"(BalanceIs {part(over(given, CENTS))})"
+    return f"({kind.capitalize()} {name_of(given) if isinstance(given, str) else given})"
+
+
+def wrapped(line):
+    """A line of a term in lines of this width, each broken before a list's next item or behind a semicolon."""
+    lines = [""]
+    for piece in re.split(r"(?= ∷ )|(?<=;)(?= )", line):
+        if len(lines[-1]) + len(piece) > WIDTH:
+            lines.append("       ")
+        lines[-1] += piece
+    return "\n".join(lines)
+
+
+def computed(name, run, events, replies, unfolded):
+    """That a run is answered so."""
+    lines = [f"{name} : {run}", f"    ({listed(events)})", f"    ≡ {listed(replies)}"]
+    return "\n" + "\n".join([*map(wrapped, lines), f"unfolding {unfolded}", f"{name} = refl", ""])
+
+
+def worked_runs(unfolded):
+    for name, (script, replies) in rows().items():
+        first, *commands = script.splitlines()
+        bank = Bank(first)
+        answers = [reply(json.loads(line)) for line in replies.splitlines()]
+        yield computed(name, f"replies_of_run ({bank.settings()})", map(bank.command, commands), answers, unfolded)
+
+
+def forged_runs(unfolded):
+    for name, (first, *lines) in forged().items():
+        bank = Bank(first)
+        entries = [json.loads(line) for line in lines]
+        events = [bank.event(entry["event"]) for entry in entries]
+        answers = [reply(entry["reply"]) for entry in entries]
+        run = f"replies_to_events ({bank.settings()}) (first_site 1)"
+        yield computed(name, run, events, answers, unfolded)
+
+
+def with_runs(path, runs):
+    """A file of computed runs, as it has to be: its part that is written by hand, and the runs."""
+    head = read(path).partition(MADE)[0]
+    unfolded = UNFOLDED.search(head)
+    if unfolded is None:
+        sys.exit(f"from_rows: {path} doesn't say what each run unfolds")
+    return head + MADE + "".join(runs(unfolded.group(1)))
+
+
+def table(says, name, parts):
+    """A file of Rust with a text of parts, an empty line between them."""
+    whole = "\n\n".join(parts)
+    return f'//! Made by examples/from_rows.py. {says}\n\npub const {name}: &str = r#"{whole}"#;\n'
+
+
+def made():
+    """What each file has to be, by its path."""
+    worked, sent = os.path.join(COMPUTED, "WorkedRows.antt"), os.path.join(COMPUTED, "ForgedRows.antt")
+    scripts = [f"{name}\n{script}replies:\n{replies}".rstrip("\n") for name, (script, replies) in rows().items()]
+    says = "The worked rows: each script's name, its lines, and its replies."
+    yield os.path.join(TABLES, "row_texts.rt"), table(says, "ROWS", scripts)
+    runs = ["\n".join([name, *lines]) for name, lines in forged().items()]
+    says = "Messages that no site sent: a run's name, its configuration, and what site 1 records."
+    yield os.path.join(TABLES, "forged_texts.rt"), table(says, "RUNS", runs)
+    yield worked, with_runs(worked, worked_runs)
+    yield sent, with_runs(sent, forged_runs)
 
 
 def main():
     if sys.argv[1:] not in ([], ["--check"]):
         sys.exit(__doc__)
-    if not sys.argv[1:]:
-        write()
-    wrong = list(faults())
-    for fault in wrong:
-        print(fault, file=sys.stderr)
+    wrong = False
+    for path, text in made():
+        if sys.argv[1:] and (not os.path.exists(path) or read(path) != text):
+            print(f"{os.path.relpath(path, os.path.dirname(HERE))} isn't what from_rows.py makes", file=sys.stderr)
+            wrong = True
+        elif not sys.argv[1:]:
+            with open(path, "w", encoding="utf-8") as file:
+                file.write(text)
     sys.exit(1 if wrong else 0)
 
 

@@ -32,6 +32,7 @@ import from_rows  # noqa: E402
 
 BANK = '{"accounts":[["ann",0]],"sites":2,"version":1}'
 BALANCE = '{"balance":"ann","site":0}'
+STUCK = '{"fault":"stuck","next":[1,1]}\n'
 HELP = re.compile(r'pub const (\w+)_HELP: &str =\s*r#"(.*?)"#;', re.DOTALL)
 LINE_LIMIT = 1_048_576  # bytes of a line without its line feed (docs/FORMAT.md)
 TELLERS_BANK = (
@@ -151,6 +152,9 @@ def many_accounts(count, **wanted):
 def made_here():
     for name, (given, replies) in from_rows.rows().items():
         yield Case(f"row: {name}", ["script"], given.encode(), replies)
+    for name, lines in from_rows.forged().items():
+        # No reply is wrong, and nobody sent the message that site 1 received first.
+        yield Case(f"forged: {name}", ["audit"], "\n".join(lines).encode(), STUCK, status=1)
     yield two_hundred_backwards()
     yield many_accounts(1000, out='{"balance":999}\n')
     yield many_accounts(1001, err="rbbank: line 1: bad configuration\n", status=2)

@@ -2,12 +2,13 @@
 """Refuses each allocation in turn: of the program on four scripts, a migration and a run of one teller, and of four
 tests.
 
-usage: refuse.py PROGRAM TESTS      (what `rt run` built in crates/rbbank/out, and `rt test` in crates/rb_tests/out)
+usage: refuse.py PROGRAM TESTS RUNS     (what `rt run` built in crates/rbbank/out, and `rt test` in crates/rb_tests/out
+                                         and crates/rb_tests_runs/out)
 
 A process is run with its first allocation refused, another with its second, and so on until a run meets
 no refusal. The program has to write a prefix of what is expected and end in status 4, or all of it in status 0;
-a test (crates/rb_tests/src/refused.rt, seats.rt) has to pass. Ends in status 1 where a
-run does otherwise, and where no run of an input was stopped on the way, or none inside a batch.
+a test (crates/rb_tests/src/refused.rt; crates/rb_tests_runs/src/scripts.rt, seats.rt) has to pass. Ends in status 1
+where a run does otherwise, and where no run of an input was stopped on the way, or none inside a batch.
 
 A run of one teller writes nothing before it ends in status 4. Its threads take memory in an order that differs from
 run to run. Where it was a link that was refused memory, one message is lost, and the other site goes on without it.
@@ -126,7 +127,7 @@ def test(refuser, tests, name):
     return refusals, stops
 
 
-def all_tests(refuser, tests):
+def all_tests(refuser, tests, runs):
     """The tests. The number of refusals."""
     each, stops = test(refuser, tests, "refused::refuse_each")
     for name in ROWS:
@@ -138,26 +139,26 @@ def all_tests(refuser, tests):
     print(f"  inside a batch that is made: {inside} runs stopped")
     if inside == 0:
         sys.exit("refuse: no run was stopped inside a batch")
-    text, stops = test(refuser, tests, "refused::refuse_script")
+    text, stops = test(refuser, runs, "scripts::refuse_script")
     if not stops:
         sys.exit("refuse: no script was stopped")
     # It is never stopped: it needs no memory beyond the room that it makes first.
     room, _ = test(refuser, tests, "refused::reserved")
-    calls, stops = test(refuser, tests, "seats::refuse_seats")
+    calls, stops = test(refuser, runs, "seats::refuse_seats")
     if not stops:
         sys.exit("refuse: no call of a seat was refused")
     return each + text + room + calls
 
 
 def main():
-    if len(sys.argv) != 3:
+    if len(sys.argv) != 4:
         sys.exit(__doc__)
-    program, tests = map(os.path.abspath, sys.argv[1:])
+    program, tests, runs = map(os.path.abspath, sys.argv[1:])
     with tempfile.TemporaryDirectory() as folder:
         refuser = Refuser(folder)
         refusals = sum(program_on(refuser, program, name, command) for name, command in RUNS)
         refusals += one_teller_on(refuser, program)
-        refusals += all_tests(refuser, tests)
+        refusals += all_tests(refuser, tests, runs)
     print(f"{refusals} refusals tried, and all is as it has to be")
 
 

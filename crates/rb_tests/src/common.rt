@@ -81,6 +81,17 @@ pub fn shadow_of(operation: Operation) -> Shadow {
     }
 }
 
+/// Applies an operation. Its position, where it was eligible and isn't refused.
+fn applied(ledger: &mut Ledger, shadow: Shadow) -> Option<u32> {
+    let eligible = ledger.is_eligible(&shadow);
+    let Ok(undo) = ledger.apply(shadow) else {
+        return None;
+    };
+    let position = undo.position();
+    undo.seal();
+    if eligible { Some(position) } else { None }
+}
+
 /// A ledger of two sites after these operations, each of which is eligible and has the next position.
 pub fn ledger_after(
     alloc: Global,
@@ -89,15 +100,9 @@ pub fn ledger_after(
 ) -> Result<Ledger, Fail> {
     let mut ledger = ledger_of(alloc, accounts, Limits::largest())?;
     for operation in operations {
-        let shadow = shadow_of(*operation);
-        let eligible = ledger.is_eligible(&shadow);
-        let Ok(undo) = ledger.apply(shadow) else {
-            return Err(Fail::from("refused"));
-        };
-        let position = undo.position();
-        undo.seal();
-        if !eligible || position != ledger.len() {
-            return Err(Fail::from("not eligible, or not next"));
+        let position = applied(&mut ledger, shadow_of(*operation));
+        if position != Some(ledger.len()) {
+            return Err(Fail::from("refused, or not next"));
         }
     }
     Ok(ledger)

@@ -110,7 +110,10 @@ fn answer_at_taking(inbox: &mut Inbox, name: OpName) -> Result<Shadow, Refusal>
 fn holds_until_ready(rt: HostRuntime) {
     let mut inbox = Inbox::open(rt.alloc(), 1);
     let (first, second, third) = (deposit(0, 1), deposit(0, 2), deposit(0, 3));
-    let other = Shadow { amount: 6, ..second };
+    let other = Shadow {
+        amount: 6,
+        ..second
+    };
     let answers = [
         answer_to(&mut inbox, second),
         answer_to(&mut inbox, third),

@@ -77,8 +77,7 @@ fn balances_are(rt: &impl Abort, ledger: &Ledger, wanted: &[Balances]) {
 /// The operations moved this much of ann's and bob's money, and none on an account that isn't there.
 fn moved_are(rt: &impl Abort, ledger: &Ledger, wanted: &[(i64, i64)]) {
     let places = [ANN, BOB, Place(2)];
-    for (at, (ann, bob)) in wanted.iter().enumerate() {
-        let position = at as u32 + 1;
+    for ((ann, bob), position) in wanted.iter().zip(1..4) {
         let moved = places.map(|place| ledger.moved(position, place));
         assert_eq!(rt; moved, [Some(*ann), Some(*bob), Some(0)]);
     }
@@ -93,6 +92,21 @@ fn second_cancellation_moves_nothing(rt: HostRuntime) -> Result<(), Fail> {
         balances_are(&rt, &ledger, &wanted);
         moved_are(&rt, &ledger, &moved);
         assert!(rt; there_and_back(alloc, &config, ledger.entries())?);
+    }
+    Ok(())
+}
+
+/// Ann's balance before the withdrawal, after it and after each of its two cancellations, and how often it is cancelled.
+#[test]
+fn cancellations_are_counted(rt: HostRuntime) -> Result<(), Fail> {
+    for (applied, seen) in [
+        (0, (Some(1000), None)),
+        (1, (Some(700), Some(0))),
+        (2, (Some(1000), Some(1))),
+        (3, (Some(1000), Some(2))),
+    ] {
+        let ledger = ledger_after(rt.alloc(), &ACCOUNTS, &WITHDRAWAL[..applied])?;
+        assert_eq!(rt; (ledger.balance(ANN), ledger.count(1)), seen);
     }
     Ok(())
 }
@@ -203,7 +217,10 @@ fn refuses(rt: HostRuntime) -> Result<(), Fail> {
             assert!(rt; is_refused(&mut ledger, *operation, *refusal));
         }
         let found = (ledger.balance(ANN), ledger.balance(BOB));
-        assert_eq!(rt; (ledger.len() as usize, found), (operations.len(), balances));
+        assert_eq!(rt;
+            (ledger.len() as usize, found),
+            (operations.len(), balances)
+        );
     }
     Ok(())
 }

@@ -4,14 +4,13 @@ ghost use Rattle.std.specs.Prelude.{◌≡◌, [], All, IfOk};
 ghost use Rattle.rb_ledger.specs.Records.{records_of};
 ghost use Rattle.rb_site.specs.Worlds.{IsCommand};
 
-use crate::rows::{Row, row_named};
+use crate::row_texts::ROWS;
+use crate::rows::{Row, row_named, row_of};
 use crate::worlds::{
     apply_next, commands, config_of, opened, reports_of, same_answers, text_of, undo_last,
 };
 use rb_ledger::Ledger;
-use rb_lines::{FromBytes, ScriptFault, ToBytes};
 use rb_money::{Config, Place};
-use rb_run_script::run_script;
 use rb_shadow::Shadow;
 use rb_site::{Message, Reply, Site, WorldEvent};
 use rb_undo::UndoLog;
@@ -145,26 +144,13 @@ fn refuse_each(rt: HostRuntime) -> Result<(), Fail> {
     Ok(())
 }
 
+/// Each row, through a whole run.
 #[test]
-fn refuse_script(rt: HostRuntime) -> Result<(), Fail> {
-    let row = row_named("deposit_reaches_the_other_site")?;
-    let mut reader = FromBytes::new(row.script.as_bytes());
-    let mut writer = ToBytes::new(rt.alloc());
-    // Spare capacity for the text, so that no write takes memory.
-    twice!(writer.taken.reserve(row.replies.len().saturating_add(1)));
-    let result = run_script(rt.alloc(), &mut reader, &mut writer);
-    let count = row.replies.lines().count() as u64;
-    let written = writer.taken.as_slice();
-    let written = written.strip_suffix(b"\n".as_slice()).unwrap_or(written);
-    let wrote = written.len();
-    match result {
-        Ok(answered) => assert_eq!(rt; (answered, wrote), (count, row.replies.len())),
-        Err(fault) => {
-            assert_eq!(rt; fault, ScriptFault::OutOfMemory);
-            println!(rt; "{} stopped where it wrote {wrote} bytes", row.name)?;
-        }
+fn runs_of_rows(rt: HostRuntime) -> Result<(), Fail> {
+    for lines in ROWS.split("\n\n") {
+        let row = row_of(lines).ok_or("no row")?;
+        assert_eq!(rt; stopped_at(&rt, &row)?, None, "{}", row.name);
     }
-    assert!(rt; row.replies.as_bytes().starts_with(written));
     Ok(())
 }
 

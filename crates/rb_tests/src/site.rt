@@ -17,6 +17,8 @@ const ENTRIES: &str =
 {"event":{"batch":[]},"reply":{"names":["B0.1","R1"]},"site":0}
 {"event":{"batch":[{"deposit":["ann",5]},{"cancel":"R1"}]},"reply":{"names":["B0.1","R1"]},"site":0}
 {"event":{"batch":[{"deposit":["ann",5]},{"cancel":"R1"}]},"reply":{"names":[]},"site":0}
+{"event":{"batch":[{"deposit":["ann",5]},{"cancel":"R1"}]},"reply":{"taken":1},"site":0}
+{"event":{"statement":"ann"},"reply":{"taken":1},"site":0}
 {"event":{"batch":[]},"reply":{"taken":1},"site":0}
 {"event":{"statement":"ann"},"reply":{"taken":1},"site":0}
 {"event":{"asof":["ann",3]},"reply":{"taken":1},"site":0}
@@ -57,12 +59,15 @@ fn entries_are_compared_by_what_they_hold(rt: HostRuntime) -> Result<(), Fail> {
 }
 
 /// Commands, each of which differs from the others.
-const COMMANDS: [&str; 5] = [
+const COMMANDS: [&str; 8] = [
     r#"{"balance":"ann","site":0}"#,
     r#"{"balance":"ann","site":1}"#,
     r#"{"balance":"bob","site":0}"#,
     r#"{"deliver":1,"site":0}"#,
     r#"{"deliver":2,"site":0}"#,
+    r#"{"deliver":1,"site":1}"#,
+    r#"{"batch":[{"deposit":["ann",5]},{"cancel":"R1"}],"site":0}"#,
+    r#"{"batch":[{"deposit":["ann",5]},{"cancel":"R1"}],"site":1}"#,
 ];
 
 #[test]
@@ -85,6 +90,20 @@ const RECEIVED: &str = r#"{"event":{"balance":"ann"},"reply":{"balance":0},"site
 {"event":{"apply":"B0.1"},"reply":{"applied":"B0.1"},"site":1}
 {"event":{"balance":"ann"},"reply":{"balance":500},"site":1}"#;
 
+/// The history of site 0, which makes a deposit.
+const MADE: &str =
+    r#"{"event":{"deposit":["ann",5]},"reply":{"kind":"deposit","name":"B0.1"},"site":0}
+{"event":{"balance":"ann"},"reply":{"balance":5},"site":0}"#;
+
+/// A site's history, whether it holds the token then, how many entries, operations, records and held operations it has,
+/// and the balances.
+type Replayed = (u8, &'static str, bool, [usize; 4], [u64; 2]);
+
+const REPLAYED: [Replayed; 2] = [
+    (0, MADE, true, [2, 1, 1, 0], [5, 0]),
+    (1, RECEIVED, false, [4, 1, 1, 0], [500, 0]),
+];
+
 /// The entries of these lines.
 fn entries_of(alloc: Global, config: &Config, lines: &str) -> Result<Vec<Entry>, Fail> {
     let mut entries = Vec::new(alloc);
@@ -95,33 +114,41 @@ fn entries_of(alloc: Global, config: &Config, lines: &str) -> Result<Vec<Entry>,
     Ok(entries)
 }
 
-/// Site 1 is replayed from the events of its history, gives that history, and is closed.
+/// A site that is replayed from the events of a history.
+fn replayed(alloc: Global, config: &Config, me: u8, history: &[Entry]) -> Result<Site, Fail> {
+    if me >= config.sites() {
+        return Err(Fail::from("no such site"));
+    }
+    let mut events = Vec::new(alloc);
+    for entry in history {
+        events.push(entry.event.try_copy(alloc)?)?;
+    }
+    Ok(Site::replay(alloc, config, me, events.as_slice())?)
+}
+
+/// A site is replayed from the events of its history, gives that history, and is closed.
 #[test]
 fn a_site_is_replayed_and_closed(rt: HostRuntime) -> Result<(), Fail> {
     let alloc = rt.alloc();
-    let config = config_of(alloc, 2, &[("ann", 0), ("bob", 0)], Limits::largest())?;
-    let wanted = entries_of(alloc, &config, RECEIVED)?;
-    let mut events = Vec::new(alloc);
-    for entry in &wanted {
-        events.push(entry.event.try_copy(alloc)?)?;
+    let config = bank(alloc)?;
+    for (me, lines, held, lengths, balances) in REPLAYED {
+        let wanted = entries_of(alloc, &config, lines)?;
+        let site = replayed(alloc, &config, me, wanted.as_slice())?;
+        let mut same = true;
+        for (entry, it) in site.history().iter().zip(&wanted) {
+            same = same && entry.same(it);
+        }
+        let found = [
+            site.history().len(),
+            site.ledger().len() as usize,
+            site.log().len(),
+            site.inbox().len(),
+        ];
+        let holds = site.token().view().held;
+        let report = site.close();
+        assert_eq!(rt; (same, holds, found), (true, held, lengths));
+        assert_eq!(rt; report.balances.as_slice(), balances.as_slice());
+        assert_eq!(rt; report.history.len(), wanted.len());
     }
-    let sites = config.sites();
-    prove!(1 < sites);
-    let site = Site::replay(alloc, &config, 1, events.as_slice())?;
-    let mut same = true;
-    for (entry, it) in site.history().iter().zip(&wanted) {
-        same = same && entry.same(it);
-    }
-    let lengths = [
-        site.history().len(),
-        site.ledger().len() as usize,
-        site.log().len(),
-        site.inbox().len(),
-    ];
-    let held = site.token().view().held;
-    let report = site.close();
-    assert_eq!(rt; (same, held, lengths), (true, false, [4, 1, 1, 0]));
-    assert_eq!(rt; report.balances.as_slice(), [500, 0].as_slice());
-    assert_eq!(rt; report.history.len(), 4);
     Ok(())
 }

@@ -42,7 +42,11 @@ fn the_token_goes_and_comes_back(rt: HostRuntime) -> Result<(), Fail> {
     let red = (first.may_red(&none), second.may_red(&none));
     assert_eq!(rt; red, (Ok(()), Err(Refusal::NeedToken)));
     assert_eq!(rt; first.pass(1, &one), Ok(FIRST));
-    let accepted = [second.accept(LATE), second.accept(FIRST), second.accept(FIRST)];
+    let accepted = [
+        second.accept(LATE),
+        second.accept(FIRST),
+        second.accept(FIRST),
+    ];
     let over = Err(Refusal::BadMessage { why: 2 });
     assert_eq!(rt; accepted, [over, Ok(Accepted::Taken), Ok(Accepted::Stale)]);
     assert_eq!(rt; second.epoch(), 1);

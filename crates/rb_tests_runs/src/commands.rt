@@ -53,7 +53,8 @@ fn commands(rt: HostRuntime) -> Result<(), Fail> {
 
 /// Configurations, each with the line that is written for it.
 const CONFIGURATIONS: &str =
-    r#"{"accounts":[["ann",0],["bob",70]],"sites":2,"version":1} is {"accounts":[["ann",0],["bob",70]],"blue":1000000,"epoch":4000000000,"history":100000000,"inbox":4096,"red":1000000,"sites":2,"version":1}
+    r#"{"accounts":[["ann",0]],"sites":2,"version":1} is {"accounts":[["ann",0]],"blue":1000000,"epoch":4000000000,"history":100000000,"inbox":4096,"red":1000000,"sites":2,"version":1}
+{"accounts":[["ann",0],["bob",70]],"sites":2,"version":1} is {"accounts":[["ann",0],["bob",70]],"blue":1000000,"epoch":4000000000,"history":100000000,"inbox":4096,"red":1000000,"sites":2,"version":1}
 {"accounts":[["ann",0],["bob.1",100000000000]],"blue":1,"epoch":2,"history":3,"inbox":4,"red":5,"sites":8,"version":1} is {"accounts":[["ann",0],["bob.1",100000000000]],"blue":1,"epoch":2,"history":3,"inbox":4,"red":5,"sites":8,"version":1}
 {"accounts":[["ann",0]],"blue":1,"epoch":5,"history":4,"inbox":3,"red":2,"sites":8,"version":1} is {"accounts":[["ann",0]],"blue":1,"epoch":5,"history":4,"inbox":3,"red":2,"sites":8,"version":1}
 {"accounts":[["ann",0]],"sites":2,"version":2} is {"accounts":[["ann",0]],"blue":1000000,"epoch":4000000000,"history":100000000,"inbox":4096,"red":1000000,"sites":2,"version":2}
@@ -82,6 +83,13 @@ fn nothing_is_a_bad_line(rt: HostRuntime) -> Result<(), Fail> {
         read_command(alloc, &config, "").err(),
         read_line(alloc, &config, "").err(),
     ];
-    assert_eq!(rt; faults, [Some(LineFault::Bad), Some(LineFault::Bad), Some(LineFault::Bad)]);
+    assert_eq!(rt;
+        faults,
+        [
+            Some(LineFault::Bad),
+            Some(LineFault::Bad),
+            Some(LineFault::Bad)
+        ]
+    );
     Ok(())
 }

@@ -5,7 +5,6 @@
 //! refuse` runs it with each refused in turn.
 
 use crate::branch::{Case, gathered};
-use crate::rows::{Row, row_named, row_of};
 use rb_branch::{
     Branch, CallFault, Entries, Gate, GatherFault, Inlet, NoGate, Outbox, Seat, links,
 };
@@ -13,6 +12,7 @@ use rb_commands::{LineFault, read_command, read_config, write_reply};
 use rb_money::Config;
 use rb_scratch::Request;
 use rb_site::{Event, Message, Reply, SiteReport, WorldEvent};
+use rb_tests::rows::{Row, row_named};
 use std::alloc::Global;
 use std::process::Abort;
 use std::sync::Wait;
@@ -110,17 +110,33 @@ fn take_in<W: Wait>(
     Ok(())
 }
 
-/// The site and the event of a command. `None` where a message is to be delivered that a link refused.
-fn asked(command: WorldEvent, sent: &[Option<Message>]) -> Result<Option<(u8, Event)>, Fail> {
-    match command {
-        WorldEvent::At(site, event) => Ok(Some((site, event))),
-        WorldEvent::Deliver(site, number) => {
-            let place = (number as usize).checked_sub(1).ok_or("message 0")?;
-            let message = sent.get(place).ok_or("no such message")?;
-            Ok(message.map(|message| (site, Event::Receive(message))))
-        }
+/// What a command is at a seat.
+#[derive(Drop)]
+enum Asked {
+    At(u8, Event),
+    /// A message is to be delivered that a link refused.
+    Lost,
+    /// A message is to be delivered that no seat sent.
+    Unsent,
+}
+
+fn asked(command: WorldEvent, sent: &[Option<Message>]) -> Asked {
+    let (site, number) = match command {
+        WorldEvent::At(site, event) => return Asked::At(site, event),
+        WorldEvent::Deliver(site, number) => (site, number as usize),
+    };
+    if number == 0 {
+        return Asked::Unsent;
+    }
+    match sent.get(number - 1) {
+        Some(Some(message)) => Asked::At(site, Event::Receive(*message)),
+        Some(None) => Asked::Lost,
+        None => Asked::Unsent,
     }
 }
+
+/// What a world answers where no such message was sent.
+const NO_MESSAGE: &str = r#"{"refused":19}"#;
 
 impl<E: Entries, R: Ledger> Desks<E, R> {
     /// A seat at each of two sites.
@@ -153,9 +169,16 @@ impl<E: Entries, R: Ledger> Desks<E, R> {
         command: WorldEvent,
         wanted: &str,
     ) -> Result<bool, Fail> {
-        let Some((site, event)) = asked(command, self.sent.as_slice())? else {
-            assert!(rt; self.may_lose, "a message never came");
-            return Ok(false);
+        let (site, event) = match asked(command, self.sent.as_slice()) {
+            Asked::At(site, event) => (site, event),
+            Asked::Lost => {
+                assert!(rt; self.may_lose, "a message never came");
+                return Ok(false);
+            }
+            Asked::Unsent => {
+                assert_eq!(rt; wanted, NO_MESSAGE);
+                return Ok(false);
+            }
         };
         let seat = self.seats.get_mut(site as usize).ok_or("no such site")?;
         let (number, again) = called_again(rt, alloc, branch, seat, &self.outbox, event)?;
@@ -171,27 +194,6 @@ impl<E: Entries, R: Ledger> Desks<E, R> {
         Ok(again)
     }
 }
-
-/// The worked row batch_all_or_nothing, less the delivery of a message that was never sent.
-const BATCH: &str = r#"batch_through_seats
-{"accounts":[["ann",0]],"sites":2,"version":1}
-{"batch":[{"deposit":["ann",50]},{"withdraw":["ann",80]}],"site":0}
-{"balance":"ann","site":0}
-{"deposit":["ann",7],"site":0}
-{"deliver":1,"site":1}
-{"batch":[{"deposit":["ann",50]},{"withdraw":["ann",57]}],"site":0}
-{"balance":"ann","site":0}
-{"batch":[],"site":0}
-{"batch":[{"deposit":["ann",1]},{"deposit":["ann",1]},{"deposit":["ann",1]},{"deposit":["ann",1]},{"deposit":["ann",1]},{"deposit":["ann",1]},{"deposit":["ann",1]},{"deposit":["ann",1]},{"deposit":["ann",1]},{"deposit":["ann",1]},{"deposit":["ann",1]},{"deposit":["ann",1]},{"deposit":["ann",1]},{"deposit":["ann",1]},{"deposit":["ann",1]},{"deposit":["ann",1]},{"deposit":["ann",1]}],"site":0}
-replies:
-{"cause":"declined","index":1,"refused":13}
-{"balance":0}
-{"kind":"deposit","name":"B0.1"}
-{"held":"B0.1"}
-{"names":["B0.2","R1"]}
-{"balance":0}
-{"refused":12}
-{"refused":12}"#;
 
 /// A row's commands, one after another, by a seat at each site.
 #[derive(Drop)]
@@ -266,7 +268,7 @@ fn seat_calls(rt: HostRuntime) -> Result<(), Fail> {
 
 #[test]
 fn refuse_seats(rt: HostRuntime) -> Result<(), Fail> {
-    let row = row_of(BATCH).ok_or("no row")?;
+    let row = row_named("batch_all_or_nothing")?;
     match row_through(&rt, rt.alloc(), &row, true)? {
         Ok(reports) => assert_eq!(rt; reports.len(), 2),
         Err(fault) => assert_eq!(rt; fault, GatherFault::OutOfMemory),

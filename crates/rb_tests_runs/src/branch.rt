@@ -103,6 +103,47 @@ pub fn deposit(amount: u64) -> Request {
     }
 }
 
+/// A deposit of so many cents at a seat's site. Its receipt's number.
+pub fn deposited<E: Entries, R: Ledger, G: Gate + Drop, W: Wait>(
+    rt: &W,
+    branch: &Branch<E, R, G>,
+    seat: &mut Seat<E, R>,
+    outbox: &Outbox,
+    cents: u64,
+) -> Result<u32, CallFault> {
+    branch.submit(rt, seat, outbox, deposit(cents))
+}
+
+/// A question at a seat's site for the first account's balance. Its receipt's number.
+pub fn asked<E: Entries, R: Ledger, G: Gate + Drop, W: Wait>(
+    rt: &W,
+    branch: &Branch<E, R, G>,
+    seat: &mut Seat<E, R>,
+) -> Result<u32, CallFault> {
+    branch.balance(rt, seat, Place(0))
+}
+
+/// The first account's balance is the one that is wanted, as a seat's site answers. The number of the receipt that says
+/// so.
+pub fn balance_is<E: Entries, R: Ledger, G: Gate + Drop, W: Wait + Abort>(
+    rt: &W,
+    branch: &Branch<E, R, G>,
+    seat: &mut Seat<E, R>,
+    cents: u64,
+) -> Result<u32, Fail> {
+    let number = asked(rt, branch, seat)?;
+    let receipt = seat.receipt(number).ok_or("no receipt")?;
+    assert!(rt; receipt.reply.same(&Reply::Balance(cents)));
+    Ok(number)
+}
+
+/// Links of two sites, of which site 1's is read.
+pub fn to_the_second(alloc: Global) -> Result<(Outbox, Inlet), Fail> {
+    let (outbox, mut inlets) = links(alloc, 2)?;
+    let inlet = inlets.pop().ok_or("no inlet")?;
+    Ok((outbox, inlet))
+}
+
 /// How often a gate looks at a flag before it gives up, with a millisecond between two looks.
 pub const TURNS: u32 = 10_000;
 
@@ -138,17 +179,14 @@ fn read_back<E: Entries, R: Ledger, G: Gate + Drop, W: Wait + Abort>(
     branch: &Branch<E, R, G>,
     seat: &mut Seat<E, R>,
     outbox: &Outbox,
-) -> Result<(), CallFault> {
-    let first = branch.submit(rt, seat, outbox, deposit(5))?;
-    let second = branch.balance(rt, seat, Place(0))?;
+) -> Result<(), Fail> {
+    let first = deposited(rt, branch, seat, outbox, 5)?;
+    let second = balance_is(rt, branch, seat, 5)?;
     assert_eq!(rt; (first, second), (1, 2));
-    for (receipt, number) in seat.receipts().iter().zip(1..3) {
+    for (number, wanted) in [(0, None), (1, Some(1)), (2, Some(2)), (3, None)] {
         let found = seat.receipt(number).map(|receipt| receipt.number);
-        assert_eq!(rt; (receipt.number, found), (number, Some(number)));
+        assert_eq!(rt; found, wanted);
     }
-    let last = seat.receipts().last();
-    assert!(rt; last.is_some_and(|receipt| receipt.reply.same(&Reply::Balance(5))));
-    assert!(rt; seat.receipt(0).is_none() && seat.receipt(3).is_none());
     Ok(())
 }
 
@@ -162,23 +200,17 @@ impl Case for OneServed {
         alloc: Global,
         branch: &Branch<E, R, G>,
     ) -> Result<Vec<Seat<E, R>>, Fail> {
-        let (outbox, mut inlets) = links(alloc, 2)?;
+        let (outbox, inlet) = to_the_second(alloc)?;
         let copy = outbox.try_copy(alloc)?;
         let mut teller = branch.seat(rt, 0)?;
         let mut server = branch.seat(rt, 1)?;
         read_back(rt, branch, &mut teller, &copy)?;
         drop(outbox);
         drop(copy);
-        let inlet = inlets.pop().ok_or("no inlet")?;
         assert_eq!(rt; served_by(rt, branch, &mut server, inlet).ok(), Some(2));
-        let number = branch.balance(rt, &mut server, Place(0))?;
-        let receipt = server.receipt(number).ok_or("no receipt")?;
-        assert!(rt; receipt.reply.same(&Reply::Balance(5)));
+        let _number = balance_is(rt, branch, &mut server, 5)?;
         assert_eq!(rt; teller.receipt(1).map(|receipt| receipt.unsent), Some(0));
-        let mut seats = Vec::with_capacity(alloc, 2)?;
-        seats.push_reserved(teller);
-        seats.push_reserved(server);
-        Ok(seats)
+        Ok(vec![in alloc; teller, server]?)
     }
 }
 
@@ -228,13 +260,11 @@ impl Case for Full {
         let mut seat = branch.seat(rt, 0)?;
         assert_eq!(rt; branch.apply_ready(rt, &mut seat).ok(), Some(None));
         assert_eq!(rt; seat.receipts().len(), 0);
-        assert_eq!(rt; branch.balance(rt, &mut seat, Place(0)).ok(), Some(1));
-        let again = branch.balance(rt, &mut seat, Place(0));
+        assert_eq!(rt; asked(rt, branch, &mut seat).ok(), Some(1));
+        let again = asked(rt, branch, &mut seat);
         assert_eq!(rt; again.err(), Some(CallFault::HistoryFull));
         assert_eq!(rt; seat.receipts().len(), 1);
-        let mut seats = Vec::with_capacity(alloc, 1)?;
-        seats.push_reserved(seat);
-        Ok(seats)
+        Ok(vec![in alloc; seat]?)
     }
 }
 
@@ -252,15 +282,13 @@ impl Case for OneMissing {
         drop(inlets);
         let mut first = branch.seat(rt, 0)?;
         let mut second = branch.seat(rt, 0)?;
-        let number = branch.submit(rt, &mut first, &outbox, deposit(1))?;
+        let number = deposited(rt, branch, &mut first, &outbox, 1)?;
         assert_eq!(rt;
             first.receipt(number).map(|receipt| receipt.unsent),
             Some(1)
         );
-        let _number = branch.submit(rt, &mut second, &outbox, deposit(1))?;
-        let mut seats = Vec::with_capacity(alloc, 1)?;
-        seats.push_reserved(first);
-        Ok(seats)
+        let _number = deposited(rt, branch, &mut second, &outbox, 1)?;
+        Ok(vec![in alloc; first]?)
     }
 }
 

@@ -8,6 +8,7 @@ use rb_lines::{
 use rb_run_audit::run_audit;
 use rb_run_migrate::run_migrate;
 use rb_run_script::run_script;
+use rb_tests::rows::row_named;
 use std::alloc::{AllocError, Global};
 use std::cell::RefCell;
 use std::process::Abort;
@@ -315,6 +316,35 @@ fn many_lines_take_few_writes(rt: HostRuntime) -> Result<(), Fail> {
     let writes = steps.len().saturating_sub(reads);
     let few = writes <= reads.saturating_add(2);
     assert_eq!(rt; (result, few), (Ok(10_000), true));
+    Ok(())
+}
+
+/// A worked row as a run. It passes whether or not an allocation is refused, and at most one of its process is: `make
+/// refuse` runs it with each refused in turn.
+#[test]
+fn refuse_script(rt: HostRuntime) -> Result<(), Fail> {
+    let row = row_named("deposit_reaches_the_other_site")?;
+    let mut reader = FromBytes::new(row.script.as_bytes());
+    let mut writer = ToBytes::new(rt.alloc());
+    // Spare capacity for the text, so that no write takes memory. Where it is refused, it is had at once when it is asked
+    // for again.
+    let capacity = row.replies.len().saturating_add(1);
+    if writer.taken.reserve(capacity).is_err() {
+        writer.taken.reserve(capacity)?;
+    }
+    let result = run_script(rt.alloc(), &mut reader, &mut writer);
+    let count = row.replies.lines().count() as u64;
+    let written = writer.taken.as_slice();
+    let written = written.strip_suffix(b"\n".as_slice()).unwrap_or(written);
+    let wrote = written.len();
+    match result {
+        Ok(answered) => assert_eq!(rt; (answered, wrote), (count, row.replies.len())),
+        Err(fault) => {
+            assert_eq!(rt; fault, ScriptFault::OutOfMemory);
+            println!(rt; "{} stopped where it wrote {wrote} bytes", row.name)?;
+        }
+    }
+    assert!(rt; row.replies.as_bytes().starts_with(written));
     Ok(())
 }
 

@@ -1,4 +1,4 @@
-use Rattle.rb_tests.proofs.branch.gathered.Given as goal
+use Rattle.rb_tests_runs.proofs.branch.gathered.Given as goal
 
 abbrev pub ghosts-gathered_over-E-Ledger : goal.ghosts-gathered_over-E-Ledger
 ghosts-gathered_over-E-Ledger g a = record { name = a.entries.name; parts = a.entries.parts }

@@ -1,4 +1,4 @@
-use Rattle.rb_tests.proofs.gates.threaded.Given as goal
+use Rattle.rb_tests_runs.proofs.gates.threaded.Given as goal
 
 abbrev pub ghosts-threaded_over-E-Ledger : goal.ghosts-threaded_over-E-Ledger
 ghosts-threaded_over-E-Ledger g a = record { name = a.entries.name; parts = a.entries.parts }

@@ -1,13 +1,13 @@
 //! Certificates that are checked. What audits find is in tests/cases, audits.cases.
-ghost use Rattle.std.specs.Prelude.{◌≡◌, IfOk, length};
-
-use crate::common::config_of;
 use rb_auditor::{Certificate, check};
+use rb_commands::read_config;
 use rb_history::read_line;
-use rb_money::{Config, Limits};
+use rb_money::Config;
 use rb_site::Entry;
 use std::alloc::Global;
 use std::test::Fail;
+
+const TWO_SITES: &str = r#"{"accounts":[["ann",0]],"sites":2,"version":1}"#;
 
 /// What site 0 records of one deposit.
 const AT_HOME: &str =
@@ -43,7 +43,10 @@ fn recorded(alloc: Global, config: &Config, lines: &str) -> Result<Vec<Entry>, F
 #[test]
 fn orders_are_checked(rt: HostRuntime) -> Result<(), Fail> {
     let alloc = rt.alloc();
-    let config = config_of(alloc, 2, &[("ann", 0)], Limits::largest())?;
+    let config = read_config(alloc, TWO_SITES)?;
+    if config.sites() != 2 {
+        return Err(Fail::from("not two sites"));
+    }
     let histories = [
         recorded(alloc, &config, AT_HOME)?,
         recorded(alloc, &config, AWAY)?,

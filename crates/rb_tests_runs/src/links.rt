@@ -1,11 +1,13 @@
 //! What goes by the links between sites, and what is served of it.
 
-use crate::branch::{Case, deposit, gathered, served_by, some_sites};
+use crate::branch::{
+    Case, balance_is, deposit, deposited, gathered, served_by, some_sites, to_the_second,
+};
 use rb_branch::{Branch, Entries, Gate, Inlet, NoGate, Outbox, Seat, links};
 use rb_kit::List;
-use rb_money::{Limits, Place};
+use rb_money::Limits;
 use rb_shadow::write_name;
-use rb_site::{Message, Reply};
+use rb_site::Message;
 use std::alloc::{AllocError, Global};
 use std::process::Abort;
 use std::sync::Wait;
@@ -83,7 +85,7 @@ fn three_calls<E: Entries, R: Ledger, G: Gate + Drop, W: Wait>(
     outbox: &Outbox,
 ) -> Result<(), Fail> {
     let two = vec![in alloc; deposit(2), deposit(3)]?;
-    let _first = branch.submit(rt, seat, outbox, deposit(1))?;
+    let _first = deposited(rt, branch, seat, outbox, 1)?;
     let _second = branch.pass(rt, seat, outbox, 2)?;
     let _third = branch.batch(rt, seat, outbox, List::new(two))?;
     Ok(())
@@ -132,20 +134,17 @@ impl Case for Turned {
         alloc: Global,
         branch: &Branch<E, R, G>,
     ) -> Result<Vec<Seat<E, R>>, Fail> {
-        let (outbox, mut inlets) = links(alloc, 2)?;
+        let (outbox, inlet) = to_the_second(alloc)?;
         let mut teller = branch.seat(rt, 0)?;
         let mut server = branch.seat(rt, 1)?;
-        let _first = branch.submit(rt, &mut teller, &outbox, deposit(1))?;
-        let _second = branch.submit(rt, &mut teller, &outbox, deposit(2))?;
-        let inlet = inlets.pop().ok_or("no inlet")?;
+        let _first = deposited(rt, branch, &mut teller, &outbox, 1)?;
+        let _second = deposited(rt, branch, &mut teller, &outbox, 2)?;
         let first = inlet.next(rt).ok_or("nothing came")?;
         let second = inlet.next(rt).ok_or("one came")?;
         assert_eq!(rt; outbox.post(rt, 0, 2, [second, first].as_slice()), 0);
         drop(outbox);
         assert_eq!(rt; served_by(rt, branch, &mut server, inlet).ok(), Some(4));
-        let number = branch.balance(rt, &mut server, Place(0))?;
-        let receipt = server.receipt(number).ok_or("no receipt")?;
-        assert!(rt; receipt.reply.same(&Reply::Balance(3)));
+        let _number = balance_is(rt, branch, &mut server, 3)?;
         Ok(vec![in alloc; teller, server]?)
     }
 }

@@ -1,10 +1,10 @@
 //! Audits over bytes in memory. What audits answer is in tests/cases.
 
-use crate::scripts::{CONFIGURATION, Case, FAILING, Program, TEN, each_fails};
+use crate::scripts::{CONFIGURATION, Case, Ends, FAILING, Program, TEN, WHOLE, each_fails};
 use rb_lines::ScriptFault;
 
 /// Reads and writes that fail.
-const FAILED: [Case; 2] = [
+const FAILED: [Case; 3] = [
     (
         Program::Audit,
         CONFIGURATION,
@@ -18,6 +18,13 @@ const FAILED: [Case; 2] = [
         TEN,
         ScriptFault::Write,
         "{\"order\":[",
+    ),
+    (
+        Program::Audit,
+        CONFIGURATION,
+        Ends { left: 5, ..WHOLE },
+        ScriptFault::Write,
+        "{\"ord",
     ),
 ];
 

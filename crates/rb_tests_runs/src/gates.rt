@@ -2,11 +2,11 @@
 ghost use Rattle.std.specs.Prelude.{◌≡◌};
 ghost use Rattle.rb_branch.specs.declared.limits.TheConstants.{RECEIPT_PARTS};
 
-use crate::branch::{comes, comes_within, deposit, gathered_with, some_sites};
-use rb_branch::{
-    Branch, CallFault, Entries, Gate, GatherFault, Outbox, RECEIPT_PARTS, Seat, links,
+use crate::branch::{
+    asked, comes, comes_within, deposited, gathered_with, some_sites, to_the_second,
 };
-use rb_money::{Config, Limits, Place};
+use rb_branch::{Branch, CallFault, Entries, Gate, GatherFault, Outbox, RECEIPT_PARTS, Seat};
+use rb_money::{Config, Limits};
 use rb_site::SiteReport;
 use std::alloc::Global;
 use std::marker::Brand;
@@ -110,41 +110,32 @@ impl<C: Clock> Gate for Holding<'_, C> {
     }
 }
 
-/// A question at a seat's site.
-fn asked<E: Entries, R: Ledger, G: Gate + Drop, W: Wait>(
-    rt: &W,
-    branch: &Branch<E, R, G>,
-    mut seat: Seat<E, R>,
-) -> Result<Seat<E, R>, CallFault> {
-    let _number = branch.balance(rt, &mut seat, Place(0))?;
-    Ok(seat)
-}
-
 /// How many deposits each of the two seats at site 0 makes.
 const DEPOSITS: u64 = 100;
 
-/// A seat's deposits of one cent each.
-fn deposited<E: Entries, R: Ledger, G: Gate + Drop, W: Wait>(
+/// Many deposits of one cent each, at a seat's site.
+fn many_deposits<E: Entries, R: Ledger, G: Gate + Drop, W: Wait>(
     rt: &W,
     branch: &Branch<E, R, G>,
-    mut seat: Seat<E, R>,
+    seat: &mut Seat<E, R>,
     outbox: &Outbox,
-) -> Result<Seat<E, R>, CallFault> {
+) -> Result<(), CallFault> {
     for _i in 0..DEPOSITS {
-        let _number = branch.submit(rt, &mut seat, outbox, deposit(1))?;
+        let _number = deposited(rt, branch, seat, outbox, 1)?;
     }
-    Ok(seat)
+    Ok(())
 }
 
 /// A question at a seat's site, and then deposits.
 fn asked_and_deposited<E: Entries, R: Ledger, G: Gate + Drop, W: Wait>(
     rt: &W,
     branch: &Branch<E, R, G>,
-    seat: Seat<E, R>,
+    mut seat: Seat<E, R>,
     outbox: &Outbox,
 ) -> Result<Seat<E, R>, CallFault> {
-    let seat = asked(rt, branch, seat)?;
-    deposited(rt, branch, seat, outbox)
+    let _number = asked(rt, branch, &mut seat)?;
+    many_deposits(rt, branch, &mut seat, outbox)?;
+    Ok(seat)
 }
 
 /// Once a call is held at site 0: a question and an application at site 1, where nothing is ready, and then one more
@@ -152,19 +143,20 @@ fn asked_and_deposited<E: Entries, R: Ledger, G: Gate + Drop, W: Wait>(
 fn asked_meanwhile<E: Entries, R: Ledger, G: Gate + Drop, W: Wait + Clock>(
     rt: &W,
     branch: &Branch<E, R, G>,
-    other: Seat<E, R>,
-    second: Seat<E, R>,
+    mut other: Seat<E, R>,
+    mut second: Seat<E, R>,
     outbox: &Outbox,
     signs: &Signs,
 ) -> Result<(Seat<E, R>, Seat<E, R>), CallFault> {
     signs.wants(rt, &signs.held);
-    let mut other = asked(rt, branch, other)?;
+    let _number = asked(rt, branch, &mut other)?;
     let _none = branch.apply_ready(rt, &mut other)?;
     signs.beside.store(true, Ordering::SeqCst);
-    let second = asked(rt, branch, second);
+    let number = asked(rt, branch, &mut second);
     signs.passes();
     signs.behind.store(true, Ordering::SeqCst);
-    let second = deposited(rt, branch, second?, outbox)?;
+    let _number = number?;
+    many_deposits(rt, branch, &mut second, outbox)?;
     Ok((other, second))
 }
 
@@ -176,7 +168,7 @@ fn in_two_threads<
     G: Gate + Drop + Sync,
     W: Threads + Wait + Clock + Sync,
 >(rt: &W, alloc: Global, branch: &Branch<E, R, G>, signs: &Signs) -> Result<Vec<Seat<E, R>>, Fail> {
-    let (outbox, _inlets) = links(alloc, 2)?;
+    let (outbox, _inlet) = to_the_second(alloc)?;
     let first = branch.seat(rt, 0)?;
     let second = branch.seat(rt, 0)?;
     let other = branch.seat(rt, 1)?;
@@ -186,11 +178,7 @@ fn in_two_threads<
         || asked_meanwhile(rt, branch, other, second, &outbox, signs),
     );
     let (other, second) = others?;
-    let mut seats = Vec::with_capacity(alloc, 3)?;
-    seats.push_reserved(first?);
-    seats.push_reserved(second);
-    seats.push_reserved(other);
-    Ok(seats)
+    Ok(vec![in alloc; first?, second, other]?)
 }
 
 fn threaded_over<
@@ -252,7 +240,10 @@ fn gate(rt: HostRuntime) -> Result<(), Fail> {
     assert!(rt; !signs.late.load(Ordering::SeqCst), "late");
     assert!(rt; !signs.early.load(Ordering::SeqCst), "early");
     for counts in [&signs.entered, &signs.left] {
-        let counted = [counts[0].load(Ordering::SeqCst), counts[1].load(Ordering::SeqCst)];
+        let counted = [
+            counts[0].load(Ordering::SeqCst),
+            counts[1].load(Ordering::SeqCst),
+        ];
         assert_eq!(rt; counted, [2 * DEPOSITS + 2, 2]);
     }
     Ok(())

@@ -1,0 +1,30 @@
+//! Tests of the crates of text, of threads and of runs, a file for what is tested. Cases that a run of the program shows
+//! are in tests/cases.
+#![tactic(auto)]
+
+#[cfg(test)]
+mod auditor;
+#[cfg(test)]
+mod audits;
+#[cfg(test)]
+mod branch;
+#[cfg(test)]
+mod commands;
+#[cfg(test)]
+mod entries;
+#[cfg(test)]
+mod gates;
+#[cfg(test)]
+mod links;
+#[cfg(test)]
+mod migrations;
+#[cfg(test)]
+mod replies;
+#[cfg(test)]
+mod scripts;
+#[cfg(test)]
+mod seats;
+#[cfg(test)]
+mod tellers;
+#[cfg(test)]
+mod words;

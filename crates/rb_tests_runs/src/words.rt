@@ -1,0 +1,38 @@
+//! The words of the command line: their limits in the help, and the numbers of a run as they are read. What words are
+//! taken is in tests/cases.
+
+use rb_cli::{MOST_TELLERS, Words, read_words};
+use rb_money::MOST_SITES;
+use std::test::Fail;
+
+/// Help names the limits of sites and tellers as the code has them.
+#[test]
+fn limits_are_shown(rt: HostRuntime) -> Result<(), Fail> {
+    let alloc = rt.alloc();
+    let text = match read_words(alloc, ["threads", "--help"].as_slice()) {
+        Ok(_words) => return Err(Fail::from("no help")),
+        Err(error) => error.to_string(alloc)?,
+    };
+    let sites = format!(in alloc; "How many sites there are, 2 to {MOST_SITES}")?;
+    let tellers = format!(in alloc; "How many tellers there are, 1 to {MOST_TELLERS}")?;
+    assert!(rt; text.contains(sites.as_str()));
+    assert!(rt; text.contains(tellers.as_str()));
+    Ok(())
+}
+
+/// Each option's number is read as it is written, in any order.
+#[test]
+fn numbers_are_read(rt: HostRuntime) {
+    let run = Words::Threads {
+        sites: 3,
+        tellers: 64,
+        seed: 4294967295,
+    };
+    for words in [
+        "threads --sites 3 --tellers 64 --seed 4294967295",
+        "threads --seed 4294967295 --tellers 64 --sites 3",
+    ] {
+        let words: Vec<&str> = words.split(" ").collect(rt.alloc()).expect(&rt, "memory");
+        assert_eq!(rt; read_words(rt.alloc(), words.as_slice()).ok(), Some(run));
+    }
+}
