@@ -1,0 +1,6 @@
+mod LineLemmas
+mod Ends
+mod Crash
+mod Moments
+mod RunLemmas
+mod Output

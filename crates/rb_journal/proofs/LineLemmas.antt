@@ -1,0 +1,254 @@
+-- The lines of bytes that are joined, cut or begun.
+use Rattle.std.proofs.Common.{◌≡◌, ℕ, zero, suc, ◌<◌, true, false, List, [], ◌∷◌, ◌++◌, length, get_or, take, drop, take_while, inl, inr}
+use Rattle.std.proofs.Common.{refl, sym, ◌∙◌, ap, subst, append_assoc, arith}
+use Rattle.std.specs.List.{concat}
+use Rattle.std.proofs.lemmas.Bool.{cases_eq, cases_Bool, cond-true, cond-false, eq-eqb, ne_eqb}
+use Rattle.std.proofs.lemmas.List.{append-nil, append_cancel_left}
+use Rattle.std.proofs.lemmas.List.Sums.{take_while-cons}
+use Rattle.rb_journal.specs.Lines.{joined, lines_in, is_open, recovered, IsBatch, IsLine}
+
+pub concat-append : (xs ys : List (List ℕ)) → concat (xs ++ ys) ≡ concat xs ++ concat ys
+concat-append [] ys = refl
+concat-append (x ∷ xs) ys = ap (λ (l : List ℕ). x ++ l) (concat-append xs ys) ∙ sym (append_assoc x (concat xs) (concat ys))
+
+pub whole-lf : (b : ℕ) (bytes : List ℕ) → b ≡ 10 → lines_in (b ∷ bytes) ≡ (10 ∷ []) ∷ lines_in bytes
+whole-lf b bytes is = cond-true _ _ _ (eq-eqb b 10 is)
+
+pub whole-other : (b : ℕ) (bytes : List ℕ) → (b ≡ 10 → ⊥) → lines_in (b ∷ bytes) ≡ joined b (lines_in bytes)
+whole-other b bytes other = cond-false _ _ _ (ne_eqb b 10 other)
+
+pub open-true : (line : List ℕ) (lines : List (List ℕ)) → is_open line ≡ true →
+    take_while is_open (line ∷ lines) ≡ line ∷ take_while is_open lines
+open-true line lines is = take_while-cons is_open line lines ∙ cond-true (is_open line) (line ∷ take_while is_open lines) [] is
+
+pub open-false : (line : List ℕ) (lines : List (List ℕ)) → is_open line ≡ false → take_while is_open (line ∷ lines) ≡ []
+open-false line lines is = take_while-cons is_open line lines ∙ cond-false (is_open line) (line ∷ take_while is_open lines) [] is
+
+append_step : (b : ℕ) (xs ys : List ℕ) (lines : List (List ℕ)) → lines_in xs ≡ lines → concat (joined b lines) ≡ b ∷ xs
+    → (concat (lines_in xs) ≡ xs → lines_in (xs ++ ys) ≡ lines_in xs ++ lines_in ys) →
+    joined b (lines_in (xs ++ ys)) ≡ joined b lines ++ lines_in ys
+append_step b xs ys [] is all so_far = cc
+append_step b xs ys (line ∷ lines) is all so_far =
+    let rest : line ++ concat lines ≡ xs = cc in
+    let whole : concat (lines_in xs) ≡ xs = ap concat is ∙ rest in
+    ap (λ (ls : List (List ℕ)). joined b ls) (so_far whole ∙ ap (λ (ls : List (List ℕ)). ls ++ lines_in ys) is)
+
+-- whole lines, and then the lines of what stands behind them
+pub whole-append : (xs ys : List ℕ) → concat (lines_in xs) ≡ xs → lines_in (xs ++ ys) ≡ lines_in xs ++ lines_in ys
+whole-append [] ys all = refl
+whole-append (b ∷ xs) ys all = elim (cases_eq b 10) [
+  | inl is ↦
+      let both : 10 ∷ concat (lines_in xs) ≡ b ∷ xs = ap concat (sym (whole-lf b xs is)) ∙ all in
+      let rest : concat (lines_in xs) ≡ xs = cc (both) in
+      whole-lf b (xs ++ ys) is ∙ ap (λ (ls : List (List ℕ)). (10 ∷ []) ∷ ls) (whole-append xs ys rest)
+      ∙ ap (λ (ls : List (List ℕ)). ls ++ lines_in ys) (sym (whole-lf b xs is))
+  | inr other ↦
+      let both : concat (joined b (lines_in xs)) ≡ b ∷ xs = ap concat (sym (whole-other b xs other)) ∙ all in
+      whole-other b (xs ++ ys) other ∙ append_step b xs ys (lines_in xs) refl both (λ rest. whole-append xs ys rest)
+      ∙ ap (λ (ls : List (List ℕ)). ls ++ lines_in ys) (sym (whole-other b xs other))
+]
+
+-- each of them is one whole line
+abbrev pub EachWhole : List (List ℕ) → Type 0
+EachWhole [] = Unit {0}
+EachWhole (line ∷ lines) = (lines_in line ≡ line ∷ []) × EachWhole lines
+
+-- and begins with `{`
+abbrev pub EachOpen : List (List ℕ) → Type 0
+EachOpen [] = Unit {0}
+EachOpen (line ∷ lines) = (lines_in line ≡ line ∷ []) × (is_open line ≡ true) × EachOpen lines
+
+each_joined : (b : ℕ) → (b ≡ 10 → ⊥) → (lines : List (List ℕ)) → EachWhole lines → EachWhole (joined b lines)
+each_joined b other [] each = tt
+each_joined b other (line ∷ lines) each = (whole-other b line other ∙ ap (λ (ls : List (List ℕ)). joined b ls) each.0, each.1)
+
+each_whole : (bytes : List ℕ) → EachWhole (lines_in bytes)
+each_whole [] = tt
+each_whole (b ∷ bytes) = elim (cases_eq b 10) [
+  | inl is ↦ subst EachWhole (sym (whole-lf b bytes is)) (refl, each_whole bytes)
+  | inr other ↦ subst EachWhole (sym (whole-other b bytes other)) (each_joined b other (lines_in bytes) (each_whole bytes))
+]
+
+each_open : (lines : List (List ℕ)) → EachWhole lines → EachOpen (take_while is_open lines)
+each_open [] each = tt
+each_open (line ∷ lines) each = elim (cases_Bool (is_open line)) [
+  | inl is ↦ subst EachOpen (sym (open-true line lines is)) (each.0, is, each_open lines each.1)
+  | inr is ↦ subst EachOpen (sym (open-false line lines is)) tt
+]
+
+open_append : (lines : List (List ℕ)) (rest : List ℕ) → EachOpen lines → recovered (concat lines ++ rest) ≡ lines ++ recovered rest
+open_append [] rest each = refl
+open_append (line ∷ lines) rest each =
+    let one : concat (lines_in line) ≡ line = ap concat each.0 ∙ append-nil line in
+    let whole : lines_in (line ++ (concat lines ++ rest)) ≡ line ∷ lines_in (concat lines ++ rest) =
+    whole-append line (concat lines ++ rest) one ∙ ap (λ (ls : List (List ℕ)). ls ++ lines_in (concat lines ++ rest)) each.0 in
+    ap recovered (append_assoc line (concat lines) rest) ∙ ap (λ (ls : List (List ℕ)). take_while is_open ls) whole
+    ∙ open-true line (lines_in (concat lines ++ rest)) each.1
+    ∙ ap (λ (ls : List (List ℕ)). line ∷ ls) (open_append lines rest each.2)
+
+-- what stands behind the lines of a file is read after them
+pub recovered-append : (file rest : List ℕ) → recovered (concat (recovered file) ++ rest) ≡ recovered file ++ recovered rest
+recovered-append file rest = open_append (recovered file) rest (each_open (lines_in file) (each_whole file))
+
+front_step : (b : ℕ) (bytes : List ℕ) (lines : List (List ℕ)) → (end : List ℕ) × (bytes ≡ concat lines ++ end) →
+    (end : List ℕ) × (b ∷ bytes ≡ concat (joined b lines) ++ end)
+front_step b bytes [] so_far = (b ∷ bytes, refl)
+front_step b bytes (line ∷ lines) so_far = (so_far.0, ap (λ (l : List ℕ). b ∷ l) so_far.1)
+
+whole_front : (bytes : List ℕ) → (end : List ℕ) × (bytes ≡ concat (lines_in bytes) ++ end)
+whole_front [] = ([], refl)
+whole_front (b ∷ bytes) = elim (cases_eq b 10) [
+  | inl is ↦
+      let more : b ∷ bytes ≡ (10 ∷ concat (lines_in bytes)) ++ (whole_front bytes).0 = (λ i. is i ∷ (whole_front bytes).1 i) in
+      ((whole_front bytes).0, more ∙ ap (λ (ls : List (List ℕ)). concat ls ++ (whole_front bytes).0) (sym (whole-lf b bytes is)))
+  | inr other ↦
+      let more = front_step b bytes (lines_in bytes) (whole_front bytes) in
+      (more.0, more.1 ∙ ap (λ (ls : List (List ℕ)). concat ls ++ more.0) (sym (whole-other b bytes other)))
+]
+
+open_front : (lines : List (List ℕ)) → (end : List ℕ) × (concat lines ≡ concat (take_while is_open lines) ++ end)
+open_front [] = ([], refl)
+open_front (line ∷ lines) = elim (cases_Bool (is_open line)) [
+  | inl is ↦ (
+    (open_front lines).0,
+    ap (λ (l : List ℕ). line ++ l) (open_front lines).1 ∙ sym (append_assoc line (concat (take_while is_open lines)) (open_front lines).0)
+        ∙ ap (λ (ls : List (List ℕ)). concat ls ++ (open_front lines).0) (sym (open-true line lines is)),
+  )
+  | inr is ↦ (concat (line ∷ lines), ap (λ (ls : List (List ℕ)). concat ls ++ concat (line ∷ lines)) (sym (open-false line lines is)))
+]
+
+-- a file is its lines, and an end that stands for nothing
+pub record Parts (file : List ℕ) : Type 0 where
+  pub end : List ℕ
+  pub split : file ≡ concat (recovered file) ++ end
+  pub nothing : recovered end ≡ []
+
+pub parts : (file : List ℕ) → Parts file
+parts file =
+    let whole = whole_front file in
+    let front = open_front (lines_in file) in
+    let end : List ℕ = front.0 ++ whole.0 in
+    let split : file ≡ concat (recovered file) ++ end = whole.1 ∙ ap (λ (l : List ℕ). l ++ whole.0) front.1
+    ∙ append_assoc (concat (recovered file)) front.0 whole.0 in
+    let twice : recovered file ++ [] ≡ recovered file ++ recovered end =
+    append-nil (recovered file) ∙ ap recovered split ∙ recovered-append file end in
+    record { end = end; split = split; nothing = sym (append_cancel_left (recovered file) [] (recovered end) twice) }
+
+-- the first line of the front of bytes is the first of all, if there is one
+abbrev SameFirst : List (List ℕ) → List (List ℕ) → Type 0
+SameFirst [] all = Unit {0}
+SameFirst (line ∷ lines) [] = ⊥
+SameFirst (line ∷ lines) (other ∷ others) = line ≡ other
+
+same_joined : (b : ℕ) (some all : List (List ℕ)) → SameFirst some all → SameFirst (joined b some) (joined b all)
+same_joined b [] all same = tt
+same_joined b (line ∷ lines) [] same = absurd same
+same_joined b (line ∷ lines) (other ∷ others) same = ap (λ (l : List ℕ). b ∷ l) same
+
+same_first : (n : ℕ) (bytes : List ℕ) → SameFirst (lines_in (take n bytes)) (lines_in bytes)
+same_first zero bytes = tt
+same_first (suc n) [] = tt
+same_first (suc n) (b ∷ bytes) = elim (cases_eq b 10) [
+  | inl is ↦
+      let P : List (List ℕ) → Type 0 = λ some. SameFirst some (lines_in (b ∷ bytes)) in
+      let Q : List (List ℕ) → Type 0 = λ all. SameFirst ((10 ∷ []) ∷ lines_in (take n bytes)) all in
+      subst P (sym (whole-lf b (take n bytes) is)) (subst Q (sym (whole-lf b bytes is)) refl)
+  | inr other ↦
+      let P : List (List ℕ) → Type 0 = λ some. SameFirst some (lines_in (b ∷ bytes)) in
+      let Q : List (List ℕ) → Type 0 = λ all. SameFirst (joined b (lines_in (take n bytes))) all in
+      subst P (sym (whole-other b (take n bytes) other)) (subst Q (sym (whole-other b bytes other))
+      (same_joined b (lines_in (take n bytes)) (lines_in bytes) (same_first n bytes)))
+]
+
+none_open : (some all : List (List ℕ)) → SameFirst some all → take_while is_open all ≡ [] → take_while is_open some ≡ []
+none_open [] all same none = refl
+none_open (line ∷ lines) [] same none = absurd same
+none_open (line ∷ lines) (other ∷ others) same none = elim (cases_Bool (is_open other)) [
+  | inl is ↦ let some : other ∷ take_while is_open others ≡ [] = sym (open-true other others is) ∙ none in absurd (cc (some))
+  | inr is ↦ open-false line lines (ap is_open same ∙ is)
+]
+
+-- nor does the front of such an end stand for anything
+pub front_nothing : (n : ℕ) (end : List ℕ) → recovered end ≡ [] → recovered (take n end) ≡ []
+front_nothing n end none = none_open (lines_in (take n end)) (lines_in end) (same_first n end) none
+
+closed_joined : (b : ℕ) (lines : List (List ℕ)) → (b ≡ 123 → ⊥) → take_while is_open (joined b lines) ≡ []
+closed_joined b [] shut = refl
+closed_joined b (line ∷ lines) shut = open-false (b ∷ line) lines (ne_eqb b 123 shut)
+
+-- a line that doesn't begin with `{` ends them, whatever stands behind it
+pub closed : (b : ℕ) (bytes : List ℕ) → (b ≡ 123 → ⊥) → recovered (b ∷ bytes) ≡ []
+closed b bytes shut = elim (cases_eq b 10) [
+  | inl is ↦ ap (λ (ls : List (List ℕ)). take_while is_open ls) (whole-lf b bytes is) ∙ open-false (10 ∷ []) (lines_in bytes) refl
+  | inr other ↦ ap (λ (ls : List (List ℕ)). take_while is_open ls) (whole-other b bytes other) ∙ closed_joined b (lines_in bytes) shut
+]
+
+-- one byte is no line
+pub short_nothing : (bytes : List ℕ) → length bytes < 2 → recovered bytes ≡ []
+short_nothing [] short = refl
+short_nothing (b ∷ []) short = elim (cases_eq b 10) [
+  | inl is ↦ ap (λ (ls : List (List ℕ)). take_while is_open ls) (whole-lf b [] is) ∙ open-false (10 ∷ []) [] refl
+  | inr other ↦ ap (λ (ls : List (List ℕ)). take_while is_open ls) (whole-other b [] other)
+]
+short_nothing (b ∷ c ∷ bytes) short = absurd (omega arith)
+
+-- lines begin with `{`
+pub begins : (b : ℕ) (bytes : List ℕ) → IsBatch (b ∷ bytes) → b ≡ 123
+begins b bytes all = elim (cases_eq b 123) [
+  | inl is ↦ is
+  | inr shut ↦ let none : [] ≡ b ∷ bytes = sym (ap concat (closed b bytes shut)) ∙ all in absurd (cc (none))
+]
+
+-- lines, and then what follows
+pub lines-append : (lines rest : List ℕ) → IsBatch lines → recovered (lines ++ rest) ≡ recovered lines ++ recovered rest
+lines-append lines rest all = ap (λ (l : List ℕ). recovered (l ++ rest)) (sym all) ∙ recovered-append lines rest
+
+-- the lines of bytes are lines
+pub are_lines : (file : List ℕ) → IsBatch (concat (recovered file))
+are_lines file = ap concat (ap recovered (sym (append-nil (concat (recovered file)))) ∙ recovered-append file []
+    ∙ append-nil (recovered file))
+
+-- and so are lines behind lines
+pub both_lines : (xs ys : List ℕ) → IsBatch xs → IsBatch ys → IsBatch (xs ++ ys)
+both_lines xs ys first second =
+    ap concat (lines-append xs ys first) ∙ concat-append (recovered xs) (recovered ys)
+    ∙ ap (λ (l : List ℕ). l ++ concat (recovered ys)) first ∙ ap (λ (l : List ℕ). xs ++ l) second
+
+-- at the first LF a line ends
+pub first_line : (bytes : List ℕ) (i : ℕ) → i < length bytes → get_or bytes i 0 ≡ 10 → ((k : ℕ) → k < i → get_or bytes k 0 ≡ 10 → ⊥)
+    → lines_in bytes ≡ take (suc i) bytes ∷ lines_in (drop (suc i) bytes)
+first_line [] i within lf others = absurd (omega arith)
+first_line (b ∷ bytes) zero within lf others = whole-lf b bytes lf ∙ (λ j. (sym lf j ∷ []) ∷ lines_in bytes)
+first_line (b ∷ bytes) (suc i) within lf others =
+    let so_far = first_line bytes i (omega arith) lf (λ k below. others (suc k) (omega arith)) in
+    whole-other b bytes (others 0 (omega arith)) ∙ ap (λ (ls : List (List ℕ)). joined b ls) so_far
+
+-- without an LF there is none
+pub no_line : (bytes : List ℕ) → ((k : ℕ) → k < length bytes → get_or bytes k 0 ≡ 10 → ⊥) → lines_in bytes ≡ []
+no_line [] others = refl
+no_line (b ∷ bytes) others =
+    whole-other b bytes (others 0 (omega arith)) ∙ ap (λ (ls : List (List ℕ)). joined b ls)
+    (no_line bytes (λ k below. others (suc k) (omega arith)))
+
+one_whole : (line : List ℕ) → ((k : ℕ) → k < length line → get_or line k 0 ≡ 10 → ⊥) →
+    lines_in (line ++ 10 ∷ []) ≡ (line ++ 10 ∷ []) ∷ []
+one_whole [] others = refl
+one_whole (b ∷ line) others =
+    whole-other b (line ++ 10 ∷ []) (others 0 (omega arith)) ∙ ap (λ (ls : List (List ℕ)). joined b ls)
+    (one_whole line (λ k below. others (suc k) (omega arith)))
+
+-- a line with its LF is one line
+pub line_alone : (line : List ℕ) → IsLine line → recovered (line ++ 10 ∷ []) ≡ (line ++ 10 ∷ []) ∷ []
+line_alone [] is = absurd (omega (arith, is.begins))
+line_alone (b ∷ line) is =
+    ap (λ (ls : List (List ℕ)). take_while is_open ls) (one_whole (b ∷ line) (λ k below lf. is.one k 0 below lf))
+    ∙ open-true ((b ∷ line) ++ 10 ∷ []) [] (eq-eqb b 123 is.begins)
+
+-- and so is one more behind others
+pub line_more : (bytes line : List ℕ) → IsBatch bytes → IsLine line →
+    recovered (bytes ++ (line ++ 10 ∷ [])) ≡ recovered bytes ++ (line ++ 10 ∷ []) ∷ []
+line_more bytes line all is = lines-append bytes (line ++ 10 ∷ []) all
+    ∙ ap (λ (ls : List (List ℕ)). recovered bytes ++ ls) (line_alone line is)
+
+pub still_lines : (bytes line : List ℕ) → IsBatch bytes → IsLine line → IsBatch (bytes ++ (line ++ 10 ∷ []))
+still_lines bytes line all is = both_lines bytes (line ++ 10 ∷ []) all (ap concat (line_alone line is) ∙ append-nil (line ++ 10 ∷ []))

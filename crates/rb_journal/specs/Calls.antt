@@ -1,0 +1,102 @@
+-- What a record of calls says of a file and an output: each call with its answer, the newest first.
+use Rattle.std.specs.Prelude.{◌≡◌, ◌⊎◌, ℕ, suc, ◌+◌, ◌≤◌, Bool, true, false, List, [], ◌∷◌, ◌++◌, length, take, drop}
+use Rattle.std.specs.Prelude.{slice_index, ◌==◌, if◌then◌else◌}
+use Rattle.rb_journal.specs.Host.{Torn, Cut, AddsPrefix}
+
+-- a kind, a number, whether the call succeeded, and bytes
+abbrev pub NotedCall : Type 0
+NotedCall = ℕ × ℕ × Bool × List ℕ
+
+abbrev pub noted_call_of : List ℕ → List ℕ → NotedCall
+noted_call_of numbers bytes = (slice_index numbers 0, slice_index numbers 1, slice_index numbers 2 == 1, bytes)
+
+pub data HostCall : Type 0 where
+  -- the file was opened with these bytes, all of them on the disk
+  found : (bytes : List ℕ) → HostCall
+  wrote : (ok : Bool) (at : ℕ) (bytes : List ℕ) → HostCall
+  cut : (ok : Bool) (len : ℕ) → HostCall
+  synced : (ok : Bool) → HostCall
+  -- of these bytes so many were put out, from the first on
+  output : (count : ℕ) (bytes : List ℕ) → HostCall
+  -- these bytes were to be put out, and the call failed and put out none
+  output_failed : (bytes : List ℕ) → HostCall
+
+abbrev pub host_call_of : NotedCall → HostCall
+host_call_of (kind, number, ok, bytes) =
+    if kind == 0 then found bytes
+    else if kind == 1 then wrote ok number bytes
+    else if kind == 2 then cut ok number
+    else if kind == 3 then synced ok
+    else if kind == 4 then output number bytes
+    else output_failed bytes
+
+-- what a read returns after the call
+abbrev pub content_after : HostCall → List ℕ → List ℕ
+content_after (found bytes) file = bytes
+content_after (wrote ok at bytes) file = take at file ++ bytes ++ drop (at + length bytes) file
+content_after (cut ok len) file = take len file
+content_after (synced ok) file = file
+content_after (output count bytes) file = file
+content_after (output_failed bytes) file = file
+
+abbrev pub content_of : List NotedCall → List ℕ
+content_of [] = []
+content_of (event ∷ past) = content_after (host_call_of event) (content_of past)
+
+-- what has been put out after the call
+abbrev pub output_after : HostCall → List ℕ → List ℕ
+output_after (output count bytes) before = before ++ take count bytes
+output_after (found bytes) before = before
+output_after (wrote ok at bytes) before = before
+output_after (cut ok len) before = before
+output_after (synced ok) before = before
+output_after (output_failed bytes) before = before
+
+abbrev pub output_of : List NotedCall → List ℕ
+output_of [] = []
+output_of (event ∷ past) = output_after (host_call_of event) (output_of past)
+
+-- what file a crash may leave after the call
+abbrev pub leaves_after : HostCall → List ℕ → (List ℕ → Type 0) → List ℕ → Type 0
+leaves_after (found bytes) file before c = c ≡ bytes
+leaves_after (wrote ok at bytes) file before c = (d : List ℕ) × before d × Torn at (length bytes) d c
+leaves_after (cut ok len) file before c = (d : List ℕ) × before d × Cut len d c
+leaves_after (synced true) file before c = (c ≡ file) × before c
+leaves_after (synced false) file before c = before c
+leaves_after (output count bytes) file before c = before c
+leaves_after (output_failed bytes) file before c = before c
+
+abbrev pub leaves : List NotedCall → List ℕ → Type 0
+leaves [] c = c ≡ []
+leaves (event ∷ past) c = leaves_after (host_call_of event) (content_of past) (leaves past) c
+
+-- what a crash inside the call may leave, besides what it may leave before or after it
+abbrev pub leaves_within : HostCall → (List ℕ → Type 0) → List ℕ → List ℕ → List ℕ → Type 0
+leaves_within (output count bytes) before so_far c d = before c × AddsPrefix so_far bytes d
+leaves_within (output_failed bytes) before so_far c d = before c × AddsPrefix so_far bytes d
+leaves_within (found bytes) before so_far c d = ⊥
+leaves_within (wrote ok at bytes) before so_far c d = ⊥
+leaves_within (cut ok len) before so_far c d = ⊥
+leaves_within (synced ok) before so_far c d = ⊥
+
+-- what a crash may have left since the time when there were t calls
+abbrev pub left_since : List NotedCall → ℕ → List ℕ → List ℕ → Type 0
+left_since [] t c d = (c ≡ []) × (d ≡ [])
+left_since (event ∷ past) t c d =
+    (leaves (event ∷ past) c × (d ≡ output_of (event ∷ past)))
+    ⊎ ((t ≤ length past) × (leaves_within (host_call_of event) (leaves past) (output_of past) c d ⊎ left_since past t c d))
+
+abbrev pub faults_after : HostCall → ℕ → ℕ
+faults_after (wrote false at bytes) n = suc n
+faults_after (cut false len) n = suc n
+faults_after (synced false) n = suc n
+faults_after (output_failed bytes) n = suc n
+faults_after (found bytes) n = n
+faults_after (wrote true at bytes) n = n
+faults_after (cut true len) n = n
+faults_after (synced true) n = n
+faults_after (output count bytes) n = n
+
+abbrev pub faults_of : List NotedCall → ℕ
+faults_of [] = 0
+faults_of (event ∷ past) = faults_after (host_call_of event) (faults_of past)

@@ -1,0 +1,69 @@
+-- What the calls of a host do to its file and its output, and what a crash may do between two syncs.
+use Rattle.std.specs.Prelude.{◌<◌, ◌≡◌, ◌⊎◌, ℕ, ◌+◌, ◌≤◌, max, List, ◌++◌, length, take, drop, Result, IsErrOf}
+use Rattle.rb_journal.specs.declared.host.HostError.{HostError}
+use Rattle.rb_journal.specs.declared.host.HostError.TheVariants.{DiskFailed, OutputFailed, Full}
+
+-- new is old with these bytes at this offset
+abbrev pub IsWritten : List ℕ → ℕ → List ℕ → List ℕ → Type 0
+IsWritten old at bytes new = new ≡ take at old ++ bytes ++ drop (at + length bytes) old
+
+-- after a write of n bytes that a crash cuts short: any bytes in the range and past the old end, the same elsewhere
+pub record Torn (at n : ℕ) (old new : List ℕ) : Type 0 where
+  pub before : take at new ≡ take at old
+  pub after : drop (at + n) new ≡ drop (at + n) old
+  pub no_shorter : length old ≤ length new
+  pub no_longer : length new ≤ max (length old) (at + n)
+
+-- after a cut: some length between
+pub record Cut (n : ℕ) (old new : List ℕ) : Type 0 where
+  pub no_shorter : n ≤ length new
+  pub front : take (length new) old ≡ new
+
+-- each new outcome of a crash is an old outcome after a step
+abbrev pub StepsFrom : (List ℕ → List ℕ → Type 0) → (List ℕ → Type 0) → (List ℕ → Type 0) → Type 0
+StepsFrom step old new = (c : List ℕ) → new c → (d : List ℕ) × old d × step d c
+
+-- a crash leaves this file and no other
+abbrev pub Only : List ℕ → (List ℕ → Type 0) → Type 0
+Only file outcomes = (c : List ℕ) → outcomes c → c ≡ file
+
+-- during a call that puts out nothing, a crash leaves one of these files, with what was put out before
+abbrev pub Silent : (List ℕ → Type 0) → List ℕ → List ℕ → List ℕ → Type 0
+Silent outcomes output c d = outcomes c × (d ≡ output)
+
+-- what was put out before, and a prefix of these bytes
+abbrev pub AddsPrefix : List ℕ → List ℕ → List ℕ → Type 0
+AddsPrefix output bytes d = (k : ℕ) × (d ≡ output ++ take k bytes)
+
+-- during a call that puts out these bytes, a crash leaves one of these files, with a prefix of the bytes put out
+abbrev pub Outputs : (List ℕ → Type 0) → List ℕ → List ℕ → List ℕ → List ℕ → Type 0
+Outputs outcomes output bytes c d = outcomes c × AddsPrefix output bytes d
+
+-- time goes on: a crash since t might have left what it might have left before, or what it may leave during this call.
+pub record Elapses (before now : ℕ) (past since : ℕ → List ℕ → List ℕ → Type 0) (during : List ℕ → List ℕ →
+    Type 0) : Type 0 where
+  pub later : before ≤ now
+  pub nothing_else : (t : ℕ) (c d : List ℕ) → t ≤ before → since t c d → past t c d ⊎ during c d
+  pub keeps : (t : ℕ) (c d : List ℕ) → t ≤ before → past t c d → since t c d
+
+-- a crash at any moment since old leaves a file, with what was put out by then, that have P
+pub record LeavesOnly {H : Type 0} (moment : H → ℕ) (left_since : H → ℕ → List ℕ → List ℕ →
+    Type 0) (old new : H) (P : List ℕ → List ℕ → Type 0) : Type 0 where
+  pub later : moment old ≤ moment new
+  pub each : (c d : List ℕ) → left_since new (moment old) c d → P c d
+  -- for a run that began earlier
+  pub before : (t : ℕ) (c d : List ℕ) → t ≤ moment old → left_since new t c d → left_since old t c d ⊎ P c d
+
+-- `DiskFailed` is answered only where the file has failed since, and the other errors aren't
+pub record DiskCause {T : Type 0} (before now : ℕ) (result : Result T HostError) : Type 0 where
+  pub later : before ≤ now
+  pub failed : IsErrOf result DiskFailed → before < now
+  pub not_output : IsErrOf result OutputFailed → ⊥
+  pub not_full : IsErrOf result Full → ⊥
+
+-- `OutputFailed` is answered only where the output has failed since, and the other errors aren't
+pub record OutputCause {T : Type 0} (before now : ℕ) (result : Result T HostError) : Type 0 where
+  pub later : before ≤ now
+  pub output_failed : IsErrOf result OutputFailed → before < now
+  pub not_failed : IsErrOf result DiskFailed → ⊥
+  pub not_full : IsErrOf result Full → ⊥

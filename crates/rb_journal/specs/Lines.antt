@@ -1,0 +1,36 @@
+-- The lines of a file.
+use Rattle.std.specs.Prelude.{◌≡◌, ◌≢◌, ℕ, Bool, false, List, [], ◌∷◌, ◌++◌, if◌then◌else◌, ◌==◌, take_while}
+use Rattle.std.specs.Prelude.{slice_index, All}
+use Rattle.std.specs.List.{concat}
+
+-- a byte before lines belongs to the first of them, and is no line alone
+abbrev pub joined : ℕ → List (List ℕ) → List (List ℕ)
+joined b [] = []
+joined b (line ∷ lines) = (b ∷ line) ∷ lines
+
+-- the whole lines of a file, each up to its LF (10)
+abbrev pub lines_in : List ℕ → List (List ℕ)
+lines_in [] = []
+lines_in (b ∷ bytes) = if b == 10 then (10 ∷ []) ∷ lines_in bytes else joined b (lines_in bytes)
+
+-- it begins with `{` (123)
+abbrev pub is_open : List ℕ → Bool
+is_open [] = false
+is_open (b ∷ line) = b == 123
+
+-- the lines of a file: those up to the first that doesn't begin with `{` or isn't whole
+abbrev pub recovered : List ℕ → List (List ℕ)
+recovered file = take_while is_open (lines_in file)
+
+-- these bytes are lines that begin with `{`, and nothing else
+abbrev pub IsBatch : List ℕ → Type 0
+IsBatch bytes = concat (recovered bytes) ≡ bytes
+
+-- the lines, and then the closed gate, a space (32)
+abbrev pub at_rest : List (List ℕ) → List ℕ
+at_rest lines = concat lines ++ 32 ∷ []
+
+-- a line without its LF: it begins with `{`, and no byte of it is an LF
+pub record IsLine (line : List ℕ) : Type 0 where
+  pub begins : slice_index line 0 ≡ 123
+  pub one : All (λ b. b ≢ 10) line

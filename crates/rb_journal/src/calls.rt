@@ -1,0 +1,134 @@
+//! Each call on a record, by its kind: what a host that keeps the record then says of its file and of its output.
+ghost use Rattle.std.specs.Prelude.{◌≡◌, ◌+◌, ◌<◌, ◌≤◌, ◌↔◌, ◌++◌, [], List, ℕ, length, take, IsTrue, IsOk, IsSome};
+ghost use Rattle.std.specs.Prelude.{IfSome, OnOk, IfOk};
+ghost use Rattle.std.specs.Option.{ForSome};
+ghost use Rattle.rb_journal.specs.Host.{Only, StepsFrom, Torn, Cut, IsWritten, Silent, Outputs, AddsPrefix, Elapses};
+ghost use Rattle.rb_journal.specs.Host.{DiskCause, OutputCause};
+ghost use Rattle.rb_journal.specs.Calls.{content_of, output_of, leaves, left_since, faults_of};
+
+use crate::HostError;
+use crate::record::Record;
+
+const FOUND: u64 = 0;
+
+const WROTE: u64 = 1;
+
+const CUT: u64 = 2;
+
+const SYNCED: u64 = 3;
+
+const PUT_OUT: u64 = 4;
+
+const OUTPUT_FAILED: u64 = 5;
+
+/// A file was opened, and these were its bytes, all of them on the disk.
+pub(crate) fn found(bytes: &[u8]) -> Record
+    ensures content { content_of result.events ≡ bytes.now }
+    ensures durable { Only bytes.now (leaves result.events) }
+    ensures output { output_of result.events ≡ [] }
+    ensures usable { faults_of result.events ≡ 0 }
+{
+    let mut log = Record::new();
+    log.note(&[FOUND, 0, 1], bytes);
+    log
+}
+
+/// A write of these bytes at this place, and whether it succeeded.
+pub(crate) fn wrote(log: &mut Record, at: usize, bytes: &[u8], ok: bool) -> Result<(), HostError>
+    requires { faults_of log.old.events ≡ 0 }
+    ensures ok { IsTrue ok ↔ IsOk result }
+    ensures usable { OnOk result (faults_of log.new.events ≡ 0) }
+    ensures written { IsWritten (content_of log.old.events) at bytes.now (content_of log.new.events) }
+    ensures crash { StepsFrom (Torn at (length bytes.now)) (leaves log.old.events) (leaves log.new.events) }
+    ensures output { output_of log.new.events ≡ output_of log.old.events }
+    ensures time { Elapses (length log.old.events) (length log.new.events) (left_since log.old.events)
+        (left_since log.new.events)
+        (Silent (leaves log.new.events) (output_of log.old.events)) }
+    ensures cause { DiskCause (faults_of log.old.events) (faults_of log.new.events) result }
+{
+    if ok {
+        log.note(&[WROTE, at as u64, 1], bytes);
+        Ok(())
+    } else {
+        log.note(&[WROTE, at as u64, 0], bytes);
+        Err(HostError::DiskFailed)
+    }
+}
+
+/// A cut to this length, and whether it succeeded.
+pub(crate) fn cut(log: &mut Record, len: usize, ok: bool) -> Result<(), HostError>
+    requires { faults_of log.old.events ≡ 0 }
+    ensures ok { IsTrue ok ↔ IsOk result }
+    ensures usable { OnOk result (faults_of log.new.events ≡ 0) }
+    ensures cut { content_of log.new.events ≡ take len (content_of log.old.events) }
+    ensures crash { StepsFrom (Cut len) (leaves log.old.events) (leaves log.new.events) }
+    ensures output { output_of log.new.events ≡ output_of log.old.events }
+    ensures time { Elapses (length log.old.events) (length log.new.events) (left_since log.old.events)
+        (left_since log.new.events)
+        (Silent (leaves log.new.events) (output_of log.old.events)) }
+    ensures cause { DiskCause (faults_of log.old.events) (faults_of log.new.events) result }
+{
+    if ok {
+        log.note(&[CUT, len as u64, 1], &[]);
+        Ok(())
+    } else {
+        log.note(&[CUT, len as u64, 0], &[]);
+        Err(HostError::DiskFailed)
+    }
+}
+
+/// A sync, and whether it succeeded.
+pub(crate) fn synced(log: &mut Record, ok: bool) -> Result<(), HostError>
+    requires { faults_of log.old.events ≡ 0 }
+    ensures ok { IsTrue ok ↔ IsOk result }
+    ensures usable { OnOk result (faults_of log.new.events ≡ 0) }
+    ensures durable { OnOk result (Only (content_of log.old.events) (leaves log.new.events)) }
+    ensures content { content_of log.new.events ≡ content_of log.old.events }
+    ensures crash { (c : List ℕ) → leaves log.new.events c → leaves log.old.events c }
+    ensures output { output_of log.new.events ≡ output_of log.old.events }
+    ensures time { Elapses (length log.old.events) (length log.new.events) (left_since log.old.events)
+        (left_since log.new.events)
+        (Silent (leaves log.new.events) (output_of log.old.events)) }
+    ensures cause { DiskCause (faults_of log.old.events) (faults_of log.new.events) result }
+{
+    if ok {
+        log.note(&[SYNCED, 0, 1], &[]);
+        Ok(())
+    } else {
+        log.note(&[SYNCED, 0, 0], &[]);
+        Err(HostError::DiskFailed)
+    }
+}
+
+/// So many of these bytes were put out, from the first on; none, where the output failed.
+pub(crate) fn output(
+    log: &mut Record,
+    bytes: &[u8],
+    count: Option<usize>,
+) -> Result<usize, HostError>
+    requires usable { faults_of log.old.events ≡ 0 }
+    requires count { ForSome count (λ n. (0 < n) × (n ≤ length bytes.now)) }
+    ensures ok { IsSome count ↔ IsOk result }
+    ensures same { IfSome count (λ n. result ≡ Ok n) }
+    ensures usable { OnOk result (faults_of log.new.events ≡ 0) }
+    ensures count { IfOk result (λ n. (0 < n) × (n ≤ length bytes.now)) }
+    ensures output { IfOk result (λ n. output_of log.new.events ≡ output_of log.old.events ++ take n bytes.now) }
+    ensures output_some { AddsPrefix (output_of log.old.events) bytes.now (output_of log.new.events) }
+    ensures content { content_of log.new.events ≡ content_of log.old.events }
+    ensures crash { (c : List ℕ) → leaves log.new.events c → leaves log.old.events c }
+    ensures time { Elapses (length log.old.events) (length log.new.events) (left_since log.old.events)
+        (left_since log.new.events)
+        (Outputs (leaves log.old.events) (output_of log.old.events) bytes.now) }
+    ensures cause { OutputCause (faults_of log.old.events) (faults_of log.new.events) result }
+{
+    match count {
+        Some(n) => {
+            log.note(&[PUT_OUT, n as u64, 1], bytes);
+            Ok(n)
+        }
+        None => {
+            log.note(&[OUTPUT_FAILED, 0, 0], bytes);
+            Err(HostError::OutputFailed)
+        }
+    }
+}

@@ -1,0 +1,119 @@
+//! A file and an output, as the journal sees them: what is there, and what a crash may leave.
+ghost use Rattle.std.specs.Prelude.{◌≡◌, ◌+◌, ◌<◌, ◌≤◌, ◌++◌, List, ℕ, length, take, IfOk, OnOk};
+ghost use Rattle.rb_journal.specs.declared.host.HostError.TheVariants.{Memory};
+ghost use Rattle.rb_journal.specs.Host.{Only, StepsFrom, Torn, Cut, IsWritten, Silent, Outputs, AddsPrefix, Elapses};
+ghost use Rattle.rb_journal.specs.Host.{DiskCause, OutputCause};
+
+use std::alloc::{AllocError, AllocFailed};
+
+#[derive(Clone, Copy, Debug, PartialEq, Eq)]
+pub enum HostError {
+    /// No memory was to be had.
+    Memory,
+    /// The file failed.
+    DiskFailed,
+    /// The output failed.
+    OutputFailed,
+    /// The file has no room below 2^60 bytes.
+    Full,
+}
+
+impl From<AllocError> for HostError {
+    ghost from_gives = { λ _ e. e ≡ Memory };
+
+    fn from(_: AllocError) -> Self {
+        HostError::Memory
+    }
+}
+
+impl<T: Drop> From<AllocFailed<T>> for HostError {
+    ghost from_gives = { λ _ e. e ≡ Memory };
+
+    fn from(_: AllocFailed<T>) -> Self {
+        HostError::Memory
+    }
+}
+
+/// A file and an output. After an `Err` nothing more may be asked of it.
+pub trait Host {
+    /// No call has failed.
+    ghost is_usable: { Self → Type 0 };
+
+    /// The bytes of the file, as a read would return them.
+    ghost content: { Self → List ℕ };
+
+    /// The bytes that were put out.
+    ghost output: { Self → List ℕ };
+
+    /// What file a crash at this moment may leave.
+    ghost may_leave: { Self → List ℕ → Type 0 };
+
+    /// The moment, as a number that doesn't fall.
+    ghost moment: { Self → ℕ };
+
+    /// What file a crash at some moment from that one on might have left, during a call or between two,
+    /// and beside it what was put out by that moment.
+    ghost left_since: { Self → ℕ → List ℕ → List ℕ → Type 0 };
+
+    /// How often the file or the output has failed.
+    ghost faults: { Self → ℕ };
+
+    /// Writes over what is there, and past the end. Until a sync, a crash may leave any bytes in the range.
+    fn write_at(&mut self, at: usize, bytes: &[u8]) -> Result<(), HostError>
+        requires usable { is_usable self.old }
+        requires place { at ≤ length (content self.old) }
+        ensures usable { OnOk result (is_usable self.new) }
+        ensures written { OnOk result (IsWritten (content self.old) at bytes.now (content self.new)) }
+        ensures crash { StepsFrom (Torn at (length bytes.now)) (may_leave self.old) (may_leave self.new) }
+        ensures output { output self.new ≡ output self.old }
+        ensures time { Elapses (moment self.old) (moment self.new) (left_since self.old) (left_since self.new)
+            (Silent (may_leave self.new) (output self.old)) }
+        ensures cause { DiskCause (faults self.old) (faults self.new) result };
+
+    /// Cuts the file to a length.
+    fn cut(&mut self, len: usize) -> Result<(), HostError>
+        requires usable { is_usable self.old }
+        requires place { len ≤ length (content self.old) }
+        ensures usable { OnOk result (is_usable self.new) }
+        ensures cut { OnOk result (content self.new ≡ take len (content self.old)) }
+        ensures crash { StepsFrom (Cut len) (may_leave self.old) (may_leave self.new) }
+        ensures output { output self.new ≡ output self.old }
+        ensures time { Elapses (moment self.old) (moment self.new) (left_since self.old) (left_since self.new)
+            (Silent (may_leave self.new) (output self.old)) }
+        ensures cause { DiskCause (faults self.old) (faults self.new) result };
+
+    /// After it, a crash leaves what is content.
+    fn sync(&mut self) -> Result<(), HostError>
+        requires { is_usable self.old }
+        ensures usable { OnOk result (is_usable self.new) }
+        ensures durable { OnOk result (Only (content self.old) (may_leave self.new)) }
+        ensures content { content self.new ≡ content self.old }
+        ensures crash { (c : List ℕ) → may_leave self.new c → may_leave self.old c }
+        ensures output { output self.new ≡ output self.old }
+        ensures time { Elapses (moment self.old) (moment self.new) (left_since self.old) (left_since self.new)
+            (Silent (may_leave self.new) (output self.old)) }
+        ensures cause { DiskCause (faults self.old) (faults self.new) result };
+
+    /// Puts out some of the bytes, from the first on, and answers how many. A crash inside the call may have put out
+    /// fewer or more.
+    fn put_out(&mut self, bytes: &[u8]) -> Result<usize, HostError>
+        requires usable { is_usable self.old }
+        requires some { 0 < length bytes.now }
+        ensures usable { OnOk result (is_usable self.new) }
+        ensures count { IfOk result (λ n. (0 < n) × (n ≤ length bytes.now)) }
+        ensures output { IfOk result (λ n. output self.new ≡ output self.old ++ take n bytes.now) }
+        ensures output_some { AddsPrefix (output self.old) bytes.now (output self.new) }
+        ensures content { content self.new ≡ content self.old }
+        ensures crash { (c : List ℕ) → may_leave self.new c → may_leave self.old c }
+        ensures time { Elapses (moment self.old) (moment self.new) (left_since self.old) (left_since self.new)
+            (Outputs (may_leave self.old) (output self.old) bytes.now) }
+        ensures cause { OutputCause (faults self.old) (faults self.new) result };
+
+    /// This moment is one of those since an earlier one.
+    ghost counts_now: { (host : Self) (t : ℕ) (c : List ℕ) → t ≤ moment host → may_leave host c →
+        left_since host t c (output host) };
+
+    /// Since this moment there is no other.
+    ghost only_now: { (host : Self) (c d : List ℕ) → left_since host (moment host) c d →
+        may_leave host c × (d ≡ output host) };
+}

@@ -1,0 +1,219 @@
+//! Lines that begin with `{`, and then a closed gate, a space. The gate is the place of the next batch's first byte:
+//! a batch is written behind it, with a closed gate of its own at its end, and synced; then the gate is opened, by
+//! the one byte `{`, and synced. So a crash leaves all of a batch or none of it.
+ghost use Rattle.std.specs.Prelude.{◌≡◌, ◌⊎◌, ◌+◌, ◌<◌, ◌≤◌, ◌^◌, ◌++◌, [], ◌∷◌, List, ℕ, length, take, IfOk, IfErr};
+ghost use Rattle.std.specs.Prelude.{OnOk, IsErrOf, ◌==◌, position};
+ghost use Rattle.std.specs.List.{concat};
+ghost use Rattle.rb_journal.specs.Host.{Only, Outputs, LeavesOnly};
+ghost use Rattle.rb_journal.specs.Lines.{recovered, at_rest, IsBatch};
+ghost use Rattle.rb_journal.specs.Journal.{IsSettled, IsLeftAs, IsBeforeOrAfter, IsDurable};
+
+use crate::{Host, HostError};
+
+/// No file is longer than this, in bytes.
+const MAX_LEN: usize = 1 << 60;
+
+const LF: u8 = b'\n';
+
+/// Lines that are on the disk, over a host whose file is at rest between two calls.
+#[derive(Drop)]
+pub struct Journal<H: Host> {
+    pub host: H,
+    /// Where the lines end, in bytes from the file's start: the place of the gate.
+    pub end: usize,
+}
+
+impl<H: Host> Journal<H> {
+    /// Opens a file that a crash may have left, whose bytes these are, and repairs its end. It may crash too.
+    pub fn open(mut host: H, bytes: &[u8]) -> Result<Journal<H>, (HostError, H)>
+        requires usable { H.is_usable host }
+        requires bytes { bytes.now ≡ H.content host }
+        // After a restart, what is read is what is on the disk.
+        requires durable { Only (H.content host) (H.may_leave host) }
+
+        ensures settled { IfOk result (λ journal. IsSettled H.is_usable H.content H.may_leave journal) }
+        ensures lines { IfOk result (λ journal. recovered (H.content journal.host) ≡ recovered bytes.now) }
+        ensures output { IfOk result (λ journal. H.output journal.host ≡ H.output host) }
+
+        // A crash at any moment leaves the same lines.
+        ensures any_moment { IfOk result (λ journal. LeavesOnly H.moment H.left_since host journal.host
+            (IsLeftAs (recovered bytes.now) (H.output host))) }
+        ensures any_moment_err { IfErr result (λ e. LeavesOnly H.moment H.left_since host e.1
+            (IsLeftAs (recovered bytes.now) (H.output host))) }
+
+        ensures failed { IfErr result (λ e. e.0 ≡ HostError.DiskFailed → H.faults host < H.faults e.1) }
+        ensures no_output_fault { IfErr result (λ e. e.0 ≡ HostError.OutputFailed → ⊥) }
+        ensures full { IfErr result (λ e. e.0 ≡ HostError.Full → ⊥) }
+    {
+        match recover(&mut host, bytes) {
+            Ok(end) => Ok(Journal { host, end }),
+            Err(error) => Err((error, host)),
+        }
+    }
+
+    /// Adds a batch of lines, with two syncs, whatever its size, and none where it is empty.
+    /// At `Ok` all of it is on the disk: from then on each crash leaves a file that has it. At `Err`, open the file
+    /// again.
+    pub fn append(&mut self, batch: &[u8]) -> Result<(), HostError>
+        requires settled { IsSettled H.is_usable H.content H.may_leave self.old }
+        requires lines { IsBatch batch.now }
+
+        ensures settled { OnOk result (IsSettled H.is_usable H.content H.may_leave self.new) }
+        ensures lines { OnOk result (recovered (H.content self.new.host) ≡ recovered (H.content self.old.host)
+            ++ recovered batch.now) }
+        ensures output { H.output self.new.host ≡ H.output self.old.host }
+
+        // A crash at any moment of the call leaves the lines from before it, with all of the batch or none of it.
+        ensures any_moment { LeavesOnly H.moment H.left_since self.old.host self.new.host
+            (IsBeforeOrAfter (recovered (H.content self.old.host)) (recovered batch.now) (H.output self.old.host)) }
+
+        // It doesn't give up by itself.
+        ensures later { H.faults self.old.host ≤ H.faults self.new.host }
+        ensures failed { IsErrOf result HostError.DiskFailed → H.faults self.old.host < H.faults self.new.host }
+        ensures no_output_fault { IsErrOf result HostError.OutputFailed → ⊥ }
+        ensures full { IsErrOf result HostError.Full → 2 ^ 60 ≤ self.old.end + length batch.now }
+    {
+        let [gate, tail @ ..] = batch else {
+            return Ok(());
+        };
+        if self.end >= MAX_LEN || tail.len() >= MAX_LEN {
+            return Err(HostError::Full);
+        }
+        stage(&mut self.host, self.end, tail)?;
+        self.host.write_at(self.end, &[*gate])?;
+        self.host.sync()?;
+        self.end += 1 + tail.len();
+        Ok(())
+    }
+
+    /// Adds a batch of lines, and puts out the reply once all of it is on the disk. At `Err`, open the file again.
+    pub fn commit_and_put_out(&mut self, batch: &[u8], reply: &[u8]) -> Result<(), HostError>
+        requires settled { IsSettled H.is_usable H.content H.may_leave self.old }
+        requires lines { IsBatch batch.now }
+
+        ensures settled { OnOk result (IsSettled H.is_usable H.content H.may_leave self.new) }
+        ensures lines { OnOk result (recovered (H.content self.new.host) ≡ recovered (H.content self.old.host)
+            ++ recovered batch.now) }
+        ensures output { OnOk result (H.output self.new.host ≡ H.output self.old.host ++ reply.now) }
+
+        // Nothing is put out that a crash, at any moment of the call, takes back.
+        ensures any_moment { LeavesOnly H.moment H.left_since self.old.host self.new.host
+            (IsDurable (recovered (H.content self.old.host)) (recovered batch.now) (H.output self.old.host) reply.now) }
+
+        // It doesn't give up by itself. Where the output fails, the batch is on the disk all the same.
+        ensures later { H.faults self.old.host ≤ H.faults self.new.host }
+        ensures failed { IsErrOf result HostError.DiskFailed → H.faults self.old.host < H.faults self.new.host }
+        ensures output_failed { IsErrOf result HostError.OutputFailed →
+            H.faults self.old.host < H.faults self.new.host }
+        ensures kept { IsErrOf result HostError.OutputFailed →
+            (recovered (H.content self.new.host) ≡ recovered (H.content self.old.host) ++ recovered batch.now)
+            × Only (H.content self.new.host) (H.may_leave self.new.host) }
+        ensures full { IsErrOf result HostError.Full → 2 ^ 60 ≤ self.old.end + length batch.now }
+    {
+        self.append(batch)?;
+        put_out_all(&mut self.host, reply)?;
+        Ok(())
+    }
+}
+
+// Writes what a batch has behind its first byte, and a closed gate, behind the closed gate.
+fn stage<H: Host>(host: &mut H, end: usize, tail: &[u8]) -> Result<(), HostError>
+    requires usable { H.is_usable host.old }
+    requires rest { H.content host.old ≡ at_rest (recovered (H.content host.old)) }
+    requires end { end ≡ length (concat (recovered (H.content host.old))) }
+    requires durable { Only (H.content host.old) (H.may_leave host.old) }
+    requires fits { end + length tail.now < 2 ^ 62 }
+
+    ensures usable { OnOk result (H.is_usable host.new) }
+    ensures staged { OnOk result (H.content host.new ≡ concat (recovered (H.content host.old)) ++ 32
+        ∷ (tail.now ++ 32 ∷ [])) }
+    ensures durable { OnOk result (Only (H.content host.new) (H.may_leave host.new)) }
+    ensures output { H.output host.new ≡ H.output host.old }
+    ensures any_moment { LeavesOnly H.moment H.left_since host.old host.new
+        (IsLeftAs (recovered (H.content host.old)) (H.output host.old)) }
+    ensures later { H.faults host.old ≤ H.faults host.new }
+    ensures failed { IsErrOf result HostError.DiskFailed → H.faults host.old < H.faults host.new }
+    ensures no_output_fault { IsErrOf result HostError.OutputFailed → ⊥ }
+    ensures full { IsErrOf result HostError.Full → ⊥ }
+{
+    host.write_at(end + 1, tail)?;
+    host.write_at(end + 1 + tail.len(), b" ")?;
+    host.sync()?;
+    Ok(())
+}
+
+// Puts out all of the bytes.
+fn put_out_all<H: Host>(host: &mut H, bytes: &[u8]) -> Result<(), HostError>
+    requires { H.is_usable host.old }
+
+    ensures usable { OnOk result (H.is_usable host.new) }
+    ensures output { OnOk result (H.output host.new ≡ H.output host.old ++ bytes.now) }
+    ensures content { H.content host.new ≡ H.content host.old }
+    ensures crash { (c : List ℕ) → H.may_leave host.new c → H.may_leave host.old c }
+    ensures any_moment { LeavesOnly H.moment H.left_since host.old host.new
+        (Outputs (H.may_leave host.old) (H.output host.old) bytes.now) }
+    ensures later { H.faults host.old ≤ H.faults host.new }
+    ensures output_failed { IsErrOf result HostError.OutputFailed → H.faults host.old < H.faults host.new }
+    ensures not_failed { IsErrOf result HostError.DiskFailed → ⊥ }
+    ensures full { IsErrOf result HostError.Full → ⊥ }
+{
+    let mut done = 0;
+    while done < bytes.len() {
+        done += host.put_out(&bytes[done..])?;
+    }
+    Ok(())
+}
+
+/// Repairs the end of a file that a crash may have left, whose bytes these are, and answers where its lines end.
+/// It may crash too.
+pub fn recover<H: Host>(host: &mut H, bytes: &[u8]) -> Result<usize, HostError>
+    requires usable { H.is_usable host.old }
+    requires bytes { bytes.now ≡ H.content host.old }
+    requires durable { Only (H.content host.old) (H.may_leave host.old) }
+
+    ensures usable { OnOk result (H.is_usable host.new) }
+    ensures length { IfOk result (λ end. end ≡ length (concat (recovered bytes.now))) }
+    ensures at_rest { OnOk result (H.content host.new ≡ at_rest (recovered bytes.now)) }
+    ensures same { OnOk result (recovered (H.content host.new) ≡ recovered bytes.now) }
+    ensures durable { OnOk result (Only (H.content host.new) (H.may_leave host.new)) }
+    ensures output { H.output host.new ≡ H.output host.old }
+
+    // A crash at any moment leaves the same lines.
+    ensures any_moment { LeavesOnly H.moment H.left_since host.old host.new
+        (IsLeftAs (recovered bytes.now) (H.output host.old)) }
+
+    ensures failed { IsErrOf result HostError.DiskFailed → H.faults host.old < H.faults host.new }
+    ensures no_output_fault { IsErrOf result HostError.OutputFailed → ⊥ }
+    ensures full { IsErrOf result HostError.Full → ⊥ }
+{
+    let end = end_of_lines(bytes);
+    host.cut(end)?;
+    // The cut has to be on the disk first: behind a gate that is torn open, what was there would count.
+    host.sync()?;
+    host.write_at(end, b" ")?;
+    host.sync()?;
+    Ok(end)
+}
+
+fn first_lf(bytes: &[u8]) -> Option<usize>
+    ensures { result ≡ position (λ b. b == 10) bytes.now }
+{
+    bytes.iter().position(|b| *b == LF)
+}
+
+/// Where the lines end that these bytes of a file have, in bytes from its start.
+pub fn end_of_lines(bytes: &[u8]) -> usize
+    ensures length { result ≡ length (concat (recovered bytes.now)) }
+    ensures lines { take result bytes.now ≡ concat (recovered bytes.now) }
+{
+    let mut end = 0;
+    let mut rest = bytes;
+    while let Some(last) = first_lf(rest) {
+        if rest[0] != b'{' {
+            break;
+        }
+        end += last + 1;
+        rest = &rest[last + 1..];
+    }
+    end
+}

@@ -1,0 +1,108 @@
+//! A file in memory, and an output into memory.
+ghost use Rattle.std.specs.Prelude.{◌≡◌, ◌≤◌, length, IfOk};
+ghost use Rattle.rb_journal.specs.Host.{IsWritten};
+ghost use Rattle.rb_journal.specs.Calls.{content_of, output_of, leaves, left_since, faults_of};
+ghost use Rattle.rb_journal.specs.CallLaws.{now_counts, now_alone};
+
+use crate::record::Record;
+use crate::{Host, HostError, calls};
+use std::alloc::{AllocError, Global};
+
+/// Each call is done at once, and what a crash may leave is all that a host allows.
+#[derive(Drop)]
+pub struct Memory {
+    alloc: Global,
+    bytes: Vec<u8>,
+    output: Vec<u8>,
+    log: Record,
+    ghost agrees: { content_of log.events ≡ bytes.items },
+    ghost output_all: { output_of log.events ≡ output.items },
+}
+
+impl Memory {
+    ghost use Rattle.std.specs.Prelude.{[]};
+    ghost use Rattle.rb_journal.specs.Host.{Only};
+    ghost use Rattle.rb_journal.specs.Memory.{memory_log};
+
+    /// A file with these bytes, all of them on the disk.
+    pub fn new(alloc: Global, bytes: Vec<u8>) -> Memory
+        ensures usable { faults_of (memory_log result) ≡ 0 }
+        ensures content { content_of (memory_log result) ≡ bytes.items }
+        ensures durable { Only bytes.items (leaves (memory_log result)) }
+        ensures output { output_of (memory_log result) ≡ [] }
+    {
+        let log = calls::found(&bytes);
+        Memory {
+            alloc,
+            bytes,
+            output: Vec::new(alloc),
+            log,
+        }
+    }
+
+    /// The bytes of the file.
+    pub fn bytes(&self) -> &[u8]
+        ensures { result.now ≡ content_of (memory_log self.now) }
+    {
+        &self.bytes
+    }
+
+    /// The bytes that were put out.
+    pub fn output(&self) -> &[u8]
+        ensures { result.now ≡ output_of (memory_log self.now) }
+    {
+        &self.output
+    }
+}
+
+// The old bytes with these at this place.
+fn spliced(alloc: Global, old: &[u8], at: usize, bytes: &[u8]) -> Result<Vec<u8>, AllocError>
+    requires { at ≤ length old.now }
+    ensures { IfOk result (λ next. IsWritten old.now at bytes.now next.items) }
+{
+    let mut next = old[..at].to_vec(alloc)?;
+    next.extend_from_slice(bytes)?;
+    if bytes.len() < old.len() - at {
+        next.extend_from_slice(&old[at + bytes.len()..])?;
+    }
+    Ok(next)
+}
+
+impl Host for Memory {
+    ghost is_usable = { λ h. faults_of h.log.events ≡ 0 };
+
+    ghost content = { λ h. content_of h.log.events };
+
+    ghost output = { λ h. output_of h.log.events };
+
+    ghost may_leave = { λ h. leaves h.log.events };
+
+    ghost moment = { λ h. length h.log.events };
+
+    ghost left_since = { λ h. left_since h.log.events };
+
+    ghost faults = { λ h. faults_of h.log.events };
+
+    ghost counts_now = { λ h t c le left. now_counts h.log.events t c le left };
+
+    ghost only_now = { λ h c d left. now_alone h.log.events c d left };
+
+    fn write_at(&mut self, at: usize, bytes: &[u8]) -> Result<(), HostError> {
+        self.bytes = spliced(self.alloc, &self.bytes, at, bytes)?;
+        calls::wrote(&mut self.log, at, bytes, true)
+    }
+
+    fn cut(&mut self, len: usize) -> Result<(), HostError> {
+        self.bytes.truncate(len);
+        calls::cut(&mut self.log, len, true)
+    }
+
+    fn sync(&mut self) -> Result<(), HostError> {
+        calls::synced(&mut self.log, true)
+    }
+
+    fn put_out(&mut self, bytes: &[u8]) -> Result<usize, HostError> {
+        self.output.extend_from_slice(bytes)?;
+        calls::output(&mut self.log, bytes, Some(bytes.len()))
+    }
+}
