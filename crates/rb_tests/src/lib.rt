@@ -15,6 +15,8 @@ mod forged_texts;
 #[cfg(test)]
 mod inbox;
 #[cfg(test)]
+mod journal;
+#[cfg(test)]
 mod ledger;
 #[cfg(test)]
 mod money;

@@ -1,0 +1,151 @@
+//! Lines on the disk: what a torn end leaves, batches, a file of the system.
+use rb_journal::{HostError, Journal, LineBatch, Memory, Step, end_of_lines, is_line, open_disk};
+use std::alloc::{AllocError, Global};
+use std::fs;
+use std::test::Fail;
+
+const FOLDER: &str = "rb_journal_test";
+
+const PATH: &str = "rb_journal_test/lines";
+
+// Opens a file of these bytes, and adds the batch, if it is lines, and puts out the reply.
+fn committed(
+    alloc: Global,
+    bytes: &[u8],
+    batch: &[u8],
+    reply: &[u8],
+) -> Result<Journal<Memory>, HostError> {
+    let host = Memory::new(alloc, bytes.to_vec(alloc)?);
+    match Journal::open(host, bytes) {
+        Ok(mut journal) => {
+            if end_of_lines(batch) == batch.len() {
+                journal.commit_and_put_out(batch, reply)?;
+            }
+            Ok(journal)
+        }
+        Err((error, _)) => Err(error),
+    }
+}
+
+// The same on a file of the system, which is opened and closed. Answers whether it could not be opened twice.
+fn committed_on_disk(rt: &HostRuntime, batch: &[u8]) -> Result<bool, Fail> {
+    let (host, bytes) = open_disk(rt, FOLDER, PATH, rt.stdout())?;
+    match Journal::open(host, &bytes) {
+        Ok(mut journal) => {
+            let refused = open_disk(rt, FOLDER, PATH, rt.stdout()).is_err();
+            if end_of_lines(batch) == batch.len() {
+                journal.commit_and_put_out(batch, b"kept\n")?;
+            }
+            Ok(refused)
+        }
+        Err((error, _)) => Err(Fail::from(error)),
+    }
+}
+
+#[test]
+fn an_empty_file_has_no_lines(rt: HostRuntime) -> Result<(), Fail> {
+    let journal = committed(rt.alloc(), b"", b"", b"")?;
+    assert_eq!(rt; journal.end, 0);
+    assert_eq!(rt; journal.host.bytes(), b" ".as_slice());
+    Ok(())
+}
+
+#[test]
+fn torn_tails_are_dropped(rt: HostRuntime) -> Result<(), Fail> {
+    let alloc = rt.alloc();
+    for torn in [
+        b"{a}\n ".as_slice(),
+        b"{a}\n",
+        b"{a}\n {b}\n ",
+        b"{a}\n{b",
+        b"{a}\n\0{b}\n",
+        b"{a}\n\n{b}\n",
+        b"{a}\nx{b}\n",
+    ] {
+        let journal = committed(alloc, torn, b"", b"")?;
+        assert_eq!(rt; journal.end, 4);
+        assert_eq!(rt; journal.host.bytes(), b"{a}\n ".as_slice());
+        let again = committed(alloc, journal.host.bytes(), b"", b"")?;
+        assert_eq!(rt; again.end, 4);
+    }
+    Ok(())
+}
+
+#[test]
+fn a_batch_of_two_lines_is_added_and_then_put_out(rt: HostRuntime) -> Result<(), Fail> {
+    let journal = committed(rt.alloc(), b"{a}\n ", b"{b}\n{c}\n", b"done\n")?;
+    assert_eq!(rt; journal.host.bytes(), b"{a}\n{b}\n{c}\n ".as_slice());
+    assert_eq!(rt; journal.host.output(), b"done\n".as_slice());
+    Ok(())
+}
+
+#[test]
+fn a_file_of_the_system_keeps_its_lines(rt: HostRuntime) -> Result<(), Fail> {
+    let _ = fs::remove_dir_all(&rt, FOLDER);
+    fs::create_dir(&rt, FOLDER)?;
+    assert!(rt; committed_on_disk(&rt, b"{a}\n")?);
+    assert_eq!(rt; fs::read(&rt, PATH)?.as_slice(), b"{a}\n ".as_slice());
+    fs::write(&rt, PATH, b"{a}\n\0torn}\n ".as_slice())?;
+    assert!(rt; committed_on_disk(&rt, b"{b}\n{c}\n")?);
+    assert_eq!(rt;
+        fs::read(&rt, PATH)?.as_slice(),
+        b"{a}\n{b}\n{c}\n ".as_slice()
+    );
+    fs::remove_dir_all(&rt, FOLDER)?;
+    Ok(())
+}
+
+// A batch of these lines.
+fn batch_of(alloc: Global, lines: &[&[u8]]) -> Result<LineBatch, AllocError> {
+    let mut batch = LineBatch::new(alloc);
+    for line in lines {
+        if is_line(line) {
+            batch.push(line)?;
+        }
+    }
+    Ok(batch)
+}
+
+#[test]
+fn only_lines_are_taken(rt: HostRuntime) -> Result<(), Fail> {
+    let batch = batch_of(
+        rt.alloc(),
+        &[b"{a}", b"", b"a}", b"{b\n}", b"{", b" {c}", b"{d}\n"],
+    )?;
+    assert_eq!(rt; batch.bytes.as_slice(), b"{a}\n{\n".as_slice());
+    Ok(())
+}
+
+// Commits two steps, the second with no line.
+fn two_steps(alloc: Global) -> Result<Journal<Memory>, HostError> {
+    let host = Memory::new(alloc, Vec::new(alloc));
+    match Journal::open(host, &[]) {
+        Ok(mut journal) => {
+            let mut batch = LineBatch::new(alloc);
+            let line = b"{a}".as_slice();
+            if is_line(line) {
+                batch.push(line)?;
+            }
+            journal.commit_all(&[
+                Step {
+                    batch,
+                    reply: b"one".to_vec(alloc)?,
+                },
+                Step {
+                    batch: LineBatch::new(alloc),
+                    reply: b"two".to_vec(alloc)?,
+                },
+            ])?;
+            Ok(journal)
+        }
+        Err((error, _)) => Err(error),
+    }
+}
+
+#[test]
+fn steps_are_committed_in_order(rt: HostRuntime) -> Result<(), Fail> {
+    let journal = two_steps(rt.alloc())?;
+    assert_eq!(rt; journal.host.bytes(), b"{a}\n ".as_slice());
+    assert_eq!(rt; journal.host.output(), b"onetwo".as_slice());
+    Ok(())
+}
