@@ -1,6 +1,6 @@
 -- Where a run over lines that are answered stands between two of them.
 use Rattle.std.proofs.Common.{◌≡◌, ◌<◌, ◌≤◌, ◌+◌, ◌-◌, ◌⊎◌, ℕ, Bool, true, false, List, [], ◌∷◌, ◌++◌, length, take, drop, sym, ap, ◌∙◌}
-use Rattle.std.proofs.Common.{arith, subst, append-nil, append_assoc, zero-add}
+use Rattle.std.proofs.Common.{arith, append-nil, append_assoc, zero-add}
 use Rattle.rb_lines.specs.Lines.{lines_of, whole_lines, line_len}
 use Rattle.rb_lines.proofs.Public.Walks.{Walks}
 use Rattle.rb_lines.proofs.Public.Walks as walk
