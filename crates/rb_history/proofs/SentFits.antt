@@ -9,9 +9,8 @@ use Rattle.rb_money.specs.Refusals.{and_then, unless}
 use Rattle.rb_money.specs.Settings.{IsConfigured, Settings, is_account}
 use Rattle.rb_money.specs.declared.refusal.Refusal.{Refusal}
 use Rattle.rb_money.specs.declared.refusal.Refusal.TheVariants.{BadBatch, BadMessage, Conflict, InboxFull, NotHeld, NotReady}
-use Rattle.rb_shadow.specs.Labels.{label_of}
 use Rattle.rb_shadow.specs.Operations.{Among, clock_of, find_in, is_eligible, red_count, same_shadow}
-use Rattle.rb_shadow.specs.Sound.{IsSound, are_entries, fault_in}
+use Rattle.rb_shadow.specs.Sound.{IsSound, are_entries, fault_of}
 use Rattle.rb_shadow.specs.declared.shadow.Shadow.{Shadow}
 use Rattle.rb_shadow.proofs.Public.Lookups.{found}
 use Rattle.rb_shadow.proofs.Public.Members.{or-false}
@@ -20,7 +19,7 @@ use Rattle.rb_ledger.specs.Valid.{IsValid}
 use Rattle.rb_ledger.proofs.Public.Legal.{IsValid-none, IsValid-push, taken_rightly}
 use Rattle.rb_ledger.proofs.Public.ValidClocks.{clock_is_clock}
 use Rattle.rb_inbox.proofs.Public.Holding.{held_cases, kept_among}
-use Rattle.rb_scratch.specs.Batches.{batch_of, names_of_all}
+use Rattle.rb_scratch.specs.Batches.{batch_of}
 use Rattle.rb_scratch.specs.Requests.{Plan, made_of, operation_of}
 use Rattle.rb_scratch.specs.declared.request.Request.{Request}
 use Rattle.rb_scratch.specs.declared.request.TheConstants.{MOST_REQUESTS}
@@ -32,11 +31,10 @@ use Rattle.rb_site.specs.declared.event.Event.{Event}
 use Rattle.rb_site.specs.declared.event.Event.TheVariants.{Submit, Batch, Receive, Apply, Pass, Balance, AsOf, Statement as AskStatement}
 use Rattle.rb_site.specs.declared.message.Message.{Message}
 use Rattle.rb_site.specs.declared.message.Message.TheVariants.{Shadow as ShadowMessage, Token as TokenOnItsWay}
-use Rattle.rb_site.specs.declared.reply.Reply.{Reply}
-use Rattle.rb_site.specs.declared.reply.Reply.TheVariants.{Made, Names as NamesMade, Already, Stale}
-use Rattle.rb_site.specs.Events.{ModelSite, Outcome, Refuses, Answers, Makes, Holds, Takes, Passes, after_event, changed}
+use Rattle.rb_site.specs.declared.reply.Reply.TheVariants.{Already, Stale}
+use Rattle.rb_site.specs.Events.{ModelSite, Outcome, Refuses, Answers, Makes, MakesAll, Holds, Takes, Passes, after_event, changed}
 use Rattle.rb_site.specs.Events.{first_site}
-use Rattle.rb_site.specs.Events.{is_full, noted, outcome_of, outcome_of_apply, outcome_of_check, outcome_of_shadow, reply_of, sent_at}
+use Rattle.rb_site.specs.Events.{is_full, outcome_of, outcome_of_check, sent_at}
 use Rattle.rb_site.specs.Events.{sent_by, unless_known}
 use Rattle.rb_site.specs.Histories.{IsAmong, sends_of}
 use Rattle.rb_site.proofs.Public.Stuck.{among-cases}
@@ -114,8 +112,8 @@ checks s t v g sound (Some _) e = record {
 }
 
 applies : (s : Settings) (t : ModelSite) → IsInOrder s t → (o : Option Shadow) → ((v : Shadow) → o ≡ Some v → IsSound s v)
-    → Keeps s t (outcome_of_apply s t o)
-unfolding outcome_of_apply
+    → Keeps s t (unless (λ v. cond (not (is_eligible t.ops v)) (Refuses NotReady) (outcome_of_check v (refusal_of_sound s t.ops v))) o
+    (Refuses NotHeld))
 applies s t g None sound = refuses s t NotHeld g
 applies s t g (Some v) sound =
     if_not s t (not (is_eligible t.ops v)) NotReady _ g (λ e. checks s t v g (sound v refl) (refusal_of_sound s t.ops v) refl)
@@ -158,21 +156,27 @@ sent_fit s [] fit m h = absurd h
 sent_fit s (v ∷ vs) fit m (inl same) = subst (λ n. IsEvent s (Receive n)) (sym same) (fit v (inl refl))
 sent_fit s (v ∷ vs) fit m (inr there) = sent_fit s vs (λ u h. fit u (inr h)) m there
 
-makes : (s : Settings) (t : ModelSite) (reply : Reply) (vs : List Shadow) → IsInOrder s t → Grows s t.ops vs → Keeps s t (Makes reply vs)
-makes s t reply vs g grown = record {
+makes : (s : Settings) (t : ModelSite) (v : Shadow) → IsInOrder s t → Grows s t.ops (v ∷ []) → Keeps s t (Makes v)
+makes s t v g grown = record {
+  order = record { me = g.me; valid = grown.valid; held = g.held; needed = g.needed };
+  sends = sent_fit s (v ∷ []) grown.fit;
+}
+
+makes_all : (s : Settings) (t : ModelSite) (vs : List Shadow) → IsInOrder s t → Grows s t.ops vs → Keeps s t (MakesAll vs)
+makes_all s t vs g grown = record {
   order = record { me = g.me; valid = grown.valid; held = g.held; needed = g.needed };
   sends = sent_fit s vs grown.fit;
 }
 
 submits : (s : Settings) → IsConfigured s → (t : ModelSite) → IsInOrder s t → (r : Request) (q : Result Shadow Refusal)
-    → made_of s t.me t.ops t.token r ≡ q → Keeps s t (and_then Refuses q (λ v. Makes (Made v.name (label_of v.kind)) (v ∷ [])))
+    → made_of s t.me t.ops t.token r ≡ q → Keeps s t (and_then Refuses q Makes)
 submits s c t g r (Ok v) e =
-    makes s t _ (v ∷ []) g (all_grow s c t.me t.ops t.token (v ∷ []) g.me g.valid (made_is s t.me t.ops t.token r v e, tt))
+    makes s t v g (all_grow s c t.me t.ops t.token (v ∷ []) g.me g.valid (made_is s t.me t.ops t.token r v e, tt))
 submits s c t g r (Err why) e = refuses s t why g
 
 tries : (s : Settings) → IsConfigured s → (t : ModelSite) → IsInOrder s t → (rs : List Request) (q : Result (List Shadow) Refusal)
-    → batch_of s t.me t.ops t.token 0 rs ≡ q → Keeps s t (and_then Refuses q (λ vs. Makes (NamesMade (names_of_all vs)) vs))
-tries s c t g rs (Ok vs) e = makes s t _ vs g (all_grow s c t.me t.ops t.token vs g.me g.valid (batch_is s t.me t.ops t.token 0 rs vs e))
+    → batch_of s t.me t.ops t.token 0 rs ≡ q → Keeps s t (and_then Refuses q MakesAll)
+tries s c t g rs (Ok vs) e = makes_all s t vs g (all_grow s c t.me t.ops t.token vs g.me g.valid (batch_is s t.me t.ops t.token 0 rs vs e))
 tries s c t g rs (Err why) e = refuses s t why g
 
 -- ---- the token
@@ -224,13 +228,13 @@ passes s c t to g e =
 -- ---- one event, and all
 
 keeps : (s : Settings) → IsConfigured s → (t : ModelSite) → IsInOrder s t → (e : Event) → Keeps s t (outcome_of s t e)
-unfolding outcome_of outcome_of_shadow
+unfolding outcome_of
 keeps s c t g (Submit r) = submits s c t g r (made_of s t.me t.ops t.token r) refl
 keeps s c t g (Batch rs) =
     if_not s t (not (nat_le 1 (length rs) && nat_le (length rs) MOST_REQUESTS)) BadBatch _ g (λ e.
     tries s c t g rs (batch_of s t.me t.ops t.token 0 rs) refl)
 keeps s c t g (Receive (ShadowMessage v)) =
-    if_none s t BadMessage (fault_in s v) _ g (λ sound.
+    if_none s t BadMessage (fault_of s v) _ g (λ sound.
     if_unknown s t v (find_in t.ops v.name) _ g
     (if_not s t (v.home == t.me) Conflict _ g (λ e.
     if_unknown s t v (find_in t.held v.name) _ g
@@ -257,7 +261,7 @@ stays : (s : Settings) → IsConfigured s → (t : ModelSite) → IsInOrder s t 
 stays s c t g e = by (is_full s t) (keeps s c t g e)
   where
     by : (b : Bool) → Keeps s t (outcome_of s t e)
-        → IsInOrder s (cond b t (noted (changed t (outcome_of s t e)) e (reply_of (outcome_of s t e))))
+        → IsInOrder s (cond b t (record (changed t (outcome_of s t e)) { history = t.history ++ e ∷ [] }))
         × AllFit s (cond b [] (sent_by (outcome_of s t e)))
     by true k = (g, none_fit s)
     by false k = let o = k.order in (record { me = o.me; valid = o.valid; held = o.held; needed = o.needed }, k.sends)
