@@ -2,8 +2,8 @@
 //! audits, are made by tests/cases.py.
 use crate::branch::comes;
 use rb_branch::{Gate, NoGate};
-use rb_lines::{ScriptFault, ToBytes};
-use rb_run_threads::run_threads;
+use rb_lines::ToBytes;
+use rb_run_threads::{ThreadsFault, run_threads, threads_message, threads_status};
 use std::rt::Clock;
 use std::sync::atomic::{AtomicBool, Ordering};
 use std::test::Fail;
@@ -16,8 +16,21 @@ fn writer_fails_midway(rt: HostRuntime) {
     let begins = taken.starts_with(br#"{"accounts":[["a0",1000],"#);
     assert_eq!(rt;
         (run, begins, taken.len()),
-        (Err(ScriptFault::Write), true, 100)
+        (Err(ThreadsFault::Write), true, 100)
     );
+}
+
+#[test]
+fn threads_faults_in_words(rt: HostRuntime) -> Result<(), Fail> {
+    for (fault, text, number) in [
+        (ThreadsFault::Write, "rbbank: write failed", 3u8),
+        (ThreadsFault::OutOfMemory, "rbbank: out of memory", 4),
+        (ThreadsFault::Gather, "rbbank: gather failed", 5),
+    ] {
+        let said = threads_message(rt.alloc(), fault)?;
+        assert_eq!(rt; (said.as_str(), threads_status(fault)), (text, number));
+    }
+    Ok(())
 }
 
 /// A gate whose first entry at each of two sites waits for the other's.
