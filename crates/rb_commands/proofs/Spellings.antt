@@ -1,8 +1,8 @@
 -- Values as programs spell them, and what follows.
-use Rattle.std.proofs.Common.{◌≡◌, ◌<◌, ◌^◌, ℕ, List, ◌++◌, codes, decimal, refl, sym, ap, ◌∙◌, append_assoc, arith}
+use Rattle.std.proofs.Common.{◌≡◌, ◌<◌, ◌^◌, ℕ, List, ◌++◌, codes, refl, sym, ap, ◌∙◌, append_assoc, arith}
 use Rattle.json.specs.Print.{escape}
 use Rattle.json.proofs.Printed.Decimals.{IsNumber-decimal}
-use Rattle.serde_json.specs.Data.{Data, string}
+use Rattle.serde_json.specs.Data.{string}
 use Rattle.serde_json.proofs.Numbers.{number_of-decimal}
 use Rattle.rb_commands.specs.Spelled.{IsRead}
 use Rattle.rb_commands.specs.Values.{number_json, pair_json, three_json}

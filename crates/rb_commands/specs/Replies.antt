@@ -13,11 +13,12 @@ use Rattle.rb_site.specs.declared.reply.Reply.{Reply}
 use Rattle.rb_site.specs.declared.reply.Reply.TheVariants.{Made, Names, Held, Already, Taken, Stale, Applied, Passed, Balance, Statement}
 use Rattle.rb_site.specs.declared.reply.Reply.TheVariants.{Refused}
 use Rattle.rb_commands.specs.Statements.{statement_json}
-use Rattle.rb_commands.specs.Values.{number_json, name_json, label_text, list_json, one_json}
+use Rattle.rb_shadow.specs.Labels.{word_of}
+use Rattle.rb_commands.specs.Values.{number_json, name_json, list_json, one_json}
 
 -- an operation was made: its kind and its name
 abbrev pub made_json : OpName → Label → Data
-made_json name kind = object (member (codes "kind") (string (label_text kind)) (member (codes "name") (name_json name) no_members))
+made_json name kind = object (member (codes "kind") (string (word_of kind)) (member (codes "name") (name_json name) no_members))
 
 -- what stopped a batch: the word, or a refusal's number
 abbrev pub cause_json : Cause → Data

@@ -1,12 +1,10 @@
 -- JSON values: how numbers, names and the shapes of lines are written, and what is read from them.
-use Rattle.std.specs.Prelude.{ℕ, ℤ, List, codes, map, Option, Some, None, nat_lt, if◌then◌else◌, option_and_then}
+use Rattle.std.specs.Prelude.{ℕ, ℤ, List, map, Option, Some, None, nat_lt, if◌then◌else◌, option_and_then}
 use Rattle.serde_json.specs.Data.{Data, null, boolean, number, string, array, object, unsigned, Items, no_items, item, member, no_members}
 use Rattle.serde_json.specs.Events.{members_len}
 use Rattle.serde_json.specs.Find.{as_array, as_number, as_str, as_u64, of_integer}
 use Rattle.serde_json.specs.View.{items_of}
 use Rattle.rb_shadow.specs.declared.op_name.OpName.{OpName}
-use Rattle.rb_shadow.specs.declared.label.Label.{Label}
-use Rattle.rb_shadow.specs.declared.label.Label.TheVariants.{Deposit, Withdraw, Declined, Interest, Cancel, Transfer}
 use Rattle.rb_shadow.specs.NameText.{name_of, name_text}
 
 -- a number
@@ -16,15 +14,6 @@ number_json n = number (unsigned n)
 -- a whole number, with its sign where it is negative
 abbrev pub integer_json : ℤ → Data
 integer_json z = number (of_integer z)
-
--- a kind's word
-abbrev pub label_text : Label → List ℕ
-label_text Deposit = codes "deposit"
-label_text Withdraw = codes "withdraw"
-label_text Declined = codes "declined"
-label_text Interest = codes "interest"
-label_text Cancel = codes "cancel"
-label_text Transfer = codes "transfer"
 
 -- an operation's name
 abbrev pub name_json : OpName → Data

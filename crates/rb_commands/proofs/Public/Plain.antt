@@ -14,7 +14,7 @@ use Rattle.rb_money.specs.Settings.{is_account_name, is_name_byte}
 use Rattle.rb_shadow.specs.NameText.{name_text, IsName}
 use Rattle.rb_shadow.specs.declared.op_name.OpName.{OpName}
 use Rattle.rb_shadow.specs.declared.op_name.OpName.TheVariants.{Blue, Red}
-use Rattle.rb_commands.specs.Values.{label_text}
+use Rattle.rb_shadow.specs.Labels.{word_of}
 use Rattle.rb_shadow.specs.declared.label.Label.{Label}
 use Rattle.rb_shadow.specs.declared.label.Label.TheVariants.{Deposit}
 use Rattle.rb_shadow.proofs.Public.Digits.{in_digits}
@@ -60,7 +60,7 @@ pub quoted_plain : (xs : List ℕ) → ArePlain xs → quoted xs ≡ 34 ∷ (xs 
 quoted_plain xs h = rw (escape_plain xs h) refl
 
 -- so does a kind's word
-pub quoted_label : (k : Label) → quoted (label_text k) ≡ 34 ∷ (label_text k ++ 34 ∷ [])
+pub quoted_label : (k : Label) → quoted (word_of k) ≡ 34 ∷ (word_of k ++ 34 ∷ [])
 unfolding escape_byte
 quoted_label Deposit = refl
 quoted_label _ = refl

@@ -24,7 +24,8 @@ use Rattle.rb_site.specs.declared.reply.Reply.TheVariants.{Refused}
 use Rattle.rb_statements.specs.declared.row.Row.{Row}
 use Rattle.rb_commands.specs.Replies.{line, reply_json, refusal_json}
 use Rattle.rb_commands.specs.Statements.{row_json}
-use Rattle.rb_commands.specs.Values.{label_text, name_json}
+use Rattle.rb_shadow.specs.Labels.{word_of}
+use Rattle.rb_commands.specs.Values.{name_json}
 
 either_ascii : (b : Bool) (xs ys : List ℕ) → are_ascii xs ≡ true → are_ascii ys ≡ true → are_ascii (cond b xs ys) ≡ true
 either_ascii true xs ys h k = h
@@ -59,7 +60,7 @@ name_utf8 (Blue site n) = IsUtf8-append ((codes "B" ++ decimal site) ++
 name_utf8 (Red n) = IsUtf8-append (codes "R") (decimal n) (IsUtf8-are_ascii _ refl) (decimal_utf8 n)
 
 -- a kind's word is UTF-8
-pub label_utf8 : (k : Label) → IsUtf8 (label_text k)
+pub label_utf8 : (k : Label) → IsUtf8 (word_of k)
 label_utf8 Deposit = IsUtf8-are_ascii _ refl
 label_utf8 _ = IsUtf8-are_ascii _ refl
 

@@ -5,7 +5,7 @@ ghost use Rattle.rb_commands.specs.Adds.{Adds};
 ghost use Rattle.rb_commands.specs.Replies.{line, reply_json, made_json};
 ghost use Rattle.rb_commands.specs.Values.{name_json, list_json, one_json};
 
-use crate::write::append::{append, append_named, append_number};
+use crate::write::append::{append, append_named, append_number, append_three};
 use crate::write::refusal::append_refusal;
 use crate::write::statement::append_statement;
 use rb_shadow::{Label, OpName};
@@ -13,19 +13,11 @@ use rb_site::Reply;
 use std::alloc::{AllocError, Global};
 
 /// An operation that was made: its kind and its name.
-#[tactic(auto, unfolding(json::specs::Print::escape_byte))]
 fn append_made(out: &mut Vec<u8>, name: OpName, kind: Label) -> Result<(), AllocError>
     ensures { Adds result out.old.items out.new.items (compact_text (made_json name kind)) }
 {
-    let front = match kind {
-        Label::Deposit => "{\"kind\":\"deposit\",\"name\":",
-        Label::Withdraw => "{\"kind\":\"withdraw\",\"name\":",
-        Label::Declined => "{\"kind\":\"declined\",\"name\":",
-        Label::Interest => "{\"kind\":\"interest\",\"name\":",
-        Label::Cancel => "{\"kind\":\"cancel\",\"name\":",
-        Label::Transfer => "{\"kind\":\"transfer\",\"name\":",
-    };
-    append_named(out, front, name, "}")
+    append_three(out, "{\"kind\":\"", kind.word(), "\",\"name\":")?;
+    append_named(out, "", name, "}")
 }
 
 /// A name, behind a text.

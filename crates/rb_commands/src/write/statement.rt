@@ -8,10 +8,9 @@ ghost use Rattle.json.specs.Token.{boolean};
 ghost use Rattle.rb_shadow.specs.NameText.{name_text};
 ghost use Rattle.rb_commands.specs.Adds.{Adds};
 ghost use Rattle.rb_commands.specs.Statements.{row_json, statement_json};
-ghost use Rattle.rb_commands.specs.Values.{label_text};
+ghost use Rattle.rb_shadow.specs.Labels.{word_of};
 
 use crate::write::append::{append, append_integer, append_named, append_number, append_three};
-use crate::write::kind::label_word;
 use rb_statements::{Row, Statement};
 use std::alloc::AllocError;
 
@@ -36,11 +35,11 @@ fn append_row_front(out: &mut Vec<u8>, comma: &str, row: Row) -> Result<(), Allo
 /// The rest of a row: its kind, what it moved, whether it is cancelled, and the balance after it.
 fn append_row_back(out: &mut Vec<u8>, row: Row) -> Result<(), AllocError>
     ensures { Adds result out.old.items out.new.items
-        (codes "\"" ++ (label_text row.kind ++ (codes "\"," ++ (signed_decimal row.moved
+        (codes "\"" ++ (word_of row.kind ++ (codes "\"," ++ (signed_decimal row.moved
         ++ (codes "," ++ (token_text (boolean row.cancelled)
         ++ (codes "," ++ (decimal row.balance ++ codes "]")))))))) }
 {
-    append_three(out, "\"", label_word(row.kind), "\",")?;
+    append_three(out, "\"", row.kind.word(), "\",")?;
     append_integer(out, "", row.moved, cancelled_word(row.cancelled))?;
     append_number(out, "", row.balance, "]")
 }

@@ -3,7 +3,7 @@ use Rattle.std.specs.Fmt.{signed_decimal}
 use Rattle.json.specs.Print.{token_text, quoted}
 use Rattle.json.specs.Token.{boolean}
 use Rattle.rb_shadow.specs.NameText.{name_text}
-use Rattle.rb_commands.specs.Values.{label_text}
+use Rattle.rb_shadow.specs.Labels.{word_of}
 use Rattle.rb_commands.proofs.Public.Appended.{then}
 use Rattle.rb_commands.proofs.Public.Numerals.{integer_text}
 use Rattle.rb_commands.proofs.Public.Plain.{quoted_label}
@@ -35,7 +35,7 @@ returns c =
     let comma = c.args.comma.now in
     let position = decimal row.position in
     let name = quoted (name_text row.name) in
-    let label = label_text row.kind in
+    let label = word_of row.kind in
     let moved = signed_decimal row.moved in
     let cancelled = token_text (boolean row.cancelled) in
     let balance = decimal row.balance in

@@ -2,7 +2,7 @@ use Rattle.std.proofs.Common.{◌≡◌, to_z, of_z, w64, rules, ◌++◌, codes
 use Rattle.std.specs.Fmt.{signed_decimal}
 use Rattle.json.specs.Print.{token_text}
 use Rattle.json.specs.Token.{boolean}
-use Rattle.rb_commands.specs.Values.{label_text}
+use Rattle.rb_shadow.specs.Labels.{word_of}
 use Rattle.rb_commands.proofs.Public.Appended.{both, then, failed}
 use Rattle.rb_commands.proofs.write.statement.append_row_back.Goals as goal
 
@@ -19,10 +19,10 @@ returns c =
     let old = c.args.out.now.items in
     let one = c.append_three.new.out.items in
     let two = c.append_integer.new.out.items in
-    let label = codes "\"" ++ (label_text row.kind ++ codes "\",") in
+    let label = codes "\"" ++ (word_of row.kind ++ codes "\",") in
     let moved = signed_decimal row.moved ++ (codes "," ++ (token_text (boolean row.cancelled) ++ codes ",")) in
     let balance = decimal row.balance ++ codes "]" in
-    let first = rw c.label_word.ensures at c.in_ok-append_three.ensures in
+    let first = rw c.word.ensures at c.in_ok-append_three.ensures in
     let same : to_z w64 (of_z w64 row.moved) ≡ row.moved = search rules in
     let second = rw (c.cancelled_word.ensures, same) at c.in_ok-append_integer.ensures in
     let two_written = both old one two label moved first second in
