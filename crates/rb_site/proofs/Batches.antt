@@ -1,5 +1,6 @@
 -- The requests of a batch, one by one.
-use Rattle.std.proofs.Common.{◌≡◌, ◌∙◌, ℕ, ◌+◌, ◌<◌, ◌≤◌, ◌⊎◌, inl, inr, List, [], ◌∷◌, ◌++◌, drop, get_or, length, take, ap, arith, refl, subst, sym, Bool, true, false, cond, not, ◌&&◌, Result, Ok, Err, IfOk, IfErr, map}
+use Rattle.std.proofs.Common.{◌≡◌, ◌∙◌, ℕ, ◌+◌, ◌<◌, ◌≤◌, ◌⊎◌, inl, inr, List, [], ◌∷◌, ◌++◌, drop, get_or, length, take, ap, arith, refl}
+use Rattle.std.proofs.Common.{subst, sym, Bool, true, false, cond, not, ◌&&◌, Result, Ok, Err, IfOk, IfErr, map}
 use Rattle.std.specs.Prelude.{nat_le}
 use Rattle.std.proofs.lemmas.List.{drop_more, length-take-le, take-append-drop, take_more}
 use Rattle.rb_money.specs.Refusals.{and_then}
@@ -33,61 +34,81 @@ use Rattle.rb_site.specs.States.{Follows, Says, SiteState}
 use Rattle.rb_site.proofs.Handlers.{AnswersAlone, answers_as, follows_as, site_as, state_as}
 
 -- what a request makes where the same list stands
-same_made : (s now : Settings) (me here : ℕ) (us them : List Shadow) (known : Token) (r : Request) → now ≡ s → here ≡ me → them ≡ us → made_in_batch s me us known r ≡ made_in_batch now here them known r
+same_made : (s now : Settings) (me here : ℕ) (us them : List Shadow) (known : Token) (r : Request) → now ≡ s → here ≡ me → them ≡ us →
+    made_in_batch s me us known r ≡ made_in_batch now here them known r
 same_made s now me here us them known r same at list =
     ap (λ z. made_in_batch z me us known r) (sym same)
     ∙ ap (λ i. made_in_batch now i us known r) (sym at)
     ∙ ap (λ ws. made_in_batch now here ws known r) (sym list)
 
 -- one request more of a batch
-pub run_more : (s now : Settings) (me here : ℕ) (us them vs : List Shadow) (known : Token) (rs : List Request) (k : ℕ) (d : Request) (v : Shadow) → k < length rs → now ≡ s → here ≡ me → them ≡ us ++ vs
-    → batch_of s me us known 0 (take k rs) ≡ Ok vs → made_in_batch now here them known (get_or rs k d) ≡ Ok v → batch_of s me us known 0 (take (k + 1) rs) ≡ Ok (vs ++ v ∷ [])
+pub run_more : (s now : Settings) (me here : ℕ) (us them vs : List Shadow) (known : Token) (rs : List Request) (k : ℕ) (d : Request)
+    (v : Shadow) → k < length rs → now ≡ s → here ≡ me → them ≡ us ++ vs
+    → batch_of s me us known 0 (take k rs) ≡ Ok vs → made_in_batch now here them known (get_or rs k d) ≡ Ok v →
+    batch_of s me us known 0 (take (k + 1) rs) ≡ Ok (vs ++ v ∷ [])
 run_more s now me here us them vs known rs k d v there same at list far made =
     ap (batch_of s me us known 0) (take_more rs k d there)
-    ∙ batch_more s me us known 0 (take k rs) (get_or rs k d) vs v far (same_made s now me here (us ++ vs) them known (get_or rs k d) same at list ∙ made)
+    ∙ batch_more s me us known 0 (take k rs) (get_or rs k d) vs v far (same_made s now me here (us
+    ++ vs) them known (get_or rs k d) same at list ∙ made)
 
 -- a request at fault stops the batch
-pub run_stopped : (s now : Settings) (me here : ℕ) (us them vs : List Shadow) (known : Token) (rs : List Request) (k : ℕ) (d : Request) (fault : RunFault) → k < length rs → now ≡ s → here ≡ me → them ≡ us ++ vs
-    → batch_of s me us known 0 (take k rs) ≡ Ok vs → made_in_batch now here them known (get_or rs k d) ≡ Err fault → batch_of s me us known 0 rs ≡ Err (BatchRefused k (cause_of fault))
+pub run_stopped : (s now : Settings) (me here : ℕ) (us them vs : List Shadow) (known : Token) (rs : List Request) (k : ℕ) (d : Request)
+    (fault : RunFault) → k < length rs → now ≡ s → here ≡ me → them ≡ us ++ vs
+    → batch_of s me us known 0 (take k rs) ≡ Ok vs → made_in_batch now here them known (get_or rs k d) ≡ Err fault →
+    batch_of s me us known 0 rs ≡ Err (BatchRefused k (cause_of fault))
 run_stopped s now me here us them vs known rs k d fault there same at list far made =
     let low : k ≤ length rs = omega arith in
     let taken : length (take k rs) ≡ k = length-take-le k rs low in
     let index : 0 + length (take k rs) ≡ k = omega (arith, taken) in
     ap (batch_of s me us known 0) (sym (take-append-drop k rs) ∙ ap (λ xs. take k rs ++ xs) (drop_more rs k d there))
-    ∙ batch_stopped s me us known 0 (take k rs) (get_or rs k d) (drop (k + 1) rs) vs fault far (same_made s now me here (us ++ vs) them known (get_or rs k d) same at list ∙ made)
+    ∙ batch_stopped s me us known 0 (take k rs) (get_or rs k d) (drop (k + 1) rs) vs fault far (same_made s now me here (us
+    ++ vs) them known (get_or rs k d) same at list ∙ made)
     ∙ ap (λ n. Err (BatchRefused n (cause_of fault))) index
 
 -- among the first requests, what isn't *out of memory* is the request's own fault
-pub fault_made : (base vs : List Shadow) (book : Book) (parts : List UndoParts) (me : ℕ) (known : Token) (rs : List Request) (r : Request) (fault : RunFault) → IsTried base vs book parts → length vs < length rs → length rs ≤ MOST_REQUESTS
-    → IsFault book parts me known r fault → (fault ≡ RefusedFault OutOfMemory → ⊥) → made_in_batch book.settings me book.entries known r ≡ Err fault
-fault_made base vs book parts me known rs r fault tried more few is other = by (is.few (omega (arith, tried_length base vs book parts tried, more, few)))
+pub fault_made : (base vs : List Shadow) (book : Book) (parts : List UndoParts) (me : ℕ) (known : Token) (rs : List Request) (r : Request)
+    (fault : RunFault) → IsTried base vs book parts → length vs < length rs → length rs ≤ MOST_REQUESTS
+    → IsFault book parts me known r fault → (fault ≡ RefusedFault OutOfMemory → ⊥) →
+    made_in_batch book.settings me book.entries known r ≡ Err fault
+fault_made base vs book parts me known rs r fault tried more few is other =
+    by (is.few (omega (arith, tried_length base vs book parts tried, more, few)))
   where
-    by : (made_in_batch book.settings me book.entries known r ≡ Err fault) ⊎ ((v : Shadow) × (made_in_batch book.settings me book.entries known r ≡ Ok v) × (fault ≡ RefusedFault OutOfMemory) × (book.room ≡ 0)) → made_in_batch book.settings me book.entries known r ≡ Err fault
+    by : (made_in_batch book.settings me book.entries known r ≡ Err fault)
+        ⊎ ((v : Shadow) × (made_in_batch book.settings me book.entries known r ≡ Ok v) × (fault ≡ RefusedFault OutOfMemory)
+        × (book.room ≡ 0)) → made_in_batch book.settings me book.entries known r ≡ Err fault
     by (inl e) = e
     by (inr (v, made, e, room)) = absurd (other e)
 
 -- there are as many records as requests
-pub as_many : (s : Settings) (me : ℕ) (base vs : List Shadow) (view : TokenView) (book : Book) (parts : List UndoParts) (rs : List Request) → IsTried base vs book parts
+pub as_many : (s : Settings) (me : ℕ) (base vs : List Shadow) (view : TokenView) (book : Book) (parts : List UndoParts) (rs : List Request)
+    → IsTried base vs book parts
     → ((known : Token) → Shows view known → batch_of s me base known 0 rs ≡ Ok vs) → length parts ≡ length rs
-as_many s me base vs view book parts rs tried runs = tried_length base vs book parts tried ∙ batch_length s me base (seen view) 0 rs vs (runs (seen view) (seen_shows view))
+as_many s me base vs view book parts rs tried runs = tried_length base vs book parts tried
+    ∙ batch_length s me base (seen view) 0 rs vs (runs (seen view) (seen_shows view))
 
 -- what was tried on a scratch stands in the ledger that it was opened on
-pub tried_here : (old opened book : Book) (view shown : TokenView) (parts before after : List UndoParts) (rs : List Request) (vs : List Shadow) → opened ≡ old → shown ≡ view → book.settings ≡ opened.settings
-    → IsTried opened.entries vs book parts → after ≡ before ++ parts → ((known : Token) → Shows shown known → batch_of opened.settings shown.me opened.entries known 0 rs ≡ Ok vs)
-    → (book.entries ≡ old.entries ++ vs) × (after ≡ before ++ logged old.settings old.entries vs) × ((known : Token) → Shows view known → batch_of old.settings view.me old.entries known 0 rs ≡ Ok vs)
+pub tried_here : (old opened book : Book) (view shown : TokenView) (parts before after : List UndoParts) (rs : List Request)
+    (vs : List Shadow) → opened ≡ old → shown ≡ view → book.settings ≡ opened.settings
+    → IsTried opened.entries vs book parts → after ≡ before ++ parts →
+    ((known : Token) → Shows shown known → batch_of opened.settings shown.me opened.entries known 0 rs ≡ Ok vs)
+    → (book.entries ≡ old.entries ++ vs) × (after ≡ before ++ logged old.settings old.entries vs)
+    × ((known : Token) → Shows view known → batch_of old.settings view.me old.entries known 0 rs ≡ Ok vs)
 tried_here old opened book view shown parts before after rs vs is sees same tried grown runs =
     let B : Book → Type 0 = λ b. (known : Token) → Shows view known → batch_of b.settings view.me b.entries known 0 rs ≡ Ok vs in
     let V : TokenView → Type 0 = λ t. (known : Token) → Shows t known → batch_of opened.settings t.me opened.entries known 0 rs ≡ Ok vs in (
       tried.entries ∙ ap (λ (b : Book). b.entries ++ vs) is,
-      grown ∙ ap (λ ps. before ++ ps) (tried.records ∙ ap (λ s. logged s opened.entries vs) same ∙ ap (λ (b : Book). logged b.settings b.entries vs) is),
+      grown ∙ ap (λ ps. before ++ ps) (tried.records ∙ ap (λ s. logged s opened.entries vs) same
+          ∙ ap (λ (b : Book). logged b.settings b.entries vs) is),
       subst B is (subst V sees runs),
     )
 
 -- ---- the records of a batch
 
 -- the log has the list's records, whether a batch was made or refused
-pub journaled : {A : Type 0} (X : A → Type 0) (Y : Refusal → Type 0) (r : Result A Refusal) (s now : Settings) (us later : List Shadow) (ps qs : List UndoParts) → now ≡ s → ps ≡ records_of s us
-    → ((a : A) → X a → (made : List Shadow) × (later ≡ us ++ made) × (qs ≡ ps ++ logged s us made)) → ((why : Refusal) → Y why → (later ≡ us) × (qs ≡ ps)) → IfOk r X → IfErr r Y → qs ≡ records_of now later
+pub journaled : {A : Type 0} (X : A → Type 0) (Y : Refusal → Type 0) (r : Result A Refusal) (s now : Settings) (us later : List Shadow)
+    (ps qs : List UndoParts) → now ≡ s → ps ≡ records_of s us
+    → ((a : A) → X a → (made : List Shadow) × (later ≡ us ++ made) × (qs ≡ ps ++ logged s us made)) →
+    ((why : Refusal) → Y why → (later ≡ us) × (qs ≡ ps)) → IfOk r X → IfErr r Y → qs ≡ records_of now later
 journaled X Y (Ok a) s now us later ps qs same kept more less ok err =
     let (made, grown, noted) = more a ok in
     noted ∙ ap (λ rs. rs ++ logged s us made) kept ∙ sym (records_of-append s us made)
@@ -108,21 +129,28 @@ is_of_size rs = nat_le 1 (length rs) && nat_le (length rs) MOST_REQUESTS
 abbrev of_batch : Result (List Shadow) Refusal → Outcome
 of_batch q = and_then Refuses q MakesAll
 
-batch_comes : (s : Settings) (t : ModelSite) (rs : List Request) (b : Bool) → is_of_size rs ≡ b → outcome_of s t (Batch rs) ≡ cond (not b) (Refuses BadBatch) (of_batch (batch_of s t.me t.ops t.token 0 rs))
+batch_comes : (s : Settings) (t : ModelSite) (rs : List Request) (b : Bool) → is_of_size rs ≡ b →
+    outcome_of s t (Batch rs) ≡ cond (not b) (Refuses BadBatch) (of_batch (batch_of s t.me t.ops t.token 0 rs))
 unfolding outcome_of
 batch_comes s t rs b e = ap (λ c. cond (not c) (Refuses BadBatch) (of_batch (batch_of s t.me t.ops t.token 0 rs))) e
 
-pub refuses_size : (z : SiteState) (rs : List Request) (a : Answer) → is_of_size rs ≡ false → Says true a (Refused BadBatch) → AnswersAlone z z (outcome_of z.settings z.site (Batch rs)) a
+pub refuses_size : (z : SiteState) (rs : List Request) (a : Answer) → is_of_size rs ≡ false → Says true a (Refused BadBatch) →
+    AnswersAlone z z (outcome_of z.settings z.site (Batch rs)) a
 refuses_size z rs a size is = answers_as _ _ _ _ a (batch_comes z.settings z.site rs false size) (refl, is, refl)
 
-pub makes_batch : (keeps : Bool) (s : Settings) (me : ℕ) (ops held : List Shadow) (token : Token) (rs : List Request) (vs : List Shadow) (before after : List Message) (a : Answer) → is_of_size rs ≡ true → batch_of s me ops token 0 rs ≡ Ok vs
+pub makes_batch : (keeps : Bool) (s : Settings) (me : ℕ) (ops held : List Shadow) (token : Token) (rs : List Request) (vs : List Shadow)
+    (before after : List Message) (a : Answer) → is_of_size rs ≡ true → batch_of s me ops token 0 rs ≡ Ok vs
     → Says keeps a (NamesMade (names_of_all vs)) → after ≡ before ++ map ShadowMessage vs
-    → Follows keeps (state_as s me ops held token) (state_as s me (ops ++ vs) held token) before after (outcome_of s (site_as me ops held token) (Batch rs)) a
-makes_batch keeps s me ops held token rs vs before after a size made is posted = follows_as keeps _ _ before after _ _ a (batch_comes s (site_as me ops held token) rs true size ∙ ap of_batch made) (refl, is, posted)
+    → Follows keeps (state_as s me ops held token) (state_as s me (ops
+    ++ vs) held token) before after (outcome_of s (site_as me ops held token) (Batch rs)) a
+makes_batch keeps s me ops held token rs vs before after a size made is posted =
+    follows_as keeps _ _ before after _ _ a (batch_comes s (site_as me ops held token) rs true size ∙ ap of_batch made) (refl, is, posted)
 
-pub refuses_batch : (s : Settings) (me : ℕ) (ops held : List Shadow) (token : Token) (rs : List Request) (why : Refusal) (a : Answer) → is_of_size rs ≡ true → batch_of s me ops token 0 rs ≡ Err why → Says true a (Refused why)
+pub refuses_batch : (s : Settings) (me : ℕ) (ops held : List Shadow) (token : Token) (rs : List Request) (why : Refusal) (a : Answer) →
+    is_of_size rs ≡ true → batch_of s me ops token 0 rs ≡ Err why → Says true a (Refused why)
     → AnswersAlone (state_as s me ops held token) (state_as s me ops held token) (outcome_of s (site_as me ops held token) (Batch rs)) a
-refuses_batch s me ops held token rs why a size refused is = answers_as _ _ _ _ a (batch_comes s (site_as me ops held token) rs true size ∙ ap of_batch refused) (refl, is, refl)
+refuses_batch s me ops held token rs why a size refused is = answers_as _ _ _ _ a (batch_comes s (site_as me ops held token) rs true size
+    ∙ ap of_batch refused) (refl, is, refl)
 
 -- what refused a batch, but for running out of memory
 pub refused_batch : (why : Refusal) (X : Type 0) → (why ≡ OutOfMemory) ⊎ X → (why ≡ OutOfMemory → ⊥) → X

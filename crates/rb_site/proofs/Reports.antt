@@ -1,5 +1,6 @@
 -- There is room for a report.
-use Rattle.std.proofs.Common.{◌≡◌, ◌∙◌, ℕ, ◌+◌, ◌<◌, ◌≤◌, Bool, true, false, cond, not, List, [], ◌∷◌, ◌++◌, length, ap, arith, refl, sym, subst, take, get_or, length-append}
+use Rattle.std.proofs.Common.{◌≡◌, ◌∙◌, ℕ, ◌+◌, ◌<◌, ◌≤◌, Bool, true, false, cond, not, List, [], ◌∷◌, ◌++◌, length, ap, arith, refl, sym}
+use Rattle.std.proofs.Common.{subst, take, get_or, length-append}
 use Rattle.std.specs.Prelude.{zero, suc, Some, map, option_map, slice_get}
 use Rattle.std.proofs.lemmas.List.{length-map, take_more}
 use Rattle.std.proofs.lemmas.List.Sums.{length-filter, count_by-le-length}
@@ -13,7 +14,8 @@ use Rattle.rb_site.specs.declared.entry.Entry.{Entry}
 use Rattle.rb_site.specs.declared.event.Event.{Event}
 use Rattle.rb_site.specs.declared.message.Message.{Message}
 use Rattle.rb_site.specs.declared.message.Message.TheVariants.{Shadow as ShadowMessage}
-use Rattle.rb_site.specs.Events.{Answers, Applies, Drops, Holds, Makes, MakesAll, ModelSite, Outcome, Passes, Refuses, Shows, Takes, after_event, after_events, changed, first_site, is_full, outcome_of, sent_by}
+use Rattle.rb_site.specs.Events.{Answers, Applies, Drops, Holds, Makes, MakesAll, ModelSite, Outcome, Passes, Refuses, Shows, Takes}
+use Rattle.rb_site.specs.Events.{after_event, after_events, changed, first_site, is_full, outcome_of, sent_by}
 use Rattle.rb_site.specs.Histories.{events_of}
 use Rattle.rb_site.specs.Reports.{IsEnough, RoomFor}
 use Rattle.rb_site.specs.Seen.{SeenSite, next_site, next_sites, state_of}
@@ -36,7 +38,9 @@ ops_grow t (Takes m) h = omega arith
 ops_grow t (Passes m) h = omega arith
 
 -- after an event there is still enough room
-pub still_enough : (room : RoomFor) (keeps : Bool) (old now : SiteState) (before after : List Message) (o : Outcome) (a : Answer) → Follows keeps old now before after o a → length (sent_by o) ≤ MOST_REQUESTS → length old.settings.starts ≤ room.accounts → length old.site.ops + MOST_REQUESTS ≤ room.entries → IsEnough room now
+pub still_enough : (room : RoomFor) (keeps : Bool) (old now : SiteState) (before after : List Message) (o : Outcome) (a : Answer) →
+    Follows keeps old now before after o a → length (sent_by o) ≤ MOST_REQUESTS → length old.settings.starts ≤ room.accounts →
+    length old.site.ops + MOST_REQUESTS ≤ room.entries → IsEnough room now
 still_enough room keeps old now before after o a follows few accounts entries =
     subst (IsEnough room) (sym follows.0) (record {
       accounts = accounts;
@@ -56,19 +60,28 @@ with_held-few v (u ∷ us) = by (stands_before v.name u.name) (with_held-few v u
 held_grow : (t : ModelSite) (o : Outcome) → length (changed t o).held ≤ length t.held + 1
 held_grow t (Refuses why) = omega arith
 held_grow t (Answers r) = omega arith
-held_grow t (Drops x why) = omega (arith, length-filter (λ (u : Shadow). not (same_name u.name x)) t.held, count_by-le-length (λ (u : Shadow). not (same_name u.name x)) t.held)
+held_grow t (Drops x why) = omega (
+  arith,
+  length-filter (λ (u : Shadow). not (same_name u.name x)) t.held,
+  count_by-le-length (λ (u : Shadow). not (same_name u.name x)) t.held,
+)
 held_grow t (Shows a) = omega arith
 held_grow t (Makes v) = omega arith
 held_grow t (MakesAll vs) = omega arith
 held_grow t (Holds v) = with_held-few v t.held
-held_grow t (Applies v) = omega (arith, length-filter (λ (u : Shadow). not (same_name u.name v.name)) t.held, count_by-le-length (λ (u : Shadow). not (same_name u.name v.name)) t.held)
+held_grow t (Applies v) = omega (
+  arith,
+  length-filter (λ (u : Shadow). not (same_name u.name v.name)) t.held,
+  count_by-le-length (λ (u : Shadow). not (same_name u.name v.name)) t.held,
+)
 held_grow t (Takes m) = omega arith
 held_grow t (Passes m) = omega arith
 
 held_after : (s : Settings) (t : ModelSite) (e : Event) → length (after_event s t e).held ≤ length t.held + 1
 held_after s t e = by (is_full s t) (held_grow t (outcome_of s t e))
   where
-    by : (b : Bool) → length (changed t (outcome_of s t e)).held ≤ length t.held + 1 → length (cond b t (Runs.noted s t e)).held ≤ length t.held + 1
+    by : (b : Bool) → length (changed t (outcome_of s t e)).held ≤ length t.held + 1 →
+        length (cond b t (Runs.noted s t e)).held ≤ length t.held + 1
     by true one = omega arith
     by false one = one
 
@@ -90,11 +103,14 @@ sites-push : (x : SeenSite) (es : List Event) (e : Event) → next_sites x (es +
 sites-push x [] e = refl
 sites-push x (d ∷ es) e = sites-push (next_site x d) es e
 
-pub sites_more : (x : SeenSite) (es : List Event) (k : ℕ) (d : Event) (now later : SeenSite) → k < length es → now ≡ next_sites x (take k es) → later ≡ next_site now (get_or es k d) → later ≡ next_sites x (take (k + 1) es)
-sites_more x es k d now later there far one = one ∙ ap (λ y. next_site y (get_or es k d)) far ∙ sym (sites-push x (take k es) (get_or es k d)) ∙ ap (next_sites x) (sym (take_more es k d there))
+pub sites_more : (x : SeenSite) (es : List Event) (k : ℕ) (d : Event) (now later : SeenSite) → k < length es →
+    now ≡ next_sites x (take k es) → later ≡ next_site now (get_or es k d) → later ≡ next_sites x (take (k + 1) es)
+sites_more x es k d now later there far one = one ∙ ap (λ y. next_site y (get_or es k d)) far
+    ∙ sym (sites-push x (take k es) (get_or es k d)) ∙ ap (next_sites x) (sym (take_more es k d there))
 
 -- one count more
-pub more_counts : (f : Shadow → ℕ) (us : List Shadow) (k n : ℕ) → option_map f (slice_get us k) ≡ Some n → map f (take k us) ++ n ∷ [] ≡ map f (take (suc k) us)
+pub more_counts : (f : Shadow → ℕ) (us : List Shadow) (k n : ℕ) → option_map f (slice_get us k) ≡ Some n →
+    map f (take k us) ++ n ∷ [] ≡ map f (take (suc k) us)
 more_counts f [] k n h = cc
 more_counts f (u ∷ us) zero n h = let same : f u ≡ n = cc in ap (λ m. m ∷ []) (sym same)
 more_counts f (u ∷ us) (suc k) n h = ap (λ ns. f u ∷ ns) (more_counts f us k n h)

@@ -26,7 +26,9 @@ pub record IsStep (x : SeenSite) (now : SiteState) (before after : List Message)
   pub sent : after ≡ before ++ sent_at x.settings (state_of x) e
   pub standing : IsStanding (noted_in x e a.reply) now
 
-pub is_step : (keeps : Bool) (x : SeenSite) (old now : SiteState) (before after : List Message) (e : Event) (a : Answer) → is_full x.settings (state_of x) ≡ false → IsStanding x old → Follows keeps old now before after (outcome_of old.settings old.site e) a → IsStep x now before after e a
+pub is_step : (keeps : Bool) (x : SeenSite) (old now : SiteState) (before after : List Message) (e : Event) (a : Answer) →
+    is_full x.settings (state_of x) ≡ false → IsStanding x old → Follows keeps old now before after (outcome_of old.settings old.site e) a →
+    IsStep x now before after e a
 is_step keeps x old now before after e a free standing follows =
     record {
       seen = ap (noted_in x e) noted_reply ∙ sym (ap (λ b. cond b x (stepped x e)) free);
@@ -72,12 +74,15 @@ abbrev pub seen_as : Settings → ℕ → List Entry → SeenSite
 seen_as s me xs = record { settings = s; me = me; entries = xs }
 
 -- where the entry was pushed, clients see the model's step
-pub seen_now : (x : SeenSite) (now : SiteState) (before after : List Message) (e : Event) (a : Answer) (xs : List Entry) → IsStep x now before after e a → now.site.me ≡ x.me → xs ≡ x.entries ++ entry e a.reply ∷ [] → seen_as now.settings now.site.me xs ≡ noted_in x e a.reply
+pub seen_now : (x : SeenSite) (now : SiteState) (before after : List Message) (e : Event) (a : Answer) (xs : List Entry) →
+    IsStep x now before after e a → now.site.me ≡ x.me → xs ≡ x.entries ++ entry e a.reply ∷ [] →
+    seen_as now.settings now.site.me xs ≡ noted_in x e a.reply
 seen_now x now before after e a xs step me pushed =
     ap (λ s. seen_as s now.site.me xs) step.standing.settings
     ∙ ap (λ i. seen_as x.settings i xs) me
     ∙ ap (seen_as x.settings x.me) pushed
 
 -- a step keeps the site's number
-pub me_kept : (keeps : Bool) (old now : SiteState) (before after : List Message) (o : Outcome) (a : Answer) → Follows keeps old now before after o a → now.site.me ≡ old.site.me
+pub me_kept : (keeps : Bool) (old now : SiteState) (before after : List Message) (o : Outcome) (a : Answer) →
+    Follows keeps old now before after o a → now.site.me ≡ old.site.me
 me_kept keeps old now before after o a follows = ap (λ (z : SiteState). z.site.me) follows.0 ∙ Runs.same_me old.site o

@@ -1,5 +1,6 @@
 //! The requests of a batch, made on a ledger with its undo log.
-ghost use Rattle.std.specs.Prelude.{◌≡◌, ◌≤◌, ◌<◌, ◌++◌, [], ◌⊎◌, List, length, map, Ok, Err, IfOk, IfErr, OnOk, ◌+◌, vec_len, vec_capacity};
+ghost use Rattle.std.specs.Prelude.{◌≡◌, ◌≤◌, ◌<◌, ◌++◌, [], ◌⊎◌, List, length, map, Ok, Err, IfOk, IfErr, OnOk, ◌+◌};
+ghost use Rattle.std.specs.Prelude.{vec_len, vec_capacity};
 ghost use Rattle.rb_shadow.specs.declared.shadow.Shadow.{Shadow as TheShadow};
 ghost use Rattle.rb_ledger.specs.Records.{logged};
 ghost use Rattle.rb_token.specs.Token.{Token};
@@ -22,7 +23,9 @@ use std::alloc::Global;
 /// The refusal of a batch whose request of this index, from 0, is at fault. Out of memory is told as it
 /// is.
 fn why_stopped(index: u8, fault: RunFault) -> Refusal
-    ensures { ((fault ≡ RunFault.Refused Refusal.OutOfMemory) × (result ≡ Refusal.OutOfMemory)) ⊎ ((fault ≡ RunFault.Refused Refusal.OutOfMemory → ⊥) × (result ≡ Refusal.BatchRefused index (cause_of fault))) }
+    ensures { ((fault ≡ RunFault.Refused Refusal.OutOfMemory) × (result ≡ Refusal.OutOfMemory))
+        ⊎ ((fault ≡ RunFault.Refused Refusal.OutOfMemory → ⊥)
+        × (result ≡ Refusal.BatchRefused index (cause_of fault))) }
 {
     let cause = fault.cause();
     match fault {
@@ -38,10 +41,15 @@ fn run_all(scratch: &mut Scratch, requests: &[Request]) -> Result<(), Refusal>
     requires few { length requests.now ≤ MOST_REQUESTS }
     ensures same_reference { scratch.new.ledger.ghost_name ≡ scratch.old.ledger.ghost_name }
     ensures settings { scratch.new.ledger.now.settings ≡ scratch.old.ledger.now.settings }
-    ensures tried { (made : List TheShadow) × IsTried scratch.old.ledger.now.entries made scratch.new.ledger.now scratch.new.undos.parts
-        × OnOk result ((known : Token) → Shows scratch.old.token known → batch_of scratch.old.ledger.now.settings scratch.old.token.me scratch.old.ledger.now.entries known 0 requests.now ≡ Ok made) }
+    ensures tried { (made : List TheShadow) × IsTried scratch.old.ledger.now.entries made scratch.new.ledger.now
+        scratch.new.undos.parts
+        × OnOk result ((known : Token) → Shows scratch.old.token known →
+        batch_of scratch.old.ledger.now.settings scratch.old.token.me scratch.old.ledger.now.entries known 0
+        requests.now ≡ Ok made) }
     ensures refused { IfErr result (λ why. (why ≡ Refusal.OutOfMemory)
-        ⊎ ((known : Token) → Shows scratch.old.token known → batch_of scratch.old.ledger.now.settings scratch.old.token.me scratch.old.ledger.now.entries known 0 requests.now ≡ Err why)) }
+        ⊎ ((known : Token) → Shows scratch.old.token known →
+        batch_of scratch.old.ledger.now.settings scratch.old.token.me scratch.old.ledger.now.entries known 0
+        requests.now ≡ Err why)) }
 {
     'requests: for index in 0..requests.len() {
         let _name = match scratch.run(&requests[index]) {
@@ -58,8 +66,10 @@ fn answer_of_last(ledger: &Ledger, count: usize, room: BatchRoom, sent: &mut Vec
     requires there { count ≤ length ledger.now.entries }
     requires few { count ≤ room.most }
     requires room { vec_len sent.old + count ≤ vec_capacity sent.old }
-    ensures answer { (base made : List TheShadow) → ledger.now.entries ≡ base ++ made → length made ≡ count → Says room.keeps result (Reply.Names (names_of_all made)) }
-    ensures sent { (base made : List TheShadow) → ledger.now.entries ≡ base ++ made → length made ≡ count → sent.new.items ≡ sent.old.items ++ map Message.Shadow made }
+    ensures answer { (base made : List TheShadow) → ledger.now.entries ≡ base ++ made → length made ≡ count →
+        Says room.keeps result (Reply.Names (names_of_all made)) }
+    ensures sent { (base made : List TheShadow) → ledger.now.entries ≡ base ++ made → length made ≡ count →
+        sent.new.items ≡ sent.old.items ++ map Message.Shadow made }
 {
     let entries = ledger.entries();
     let first = entries.len() - count;
@@ -83,11 +93,16 @@ pub fn run_batch(
     requires site { token.me < ledger.old.settings.sites }
     requires few { length requests.now ≤ MOST_REQUESTS }
     ensures settings { ledger.new.settings ≡ ledger.old.settings }
-    ensures made { IfOk result (λ answer. (made : List TheShadow) × (ledger.new.entries ≡ ledger.old.entries ++ made) × (log.new.parts ≡ log.old.parts ++ logged ledger.old.settings ledger.old.entries made)
-        × Says keeps answer (Reply.Names (names_of_all made)) × (sent.new.items ≡ sent.old.items ++ map Message.Shadow made)
-        × ((known : Token) → Shows token known → batch_of ledger.old.settings token.me ledger.old.entries known 0 requests.now ≡ Ok made)) }
-    ensures refused { IfErr result (λ why. (ledger.new.entries ≡ ledger.old.entries) × (log.new.parts ≡ log.old.parts) × (sent.new.items ≡ sent.old.items)
-        × ((why ≡ Refusal.OutOfMemory) ⊎ ((known : Token) → Shows token known → batch_of ledger.old.settings token.me ledger.old.entries known 0 requests.now ≡ Err why))) }
+    ensures made { IfOk result (λ answer. (made : List TheShadow) × (ledger.new.entries ≡ ledger.old.entries ++ made)
+        × (log.new.parts ≡ log.old.parts ++ logged ledger.old.settings ledger.old.entries made)
+        × Says keeps answer (Reply.Names (names_of_all made))
+        × (sent.new.items ≡ sent.old.items ++ map Message.Shadow made)
+        × ((known : Token) → Shows token known → batch_of ledger.old.settings token.me ledger.old.entries known 0
+        requests.now ≡ Ok made)) }
+    ensures refused { IfErr result (λ why. (ledger.new.entries ≡ ledger.old.entries) × (log.new.parts ≡ log.old.parts)
+        × (sent.new.items ≡ sent.old.items)
+        × ((why ≡ Refusal.OutOfMemory) ⊎ ((known : Token) → Shows token known →
+        batch_of ledger.old.settings token.me ledger.old.entries known 0 requests.now ≡ Err why))) }
 {
     let mut scratch = Scratch::open(alloc, ledger, token);
     if let Err(why) = run_all(&mut scratch, requests) {

@@ -29,7 +29,8 @@ impl Model for BatchRoom {
 
     ghost view = { λ r. record { most = r.most; keeps = r.keeps } };
 
-    ghost invariant = { λ r. (r.names.items ≡ []) × (r.noted.items ≡ []) × (r.most ≤ vec_capacity r.names) × (r.keeps ≡ true → r.most ≤ vec_capacity r.noted) };
+    ghost invariant = { λ r. (r.names.items ≡ []) × (r.noted.items ≡ []) × (r.most ≤ vec_capacity r.names)
+        × (r.keeps ≡ true → r.most ≤ vec_capacity r.noted) };
 }
 
 impl BatchRoom {
@@ -40,7 +41,8 @@ impl BatchRoom {
         keeps: bool,
         sent: &mut Vec<Message>,
     ) -> Result<BatchRoom, AllocError>
-        ensures ok { IfOk result (λ room. IsRoomFor room keeps most × (vec_len sent.new + most ≤ vec_capacity sent.new)) }
+        ensures ok { IfOk result (λ room. IsRoomFor room keeps most
+            × (vec_len sent.new + most ≤ vec_capacity sent.new)) }
         ensures sent { sent.new.items ≡ sent.old.items }
     {
         let mut names = Vec::new(alloc);

@@ -1,5 +1,6 @@
 //! A site's ledger with its undo records.
-ghost use Rattle.std.specs.Prelude.{◌≡◌, ◌<◌, ◌≤◌, ◌++◌, ◌∷◌, ◌⊎◌, [], List, length, map, Some, None, Ok, Err, IfOk, IfErr, OnOk, OnErr, option_copied};
+ghost use Rattle.std.specs.Prelude.{◌≡◌, ◌<◌, ◌≤◌, ◌++◌, ◌∷◌, ◌⊎◌, [], List, length, map, Some, None, Ok, Err, IfOk};
+ghost use Rattle.std.specs.Prelude.{IfErr, OnOk, OnErr, option_copied};
 ghost use Rattle.rb_ledger.specs.Checks.{refusal_of};
 ghost use Rattle.rb_ledger.specs.Records.{records_of};
 ghost use Rattle.rb_ledger.specs.Valid.{IsValid};
@@ -109,7 +110,8 @@ impl Journal {
     pub fn apply(&mut self, shadow: Shadow) -> Result<(), Refusal>
         ensures applied { OnOk result (self.new ≡ record self.old { ops = self.old.ops ++ shadow ∷ [] }) }
         ensures taken { OnOk result (refusal_of self.old.settings self.old.ops shadow ≡ None) }
-        ensures refused { IfErr result (λ why. (self.new ≡ self.old) × ((refusal_of self.old.settings self.old.ops shadow ≡ Some why)
+        ensures refused { IfErr result (λ why. (self.new ≡ self.old)
+            × ((refusal_of self.old.settings self.old.ops shadow ≡ Some why)
             ⊎ ((why ≡ Refusal.OutOfMemory) × (refusal_of self.old.settings self.old.ops shadow ≡ None)))) }
     {
         if self.log.reserve(1).is_err() {
@@ -157,11 +159,15 @@ impl Journal {
     ) -> Result<Answer, Refusal>
         requires site { token.me < self.old.settings.sites }
         requires few { length requests.now ≤ MOST_REQUESTS }
-        ensures made { IfOk result (λ answer. (made : List TheShadow) × (self.new ≡ record self.old { ops = self.old.ops ++ made })
-            × Says keeps answer (Reply.Names (names_of_all made)) × (sent.new.items ≡ sent.old.items ++ map Message.Shadow made)
-            × ((known : Token) → Shows token known → batch_of self.old.settings token.me self.old.ops known 0 requests.now ≡ Ok made)) }
+        ensures made { IfOk result (λ answer. (made : List TheShadow)
+            × (self.new ≡ record self.old { ops = self.old.ops ++ made })
+            × Says keeps answer (Reply.Names (names_of_all made))
+            × (sent.new.items ≡ sent.old.items ++ map Message.Shadow made)
+            × ((known : Token) → Shows token known → batch_of self.old.settings token.me self.old.ops known 0
+            requests.now ≡ Ok made)) }
         ensures refused { IfErr result (λ why. (self.new ≡ self.old) × (sent.new.items ≡ sent.old.items)
-            × ((why ≡ Refusal.OutOfMemory) ⊎ ((known : Token) → Shows token known → batch_of self.old.settings token.me self.old.ops known 0 requests.now ≡ Err why))) }
+            × ((why ≡ Refusal.OutOfMemory) ⊎ ((known : Token) → Shows token known →
+            batch_of self.old.settings token.me self.old.ops known 0 requests.now ≡ Err why))) }
     {
         run_batch(
             alloc,

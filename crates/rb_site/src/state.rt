@@ -137,7 +137,8 @@ impl State {
         keeps: bool,
         sent: &mut Vec<Message>,
     ) -> Result<Answer, AllocError>
-        ensures ok { IfOk result (Follows keeps self.old self.new sent.old.items sent.new.items (outcome_of self.old.settings self.old.site event.now)) }
+        ensures ok { IfOk result (Follows keeps self.old self.new sent.old.items sent.new.items
+            (outcome_of self.old.settings self.old.site event.now)) }
         ensures err { OnErr result ((self.new ≡ self.old) × (sent.new.items ≡ sent.old.items)) }
     {
         match event {
@@ -156,7 +157,8 @@ impl State {
     #[tactic(auto, unfolding(crate::specs::Events::outcome_of))]
     /// A request is decided here, and its shadow is applied here and sent.
     fn submit(&mut self, request: &Request, sent: &mut Vec<Message>) -> Result<Answer, AllocError>
-        ensures ok { IfOk result (Follows true self.old self.new sent.old.items sent.new.items (outcome_of self.old.settings self.old.site (Event.Submit request.now))) }
+        ensures ok { IfOk result (Follows true self.old self.new sent.old.items sent.new.items
+            (outcome_of self.old.settings self.old.site (Event.Submit request.now))) }
         ensures err { OnErr result ((self.new ≡ self.old) × (sent.new.items ≡ sent.old.items)) }
     {
         let shadow = match generate(self.journal.ledger(), &self.token.view(), request) {
@@ -180,7 +182,8 @@ impl State {
         keeps: bool,
         sent: &mut Vec<Message>,
     ) -> Result<Answer, AllocError>
-        ensures ok { IfOk result (Follows keeps self.old self.new sent.old.items sent.new.items (outcome_of self.old.settings self.old.site (Event.Batch requests.now))) }
+        ensures ok { IfOk result (Follows keeps self.old self.new sent.old.items sent.new.items
+            (outcome_of self.old.settings self.old.site (Event.Batch requests.now))) }
         ensures err { OnErr result ((self.new ≡ self.old) × (sent.new.items ≡ sent.old.items)) }
     {
         let asked = requests.as_slice();
@@ -202,7 +205,8 @@ impl State {
     #[tactic(auto, unfolding(crate::specs::Events::outcome_of))]
     /// A shadow from another site is held until it is applied.
     fn receive(&mut self, shadow: &Shadow) -> Result<Answer, AllocError>
-        ensures ok { IfOk result (Follows true self.old self.new [] [] (outcome_of self.old.settings self.old.site (Event.Receive (Message.Shadow shadow.now)))) }
+        ensures ok { IfOk result (Follows true self.old self.new [] []
+            (outcome_of self.old.settings self.old.site (Event.Receive (Message.Shadow shadow.now)))) }
         ensures err { OnErr result (self.new ≡ self.old) }
     {
         if let Err(why) = shadow.sound(self.journal.config()) {
@@ -220,7 +224,8 @@ impl State {
     /// A sound shadow that isn't applied here is held until it is.
     fn hold(&mut self, shadow: Shadow) -> Result<Answer, AllocError>
         requires { IsSound self.old.settings shadow }
-        ensures ok { IfOk result (Follows true self.old self.new [] [] (outcome_of_new self.old.settings self.old.site shadow)) }
+        ensures ok { IfOk result (Follows true self.old self.new [] []
+            (outcome_of_new self.old.settings self.old.site shadow)) }
         ensures err { OnErr result (self.new ≡ self.old) }
     {
         let _sites = self.journal.config().sites();
@@ -238,7 +243,8 @@ impl State {
     #[tactic(auto, unfolding(crate::specs::Events::outcome_of))]
     /// A token message makes this site the holder, unless its epoch was seen.
     fn accept(&mut self, message: TokenMessage) -> Answer
-        ensures { Follows true self.old self.new [] [] (outcome_of self.old.settings self.old.site (Event.Receive (Message.Token message))) result }
+        ensures { Follows true self.old self.new [] [] (outcome_of self.old.settings self.old.site
+            (Event.Receive (Message.Token message))) result }
     {
         match self.token.accept(message) {
             Ok(Accepted::Taken) => Answer::plain(Reply::Taken(message.epoch)),
@@ -250,7 +256,8 @@ impl State {
     #[tactic(auto, unfolding(crate::specs::Events::outcome_of))]
     /// A held shadow whose past is applied is applied too, or is let go where it can't be.
     fn apply(&mut self, name: OpName) -> Result<Answer, AllocError>
-        ensures ok { IfOk result (Follows true self.old self.new [] [] (outcome_of self.old.settings self.old.site (Event.Apply name))) }
+        ensures ok { IfOk result (Follows true self.old self.new [] []
+            (outcome_of self.old.settings self.old.site (Event.Apply name))) }
         ensures err { OnErr result (self.new ≡ self.old) }
     {
         let Some(held) = self.inbox.held(&name) else {
@@ -280,7 +287,8 @@ impl State {
     #[tactic(auto, unfolding(crate::specs::Events::outcome_of))]
     /// The token goes to another site.
     fn pass(&mut self, to: u8, sent: &mut Vec<Message>) -> Result<Answer, AllocError>
-        ensures ok { IfOk result (Follows true self.old self.new sent.old.items sent.new.items (outcome_of self.old.settings self.old.site (Event.Pass to))) }
+        ensures ok { IfOk result (Follows true self.old self.new sent.old.items sent.new.items
+            (outcome_of self.old.settings self.old.site (Event.Pass to))) }
         ensures err { OnErr result ((self.new ≡ self.old) × (sent.new.items ≡ sent.old.items)) }
     {
         let mut passed = self.token.copy();
@@ -297,7 +305,8 @@ impl State {
     #[tactic(auto, unfolding(crate::specs::Events::outcome_of))]
     /// An account's balance.
     fn balance(&self, place: Place) -> Answer
-        ensures { Follows true self.now self.now [] [] (outcome_of self.now.settings self.now.site (Event.Balance place)) result }
+        ensures { Follows true self.now self.now [] [] (outcome_of self.now.settings self.now.site
+            (Event.Balance place)) result }
     {
         match self.journal.ledger().balance(place) {
             Some(cents) => Answer::plain(Reply::Balance(cents)),
@@ -308,7 +317,8 @@ impl State {
     #[tactic(auto, unfolding(crate::specs::Events::outcome_of))]
     /// An account's balance after so many operations of the ledger.
     fn as_of(&mut self, place: Place, position: u32) -> Answer
-        ensures { Follows true self.old self.new [] [] (outcome_of self.old.settings self.old.site (Event.AsOf place position)) result }
+        ensures { Follows true self.old self.new [] [] (outcome_of self.old.settings self.old.site
+            (Event.AsOf place position)) result }
     {
         match self.journal.as_of(place, position) {
             Ok(cents) => Answer::plain(Reply::Balance(cents)),
@@ -319,7 +329,8 @@ impl State {
     #[tactic(auto, unfolding(crate::specs::Events::outcome_of))]
     /// An account's statement, for a history that keeps it or doesn't.
     fn statement(&self, place: Place, keeps: bool) -> Result<Answer, AllocError>
-        ensures { IfOk result (Follows keeps self.now self.now [] [] (outcome_of self.now.settings self.now.site (Event.Statement place))) }
+        ensures { IfOk result (Follows keeps self.now self.now [] []
+            (outcome_of self.now.settings self.now.site (Event.Statement place))) }
     {
         match statement(self.alloc, self.journal.ledger(), place) {
             Ok(shown) => Answer::shown(self.alloc, shown, keeps),
@@ -338,7 +349,8 @@ fn is_batch(requests: usize) -> bool
 
 /// A shadow whose name is known: the same comes again, or it is a conflict.
 fn again(shadow: &Shadow, known: &Shadow) -> Answer
-    ensures { Says true result (if same_shadow known.now shadow.now then Reply.Already shadow.now.name else Reply.Refused Refusal.Conflict) }
+    ensures { Says true result (if same_shadow known.now shadow.now then Reply.Already shadow.now.name
+        else Reply.Refused Refusal.Conflict) }
 {
     if known.same(shadow) {
         Answer::plain(Reply::Already(shadow.name))

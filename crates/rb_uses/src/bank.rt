@@ -12,7 +12,8 @@ use std::alloc::{AllocError, Global};
 /// The account of the bank.
 pub const ANN: Place = Place(0);
 
-/// Two sites, and one account that starts with 1,000 cents. Nothing is wrong with the configuration, so `Err` means out of memory.
+/// Two sites, and one account that starts with 1,000 cents. Nothing is wrong with the configuration, so `Err` means out
+/// of memory.
 pub(crate) fn config(alloc: Global) -> Result<Config, AllocError>
     ensures { IfOk result (λ config. config ≡ bank) }
 {

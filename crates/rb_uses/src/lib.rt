@@ -49,7 +49,8 @@ pub fn deposit_reaches_both(alloc: Global, amount: u64) -> Result<(u64, u64), Al
 /// A withdrawal is cancelled: the balance after it, and after its cancellation, in cents.
 pub fn cancel_gives_back(alloc: Global, amount: u64) -> Result<(u64, u64), AllocError>
     ensures taken { IfOk result (λ balances. balance_in (after (withdrawal amount ∷ [])) 0 ann ≡ Some balances.0) }
-    ensures given_back { IfOk result (λ balances. balance_in (after (withdrawal amount ∷ cancellation ∷ [])) 0 ann ≡ Some balances.1) }
+    ensures given_back { IfOk result (λ balances. balance_in (after (withdrawal amount ∷ cancellation ∷ [])) 0 ann
+        ≡ Some balances.1) }
     ensures example { amount ≡ 300 → IfOk result (λ balances. balances ≡ (700, 1000)) }
 {
     let withdrawal = Request::Withdraw {
@@ -85,7 +86,8 @@ pub fn batch_is_refused_whole(
     ensures reply { IfOk result (λ r. r.0 ≡ next_reply (after []) (batch deposited withdrawn)) }
     ensures balance { IfOk result (λ r. balance_in (after (batch deposited withdrawn ∷ [])) 0 ann ≡ Some r.1) }
     ensures sent { IfOk result (λ r. r.2 ≡ length (after (batch deposited withdrawn ∷ [])).world.messages) }
-    ensures example { deposited ≡ 50 → withdrawn ≡ 2000 → IfOk result (λ r. r ≡ (Refused (BatchRefused 1 Declined), 1000, 0)) }
+    ensures example { deposited ≡ 50 → withdrawn ≡ 2000 → IfOk result (λ r. r
+        ≡ (Refused (BatchRefused 1 Declined), 1000, 0)) }
 {
     let mut requests = Vec::new(alloc);
     requests.push(Request::Deposit {

@@ -26,7 +26,8 @@ pub fn there_and_back(ledger: &mut Ledger, shadow: Shadow) -> Result<(), (Shadow
     ensures taken { OnOk result (refusal_of ledger.old.settings ledger.old.entries shadow ≡ None) }
     ensures refused { IfErr result (λ back. (ledger.new ≡ ledger.old) × (back.0 ≡ shadow)) }
     ensures reason { IfErr result (λ back. (refusal_of ledger.old.settings ledger.old.entries shadow ≡ Some back.1)
-        ⊎ ((back.1 ≡ Refusal.OutOfMemory) × (refusal_of ledger.old.settings ledger.old.entries shadow ≡ None) × (ledger.old.room ≡ 0))) }
+        ⊎ ((back.1 ≡ Refusal.OutOfMemory) × (refusal_of ledger.old.settings ledger.old.entries shadow ≡ None)
+        × (ledger.old.room ≡ 0))) }
 {
     let undo = ledger.apply(shadow)?;
     ledger.undo(undo);
@@ -90,8 +91,11 @@ pub fn tried_and_aborted(
     requires { token.me < ledger.old.settings.sites }
     ensures settings { ledger.new.settings ≡ ledger.old.settings }
     ensures entries { ledger.new.entries ≡ ledger.old.entries }
-    ensures made { IfOk result (λ name. (v : TheShadow) × (name ≡ v.name) × ((known : Token) → Shows token known → made_in_batch ledger.old.settings token.me ledger.old.entries known request.now ≡ Ok v)) }
-    ensures fault { IfErr result (λ fault. (known : Token) → Shows token known → IsFault ledger.old [] token.me known request.now fault) }
+    ensures made { IfOk result (λ name. (v : TheShadow) × (name ≡ v.name)
+        × ((known : Token) → Shows token known → made_in_batch ledger.old.settings token.me ledger.old.entries known
+        request.now ≡ Ok v)) }
+    ensures fault { IfErr result (λ fault. (known : Token) → Shows token known →
+        IsFault ledger.old [] token.me known request.now fault) }
 {
     let mut scratch = Scratch::open(alloc, ledger, token);
     let answer = scratch.run(request);

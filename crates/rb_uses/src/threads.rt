@@ -32,7 +32,8 @@ pub fn deposit_while_served<W: Threads + Wait + Sync>(
 ) -> Result<Vec<SiteReport>, TellersFault>
     ensures all { IfOk result (λ reports. vec_len reports ≡ 2) }
     ensures closed { IfOk result (λ reports. All (IsClosedReport bank) reports.items) }
-    ensures gathered { IfOk result (λ reports. (seats : List SeenSeat) × AreBoth amount seats × AllGathered reports.items seats) }
+    ensures gathered { IfOk result (λ reports. (seats : List SeenSeat) × AreBoth amount seats
+        × AllGathered reports.items seats) }
 {
     let config = config(alloc)?;
     let entries = Blank::new(2);
@@ -55,7 +56,8 @@ fn with_branch<E: Entries + Send + Sync, R: Ledger + Send + Sync, W: Threads + W
     requires receipts { (receipts.name ≡ R.name) × (receipts.parts ≡ R.parts) × (receipts.parts ≡ RECEIPT_PARTS) }
     ensures all { IfOk result (λ reports. vec_len reports ≡ 2) }
     ensures closed { IfOk result (λ reports. All (IsClosedReport bank) reports.items) }
-    ensures gathered { IfOk result (λ reports. (seats : List SeenSeat) × AreBoth amount seats × AllGathered reports.items seats) }
+    ensures gathered { IfOk result (λ reports. (seats : List SeenSeat) × AreBoth amount seats
+        × AllGathered reports.items seats) }
 {
     let branch: Branch<E, R, NoGate> = Branch::open(alloc, config, NoGate, entries, receipts)?;
     match both(rt, alloc, &branch, amount) {

@@ -1,5 +1,6 @@
 -- A site can be brought to all that was made.
-use Rattle.std.proofs.Common.{◌≡◌, ℕ, suc, ◌+◌, ◌<◌, ◌≤◌, Bool, true, false, cond, ◌||◌, List, [], ◌∷◌, ◌++◌, length, refl, ap, sym, ◌∙◌, arith, ◌⊎◌, inl, inr, subst, Some, append_assoc, length-append}
+use Rattle.std.proofs.Common.{◌≡◌, ℕ, suc, ◌+◌, ◌<◌, ◌≤◌, Bool, true, false, cond, ◌||◌, List, [], ◌∷◌, ◌++◌, length, refl, ap, sym, ◌∙◌}
+use Rattle.std.proofs.Common.{arith, ◌⊎◌, inl, inr, subst, Some, append_assoc, length-append}
 use Rattle.std.specs.Prelude.{option_map, slice_get, nat_le}
 use Rattle.std.proofs.lemmas.Bool.Decides.{nat_tests}
 use Rattle.std.proofs.lemmas.List.{append-nil}
@@ -16,7 +17,8 @@ use Rattle.rb_site.specs.declared.event.Event.TheVariants.{Apply, Receive}
 use Rattle.rb_site.specs.declared.reply.Reply.TheVariants.{Already}
 use Rattle.rb_site.specs.declared.world_event.WorldEvent.{WorldEvent}
 use Rattle.rb_site.specs.declared.world_event.WorldEvent.TheVariants.{At, Deliver}
-use Rattle.rb_site.specs.Events.{Answers, Applies, Drops, Holds, Makes, MakesAll, ModelSite, Outcome, Passes, Refuses, Shows, Takes, after_event, changed, is_full, outcome_of, sent_at}
+use Rattle.rb_site.specs.Events.{Answers, Applies, Drops, Holds, Makes, MakesAll, ModelSite, Outcome, Passes, Refuses, Shows, Takes}
+use Rattle.rb_site.specs.Events.{after_event, changed, is_full, outcome_of, sent_at}
 use Rattle.rb_inbox.specs.Held.{stands_before, with_held}
 use Rattle.rb_site.specs.Worlds.{AreOwn, World, made_in, message_at, shadows_in, world_after, world_after_all, world_at}
 use Rattle.rb_world.specs.Laws.{CanCatchUp, catching_up}
@@ -50,7 +52,8 @@ changed_grows t (Passes m) x h = h
 pub after_roomy : (s : Settings) (t : ModelSite) (e : Event) → is_full s t ≡ false → after_event s t e ≡ Runs.noted s t e
 after_roomy s t e h = ap (λ b. cond b t (Runs.noted s t e)) h
 
-pub history_after : (s : Settings) (t : ModelSite) (e : Event) → is_full s t ≡ false → length (after_event s t e).history ≡ length t.history + 1
+pub history_after : (s : Settings) (t : ModelSite) (e : Event) → is_full s t ≡ false →
+    length (after_event s t e).history ≡ length t.history + 1
 history_after s t e h =
     ap (λ (u : ModelSite). length u.history) (after_roomy s t e h) ∙ length-append t.history (e ∷ [])
 
@@ -70,21 +73,26 @@ at_place : (front rest : List Message) (m : Message) → slice_get (front ++ m �
 at_place [] rest m = refl
 at_place (n ∷ front) rest m = at_place front rest m
 
-deliver_is : (s : Settings) (w : World) (i k : ℕ) (t : ModelSite) (m : Message) → slice_get w.sites i ≡ Some t → message_at w.messages k ≡ Some m → world_after s w (Deliver i k) ≡ world_at s w i (Some (Receive m)) (Some t)
-deliver_is s w i k t m at h = ap (λ o. world_at s w i (option_map Receive o) (slice_get w.sites i)) h ∙ ap (world_at s w i (Some (Receive m))) at
+deliver_is : (s : Settings) (w : World) (i k : ℕ) (t : ModelSite) (m : Message) → slice_get w.sites i ≡ Some t →
+    message_at w.messages k ≡ Some m → world_after s w (Deliver i k) ≡ world_at s w i (Some (Receive m)) (Some t)
+deliver_is s w i k t m at h = ap (λ o. world_at s w i (option_map Receive o) (slice_get w.sites i)) h
+    ∙ ap (world_at s w i (Some (Receive m))) at
 
-apply_is : (s : Settings) (w : World) (i : ℕ) (t : ModelSite) (x : OpName) → slice_get w.sites i ≡ Some t → world_after s w (At i (Apply x)) ≡ world_at s w i (Some (Apply x)) (Some t)
+apply_is : (s : Settings) (w : World) (i : ℕ) (t : ModelSite) (x : OpName) → slice_get w.sites i ≡ Some t →
+    world_after s w (At i (Apply x)) ≡ world_at s w i (Some (Apply x)) (Some t)
 apply_is s w i t x at = ap (world_at s w i (Some (Apply x))) at
 
 -- an event at the site keeps the stage, but for what was sent meanwhile
-stage_after : (s : Settings) (w : World) (i : ℕ) (t : ModelSite) (known : List Shadow) (front rest extra : List Message) (e : WorldEvent) (x : Event)
+stage_after : (s : Settings) (w : World) (i : ℕ) (t : ModelSite) (known : List Shadow) (front rest extra : List Message) (e : WorldEvent)
+    (x : Event)
     → AreOwn (e ∷ []) → world_after s w e ≡ world_at s w i (Some x) (Some t) → is_full s t ≡ false → IsStage s w i t known front rest extra
     → IsStage s (world_after s w e) i (after_event s t x) known front rest (extra ++ sent_at s t x)
 stage_after s w i t known front rest extra e x own is room g =
     record {
       good = good_after s w e own g.good;
       at = ap (λ (v : World). slice_get v.sites i) is ∙ get_set_same w.sites i t (after_event s t x) g.at;
-      messages = ap (λ (v : World). v.messages) is ∙ ap (λ ms. ms ++ sent_at s t x) g.messages ∙ append_assoc (front ++ rest) extra (sent_at s t x);
+      messages = ap (λ (v : World). v.messages) is ∙ ap (λ ms. ms ++ sent_at s t x) g.messages
+          ∙ append_assoc (front ++ rest) extra (sent_at s t x);
       knows = λ y h. grows y (g.knows y h);
       has = λ y h. grows y (g.has y h);
     }
@@ -109,7 +117,8 @@ held_there v (u ∷ us) = at (stands_before v.name u.name) (held_there v us)
     at false h = inr h
 
 -- after the delivery the operation was applied, or is held
-delivered_there : (s : Settings) (w : World) (i : ℕ) (t : ModelSite) (v : Shadow) → IsGood s w → slice_get w.sites i ≡ Some t → is_full s t ≡ false → Among v (made_in w) → IsWithin (past v) (names t.ops)
+delivered_there : (s : Settings) (w : World) (i : ℕ) (t : ModelSite) (v : Shadow) → IsGood s w → slice_get w.sites i ≡ Some t →
+    is_full s t ≡ false → Among v (made_in w) → IsWithin (past v) (names t.ops)
     → (names (after_event s t (Receive (ShadowMessage v))).ops v.name ≡ true) ⊎ Among v (after_event s t (Receive (ShadowMessage v))).held
 delivered_there s w i t v g at room made within = elim (Ready.site_receives s w i t v g at made) [
   | inl e ↦ elim e.1 [
@@ -122,24 +131,34 @@ delivered_there s w i t v g at room made within = elim (Ready.site_receives s w 
   ]
 ]
   where
-    is : (o : Outcome) → outcome_of s t (Receive (ShadowMessage v)) ≡ o → after_event s t (Receive (ShadowMessage v)) ≡ record (changed t o) { history = t.history ++ Receive (ShadowMessage v) ∷ [] }
-    is o e = after_roomy s t (Receive (ShadowMessage v)) room ∙ ap (λ o. with_history (changed t o) (t.history ++ Receive (ShadowMessage v) ∷ [])) e
+    is : (o : Outcome) → outcome_of s t (Receive (ShadowMessage v)) ≡ o →
+        after_event s t (Receive (ShadowMessage v)) ≡ record (changed t o) { history = t.history ++ Receive (ShadowMessage v) ∷ [] }
+    is o e = after_roomy s t (Receive (ShadowMessage v)) room ∙ ap (λ o. with_history (changed t o) (t.history ++ Receive (ShadowMessage v)
+        ∷ [])) e
 
 -- after the event Apply it was applied
-applied_there : (s : Settings) (w : World) (i : ℕ) (t : ModelSite) (v : Shadow) → IsGood s w → slice_get w.sites i ≡ Some t → is_full s t ≡ false → IsWithin (past v) (names t.ops) → (names t.ops v.name ≡ true) ⊎ Among v t.held → names (after_event s t (Apply v.name)).ops v.name ≡ true
-applied_there s w i t v g at room within (inl h) = ap (λ (u : ModelSite). names u.ops v.name) (after_roomy s t (Apply v.name) room) ∙ changed_grows t (outcome_of s t (Apply v.name)) v.name h
+applied_there : (s : Settings) (w : World) (i : ℕ) (t : ModelSite) (v : Shadow) → IsGood s w → slice_get w.sites i ≡ Some t →
+    is_full s t ≡ false → IsWithin (past v) (names t.ops) → (names t.ops v.name ≡ true) ⊎ Among v t.held →
+    names (after_event s t (Apply v.name)).ops v.name ≡ true
+applied_there s w i t v g at room within (inl h) = ap (λ (u : ModelSite). names u.ops v.name) (after_roomy s t (Apply v.name) room)
+    ∙ changed_grows t (outcome_of s t (Apply v.name)) v.name h
 applied_there s w i t v g at room within (inr h) =
     ap (λ (u : ModelSite). names u.ops v.name) (after_roomy s t (Apply v.name) room)
     ∙ ap (λ o. names (changed t o).ops v.name) (Ready.site_applies s w i t v g at h within)
-    ∙ Members.names-append t.ops (v ∷ []) v.name ∙ Members.or-right (names t.ops v.name) (names (v ∷ []) v.name) (ap (λ b. b || false) (Members.same_name-refl v.name))
+    ∙ Members.names-append t.ops (v ∷ []) v.name ∙ Members.or-right (names t.ops v.name) (names (v ∷ []) v.name) (ap (λ b. b
+    || false) (Members.same_name-refl v.name))
 
 -- ---- all of them
 
-shadows_split : (front rest extra : List Message) (v : Shadow) → shadows_in ((front ++ ShadowMessage v ∷ rest) ++ extra) ≡ shadows_in front ++ v ∷ shadows_in (rest ++ extra)
-shadows_split front rest extra v = ap shadows_in (append_assoc front (ShadowMessage v ∷ rest) extra) ∙ Token.shadows_in-append front (ShadowMessage v ∷ (rest ++ extra))
+shadows_split : (front rest extra : List Message) (v : Shadow) → shadows_in ((front ++ ShadowMessage v ∷ rest) ++ extra) ≡ shadows_in front
+    ++ v ∷ shadows_in (rest ++ extra)
+shadows_split front rest extra v = ap shadows_in (append_assoc front (ShadowMessage v ∷ rest) extra)
+    ∙ Token.shadows_in-append front (ShadowMessage v ∷ (rest ++ extra))
 
 -- the next message comes to those that are done with
-step_on : (s : Settings) (w : World) (i : ℕ) (t : ModelSite) (known : List Shadow) (front rest extra : List Message) (m : Message) → IsStage s w i t known front (m ∷ rest) extra → IsWithin (names (shadows_in (front ++ m ∷ []))) (names t.ops) → IsStage s w i t known (front ++ m ∷ []) rest extra
+step_on : (s : Settings) (w : World) (i : ℕ) (t : ModelSite) (known : List Shadow) (front rest extra : List Message) (m : Message) →
+    IsStage s w i t known front (m ∷ rest) extra → IsWithin (names (shadows_in (front ++ m ∷ []))) (names t.ops) →
+    IsStage s w i t known (front ++ m ∷ []) rest extra
 step_on s w i t known front rest extra m g has = record {
   good = g.good;
   at = g.at;
@@ -151,38 +170,55 @@ step_on s w i t known front rest extra m g has = record {
 next_place : (front : List Message) (m : Message) (k : ℕ) → k ≡ suc (length front) → k + 1 ≡ suc (length (front ++ m ∷ []))
 next_place front m k e = let h : length (front ++ m ∷ []) ≡ length front + 1 = length-append front (m ∷ []) in omega arith
 
-regrouped : (front rest : List Message) (m : Message) (us : List Shadow) → IsWithin (names (shadows_in ((front ++ m ∷ []) ++ rest))) (names us) → IsWithin (names (shadows_in (front ++ m ∷ rest))) (names us)
+regrouped : (front rest : List Message) (m : Message) (us : List Shadow) →
+    IsWithin (names (shadows_in ((front ++ m ∷ []) ++ rest))) (names us) → IsWithin (names (shadows_in (front ++ m ∷ rest))) (names us)
 regrouped front rest m us h x k = h x (ap (λ ms. names (shadows_in ms) x) (append_assoc front (m ∷ []) rest) ∙ k)
 
-with_last : (s : Settings) (w : World) (i : ℕ) (t : ModelSite) (known : List Shadow) (front rest extra : List Message) (v : Shadow) → IsStage s w i t known front (ShadowMessage v ∷ rest) extra → names t.ops v.name ≡ true → IsWithin (names (shadows_in (front ++ ShadowMessage v ∷ []))) (names t.ops)
-with_last s w i t known front rest extra v g there x h = elim (Members.or-true (names (shadows_in front) x) (names (v ∷ []) x) (sym (ap (λ us. names us x) (Token.made_more front v) ∙ Members.names-append (shadows_in front) (v ∷ []) x) ∙ h)) [
-  | inl k ↦ g.has x k
-  | inr k ↦ elim (Members.or-true (same_name v.name x) false k) [ inl e ↦ ap (names t.ops) (sym (Members.same_name-true v.name x e)) ∙ there | inr e ↦ absurd (Members.true≢false (sym e)) ]
-]
+with_last : (s : Settings) (w : World) (i : ℕ) (t : ModelSite) (known : List Shadow) (front rest extra : List Message) (v : Shadow) →
+    IsStage s w i t known front (ShadowMessage v ∷ rest) extra → names t.ops v.name ≡ true →
+    IsWithin (names (shadows_in (front ++ ShadowMessage v ∷ []))) (names t.ops)
+with_last s w i t known front rest extra v g there x h = elim (Members.or-true (names (shadows_in front) x) (names (v
+    ∷ []) x) (sym (ap (λ us. names us x) (Token.made_more front v) ∙ Members.names-append (shadows_in front) (v ∷ []) x) ∙ h)) [
+      | inl k ↦ g.has x k
+      | inr k ↦ elim (Members.or-true (same_name v.name x) false k) [
+        | inl e ↦ ap (names t.ops) (sym (Members.same_name-true v.name x e)) ∙ there
+        | inr e ↦ absurd (Members.true≢false (sym e))
+      ]
+    ]
 
-past_there : (s : Settings) (w : World) (i : ℕ) (t : ModelSite) (known : List Shadow) (front rest extra : List Message) (v : Shadow) → IsStage s w i t known front (ShadowMessage v ∷ rest) extra → IsWithin (past v) (names t.ops)
-past_there s w i t known front rest extra v g x h = g.has x (g.good.order.in_turn (shadows_in front) v (shadows_in (rest ++ extra)) (ap shadows_in g.messages ∙ shadows_split front rest extra v) x h)
+past_there : (s : Settings) (w : World) (i : ℕ) (t : ModelSite) (known : List Shadow) (front rest extra : List Message) (v : Shadow) →
+    IsStage s w i t known front (ShadowMessage v ∷ rest) extra → IsWithin (past v) (names t.ops)
+past_there s w i t known front rest extra v g x h = g.has x (g.good.order.in_turn (shadows_in front) v (shadows_in (rest
+    ++ extra)) (ap shadows_in g.messages ∙ shadows_split front rest extra v) x h)
 
-made_there : (s : Settings) (w : World) (i : ℕ) (t : ModelSite) (known : List Shadow) (front rest extra : List Message) (v : Shadow) → IsStage s w i t known front (ShadowMessage v ∷ rest) extra → Among v (made_in w)
-made_there s w i t known front rest extra v g = subst (Among v) (sym (ap shadows_in g.messages ∙ shadows_split front rest extra v)) (Members.Among-right (shadows_in front) (v ∷ shadows_in (rest ++ extra)) v (inl refl))
+made_there : (s : Settings) (w : World) (i : ℕ) (t : ModelSite) (known : List Shadow) (front rest extra : List Message) (v : Shadow) →
+    IsStage s w i t known front (ShadowMessage v ∷ rest) extra → Among v (made_in w)
+made_there s w i t known front rest extra v g = subst (Among v) (sym (ap shadows_in g.messages
+    ∙ shadows_split front rest extra v)) (Members.Among-right (shadows_in front) (v ∷ shadows_in (rest ++ extra)) v (inl refl))
 
-placed_there : (s : Settings) (w : World) (i k : ℕ) (t : ModelSite) (known : List Shadow) (front rest extra : List Message) (m : Message) → k ≡ suc (length front) → IsStage s w i t known front (m ∷ rest) extra → message_at w.messages k ≡ Some m
-placed_there s w i k t known front rest extra m e g = ap (message_at w.messages) e ∙ ap (λ ms. slice_get ms (length front)) (g.messages ∙ append_assoc front (m ∷ rest) extra) ∙ at_place front (rest ++ extra) m
+placed_there : (s : Settings) (w : World) (i k : ℕ) (t : ModelSite) (known : List Shadow) (front rest extra : List Message) (m : Message) →
+    k ≡ suc (length front) → IsStage s w i t known front (m ∷ rest) extra → message_at w.messages k ≡ Some m
+placed_there s w i k t known front rest extra m e g = ap (message_at w.messages) e
+    ∙ ap (λ ms. slice_get ms (length front)) (g.messages ∙ append_assoc front (m ∷ rest) extra) ∙ at_place front (rest ++ extra) m
 
-caught_up : (s : Settings) (rest : List Message) (w : World) (i k : ℕ) (t : ModelSite) (known : List Shadow) (front extra : List Message) → k ≡ suc (length front) → IsStage s w i t known front rest extra
+caught_up : (s : Settings) (rest : List Message) (w : World) (i k : ℕ) (t : ModelSite) (known : List Shadow) (front extra : List Message) →
+    k ≡ suc (length front) → IsStage s w i t known front rest extra
     → length t.history + length (catching_up i known k rest) ≤ s.limits.history
-    → (u : ModelSite) → slice_get (world_after_all s w (catching_up i known k rest)).sites i ≡ Some u → IsWithin (names (shadows_in (front ++ rest))) (names u.ops)
+    → (u : ModelSite) → slice_get (world_after_all s w (catching_up i known k rest)).sites i ≡ Some u →
+    IsWithin (names (shadows_in (front ++ rest))) (names u.ops)
 caught_up s [] w i k t known front extra e g room u there = λ x h.
     let same : u ≡ t = Token.same_site w i t u g.at there in
     ap (λ (y : ModelSite). names y.ops x) same ∙ g.has x (ap (λ ms. names (shadows_in ms) x) (sym (append-nil front)) ∙ h)
 caught_up s (TokenOnItsWay m ∷ rest) w i k t known front extra e g room u there =
     regrouped front rest (TokenOnItsWay m) u.ops
     (caught_up s rest w i (k + 1) t known (front ++ TokenOnItsWay m ∷ []) extra (next_place front (TokenOnItsWay m) k e)
-    (step_on s w i t known front rest extra (TokenOnItsWay m) g (λ x h. g.has x (ap (λ us. names us x) (sym (Token.made_same front m)) ∙ h)))
+    (step_on s w i t known front rest extra (TokenOnItsWay m) g (λ x h. g.has x (ap (λ us. names us x) (sym (Token.made_same front m))
+    ∙ h)))
     room u there)
 caught_up s (ShadowMessage v ∷ rest) w i k t known front extra e g room u there =
     regrouped front rest (ShadowMessage v) u.ops
-    (by (names known v.name) refl room there (λ w' t' extra' g' room' there'. caught_up s rest w' i (k + 1) t' known (front ++ ShadowMessage v ∷ []) extra' (next_place front (ShadowMessage v) k e) g' room' u there'))
+    (by (names known v.name) refl room there (λ w' t' extra' g' room' there'. caught_up s rest w' i (k + 1) t' known (front
+    ++ ShadowMessage v ∷ []) extra' (next_place front (ShadowMessage v) k e) g' room' u there'))
   where
     later : List WorldEvent
     later = catching_up i known (k + 1) rest
@@ -191,27 +227,39 @@ caught_up s (ShadowMessage v ∷ rest) w i k t known front extra e g room u ther
     Done = IsWithin (names (shadows_in ((front ++ ShadowMessage v ∷ []) ++ rest))) (names u.ops)
 
     Rest : Type 0
-    Rest = (w' : World) (t' : ModelSite) (extra' : List Message) → IsStage s w' i t' known (front ++ ShadowMessage v ∷ []) rest extra' → length t'.history + length later ≤ s.limits.history → slice_get (world_after_all s w' later).sites i ≡ Some u → Done
+    Rest = (w' : World) (t' : ModelSite) (extra' : List Message) → IsStage s w' i t' known (front ++ ShadowMessage v ∷ []) rest extra' →
+        length t'.history + length later ≤ s.limits.history → slice_get (world_after_all s w' later).sites i ≡ Some u → Done
 
-    by : (b : Bool) → names known v.name ≡ b → length t.history + length (cond b later (Deliver i k ∷ At i (Apply v.name) ∷ later)) ≤ s.limits.history → slice_get (world_after_all s w (cond b later (Deliver i k ∷ At i (Apply v.name) ∷ later))).sites i ≡ Some u → Rest → Done
-    by true q room' there' go = go w t extra (step_on s w i t known front rest extra (ShadowMessage v) g (with_last s w i t known front rest extra v g (g.knows v.name q))) room' there'
+    by : (b : Bool) → names known v.name ≡ b → length t.history + length (cond b later (Deliver i k ∷ At i (Apply v.name) ∷ later))
+        ≤ s.limits.history → slice_get (world_after_all s w (cond b later (Deliver i k ∷ At i (Apply v.name) ∷ later))).sites i ≡ Some u →
+        Rest → Done
+    by true q room' there' go = go w t extra (step_on s w i t known front rest extra (ShadowMessage v) g
+        (with_last s w i t known front rest extra v g (g.knows v.name q))) room' there'
     by false q room' there' go =
         let full : is_full s t ≡ false = roomy s t (suc (length later)) (omega arith) in
         let w1 : World = world_after s w (Deliver i k) in
         let t1 : ModelSite = after_event s t (Receive (ShadowMessage v)) in
         let g1 : IsStage s w1 i t1 known front (ShadowMessage v ∷ rest) (extra ++ sent_at s t (Receive (ShadowMessage v))) =
-        stage_after s w i t known front (ShadowMessage v ∷ rest) extra (Deliver i k) (Receive (ShadowMessage v)) tt (deliver_is s w i k t (ShadowMessage v) g.at (placed_there s w i k t known front rest extra (ShadowMessage v) e g)) full g in
+        stage_after s w i t known front (ShadowMessage v ∷ rest) extra (Deliver i k) (Receive (ShadowMessage v)) tt
+        (deliver_is s w i k t (ShadowMessage v) g.at (placed_there s w i k t known front rest extra (ShadowMessage v) e g)) full g in
         let h1 : length t1.history ≡ length t.history + 1 = history_after s t (Receive (ShadowMessage v)) full in
         let full1 : is_full s t1 ≡ false = roomy s t1 (length later) (omega arith) in
-        let held1 : (names t1.ops v.name ≡ true) ⊎ Among v t1.held = delivered_there s w i t v g.good g.at full (made_there s w i t known front rest extra v g) (past_there s w i t known front rest extra v g) in
+        let held1 : (names t1.ops v.name ≡ true) ⊎ Among v t1.held = delivered_there s w i t v g.good g.at full
+        (made_there s w i t known front rest extra v g) (past_there s w i t known front rest extra v g) in
         let w2 : World = world_after s w1 (At i (Apply v.name)) in
         let t2 : ModelSite = after_event s t1 (Apply v.name) in
         let extra2 : List Message = (extra ++ sent_at s t (Receive (ShadowMessage v))) ++ sent_at s t1 (Apply v.name) in
         let g2 : IsStage s w2 i t2 known front (ShadowMessage v ∷ rest) extra2 =
-        stage_after s w1 i t1 known front (ShadowMessage v ∷ rest) (extra ++ sent_at s t (Receive (ShadowMessage v))) (At i (Apply v.name)) (Apply v.name) (tt, tt) (apply_is s w1 i t1 v.name g1.at) full1 g1 in
+        stage_after s w1 i t1 known front (ShadowMessage v ∷ rest) (extra
+        ++ sent_at s t (Receive (ShadowMessage v))) (At i (Apply v.name)) (Apply v.name) (
+          tt,
+          tt,
+        ) (apply_is s w1 i t1 v.name g1.at) full1 g1 in
         let h2 : length t2.history ≡ length t1.history + 1 = history_after s t1 (Apply v.name) full1 in
-        let there2 : names t2.ops v.name ≡ true = applied_there s w1 i t1 v g1.good g1.at full1 (past_there s w1 i t1 known front rest (extra ++ sent_at s t (Receive (ShadowMessage v))) v g1) held1 in
-        go w2 t2 extra2 (step_on s w2 i t2 known front rest extra2 (ShadowMessage v) g2 (with_last s w2 i t2 known front rest extra2 v g2 there2)) (omega arith) there'
+        let there2 : names t2.ops v.name ≡ true = applied_there s w1 i t1 v g1.good g1.at full1
+        (past_there s w1 i t1 known front rest (extra ++ sent_at s t (Receive (ShadowMessage v))) v g1) held1 in
+        go w2 t2 extra2 (step_on s w2 i t2 known front rest extra2 (ShadowMessage v) g2
+        (with_last s w2 i t2 known front rest extra2 v g2 there2)) (omega arith) there'
 
 pub can_catch_up : (s : Settings) (w : World) → IsGood s w → CanCatchUp s w
 can_catch_up s w g i t at room u there =

@@ -17,9 +17,16 @@ pub record IsClosing (s : Settings) (all : List ModelSite) (rs : List SiteReport
   pub settings : AreOf s left
 
 pub closing-first : (s : Settings) (all : List ModelSite) (xs : List SeenSite) → map state_of xs ≡ all → AreOf s xs → IsClosing s all [] xs
-closing-first s all xs sites settings = record { closed = []; together = ap (map state_of) (append-nil xs) ∙ sites; told = tt; settings = settings }
+closing-first s all xs sites settings = record {
+  closed = [];
+  together = ap (map state_of) (append-nil xs) ∙ sites;
+  told = tt;
+  settings = settings;
+}
 
-pub closing-next : (s : Settings) (all : List ModelSite) (before left : List SeenSite) (rs : List SiteReport) (x : SeenSite) (r : SiteReport) → before ≡ left ++ x ∷ [] → IsClosing s all rs before → IsReport x.settings (state_of x) r → IsClosing s all (rs ++ r ∷ []) left
+pub closing-next : (s : Settings) (all : List ModelSite) (before left : List SeenSite) (rs : List SiteReport) (x : SeenSite)
+    (r : SiteReport) → before ≡ left ++ x ∷ [] → IsClosing s all rs before → IsReport x.settings (state_of x) r →
+    IsClosing s all (rs ++ r ∷ []) left
 closing-next s all before left rs x r popped far is =
     let kept : AreOf s left × (x.settings ≡ s) = All-pop (λ (y : SeenSite). y.settings ≡ s) before left (Some x) popped far.settings in
     record {
@@ -32,7 +39,8 @@ closing-next s all before left rs x r popped far is =
       settings = kept.0;
     }
 
-pub closing-whole : (s : Settings) (all : List ModelSite) (rs : List SiteReport) (left : List SeenSite) → length left ≡ 0 → IsClosing s all rs left → AreReports s all (reverse rs)
+pub closing-whole : (s : Settings) (all : List ModelSite) (rs : List SiteReport) (left : List SeenSite) → length left ≡ 0 →
+    IsClosing s all rs left → AreReports s all (reverse rs)
 closing-whole s all rs (x ∷ left) none far = absurd (omega arith)
 closing-whole s all rs [] none far =
     let P : List ModelSite → Type 0 = λ ts. AreReports s ts (reverse rs) in

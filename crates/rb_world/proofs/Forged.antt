@@ -1,5 +1,6 @@
 -- A site's replies and its state but for the history don't hang on refused messages.
-use Rattle.std.proofs.Common.{◌≡◌, ℕ, ◌+◌, ◌≤◌, Bool, true, false, cond, not, ◌&&◌, List, [], ◌∷◌, ◌++◌, length, refl, ap, sym, ◌∙◌, arith, subst, Option, Some, None, length-append}
+use Rattle.std.proofs.Common.{◌≡◌, ℕ, ◌+◌, ◌≤◌, Bool, true, false, cond, not, ◌&&◌, List, [], ◌∷◌, ◌++◌, length, refl, ap, sym, ◌∙◌, arith}
+use Rattle.std.proofs.Common.{subst, Option, Some, None, length-append}
 use Rattle.std.specs.Prelude.{nat_le, ◌==◌}
 use Rattle.rb_money.specs.Refusals.{unless}
 use Rattle.rb_money.specs.Settings.{Settings}
@@ -15,7 +16,8 @@ use Rattle.rb_site.specs.declared.event.Event.TheVariants.{Receive}
 use Rattle.rb_site.specs.declared.reply.Reply.{Reply}
 use Rattle.rb_site.specs.declared.reply.Reply.TheVariants.{Already, Stale}
 use Rattle.rb_site.proofs.Public.Outcomes.{same_outcome, with_history, changed-with_history}
-use Rattle.rb_site.specs.Events.{Answers, Holds, ModelSite, Outcome, Refuses, Takes, after_event, after_events, changed, first_site, is_full, outcome_of, replies_to_events, reply_of, reply_to, unless_known}
+use Rattle.rb_site.specs.Events.{Answers, Holds, ModelSite, Outcome, Refuses, Takes, after_event, after_events, changed, first_site}
+use Rattle.rb_site.specs.Events.{is_full, outcome_of, replies_to_events, reply_of, reply_to, unless_known}
 use Rattle.rb_world.specs.Laws.{AreAlike, is_receive, is_refused, is_refused_receive, other_replies, without_refused}
 use Rattle.rb_world.proofs.CaughtUp
 use Rattle.rb_world.proofs.Ready
@@ -33,15 +35,18 @@ lets_known : (v : Shadow) (o : Option Shadow) (next : Outcome) → Lets next →
 lets_known v None next h s t e = h s t e
 lets_known v (Some u) next h s t e = by (same_shadow u v) e
   where
-    by : (b : Bool) → is_refused (reply_of s t.ops (cond b (Answers (Already v.name)) (Refuses Conflict))) ≡ true → changed t (cond b (Answers (Already v.name)) (Refuses Conflict)) ≡ t
+    by : (b : Bool) → is_refused (reply_of s t.ops (cond b (Answers (Already v.name)) (Refuses Conflict))) ≡ true →
+        changed t (cond b (Answers (Already v.name)) (Refuses Conflict)) ≡ t
     by true k = refl
     by false k = refl
 
-lets_refusal : {E : Type 0} (refused : E → Refusal) (o : Option E) (next : Outcome) → Lets next → Lets (unless (λ why. Refuses (refused why)) o next)
+lets_refusal : {E : Type 0} (refused : E → Refusal) (o : Option E) (next : Outcome) → Lets next →
+    Lets (unless (λ why. Refuses (refused why)) o next)
 lets_refusal refused None next h s t e = h s t e
 lets_refusal refused (Some why) next h s t e = refl
 
-refused_changes_nothing : (s : Settings) (t : ModelSite) (e : Event) → is_receive e ≡ true → is_refused (reply_of s t.ops (outcome_of s t e)) ≡ true → changed t (outcome_of s t e) ≡ t
+refused_changes_nothing : (s : Settings) (t : ModelSite) (e : Event) → is_receive e ≡ true →
+    is_refused (reply_of s t.ops (outcome_of s t e)) ≡ true → changed t (outcome_of s t e) ≡ t
 unfolding outcome_of
 refused_changes_nothing s t (Receive (ShadowMessage v)) h k =
     lets_refusal BadMessage (fault_of s v) (unless_known v (find_in t.ops v.name) held) (lets_known v (find_in t.ops v.name) held
@@ -54,7 +59,8 @@ refused_changes_nothing s t (Receive (ShadowMessage v)) h k =
     held : Outcome
     held = cond (v.home == t.me) (Refuses Conflict) (unless_known v (find_in t.held v.name) room)
 refused_changes_nothing s t (Receive (TokenOnItsWay m)) h k =
-    lets_refusal (λ why. why) (refusal_of_token s.limits t.me m) (cond (nat_le m.epoch t.token.epoch) (Answers (Stale m.epoch)) (Takes m)) (last (nat_le m.epoch t.token.epoch)) s t k
+    lets_refusal (λ why. why) (refusal_of_token s.limits t.me m) (cond (nat_le m.epoch t.token.epoch) (Answers (Stale m.epoch)) (Takes m))
+    (last (nat_le m.epoch t.token.epoch)) s t k
   where
     last : (b : Bool) → Lets (cond b (Answers (Stale m.epoch)) (Takes m))
     last true z u q = refl
@@ -79,10 +85,12 @@ goes_alike s t h e room room' = (k, is, length-append h _)
         ∙ sym (ap (λ u. with_history u k) (CaughtUp.after_roomy s t e room))
 
 -- a refused Receive leaves the site but for the history
-stays_alike : (s : Settings) (t : ModelSite) (h : List Event) (e : Event) → is_full s t ≡ false → is_refused_receive s t e ≡ true → with_history (after_event s t e) h ≡ with_history t h
+stays_alike : (s : Settings) (t : ModelSite) (h : List Event) (e : Event) → is_full s t ≡ false → is_refused_receive s t e ≡ true →
+    with_history (after_event s t e) h ≡ with_history t h
 stays_alike s t h e room b =
     ap (λ u. with_history u h) (CaughtUp.after_roomy s t e room)
-    ∙ ap (λ u. with_history u h) (refused_changes_nothing s t e (first _ _ b) (ap is_refused (sym (Ready.reply_roomy s t e room)) ∙ second _ _ b))
+    ∙ ap (λ u. with_history u h) (refused_changes_nothing s t e (first _ _ b) (ap is_refused (sym (Ready.reply_roomy s t e room))
+    ∙ second _ _ b))
   where
     first : (b c : Bool) → (b && c) ≡ true → b ≡ true
     first true c h = refl
@@ -94,8 +102,10 @@ stays_alike s t h e room b =
 
 -- ---- a list of events
 
-no_trace_from : (s : Settings) (es : List Event) (t : ModelSite) (h : List Event) → length t.history + length es ≤ s.limits.history → length h + length es ≤ s.limits.history
-    → AreAlike (after_events s (with_history t h) (without_refused s t es)) (after_events s t es) × (replies_to_events s (with_history t h) (without_refused s t es) ≡ other_replies s t es)
+no_trace_from : (s : Settings) (es : List Event) (t : ModelSite) (h : List Event) → length t.history + length es ≤ s.limits.history →
+    length h + length es ≤ s.limits.history
+    → AreAlike (after_events s (with_history t h) (without_refused s t es)) (after_events s t es)
+    × (replies_to_events s (with_history t h) (without_refused s t es) ≡ other_replies s t es)
 no_trace_from s [] t h room room' = (record { me = refl; ops = refl; held = refl; token = refl }, refl)
 no_trace_from s (e ∷ es) t h room room' = by (is_refused_receive s t e) refl (λ k r r'. no_trace_from s es (after_event s t e) k r r')
   where
@@ -115,17 +125,27 @@ no_trace_from s (e ∷ es) t h room room' = by (is_refused_receive s t e) refl (
     Says u fs rs = AreAlike (after_events s u fs) (after_events s t2 es) × (replies_to_events s u fs ≡ rs)
 
     Rest : Type 0
-    Rest = (k : List Event) → length t2.history + length es ≤ s.limits.history → length k + length es ≤ s.limits.history → Says (with_history t2 k) (without_refused s t2 es) (other_replies s t2 es)
+    Rest = (k : List Event) → length t2.history + length es ≤ s.limits.history → length k + length es ≤ s.limits.history →
+        Says (with_history t2 k) (without_refused s t2 es) (other_replies s t2 es)
 
-    by : (b : Bool) → is_refused_receive s t e ≡ b → Rest → Says (with_history t h) (cond b (without_refused s t2 es) (e ∷ without_refused s t2 es)) (cond b (other_replies s t2 es) (reply_to s t e ∷ other_replies s t2 es))
-    by true q go = subst (λ u. Says u (without_refused s t2 es) (other_replies s t2 es)) (stays_alike s t h e full q) (go h (omega (arith, longer)) (omega arith))
+    by : (b : Bool) → is_refused_receive s t e ≡ b → Rest → Says (with_history t h) (cond b (without_refused s t2 es) (e
+        ∷ without_refused s t2 es)) (cond b (other_replies s t2 es) (reply_to s t e ∷ other_replies s t2 es))
+    by true q go = subst (λ u. Says u (without_refused s t2 es) (other_replies s t2 es)) (stays_alike s t h e full q)
+        (go h (omega (arith, longer)) (omega arith))
     by false q go =
         let (k, is, more) = goes_alike s t h e full full' in
         let r : Says (with_history t2 k) (without_refused s t2 es) (other_replies s t2 es) = go k (omega (arith, longer)) (omega arith) in
-        let r' : Says (after_event s (with_history t h) e) (without_refused s t2 es) (other_replies s t2 es) = subst (λ u. Says u (without_refused s t2 es) (other_replies s t2 es)) (sym is) r in
-        let first : reply_to s (with_history t h) e ≡ reply_to s t e = Ready.reply_roomy s (with_history t h) e full' ∙ ap (reply_of s t.ops) (same_outcome s t h e) ∙ sym (Ready.reply_roomy s t e full) in
-        (r'.0, ap (λ x. x ∷ replies_to_events s (after_event s (with_history t h) e) (without_refused s t2 es)) first ∙ ap (λ rs. reply_to s t e ∷ rs) r'.1)
+        let r' : Says (after_event s (with_history t h) e) (without_refused s t2 es) (other_replies s t2 es) =
+        subst (λ u. Says u (without_refused s t2 es) (other_replies s t2 es)) (sym is) r in
+        let first : reply_to s (with_history t h) e ≡ reply_to s t e =
+        Ready.reply_roomy s (with_history t h) e full' ∙ ap (reply_of s t.ops) (same_outcome s t h e)
+        ∙ sym (Ready.reply_roomy s t e full) in (
+          r'.0,
+          ap (λ x. x ∷ replies_to_events s (after_event s (with_history t h) e) (without_refused s t2 es)) first
+              ∙ ap (λ rs. reply_to s t e ∷ rs) r'.1,
+        )
 
 pub no_trace : (s : Settings) (me : ℕ) (es : List Event) → length es ≤ s.limits.history
-    → AreAlike (after_events s (first_site me) (without_refused s (first_site me) es)) (after_events s (first_site me) es) × (replies_to_events s (first_site me) (without_refused s (first_site me) es) ≡ other_replies s (first_site me) es)
+    → AreAlike (after_events s (first_site me) (without_refused s (first_site me) es)) (after_events s (first_site me) es)
+    × (replies_to_events s (first_site me) (without_refused s (first_site me) es) ≡ other_replies s (first_site me) es)
 no_trace s me es room = no_trace_from s es (first_site me) [] (omega arith) (omega arith)

@@ -1,5 +1,6 @@
 -- What holds of the world after every run.
-use Rattle.std.proofs.Common.{◌≡◌, ◌≢◌, ℕ, ◌+◌, ◌<◌, ◌≤◌, Bool, true, false, cond, not, List, [], ◌∷◌, ◌++◌, refl, ap, sym, ◌∙◌, arith, ◌⊎◌, inl, inr, subst, Some}
+use Rattle.std.proofs.Common.{◌≡◌, ◌≢◌, ℕ, ◌+◌, ◌<◌, ◌≤◌, Bool, true, false, cond, not, List, [], ◌∷◌, ◌++◌, refl, ap, sym, ◌∙◌, arith, ◌⊎◌}
+use Rattle.std.proofs.Common.{inl, inr, subst, Some}
 use Rattle.std.specs.Prelude.{slice_get, max, ◌==◌}
 use Rattle.std.proofs.lemmas.Bool.Decides.{nat_tests}
 use Rattle.rb_money.specs.Settings.{Settings}
@@ -9,7 +10,8 @@ use Rattle.rb_shadow.specs.declared.op_name.OpName.TheVariants.{Blue, Red}
 use Rattle.rb_shadow.specs.declared.colour.Colour.{Colour}
 use Rattle.rb_shadow.specs.declared.colour.Colour.TheVariants.{Blue as BlueColour, Red as RedColour}
 use Rattle.rb_shadow.specs.declared.shadow.Shadow.{Shadow}
-use Rattle.rb_shadow.specs.Operations.{Among, AreSame, EachEntry, blue_count, clock_of, is_red, names, number_of, past, red_count, same_name, colour_in}
+use Rattle.rb_shadow.specs.Operations.{Among, AreSame, EachEntry, blue_count, clock_of, is_red, names, number_of, past, red_count}
+use Rattle.rb_shadow.specs.Operations.{same_name, colour_in}
 use Rattle.rb_shadow.specs.Laws.{IsPart}
 use Rattle.rb_shadow.specs.Sound.{IsSound, is_foreign}
 use Rattle.rb_shadow.proofs.Public.Members
@@ -83,7 +85,8 @@ unfolding operation_of
 name_of me us p = refl
 
 -- who makes a red operation knows every red one
-knows_reds : (w : World) (i : ℕ) (t : ModelSite) → IsInOnePlace w → slice_get w.sites i ≡ Some t → t.token.held ≡ true → t.token.needed ≤ red_count t.ops → Token.RedsUpTo (made_in w) (red_count t.ops)
+knows_reds : (w : World) (i : ℕ) (t : ModelSite) → IsInOnePlace w → slice_get w.sites i ≡ Some t → t.token.held ≡ true →
+    t.token.needed ≤ red_count t.ops → Token.RedsUpTo (made_in w) (red_count t.ops)
 knows_reds w i t p at held enough = by p.place
   where
     by : ((k : ℕ) × (u : ModelSite) × IsHeldAt w k u) ⊎ ((m : TokenMessage) × IsOnItsWay w m) → Token.RedsUpTo (made_in w) (red_count t.ops)
@@ -97,17 +100,21 @@ knows_reds w i t p at held enough = by p.place
     by (inr (m, on)) = absurd (Token.true≢false' t.token.held held (on.unheld i t at))
 
 -- a red operation that the list counts is in it
-red_there : (us : List Shadow) (x : OpName) → IsCounted us → is_red x ≡ true → 1 ≤ number_of x → red_number x ≤ red_count us → names us x ≡ true
+red_there : (us : List Shadow) (x : OpName) → IsCounted us → is_red x ≡ true → 1 ≤ number_of x → red_number x ≤ red_count us →
+    names us x ≡ true
 red_there us (Blue i n) counted red positive most = cc
 red_there us (Red n) counted red positive most = counted (Red n) ∙ Clocks.in_range n (red_count us) positive most
 
-new_made : (s : Settings) (w : World) (i : ℕ) (t : ModelSite) (v : Shadow) → IsGood s w → slice_get w.sites i ≡ Some t → IsMadeAt s t.me t.ops t.token v → IsNew s (made_in w) t.ops v
+new_made : (s : Settings) (w : World) (i : ℕ) (t : ModelSite) (v : Shadow) → IsGood s w → slice_get w.sites i ≡ Some t →
+    IsMadeAt s t.me t.ops t.token v → IsNew s (made_in w) t.ops v
 new_made s w i t v g at made = record {
   part = here.part;
   valid = Legal.IsValid-push s t.ops v here.valid (Makes.made_follows s t.me t.ops t.token v g.few low here.valid made);
-  is_past = λ x. sym (ValidClocks.clock_past s t.ops v g.few here.valid (ap (λ (x : Shadow). x.deps) made.is ∙ deps_of t.me t.ops made.plan) x);
+  is_past = λ x. sym (ValidClocks.clock_past s t.ops v g.few here.valid (ap (λ (x : Shadow). x.deps) made.is
+      ∙ deps_of t.me t.ops made.plan) x);
   fresh = elim (Members.bool_cases (names all v.name)) [
-    | inl e ↦ absurd (fresh (colour_in t.ops made.plan.kind) v.name (ap (λ (x : Shadow). x.name) made.is ∙ name_of t.me t.ops made.plan) made.fair e)
+    | inl e ↦ absurd (fresh (colour_in t.ops made.plan.kind) v.name (ap (λ (x : Shadow). x.name) made.is
+        ∙ name_of t.me t.ops made.plan) made.fair e)
     | inr e ↦ e
   ];
   reds = λ e u h k. by v.name e made.fair u h k;
@@ -126,9 +133,11 @@ new_made s w i t v g at made = record {
     low : t.me < s.sites
     low = subst (λ k. k < s.sites) (sym me) here.low
 
-    by : (x : OpName) → is_red x ≡ true → IsAllowed s t.ops t.token v x → (u : Shadow) → Among u all → is_red u.name ≡ true → names t.ops u.name ≡ true
+    by : (x : OpName) → is_red x ≡ true → IsAllowed s t.ops t.token v x → (u : Shadow) → Among u all → is_red u.name ≡ true →
+        names t.ops u.name ≡ true
     by (Blue j n) e fair u h k = cc
-    by (Red n) e fair u h k = red_there t.ops u.name (ValidClocks.valid_counted s t.ops here.valid) k (SoundFacts.is_next s u (sound_in s w u g h)).positive (knows_reds w i t g.place at fair.0 fair.1 u h)
+    by (Red n) e fair u h k = red_there t.ops u.name (ValidClocks.valid_counted s t.ops here.valid) k
+        (SoundFacts.is_next s u (sound_in s w u g h)).positive (knows_reds w i t g.place at fair.0 fair.1 u h)
 
     at_home : (x : OpName) (home n : ℕ) → is_foreign x home ≡ false → x ≡ Blue t.me n → home ≡ t.me
     at_home x home n f e = let k : not (t.me == home) ≡ false = ap (λ y. is_foreign y home) (sym e) ∙ f in grind (arith, nat_tests)
@@ -136,8 +145,10 @@ new_made s w i t v g at made = record {
     fresh : (c : Colour) (x : OpName) → x ≡ next_name t.me t.ops c → IsAllowed s t.ops t.token v x → names all x ≡ true → ⊥
     fresh BlueColour x e fair h =
         let (u, there, named) = Members.find_named all x h in
-        let home : u.home ≡ t.me = at_home u.name u.home (blue_count t.ops t.me + 1) (SoundFacts.sound_facts s u (sound_in s w u g there)).own (named ∙ e) in
-        Members.true≢false (sym (Members.named t.ops u (here.own u there (home ∙ me))) ∙ ap (names t.ops) (named ∙ e) ∙ Makes.fresh_name s t.me t.ops BlueColour here.valid)
+        let home : u.home ≡ t.me = at_home u.name u.home (blue_count t.ops t.me
+        + 1) (SoundFacts.sound_facts s u (sound_in s w u g there)).own (named ∙ e) in
+        Members.true≢false (sym (Members.named t.ops u (here.own u there (home ∙ me))) ∙ ap (names t.ops) (named ∙ e)
+        ∙ Makes.fresh_name s t.me t.ops BlueColour here.valid)
     fresh RedColour x e fair h =
         let (u, there, named) = Members.find_named all x h in
         let fair' : IsAllowed s t.ops t.token v (Red (red_count t.ops + 1)) = subst (IsAllowed s t.ops t.token v) e fair in
@@ -148,7 +159,8 @@ new_made s w i t v g at made = record {
 -- ---- a site after a step
 
 -- a site at which nothing was made
-older_site : (s : Settings) (all : List Shadow) (v : Shadow) (i : ℕ) (t : ModelSite) → v.home ≢ i → IsInOrder s all i t → IsInOrder s (all ++ v ∷ []) i t
+older_site : (s : Settings) (all : List Shadow) (v : Shadow) (i : ℕ) (t : ModelSite) → v.home ≢ i → IsInOrder s all i t →
+    IsInOrder s (all ++ v ∷ []) i t
 older_site s all v i t away o = record {
   low = o.low;
   valid = o.valid;
@@ -164,22 +176,37 @@ older_site s all v i t away o = record {
 pass_name : (us : List Shadow) (v : Shadow) (x : OpName) → names us x ≡ false → same_name v.name x ≡ false → names (us ++ v ∷ []) x ≡ false
 pass_name us v x h k = Members.names-append us (v ∷ []) x ∙ Members.false-or _ _ h (Members.false-or _ _ k refl)
 
-made_site : (s : Settings) (all : List Shadow) (i : ℕ) (t : ModelSite) (v : Shadow) → IsInOrder s all i t → IsNew s all t.ops v → IsInOrder s (all ++ v ∷ []) i (record t { ops = t.ops ++ v ∷ [] })
+made_site : (s : Settings) (all : List Shadow) (i : ℕ) (t : ModelSite) (v : Shadow) → IsInOrder s all i t → IsNew s all t.ops v →
+    IsInOrder s (all ++ v ∷ []) i (record t { ops = t.ops ++ v ∷ [] })
 made_site s all i t v o n = record {
   low = o.low;
   valid = n.valid;
   own_past = Legal.each_push (λ before u. u.home ≡ i → AreSame (past u) (names before)) t.ops v o.own_past (λ e x. sym (n.is_past x));
   part = part-last (all ++ v ∷ []) t.ops v (λ u h. part-more all v u (o.part u h)) (Members.Among-right all (v ∷ []) v (inl refl));
-  own = λ u h e. elim (last_cases all v u h) [ inl k ↦ part-more t.ops v u (o.own u k e) | inr k ↦ subst (λ x. Among x (t.ops ++ v ∷ [])) (sym k) (Members.Among-right t.ops (v ∷ []) v (inl refl)) ];
+  own = λ u h e. elim (last_cases all v u h) [
+    | inl k ↦ part-more t.ops v u (o.own u k e)
+    | inr k ↦ subst (λ x. Among x (t.ops ++ v ∷ [])) (sym k) (Members.Among-right t.ops (v ∷ []) v (inl refl))
+  ];
   held = λ u h. part-more all v u (o.held u h);
-  inbox = λ u h. pass_name t.ops v u.name (o.inbox u h) (Members.not_same v.name u.name (λ e. Members.true≢false (sym (Members.named all u (o.held u h)) ∙ ap (names all) (sym e) ∙ n.fresh)));
+  inbox = λ u h. pass_name t.ops v u.name (o.inbox u h) (Members.not_same v.name u.name
+      (λ e. Members.true≢false (sym (Members.named all u (o.held u h)) ∙ ap (names all) (sym e) ∙ n.fresh)));
   needed = o.needed;
 }
 
 -- a site whose list is the same
-same_list : (s : Settings) (all : List Shadow) (i : ℕ) (t : ModelSite) (hs : List Shadow) (k : Token) (h : List Event) → IsInOrder s all i t → IsPart hs all → ((u : Shadow) → Among u hs → names t.ops u.name ≡ false) → k.needed ≤ s.limits.red
+same_list : (s : Settings) (all : List Shadow) (i : ℕ) (t : ModelSite) (hs : List Shadow) (k : Token) (h : List Event) → IsInOrder s all i t
+    → IsPart hs all → ((u : Shadow) → Among u hs → names t.ops u.name ≡ false) → k.needed ≤ s.limits.red
     → IsInOrder s all i (record { me = t.me; ops = t.ops; held = hs; token = k; history = h })
-same_list s all i t hs k h o part inbox needed = record { low = o.low; valid = o.valid; own_past = o.own_past; part = o.part; own = o.own; held = part; inbox = inbox; needed = needed }
+same_list s all i t hs k h o part inbox needed = record {
+  low = o.low;
+  valid = o.valid;
+  own_past = o.own_past;
+  part = o.part;
+  own = o.own;
+  held = part;
+  inbox = inbox;
+  needed = needed;
+}
 
 in_without : (x : OpName) (us : List Shadow) (u : Shadow) → Among u (without x us) → Among u us
 in_without x us u h = kept_among (λ y. not (same_name y.name x)) us u h
@@ -189,19 +216,22 @@ without_name : (x : OpName) (us : List Shadow) (u : Shadow) → Among u (without
 without_name x [] u h = elim h [ ]
 without_name x (v ∷ us) u h = at (same_name v.name x) refl h (without_name x us u)
   where
-    at : (b : Bool) → same_name v.name x ≡ b → Among u (cond (not b) (v ∷ without x us) (without x us)) → (Among u (without x us) → same_name u.name x ≡ false) → same_name u.name x ≡ false
+    at : (b : Bool) → same_name v.name x ≡ b → Among u (cond (not b) (v ∷ without x us) (without x us)) →
+        (Among u (without x us) → same_name u.name x ≡ false) → same_name u.name x ≡ false
     at true e k rest = rest k
     at false e (inl k) rest = ap (λ (y : Shadow). same_name y.name x) k ∙ e
     at false e (inr k) rest = rest k
 
-held_site : (s : Settings) (ms : List Message) (i : ℕ) (t : ModelSite) (v : Shadow) → IsInOrder s (shadows_in ms) i t → MayHold ms t v → IsInOrder s (shadows_in ms) i (record t { held = with_held v t.held })
+held_site : (s : Settings) (ms : List Message) (i : ℕ) (t : ModelSite) (v : Shadow) → IsInOrder s (shadows_in ms) i t → MayHold ms t v →
+    IsInOrder s (shadows_in ms) i (record t { held = with_held v t.held })
 held_site s ms i t v o may =
     same_list s (shadows_in ms) i t (with_held v t.held) t.token t.history o
     (λ u h. elim (held_cases v t.held u h) [ inl e ↦ subst (λ x. Among x (shadows_in ms)) (sym e) may.sent | inr k ↦ o.held u k ])
     (λ u h. elim (held_cases v t.held u h) [ inl e ↦ ap (λ (y : Shadow). names t.ops y.name) e ∙ may.fresh | inr k ↦ o.inbox u k ])
     o.needed
 
-applied_site : (s : Settings) (all : List Shadow) (i : ℕ) (t : ModelSite) (v : Shadow) → IsInOrder s all i t → IsSound s v → MayApply s t v → IsInOrder s all i (record t { ops = t.ops ++ v ∷ []; held = without v.name t.held })
+applied_site : (s : Settings) (all : List Shadow) (i : ℕ) (t : ModelSite) (v : Shadow) → IsInOrder s all i t → IsSound s v → MayApply s t v
+    → IsInOrder s all i (record t { ops = t.ops ++ v ∷ []; held = without v.name t.held })
 applied_site s all i t v o sound may = record {
   low = o.low;
   valid = Legal.taken_rightly s t.ops v o.valid sound (sym may.right);
@@ -210,23 +240,28 @@ applied_site s all i t v o sound may = record {
   part = part-last all t.ops v o.part (o.held v may.held);
   own = λ u h e. part-more t.ops v u (o.own u h e);
   held = λ u h. o.held u (in_without v.name t.held u h);
-  inbox = λ u h. pass_name t.ops v u.name (o.inbox u (in_without v.name t.held u h)) (Members.same_name-comm v.name u.name ∙ without_name v.name t.held u h);
+  inbox = λ u h. pass_name t.ops v u.name (o.inbox u (in_without v.name t.held u h)) (Members.same_name-comm v.name u.name
+      ∙ without_name v.name t.held u h);
   needed = o.needed;
 }
 
 -- ---- each kind of step
 
 -- nothing is made
-stays : (s : Settings) (w : World) (i : ℕ) (t n : ModelSite) (ms : List Message) → IsGood s w → slice_get w.sites i ≡ Some t → IsInOnePlace (moved w i n ms) → shadows_in ms ≡ made_in w → AreWithin s (tokens_in ms) → IsInOrder s (made_in w) i n → IsGood s (moved w i n ms)
+stays : (s : Settings) (w : World) (i : ℕ) (t n : ModelSite) (ms : List Message) → IsGood s w → slice_get w.sites i ≡ Some t →
+    IsInOnePlace (moved w i n ms) → shadows_in ms ≡ made_in w → AreWithin s (tokens_in ms) → IsInOrder s (made_in w) i n →
+    IsGood s (moved w i n ms)
 stays s w i t n ms g at place same tokens here = record {
   few = g.few;
   place = place;
   order = subst (IsOrderedSet s) (sym same) g.order;
-  sites = subst (λ all. EachSite (moved w i n ms) (IsInOrder s all)) (sym same) (each_moved w i t n ms (IsInOrder s (made_in w)) at (λ j u h ne. g.sites j u h) here);
+  sites = subst (λ all. EachSite (moved w i n ms) (IsInOrder s all)) (sym same)
+      (each_moved w i t n ms (IsInOrder s (made_in w)) at (λ j u h ne. g.sites j u h) here);
   tokens = tokens;
 }
 
-makes : (s : Settings) (w : World) (i : ℕ) (t : ModelSite) (v : Shadow) → IsGood s w → slice_get w.sites i ≡ Some t → IsMadeAt s t.me t.ops t.token v → IsGood s (moved w i (record t { ops = t.ops ++ v ∷ [] }) (w.messages ++ ShadowMessage v ∷ []))
+makes : (s : Settings) (w : World) (i : ℕ) (t : ModelSite) (v : Shadow) → IsGood s w → slice_get w.sites i ≡ Some t →
+    IsMadeAt s t.me t.ops t.token v → IsGood s (moved w i (record t { ops = t.ops ++ v ∷ [] }) (w.messages ++ ShadowMessage v ∷ []))
 makes s w i t v g at made = record {
   few = g.few;
   place = (Token.keeps_place s).makes w i t v g.place at made;
@@ -257,11 +292,16 @@ makes s w i t v g at made = record {
     home = ap (λ (x : Shadow). x.home) made.is ∙ home_of t.me t.ops made.plan ∙ g.place.numbered i t at
 
 -- the message of a token that is passed is within the limits
-passed_within : (s : Settings) (w : World) (i : ℕ) (t : ModelSite) (m : TokenMessage) → IsGood s w → slice_get w.sites i ≡ Some t → MayPass s t m → AreWithin s (tokens_in (w.messages ++ TokenOnItsWay m ∷ []))
-passed_within s w i t m g at may k h = elim (Token.tokens_cases (tokens_in w.messages) (m ∷ []) k (subst (AmongTokens k) (Token.tokens_more w.messages m) h)) [
-  | inl old ↦ g.tokens k old
-  | inr new ↦ elim new [ inl e ↦ subst (λ (x : TokenMessage). (x.epoch ≤ s.limits.epoch) × (x.red ≤ s.limits.red)) (sym e) (may.within, red) | inr q ↦ elim q [ ] ]
-]
+passed_within : (s : Settings) (w : World) (i : ℕ) (t : ModelSite) (m : TokenMessage) → IsGood s w → slice_get w.sites i ≡ Some t →
+    MayPass s t m → AreWithin s (tokens_in (w.messages ++ TokenOnItsWay m ∷ []))
+passed_within s w i t m g at may k h = elim (Token.tokens_cases (tokens_in w.messages) (m
+    ∷ []) k (subst (AmongTokens k) (Token.tokens_more w.messages m) h)) [
+      | inl old ↦ g.tokens k old
+      | inr new ↦ elim new [
+        | inl e ↦ subst (λ (x : TokenMessage). (x.epoch ≤ s.limits.epoch) × (x.red ≤ s.limits.red)) (sym e) (may.within, red)
+        | inr q ↦ elim q [ ]
+      ]
+    ]
   where
     red : m.red ≤ s.limits.red
     red =
@@ -272,13 +312,20 @@ passed_within s w i t m g at may k h = elim (Token.tokens_cases (tokens_in w.mes
 
 pub keeps_good : (s : Settings) → Keeps s (IsGood s)
 keeps_good s = record {
-  notes = λ w i t h g at. let o = g.sites i t at in stays s w i t _ w.messages g at (place.notes w i t h g.place at) refl g.tokens (same_list s _ i t t.held t.token h o o.held o.inbox o.needed);
+  notes = λ w i t h g at. let o = g.sites i t at in stays s w i t _ w.messages g at (place.notes w i t h g.place at) refl g.tokens
+      (same_list s _ i t t.held t.token h o o.held o.inbox o.needed);
   makes = makes s;
-  drops = λ w i t x g at. let o = g.sites i t at in stays s w i t _ w.messages g at (place.drops w i t x g.place at) refl g.tokens (same_list s _ i t (without x t.held) t.token t.history o (λ u h. o.held u (in_without x t.held u h)) (λ u h. o.inbox u (in_without x t.held u h)) o.needed);
-  holds = λ w i t v g at may. let o = g.sites i t at in stays s w i t _ w.messages g at (place.holds w i t v g.place at may) refl g.tokens (held_site s w.messages i t v o may);
-  applies = λ w i t v g at may. let o = g.sites i t at in stays s w i t _ w.messages g at (place.applies w i t v g.place at may) refl g.tokens (applied_site s _ i t v o (sound_in s w v g (o.held v may.held)) may);
-  takes = λ w i t m g at may. let o = g.sites i t at in stays s w i t _ w.messages g at (place.takes w i t m g.place at may) refl g.tokens (same_list s _ i t t.held _ t.history o o.held o.inbox (g.tokens m may.sent).1);
-  passes = λ w i t m g at may. let o = g.sites i t at in stays s w i t _ _ g at (place.passes w i t m g.place at may) (Token.made_same w.messages m) (passed_within s w i t m g at may) (same_list s _ i t t.held _ t.history o o.held o.inbox o.needed);
+  drops = λ w i t x g at. let o = g.sites i t at in stays s w i t _ w.messages g at (place.drops w i t x g.place at) refl g.tokens
+      (same_list s _ i t (without x t.held) t.token t.history o (λ u h. o.held u (in_without x t.held u h))
+      (λ u h. o.inbox u (in_without x t.held u h)) o.needed);
+  holds = λ w i t v g at may. let o = g.sites i t at in stays s w i t _ w.messages g at (place.holds w i t v g.place at may) refl g.tokens
+      (held_site s w.messages i t v o may);
+  applies = λ w i t v g at may. let o = g.sites i t at in stays s w i t _ w.messages g at (place.applies w i t v g.place at may) refl
+      g.tokens (applied_site s _ i t v o (sound_in s w v g (o.held v may.held)) may);
+  takes = λ w i t m g at may. let o = g.sites i t at in stays s w i t _ w.messages g at (place.takes w i t m g.place at may) refl g.tokens
+      (same_list s _ i t t.held _ t.history o o.held o.inbox (g.tokens m may.sent).1);
+  passes = λ w i t m g at may. let o = g.sites i t at in stays s w i t _ _ g at (place.passes w i t m g.place at may)
+      (Token.made_same w.messages m) (passed_within s w i t m g at may) (same_list s _ i t t.held _ t.history o o.held o.inbox o.needed);
 }
   where
     place : Keeps s IsInOnePlace

@@ -36,7 +36,8 @@ run_of_worlds : (x : SeenWorld) (es : List WorldEvent) (k : ℕ) → IsRunOf x �
 run_of_worlds x [] zero run own = run
 run_of_worlds x [] (suc k) run own = run
 run_of_worlds x (e ∷ es) zero run own = run
-run_of_worlds x (e ∷ es) (suc k) run own = run_of_worlds (next_world x e) es k (next_run x e run (All-head IsCommand e es own)) (All-tail IsCommand e es own)
+run_of_worlds x (e ∷ es) (suc k) run own = run_of_worlds (next_world x e) es k (next_run x e run (All-head IsCommand e es own))
+    (All-tail IsCommand e es own)
 
 pub holds_of_run : (x : SeenWorld) → IsRunOf x → Holds x.settings x.world
 holds_of_run x run =
@@ -44,7 +45,8 @@ holds_of_run x run =
     (holds x.settings x.events (let some : 2 ≤ x.settings.sites = run.some_sites in omega arith) run.few_sites run.own)
 
 -- so far all laws hold
-pub holds_so_far : (start : SeenWorld) (events : List WorldEvent) (k : ℕ) (now : SeenWorld) (replies : List Reply) → IsRunOf start → All IsCommand events → IsRunSoFar start events k now replies → Holds now.settings now.world
+pub holds_so_far : (start : SeenWorld) (events : List WorldEvent) (k : ℕ) (now : SeenWorld) (replies : List Reply) → IsRunOf start →
+    All IsCommand events → IsRunSoFar start events k now replies → Holds now.settings now.world
 holds_so_far start events k now replies run own far =
     let P : SeenWorld → Type 0 = λ x. Holds x.settings x.world in
     subst P (sym far.world) (holds_of_run _ (run_of_worlds start events k run own))

@@ -23,7 +23,8 @@ red_blue s w g = record {
     closed = λ v h. Pasts.closed s all v (o.pasts v h);
     transitive = λ t u v h k l p q. Pasts.transitive s all u v o.unique k (o.pasts v l) q t.name p;
     irreflexive = λ u h. Pasts.irreflexive s all u (o.pasts u h);
-    reds = λ u v h k p q. o.reds u v h k (Pasts.is_red-shown u.name _ (Pasts.shown s all u o.unique (o.pasts u h)) p) (Pasts.is_red-shown v.name _ (Pasts.shown s all v o.unique (o.pasts v k)) q);
+    reds = λ u v h k p q. o.reds u v h k (Pasts.is_red-shown u.name _ (Pasts.shown s all u o.unique (o.pasts u h)) p)
+        (Pasts.is_red-shown v.name _ (Pasts.shown s all v o.unique (o.pasts v k)) q);
     homes = o.homes;
   };
   serial = λ i t at. let h = g.sites i t at in record { unique = h.valid.unique; past_before = h.valid.past_before; own_past = h.own_past };
@@ -42,7 +43,8 @@ clocks s w g i t at = ValidClocks.valid_clock s t.ops g.few (g.sites i t at).val
 
 pub agreement : (s : Settings) (w : World) → IsGood s w → Agreement s w
 agreement s w g i t at j u at' same =
-    Balances.agreement s (made_in w) t.ops u.ops (red_blue s w g).lawful (g.sites i t at).part (g.sites j u at').part (g.sites i t at).valid.unique (g.sites j u at').valid.unique same
+    Balances.agreement s (made_in w) t.ops u.ops (red_blue s w g).lawful (g.sites i t at).part (g.sites j u at').part
+    (g.sites i t at).valid.unique (g.sites j u at').valid.unique same
 
 pub valid_lists : (s : Settings) (w : World) → IsGood s w → ValidLists s w
 valid_lists s w g i t at = (g.sites i t at).valid
@@ -54,11 +56,14 @@ pub funds : (s : Settings) (w : World) → IsGood s w → Funds s w
 funds s w g vs part unique closed a =
     let l = (red_blue s w g).lawful in
     let o : IsOrderedSet s (made_in w) = g.order in
-    Covered.funded s (made_in w) vs a o.unique o.reds l.transitive l.irreflexive (Pasts.is_covered s (made_in w) o.unique o.pasts) part unique closed
+    Covered.funded s (made_in w) vs a o.unique o.reds l.transitive l.irreflexive (Pasts.is_covered s (made_in w) o.unique o.pasts) part
+    unique closed
 
 -- no balance of a closed part of what was made is negative
-pub part_never_negative : (s : Settings) (w : World) (us : List Shadow) (a : Place) → IsGood s w → IsPart us (made_in w) → IsUnique us → IsClosed us → pos 0 ≤ℤ bal s us a
+pub part_never_negative : (s : Settings) (w : World) (us : List Shadow) (a : Place) → IsGood s w → IsPart us (made_in w) → IsUnique us →
+    IsClosed us → pos 0 ≤ℤ bal s us a
 part_never_negative s w us a g part unique closed =
     let l = (red_blue s w g).lawful in
     let o : IsOrderedSet s (made_in w) = g.order in
-    Covered.never_negative s (made_in w) us a o.unique o.reds l.transitive l.irreflexive (Pasts.is_covered s (made_in w) o.unique o.pasts) part unique closed
+    Covered.never_negative s (made_in w) us a o.unique o.reds l.transitive l.irreflexive (Pasts.is_covered s (made_in w) o.unique o.pasts)
+    part unique closed

@@ -43,10 +43,17 @@ part-last all us v part there u h = elim (last_cases us v u h) [ inl k ↦ part 
 pub set_more : (s : Settings) (all us : List Shadow) (v : Shadow) → IsOrderedSet s all → IsNew s all us v → IsOrderedSet s (all ++ v ∷ [])
 set_more s all us v o n = record {
   unique = Members.IsUnique-push all v o.unique n.fresh;
-  in_turn = Legal.each_push (λ before u. IsWithin (past u) (names before)) all v o.in_turn (λ x h. Balances.names-part us all n.part x (n.is_past x ∙ h));
-  pasts = λ u h. elim (last_cases all v u h) [ inl k ↦ Pasts.among_more s all (all ++ v ∷ []) u (part-more all v) (o.pasts u k) | inr e ↦ subst (HasValidPast s (all ++ v ∷ [])) (sym e) newest ];
-  reds = λ a b h k p q. ordered (λ c d. (is_red c.name ≡ true) × (is_red d.name ≡ true)) (λ c d e f r. o.reds c d e f r.0 r.1) (λ c e r. after c (n.reds r.1 c e r.0)) (λ c e r. after c (n.reds r.0 c e r.1)) a b h k (p, q);
-  homes = λ a b h k p. ordered (λ c d. c.home ≡ d.home) (λ c d e f r. o.homes c d e f r) (λ c e r. after c (n.homes c e r)) (λ c e r. after c (n.homes c e (sym r))) a b h k p;
+  in_turn = Legal.each_push (λ before u. IsWithin (past u) (names before)) all v o.in_turn
+      (λ x h. Balances.names-part us all n.part x (n.is_past x ∙ h));
+  pasts = λ u h. elim (last_cases all v u h) [
+    | inl k ↦ Pasts.among_more s all (all ++ v ∷ []) u (part-more all v) (o.pasts u k)
+    | inr e ↦ subst (HasValidPast s (all ++ v ∷ [])) (sym e) newest
+  ];
+  reds = λ a b h k p q. ordered (λ c d. (is_red c.name ≡ true) × (is_red d.name
+      ≡ true)) (λ c d e f r. o.reds c d e f r.0 r.1) (λ c e r. after c (n.reds r.1 c e r.0)) (λ c e r. after c (n.reds r.0 c e r.1)) a b h k
+      (p, q);
+  homes = λ a b h k p. ordered (λ c d. c.home ≡ d.home) (λ c d e f r. o.homes c d e f r) (λ c e r. after c (n.homes c e r))
+      (λ c e r. after c (n.homes c e (sym r))) a b h k p;
 }
   where
     newest : HasValidPast s (all ++ v ∷ []) v
@@ -56,7 +63,8 @@ set_more s all us v o n = record {
     after : (u : Shadow) → names us u.name ≡ true → Precedes u v
     after u k = sym (n.is_past u.name) ∙ k
 
-    ordered : (Q : Shadow → Shadow → Type 0) → ((a b : Shadow) → Among a all → Among b all → Q a b → AreOrdered a b) → ((a : Shadow) → Among a all → Q a v → Precedes a v) → ((a : Shadow) → Among a all → Q v a → Precedes a v)
+    ordered : (Q : Shadow → Shadow → Type 0) → ((a b : Shadow) → Among a all → Among b all → Q a b → AreOrdered a b) →
+        ((a : Shadow) → Among a all → Q a v → Precedes a v) → ((a : Shadow) → Among a all → Q v a → Precedes a v)
         → (a b : Shadow) → Among a (all ++ v ∷ []) → Among b (all ++ v ∷ []) → Q a b → AreOrdered a b
     ordered Q old one two a b h k q ne = elim (last_cases all v a h) [
       | inl c ↦ elim (last_cases all v b k) [

@@ -1,5 +1,6 @@
 -- No operation of the world is refused where its past is there.
-use Rattle.std.proofs.Common.{◌≡◌, ℕ, ◌≤◌, Bool, true, false, cond, not, ◌&&◌, ◌||◌, List, [], ◌∷◌, ◌++◌, length, refl, ap, sym, ◌∙◌, arith, ◌⊎◌, inl, inr, subst, Option, Some, None}
+use Rattle.std.proofs.Common.{◌≡◌, ℕ, ◌≤◌, Bool, true, false, cond, not, ◌&&◌, ◌||◌, List, [], ◌∷◌, ◌++◌, length, refl, ap, sym, ◌∙◌, arith}
+use Rattle.std.proofs.Common.{◌⊎◌, inl, inr, subst, Option, Some, None}
 use Rattle.std.specs.Prelude.{option_map, slice_get, nat_lt, nat_le, ◌==◌}
 use Rattle.std.proofs.lemmas.Bool.Decides.{nat_tests}
 use Rattle.rb_money.specs.Refusals.{unless}
@@ -22,7 +23,8 @@ use Rattle.rb_site.specs.declared.event.Event.TheVariants.{Apply, Receive}
 use Rattle.rb_site.specs.declared.reply.Reply.{Reply}
 use Rattle.rb_site.specs.declared.reply.Reply.TheVariants.{Already, Refused, Stale}
 use Rattle.rb_site.specs.declared.world_event.WorldEvent.TheVariants.{Deliver}
-use Rattle.rb_site.specs.Events.{Answers, Applies, Holds, ModelSite, Outcome, Refuses, Takes, is_full, outcome_of, outcome_of_check, reply_of, reply_to, unless_known}
+use Rattle.rb_site.specs.Events.{Answers, Applies, Holds, ModelSite, Outcome, Refuses, Takes, is_full, outcome_of, outcome_of_check}
+use Rattle.rb_site.specs.Events.{reply_of, reply_to, unless_known}
 use Rattle.rb_site.specs.Worlds.{World, made_in, message_at, reply_at, reply_in}
 use Rattle.rb_world.specs.Laws.{NeverStuck, TrustsItsOwn}
 use Rattle.rb_world.proofs.Steps
@@ -34,18 +36,21 @@ use Rattle.rb_world.proofs.Lawful
 
 -- what is found under an operation's name is the operation
 found_is : (all us : List Shadow) (u v : Shadow) → IsUnique all → IsPart us all → Among v all → find_in us v.name ≡ Some u → u ≡ v
-found_is all us u v unique part h e = let f : Among u us × (u.name ≡ v.name) = Lookups.found us v.name u e in Members.same_named all u v unique (part u f.0) h f.1
+found_is all us u v unique part h e = let f : Among u us × (u.name ≡ v.name) = Lookups.found us v.name u e in
+    Members.same_named all u v unique (part u f.0) h f.1
 
 -- ---- the check of an operation of the world
 
 -- a list with one more that has its past there is closed
 closed_more : (us : List Shadow) (v : Shadow) → IsClosed us → IsWithin (past v) (names us) → IsClosed (us ++ v ∷ [])
-closed_more us v closed within u h x k = Members.names-append us (v ∷ []) x ∙ ap (λ b. b || names (v ∷ []) x) (elim (Order.last_cases us v u h) [
-  | inl i ↦ closed u i x k
-  | inr e ↦ within x (ap (λ (y : Shadow). past y x) (sym e) ∙ k)
-])
+closed_more us v closed within u h x k = Members.names-append us (v ∷ []) x
+    ∙ ap (λ b. b || names (v ∷ []) x) (elim (Order.last_cases us v u h) [
+      | inl i ↦ closed u i x k
+      | inr e ↦ within x (ap (λ (y : Shadow). past y x) (sym e) ∙ k)
+    ])
 
-applied_if_ready : (s : Settings) (w : World) (i : ℕ) (t : ModelSite) (v : Shadow) → IsGood s w → IsInOrder s (made_in w) i t → Among v (made_in w) → names t.ops v.name ≡ false → IsWithin (past v) (names t.ops) → refusal_of_sound s t.ops v ≡ None
+applied_if_ready : (s : Settings) (w : World) (i : ℕ) (t : ModelSite) (v : Shadow) → IsGood s w → IsInOrder s (made_in w) i t →
+    Among v (made_in w) → names t.ops v.name ≡ false → IsWithin (past v) (names t.ops) → refusal_of_sound s t.ops v ≡ None
 applied_if_ready s w i t v g here there fresh within =
     Pasts.passes s (made_in w) t.ops v g.order.unique (g.order.pasts v there) here.valid.unique here.part fresh within
     (λ a. Lawful.part_never_negative s w (t.ops ++ v ∷ []) a g (Order.part-last (made_in w) t.ops v here.part there)
@@ -54,7 +59,8 @@ applied_if_ready s w i t v g here there fresh within =
 
 -- ---- the replies
 
-pub site_applies : (s : Settings) (w : World) (i : ℕ) (t : ModelSite) (v : Shadow) → IsGood s w → slice_get w.sites i ≡ Some t → Among v t.held → IsWithin (past v) (names t.ops) → outcome_of s t (Apply v.name) ≡ Applies v
+pub site_applies : (s : Settings) (w : World) (i : ℕ) (t : ModelSite) (v : Shadow) → IsGood s w → slice_get w.sites i ≡ Some t →
+    Among v t.held → IsWithin (past v) (names t.ops) → outcome_of s t (Apply v.name) ≡ Applies v
 unfolding outcome_of
 site_applies s w i t v g at held within =
     let (u, e) = Lookups.found_named t.held v.name (Members.named t.held v held) in
@@ -72,11 +78,14 @@ site_applies s w i t v g at held within =
 
 -- what a site answers to an operation of the world
 abbrev pub IsTrusting : Settings → ModelSite → Shadow → Outcome → Type 0
-IsTrusting s t v o = ((o ≡ Answers (Already v.name)) × ((names t.ops v.name ≡ true) ⊎ Among v t.held)) ⊎ ((o ≡ Holds v) ⊎ ((o ≡ Refuses InboxFull) × (is_eligible t.ops v ≡ false)))
+IsTrusting s t v o = ((o ≡ Answers (Already v.name)) × ((names t.ops v.name ≡ true) ⊎ Among v t.held))
+    ⊎ ((o ≡ Holds v) ⊎ ((o ≡ Refuses InboxFull) × (is_eligible t.ops v ≡ false)))
 
-pub site_receives : (s : Settings) (w : World) (i : ℕ) (t : ModelSite) (v : Shadow) → IsGood s w → slice_get w.sites i ≡ Some t → Among v (made_in w) → IsTrusting s t v (outcome_of s t (Receive (ShadowMessage v)))
+pub site_receives : (s : Settings) (w : World) (i : ℕ) (t : ModelSite) (v : Shadow) → IsGood s w → slice_get w.sites i ≡ Some t →
+    Among v (made_in w) → IsTrusting s t v (outcome_of s t (Receive (ShadowMessage v)))
 unfolding outcome_of
-site_receives s w i t v g at made = subst (IsTrusting s t v) (sym (ap (λ o. unless (λ why. Refuses (BadMessage why)) o next) (sound_in s w v g made))) (by_ops (find_in t.ops v.name) refl)
+site_receives s w i t v g at made = subst (IsTrusting s t v) (sym (ap (λ o. unless (λ why. Refuses (BadMessage why)) o next)
+    (sound_in s w v g made))) (by_ops (find_in t.ops v.name) refl)
   where
     here : IsInOrder s (made_in w) i t
     here = g.sites i t at
@@ -87,7 +96,8 @@ site_receives s w i t v g at made = subst (IsTrusting s t v) (sym (ap (λ o. unl
     next : Outcome
     next = unless_known v (find_in t.ops v.name) (cond (v.home == t.me) (Refuses Conflict) (unless_known v (find_in t.held v.name) room))
 
-    known : (u : Shadow) (us : List Shadow) (o : Outcome) → IsPart us (made_in w) → find_in us v.name ≡ Some u → unless_known v (Some u) o ≡ Answers (Already v.name)
+    known : (u : Shadow) (us : List Shadow) (o : Outcome) → IsPart us (made_in w) → find_in us v.name ≡ Some u →
+        unless_known v (Some u) o ≡ Answers (Already v.name)
     known u us o part e = let is : u ≡ v = found_is (made_in w) us u v g.order.unique part made e in
         ap (λ c. cond c (Answers (Already v.name)) (Refuses Conflict)) (ap (λ (x : Shadow). same_shadow x v) is ∙ same_shadow-refl v)
 
@@ -98,20 +108,32 @@ site_receives s w i t v g at made = subst (IsTrusting s t v) (sym (ap (λ o. unl
 
     by_held : (o : Option Shadow) → find_in t.held v.name ≡ o → IsTrusting s t v (unless_known v o room)
     by_held None e = by_room (nat_le s.limits.inbox (length t.held)) (is_eligible t.ops v) refl
-    by_held (Some u) e = inl (known u t.held room here.held e, inr (subst (λ x. Among x t.held) (found_is (made_in w) t.held u v g.order.unique here.held made e) (Lookups.found t.held v.name u e).0))
+    by_held (Some u) e = inl (
+      known u t.held room here.held e,
+      inr (subst (λ x. Among x t.held)
+          (found_is (made_in w) t.held u v g.order.unique here.held made e) (Lookups.found t.held v.name u e).0),
+    )
 
     away : find_in t.ops v.name ≡ None → (v.home == t.me) ≡ false
     away e = elim (Members.bool_cases (v.home == t.me)) [
-      | inl k ↦ absurd (Members.true≢false (sym (Members.named t.ops v (here.own v made (home (v.home) t.me k ∙ g.place.numbered i t at))) ∙ Lookups.unnamed t.ops v.name e))
+      | inl k ↦ absurd (Members.true≢false (sym (Members.named t.ops v (here.own v made (home (v.home) t.me k ∙ g.place.numbered i t at)))
+          ∙ Lookups.unnamed t.ops v.name e))
       | inr k ↦ k
     ]
       where
         home : (a b : ℕ) → (a == b) ≡ true → a ≡ b
         home a b h = grind (arith, nat_tests)
 
-    by_ops : (o : Option Shadow) → find_in t.ops v.name ≡ o → IsTrusting s t v (unless_known v o (cond (v.home == t.me) (Refuses Conflict) (unless_known v (find_in t.held v.name) room)))
-    by_ops (Some u) e = inl (known u t.ops (cond (v.home == t.me) (Refuses Conflict) (unless_known v (find_in t.held v.name) room)) here.part e, inl (let f : Among u t.ops × (u.name ≡ v.name) = Lookups.found t.ops v.name u e in ap (names t.ops) (sym f.1) ∙ Members.named t.ops u f.0))
-    by_ops None e = subst (λ c. IsTrusting s t v (cond c (Refuses Conflict) (unless_known v (find_in t.held v.name) room))) (sym (away e)) (by_held (find_in t.held v.name) refl)
+    by_ops : (o : Option Shadow) → find_in t.ops v.name ≡ o → IsTrusting s t v
+        (unless_known v o (cond (v.home == t.me) (Refuses Conflict) (unless_known v (find_in t.held v.name) room)))
+    by_ops (Some u) e = inl (
+      known u t.ops (cond (v.home == t.me) (Refuses Conflict) (unless_known v (find_in t.held v.name) room))
+          here.part e,
+      inl (let f : Among u t.ops × (u.name ≡ v.name) = Lookups.found t.ops v.name u e in
+          ap (names t.ops) (sym f.1) ∙ Members.named t.ops u f.0),
+    )
+    by_ops None e = subst (λ c. IsTrusting s t v (cond c (Refuses Conflict) (unless_known v (find_in t.held v.name) room))) (sym (away e))
+        (by_held (find_in t.held v.name) refl)
 
 -- ---- the laws
 
@@ -122,13 +144,16 @@ reply_roomy s t e h = ap (λ b. cond b (Refused HistoryFull) (reply_of s t.ops (
 sent_shadow : (w : World) (k : ℕ) (v : Shadow) → message_at w.messages k ≡ Some (ShadowMessage v) → Among v (made_in w)
 sent_shadow w k v h = Steps.sent_message w.messages k (ShadowMessage v) h
 
-reply_there : (s : Settings) (w : World) (i k : ℕ) (t : ModelSite) (m : Message) → slice_get w.sites i ≡ Some t → message_at w.messages k ≡ Some m → reply_in s w (Deliver i k) ≡ reply_to s t (Receive m)
-reply_there s w i k t m at h = ap (λ o. reply_at s o (option_map Receive (message_at w.messages k))) at ∙ ap (λ o. reply_at s (Some t) (option_map Receive o)) h
+reply_there : (s : Settings) (w : World) (i k : ℕ) (t : ModelSite) (m : Message) → slice_get w.sites i ≡ Some t →
+    message_at w.messages k ≡ Some m → reply_in s w (Deliver i k) ≡ reply_to s t (Receive m)
+reply_there s w i k t m at h = ap (λ o. reply_at s o (option_map Receive (message_at w.messages k))) at
+    ∙ ap (λ o. reply_at s (Some t) (option_map Receive o)) h
 
 pub never_stuck : (s : Settings) (w : World) → IsGood s w → NeverStuck s w
 never_stuck s w g = record {
   delivered = λ i t at room v k h within.
-      let reply : reply_in s w (Deliver i k) ≡ reply_of s t.ops (outcome_of s t (Receive (ShadowMessage v))) = reply_there s w i k t (ShadowMessage v) at h ∙ reply_roomy s t (Receive (ShadowMessage v)) room in
+      let reply : reply_in s w (Deliver i k) ≡ reply_of s t.ops (outcome_of s t (Receive (ShadowMessage v))) =
+      reply_there s w i k t (ShadowMessage v) at h ∙ reply_roomy s t (Receive (ShadowMessage v)) room in
       elim (site_receives s w i t v g at (sent_shadow w k v h)) [
         | inl e ↦ inr (reply ∙ ap (reply_of s t.ops) e.0)
         | inr q ↦ elim q [
@@ -137,7 +162,8 @@ never_stuck s w g = record {
         ]
       ];
   applied = λ i t at room v held within.
-      ap (λ o. reply_at s o (Some (Apply v.name))) at ∙ reply_roomy s t (Apply v.name) room ∙ ap (reply_of s t.ops) (site_applies s w i t v g at held within);
+      ap (λ o. reply_at s o (Some (Apply v.name))) at ∙ reply_roomy s t (Apply v.name) room
+      ∙ ap (reply_of s t.ops) (site_applies s w i t v g at held within);
 }
 
 -- neither refusal
@@ -152,7 +178,8 @@ trusts_shadow s t v o (inl e) = subst (λ o. Trusts (reply_of s t.ops o)) (sym e
 trusts_shadow s t v o (inr (inl e)) = subst (λ o. Trusts (reply_of s t.ops o)) (sym e) (λ e. cc, λ why e. cc)
 trusts_shadow s t v o (inr (inr e)) = subst (λ o. Trusts (reply_of s t.ops o)) (sym e.0) (λ e. cc, λ why e. cc)
 
-trusts_token : (s : Settings) (t : ModelSite) (m : TokenMessage) → m.epoch ≤ s.limits.epoch → m.red ≤ s.limits.red → Trusts (reply_of s t.ops (outcome_of s t (Receive (TokenOnItsWay m))))
+trusts_token : (s : Settings) (t : ModelSite) (m : TokenMessage) → m.epoch ≤ s.limits.epoch → m.red ≤ s.limits.red →
+    Trusts (reply_of s t.ops (outcome_of s t (Receive (TokenOnItsWay m))))
 unfolding outcome_of
 trusts_token s t m epoch red = by_to (not (m.to == t.me))
   where
@@ -160,17 +187,23 @@ trusts_token s t m epoch red = by_to (not (m.to == t.me))
     rest = cond (nat_le m.epoch t.token.epoch) (Answers (Stale m.epoch)) (Takes m)
 
     within : (nat_lt s.limits.epoch m.epoch || nat_lt s.limits.red m.red) ≡ false
-    within = Members.false-or (nat_lt s.limits.epoch m.epoch) (nat_lt s.limits.red m.red) (grind (arith, nat_tests)) (grind (arith, nat_tests))
+    within = Members.false-or (nat_lt s.limits.epoch m.epoch) (nat_lt s.limits.red m.red) (grind (arith, nat_tests)) (grind (
+      arith,
+      nat_tests,
+    ))
 
     last : (b : Bool) → Trusts (reply_of s t.ops (cond b (Answers (Stale m.epoch)) (Takes m)))
     last true = (λ e. cc, λ why e. cc)
     last false = (λ e. cc, λ why e. cc)
 
-    by_to : (b : Bool) → Trusts (reply_of s t.ops (unless Refuses (cond b (Some NotYours) (cond (nat_lt s.limits.epoch m.epoch || nat_lt s.limits.red m.red) (Some (BadMessage 2)) None)) rest))
+    by_to : (b : Bool) → Trusts (reply_of s t.ops (unless Refuses (cond b (Some NotYours) (cond (nat_lt s.limits.epoch m.epoch
+        || nat_lt s.limits.red m.red) (Some (BadMessage 2)) None)) rest))
     by_to true = (λ e. cc, λ why e. cc)
-    by_to false = subst (λ b. Trusts (reply_of s t.ops (unless Refuses (cond b (Some (BadMessage 2)) None) rest))) (sym within) (last (nat_le m.epoch t.token.epoch))
+    by_to false = subst (λ b. Trusts (reply_of s t.ops (unless Refuses (cond b (Some (BadMessage 2)) None) rest))) (sym within)
+        (last (nat_le m.epoch t.token.epoch))
 
-trusts_site : (s : Settings) (w : World) (i : ℕ) (t : ModelSite) (m : Message) → IsGood s w → slice_get w.sites i ≡ Some t → Steps.IsSent w.messages m → Trusts (reply_to s t (Receive m))
+trusts_site : (s : Settings) (w : World) (i : ℕ) (t : ModelSite) (m : Message) → IsGood s w → slice_get w.sites i ≡ Some t →
+    Steps.IsSent w.messages m → Trusts (reply_to s t (Receive m))
 trusts_site s w i t m g at sent = by_room (is_full s t)
   where
     by_message : (m : Message) → Steps.IsSent w.messages m → Trusts (reply_of s t.ops (outcome_of s t (Receive m)))
@@ -184,7 +217,8 @@ trusts_site s w i t m g at sent = by_room (is_full s t)
 pub trusts_its_own : (s : Settings) (w : World) → IsGood s w → TrustsItsOwn s w
 trusts_its_own s w g i k = by_site (slice_get w.sites i) refl
   where
-    by_message : (t : ModelSite) → slice_get w.sites i ≡ Some t → (o : Option Message) → message_at w.messages k ≡ o → Trusts (reply_at s (Some t) (option_map Receive o))
+    by_message : (t : ModelSite) → slice_get w.sites i ≡ Some t → (o : Option Message) → message_at w.messages k ≡ o →
+        Trusts (reply_at s (Some t) (option_map Receive o))
     by_message t at None h = (λ e. cc, λ why e. cc)
     by_message t at (Some m) h = trusts_site s w i t m g at (Steps.sent_message w.messages k m h)
 

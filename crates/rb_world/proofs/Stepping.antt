@@ -1,5 +1,6 @@
 -- The code's step is the model's.
-use Rattle.std.proofs.Common.{◌≡◌, ℕ, ◌+◌, ◌<◌, All, length, take, get_or, Bool, true, false, cond, not, ◌&&◌, List, [], ◌∷◌, ◌++◌, refl, ap, sym, subst, ◌∙◌, Option, Some, None}
+use Rattle.std.proofs.Common.{◌≡◌, ℕ, ◌+◌, ◌<◌, All, length, take, get_or, Bool, true, false, cond, not, ◌&&◌, List, [], ◌∷◌, ◌++◌, refl}
+use Rattle.std.proofs.Common.{ap, sym, subst, ◌∙◌, Option, Some, None}
 use Rattle.std.specs.Prelude.{map, option_map, IsSomeAnd, slice_get, slice_set, is_some}
 use Rattle.std.proofs.lemmas.List.Elements.{All-cons, All-nil, All-set}
 use Rattle.std.proofs.lemmas.List.{map-set, take_more}
@@ -16,7 +17,8 @@ use Rattle.rb_site.specs.declared.world_event.WorldEvent.TheVariants.{At, Delive
 use Rattle.rb_site.specs.Events.{ModelSite, after_event, is_full, outcome_of, reply_of, reply_to, sent_at}
 use Rattle.rb_site.specs.Histories.{site_of}
 use Rattle.rb_site.specs.Seen.{SeenSite, next_site, state_of}
-use Rattle.rb_site.specs.Worlds.{AreOwn, IsCommand, World, arrival, first_world, is_recorded, is_recorded_at, message_at, reply_at, reply_in, world_after, world_at}
+use Rattle.rb_site.specs.Worlds.{AreOwn, IsCommand, World, arrival, first_world, is_recorded, is_recorded_at, message_at, reply_at}
+use Rattle.rb_site.specs.Worlds.{reply_in, world_after, world_at}
 use Rattle.rb_site.proofs.Public.Runs
 use Rattle.rb_site.proofs.Public.Seen
 use Rattle.rb_world.specs.Laws.{IsRunOf, SeenWorld, next_replies, next_reply, next_world, next_worlds}
@@ -33,7 +35,8 @@ and_true : (b : Bool) → (not b && true) ≡ not b
 and_true true = refl
 and_true false = refl
 
-pub arrives : (s : Settings) (w : World) (ev : WorldEvent) (e : Event) (t : ModelSite) → arrival w.messages ev ≡ Some e → slice_get w.sites (site_of ev) ≡ Some t → Arrives s w ev e t
+pub arrives : (s : Settings) (w : World) (ev : WorldEvent) (e : Event) (t : ModelSite) → arrival w.messages ev ≡ Some e →
+    slice_get w.sites (site_of ev) ≡ Some t → Arrives s w ev e t
 arrives s w (At i d) e t arrived at = record {
   world = ap (world_at s w i (Some d)) at ∙ ap (λ x. world_at s w i (Some x) (Some t)) same;
   reply = ap (λ o. reply_at s o (Some d)) at ∙ ap (reply_to s t) same;
@@ -49,9 +52,12 @@ arrives s w (Deliver i k) e t arrived at = by (message_at w.messages k) refl arr
     by (Some m) q h =
         let same : Receive m ≡ e = cc in
         record {
-          world = ap (λ o. world_at s w i (option_map Receive o) (slice_get w.sites i)) q ∙ ap (world_at s w i (Some (Receive m))) at ∙ ap (λ x. world_at s w i (Some x) (Some t)) same;
-          reply = ap (λ o. reply_at s (slice_get w.sites i) (option_map Receive o)) q ∙ ap (λ o. reply_at s o (Some (Receive m))) at ∙ ap (reply_to s t) same;
-          recorded = ap (λ o. is_recorded_at s (slice_get w.sites i) && is_some o) q ∙ ap (λ o. is_recorded_at s o && true) at ∙ and_true (is_full s t);
+          world = ap (λ o. world_at s w i (option_map Receive o) (slice_get w.sites i)) q ∙ ap (world_at s w i (Some (Receive m))) at
+              ∙ ap (λ x. world_at s w i (Some x) (Some t)) same;
+          reply = ap (λ o. reply_at s (slice_get w.sites i) (option_map Receive o)) q ∙ ap (λ o. reply_at s o (Some (Receive m))) at
+              ∙ ap (reply_to s t) same;
+          recorded = ap (λ o. is_recorded_at s (slice_get w.sites i) && is_some o) q ∙ ap (λ o. is_recorded_at s o && true) at
+              ∙ and_true (is_full s t);
         }
 
 -- ---- a step that no site records
@@ -66,7 +72,9 @@ still w ev h =
     ∙ ap (λ v. world_as w.settings v w.events) (Runs.unrecorded w.settings w.world ev h))
 
 -- at a site whose history is full nothing happens
-pub full_step : (w : SeenWorld) (ev : WorldEvent) (e : Event) (t : ModelSite) → arrival w.world.messages ev ≡ Some e → slice_get w.world.sites (site_of ev) ≡ Some t → is_full w.settings t ≡ true → (Refused HistoryFull ≡ next_reply w ev) × (w ≡ next_world w ev)
+pub full_step : (w : SeenWorld) (ev : WorldEvent) (e : Event) (t : ModelSite) → arrival w.world.messages ev ≡ Some e →
+    slice_get w.world.sites (site_of ev) ≡ Some t → is_full w.settings t ≡ true →
+    (Refused HistoryFull ≡ next_reply w ev) × (w ≡ next_world w ev)
 full_step w ev e t arrived at full =
     let here = arrives w.settings w.world ev e t arrived at in (
       sym (here.reply ∙ ap (λ b. cond b (Refused HistoryFull) (reply_of w.settings t.ops (outcome_of w.settings t e))) full),
@@ -76,11 +84,12 @@ full_step w ev e t arrived at full =
 -- ---- a step that a site records
 
 -- what is known where a site takes an event: its place, the event that arrives there, and that it has room
-pub record IsTaken (config : Settings) (xs : List SeenSite) (messages : List Message) (ev : WorldEvent) (e : Event) (x : SeenSite) : Type 0 where
-  pub arrived : arrival messages ev ≡ Some e
-  pub at : slice_get xs (site_of ev) ≡ Some x
-  pub settings : x.settings ≡ config
-  pub room : is_full config (state_of x) ≡ false
+pub record IsTaken (config : Settings) (xs : List SeenSite) (messages : List Message) (ev : WorldEvent) (e : Event) (x : SeenSite) : Type 0
+  where
+    pub arrived : arrival messages ev ≡ Some e
+    pub at : slice_get xs (site_of ev) ≡ Some x
+    pub settings : x.settings ≡ config
+    pub room : is_full config (state_of x) ≡ false
 
 abbrev sites_and : List ModelSite → List Message → World
 sites_and ts ms = record { sites = ts; messages = ms }
@@ -89,14 +98,19 @@ sites_and ts ms = record { sites = ts; messages = ms }
 abbrev pub shown_world : Settings → List SeenSite → List Message → List WorldEvent → SeenWorld
 shown_world s xs ms es = world_as s (sites_and (map state_of xs) ms) es
 
-pub taken_step : (s : Settings) (xs : List SeenSite) (ms : List Message) (es : List WorldEvent) (ev : WorldEvent) (e : Event) (x : SeenSite) → IsTaken s xs ms ev e x
+pub taken_step : (s : Settings) (xs : List SeenSite) (ms : List Message) (es : List WorldEvent) (ev : WorldEvent) (e : Event) (x : SeenSite)
+    → IsTaken s xs ms ev e x
     → (reply_to x.settings (state_of x) e ≡ next_reply (shown_world s xs ms es) ev)
-    × (shown_world s (slice_set xs (site_of ev) (next_site x e)) (ms ++ sent_at x.settings (state_of x) e) (es ++ ev ∷ []) ≡ next_world (shown_world s xs ms es) ev)
+    × (shown_world s (slice_set xs (site_of ev) (next_site x e)) (ms ++ sent_at x.settings (state_of x) e) (es ++ ev ∷ [])
+    ≡ next_world (shown_world s xs ms es) ev)
 taken_step s xs ms es ev e x taken = (
   ap (λ z. reply_to z (state_of x) e) taken.settings ∙ sym here.reply,
-  ap (λ ts. world_as s (sites_and ts (ms ++ sent_at x.settings (state_of x) e)) (es ++ ev ∷ [])) (map-set state_of xs (site_of ev) (next_site x e))
-      ∙ ap (λ u. world_as s (sites_and (slice_set (map state_of xs) (site_of ev) u) (ms ++ sent_at x.settings (state_of x) e)) (es ++ ev ∷ [])) (Seen.state-next x e)
-      ∙ ap (λ z. world_as s (sites_and (slice_set (map state_of xs) (site_of ev) (after_event z (state_of x) e)) (ms ++ sent_at z (state_of x) e)) (es ++ ev ∷ [])) taken.settings
+  ap (λ ts. world_as s (sites_and ts (ms ++ sent_at x.settings (state_of x) e)) (es ++ ev
+      ∷ [])) (map-set state_of xs (site_of ev) (next_site x e))
+      ∙ ap (λ u. world_as s (sites_and (slice_set (map state_of xs) (site_of ev) u) (ms ++ sent_at x.settings (state_of x) e)) (es ++ ev
+      ∷ [])) (Seen.state-next x e)
+      ∙ ap (λ z. world_as s (sites_and (slice_set (map state_of xs) (site_of ev) (after_event z (state_of x) e)) (ms
+      ++ sent_at z (state_of x) e)) (es ++ ev ∷ [])) taken.settings
       ∙ ap (λ v. world_as s v (es ++ ev ∷ [])) (sym here.world)
       ∙ ap (λ b. world_as s (world_after s w ev) (cond b (es ++ ev ∷ []) es)) (sym (here.recorded ∙ ap not taken.room)),
 )
@@ -118,7 +132,8 @@ own-push (Deliver j d ∷ es) ev own h = own-push es ev own h
 pub next_run : (w : SeenWorld) (ev : WorldEvent) → IsRunOf w → IsCommand ev → IsRunOf (next_world w ev)
 next_run w ev run command = by (is_recorded w.settings w.world ev) refl
   where
-    by : (b : Bool) → is_recorded w.settings w.world ev ≡ b → IsRunOf (world_as w.settings (world_after w.settings w.world ev) (cond b (w.events ++ ev ∷ []) w.events))
+    by : (b : Bool) → is_recorded w.settings w.world ev ≡ b → IsRunOf (world_as w.settings (world_after w.settings w.world ev)
+        (cond b (w.events ++ ev ∷ []) w.events))
     by true q = record {
       some_sites = run.some_sites;
       few_sites = run.few_sites;
@@ -139,13 +154,16 @@ AreOf s xs = All (λ (y : SeenSite). y.settings ≡ s) xs
 pub one_of : (s : Settings) (x : SeenSite) → x.settings ≡ s → AreOf s (x ∷ [])
 one_of s x h = All-cons (λ (y : SeenSite). y.settings ≡ s) x [] h (All-nil _)
 
-pub settings_kept : (s : Settings) (xs : List SeenSite) (i : ℕ) (x : SeenSite) (e : Event) → x.settings ≡ s → AreOf s xs → AreOf s (slice_set xs i (next_site x e))
+pub settings_kept : (s : Settings) (xs : List SeenSite) (i : ℕ) (x : SeenSite) (e : Event) → x.settings ≡ s → AreOf s xs →
+    AreOf s (slice_set xs i (next_site x e))
 settings_kept s xs i x e here all = All-set (λ (y : SeenSite). y.settings ≡ s) xs i (next_site x e) (Seen.settings-next x e ∙ here) all
 
 -- the site at a place that has room
-pub taken_at : (s : Settings) (xs : List SeenSite) (ms : List Message) (ev : WorldEvent) (e : Event) (i : ℕ) (x : SeenSite) → i ≡ site_of ev → arrival ms ev ≡ Some e → IsSomeAnd (slice_get (map state_of xs) i) (λ t. is_full s t ≡ false)
+pub taken_at : (s : Settings) (xs : List SeenSite) (ms : List Message) (ev : WorldEvent) (e : Event) (i : ℕ) (x : SeenSite) → i ≡ site_of ev
+    → arrival ms ev ≡ Some e → IsSomeAnd (slice_get (map state_of xs) i) (λ t. is_full s t ≡ false)
     → AreOf s xs → x ≡ get_or xs i x → IsTaken s xs ms ev e x
-taken_at s xs ms ev e i x place arrived room all same = by (slice_get xs i) refl (let P : Option ModelSite → Type 0 = λ o. IsSomeAnd o (λ t. is_full s t ≡ false) in subst P (slice_get-map state_of xs i) room)
+taken_at s xs ms ev e i x place arrived room all same = by (slice_get xs i) refl (let P : Option ModelSite →
+    Type 0 = λ o. IsSomeAnd o (λ t. is_full s t ≡ false) in subst P (slice_get-map state_of xs i) room)
   where
     by : (o : Option SeenSite) → slice_get xs i ≡ o → IsSomeAnd (option_map state_of o) (λ t. is_full s t ≡ false) → IsTaken s xs ms ev e x
     by None q h = absurd h
@@ -169,16 +187,20 @@ worlds-push : (w : SeenWorld) (es : List WorldEvent) (e : WorldEvent) → next_w
 worlds-push w [] e = refl
 worlds-push w (d ∷ es) e = worlds-push (next_world w d) es e
 
-replies-push : (w : SeenWorld) (es : List WorldEvent) (e : WorldEvent) → next_replies w (es ++ e ∷ []) ≡ next_replies w es ++ next_reply (next_worlds w es) e ∷ []
+replies-push : (w : SeenWorld) (es : List WorldEvent) (e : WorldEvent) →
+    next_replies w (es ++ e ∷ []) ≡ next_replies w es ++ next_reply (next_worlds w es) e ∷ []
 replies-push w [] e = refl
 replies-push w (d ∷ es) e = ap (λ rs. next_reply w d ∷ rs) (replies-push (next_world w d) es e)
 
-pub run_more : (start : SeenWorld) (events : List WorldEvent) (k : ℕ) (d : WorldEvent) (now later : SeenWorld) (replies : List Reply) (reply : Reply) → k < length events → IsRunSoFar start events k now replies
-    → later ≡ next_world now (get_or events k d) → reply ≡ next_reply now (get_or events k d) → IsRunSoFar start events (k + 1) later (replies ++ reply ∷ [])
+pub run_more : (start : SeenWorld) (events : List WorldEvent) (k : ℕ) (d : WorldEvent) (now later : SeenWorld) (replies : List Reply)
+    (reply : Reply) → k < length events → IsRunSoFar start events k now replies
+    → later ≡ next_world now (get_or events k d) → reply ≡ next_reply now (get_or events k d) →
+    IsRunSoFar start events (k + 1) later (replies ++ reply ∷ [])
 run_more start events k d now later replies reply there far stepped answered =
     let more : take (k + 1) events ≡ take k events ++ get_or events k d ∷ [] = take_more events k d there in
     record {
-      world = stepped ∙ ap (λ w. next_world w (get_or events k d)) far.world ∙ sym (worlds-push start (take k events) (get_or events k d)) ∙ ap (next_worlds start) (sym more);
+      world = stepped ∙ ap (λ w. next_world w (get_or events k d)) far.world ∙ sym (worlds-push start (take k events) (get_or events k d))
+          ∙ ap (next_worlds start) (sym more);
       replies =
           ap (λ rs. rs ++ reply ∷ []) far.replies
           ∙ ap (λ r. next_replies start (take k events) ++ r ∷ []) (answered ∙ ap (λ w. next_reply w (get_or events k d)) far.world)

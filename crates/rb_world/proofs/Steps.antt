@@ -1,5 +1,6 @@
 -- What an event of the world comes to, case by case.
-use Rattle.std.proofs.Common.{◌≡◌, ◌≢◌, ℕ, ◌+◌, ◌<◌, ◌≤◌, Bool, true, false, cond, not, ◌&&◌, ◌||◌, List, [], ◌∷◌, ◌++◌, length, refl, ap, sym, ◌∙◌, arith, ◌⊎◌, inl, inr, subst, Option, Some, None, Result, Ok, Err, append_assoc}
+use Rattle.std.proofs.Common.{◌≡◌, ◌≢◌, ℕ, ◌+◌, ◌<◌, ◌≤◌, Bool, true, false, cond, not, ◌&&◌, ◌||◌, List, [], ◌∷◌, ◌++◌, length, refl, ap}
+use Rattle.std.proofs.Common.{sym, ◌∙◌, arith, ◌⊎◌, inl, inr, subst, Option, Some, None, Result, Ok, Err, append_assoc}
 use Rattle.std.specs.Prelude.{option_map, slice_get, slice_set, map, nat_lt, nat_le, ◌==◌, max, take}
 use Rattle.std.proofs.lemmas.List.{append-nil}
 use Rattle.std.proofs.lemmas.Bool.Decides.{nat_tests}
@@ -28,7 +29,8 @@ use Rattle.rb_site.specs.declared.world_event.WorldEvent.TheVariants.{At, Delive
 use Rattle.rb_token.specs.Token.{refusal_of_pass, refusal_of_token}
 use Rattle.rb_money.specs.Amounts.{cents}
 use Rattle.rb_scratch.proofs.Public.Made.{AreMadeAt, IsMadeAt, batch_is, made_is, not_true, past_first}
-use Rattle.rb_site.specs.Events.{ModelSite, Outcome, Refuses, Drops, Answers, Shows, Makes, MakesAll, Holds, Applies, Takes, Passes, outcome_of, changed, is_full, sent_by, outcome_of_check, unless_known}
+use Rattle.rb_site.specs.Events.{ModelSite, Outcome, Refuses, Drops, Answers, Shows, Makes, MakesAll, Holds, Applies, Takes, Passes}
+use Rattle.rb_site.specs.Events.{outcome_of, changed, is_full, sent_by, outcome_of_check, unless_known}
 use Rattle.rb_inbox.specs.Held.{with_held, without}
 use Rattle.rb_site.specs.Histories.{IsAmong, IsFrom}
 use Rattle.rb_site.specs.Worlds.{World, shadows_in, tokens_in, message_at, world_at, world_after, world_after_all, AreOwn}
@@ -103,15 +105,18 @@ Comes s ms t (Takes m) = MayTake ms t m
 Comes s ms t (Passes m) = MayPass s t m
 
 -- a test that refuses leaves what holds where it doesn't
-past_test : (s : Settings) (ms : List Message) (t : ModelSite) (b : Bool) (why : Refusal) (next : Outcome) → (b ≡ false → Comes s ms t next) → Comes s ms t (cond b (Refuses why) next)
+past_test : (s : Settings) (ms : List Message) (t : ModelSite) (b : Bool) (why : Refusal) (next : Outcome) → (b ≡ false → Comes s ms t next)
+    → Comes s ms t (cond b (Refuses why) next)
 past_test s ms t true why next h = tt
 past_test s ms t false why next h = h refl
 
-past_refusal : {E : Type 0} (s : Settings) (ms : List Message) (t : ModelSite) (refused : E → Refusal) (o : Option E) (next : Outcome) → (o ≡ None → Comes s ms t next) → Comes s ms t (unless (λ why. Refuses (refused why)) o next)
+past_refusal : {E : Type 0} (s : Settings) (ms : List Message) (t : ModelSite) (refused : E → Refusal) (o : Option E) (next : Outcome) →
+    (o ≡ None → Comes s ms t next) → Comes s ms t (unless (λ why. Refuses (refused why)) o next)
 past_refusal s ms t refused (Some why) next h = tt
 past_refusal s ms t refused None next h = h refl
 
-past_known : (s : Settings) (ms : List Message) (t : ModelSite) (v : Shadow) (o : Option Shadow) (next : Outcome) → (o ≡ None → Comes s ms t next) → Comes s ms t (unless_known v o next)
+past_known : (s : Settings) (ms : List Message) (t : ModelSite) (v : Shadow) (o : Option Shadow) (next : Outcome) →
+    (o ≡ None → Comes s ms t next) → Comes s ms t (unless_known v o next)
 past_known s ms t v None next h = h refl
 past_known s ms t v (Some u) next h = at (same_shadow u v)
   where
@@ -119,12 +124,14 @@ past_known s ms t v (Some u) next h = at (same_shadow u v)
     at true = tt
     at false = tt
 
-past_check : (s : Settings) (ms : List Message) (t : ModelSite) (v : Shadow) (o : Option Refusal) → (o ≡ None → MayApply s t v) → Comes s ms t (outcome_of_check v o)
+past_check : (s : Settings) (ms : List Message) (t : ModelSite) (v : Shadow) (o : Option Refusal) → (o ≡ None → MayApply s t v) →
+    Comes s ms t (outcome_of_check v o)
 past_check s ms t v None h = h refl
 past_check s ms t v (Some NotReady) h = tt
 past_check s ms t v (Some why) h = tt
 
-comes_shadow : (s : Settings) (ms : List Message) (t : ModelSite) (v : Shadow) → Among v (shadows_in ms) → Comes s ms t (outcome_of s t (Receive (ShadowMessage v)))
+comes_shadow : (s : Settings) (ms : List Message) (t : ModelSite) (v : Shadow) → Among v (shadows_in ms) →
+    Comes s ms t (outcome_of s t (Receive (ShadowMessage v)))
 unfolding outcome_of
 comes_shadow s ms t v sent =
     past_refusal s ms t BadMessage (fault_of s v) _ (λ _.
@@ -132,9 +139,15 @@ comes_shadow s ms t v sent =
     past_test s ms t (v.home == t.me) _ _ (λ b.
     past_known s ms t v (find_in t.held v.name) _ (λ c.
     past_test s ms t (nat_le s.limits.inbox (length t.held) && not (is_eligible t.ops v)) InboxFull (Holds v) (λ d.
-    let r : MayHold ms t v = record { sent = sent; fresh = Lookups.unnamed t.ops v.name a; foreign = grind (arith, nat_tests); free = Lookups.unnamed t.held v.name c } in r)))))
+    let r : MayHold ms t v = record {
+      sent = sent;
+      fresh = Lookups.unnamed t.ops v.name a;
+      foreign = grind (arith, nat_tests);
+      free = Lookups.unnamed t.held v.name c;
+    } in r)))))
 
-comes_token : (s : Settings) (ms : List Message) (t : ModelSite) (m : TokenMessage) → AmongTokens m (tokens_in ms) → Comes s ms t (outcome_of s t (Receive (TokenOnItsWay m)))
+comes_token : (s : Settings) (ms : List Message) (t : ModelSite) (m : TokenMessage) → AmongTokens m (tokens_in ms) →
+    Comes s ms t (outcome_of s t (Receive (TokenOnItsWay m)))
 unfolding outcome_of
 comes_token s ms t m sent =
     past_refusal s ms t (λ why. why) (refusal_of_token s.limits t.me m) _ (λ a.
@@ -145,7 +158,8 @@ comes_token s ms t m sent =
     at false e h = record { sent = sent; mine = grind (arith, nat_tests); later = grind (arith, nat_tests) }
 
 comes_apply : (s : Settings) (ms : List Message) (t : ModelSite) (o : Option Shadow) → ((v : Shadow) → o ≡ Some v → Among v t.held)
-    → Comes s ms t (unless (λ v. cond (not (is_eligible t.ops v)) (Refuses NotReady) (outcome_of_check v (refusal_of_sound s t.ops v))) o (Refuses NotHeld))
+    → Comes s ms t (unless (λ v. cond (not (is_eligible t.ops v)) (Refuses NotReady) (outcome_of_check v (refusal_of_sound s t.ops v))) o
+    (Refuses NotHeld))
 comes_apply s ms t None found = tt
 comes_apply s ms t (Some v) found =
     past_test s ms t (not (is_eligible t.ops v)) _ _ (λ a.
@@ -169,12 +183,14 @@ comes_pass s ms t to =
       red = refl;
     })
 
-comes_made : (s : Settings) (ms : List Message) (t : ModelSite) (q : Result Shadow Refusal) → ((v : Shadow) → q ≡ Ok v → IsMadeAt s t.me t.ops t.token v) → Comes s ms t (and_then Refuses q Makes)
+comes_made : (s : Settings) (ms : List Message) (t : ModelSite) (q : Result Shadow Refusal) →
+    ((v : Shadow) → q ≡ Ok v → IsMadeAt s t.me t.ops t.token v) → Comes s ms t (and_then Refuses q Makes)
 comes_made s ms t (Ok v) h = h v refl
 comes_made s ms t (Err why) h = tt
 
 -- what comes of a batch is made one after another
-comes_batch : (s : Settings) (ms : List Message) (t : ModelSite) (q : Result (List Shadow) Refusal) → ((vs : List Shadow) → q ≡ Ok vs → AreMadeAt s t.me t.ops t.token vs) → Comes s ms t (and_then Refuses q MakesAll)
+comes_batch : (s : Settings) (ms : List Message) (t : ModelSite) (q : Result (List Shadow) Refusal) →
+    ((vs : List Shadow) → q ≡ Ok vs → AreMadeAt s t.me t.ops t.token vs) → Comes s ms t (and_then Refuses q MakesAll)
 comes_batch s ms t (Ok vs) h = h vs refl
 comes_batch s ms t (Err why) h = tt
 
@@ -188,7 +204,8 @@ comes s ms t (Receive (TokenOnItsWay m)) h = comes_token s ms t m (sent_among (T
 comes s ms t (Apply x) h = comes_apply s ms t (find_in t.held x) (λ v k. (Lookups.found t.held x v k).0)
 comes s ms t (Pass to) h = comes_pass s ms t to
 comes s ms t (Balance a) h = past_test s ms t (not (is_account s a)) _ _ (λ b. tt)
-comes s ms t (AsOf a n) h = past_test s ms t (not (is_account s a)) _ _ (λ b. past_test s ms t (nat_lt (length t.ops) n) PositionBeyond (Answers (BalanceIs (cents (bal s (take n t.ops) a)))) (λ c. tt))
+comes s ms t (AsOf a n) h = past_test s ms t (not (is_account s a)) _ _
+    (λ b. past_test s ms t (nat_lt (length t.ops) n) PositionBeyond (Answers (BalanceIs (cents (bal s (take n t.ops) a)))) (λ c. tt))
 comes s ms t (AskStatement a) h = past_test s ms t (not (is_account s a)) _ _ (λ b. tt)
 
 -- ---- a step of the world
@@ -212,16 +229,26 @@ each_moved w i t n ms P at others this j u h = elim (same_number i j) [
 
 -- a fact of the world that each kind of step keeps
 pub record Keeps (s : Settings) (P : World → Type 0) : Type 0 where
-  pub notes : (w : World) (i : ℕ) (t : ModelSite) (h : List Event) → P w → slice_get w.sites i ≡ Some t → P (moved w i (record t { history = h }) w.messages)
-  pub makes : (w : World) (i : ℕ) (t : ModelSite) (v : Shadow) → P w → slice_get w.sites i ≡ Some t → IsMadeAt s t.me t.ops t.token v → P (moved w i (record t { ops = t.ops ++ v ∷ [] }) (w.messages ++ ShadowMessage v ∷ []))
-  pub drops : (w : World) (i : ℕ) (t : ModelSite) (x : OpName) → P w → slice_get w.sites i ≡ Some t → P (moved w i (record t { held = without x t.held }) w.messages)
-  pub holds : (w : World) (i : ℕ) (t : ModelSite) (v : Shadow) → P w → slice_get w.sites i ≡ Some t → MayHold w.messages t v → P (moved w i (record t { held = with_held v t.held }) w.messages)
-  pub applies : (w : World) (i : ℕ) (t : ModelSite) (v : Shadow) → P w → slice_get w.sites i ≡ Some t → MayApply s t v → P (moved w i (record t { ops = t.ops ++ v ∷ []; held = without v.name t.held }) w.messages)
-  pub takes : (w : World) (i : ℕ) (t : ModelSite) (m : TokenMessage) → P w → slice_get w.sites i ≡ Some t → MayTake w.messages t m → P (moved w i (record t { token = record { epoch = m.epoch; held = true; needed = m.red } }) w.messages)
-  pub passes : (w : World) (i : ℕ) (t : ModelSite) (m : TokenMessage) → P w → slice_get w.sites i ≡ Some t → MayPass s t m → P (moved w i (record t { token = record { epoch = m.epoch; held = false; needed = t.token.needed } }) (w.messages ++ TokenOnItsWay m ∷ []))
+  pub notes : (w : World) (i : ℕ) (t : ModelSite) (h : List Event) → P w → slice_get w.sites i ≡ Some t →
+      P (moved w i (record t { history = h }) w.messages)
+  pub makes : (w : World) (i : ℕ) (t : ModelSite) (v : Shadow) → P w → slice_get w.sites i ≡ Some t → IsMadeAt s t.me t.ops t.token v →
+      P (moved w i (record t { ops = t.ops ++ v ∷ [] }) (w.messages ++ ShadowMessage v ∷ []))
+  pub drops : (w : World) (i : ℕ) (t : ModelSite) (x : OpName) → P w → slice_get w.sites i ≡ Some t →
+      P (moved w i (record t { held = without x t.held }) w.messages)
+  pub holds : (w : World) (i : ℕ) (t : ModelSite) (v : Shadow) → P w → slice_get w.sites i ≡ Some t → MayHold w.messages t v →
+      P (moved w i (record t { held = with_held v t.held }) w.messages)
+  pub applies : (w : World) (i : ℕ) (t : ModelSite) (v : Shadow) → P w → slice_get w.sites i ≡ Some t → MayApply s t v →
+      P (moved w i (record t { ops = t.ops ++ v ∷ []; held = without v.name t.held }) w.messages)
+  pub takes : (w : World) (i : ℕ) (t : ModelSite) (m : TokenMessage) → P w → slice_get w.sites i ≡ Some t → MayTake w.messages t m →
+      P (moved w i (record t { token = record { epoch = m.epoch; held = true; needed = m.red } }) w.messages)
+  pub passes : (w : World) (i : ℕ) (t : ModelSite) (m : TokenMessage) → P w → slice_get w.sites i ≡ Some t → MayPass s t m →
+      P (moved w i (record t { token = record { epoch = m.epoch; held = false; needed = t.token.needed } }) (w.messages ++ TokenOnItsWay m
+      ∷ []))
 
 -- several operations, one after another
-keeps_made : (s : Settings) (P : World → Type 0) → Keeps s P → (vs : List Shadow) (w : World) (i : ℕ) (t : ModelSite) → P w → slice_get w.sites i ≡ Some t → AreMadeAt s t.me t.ops t.token vs → P (moved w i (record t { ops = t.ops ++ vs }) (w.messages ++ map ShadowMessage vs))
+keeps_made : (s : Settings) (P : World → Type 0) → Keeps s P → (vs : List Shadow) (w : World) (i : ℕ) (t : ModelSite) → P w →
+    slice_get w.sites i ≡ Some t → AreMadeAt s t.me t.ops t.token vs →
+    P (moved w i (record t { ops = t.ops ++ vs }) (w.messages ++ map ShadowMessage vs))
 keeps_made s P keeps [] w i t p at made =
     subst (λ (us : List Shadow). P (moved w i (record t { ops = us }) (w.messages ++ []))) (sym (append-nil t.ops))
     (subst (λ (ms : List Message). P (moved w i t ms)) (sym (append-nil w.messages)) (keeps.notes w i t t.history p at))
@@ -230,11 +257,15 @@ keeps_made s P keeps (v ∷ vs) w i t p at made =
     let one : World = moved w i n (w.messages ++ ShadowMessage v ∷ []) in
     let rest : P (moved one i (record n { ops = n.ops ++ vs }) (one.messages ++ map ShadowMessage vs)) =
     keeps_made s P keeps vs one i n (keeps.makes w i t v p at made.0) (get_set_same w.sites i t n at) made.1 in
-    subst (λ (us : List Shadow). P (moved w i (record t { ops = us }) (w.messages ++ map ShadowMessage (v ∷ vs)))) (append_assoc t.ops (v ∷ []) vs)
-    (subst (λ (ms : List Message). P (moved w i (record n { ops = n.ops ++ vs }) ms)) (append_assoc w.messages (ShadowMessage v ∷ []) (map ShadowMessage vs))
-    (subst (λ (ts : List ModelSite). P (record { sites = ts; messages = one.messages ++ map ShadowMessage vs })) (set_set w.sites i n (record n { ops = n.ops ++ vs })) rest))
+    subst (λ (us : List Shadow). P (moved w i (record t { ops = us }) (w.messages ++ map ShadowMessage (v ∷ vs)))) (append_assoc t.ops (v
+    ∷ []) vs)
+    (subst (λ (ms : List Message). P (moved w i (record n { ops = n.ops ++ vs }) ms)) (append_assoc w.messages (ShadowMessage v
+    ∷ []) (map ShadowMessage vs))
+    (subst (λ (ts : List ModelSite). P (record { sites = ts; messages = one.messages ++ map ShadowMessage vs }))
+    (set_set w.sites i n (record n { ops = n.ops ++ vs })) rest))
 
-keeps_outcome : (s : Settings) (P : World → Type 0) → Keeps s P → (w : World) (i : ℕ) (t : ModelSite) (o : Outcome) → P w → slice_get w.sites i ≡ Some t → Comes s w.messages t o → P (moved w i (changed t o) (w.messages ++ sent_by o))
+keeps_outcome : (s : Settings) (P : World → Type 0) → Keeps s P → (w : World) (i : ℕ) (t : ModelSite) (o : Outcome) → P w →
+    slice_get w.sites i ≡ Some t → Comes s w.messages t o → P (moved w i (changed t o) (w.messages ++ sent_by o))
 keeps_outcome s P keeps w i t o p at c = by o c
   where
     quiet : (n : ModelSite) → P (moved w i n w.messages) → P (moved w i n (w.messages ++ []))
@@ -252,7 +283,8 @@ keeps_outcome s P keeps w i t o p at c = by o c
     by (Takes m) c = quiet _ (keeps.takes w i t m p at c)
     by (Passes m) c = keeps.passes w i t m p at c
 
-keeps_event : (s : Settings) (P : World → Type 0) → Keeps s P → (w : World) (i : ℕ) (t : ModelSite) (e : Event) → P w → slice_get w.sites i ≡ Some t → IsFrom w.messages e → P (world_at s w i (Some e) (Some t))
+keeps_event : (s : Settings) (P : World → Type 0) → Keeps s P → (w : World) (i : ℕ) (t : ModelSite) (e : Event) → P w →
+    slice_get w.sites i ≡ Some t → IsFrom w.messages e → P (world_at s w i (Some e) (Some t))
 keeps_event s P keeps w i t e p at sourced = by (is_full s t)
   where
     o : Outcome
@@ -266,7 +298,8 @@ keeps_event s P keeps w i t e p at sourced = by (is_full s t)
         subst (λ (ts : List ModelSite). P (record { sites = ts; messages = w.messages ++ sent_by o })) (set_set w.sites i n (noted s t e))
         (keeps.notes (moved w i n (w.messages ++ sent_by o)) i n (t.history ++ e ∷ []) q (get_set_same w.sites i t n at))
 
-keeps_at : (s : Settings) (P : World → Type 0) → Keeps s P → (w : World) (i : ℕ) (e : Event) → P w → IsFrom w.messages e → P (world_at s w i (Some e) (slice_get w.sites i))
+keeps_at : (s : Settings) (P : World → Type 0) → Keeps s P → (w : World) (i : ℕ) (e : Event) → P w → IsFrom w.messages e →
+    P (world_at s w i (Some e) (slice_get w.sites i))
 keeps_at s P keeps w i e p sourced = by (slice_get w.sites i) refl
   where
     by : (o : Option ModelSite) → slice_get w.sites i ≡ o → P (world_at s w i (Some e) o)
@@ -281,7 +314,10 @@ keeps_delivery s P keeps w i k p = by (message_at w.messages k) refl
     by (Some m) h = keeps_at s P keeps w i (Receive m) p (placed w.messages k m h)
 
 -- what each kind of step keeps holds after every run
-pub after_all : (s : Settings) (P : World → Type 0) → Keeps s P → (es : List WorldEvent) (w : World) → AreOwn es → P w → P (world_after_all s w es)
+pub after_all : (s : Settings) (P : World → Type 0) → Keeps s P → (es : List WorldEvent) (w : World) → AreOwn es → P w →
+    P (world_after_all s w es)
 after_all s P keeps [] w own p = p
-after_all s P keeps (At i e ∷ es) w own p = after_all s P keeps es (world_after s w (At i e)) own.1 (keeps_at s P keeps w i e p (own_from w.messages e own.0))
-after_all s P keeps (Deliver i k ∷ es) w own p = after_all s P keeps es (world_after s w (Deliver i k)) own (keeps_delivery s P keeps w i k p)
+after_all s P keeps (At i e ∷ es) w own p = after_all s P keeps es (world_after s w (At i e)) own.1
+    (keeps_at s P keeps w i e p (own_from w.messages e own.0))
+after_all s P keeps (Deliver i k ∷ es) w own p = after_all s P keeps es (world_after s w (Deliver i k)) own
+    (keeps_delivery s P keeps w i k p)

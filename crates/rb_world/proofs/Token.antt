@@ -1,5 +1,6 @@
 -- Where the red token is, and the red operations that its holder knows of.
-use Rattle.std.proofs.Common.{◌≡◌, ◌≢◌, ℕ, zero, suc, ◌+◌, ◌<◌, ◌≤◌, Bool, true, false, cond, List, [], ◌∷◌, ◌++◌, refl, ap, sym, ◌∙◌, arith, ◌⊎◌, inl, inr, subst, Some}
+use Rattle.std.proofs.Common.{◌≡◌, ◌≢◌, ℕ, zero, suc, ◌+◌, ◌<◌, ◌≤◌, Bool, true, false, cond, List, [], ◌∷◌, ◌++◌, refl, ap, sym, ◌∙◌}
+use Rattle.std.proofs.Common.{arith, ◌⊎◌, inl, inr, subst, Some}
 use Rattle.std.specs.Prelude.{slice_get, map, ◌==◌, max}
 use Rattle.std.specs.List.{range_with_len}
 use Rattle.std.proofs.lemmas.Bool.Decides.{nat_tests}
@@ -106,24 +107,31 @@ quietly t os hs h = record { me = t.me; ops = os; held = hs; token = t.token; hi
 
 -- what may have been sent: a red one only by who has the token
 abbrev pub SendsFew : World → ModelSite → List Shadow → List Message → Type 0
-SendsFew w t os ms = (v : Shadow) → Among v (shadows_in ms) → Among v (made_in w) ⊎ ((red_number v.name ≡ 0) ⊎ ((t.token.held ≡ true) × (red_number v.name ≤ red_count os)))
+SendsFew w t os ms = (v : Shadow) → Among v (shadows_in ms) → Among v (made_in w)
+    ⊎ ((red_number v.name ≡ 0) ⊎ ((t.token.held ≡ true) × (red_number v.name ≤ red_count os)))
 
-numbered_quietly : (w : World) (i : ℕ) (t n : ModelSite) (ms : List Message) → EachSite w (λ i t. t.me ≡ i) → slice_get w.sites i ≡ Some t → n.me ≡ t.me → EachSite (moved w i n ms) (λ i t. t.me ≡ i)
-numbered_quietly w i t n ms numbered at same = each_moved w i t n ms (λ j u. u.me ≡ j) at (λ j u g ne. numbered j u g) (same ∙ numbered i t at)
+numbered_quietly : (w : World) (i : ℕ) (t n : ModelSite) (ms : List Message) → EachSite w (λ i t. t.me ≡ i) → slice_get w.sites i ≡ Some t →
+    n.me ≡ t.me → EachSite (moved w i n ms) (λ i t. t.me ≡ i)
+numbered_quietly w i t n ms numbered at same = each_moved w i t n ms (λ j u. u.me ≡ j) at (λ j u g ne. numbered j u g) (same
+    ∙ numbered i t at)
 
-reds_here : (w : World) (t : ModelSite) (os : List Shadow) (ms : List Message) → SendsFew w t os ms → red_count t.ops ≤ red_count os → RedsUpTo (made_in w) (max t.token.needed (red_count t.ops)) → RedsUpTo (shadows_in ms) (max t.token.needed (red_count os))
+reds_here : (w : World) (t : ModelSite) (os : List Shadow) (ms : List Message) → SendsFew w t os ms → red_count t.ops ≤ red_count os →
+    RedsUpTo (made_in w) (max t.token.needed (red_count t.ops)) → RedsUpTo (shadows_in ms) (max t.token.needed (red_count os))
 reds_here w t os ms few more reds v h = elim (few v h) [
   | inl k ↦ let a : red_number v.name ≤ max t.token.needed (red_count t.ops) = reds v k in omega arith
   | inr k ↦ elim k [ inl e ↦ omega arith | inr e ↦ let a : red_number v.name ≤ red_count os = e.1 in omega arith ]
 ]
 
-reds_there : (w : World) (t : ModelSite) (os : List Shadow) (ms : List Message) (r : ℕ) → SendsFew w t os ms → t.token.held ≡ false → RedsUpTo (made_in w) r → RedsUpTo (shadows_in ms) r
+reds_there : (w : World) (t : ModelSite) (os : List Shadow) (ms : List Message) (r : ℕ) → SendsFew w t os ms → t.token.held ≡ false →
+    RedsUpTo (made_in w) r → RedsUpTo (shadows_in ms) r
 reds_there w t os ms r few unheld reds v h = elim (few v h) [
   | inl k ↦ reds v k
   | inr k ↦ elim k [ inl e ↦ omega arith | inr e ↦ absurd (true≢false' t.token.held e.0 unheld) ]
 ]
 
-quiet : (w : World) (i : ℕ) (t : ModelSite) (os hs : List Shadow) (h : List Event) (ms : List Message) → IsInOnePlace w → slice_get w.sites i ≡ Some t → tokens_in ms ≡ tokens_in w.messages → red_count t.ops ≤ red_count os → SendsFew w t os ms → IsInOnePlace (moved w i (quietly t os hs h) ms)
+quiet : (w : World) (i : ℕ) (t : ModelSite) (os hs : List Shadow) (h : List Event) (ms : List Message) → IsInOnePlace w →
+    slice_get w.sites i ≡ Some t → tokens_in ms ≡ tokens_in w.messages → red_count t.ops ≤ red_count os → SendsFew w t os ms →
+    IsInOnePlace (moved w i (quietly t os hs h) ms)
 quiet w i t os hs h ms p at toks more few = record { numbered = numbered_quietly w i t n ms p.numbered at refl; place = by p.place }
   where
     n : ModelSite
@@ -155,7 +163,8 @@ quiet w i t os hs h ms p at toks more few = record { numbered = numbered_quietly
       reds = reds_there w t os ms (max u.token.needed (red_count u.ops)) few (o.alone i t at (λ e. ne (sym e))) o.reds;
     }
 
-    by : ((k : ℕ) × (u : ModelSite) × IsHeldAt w k u) ⊎ ((m : TokenMessage) × IsOnItsWay w m) → ((k : ℕ) × (u : ModelSite) × IsHeldAt (moved w i n ms) k u) ⊎ ((m : TokenMessage) × IsOnItsWay (moved w i n ms) m)
+    by : ((k : ℕ) × (u : ModelSite) × IsHeldAt w k u) ⊎ ((m : TokenMessage) × IsOnItsWay w m) →
+        ((k : ℕ) × (u : ModelSite) × IsHeldAt (moved w i n ms) k u) ⊎ ((m : TokenMessage) × IsOnItsWay (moved w i n ms) m)
     by (inl (k, u, o)) = elim (same_number i k) [
       | inl e ↦
           let o' : IsHeldAt w i u = subst (λ k. IsHeldAt w k u) e o in
@@ -178,26 +187,38 @@ red_count-push us v = omega (arith, Clocks.red_count-append us (v ∷ []))
 
 -- ---- what a site makes
 
-sends_made : (s : Settings) (w : World) (t : ModelSite) (v : Shadow) → IsMadeAt s t.me t.ops t.token v → SendsFew w t (t.ops ++ v ∷ []) (w.messages ++ ShadowMessage v ∷ [])
+sends_made : (s : Settings) (w : World) (t : ModelSite) (v : Shadow) → IsMadeAt s t.me t.ops t.token v →
+    SendsFew w t (t.ops ++ v ∷ []) (w.messages ++ ShadowMessage v ∷ [])
 unfolding operation_of
 sends_made s w t v made u h = elim (Members.Among-cases (made_in w) (v ∷ []) u (subst (Among u) (made_more w.messages v) h)) [
   | inl k ↦ inl k
-  | inr k ↦ elim k [ inl e ↦ inr (subst (λ (x : Shadow). (red_number x.name ≡ 0) ⊎ ((t.token.held ≡ true) × (red_number x.name ≤ red_count (t.ops ++ v ∷ [])))) (sym e) (by v.name refl (colour_in t.ops made.plan.kind) (ap (λ (x : Shadow). x.name) made.is) made.fair (Clocks.red_count-append t.ops (v ∷ [])))) | inr e ↦ elim e [ ] ]
+  | inr k ↦ elim k [
+    | inl e ↦ inr (subst (λ (x : Shadow). (red_number x.name ≡ 0)
+        ⊎ ((t.token.held ≡ true) × (red_number x.name ≤ red_count (t.ops ++ v ∷ [])))) (sym e)
+        (by v.name refl (colour_in t.ops made.plan.kind) (ap (λ (x : Shadow). x.name) made.is) made.fair (Clocks.red_count-append t.ops (v
+        ∷ []))))
+    | inr e ↦ elim e [ ]
+  ]
 ]
   where
-    by : (x : OpName) → v.name ≡ x → (c : Colour) → x ≡ next_name t.me t.ops c → IsAllowed s t.ops t.token v x → red_count (t.ops ++ v ∷ []) ≡ red_count t.ops + (0 + cond (is_red v.name) 1 0) → (red_number x ≡ 0) ⊎ ((t.token.held ≡ true) × (red_number x ≤ red_count (t.ops ++ v ∷ [])))
+    by : (x : OpName) → v.name ≡ x → (c : Colour) → x ≡ next_name t.me t.ops c → IsAllowed s t.ops t.token v x →
+        red_count (t.ops ++ v ∷ []) ≡ red_count t.ops + (0 + cond (is_red v.name) 1 0) →
+        (red_number x ≡ 0) ⊎ ((t.token.held ≡ true) × (red_number x ≤ red_count (t.ops ++ v ∷ [])))
     by (Blue i n) e c is fair more = inl refl
     by (Red n) e BlueColour is fair more = cc
     by (Red n) e RedColour is fair more = inr (
       fair.0,
       let a : n ≡ red_count t.ops + 1 = cc in
-          let b : red_count (t.ops ++ v ∷ []) ≡ red_count t.ops + (0 + 1) = more ∙ ap (λ y. red_count t.ops + (0 + cond (is_red y) 1 0)) e in
+          let b : red_count (t.ops ++ v ∷ []) ≡ red_count t.ops + (0 + 1) = more ∙ ap (λ y. red_count t.ops + (0 + cond (is_red y) 1 0)) e
+          in
           omega arith,
     )
 
 -- ---- the token goes on
 
-taken : (s : Settings) (w : World) (i : ℕ) (t : ModelSite) (m : TokenMessage) → IsInOnePlace w → slice_get w.sites i ≡ Some t → MayTake w.messages t m → IsInOnePlace (moved w i (record t { token = record { epoch = m.epoch; held = true; needed = m.red } }) w.messages)
+taken : (s : Settings) (w : World) (i : ℕ) (t : ModelSite) (m : TokenMessage) → IsInOnePlace w → slice_get w.sites i ≡ Some t →
+    MayTake w.messages t m → IsInOnePlace (moved w i (record t { token = record { epoch = m.epoch; held = true; needed = m.red } })
+    w.messages)
 taken s w i t m p at may = record { numbered = numbered_quietly w i t n w.messages p.numbered at refl; place = inl (i, n, by p.place) }
   where
     n : ModelSite
@@ -209,7 +230,8 @@ taken s w i t m p at may = record { numbered = numbered_quietly w i t n w.messag
     not_stale : IsStale w m → ⊥
     not_stale old = let a : m.epoch ≤ t.token.epoch = old i t at mine in let b : t.token.epoch < m.epoch = may.later in omega arith
 
-    stale : (o : TokenMessage) → IsOnItsWay w o → m ≡ o → (k : TokenMessage) → AmongTokens k (tokens_in w.messages) → IsStale (moved w i n w.messages) k
+    stale : (o : TokenMessage) → IsOnItsWay w o → m ≡ o → (k : TokenMessage) → AmongTokens k (tokens_in w.messages) →
+        IsStale (moved w i n w.messages) k
     stale o on e k h = elim (on.stale k h) [
       | inl q ↦
           let same : k ≡ m = q ∙ sym e in
@@ -226,17 +248,22 @@ taken s w i t m p at may = record { numbered = numbered_quietly w i t n w.messag
     found o on e = record {
       at = get_set_same w.sites i t n at;
       held = refl;
-      alone = each_moved w i t n w.messages (λ j u. j ≢ i → u.token.held ≡ false) at (λ j u g ne h. on.unheld j u g) (λ ne. absurd (ne refl));
-      latest = each_moved w i t n w.messages (λ j u. u.token.epoch ≤ m.epoch) at (λ j u g ne. subst (λ (x : TokenMessage). u.token.epoch ≤ x.epoch) (sym e) (on.latest j u g)) (let a : m.epoch ≤ m.epoch = omega arith in a);
+      alone = each_moved w i t n w.messages (λ j u. j ≢ i → u.token.held
+          ≡ false) at (λ j u g ne h. on.unheld j u g) (λ ne. absurd (ne refl));
+      latest = each_moved w i t n w.messages (λ j u. u.token.epoch ≤ m.epoch) at (λ j u g ne. subst (λ (x : TokenMessage). u.token.epoch
+          ≤ x.epoch) (sym e) (on.latest j u g)) (let a : m.epoch ≤ m.epoch = omega arith in a);
       stale = stale o on e;
-      reds = λ v h. let a : red_number v.name ≤ o.red = on.reds v h in let b : m.red ≡ o.red = ap (λ (x : TokenMessage). x.red) e in omega arith;
+      reds = λ v h. let a : red_number v.name ≤ o.red = on.reds v h in let b : m.red ≡ o.red = ap (λ (x : TokenMessage). x.red) e in
+          omega arith;
     }
 
     by : ((k : ℕ) × (u : ModelSite) × IsHeldAt w k u) ⊎ ((m : TokenMessage) × IsOnItsWay w m) → IsHeldAt (moved w i n w.messages) i n
     by (inl (k, u, o)) = absurd (not_stale (o.stale m may.sent))
     by (inr (o, on)) = elim (on.stale m may.sent) [ inl e ↦ found o on e | inr old ↦ absurd (not_stale old) ]
 
-passed : (s : Settings) (w : World) (i : ℕ) (t : ModelSite) (m : TokenMessage) → IsInOnePlace w → slice_get w.sites i ≡ Some t → MayPass s t m → IsInOnePlace (moved w i (record t { token = record { epoch = m.epoch; held = false; needed = t.token.needed } }) (w.messages ++ TokenOnItsWay m ∷ []))
+passed : (s : Settings) (w : World) (i : ℕ) (t : ModelSite) (m : TokenMessage) → IsInOnePlace w → slice_get w.sites i ≡ Some t →
+    MayPass s t m → IsInOnePlace (moved w i (record t { token = record { epoch = m.epoch; held = false; needed = t.token.needed } })
+    (w.messages ++ TokenOnItsWay m ∷ []))
 passed s w i t m p at may = record { numbered = numbered_quietly w i t n ms p.numbered at refl; place = inr (m, by p.place) }
   where
     n : ModelSite
@@ -250,15 +277,18 @@ passed s w i t m p at may = record { numbered = numbered_quietly w i t n ms p.nu
       sent = subst (AmongTokens m) (sym (tokens_more w.messages m)) (tokens_right (tokens_in w.messages) (m ∷ []) m (inl refl));
       unheld = each_moved w i t n ms (λ j u. u.token.held ≡ false) at (λ j u g ne. o.alone j u g ne) refl;
       latest = each_moved w i t n ms (λ j u. u.token.epoch ≤ m.epoch) at
-          (λ j u g ne. let a : u.token.epoch ≤ t.token.epoch = o.latest j u g in let b : m.epoch ≡ t.token.epoch + 1 = may.epoch in omega arith)
+          (λ j u g ne. let a : u.token.epoch ≤ t.token.epoch = o.latest j u g in let b : m.epoch ≡ t.token.epoch + 1 = may.epoch in
+          omega arith)
           (let a : m.epoch ≤ m.epoch = omega arith in a);
       stale = λ k h. elim (tokens_cases (tokens_in w.messages) (m ∷ []) k (subst (AmongTokens k) (tokens_more w.messages m) h)) [
         | inl old ↦ inr (each_moved w i t n ms (λ j u. k.to ≡ j → k.epoch ≤ u.token.epoch) at
             (λ j u g ne. o.stale k old j u g)
-            (λ to. let a : k.epoch ≤ t.token.epoch = o.stale k old i t at to in let b : m.epoch ≡ t.token.epoch + 1 = may.epoch in omega arith))
+            (λ to. let a : k.epoch ≤ t.token.epoch = o.stale k old i t at to in let b : m.epoch ≡ t.token.epoch + 1 = may.epoch in
+            omega arith))
         | inr new ↦ elim new [ inl e ↦ inl e | inr q ↦ elim q [ ] ]
       ];
-      reds = λ v h. let a : red_number v.name ≤ max t.token.needed (red_count t.ops) = o.reds v (subst (Among v) (made_same w.messages m) h) in let b : m.red ≡ max t.token.needed (red_count t.ops) = may.red in omega arith;
+      reds = λ v h. let a : red_number v.name ≤ max t.token.needed (red_count t.ops) = o.reds v (subst (Among v) (made_same w.messages m) h)
+          in let b : m.red ≡ max t.token.needed (red_count t.ops) = may.red in omega arith;
     }
 
     by : ((k : ℕ) × (u : ModelSite) × IsHeldAt w k u) ⊎ ((m : TokenMessage) × IsOnItsWay w m) → IsOnItsWay (moved w i n ms) m
@@ -273,20 +303,24 @@ passed s w i t m p at may = record { numbered = numbered_quietly w i t n ms p.nu
 pub keeps_place : (s : Settings) → Keeps s IsInOnePlace
 keeps_place s = record {
   notes = λ w i t h p at. quiet w i t t.ops t.held h w.messages p at refl (omega arith) (λ v k. inl k);
-  makes = λ w i t v p at made. quiet w i t (t.ops ++ v ∷ []) t.held t.history (w.messages ++ ShadowMessage v ∷ []) p at (tokens_same w.messages v) (red_count-push t.ops v) (sends_made s w t v made);
+  makes = λ w i t v p at made. quiet w i t (t.ops ++ v ∷ []) t.held t.history (w.messages ++ ShadowMessage v
+      ∷ []) p at (tokens_same w.messages v) (red_count-push t.ops v) (sends_made s w t v made);
   drops = λ w i t x p at. quiet w i t t.ops (without x t.held) t.history w.messages p at refl (omega arith) (λ v k. inl k);
   holds = λ w i t v p at may. quiet w i t t.ops (with_held v t.held) t.history w.messages p at refl (omega arith) (λ v k. inl k);
-  applies = λ w i t v p at may. quiet w i t (t.ops ++ v ∷ []) (without v.name t.held) t.history w.messages p at refl (red_count-push t.ops v) (λ v k. inl k);
+  applies = λ w i t v p at may. quiet w i t (t.ops ++ v ∷ []) (without v.name t.held) t.history w.messages p at refl
+      (red_count-push t.ops v) (λ v k. inl k);
   takes = λ w i t m p at may. taken s w i t m p at may;
   passes = λ w i t m p at may. passed s w i t m p at may;
 }
 
 -- ---- before any event
 
-pub first_sites : (a n i : ℕ) (t : ModelSite) → slice_get (map first_site (range_with_len a n)) i ≡ Some t → (t ≡ first_site (a + i)) × (i < n)
+pub first_sites : (a n i : ℕ) (t : ModelSite) → slice_get (map first_site (range_with_len a n)) i ≡ Some t →
+    (t ≡ first_site (a + i)) × (i < n)
 first_sites a zero i t h = cc
 first_sites a (suc n) zero t h = (let e : t ≡ first_site a = cc in e ∙ ap first_site (let q : a ≡ a + 0 = omega arith in q), omega arith)
-first_sites a (suc n) (suc i) t h = let r : (t ≡ first_site ((a + 1) + i)) × (i < n) = first_sites (a + 1) n i t h in (r.0 ∙ ap first_site (let q : (a + 1) + i ≡ a + suc i = omega arith in q), let q : i < n = r.1 in omega arith)
+first_sites a (suc n) (suc i) t h = let r : (t ≡ first_site ((a + 1) + i)) × (i < n) = first_sites (a + 1) n i t h in
+    (r.0 ∙ ap first_site (let q : (a + 1) + i ≡ a + suc i = omega arith in q), let q : i < n = r.1 in omega arith)
 
 pub first_is : (s : Settings) (i : ℕ) (t : ModelSite) → slice_get (first_world s).sites i ≡ Some t → t ≡ first_site i
 first_is s i t h = (first_sites 0 s.sites i t h).0 ∙ ap first_site (let q : 0 + i ≡ i = omega arith in q)

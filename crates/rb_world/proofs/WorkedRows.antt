@@ -43,135 +43,208 @@ replies_of_run s es = replies_of_all s (first_world s) es
 
 as_of_each_position : replies_of_run (record { sites = 2; names = codes "ann" ∷ []; starts = (1000) ∷ []; limits = largest; version = 1 })
     ((At 0 (Submit (AskWithdraw (place 0) 300))) ∷ (At 0 (Submit (AskCancel (Red 1)))) ∷ (At 0 (AsOf (place 0) 0))
-        ∷ (At 0 (AsOf (place 0) 1)) ∷ (At 0 (AsOf (place 0) 2)) ∷ (At 0 (AsOf (place 0) 3)) ∷ (At 0 (Balance (place 0)))
-        ∷ (At 0 (Submit (AskWithdraw (place 0) 1))) ∷ [])
+    ∷ (At 0 (AsOf (place 0) 1)) ∷ (At 0 (AsOf (place 0) 2)) ∷ (At 0 (AsOf (place 0) 3)) ∷ (At 0 (Balance (place 0)))
+    ∷ (At 0 (Submit (AskWithdraw (place 0) 1))) ∷ [])
     ≡ (Made (Red 1) WithdrawLabel) ∷ (Made (Blue 0 1) CancelLabel) ∷ (BalanceIs 1000) ∷ (BalanceIs 700) ∷ (BalanceIs 1000)
-        ∷ (Refused PositionBeyond) ∷ (BalanceIs 1000) ∷ (Made (Red 2) WithdrawLabel) ∷ []
+    ∷ (Refused PositionBeyond) ∷ (BalanceIs 1000) ∷ (Made (Red 2) WithdrawLabel) ∷ []
 unfolding place bal past clock_of is_eligible same_shadow names_listed fault_of plan_of operation_of allowed made_of outcome_of made_in_batch batch_of statement_of
 as_of_each_position = refl
 
 batch_all_or_nothing : replies_of_run (record { sites = 2; names = codes "ann" ∷ []; starts = (0) ∷ []; limits = largest; version = 1 })
     ((At 0 (Batch ((AskDeposit (place 0) 50) ∷ (AskWithdraw (place 0) 80) ∷ []))) ∷ (At 0 (Balance (place 0)))
-        ∷ (At 0 (Submit (AskDeposit (place 0) 7))) ∷ (Deliver 1 1) ∷ (Deliver 1 2) ∷ (At 0 (Batch ((AskDeposit (place 0) 50)
-        ∷ (AskWithdraw (place 0) 57) ∷ []))) ∷ (At 0 (Balance (place 0))) ∷ (At 0 (Batch ([]))) ∷ (At 0 (Batch ((AskDeposit (place 0) 1)
-        ∷ (AskDeposit (place 0) 1) ∷ (AskDeposit (place 0) 1) ∷ (AskDeposit (place 0) 1) ∷ (AskDeposit (place 0) 1)
-        ∷ (AskDeposit (place 0) 1) ∷ (AskDeposit (place 0) 1) ∷ (AskDeposit (place 0) 1) ∷ (AskDeposit (place 0) 1)
-        ∷ (AskDeposit (place 0) 1) ∷ (AskDeposit (place 0) 1) ∷ (AskDeposit (place 0) 1) ∷ (AskDeposit (place 0) 1)
-        ∷ (AskDeposit (place 0) 1) ∷ (AskDeposit (place 0) 1) ∷ (AskDeposit (place 0) 1) ∷ (AskDeposit (place 0) 1) ∷ []))) ∷ [])
+    ∷ (At 0 (Submit (AskDeposit (place 0) 7))) ∷ (Deliver 1 1) ∷ (Deliver 1 2) ∷ (At 0 (Batch ((AskDeposit (place 0) 50)
+    ∷ (AskWithdraw (place 0) 57) ∷ []))) ∷ (At 0 (Balance (place 0))) ∷ (At 0 (Batch ([]))) ∷ (At 0 (Batch ((AskDeposit (place 0) 1)
+    ∷ (AskDeposit (place 0) 1) ∷ (AskDeposit (place 0) 1) ∷ (AskDeposit (place 0) 1) ∷ (AskDeposit (place 0) 1)
+    ∷ (AskDeposit (place 0) 1) ∷ (AskDeposit (place 0) 1) ∷ (AskDeposit (place 0) 1) ∷ (AskDeposit (place 0) 1)
+    ∷ (AskDeposit (place 0) 1) ∷ (AskDeposit (place 0) 1) ∷ (AskDeposit (place 0) 1) ∷ (AskDeposit (place 0) 1)
+    ∷ (AskDeposit (place 0) 1) ∷ (AskDeposit (place 0) 1) ∷ (AskDeposit (place 0) 1) ∷ (AskDeposit (place 0) 1) ∷ []))) ∷ [])
     ≡ (Refused (BatchRefused 1 DeclinedCause)) ∷ (BalanceIs 0) ∷ (Made (Blue 0 1) DepositLabel) ∷ (Held (Blue 0 1)) ∷ (Refused NoMessage)
-        ∷ (NamesMade ((Blue 0 2) ∷ (Red 1) ∷ [])) ∷ (BalanceIs 0) ∷ (Refused BadBatch) ∷ (Refused BadBatch) ∷ []
+    ∷ (NamesMade ((Blue 0 2) ∷ (Red 1) ∷ [])) ∷ (BalanceIs 0) ∷ (Refused BadBatch) ∷ (Refused BadBatch) ∷ []
 unfolding place bal past clock_of is_eligible same_shadow names_listed fault_of plan_of operation_of allowed made_of outcome_of made_in_batch batch_of statement_of
 batch_all_or_nothing = refl
 
-deposit_reaches_the_other_site : replies_of_run (record { sites = 2; names = codes "ann" ∷ []; starts = (0) ∷ []; limits = largest;
-        version = 1 })
+deposit_reaches_the_other_site : replies_of_run (record {
+  sites = 2;
+  names = codes "ann" ∷ [];
+  starts = (0) ∷ [];
+  limits = largest;
+  version = 1;
+})
     ((At 0 (Submit (AskDeposit (place 0) 500))) ∷ (At 0 (Balance (place 0))) ∷ (At 1 (Balance (place 0))) ∷ (Deliver 1 1)
-        ∷ (At 1 (Apply (Blue 0 1))) ∷ (At 1 (Balance (place 0))) ∷ [])
+    ∷ (At 1 (Apply (Blue 0 1))) ∷ (At 1 (Balance (place 0))) ∷ [])
     ≡ (Made (Blue 0 1) DepositLabel) ∷ (BalanceIs 500) ∷ (BalanceIs 0) ∷ (Held (Blue 0 1)) ∷ (Applied (Blue 0 1)) ∷ (BalanceIs 500) ∷ []
 unfolding place bal past clock_of is_eligible same_shadow names_listed fault_of plan_of operation_of allowed made_of outcome_of made_in_batch batch_of statement_of
 deposit_reaches_the_other_site = refl
 
-interest_stays : replies_of_run (record { sites = 2; names = codes "ann" ∷ codes "bob" ∷ []; starts = (999) ∷ (0) ∷ []; limits = largest;
-        version = 1 })
+interest_stays : replies_of_run (record {
+  sites = 2;
+  names = codes "ann" ∷ codes "bob" ∷ [];
+  starts = (999) ∷ (0) ∷ [];
+  limits = largest;
+  version = 1;
+})
     ((At 0 (Submit (AskInterest (place 0) 150))) ∷ (At 0 (Balance (place 0))) ∷ (At 0 (Submit (AskDeposit (place 1) 1000)))
-        ∷ (At 0 (Submit (AskInterest (place 1) 100))) ∷ (At 0 (Submit (AskCancel (Blue 0 2)))) ∷ (At 0 (AskStatement (place 1))) ∷ [])
+    ∷ (At 0 (Submit (AskInterest (place 1) 100))) ∷ (At 0 (Submit (AskCancel (Blue 0 2)))) ∷ (At 0 (AskStatement (place 1))) ∷ [])
     ≡ (Made (Blue 0 1) InterestLabel) ∷ (BalanceIs 1013) ∷ (Made (Blue 0 2) DepositLabel) ∷ (Made (Blue 0 3) InterestLabel)
-        ∷ (Made (Red 1) CancelLabel) ∷ (StatementIs (record { start = 0; rows = (record { position = 2; name = (Blue 0 2);
-        kind = DepositLabel; moved = (pos 1000); cancelled = true; balance = 1000 }) ∷ (record { position = 3; name = (Blue 0 3);
-        kind = InterestLabel; moved = (pos 10); cancelled = false; balance = 1010 }) ∷ (record { position = 4; name = (Red 1);
-        kind = CancelLabel; moved = (negsuc 999); cancelled = false; balance = 10 }) ∷ []; balance = 10 })) ∷ []
+    ∷ (Made (Red 1) CancelLabel) ∷ (StatementIs (record {
+      start = 0;
+      rows = (record {
+        position = 2;
+        name = (Blue 0 2);
+        kind = DepositLabel;
+        moved = (pos 1000);
+        cancelled = true;
+        balance = 1000;
+      }) ∷ (record {
+        position = 3;
+        name = (Blue 0 3);
+        kind = InterestLabel;
+        moved = (pos 10);
+        cancelled = false;
+        balance = 1010;
+      }) ∷ (record {
+        position = 4;
+        name = (Red 1);
+        kind = CancelLabel;
+        moved = (negsuc 999);
+        cancelled = false;
+        balance = 10;
+      }) ∷ [];
+      balance = 10;
+    })) ∷ []
 unfolding place bal past clock_of is_eligible same_shadow names_listed fault_of plan_of operation_of allowed made_of outcome_of made_in_batch batch_of statement_of
 interest_stays = refl
 
 out_of_order_delivery : replies_of_run (record { sites = 2; names = codes "ann" ∷ []; starts = (0) ∷ []; limits = largest; version = 1 })
     ((At 0 (Submit (AskDeposit (place 0) 5))) ∷ (At 0 (Submit (AskDeposit (place 0) 7))) ∷ (Deliver 1 2) ∷ (At 1 (Apply (Blue 0 2)))
-        ∷ (At 1 (Apply (Blue 0 1))) ∷ (Deliver 1 1) ∷ (At 1 (Apply (Blue 0 1))) ∷ (At 1 (Apply (Blue 0 2))) ∷ (At 1 (Balance (place 0)))
-        ∷ [])
+    ∷ (At 1 (Apply (Blue 0 1))) ∷ (Deliver 1 1) ∷ (At 1 (Apply (Blue 0 1))) ∷ (At 1 (Apply (Blue 0 2))) ∷ (At 1 (Balance (place 0)))
+    ∷ [])
     ≡ (Made (Blue 0 1) DepositLabel) ∷ (Made (Blue 0 2) DepositLabel) ∷ (Held (Blue 0 2)) ∷ (Refused NotReady) ∷ (Refused NotHeld)
-        ∷ (Held (Blue 0 1)) ∷ (Applied (Blue 0 1)) ∷ (Applied (Blue 0 2)) ∷ (BalanceIs 12) ∷ []
+    ∷ (Held (Blue 0 1)) ∷ (Applied (Blue 0 1)) ∷ (Applied (Blue 0 2)) ∷ (BalanceIs 12) ∷ []
 unfolding place bal past clock_of is_eligible same_shadow names_listed fault_of plan_of operation_of allowed made_of outcome_of made_in_batch batch_of statement_of
 out_of_order_delivery = refl
 
-refused_transfers : replies_of_run (record { sites = 2; names = codes "ann" ∷ codes "bob" ∷ []; starts = (100) ∷ (0) ∷ [];
-        limits = largest; version = 1 })
+refused_transfers : replies_of_run (record {
+  sites = 2;
+  names = codes "ann" ∷ codes "bob" ∷ [];
+  starts = (100) ∷ (0) ∷ [];
+  limits = largest;
+  version = 1;
+})
     ((At 0 (Submit (AskTransfer NOWHERE NOWHERE 0))) ∷ (At 0 (Submit (AskTransfer (place 0) NOWHERE 0)))
-        ∷ (At 0 (Submit (AskTransfer (place 0) (place 0) 0))) ∷ (At 0 (Submit (AskTransfer (place 0) (place 0) 5)))
-        ∷ (At 0 (Submit (AskTransfer (place 0) (place 1) 101))) ∷ (At 1 (Submit (AskTransfer (place 0) (place 1) 5)))
-        ∷ (At 0 (Batch ((AskTransfer (place 0) (place 1) 40) ∷ (AskTransfer (place 1) (place 0) 41) ∷ []))) ∷ (At 0 (Balance (place 0)))
-        ∷ [])
+    ∷ (At 0 (Submit (AskTransfer (place 0) (place 0) 0))) ∷ (At 0 (Submit (AskTransfer (place 0) (place 0) 5)))
+    ∷ (At 0 (Submit (AskTransfer (place 0) (place 1) 101))) ∷ (At 1 (Submit (AskTransfer (place 0) (place 1) 5)))
+    ∷ (At 0 (Batch ((AskTransfer (place 0) (place 1) 40) ∷ (AskTransfer (place 1) (place 0) 41) ∷ []))) ∷ (At 0 (Balance (place 0)))
+    ∷ [])
     ≡ (Refused UnknownAccount) ∷ (Refused UnknownAccount) ∷ (Refused BadAmount) ∷ (Refused SameAccount) ∷ (Made (Blue 0 1) DeclinedLabel)
-        ∷ (Refused NeedToken) ∷ (Refused (BatchRefused 1 DeclinedCause)) ∷ (BalanceIs 100) ∷ []
+    ∷ (Refused NeedToken) ∷ (Refused (BatchRefused 1 DeclinedCause)) ∷ (BalanceIs 100) ∷ []
 unfolding place bal past clock_of is_eligible same_shadow names_listed fault_of plan_of operation_of allowed made_of outcome_of made_in_batch batch_of statement_of
 refused_transfers = refl
 
 repeated_delivery : replies_of_run (record { sites = 2; names = codes "ann" ∷ []; starts = (0) ∷ []; limits = largest; version = 1 })
     ((At 0 (Submit (AskDeposit (place 0) 5))) ∷ (At 0 (Submit (AskDeposit (place 0) 7))) ∷ (Deliver 1 2) ∷ (At 1 (Apply (Blue 0 2)))
-        ∷ (At 1 (Apply (Blue 0 1))) ∷ (Deliver 1 1) ∷ (At 1 (Apply (Blue 0 1))) ∷ (At 1 (Apply (Blue 0 2))) ∷ (At 1 (Balance (place 0)))
-        ∷ (Deliver 1 1) ∷ (Deliver 0 1) ∷ (At 1 (Apply (Blue 0 1))) ∷ [])
+    ∷ (At 1 (Apply (Blue 0 1))) ∷ (Deliver 1 1) ∷ (At 1 (Apply (Blue 0 1))) ∷ (At 1 (Apply (Blue 0 2))) ∷ (At 1 (Balance (place 0)))
+    ∷ (Deliver 1 1) ∷ (Deliver 0 1) ∷ (At 1 (Apply (Blue 0 1))) ∷ [])
     ≡ (Made (Blue 0 1) DepositLabel) ∷ (Made (Blue 0 2) DepositLabel) ∷ (Held (Blue 0 2)) ∷ (Refused NotReady) ∷ (Refused NotHeld)
-        ∷ (Held (Blue 0 1)) ∷ (Applied (Blue 0 1)) ∷ (Applied (Blue 0 2)) ∷ (BalanceIs 12) ∷ (Already (Blue 0 1)) ∷ (Already (Blue 0 1))
-        ∷ (Refused NotHeld) ∷ []
+    ∷ (Held (Blue 0 1)) ∷ (Applied (Blue 0 1)) ∷ (Applied (Blue 0 2)) ∷ (BalanceIs 12) ∷ (Already (Blue 0 1)) ∷ (Already (Blue 0 1))
+    ∷ (Refused NotHeld) ∷ []
 unfolding place bal past clock_of is_eligible same_shadow names_listed fault_of plan_of operation_of allowed made_of outcome_of made_in_batch batch_of statement_of
 repeated_delivery = refl
 
 sixteen_sites : replies_of_run (record { sites = 16; names = codes "ann" ∷ []; starts = (0) ∷ []; limits = largest; version = 2 })
     ((At 15 (Submit (AskDeposit (place 0) 500))) ∷ (Deliver 0 1) ∷ (At 0 (Apply (Blue 15 1))) ∷ (At 0 (Balance (place 0)))
-        ∷ (At 16 (Balance (place 0))) ∷ [])
+    ∷ (At 16 (Balance (place 0))) ∷ [])
     ≡ (Made (Blue 15 1) DepositLabel) ∷ (Held (Blue 15 1)) ∷ (Applied (Blue 15 1)) ∷ (BalanceIs 500) ∷ (Refused NoSite) ∷ []
 unfolding place bal past clock_of is_eligible same_shadow names_listed fault_of plan_of operation_of allowed made_of outcome_of made_in_batch batch_of statement_of
 sixteen_sites = refl
 
-spent_transfer_stays : replies_of_run (record { sites = 2; names = codes "ann" ∷ codes "bob" ∷ []; starts = (100) ∷ (0) ∷ [];
-        limits = largest; version = 1 })
+spent_transfer_stays : replies_of_run (record {
+  sites = 2;
+  names = codes "ann" ∷ codes "bob" ∷ [];
+  starts = (100) ∷ (0) ∷ [];
+  limits = largest;
+  version = 1;
+})
     ((At 0 (Submit (AskTransfer (place 0) (place 1) 30))) ∷ (At 0 (Submit (AskWithdraw (place 1) 10)))
-        ∷ (At 0 (Submit (AskCancel (Red 1)))) ∷ (At 0 (Balance (place 1))) ∷ [])
+    ∷ (At 0 (Submit (AskCancel (Red 1)))) ∷ (At 0 (Balance (place 1))) ∷ [])
     ≡ (Made (Red 1) TransferLabel) ∷ (Made (Red 2) WithdrawLabel) ∷ (Refused WouldOverdraw) ∷ (BalanceIs 20) ∷ []
 unfolding place bal past clock_of is_eligible same_shadow names_listed fault_of plan_of operation_of allowed made_of outcome_of made_in_batch batch_of statement_of
 spent_transfer_stays = refl
 
 stale_token : replies_of_run (record { sites = 2; names = codes "ann" ∷ []; starts = (100) ∷ []; limits = largest; version = 1 })
     ((At 0 (Submit (AskWithdraw (place 0) 10))) ∷ (At 0 (Pass 1)) ∷ (Deliver 1 2) ∷ (At 1 (Submit (AskWithdraw (place 0) 20)))
-        ∷ (Deliver 1 1) ∷ (At 1 (Apply (Red 1))) ∷ (At 1 (Submit (AskWithdraw (place 0) 20))) ∷ (At 1 (Balance (place 0)))
-        ∷ (At 1 (Pass 0)) ∷ (Deliver 1 2) ∷ (At 1 (Submit (AskWithdraw (place 0) 1))) ∷ (Deliver 0 2) ∷ (Deliver 0 4)
-        ∷ (At 0 (Submit (AskWithdraw (place 0) 1))) ∷ [])
+    ∷ (Deliver 1 1) ∷ (At 1 (Apply (Red 1))) ∷ (At 1 (Submit (AskWithdraw (place 0) 20))) ∷ (At 1 (Balance (place 0)))
+    ∷ (At 1 (Pass 0)) ∷ (Deliver 1 2) ∷ (At 1 (Submit (AskWithdraw (place 0) 1))) ∷ (Deliver 0 2) ∷ (Deliver 0 4)
+    ∷ (At 0 (Submit (AskWithdraw (place 0) 1))) ∷ [])
     ≡ (Made (Red 1) WithdrawLabel) ∷ (Passed 1) ∷ (Taken 1) ∷ (Refused (RedBehind 0 1)) ∷ (Held (Red 1)) ∷ (Applied (Red 1))
-        ∷ (Made (Red 2) WithdrawLabel) ∷ (BalanceIs 70) ∷ (Passed 2) ∷ (Stale 1) ∷ (Refused NeedToken) ∷ (Refused NotYours) ∷ (Taken 2)
-        ∷ (Refused (RedBehind 1 2)) ∷ []
+    ∷ (Made (Red 2) WithdrawLabel) ∷ (BalanceIs 70) ∷ (Passed 2) ∷ (Stale 1) ∷ (Refused NeedToken) ∷ (Refused NotYours) ∷ (Taken 2)
+    ∷ (Refused (RedBehind 1 2)) ∷ []
 unfolding place bal past clock_of is_eligible same_shadow names_listed fault_of plan_of operation_of allowed made_of outcome_of made_in_batch batch_of statement_of
 stale_token = refl
 
 token_waits_for_reds : replies_of_run (record { sites = 2; names = codes "ann" ∷ []; starts = (100) ∷ []; limits = largest; version = 1 })
     ((At 0 (Submit (AskWithdraw (place 0) 10))) ∷ (At 0 (Pass 1)) ∷ (Deliver 1 2) ∷ (At 1 (Submit (AskWithdraw (place 0) 20)))
-        ∷ (Deliver 1 1) ∷ (At 1 (Apply (Red 1))) ∷ (At 1 (Submit (AskWithdraw (place 0) 20))) ∷ (At 1 (Balance (place 0))) ∷ [])
+    ∷ (Deliver 1 1) ∷ (At 1 (Apply (Red 1))) ∷ (At 1 (Submit (AskWithdraw (place 0) 20))) ∷ (At 1 (Balance (place 0))) ∷ [])
     ≡ (Made (Red 1) WithdrawLabel) ∷ (Passed 1) ∷ (Taken 1) ∷ (Refused (RedBehind 0 1)) ∷ (Held (Red 1)) ∷ (Applied (Red 1))
-        ∷ (Made (Red 2) WithdrawLabel) ∷ (BalanceIs 70) ∷ []
+    ∷ (Made (Red 2) WithdrawLabel) ∷ (BalanceIs 70) ∷ []
 unfolding place bal past clock_of is_eligible same_shadow names_listed fault_of plan_of operation_of allowed made_of outcome_of made_in_batch batch_of statement_of
 token_waits_for_reds = refl
 
-transfer_and_cancel : replies_of_run (record { sites = 2; names = codes "ann" ∷ codes "bob" ∷ []; starts = (100) ∷ (0) ∷ [];
-        limits = largest; version = 1 })
+transfer_and_cancel : replies_of_run (record {
+  sites = 2;
+  names = codes "ann" ∷ codes "bob" ∷ [];
+  starts = (100) ∷ (0) ∷ [];
+  limits = largest;
+  version = 1;
+})
     ((At 0 (Submit (AskTransfer (place 0) (place 1) 30))) ∷ (At 0 (Balance (place 0))) ∷ (At 0 (Submit (AskCancel (Red 1))))
-        ∷ (At 0 (Balance (place 0))) ∷ (At 0 (AsOf (place 0) 1)) ∷ (At 0 (AskStatement (place 1))) ∷ [])
+    ∷ (At 0 (Balance (place 0))) ∷ (At 0 (AsOf (place 0) 1)) ∷ (At 0 (AskStatement (place 1))) ∷ [])
     ≡ (Made (Red 1) TransferLabel) ∷ (BalanceIs 70) ∷ (Made (Red 2) CancelLabel) ∷ (BalanceIs 100) ∷ (BalanceIs 70)
-        ∷ (StatementIs (record { start = 0; rows = (record { position = 1; name = (Red 1); kind = TransferLabel; moved = (pos 30);
-        cancelled = true; balance = 30 }) ∷ (record { position = 2; name = (Red 2); kind = CancelLabel; moved = (negsuc 29);
-        cancelled = false; balance = 0 }) ∷ []; balance = 0 })) ∷ []
+    ∷ (StatementIs (record {
+      start = 0;
+      rows = (record {
+        position = 1;
+        name = (Red 1);
+        kind = TransferLabel;
+        moved = (pos 30);
+        cancelled = true;
+        balance = 30;
+      }) ∷ (record {
+        position = 2;
+        name = (Red 2);
+        kind = CancelLabel;
+        moved = (negsuc 29);
+        cancelled = false;
+        balance = 0;
+      }) ∷ [];
+      balance = 0;
+    })) ∷ []
 unfolding place bal past clock_of is_eligible same_shadow names_listed fault_of plan_of operation_of allowed made_of outcome_of made_in_batch batch_of statement_of
 transfer_and_cancel = refl
 
-two_cancels_of_one_withdrawal : replies_of_run (record { sites = 2; names = codes "ann" ∷ []; starts = (1000) ∷ []; limits = largest;
-        version = 1 })
+two_cancels_of_one_withdrawal : replies_of_run (record {
+  sites = 2;
+  names = codes "ann" ∷ [];
+  starts = (1000) ∷ [];
+  limits = largest;
+  version = 1;
+})
     ((At 0 (Submit (AskWithdraw (place 0) 300))) ∷ (Deliver 1 1) ∷ (At 1 (Apply (Red 1))) ∷ (At 0 (Submit (AskCancel (Red 1))))
-        ∷ (At 1 (Submit (AskCancel (Red 1)))) ∷ (Deliver 1 2) ∷ (At 1 (Apply (Blue 0 1))) ∷ (Deliver 0 3) ∷ (At 0 (Apply (Blue 1 1)))
-        ∷ (At 0 (Balance (place 0))) ∷ (At 1 (Balance (place 0))) ∷ (At 0 (AsOf (place 0) 2)) ∷ (At 0 (AsOf (place 0) 1)) ∷ [])
+    ∷ (At 1 (Submit (AskCancel (Red 1)))) ∷ (Deliver 1 2) ∷ (At 1 (Apply (Blue 0 1))) ∷ (Deliver 0 3) ∷ (At 0 (Apply (Blue 1 1)))
+    ∷ (At 0 (Balance (place 0))) ∷ (At 1 (Balance (place 0))) ∷ (At 0 (AsOf (place 0) 2)) ∷ (At 0 (AsOf (place 0) 1)) ∷ [])
     ≡ (Made (Red 1) WithdrawLabel) ∷ (Held (Red 1)) ∷ (Applied (Red 1)) ∷ (Made (Blue 0 1) CancelLabel) ∷ (Made (Blue 1 1) CancelLabel)
-        ∷ (Held (Blue 0 1)) ∷ (Applied (Blue 0 1)) ∷ (Held (Blue 1 1)) ∷ (Applied (Blue 1 1)) ∷ (BalanceIs 1000) ∷ (BalanceIs 1000)
-        ∷ (BalanceIs 1000) ∷ (BalanceIs 700) ∷ []
+    ∷ (Held (Blue 0 1)) ∷ (Applied (Blue 0 1)) ∷ (Held (Blue 1 1)) ∷ (Applied (Blue 1 1)) ∷ (BalanceIs 1000) ∷ (BalanceIs 1000)
+    ∷ (BalanceIs 1000) ∷ (BalanceIs 700) ∷ []
 unfolding place bal past clock_of is_eligible same_shadow names_listed fault_of plan_of operation_of allowed made_of outcome_of made_in_batch batch_of statement_of
 two_cancels_of_one_withdrawal = refl
 
-uncovered_withdrawal_is_declined : replies_of_run (record { sites = 2; names = codes "ann" ∷ []; starts = (100) ∷ []; limits = largest;
-        version = 1 })
+uncovered_withdrawal_is_declined : replies_of_run (record {
+  sites = 2;
+  names = codes "ann" ∷ [];
+  starts = (100) ∷ [];
+  limits = largest;
+  version = 1;
+})
     ((At 1 (Submit (AskWithdraw (place 0) 101))) ∷ (At 1 (Balance (place 0))) ∷ [])
     ≡ (Made (Blue 1 1) DeclinedLabel) ∷ (BalanceIs 100) ∷ []
 unfolding place bal past clock_of is_eligible same_shadow names_listed fault_of plan_of operation_of allowed made_of outcome_of made_in_batch batch_of statement_of
@@ -179,80 +252,113 @@ uncovered_withdrawal_is_declined = refl
 
 batch_without_token : replies_of_run (record { sites = 2; names = codes "ann" ∷ []; starts = (100) ∷ []; limits = largest; version = 1 })
     ((At 1 (Submit (AskWithdraw (place 0) 50))) ∷ (At 1 (Submit (AskDeposit (place 0) 1))) ∷ (At 1 (Batch ((AskDeposit (place 0) 1)
-        ∷ (AskWithdraw (place 0) 50) ∷ []))) ∷ (At 1 (Balance (place 0))) ∷ [])
+    ∷ (AskWithdraw (place 0) 50) ∷ []))) ∷ (At 1 (Balance (place 0))) ∷ [])
     ≡ (Refused NeedToken) ∷ (Made (Blue 1 1) DepositLabel) ∷ (Refused (BatchRefused 1 (RefusedCause 8))) ∷ (BalanceIs 101) ∷ []
 unfolding place bal past clock_of is_eligible same_shadow names_listed fault_of plan_of operation_of allowed made_of outcome_of made_in_batch batch_of statement_of
 batch_without_token = refl
 
-cancelled_deposit_would_overdraw : replies_of_run (record { sites = 2; names = codes "ann" ∷ []; starts = (0) ∷ []; limits = largest;
-        version = 1 })
+cancelled_deposit_would_overdraw : replies_of_run (record {
+  sites = 2;
+  names = codes "ann" ∷ [];
+  starts = (0) ∷ [];
+  limits = largest;
+  version = 1;
+})
     ((At 0 (Submit (AskDeposit (place 0) 100))) ∷ (At 0 (Submit (AskWithdraw (place 0) 80))) ∷ (At 0 (Submit (AskCancel (Blue 0 1))))
-        ∷ (Deliver 1 1) ∷ (At 1 (Apply (Blue 0 1))) ∷ (Deliver 1 2) ∷ (At 1 (Apply (Red 1))) ∷ (At 1 (Submit (AskCancel (Blue 0 1)))) ∷ [])
+    ∷ (Deliver 1 1) ∷ (At 1 (Apply (Blue 0 1))) ∷ (Deliver 1 2) ∷ (At 1 (Apply (Red 1))) ∷ (At 1 (Submit (AskCancel (Blue 0 1)))) ∷ [])
     ≡ (Made (Blue 0 1) DepositLabel) ∷ (Made (Red 1) WithdrawLabel) ∷ (Refused WouldOverdraw) ∷ (Held (Blue 0 1)) ∷ (Applied (Blue 0 1))
-        ∷ (Held (Red 1)) ∷ (Applied (Red 1)) ∷ (Refused NeedToken) ∷ []
+    ∷ (Held (Red 1)) ∷ (Applied (Red 1)) ∷ (Refused NeedToken) ∷ []
 unfolding place bal past clock_of is_eligible same_shadow names_listed fault_of plan_of operation_of allowed made_of outcome_of made_in_batch batch_of statement_of
 cancelled_deposit_would_overdraw = refl
 
 cancelled_deposit_later : replies_of_run (record { sites = 2; names = codes "ann" ∷ []; starts = (0) ∷ []; limits = largest; version = 1 })
     ((At 0 (Submit (AskDeposit (place 0) 100))) ∷ (At 0 (Submit (AskWithdraw (place 0) 100))) ∷ (At 0 (Submit (AskDeposit (place 0) 100)))
-        ∷ (At 0 (Submit (AskCancel (Blue 0 1)))) ∷ (At 0 (Balance (place 0))) ∷ (At 0 (AsOf (place 0) 3)) ∷ [])
+    ∷ (At 0 (Submit (AskCancel (Blue 0 1)))) ∷ (At 0 (Balance (place 0))) ∷ (At 0 (AsOf (place 0) 3)) ∷ [])
     ≡ (Made (Blue 0 1) DepositLabel) ∷ (Made (Red 1) WithdrawLabel) ∷ (Made (Blue 0 2) DepositLabel) ∷ (Made (Red 2) CancelLabel)
-        ∷ (BalanceIs 0) ∷ (BalanceIs 100) ∷ []
+    ∷ (BalanceIs 0) ∷ (BalanceIs 100) ∷ []
 unfolding place bal past clock_of is_eligible same_shadow names_listed fault_of plan_of operation_of allowed made_of outcome_of made_in_batch batch_of statement_of
 cancelled_deposit_later = refl
 
-what_cannot_be_cancelled : replies_of_run (record { sites = 2; names = codes "ann" ∷ []; starts = (100) ∷ []; limits = largest;
-        version = 1 })
+what_cannot_be_cancelled : replies_of_run (record {
+  sites = 2;
+  names = codes "ann" ∷ [];
+  starts = (100) ∷ [];
+  limits = largest;
+  version = 1;
+})
     ((At 0 (Submit (AskWithdraw (place 0) 200))) ∷ (At 0 (Submit (AskCancel (Blue 0 1)))) ∷ (At 0 (Submit (AskWithdraw (place 0) 40)))
-        ∷ (At 0 (Submit (AskCancel (Red 1)))) ∷ (At 0 (Submit (AskCancel (Blue 0 2)))) ∷ (At 0 (Submit (AskCancel (Blue 1 1))))
-        ∷ (At 0 (Submit (AskCancel (Red 1)))) ∷ [])
+    ∷ (At 0 (Submit (AskCancel (Red 1)))) ∷ (At 0 (Submit (AskCancel (Blue 0 2)))) ∷ (At 0 (Submit (AskCancel (Blue 1 1))))
+    ∷ (At 0 (Submit (AskCancel (Red 1)))) ∷ [])
     ≡ (Made (Blue 0 1) DeclinedLabel) ∷ (Refused NotCancellable) ∷ (Made (Red 1) WithdrawLabel) ∷ (Made (Blue 0 2) CancelLabel)
-        ∷ (Refused NotCancellable) ∷ (Refused UnknownOperation) ∷ (Refused (AlreadyCancelled 3)) ∷ []
+    ∷ (Refused NotCancellable) ∷ (Refused UnknownOperation) ∷ (Refused (AlreadyCancelled 3)) ∷ []
 unfolding place bal past clock_of is_eligible same_shadow names_listed fault_of plan_of operation_of allowed made_of outcome_of made_in_batch batch_of statement_of
 what_cannot_be_cancelled = refl
 
 amounts_at_the_limits : replies_of_run (record { sites = 2; names = codes "ann" ∷ []; starts = (0) ∷ []; limits = largest; version = 1 })
     ((At 0 (Submit (AskDeposit (place 0) 0))) ∷ (At 0 (Submit (AskDeposit (place 0) 1)))
-        ∷ (At 0 (Submit (AskDeposit (place 0) MOST_CENTS))) ∷ (At 0 (Submit (AskDeposit (place 0) (MOST_CENTS + 1))))
-        ∷ (At 0 (Submit (AskInterest (place 0) MOST_RATE))) ∷ (At 0 (Submit (AskInterest (place 0) (MOST_RATE + 1))))
-        ∷ (At 0 (Submit (AskInterest (place 0) 0))) ∷ (At 0 (Submit (AskDeposit NOWHERE 0))) ∷ (At 0 (Balance NOWHERE))
-        ∷ (At 0 (Balance (place 0))) ∷ [])
+    ∷ (At 0 (Submit (AskDeposit (place 0) MOST_CENTS))) ∷ (At 0 (Submit (AskDeposit (place 0) (MOST_CENTS + 1))))
+    ∷ (At 0 (Submit (AskInterest (place 0) MOST_RATE))) ∷ (At 0 (Submit (AskInterest (place 0) (MOST_RATE + 1))))
+    ∷ (At 0 (Submit (AskInterest (place 0) 0))) ∷ (At 0 (Submit (AskDeposit NOWHERE 0))) ∷ (At 0 (Balance NOWHERE))
+    ∷ (At 0 (Balance (place 0))) ∷ [])
     ≡ (Refused BadAmount) ∷ (Made (Blue 0 1) DepositLabel) ∷ (Made (Blue 0 2) DepositLabel) ∷ (Refused BadAmount) ∷ (Refused DeltaTooLarge)
-        ∷ (Refused BadRate) ∷ (Made (Blue 0 3) InterestLabel) ∷ (Refused UnknownAccount) ∷ (Refused UnknownAccount)
-        ∷ (BalanceIs (MOST_CENTS + 1)) ∷ []
+    ∷ (Refused BadRate) ∷ (Made (Blue 0 3) InterestLabel) ∷ (Refused UnknownAccount) ∷ (Refused UnknownAccount)
+    ∷ (BalanceIs (MOST_CENTS + 1)) ∷ []
 unfolding place bal past clock_of is_eligible same_shadow names_listed fault_of plan_of operation_of allowed made_of outcome_of made_in_batch batch_of statement_of
 amounts_at_the_limits = refl
 
-numbers_exhausted : replies_of_run (record { sites = 2; names = codes "ann" ∷ []; starts = (0) ∷ []; limits = record largest { blue = 1;
-        red = 1 }; version = 1 })
+numbers_exhausted : replies_of_run (record {
+  sites = 2;
+  names = codes "ann" ∷ [];
+  starts = (0) ∷ [];
+  limits = record largest {
+    blue = 1;
+    red = 1;
+  };
+  version = 1;
+})
     ((At 0 (Submit (AskDeposit (place 0) 5))) ∷ (At 0 (Submit (AskDeposit (place 0) 5))) ∷ (At 0 (Submit (AskWithdraw (place 0) 2)))
-        ∷ (At 0 (Submit (AskWithdraw (place 0) 1))) ∷ (At 0 (Submit (AskCancel (Red 1)))) ∷ (At 0 (Balance (place 0))) ∷ [])
+    ∷ (At 0 (Submit (AskWithdraw (place 0) 1))) ∷ (At 0 (Submit (AskCancel (Red 1)))) ∷ (At 0 (Balance (place 0))) ∷ [])
     ≡ (Made (Blue 0 1) DepositLabel) ∷ (Refused NumbersExhausted) ∷ (Made (Red 1) WithdrawLabel) ∷ (Refused NumbersExhausted)
-        ∷ (Refused NumbersExhausted) ∷ (BalanceIs 3) ∷ []
+    ∷ (Refused NumbersExhausted) ∷ (BalanceIs 3) ∷ []
 unfolding place bal past clock_of is_eligible same_shadow names_listed fault_of plan_of operation_of allowed made_of outcome_of made_in_batch batch_of statement_of
 numbers_exhausted = refl
 
-full_inbox_takes_eligible : replies_of_run (record { sites = 2; names = codes "ann" ∷ []; starts = (0) ∷ [];
-        limits = record largest { inbox = 1 }; version = 1 })
+full_inbox_takes_eligible : replies_of_run (record {
+  sites = 2;
+  names = codes "ann" ∷ [];
+  starts = (0) ∷ [];
+  limits = record largest { inbox = 1 };
+  version = 1;
+})
     ((At 0 (Submit (AskDeposit (place 0) 1))) ∷ (At 0 (Submit (AskDeposit (place 0) 1))) ∷ (At 0 (Submit (AskDeposit (place 0) 1)))
-        ∷ (Deliver 1 2) ∷ (Deliver 1 3) ∷ (Deliver 1 1) ∷ (At 1 (Apply (Blue 0 1))) ∷ (At 1 (Apply (Blue 0 2))) ∷ (Deliver 1 3) ∷ [])
+    ∷ (Deliver 1 2) ∷ (Deliver 1 3) ∷ (Deliver 1 1) ∷ (At 1 (Apply (Blue 0 1))) ∷ (At 1 (Apply (Blue 0 2))) ∷ (Deliver 1 3) ∷ [])
     ≡ (Made (Blue 0 1) DepositLabel) ∷ (Made (Blue 0 2) DepositLabel) ∷ (Made (Blue 0 3) DepositLabel) ∷ (Held (Blue 0 2))
-        ∷ (Refused InboxFull) ∷ (Held (Blue 0 1)) ∷ (Applied (Blue 0 1)) ∷ (Applied (Blue 0 2)) ∷ (Held (Blue 0 3)) ∷ []
+    ∷ (Refused InboxFull) ∷ (Held (Blue 0 1)) ∷ (Applied (Blue 0 1)) ∷ (Applied (Blue 0 2)) ∷ (Held (Blue 0 3)) ∷ []
 unfolding place bal past clock_of is_eligible same_shadow names_listed fault_of plan_of operation_of allowed made_of outcome_of made_in_batch batch_of statement_of
 full_inbox_takes_eligible = refl
 
-history_full : replies_of_run (record { sites = 2; names = codes "ann" ∷ []; starts = (0) ∷ []; limits = record largest { history = 2 };
-        version = 1 })
+history_full : replies_of_run (record {
+  sites = 2;
+  names = codes "ann" ∷ [];
+  starts = (0) ∷ [];
+  limits = record largest { history = 2 };
+  version = 1;
+})
     ((At 0 (Submit (AskDeposit (place 0) 5))) ∷ (At 0 (Balance (place 0))) ∷ (At 0 (Balance (place 0))) ∷ (At 1 (Balance (place 0))) ∷ [])
     ≡ (Made (Blue 0 1) DepositLabel) ∷ (BalanceIs 5) ∷ (Refused HistoryFull) ∷ (BalanceIs 0) ∷ []
 unfolding place bal past clock_of is_eligible same_shadow names_listed fault_of plan_of operation_of allowed made_of outcome_of made_in_batch batch_of statement_of
 history_full = refl
 
-pass_and_epochs : replies_of_run (record { sites = 2; names = codes "ann" ∷ []; starts = (0) ∷ []; limits = record largest { epoch = 1 };
-        version = 1 })
+pass_and_epochs : replies_of_run (record {
+  sites = 2;
+  names = codes "ann" ∷ [];
+  starts = (0) ∷ [];
+  limits = record largest { epoch = 1 };
+  version = 1;
+})
     ((At 0 (Pass 0)) ∷ (At 0 (Pass 2)) ∷ (At 1 (Pass 0)) ∷ (At 0 (Pass 1)) ∷ (Deliver 1 1) ∷ (At 1 (Pass 0)) ∷ (At 0 (Pass 1)) ∷ [])
     ≡ (Refused NoSite) ∷ (Refused NoSite) ∷ (Refused NeedToken) ∷ (Passed 1) ∷ (Taken 1) ∷ (Refused NumbersExhausted)
-        ∷ (Refused NumbersExhausted) ∷ []
+    ∷ (Refused NumbersExhausted) ∷ []
 unfolding place bal past clock_of is_eligible same_shadow names_listed fault_of plan_of operation_of allowed made_of outcome_of made_in_batch batch_of statement_of
 pass_and_epochs = refl
 
@@ -262,91 +368,118 @@ no_site_no_message : replies_of_run (record { sites = 2; names = codes "ann" ∷
 unfolding place bal past clock_of is_eligible same_shadow names_listed fault_of plan_of operation_of allowed made_of outcome_of made_in_batch batch_of statement_of
 no_site_no_message = refl
 
-full_history_comes_first : replies_of_run (record { sites = 2; names = codes "ann" ∷ []; starts = (0) ∷ [];
-        limits = record largest { history = 1 }; version = 1 })
+full_history_comes_first : replies_of_run (record {
+  sites = 2;
+  names = codes "ann" ∷ [];
+  starts = (0) ∷ [];
+  limits = record largest { history = 1 };
+  version = 1;
+})
     ((At 0 (Balance (place 0))) ∷ (At 0 (Submit (AskDeposit NOWHERE 0))) ∷ (At 0 (Batch ([]))) ∷ (At 0 (Pass 0)) ∷ (At 0 (Apply (Red 0)))
-        ∷ (At 0 (AsOf NOWHERE 9)) ∷ (At 0 (AskStatement NOWHERE)) ∷ (Deliver 0 1) ∷ (At 2 (Balance NOWHERE))
-        ∷ (At 1 (Submit (AskDeposit (place 0) 5))) ∷ (Deliver 0 1) ∷ (Deliver 1 1) ∷ [])
+    ∷ (At 0 (AsOf NOWHERE 9)) ∷ (At 0 (AskStatement NOWHERE)) ∷ (Deliver 0 1) ∷ (At 2 (Balance NOWHERE))
+    ∷ (At 1 (Submit (AskDeposit (place 0) 5))) ∷ (Deliver 0 1) ∷ (Deliver 1 1) ∷ [])
     ≡ (BalanceIs 0) ∷ (Refused HistoryFull) ∷ (Refused HistoryFull) ∷ (Refused HistoryFull) ∷ (Refused HistoryFull) ∷ (Refused HistoryFull)
-        ∷ (Refused HistoryFull) ∷ (Refused NoMessage) ∷ (Refused NoSite) ∷ (Made (Blue 1 1) DepositLabel) ∷ (Refused HistoryFull)
-        ∷ (Refused HistoryFull) ∷ []
+    ∷ (Refused HistoryFull) ∷ (Refused NoMessage) ∷ (Refused NoSite) ∷ (Made (Blue 1 1) DepositLabel) ∷ (Refused HistoryFull)
+    ∷ (Refused HistoryFull) ∷ []
 unfolding place bal past clock_of is_eligible same_shadow names_listed fault_of plan_of operation_of allowed made_of outcome_of made_in_batch batch_of statement_of
 full_history_comes_first = refl
 
 behind_then_overdrawn : replies_of_run (record { sites = 2; names = codes "ann" ∷ []; starts = (0) ∷ []; limits = largest; version = 1 })
     ((At 0 (Submit (AskDeposit (place 0) 5))) ∷ (At 0 (Submit (AskWithdraw (place 0) 5))) ∷ (Deliver 1 1) ∷ (At 1 (Apply (Blue 0 1)))
-        ∷ (At 0 (Pass 1)) ∷ (Deliver 1 3) ∷ (At 1 (Submit (AskCancel (Blue 0 1)))) ∷ (Deliver 1 2) ∷ (At 1 (Apply (Red 1)))
-        ∷ (At 1 (Submit (AskCancel (Blue 0 1)))) ∷ (At 1 (Submit (AskCancel (Red 1)))) ∷ (At 1 (Submit (AskCancel (Blue 0 1))))
-        ∷ (At 0 (Submit (AskCancel (Blue 0 1)))) ∷ (At 0 (Submit (AskCancel (Red 1)))) ∷ (At 1 (Submit (AskCancel (Blue 0 1)))) ∷ [])
+    ∷ (At 0 (Pass 1)) ∷ (Deliver 1 3) ∷ (At 1 (Submit (AskCancel (Blue 0 1)))) ∷ (Deliver 1 2) ∷ (At 1 (Apply (Red 1)))
+    ∷ (At 1 (Submit (AskCancel (Blue 0 1)))) ∷ (At 1 (Submit (AskCancel (Red 1)))) ∷ (At 1 (Submit (AskCancel (Blue 0 1))))
+    ∷ (At 0 (Submit (AskCancel (Blue 0 1)))) ∷ (At 0 (Submit (AskCancel (Red 1)))) ∷ (At 1 (Submit (AskCancel (Blue 0 1)))) ∷ [])
     ≡ (Made (Blue 0 1) DepositLabel) ∷ (Made (Red 1) WithdrawLabel) ∷ (Held (Blue 0 1)) ∷ (Applied (Blue 0 1)) ∷ (Passed 1) ∷ (Taken 1)
-        ∷ (Refused (RedBehind 0 1)) ∷ (Held (Red 1)) ∷ (Applied (Red 1)) ∷ (Refused WouldOverdraw) ∷ (Made (Blue 1 1) CancelLabel)
-        ∷ (Made (Red 2) CancelLabel) ∷ (Refused NeedToken) ∷ (Made (Blue 0 2) CancelLabel) ∷ (Refused (AlreadyCancelled 4)) ∷ []
+    ∷ (Refused (RedBehind 0 1)) ∷ (Held (Red 1)) ∷ (Applied (Red 1)) ∷ (Refused WouldOverdraw) ∷ (Made (Blue 1 1) CancelLabel)
+    ∷ (Made (Red 2) CancelLabel) ∷ (Refused NeedToken) ∷ (Made (Blue 0 2) CancelLabel) ∷ (Refused (AlreadyCancelled 4)) ∷ []
 unfolding place bal past clock_of is_eligible same_shadow names_listed fault_of plan_of operation_of allowed made_of outcome_of made_in_batch batch_of statement_of
 behind_then_overdrawn = refl
 
-batches_refused : replies_of_run (record { sites = 2; names = codes "ann" ∷ codes "bob" ∷ []; starts = (5) ∷ (0) ∷ [];
-        limits = record largest { blue = 2 }; version = 1 })
+batches_refused : replies_of_run (record {
+  sites = 2;
+  names = codes "ann" ∷ codes "bob" ∷ [];
+  starts = (5) ∷ (0) ∷ [];
+  limits = record largest { blue = 2 };
+  version = 1;
+})
     ((At 0 (Batch ((AskDeposit NOWHERE 0) ∷ []))) ∷ (At 0 (Batch ((AskDeposit (place 0) 0) ∷ []))) ∷ (At 0 (Batch ((AskDeposit (place 0) 1)
-        ∷ (AskInterest (place 0) (MOST_RATE + 1)) ∷ []))) ∷ (At 0 (Batch ((AskCancel (Blue 0 1)) ∷ [])))
-        ∷ (At 0 (Batch ((AskDeposit (place 0) 1) ∷ (AskDeposit (place 0) 1) ∷ (AskDeposit (place 0) 1) ∷ [])))
-        ∷ (At 0 (Batch ((AskDeposit (place 0) 1) ∷ (AskDeposit (place 0) 1) ∷ (AskWithdraw (place 0) 8) ∷ [])))
-        ∷ (At 0 (Batch ((AskDeposit (place 0) 1) ∷ (AskWithdraw (place 0) 6) ∷ (AskCancel (Blue 0 1)) ∷ [])))
-        ∷ (At 1 (Batch ((AskDeposit (place 1) 1) ∷ (AskCancel (Blue 1 1)) ∷ []))) ∷ (At 0 (Balance (place 0))) ∷ [])
+    ∷ (AskInterest (place 0) (MOST_RATE + 1)) ∷ []))) ∷ (At 0 (Batch ((AskCancel (Blue 0 1)) ∷ [])))
+    ∷ (At 0 (Batch ((AskDeposit (place 0) 1) ∷ (AskDeposit (place 0) 1) ∷ (AskDeposit (place 0) 1) ∷ [])))
+    ∷ (At 0 (Batch ((AskDeposit (place 0) 1) ∷ (AskDeposit (place 0) 1) ∷ (AskWithdraw (place 0) 8) ∷ [])))
+    ∷ (At 0 (Batch ((AskDeposit (place 0) 1) ∷ (AskWithdraw (place 0) 6) ∷ (AskCancel (Blue 0 1)) ∷ [])))
+    ∷ (At 1 (Batch ((AskDeposit (place 1) 1) ∷ (AskCancel (Blue 1 1)) ∷ []))) ∷ (At 0 (Balance (place 0))) ∷ [])
     ≡ (Refused (BatchRefused 0 (RefusedCause 1))) ∷ (Refused (BatchRefused 0 (RefusedCause 2)))
-        ∷ (Refused (BatchRefused 1 (RefusedCause 3))) ∷ (Refused (BatchRefused 0 (RefusedCause 4)))
-        ∷ (Refused (BatchRefused 2 (RefusedCause 7))) ∷ (Refused (BatchRefused 2 DeclinedCause))
-        ∷ (Refused (BatchRefused 2 (RefusedCause 10))) ∷ (Refused (BatchRefused 1 (RefusedCause 8))) ∷ (BalanceIs 5) ∷ []
+    ∷ (Refused (BatchRefused 1 (RefusedCause 3))) ∷ (Refused (BatchRefused 0 (RefusedCause 4)))
+    ∷ (Refused (BatchRefused 2 (RefusedCause 7))) ∷ (Refused (BatchRefused 2 DeclinedCause))
+    ∷ (Refused (BatchRefused 2 (RefusedCause 10))) ∷ (Refused (BatchRefused 1 (RefusedCause 8))) ∷ (BalanceIs 5) ∷ []
 unfolding place bal past clock_of is_eligible same_shadow names_listed fault_of plan_of operation_of allowed made_of outcome_of made_in_batch batch_of statement_of
 batches_refused = refl
 
 batch_cancels_its_own : replies_of_run (record { sites = 2; names = codes "ann" ∷ []; starts = (0) ∷ []; limits = largest; version = 1 })
     ((At 0 (Batch ((AskDeposit (place 0) 50) ∷ (AskCancel (Blue 0 1)) ∷ (AskDeposit (place 0) 2) ∷ (AskWithdraw (place 0) 2)
-        ∷ (AskCancel (Red 2)) ∷ []))) ∷ (At 0 (Balance (place 0))) ∷ (At 0 (Batch ((AskCancel (Red 2)) ∷ [])))
-        ∷ (At 0 (Batch ((AskDeposit (place 0) 1) ∷ (AskCancel (Blue 0 4)) ∷ (AskCancel (Blue 0 4)) ∷ [])))
-        ∷ (At 0 (Submit (AskDeposit (place 0) 1))) ∷ (Deliver 1 6) ∷ (Deliver 1 7) ∷ [])
+    ∷ (AskCancel (Red 2)) ∷ []))) ∷ (At 0 (Balance (place 0))) ∷ (At 0 (Batch ((AskCancel (Red 2)) ∷ [])))
+    ∷ (At 0 (Batch ((AskDeposit (place 0) 1) ∷ (AskCancel (Blue 0 4)) ∷ (AskCancel (Blue 0 4)) ∷ [])))
+    ∷ (At 0 (Submit (AskDeposit (place 0) 1))) ∷ (Deliver 1 6) ∷ (Deliver 1 7) ∷ [])
     ≡ (NamesMade ((Blue 0 1) ∷ (Red 1) ∷ (Blue 0 2) ∷ (Red 2) ∷ (Blue 0 3) ∷ [])) ∷ (BalanceIs 2)
-        ∷ (Refused (BatchRefused 0 (RefusedCause 6))) ∷ (Refused (BatchRefused 2 (RefusedCause 6))) ∷ (Made (Blue 0 4) DepositLabel)
-        ∷ (Held (Blue 0 4)) ∷ (Refused NoMessage) ∷ []
+    ∷ (Refused (BatchRefused 0 (RefusedCause 6))) ∷ (Refused (BatchRefused 2 (RefusedCause 6))) ∷ (Made (Blue 0 4) DepositLabel)
+    ∷ (Held (Blue 0 4)) ∷ (Refused NoMessage) ∷ []
 unfolding place bal past clock_of is_eligible same_shadow names_listed fault_of plan_of operation_of allowed made_of outcome_of made_in_batch batch_of statement_of
 batch_cancels_its_own = refl
 
-declined_in_a_statement : replies_of_run (record { sites = 2; names = codes "ann" ∷ []; starts = (10) ∷ []; limits = largest;
-        version = 1 })
+declined_in_a_statement : replies_of_run (record {
+  sites = 2;
+  names = codes "ann" ∷ [];
+  starts = (10) ∷ [];
+  limits = largest;
+  version = 1;
+})
     ((At 0 (Submit (AskWithdraw (place 0) 11))) ∷ (At 0 (Submit (AskWithdraw (place 0) 10))) ∷ (At 0 (Submit (AskCancel (Red 1))))
-        ∷ (At 0 (AskStatement (place 0))) ∷ [])
-    ≡ (Made (Blue 0 1) DeclinedLabel) ∷ (Made (Red 1) WithdrawLabel) ∷ (Made (Blue 0 2) CancelLabel) ∷ (StatementIs (record { start = 10;
-        rows = (record { position = 1; name = (Blue 0 1); kind = DeclinedLabel; moved = (pos 0); cancelled = false; balance = 10 })
-        ∷ (record { position = 2; name = (Red 1); kind = WithdrawLabel; moved = (negsuc 9); cancelled = true; balance = 0 })
-        ∷ (record { position = 3; name = (Blue 0 2); kind = CancelLabel; moved = (pos 10); cancelled = false; balance = 10 }) ∷ [];
-        balance = 10 })) ∷ []
+    ∷ (At 0 (AskStatement (place 0))) ∷ [])
+    ≡ (Made (Blue 0 1) DeclinedLabel) ∷ (Made (Red 1) WithdrawLabel) ∷ (Made (Blue 0 2) CancelLabel) ∷ (StatementIs (record {
+      start = 10;
+      rows = (record { position = 1; name = (Blue 0 1); kind = DeclinedLabel; moved = (pos 0); cancelled = false; balance = 10 })
+          ∷ (record { position = 2; name = (Red 1); kind = WithdrawLabel; moved = (negsuc 9); cancelled = true; balance = 0 })
+          ∷ (record { position = 3; name = (Blue 0 2); kind = CancelLabel; moved = (pos 10); cancelled = false; balance = 10 }) ∷ [];
+      balance = 10;
+    })) ∷ []
 unfolding place bal past clock_of is_eligible same_shadow names_listed fault_of plan_of operation_of allowed made_of outcome_of made_in_batch batch_of statement_of
 declined_in_a_statement = refl
 
 needed_count_passes_on : replies_of_run (record { sites = 3; names = codes "ann" ∷ []; starts = (9) ∷ []; limits = largest; version = 1 })
     ((At 0 (Submit (AskWithdraw (place 0) 1))) ∷ (At 0 (Pass 1)) ∷ (Deliver 1 2) ∷ (At 1 (Pass 2)) ∷ (Deliver 2 3)
-        ∷ (At 2 (Submit (AskWithdraw (place 0) 1))) ∷ (At 2 (Submit (AskCancel (Red 1)))) ∷ (Deliver 2 1) ∷ (At 2 (Apply (Red 1)))
-        ∷ (At 2 (Submit (AskCancel (Red 1)))) ∷ (Deliver 2 3) ∷ (At 2 (Pass 1)) ∷ (Deliver 1 5) ∷ (At 1 (Submit (AskWithdraw (place 0) 9)))
-        ∷ (At 1 (Submit (AskWithdraw (place 0) 10))) ∷ [])
+    ∷ (At 2 (Submit (AskWithdraw (place 0) 1))) ∷ (At 2 (Submit (AskCancel (Red 1)))) ∷ (Deliver 2 1) ∷ (At 2 (Apply (Red 1)))
+    ∷ (At 2 (Submit (AskCancel (Red 1)))) ∷ (Deliver 2 3) ∷ (At 2 (Pass 1)) ∷ (Deliver 1 5) ∷ (At 1 (Submit (AskWithdraw (place 0) 9)))
+    ∷ (At 1 (Submit (AskWithdraw (place 0) 10))) ∷ [])
     ≡ (Made (Red 1) WithdrawLabel) ∷ (Passed 1) ∷ (Taken 1) ∷ (Passed 2) ∷ (Taken 2) ∷ (Refused (RedBehind 0 1))
-        ∷ (Refused UnknownOperation) ∷ (Held (Red 1)) ∷ (Applied (Red 1)) ∷ (Made (Blue 2 1) CancelLabel) ∷ (Stale 2) ∷ (Passed 3)
-        ∷ (Taken 3) ∷ (Refused (RedBehind 0 1)) ∷ (Made (Blue 1 1) DeclinedLabel) ∷ []
+    ∷ (Refused UnknownOperation) ∷ (Held (Red 1)) ∷ (Applied (Red 1)) ∷ (Made (Blue 2 1) CancelLabel) ∷ (Stale 2) ∷ (Passed 3)
+    ∷ (Taken 3) ∷ (Refused (RedBehind 0 1)) ∷ (Made (Blue 1 1) DeclinedLabel) ∷ []
 unfolding place bal past clock_of is_eligible same_shadow names_listed fault_of plan_of operation_of allowed made_of outcome_of made_in_batch batch_of statement_of
 needed_count_passes_on = refl
 
-refusals_are_recorded : replies_of_run (record { sites = 2; names = codes "ann" ∷ []; starts = (0) ∷ [];
-        limits = record largest { history = 8 }; version = 1 })
+refusals_are_recorded : replies_of_run (record {
+  sites = 2;
+  names = codes "ann" ∷ [];
+  starts = (0) ∷ [];
+  limits = record largest { history = 8 };
+  version = 1;
+})
     ((At 0 (Balance NOWHERE)) ∷ (At 0 (Submit (AskDeposit (place 0) 0))) ∷ (At 0 (Submit (AskCancel (Red 1)))) ∷ (At 0 (Batch ([])))
-        ∷ (At 0 (Apply (Red 1))) ∷ (At 0 (Pass 0)) ∷ (At 0 (AsOf (place 0) 1)) ∷ (At 0 (Batch ((AskWithdraw (place 0) 1) ∷ [])))
-        ∷ (At 0 (Balance (place 0))) ∷ [])
+    ∷ (At 0 (Apply (Red 1))) ∷ (At 0 (Pass 0)) ∷ (At 0 (AsOf (place 0) 1)) ∷ (At 0 (Batch ((AskWithdraw (place 0) 1) ∷ [])))
+    ∷ (At 0 (Balance (place 0))) ∷ [])
     ≡ (Refused UnknownAccount) ∷ (Refused BadAmount) ∷ (Refused UnknownOperation) ∷ (Refused BadBatch) ∷ (Refused NotHeld)
-        ∷ (Refused NoSite) ∷ (Refused PositionBeyond) ∷ (Refused (BatchRefused 0 DeclinedCause)) ∷ (Refused HistoryFull) ∷ []
+    ∷ (Refused NoSite) ∷ (Refused PositionBeyond) ∷ (Refused (BatchRefused 0 DeclinedCause)) ∷ (Refused HistoryFull) ∷ []
 unfolding place bal past clock_of is_eligible same_shadow names_listed fault_of plan_of operation_of allowed made_of outcome_of made_in_batch batch_of statement_of
 refusals_are_recorded = refl
 
-unrecorded_refusals : replies_of_run (record { sites = 2; names = codes "ann" ∷ []; starts = (0) ∷ [];
-        limits = record largest { history = 1 }; version = 1 })
+unrecorded_refusals : replies_of_run (record {
+  sites = 2;
+  names = codes "ann" ∷ [];
+  starts = (0) ∷ [];
+  limits = record largest { history = 1 };
+  version = 1;
+})
     ((Deliver 0 0) ∷ (Deliver 0 7) ∷ (At 2 (Balance (place 0))) ∷ (Deliver 2 0) ∷ (At 0 (Balance (place 0))) ∷ (At 0 (Balance (place 0)))
-        ∷ [])
+    ∷ [])
     ≡ (Refused NoMessage) ∷ (Refused NoMessage) ∷ (Refused NoSite) ∷ (Refused NoSite) ∷ (BalanceIs 0) ∷ (Refused HistoryFull) ∷ []
 unfolding place bal past clock_of is_eligible same_shadow names_listed fault_of plan_of operation_of allowed made_of outcome_of made_in_batch batch_of statement_of
 unrecorded_refusals = refl

@@ -1,5 +1,6 @@
 //! The sites of a bank, together.
-ghost use Rattle.std.specs.Prelude.{◌≡◌, ◌+◌, ◌≤◌, ◌++◌, Some, IsSomeAnd, IfSome, IfOk, IfErr, OnErr, All, is_some, length, true, false, map, option_map, slice_get, take, vec_len, vec_capacity};
+ghost use Rattle.std.specs.Prelude.{◌≡◌, ◌+◌, ◌≤◌, ◌++◌, Some, IsSomeAnd, IfSome, IfOk, IfErr, OnErr, All, is_some};
+ghost use Rattle.std.specs.Prelude.{length, true, false, map, option_map, slice_get, take, vec_len, vec_capacity};
 ghost use Rattle.std.specs.List.{range_with_len};
 ghost use Rattle.rb_site.specs.Events.{first_site, is_full};
 ghost use Rattle.rb_site.specs.Reports.{AreReports};
@@ -61,8 +62,10 @@ impl World {
     /// events as `Stopped` says.
     pub fn run(&mut self, events: &[WorldEvent]) -> Result<Vec<Reply>, Stopped>
         requires { All IsCommand events.now }
-        ensures ok { IfOk result (λ replies. (replies.items ≡ next_replies self.old events.now) × (self.new ≡ next_worlds self.old events.now)) }
-        ensures stopped { IfErr result (λ stopped. (stopped.answered ≤ length events.now) × (self.new ≡ next_worlds self.old (take stopped.answered events.now))) }
+        ensures ok { IfOk result (λ replies. (replies.items ≡ next_replies self.old events.now)
+            × (self.new ≡ next_worlds self.old events.now)) }
+        ensures stopped { IfErr result (λ stopped. (stopped.answered ≤ length events.now)
+            × (self.new ≡ next_worlds self.old (take stopped.answered events.now))) }
         ensures holds { Holds self.new.settings self.new.world }
     {
         // What every world keeps: it is the run of its events.
@@ -83,7 +86,8 @@ impl World {
     /// One event of a run, which is copied.
     fn step_as(&mut self, event: &WorldEvent) -> Result<Reply, AllocError>
         requires { IsCommand event.now }
-        ensures ok { IfOk result (λ reply. (reply ≡ next_reply self.old event.now) × (self.new ≡ next_world self.old event.now)) }
+        ensures ok { IfOk result (λ reply. (reply ≡ next_reply self.old event.now)
+            × (self.new ≡ next_world self.old event.now)) }
         ensures err { OnErr result (self.new ≡ self.old) }
     {
         let event = event.try_copy(self.alloc)?;
@@ -142,7 +146,8 @@ impl<E: KeepsEntry, R: KeepsEvent> World<E, R> {
     /// only for an event that a site would record: the world is then as before.
     pub fn step(&mut self, event: WorldEvent) -> Result<Reply, AllocError>
         requires { IsCommand event }
-        ensures ok { IfOk result (λ reply. (reply ≡ next_reply self.old event) × (self.new ≡ next_world self.old event)) }
+        ensures ok { IfOk result (λ reply. (reply ≡ next_reply self.old event)
+            × (self.new ≡ next_world self.old event)) }
         ensures err { OnErr result (self.new ≡ self.old) }
         ensures recordable { OnErr result (is_recorded self.old.settings self.old.world event ≡ true) }
     {
@@ -202,8 +207,10 @@ impl<E: KeepsEntry, R: KeepsEvent> World<E, R> {
         requires command { IsCommand (R.noted noted) }
         requires site { site ≡ site_of (R.noted noted) }
         requires arrived { arrival self.old.world.messages (R.noted noted) ≡ Some arrived }
-        requires room { IsSomeAnd (slice_get self.old.world.sites site) (λ site. is_full self.old.settings site ≡ false) }
-        ensures ok { IfOk result (λ reply. (reply ≡ next_reply self.old (R.noted noted)) × (self.new ≡ next_world self.old (R.noted noted))) }
+        requires room { IsSomeAnd (slice_get self.old.world.sites site) (λ site. is_full self.old.settings site
+            ≡ false) }
+        ensures ok { IfOk result (λ reply. (reply ≡ next_reply self.old (R.noted noted))
+            × (self.new ≡ next_world self.old (R.noted noted))) }
         ensures err { OnErr result (self.new ≡ self.old) }
     {
         self.recorded.reserve(1)?;
@@ -251,7 +258,8 @@ impl<E: KeepsEntry, R: KeepsEvent> World<E, R> {
 
 /// A site for each number of the configuration.
 fn open_sites<E: KeepsEntry>(alloc: Global, config: &Config) -> Result<Vec<Site<E>>, AllocError>
-    ensures sites { IfOk result (λ sites. map state_of sites.items ≡ map first_site (range_with_len 0 config.now.sites)) }
+    ensures sites { IfOk result (λ sites. map state_of sites.items
+        ≡ map first_site (range_with_len 0 config.now.sites)) }
     ensures settings { IfOk result (λ sites. All (λ x. x.settings ≡ config.now) sites.items) }
     ensures few { IfOk result (λ sites. length sites.items ≡ config.now.sites) }
 {

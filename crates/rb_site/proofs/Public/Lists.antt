@@ -7,7 +7,8 @@ map_at f [] k x at = cc
 map_at f (y ∷ xs) zero x at = cc
 map_at f (y ∷ xs) (suc k) x at = map_at f xs k x at
 
-pub map_back : {A B : Type 0} (f : A → B) (xs : List A) (k : ℕ) (y : B) → slice_get (map f xs) k ≡ Some y → (x : A) × (slice_get xs k ≡ Some x) × (y ≡ f x)
+pub map_back : {A B : Type 0} (f : A → B) (xs : List A) (k : ℕ) (y : B) → slice_get (map f xs) k ≡ Some y →
+    (x : A) × (slice_get xs k ≡ Some x) × (y ≡ f x)
 map_back f [] k y at = cc
 map_back f (x ∷ xs) zero y at = (x, refl, (cc))
 map_back f (x ∷ xs) (suc k) y at = map_back f xs k y at

@@ -23,4 +23,7 @@ set_set (u ∷ ts) (suc i) m n = ap (λ xs. u ∷ xs) (set_set ts i m n)
 
 -- it is this place, or another
 pub same_number : (i j : ℕ) → (j ≡ i) ⊎ (j ≢ i)
-same_number i j = elim (Members.bool_cases (j == i)) [ inl e ↦ inl (grind (arith, nat_tests)) | inr e ↦ inr (λ k. grind (arith, nat_tests)) ]
+same_number i j = elim (Members.bool_cases (j == i)) [
+  | inl e ↦ inl (grind (arith, nat_tests))
+  | inr e ↦ inr (λ k. grind (arith, nat_tests))
+]

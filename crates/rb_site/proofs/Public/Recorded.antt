@@ -1,5 +1,6 @@
 -- What a recorded event is, and where a site goes on.
-use Rattle.std.proofs.Common.{◌≡◌, ℕ, zero, suc, Bool, true, false, cond, not, ◌&&◌, List, [], ◌∷◌, ◌++◌, refl, ap, sym, ◌∙◌, inl, inr, Option, Some, None, append_assoc}
+use Rattle.std.proofs.Common.{◌≡◌, ℕ, zero, suc, Bool, true, false, cond, not, ◌&&◌, List, [], ◌∷◌, ◌++◌, refl, ap, sym, ◌∙◌, inl, inr}
+use Rattle.std.proofs.Common.{Option, Some, None, append_assoc}
 use Rattle.std.specs.Prelude.{option_map, slice_get, slice_set, is_some}
 use Rattle.std.proofs.lemmas.List.{append-nil}
 use Rattle.rb_site.proofs.Public.Places.{get_set_other, get_set_same, same_number}
@@ -44,7 +45,8 @@ event_later s t e = elim (Members.bool_cases (is_full s t)) [
   | inr h ↦ (e ∷ [], noted_history s t e h)
 ]
 
-later_at : (s : Settings) (w : World) (i j : ℕ) (t : ModelSite) (e : Event) → slice_get w.sites i ≡ Some t → (o : Option ModelSite) → slice_get w.sites j ≡ o → Later (world_at s w j (Some e) o) i t
+later_at : (s : Settings) (w : World) (i j : ℕ) (t : ModelSite) (e : Event) → slice_get w.sites i ≡ Some t → (o : Option ModelSite) →
+    slice_get w.sites j ≡ o → Later (world_at s w j (Some e) o) i t
 later_at s w i j t e at None h = not_yet w i t at
 later_at s w i j t e at (Some u) h = elim (same_number j i) [
   | inl q ↦ (let same : t ≡ u = (let k : Some t ≡ Some u = sym at ∙ ap (slice_get w.sites) q ∙ h in cc) in
@@ -56,10 +58,17 @@ later_at s w i j t e at (Some u) h = elim (same_number j i) [
         me = me_after s u e ∙ ap (λ (v : ModelSite). v.me) (sym same);
         longer = m.1 ∙ ap (λ (v : ModelSite). v.history ++ m.0) (sym same);
       })
-  | inr ne ↦ record { site = t; at = get_set_other w.sites j i (after_event s u e) ne ∙ at; more = []; me = refl; longer = sym (append-nil t.history) }
+  | inr ne ↦ record {
+    site = t;
+    at = get_set_other w.sites j i (after_event s u e) ne ∙ at;
+    more = [];
+    me = refl;
+    longer = sym (append-nil t.history);
+  }
 ]
 
-later_event : (s : Settings) (w : World) (i : ℕ) (t : ModelSite) (e : WorldEvent) → slice_get w.sites i ≡ Some t → Later (world_after s w e) i t
+later_event : (s : Settings) (w : World) (i : ℕ) (t : ModelSite) (e : WorldEvent) → slice_get w.sites i ≡ Some t →
+    Later (world_after s w e) i t
 later_event s w i t (At j x) at = later_at s w i j t x at (slice_get w.sites j) refl
 later_event s w i t (Deliver j k) at = by (message_at w.messages k)
   where
@@ -67,12 +76,19 @@ later_event s w i t (Deliver j k) at = by (message_at w.messages k)
     by None = not_yet w i t at
     by (Some m) = later_at s w i j t (Receive m) at (slice_get w.sites j) refl
 
-pub later_all : (s : Settings) (es : List WorldEvent) (w : World) (i : ℕ) (t : ModelSite) → slice_get w.sites i ≡ Some t → Later (world_after_all s w es) i t
+pub later_all : (s : Settings) (es : List WorldEvent) (w : World) (i : ℕ) (t : ModelSite) → slice_get w.sites i ≡ Some t →
+    Later (world_after_all s w es) i t
 later_all s [] w i t at = not_yet w i t at
 later_all s (e ∷ es) w i t at =
     let one : Later (world_after s w e) i t = later_event s w i t e at in
     let rest : Later (world_after_all s (world_after s w e) es) i one.site = later_all s es (world_after s w e) i one.site one.at in
-    record { site = rest.site; at = rest.at; more = one.more ++ rest.more; me = rest.me ∙ one.me; longer = rest.longer ∙ ap (λ h. h ++ rest.more) one.longer ∙ append_assoc t.history one.more rest.more }
+    record {
+      site = rest.site;
+      at = rest.at;
+      more = one.more ++ rest.more;
+      me = rest.me ∙ one.me;
+      longer = rest.longer ∙ ap (λ h. h ++ rest.more) one.longer ∙ append_assoc t.history one.more rest.more;
+    }
 
 -- what a recorded event is
 pub record IsRecorded (s : Settings) (w : World) (e : WorldEvent) : Type 0 where
@@ -108,7 +124,8 @@ roomy s (Some t) h = (t, refl, not_true (is_full s t) h)
     not_true false k = refl
 
 pub is_recorded_event : (s : Settings) (w : World) (e : WorldEvent) → AreOwn (e ∷ []) → is_recorded s w e ≡ true → IsRecorded s w e
-is_recorded_event s w (At i x) own h = let (t, at, room) = roomy s (slice_get w.sites i) h in record { event = x; site = t; at = at; room = room; source = own_from w.messages x own.0; is = ap (world_at s w i (Some x)) at }
+is_recorded_event s w (At i x) own h = let (t, at, room) = roomy s (slice_get w.sites i) h in
+    record { event = x; site = t; at = at; room = room; source = own_from w.messages x own.0; is = ap (world_at s w i (Some x)) at }
 is_recorded_event s w (Deliver i k) own h = by (message_at w.messages k) refl h
   where
     first : (b c : Bool) → (b && c) ≡ true → b ≡ true
@@ -119,9 +136,18 @@ is_recorded_event s w (Deliver i k) own h = by (message_at w.messages k) refl h
     none true h = cc
     none false h = cc
 
-    by : (o : Option Message) → message_at w.messages k ≡ o → (is_recorded_at s (slice_get w.sites i) && is_some o) ≡ true → IsRecorded s w (Deliver i k)
+    by : (o : Option Message) → message_at w.messages k ≡ o → (is_recorded_at s (slice_get w.sites i) && is_some o) ≡ true →
+        IsRecorded s w (Deliver i k)
     by None e q = absurd (none (is_recorded_at s (slice_get w.sites i)) q)
-    by (Some m) e q = let (t, at, room) = roomy s (slice_get w.sites i) (first (is_recorded_at s (slice_get w.sites i)) true q) in record { event = Receive m; site = t; at = at; room = room; source = placed w.messages k m e; is = ap (λ o. world_at s w i (option_map Receive o) (slice_get w.sites i)) e ∙ ap (world_at s w i (Some (Receive m))) at }
+    by (Some m) e q = let (t, at, room) = roomy s (slice_get w.sites i) (first (is_recorded_at s (slice_get w.sites i)) true q) in
+        record {
+          event = Receive m;
+          site = t;
+          at = at;
+          room = room;
+          source = placed w.messages k m e;
+          is = ap (λ o. world_at s w i (option_map Receive o) (slice_get w.sites i)) e ∙ ap (world_at s w i (Some (Receive m))) at;
+        }
 
 pub split_own : (e : WorldEvent) (es : List WorldEvent) → AreOwn (e ∷ es) → AreOwn (e ∷ []) × AreOwn es
 split_own (At i x) es h = ((h.0, tt), h.1)

@@ -8,14 +8,17 @@ use Rattle.rb_site.specs.declared.event.Event.TheVariants.{Receive}
 use Rattle.rb_site.specs.declared.message.Message.{Message}
 use Rattle.rb_site.specs.declared.world_event.WorldEvent.{WorldEvent}
 use Rattle.rb_site.specs.declared.world_event.WorldEvent.TheVariants.{At, Deliver}
-use Rattle.rb_site.specs.Events.{Answers, Applies, Drops, Holds, Makes, MakesAll, ModelSite, Outcome, Passes, Refuses, Shows, Takes, after_event, after_events, changed, first_site, is_full, outcome_of, sent_by}
+use Rattle.rb_site.specs.Events.{Answers, Applies, Drops, Holds, Makes, MakesAll, ModelSite, Outcome, Passes, Refuses, Shows, Takes}
+use Rattle.rb_site.specs.Events.{after_event, after_events, changed, first_site, is_full, outcome_of, sent_by}
 use Rattle.rb_site.specs.Worlds.{World, is_recorded, is_recorded_at, message_at, world_after, world_after_all, world_at}
 
-pub after_events-append : (s : Settings) (es fs : List Event) (t : ModelSite) → after_events s t (es ++ fs) ≡ after_events s (after_events s t es) fs
+pub after_events-append : (s : Settings) (es fs : List Event) (t : ModelSite) →
+    after_events s t (es ++ fs) ≡ after_events s (after_events s t es) fs
 after_events-append s [] fs t = refl
 after_events-append s (e ∷ es) fs t = after_events-append s es fs (after_event s t e)
 
-pub world-append : (s : Settings) (es fs : List WorldEvent) (w : World) → world_after_all s w (es ++ fs) ≡ world_after_all s (world_after_all s w es) fs
+pub world-append : (s : Settings) (es fs : List WorldEvent) (w : World) →
+    world_after_all s w (es ++ fs) ≡ world_after_all s (world_after_all s w es) fs
 world-append s [] fs w = refl
 world-append s (e ∷ es) fs w = world-append s es fs (world_after s w e)
 
@@ -60,14 +63,16 @@ set-same [] i t h = refl
 set-same (u ∷ ts) zero t h = ap (λ x. x ∷ ts) (let e : t ≡ u = cc in e)
 set-same (u ∷ ts) (suc i) t h = ap (λ xs. u ∷ xs) (set-same ts i t h)
 
-unrecorded_at : (s : Settings) (w : World) (i : ℕ) (e : Event) (o : Option ModelSite) → slice_get w.sites i ≡ o → is_recorded_at s o ≡ false → world_at s w i (Some e) o ≡ w
+unrecorded_at : (s : Settings) (w : World) (i : ℕ) (e : Event) (o : Option ModelSite) → slice_get w.sites i ≡ o → is_recorded_at s o ≡ false
+    → world_at s w i (Some e) o ≡ w
 unrecorded_at s w i e None at h = refl
 unrecorded_at s w i e (Some t) at h = by (is_full s t) h
   where
     with_sites : List ModelSite → List Message → World
     with_sites ts ms = record { sites = ts; messages = ms }
 
-    by : (b : Bool) → not b ≡ false → with_sites (slice_set w.sites i (cond b t (noted s t e))) (w.messages ++ cond b [] (sent_by (outcome_of s t e))) ≡ w
+    by : (b : Bool) → not b ≡ false → with_sites (slice_set w.sites i (cond b t (noted s t e))) (w.messages
+        ++ cond b [] (sent_by (outcome_of s t e))) ≡ w
     by true q = ap (λ ts. with_sites ts (w.messages ++ [])) (set-same w.sites i t at) ∙ ap (with_sites w.sites) (append-nil w.messages)
     by false q = cc
 
@@ -80,6 +85,7 @@ unrecorded s w (Deliver i k) h = by (message_at w.messages k) h
     first true q = cc
     first false q = refl
 
-    by : (o : Option Message) → (is_recorded_at s (slice_get w.sites i) && is_some o) ≡ false → world_at s w i (option_map Receive o) (slice_get w.sites i) ≡ w
+    by : (o : Option Message) → (is_recorded_at s (slice_get w.sites i) && is_some o) ≡ false →
+        world_at s w i (option_map Receive o) (slice_get w.sites i) ≡ w
     by None q = refl
     by (Some m) q = unrecorded_at s w i (Receive m) (slice_get w.sites i) refl (first _ q)

@@ -1,5 +1,6 @@
 -- A site stays the run of its history.
-use Rattle.std.proofs.Common.{◌≡◌, suc, ◌+◌, ◌<◌, ◌≤◌, Bool, true, false, cond, List, [], ◌∷◌, ◌++◌, length, refl, ap, sym, ◌∙◌, arith, length-append, append_assoc}
+use Rattle.std.proofs.Common.{◌≡◌, suc, ◌+◌, ◌<◌, ◌≤◌, Bool, true, false, cond, List, [], ◌∷◌, ◌++◌, length, refl, ap, sym, ◌∙◌, arith}
+use Rattle.std.proofs.Common.{length-append, append_assoc}
 use Rattle.std.proofs.lemmas.Bool.Decides.{nat_tests}
 use Rattle.std.proofs.lemmas.List.{append-nil, length-map, map-append}
 use Rattle.rb_money.specs.Settings.{Settings}
@@ -39,7 +40,8 @@ settings-next x e = by (is_full x.settings (state_of x))
     by true = refl
     by false = refl
 
-pub replays-push : (s : Settings) (t : ModelSite) (xs : List Entry) (e : Event) → Replays s t xs → Replays s t (xs ++ entry e (reply_to s (after_events s t (events_of xs)) e) ∷ [])
+pub replays-push : (s : Settings) (t : ModelSite) (xs : List Entry) (e : Event) → Replays s t xs →
+    Replays s t (xs ++ entry e (reply_to s (after_events s t (events_of xs)) e) ∷ [])
 replays-push s t [] e h = (refl, tt)
 replays-push s t (x ∷ xs) e h = (h.0, replays-push s (after_event s t x.event) xs e h.1)
 
@@ -48,11 +50,13 @@ pub replayed-stepped : (x : SeenSite) (e : Event) → length x.entries < x.setti
 replayed-stepped x e room kept = record {
   within = kept.within;
   replays = replays-push x.settings (first_site x.me) x.entries e kept.replays;
-  room = let longer : length (x.entries ++ entry e (reply_to x.settings (state_of x) e) ∷ []) ≡ length x.entries + 1 = length-append x.entries _ in omega arith;
+  room = let longer : length (x.entries ++ entry e (reply_to x.settings (state_of x) e) ∷ []) ≡ length x.entries + 1 =
+      length-append x.entries _ in omega arith;
 }
 
 -- the history of the run is what was run
-pub history_of_run : (s : Settings) (t : ModelSite) (es : List Event) → length t.history + length es ≤ s.limits.history → (after_events s t es).history ≡ t.history ++ es
+pub history_of_run : (s : Settings) (t : ModelSite) (es : List Event) → length t.history + length es ≤ s.limits.history →
+    (after_events s t es).history ≡ t.history ++ es
 history_of_run s t [] room = sym (append-nil t.history)
 history_of_run s t (e ∷ es) room =
     let free : is_full s t ≡ false = grind (arith, nat_tests) in
@@ -81,7 +85,8 @@ me-state x = me_of_run x.settings (first_site x.me) (events_of x.entries)
 -- entries that replay are those of their events
 pub entries_replayed : (s : Settings) (t : ModelSite) (xs : List Entry) → Replays s t xs → with_replies s t (events_of xs) ≡ xs
 entries_replayed s t [] h = refl
-entries_replayed s t (x ∷ xs) h = ap (λ ys. entry x.event (reply_to s t x.event) ∷ ys) (entries_replayed s (after_event s t x.event) xs h.1) ∙ ap (λ r. entry x.event r ∷ xs) (sym h.0)
+entries_replayed s t (x ∷ xs) h = ap (λ ys. entry x.event (reply_to s t x.event) ∷ ys) (entries_replayed s (after_event s t x.event) xs h.1)
+    ∙ ap (λ r. entry x.event r ∷ xs) (sym h.0)
 
 -- the history of the model site is the site's
 pub entries-state : (x : SeenSite) → IsReplayed x → history_of x.settings (state_of x) ≡ x.entries
@@ -100,12 +105,14 @@ pub events_from : (s : Settings) (t : ModelSite) (es : List Event) → events_of
 events_from s t [] = refl
 events_from s t (e ∷ es) = ap (λ xs. e ∷ xs) (events_from s (after_event s t e) es)
 
-pub entries-append : (s : Settings) (t : ModelSite) (es fs : List Event) → with_replies s t (es ++ fs) ≡ with_replies s t es ++ with_replies s (after_events s t es) fs
+pub entries-append : (s : Settings) (t : ModelSite) (es fs : List Event) →
+    with_replies s t (es ++ fs) ≡ with_replies s t es ++ with_replies s (after_events s t es) fs
 entries-append s t [] fs = refl
 entries-append s t (e ∷ es) fs = ap (λ xs. entry e (reply_to s t e) ∷ xs) (entries-append s (after_event s t e) es fs)
 
 -- where a site goes on, its history does
-pub history-grown : (s : Settings) (t u : ModelSite) (more : List Event) → u.me ≡ t.me → u.history ≡ t.history ++ more → Runs.IsRunOfItsHistory s t → history_of s u ≡ history_of s t ++ with_replies s t more
+pub history-grown : (s : Settings) (t u : ModelSite) (more : List Event) → u.me ≡ t.me → u.history ≡ t.history ++ more →
+    Runs.IsRunOfItsHistory s t → history_of s u ≡ history_of s t ++ with_replies s t more
 history-grown s t u more me longer run =
     ap (λ i. with_replies s (first_site i) u.history) me
     ∙ ap (with_replies s (first_site t.me)) longer
@@ -113,5 +120,6 @@ history-grown s t u more me longer run =
     ∙ ap (λ v. history_of s t ++ with_replies s v more) run
 
 -- an event for which there is room adds its entry
-pub history-noted : (s : Settings) (t : ModelSite) (e : Event) → is_full s t ≡ false → Runs.IsRunOfItsHistory s t → history_of s (after_event s t e) ≡ history_of s t ++ entry e (reply_to s t e) ∷ []
+pub history-noted : (s : Settings) (t : ModelSite) (e : Event) → is_full s t ≡ false → Runs.IsRunOfItsHistory s t →
+    history_of s (after_event s t e) ≡ history_of s t ++ entry e (reply_to s t e) ∷ []
 history-noted s t e room run = history-grown s t (after_event s t e) (e ∷ []) (me_after s t e) (noted_history s t e room) run

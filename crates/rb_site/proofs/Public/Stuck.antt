@@ -1,5 +1,6 @@
 -- Histories that are stuck are not one world's.
-use Rattle.std.proofs.Common.{◌≡◌, ℕ, zero, suc, ◌+◌, List, [], ◌∷◌, ◌++◌, refl, ap, sym, ◌∙◌, arith, ◌⊎◌, inl, inr, subst, Option, Some, None, append_assoc}
+use Rattle.std.proofs.Common.{◌≡◌, ℕ, zero, suc, ◌+◌, List, [], ◌∷◌, ◌++◌, refl, ap, sym, ◌∙◌, arith, ◌⊎◌, inl, inr, subst, Option, Some}
+use Rattle.std.proofs.Common.{None, append_assoc}
 use Rattle.std.specs.Prelude.{map, slice_get, slice_set}
 use Rattle.std.specs.Option.{option_map}
 use Rattle.std.specs.List.{range_with_len}
@@ -14,7 +15,8 @@ use Rattle.rb_site.specs.declared.message.Message.{Message}
 use Rattle.rb_site.specs.declared.world_event.WorldEvent.{WorldEvent}
 use Rattle.rb_site.specs.Events.{ModelSite, after_event, after_events, first_site, reply_to, sent_at}
 use Rattle.rb_site.specs.Worlds.{AreOwn, World, first_world, is_recorded, world_after, world_after_all, world_of_run}
-use Rattle.rb_site.specs.Histories.{IsAmong, IsBlocked, IsCut, StuckIsFinal, IsFrom, with_replies, events_of, histories_of, history_of, site_of, sends_of}
+use Rattle.rb_site.specs.Histories.{IsAmong, IsBlocked, IsCut, StuckIsFinal, IsFrom, with_replies, events_of, histories_of, history_of}
+use Rattle.rb_site.specs.Histories.{site_of, sends_of}
 use Rattle.rb_site.proofs.Public.Runs
 use Rattle.rb_site.proofs.Public.Runs.{IsRunOfItsHistory}
 use Rattle.rb_site.proofs.Public.Recorded
@@ -38,13 +40,17 @@ among-cases m [] ns h = inr h
 among-cases m (n ∷ ms) ns (inl e) = inl (inl e)
 among-cases m (n ∷ ms) ns (inr h) = elim (among-cases m ms ns h) [ inl k ↦ inl (inr k) | inr k ↦ inr k ]
 
-pub sends-append : (s : Settings) (es fs : List Event) (t : ModelSite) → sends_of s t (es ++ fs) ≡ sends_of s t es ++ sends_of s (after_events s t es) fs
+pub sends-append : (s : Settings) (es fs : List Event) (t : ModelSite) →
+    sends_of s t (es ++ fs) ≡ sends_of s t es ++ sends_of s (after_events s t es) fs
 sends-append s [] fs t = refl
-sends-append s (e ∷ es) fs t = ap (λ ms. sent_at s t e ++ ms) (sends-append s es fs (after_event s t e)) ∙ sym (append_assoc (sent_at s t e) (sends_of s (after_event s t e) es) (sends_of s (after_events s (after_event s t e) es) fs))
+sends-append s (e ∷ es) fs t = ap (λ ms. sent_at s t e ++ ms) (sends-append s es fs (after_event s t e))
+    ∙ sym (append_assoc (sent_at s t e) (sends_of s (after_event s t e) es) (sends_of s (after_events s (after_event s t e) es) fs))
 
 -- a front sends no more
-front_sends : (s : Settings) (t : ModelSite) (h more : List Entry) (m : Message) → IsAmong m (sends_of s t (events_of h)) → IsAmong m (sends_of s t (events_of (h ++ more)))
-front_sends s t h more m k = subst (IsAmong m) (sym (ap (sends_of s t) (map-append (λ (x : Entry). x.event) h more) ∙ sends-append s (events_of h) (events_of more) t)) (among-left m (sends_of s t (events_of h)) _ k)
+front_sends : (s : Settings) (t : ModelSite) (h more : List Entry) (m : Message) → IsAmong m (sends_of s t (events_of h)) →
+    IsAmong m (sends_of s t (events_of (h ++ more)))
+front_sends s t h more m k = subst (IsAmong m) (sym (ap (sends_of s t) (map-append (λ (x : Entry). x.event) h more)
+    ∙ sends-append s (events_of h) (events_of more) t)) (among-left m (sends_of s t (events_of h)) _ k)
 
 -- ---- a world within the fronts
 
@@ -58,14 +64,19 @@ pub record IsWithinFront (s : Settings) (fronts : List (List Entry)) (i : ℕ) (
 
 pub record IsWithinFronts (s : Settings) (fronts : List (List Entry)) (w : World) : Type 0 where
   pub sites : (i : ℕ) (t : ModelSite) → slice_get w.sites i ≡ Some t → IsWithinFront s fronts i t
-  pub sent : (m : Message) → IsAmong m w.messages → (j : ℕ) × (f : List Entry) × (slice_get fronts j ≡ Some f) × IsAmong m (sends_of s (first_site j) (events_of f))
+  pub sent : (m : Message) → IsAmong m w.messages → (j : ℕ) × (f : List Entry) × (slice_get fronts j ≡ Some f)
+      × IsAmong m (sends_of s (first_site j) (events_of f))
 
 -- what a site sends next it sends in its front
-sent_in_front : (s : Settings) (t t1 : ModelSite) (i : ℕ) (e : Event) (x : Entry) (front more : List Entry) (m : Message) → t.me ≡ i → IsRunOfItsHistory s t → x.event ≡ e → front ≡ (history_of s t ++ x ∷ []) ++ more → IsAmong m (sent_at s t e) → IsAmong m (sends_of s (first_site i) (events_of front))
+sent_in_front : (s : Settings) (t t1 : ModelSite) (i : ℕ) (e : Event) (x : Entry) (front more : List Entry) (m : Message) → t.me ≡ i →
+    IsRunOfItsHistory s t → x.event ≡ e → front ≡ (history_of s t ++ x ∷ []) ++ more → IsAmong m (sent_at s t e) →
+    IsAmong m (sends_of s (first_site i) (events_of front))
 sent_in_front s t t1 i e x front more m me run ev is h =
     subst (λ f. IsAmong m (sends_of s (first_site i) (events_of f))) (sym is)
     (front_sends s (first_site i) (history_of s t ++ x ∷ []) more m
-    (subst (IsAmong m) (sym (ap (sends_of s (first_site i)) (map-append (λ (x : Entry). x.event) (history_of s t) (x ∷ []) ∙ ap (λ es. es ++ x.event ∷ []) (Seen.events_from s (first_site t.me) t.history)) ∙ sends-append s t.history (x.event ∷ []) (first_site i)))
+    (subst (IsAmong m) (sym (ap (sends_of s (first_site i)) (map-append (λ (x : Entry). x.event) (history_of s t) (x ∷ [])
+    ∙ ap (λ es. es ++ x.event ∷ []) (Seen.events_from s (first_site t.me) t.history))
+    ∙ sends-append s t.history (x.event ∷ []) (first_site i)))
     (among-right m (sends_of s (first_site i) t.history) _
     (subst (λ u. IsAmong m (sends_of s u (x.event ∷ []))) (sym (ap (λ j. after_events s (first_site j) t.history) (sym me) ∙ run))
     (subst (IsAmong m) (sym (append-nil (sent_at s t x.event))) (subst (λ e. IsAmong m (sent_at s t e)) (sym ev) h))))))
@@ -119,7 +130,8 @@ within_event s hs fronts w e es cut gives r g = subst (IsWithinFronts s fronts) 
     longer = Seen.history-grown s t1 last.site last.more last.me last.longer (Runs.run_goes_on s t r.event old.run)
 
     there : slice_get hs i ≡ Some whole
-    there = ap (λ ks. slice_get ks i) (sym gives) ∙ slice_get-map (history_of s) (world_after_all s (world_after s w e) es).sites i ∙ ap (option_map (history_of s)) last.at
+    there = ap (λ ks. slice_get ks i) (sym gives) ∙ slice_get-map (history_of s) (world_after_all s (world_after s w e) es).sites i
+        ∙ ap (option_map (history_of s)) last.at
 
     c : IsCut s fronts i whole
     c = cut i whole there
@@ -169,7 +181,8 @@ within_event s hs fronts w e es cut gives r g = subst (IsWithinFronts s fronts) 
       | inr ne ↦ g.sites j u (sym (get_set_other w.sites i j t1 ne) ∙ h)
     ]
 
-    sent : (m : Message) → IsAmong m (w.messages ++ sent_at s t r.event) → (j : ℕ) × (f : List Entry) × (slice_get fronts j ≡ Some f) × IsAmong m (sends_of s (first_site j) (events_of f))
+    sent : (m : Message) → IsAmong m (w.messages ++ sent_at s t r.event) →
+        (j : ℕ) × (f : List Entry) × (slice_get fronts j ≡ Some f) × IsAmong m (sends_of s (first_site j) (events_of f))
     sent m h = elim (among-cases m w.messages (sent_at s t r.event) h) [
       | inl k ↦ g.sent m k
       | inr k ↦ (i, old.front, old.there, sent_in_front s t t1 i r.event x old.front next.0 m old.me old.run refl front_is k)
@@ -177,7 +190,8 @@ within_event s hs fronts w e es cut gives r g = subst (IsWithinFronts s fronts) 
 
 within_all : (s : Settings) (hs fronts : List (List Entry)) (es : List WorldEvent) (w : World)
     → ((i : ℕ) (h : List Entry) → slice_get hs i ≡ Some h → IsCut s fronts i h)
-    → AreOwn es → histories_of s (world_after_all s w es) ≡ hs → IsWithinFronts s fronts w → IsWithinFronts s fronts (world_after_all s w es)
+    → AreOwn es → histories_of s (world_after_all s w es) ≡ hs → IsWithinFronts s fronts w →
+    IsWithinFronts s fronts (world_after_all s w es)
 within_all s hs fronts [] w cut own gives g = g
 within_all s hs fronts (e ∷ es) w cut own gives g =
     let owns : AreOwn (e ∷ []) × AreOwn es = Recorded.split_own e es own in
@@ -192,11 +206,14 @@ first_sites a (suc n) zero t h = let e : t ≡ first_site a = cc in e ∙ ap fir
 first_sites a (suc n) (suc i) t h = first_sites (a + 1) n i t h ∙ ap first_site (let q : (a + 1) + i ≡ a + suc i = omega arith in q)
 
 -- each site's history ends where its front does
-ends_at_front : (s : Settings) (hs fronts : List (List Entry)) (w : World) (i : ℕ) (h : List Entry) → IsWithinFronts s fronts w → histories_of s w ≡ hs → IsCut s fronts i h → slice_get hs i ≡ Some h → slice_get fronts i ≡ Some h
-ends_at_front s hs fronts w i h g gives c at = by (slice_get w.sites i) refl (sym (slice_get-map (history_of s) w.sites i) ∙ ap (λ ks. slice_get ks i) gives ∙ at)
+ends_at_front : (s : Settings) (hs fronts : List (List Entry)) (w : World) (i : ℕ) (h : List Entry) → IsWithinFronts s fronts w →
+    histories_of s w ≡ hs → IsCut s fronts i h → slice_get hs i ≡ Some h → slice_get fronts i ≡ Some h
+ends_at_front s hs fronts w i h g gives c at = by (slice_get w.sites i) refl (sym (slice_get-map (history_of s) w.sites i)
+    ∙ ap (λ ks. slice_get ks i) gives ∙ at)
   where
     nothing : (front h more rest : List Entry) → front ≡ h ++ more → h ≡ front ++ rest → rest ≡ []
-    nothing front h more rest e k = empty more rest (cancel h (more ++ rest) [] (sym (append_assoc h more rest) ∙ ap (λ f. f ++ rest) (sym e) ∙ sym k ∙ sym (append-nil h)))
+    nothing front h more rest e k = empty more rest (cancel h (more ++ rest) [] (sym (append_assoc h more rest)
+        ∙ ap (λ f. f ++ rest) (sym e) ∙ sym k ∙ sym (append-nil h)))
       where
         empty : (xs ys : List Entry) → xs ++ ys ≡ [] → ys ≡ []
         empty [] ys e = e
@@ -236,6 +253,7 @@ stuck_final s hs fronts stuck one =
     has : HasFronts s fronts
     has i t at =
         let last : Later (world_of_run s one.events) i t = Recorded.later_all s one.events (first_world s) i t at in
-        let there : slice_get hs i ≡ Some (history_of s last.site) = ap (λ ks. slice_get ks i) (sym one.gives) ∙ slice_get-map (history_of s) (world_of_run s one.events).sites i ∙ ap (option_map (history_of s)) last.at in
+        let there : slice_get hs i ≡ Some (history_of s last.site) = ap (λ ks. slice_get ks i) (sym one.gives)
+        ∙ slice_get-map (history_of s) (world_of_run s one.events).sites i ∙ ap (option_map (history_of s)) last.at in
         let c : IsCut s fronts i (history_of s last.site) = stuck.cut i (history_of s last.site) there in
         (c.front, c.there)

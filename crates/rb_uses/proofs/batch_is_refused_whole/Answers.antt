@@ -17,21 +17,25 @@ returns-in-Ok-clause-reply c =
 pub returns-in-Ok-clause-balance : goal.returns-in-Ok-clause-balance
 returns-in-Ok-clause-balance c =
     let requests : c.new.result ≡ Deposit ann c.args.deposited ∷ Withdraw ann c.args.withdrawn ∷ [] = search rules in
-    let then : c.step.new.self ≡ next_world (after []) (batch c.args.deposited c.args.withdrawn) = c.in-Ok.ensures.ok.1 ∙ ap₂ next_world c.in_ok-world.ensures (ap (λ rs. At 0 (Batch rs)) requests) in
+    let then : c.step.new.self ≡ next_world (after []) (batch c.args.deposited c.args.withdrawn) =
+    c.in-Ok.ensures.ok.1 ∙ ap₂ next_world c.in_ok-world.ensures (ap (λ rs. At 0 (Batch rs)) requests) in
     ap (λ (w : SeenWorld). balance_in w 0 ann) (sym then) ∙ c.balance.ensures
 
 pub returns-in-Ok-clause-sent : goal.returns-in-Ok-clause-sent
 returns-in-Ok-clause-sent c =
     let requests : c.new.result ≡ Deposit ann c.args.deposited ∷ Withdraw ann c.args.withdrawn ∷ [] = search rules in
-    let then : c.step.new.self ≡ next_world (after []) (batch c.args.deposited c.args.withdrawn) = c.in-Ok.ensures.ok.1 ∙ ap₂ next_world c.in_ok-world.ensures (ap (λ rs. At 0 (Batch rs)) requests) in
-    let sent : c.messages.result.now ≡ (after (batch c.args.deposited c.args.withdrawn ∷ [])).world.messages = c.messages.ensures.same ∙ ap (λ (w : SeenWorld). w.world.messages) then in
+    let then : c.step.new.self ≡ next_world (after []) (batch c.args.deposited c.args.withdrawn) =
+    c.in-Ok.ensures.ok.1 ∙ ap₂ next_world c.in_ok-world.ensures (ap (λ rs. At 0 (Batch rs)) requests) in
+    let sent : c.messages.result.now ≡ (after (batch c.args.deposited c.args.withdrawn ∷ [])).world.messages =
+    c.messages.ensures.same ∙ ap (λ (w : SeenWorld). w.world.messages) then in
     rw sent refl
 
 pub returns-in-Ok-clause-example : goal.returns-in-Ok-clause-example
 returns-in-Ok-clause-example c = λ deposited withdrawn.
     let requests : c.new.result ≡ Deposit ann c.args.deposited ∷ Withdraw ann c.args.withdrawn ∷ [] = search rules in
     let event = ap (λ rs. At 0 (Batch rs)) (requests ∙ ap₂ (λ d w. Deposit ann d ∷ Withdraw ann w ∷ []) deposited withdrawn) in
-    let then : c.step.new.self ≡ next_world (after []) (batch 50 2000) = c.in-Ok.ensures.ok.1 ∙ ap₂ next_world c.in_ok-world.ensures event in
+    let then : c.step.new.self ≡ next_world (after []) (batch 50 2000) = c.in-Ok.ensures.ok.1 ∙ ap₂ next_world c.in_ok-world.ensures event
+    in
     let reply = c.in-Ok.ensures.ok.0 ∙ ap₂ next_reply c.in_ok-world.ensures event ∙ batch_reply in
     let balance = same_Some _ _ (sym c.balance.ensures ∙ ap (λ (w : SeenWorld). balance_in w 0 ann) then ∙ batch_here) in
     let sent = ap length (c.messages.ensures.same ∙ ap (λ (w : SeenWorld). w.world.messages) then ∙ batch_sends) in

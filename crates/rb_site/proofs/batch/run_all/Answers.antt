@@ -33,8 +33,11 @@ requests-preserved c =
         added.tried c.args.scratch.now.ledger.now.entries vs tried,
         length-append vs (v ∷ []) ∙ ap (λ n. n + 1) count,
         λ known shows.
-            run_more c.args.scratch.now.ledger.now.settings c.requests.scratch.ledger.now.settings c.args.scratch.now.token.me c.requests.scratch.token.me c.args.scratch.now.ledger.now.entries c.requests.scratch.ledger.now.entries vs known c.args.requests.now c.requests.index _ v
-            c.requests-test.true c.requests.invariant.settings (ap (λ (t : TokenView). t.me) c.requests.invariant.token) tried.entries (runs known shows)
+            run_more c.args.scratch.now.ledger.now.settings c.requests.scratch.ledger.now.settings c.args.scratch.now.token.me
+            c.requests.scratch.token.me c.args.scratch.now.ledger.now.entries c.requests.scratch.ledger.now.entries vs known
+            c.args.requests.now c.requests.index _ v
+            c.requests-test.true c.requests.invariant.settings (ap (λ (t : TokenView). t.me) c.requests.invariant.token) tried.entries
+            (runs known shows)
             (makes known (subst (λ (t : TokenView). Shows t known) (sym c.requests.invariant.token) shows)),
       );
     }
@@ -46,9 +49,13 @@ returns-in-Err-clause-refused c =
     elim c.why_stopped.ensures [
       | inl e ↦ inl e.1
       | inr e ↦ inr (λ known shows.
-          run_stopped c.args.scratch.now.ledger.now.settings c.requests.scratch.ledger.now.settings c.args.scratch.now.token.me c.requests.scratch.token.me c.args.scratch.now.ledger.now.entries c.requests.scratch.ledger.now.entries vs known c.args.requests.now c.requests.index _ c.in-Err.fault
-          c.requests-test.true c.requests.invariant.settings (ap (λ (t : TokenView). t.me) c.requests.invariant.token) tried.entries (runs known shows)
-          (fault_made c.args.scratch.now.ledger.now.entries vs c.requests.scratch.ledger.now c.requests.scratch.undos.parts c.requests.scratch.token.me known c.args.requests.now _ c.in-Err.fault tried more c.requires.few
+          run_stopped c.args.scratch.now.ledger.now.settings c.requests.scratch.ledger.now.settings c.args.scratch.now.token.me
+          c.requests.scratch.token.me c.args.scratch.now.ledger.now.entries c.requests.scratch.ledger.now.entries vs known
+          c.args.requests.now c.requests.index _ c.in-Err.fault
+          c.requests-test.true c.requests.invariant.settings (ap (λ (t : TokenView). t.me) c.requests.invariant.token) tried.entries
+          (runs known shows)
+          (fault_made c.args.scratch.now.ledger.now.entries vs c.requests.scratch.ledger.now c.requests.scratch.undos.parts
+          c.requests.scratch.token.me known c.args.requests.now _ c.in-Err.fault tried more c.requires.few
           (c.in-Err.ensures.fault known (subst (λ (t : TokenView). Shows t known) (sym c.requests.invariant.token) shows)) e.0)
           ∙ ap Err (sym e.1))
     ]

@@ -16,5 +16,6 @@ invariant-requests l = record {
   made : (vs : List Shadow) × IsTried l.initial.scratch.ledger.now.entries vs l.scratch.ledger.now l.scratch.undos.parts
       × (length vs ≡ l.index)
       × ((known : Token) → Shows l.initial.scratch.token known
-      → batch_of l.initial.scratch.ledger.now.settings l.initial.scratch.token.me l.initial.scratch.ledger.now.entries known 0 (take l.index l.requests) ≡ Ok vs);
+      → batch_of l.initial.scratch.ledger.now.settings l.initial.scratch.token.me l.initial.scratch.ledger.now.entries known 0
+      (take l.index l.requests) ≡ Ok vs);
 }

@@ -14,5 +14,6 @@ loop-place-preserved c = (
       ∙ ap (λ n. map f (range_with_len 0 c.loop-place.place) ++ n ∷ []) (ap cents c.in-Some.ensures.sum)
       ∙ sym (map-range_with_len_more f 0 c.loop-place.place c.loop-place.place (omega arith)),
   c.push_reserved.ensures.len ∙ ap (λ n. n + 1) c.loop-place.invariant.1,
-  (let P : ℕ → Type 0 = λ n. length c.args.ledger.now.settings.starts ≤ n in subst P (sym c.push_reserved.ensures.capacity) c.loop-place.invariant.2),
+  (let P : ℕ → Type 0 = λ n. length c.args.ledger.now.settings.starts ≤ n in
+      subst P (sym c.push_reserved.ensures.capacity) c.loop-place.invariant.2),
 )

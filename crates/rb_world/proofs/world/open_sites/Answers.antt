@@ -16,7 +16,9 @@ loop-me-preserved g c = (
       ∙ ap (λ ts. ts ++ first_site c.loop-me.me ∷ []) c.loop-me.invariant.0
       ∙ sym (map-range_with_len_more first_site 0 c.loop-me.me c.loop-me.me (omega arith)),
   (let P : List SeenSite → Type 0 = λ xs. AreOf c.args.config.now xs in
-      subst P (sym c.push_reserved.ensures.items) (All-append (λ (x : SeenSite). x.settings ≡ c.args.config.now) c.loop-me.sites.items _ c.loop-me.invariant.1 (one_of c.args.config.now c.in-Ok.site (ap (λ (x : SeenSite). x.settings) c.in-Ok.ensures)))),
+      subst P (sym c.push_reserved.ensures.items) (All-append (λ (x : SeenSite). x.settings
+      ≡ c.args.config.now) c.loop-me.sites.items _ c.loop-me.invariant.1
+      (one_of c.args.config.now c.in-Ok.site (ap (λ (x : SeenSite). x.settings) c.in-Ok.ensures)))),
   c.push_reserved.ensures.len ∙ ap (λ n. n + 1) c.loop-me.invariant.2,
   (let P : ℕ → Type 0 = λ n. c.args.config.now.sites ≤ n in subst P (sym c.push_reserved.ensures.capacity) c.loop-me.invariant.3),
 )

@@ -23,7 +23,8 @@ map-id [] = refl
 map-id (x ∷ xs) = ap (λ ys. x ∷ ys) (map-id xs)
 
 history : (c : goal.After-close-entries) → c.self.inside.history.items ≡ history_of c.args.self.settings (state_of c.args.self)
-history c = sym (map-id c.self.inside.history.items) ∙ sym (Seen.entries-state _ (c.self.invariant.0).kept) ∙ ap (λ (x : SeenSite). history_of x.settings (state_of x)) c.self.view_is
+history c = sym (map-id c.self.inside.history.items) ∙ sym (Seen.entries-state _ (c.self.invariant.0).kept)
+    ∙ ap (λ (x : SeenSite). history_of x.settings (state_of x)) c.self.view_is
 
 pub returns : goal.returns
 returns c =

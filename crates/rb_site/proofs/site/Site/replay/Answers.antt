@@ -12,4 +12,6 @@ replayed (Err why) P e h = cc
 
 pub loop-event-preserved : goal.loop-event-preserved
 loop-event-preserved c =
-    sites_more (first_seen c.args.config.now c.args.me) c.args.events.now c.loop-event.event-index c.event-item.result c.loop-event.site c.step_as.new.self c.loop-event-test.true c.loop-event.invariant (replayed c.step_as.result _ (sym c.is_err.ensures.value ∙ c.if-is_err.false) c.step_as.ensures.ok ∙ ap (next_site c.loop-event.site) c.event-item.is)
+    sites_more (first_seen c.args.config.now c.args.me) c.args.events.now c.loop-event.event-index c.event-item.result c.loop-event.site
+    c.step_as.new.self c.loop-event-test.true c.loop-event.invariant (replayed c.step_as.result _ (sym c.is_err.ensures.value
+    ∙ c.if-is_err.false) c.step_as.ensures.ok ∙ ap (next_site c.loop-event.site) c.event-item.is)

@@ -18,34 +18,48 @@ pub returns-then-is_full-clause-ok : goal.returns-then-is_full-clause-ok
 returns-then-is_full-clause-ok g c =
     let full : is_full c.args.self.now.settings (state_of c.args.self.now) ≡ true = sym c.is_full.ensures ∙ c.if-is_full.true in (
       sym (ap (λ b. cond b c.args.self.now (stepped c.args.self.now c.args.event)) full),
-      sym (ap (λ b. cond b (Refused HistoryFull) (reply_of c.args.self.now.settings (state_of c.args.self.now).ops (outcome_of c.args.self.now.settings (state_of c.args.self.now) c.args.event))) full),
-      sym (append-nil c.args.sent.now.items) ∙ sym (ap (λ b. c.args.sent.now.items ++ cond b [] (sent_by (outcome_of c.args.self.now.settings (state_of c.args.self.now) c.args.event))) full),
+      sym (ap (λ b. cond b (Refused HistoryFull) (reply_of c.args.self.now.settings (state_of c.args.self.now).ops
+          (outcome_of c.args.self.now.settings (state_of c.args.self.now) c.args.event))) full),
+      sym (append-nil c.args.sent.now.items) ∙ sym (ap (λ b. c.args.sent.now.items
+          ++ cond b [] (sent_by (outcome_of c.args.self.now.settings (state_of c.args.self.now) c.args.event))) full),
     )
 
-the_step : (g : Over) (c : goal.After-push_reserved g) → IsStep (seen_as c.self.inside.state.settings c.self.inside.state.site.me (map g.E.KeepsEntry.entry c.self.inside.history.items)) c.act.new.self c.args.sent.now.items c.act.new.sent.items c.args.event c.in_ok-answer.answer
+the_step : (g : Over) (c : goal.After-push_reserved g) → IsStep (seen_as c.self.inside.state.settings c.self.inside.state.site.me
+    (map g.E.KeepsEntry.entry c.self.inside.history.items)) c.act.new.self c.args.sent.now.items c.act.new.sent.items c.args.event
+    c.in_ok-answer.answer
 the_step g c =
-    is_step c.KEEPS.result _ c.self.inside.state c.act.new.self c.args.sent.now.items c.act.new.sent.items c.args.event c.in_ok-answer.answer
+    is_step c.KEEPS.result _ c.self.inside.state c.act.new.self c.args.sent.now.items c.act.new.sent.items c.args.event
+    c.in_ok-answer.answer
     (ap (λ (x : SeenSite). is_full x.settings (state_of x)) c.self.view_is ∙ sym c.is_full.ensures ∙ c.if-is_full.false)
     c.self.invariant.0 c.in_ok-answer.ensures.ok
 
-the_pushed : (g : Over) (c : goal.After-push_reserved g) → seen_as c.act.new.self.settings c.act.new.self.site.me (map g.E.KeepsEntry.entry c.push_reserved.new.self.items) ≡ noted_in (seen_as c.self.inside.state.settings c.self.inside.state.site.me (map g.E.KeepsEntry.entry c.self.inside.history.items)) c.args.event c.in_ok-answer.answer.reply
+the_pushed : (g : Over) (c : goal.After-push_reserved g) → seen_as c.act.new.self.settings c.act.new.self.site.me
+    (map g.E.KeepsEntry.entry c.push_reserved.new.self.items) ≡ noted_in
+    (seen_as c.self.inside.state.settings c.self.inside.state.site.me (map g.E.KeepsEntry.entry c.self.inside.history.items)) c.args.event
+    c.in_ok-answer.answer.reply
 the_pushed g c =
-    seen_now _ c.act.new.self c.args.sent.now.items c.act.new.sent.items c.args.event c.in_ok-answer.answer (map g.E.KeepsEntry.entry c.push_reserved.new.self.items) (the_step g c) (me_kept c.KEEPS.result c.self.inside.state c.act.new.self c.args.sent.now.items c.act.new.sent.items _ c.in_ok-answer.answer c.in_ok-answer.ensures.ok)
+    seen_now _ c.act.new.self c.args.sent.now.items c.act.new.sent.items c.args.event c.in_ok-answer.answer
+    (map g.E.KeepsEntry.entry c.push_reserved.new.self.items) (the_step g c)
+    (me_kept c.KEEPS.result c.self.inside.state c.act.new.self c.args.sent.now.items c.act.new.sent.items _ c.in_ok-answer.answer
+    c.in_ok-answer.ensures.ok)
     (ap (map g.E.KeepsEntry.entry) c.push_reserved.ensures.items
     ∙ map-append g.E.KeepsEntry.entry c.reserve.new.self.items _
     ∙ ap (λ x. map g.E.KeepsEntry.entry c.reserve.new.self.items ++ x ∷ []) c.note.ensures
     ∙ ap (λ xs. map g.E.KeepsEntry.entry xs ++ entry c.args.event c.in_ok-answer.answer.reply ∷ []) c.in_ok-reserve.ensures.items)
 
-the_view : (g : Over) (c : goal.After-push_reserved g) → seen_as c.act.new.self.settings c.act.new.self.site.me (map g.E.KeepsEntry.entry c.push_reserved.new.self.items) ≡ next_site c.args.self.now c.args.event
+the_view : (g : Over) (c : goal.After-push_reserved g) → seen_as c.act.new.self.settings c.act.new.self.site.me
+    (map g.E.KeepsEntry.entry c.push_reserved.new.self.items) ≡ next_site c.args.self.now c.args.event
 the_view g c = the_pushed g c ∙ (the_step g c).seen ∙ ap (λ (x : SeenSite). next_site x c.args.event) c.self.view_is
 
 pub invariant_of-self-2 : goal.invariant_of-self-2
 invariant_of-self-2 g c = (
   let P : SeenSite → Type 0 = λ x. IsStanding x c.act.new.self in subst P (sym (the_pushed g c)) (the_step g c).standing,
-  still_enough c.grow.new.self c.KEEPS.result c.self.inside.state c.act.new.self c.args.sent.now.items c.act.new.sent.items (outcome_of c.self.inside.state.settings c.self.inside.state.site c.args.event) c.in_ok-answer.answer c.in_ok-answer.ensures.ok
+  still_enough c.grow.new.self c.KEEPS.result c.self.inside.state c.act.new.self c.args.sent.now.items c.act.new.sent.items
+      (outcome_of c.self.inside.state.settings c.self.inside.state.site c.args.event) c.in_ok-answer.answer c.in_ok-answer.ensures.ok
       (sends_few c.self.inside.state.settings c.self.inside.state.site c.args.event)
       (subst (λ n. length c.self.inside.state.settings.starts ≤ n) (sym c.grow.ensures.accounts) (c.self.invariant.1).accounts)
-      (subst (λ n. n + MOST_REQUESTS ≤ c.grow.new.self.entries) (c.len.ensures.same ∙ ap length c.ledger.ensures.entries) c.in_ok-grow.ensures.ok),
+      (subst (λ n. n + MOST_REQUESTS ≤ c.grow.new.self.entries) (c.len.ensures.same
+      ∙ ap length c.ledger.ensures.entries) c.in_ok-grow.ensures.ok),
 )
 
 pub returns-clause-ok : goal.returns-clause-ok

@@ -9,47 +9,70 @@ use Rattle.rb_site.proofs.Handlers.{AnswersAlone, applies, drops, held_sound, no
 use Rattle.rb_site.proofs.state.State.apply.Goals as goal
 
 pub invariant_of-self : goal.invariant_of-self
-invariant_of-self c = tied_without c.self.inside.journal.settings c.apply.new.self.settings c.self.inside.inbox c.remove.new.self c.self.inside.token c.in-Some.held.now.name (ap (λ (b : SeenLedger). b.settings) c.in-Ok.ensures.applied) c.remove.ensures c.self.invariant
+invariant_of-self c = tied_without c.self.inside.journal.settings c.apply.new.self.settings c.self.inside.inbox c.remove.new.self
+    c.self.inside.token c.in-Some.held.now.name (ap (λ (b : SeenLedger). b.settings) c.in-Ok.ensures.applied) c.remove.ensures
+    c.self.invariant
 
 pub returns-in-Ok-clause-ok : goal.returns-in-Ok-clause-ok
 returns-in-Ok-clause-ok c =
-    let now : SiteState = state_as c.apply.new.self.settings c.self.inside.token.me c.apply.new.self.ops c.remove.new.self.held c.self.inside.token.token in
+    let now : SiteState = state_as c.apply.new.self.settings c.self.inside.token.me c.apply.new.self.ops c.remove.new.self.held
+    c.self.inside.token.token in
     let P : SiteState → Type 0 = λ z. AnswersAlone z now (outcome_of z.settings z.site (Apply c.args.name)) c.plain-in-Ok.result in
     subst P c.self.view_is
-    (let old : SiteState = state_as c.self.inside.journal.settings c.self.inside.token.me c.self.inside.journal.ops c.self.inside.inbox.held c.self.inside.token.token in
-    let Q : Settings → Type 0 = λ s. AnswersAlone old (state_as s c.self.inside.token.me c.apply.new.self.ops c.remove.new.self.held c.self.inside.token.token) (outcome_of old.settings old.site (Apply c.args.name)) c.plain-in-Ok.result in
+    (let old : SiteState = state_as c.self.inside.journal.settings c.self.inside.token.me c.self.inside.journal.ops c.self.inside.inbox.held
+    c.self.inside.token.token in
+    let Q : Settings → Type 0 = λ s. AnswersAlone old (state_as s c.self.inside.token.me c.apply.new.self.ops c.remove.new.self.held
+    c.self.inside.token.token) (outcome_of old.settings old.site (Apply c.args.name)) c.plain-in-Ok.result in
     subst Q (sym (ap (λ (b : SeenLedger). b.settings) c.in-Ok.ensures.applied))
-    (applies c.self.inside.journal.settings c.self.inside.token.me c.self.inside.journal.ops c.self.inside.inbox.held c.apply.new.self.ops c.remove.new.self.held c.self.inside.token.token c.args.name c.in-Some.held.now c.plain-in-Ok.result
+    (applies c.self.inside.journal.settings c.self.inside.token.me c.self.inside.journal.ops c.self.inside.inbox.held c.apply.new.self.ops
+    c.remove.new.self.held c.self.inside.token.token c.args.name c.in-Some.held.now c.plain-in-Ok.result
     (sym c.in-Some.ensures) (sym c.is_eligible.ensures ∙ c.if-not-is_eligible.false)
-    (held_sound c.self.inside.journal.settings c.self.inside.inbox.held c.args.name c.in-Some.held.now c.self.invariant.sound (sym c.in-Some.ensures))
-    c.in-Ok.ensures.taken (ap (λ (b : SeenLedger). b.ops) c.in-Ok.ensures.applied) (ap (λ (b : Holding). b.held) c.remove.ensures) c.plain-in-Ok.ensures))
+    (held_sound c.self.inside.journal.settings c.self.inside.inbox.held c.args.name c.in-Some.held.now c.self.invariant.sound
+    (sym c.in-Some.ensures))
+    c.in-Ok.ensures.taken (ap (λ (b : SeenLedger). b.ops) c.in-Ok.ensures.applied) (ap (λ (b : Holding). b.held) c.remove.ensures)
+    c.plain-in-Ok.ensures))
 
 pub invariant_of-self-in_default-why : goal.invariant_of-self-in_default-why
-invariant_of-self-in_default-why c = tied_without c.self.inside.journal.settings c.apply.new.self.settings c.self.inside.inbox c.remove-in_default-why.new.self c.self.inside.token c.in-Some.held.now.name (ap (λ (b : SeenLedger). b.settings) c.in-Err.ensures.refused.0) c.remove-in_default-why.ensures c.self.invariant
+invariant_of-self-in_default-why c = tied_without c.self.inside.journal.settings c.apply.new.self.settings c.self.inside.inbox
+    c.remove-in_default-why.new.self c.self.inside.token c.in-Some.held.now.name
+    (ap (λ (b : SeenLedger). b.settings) c.in-Err.ensures.refused.0) c.remove-in_default-why.ensures c.self.invariant
 
 pub returns-in-NotReady-clause-ok : goal.returns-in-NotReady-clause-ok
 returns-in-NotReady-clause-ok c =
-    let now : SiteState = state_as c.apply.new.self.settings c.self.inside.token.me c.apply.new.self.ops c.self.inside.inbox.held c.self.inside.token.token in
+    let now : SiteState = state_as c.apply.new.self.settings c.self.inside.token.me c.apply.new.self.ops c.self.inside.inbox.held
+    c.self.inside.token.token in
     let P : SiteState → Type 0 = λ z. AnswersAlone z now (outcome_of z.settings z.site (Apply c.args.name)) c.plain-in-NotReady.result in
     subst P c.self.view_is
-    (let old : SiteState = state_as c.self.inside.journal.settings c.self.inside.token.me c.self.inside.journal.ops c.self.inside.inbox.held c.self.inside.token.token in
-    let Q : SeenLedger → Type 0 = λ b. AnswersAlone old (state_as b.settings c.self.inside.token.me b.ops c.self.inside.inbox.held c.self.inside.token.token) (outcome_of old.settings old.site (Apply c.args.name)) c.plain-in-NotReady.result in
+    (let old : SiteState = state_as c.self.inside.journal.settings c.self.inside.token.me c.self.inside.journal.ops c.self.inside.inbox.held
+    c.self.inside.token.token in
+    let Q : SeenLedger → Type 0 = λ b. AnswersAlone old (state_as b.settings c.self.inside.token.me b.ops c.self.inside.inbox.held
+    c.self.inside.token.token) (outcome_of old.settings old.site (Apply c.args.name)) c.plain-in-NotReady.result in
     subst Q (sym c.in-Err.ensures.refused.0)
-    (waits c.self.inside.journal.settings c.self.inside.token.me c.self.inside.journal.ops c.self.inside.inbox.held c.self.inside.token.token c.args.name c.in-Some.held.now c.plain-in-NotReady.result
+    (waits c.self.inside.journal.settings c.self.inside.token.me c.self.inside.journal.ops c.self.inside.inbox.held
+    c.self.inside.token.token c.args.name c.in-Some.held.now c.plain-in-NotReady.result
     (sym c.in-Some.ensures) (sym c.is_eligible.ensures ∙ c.if-not-is_eligible.false)
-    (held_sound c.self.inside.journal.settings c.self.inside.inbox.held c.args.name c.in-Some.held.now c.self.invariant.sound (sym c.in-Some.ensures))
-    (refusal_is c.in-Err.why _ c.in-Err.ensures.refused.1 (not_memory c.in-Err.why c.in-NotReady.is) ∙ ap Some c.in-NotReady.is) c.plain-in-NotReady.ensures))
+    (held_sound c.self.inside.journal.settings c.self.inside.inbox.held c.args.name c.in-Some.held.now c.self.invariant.sound
+    (sym c.in-Some.ensures))
+    (refusal_is c.in-Err.why _ c.in-Err.ensures.refused.1 (not_memory c.in-Err.why c.in-NotReady.is)
+    ∙ ap Some c.in-NotReady.is) c.plain-in-NotReady.ensures))
 
 pub returns-in_default-why-clause-ok : goal.returns-in_default-why-clause-ok
 returns-in_default-why-clause-ok c =
-    let now : SiteState = state_as c.apply.new.self.settings c.self.inside.token.me c.apply.new.self.ops c.remove-in_default-why.new.self.held c.self.inside.token.token in
+    let now : SiteState = state_as c.apply.new.self.settings c.self.inside.token.me c.apply.new.self.ops
+    c.remove-in_default-why.new.self.held c.self.inside.token.token in
     let P : SiteState → Type 0 = λ z. AnswersAlone z now (outcome_of z.settings z.site (Apply c.args.name)) c.plain-in_default-why.result in
     subst P c.self.view_is
-    (let old : SiteState = state_as c.self.inside.journal.settings c.self.inside.token.me c.self.inside.journal.ops c.self.inside.inbox.held c.self.inside.token.token in
-    let Q : SeenLedger → Type 0 = λ b. AnswersAlone old (state_as b.settings c.self.inside.token.me b.ops c.remove-in_default-why.new.self.held c.self.inside.token.token) (outcome_of old.settings old.site (Apply c.args.name)) c.plain-in_default-why.result in
+    (let old : SiteState = state_as c.self.inside.journal.settings c.self.inside.token.me c.self.inside.journal.ops c.self.inside.inbox.held
+    c.self.inside.token.token in
+    let Q : SeenLedger → Type 0 = λ b. AnswersAlone old (state_as b.settings c.self.inside.token.me b.ops
+    c.remove-in_default-why.new.self.held c.self.inside.token.token) (outcome_of old.settings old.site (Apply c.args.name))
+    c.plain-in_default-why.result in
     subst Q (sym c.in-Err.ensures.refused.0)
-    (drops c.self.inside.journal.settings c.self.inside.token.me c.self.inside.journal.ops c.self.inside.inbox.held c.remove-in_default-why.new.self.held c.self.inside.token.token c.args.name c.in-Some.held.now c.in-Err.why c.plain-in_default-why.result
+    (drops c.self.inside.journal.settings c.self.inside.token.me c.self.inside.journal.ops c.self.inside.inbox.held
+    c.remove-in_default-why.new.self.held c.self.inside.token.token c.args.name c.in-Some.held.now c.in-Err.why
+    c.plain-in_default-why.result
     (sym c.in-Some.ensures) (sym c.is_eligible.ensures ∙ c.if-not-is_eligible.false)
-    (held_sound c.self.inside.journal.settings c.self.inside.inbox.held c.args.name c.in-Some.held.now c.self.invariant.sound (sym c.in-Some.ensures))
+    (held_sound c.self.inside.journal.settings c.self.inside.inbox.held c.args.name c.in-Some.held.now c.self.invariant.sound
+    (sym c.in-Some.ensures))
     (refusal_is c.in-Err.why _ c.in-Err.ensures.refused.1 c.in_default-why.not-OutOfMemory) c.in_default-why.not-NotReady
     (ap (λ (b : Holding). b.held) c.remove-in_default-why.ensures) c.plain-in_default-why.ensures))

@@ -12,39 +12,62 @@ use Rattle.rb_site.proofs.state.State.batch.Goals as goal
 -- a refusal sends nothing, for any history
 pub returns-then-not-is_batch-clause-ok : goal.returns-then-not-is_batch-clause-ok
 returns-then-not-is_batch-clause-ok c =
-    let size : is_of_size c.args.requests.now ≡ false = ap is_of_size (sym c.as_slice-asked.ensures) ∙ sym c.is_batch.ensures ∙ c.if-not-is_batch.true in
-    follows_plain c.args.keeps c.args.self.now c.args.self.now c.args.sent.now.items (outcome_of c.args.self.now.settings c.args.self.now.site (Batch c.args.requests.now)) c.plain.result
+    let size : is_of_size c.args.requests.now ≡ false = ap is_of_size (sym c.as_slice-asked.ensures) ∙ sym c.is_batch.ensures
+    ∙ c.if-not-is_batch.true in
+    follows_plain c.args.keeps c.args.self.now c.args.self.now c.args.sent.now.items
+    (outcome_of c.args.self.now.settings c.args.self.now.site (Batch c.args.requests.now)) c.plain.result
     (refuses_size c.args.self.now c.args.requests.now c.plain.result size c.plain.ensures)
 
 pub returns-in-Ok-clause-ok : goal.returns-in-Ok-clause-ok
 returns-in-Ok-clause-ok c =
     let (vs, grown, says, posted, runs) = c.in-Ok.ensures.made in
-    let size : is_of_size c.args.requests.now ≡ true = ap is_of_size (sym c.as_slice-asked.ensures) ∙ sym c.is_batch.ensures ∙ c.if-not-is_batch.false in
-    let made : batch_of c.self.inside.journal.settings c.self.inside.token.me c.self.inside.journal.ops c.self.inside.token.token 0 c.args.requests.now ≡ Ok vs =
-    ap (λ i. batch_of c.self.inside.journal.settings i c.self.inside.journal.ops c.self.inside.token.token 0 c.args.requests.now) (sym c.view-token.ensures.me)
-    ∙ ap (batch_of c.self.inside.journal.settings c.view-token.result.me c.self.inside.journal.ops c.self.inside.token.token 0) (sym c.as_slice-asked.ensures)
+    let size : is_of_size c.args.requests.now ≡ true = ap is_of_size (sym c.as_slice-asked.ensures) ∙ sym c.is_batch.ensures
+    ∙ c.if-not-is_batch.false in
+    let made : batch_of c.self.inside.journal.settings c.self.inside.token.me c.self.inside.journal.ops c.self.inside.token.token 0
+    c.args.requests.now ≡ Ok vs =
+    ap (λ i. batch_of c.self.inside.journal.settings i c.self.inside.journal.ops c.self.inside.token.token 0 c.args.requests.now)
+    (sym c.view-token.ensures.me)
+    ∙ ap (batch_of c.self.inside.journal.settings c.view-token.result.me c.self.inside.journal.ops c.self.inside.token.token 0)
+    (sym c.as_slice-asked.ensures)
     ∙ runs c.self.inside.token.token c.view-token.ensures.shows in
-    let P : SiteState → Type 0 = λ z. Follows c.args.keeps z (state_as c.batch.new.self.settings c.self.inside.token.me c.batch.new.self.ops c.self.inside.inbox.held c.self.inside.token.token) c.args.sent.now.items c.batch.new.sent.items (outcome_of z.settings z.site (Batch c.args.requests.now)) c.in-Ok.answer in
+    let P : SiteState → Type 0 = λ z. Follows c.args.keeps z (state_as c.batch.new.self.settings c.self.inside.token.me c.batch.new.self.ops
+    c.self.inside.inbox.held c.self.inside.token.token) c.args.sent.now.items c.batch.new.sent.items
+    (outcome_of z.settings z.site (Batch c.args.requests.now)) c.in-Ok.answer in
     subst P c.self.view_is
-    (let old : SiteState = state_as c.self.inside.journal.settings c.self.inside.token.me c.self.inside.journal.ops c.self.inside.inbox.held c.self.inside.token.token in
-    let Q : SeenLedger → Type 0 = λ b. Follows c.args.keeps old (state_as b.settings c.self.inside.token.me b.ops c.self.inside.inbox.held c.self.inside.token.token) c.args.sent.now.items c.batch.new.sent.items (outcome_of old.settings old.site (Batch c.args.requests.now)) c.in-Ok.answer in
+    (let old : SiteState = state_as c.self.inside.journal.settings c.self.inside.token.me c.self.inside.journal.ops c.self.inside.inbox.held
+    c.self.inside.token.token in
+    let Q : SeenLedger → Type 0 = λ b. Follows c.args.keeps old (state_as b.settings c.self.inside.token.me b.ops c.self.inside.inbox.held
+    c.self.inside.token.token) c.args.sent.now.items c.batch.new.sent.items
+    (outcome_of old.settings old.site (Batch c.args.requests.now)) c.in-Ok.answer in
     subst Q (sym grown)
-    (makes_batch c.args.keeps c.self.inside.journal.settings c.self.inside.token.me c.self.inside.journal.ops c.self.inside.inbox.held c.self.inside.token.token c.args.requests.now vs c.args.sent.now.items c.batch.new.sent.items c.in-Ok.answer size made says posted))
+    (makes_batch c.args.keeps c.self.inside.journal.settings c.self.inside.token.me c.self.inside.journal.ops c.self.inside.inbox.held
+    c.self.inside.token.token c.args.requests.now vs c.args.sent.now.items c.batch.new.sent.items c.in-Ok.answer size made says posted))
 
 pub returns-clause-ok : goal.returns-clause-ok
 returns-clause-ok c =
-    let size : is_of_size c.args.requests.now ≡ true = ap is_of_size (sym c.as_slice-asked.ensures) ∙ sym c.is_batch.ensures ∙ c.if-not-is_batch.false in
-    let refused : batch_of c.self.inside.journal.settings c.self.inside.token.me c.self.inside.journal.ops c.self.inside.token.token 0 c.args.requests.now ≡ Err c.in-Err.why =
-    ap (λ i. batch_of c.self.inside.journal.settings i c.self.inside.journal.ops c.self.inside.token.token 0 c.args.requests.now) (sym c.view-token.ensures.me)
-    ∙ ap (batch_of c.self.inside.journal.settings c.view-token.result.me c.self.inside.journal.ops c.self.inside.token.token 0) (sym c.as_slice-asked.ensures)
-    ∙ refused_batch c.in-Err.why _ c.in-Err.ensures.refused.2 c.in_default.not-OutOfMemory c.self.inside.token.token c.view-token.ensures.shows in
-    let now : SeenLedger → SiteState = λ b. state_as b.settings c.self.inside.token.me b.ops c.self.inside.inbox.held c.self.inside.token.token in
-    let P : SiteState → Type 0 = λ z. Follows c.args.keeps z (now c.batch.new.self) c.args.sent.now.items c.batch.new.sent.items (outcome_of z.settings z.site (Batch c.args.requests.now)) c.plain-2.result in
+    let size : is_of_size c.args.requests.now ≡ true = ap is_of_size (sym c.as_slice-asked.ensures) ∙ sym c.is_batch.ensures
+    ∙ c.if-not-is_batch.false in
+    let refused : batch_of c.self.inside.journal.settings c.self.inside.token.me c.self.inside.journal.ops c.self.inside.token.token 0
+    c.args.requests.now ≡ Err c.in-Err.why =
+    ap (λ i. batch_of c.self.inside.journal.settings i c.self.inside.journal.ops c.self.inside.token.token 0 c.args.requests.now)
+    (sym c.view-token.ensures.me)
+    ∙ ap (batch_of c.self.inside.journal.settings c.view-token.result.me c.self.inside.journal.ops c.self.inside.token.token 0)
+    (sym c.as_slice-asked.ensures)
+    ∙ refused_batch c.in-Err.why _ c.in-Err.ensures.refused.2 c.in_default.not-OutOfMemory c.self.inside.token.token
+    c.view-token.ensures.shows in
+    let now : SeenLedger → SiteState = λ b. state_as b.settings c.self.inside.token.me b.ops c.self.inside.inbox.held
+    c.self.inside.token.token in
+    let P : SiteState → Type 0 = λ z. Follows c.args.keeps z (now c.batch.new.self) c.args.sent.now.items c.batch.new.sent.items
+    (outcome_of z.settings z.site (Batch c.args.requests.now)) c.plain-2.result in
     let old : SiteState = now c.self.inside.journal in
-    let Q : SeenLedger → Type 0 = λ b. Follows c.args.keeps old (now b) c.args.sent.now.items c.batch.new.sent.items (outcome_of old.settings old.site (Batch c.args.requests.now)) c.plain-2.result in
-    let R : List Message → Type 0 = λ ms. Follows c.args.keeps old old c.args.sent.now.items ms (outcome_of old.settings old.site (Batch c.args.requests.now)) c.plain-2.result in
+    let Q : SeenLedger → Type 0 = λ b. Follows c.args.keeps old (now b) c.args.sent.now.items c.batch.new.sent.items
+    (outcome_of old.settings old.site (Batch c.args.requests.now)) c.plain-2.result in
+    let R : List Message → Type 0 = λ ms. Follows c.args.keeps old old c.args.sent.now.items ms
+    (outcome_of old.settings old.site (Batch c.args.requests.now)) c.plain-2.result in
     subst P c.self.view_is
     (subst Q (sym c.in-Err.ensures.refused.0)
     (subst R (sym c.in-Err.ensures.refused.1)
-    (follows_plain c.args.keeps old old c.args.sent.now.items (outcome_of old.settings old.site (Batch c.args.requests.now)) c.plain-2.result
-    (refuses_batch c.self.inside.journal.settings c.self.inside.token.me c.self.inside.journal.ops c.self.inside.inbox.held c.self.inside.token.token c.args.requests.now c.in-Err.why c.plain-2.result size refused c.plain-2.ensures))))
+    (follows_plain c.args.keeps old old c.args.sent.now.items (outcome_of old.settings old.site (Batch c.args.requests.now))
+    c.plain-2.result
+    (refuses_batch c.self.inside.journal.settings c.self.inside.token.me c.self.inside.journal.ops c.self.inside.inbox.held
+    c.self.inside.token.token c.args.requests.now c.in-Err.why c.plain-2.result size refused c.plain-2.ensures))))

@@ -16,7 +16,9 @@ sites-init c =
     let settings : c.self.inside.config ≡ c.args.self.settings = ap (λ (w : SeenWorld). w.settings) c.self.view_is in (
       (let P : List SiteReport → Type 0 = λ rs. IsClosing c.args.self.settings c.args.self.world.sites rs c.self.inside.sites.items in
           subst P (sym none)
-          (closing-first c.args.self.settings c.args.self.world.sites c.self.inside.sites.items (ap (λ (w : SeenWorld). w.world.sites) c.self.view_is) (subst (λ s. AreOf s c.self.inside.sites.items) settings c.self.invariant.1))),
+          (closing-first c.args.self.settings c.args.self.world.sites c.self.inside.sites.items
+          (ap (λ (w : SeenWorld). w.world.sites) c.self.view_is) (subst (λ s. AreOf s c.self.inside.sites.items) settings
+          c.self.invariant.1))),
       omega arith,
     )
 
@@ -28,7 +30,8 @@ sites-preserved c =
     let fewer : vec_len c.pop.new.self + 1 ≡ vec_len c.sites.sites = c.in-Some.ensures.cases in (
       (let P : List SiteReport → Type 0 = λ rs. IsClosing c.args.self.settings c.args.self.world.sites rs c.pop.new.self.items in
           subst P (sym c.push_reserved.ensures.items)
-          (closing-next c.args.self.settings c.args.self.world.sites c.sites.sites.items c.pop.new.self.items c.sites.reports.items c.in-Some.site c.close.result c.in-Some.ensures.items c.sites.invariant.0 c.close.ensures)),
+          (closing-next c.args.self.settings c.args.self.world.sites c.sites.sites.items c.pop.new.self.items c.sites.reports.items
+          c.in-Some.site c.close.result c.in-Some.ensures.items c.sites.invariant.0 c.close.ensures)),
       omega arith,
     )
 
@@ -37,4 +40,5 @@ returns c =
     let none : vec_len c.sites.sites ≡ 0 = c.in_default.ensures.cases.0 in
     let P : List SiteReport → Type 0 = λ rs. AreReports c.args.self.settings c.args.self.world.sites rs in
     subst P (sym c.reverse.ensures.items)
-    (closing-whole c.args.self.settings c.args.self.world.sites c.sites.reports.items c.sites.sites.items (sym c.sites.sites.ok.0 ∙ none) c.sites.invariant.0)
+    (closing-whole c.args.self.settings c.args.self.world.sites c.sites.reports.items c.sites.sites.items (sym c.sites.sites.ok.0
+    ∙ none) c.sites.invariant.0)

@@ -15,7 +15,8 @@ some_there None h = cc
 
 pub returns-then-full-clause-ok : goal.returns-then-full-clause-ok
 returns-then-full-clause-ok g c =
-    let there : (e : Event) × (arrival c.args.self.now.world.messages c.args.event ≡ Some e) = some_there _ (sym c.is_there.ensures ∙ c.if-not-is_there.false) in
+    let there : (e : Event) × (arrival c.args.self.now.world.messages c.args.event ≡ Some e) =
+    some_there _ (sym c.is_there.ensures ∙ c.if-not-is_there.false) in
     full_step c.args.self.now c.args.event there.0 (state_of c.in-Some.site.now) there.1
     (ap (slice_get c.args.self.now.world.sites) (sym c.site-number.ensures) ∙ sym c.in-Some.ensures.state)
     (ap (λ z. is_full z (state_of c.in-Some.site.now)) (sym c.in-Some.ensures.settings) ∙ sym c.is_full-full.ensures ∙ c.if-full.true)
