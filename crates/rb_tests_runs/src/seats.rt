@@ -112,7 +112,7 @@ fn take_in<W: Wait>(
 
 /// What a command is at a seat.
 #[derive(Drop)]
-enum Asked {
+enum Step {
     At(u8, Event),
     /// A message is to be delivered that a link refused.
     Lost,
@@ -120,18 +120,18 @@ enum Asked {
     Unsent,
 }
 
-fn asked(command: WorldEvent, sent: &[Option<Message>]) -> Asked {
+fn step_of(command: WorldEvent, sent: &[Option<Message>]) -> Step {
     let (site, number) = match command {
-        WorldEvent::At(site, event) => return Asked::At(site, event),
+        WorldEvent::At(site, event) => return Step::At(site, event),
         WorldEvent::Deliver(site, number) => (site, number as usize),
     };
     if number == 0 {
-        return Asked::Unsent;
+        return Step::Unsent;
     }
     match sent.get(number - 1) {
-        Some(Some(message)) => Asked::At(site, Event::Receive(*message)),
-        Some(None) => Asked::Lost,
-        None => Asked::Unsent,
+        Some(Some(message)) => Step::At(site, Event::Receive(*message)),
+        Some(None) => Step::Lost,
+        None => Step::Unsent,
     }
 }
 
@@ -169,13 +169,13 @@ impl<E: Entries, R: Ledger> Desks<E, R> {
         command: WorldEvent,
         wanted: &str,
     ) -> Result<bool, Fail> {
-        let (site, event) = match asked(command, self.sent.as_slice()) {
-            Asked::At(site, event) => (site, event),
-            Asked::Lost => {
+        let (site, event) = match step_of(command, self.sent.as_slice()) {
+            Step::At(site, event) => (site, event),
+            Step::Lost => {
                 assert!(rt; self.may_lose, "a message never came");
                 return Ok(false);
             }
-            Asked::Unsent => {
+            Step::Unsent => {
                 assert_eq!(rt; wanted, NO_MESSAGE);
                 return Ok(false);
             }
