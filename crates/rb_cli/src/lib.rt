@@ -1,5 +1,5 @@
 //! The words of the command line.
-//! Tests: rb_tests, words.rt.
+//! Tests: rb_tests_runs, words.rt.
 #![tactic(auto)]
 
 mod command_line;

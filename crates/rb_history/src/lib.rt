@@ -1,6 +1,6 @@
 //! Lines of histories as JSON: the configuration written, entries written and read, and the verdicts of an audit.
 //! A configuration, a command and a reply are read and written by [`rb_commands`], whose calls for that are here too.
-//! Tests: rb_tests, entries.rt.
+//! Tests: rb_tests_runs, entries.rt.
 #![tactic(auto)]
 
 mod fast;

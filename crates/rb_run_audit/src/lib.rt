@@ -1,5 +1,5 @@
 //! An audit: a configuration and the lines of histories in, and one line out.
-//! Tests: rb_tests, audits.rt.
+//! Tests: rb_tests_runs, audits.rt.
 #![tactic(auto)]
 
 mod answer;

@@ -1,5 +1,5 @@
 //! A migration: a configuration and the lines of histories in, and the same lines in version 2 of the format out.
-//! Tests: rb_tests, migrations.rt.
+//! Tests: rb_tests_runs, migrations.rt.
 #![tactic(auto)]
 
 mod laws;

@@ -1,5 +1,5 @@
 //! A script: a configuration and commands in, a line each, and a line out for each command.
-//! Tests: rb_tests, scripts.rt.
+//! Tests: rb_tests_runs, scripts.rt.
 #![tactic(auto)]
 
 mod run;

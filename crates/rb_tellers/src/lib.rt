@@ -1,5 +1,5 @@
 //! Tellers and serving threads at the sites of a branch.
-//! Tests: rb_tests, tellers.rt; tests/cases.py runs tellers through the program.
+//! Tests: rb_tests_runs, tellers.rt; tests/cases.py runs tellers through the program.
 #![tactic(auto)]
 
 mod crew;

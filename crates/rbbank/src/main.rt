@@ -1,6 +1,6 @@
 //! `rbbank`: the sites of a bank, driven by a script or by tellers in threads, and audits and migrations of their
 //! histories.
-//! Tests: rb_tests, words.rt; the program itself runs in the gate and on examples/.
+//! Tests: rb_tests_runs, words.rt; the program itself runs in the gate and on examples/.
 #![tactic(auto)]
 
 ghost use Rattle.std.specs.Prelude.{◌≡◌};
