@@ -7,7 +7,7 @@ help:
 	@echo 'With time (on four processors; on two it takes about twice as long):'
 	@echo '  make build         proves and builds the program; less than an hour the first time'
 	@echo '  make examples      every example, and every case of tests/cases, through the program, after make build'
-	@echo '  make test          the gate; about an hour the first time, half a minute where nothing changed since (docs/GATE.md)'
+	@echo '  make test          the gate; about an hour; with kit 13f half a minute where nothing changed since (docs/GATE.md)'
 	@echo
 	@echo 'While you change something:'
 	@echo '  make check         proves every crate, over what earlier checks kept'
