@@ -7,42 +7,35 @@ use Rattle.rb_shadow.specs.Operations.{bal, past, clock_of, is_eligible, same_sh
 use Rattle.rb_shadow.specs.Sound.{fault_of}
 use Rattle.rb_scratch.specs.Batches.{made_in_batch, batch_of}
 use Rattle.rb_scratch.specs.Requests.{plan_of, operation_of, allowed, made_of}
-use Rattle.rb_site.specs.Events.{outcome_of, outcome_of_shadow, outcome_of_apply}
+use Rattle.rb_site.specs.Events.{outcome_of}
 use Rattle.rb_site.specs.declared.reply.Reply.TheVariants.{Refused}
 use Rattle.rb_world.specs.Laws.{next_reply}
 use Rattle.rb_uses.specs.Bank.{after, ann, balance_in, batch, cancellation, deposit_events, withdrawal}
 
 pub deposited_here : balance_in (after (deposit_events 500)) 0 ann ≡ Some 1500
-unfolding bal past clock_of is_eligible same_shadow names_listed fault_of plan_of operation_of allowed made_of outcome_of outcome_of_shadow
-    outcome_of_apply
+unfolding bal past clock_of is_eligible same_shadow names_listed fault_of plan_of operation_of allowed made_of outcome_of
 deposited_here = refl
 
 pub deposited_there : balance_in (after (deposit_events 500)) 1 ann ≡ Some 1500
-unfolding bal past clock_of is_eligible same_shadow names_listed fault_of plan_of operation_of allowed made_of outcome_of outcome_of_shadow
-    outcome_of_apply
+unfolding bal past clock_of is_eligible same_shadow names_listed fault_of plan_of operation_of allowed made_of outcome_of
 deposited_there = refl
 
 pub withdrawn_here : balance_in (after (withdrawal 300 ∷ [])) 0 ann ≡ Some 700
-unfolding bal past clock_of is_eligible same_shadow names_listed fault_of plan_of operation_of allowed made_of outcome_of outcome_of_shadow
-    outcome_of_apply
+unfolding bal past clock_of is_eligible same_shadow names_listed fault_of plan_of operation_of allowed made_of outcome_of
 withdrawn_here = refl
 
 pub cancelled_here : balance_in (after (withdrawal 300 ∷ cancellation ∷ [])) 0 ann ≡ Some 1000
-unfolding bal past clock_of is_eligible same_shadow names_listed fault_of plan_of operation_of allowed made_of outcome_of outcome_of_shadow
-    outcome_of_apply
+unfolding bal past clock_of is_eligible same_shadow names_listed fault_of plan_of operation_of allowed made_of outcome_of
 cancelled_here = refl
 
 pub batch_reply : next_reply (after []) (batch 50 2000) ≡ Refused (BatchRefused 1 Declined)
-unfolding bal past clock_of is_eligible same_shadow names_listed fault_of plan_of operation_of allowed made_of outcome_of outcome_of_shadow
-    outcome_of_apply made_in_batch batch_of
+unfolding bal past clock_of is_eligible same_shadow names_listed fault_of plan_of operation_of allowed made_of outcome_of made_in_batch batch_of
 batch_reply = refl
 
 pub batch_here : balance_in (after (batch 50 2000 ∷ [])) 0 ann ≡ Some 1000
-unfolding bal past clock_of is_eligible same_shadow names_listed fault_of plan_of operation_of allowed made_of outcome_of outcome_of_shadow
-    outcome_of_apply made_in_batch batch_of
+unfolding bal past clock_of is_eligible same_shadow names_listed fault_of plan_of operation_of allowed made_of outcome_of made_in_batch batch_of
 batch_here = refl
 
 pub batch_sends : (after (batch 50 2000 ∷ [])).world.messages ≡ []
-unfolding bal past clock_of is_eligible same_shadow names_listed fault_of plan_of operation_of allowed made_of outcome_of outcome_of_shadow
-    outcome_of_apply made_in_batch batch_of
+unfolding bal past clock_of is_eligible same_shadow names_listed fault_of plan_of operation_of allowed made_of outcome_of made_in_batch batch_of
 batch_sends = refl
