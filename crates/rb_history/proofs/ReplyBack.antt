@@ -17,12 +17,12 @@ use Rattle.rb_history.specs.Fits.{Each, IsMoved, IsRefusal, IsReply, IsStatement
 use Rattle.rb_commands.specs.Replies.{refusal_json, reply_json}
 use Rattle.rb_history.specs.RepliesRead.{moved_told, names_in, reply_told, row_at, rows_in}
 use Rattle.rb_commands.specs.Statements.{row_json}
-use Rattle.rb_commands.specs.Values.{integer_json, label_text, name_json}
-use Rattle.rb_history.specs.Fields.{label_of_word}
+use Rattle.rb_shadow.specs.Labels.{label_of_word, word_of}
+use Rattle.rb_commands.specs.Values.{integer_json, name_json}
 use Rattle.rb_money.proofs.Public.Tests.{is_below as below}
 use Rattle.rb_commands.proofs.Public.Reading.{back}
 
-label_back : (k : Label) → label_of_word (label_text k) ≡ Some k
+label_back : (k : Label) → label_of_word (word_of k) ≡ Some k
 label_back Deposit = refl
 label_back _ = refl
 

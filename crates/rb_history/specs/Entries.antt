@@ -7,7 +7,7 @@ use Rattle.rb_money.specs.Settings.{Settings}
 use Rattle.rb_money.specs.declared.place.Place.{Place}
 use Rattle.rb_scratch.specs.declared.request.Request.{Request}
 use Rattle.rb_scratch.specs.declared.request.Request.TheVariants.{Deposit, Withdraw, Interest, Cancel, Transfer}
-use Rattle.rb_shadow.specs.Labels.{label_of}
+use Rattle.rb_shadow.specs.Labels.{label_of, word_of}
 use Rattle.rb_shadow.specs.declared.deps.Deps.{Deps}
 use Rattle.rb_shadow.specs.declared.kind.Kind.{Kind}
 use Rattle.rb_shadow.specs.declared.kind.Kind.TheVariants.{Cancel as CancelKind, Transfer as TransferKind}
@@ -21,7 +21,7 @@ use Rattle.rb_history.specs.Counts.{blue_json}
 use Rattle.rb_history.specs.Recorded.{event_at}
 use Rattle.rb_history.specs.RepliesRead.{reply_told}
 use Rattle.rb_commands.specs.Replies.{reply_json}
-use Rattle.rb_commands.specs.Values.{label_text, list_json, name_json, number_below, number_json, one_json, pair_json, size_of, three_json}
+use Rattle.rb_commands.specs.Values.{list_json, name_json, number_below, number_json, one_json, pair_json, size_of, three_json}
 use Rattle.rb_history.specs.Fields.{field}
 
 -- ---- what is written
@@ -58,7 +58,7 @@ shadow_json s v = object
     (member (codes "amount") (number_json v.amount)
     (member (codes "deps") (deps_json s.version v.deps)
     (member (codes "home") (number_json v.home)
-    (member (codes "kind") (string (label_text (label_of v.kind)))
+    (member (codes "kind") (string (word_of (label_of v.kind)))
     (member (codes "name") (name_json v.name)
     (last_members s v.kind)))))))
 

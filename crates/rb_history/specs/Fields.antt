@@ -1,19 +1,9 @@
 -- What is read from the parts of a history's line: kinds, lists of six, and the value of a key.
-use Rattle.std.specs.Prelude.{ℕ, List, bytes_eq, codes, Option, Some, None, if◌then◌else◌, option_and_then}
+use Rattle.std.specs.Prelude.{ℕ, List, Option, Some, None, option_and_then}
 use Rattle.serde_json.specs.Data.{Data, Items, no_items, item}
 use Rattle.serde_json.specs.Find.{as_array, as_str, get}
 use Rattle.rb_shadow.specs.declared.label.Label.{Label}
-use Rattle.rb_shadow.specs.declared.label.Label.TheVariants.{Deposit, Withdraw, Declined, Interest, Cancel, Transfer}
-
--- the kind that a word is
-abbrev pub label_of_word : List ℕ → Option Label
-label_of_word word =
-    if bytes_eq word (codes "deposit") then Some Deposit
-    else (if bytes_eq word (codes "withdraw") then Some Withdraw
-    else (if bytes_eq word (codes "declined") then Some Declined
-    else (if bytes_eq word (codes "interest") then Some Interest
-    else (if bytes_eq word (codes "cancel") then Some Cancel
-    else (if bytes_eq word (codes "transfer") then Some Transfer else None)))))
+use Rattle.rb_shadow.specs.Labels.{label_of_word}
 
 -- the kind that a value is
 abbrev pub label_at : Data → Option Label

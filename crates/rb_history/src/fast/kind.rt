@@ -1,10 +1,9 @@
 //! Kinds, in one pass. `None` says nothing of a text.
 ghost use Rattle.std.specs.Prelude.{◌≡◌, ◌<◌, ◌++◌, IfSome, true};
-ghost use Rattle.rb_commands.specs.Values.{label_text};
 ghost use Rattle.rb_history.specs.Fits.{IsKind};
 ghost use Rattle.rb_history.specs.Tells.{behind_quote};
 ghost use Rattle.serde_json.specs.Written.{members_text};
-ghost use Rattle.rb_shadow.specs.Labels.{label_of};
+ghost use Rattle.rb_shadow.specs.Labels.{label_of, word_of};
 ghost use Rattle.rb_history.specs.Entries.{last_members};
 
 use crate::fast::account::parse_account_between;
@@ -14,20 +13,11 @@ use rb_money::Config;
 use rb_shadow::{Kind, Label};
 
 /// A kind's word, behind its first quote.
-#[tactic(auto, unfolding(json::specs::Print::escape_byte))]
 pub fn parse_label(text: &str) -> Option<(Label, &str)>
-    ensures { IfSome result (λ p. text.now ≡ behind_quote (label_text p.0) ++ p.1.now) }
+    ensures { IfSome result (λ p. text.now ≡ behind_quote (word_of p.0) ++ p.1.now) }
 {
-    match text.as_bytes().first() {
-        Some(b'd') => match parse_prefix(text, "deposit\"") {
-            Some(rest) => Some((Label::Deposit, rest)),
-            None => Some((Label::Declined, parse_prefix(text, "declined\"")?)),
-        },
-        Some(b'w') => Some((Label::Withdraw, parse_prefix(text, "withdraw\"")?)),
-        Some(b'i') => Some((Label::Interest, parse_prefix(text, "interest\"")?)),
-        Some(b't') => Some((Label::Transfer, parse_prefix(text, "transfer\"")?)),
-        _ => Some((Label::Cancel, parse_prefix(text, "cancel\"")?)),
-    }
+    let (label, rest) = Label::strip_word(text)?;
+    Some((label, parse_prefix(rest, "\"")?))
 }
 
 /// The kind of this label, with the target of a cancellation or the account to which a transfer goes, and the end of

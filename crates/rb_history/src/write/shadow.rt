@@ -1,14 +1,14 @@
 //! Shadows of a history's line, added at the end of bytes.
 ghost use Rattle.std.specs.Prelude.{◌++◌, codes, decimal, true};
 ghost use Rattle.serde_json.specs.Written.{compact_text, members_text};
-ghost use Rattle.rb_shadow.specs.Labels.{label_of};
+ghost use Rattle.rb_shadow.specs.Labels.{label_of, word_of};
 ghost use Rattle.rb_commands.specs.Adds.{Adds};
 ghost use Rattle.rb_history.specs.Entries.{account_json, deps_json, last_members, shadow_json};
-ghost use Rattle.rb_commands.specs.Values.{label_text, name_json, one_json};
+ghost use Rattle.rb_commands.specs.Values.{name_json, one_json};
 
 use crate::write::account::append_account;
 use crate::write::counts::append_counts;
-use crate::write::kind::{append_last, kind_text};
+use crate::write::kind::append_last;
 use rb_commands::write::append::{append, append_named, append_number};
 use rb_money::Config;
 use rb_shadow::{Deps, Shadow};
@@ -38,16 +38,12 @@ fn append_front(out: &mut Vec<u8>, config: &Config, shadow: &Shadow) -> Result<(
 /// The rest of a shadow: its home, its kind, its name, and its target or where it goes.
 fn append_back(out: &mut Vec<u8>, config: &Config, shadow: Shadow) -> Result<(), AllocError>
     ensures { Adds result out.old.items out.new.items (codes ",\"home\":" ++ (decimal shadow.home
-        ++ (codes ",\"kind\":\"" ++ (label_text (label_of shadow.kind) ++ (codes "\",\"name\":"
+        ++ (codes ",\"kind\":\"" ++ (word_of (label_of shadow.kind) ++ (codes "\",\"name\":"
         ++ (compact_text (name_json shadow.name) ++ members_text true (last_members config.now shadow.kind))))))) }
 {
-    append_number(
-        out,
-        ",\"home\":",
-        shadow.home as u64,
-        kind_text(shadow.kind),
-    )?;
-    append_named(out, "", shadow.name, "")?;
+    append_number(out, ",\"home\":", shadow.home as u64, ",\"kind\":\"")?;
+    append(out, shadow.kind.label().word())?;
+    append_named(out, "\",\"name\":", shadow.name, "")?;
     append_last(out, config, shadow.kind)
 }
 

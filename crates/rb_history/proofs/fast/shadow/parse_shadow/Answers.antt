@@ -2,7 +2,7 @@ use Rattle.std.proofs.Common.{◌≡◌, ◌++◌, List, ℕ, true, codes, decim
 use Rattle.json.specs.Print.{escape_byte}
 use Rattle.serde_json.specs.Written.{compact_text, members_text}
 use Rattle.rb_shadow.specs.NameText.{name_text}
-use Rattle.rb_commands.specs.Values.{label_text}
+use Rattle.rb_shadow.specs.Labels.{word_of}
 use Rattle.rb_history.specs.Entries.{deps_json, last_members}
 use Rattle.rb_history.specs.Tells.{account_behind_quote, behind_quote}
 use Rattle.rb_history.proofs.fast.shadow.parse_shadow.Goals as goal
@@ -27,7 +27,7 @@ returns c =
     let amount = decimal c.in_ok-amount.amount in
     let deps = compact_text (deps_json c.args.config.now.version c.in_ok-deps.deps) in
     let home = decimal c.in_ok-home.home in
-    let label = behind_quote (label_text c.in_ok-label.label) in
+    let label = behind_quote (word_of c.in_ok-label.label) in
     let name = behind_quote (name_text c.in_ok-name.name) in
     let last = members_text true (last_members c.args.config.now c.in_ok-kind.kind) in
     let rest = c.in_ok-parse_prefix-2.field-0.now in
@@ -59,5 +59,5 @@ returns c =
         kind = c.in_ok-kind.ensures.kind.0;
       },
       read ∙ shadow_text account amount deps home label name last rest
-          ∙ ap (λ k. whole (behind_quote (label_text k))) (sym c.in_ok-kind.ensures.kind.1),
+          ∙ ap (λ k. whole (behind_quote (word_of k))) (sym c.in_ok-kind.ensures.kind.1),
     )

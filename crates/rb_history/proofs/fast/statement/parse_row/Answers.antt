@@ -3,7 +3,7 @@ use Rattle.std.specs.Fmt.{signed_decimal}
 use Rattle.json.specs.Print.{token_text}
 use Rattle.json.specs.Token.{boolean}
 use Rattle.rb_shadow.specs.NameText.{name_text}
-use Rattle.rb_commands.specs.Values.{label_text}
+use Rattle.rb_shadow.specs.Labels.{word_of}
 use Rattle.rb_commands.proofs.Public.Numerals.{integer_text}
 use Rattle.rb_history.specs.Tells.{behind_quote}
 use Rattle.rb_history.proofs.fast.statement.parse_row.Goals as goal
@@ -21,7 +21,7 @@ pub returns : goal.returns
 returns c =
     let position = decimal c.in_ok-position.position in
     let name = behind_quote (name_text c.in_ok-name.name) in
-    let kind = behind_quote (label_text c.in_ok-kind.kind) in
+    let kind = behind_quote (word_of c.in_ok-kind.kind) in
     let moved = signed_decimal c.in_ok-moved.moved in
     let cancelled = token_text (boolean c.in_ok-cancelled.cancelled) in
     let balance = decimal c.in_ok-balance.balance in

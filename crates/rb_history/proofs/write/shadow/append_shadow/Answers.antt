@@ -1,9 +1,9 @@
 use Rattle.std.proofs.Common.{◌≡◌, ◌++◌, List, ℕ, true, codes, decimal, append_assoc, ap, sym, ◌∙◌}
 use Rattle.json.specs.Print.{escape_byte}
 use Rattle.serde_json.specs.Written.{compact_text, members_text}
-use Rattle.rb_shadow.specs.Labels.{label_of}
+use Rattle.rb_shadow.specs.Labels.{label_of, word_of}
 use Rattle.rb_history.specs.Entries.{account_json, deps_json, last_members}
-use Rattle.rb_commands.specs.Values.{label_text, name_json}
+use Rattle.rb_commands.specs.Values.{name_json}
 use Rattle.rb_commands.proofs.Public.Appended.{both, failed, then}
 use Rattle.rb_commands.proofs.Public.Plain.{quoted_label}
 use Rattle.rb_history.proofs.write.shadow.append_shadow.Goals as goal
@@ -37,7 +37,7 @@ returns c =
     let amount = decimal made.amount in
     let home = decimal made.home in
     let first = codes "{\"shadow\":{\"account\":" ++ (account ++ (codes ",\"amount\":" ++ (amount ++ (codes ",\"deps\":" ++ deps)))) in
-    let second = codes ",\"home\":" ++ (home ++ (codes ",\"kind\":\"" ++ (label_text label ++ (codes "\",\"name\":" ++ (name ++ last))))) in
+    let second = codes ",\"home\":" ++ (home ++ (codes ",\"kind\":\"" ++ (word_of label ++ (codes "\",\"name\":" ++ (name ++ last))))) in
     let whole = λ (kind : List ℕ). codes
     "{\"shadow\":" ++ ((codes "{\"account\":" ++
     (account ++ (codes ",\"amount\":" ++
@@ -47,4 +47,4 @@ returns c =
     let two = both old c.append_front.new.out.items c.append_back.new.out.items first second c.in_ok-append_front.ensures
     c.in_ok-append_back.ensures in
     then c.append.result old c.append_back.new.out.items c.append.new.out.items (first ++ second) (codes "}") _ two c.append.ensures
-    (shadow_text account amount deps home (label_text label) name last ∙ ap whole (sym (quoted_label label)))
+    (shadow_text account amount deps home (word_of label) name last ∙ ap whole (sym (quoted_label label)))
