@@ -17,6 +17,7 @@ use Rattle.rb_scratch.specs.declared.request.Request.{Request}
 use Rattle.rb_scratch.specs.declared.request.Request.TheVariants.{Deposit, Withdraw, Interest, Cancel, Transfer}
 use Rattle.rb_scratch.specs.declared.request.TheConstants.{MOST_REQUESTS}
 use Rattle.rb_scratch.specs.declared.run_fault.RunFault.TheVariants.{Declined as DeclinedFault}
+use Rattle.rb_shadow.specs.Sound.{fault_of}
 use Rattle.rb_statements.specs.Statements.{row_after, rows_of, statement_of}
 use Rattle.rb_site.specs.Events.{ModelSite, Makes, MakesAll, Outcome, Refuses, Shows, after_event, after_events, changed, is_full}
 use Rattle.rb_site.specs.Events.{outcome_of, replies_to_events, reply_of, reply_to}
@@ -86,7 +87,7 @@ statement s us a = λ j. record { start = start_of s a; rows = rows s us a [] us
 -- ---- events
 
 outcome : (s : Settings) (t : ModelSite) (e : Event) → outcome_of (in_version_2 s) t e ≡ outcome_of s t e
-unfolding bal outcome_of
+unfolding bal fault_of outcome_of
 outcome s t (Submit r) = ap (λ q. and_then Refuses q Makes) (made s t.me t.ops t.token r)
 outcome s t (Batch rs) =
     ap (λ q. if not (nat_le 1 (length rs) && nat_le (length rs) MOST_REQUESTS) then Refuses BadBatch else and_then Refuses q MakesAll)
