@@ -42,7 +42,7 @@ test: toolchain
 	@examples/check_drawings.py --quiet crates/rbbank/out/rbbank
 	@tests/cases.py --quiet crates/rbbank/out/rbbank
 
-# Whether README.md names this machine's toolchain, as one that the gate has passed with.
+# Whether README.md names this machine's toolchain, as one that every crate was proved with.
 toolchain:
 	@grep -qF "\`$$(rt version)\`" README.md || { echo "README.md names no toolchain '$$(rt version)'"; exit 1; }
 
