@@ -24,7 +24,7 @@ use Rattle.rb_scratch.specs.Originals.{DoesOriginal, granted_kind, after_accrue,
 use Rattle.rb_scratch.specs.Requests.{Plan, interest_on, next_name, operation_of, plan_of, if_covered}
 use Rattle.rb_scratch.proofs.LeftOut
 use Rattle.rb_scratch.proofs.Public.Made
-use Rattle.rb_scratch.proofs.Public.Makes
+use Rattle.rb_scratch.proofs.Public.Fits
 
 not_cancel : (b : Bool) (k : Kind) → is_some (target_of k) ≡ false → is_some (target_of (cond b Declined k)) ≡ false
 not_cancel true k e = refl
@@ -188,7 +188,7 @@ unfolding operation_of
 uncancelled s me us v p valid is =
     let x = next_name me us (colour_in us p.kind) in
     ap (λ (u : Shadow). is_cancelled us u.name) is ∙ Legal.fresh_uncancelled us x valid.targets
-    (Makes.fresh_name s me us (colour_in us p.kind) valid)
+    (Fits.fresh_name s me us (colour_in us p.kind) valid)
 
 -- what a plan makes does what the published bank does on its request
 pub plan_original : (s : Settings) (me : ℕ) (us : List Shadow) (p : Plan) (v : Shadow) (r : Request) → IsValid s us →

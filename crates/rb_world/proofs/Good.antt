@@ -28,6 +28,7 @@ use Rattle.rb_inbox.specs.Held.{with_held, without}
 use Rattle.rb_inbox.proofs.Public.Holding.{kept_among, held_cases}
 use Rattle.rb_scratch.specs.Requests.{Plan, next_name, operation_of}
 use Rattle.rb_scratch.proofs.Public.Made.{IsAllowed, IsMadeAt}
+use Rattle.rb_scratch.proofs.Public.Fits
 use Rattle.rb_scratch.proofs.Public.Makes
 use Rattle.rb_site.specs.declared.message.Message.{Message}
 use Rattle.rb_site.specs.declared.message.Message.TheVariants.{Shadow as ShadowMessage, Token as TokenOnItsWay}
@@ -148,7 +149,7 @@ new_made s w i t v g at made = record {
         let home : u.home ≡ t.me = at_home u.name u.home (blue_count t.ops t.me
         + 1) (SoundFacts.sound_facts s u (sound_in s w u g there)).own (named ∙ e) in
         Members.true≢false (sym (Members.named t.ops u (here.own u there (home ∙ me))) ∙ ap (names t.ops) (named ∙ e)
-        ∙ Makes.fresh_name s t.me t.ops BlueColour here.valid)
+        ∙ Fits.fresh_name s t.me t.ops BlueColour here.valid)
     fresh RedColour x e fair h =
         let (u, there, named) = Members.find_named all x h in
         let fair' : IsAllowed s t.ops t.token v (Red (red_count t.ops + 1)) = subst (IsAllowed s t.ops t.token v) e fair in
