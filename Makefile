@@ -1,8 +1,10 @@
-.PHONY: help demo build test toolchain check examples bench refuse wrong-bodies
+.PHONY: help demo try build test toolchain check examples bench refuse wrong-bodies
 
 help:
 	@echo 'At once:'
 	@echo '  make demo          the stored run, drawn, each command beside its reply; a minute'
+	@echo '  make try FILE=examples/stale_token.jsonl'
+	@echo '                     a script, histories or a migration, run with no proof; it builds for a minute each time'
 	@echo
 	@echo 'With time (on four processors; on two it takes about twice as long):'
 	@echo '  make build         proves and builds the program; less than an hour the first time'
@@ -19,6 +21,11 @@ help:
 # The stored run, drawn, each command beside its reply.
 demo:
 	@examples/demo.py --draw
+
+# A file through the sources as they are, with no proof.
+try:
+	@test -n "$(FILE)" || { echo 'usage: make try FILE=examples/stale_token.jsonl'; exit 2; }
+	@examples/bank.py --try "$(FILE)"
 
 # Proves and builds the program, and prints where it lies.
 build:

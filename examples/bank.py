@@ -2,6 +2,7 @@
 """The program from Python, for the other scripts of this folder: where it is, how it is run, and what a refusal means.
 
 usage: bank.py                    prints which program the scripts would run
+       bank.py --try FILE         runs a script, histories or a migration by `rt try`: unproved, with checks
        bank.py --record PROGRAM   notes that the gate passed this program as built from the sources as they are
 
 The program is that of crates/rbbank/out: the proved program where the gate's note beside it names its bytes and those
@@ -109,9 +110,29 @@ def program(given=None):
             return Program([BUILT], ROOT, "the built program")
     if shutil.which("rt") is None:
         raise Stop("no program is built from these sources (make build), and the toolchain's command rt isn't on PATH")
-    print("No program is built from these sources, so `rt try` builds one with no proof, a minute each time it runs.",
-          file=sys.stderr, flush=True)
+    print("No program is built from these sources.", file=sys.stderr, flush=True)
+    return tried()
+
+
+def tried():
+    """A way to run the sources with no proof. It builds each time."""
+    print("`rt try` builds the program with no proof, a minute each time it runs.", file=sys.stderr, flush=True)
     return Program(["rt", "try", "--"], CRATE, "`rt try`, with no proof")
+
+
+def word_of(path):
+    """The command for a file, by its name as in this folder: NAME.histories.jsonl, NAME.migration.jsonl, or a script."""
+    return {"histories": "audit", "migration": "migrate"}.get(path.removesuffix(".jsonl").rpartition(".")[2], "script")
+
+
+def try_file(path):
+    """Runs a file with no proof, prints what the program answers, and gives its status."""
+    data = read(path)
+    run = tried().run(word_of(path), data)
+    print("\n".join(run.replies))
+    if run.error:
+        print(run.error, file=sys.stderr)
+    return run.status
 
 
 def meanings():
@@ -158,6 +179,8 @@ def main():
     words = sys.argv[1:]
     if not words:
         print(program().what)
+    elif words[0] == "--try" and len(words) == 2:
+        return try_file(words[1])
     elif words[0] == "--record" and len(words) == 2:
         with open(RECORD, "w", encoding="utf-8") as file:
             file.write(record_of(words[1]))

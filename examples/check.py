@@ -11,9 +11,9 @@ import re
 import subprocess
 import sys
 
+import bank
+
 HERE = os.path.dirname(os.path.abspath(__file__))
-# the command for an example, by the second ending of its file's name
-COMMANDS = {"histories": "audit", "migration": "migrate"}
 
 
 def stored(path, otherwise):
@@ -30,9 +30,8 @@ def expected(stem):
 
 
 def answered(program, path):
-    command = COMMANDS.get(path.removesuffix(".jsonl").rpartition(".")[2], "script")
     with open(path, "rb") as given:
-        run = subprocess.run([program, command], stdin=given, capture_output=True)
+        run = subprocess.run([program, bank.word_of(path)], stdin=given, capture_output=True)
     return run.stdout, run.stderr, run.returncode
 
 
