@@ -1,13 +1,11 @@
 //! The command line that the program takes.
-ghost use Rattle.std.specs.Prelude.{◌≡◌, [], false, true, IfOk, Some, codes};
-ghost use Rattle.clap.specs.Words.{app_of, new_app, new_rule, rule_of, with_subcommand};
+ghost use Rattle.std.specs.Prelude.{◌≡◌, [], false, true, IfOk, codes};
+ghost use Rattle.clap.specs.Words.{app_of, new_app, rule_of, with_rule, with_subcommand};
 ghost use Rattle.clap.specs.declared.builder.command.Command.TheViews.{out-Command};
-ghost use Rattle.rb_cli.specs.Words.{command_line as line, threads_line, top_line};
+ghost use Rattle.rb_cli.specs.Words.{command_line as line, plain_line, site_line, threads_line, top_line};
 
-use crate::{MOST_TELLERS, texts};
-use clap::builder::ValueParser;
+use crate::{arguments, texts};
 use clap::{Arg, Command};
-use rb_money::MOST_SITES;
 use std::alloc::{AllocError, Global};
 
 /// A command of the program: its name, how it is used, what it does in a line, and what its help ends with.
@@ -28,55 +26,21 @@ fn part<'a>(
 }
 
 /// The command line with one more command.
-fn with_part<'a>(
-    command: Command<'a>,
-    alloc: Global,
-    name: &'a str,
-    usage: &'a str,
-    about: &'a str,
-    help: &'a str,
-) -> Result<Command<'a>, AllocError>
-    ensures { IfOk result (λ it. app_of it ≡ with_subcommand (app_of command.entry) (new_app name.entry.now).top) }
+fn with_part<'a>(command: Command<'a>, part: Command<'a>) -> Result<Command<'a>, AllocError>
+    requires { (out-Command part).has_globals ≡ false }
+    ensures { IfOk result (λ it. app_of it ≡ with_subcommand (app_of command.entry) (app_of part.entry).top) }
 {
-    command.subcommand(part(alloc, name, usage, about, help))
+    command.subcommand(part)
 }
 
-/// An option that must be given, with one number.
-fn option<'a>(
-    alloc: Global,
-    name: &'a str,
-    value: &'a str,
-    help: &'a str,
-    parser: ValueParser<'a>,
-) -> Arg<'a>
-    ensures rule { rule_of result ≡ record (new_rule name.entry.now) {
-      long = Some name.entry.now;
-      value_names = 1;
-      parser = Some parser.entry;
-      required = true;
-    } }
-    ensures local { result.global ≡ false }
+/// A command with one more option.
+fn with_option<'a>(command: Command<'a>, option: Arg<'a>) -> Result<Command<'a>, AllocError>
+    requires command { (out-Command command).has_globals ≡ false }
+    requires option { option.global ≡ false }
+    ensures shape { IfOk result (λ it. app_of it ≡ with_rule (app_of command.entry) (rule_of option.entry)) }
+    ensures local { IfOk result (λ it. (out-Command it).has_globals ≡ false) }
 {
-    Arg::new(alloc, name)
-        .long(name)
-        .value_name(value)
-        .help(help)
-        .required(true)
-        .value_parser(parser)
-}
-
-/// The command for a run of threads, before its options.
-fn bare_threads<'a>(alloc: Global) -> Command<'a>
-    ensures shape { app_of result ≡ new_app (codes "threads") }
-    ensures local { (out-Command result).has_globals ≡ false }
-{
-    part(
-        alloc,
-        "threads",
-        texts::THREADS_USAGE,
-        texts::THREADS,
-        texts::THREADS_HELP,
-    )
+    command.arg(option)
 }
 
 /// The command for a run of threads, with its options.
@@ -84,12 +48,33 @@ fn threads<'a>(alloc: Global) -> Result<Command<'a>, AllocError>
     ensures shape { IfOk result (λ command. app_of command ≡ threads_line) }
     ensures local { IfOk result (λ command. (out-Command command).has_globals ≡ false) }
 {
-    let sites = clap::value_parser!(u8).range(2..=MOST_SITES as i64);
-    let tellers = clap::value_parser!(u8).range(1..=MOST_TELLERS as i64);
-    let sites = option(alloc, "sites", "K", texts::SITES, sites);
-    let tellers = option(alloc, "tellers", "T", texts::TELLERS, tellers);
-    let seed = option(alloc, "seed", "S", texts::SEED, clap::value_parser!(u32));
-    bare_threads(alloc).arg(sites)?.arg(tellers)?.arg(seed)
+    let command = part(
+        alloc,
+        "threads",
+        texts::THREADS_USAGE,
+        texts::THREADS,
+        texts::THREADS_HELP,
+    );
+    let command = with_option(command, arguments::sites(alloc))?;
+    let command = with_option(command, arguments::tellers(alloc))?;
+    with_option(command, arguments::seed(alloc))
+}
+
+/// The command for one site, with its options.
+fn site<'a>(alloc: Global) -> Result<Command<'a>, AllocError>
+    ensures shape { IfOk result (λ command. app_of command ≡ site_line) }
+    ensures local { IfOk result (λ command. (out-Command command).has_globals ≡ false) }
+{
+    let command = part(
+        alloc,
+        "site",
+        texts::SITE_USAGE,
+        texts::SITE,
+        texts::SITE_HELP,
+    );
+    let command = with_option(command, arguments::me(alloc))?;
+    let command = with_option(command, arguments::journal(alloc))?;
+    with_option(command, arguments::resend(alloc))
 }
 
 /// The command line before its commands.
@@ -103,34 +88,41 @@ fn top<'a>(alloc: Global) -> Command<'a>
         .subcommand_required(true)
 }
 
-/// The command line that the program takes.
-pub fn command_line<'a>(alloc: Global) -> Result<Command<'a>, AllocError>
-    ensures { IfOk result (λ command. app_of command ≡ line) }
+/// The command line with the commands that have no options.
+fn without_options<'a>(alloc: Global) -> Result<Command<'a>, AllocError>
+    ensures { IfOk result (λ command. app_of command ≡ plain_line) }
 {
-    let command = top(alloc);
-    let command = with_part(
-        command,
+    let script = part(
         alloc,
         "script",
         texts::SCRIPT_USAGE,
         texts::SCRIPT,
         texts::SCRIPT_HELP,
-    )?;
-    let command = with_part(
-        command,
+    );
+    let command = with_part(top(alloc), script)?;
+    let audit = part(
         alloc,
         "audit",
         texts::AUDIT_USAGE,
         texts::AUDIT,
         texts::AUDIT_HELP,
-    )?;
-    let command = with_part(
-        command,
+    );
+    let command = with_part(command, audit)?;
+    let migrate = part(
         alloc,
         "migrate",
         texts::MIGRATE_USAGE,
         texts::MIGRATE,
         texts::MIGRATE_HELP,
-    )?;
-    command.subcommand(threads(alloc)?)
+    );
+    with_part(command, migrate)
+}
+
+/// The command line that the program takes.
+pub fn command_line<'a>(alloc: Global) -> Result<Command<'a>, AllocError>
+    ensures { IfOk result (λ command. app_of command ≡ line) }
+{
+    let command = without_options(alloc)?;
+    let command = with_part(command, threads(alloc)?)?;
+    with_part(command, site(alloc)?)
 }

@@ -2,6 +2,7 @@
 //! Tests: rb_tests_runs, words.rt.
 #![tactic(auto)]
 
+mod arguments;
 mod command_line;
 mod options;
 mod texts;

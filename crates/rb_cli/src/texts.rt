@@ -1,4 +1,4 @@
-//! What the program tells about itself.
+//! What the program says about itself.
 
 /// The newest version of the lines that it reads and writes. Each configuration names its own.
 pub const VERSION: &str = "2";
@@ -16,6 +16,9 @@ pub const AUDIT_USAGE: &str = "rbbank audit < HISTORIES";
 /// How `migrate` is used.
 pub const MIGRATE_USAGE: &str = "rbbank migrate < HISTORIES";
 
+/// How `site` is used.
+pub const SITE_USAGE: &str = "rbbank site --me S --journal FILE [--resend N] < EVENTS";
+
 /// How `threads` is used.
 pub const THREADS_USAGE: &str = "rbbank threads --sites K --tellers T --seed S";
 
@@ -24,11 +27,15 @@ pub const SCRIPT: &str = "Answers the commands on standard input, a line of JSON
 
 /// What `audit` does.
 pub const AUDIT: &str =
-    "Tells whether one world can have recorded the sites' histories on standard input";
+    "Says whether one world can have recorded the sites' histories on standard input";
 
 /// What `migrate` does.
 pub const MIGRATE: &str =
     "Writes the sites' histories on standard input again, in the newest version of their lines";
+
+/// What `site` does.
+pub const SITE: &str =
+    "Runs one site, which keeps its history in a file: answers the events on standard input";
 
 /// What `threads` does.
 pub const THREADS: &str =
@@ -43,7 +50,22 @@ pub const TELLERS: &str = "How many tellers there are, 1 to 64";
 /// What `--seed` is.
 pub const SEED: &str = "What the tellers' numbers begin with, 0 to 4294967295";
 
-/// A script with its replies, and the statuses.
+/// What `--me` is.
+pub const ME: &str = "Which site it is, 0 to 15";
+
+/// What `--journal` is.
+pub const JOURNAL: &str = "The file that the site's history is kept in";
+
+/// What `--resend` is.
+pub const RESEND: &str =
+    "How many of the last entries have their messages written again, 0 to 100000000; all without it";
+
+/// What is wrong with words that ask for nothing, where the command line takes them.
+pub const NOT_ASKED: &str =
+    "each option is a word, and its value the next word, a number with no sign and no zero in front, \
+     as in --seed 7";
+
+/// A script with its replies, the refusals and the statuses.
 pub const SCRIPT_HELP: &str =
     r#"The first line is the configuration, and each later line a command at a site. A deposit is made
 at site 0, and comes to site 1:
@@ -63,16 +85,44 @@ The replies, one line for each command:
 
 A command that isn't done is answered by its reason, as {"refused":1} for an unknown account.
 
+Refusals:
+   1  unknown account
+   2  amount out of range
+   3  rate out of range
+   4  unknown operation
+   5  can't be cancelled: declined, or a cancellation
+   6  already cancelled, first at "position"
+   7  numbers, or epochs, are used up
+   8  the site hasn't the token
+   9  "seen" red operations applied, "needed" before the next
+  10  would leave a balance below zero
+  11  interest over its limit
+  12  bad batch: no request, or more than 16
+  13  request "index" of the batch, from 0, is refused or would be declined: "cause"
+  14  nothing is held under the name
+  15  its past isn't applied here yet
+  16  the inbox is full, and the operation isn't ready
+  17  bad message: "why" is 1 to 7
+  18  another operation has the name
+  19  no such message
+  20  no such site, or the token passed to the own one
+  21  the token message is for another site
+  22  the position is beyond the operations that the site applied
+  23  the site's history is full
+  24  a transfer's two accounts are one
+
 Statuses:
   0  every line was answered
   2  a bad line, no configuration, or wrong words
   3  a read or a write failed
-  4  out of memory"#;
+  4  out of memory
+
+All lines, limits, refusals and statuses: docs/FORMAT.md"#;
 
 /// An audit with its answers, and the statuses.
 pub const AUDIT_HELP: &str =
     r#"The first line is the configuration, and each later line an entry of a site's history: what came,
-and what the site answered. The lines of one site stand in the order of its history:
+and what the site answered. The lines of one site are in the order of its history:
 
   {"accounts":[["ann",0]],"sites":2,"version":1}
   {"event":{"deposit":["ann",500]},"reply":{"kind":"deposit","name":"B0.1"},"site":0}
@@ -89,19 +139,21 @@ Statuses:
   1  no world has them
   2  a bad line, no configuration, or wrong words
   3  a read or a write failed
-  4  out of memory"#;
+  4  out of memory
+
+All lines, limits, refusals and statuses: docs/FORMAT.md"#;
 
 /// A migration of a history, and the statuses.
 pub const MIGRATE_HELP: &str =
     r#"The first line is the configuration, and each later line an entry of a site's history, in version 1
-or 2 of their lines. Version 2 has up to sixteen sites, and tells what a site had applied by the sites
+or 2 of their lines. Version 2 has up to sixteen sites, and shows what a site had applied by the sites
 that it had applied something of, each with its count. In version 1:
 
   {"accounts":[["ann",0]],"sites":2,"version":1}
   {"event":{"shadow":{"account":"ann","amount":5,"deps":[[0,1,0,0,0,0,0,0],0],"home":1,
     "kind":"deposit","name":"B1.2"}},"reply":{"held":"B1.2"},"site":0}
 
-What stands further in here is the rest of the line above it. The same in version 2:
+What is indented further here is the rest of the line above it. The same in version 2:
 
   {"accounts":[["ann",0]],"blue":1000000,"epoch":4000000000,"history":100000000,"inbox":4096,
     "red":1000000,"sites":2,"version":2}
@@ -112,7 +164,37 @@ Statuses:
   0  every line was written
   2  a bad line, no configuration, or wrong words
   3  a read or a write failed
-  4  out of memory"#;
+  4  out of memory
+
+All lines, limits, refusals and statuses: docs/FORMAT.md"#;
+
+/// An event at a site with its answer, and the statuses.
+pub const SITE_HELP: &str =
+    r#"The first line is the configuration, and each later line an event: a command without its site, or a message
+that another site sent. At site 0, which has no journal yet:
+
+  {"accounts":[["ann",0]],"sites":2,"version":1}
+  {"deposit":["ann",500]}
+
+The answer is one line for each event, once the history is on the disk: the reply, the messages that the event
+sent, and the replies of the operations that became ready, which are applied then:
+
+  {"reply":{"kind":"deposit","name":"B0.1"},"sends":[{"shadow":{"account":"ann","amount":500,
+    "deps":[[0,0,0,0,0,0,0,0],0],"home":0,"kind":"deposit","name":"B0.1"}}],"then":[]}
+
+What is indented further here is the rest of the line above it. A message is given to its receivers as an event,
+as it is: an operation to every other site, the token to the site that it is for. A journal that is there goes on:
+first the messages of its last N entries are written again, those of all entries where --resend isn't given.
+
+The options have any order, each value in a word of its own; a file's name that begins with - is written ./-
+
+Statuses:
+  0  every line was answered
+  2  a bad line, no configuration, no such site, a journal in use or not of this site, or wrong words
+  3  a read or a write failed, or the journal did
+  4  out of memory
+
+All lines, limits, refusals and statuses: docs/FORMAT.md"#;
 
 /// A run with its audit, and the statuses.
 pub const THREADS_HELP: &str =
@@ -122,12 +204,14 @@ as the lines that an audit reads:
 
   rbbank threads --sites 3 --tellers 4 --seed 7 | rbbank audit
 
-Each option is wanted, in any order, its number in a word of its own. Which histories come out differs
-from run to run.
+Each option is wanted, in any order, its number in a word of its own, with no sign and no zero in front.
+Which histories come out differs from run to run.
 
 Statuses:
   0  the histories were written
   2  wrong words
   3  a write failed
   4  out of memory, or a thread couldn't be made
-  5  a site's history is full, or isn't what its clients were told"#;
+  5  a site's history is full, or isn't what its clients were answered
+
+All lines, limits, refusals and statuses: docs/FORMAT.md"#;

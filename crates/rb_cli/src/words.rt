@@ -4,10 +4,11 @@ ghost use Rattle.clap.specs.Words.{HasKind};
 ghost use Rattle.rb_cli.specs.Words.{Ask, kinds_of};
 
 use crate::command_line::command_line;
-use crate::options::number_of;
+use crate::options::{file_of, number_of};
+use crate::texts;
 use clap::Error;
 use clap::error::ErrorKind;
-use rb_money::MOST_SITES;
+use rb_money::{MOST_HISTORY, MOST_SITES};
 use std::alloc::Global;
 
 /// The most tellers of a run.
@@ -15,7 +16,7 @@ pub const MOST_TELLERS: u32 = 64;
 
 /// What the program is asked to do.
 #[derive(Clone, Copy, Debug, PartialEq, Eq)]
-pub enum Words {
+pub enum Words<'a> {
     /// To answer the script on standard input.
     Script,
     /// To audit the histories on standard input.
@@ -24,11 +25,22 @@ pub enum Words {
     Migrate,
     /// To run so many tellers, 1 to `MOST_TELLERS`, at so many sites, 2 to `MOST_SITES`. The first numbers of the
     /// tellers begin at the seed.
-    Threads { sites: u8, tellers: u8, seed: u32 },
+    Threads {
+        sites: u8,
+        tellers: u8,
+        seed: u32,
+    },
+    /// To run this site, 0 to `MOST_SITES` - 1, whose history is kept in this file. The messages of so many of its last
+    /// entries, 0 to `MOST_HISTORY`, are written again first, or those of all entries.
+    Site {
+        me: u8,
+        journal: &'a str,
+        resend: Option<u32>,
+    },
 }
 
 /// The run of threads that seven words ask for, the first of which is its name.
-fn threads(words: &[&str]) -> Option<Words>
+fn threads<'a>(words: &[&'a str]) -> Option<Words<'a>>
     requires count { length words.now ≡ 7 }
     requires first { slice_get (map (λ word. word.now) words.now) 0 ≡ Some (codes "threads") }
     ensures some { IfSome result (Ask (map (λ word. word.now) words.now)) }
@@ -44,8 +56,41 @@ fn threads(words: &[&str]) -> Option<Words>
     })
 }
 
+/// The site that five words ask for, the first of which is its name. Its messages are all written again.
+fn site<'a>(words: &[&'a str]) -> Option<Words<'a>>
+    requires count { length words.now ≡ 5 }
+    requires first { slice_get (map (λ word. word.now) words.now) 0 ≡ Some (codes "site") }
+    ensures some { IfSome result (Ask (map (λ word. word.now) words.now)) }
+    ensures none { IfNone result ((asked : Words) → ¬ Ask (map (λ word. word.now) words.now) asked) }
+{
+    let me = number_of(words, "--me", 0, MOST_SITES as u32 - 1)?;
+    let journal = file_of(words, "--journal")?;
+    Some(Words::Site {
+        me: me as u8,
+        journal,
+        resend: None,
+    })
+}
+
+/// The site that seven words ask for, the first of which is its name, and how many entries' messages are written again.
+fn site_again<'a>(words: &[&'a str]) -> Option<Words<'a>>
+    requires count { length words.now ≡ 7 }
+    requires first { slice_get (map (λ word. word.now) words.now) 0 ≡ Some (codes "site") }
+    ensures some { IfSome result (Ask (map (λ word. word.now) words.now)) }
+    ensures none { IfNone result ((asked : Words) → ¬ Ask (map (λ word. word.now) words.now) asked) }
+{
+    let me = number_of(words, "--me", 0, MOST_SITES as u32 - 1)?;
+    let journal = file_of(words, "--journal")?;
+    let resend = number_of(words, "--resend", 0, MOST_HISTORY)?;
+    Some(Words::Site {
+        me: me as u8,
+        journal,
+        resend: Some(resend),
+    })
+}
+
 /// What the words ask for, where they are just its words.
-fn asked_for(words: &[&str]) -> Option<Words>
+fn asked_for<'a>(words: &[&'a str]) -> Option<Words<'a>>
     ensures some { IfSome result (Ask (map (λ word. word.now) words.now)) }
     ensures none { IfNone result ((asked : Words) → ¬ Ask (map (λ word. word.now) words.now) asked) }
 {
@@ -54,17 +99,19 @@ fn asked_for(words: &[&str]) -> Option<Words>
         ["audit"] => Some(Words::Audit),
         ["migrate"] => Some(Words::Migrate),
         ["threads", _, _, _, _, _, _] => threads(words),
+        ["site", _, _, _, _] => site(words),
+        ["site", _, _, _, _, _, _] => site_again(words),
         _ => None,
     }
 }
 
 /// What the words after the program's name ask for. The error has the text to show: `ErrorKind::DisplayHelp` is help
 /// that was asked for, `ErrorKind::DisplayVersion` the version.
-pub fn read_words<'a>(alloc: Global, words: &'a [&'a str]) -> Result<Words, Error>
+pub fn read_words<'a>(alloc: Global, words: &'a [&'a str]) -> Result<Words<'a>, Error>
     ensures ok { IfOk result (Ask (map (λ word. word.now) words.entry.now)) }
     // Words that ask for something never fail.
     ensures err { IfErr result (λ _. (asked : Words) → ¬ Ask (map (λ word. word.now) words.entry.now) asked) }
-    // An error tells what the words are for: help and the version only where they ask for it.
+    // An error's kind is what the words are for: help and the version only where they ask for it.
     ensures kinds { IfErr result (HasKind (kinds_of (map (λ word. word.now) words.entry.now))) }
 {
     if let Some(asked) = asked_for(words) {
@@ -72,5 +119,5 @@ pub fn read_words<'a>(alloc: Global, words: &'a [&'a str]) -> Result<Words, Erro
     }
     let mut command = command_line(alloc)?;
     let _matches = command.try_get_matches_from_mut(words)?;
-    Err(command.error(ErrorKind::InvalidSubcommand, "no such command")?)
+    Err(command.error(ErrorKind::InvalidSubcommand, texts::NOT_ASKED)?)
 }

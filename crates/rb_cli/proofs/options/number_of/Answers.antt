@@ -1,31 +1,11 @@
-use Rattle.std.proofs.Common.{◌≡◌, ℕ, ◌+◌, ◌*◌, ◌<◌, List, [], Some, Bor, get_or, length, map, decimal, ap, sym, ◌∙◌, arith}
-use Rattle.std.specs.Prelude.{option_map, slice_get}
-use Rattle.std.proofs.lemmas.Option.{slice_get-get_or, slice_get-map}
+-- The number is the one behind the option's name, and none of the options before is given with one in the range.
+use Rattle.std.proofs.Common.{◌≡◌, ℕ, ◌+◌, ◌*◌, Some, map, decimal, sym, arith}
+use Rattle.std.specs.Prelude.{slice_get}
 use Rattle.std.proofs.lemmas.Slice.Eq.{bytes_eq-Decides}
 use borrow.Author.Count.{below_more}
+use Rattle.rb_cli.proofs.Given.{is_word, text_at, text_of}
 use Rattle.rb_cli.proofs.options.number_of.Goals as goal
 use Rattle.rb_cli.proofs.options.number_of.Goals.{then-eq+in_default, else-eq}
-
--- what stands where there is no word
-abbrev nowhere : Bor (List ℕ)
-nowhere = record { ref_ptr = (0, 0); now = [] }
-
--- the text of a word, both ways
-text_is : (words : List (Bor (List ℕ))) (k : ℕ) → k < length words
-    → slice_get (map (λ word. word.now) words) k ≡ Some (get_or words k nowhere).now
-text_is words k below = slice_get-map (λ word. word.now) words k
-    ∙ ap (option_map (λ word. word.now)) (slice_get-get_or words k nowhere below)
-
-text_at : (words : List (Bor (List ℕ))) (k : ℕ) (text : List ℕ) → k < length words → (get_or words k nowhere).now ≡ text
-    → slice_get (map (λ word. word.now) words) k ≡ Some text
-text_at words k text below is = text_is words k below ∙ ap Some is
-
-some_same : (a b : List ℕ) → Some a ≡ Some b → a ≡ b
-some_same a b e = cc e
-
-text_of : (words : List (Bor (List ℕ))) (k : ℕ) (text : List ℕ) → k < length words → slice_get (map (λ word. word.now) words) k ≡ Some text
-    → (get_or words k nowhere).now ≡ text
-text_of words k text below at = some_same _ _ (sym (text_is words k below) ∙ at)
 
 pub returns-in-Some-clause-found : goal.returns-in-Some-clause-found
 returns-in-Some-clause-found c =
@@ -33,7 +13,6 @@ returns-in-Some-clause-found c =
     let name_is = (bytes_eq-Decides _ c.args.name.now).0 (sym c.if-eq.ensures) in (
       (
         c.loop-i.i,
-        c.loop-i-test.true,
         text_at c.args.words.now (2 * c.loop-i.i + 1) _ (omega arith) name_is,
         text_at c.args.words.now (2 * c.loop-i.i + 2) _ (omega arith) found.0,
       ),
@@ -42,7 +21,8 @@ returns-in-Some-clause-found c =
     )
 
 pub returns-clause-none : goal.returns-clause-none
-returns-clause-none c = λ n low high given. c.loop-i.invariant n low high given.0 (omega (arith, given.1)) given.2 given.3
+returns-clause-none c = λ n low high given.
+    let below = is_word c.args.words.now (2 * given.0 + 2) _ given.2 in c.loop-i.invariant n low high given.0 (omega (arith, below)) given.1 given.2
 
 pub loop-i-preserved : goal.loop-i-preserved
 loop-i-preserved c = λ n low high.
