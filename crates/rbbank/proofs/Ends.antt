@@ -5,14 +5,14 @@ use Rattle.std.specs.declared.io.ErrorKind.TheVariants.{OutOfMemory as IoOutOfMe
 use Rattle.clap.specs.declared.error.kind.ErrorKind.{ErrorKind}
 use Rattle.clap.specs.declared.error.kind.ErrorKind.TheVariants.{DisplayHelp, DisplayVersion, OutOfMemory as NoMemory}
 use Rattle.rb_lines.specs.declared.fault.StreamFault.{StreamFault}
-use Rattle.rb_lines.specs.declared.fault.StreamFault.TheVariants.{NoConfig, OutOfMemory}
+use Rattle.rb_lines.specs.declared.fault.StreamFault.TheVariants.{NoConfig, OutOfMemory, Write}
 use Rattle.rb_lines.specs.Messages.{status_of}
 use Rattle.rb_run_threads.specs.declared.fault.ThreadsFault.{ThreadsFault}
 use Rattle.rb_run_threads.specs.Messages.{threads_status_of}
 use Rattle.rbbank.specs.declared.answer.Answered.{Answered}
-use Rattle.rbbank.specs.declared.answer.Answered.TheVariants.{Script, Audit, Migrate, Threads}
-use Rattle.rbbank.specs.Statuses.{IsEnd, IsEndOf, IsEndOfAudit, IsEndOfScript, IsEndOfThreads, IsToldStatus, status_of_unread}
-use Rattle.rbbank.specs.Statuses.{status_of_words}
+use Rattle.rbbank.specs.declared.answer.Answered.TheVariants.{Script, Audit, Migrate, Threads, NotBuiltIn}
+use Rattle.rbbank.specs.Statuses.{IsEnd, IsEndOf, IsEndOfAudit, IsEndOfScript, IsEndOfThreads, IsEndOfWords}
+use Rattle.rbbank.specs.Statuses.{IsToldStatus, status_of_unread}
 
 -- memory ran out
 pub no_memory : (n : ℕ) → n ≡ 4 → IsEnd n
@@ -45,12 +45,17 @@ any_end n (Script ran) e = script_end n ran e
 any_end n (Audit ran) e = audit_end n ran e
 any_end n (Migrate ran) e = script_end n ran e
 any_end n (Threads ran) e = threads_end n ran e
+any_end n NotBuiltIn e = inr (inr (inl (NoConfig, e)))
+
+shown_end : (n : ℕ) → (n ≡ 0) ⊎ IsToldStatus (status_of Write) n → IsEnd n
+shown_end n (inl e) = inl e
+shown_end n (inr e) = fault_end n Write e
 
 -- the words ask for nothing
-pub words_end : (n : ℕ) (kind : ErrorKind) → n ≡ status_of_words kind → IsEnd n
+pub words_end : (n : ℕ) (kind : ErrorKind) → IsEndOfWords kind n → IsEnd n
 words_end n NoMemory e = no_memory n e
-words_end n DisplayHelp e = inl e
-words_end n DisplayVersion e = inl e
+words_end n DisplayHelp e = shown_end n e
+words_end n DisplayVersion e = shown_end n e
 words_end n kind e = inr (inr (inl (NoConfig, e)))
 
 -- the words can't be read

@@ -1,20 +1,21 @@
 -- What the program does for its words.
-use Rattle.std.specs.Prelude.{◌≡◌, ℕ, List, Option, IfSome}
+use Rattle.std.specs.Prelude.{◌≡◌, ℕ, List, [], Option, IfSome}
 use Rattle.rb_cli.specs.declared.words.Words.{Words}
-use Rattle.rb_cli.specs.declared.words.Words.TheVariants.{Script, Audit, Migrate, Threads}
+use Rattle.rb_cli.specs.declared.words.Words.TheVariants.{Script, Audit, Migrate, Threads, Site}
 use Rattle.rb_run_script.specs.Run.{ScriptEndsAs}
 use Rattle.rb_run_audit.specs.Run.{AuditEndsAs}
 use Rattle.rb_run_migrate.specs.Run.{MigrationEndsAs}
 use Rattle.rb_run_threads.specs.Runs.{ThreadsEndAs}
 use Rattle.rbbank.specs.declared.answer.Answered.{Answered}
 use Rattle.rbbank.specs.declared.answer.Answered.TheVariants.{Script as ScriptRan, Audit as AuditRan, Migrate as MigrationRan}
-use Rattle.rbbank.specs.declared.answer.Answered.TheVariants.{Threads as TellersRan}
+use Rattle.rbbank.specs.declared.answer.Answered.TheVariants.{Threads as TellersRan, NotBuiltIn}
 
 -- what was asked for was done, by the definition of its own run: a script on the reader's bytes, an audit of them or a migration, wherever
--- these bytes are known, or a run of tellers, which reads nothing
+-- these bytes are known, or a run of tellers, which reads nothing. A site isn't built in yet: nothing is read or written
 abbrev pub DoesAsAsked : Words → Answered → Option (List ℕ) → Option (List ℕ) → List ℕ → Type 0
 DoesAsAsked Script (ScriptRan r) bytes left text = IfSome bytes (λ input. ScriptEndsAs r input left text)
 DoesAsAsked Audit (AuditRan r) bytes left text = IfSome bytes (λ input. AuditEndsAs r input left text)
 DoesAsAsked Migrate (MigrationRan r) bytes left text = IfSome bytes (λ input. MigrationEndsAs r input left text)
 DoesAsAsked (Threads sites tellers seed) (TellersRan r) bytes left text = ThreadsEndAs r sites tellers seed text × (left ≡ bytes)
+DoesAsAsked (Site me journal resend) NotBuiltIn bytes left text = (text ≡ []) × (left ≡ bytes)
 DoesAsAsked _ _ bytes left text = ⊥

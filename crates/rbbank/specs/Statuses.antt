@@ -3,20 +3,14 @@ use Rattle.std.specs.Prelude.{◌≡◌, ◌⊎◌, ℕ, Bool, true, false, Resu
 use Rattle.std.specs.declared.io.ErrorKind.{ErrorKind as IoErrorKind}
 use Rattle.std.specs.declared.io.ErrorKind.TheVariants.{OutOfMemory as IoOutOfMemory}
 use Rattle.clap.specs.declared.error.kind.ErrorKind.{ErrorKind}
-use Rattle.clap.specs.declared.error.kind.ErrorKind.TheVariants.{DisplayHelp, DisplayVersion, OutOfMemory}
+use Rattle.clap.specs.declared.error.kind.ErrorKind.TheVariants.{DisplayHelp, DisplayVersion, OutOfMemory as NoMemory}
 use Rattle.rb_lines.specs.declared.fault.StreamFault.{StreamFault}
+use Rattle.rb_lines.specs.declared.fault.StreamFault.TheVariants.{Write}
 use Rattle.rb_lines.specs.Messages.{status_of}
 use Rattle.rb_run_threads.specs.declared.fault.ThreadsFault.{ThreadsFault}
 use Rattle.rb_run_threads.specs.Messages.{threads_status_of}
 use Rattle.rbbank.specs.declared.answer.Answered.{Answered}
-use Rattle.rbbank.specs.declared.answer.Answered.TheVariants.{Script, Audit, Migrate, Threads}
-
--- where the words ask for nothing: help or the version that was asked for is no fault
-abbrev pub status_of_words : ErrorKind → ℕ
-status_of_words OutOfMemory = 4
-status_of_words DisplayHelp = 0
-status_of_words DisplayVersion = 0
-status_of_words _ = 2
+use Rattle.rbbank.specs.declared.answer.Answered.TheVariants.{Script, Audit, Migrate, Threads, NotBuiltIn}
 
 -- where the words can't be read
 abbrev pub status_of_unread : IoErrorKind → ℕ
@@ -26,6 +20,13 @@ status_of_unread _ = 2
 -- this status of a fault, or 4 where memory runs out for its text
 abbrev pub IsToldStatus : ℕ → ℕ → Type 0
 IsToldStatus status n = (n ≡ status) ⊎ (n ≡ 4)
+
+-- where the words ask for nothing: help or the version that was asked for is no fault where it is written
+abbrev pub IsEndOfWords : ErrorKind → ℕ → Type 0
+IsEndOfWords NoMemory n = n ≡ 4
+IsEndOfWords DisplayHelp n = (n ≡ 0) ⊎ IsToldStatus (status_of Write) n
+IsEndOfWords DisplayVersion n = (n ≡ 0) ⊎ IsToldStatus (status_of Write) n
+IsEndOfWords _ n = n ≡ 2
 
 -- a script, or a migration, that was answered whole is no fault
 abbrev pub IsEndOfScript : Result ℕ StreamFault → ℕ → Type 0
@@ -43,12 +44,13 @@ abbrev pub IsEndOfThreads : Result Unit ThreadsFault → ℕ → Type 0
 IsEndOfThreads (Ok u) n = n ≡ 0
 IsEndOfThreads (Err fault) n = IsToldStatus (threads_status_of fault) n
 
--- whatever was done ends as a script, an audit, a migration or a run of threads does
+-- whatever was done ends as a script, an audit, a migration or a run of threads does; a site isn't built in yet
 abbrev pub IsEndOf : Answered → ℕ → Type 0
 IsEndOf (Script ran) n = IsEndOfScript ran n
 IsEndOf (Audit ran) n = IsEndOfAudit ran n
 IsEndOf (Migrate ran) n = IsEndOfScript ran n
 IsEndOf (Threads ran) n = IsEndOfThreads ran n
+IsEndOf NotBuiltIn n = n ≡ 2
 
 -- 0, 1, or the status of a fault
 abbrev pub IsEnd : ℕ → Type 0

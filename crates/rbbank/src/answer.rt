@@ -28,6 +28,8 @@ pub enum Answered {
     Migrate(Result<u64, ScriptFault>),
     /// Tellers ran.
     Threads(Result<(), ThreadsFault>),
+    /// A site was asked for, which isn't built in yet.
+    NotBuiltIn,
 }
 
 /// Does what the words after the program's name ask for, from this reader to this writer. Tellers read nothing;
@@ -63,6 +65,7 @@ pub fn answer<'a, H: Threads + Wait + Sync, S: Source, W: Sink>(
             let ran = run_threads(handle, alloc, sites, tellers, seed, NoGate, writer);
             Ok(Answered::Threads(ran))
         }
+        Ok(Words::Site { .. }) => Ok(Answered::NotBuiltIn),
         Err(error) => Err(error),
     }
 }

@@ -3,13 +3,14 @@
 //! Tests: rb_tests_runs, words.rt; the program itself runs in the gate and on examples/.
 #![tactic(auto)]
 
-ghost use Rattle.std.specs.Prelude.{◌≡◌};
+ghost use Rattle.std.specs.Prelude.{◌≡◌, ◌⊎◌};
 ghost use Rattle.std.specs.IoError.{error_kind};
 ghost use Rattle.std.specs.Process.{exit_status};
 ghost use Rattle.clap.specs.Words.{kind_of};
 ghost use Rattle.rb_lines.specs.Messages.{status_of};
-ghost use Rattle.rbbank.specs.Statuses.{IsEnd, IsEndOf, IsEndOfAudit, IsEndOfScript, IsEndOfThreads, IsToldStatus};
-ghost use Rattle.rbbank.specs.Statuses.{status_of_unread, status_of_words};
+ghost use Rattle.rb_lines.specs.declared.fault.StreamFault.TheVariants.{Write as NotWritten};
+ghost use Rattle.rbbank.specs.Statuses.{IsEnd, IsEndOf, IsEndOfAudit, IsEndOfScript, IsEndOfThreads, IsEndOfWords};
+ghost use Rattle.rbbank.specs.Statuses.{IsToldStatus, status_of_unread};
 
 mod answer;
 
@@ -59,17 +60,24 @@ fn tell_fault(rt: &HostRuntime, fault: ScriptFault) -> ExitCode
     tell_line(rt, message(rt.alloc(), fault), status(fault))
 }
 
+/// Writes help or the version, which was asked for, to standard output.
+fn show(rt: &HostRuntime, asked: &clap::Error) -> ExitCode
+    ensures { (exit_status result ≡ 0) ⊎ IsToldStatus (status_of NotWritten) (exit_status result) }
+{
+    if rt.print(asked).is_err() {
+        return tell_fault(rt, ScriptFault::Write);
+    }
+    ExitCode::SUCCESS
+}
+
 /// Says what is wrong with the words. Help or the version that was asked for goes to standard output, and nothing is
-/// wrong.
+/// wrong where it is written.
 fn tell_words(rt: &HostRuntime, error: clap::Error) -> ExitCode
-    ensures { exit_status result ≡ status_of_words (kind_of error) }
+    ensures { IsEndOfWords (kind_of error) (exit_status result) }
 {
     match error.kind() {
         ErrorKind::OutOfMemory => out_of_memory(rt),
-        ErrorKind::DisplayHelp | ErrorKind::DisplayVersion => {
-            let _ = rt.print(&error);
-            ExitCode::SUCCESS
-        }
+        ErrorKind::DisplayHelp | ErrorKind::DisplayVersion => show(rt, &error),
         _ => {
             let _ = rt.eprint(&error);
             ExitCode::from(WRONG_WORDS)
@@ -125,6 +133,14 @@ fn end_of_threads(rt: &HostRuntime, ran: Result<(), ThreadsFault>) -> ExitCode
     }
 }
 
+/// Says that a site isn't built in yet.
+fn not_built_in(rt: &HostRuntime) -> ExitCode
+    ensures { exit_status result ≡ 2 }
+{
+    let _ = rt.eprintln("rbbank: site isn't built in yet");
+    ExitCode::from(WRONG_WORDS)
+}
+
 /// How whatever was asked for ends the program.
 fn end(rt: &HostRuntime, answered: Answered) -> ExitCode
     ensures { IsEndOf answered (exit_status result) }
@@ -134,6 +150,7 @@ fn end(rt: &HostRuntime, answered: Answered) -> ExitCode
         Answered::Audit(ran) => end_of_audit(rt, ran),
         Answered::Migrate(ran) => end_of_script(rt, ran),
         Answered::Threads(ran) => end_of_threads(rt, ran),
+        Answered::NotBuiltIn => not_built_in(rt),
     }
 }
 
