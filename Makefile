@@ -1,4 +1,4 @@
-.PHONY: help demo try build test toolchain check examples bench refuse wrong-bodies
+.PHONY: help demo try build install test toolchain check examples bench refuse wrong-bodies
 
 help:
 	@echo 'At once:'
@@ -8,6 +8,8 @@ help:
 	@echo
 	@echo 'With time (on four processors; on two it takes about twice as long):'
 	@echo '  make build         proves and builds the program; less than an hour the first time'
+	@echo '  make install PREFIX=/usr/local'
+	@echo '                     copies the program, its manual page and completions for three shells, after make build'
 	@echo '  make examples      every example, and every case of tests/cases, through the program, after make build'
 	@echo '  make test          the gate; about an hour; with kit 13f half a minute where nothing changed since (docs/GATE.md)'
 	@echo
@@ -29,14 +31,23 @@ try:
 
 # Proves and builds the program, and prints where it lies.
 build:
+	@echo 'Proving and building: less than an hour the first time, seconds where nothing changed since (four processors).'
 	@cd crates/rbbank && rt run -- script < stdin > /dev/null
 	@echo $(CURDIR)/crates/rbbank/out/rbbank
+
+# The program, and the manual page and completions that are made from its help, below PREFIX.
+PREFIX ?= /usr/local
+install:
+	@test -x crates/rbbank/out/rbbank || { echo 'there is no program yet: make build'; exit 1; }
+	@install -D -m 755 crates/rbbank/out/rbbank "$(DESTDIR)$(PREFIX)/bin/rbbank"
+	@examples/from_help.py "$(DESTDIR)$(PREFIX)/bin/rbbank" "$(DESTDIR)$(PREFIX)"
 
 # Every script, all histories and migrations of examples/, and the cases of tests/cases, through the program.
 examples: build
 	@examples/check.py crates/rbbank/out/rbbank
 	@examples/check_drawings.py crates/rbbank/out/rbbank
 	@tests/cases.py crates/rbbank/out/rbbank
+	@examples/from_help.py --check crates/rbbank/out/rbbank
 
 # The gate. The last line is 'N passed, 0 failed', or an example or a case that is answered otherwise.
 test: toolchain
@@ -48,6 +59,7 @@ test: toolchain
 	@examples/check.py --quiet crates/rbbank/out/rbbank
 	@examples/check_drawings.py --quiet crates/rbbank/out/rbbank
 	@tests/cases.py --quiet crates/rbbank/out/rbbank
+	@examples/from_help.py --check crates/rbbank/out/rbbank
 
 # Whether README.md names this machine's toolchain, as one that every crate was proved with.
 toolchain:
