@@ -1,0 +1,6 @@
+mod Cuts
+mod Grown
+mod Invisible
+mod Kept
+mod Losing
+mod Places
