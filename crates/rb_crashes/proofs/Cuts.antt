@@ -20,7 +20,7 @@ use Rattle.rb_site.proofs.Public.Places.{same_number}
 use Rattle.rb_site.proofs.Public.Stuck
 use Rattle.rb_crashes.specs.Crashes.{Acts, DiskSite, DiskStep, IsReported, IsSent, Leads, MayHappen, Receives, Reports, Restarts, Stays}
 use Rattle.rb_crashes.specs.Crashes.{Goes, Syncs, TakesStep, after_step, first_disks, sites_from}
-use Rattle.rb_crashes.specs.Laws.{IsInOrderThere, IsWorldOf}
+use Rattle.rb_crashes.specs.Laws.{IsBounded, IsWorldOf}
 use Rattle.rb_crashes.proofs.Grown
 use Rattle.rb_crashes.proofs.Grown.{Brings}
 use Rattle.rb_crashes.proofs.Places
@@ -41,7 +41,7 @@ pub record AreCuts (w c : List DiskSite) : Type 0 where
 
 -- the sites are in order, and whatever crashes may leave of them is a world's
 pub record IsSafe (s : Settings) (w : List DiskSite) : Type 0 where
-  pub order : (i : ℕ) (d : DiskSite) → slice_get w i ≡ Some d → IsInOrderThere s d
+  pub order : (i : ℕ) (d : DiskSite) → slice_get w i ≡ Some d → IsBounded s d
   pub cuts : (c : List DiskSite) → AreCuts w c → IsWorldOf s c
 
 -- a site that loses nothing
@@ -54,7 +54,7 @@ itself s w g = g.cuts w (record { sites = refl; each = each })
   where
     each : (i : ℕ) (d b : DiskSite) → slice_get w i ≡ Some d → slice_get w i ≡ Some b → IsCutTo d b
     each i d b at here =
-        let o : IsInOrderThere s d = g.order i d at in
+        let o : IsBounded s d = g.order i d at in
         let a : d.reported ≤ d.on_disk = o.reported in
         let e : d.on_disk ≤ length d.events = o.on_disk in
         subst (IsCutTo d) (Places.same_item (slice_get w i) d b at here) (whole d (omega arith))
@@ -98,8 +98,8 @@ first_safe s = record { order = order; cuts = cuts }
     none : DiskSite
     none = record { events = []; on_disk = 0; reported = 0 }
 
-    order : (i : ℕ) (d : DiskSite) → slice_get (first_disks s) i ≡ Some d → IsInOrderThere s d
-    order i d at = subst (IsInOrderThere s) (sym (Places.get_replicate s.sites i none d at))
+    order : (i : ℕ) (d : DiskSite) → slice_get (first_disks s) i ≡ Some d → IsBounded s d
+    order i d at = subst (IsBounded s) (sym (Places.get_replicate s.sites i none d at))
         (record { reported = omega arith; on_disk = omega arith; within = omega arith })
 
     empty : (c : List DiskSite) → AreCuts (first_disks s) c → (i : ℕ) (b : DiskSite) → slice_get c i ≡ Some b → b.events ≡ []
@@ -114,15 +114,18 @@ first_safe s = record { order = order; cuts = cuts }
       events = [];
       own = tt;
       sites = ap (λ n. map first_site (range_with_len 0 n)) (sym (h.sites ∙ length-replicate s.sites none)) ∙ empty_sites s 0 c (empty c h);
-      sent = λ m. (λ k. absurd k, λ r. subst (λ es. IsAmong m (sends_of s (first_site r.number) es)) (empty c h r.number r.site r.at) r.sent);
+      sent = λ m. (
+        λ k. absurd k,
+        λ r. subst (λ es. IsAmong m (sends_of s (first_site r.number) es)) (empty c h r.number r.site r.at) r.sent,
+      );
     }
 
 -- ---- one site changes
 
-order_set : (s : Settings) (w : List DiskSite) (i : ℕ) (d new : DiskSite) → slice_get w i ≡ Some d → IsSafe s w → IsInOrderThere s new →
-    (j : ℕ) (f : DiskSite) → slice_get (slice_set w i new) j ≡ Some f → IsInOrderThere s f
+order_set : (s : Settings) (w : List DiskSite) (i : ℕ) (d new : DiskSite) → slice_get w i ≡ Some d → IsSafe s w → IsBounded s new →
+    (j : ℕ) (f : DiskSite) → slice_get (slice_set w i new) j ≡ Some f → IsBounded s f
 order_set s w i d new at g here j f h = elim (same_number i j) [
-  | inl q ↦ subst (IsInOrderThere s) (Places.same_item (slice_get (slice_set w i new) i) new f (Sets.get_set_same w i d new at)
+  | inl q ↦ subst (IsBounded s) (Places.same_item (slice_get (slice_set w i new) i) new f (Sets.get_set_same w i d new at)
       (ap (slice_get (slice_set w i new)) (sym q) ∙ h)) here
   | inr ne ↦ g.order j f (sym (Sets.get_set_other w i j new ne) ∙ h)
 ]
@@ -158,7 +161,7 @@ left_at w c i d new at h =
     record { site = a; at = there; cut = h.each i new a here there }
 
 -- a site of which crashes may leave no more than before
-quiet : (s : Settings) (w : List DiskSite) (i : ℕ) (d new : DiskSite) → slice_get w i ≡ Some d → IsSafe s w → IsInOrderThere s new →
+quiet : (s : Settings) (w : List DiskSite) (i : ℕ) (d new : DiskSite) → slice_get w i ≡ Some d → IsSafe s w → IsBounded s new →
     ((b : DiskSite) → IsCutTo new b → IsCutTo d b) → IsSafe s (slice_set w i new)
 quiet s w i d new at g here fewer = record { order = order_set s w i d new at g here; cuts = cuts }
   where
@@ -176,23 +179,23 @@ MayCome s w i d e = (c : List DiskSite) → AreCuts w c → (x : IsWorldOf s c) 
     Brings s (world_of_run s x.events) i (after_events s (first_site i) d.events) e
 
 -- the site with the event
-abbrev with_event : DiskSite → Event → DiskSite
-with_event d e = record d { events = d.events ++ e ∷ [] }
+abbrev longer_by : DiskSite → Event → DiskSite
+longer_by d e = record d { events = d.events ++ e ∷ [] }
 
 more_safe : (s : Settings) (w : List DiskSite) (i : ℕ) (d : DiskSite) (e : Event) → slice_get w i ≡ Some d → IsSafe s w →
-    length d.events < s.limits.history → MayCome s w i d e → IsSafe s (slice_set w i (with_event d e))
+    length d.events < s.limits.history → MayCome s w i d e → IsSafe s (slice_set w i (longer_by d e))
 more_safe s w i d e at g free come = record { order = order_set s w i d new at g here; cuts = cuts }
   where
     new : DiskSite
-    new = with_event d e
+    new = longer_by d e
 
-    o : IsInOrderThere s d
+    o : IsBounded s d
     o = g.order i d at
 
     longer : length (d.events ++ e ∷ []) ≡ length d.events + 1
     longer = length-append d.events (e ∷ [])
 
-    here : IsInOrderThere s new
+    here : IsBounded s new
     here = record {
       reported = o.reported;
       on_disk = let a : d.on_disk ≤ length d.events = o.on_disk in omega (arith, longer);
@@ -238,10 +241,10 @@ site_is s c i d x at = ap (λ ts. slice_get ts i) x.sites ∙ Grown.site_at s 0 
     ∙ ap (λ j. Some (after_events s (first_site j) d.events)) (let q : 0 + i ≡ i = omega arith in q)
 
 recording_safe : (s : Settings) (w : List DiskSite) (i : ℕ) (d : DiskSite) (e : Event) → slice_get w i ≡ Some d → IsSafe s w →
-    MayCome s w i d e → IsSafe s (slice_set w i (cond (nat_le s.limits.history (length d.events)) d (with_event d e)))
+    MayCome s w i d e → IsSafe s (slice_set w i (cond (nat_le s.limits.history (length d.events)) d (longer_by d e)))
 recording_safe s w i d e at g come = by (nat_le s.limits.history (length d.events)) refl
   where
-    by : (b : Bool) → nat_le s.limits.history (length d.events) ≡ b → IsSafe s (slice_set w i (cond b d (with_event d e)))
+    by : (b : Bool) → nat_le s.limits.history (length d.events) ≡ b → IsSafe s (slice_set w i (cond b d (longer_by d e)))
     by true q = subst (IsSafe s) (sym (Places.set_same w i d at)) g
     by false q = more_safe s w i d e at g (grind (arith, nat_tests)) come
 
@@ -250,21 +253,22 @@ recording_safe s w i d e at g come = by (nat_le s.limits.history (length d.event
 step_safe : (s : Settings) (w : List DiskSite) (i : ℕ) (d : DiskSite) (step : DiskStep) → slice_get w i ≡ Some d → IsSafe s w →
     MayHappen s w d step → IsSafe s (slice_set w i (after_step s d step))
 step_safe s w i d (Acts e) at g own = recording_safe s w i d e at g
-    (λ c cuts x there. Grown.brings_own s (world_of_run s x.events) i (after_events s (first_site i) d.events) e (site_is s c i d x there) own)
+    (λ c cuts x there. Grown.brings_own s (world_of_run s x.events) i (after_events s (first_site i) d.events) e
+    (site_is s c i d x there) own)
 step_safe s w i d (Receives m) at g r = recording_safe s w i d (Receive m) at g
     (λ c cuts x there. Grown.brings_message s (world_of_run s x.events) i (after_events s (first_site i) d.events) m
     (site_is s c i d x there) ((x.sent m).1 (reported_sent s w c m cuts r)))
 step_safe s w i d (Syncs n) at g (least, most) =
-    let o : IsInOrderThere s d = g.order i d at in
+    let o : IsBounded s d = g.order i d at in
     let a : d.reported ≤ d.on_disk = o.reported in
     quiet s w i d (record d { on_disk = n }) at g (record { reported = omega arith; on_disk = most; within = o.within })
     (λ b cut. record { count = cut.count; least = cut.least; most = cut.most; is = cut.is })
 step_safe s w i d (Reports n) at g (least, most) =
-    let o : IsInOrderThere s d = g.order i d at in
+    let o : IsBounded s d = g.order i d at in
     quiet s w i d (record d { reported = n }) at g (record { reported = most; on_disk = o.on_disk; within = o.within })
     (λ b cut. record { count = cut.count; least = let k : n ≤ cut.count = cut.least in omega arith; most = cut.most; is = cut.is })
 step_safe s w i d (Restarts n) at g (least, most) =
-    let o : IsInOrderThere s d = g.order i d at in
+    let o : IsBounded s d = g.order i d at in
     let a : d.reported ≤ d.on_disk = o.reported in
     let z : length d.events ≤ s.limits.history = o.within in
     let short : length (take n d.events) ≡ n = length-take-le n d.events most in

@@ -7,7 +7,7 @@ use Rattle.rb_site.specs.Events.{after_events, first_site}
 use Rattle.rb_site.specs.Histories.{history_of, with_replies}
 use Rattle.rb_site.proofs.Public.Seen
 use Rattle.rb_crashes.specs.Crashes.{DiskSite, Leads, first_disks, histories_from, sites_from}
-use Rattle.rb_crashes.specs.Laws.{AreWithoutCrashes, IsInOrderThere, IsWorldOf}
+use Rattle.rb_crashes.specs.Laws.{HidesCrashes, IsBounded, IsWorldOf}
 use Rattle.rb_crashes.proofs.Cuts
 use Rattle.rb_crashes.proofs.Cuts.{IsSafe}
 
@@ -31,12 +31,12 @@ histories_are s i (d ∷ w) within =
     ∙ ap (λ hs. with_replies s (first_site i) d.events ∷ hs) (histories_are s (i + 1) w (λ k. within (suc k)))
 
 -- the histories are those of a world in which nothing crashed
-pub one_world : (s : Settings) (w : List DiskSite) → IsSafe s w → AreWithoutCrashes s w
+pub one_world : (s : Settings) (w : List DiskSite) → IsSafe s w → HidesCrashes s w
 one_world s w g =
     let x : IsWorldOf s w = Cuts.itself s w g in
     record {
       events = x.events;
       own = x.own;
       gives = ap (map (history_of s)) x.sites
-          ∙ histories_are s 0 w (λ k d at. let o : IsInOrderThere s d = g.order k d at in o.within);
+          ∙ histories_are s 0 w (λ k d at. let o : IsBounded s d = g.order k d at in o.within);
     }

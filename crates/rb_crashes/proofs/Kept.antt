@@ -12,7 +12,7 @@ use Rattle.rb_site.proofs.Public.Places as Sets
 use Rattle.rb_site.proofs.Public.Places.{same_number}
 use Rattle.rb_crashes.specs.Crashes.{Acts, DiskSite, DiskStep, Goes, Leads, MayHappen, Receives, Reports, Restarts, Stays, Syncs, TakesStep}
 use Rattle.rb_crashes.specs.Crashes.{after_step}
-use Rattle.rb_crashes.specs.Laws.{EventReport, IsInOrderThere, IsKeptAt, reported_at, reports_at, reports_of}
+use Rattle.rb_crashes.specs.Laws.{EventReport, IsBounded, IsKeptAt, reported_at, reports_at, reports_of}
 use Rattle.rb_crashes.proofs.Cuts
 use Rattle.rb_crashes.proofs.Cuts.{IsSafe}
 use Rattle.rb_crashes.proofs.Places
@@ -40,7 +40,7 @@ keeps_on a b c h k =
 
 -- ---- steps
 
-records : (s : Settings) (d : DiskSite) (e : Event) → IsInOrderThere s d →
+records : (s : Settings) (d : DiskSite) (e : Event) → IsBounded s d →
     Keeps d (cond (nat_le s.limits.history (length d.events)) d (record d { events = d.events ++ e ∷ [] }))
 records s d e o = by (nat_le s.limits.history (length d.events))
   where
@@ -51,7 +51,7 @@ records s d e o = by (nat_le s.limits.history (length d.events))
         let b : d.on_disk ≤ length d.events = o.on_disk in
         record { more = omega arith; same = take-append-le d.reported d.events (e ∷ []) (omega arith) }
 
-step_keeps : (s : Settings) (w : List DiskSite) (d : DiskSite) (step : DiskStep) → IsInOrderThere s d → MayHappen s w d step →
+step_keeps : (s : Settings) (w : List DiskSite) (d : DiskSite) (step : DiskStep) → IsBounded s d → MayHappen s w d step →
     Keeps d (after_step s d step)
 step_keeps s w d (Acts e) o may = records s d e o
 step_keeps s w d (Receives m) o may = records s d (Receive m) o

@@ -4,3 +4,5 @@ mod Invisible
 mod Kept
 mod Losing
 mod Places
+mod Shown
+mod Stepping

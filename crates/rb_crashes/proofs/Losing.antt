@@ -1,18 +1,17 @@
 -- What crashes lose, and what a deeper one would.
-use Rattle.std.proofs.Common.{◌≡◌, ℕ, suc, ◌+◌, ◌<◌, false, cond, List, [], ◌∷◌, ◌++◌, length, take, refl, ap, sym, ◌∙◌, arith, Some}
-use Rattle.std.specs.Prelude.{nat_le, slice_get, slice_set}
-use Rattle.std.proofs.lemmas.Bool.Decides.{nat_tests}
-use Rattle.std.proofs.lemmas.List.{length-append, length-replicate, length-take-le}
+use Rattle.std.proofs.Common.{◌≡◌, suc, ◌+◌, List, [], ◌∷◌, ◌++◌, length, take, refl, ap, arith, Some}
+use Rattle.std.specs.Prelude.{slice_get, slice_set}
+use Rattle.std.proofs.lemmas.List.{length-append, length-take-le}
 use Rattle.rb_money.specs.Settings.{Settings}
 use Rattle.rb_site.specs.declared.event.Event.{Event}
 use Rattle.rb_site.specs.declared.event.Event.TheVariants.{Pass}
 use Rattle.rb_site.specs.Events.{ModelSite, after_event, first_site}
-use Rattle.rb_site.specs.Worlds.{IsOwn}
 use Rattle.rb_site.proofs.Public.Places as Sets
-use Rattle.rb_crashes.specs.Crashes.{Acts, DiskSite, DiskStep, Goes, MayHappen, Reports, Restarts, Stays, Syncs, TakesStep}
-use Rattle.rb_crashes.specs.Crashes.{after_step, first_disks}
+use Rattle.rb_crashes.specs.Crashes.{DiskSite, Goes, Reports, Restarts, Stays, Syncs, TakesStep}
+use Rattle.rb_crashes.specs.Crashes.{first_disks}
 use Rattle.rb_crashes.specs.Laws.{CrashesLoseEvents, EventReport, ForgetsTheReported, reports_at, reports_of}
-use Rattle.rb_crashes.proofs.Places
+use Rattle.rb_crashes.proofs.Stepping
+use Rattle.rb_crashes.proofs.Stepping.{disk}
 
 -- ---- a deeper crash
 
@@ -29,35 +28,12 @@ forgets s i n d fewer within (more, is) =
     let short : length (take n d.events) ≡ n = length-take-le n d.events (omega arith) in
     let whole : length all ≡ length d.events = length-reports s d.events (first_site i) in
     let out : length (take d.reported all) ≡ d.reported = length-take-le d.reported all (omega arith) in
-    let both : length (take d.reported all ++ more) ≡ length (take d.reported all) + length more = length-append (take d.reported all) more in
+    let both : length (take d.reported all ++ more) ≡ length (take d.reported all) + length more =
+    length-append (take d.reported all) more in
     let same : length (reports_of s (first_site i) (take n d.events)) ≡ length (take d.reported all ++ more) = ap length is in
     absurd (omega arith)
 
 -- ---- a crash that loses an event
-
--- the site with an event of its own, where there is spare capacity
-acts : (s : Settings) (w : List DiskSite) (i : ℕ) (d : DiskSite) (e : Event) → slice_get w i ≡ Some d → IsOwn e →
-    length d.events < s.limits.history → TakesStep s w (slice_set w i (record d { events = d.events ++ e ∷ [] }))
-acts s w i d e at own free = record {
-  number = i;
-  site = d;
-  at = at;
-  step = Acts e;
-  may = own;
-  is = ap (λ b. slice_set w i (cond b d (record d { events = d.events ++ e ∷ [] }))) (sym test);
-}
-  where
-    test : nat_le s.limits.history (length d.events) ≡ false
-    test = grind (arith, nat_tests)
-
--- any other step that may happen
-abbrev takes : (s : Settings) (w : List DiskSite) (i : ℕ) (d : DiskSite) (step : DiskStep) → slice_get w i ≡ Some d → MayHappen s w d step →
-    TakesStep s w (slice_set w i (after_step s d step))
-takes s w i d step at may = record { number = i; site = d; at = at; step = step; may = may; is = refl }
-
--- a site with these events, so many of them on its disk and so many reported
-abbrev disk : ℕ → ℕ → List Event → DiskSite
-disk on_disk reported es = record { events = es; on_disk = on_disk; reported = reported }
 
 -- of two events the first is written and reported, and the crash takes the second
 pub loses : CrashesLoseEvents
@@ -65,7 +41,7 @@ loses s some two = record {
   before = w4;
   after = slice_set w4 0 (disk 1 1 (e ∷ []));
   led = Goes t1 (Goes t2 (Goes t3 (Goes t4 Stays)));
-  crash = takes s w4 0 d4 (Restarts 1) at4 (omega arith, omega arith);
+  crash = Stepping.takes s w4 0 d4 (Restarts 1) at4 (omega arith, omega arith);
   kept = 1;
   restarts = refl;
   reported = omega arith;
@@ -106,9 +82,7 @@ loses s some two = record {
     w4 = slice_set w3 0 d4
 
     at0 : slice_get w0 0 ≡ Some d0
-    at0 =
-        let (d, there) = Places.item_at w0 0 (let q : length w0 ≡ s.sites = length-replicate s.sites d0 in omega arith) in
-        there ∙ ap Some (Places.get_replicate s.sites 0 d0 d there)
+    at0 = Stepping.first_at s 0 (omega arith)
 
     at1 : slice_get w1 0 ≡ Some d1
     at1 = Sets.get_set_same w0 0 d0 d1 at0
@@ -123,13 +97,13 @@ loses s some two = record {
     at4 = Sets.get_set_same w3 0 d3 d4 at3
 
     t1 : TakesStep s w0 w1
-    t1 = acts s w0 0 d0 e at0 tt (omega arith)
+    t1 = Stepping.acts s w0 0 d0 e at0 tt (omega arith)
 
     t2 : TakesStep s w1 w2
-    t2 = acts s w1 0 d1 e at1 tt (omega arith)
+    t2 = Stepping.acts s w1 0 d1 e at1 tt (omega arith)
 
     t3 : TakesStep s w2 w3
-    t3 = takes s w2 0 d2 (Syncs 1) at2 (omega arith, omega arith)
+    t3 = Stepping.takes s w2 0 d2 (Syncs 1) at2 (omega arith, omega arith)
 
     t4 : TakesStep s w3 w4
-    t4 = takes s w3 0 d3 (Reports 1) at3 (omega arith, omega arith)
+    t4 = Stepping.takes s w3 0 d3 (Reports 1) at3 (omega arith, omega arith)

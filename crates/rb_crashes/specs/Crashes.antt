@@ -1,5 +1,6 @@
 -- Worlds whose sites crash, and restart from their disks.
-use Rattle.std.specs.Prelude.{◌≡◌, ℕ, ◌+◌, ◌≤◌, if◌then◌else◌, nat_le, List, [], ◌∷◌, ◌++◌, length, take, replicate, Some, slice_get, slice_set}
+use Rattle.std.specs.Prelude.{◌≡◌, ℕ, ◌+◌, ◌≤◌, if◌then◌else◌, nat_le, Some}
+use Rattle.std.specs.Prelude.{List, [], ◌∷◌, ◌++◌, length, take, replicate, slice_get, slice_set}
 use Rattle.rb_money.specs.Settings.{Settings}
 use Rattle.rb_site.specs.declared.entry.Entry.{Entry}
 use Rattle.rb_site.specs.declared.event.Event.{Event}
@@ -11,7 +12,8 @@ use Rattle.rb_site.specs.Worlds.{IsOwn}
 
 -- ---- sites with disks
 
--- a site with a disk: the events that it has recorded, how many of them are on its disk, and how many it has reported, so that their replies and messages went out
+-- a site with a disk: the events that it has recorded, how many of them are on its disk, and how many it has reported.
+-- An event is reported once its reply or any of its messages may have gone out
 pub record DiskSite : Type 0 where
   pub events : List Event
   pub on_disk : ℕ
@@ -40,7 +42,7 @@ abbrev pub histories_from : Settings → ℕ → List DiskSite → List (List En
 histories_from s i [] = []
 histories_from s i (d ∷ ds) = with_replies s (first_site i) d.events ∷ histories_from s (i + 1) ds
 
--- the model's sites: each is the run of its events
+-- the model's sites, the first of which has the number i: each is the run of its events
 abbrev pub sites_from : Settings → ℕ → List DiskSite → List ModelSite
 sites_from s i [] = []
 sites_from s i (d ∷ ds) = after_events s (first_site i) d.events ∷ sites_from s (i + 1) ds
@@ -53,18 +55,19 @@ pub data DiskStep : Type 0 where
   Acts : (e : Event) → DiskStep
   -- a message is delivered
   Receives : (m : Message) → DiskStep
-  -- its first n events are on its disk now
+  -- its first n events have reached its disk
   Syncs : (n : ℕ) → DiskStep
-  -- its first n events are reported now
+  -- its first n events have been reported
   Reports : (n : ℕ) → DiskStep
-  -- it crashes, and restarts with its first n events
+  -- it crashes, and restarts from its first n events
   Restarts : (n : ℕ) → DiskStep
 
 -- a number from a to b
 abbrev pub IsFromTo : ℕ → ℕ → ℕ → Type 0
 IsFromTo a n b = (a ≤ n) × (n ≤ b)
 
--- what may happen: only a reported message is delivered, only what is on the disk is reported, and a crash takes nothing from the disk
+-- what may happen at a site: messages come by deliveries alone, and only reported ones do; only what is on the disk is
+-- reported; and a crash takes nothing from the disk
 abbrev pub MayHappen : Settings → List DiskSite → DiskSite → DiskStep → Type 0
 MayHappen s w d (Acts e) = IsOwn e
 MayHappen s w d (Receives m) = IsReported s w m
@@ -73,13 +76,13 @@ MayHappen s w d (Reports n) = IsFromTo d.reported n d.on_disk
 MayHappen s w d (Restarts n) = IsFromTo d.on_disk n (length d.events)
 
 -- the site with one event more, unless its history is full
-abbrev pub recording : Settings → DiskSite → Event → DiskSite
-recording s d e = if nat_le s.limits.history (length d.events) then d else record d { events = d.events ++ e ∷ [] }
+abbrev pub with_event : Settings → DiskSite → Event → DiskSite
+with_event s d e = if nat_le s.limits.history (length d.events) then d else record d { events = d.events ++ e ∷ [] }
 
 -- the site after a step; after a restart all that it has is on its disk
 abbrev pub after_step : Settings → DiskSite → DiskStep → DiskSite
-after_step s d (Acts e) = recording s d e
-after_step s d (Receives m) = recording s d (Receive m)
+after_step s d (Acts e) = with_event s d e
+after_step s d (Receives m) = with_event s d (Receive m)
 after_step s d (Syncs n) = record d { on_disk = n }
 after_step s d (Reports n) = record d { reported = n }
 after_step s d (Restarts n) = record d { events = take n d.events; on_disk = n }
