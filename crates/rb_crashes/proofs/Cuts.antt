@@ -1,4 +1,5 @@
--- Whatever sites lose behind what they reported, the rest of their histories is one world's.
+-- Whatever sites lose behind what they reported, the rest of their histories is one world's. So a crash, which leaves such a rest, keeps
+-- this, and an event more is brought to the world of the rest before it: its message, if any, was reported, so it is there.
 use Rattle.std.proofs.Common.{◌≡◌, ℕ, suc, ◌+◌, ◌<◌, ◌≤◌, Bool, true, false, cond, List, [], ◌∷◌, ◌++◌, length, take, drop, refl, ap, sym}
 use Rattle.std.proofs.Common.{subst, ◌∙◌, arith, inl, inr, Some}
 use Rattle.std.specs.Prelude.{map, nat_le, slice_get, slice_set}
@@ -39,7 +40,7 @@ pub record AreCuts (w c : List DiskSite) : Type 0 where
   pub sites : length c ≡ length w
   pub each : (i : ℕ) (d b : DiskSite) → slice_get w i ≡ Some d → slice_get c i ≡ Some b → IsCutTo d b
 
--- the sites are in order, and whatever crashes may leave of them is a world's
+-- the invariant: the sites' numbers are in order, and whatever crashes may leave of them is a world's
 pub record IsSafe (s : Settings) (w : List DiskSite) : Type 0 where
   pub order : (i : ℕ) (d : DiskSite) → slice_get w i ≡ Some d → IsBounded s d
   pub cuts : (c : List DiskSite) → AreCuts w c → IsWorldOf s c

@@ -19,7 +19,7 @@ pub record DiskSite : Type 0 where
   pub on_disk : ℕ
   pub reported : ℕ
 
--- one site for each number, before any event
+-- a world of such sites, one for each number, before any event
 abbrev pub first_disks : Settings → List DiskSite
 first_disks s = replicate s.sites (record { events = []; on_disk = 0; reported = 0 })
 
