@@ -69,7 +69,7 @@ impl World {
             × (self.new ≡ next_worlds self.old (take stopped.answered events.now))) }
         ensures holds { Holds self.new.settings self.new.world }
     {
-        // What every world keeps: it is the run of its events.
+        // For a fact alone: the world is the run of its events.
         let _ = &self.config;
         let mut replies = Vec::new(self.alloc);
         if replies.reserve(events.len()).is_err() {
