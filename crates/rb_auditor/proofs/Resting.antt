@@ -3,7 +3,7 @@ use Rattle.std.proofs.Common.{◌≡◌, ℕ, zero, suc, ◌≤◌, List, [], �
 use Rattle.std.specs.Prelude.{slice_get}
 use Rattle.rb_site.specs.declared.entry.Entry.{Entry}
 use Rattle.rb_site.specs.declared.event.Event.{Event}
-use Rattle.rb_site.specs.declared.event.Event.TheVariants.{Submit, Batch, Receive, Apply, Pass, Balance, AsOf, Statement as AskStatement}
+use Rattle.rb_site.specs.declared.event.Event.TheVariants.{Receive}
 use Rattle.rb_site.specs.declared.message.Message.{Message}
 use Rattle.rb_site.specs.Histories.{IsAmong, IsFrom}
 use Rattle.rb_auditor.specs.Progress.{IsHeldUp, Progress, Rests}
@@ -18,13 +18,7 @@ held_past ms (suc k) (x ∷ h) p = held_past ms k h (omega arith)
 -- what can't come is the receipt of a message that wasn't sent
 unsent : (ms : List Message) (e : Event) → ¬ IsFrom ms e → (m : Message) × (e ≡ Receive m) × ¬ IsAmong m ms
 unsent ms (Receive m) h = (m, refl, h)
-unsent ms (Submit r) h = absurd (h tt)
-unsent ms (Batch rs) h = absurd (h tt)
-unsent ms (Apply x) h = absurd (h tt)
-unsent ms (Pass to) h = absurd (h tt)
-unsent ms (Balance a) h = absurd (h tt)
-unsent ms (AsOf a n) h = absurd (h tt)
-unsent ms (AskStatement a) h = absurd (h tt)
+unsent ms _ h = absurd (h tt)
 
 -- a site rests whose entries were all taken
 pub rests_past : (p : Progress) (i k : ℕ) (h : List Entry)

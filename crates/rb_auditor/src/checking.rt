@@ -35,7 +35,7 @@ fn follow(taking: &mut Taking<'_>, order: &[u8]) -> Result<bool, AllocError>
     requires { taking.old ≡ first_progress taking.old.settings taking.old.histories }
     ensures { IfOk result (λ yes. IsTrue yes ↔ Certifies taking.old.settings taking.old.histories order.now) }
 {
-    // Called for its contract alone: that what is taken, nothing yet, is certified by its order.
+    // For a fact alone: what is taken, nothing yet, is certified by its order.
     let _sites = taking.sites();
     for site in order {
         if *site as usize >= taking.sites() {

@@ -85,6 +85,6 @@ fn note(
         return Ok(false);
     }
     let event = entry.event.try_copy(alloc)?;
-    let reply = site.step_onto(event, messages)?;
+    let reply = site.record(event, messages)?;
     Ok(reply.same(&entry.reply))
 }

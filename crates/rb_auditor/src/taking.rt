@@ -169,12 +169,6 @@ fn may_come(sent: &Sent, event: &Event) -> bool
 {
     match event {
         Event::Receive(message) => sent.has(message),
-        Event::Submit(_) => true,
-        Event::Batch(_) => true,
-        Event::Apply(_) => true,
-        Event::Pass(_) => true,
-        Event::Balance(_) => true,
-        Event::AsOf(_, _) => true,
-        Event::Statement(_) => true,
+        _ => true,
     }
 }

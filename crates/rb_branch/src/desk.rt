@@ -85,6 +85,7 @@ pub fn record<E: Entries, R: Ledger, W: Wait>(
     seat.receipts.reserve(1)?;
     let copy = event.try_copy(alloc)?;
     let (reply, posted) = desk.site.step(event)?;
+    // For a fact alone: the history replays.
     let _replays = desk.site.history();
     let number = desk.site.len();
     books.lock(rt).count(&mut desk.share, &mut seat.share);
@@ -167,6 +168,7 @@ impl<E: Entries> Desk<E> {
         ensures share { (result.1.parts ≡ 1) × (result.1.amount ≡ length result.0.history.items) }
     {
         let Desk { site, share } = self;
+        // For facts alone: the history's length is a u32, and the history replays.
         let _len = site.len();
         let _history = site.history();
         (site.close(), share)

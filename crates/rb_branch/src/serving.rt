@@ -28,6 +28,7 @@ impl<E: Entries, R: Ledger, G: Gate + Drop> Branch<E, R, G> {
         let mut first: usize = 0;
         for _ in rt.forever() {
             let more = self.receive_and_apply(rt, seat, inlet, first)?;
+            // For a fact alone: the seat has at most `MOST_RECEIPTS` receipts.
             let _few = seat.receipts().len();
             made += more;
             first = inlet.kept().len();
@@ -57,6 +58,7 @@ impl<E: Entries, R: Ledger, G: Gate + Drop> Branch<E, R, G> {
                 break;
             };
             let more = self.receive_from(rt, seat, inlet, 0)?;
+            // For a fact alone: the seat has at most `MOST_RECEIPTS` receipts.
             let _few = seat.receipts().len();
             made += more + 1;
         }
@@ -81,6 +83,7 @@ impl<E: Entries, R: Ledger, G: Gate + Drop> Branch<E, R, G> {
                 break;
             }
             let gone = self.receive_at(rt, seat, inlet, index)?;
+            // For a fact alone: the seat has at most `MOST_RECEIPTS` receipts.
             let _few = seat.receipts().len();
             made += 1;
             index = if gone { index } else { index + 1 };

@@ -8,8 +8,8 @@ use Rattle.rb_shadow.specs.declared.kind.Kind.TheVariants.{Deposit as DepositKin
 use Rattle.rb_shadow.specs.declared.kind.Kind.TheVariants.{Interest as InterestKind, Cancel as CancelKind, Transfer as TransferKind}
 use Rattle.rb_shadow.specs.declared.shadow.Shadow.{Shadow}
 use Rattle.rb_site.specs.declared.event.Event.{Event}
-use Rattle.rb_site.specs.declared.event.Event.TheVariants.{Submit, Batch, Receive, Apply, Pass, Balance, AsOf, Statement}
-use Rattle.rb_site.specs.declared.message.Message.TheVariants.{Shadow as ShadowMessage, Token as TokenOnItsWay}
+use Rattle.rb_site.specs.declared.event.Event.TheVariants.{Submit, Batch, Receive}
+use Rattle.rb_site.specs.declared.message.Message.TheVariants.{Shadow as ShadowMessage}
 use Rattle.rb_commands.specs.Laws.{ReadConfigsAreConfigured}
 use Rattle.rb_history.specs.Fits.{Each, EntriesAreRead, IsEvent, IsKind, IsRequest, IsShadow, ReadEntriesFit}
 use Rattle.rb_run_migrate.specs.Laws.{MigratedEntriesAreRead}
@@ -70,12 +70,7 @@ pub event : (s : Settings) (e : Event) → IsEvent s e → IsEvent (in_version_2
 event s (Submit r) h = request s r h
 event s (Batch rs) h = requests s rs h
 event s (Receive (ShadowMessage v)) h = shadow s v h
-event s (Receive (TokenOnItsWay m)) h = h
-event s (Apply x) h = h
-event s (Pass to) h = h
-event s (Balance a) h = h
-event s (AsOf a n) h = h
-event s (Statement a) h = h
+event s _ h = h
 
 -- what a migration writes for an entry is read as that entry
 pub entries : ReadConfigsAreConfigured → EntriesAreRead → ReadEntriesFit → MigratedEntriesAreRead

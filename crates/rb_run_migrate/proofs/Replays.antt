@@ -22,8 +22,7 @@ use Rattle.rb_statements.specs.Statements.{row_after, rows_of, statement_of}
 use Rattle.rb_site.specs.Events.{ModelSite, Makes, MakesAll, Outcome, Refuses, Shows, after_event, after_events, changed, is_full}
 use Rattle.rb_site.specs.Events.{outcome_of, replies_to_events, reply_of, reply_to}
 use Rattle.rb_site.specs.declared.event.Event.{Event}
-use Rattle.rb_site.specs.declared.event.Event.TheVariants.{Submit, Batch, Receive, Apply, Pass, Balance, AsOf, Statement}
-use Rattle.rb_site.specs.declared.message.Message.TheVariants.{Shadow as ShadowMessage, Token as TokenOnItsWay}
+use Rattle.rb_site.specs.declared.event.Event.TheVariants.{Submit, Batch}
 use Rattle.rb_site.specs.declared.reply.Reply.TheVariants.{Statement as StatementIs, Refused}
 use Rattle.rb_scratch.proofs.Public.Made.{stopped_by}
 use Rattle.rb_site.proofs.Public.Outcomes.{with_history}
@@ -92,13 +91,7 @@ outcome s t (Submit r) = ap (λ q. and_then Refuses q Makes) (made s t.me t.ops 
 outcome s t (Batch rs) =
     ap (λ q. if not (nat_le 1 (length rs) && nat_le (length rs) MOST_REQUESTS) then Refuses BadBatch else and_then Refuses q MakesAll)
     (batch s t.me t.ops t.token 0 rs)
-outcome s t (Receive (ShadowMessage v)) = refl
-outcome s t (Receive (TokenOnItsWay m)) = refl
-outcome s t (Apply x) = refl
-outcome s t (Pass to) = refl
-outcome s t (Balance a) = refl
-outcome s t (AsOf a n) = refl
-outcome s t (Statement a) = refl
+outcome s t _ = refl
 
 -- the reply to what it comes to
 reply_in_2 : (s : Settings) (us : List Shadow) (o : Outcome) → reply_of (in_version_2 s) us o ≡ reply_of s us o

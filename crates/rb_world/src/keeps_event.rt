@@ -1,9 +1,10 @@
 //! What a world keeps of the events that its sites recorded.
 ghost use Rattle.std.specs.Prelude.{◌≡◌, IfOk};
 ghost use Rattle.rb_site.specs.declared.world_event.WorldEvent.{WorldEvent as TheEvent};
+ghost use Rattle.rb_world.specs.Brought.{brought_by};
 
 use rb_kit::Erased;
-use rb_site::WorldEvent;
+use rb_site::{Event, WorldEvent};
 use std::alloc::{AllocError, Global};
 
 /// What is kept of an event: the event, or nothing that takes memory.
@@ -11,26 +12,57 @@ pub trait KeepsEvent: Drop {
     // The event that was noted.
     ghost noted: { Self → TheEvent };
 
-    /// Notes an event. `Err` means out of memory.
-    fn note(alloc: Global, event: &WorldEvent) -> Result<Self, AllocError>
-        ensures { IfOk result (λ note. noted note ≡ event.now) };
+    /// Notes the event that brings a site what arrives there: the delivery of the message of that number, or an event
+    /// of the site's own. `Err` means out of memory.
+    fn note(
+        alloc: Global,
+        site: u8,
+        arrived: &Event,
+        delivered: Option<u32>,
+    ) -> Result<Self, AllocError>
+        ensures { IfOk result (λ note. noted note ≡ brought_by site arrived.now delivered) };
 }
 
 impl KeepsEvent for WorldEvent {
     ghost noted = { λ e. e };
 
-    fn note(alloc: Global, event: &WorldEvent) -> Result<WorldEvent, AllocError> {
-        event.try_copy(alloc)
+    fn note(
+        alloc: Global,
+        site: u8,
+        arrived: &Event,
+        delivered: Option<u32>,
+    ) -> Result<WorldEvent, AllocError> {
+        match delivered {
+            Some(number) => Ok(WorldEvent::Deliver(site, number)),
+            None => {
+                let event = arrived.try_copy(alloc)?;
+                Ok(WorldEvent::At(site, event))
+            }
+        }
     }
 }
 
 /// An event that isn't kept. Only proofs read it.
-pub type ErasedEvent = Erased<WorldEvent>;
+#[derive(Drop)]
+pub struct ErasedEvent {
+    site: Erased<u8>,
+    arrived: Erased<Event>,
+    delivered: Erased<Option<u32>>,
+}
 
 impl KeepsEvent for ErasedEvent {
-    ghost noted = { λ e. e.value };
+    ghost noted = { λ e. brought_by e.site.value e.arrived.value e.delivered.value };
 
-    fn note(_alloc: Global, event: &WorldEvent) -> Result<ErasedEvent, AllocError> {
-        Ok(Erased::of(event))
+    fn note(
+        _alloc: Global,
+        site: u8,
+        arrived: &Event,
+        delivered: Option<u32>,
+    ) -> Result<ErasedEvent, AllocError> {
+        Ok(ErasedEvent {
+            site: Erased::of(&site),
+            arrived: Erased::of(arrived),
+            delivered: Erased::of(&delivered),
+        })
     }
 }

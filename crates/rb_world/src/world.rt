@@ -7,6 +7,7 @@ ghost use Rattle.rb_site.specs.Reports.{AreReports};
 ghost use Rattle.rb_site.specs.Seen.{state_of};
 ghost use Rattle.rb_site.specs.Histories.{site_of};
 ghost use Rattle.rb_site.specs.Worlds.{IsCommand, arrival, is_recorded, message_at};
+ghost use Rattle.rb_world.specs.Brought.{brought_by};
 ghost use Rattle.rb_world.specs.Laws.{Holds, IsRunOf, next_replies, next_reply, next_world, next_worlds, opened};
 
 use crate::{KeepsEvent, Stopped};
@@ -68,7 +69,7 @@ impl World {
             × (self.new ≡ next_worlds self.old (take stopped.answered events.now))) }
         ensures holds { Holds self.new.settings self.new.world }
     {
-        // What every world keeps: it is the run of its events.
+        // For a fact alone: the world is the run of its events.
         let _ = &self.config;
         let mut replies = Vec::new(self.alloc);
         if replies.reserve(events.len()).is_err() {
@@ -156,37 +157,25 @@ impl<E: KeepsEntry, R: KeepsEvent> World<E, R> {
             return Ok(Reply::Refused(Refusal::NoSite));
         };
         let full = site.is_full();
-        if !self.is_there(&event) {
+        let Some((arrived, delivered)) = self.brought(event) else {
             return Ok(Reply::Refused(Refusal::NoMessage));
-        }
+        };
         if full {
             return Ok(Reply::Refused(Refusal::HistoryFull));
         }
-        let noted = R::note(self.alloc, &event)?;
-        let Some(arrived) = self.arrival(event) else {
-            unreachable!()
-        };
+        let noted = R::note(self.alloc, number, &arrived, delivered)?;
         self.record(number, arrived, noted)
     }
 
-    /// Whether there is what an event brings to its site: a message of the number.
-    fn is_there(&self, event: &WorldEvent) -> bool
-        ensures { result ≡ is_some (arrival self.now.world.messages event.now) }
+    /// What an event brings to its site: an event of its own, or the receipt of the message of a number, with that.
+    fn brought(&self, event: WorldEvent) -> Option<(Event, Option<u32>)>
+        ensures arrived { option_map (λ b. b.0) result ≡ arrival self.now.world.messages event }
+        ensures by { IfSome result (λ b. brought_by (site_of event) b.0 b.1 ≡ event) }
     {
         match event {
-            WorldEvent::At(_, _) => true,
-            WorldEvent::Deliver(_, number) => self.message(*number).is_some(),
-        }
-    }
-
-    /// What an event brings to its site: an event of its own, or the receipt of the message.
-    fn arrival(&self, event: WorldEvent) -> Option<Event>
-        ensures { result ≡ arrival self.now.world.messages event }
-    {
-        match event {
-            WorldEvent::At(_, event) => Some(event),
+            WorldEvent::At(_, event) => Some((event, None)),
             WorldEvent::Deliver(_, number) => match self.message(number) {
-                Some(message) => Some(Event::Receive(message)),
+                Some(message) => Some((Event::Receive(message), Some(number))),
                 None => None,
             },
         }
@@ -202,7 +191,7 @@ impl<E: KeepsEntry, R: KeepsEvent> World<E, R> {
         self.sent.get(number as usize - 1).copied()
     }
 
-    /// A site takes an event for which its history has room.
+    /// A site takes an event for which its history has spare capacity.
     fn record(&mut self, site: u8, arrived: Event, noted: R) -> Result<Reply, AllocError>
         requires command { IsCommand (R.noted noted) }
         requires site { site ≡ site_of (R.noted noted) }
@@ -214,7 +203,7 @@ impl<E: KeepsEntry, R: KeepsEvent> World<E, R> {
         ensures err { OnErr result (self.new ≡ self.old) }
     {
         self.recorded.reserve(1)?;
-        let reply = self.sites[site as usize].step_onto(arrived, &mut self.sent)?;
+        let reply = self.sites[site as usize].record(arrived, &mut self.sent)?;
         self.recorded.push_reserved(noted);
         Ok(reply)
     }

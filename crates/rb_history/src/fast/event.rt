@@ -187,7 +187,7 @@ pub fn parse_event<'a>(alloc: Global, config: &Config, text: &'a str) -> Option<
 pub fn parse_event_line(alloc: Global, config: &Config, line: &str) -> Option<Event>
     ensures { IfSome result (λ e. event_of_line config.now line.now ≡ Some e) }
 {
-    // Its settings are those of a configuration.
+    // For a fact alone: its settings are those of a configuration.
     let _sites = config.sites();
     let (event, rest) = parse_event(alloc, config, line)?;
     if rest != "" {

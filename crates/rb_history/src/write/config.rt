@@ -79,7 +79,7 @@ fn append_config(out: &mut Vec<u8>, config: &Config) -> Result<(), AllocError>
 pub fn write_config(alloc: Global, config: &Config) -> Result<String, AllocError>
     ensures { IfOk result (λ s. string_bytes s ≡ compact_text (config_json config.now)) }
 {
-    // Its names are those of a configuration.
+    // For a fact alone: its names are those of a configuration.
     let _sites = config.sites();
     let mut bytes = Vec::new(alloc);
     append_config(&mut bytes, config)?;

@@ -60,7 +60,7 @@ pub fn write_line(
 ) -> Result<String, AllocError>
     ensures { IfOk result (λ s. string_bytes s ≡ compact_text (entry_json config.now site entry.now)) }
 {
-    // Its names are those of a configuration.
+    // For a fact alone: its names are those of a configuration.
     let _sites = config.sites();
     let mut bytes = Vec::new(alloc);
     append_line(&mut bytes, config, site, entry)?;

@@ -27,13 +27,13 @@ taken g c =
     c.self.invariant.1 c.index_mut.ensures.value
 
 the_step : (g : Over) (c : goal.After-push_reserved g) → shown_world c.self.inside.config
-    (slice_set c.self.inside.sites.items c.args.site c.step_onto.new.self) c.step_onto.new.sent.items
+    (slice_set c.self.inside.sites.items c.args.site c.«record».new.self) c.«record».new.sent.items
     (map g.R.KeepsEvent.noted c.push_reserved.new.self.items) ≡ next_world (the_world g c) (g.R.KeepsEvent.noted c.args.noted)
 the_step g c =
-    ap (λ i. shown_world c.self.inside.config (slice_set c.self.inside.sites.items i c.step_onto.new.self) c.step_onto.new.sent.items
+    ap (λ i. shown_world c.self.inside.config (slice_set c.self.inside.sites.items i c.«record».new.self) c.«record».new.sent.items
     (map g.R.KeepsEvent.noted c.push_reserved.new.self.items)) c.requires.site
     ∙ ap (λ x. shown_world c.self.inside.config (slice_set c.self.inside.sites.items (site_of (g.R.KeepsEvent.noted c.args.noted)) x)
-    c.step_onto.new.sent.items (map g.R.KeepsEvent.noted c.push_reserved.new.self.items)) (c.in_ok-reply.ensures.ok).0
+    c.«record».new.sent.items (map g.R.KeepsEvent.noted c.push_reserved.new.self.items)) (c.in_ok-reply.ensures.ok).0
     ∙ ap (λ ms. shown_world c.self.inside.config (slice_set c.self.inside.sites.items (site_of (g.R.KeepsEvent.noted c.args.noted))
     (next_site c.index_mut.result.now c.args.arrived)) ms (map g.R.KeepsEvent.noted c.push_reserved.new.self.items))
     (c.in_ok-reply.ensures.ok).2
@@ -53,8 +53,8 @@ invariant_of-self-2 g c = (
       c.index_mut.result.now c.args.arrived (taken g c).settings c.self.invariant.1)),
   c.self.invariant.2,
   (let room : length c.self.inside.sites.items ≤ vec_capacity c.self.inside.reports = c.self.invariant.3 in
-      let same : length (slice_set c.self.inside.sites.items c.args.site c.step_onto.new.self) ≡ length c.self.inside.sites.items =
-      length-set c.self.inside.sites.items c.args.site c.step_onto.new.self in
+      let same : length (slice_set c.self.inside.sites.items c.args.site c.«record».new.self) ≡ length c.self.inside.sites.items =
+      length-set c.self.inside.sites.items c.args.site c.«record».new.self in
       omega arith),
 )
 
