@@ -1,4 +1,5 @@
 //! Tests of requests that are tried together. Whole batches are in the worked rows and in tests/cases, scripts.cases.
+use crate::checks::equal;
 use crate::common::{ANN, BLUE_1, BLUE_2, Operation, RED_1, ledger_after, ledger_of};
 use rb_ledger::Ledger;
 use rb_money::{Limits, Refusal};
@@ -83,44 +84,75 @@ const DEPOSIT_7: [Operation; 1] = [(BLUE_1, 0, (0, 0), ANN, 7, Kind::Deposit)];
 /// A deposit and a withdrawal of all, behind another deposit.
 const BOTH: Tried = (Ok(BLUE_2), Ok(RED_1), 2);
 
+/// How many operations a ledger has, how many blue ones site 0 made, and ann's balance.
+type Left = (u32, u32, Option<u64>);
+
+fn left_in(ledger: &Ledger) -> Left {
+    let made = ledger.clock().deps().blue[0];
+    (ledger.len(), made, ledger.balance(ANN))
+}
+
+/// What is tried and taken back, and what the ledger has then.
+fn after_abort(alloc: Global) -> Result<(Tried, Left), Fail> {
+    let mut ledger = ledger_of(alloc, &[("ann", 0)], Limits::largest())?;
+    let tried = aborted(alloc, &mut ledger);
+    Ok((tried, left_in(&ledger)))
+}
+
 #[test]
 fn none_are_kept(rt: HostRuntime) -> Result<(), Fail> {
-    let mut ledger = ledger_of(rt.alloc(), &[("ann", 0)], Limits::largest())?;
-    let tried = aborted(rt.alloc(), &mut ledger);
-    assert_eq!(rt; tried, (Ok(BLUE_1), Err(RunFault::Declined), 1));
-    let count = ledger.clock().deps().blue[0];
-    assert_eq!(rt; (ledger.len(), count, ledger.balance(ANN)), (0, 0, Some(0)));
+    let (tried, left) = after_abort(rt.alloc())?;
+    equal(&rt, tried, (Ok(BLUE_1), Err(RunFault::Declined), 1));
+    equal(&rt, left, (0, 0, Some(0)));
     Ok(())
+}
+
+/// What is tried and committed behind a deposit, how many records are kept, and what the ledger has then.
+fn after_commit(alloc: Global) -> Result<(Tried, usize, Left), Fail> {
+    let mut ledger = ledger_after(alloc, &[("ann", 0)], &DEPOSIT_7)?;
+    let mut log = UndoLog::new(alloc);
+    let tried = committed(alloc, &mut ledger, &mut log);
+    let records = log.len();
+    log.close();
+    Ok((tried, records, left_in(&ledger)))
 }
 
 #[test]
 fn all_are_kept(rt: HostRuntime) -> Result<(), Fail> {
-    let mut ledger = ledger_after(rt.alloc(), &[("ann", 0)], &DEPOSIT_7)?;
-    let mut log = UndoLog::new(rt.alloc());
-    let tried = committed(rt.alloc(), &mut ledger, &mut log);
-    let records = log.len();
-    log.close();
-    assert_eq!(rt; (tried, records), (BOTH, 2));
-    assert_eq!(rt; (ledger.len(), ledger.balance(ANN)), (3, Some(0)));
+    let (tried, records, left) = after_commit(rt.alloc())?;
+    equal(&rt, (tried, records), (BOTH, 2));
+    equal(&rt, left, (3, 2, Some(0)));
     Ok(())
 }
 
-#[test]
-fn records_alone_are_kept(rt: HostRuntime) -> Result<(), Fail> {
-    let mut ledger = ledger_after(rt.alloc(), &[("ann", 0)], &DEPOSIT_7)?;
-    let mut log = UndoLog::new(rt.alloc());
-    let tried = kept(rt.alloc(), &mut ledger, &mut log);
-    let last = match log.pop() {
+/// The position and the name that the last record has, which is taken.
+fn last_of(log: &mut UndoLog) -> Option<(u32, OpName)> {
+    match log.pop() {
         Some(undo) => {
             let parts = undo.spend();
             Some((parts.position, parts.name))
         }
         None => None,
-    };
+    }
+}
+
+/// What is tried and kept as records alone behind a deposit, the last record, how many are before it, and what the
+/// ledger has then.
+fn after_keep(alloc: Global) -> Result<(Tried, Option<(u32, OpName)>, usize, Left), Fail> {
+    let mut ledger = ledger_after(alloc, &[("ann", 0)], &DEPOSIT_7)?;
+    let mut log = UndoLog::new(alloc);
+    let tried = kept(alloc, &mut ledger, &mut log);
+    let last = last_of(&mut log);
     let records = log.len();
     log.close();
-    assert_eq!(rt; (tried, last, records), (BOTH, Some((3, RED_1)), 1));
-    assert_eq!(rt; (ledger.len(), ledger.balance(ANN)), (3, Some(0)));
+    Ok((tried, last, records, left_in(&ledger)))
+}
+
+#[test]
+fn records_alone_are_kept(rt: HostRuntime) -> Result<(), Fail> {
+    let (tried, last, records, left) = after_keep(rt.alloc())?;
+    equal(&rt, (tried, last, records), (BOTH, Some((3, RED_1)), 1));
+    equal(&rt, left, (3, 2, Some(0)));
     Ok(())
 }
 
@@ -142,7 +174,11 @@ fn one_more(alloc: Global, ledger: &mut Ledger) -> (Result<OpName, RunFault>, us
 fn one_more_than_a_batch_may_have_is_refused(rt: HostRuntime) -> Result<(), Fail> {
     let mut ledger = ledger_of(rt.alloc(), &[("ann", 0)], Limits::largest())?;
     let refused = Err(RunFault::Refused(Refusal::BadBatch));
-    assert_eq!(rt; one_more(rt.alloc(), &mut ledger), (refused, MOST_REQUESTS));
-    assert_eq!(rt; ledger.len(), 0);
+    equal(
+        &rt,
+        one_more(rt.alloc(), &mut ledger),
+        (refused, MOST_REQUESTS),
+    );
+    equal(&rt, ledger.len(), 0);
     Ok(())
 }

@@ -1,4 +1,5 @@
 //! Tests of clocks.
+use crate::checks::{equal, holds};
 use rb_money::{MOST_SITES, Place};
 use rb_shadow::{Deps, Kind, OpName, Shadow};
 use rb_vclock::Clock;
@@ -41,15 +42,15 @@ fn seen(clock: &Clock) -> [bool; 4] {
 #[test]
 fn counts_names(rt: HostRuntime) {
     let mut clock = Clock::zero();
-    assert_eq!(rt; seen(&clock), [false, false, false, false]);
+    equal(&rt, seen(&clock), [false, false, false, false]);
     clock.advance(&FIRST);
-    assert_eq!(rt; clock.deps(), ONE);
-    assert_eq!(rt; seen(&clock), [true, true, true, false]);
+    equal(&rt, clock.deps(), ONE);
+    equal(&rt, seen(&clock), [true, true, true, false]);
     let beyond = Shadow {
         name: OF_NO_SITE,
         ..NEXT
     };
-    assert!(rt; !clock.is_next(&beyond));
+    holds(&rt, "no next of no site", !clock.is_next(&beyond));
     clock.retreat(&FIRST);
-    assert!(rt; !clock.covers(&FIRST));
+    holds(&rt, "not covered again", !clock.covers(&FIRST));
 }

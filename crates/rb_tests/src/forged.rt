@@ -1,4 +1,5 @@
 //! Messages that no site sent: what site 1 answers, and that a refusal leaves it as it was.
+use crate::checks::holds;
 use crate::forged_texts::RUNS;
 use crate::worlds::same_answers;
 use rb_commands::read_config;
@@ -76,6 +77,18 @@ fn last_is_answered(
     Ok(answered)
 }
 
+/// Whether the entry on a line is what site 1 answers behind these events, to which its event is added.
+fn next_is_right(
+    alloc: Global,
+    config: &Config,
+    events: &mut Vec<Event>,
+    line: &str,
+) -> Result<bool, Fail> {
+    let (_site, entry) = read_line(alloc, config, line)?;
+    events.push(entry.event)?;
+    Ok(last_is_answered(alloc, config, events.as_slice(), &entry.reply)?)
+}
+
 /// Whether each entry of a run is what site 1 answers, under the configuration on the run's first line.
 fn is_right(rt: &(impl Abort + AllocGlobal), run: &str) -> Result<(), Fail> {
     let alloc = rt.alloc();
@@ -83,10 +96,8 @@ fn is_right(rt: &(impl Abort + AllocGlobal), run: &str) -> Result<(), Fail> {
     let config = read_config(alloc, lines.next().ok_or("no configuration")?)?;
     let mut events = Vec::new(alloc);
     for line in lines {
-        let (_site, entry) = read_line(alloc, &config, line)?;
-        events.push(entry.event)?;
-        let right = last_is_answered(alloc, &config, events.as_slice(), &entry.reply)?;
-        assert!(rt; right, "{line}");
+        let right = next_is_right(alloc, &config, &mut events, line)?;
+        holds(rt, line, right);
     }
     Ok(())
 }

@@ -4,6 +4,7 @@ ghost use Rattle.rb_money.specs.declared.limits.TheConstants.{MOST_SITES};
 ghost use Rattle.rb_shadow.specs.Operations.{HasEntry};
 ghost use Rattle.rb_inbox.specs.Held.{IsNumbered};
 
+use crate::checks::equal;
 use crate::common::ANN;
 use rb_inbox::{Inbox, PutAnswer};
 use rb_money::{MOST_SITES, Refusal};
@@ -55,7 +56,7 @@ fn withdrawal(n: u32) -> Shadow
 fn put_new(rt: &impl Abort, inbox: &mut Inbox, shadow: Shadow)
     requires { IsNumbered shadow }
 {
-    assert_eq!(rt; inbox.put(shadow, &Clock::zero()), Ok(PutAnswer::Held));
+    equal(rt, inbox.put(shadow, &Clock::zero()), Ok(PutAnswer::Held));
 }
 
 /// An inbox that holds forty shadows of each row, which came backwards.
@@ -86,7 +87,7 @@ fn rows(alloc: Global) -> Result<(Vec<Shadow>, Vec<Shadow>, Vec<Shadow>), AllocE
 fn take_next(rt: &impl Abort, inbox: &mut Inbox, clock: &mut Clock, shadow: Shadow)
     requires { HasEntry shadow.name }
 {
-    assert_eq!(rt; inbox.take(shadow.name, clock), Ok(shadow));
+    equal(rt, inbox.take(shadow.name, clock), Ok(shadow));
     assert!(rt; clock.is_next(&shadow));
     clock.advance(&shadow.name);
 }
@@ -106,19 +107,17 @@ fn answer_at_taking(inbox: &mut Inbox, name: OpName) -> Result<Shadow, Refusal>
 }
 
 /// An inbox of one holds what isn't ready, and takes in what is ready although it is full.
-#[test]
-fn holds_until_ready(rt: HostRuntime) {
-    let mut inbox = Inbox::open(rt.alloc(), 1);
-    let (first, second, third) = (deposit(0, 1), deposit(0, 2), deposit(0, 3));
+fn takes_in(rt: &impl Abort, inbox: &mut Inbox) {
+    let second = deposit(0, 2);
     let other = Shadow {
         amount: 6,
         ..second
     };
     let answers = [
-        answer_to(&mut inbox, second),
-        answer_to(&mut inbox, third),
-        answer_to(&mut inbox, second),
-        answer_to(&mut inbox, other),
+        answer_to(inbox, second),
+        answer_to(inbox, deposit(0, 3)),
+        answer_to(inbox, second),
+        answer_to(inbox, other),
     ];
     let wanted = [
         Ok(PutAnswer::Held),
@@ -126,36 +125,67 @@ fn holds_until_ready(rt: HostRuntime) {
         Ok(PutAnswer::Already),
         Err(Refusal::Conflict),
     ];
-    assert_eq!(rt; (answers, inbox.ready(&Clock::zero())), (wanted, None));
-    assert_eq!(rt; answer_to(&mut inbox, first), Ok(PutAnswer::Held));
-    assert_eq!(rt; inbox.ready(&Clock::zero()), Some(first.name));
-    assert_eq!(rt; inbox.blue_row(0), [first, second].as_slice());
-    assert_eq!(rt; (inbox.blue_row(255).len(), inbox.red_row().len()), (0, 0));
+    equal(rt, (answers, inbox.ready(&Clock::zero())), (wanted, None));
+    equal(rt, answer_to(inbox, deposit(0, 1)), Ok(PutAnswer::Held));
+}
+
+/// It has the first two operations of site 0, of which the first is ready, and gives only that away, once.
+fn gives_away(rt: &impl Abort, inbox: &mut Inbox) {
+    let (first, second) = (deposit(0, 1), deposit(0, 2));
+    equal(rt, inbox.ready(&Clock::zero()), Some(first.name));
+    equal(rt, inbox.blue_row(0), [first, second].as_slice());
+    equal(
+        rt,
+        (inbox.blue_row(255).len(), inbox.red_row().len()),
+        (0, 0),
+    );
     let taken = [
-        answer_at_taking(&mut inbox, second.name),
-        answer_at_taking(&mut inbox, first.name),
-        answer_at_taking(&mut inbox, first.name),
+        answer_at_taking(inbox, second.name),
+        answer_at_taking(inbox, first.name),
+        answer_at_taking(inbox, first.name),
     ];
     let wanted = [Err(Refusal::NotReady), Ok(first), Err(Refusal::NotHeld)];
-    assert_eq!(rt; taken, wanted);
-    assert_eq!(rt; (inbox.held(&second.name), inbox.len()), (Some(&second), 1));
+    equal(rt, taken, wanted);
+    equal(
+        rt,
+        (inbox.held(&second.name), inbox.len()),
+        (Some(&second), 1),
+    );
+}
+
+#[test]
+fn holds_until_ready(rt: HostRuntime) {
+    let mut inbox = Inbox::open(rt.alloc(), 1);
+    takes_in(&rt, &mut inbox);
+    gives_away(&rt, &mut inbox);
+}
+
+/// It holds the forty of each row in order.
+fn holds_rows(rt: &impl Abort, alloc: Global, inbox: &Inbox) -> Result<(), AllocError> {
+    let (firsts, others, reds) = rows(alloc)?;
+    equal(rt, inbox.blue_row(0), firsts.as_slice());
+    equal(rt, inbox.blue_row(3), others.as_slice());
+    equal(rt, inbox.red_row(), reds.as_slice());
+    Ok(())
+}
+
+/// The forty of each row are taken in order, and nothing is left.
+fn all_are_taken(rt: &impl Abort, inbox: &mut Inbox) {
+    let mut clock = Clock::zero();
+    for n in 1..=40 {
+        equal(rt, inbox.ready(&clock), Some(OpName::Red { n }));
+        take_next(rt, inbox, &mut clock, withdrawal(n));
+        take_next(rt, inbox, &mut clock, deposit(0, n));
+        take_next(rt, inbox, &mut clock, deposit(3, n));
+    }
+    equal(rt, (inbox.ready(&clock), inbox.len()), (None, 0));
 }
 
 #[test]
 fn backwards_and_in_order(rt: HostRuntime) -> Result<(), Fail> {
     let mut inbox = holds_forty(&rt, rt.alloc());
-    let (firsts, others, reds) = rows(rt.alloc())?;
-    assert_eq!(rt; inbox.blue_row(0), firsts.as_slice());
-    assert_eq!(rt; inbox.blue_row(3), others.as_slice());
-    assert_eq!(rt; inbox.red_row(), reds.as_slice());
-    assert_eq!(rt; (inbox.blue_row(1).len(), inbox.len()), (0, 120));
-    let mut clock = Clock::zero();
-    for n in 1..=40 {
-        assert_eq!(rt; inbox.ready(&clock), Some(OpName::Red { n }));
-        take_next(&rt, &mut inbox, &mut clock, withdrawal(n));
-        take_next(&rt, &mut inbox, &mut clock, deposit(0, n));
-        take_next(&rt, &mut inbox, &mut clock, deposit(3, n));
-    }
-    assert_eq!(rt; (inbox.ready(&clock), inbox.len()), (None, 0));
+    holds_rows(&rt, rt.alloc(), &inbox)?;
+    equal(&rt, (inbox.blue_row(1).len(), inbox.len()), (0, 120));
+    all_are_taken(&rt, &mut inbox);
     Ok(())
 }

@@ -1,4 +1,5 @@
 //! Lines on the disk: what a torn end leaves, batches, a file of the system.
+use crate::checks::{equal, holds};
 use rb_journal::{HostError, Journal, LineBatch, Memory, Step, end_of_lines, is_line, open_disk};
 use std::alloc::{AllocError, Global};
 use std::fs;
@@ -45,8 +46,8 @@ fn committed_on_disk(rt: &HostRuntime, batch: &[u8]) -> Result<bool, Fail> {
 #[test]
 fn an_empty_file_has_no_lines(rt: HostRuntime) -> Result<(), Fail> {
     let journal = committed(rt.alloc(), b"", b"", b"")?;
-    assert_eq!(rt; journal.end, 0);
-    assert_eq!(rt; journal.host.bytes(), b" ".as_slice());
+    equal(&rt, journal.end, 0);
+    equal(&rt, journal.host.bytes(), b" ".as_slice());
     Ok(())
 }
 
@@ -63,10 +64,10 @@ fn torn_tails_are_dropped(rt: HostRuntime) -> Result<(), Fail> {
         b"{a}\nx{b}\n",
     ] {
         let journal = committed(alloc, torn, b"", b"")?;
-        assert_eq!(rt; journal.end, 4);
-        assert_eq!(rt; journal.host.bytes(), b"{a}\n ".as_slice());
+        equal(&rt, journal.end, 4);
+        equal(&rt, journal.host.bytes(), b"{a}\n ".as_slice());
         let again = committed(alloc, journal.host.bytes(), b"", b"")?;
-        assert_eq!(rt; again.end, 4);
+        equal(&rt, again.end, 4);
     }
     Ok(())
 }
@@ -74,8 +75,8 @@ fn torn_tails_are_dropped(rt: HostRuntime) -> Result<(), Fail> {
 #[test]
 fn a_batch_of_two_lines_is_added_and_then_put_out(rt: HostRuntime) -> Result<(), Fail> {
     let journal = committed(rt.alloc(), b"{a}\n ", b"{b}\n{c}\n", b"done\n")?;
-    assert_eq!(rt; journal.host.bytes(), b"{a}\n{b}\n{c}\n ".as_slice());
-    assert_eq!(rt; journal.host.output(), b"done\n".as_slice());
+    equal(&rt, journal.host.bytes(), b"{a}\n{b}\n{c}\n ".as_slice());
+    equal(&rt, journal.host.output(), b"done\n".as_slice());
     Ok(())
 }
 
@@ -83,13 +84,18 @@ fn a_batch_of_two_lines_is_added_and_then_put_out(rt: HostRuntime) -> Result<(),
 fn a_file_of_the_system_keeps_its_lines(rt: HostRuntime) -> Result<(), Fail> {
     let _ = fs::remove_dir_all(&rt, FOLDER);
     fs::create_dir(&rt, FOLDER)?;
-    assert!(rt; committed_on_disk(&rt, b"{a}\n")?);
-    assert_eq!(rt; fs::read(&rt, PATH)?.as_slice(), b"{a}\n ".as_slice());
+    holds(&rt, "not opened twice", committed_on_disk(&rt, b"{a}\n")?);
+    equal(&rt, fs::read(&rt, PATH)?.as_slice(), b"{a}\n ".as_slice());
     fs::write(&rt, PATH, b"{a}\n\0torn}\n ".as_slice())?;
-    assert!(rt; committed_on_disk(&rt, b"{b}\n{c}\n")?);
-    assert_eq!(rt;
+    holds(
+        &rt,
+        "not opened twice",
+        committed_on_disk(&rt, b"{b}\n{c}\n")?,
+    );
+    equal(
+        &rt,
         fs::read(&rt, PATH)?.as_slice(),
-        b"{a}\n{b}\n{c}\n ".as_slice()
+        b"{a}\n{b}\n{c}\n ".as_slice(),
     );
     fs::remove_dir_all(&rt, FOLDER)?;
     Ok(())
@@ -112,7 +118,7 @@ fn only_lines_are_taken(rt: HostRuntime) -> Result<(), Fail> {
         rt.alloc(),
         &[b"{a}", b"", b"a}", b"{b\n}", b"{", b" {c}", b"{d}\n"],
     )?;
-    assert_eq!(rt; batch.bytes.as_slice(), b"{a}\n{\n".as_slice());
+    equal(&rt, batch.bytes.as_slice(), b"{a}\n{\n".as_slice());
     Ok(())
 }
 
@@ -145,7 +151,7 @@ fn two_steps(alloc: Global) -> Result<Journal<Memory>, HostError> {
 #[test]
 fn steps_are_committed_in_order(rt: HostRuntime) -> Result<(), Fail> {
     let journal = two_steps(rt.alloc())?;
-    assert_eq!(rt; journal.host.bytes(), b"{a}\n ".as_slice());
-    assert_eq!(rt; journal.host.output(), b"onetwo".as_slice());
+    equal(&rt, journal.host.bytes(), b"{a}\n ".as_slice());
+    equal(&rt, journal.host.output(), b"onetwo".as_slice());
     Ok(())
 }

@@ -1,11 +1,13 @@
 //! Tests of the ledger.
+use crate::checks::{equal, holds};
 use crate::common::{
-    ANN, BLUE_1, BLUE_2, BOB, Operation, RED_1, RED_2, RED_3, config_of, ledger_after, shadow_of,
+    ANN, BLUE_1, BLUE_2, BOB, Operation, RED_1, RED_2, RED_3, ledger_after, shadow_of,
 };
 use crate::worlds::there_and_back;
 use rb_ledger::Ledger;
-use rb_money::{Limits, Place, Refusal};
+use rb_money::{Place, Refusal};
 use rb_shadow::{Kind, OpName};
+use std::alloc::Global;
 use std::process::Abort;
 use std::test::Fail;
 
@@ -36,9 +38,11 @@ const TRANSFER: [Operation; 3] = [
 /// The balances of ann and bob, in cents.
 type Balances = (Option<u64>, Option<u64>);
 
-/// Operations, with the balances before them and after each, and the cents that each moved of ann's and bob's. The
-/// second cancellation of one operation moves nothing.
-const RUNS: [(&[Operation], [Balances; 4], [(i64, i64); 3]); 2] = [
+/// Operations, with the balances before them and after each, and the cents that each moved of ann's and bob's.
+type Run = (&'static [Operation], [Balances; 4], [(i64, i64); 3]);
+
+/// The second cancellation of one operation moves nothing.
+const RUNS: [Run; 2] = [
     (
         &WITHDRAWAL,
         [
@@ -68,10 +72,10 @@ fn balances_are(rt: &impl Abort, ledger: &Ledger, wanted: &[Balances]) {
             ledger.balance_after(position, ANN),
             ledger.balance_after(position, BOB),
         );
-        assert_eq!(rt; Some(&balances), wanted.get(position as usize));
+        equal(rt, Some(&balances), wanted.get(position as usize));
     }
     let last = (ledger.balance(ANN), ledger.balance(BOB));
-    assert_eq!(rt; Some(&last), wanted.last());
+    equal(rt, Some(&last), wanted.last());
 }
 
 /// The operations moved this much of ann's and bob's money, and none on an account that isn't there.
@@ -79,19 +83,23 @@ fn moved_are(rt: &impl Abort, ledger: &Ledger, wanted: &[(i64, i64)]) {
     let places = [ANN, BOB, Place(2)];
     for ((ann, bob), position) in wanted.iter().zip(1..4) {
         let moved = places.map(|place| ledger.moved(position, place));
-        assert_eq!(rt; moved, [Some(*ann), Some(*bob), Some(0)]);
+        equal(rt, moved, [Some(*ann), Some(*bob), Some(0)]);
     }
+}
+
+/// The ledger after a run is as the run says. Whether it comes back at each length.
+fn goes_and_comes_back(rt: &impl Abort, alloc: Global, run: &Run) -> Result<bool, Fail> {
+    let ledger = ledger_after(alloc, &ACCOUNTS, run.0)?;
+    balances_are(rt, &ledger, &run.1);
+    moved_are(rt, &ledger, &run.2);
+    there_and_back(alloc, ledger.config(), ledger.entries())
 }
 
 #[test]
 fn second_cancellation_moves_nothing(rt: HostRuntime) -> Result<(), Fail> {
-    let alloc = rt.alloc();
-    let config = config_of(alloc, 2, &ACCOUNTS, Limits::largest())?;
-    for (operations, wanted, moved) in RUNS {
-        let ledger = ledger_after(alloc, &ACCOUNTS, operations)?;
-        balances_are(&rt, &ledger, &wanted);
-        moved_are(&rt, &ledger, &moved);
-        assert!(rt; there_and_back(alloc, &config, ledger.entries())?);
+    for run in &RUNS {
+        let same = goes_and_comes_back(&rt, rt.alloc(), run)?;
+        holds(&rt, "there and back", same);
     }
     Ok(())
 }
@@ -106,7 +114,7 @@ fn cancellations_are_counted(rt: HostRuntime) -> Result<(), Fail> {
         (3, (Some(1000), Some(2))),
     ] {
         let ledger = ledger_after(rt.alloc(), &ACCOUNTS, &WITHDRAWAL[..applied])?;
-        assert_eq!(rt; (ledger.balance(ANN), ledger.count(1)), seen);
+        equal(&rt, (ledger.balance(ANN), ledger.count(1)), seen);
     }
     Ok(())
 }
@@ -116,32 +124,36 @@ const ROWS: [(u8, &[u32]); 4] = [(0, &[2]), (1, &[3]), (2, &[]), (255, &[])];
 
 /// What the ledger finds of the withdrawal and its two cancellations: where names are, where each entry is first
 /// cancelled and how often, and what the rows have.
-#[test]
-fn looks_up(rt: HostRuntime) -> Result<(), Fail> {
-    let ledger = ledger_after(rt.alloc(), &ACCOUNTS, &WITHDRAWAL)?;
+fn finds(rt: &impl Abort, ledger: &Ledger) {
     let found = [
         ledger.find(&RED_1),
         ledger.find(&OTHER_1),
         ledger.find(&RED_2),
     ];
-    assert_eq!(rt; found, [Some(1), Some(3), None]);
+    equal(rt, found, [Some(1), Some(3), None]);
     let cancelled = [
         ledger.first_cancel(1),
         ledger.first_cancel(2),
         ledger.count(1),
     ];
-    assert_eq!(rt; cancelled, [Some(2), None, Some(2)]);
-    assert_eq!(rt; ledger.moved(4, ANN), None);
-    assert_eq!(rt; ledger.red_row(), [1].as_slice());
-    for (site, row) in ROWS {
-        assert_eq!(rt; ledger.blue_row(site), row);
+    equal(rt, cancelled, [Some(2), None, Some(2)]);
+    equal(rt, ledger.moved(4, ANN), None);
+    equal(rt, ledger.red_row(), [1].as_slice());
+    for (site, row) in &ROWS {
+        equal(rt, ledger.blue_row(*site), *row);
     }
     let entries = (
         ledger.entries().get(1),
         ledger.entry(4),
         ledger.clock().deps().red,
     );
-    assert_eq!(rt; entries, (ledger.entry(2), None, 1));
+    equal(rt, entries, (ledger.entry(2), None, 1));
+}
+
+#[test]
+fn looks_up(rt: HostRuntime) -> Result<(), Fail> {
+    let ledger = ledger_after(rt.alloc(), &ACCOUNTS, &WITHDRAWAL)?;
+    finds(&rt, &ledger);
     Ok(())
 }
 
@@ -214,12 +226,17 @@ fn refuses(rt: HostRuntime) -> Result<(), Fail> {
     for (operations, refused, balances) in REFUSALS {
         let mut ledger = ledger_after(rt.alloc(), &ACCOUNTS, operations)?;
         for (operation, refusal) in refused {
-            assert!(rt; is_refused(&mut ledger, *operation, *refusal));
+            holds(
+                &rt,
+                "refused",
+                is_refused(&mut ledger, *operation, *refusal),
+            );
         }
         let found = (ledger.balance(ANN), ledger.balance(BOB));
-        assert_eq!(rt;
+        equal(
+            &rt,
             (ledger.len() as usize, found),
-            (operations.len(), balances)
+            (operations.len(), balances),
         );
     }
     Ok(())
@@ -252,7 +269,7 @@ fn long_chain(rt: HostRuntime) -> Result<(), Fail> {
         wanted.push((Some(ann), Some(bob)))?;
     }
     let ledger = ledger_after(rt.alloc(), &ACCOUNTS, operations.as_slice())?;
-    assert_eq!(rt; (ledger.len(), ledger.balance(Place(2))), (40, None));
+    equal(&rt, (ledger.len(), ledger.balance(Place(2))), (40, None));
     balances_are(&rt, &ledger, wanted.as_slice());
     Ok(())
 }

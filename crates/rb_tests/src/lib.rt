@@ -5,6 +5,8 @@
 #[cfg(test)]
 mod batches;
 #[cfg(test)]
+mod checks;
+#[cfg(test)]
 mod clock;
 #[cfg(test)]
 mod common;

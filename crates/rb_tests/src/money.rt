@@ -1,4 +1,5 @@
 //! Tests of configurations and numbers. Amounts and versions at their limits are in tests/cases and the worked rows.
+use crate::checks::{equal, holds};
 use crate::common::{accounts_of, config_of};
 use rb_money::{
     Cause, Cents, Config, ConfigFault, Limits, MOST_ACCOUNTS, MOST_BLUE, MOST_CENTS, MOST_EPOCH,
@@ -77,7 +78,7 @@ fn config_faults(rt: HostRuntime) -> Result<(), Fail> {
     let alloc = rt.alloc();
     for (sites, accounts, limits, fault) in FAULTS {
         let accounts = accounts_of(alloc, accounts)?;
-        assert_eq!(rt; fault_of(alloc, sites, accounts, limits), Some(fault));
+        equal(&rt, fault_of(alloc, sites, accounts, limits), Some(fault));
     }
     Ok(())
 }
@@ -100,7 +101,7 @@ fn a_thousand_accounts(rt: HostRuntime) -> Result<(), Fail> {
     ] {
         let accounts = many_accounts(alloc, count)?;
         let found = fault_of(alloc, MOST_SITES as u8, accounts, Limits::largest());
-        assert_eq!(rt; found, fault);
+        equal(&rt, found, fault);
     }
     Ok(())
 }
@@ -110,14 +111,15 @@ fn a_thousand_accounts(rt: HostRuntime) -> Result<(), Fail> {
 fn versions(rt: HostRuntime) -> Result<(), Fail> {
     for (sites, version) in [(2, 1), (8, 1), (9, 2), (16, 2)] {
         let config = config_of(rt.alloc(), sites, LOOKED_UP, MOST)?;
-        assert_eq!(rt; config.version(), version);
+        equal(&rt, config.version(), version);
         let second = config.to_version2();
         let start = second.accounts().start(Place(0));
-        assert_eq!(rt;
+        equal(
+            &rt,
             (second.version(), second.sites(), start),
-            (2, sites, Some(Cents(1000)))
+            (2, sites, Some(Cents(1000))),
         );
-        assert_eq!(rt; second.limits(), MOST);
+        equal(&rt, second.limits(), MOST);
     }
     Ok(())
 }
@@ -131,14 +133,14 @@ const PLACES: [(&str, Option<Place>); 3] = [
 fn look_up(rt: &impl Abort, config: &Config) {
     let accounts = config.accounts();
     let seen = (config.sites(), config.limits(), accounts.len());
-    assert_eq!(rt; seen, (3, Limits::largest(), 2));
+    equal(rt, seen, (3, Limits::largest(), 2));
     for (name, place) in PLACES {
-        assert_eq!(rt; accounts.place(name), place);
+        equal(rt, accounts.place(name), place);
     }
     let starts = (accounts.start(Place(0)), accounts.start(Place(2)));
-    assert_eq!(rt; starts, (Some(Cents(1000)), None));
+    equal(rt, starts, (Some(Cents(1000)), None));
     let names = (accounts.name(Place(1)), accounts.name(Place::NOWHERE));
-    assert_eq!(rt; names, (Some("bob-2_x.y"), None));
+    equal(rt, names, (Some("bob-2_x.y"), None));
 }
 
 #[test]
@@ -157,7 +159,7 @@ fn memory_is_looked_at_last(rt: HostRuntime) {
         if let Ok(accounts) = accounts_of(alloc, accounts) {
             let fault = fault_of(alloc, 2, accounts, Limits::largest());
             let refused = want.is_none() && fault == Some(ConfigFault::OutOfMemory);
-            assert!(rt; refused || fault == want);
+            holds(&rt, "the fault is found first", refused || fault == want);
         }
     }
 }
@@ -183,7 +185,7 @@ fn rates_and_interest(rt: HostRuntime) {
         ),
         (MOST_CENTS + 1, MOST_RATE, Ok((MOST_RATE, too_large))),
     ] {
-        assert_eq!(rt; interest_at(balance, basis_points), interest);
+        equal(&rt, interest_at(balance, basis_points), interest);
     }
 }
 
@@ -200,14 +202,18 @@ fn refusals_by_number(rt: HostRuntime) {
         (Refusal::HistoryFull, 23),
         (Refusal::SameAccount, 24),
     ] {
-        assert_eq!(rt; refusal.number(), number);
+        equal(&rt, refusal.number(), number);
     }
 }
 
 #[test]
 fn a_fault_in_words(rt: HostRuntime) -> Result<(), Fail> {
     let words = ConfigFault::Twice(7).to_string(rt.alloc())?;
-    assert_eq!(rt; words.as_str(), "account 7 has the name of an earlier one");
+    equal(
+        &rt,
+        words.as_str(),
+        "account 7 has the name of an earlier one",
+    );
     Ok(())
 }
 
@@ -224,6 +230,6 @@ fn numbers_from_digits(rt: HostRuntime) {
         ("7 ", None),
         ("", None),
     ] {
-        assert_eq!(rt; read_number(text), number);
+        equal(&rt, read_number(text), number);
     }
 }

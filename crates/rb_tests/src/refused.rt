@@ -4,6 +4,7 @@ ghost use Rattle.std.specs.Prelude.{◌≡◌, [], All, IfOk};
 ghost use Rattle.rb_ledger.specs.Records.{records_of};
 ghost use Rattle.rb_site.specs.Worlds.{IsCommand};
 
+use crate::checks::{equal, equal_at, holds};
 use crate::row_texts::ROWS;
 use crate::rows::{Row, row_named, row_of};
 use crate::worlds::{
@@ -123,7 +124,7 @@ fn stopped_at(rt: &(impl Abort + AllocGlobal), row: &Row) -> Result<Option<usize
         Err(Stopped { answered }) => (goes_on(alloc, &mut world, row, answered), Some(answered)),
     };
     let _reports = world.close();
-    assert!(rt; right?, "{}", row.name);
+    holds(rt, row.name, right?);
     Ok(stopped)
 }
 
@@ -149,7 +150,7 @@ fn refuse_each(rt: HostRuntime) -> Result<(), Fail> {
 fn runs_of_rows(rt: HostRuntime) -> Result<(), Fail> {
     for lines in ROWS.split("\n\n") {
         let row = row_of(lines).ok_or("no row")?;
-        assert_eq!(rt; stopped_at(&rt, &row)?, None, "{}", row.name);
+        equal_at(&rt, row.name, stopped_at(&rt, &row)?, None);
     }
     Ok(())
 }
@@ -176,7 +177,7 @@ fn climb(rt: &impl Abort, ledger: &mut Ledger, log: &mut UndoLog, shadow: &Shado
     ensures { log.new.parts ≡ records_of ledger.new.settings ledger.new.entries }
 {
     assert!(rt; apply_next(ledger, log, shadow));
-    assert_eq!(rt; ledger.balance(Place(0)), Some(balance));
+    equal(rt, ledger.balance(Place(0)), Some(balance));
 }
 
 /// Undoes the last operation. The balance that was before it is the one that is wanted.
@@ -184,8 +185,8 @@ fn descend(rt: &impl Abort, ledger: &mut Ledger, log: &mut UndoLog, balance: u64
     requires { log.old.parts ≡ records_of ledger.old.settings ledger.old.entries }
     ensures { log.new.parts ≡ records_of ledger.new.settings ledger.new.entries }
 {
-    assert!(rt; undo_last(ledger, log));
-    assert_eq!(rt; ledger.balance(Place(0)), Some(balance));
+    holds(rt, "undone", undo_last(ledger, log));
+    equal(rt, ledger.balance(Place(0)), Some(balance));
 }
 
 /// Rewinds to a position and goes forward again. The balance there is the one that is wanted; with none wanted there
@@ -204,11 +205,11 @@ fn look_back(
     match ledger.rewind(log, position) {
         Ok(rewound) => {
             let seen = (rewound.position(), rewound.balance(Place(0)));
-            assert_eq!(rt; seen, (position, balance));
+            equal(rt, seen, (position, balance));
             rewound.forward()
         }
         Err((ledger, log, _)) => {
-            assert_eq!(rt; balance, None, "no such position");
+            equal_at(rt, "no such position", balance, None);
             (ledger, log)
         }
     }

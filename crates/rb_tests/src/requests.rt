@@ -1,4 +1,5 @@
 //! Tests of requests, each by itself. What each makes and why it is refused is in tests/cases, scripts.cases.
+use crate::checks::equal;
 use crate::common::{
     ANN, BLUE_1, BLUE_2, BLUE_3, BOB, Operation, RED_1, RED_2, RED_3, ledger_after, ledger_of,
 };
@@ -41,7 +42,7 @@ const PLANS: [(OpName, Result<CancelPlan, Refusal>); 3] = [
 fn what_cancelling_would_do(rt: HostRuntime) -> Result<(), Fail> {
     let ledger = ledger_after(rt.alloc(), &[("ann", 100)], &MADE)?;
     for (target, plan) in PLANS {
-        assert_eq!(rt; cancel_of(&ledger, target), plan);
+        equal(&rt, cancel_of(&ledger, target), plan);
     }
     Ok(())
 }
@@ -231,13 +232,9 @@ fn what_requests_make(rt: HostRuntime) -> Result<(), Fail> {
     ] {
         let mut ledger = ledger_of(rt.alloc(), &ACCOUNTS, limits)?;
         for (token, request, answer) in requests {
-            assert_eq!(rt;
-                made(&rt, &mut ledger, *token, request),
-                *answer,
-                "{request:?}"
-            );
+            equal(&rt, made(&rt, &mut ledger, *token, request), *answer);
         }
-        assert_eq!(rt; (ledger.balance(ANN), ledger.balance(BOB)), balances);
+        equal(&rt, (ledger.balance(ANN), ledger.balance(BOB)), balances);
     }
     Ok(())
 }

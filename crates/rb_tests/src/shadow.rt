@@ -1,4 +1,5 @@
 //! Tests of names and shadows.
+use crate::checks::{equal, equal_at, holds};
 use crate::common::RED_3;
 use rb_money::{MOST_SITES, Place};
 use rb_shadow::{Deps, Kind, OpName, Shadow, read_name, write_name};
@@ -47,8 +48,8 @@ fn written(alloc: Global, name: OpName) -> Result<String, AllocError> {
 #[test]
 fn names_and_texts(rt: HostRuntime) -> Result<(), Fail> {
     for (name, text) in TEXTS {
-        assert_eq!(rt; written(rt.alloc(), name)?.as_str(), text);
-        assert_eq!(rt; read_name(text), Some(name));
+        equal(&rt, written(rt.alloc(), name)?.as_str(), text);
+        equal(&rt, read_name(text), Some(name));
     }
     Ok(())
 }
@@ -56,7 +57,7 @@ fn names_and_texts(rt: HostRuntime) -> Result<(), Fail> {
 #[test]
 fn texts_of_no_names(rt: HostRuntime) {
     for text in NO_NAMES {
-        assert_eq!(rt; read_name(text), None, "at {text}");
+        equal_at(&rt, text, read_name(text), None);
     }
 }
 
@@ -78,6 +79,6 @@ fn shadows_that_differ(rt: HostRuntime) {
         },
         ..shadow
     };
-    assert!(rt; shadow.same(&shadow));
-    assert!(rt; !shadow.same(&other));
+    holds(&rt, "same as itself", shadow.same(&shadow));
+    holds(&rt, "differs", !shadow.same(&other));
 }

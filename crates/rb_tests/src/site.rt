@@ -1,4 +1,5 @@
 //! Tests of entries, commands and sites.
+use crate::checks::{equal, equal_at};
 use crate::common::config_of;
 use rb_commands::read_command;
 use rb_history::read_line;
@@ -40,6 +41,13 @@ fn bank(alloc: Global) -> Result<Config, Fail> {
     config_of(alloc, 2, &[("ann", 0), ("bob", 0)], Limits::largest())
 }
 
+/// Whether the entry on a line is the same as its copy and as the one that is read from the other line.
+fn same_entries(alloc: Global, config: &Config, line: &str, other: &str) -> Result<bool, Fail> {
+    let (_site, entry) = read_line(alloc, config, line)?;
+    let (_site, it) = read_line(alloc, config, other)?;
+    Ok(entry.same(&entry.try_copy(alloc)?) && entry.same(&it))
+}
+
 /// An entry is the same as its copy and as one that is read from the same line, and differs from the one on the next
 /// line.
 #[test]
@@ -48,12 +56,8 @@ fn entries_are_compared_by_what_they_hold(rt: HostRuntime) -> Result<(), Fail> {
     let config = bank(alloc)?;
     let mut lines = ENTRIES.lines();
     while let (Some(line), Some(next)) = (lines.next(), lines.next()) {
-        let (_site, entry) = read_line(alloc, &config, line)?;
-        let (_site, again) = read_line(alloc, &config, line)?;
-        let (_site, other) = read_line(alloc, &config, next)?;
-        let copy = entry.try_copy(alloc)?;
-        let same = [entry.same(&copy), entry.same(&again), entry.same(&other)];
-        assert_eq!(rt; same, [true, true, false], "at {line}");
+        equal_at(&rt, line, same_entries(alloc, &config, line, line)?, true);
+        equal_at(&rt, line, same_entries(alloc, &config, line, next)?, false);
     }
     Ok(())
 }
@@ -70,15 +74,20 @@ const COMMANDS: [&str; 8] = [
     r#"{"batch":[{"deposit":["ann",5]},{"cancel":"R1"}],"site":1}"#,
 ];
 
+/// Whether a copy of the command on a line is the same as the one on the other line.
+fn same_commands(alloc: Global, config: &Config, line: &str, other: &str) -> Result<bool, Fail> {
+    let command = read_command(alloc, config, line)?.try_copy(alloc)?;
+    Ok(command.same(&read_command(alloc, config, other)?))
+}
+
 #[test]
 fn commands_are_compared(rt: HostRuntime) -> Result<(), Fail> {
     let alloc = rt.alloc();
     let config = bank(alloc)?;
-    for line in COMMANDS {
-        let command = read_command(alloc, &config, line)?.try_copy(alloc)?;
-        for other in COMMANDS {
-            let same = command.same(&read_command(alloc, &config, other)?);
-            assert_eq!(rt; same, line == other);
+    for line in &COMMANDS {
+        for other in &COMMANDS {
+            let same = same_commands(alloc, &config, line, other)?;
+            equal_at(&rt, line, same, *line == *other);
         }
     }
     Ok(())
@@ -126,6 +135,21 @@ fn replayed(alloc: Global, config: &Config, me: u8, history: &[Entry]) -> Result
     Ok(Site::replay(alloc, config, me, events.as_slice())?)
 }
 
+/// Whether a site has this history, whether it holds the token, and its lengths.
+fn found_in(site: &Site, wanted: &[Entry]) -> (bool, bool, [usize; 4]) {
+    let mut same = true;
+    for (entry, it) in site.history().iter().zip(wanted) {
+        same = same && entry.same(it);
+    }
+    let lengths = [
+        site.history().len(),
+        site.ledger().len() as usize,
+        site.log().len(),
+        site.inbox().len(),
+    ];
+    (same, site.token().view().held, lengths)
+}
+
 /// A site is replayed from the events of its history, gives that history, and is closed.
 #[test]
 fn a_site_is_replayed_and_closed(rt: HostRuntime) -> Result<(), Fail> {
@@ -134,21 +158,11 @@ fn a_site_is_replayed_and_closed(rt: HostRuntime) -> Result<(), Fail> {
     for (me, lines, held, lengths, balances) in REPLAYED {
         let wanted = entries_of(alloc, &config, lines)?;
         let site = replayed(alloc, &config, me, wanted.as_slice())?;
-        let mut same = true;
-        for (entry, it) in site.history().iter().zip(&wanted) {
-            same = same && entry.same(it);
-        }
-        let found = [
-            site.history().len(),
-            site.ledger().len() as usize,
-            site.log().len(),
-            site.inbox().len(),
-        ];
-        let holds = site.token().view().held;
+        let found = found_in(&site, wanted.as_slice());
         let report = site.close();
-        assert_eq!(rt; (same, holds, found), (true, held, lengths));
-        assert_eq!(rt; report.balances.as_slice(), balances.as_slice());
-        assert_eq!(rt; report.history.len(), wanted.len());
+        equal(&rt, found, (true, held, lengths));
+        equal(&rt, report.balances.as_slice(), balances.as_slice());
+        equal(&rt, report.history.len(), wanted.len());
     }
     Ok(())
 }

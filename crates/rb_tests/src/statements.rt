@@ -1,11 +1,13 @@
 //! Tests of statements and of balances as of a position. More of them are in tests/cases, scripts.cases.
 ghost use Rattle.std.specs.Prelude.{◌≡◌, []};
 
+use crate::checks::equal;
 use crate::common::{ANN, BLUE_1, BLUE_2, BLUE_3, BOB, Operation, RED_1, ledger_after, ledger_of};
 use rb_money::{Limits, Place, Refusal};
 use rb_shadow::{Kind, Label, OpName};
-use rb_statements::{Row, as_of, statement};
+use rb_statements::{Row, Statement, as_of, statement};
 use rb_undo::UndoLog;
+use std::process::Abort;
 use std::test::Fail;
 
 /// Ann starts with 999 cents, and bob with none.
@@ -42,18 +44,22 @@ fn shown(row: &Row) -> Shown {
     )
 }
 
+fn is_of_bob(rt: &impl Abort, found: &Statement) {
+    equal(rt, (found.start, found.balance), (0, 7));
+    let rows = found.rows.as_slice();
+    equal(rt, rows.len(), OF_BOB.len());
+    for (row, wanted) in rows.iter().zip(&OF_BOB) {
+        equal(rt, shown(row), *wanted);
+    }
+}
+
 #[test]
 fn entries_between_one_another(rt: HostRuntime) -> Result<(), Fail> {
     let ledger = ledger_after(rt.alloc(), &ACCOUNTS, &MIXED)?;
     let found = statement(rt.alloc(), &ledger, BOB).expect(&rt, "shown");
-    assert_eq!(rt; (found.start, found.balance), (0, 7));
-    let rows = found.rows.into_vec();
-    assert_eq!(rt; rows.len(), OF_BOB.len());
-    for (row, wanted) in rows.iter().zip(OF_BOB) {
-        assert_eq!(rt; shown(row), wanted);
-    }
+    is_of_bob(&rt, &found);
     let unknown = statement(rt.alloc(), &ledger, Place(2));
-    assert_eq!(rt; unknown.err(), Some(Refusal::UnknownAccount));
+    equal(&rt, unknown.err(), Some(Refusal::UnknownAccount));
     Ok(())
 }
 
@@ -70,6 +76,6 @@ fn as_of_the_start(rt: HostRuntime) -> Result<(), Fail> {
         Err(Refusal::PositionBeyond),
         Err(Refusal::UnknownAccount),
     ];
-    assert_eq!(rt; [start, beyond, unknown], wanted);
+    equal(&rt, [start, beyond, unknown], wanted);
     Ok(())
 }

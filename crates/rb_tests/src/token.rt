@@ -1,4 +1,5 @@
 //! Tests of the token. What a site refuses of it is in the worked rows and in forged.rt.
+use crate::checks::equal;
 use crate::common::{RED_1, config_of};
 use rb_money::{Limits, Refusal};
 use rb_token::{Accepted, TokenMessage, TokenState};
@@ -38,23 +39,27 @@ fn the_token_goes_and_comes_back(rt: HostRuntime) -> Result<(), Fail> {
     let none = Clock::zero();
     let mut one = Clock::zero();
     one.advance(&RED_1);
-    assert_eq!(rt; (first.view().held, second.view().held), (true, false));
+    equal(&rt, (first.view().held, second.view().held), (true, false));
     let red = (first.may_red(&none), second.may_red(&none));
-    assert_eq!(rt; red, (Ok(()), Err(Refusal::NeedToken)));
-    assert_eq!(rt; first.pass(1, &one), Ok(FIRST));
+    equal(&rt, red, (Ok(()), Err(Refusal::NeedToken)));
+    equal(&rt, first.pass(1, &one), Ok(FIRST));
     let accepted = [
         second.accept(LATE),
         second.accept(FIRST),
         second.accept(FIRST),
     ];
     let over = Err(Refusal::BadMessage { why: 2 });
-    assert_eq!(rt; accepted, [over, Ok(Accepted::Taken), Ok(Accepted::Stale)]);
-    assert_eq!(rt; second.epoch(), 1);
+    equal(
+        &rt,
+        accepted,
+        [over, Ok(Accepted::Taken), Ok(Accepted::Stale)],
+    );
+    equal(&rt, second.epoch(), 1);
     let behind = Err(Refusal::RedBehind { seen: 0, needed: 1 });
     let red = (second.may_red(&none), second.may_red(&one));
-    assert_eq!(rt; red, (behind, Ok(())));
-    assert_eq!(rt; second.pass(0, &none), Ok(BACK));
-    assert_eq!(rt; first.accept(BACK), Ok(Accepted::Taken));
-    assert_eq!(rt; first.pass(1, &one), Err(Refusal::NumbersExhausted));
+    equal(&rt, red, (behind, Ok(())));
+    equal(&rt, second.pass(0, &none), Ok(BACK));
+    equal(&rt, first.accept(BACK), Ok(Accepted::Taken));
+    equal(&rt, first.pass(1, &one), Err(Refusal::NumbersExhausted));
     Ok(())
 }

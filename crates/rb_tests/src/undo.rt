@@ -1,6 +1,7 @@
 //! Tests of undo records and logs.
 ghost use Rattle.std.specs.Prelude.{◌≡◌, ◌+◌, length};
 
+use crate::checks::equal;
 use crate::common::{ANN, BOB};
 use rb_shadow::OpName;
 use rb_undo::{Undo, UndoLog, UndoParts};
@@ -45,7 +46,7 @@ fn is_a_list(rt: HostRuntime) -> Result<(), Fail> {
     let len = log.len();
     let last = [popped(&mut log), popped(&mut log), popped(&mut log)];
     log.close();
-    assert_eq!(rt; (len, last), (2, [Some(2), Some(1), None]));
+    equal(&rt, (len, last), (2, [Some(2), Some(1), None]));
     Ok(())
 }
 
@@ -62,7 +63,7 @@ fn has_room(rt: HostRuntime) -> Result<(), Fail> {
     log.append(other);
     let seen = (log.len(), popped(&mut log));
     log.close();
-    assert_eq!(rt; seen, (2, Some(2)));
+    equal(&rt, seen, (2, Some(2)));
     Undo::new(parts(3)).seal();
     Ok(())
 }

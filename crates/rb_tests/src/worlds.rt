@@ -3,6 +3,7 @@ ghost use Rattle.std.specs.Prelude.{◌≡◌, ◌<◌, All, IfOk, IsTrue, OnOk,
 ghost use Rattle.rb_ledger.specs.Records.{records_of};
 ghost use Rattle.rb_site.specs.Worlds.{IsCommand};
 
+use crate::checks::{equal, holds};
 use crate::rows::row_named;
 use rb_commands::{LineFault, read_command, read_config, write_reply};
 use rb_ledger::Ledger;
@@ -73,13 +74,13 @@ fn nothing_is_recorded_where_no_site_or_message_is(rt: HostRuntime) -> Result<()
     let mut world = World::open(alloc, config)?;
     let event = WorldEvent::Deliver(0, 1);
     let _reply = world.step(event).expect(&rt, "answered");
-    assert!(rt; world.events().is_empty());
-    assert!(rt; world.messages().is_empty());
+    holds(&rt, "no event", world.events().is_empty());
+    holds(&rt, "no message", world.messages().is_empty());
     for place in 0..2u8 {
         let site = world.site(place).expect(&rt, "a site");
-        assert!(rt; site.history().is_empty());
+        holds(&rt, "no entry", site.history().is_empty());
     }
-    assert!(rt; world.site(2).is_none());
+    holds(&rt, "no site 2", world.site(2).is_none());
     let _reports = world.close();
     Ok(())
 }
@@ -105,12 +106,31 @@ fn one_event_is_recorded(rt: HostRuntime) -> Result<(), Fail> {
     let reply = world.step(WorldEvent::At(0, Event::Balance(Place(0))));
     let text = recorded(alloc, &world);
     let _reports = world.close();
-    assert!(rt; reply.is_ok_and(|reply| reply.same(&Reply::Balance(5))));
-    assert_eq!(rt;
+    holds(
+        &rt,
+        "a balance of 5",
+        reply.is_ok_and(|reply| reply.same(&Reply::Balance(5))),
+    );
+    equal(
+        &rt,
         text?.as_str(),
-        "[At(0, Balance(Place(0)))] Balance(Place(0)) Balance(5)"
+        "[At(0, Balance(Place(0)))] Balance(Place(0)) Balance(5)",
     );
     Ok(())
+}
+
+/// What a site reports of the withdrawal that two sites cancelled.
+fn reports(rt: &impl Abort, place: usize, report: &SiteReport) {
+    let numbers = [
+        report.me as usize,
+        report.entries.len(),
+        report.waiting as usize,
+    ];
+    equal(rt, numbers, [place, 3, 0]);
+    equal(rt, report.balances.as_slice(), [1000].as_slice());
+    equal(rt, report.counts.as_slice(), [2, 0, 0].as_slice());
+    let reds = (report.clock.deps().red, report.token.view().held);
+    equal(rt, reds, (1, place == 0));
 }
 
 #[test]
@@ -118,20 +138,11 @@ fn reports_of_sites(rt: HostRuntime) -> Result<(), Fail> {
     let alloc = rt.alloc();
     let script = row_named("two_cancels_of_one_withdrawal")?.script;
     for (place, report) in reports_of(alloc, script)?.iter().enumerate() {
-        let numbers = [
-            report.me as usize,
-            report.entries.len(),
-            report.waiting as usize,
-        ];
-        assert_eq!(rt; numbers, [place, 3, 0]);
-        assert_eq!(rt; report.balances.as_slice(), [1000].as_slice());
-        assert_eq!(rt; report.counts.as_slice(), [2, 0, 0].as_slice());
-        let reds = (report.clock.deps().red, report.token.view().held);
-        assert_eq!(rt; reds, (1, place == 0));
+        reports(&rt, place, report);
     }
     let script = row_named("history_full")?.script;
     for (report, recorded) in reports_of(alloc, script)?.iter().zip([2, 1]) {
-        assert_eq!(rt; report.history.len(), recorded);
+        equal(&rt, report.history.len(), recorded);
     }
     Ok(())
 }
@@ -292,8 +303,12 @@ fn tail_back(rt: HostRuntime) -> Result<(), Fail> {
         let reports = reports_of(alloc, script)?;
         let applied = &reports.get(0).ok_or("no report")?.entries;
         let config = config_of(alloc, script)?;
-        assert!(rt; there_and_back(alloc, &config, applied.as_slice())?);
-        assert!(rt; !applied.is_empty());
+        holds(
+            &rt,
+            name,
+            there_and_back(alloc, &config, applied.as_slice())?,
+        );
+        holds(&rt, name, !applied.is_empty());
     }
     Ok(())
 }
