@@ -1,0 +1,3 @@
+mod Moments
+mod Advance
+mod Runs
