@@ -65,7 +65,7 @@ whole_one p tail e n len (inl more) going =
     (first p tail (omega (arith, len_is p, len, more))).1
 whole_one p tail e n len (inr last) going = absurd (cc (going, last.2))
 
-start : (p rest : List ℕ) (e : Bool) → Walks (p ++ rest) [] p rest e
+pub start : (p rest : List ℕ) (e : Bool) → Walks (p ++ rest) [] p rest e
 start p rest e = record { got = p; lines = refl; bytes = refl; whole = λ going tail. refl }
 
 one_taken : (p : List ℕ) (e : Bool) (n : ℕ) → n ≡ line_len p → n ≤ length p → IsFirst p e n → IsTaken p e (take n p ∷ []) (drop (n + 1) p)

@@ -11,7 +11,6 @@ use crate::work::Work;
 use rb_lines::{Buffers, LINE_LIMIT, is_blank};
 
 /// What is at the front of the bytes that wait.
-#[derive(Clone, Copy)]
 pub enum Waiting {
     /// A line of so many bytes, with its line feed or at the end of the input.
     Line(usize),

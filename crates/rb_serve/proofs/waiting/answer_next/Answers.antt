@@ -1,9 +1,7 @@
 -- A line is answered, or skipped.
-use Rattle.std.proofs.Common.{rules, ◌≡◌, ◌+◌, ◌++◌, ◌∙◌, true, false, take, drop, ap, sym}
+use Rattle.std.proofs.Common.{rules, ◌≡◌, ◌∙◌, true, false, take, ap, sym}
 use Rattle.rb_lines.specs.Lines.{is_blank}
-use Rattle.rb_journal.specs.Lines.{recovered}
-use Rattle.rb_serve.specs.Steps.{Advances, point_of}
-use Rattle.rb_serve.specs.Turns.{IsTurn}
+use Rattle.rb_serve.specs.Steps.{point_of}
 use Rattle.rb_serve.proofs.Advance.{answers_one, skips}
 use Rattle.rb_serve.proofs.waiting.answer_next.Goals.{then-not-is_blank+in-Ok, else-not-is_blank}
 use Rattle.rb_serve.proofs.waiting.answer_next.Goals as goal

@@ -1,5 +1,5 @@
 -- One line more.
-use Rattle.std.proofs.Common.{rules, arith, ◌≡◌, ◌≤◌, ◌+◌, ◌++◌, ◌∙◌, Bool, length, ap, sym, subst, append-nil}
+use Rattle.std.proofs.Common.{rules, arith, ◌++◌, ◌∙◌, length, ap, sym, subst, append-nil}
 use Rattle.rb_journal.specs.Lines.{recovered}
 use Rattle.rb_lines.specs.declared.buffers.Buffers.{Buffers}
 use Rattle.rb_serve.specs.Steps.{Advances, point_of}
