@@ -8,7 +8,7 @@ use Rattle.rb_lines.specs.declared.buffers.Buffers.{Buffers}
 use Rattle.rb_lines.specs.declared.limits.TheConstants.{LINE_LIMIT}
 use Rattle.rb_lines.proofs.Public.LongLines.{long_line}
 use Rattle.rb_lines.proofs.Public.Walks.{at_end, at_rest, standing}
-use Rattle.rb_serve.specs.Ends.{AreAll, EndsAs, EndsAtRest, IsAnswered, IsBad, IsNext, IsPutOut}
+use Rattle.rb_serve.specs.Ends.{AreAll, EndsAs, EndsAtRest, IsReadAnswered, IsBad, IsNext, IsPutOut}
 use Rattle.rb_serve.specs.Steps.{IsBadLine, IsReadFault, Point, StopsAt}
 use Rattle.rb_serve.specs.Turns.{Answers, Turn, lines_answered, not_blank}
 use Rattle.rb_serve.specs.declared.fault.ServeFault.{ServeFault}
@@ -93,7 +93,7 @@ long_known (Some all) turns first (Some r) p e number w h =
 
 read_known : (input : Option (List ℕ)) (turns : List Turn) (first : ℕ) (rest left : Option (List ℕ)) (p : List ℕ) (e : Bool) (number : ℕ)
     → WalkedKnown input turns first rest p e number → e ≡ false → line_len p ≡ length p → Keeps rest left
-    → IfSome input (IsAnswered turns left)
+    → IfSome input (IsReadAnswered turns left)
 read_known None turns first rest left p e number w going none kept = tt
 read_known (Some all) turns first None left p e number w going none kept = absurd w
 read_known (Some all) turns first (Some r) None p e number w going none kept = absurd kept
@@ -109,7 +109,7 @@ read_known (Some all) turns first (Some r) (Some x) p e number w going none kept
 pub ends_read : (answers : Answers) (input : Option (List ℕ)) (lines : List (List ℕ)) (output : List ℕ) (first : ℕ) (p : Point)
     (rest left : Option (List ℕ)) (e : Bool) → (f : Follows answers input lines output first p rest e) → e ≡ false
     → line_len p.pending ≡ length p.pending → Keeps rest left
-    → IfSome input (IsAnswered f.turns left)
+    → IfSome input (IsReadAnswered f.turns left)
 ends_read answers input lines output first p rest left e f going none kept =
     read_known input f.turns first rest left p.pending e p.number f.walked going none kept
 

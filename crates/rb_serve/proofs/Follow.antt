@@ -13,7 +13,7 @@ use Rattle.rb_lines.specs.Buffers.{Reads}
 use Rattle.rb_lines.specs.Lines.{is_blank, lines_of, whole_lines}
 use Rattle.rb_lines.proofs.Public.Walks.{Walks, after_read}
 use Rattle.rb_serve.specs.Ends.{IsFull}
-use Rattle.rb_serve.specs.Run.{AreFirst, IsRun, input_of}
+use Rattle.rb_serve.specs.Run.{AreFirst, IsServed, served_input}
 use Rattle.rb_serve.specs.Steps.{Advances, IsTaken, Point}
 use Rattle.rb_serve.specs.Turns.{Answers, AreTurns, Turn, lines_added, lines_answered, not_blank, texts}
 use Rattle.rb_serve.proofs.Advance.{added_then, answered_then, start, texts_then, turns_then}
@@ -41,13 +41,13 @@ pub record Follows (answers : Answers) (input : Option (List ℕ)) (lines : List
   pub count_is : at.count ≡ length turns
   pub walked : WalkedKnown input turns first rest at.pending e at.number
 
-walked_start : (p : List ℕ) (rest : Option (List ℕ)) (first : ℕ) (e : Bool) → WalkedKnown (input_of p rest) [] first rest p e first
+walked_start : (p : List ℕ) (rest : Option (List ℕ)) (first : ℕ) (e : Bool) → WalkedKnown (served_input p rest) [] first rest p e first
 walked_start p None first e = tt
 walked_start p (Some r) first e = record { done = []; walks = start p r e; answered = refl; number_is = omega arith }
 
 -- at first there is no turn
 pub follows_start : (answers : Answers) (at : Point) (rest : Option (List ℕ)) (e : Bool) → at.count ≡ 0
-    → Follows answers (input_of at.pending rest) at.lines at.text at.number at rest e
+    → Follows answers (served_input at.pending rest) at.lines at.text at.number at rest e
 follows_start answers at rest e none = record {
   turns = [];
   are = tt;
@@ -160,7 +160,7 @@ first_on (Some all) xs ys first (Some r) p e n w are = (
 -- what a crash leaves of a run that goes on is a run from the beginning
 pub run_on : (answers : Answers) (input : Option (List ℕ)) (lines : List (List ℕ)) (output : List ℕ) (first : ℕ) (p : Point)
     (rest : Option (List ℕ)) (e : Bool) (c d : List ℕ) → Follows answers input lines output first p rest e
-    → IsRun answers (Some (p.pending ++ rest_of rest)) p.lines p.text c d → IsRun answers input lines output c d
+    → IsServed answers (Some (p.pending ++ rest_of rest)) p.lines p.text c d → IsServed answers input lines output c d
 run_on answers input lines output first p rest e c d f run = record {
   turns = f.turns ++ run.turns;
   are = turns_then answers lines f.turns run.turns f.are (subst (λ ls. AreTurns answers ls run.turns) f.lines_are run.are);
@@ -175,7 +175,7 @@ first_none (Some all) = (not_blank (lines_of all), refl)
 
 -- before the first turn
 pub run_start : (answers : Answers) (input : Option (List ℕ)) (lines : List (List ℕ)) (output c d : List ℕ)
-    → recovered c ≡ lines → d ≡ output → IsRun answers input lines output c d
+    → recovered c ≡ lines → d ≡ output → IsServed answers input lines output c d
 run_start answers input lines output c d are was = record {
   turns = [];
   are = tt;
@@ -186,10 +186,12 @@ run_start answers input lines output c d are was = record {
 
 -- a file that is full after some turns
 pub full_on : (answers : Answers) (input : Option (List ℕ)) (lines : List (List ℕ)) (output : List ℕ) (first : ℕ) (p : Point)
-    (rest : Option (List ℕ)) (e : Bool) → Follows answers input lines output first p rest e → IsFull answers p.lines → IsFull answers lines
+    (rest : Option (List ℕ)) (e : Bool) → Follows answers input lines output first p rest e
+    → IsFull answers (Some (p.pending ++ rest_of rest)) p.lines → IsFull answers input lines
 full_on answers input lines output first p rest e f full = record {
   turns = f.turns ++ full.turns;
   are = turns_then answers lines f.turns full.turns f.are (subst (λ ls. AreTurns answers ls full.turns) f.lines_are full.are);
+  in_order = first_on input f.turns full.turns first rest p.pending e p.number f.walked full.in_order;
   long = subst (λ ls. 2 ^ 60 ≤ length (concat ls))
       (added_then lines p.lines (p.lines ++ lines_added full.turns) f.turns full.turns f.lines_are refl) full.long;
 }

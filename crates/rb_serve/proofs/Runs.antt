@@ -9,8 +9,8 @@ use Rattle.rb_journal.specs.declared.host.HostError.{HostError}
 use Rattle.rb_journal.specs.declared.host.HostError.TheVariants.{Memory, DiskFailed, OutputFailed, Full}
 use Rattle.rb_lines.specs.Lines.{is_blank, lines_of}
 use Rattle.rb_serve.specs.Ends.{IsFull}
-use Rattle.rb_serve.specs.Faults.{fault_of}
-use Rattle.rb_serve.specs.Run.{AreFirst, IsRun}
+use Rattle.rb_serve.specs.Faults.{fault_of_host}
+use Rattle.rb_serve.specs.Run.{AreFirst, IsServed}
 use Rattle.rb_serve.specs.Steps.{Advances, IsTaken, Point}
 use Rattle.rb_serve.specs.Turns.{Answers, Turn, lines_added, lines_answered, not_blank, texts}
 use Rattle.rb_serve.specs.declared.fault.ServeFault.TheVariants.{Journal}
@@ -29,7 +29,7 @@ first_of_taken turns p q e taken rest is end answered = (
 pub durable_is_run : (answers : Answers) (e : Bool) (p q : Point) (rest batch output reply c d : List ℕ) → Advances answers e p q
     → (e ≡ true → rest ≡ []) → q.lines ≡ p.lines ++ recovered batch → p.text ≡ [] → q.text ≡ reply
     → IsDurable p.lines (recovered batch) output reply c d
-    → IsRun answers (Some (p.pending ++ rest)) p.lines output c d
+    → IsServed answers (Some (p.pending ++ rest)) p.lines output c d
 durable_is_run answers e p q rest batch output reply c d a end lines none text (inl at) = record {
   turns = [];
   are = tt;
@@ -53,12 +53,14 @@ concat_then [] ys = refl
 concat_then (x ∷ xs) ys = ap (λ l. x ++ l) (concat_then xs ys) ∙ sym (append_assoc x (concat xs) (concat ys))
 
 -- a batch that finds no place below 2^60 bytes
-pub is_full : (answers : Answers) (e : Bool) (p q : Point) (batch : List ℕ) (end : ℕ) → Advances answers e p q
-    → q.lines ≡ p.lines ++ recovered batch → IsBatch batch → end ≡ length (concat p.lines) → 2 ^ 60 ≤ end + length batch
-    → IsFull answers p.lines
-is_full answers e p q batch end a lines whole at long = record {
+pub is_full : (answers : Answers) (e : Bool) (p q : Point) (rest batch : List ℕ) (end : ℕ) → Advances answers e p q
+    → (e ≡ true → rest ≡ []) → q.lines ≡ p.lines ++ recovered batch → IsBatch batch → end ≡ length (concat p.lines)
+    → 2 ^ 60 ≤ end + length batch
+    → IsFull answers (Some (p.pending ++ rest)) p.lines
+is_full answers e p q rest batch end a over lines whole at long = record {
   turns = a.turns;
   are = a.are;
+  in_order = first_of_taken a.turns p.pending q.pending e a.taken rest a.taken_is over a.answered;
   long =
       let same : p.lines ++ recovered batch ≡ p.lines ++ lines_added a.turns = sym lines ∙ a.lines_are in
       let all : length (concat (p.lines ++ recovered batch)) ≡ end + length batch =
@@ -69,7 +71,7 @@ is_full answers e p q batch end a lines whole at long = record {
 }
 
 -- the file failed, or is full
-pub journal_cause : (error : HostError) → fault_of error ≡ Journal → (error ≡ DiskFailed) ⊎ (error ≡ Full)
+pub journal_cause : (error : HostError) → fault_of_host error ≡ Journal → (error ≡ DiskFailed) ⊎ (error ≡ Full)
 journal_cause Memory is = absurd (cc)
 journal_cause DiskFailed is = inl refl
 journal_cause OutputFailed is = absurd (cc)

@@ -5,16 +5,16 @@ use Rattle.rb_journal.specs.declared.host.HostError.TheVariants.{Memory, DiskFai
 use Rattle.rb_serve.specs.declared.fault.ServeFault.{ServeFault}
 use Rattle.rb_serve.specs.declared.fault.ServeFault.TheVariants.{BadLine, LongLine, Read, Write, Journal, OutOfMemory}
 
-abbrev pub fault_of : HostError → ServeFault
-fault_of Memory = OutOfMemory
-fault_of DiskFailed = Journal
-fault_of OutputFailed = Write
-fault_of Full = Journal
+abbrev pub fault_of_host : HostError → ServeFault
+fault_of_host Memory = OutOfMemory
+fault_of_host DiskFailed = Journal
+fault_of_host OutputFailed = Write
+fault_of_host Full = Journal
 
-abbrev pub reason_of : ServeFault → List ℕ
-reason_of (BadLine n) = codes "line " ++ decimal n ++ codes ": bad line"
-reason_of (LongLine n) = codes "line " ++ decimal n ++ codes ": line too long"
-reason_of Read = codes "read failed"
-reason_of Write = codes "write failed"
-reason_of Journal = codes "journal failed"
-reason_of OutOfMemory = codes "out of memory"
+abbrev pub reason_shown : ServeFault → List ℕ
+reason_shown (BadLine n) = codes "line " ++ decimal n ++ codes ": bad line"
+reason_shown (LongLine n) = codes "line " ++ decimal n ++ codes ": line too long"
+reason_shown Read = codes "read failed"
+reason_shown Write = codes "write failed"
+reason_shown Journal = codes "journal failed"
+reason_shown OutOfMemory = codes "out of memory"

@@ -11,8 +11,8 @@ use Rattle.rb_serve.specs.declared.waiting.Waiting.{Waiting}
 use Rattle.rb_serve.specs.declared.waiting.Waiting.TheVariants.{Line, Long, Nothing}
 use Rattle.rb_serve.specs.declared.work.Work.{Work}
 
--- what was answered by some moment: the journal's lines, the text, what waits, the number of its first line, and how many answers
--- there were
+-- what was answered by some moment: the journal's lines, the text, what waits, the number of its first line, and how
+-- many answers there were
 pub record Point : Type 0 where
   pub lines : List (List ℕ)
   pub text : List ℕ

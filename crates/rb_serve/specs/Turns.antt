@@ -35,8 +35,9 @@ not_blank lines = filter (λ line. not (is_blank line)) lines
 abbrev pub HasNoAnswer : Answers → List (List ℕ) → List ℕ → Type 0
 HasNoAnswer answers lines line = (added : List (List ℕ)) (text : List ℕ) → ¬ answers lines line added text
 
--- the machine took a line: it is answered after these lines, and what it adds is in the batch and its text behind the others
-pub record IsTurn (answers : Answers) (lines new batch batch_new : List (List ℕ)) (line text text_new : List ℕ) : Type 0 where
+-- the machine took a line: what it adds is in the batch too, and its text is behind the others
+pub record IsTurn (answers : Answers) (lines new batch batch_new : List (List ℕ)) (line text text_new : List ℕ) :
+    Type 0 where
   pub added : List (List ℕ)
   pub words : List ℕ
   pub answered : answers lines line added words

@@ -1,6 +1,6 @@
 //! Why serving stops.
 ghost use Rattle.std.specs.Prelude.{◌≡◌};
-ghost use Rattle.rb_serve.specs.Faults.{fault_of};
+ghost use Rattle.rb_serve.specs.Faults.{fault_of_host};
 
 use rb_journal::HostError;
 use std::fmt;
@@ -26,9 +26,9 @@ pub enum ServeFault {
 // By hand, since a derived one states no output.
 impl fmt::Display for ServeFault {
     ghost use Rattle.std.specs.Prelude.{Some};
-    ghost use Rattle.rb_serve.specs.Faults.{reason_of};
+    ghost use Rattle.rb_serve.specs.Faults.{reason_shown};
 
-    ghost output = { λ fault. Some (reason_of fault) };
+    ghost output = { λ fault. Some (reason_shown fault) };
 
     fn fmt<W: fmt::Write>(&self, f: &mut fmt::Formatter<W>) -> fmt::Result {
         match self {
@@ -43,7 +43,7 @@ impl fmt::Display for ServeFault {
 }
 
 impl From<HostError> for ServeFault {
-    ghost from_gives = { λ error fault. fault ≡ fault_of error };
+    ghost from_gives = { λ error fault. fault ≡ fault_of_host error };
 
     fn from(error: HostError) -> ServeFault {
         match error {

@@ -4,7 +4,7 @@ ghost use Rattle.rb_journal.specs.Host.{LeavesOnly};
 ghost use Rattle.rb_journal.specs.Lines.{recovered};
 ghost use Rattle.rb_journal.specs.Journal.{IsSettled};
 ghost use Rattle.rb_serve.specs.Ends.{EndsAtRest, IsFull};
-ghost use Rattle.rb_serve.specs.Run.{IsRun};
+ghost use Rattle.rb_serve.specs.Run.{IsServed};
 ghost use Rattle.rb_serve.specs.Steps.{Advances, StopsAt, point_of};
 ghost use Rattle.rb_serve.specs.declared.fault.ServeFault.TheVariants.{Journal as JournalFailed, Write};
 
@@ -40,13 +40,14 @@ pub fn answer_group<M: Machine, H: Host>(
     // A crash leaves a run over these lines, whatever is read behind them.
     ensures any_moment { (rest : List ℕ) → (buffers.old.ended ≡ true → rest ≡ [])
         → LeavesOnly H.moment H.left_since journal.old.host journal.new.host
-        (IsRun M.answers (Some (buffers.old.pending ++ rest)) (recovered (H.content journal.old.host))
+        (IsServed M.answers (Some (buffers.old.pending ++ rest)) (recovered (H.content journal.old.host))
         (H.output journal.old.host)) }
 
     ensures later { H.faults journal.old.host ≤ H.faults journal.new.host }
     ensures write { result ≡ Err Write → H.faults journal.old.host < H.faults journal.new.host }
     ensures journal { result ≡ Err JournalFailed → (H.faults journal.old.host < H.faults journal.new.host)
-        ⊎ IsFull M.answers (recovered (H.content journal.old.host)) }
+        ⊎ ((rest : List ℕ) → (buffers.old.ended ≡ true → rest ≡ [])
+        → IsFull M.answers (Some (buffers.old.pending ++ rest)) (recovered (H.content journal.old.host))) }
 
     ensures batch { EndsAtRest result → work.new.batch.bytes.items ≡ [] }
     ensures owed { EndsAtRest result → buffers.new.owed.items ≡ [] }

@@ -7,7 +7,7 @@ ghost use Rattle.rb_journal.specs.Journal.{IsSettled};
 ghost use Rattle.rb_lines.specs.Buffers.{Counts};
 ghost use Rattle.rb_lines.specs.declared.limits.TheConstants.{MOST_READS};
 ghost use Rattle.rb_serve.specs.Ends.{EndsAs, EndsAtRest, IsFull, IsPutOut};
-ghost use Rattle.rb_serve.specs.Run.{IsRun, input_of};
+ghost use Rattle.rb_serve.specs.Run.{IsServed, served_input};
 ghost use Rattle.rb_serve.specs.Turns.{Turn};
 ghost use Rattle.rb_serve.specs.declared.fault.ServeFault.TheVariants.{Journal as JournalFailed, Read, Write};
 
@@ -50,19 +50,20 @@ pub fn serve<M: Machine, H: Host, S: Source>(
         × IsPutOut M.answers (recovered (H.content journal.old.host)) (H.output journal.old.host) turns
         (recovered (H.content journal.new.host)) (H.output journal.new.host)
         × EndsAs M.answers (recovered (H.content journal.old.host)) turns number
-        (input_of buffers.old.pending (S.remaining reader.old)) (S.remaining reader.new) result }
+        (served_input buffers.old.pending (S.remaining reader.old)) (S.remaining reader.new) result }
 
     // A crash at any moment leaves a file and an output of a run: nothing is put out that it takes back, and no line
     // of the journal is skipped or there in part.
     ensures any_moment { LeavesOnly H.moment H.left_since journal.old.host journal.new.host
-        (IsRun M.answers (input_of buffers.old.pending (S.remaining reader.old))
+        (IsServed M.answers (served_input buffers.old.pending (S.remaining reader.old))
         (recovered (H.content journal.old.host)) (H.output journal.old.host)) }
 
     // Each other fault comes only for its cause.
     ensures read { result ≡ Err Read → (S.failed reader.new ≡ true) ⊎ (S.calls reader.new ≡ MOST_READS) }
     ensures write { result ≡ Err Write → H.faults journal.old.host < H.faults journal.new.host }
     ensures journal { result ≡ Err JournalFailed → (H.faults journal.old.host < H.faults journal.new.host)
-        ⊎ IsFull M.answers (recovered (H.content journal.old.host)) }
+        ⊎ IsFull M.answers (served_input buffers.old.pending (S.remaining reader.old))
+        (recovered (H.content journal.old.host)) }
     // At most so many reads are made, whatever is answered.
     ensures calls { S.calls reader.new ≤ MOST_READS }
 {

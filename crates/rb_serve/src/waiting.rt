@@ -1,5 +1,5 @@
 //! The lines that wait, answered one after another.
-ghost use Rattle.std.specs.Prelude.{◌≡◌, ◌≢◌, ◌+◌, ◌^◌, ◌<◌, ◌≤◌, ◌++◌, List, ℕ, [], Err, length, OnOk, OnErr, MatchResult};
+ghost use Rattle.std.specs.Prelude.{◌≡◌, ◌≢◌, ◌+◌, ◌^◌, ◌<◌, ◌≤◌, ◌++◌, List, ℕ, [], Err, length, OnOk, OnErr};
 ghost use Rattle.rb_journal.specs.Lines.{recovered};
 ghost use Rattle.rb_lines.specs.Buffers.{Stands};
 ghost use Rattle.rb_serve.specs.Steps.{Advances, IsWaiting, StopsAt, point_of};

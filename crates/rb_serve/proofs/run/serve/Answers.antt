@@ -1,9 +1,9 @@
 -- A group more of a run, and how it ends.
-use Rattle.std.proofs.Common.{rules, arith, ◌≡◌, ◌++◌, ◌∙◌, ⊎_elim, inl, inr, ℕ, true, false, List, Some, Err, refl, ap, sym, subst, ◌<◌, ◌*◌}
+use Rattle.std.proofs.Common.{rules, arith, ◌≡◌, ◌++◌, ◌∙◌, ⊎_elim, inl, inr, ℕ, true, false, List, [], Some, Err, refl, ap, sym, subst, ◌<◌, ◌*◌}
 use Rattle.rb_journal.specs.Lines.{recovered}
 use Rattle.rb_lines.specs.declared.limits.TheConstants.{READ_SIZE}
 use Rattle.rb_serve.specs.Ends.{EndsAs, EndsAtRest, IsFull, IsPutOut}
-use Rattle.rb_serve.specs.Run.{IsRun, input_of}
+use Rattle.rb_serve.specs.Run.{IsServed, served_input}
 use Rattle.rb_serve.specs.Steps.{StopsAt, point_of}
 use Rattle.rb_serve.specs.Turns.{Turn}
 use Rattle.rb_serve.specs.declared.fault.ServeFault.TheVariants.{Journal}
@@ -19,7 +19,7 @@ reads-init g c =
     let rest = g.S.Source.remaining c.args.reader.now in
     let buffers = c.args.buffers.now in
     let lines = recovered (host.content was) in
-    let input = input_of buffers.pending rest in
+    let input = served_input buffers.pending rest in
     let work = c.new-work.result in
     let at = point_of lines (host.output was) work buffers in
     let follows = follows_start g.M.Machine.answers at rest buffers.ended c.new-work.ensures.count in
@@ -35,7 +35,7 @@ reads-init g c =
       later = omega arith;
       follows = subst (λ n. Follows g.M.Machine.answers input lines (host.output was) n at rest buffers.ended) c.new-work.ensures.number
           follows;
-      any_moment = started host.moment host.left_since was (IsRun g.M.Machine.answers input lines (host.output was))
+      any_moment = started host.moment host.left_since was (IsServed g.M.Machine.answers input lines (host.output was))
           (λ f d left. let now = g.met.H.Host.only_now was f d left in
           run_start g.M.Machine.answers input lines (host.output was) f d (ap recovered (c.requires.settled.durable f now.0)) now.1);
     }
@@ -49,12 +49,12 @@ returns-in_err-answer_group-clause-any_moment g c =
     let new = c.answer_group.new in
     let inv = c.reads.invariant in
     let rest = g.S.Source.remaining c.reads.reader in
-    let input = input_of c.args.buffers.now.pending (g.S.Source.remaining c.args.reader.now) in
+    let input = served_input c.args.buffers.now.pending (g.S.Source.remaining c.args.reader.now) in
     let lines = recovered (host.content was) in
     let output = host.output was in
     let p = point_of (recovered (host.content mid)) (host.output mid) c.reads.work c.reads.buffers in
-    runs_on host.moment host.left_since was mid new.journal.host (IsRun answers input lines output)
-    (IsRun answers (Some (c.reads.buffers.pending ++ rest_of rest)) (recovered (host.content mid)) (host.output mid)) inv.any_moment
+    runs_on host.moment host.left_since was mid new.journal.host (IsServed answers input lines output)
+    (IsServed answers (Some (c.reads.buffers.pending ++ rest_of rest)) (recovered (host.content mid)) (host.output mid)) inv.any_moment
     (c.answer_group.ensures.any_moment (rest_of rest) (λ ended. no_rest rest (inv.end ended)))
     (λ f d run. run_on answers input lines output c.args.number p rest c.reads.buffers.ended f d inv.follows run)
 
@@ -67,12 +67,12 @@ returns-then-buffers-clause-any_moment g c =
     let new = c.answer_group.new in
     let inv = c.reads.invariant in
     let rest = g.S.Source.remaining c.reads.reader in
-    let input = input_of c.args.buffers.now.pending (g.S.Source.remaining c.args.reader.now) in
+    let input = served_input c.args.buffers.now.pending (g.S.Source.remaining c.args.reader.now) in
     let lines = recovered (host.content was) in
     let output = host.output was in
     let p = point_of (recovered (host.content mid)) (host.output mid) c.reads.work c.reads.buffers in
-    runs_on host.moment host.left_since was mid new.journal.host (IsRun answers input lines output)
-    (IsRun answers (Some (c.reads.buffers.pending ++ rest_of rest)) (recovered (host.content mid)) (host.output mid)) inv.any_moment
+    runs_on host.moment host.left_since was mid new.journal.host (IsServed answers input lines output)
+    (IsServed answers (Some (c.reads.buffers.pending ++ rest_of rest)) (recovered (host.content mid)) (host.output mid)) inv.any_moment
     (c.answer_group.ensures.any_moment (rest_of rest) (λ ended. no_rest rest (inv.end ended)))
     (λ f d run. run_on answers input lines output c.args.number p rest c.reads.buffers.ended f d inv.follows run)
 
@@ -85,12 +85,12 @@ returns-in_err-read_more-clause-any_moment g c =
     let new = c.answer_group.new in
     let inv = c.reads.invariant in
     let rest = g.S.Source.remaining c.reads.reader in
-    let input = input_of c.args.buffers.now.pending (g.S.Source.remaining c.args.reader.now) in
+    let input = served_input c.args.buffers.now.pending (g.S.Source.remaining c.args.reader.now) in
     let lines = recovered (host.content was) in
     let output = host.output was in
     let p = point_of (recovered (host.content mid)) (host.output mid) c.reads.work c.reads.buffers in
-    runs_on host.moment host.left_since was mid new.journal.host (IsRun answers input lines output)
-    (IsRun answers (Some (c.reads.buffers.pending ++ rest_of rest)) (recovered (host.content mid)) (host.output mid)) inv.any_moment
+    runs_on host.moment host.left_since was mid new.journal.host (IsServed answers input lines output)
+    (IsServed answers (Some (c.reads.buffers.pending ++ rest_of rest)) (recovered (host.content mid)) (host.output mid)) inv.any_moment
     (c.answer_group.ensures.any_moment (rest_of rest) (λ ended. no_rest rest (inv.end ended)))
     (λ f d run. run_on answers input lines output c.args.number p rest c.reads.buffers.ended f d inv.follows run)
 
@@ -103,7 +103,7 @@ returns-in_err-answer_group-clause-journal g c = λ is.
     let new = c.answer_group.new in
     let inv = c.reads.invariant in
     let rest = g.S.Source.remaining c.reads.reader in
-    let input = input_of c.args.buffers.now.pending (g.S.Source.remaining c.args.reader.now) in
+    let input = served_input c.args.buffers.now.pending (g.S.Source.remaining c.args.reader.now) in
     let lines = recovered (host.content was) in
     let output = host.output was in
     let p = point_of (recovered (host.content mid)) (host.output mid) c.reads.work c.reads.buffers in
@@ -111,7 +111,9 @@ returns-in_err-answer_group-clause-journal g c = λ is.
     let same : c.in_err-answer_group.field-0.0 ≡ Journal = cc (passed, is) in
     let why = c.in_err-answer_group.ensures.journal (ap Err same) in
     ⊎_elim (λ (failed : host.faults mid < host.faults new.journal.host). inl (omega (arith, failed, inv.later)))
-    (λ (full : IsFull answers p.lines). inr (full_on answers input lines output c.args.number p rest c.reads.buffers.ended inv.follows full))
+    (λ (full : (more : List ℕ) → (c.reads.buffers.ended ≡ true → more ≡ []) → IsFull answers (Some (c.reads.buffers.pending ++ more)) p.lines).
+    inr (full_on answers input lines output c.args.number p rest c.reads.buffers.ended inv.follows
+    (full (rest_of rest) (λ ended. no_rest rest (inv.end ended)))))
     why
 
 pub returns-in_err-answer_group-clause-text : goal.returns-in_err-answer_group-clause-text
@@ -123,7 +125,7 @@ returns-in_err-answer_group-clause-text g c = λ at_rest.
     let new = c.answer_group.new in
     let inv = c.reads.invariant in
     let rest = g.S.Source.remaining c.reads.reader in
-    let input = input_of c.args.buffers.now.pending (g.S.Source.remaining c.args.reader.now) in
+    let input = served_input c.args.buffers.now.pending (g.S.Source.remaining c.args.reader.now) in
     let lines = recovered (host.content was) in
     let output = host.output was in
     let p = point_of (recovered (host.content mid)) (host.output mid) c.reads.work c.reads.buffers in
@@ -152,7 +154,7 @@ returns-then-buffers-clause-text g c = λ ok.
     let new = c.answer_group.new in
     let inv = c.reads.invariant in
     let rest = g.S.Source.remaining c.reads.reader in
-    let input = input_of c.args.buffers.now.pending (g.S.Source.remaining c.args.reader.now) in
+    let input = served_input c.args.buffers.now.pending (g.S.Source.remaining c.args.reader.now) in
     let lines = recovered (host.content was) in
     let output = host.output was in
     let p = point_of (recovered (host.content mid)) (host.output mid) c.reads.work c.reads.buffers in
@@ -178,7 +180,7 @@ returns-in_err-read_more-clause-text g c = λ at_rest.
     let new = c.answer_group.new in
     let inv = c.reads.invariant in
     let rest = g.S.Source.remaining c.reads.reader in
-    let input = input_of c.args.buffers.now.pending (g.S.Source.remaining c.args.reader.now) in
+    let input = served_input c.args.buffers.now.pending (g.S.Source.remaining c.args.reader.now) in
     let lines = recovered (host.content was) in
     let output = host.output was in
     let p = point_of (recovered (host.content mid)) (host.output mid) c.reads.work c.reads.buffers in
@@ -211,7 +213,7 @@ reads-preserved g c =
     let new = c.answer_group.new in
     let inv = c.reads.invariant in
     let rest = g.S.Source.remaining c.reads.reader in
-    let input = input_of c.args.buffers.now.pending (g.S.Source.remaining c.args.reader.now) in
+    let input = served_input c.args.buffers.now.pending (g.S.Source.remaining c.args.reader.now) in
     let lines = recovered (host.content was) in
     let output = host.output was in
     let p = point_of (recovered (host.content mid)) (host.output mid) c.reads.work c.reads.buffers in
@@ -239,8 +241,8 @@ reads-preserved g c =
       follows = follows_read answers input lines output c.args.number q r rest more new.buffers.ended now.buffers.ended follows read.read
           (λ still. going) (search rules) (search rules) (search rules) (search rules);
       any_moment =
-          runs_on host.moment host.left_since was mid new.journal.host (IsRun answers input lines output)
-          (IsRun answers (Some (c.reads.buffers.pending ++ rest_of rest)) (recovered (host.content mid)) (host.output mid)) inv.any_moment
+          runs_on host.moment host.left_since was mid new.journal.host (IsServed answers input lines output)
+          (IsServed answers (Some (c.reads.buffers.pending ++ rest_of rest)) (recovered (host.content mid)) (host.output mid)) inv.any_moment
           (c.answer_group.ensures.any_moment (rest_of rest) (λ ended. no_rest rest (inv.end ended)))
           (λ f d run. run_on answers input lines output c.args.number p rest c.reads.buffers.ended f d inv.follows run);
     }

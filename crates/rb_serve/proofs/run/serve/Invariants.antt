@@ -5,7 +5,7 @@ use Rattle.rb_journal.specs.Host.{LeavesOnly}
 use Rattle.rb_journal.specs.Lines.{recovered}
 use Rattle.rb_journal.specs.Journal.{IsSettled}
 use Rattle.rb_lines.specs.Buffers.{Counts, left}
-use Rattle.rb_serve.specs.Run.{IsRun, input_of}
+use Rattle.rb_serve.specs.Run.{IsServed, served_input}
 use Rattle.rb_serve.specs.Steps.{point_of}
 use Rattle.rb_serve.proofs.Follow.{Follows}
 use Rattle.rb_serve.proofs.run.serve.Given as goal
@@ -14,7 +14,7 @@ abbrev pub invariant-reads : goal.invariant-reads
 invariant-reads g l =
     let host = g.H.Host in
     let answers = g.M.Machine.answers in
-    let input = input_of l.fn.buffers.pending (g.S.Source.remaining l.fn.reader) in
+    let input = served_input l.fn.buffers.pending (g.S.Source.remaining l.fn.reader) in
     let lines = recovered (host.content l.fn.journal.host) in
     let output = host.output l.fn.journal.host in
     record {
@@ -30,7 +30,7 @@ invariant-reads g l =
       follows : Follows answers input lines output l.fn.number
           (point_of (recovered (host.content l.journal.host)) (host.output l.journal.host) l.work l.buffers)
           (g.S.Source.remaining l.reader) l.buffers.ended;
-      any_moment : LeavesOnly host.moment host.left_since l.fn.journal.host l.journal.host (IsRun answers input lines output);
+      any_moment : LeavesOnly host.moment host.left_since l.fn.journal.host l.journal.host (IsServed answers input lines output);
     }
 
 abbrev pub decreases-reads : goal.decreases-reads
