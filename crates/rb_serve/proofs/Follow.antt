@@ -13,7 +13,7 @@ use Rattle.rb_lines.specs.Buffers.{Reads}
 use Rattle.rb_lines.specs.Lines.{is_blank, lines_of, whole_lines}
 use Rattle.rb_lines.proofs.Public.Walks.{Walks, after_read}
 use Rattle.rb_serve.specs.Ends.{IsFull}
-use Rattle.rb_serve.specs.Run.{AreFirst, IsServed, served_input}
+use Rattle.rb_serve.specs.Run.{AreFirst, IsRunOfTurns, served_input}
 use Rattle.rb_serve.specs.Steps.{Advances, IsTaken, Point}
 use Rattle.rb_serve.specs.Turns.{Answers, AreTurns, Turn, lines_added, lines_answered, not_blank, texts}
 use Rattle.rb_serve.proofs.Advance.{added_then, answered_then, start, texts_then, turns_then}
@@ -160,7 +160,7 @@ first_on (Some all) xs ys first (Some r) p e n w are = (
 -- what a crash leaves of a run that goes on is a run from the beginning
 pub run_on : (answers : Answers) (input : Option (List ℕ)) (lines : List (List ℕ)) (output : List ℕ) (first : ℕ) (p : Point)
     (rest : Option (List ℕ)) (e : Bool) (c d : List ℕ) → Follows answers input lines output first p rest e
-    → IsServed answers (Some (p.pending ++ rest_of rest)) p.lines p.text c d → IsServed answers input lines output c d
+    → IsRunOfTurns answers (Some (p.pending ++ rest_of rest)) p.lines p.text c d → IsRunOfTurns answers input lines output c d
 run_on answers input lines output first p rest e c d f run = record {
   turns = f.turns ++ run.turns;
   are = turns_then answers lines f.turns run.turns f.are (subst (λ ls. AreTurns answers ls run.turns) f.lines_are run.are);
@@ -175,7 +175,7 @@ first_none (Some all) = (not_blank (lines_of all), refl)
 
 -- before the first turn
 pub run_start : (answers : Answers) (input : Option (List ℕ)) (lines : List (List ℕ)) (output c d : List ℕ)
-    → recovered c ≡ lines → d ≡ output → IsServed answers input lines output c d
+    → recovered c ≡ lines → d ≡ output → IsRunOfTurns answers input lines output c d
 run_start answers input lines output c d are was = record {
   turns = [];
   are = tt;

@@ -10,7 +10,7 @@ use Rattle.rb_journal.specs.declared.host.HostError.TheVariants.{Memory, DiskFai
 use Rattle.rb_lines.specs.Lines.{is_blank, lines_of}
 use Rattle.rb_serve.specs.Ends.{IsFull}
 use Rattle.rb_serve.specs.Faults.{fault_of_host}
-use Rattle.rb_serve.specs.Run.{AreFirst, IsServed}
+use Rattle.rb_serve.specs.Run.{AreFirst, IsRunOfTurns}
 use Rattle.rb_serve.specs.Steps.{Advances, IsTaken, Point}
 use Rattle.rb_serve.specs.Turns.{Answers, Turn, lines_added, lines_answered, not_blank, texts}
 use Rattle.rb_serve.specs.declared.fault.ServeFault.TheVariants.{Journal}
@@ -29,7 +29,7 @@ first_of_taken turns p q e taken rest is end answered = (
 pub durable_is_run : (answers : Answers) (e : Bool) (p q : Point) (rest batch output reply c d : List ℕ) → Advances answers e p q
     → (e ≡ true → rest ≡ []) → q.lines ≡ p.lines ++ recovered batch → p.text ≡ [] → q.text ≡ reply
     → IsDurable p.lines (recovered batch) output reply c d
-    → IsServed answers (Some (p.pending ++ rest)) p.lines output c d
+    → IsRunOfTurns answers (Some (p.pending ++ rest)) p.lines output c d
 durable_is_run answers e p q rest batch output reply c d a end lines none text (inl at) = record {
   turns = [];
   are = tt;

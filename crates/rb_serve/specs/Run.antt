@@ -15,7 +15,7 @@ abbrev pub AreFirst : List Turn → List ℕ → Type 0
 AreFirst turns input = (later : List (List ℕ)) × (not_blank (lines_of input) ≡ lines_answered turns ++ later)
 
 -- the file has the lines and all that some turns add, and what is put out are texts of these turns, from the first on
-pub record IsServed (answers : Answers) (input : Option (List ℕ)) (lines : List (List ℕ)) (output c d : List ℕ) :
+pub record IsRunOfTurns (answers : Answers) (input : Option (List ℕ)) (lines : List (List ℕ)) (output c d : List ℕ) :
     Type 0 where
   pub turns : List Turn
   pub are : AreTurns answers lines turns

@@ -4,7 +4,7 @@ ghost use Rattle.rb_journal.specs.Host.{LeavesOnly};
 ghost use Rattle.rb_journal.specs.Lines.{recovered};
 ghost use Rattle.rb_journal.specs.Journal.{IsSettled};
 ghost use Rattle.rb_serve.specs.Ends.{EndsAtRest, IsFull};
-ghost use Rattle.rb_serve.specs.Run.{IsServed};
+ghost use Rattle.rb_serve.specs.Run.{IsRunOfTurns};
 ghost use Rattle.rb_serve.specs.Steps.{Advances, StopsAt, point_of};
 ghost use Rattle.rb_serve.specs.declared.fault.ServeFault.TheVariants.{Journal as JournalFailed, Write};
 
@@ -40,7 +40,7 @@ pub fn answer_group<M: Machine, H: Host>(
     // A crash leaves a run over these lines, whatever is read behind them.
     ensures any_moment { (rest : List ℕ) → (buffers.old.ended ≡ true → rest ≡ [])
         → LeavesOnly H.moment H.left_since journal.old.host journal.new.host
-        (IsServed M.answers (Some (buffers.old.pending ++ rest)) (recovered (H.content journal.old.host))
+        (IsRunOfTurns M.answers (Some (buffers.old.pending ++ rest)) (recovered (H.content journal.old.host))
         (H.output journal.old.host)) }
 
     ensures later { H.faults journal.old.host ≤ H.faults journal.new.host }

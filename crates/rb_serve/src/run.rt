@@ -7,7 +7,7 @@ ghost use Rattle.rb_journal.specs.Journal.{IsSettled};
 ghost use Rattle.rb_lines.specs.Buffers.{Counts};
 ghost use Rattle.rb_lines.specs.declared.limits.TheConstants.{MOST_READS};
 ghost use Rattle.rb_serve.specs.Ends.{EndsAs, EndsAtRest, IsFull, IsPutOut};
-ghost use Rattle.rb_serve.specs.Run.{IsServed, served_input};
+ghost use Rattle.rb_serve.specs.Run.{IsRunOfTurns, served_input};
 ghost use Rattle.rb_serve.specs.Turns.{Turn};
 ghost use Rattle.rb_serve.specs.declared.fault.ServeFault.TheVariants.{Journal as JournalFailed, Read, Write};
 
@@ -55,7 +55,7 @@ pub fn serve<M: Machine, H: Host, S: Source>(
     // A crash at any moment leaves a file and an output of a run: nothing is put out that it takes back, and no line
     // of the journal is skipped or there in part.
     ensures any_moment { LeavesOnly H.moment H.left_since journal.old.host journal.new.host
-        (IsServed M.answers (served_input buffers.old.pending (S.remaining reader.old))
+        (IsRunOfTurns M.answers (served_input buffers.old.pending (S.remaining reader.old))
         (recovered (H.content journal.old.host)) (H.output journal.old.host)) }
 
     // Each other fault comes only for its cause.

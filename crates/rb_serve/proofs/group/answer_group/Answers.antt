@@ -3,7 +3,7 @@ use Rattle.std.proofs.Common.{rules, ◌≡◌, ◌++◌, ⊎_elim, inl, inr, So
 use Rattle.rb_journal.specs.Lines.{IsBatch, recovered}
 use Rattle.rb_journal.specs.declared.host.HostError.TheVariants.{DiskFailed, Full}
 use Rattle.rb_serve.specs.Faults.{fault_of_host}
-use Rattle.rb_serve.specs.Run.{IsServed}
+use Rattle.rb_serve.specs.Run.{IsRunOfTurns}
 use Rattle.rb_serve.specs.Steps.{Advances, point_of}
 use Rattle.rb_serve.specs.declared.fault.ServeFault.TheVariants.{Journal}
 use Rattle.rb_serve.proofs.Moments.{weaker}
@@ -21,7 +21,7 @@ returns-in_err-commit_and_put_out-clause-any_moment g c = λ rest end.
     (point_of (ls ++ recovered now.work.batch.bytes.items) now.buffers.owed.items now.work now.buffers)) c.requires.same
     c.answer_waiting-answered.ensures.answered in
     weaker g.H.Host.moment g.H.Host.left_since host c.commit_and_put_out.new.self.host _
-    (IsServed g.M.Machine.answers (Some (old.pending ++ rest)) lines output) c.commit_and_put_out.ensures.any_moment
+    (IsRunOfTurns g.M.Machine.answers (Some (old.pending ++ rest)) lines output) c.commit_and_put_out.ensures.any_moment
     (λ f d kept. durable_is_run g.M.Machine.answers old.ended (point_of lines old.owed.items c.args.work.now old)
     (point_of (lines ++ recovered now.work.batch.bytes.items) now.buffers.owed.items now.work now.buffers) rest c.deref.result.now output
     c.deref-2.result.now f d steps end (ap (λ l. lines ++ recovered l) (sym c.deref.ensures.value)) c.requires.owed
@@ -38,7 +38,7 @@ returns-clause-any_moment g c = λ rest end.
     (point_of (ls ++ recovered now.work.batch.bytes.items) now.buffers.owed.items now.work now.buffers)) c.requires.same
     c.answer_waiting-answered.ensures.answered in
     weaker g.H.Host.moment g.H.Host.left_since host c.commit_and_put_out.new.self.host _
-    (IsServed g.M.Machine.answers (Some (old.pending ++ rest)) lines output) c.commit_and_put_out.ensures.any_moment
+    (IsRunOfTurns g.M.Machine.answers (Some (old.pending ++ rest)) lines output) c.commit_and_put_out.ensures.any_moment
     (λ f d kept. durable_is_run g.M.Machine.answers old.ended (point_of lines old.owed.items c.args.work.now old)
     (point_of (lines ++ recovered now.work.batch.bytes.items) now.buffers.owed.items now.work now.buffers) rest c.deref.result.now output
     c.deref-2.result.now f d steps end (ap (λ l. lines ++ recovered l) (sym c.deref.ensures.value)) c.requires.owed

@@ -3,7 +3,7 @@ use Rattle.std.proofs.Common.{rules, arith, ◌≡◌, ◌++◌, ◌∙◌, ⊎_
 use Rattle.rb_journal.specs.Lines.{recovered}
 use Rattle.rb_lines.specs.declared.limits.TheConstants.{READ_SIZE}
 use Rattle.rb_serve.specs.Ends.{EndsAs, EndsAtRest, IsFull, IsPutOut}
-use Rattle.rb_serve.specs.Run.{IsServed, served_input}
+use Rattle.rb_serve.specs.Run.{IsRunOfTurns, served_input}
 use Rattle.rb_serve.specs.Steps.{StopsAt, point_of}
 use Rattle.rb_serve.specs.Turns.{Turn}
 use Rattle.rb_serve.specs.declared.fault.ServeFault.TheVariants.{Journal}
@@ -35,7 +35,7 @@ reads-init g c =
       later = omega arith;
       follows = subst (λ n. Follows g.M.Machine.answers input lines (host.output was) n at rest buffers.ended) c.new-work.ensures.number
           follows;
-      any_moment = started host.moment host.left_since was (IsServed g.M.Machine.answers input lines (host.output was))
+      any_moment = started host.moment host.left_since was (IsRunOfTurns g.M.Machine.answers input lines (host.output was))
           (λ f d left. let now = g.met.H.Host.only_now was f d left in
           run_start g.M.Machine.answers input lines (host.output was) f d (ap recovered (c.requires.settled.durable f now.0)) now.1);
     }
@@ -53,8 +53,8 @@ returns-in_err-answer_group-clause-any_moment g c =
     let lines = recovered (host.content was) in
     let output = host.output was in
     let p = point_of (recovered (host.content mid)) (host.output mid) c.reads.work c.reads.buffers in
-    runs_on host.moment host.left_since was mid new.journal.host (IsServed answers input lines output)
-    (IsServed answers (Some (c.reads.buffers.pending ++ rest_of rest)) (recovered (host.content mid)) (host.output mid)) inv.any_moment
+    runs_on host.moment host.left_since was mid new.journal.host (IsRunOfTurns answers input lines output)
+    (IsRunOfTurns answers (Some (c.reads.buffers.pending ++ rest_of rest)) (recovered (host.content mid)) (host.output mid)) inv.any_moment
     (c.answer_group.ensures.any_moment (rest_of rest) (λ ended. no_rest rest (inv.end ended)))
     (λ f d run. run_on answers input lines output c.args.number p rest c.reads.buffers.ended f d inv.follows run)
 
@@ -71,8 +71,8 @@ returns-then-buffers-clause-any_moment g c =
     let lines = recovered (host.content was) in
     let output = host.output was in
     let p = point_of (recovered (host.content mid)) (host.output mid) c.reads.work c.reads.buffers in
-    runs_on host.moment host.left_since was mid new.journal.host (IsServed answers input lines output)
-    (IsServed answers (Some (c.reads.buffers.pending ++ rest_of rest)) (recovered (host.content mid)) (host.output mid)) inv.any_moment
+    runs_on host.moment host.left_since was mid new.journal.host (IsRunOfTurns answers input lines output)
+    (IsRunOfTurns answers (Some (c.reads.buffers.pending ++ rest_of rest)) (recovered (host.content mid)) (host.output mid)) inv.any_moment
     (c.answer_group.ensures.any_moment (rest_of rest) (λ ended. no_rest rest (inv.end ended)))
     (λ f d run. run_on answers input lines output c.args.number p rest c.reads.buffers.ended f d inv.follows run)
 
@@ -89,8 +89,8 @@ returns-in_err-read_more-clause-any_moment g c =
     let lines = recovered (host.content was) in
     let output = host.output was in
     let p = point_of (recovered (host.content mid)) (host.output mid) c.reads.work c.reads.buffers in
-    runs_on host.moment host.left_since was mid new.journal.host (IsServed answers input lines output)
-    (IsServed answers (Some (c.reads.buffers.pending ++ rest_of rest)) (recovered (host.content mid)) (host.output mid)) inv.any_moment
+    runs_on host.moment host.left_since was mid new.journal.host (IsRunOfTurns answers input lines output)
+    (IsRunOfTurns answers (Some (c.reads.buffers.pending ++ rest_of rest)) (recovered (host.content mid)) (host.output mid)) inv.any_moment
     (c.answer_group.ensures.any_moment (rest_of rest) (λ ended. no_rest rest (inv.end ended)))
     (λ f d run. run_on answers input lines output c.args.number p rest c.reads.buffers.ended f d inv.follows run)
 
@@ -241,8 +241,8 @@ reads-preserved g c =
       follows = follows_read answers input lines output c.args.number q r rest more new.buffers.ended now.buffers.ended follows read.read
           (λ still. going) (search rules) (search rules) (search rules) (search rules);
       any_moment =
-          runs_on host.moment host.left_since was mid new.journal.host (IsServed answers input lines output)
-          (IsServed answers (Some (c.reads.buffers.pending ++ rest_of rest)) (recovered (host.content mid)) (host.output mid)) inv.any_moment
+          runs_on host.moment host.left_since was mid new.journal.host (IsRunOfTurns answers input lines output)
+          (IsRunOfTurns answers (Some (c.reads.buffers.pending ++ rest_of rest)) (recovered (host.content mid)) (host.output mid)) inv.any_moment
           (c.answer_group.ensures.any_moment (rest_of rest) (λ ended. no_rest rest (inv.end ended)))
           (λ f d run. run_on answers input lines output c.args.number p rest c.reads.buffers.ended f d inv.follows run);
     }

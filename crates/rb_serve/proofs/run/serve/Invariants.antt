@@ -5,7 +5,7 @@ use Rattle.rb_journal.specs.Host.{LeavesOnly}
 use Rattle.rb_journal.specs.Lines.{recovered}
 use Rattle.rb_journal.specs.Journal.{IsSettled}
 use Rattle.rb_lines.specs.Buffers.{Counts, left}
-use Rattle.rb_serve.specs.Run.{IsServed, served_input}
+use Rattle.rb_serve.specs.Run.{IsRunOfTurns, served_input}
 use Rattle.rb_serve.specs.Steps.{point_of}
 use Rattle.rb_serve.proofs.Follow.{Follows}
 use Rattle.rb_serve.proofs.run.serve.Given as goal
@@ -30,7 +30,7 @@ invariant-reads g l =
       follows : Follows answers input lines output l.fn.number
           (point_of (recovered (host.content l.journal.host)) (host.output l.journal.host) l.work l.buffers)
           (g.S.Source.remaining l.reader) l.buffers.ended;
-      any_moment : LeavesOnly host.moment host.left_since l.fn.journal.host l.journal.host (IsServed answers input lines output);
+      any_moment : LeavesOnly host.moment host.left_since l.fn.journal.host l.journal.host (IsRunOfTurns answers input lines output);
     }
 
 abbrev pub decreases-reads : goal.decreases-reads
