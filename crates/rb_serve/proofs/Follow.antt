@@ -1,5 +1,6 @@
 -- How far a run has come: its turns so far, and the lines of its input that they answer.
-use Rattle.std.proofs.Common.{◌≡◌, ◌≤◌, ◌+◌, ◌^◌, ℕ, Bool, true, false, not, List, [], ◌∷◌, ◌++◌, length, take, Option, Some, None, refl, sym}
+use Rattle.std.proofs.Common.{◌≡◌, ◌≤◌, ◌+◌, ◌^◌, ℕ, Bool, true, false, not, List}
+use Rattle.std.proofs.Common.{[], ◌∷◌, ◌++◌, length, take, Option, Some, None, refl, sym}
 use Rattle.std.proofs.Common.{ap, ◌∙◌, arith, subst, suc, append_assoc, append-nil, length-append}
 use Rattle.std.specs.Prelude.{IfSome}
 use Rattle.std.proofs.lemmas.List.{map-append}
@@ -91,7 +92,8 @@ follows_steps answers input lines output first p q rest e f a end = record {
 }
 
 walked_read : (input : Option (List ℕ)) (turns : List Turn) (first : ℕ) (rest rest' : Option (List ℕ)) (p p' : List ℕ) (e e' : Bool) (n : ℕ)
-    → WalkedKnown input turns first rest p e n → Reads p p' rest rest' → (e' ≡ false → e ≡ false) → WalkedKnown input turns first rest' p' e' n
+    → WalkedKnown input turns first rest p e n → Reads p p' rest rest' → (e' ≡ false → e ≡ false)
+    → WalkedKnown input turns first rest' p' e' n
 walked_read None turns first rest rest' p p' e e' n w r was = tt
 walked_read (Some all) turns first None rest' p p' e e' n w r was = absurd w
 walked_read (Some all) turns first (Some x) None p p' e e' n w r was = absurd r.2

@@ -26,7 +26,8 @@ point_of lines text work buffers =
 
 -- these lines were taken off what waits, whatever is read behind it; behind the end of the input nothing is
 pub record IsTaken (pending : List ℕ) (ended : Bool) (taken : List (List ℕ)) (left : List ℕ) : Type 0 where
-  pub lines : (rest : List ℕ) → (ended ≡ true → rest ≡ []) → lines_of (pending ++ rest) ≡ taken ++ lines_of (left ++ rest)
+  pub lines : (rest : List ℕ) → (ended ≡ true → rest ≡ []) →
+      lines_of (pending ++ rest) ≡ taken ++ lines_of (left ++ rest)
   pub whole : ended ≡ false → (tail : List ℕ) → whole_lines (pending ++ tail) ≡ taken ++ whole_lines (left ++ tail)
 
 -- some lines were taken, and each that isn't blank was answered

@@ -26,7 +26,7 @@ pub fn answer_group<M: Machine, H: Host>(
     requires settled { IsSettled H.is_usable H.content H.may_leave journal.old }
     requires same { M.lines machine.old ≡ recovered (H.content journal.old.host) }
     requires batch { work.old.batch.bytes.items ≡ [] }
-    requires owed { buffers.old.owed.items ≡ [] }
+    requires buffered { buffers.old.owed.items ≡ [] }
     requires number { work.old.number + length buffers.old.pending < 2 ^ 64 }
     requires count { work.old.count ≤ work.old.number }
 
@@ -50,7 +50,7 @@ pub fn answer_group<M: Machine, H: Host>(
         → IsFull M.answers (Some (buffers.old.pending ++ rest)) (recovered (H.content journal.old.host))) }
 
     ensures batch { EndsAtRest result → work.new.batch.bytes.items ≡ [] }
-    ensures owed { EndsAtRest result → buffers.new.owed.items ≡ [] }
+    ensures buffered { EndsAtRest result → buffers.new.owed.items ≡ [] }
     ensures reads { buffers.new.reads ≡ buffers.old.reads }
     ensures ended { buffers.new.ended ≡ buffers.old.ended }
     ensures number { work.new.number + length buffers.new.pending ≤ work.old.number + length buffers.old.pending }

@@ -35,7 +35,8 @@ pub trait Machine {
         requires some { is_blank line.now ≡ false }
         requires short { length line.now ≤ LINE_LIMIT }
         ensures answered { OnOk result (IsTurn answers (lines self.old) (lines self.new)
-            (recovered batch.old.bytes.items) (recovered batch.new.bytes.items) line.now text.old.items text.new.items) }
+            (recovered batch.old.bytes.items) (recovered batch.new.bytes.items) line.now
+            text.old.items text.new.items) }
         ensures bad { IsErrOf result MachineFault.Bad → HasNoAnswer answers (lines self.old) line.now }
         ensures same { IsErrOf result MachineFault.Bad → lines self.new ≡ lines self.old }
         ensures batch_err { OnErr result (batch.new.bytes.items ≡ batch.old.bytes.items) }

@@ -24,7 +24,7 @@ returns-in_err-commit_and_put_out-clause-any_moment g c = λ rest end.
     (IsRunOfTurns g.M.Machine.answers (Some (old.pending ++ rest)) lines output) c.commit_and_put_out.ensures.any_moment
     (λ f d kept. durable_is_run g.M.Machine.answers old.ended (point_of lines old.owed.items c.args.work.now old)
     (point_of (lines ++ recovered now.work.batch.bytes.items) now.buffers.owed.items now.work now.buffers) rest c.deref.result.now output
-    c.deref-2.result.now f d steps end (ap (λ l. lines ++ recovered l) (sym c.deref.ensures.value)) c.requires.owed
+    c.deref-2.result.now f d steps end (ap (λ l. lines ++ recovered l) (sym c.deref.ensures.value)) c.requires.buffered
     (sym c.deref-2.ensures.value) kept)
 
 pub returns-clause-any_moment : goal.returns-clause-any_moment
@@ -41,7 +41,7 @@ returns-clause-any_moment g c = λ rest end.
     (IsRunOfTurns g.M.Machine.answers (Some (old.pending ++ rest)) lines output) c.commit_and_put_out.ensures.any_moment
     (λ f d kept. durable_is_run g.M.Machine.answers old.ended (point_of lines old.owed.items c.args.work.now old)
     (point_of (lines ++ recovered now.work.batch.bytes.items) now.buffers.owed.items now.work now.buffers) rest c.deref.result.now output
-    c.deref-2.result.now f d steps end (ap (λ l. lines ++ recovered l) (sym c.deref.ensures.value)) c.requires.owed
+    c.deref-2.result.now f d steps end (ap (λ l. lines ++ recovered l) (sym c.deref.ensures.value)) c.requires.buffered
     (sym c.deref-2.ensures.value) kept)
 
 pub returns-in_err-commit_and_put_out-clause-journal : goal.returns-in_err-commit_and_put_out-clause-journal

@@ -1,5 +1,6 @@
 -- A group more of a run, and how it ends.
-use Rattle.std.proofs.Common.{rules, arith, ◌≡◌, ◌++◌, ◌∙◌, ⊎_elim, inl, inr, ℕ, true, false, List, [], Some, Err, refl, ap, sym, subst, ◌<◌, ◌*◌}
+use Rattle.std.proofs.Common.{rules, arith, ◌≡◌, ◌++◌, ◌∙◌, ⊎_elim, inl, inr, ℕ, true}
+use Rattle.std.proofs.Common.{false, List, [], Some, Err, refl, ap, sym, subst, ◌<◌, ◌*◌}
 use Rattle.rb_journal.specs.Lines.{recovered}
 use Rattle.rb_lines.specs.declared.limits.TheConstants.{READ_SIZE}
 use Rattle.rb_serve.specs.Ends.{EndsAs, EndsAtRest, IsFull, IsPutOut}
@@ -27,7 +28,7 @@ reads-init g c =
       settled = c.requires.settled;
       same = c.requires.same;
       batch = c.new-work.ensures.batch;
-      owed = c.requires.owed;
+      buffered = c.requires.buffered;
       counted = c.requires.counted;
       end = c.requires.end;
       number = omega (arith, c.new-work.ensures.number);
@@ -111,7 +112,8 @@ returns-in_err-answer_group-clause-journal g c = λ is.
     let same : c.in_err-answer_group.field-0.0 ≡ Journal = cc (passed, is) in
     let why = c.in_err-answer_group.ensures.journal (ap Err same) in
     ⊎_elim (λ (failed : host.faults mid < host.faults new.journal.host). inl (omega (arith, failed, inv.later)))
-    (λ (full : (more : List ℕ) → (c.reads.buffers.ended ≡ true → more ≡ []) → IsFull answers (Some (c.reads.buffers.pending ++ more)) p.lines).
+    (λ (full : (more : List ℕ) → (c.reads.buffers.ended ≡ true → more ≡ [])
+    → IsFull answers (Some (c.reads.buffers.pending ++ more)) p.lines).
     inr (full_on answers input lines output c.args.number p rest c.reads.buffers.ended inv.follows
     (full (rest_of rest) (λ ended. no_rest rest (inv.end ended)))))
     why
@@ -232,7 +234,7 @@ reads-preserved g c =
       settled = group.settled tt;
       same = group.same tt;
       batch = group.batch tt;
-      owed = rw c.read_more.ensures.owed (group.owed tt);
+      buffered = rw c.read_more.ensures.buffered (group.buffered tt);
       counted = read.counted;
       end = λ ended. (read.end ended).1;
       number = omega (arith, read.left, group.number, inv.number, ap (λ k. READ_SIZE * k) group.reads);
@@ -242,7 +244,8 @@ reads-preserved g c =
           (λ still. going) (search rules) (search rules) (search rules) (search rules);
       any_moment =
           runs_on host.moment host.left_since was mid new.journal.host (IsRunOfTurns answers input lines output)
-          (IsRunOfTurns answers (Some (c.reads.buffers.pending ++ rest_of rest)) (recovered (host.content mid)) (host.output mid)) inv.any_moment
+          (IsRunOfTurns answers (Some (c.reads.buffers.pending ++ rest_of rest)) (recovered (host.content mid)) (host.output mid))
+          inv.any_moment
           (c.answer_group.ensures.any_moment (rest_of rest) (λ ended. no_rest rest (inv.end ended)))
           (λ f d run. run_on answers input lines output c.args.number p rest c.reads.buffers.ended f d inv.follows run);
     }
