@@ -1,0 +1,5 @@
+mod Moments
+mod Advance
+mod Runs
+mod Follow
+mod Ending

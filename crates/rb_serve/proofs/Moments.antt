@@ -1,0 +1,29 @@
+-- How a run of a host's calls goes on.
+use Rattle.std.proofs.Common.{inl, inr, ⊎_elim, ℕ, List, arith}
+use Rattle.rb_journal.specs.Host.{LeavesOnly}
+
+module _ {H : Type 0} (moment : H → ℕ) (left_since : H → ℕ → List ℕ → List ℕ → Type 0) where
+  -- before the first call
+  pub started : (old : H) (P : List ℕ → List ℕ → Type 0) → ((c d : List ℕ) → left_since old (moment old) c d → P c d) →
+      LeavesOnly moment left_since old old P
+  started old P here = record { later = omega arith; each = here; before = λ t c d le left. inl left }
+
+  -- one run and then another
+  pub runs_on : (old mid new : H) (P Q : List ℕ → List ℕ → Type 0) → LeavesOnly moment left_since old mid P →
+      LeavesOnly moment left_since mid new Q → ((c d : List ℕ) → Q c d → P c d)
+      → LeavesOnly moment left_since old new P
+  runs_on old mid new P Q so_far then_on here = record {
+    later = omega (arith, so_far.later, then_on.later);
+    each = λ c d left. ⊎_elim (so_far.each c d) (here c d) (then_on.before (moment old) c d so_far.later left);
+    before = λ t c d le left. ⊎_elim (so_far.before t c d le) (λ now. inr (here c d now))
+        (then_on.before t c d (omega (arith, le, so_far.later)) left);
+  }
+
+  -- a weaker claim
+  pub weaker : (old new : H) (P Q : List ℕ → List ℕ → Type 0) → LeavesOnly moment left_since old new P → ((c d : List ℕ) → P c d → Q c d) →
+      LeavesOnly moment left_since old new Q
+  weaker old new P Q run here = record {
+    later = run.later;
+    each = λ c d left. here c d (run.each c d left);
+    before = λ t c d le left. ⊎_elim (λ was. inl was) (λ now. inr (here c d now)) (run.before t c d le left);
+  }

@@ -1,0 +1,22 @@
+-- Between two lines.
+use Rattle.std.proofs.Common.{◌≡◌, ◌+◌, ◌≤◌, ◌++◌, length}
+use Rattle.rb_journal.specs.Lines.{recovered}
+use Rattle.rb_serve.specs.Steps.{Advances, point_of}
+use Rattle.rb_serve.proofs.waiting.answer_waiting.Given as goal
+
+abbrev pub invariant-lines : goal.invariant-lines
+invariant-lines g l =
+    let lines = g.M.Machine.lines in
+    record {
+      answered : Advances g.M.Machine.answers l.fn.buffers.ended
+          (point_of (lines l.fn.machine) l.fn.buffers.owed.items l.fn.work l.fn.buffers)
+          (point_of (lines l.machine) l.buffers.owed.items l.work l.buffers);
+      batch : lines l.machine ≡ lines l.fn.machine ++ recovered l.work.batch.bytes.items;
+      reads : l.buffers.reads ≡ l.fn.buffers.reads;
+      ended : l.buffers.ended ≡ l.fn.buffers.ended;
+      number : l.work.number + length l.buffers.pending ≤ l.fn.work.number + length l.fn.buffers.pending;
+      count : l.work.count ≤ l.work.number;
+    }
+
+abbrev pub decreases-lines : goal.decreases-lines
+decreases-lines g l = length l.buffers.pending

@@ -1,0 +1,5 @@
+pub mod Ends
+pub mod Faults
+pub mod Run
+pub mod Steps
+pub mod Turns

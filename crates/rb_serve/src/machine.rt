@@ -1,0 +1,44 @@
+//! What answers lines, and keeps its state in a journal.
+ghost use Rattle.std.specs.Prelude.{◌≡◌, ◌≤◌, ℕ, List, false, length, OnOk, OnErr, IsErrOf};
+ghost use Rattle.rb_lines.specs.Lines.{is_blank};
+ghost use Rattle.rb_lines.specs.declared.limits.TheConstants.{LINE_LIMIT};
+ghost use Rattle.rb_journal.specs.Lines.{recovered};
+ghost use Rattle.rb_serve.specs.Turns.{HasNoAnswer, IsTurn};
+
+use rb_journal::LineBatch;
+
+/// Why a line isn't answered.
+#[derive(Clone, Copy, Debug, PartialEq, Eq)]
+pub enum MachineFault {
+    /// The line has no answer.
+    Bad,
+    /// There was no memory to go on.
+    OutOfMemory,
+}
+
+/// What answers lines, one after another. Its state is the run of a journal's lines.
+pub trait Machine {
+    /// The journal's lines that the machine is the run of, each with its line feed.
+    ghost lines: { Self → List (List ℕ) };
+
+    /// After these lines of the journal, the input line may be answered by adding these lines, with this text.
+    ghost answers: { List (List ℕ) → List ℕ → List (List ℕ) → List ℕ → Type 0 };
+
+    /// Takes one line, which isn't blank and not too long: adds its lines to the batch, and its answer to the text.
+    /// After an `Err` neither has changed. `Bad`: the machine hasn't either. `OutOfMemory`: ask nothing more of it.
+    fn answer_line(
+        &mut self,
+        line: &[u8],
+        batch: &mut LineBatch,
+        text: &mut Vec<u8>,
+    ) -> Result<(), MachineFault>
+        requires some { is_blank line.now ≡ false }
+        requires short { length line.now ≤ LINE_LIMIT }
+        ensures answered { OnOk result (IsTurn answers (lines self.old) (lines self.new)
+            (recovered batch.old.bytes.items) (recovered batch.new.bytes.items) line.now
+            text.old.items text.new.items) }
+        ensures bad { IsErrOf result MachineFault.Bad → HasNoAnswer answers (lines self.old) line.now }
+        ensures same { IsErrOf result MachineFault.Bad → lines self.new ≡ lines self.old }
+        ensures batch_err { OnErr result (batch.new.bytes.items ≡ batch.old.bytes.items) }
+        ensures text_err { OnErr result (text.new.items ≡ text.old.items) };
+}
