@@ -1,0 +1,4 @@
+pub mod Answers
+pub mod Faults
+pub mod Replays
+pub mod Steps

@@ -1,0 +1,51 @@
+//! One event of a site, and the line of its entry.
+ghost use Rattle.std.specs.Prelude.{◌≡◌, ◌++◌, ◌∷◌, [], false, length, take, MatchResult};
+ghost use Rattle.rb_site.specs.Events.{is_full, reply_to, sent_at};
+ghost use Rattle.rb_site.specs.Seen.{entry, next_site, state_of};
+ghost use Rattle.rb_node.specs.Answers.{entry_lines};
+ghost use Rattle.rb_node.specs.Steps.{Steps};
+
+use crate::Node;
+use rb_history::append_line;
+use rb_money::Refusal;
+use rb_site::{Entry, Event, Reply};
+use std::alloc::AllocError;
+
+impl Node {
+    /// One event for which the history has spare capacity, and its reply. Its messages are added to those sent, and
+    /// the line of its entry to the entries. After an `Err`, out of memory, nothing more may be asked of the site.
+    pub(crate) fn record(
+        &mut self,
+        event: Event,
+        entries: &mut Vec<u8>,
+    ) -> Result<Reply, AllocError>
+        requires { is_full self.old.site.settings (state_of self.old.site) ≡ false }
+        ensures recorded { MatchResult result
+            (λ reply. Steps self.old.site self.new.site event reply entries.old.items entries.new.items
+            × (self.new.sent ≡ self.old.sent
+            ++ sent_at self.old.site.settings (state_of self.old.site) event))
+            (λ _. take (length entries.old.items) entries.new.items ≡ entries.old.items) }
+    {
+        let copy = event.try_copy(self.alloc)?;
+        let reply = self.site.record(event, &mut self.sent)?;
+        let entry = Entry { event: copy, reply };
+        append_line(entries, &self.config, self.site.me(), &entry)?;
+        entries.push(b'\n')?;
+        let Entry { event: _, reply } = entry;
+        Ok(reply)
+    }
+
+    /// One event, and its reply: where the history is full it is refused (23), and there is no entry.
+    pub(crate) fn step(&mut self, event: Event, entries: &mut Vec<u8>) -> Result<Reply, AllocError>
+        ensures stepped { MatchResult result
+            (λ reply. Steps self.old.site self.new.site event reply entries.old.items entries.new.items
+            × (self.new.sent ≡ sent_at self.old.site.settings (state_of self.old.site) event))
+            (λ _. take (length entries.old.items) entries.new.items ≡ entries.old.items) }
+    {
+        self.sent.clear();
+        if self.site.is_full() {
+            return Ok(Reply::Refused(Refusal::HistoryFull));
+        }
+        self.record(event, entries)
+    }
+}
