@@ -1,1 +1,3 @@
-mod Ready
+pub mod Applied
+pub mod Ready
+pub mod Recorded

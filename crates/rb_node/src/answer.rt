@@ -1,5 +1,5 @@
 //! The line of an event, answered.
-ghost use Rattle.std.specs.Prelude.{◌≡◌, ◌++◌, List, ℕ, Some, None, false, map, length, take, Err, IfErr, IfNone, IfSome};
+ghost use Rattle.std.specs.Prelude.{◌≡◌, ◌++◌, codes, List, ℕ, Some, None, false, map, length, take, Err, IfErr, IfNone, IfSome};
 ghost use Rattle.std.specs.Prelude.{OnErr, OnOk, MatchResult};
 ghost use Rattle.std.specs.Option.{OnSome};
 ghost use Rattle.serde_json.specs.View.{items_of};
@@ -10,7 +10,7 @@ ghost use Rattle.rb_site.specs.Seen.{state_of};
 ghost use Rattle.rb_commands.specs.Adds.{Adds};
 ghost use Rattle.rb_commands.specs.Replies.{reply_json};
 ghost use Rattle.rb_history.specs.Entries.{event_json};
-ghost use Rattle.rb_node.specs.Answers.{IsAllApplied, IsAnswered, IsReadyName, event_on};
+ghost use Rattle.rb_node.specs.Answers.{IsAllApplied, IsAnswered, IsReadyName, event_on, messages_json};
 ghost use Rattle.rb_node.specs.Faults.{IsLineFault};
 ghost use Rattle.rb_node.specs.Steps.{Answers, Applies};
 
@@ -61,6 +61,23 @@ fn append_listed(out: &mut Vec<u8>, comma: &str, reply: &Reply) -> Result<(), Al
 {
     append(out, comma)?;
     append_value(out, reply)
+}
+
+/// What an answer begins with: the reply, the messages, and the bracket that opens the list of what follows.
+fn append_reply(
+    out: &mut Vec<u8>,
+    config: &Config,
+    reply: &Reply,
+    sent: &[Message],
+) -> Result<(), AllocError>
+    ensures { Adds result out.old.items out.new.items (codes "{\"reply\":" ++ (compact_text (reply_json reply.now)
+        ++ (codes ",\"sends\":" ++ (compact_text (messages_json config.now sent.now) ++ codes ",\"then\":[")))) }
+{
+    append(out, "{\"reply\":")?;
+    append_value(out, reply)?;
+    append(out, ",\"sends\":[")?;
+    append_messages(out, config, sent)?;
+    append(out, ",\"then\":[")
 }
 
 impl Node {
@@ -127,11 +144,7 @@ impl Node {
             × (take (length entries.old.items) entries.new.items ≡ entries.old.items)) }
     {
         let reply = self.step(event, entries)?;
-        append(text, "{\"reply\":")?;
-        append_value(text, &reply)?;
-        append(text, ",\"sends\":[")?;
-        append_messages(text, &self.config, self.sent.as_slice())?;
-        append(text, ",\"then\":[")?;
+        append_reply(text, &self.config, &reply, self.sent.as_slice())?;
         self.apply_ready(text, entries)?;
         append(text, "}\n")
     }

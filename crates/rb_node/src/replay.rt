@@ -24,7 +24,9 @@ fn append_sends(
     out: &mut Vec<u8>,
     config: &Config,
     messages: &[Message],
-) -> Result<(), AllocError> {
+) -> Result<(), AllocError>
+    ensures { Adds result out.old.items out.new.items (sent_line config.now messages.now) }
+{
     if messages.is_empty() {
         return Ok(());
     }

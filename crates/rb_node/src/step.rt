@@ -2,14 +2,30 @@
 ghost use Rattle.std.specs.Prelude.{◌≡◌, ◌++◌, ◌∷◌, [], false, length, take, MatchResult};
 ghost use Rattle.rb_site.specs.Events.{is_full, reply_to, sent_at};
 ghost use Rattle.rb_site.specs.Seen.{entry, next_site, state_of};
-ghost use Rattle.rb_node.specs.Answers.{entry_lines};
+ghost use Rattle.rb_commands.specs.Adds.{Adds};
+ghost use Rattle.rb_history.specs.Entries.{entry_json};
+ghost use Rattle.rb_node.specs.Answers.{line_of};
 ghost use Rattle.rb_node.specs.Steps.{Steps};
 
 use crate::Node;
+use rb_commands::write::append::append;
 use rb_history::append_line;
-use rb_money::Refusal;
+use rb_money::{Config, Refusal};
 use rb_site::{Entry, Event, Reply};
 use std::alloc::AllocError;
+
+/// The line of an entry of a site, with its line feed.
+fn append_entry(
+    out: &mut Vec<u8>,
+    config: &Config,
+    site: u8,
+    entry: &Entry,
+) -> Result<(), AllocError>
+    ensures { Adds result out.old.items out.new.items (line_of (entry_json config.now site entry.now)) }
+{
+    append_line(out, config, site, entry)?;
+    append(out, "\n")
+}
 
 impl Node {
     /// One event for which the history has spare capacity, and its reply. Its messages are added to those sent, and
@@ -29,8 +45,7 @@ impl Node {
         let copy = event.try_copy(self.alloc)?;
         let reply = self.site.record(event, &mut self.sent)?;
         let entry = Entry { event: copy, reply };
-        append_line(entries, &self.config, self.site.me(), &entry)?;
-        entries.push(b'\n')?;
+        append_entry(entries, &self.config, self.site.me(), &entry)?;
         let Entry { event: _, reply } = entry;
         Ok(reply)
     }
