@@ -1,6 +1,7 @@
 -- What is ready is applied, one operation after another, and an answer is written around that.
-use Rattle.std.proofs.Common.{◌≡◌, ℕ, false, List, [], ◌∷◌, ◌++◌, codes, length, take, refl, sym, ap, subst, ◌∙◌, append_assoc, append-nil}
-use Rattle.std.specs.Prelude.{map, Result, Ok, Err, MatchResult}
+use Rattle.std.proofs.Common.{◌≡◌, ℕ, ◌+◌, ◌-◌, ◌<◌, false, List, [], ◌∷◌, ◌++◌, codes, length, take, arith, length-append, refl, sym, ap, subst, ◌∙◌, append_assoc, append-nil}
+use Rattle.std.proofs.lemmas.Bool.Decides.{nat_tests}
+use Rattle.std.specs.Prelude.{map, nat_le, Result, Ok, Err, MatchResult}
 use Rattle.std.specs.Result.{IsErr}
 use Rattle.std.proofs.lemmas.Grind.{flat_map-append}
 use Rattle.rb_money.specs.Settings.{Settings}
@@ -15,6 +16,7 @@ use Rattle.rb_site.specs.declared.message.Message.{Message}
 use Rattle.rb_site.specs.declared.reply.Reply.{Reply}
 use Rattle.rb_site.specs.Events.{ModelSite, after_event, after_events, is_full, replies_to_events, reply_to, sent_at}
 use Rattle.rb_site.specs.Seen.{SeenSite, next_site, next_sites, state_of}
+use Rattle.rb_site.proofs.Public.Recorded.{noted_history}
 use Rattle.rb_site.proofs.Public.Seen.{settings-next, state-next}
 use Rattle.rb_commands.specs.Replies.{reply_json}
 use Rattle.rb_commands.specs.Adds.{Adds}
@@ -22,7 +24,7 @@ use Rattle.rb_commands.proofs.Public.Appended.{both, front_of_front, front_of_su
 use Rattle.rb_commands.proofs.Public.Listed.{rest_text, whole_text}
 use Rattle.rb_history.specs.Entries.{entry_json}
 use Rattle.rb_node.specs.Answers.{AppliesAll, AreReadyInTurn, IsAllApplied, IsReadyName, answer_json, entry_lines, line_of, messages_json}
-use Rattle.rb_node.specs.Steps.{Answers, Applies, Steps}
+use Rattle.rb_node.specs.Steps.{Answers, Applies, AppliesOne, Steps}
 use Rattle.rb_node.proofs.Recorded.{me-next}
 
 -- what is ready is applied: the replies behind a text, the first behind this comma, and the lines of the entries
@@ -59,19 +61,22 @@ lines_of_both s r me you xs ys a b c e f g h =
     ∙ ap (λ l. a ++ l) (sym (flat_map-append (λ x. line_of (entry_json s me x)) xs ys))
 
 -- an operation more
-pub applies_more : (comma : List ℕ) (x : OpName) (reply : Reply) (old mid new : SeenSite) (a b c k l m : List ℕ)
-    → is_full old.settings (state_of old) ≡ false → IsReadyName (state_of old) x → Steps old mid (Apply x) reply k l
-    → b ≡ a ++ (comma ++ compact_text (reply_json reply)) → AppliesOn (codes ",") mid new b c l m → AppliesOn comma old new a c k m
-applies_more comma x reply old mid new a b c k l m free ready step text rest =
+pub applies_more : (comma : List ℕ) (x : OpName) (old mid new : SeenSite) (a b c k l m : List ℕ)
+    → is_full old.settings (state_of old) ≡ false → IsReadyName (state_of old) x → AppliesOne old mid x comma a b k l
+    → AppliesOn (codes ",") mid new b c l m → AppliesOn comma old new a c k m
+applies_more comma x old mid new a b c k l m free ready one rest =
     let s = old.settings in
+    let step = one.step in
     let t = after_event s (state_of old) (Apply x) in
     let kept : mid.settings ≡ s = ap (λ (y : SeenSite). y.settings) step.site ∙ settings-next old (Apply x) in
     let state : state_of mid ≡ t = ap state_of step.site ∙ state-next old (Apply x) in
     let me : mid.me ≡ old.me = ap (λ (y : SeenSite). y.me) step.site ∙ me-next old (Apply x) in
     let events = map Apply rest.names in
+    let reply = compact_text (reply_json one.reply) in
+    let later = rest_text (codes ",") (map reply_json rest.replies) in
     record {
       names = x ∷ rest.names;
-      replies = reply ∷ rest.replies;
+      replies = one.reply ∷ rest.replies;
       recorded = step.recorded ++ rest.recorded;
       applied = record {
         in_turn = (free, ready, along (λ r u. AreReadyInTurn r u rest.names) s mid.settings t (state_of mid) kept state rest.applied.in_turn);
@@ -83,12 +88,36 @@ applies_more comma x reply old mid new a b c k l m free ready step text rest =
         recorded_are = rest.applied.recorded_are ∙ ap (λ xs. xs ++ rest.recorded) step.recorded_are
             ∙ append_assoc old.entries step.recorded rest.recorded;
       };
-      text_is = rest.text_is
-          ∙ ap (λ y. y ++ rest_text (codes ",") (map reply_json rest.replies)) text
-          ∙ append_assoc a (comma ++ compact_text (reply_json reply)) (rest_text (codes ",") (map reply_json rest.replies))
-          ∙ ap (λ y. a ++ y) (append_assoc comma (compact_text (reply_json reply)) (rest_text (codes ",") (map reply_json rest.replies)));
+      text_is = rest.text_is ∙ ap (λ y. y ++ later) one.text_is ∙ append_assoc a (comma ++ reply) later
+          ∙ ap (λ y. a ++ y) (append_assoc comma reply later);
       entries_are = lines_of_both s mid.settings old.me mid.me step.recorded rest.recorded k l m kept me step.entries_are rest.entries_are;
     }
+
+-- each application takes one of the entries for which the history has capacity
+below : (limit n : ℕ) → nat_le limit n ≡ false → n < limit
+below limit n h = grind (arith, nat_tests)
+
+pub spare_falls : (old mid : SeenSite) (e : Event) (reply : Reply) (k l : List ℕ) → is_full old.settings (state_of old) ≡ false
+    → Steps old mid e reply k l
+    → mid.settings.limits.history - length (state_of mid).history < old.settings.limits.history - length (state_of old).history
+spare_falls old mid e reply k l free step =
+    let s = old.settings in
+    let t = state_of old in
+    let limit : mid.settings.limits.history ≡ s.limits.history =
+        ap (λ (y : SeenSite). y.settings.limits.history) step.site ∙ ap (λ (r : Settings). r.limits.history) (settings-next old e) in
+    let longer : (state_of mid).history ≡ t.history ++ e ∷ [] =
+        ap (λ (y : SeenSite). (state_of y).history) step.site ∙ ap (λ (u : ModelSite). u.history) (state-next old e)
+        ∙ noted_history s t e free in
+    let more : length (state_of mid).history ≡ length t.history + 1 = ap length longer ∙ length-append t.history (e ∷ []) in
+    let less : length t.history < s.limits.history = below s.limits.history (length t.history) free in
+    omega arith
+
+-- the operation was applied, and its reply written
+pub applied_one : {A E : Type 0} (r : Result A E) (old new : SeenSite) (x : OpName) (reply : Reply) (comma a b k l : List ℕ)
+    → Steps old new (Apply x) reply k l → Adds r a b (comma ++ compact_text (reply_json reply))
+    → MatchResult r (λ _. AppliesOne old new x comma a b k l) (λ _. (take (length a) b ≡ a) × (take (length k) l ≡ k))
+applied_one (Ok y) old new x reply comma a b k l step added = record { reply = reply; step = step; text_is = added }
+applied_one (Err y) old new x reply comma a b k l step added = (added, front_of_sum k l _ step.entries_are)
 
 -- all that is ready was applied, and the list of the replies closed
 pub closed : {A E : Type 0} (r : Result A E) (old new : SeenSite) (a b c k l : List ℕ) → AppliesOn [] old new a b k l

@@ -1,7 +1,7 @@
 -- Steps of a site with the lines of its entries, between two buffers.
 use Rattle.std.specs.Prelude.{◌≡◌, ℕ, false, List, ◌++◌, ◌∷◌, map}
 use Rattle.serde_json.specs.View.{items_of}
-use Rattle.serde_json.specs.Written.{items_text}
+use Rattle.serde_json.specs.Written.{compact_text, items_text}
 use Rattle.rb_shadow.specs.declared.op_name.OpName.{OpName}
 use Rattle.rb_site.specs.declared.entry.Entry.{Entry}
 use Rattle.rb_site.specs.declared.event.Event.{Event}
@@ -19,6 +19,12 @@ pub record Steps (old new : SeenSite) (e : Event) (reply : Reply) (entries after
   pub recorded : List Entry
   pub recorded_are : new.entries ≡ old.entries ++ recorded
   pub entries_are : after ≡ entries ++ entry_lines old.settings old.me recorded
+
+-- the operation of a name is applied: its reply behind a text, and the line of its entry
+pub record AppliesOne (old new : SeenSite) (x : OpName) (comma text text_after entries entries_after : List ℕ) : Type 0 where
+  pub reply : Reply
+  pub step : Steps old new (Apply x) reply entries entries_after
+  pub text_is : text_after ≡ text ++ (comma ++ compact_text (reply_json reply))
 
 -- what is ready is applied: the replies, with the bracket that closes their list, and the lines of the entries
 pub record Applies (old new : SeenSite) (text text_after entries entries_after : List ℕ) : Type 0 where

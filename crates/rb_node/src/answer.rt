@@ -12,7 +12,7 @@ ghost use Rattle.rb_commands.specs.Replies.{reply_json};
 ghost use Rattle.rb_history.specs.Entries.{event_json};
 ghost use Rattle.rb_node.specs.Answers.{IsAllApplied, IsAnswered, IsReadyName, event_on, messages_json};
 ghost use Rattle.rb_node.specs.Faults.{IsLineFault};
-ghost use Rattle.rb_node.specs.Steps.{Answers, Applies};
+ghost use Rattle.rb_node.specs.Steps.{Answers, Applies, AppliesOne};
 
 use crate::{Node, NodeFault};
 use rb_commands::write::append::append;
@@ -109,16 +109,33 @@ impl Node {
     {
         let mut comma = "";
         while let Some(name) = self.ready() {
-            let reply = self.record(Event::Apply(name), entries)?;
-            append_listed(text, comma, &reply)?;
+            self.apply_one(name, comma, text, entries)?;
             comma = ",";
         }
         append(text, "]")
     }
 
+    /// Applies the operation of a name, and adds its reply behind a text, and the line of its entry.
+    fn apply_one(
+        &mut self,
+        name: OpName,
+        comma: &str,
+        text: &mut Vec<u8>,
+        entries: &mut Vec<u8>,
+    ) -> Result<(), AllocError>
+        requires { is_full self.old.site.settings (state_of self.old.site) ≡ false }
+        ensures { MatchResult result
+            (λ _. AppliesOne self.old.site self.new.site name comma.now text.old.items text.new.items entries.old.items
+            entries.new.items)
+            (λ _. (take (length text.old.items) text.new.items ≡ text.old.items)
+            × (take (length entries.old.items) entries.new.items ≡ entries.old.items)) }
+    {
+        let reply = self.record(Event::Apply(name), entries)?;
+        append_listed(text, comma, &reply)
+    }
+
     /// The name of an operation that is to be applied next: it is held and its past is applied. `None` where there is
     /// none, or the history is full.
-    #[tactic(auto, using(crate::proofs::Ready::none_ready))]
     fn ready(&self) -> Option<OpName>
         ensures some { IfSome result (IsReadyName (state_of self.now.site)) }
         ensures free { OnSome result (is_full self.now.site.settings (state_of self.now.site) ≡ false) }
