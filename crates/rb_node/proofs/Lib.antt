@@ -1,3 +1,5 @@
-pub mod Applied
-pub mod Ready
-pub mod Recorded
+mod Applied
+mod JournalLines
+mod Ready
+mod Recorded
+mod Replayed
