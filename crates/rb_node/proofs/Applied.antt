@@ -104,10 +104,10 @@ spare_falls old mid e reply k l free step =
     let s = old.settings in
     let t = state_of old in
     let limit : mid.settings.limits.history ≡ s.limits.history =
-        ap (λ (y : SeenSite). y.settings.limits.history) step.site ∙ ap (λ (r : Settings). r.limits.history) (settings-next old e) in
+    ap (λ (y : SeenSite). y.settings.limits.history) step.site ∙ ap (λ (r : Settings). r.limits.history) (settings-next old e) in
     let longer : (state_of mid).history ≡ t.history ++ e ∷ [] =
-        ap (λ (y : SeenSite). (state_of y).history) step.site ∙ ap (λ (u : ModelSite). u.history) (state-next old e)
-        ∙ noted_history s t e free in
+    ap (λ (y : SeenSite). (state_of y).history) step.site ∙ ap (λ (u : ModelSite). u.history) (state-next old e)
+    ∙ noted_history s t e free in
     let more : length (state_of mid).history ≡ length t.history + 1 = ap length longer ∙ length-append t.history (e ∷ []) in
     let less : length t.history < s.limits.history = below s.limits.history (length t.history) free in
     omega arith
@@ -199,8 +199,8 @@ answered (Ok y) s old mid new e reply sent a b c d k l m same step posted begun 
       entries_are = lines_of_both k1 mid.settings old.me mid.me step.recorded applies.recorded k l m kept me step.entries_are
           applies.entries_are;
     }
-answered (Err y) s old mid new e reply sent a b c d k l m same step posted begun applies end =
-    (front_stays a c d (front_text s reply sent ++ items_text false (items_of (map reply_json applies.replies)))
-    (both a b c (front_text s reply sent) _ begun applies.text_is) end,
-    front_stays_two k l m _ _ step.entries_are applies.entries_are)
-
+answered (Err y) s old mid new e reply sent a b c d k l m same step posted begun applies end = (
+  front_stays a c d (front_text s reply sent ++ items_text false (items_of (map reply_json applies.replies)))
+      (both a b c (front_text s reply sent) _ begun applies.text_is) end,
+  front_stays_two k l m _ _ step.entries_are applies.entries_are,
+)

@@ -43,8 +43,8 @@ entries_after x s t (e ∷ es) f g free =
     let full : is_full x.settings (state_of x) ≡ false = ap (λ k. is_full k (state_of x)) (sym f) ∙ ap (is_full s) (sym g) ∙ free.0 in
     let rest = with_replies s (after_event s t e) es in
     let one : (next_site x e).entries ≡ x.entries ++ entry e (reply_to s t e) ∷ [] =
-        ap (λ (y : SeenSite). y.entries) (next-free x e full)
-        ∙ ap (λ r. x.entries ++ entry e r ∷ []) (ap (λ k. reply_to k (state_of x) e) (sym f) ∙ ap (λ u. reply_to s u e) (sym g)) in
+    ap (λ (y : SeenSite). y.entries) (next-free x e full)
+    ∙ ap (λ r. x.entries ++ entry e r ∷ []) (ap (λ k. reply_to k (state_of x) e) (sym f) ∙ ap (λ u. reply_to s u e) (sym g)) in
     entries_after (next_site x e) s (after_event s t e) es (f ∙ sym (settings-next x e)) (state_from x s t e f g) free.1
     ∙ ap (λ xs. xs ++ rest) one ∙ append_assoc x.entries (entry e (reply_to s t e) ∷ []) rest
 
@@ -75,17 +75,18 @@ run_replayed : EntriesAreRead → EntriesAreLines → (x : SeenSite) (s : Settin
     → AreReplayed x (with_replies s t es) (next_sites x es)
 run_replayed read lines x s t [] is f g free fits = refl
 run_replayed read lines x s t (e ∷ es) is f g free fits =
-    let y = entry e (reply_to s t e) in
-    (record { site = next_site x e; sent = sent_at x.settings (state_of x) e },
-    entry_read read lines x y is (subst (λ k. FitsLine k y) f fits.0),
-    record {
-      free = ap (λ k. is_full k (state_of x)) (sym f) ∙ ap (is_full s) (sym g) ∙ free.0;
-      reply = ap (λ k. reply_to k t e) f ∙ ap (λ u. reply_to x.settings u e) g;
-      site = refl;
-      sent = refl;
-    },
-    run_replayed read lines (next_site x e) s (after_event s t e) es (site_next x e is) (f ∙ sym (settings-next x e))
-    (state_from x s t e f g) free.1 fits.1)
+    let y = entry e (reply_to s t e) in (
+      record { site = next_site x e; sent = sent_at x.settings (state_of x) e },
+      entry_read read lines x y is (subst (λ k. FitsLine k y) f fits.0),
+      record {
+        free = ap (λ k. is_full k (state_of x)) (sym f) ∙ ap (is_full s) (sym g) ∙ free.0;
+        reply = ap (λ k. reply_to k t e) f ∙ ap (λ u. reply_to x.settings u e) g;
+        site = refl;
+        sent = refl;
+      },
+      run_replayed read lines (next_site x e) s (after_event s t e) es (site_next x e is) (f ∙ sym (settings-next x e))
+          (state_from x s t e f g) free.1 fits.1,
+    )
 
 -- a run's entries, where the site has gone through it
 gone_through : EntriesAreRead → EntriesAreLines → (old new : SeenSite) (es : List Event) (recorded : List Entry) → IsSite old
@@ -95,7 +96,7 @@ gone_through read lines old new es recorded is free after are fits =
     let s = old.settings in
     let t = state_of old in
     let same : with_replies s t es ≡ recorded = append_cancel_left old.entries (with_replies s t es) recorded
-        (sym (entries_after old s t es refl refl free) ∙ ap (λ (y : SeenSite). y.entries) (sym after) ∙ are) in
+    (sym (entries_after old s t es refl refl free) ∙ ap (λ (y : SeenSite). y.entries) (sym after) ∙ are) in
     let P : List Entry → Type 0 = λ xs. AreReplayed old xs new in
     let Q : SeenSite → Type 0 = λ y. AreReplayed old (with_replies s t es) y in
     subst P same (subst Q (sym after) (run_replayed read lines old s t es is refl refl free (subst (Each (FitsLine s)) (sym same) fits)))
@@ -107,7 +108,7 @@ stayed : (old new : SeenSite) (e : Event) (xs : List OpName) (recorded : List En
 stayed old new e [] recorded full turn after are =
     let same : new ≡ old = after ∙ next-full old e full in
     let none : [] ≡ recorded = append_cancel_left old.entries [] recorded
-        (append-nil old.entries ∙ ap (λ (y : SeenSite). y.entries) (sym same) ∙ are) in
+    (append-nil old.entries ∙ ap (λ (y : SeenSite). y.entries) (sym same) ∙ are) in
     let P : List Entry → Type 0 = λ ys. AreReplayed old ys new in
     subst P none same
 stayed old new e (x ∷ xs) recorded full turn after are =

@@ -20,11 +20,7 @@ use rb_site::{Entry, Message};
 use std::alloc::AllocError;
 
 /// The messages as a line, where there are any.
-fn append_sends(
-    out: &mut Vec<u8>,
-    config: &Config,
-    messages: &[Message],
-) -> Result<(), AllocError>
+fn append_sends(out: &mut Vec<u8>, config: &Config, messages: &[Message]) -> Result<(), AllocError>
     ensures { Adds result out.old.items out.new.items (sent_line config.now messages.now) }
 {
     if messages.is_empty() {

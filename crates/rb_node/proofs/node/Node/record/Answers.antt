@@ -16,12 +16,14 @@ returns c =
     let seen : c.self.inside.site ≡ old = ap (λ (v : SeenNode). v.site) c.self.view_is in
     let is : c.record.new.self ≡ next_site old event = c.in_ok-reply.ensures.ok.0 ∙ ap (λ y. next_site y event) seen in
     record {
-      recorded = (recorded old c.record.new.self event reply x c.me.result entries c.append_entry.new.out.items c.requires is
-          (c.in_ok-reply.ensures.ok.1 ∙ ap (λ (y : SeenSite). reply_to y.settings (state_of y) event) seen)
-          (ap (λ v. entry v reply) c.in_ok-copy.ensures)
-          (c.me.ensures.same ∙ ap (λ (y : SeenSite). y.me) is ∙ me-next old event)
-          (c.in_ok-append_entry.ensures ∙ ap (λ s. entries ++ line_of (entry_json s c.me.result x))
-          (sym c.self.invariant ∙ ap (λ (y : SeenSite). y.settings) seen)),
-          c.in_ok-reply.ensures.ok.2
-          ∙ ap (λ (v : SeenNode). v.sent ++ sent_at v.site.settings (state_of v.site) event) c.self.view_is);
+      recorded = (
+        recorded old c.record.new.self event reply x c.me.result entries c.append_entry.new.out.items c.requires is
+            (c.in_ok-reply.ensures.ok.1 ∙ ap (λ (y : SeenSite). reply_to y.settings (state_of y) event) seen)
+            (ap (λ v. entry v reply) c.in_ok-copy.ensures)
+            (c.me.ensures.same ∙ ap (λ (y : SeenSite). y.me) is ∙ me-next old event)
+            (c.in_ok-append_entry.ensures ∙ ap (λ s. entries ++ line_of (entry_json s c.me.result x))
+            (sym c.self.invariant ∙ ap (λ (y : SeenSite). y.settings) seen)),
+        c.in_ok-reply.ensures.ok.2
+            ∙ ap (λ (v : SeenNode). v.sent ++ sent_at v.site.settings (state_of v.site) event) c.self.view_is,
+      );
     }
