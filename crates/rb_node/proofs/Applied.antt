@@ -15,7 +15,7 @@ use Rattle.rb_site.specs.declared.event.Event.TheVariants.{Apply}
 use Rattle.rb_site.specs.declared.message.Message.{Message}
 use Rattle.rb_site.specs.declared.reply.Reply.{Reply}
 use Rattle.rb_site.specs.Events.{ModelSite, after_event, after_events, is_full, replies_to_events, reply_to, sent_at}
-use Rattle.rb_site.specs.Seen.{SeenSite, next_site, next_sites, state_of}
+use Rattle.rb_site.specs.Seen.{SeenSite, next_sites, state_of}
 use Rattle.rb_site.proofs.Public.Recorded.{noted_history}
 use Rattle.rb_site.proofs.Public.Seen.{settings-next, state-next}
 use Rattle.rb_commands.specs.Replies.{reply_json}
@@ -171,32 +171,32 @@ pub answered : {A E : Type 0} (r : Result A E) (s : Settings) (old mid new : See
     → b ≡ a ++ front_text s reply sent → Applies mid new b c l m → Adds r c d (codes "}\n")
     → MatchResult r (λ _. Answers old new e a d k m) (λ _. (take (length a) d ≡ a) × (take (length k) m ≡ k))
 answered (Ok y) s old mid new e reply sent a b c d k l m same step posted begun applies end =
-    let k1 = old.settings in
-    let t = after_event k1 (state_of old) e in
-    let kept : mid.settings ≡ k1 = ap (λ (y : SeenSite). y.settings) step.site ∙ settings-next old e in
+    let settings = old.settings in
+    let t = after_event settings (state_of old) e in
+    let kept : mid.settings ≡ settings = ap (λ (y : SeenSite). y.settings) step.site ∙ settings-next old e in
     let state : state_of mid ≡ t = ap state_of step.site ∙ state-next old e in
     let me : mid.me ≡ old.me = ap (λ (y : SeenSite). y.me) step.site ∙ me-next old e in
     let events = map Apply applies.names in
     let later = items_text false (items_of (map reply_json applies.replies)) in
     record {
       applied = applies.names;
-      in_turn = along (λ r u. AreReadyInTurn r u applies.names) k1 mid.settings t (state_of mid) kept state applies.applied.in_turn;
-      all = along (λ r u. IsAllApplied r (after_events r u events)) k1 mid.settings t (state_of mid) kept state applies.applied.all;
+      in_turn = along (λ r u. AreReadyInTurn r u applies.names) settings mid.settings t (state_of mid) kept state applies.applied.in_turn;
+      all = along (λ r u. IsAllApplied r (after_events r u events)) settings mid.settings t (state_of mid) kept state applies.applied.all;
       after = applies.applied.after ∙ ap (λ y. next_sites y events) step.site;
       text_is = end ∙ ap (λ y. y ++ codes "}\n") (applies.text_is ∙ ap (λ y. y ++ later) begun)
           ∙ ap (λ y. y ++ codes "}\n") (append_assoc a (front_text s reply sent) later)
           ∙ append_assoc a (front_text s reply sent ++ later) (codes "}\n")
           ∙ ap (λ y. a ++ y) (append_assoc (front_text s reply sent) later (codes "}\n") ∙ whole_answer s reply sent applies.replies)
           ∙ ap (λ u. a ++ line_of (answer_json u reply sent applies.replies)) same
-          ∙ ap (λ u. a ++ line_of (answer_json k1 u sent applies.replies)) step.reply_is
-          ∙ ap (λ u. a ++ line_of (answer_json k1 (reply_to k1 (state_of old) e) u applies.replies)) posted
-          ∙ ap (λ u. a ++ line_of (answer_json k1 (reply_to k1 (state_of old) e) (sent_at k1 (state_of old) e) u))
-          (along (λ r u. applies.replies ≡ replies_to_events r u events) k1 mid.settings t (state_of mid) kept state
+          ∙ ap (λ u. a ++ line_of (answer_json settings u sent applies.replies)) step.reply_is
+          ∙ ap (λ u. a ++ line_of (answer_json settings (reply_to settings (state_of old) e) u applies.replies)) posted
+          ∙ ap (λ u. a ++ line_of (answer_json settings (reply_to settings (state_of old) e) (sent_at settings (state_of old) e) u))
+          (along (λ r u. applies.replies ≡ replies_to_events r u events) settings mid.settings t (state_of mid) kept state
           applies.applied.replies_are);
       recorded = step.recorded ++ applies.recorded;
       recorded_are = applies.applied.recorded_are ∙ ap (λ xs. xs ++ applies.recorded) step.recorded_are
           ∙ append_assoc old.entries step.recorded applies.recorded;
-      entries_are = lines_of_both k1 mid.settings old.me mid.me step.recorded applies.recorded k l m kept me step.entries_are
+      entries_are = lines_of_both settings mid.settings old.me mid.me step.recorded applies.recorded k l m kept me step.entries_are
           applies.entries_are;
     }
 answered (Err y) s old mid new e reply sent a b c d k l m same step posted begun applies end = (

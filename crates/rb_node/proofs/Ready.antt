@@ -8,7 +8,7 @@ use Rattle.rb_shadow.specs.Operations.{Among, clock_of}
 use Rattle.rb_shadow.proofs.Public.Lookups.{found}
 use Rattle.rb_inbox.specs.Held.{IsReady}
 use Rattle.rb_site.specs.Seen.{SeenSite, state_of}
-use Rattle.rb_node.specs.Answers.{IsAllApplied, IsReadyName}
+use Rattle.rb_node.specs.Answers.{IsAllApplied}
 
 -- where no held operation is ready by the clock, all is applied
 pub none_ready : (o : Option OpName) (x : SeenSite) (held : List Shadow) (clock : Deps) → held ≡ (state_of x).held

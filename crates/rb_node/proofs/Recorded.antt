@@ -6,7 +6,7 @@ use Rattle.rb_site.specs.declared.reply.Reply.{Reply}
 use Rattle.rb_site.specs.Events.{is_full, reply_to}
 use Rattle.rb_site.specs.Seen.{SeenSite, entry, next_site, state_of, stepped}
 use Rattle.rb_history.specs.Entries.{entry_json}
-use Rattle.rb_node.specs.Answers.{entry_lines, line_of}
+use Rattle.rb_node.specs.Answers.{line_of}
 use Rattle.rb_node.specs.Steps.{Steps}
 
 -- no event changes the site's number

@@ -1,5 +1,5 @@
 -- What an answer recorded is replayed from its lines.
-use Rattle.std.proofs.Common.{◌≡◌, ℕ, ◌<◌, Bool, true, false, cond, List, [], ◌∷◌, ◌++◌, refl, sym, ap, subst, ◌∙◌, append_assoc, append-nil}
+use Rattle.std.proofs.Common.{◌≡◌, ◌<◌, Bool, true, false, cond, List, [], ◌∷◌, ◌++◌, refl, sym, ap, subst, ◌∙◌, append_assoc, append-nil}
 use Rattle.std.specs.Prelude.{map, Some, None}
 use Rattle.std.proofs.lemmas.List.{append_cancel_left}
 use Rattle.serde_json.specs.Written.{compact_text}
@@ -14,9 +14,9 @@ use Rattle.rb_site.specs.Seen.{SeenSite, entry, next_site, next_sites, state_of,
 use Rattle.rb_site.proofs.Public.Runs.{noted}
 use Rattle.rb_site.proofs.Public.Seen.{settings-next, state-next}
 use Rattle.rb_history.specs.Entries.{entry_json, entry_of_line, entry_on}
-use Rattle.rb_history.specs.Fits.{Each, EntriesAreRead, IsEvent}
+use Rattle.rb_history.specs.Fits.{Each, EntriesAreRead}
 use Rattle.rb_history.specs.OneLine.{EntriesAreLines}
-use Rattle.rb_node.specs.Answers.{AreReadyInTurn, IsAnswered}
+use Rattle.rb_node.specs.Answers.{AreReadyInTurn}
 use Rattle.rb_node.specs.Laws.{AnswersAreReplayed, AreReplayed, FitsLine}
 use Rattle.rb_node.proofs.Recorded.{next-free, next-full}
 

@@ -1,4 +1,4 @@
-use Rattle.std.proofs.Common.{◌≡◌, ◌++◌, List, [], ◌∷◌, ℕ, Bool, true, false, codes, length, append_assoc, refl, subst}
+use Rattle.std.proofs.Common.{◌≡◌, ◌++◌, List, [], ◌∷◌, ℕ, false, codes, length, append_assoc, refl, subst}
 use Rattle.std.specs.Prelude.{map, Result, ◌==◌}
 use Rattle.json.specs.Print.{escape_byte}
 use Rattle.serde_json.specs.View.{items_of}

@@ -1,4 +1,4 @@
-use Rattle.std.proofs.Common.{◌≡◌, ap, sym, ◌∙◌}
+use Rattle.std.proofs.Common.{ap, sym, ◌∙◌}
 use Rattle.rb_commands.proofs.Public.Appended.{front_of_front, front_of_sum, front_stays}
 use Rattle.rb_site.specs.Seen.{SeenSite}
 use Rattle.rb_site.proofs.Public.Seen.{settings-next}
