@@ -1,0 +1,5 @@
+mod Applied
+mod JournalLines
+mod Ready
+mod Recorded
+mod Replayed

@@ -1,0 +1,32 @@
+use Rattle.std.proofs.Common.{◌++◌, codes, [], add-one, drop-cons, arith, rules}
+use Rattle.std.specs.Prelude.{map}
+use Rattle.rb_site.specs.declared.event.Event.TheVariants.{Receive}
+use Rattle.rb_history.specs.Entries.{event_json}
+use Rattle.rb_commands.proofs.Public.Appended.{front_of_front, front_of_sum, then}
+use Rattle.rb_commands.proofs.Public.Listed.{item_written, items_written, rest_text, whole_text}
+use Rattle.rb_node.proofs.answer.append_messages.Goals as goal
+
+pub loop-message-preserved : goal.loop-message-preserved
+loop-message-preserved c =
+    let out = c.loop-message.out.items in
+    let new = c.append_message.new.out.items in
+    let messages = c.args.messages.now in
+    let i = c.loop-message.message-index in
+    record {
+      utf8 = search rules;
+      front = front_of_front c.args.out.now.items out new c.loop-message.invariant.front
+          (front_of_sum out new _ c.in_ok-append_message.ensures);
+      written = item_written (λ m. event_json c.args.config.now (Receive m)) out new c.loop-message.comma.now _ messages i _
+          (rw add-one (drop-cons messages i _ (omega arith))) c.in_ok-append_message.ensures c.loop-message.invariant.written;
+    }
+
+pub returns : goal.returns
+returns c =
+    let old = c.args.out.now.items in
+    let out = c.loop-message.out.items in
+    let messages = c.args.messages.now in
+    let list = rest_text [] (map (λ m. event_json c.args.config.now (Receive m)) messages) in
+    then c.append.result old out c.append.new.out.items list (codes "]") _
+    (items_written (λ m. event_json c.args.config.now (Receive m)) out c.loop-message.comma.now (old ++ list) messages
+    c.loop-message.message-index (omega arith) c.loop-message.invariant.written) c.append.ensures
+    (whole_text (map (λ m. event_json c.args.config.now (Receive m)) messages))

@@ -1,0 +1,31 @@
+use Rattle.std.proofs.Common.{rules}
+use Rattle.rb_commands.proofs.Public.Appended.{front_of_front, front_of_sum}
+use Rattle.rb_node.proofs.Applied.{applies_more, applies_none, closed, spare_falls}
+use Rattle.rb_node.proofs.node.Node.apply_ready.Goals as goal
+
+pub loop-name-preserved : goal.loop-name-preserved
+loop-name-preserved c =
+    let l = c.loop-name in
+    let one = c.in_ok-apply_one.ensures in
+    record {
+      utf8 = search rules;
+      text_front = front_of_front c.args.text.now.items l.text.items c.apply_one.new.text.items l.invariant.text_front
+          (front_of_sum l.text.items c.apply_one.new.text.items _ one.text_is);
+      entries_front = front_of_front c.args.entries.now.items l.entries.items c.apply_one.new.entries.items l.invariant.entries_front
+          (front_of_sum l.entries.items c.apply_one.new.entries.items _ one.step.entries_are);
+      goes_on = λ new text entries rest. l.invariant.goes_on new text entries
+          (applies_more l.comma.now c.in-Some.name l.self.site c.apply_one.new.self.site new l.text.items c.apply_one.new.text.items
+          text l.entries.items c.apply_one.new.entries.items entries c.in-Some.ensures.free c.in-Some.ensures.some one rest);
+    }
+
+pub loop-name-smaller : goal.loop-name-smaller
+loop-name-smaller c = spare_falls c.loop-name.self.site c.apply_one.new.self.site _ _ c.loop-name.entries.items
+    c.apply_one.new.entries.items c.in-Some.ensures.free c.in_ok-apply_one.ensures.step
+
+pub returns : goal.returns
+returns c =
+    let l = c.loop-name in
+    closed c.append.result c.args.self.now.site l.self.site c.args.text.now.items l.text.items c.append.new.out.items
+    c.args.entries.now.items l.entries.items
+    (l.invariant.goes_on l.self.site l.text.items l.entries.items (applies_none l.comma.now l.self.site l.text.items l.entries.items
+    c.in_default.ensures.none)) l.invariant.text_front l.invariant.entries_front c.append.ensures

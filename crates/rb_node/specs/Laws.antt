@@ -1,0 +1,43 @@
+-- What holds of every answer: its entries' lines are a journal's, and they are replayed.
+use Rattle.std.specs.Prelude.{◌≡◌, ◌≢◌, ℕ, ◌<◌, List, [], ◌∷◌, Some, All, slice_index}
+use Rattle.serde_json.specs.Written.{compact_text}
+use Rattle.rb_money.specs.Settings.{IsConfigured, Settings}
+use Rattle.rb_site.specs.declared.entry.Entry.{Entry}
+use Rattle.rb_site.specs.Seen.{SeenSite}
+use Rattle.rb_history.specs.ConfigLines.{config_json}
+use Rattle.rb_history.specs.Entries.{entry_json, entry_on}
+use Rattle.rb_history.specs.Fits.{Each, IsEvent, IsReply}
+use Rattle.rb_node.specs.Answers.{IsAnswered, SeenNode}
+use Rattle.rb_node.specs.Replays.{IsReplayedAs}
+
+-- ---- lines
+
+-- it begins with `{` (123), and no byte of it is a line feed (10)
+pub record IsJournalLine (line : List ℕ) : Type 0 where
+  pub begins : slice_index line 0 ≡ 123
+  pub one : All (λ b. b ≢ 10) line
+
+-- the line of a configuration is such, without its line feed
+abbrev pub ConfigsAreJournalLines : Type 0
+ConfigsAreJournalLines = (s : Settings) → IsConfigured s → IsJournalLine (compact_text (config_json s))
+
+-- the line of an entry is, whatever the entry
+abbrev pub EntriesAreJournalLines : Type 0
+EntriesAreJournalLines = (s : Settings) → IsConfigured s → (me : ℕ) (x : Entry) → IsJournalLine (compact_text (entry_json s me x))
+
+-- ---- replays
+
+-- the line of each entry is read as that entry of the site, and the site is the last after all were replayed
+abbrev pub AreReplayed : SeenSite → List Entry → SeenSite → Type 0
+AreReplayed old [] new = new ≡ old
+AreReplayed old (x ∷ xs) new = (next : SeenNode) × (entry_on old.settings (compact_text (entry_json old.settings old.me x)) ≡ Some (old.me, x))
+    × IsReplayedAs old next x × AreReplayed next.site xs new
+
+-- a line holds the entry whole
+abbrev pub FitsLine : Settings → Entry → Type 0
+FitsLine s x = IsEvent s x.event × IsReply x.reply
+
+-- what an answer recorded is replayed to the site that it left, where lines hold its entries whole
+abbrev pub AnswersAreReplayed : Type 0
+AnswersAreReplayed = (old new : SeenSite) (line text entries : List ℕ) → IsConfigured old.settings → old.me < old.settings.sites
+    → (answer : IsAnswered old new line text entries) → Each (FitsLine old.settings) answer.recorded → AreReplayed old answer.recorded new

@@ -1,0 +1,5 @@
+pub mod Answers
+pub mod Faults
+pub mod Laws
+pub mod Replays
+pub mod Steps

@@ -1,0 +1,201 @@
+//! The line of an event, answered.
+ghost use Rattle.std.specs.Prelude.{◌≡◌, ◌++◌, codes, List, ℕ, Some, None, false, map, length, take, Err, IfErr, IfNone, IfSome};
+ghost use Rattle.std.specs.Prelude.{OnErr, OnOk, MatchResult};
+ghost use Rattle.std.specs.Option.{OnSome};
+ghost use Rattle.serde_json.specs.View.{items_of};
+ghost use Rattle.serde_json.specs.Written.{compact_text, items_text};
+ghost use Rattle.rb_site.specs.declared.event.Event.TheVariants.{Receive as Receipt};
+ghost use Rattle.rb_site.specs.Events.{is_full};
+ghost use Rattle.rb_site.specs.Seen.{state_of};
+ghost use Rattle.rb_commands.specs.Adds.{Adds};
+ghost use Rattle.rb_commands.specs.Replies.{reply_json};
+ghost use Rattle.rb_history.specs.Entries.{event_json};
+ghost use Rattle.rb_node.specs.Answers.{IsAllApplied, IsAnswered, IsReadyName, event_on, messages_json};
+ghost use Rattle.rb_node.specs.Faults.{IsLineFault};
+ghost use Rattle.rb_node.specs.Steps.{Answers, Applies, AppliesOne};
+
+use crate::{Node, NodeFault};
+use rb_commands::write::append::append;
+use rb_commands::{LineFault, append_value};
+use rb_history::{append_event, read_event};
+use rb_lines::text_on;
+use rb_money::Config;
+use rb_shadow::OpName;
+use rb_site::{Event, Message, Reply};
+use std::alloc::AllocError;
+
+/// A message, as the event of a site that it goes to, behind a text.
+fn append_message(
+    out: &mut Vec<u8>,
+    comma: &str,
+    config: &Config,
+    message: Message,
+) -> Result<(), AllocError>
+    ensures { Adds result out.old.items out.new.items
+        (comma.now ++ compact_text (event_json config.now (Receipt message))) }
+{
+    append(out, comma)?;
+    append_event(out, config, &Event::Receive(message))
+}
+
+/// The messages, each as the event of the sites that it goes to, with the closing bracket of their list.
+pub(crate) fn append_messages(
+    out: &mut Vec<u8>,
+    config: &Config,
+    messages: &[Message],
+) -> Result<(), AllocError>
+    ensures { Adds result out.old.items out.new.items
+        (items_text false (items_of (map (λ m. event_json config.now (Receipt m)) messages.now))) }
+{
+    let mut comma = "";
+    for message in messages {
+        append_message(out, comma, config, *message)?;
+        comma = ",";
+    }
+    append(out, "]")
+}
+
+/// A reply behind a text.
+fn append_listed(out: &mut Vec<u8>, comma: &str, reply: &Reply) -> Result<(), AllocError>
+    ensures { Adds result out.old.items out.new.items (comma.now ++ compact_text (reply_json reply.now)) }
+{
+    append(out, comma)?;
+    append_value(out, reply)
+}
+
+/// What an answer begins with: the reply, the messages, and the bracket that opens the list of what follows.
+fn append_reply(
+    out: &mut Vec<u8>,
+    config: &Config,
+    reply: &Reply,
+    sent: &[Message],
+) -> Result<(), AllocError>
+    ensures { Adds result out.old.items out.new.items (codes "{\"reply\":" ++ (compact_text (reply_json reply.now)
+        ++ (codes ",\"sends\":" ++ (compact_text (messages_json config.now sent.now) ++ codes ",\"then\":[")))) }
+{
+    append(out, "{\"reply\":")?;
+    append_value(out, reply)?;
+    append(out, ",\"sends\":[")?;
+    append_messages(out, config, sent)?;
+    append(out, ",\"then\":[")
+}
+
+impl Node {
+    /// The event on a line.
+    #[tactic(auto, unfolding(crate::specs::Answers::event_on))]
+    fn event_of(&self, line: &[u8]) -> Result<Event, NodeFault>
+        ensures { MatchResult result
+            (λ event. event_on self.now.site.settings line.now ≡ Some event)
+            (λ why. (why ≡ NodeFault.BadLine → event_on self.now.site.settings line.now ≡ None)
+            × IsLineFault why) }
+    {
+        let Some(text) = text_on(line) else {
+            return Err(NodeFault::BadLine);
+        };
+        match read_event(self.alloc, &self.config, text) {
+            Ok(event) => Ok(event),
+            Err(LineFault::Bad) => Err(NodeFault::BadLine),
+            Err(LineFault::OutOfMemory) => Err(NodeFault::OutOfMemory),
+        }
+    }
+
+    /// Applies what is held and ready, one operation after another, until nothing is or the history is full. The
+    /// replies are added to the text, with commas between, and the entries' lines to the entries.
+    fn apply_ready(&mut self, text: &mut Vec<u8>, entries: &mut Vec<u8>) -> Result<(), AllocError>
+        ensures { MatchResult result
+            (λ _. Applies self.old.site self.new.site text.old.items text.new.items entries.old.items entries.new.items)
+            (λ _. (take (length text.old.items) text.new.items ≡ text.old.items)
+            × (take (length entries.old.items) entries.new.items ≡ entries.old.items)) }
+    {
+        let mut comma = "";
+        while let Some(name) = self.ready() {
+            self.apply_one(name, comma, text, entries)?;
+            comma = ",";
+        }
+        append(text, "]")
+    }
+
+    /// Applies the operation of a name, and adds its reply behind a text, and the line of its entry.
+    fn apply_one(
+        &mut self,
+        name: OpName,
+        comma: &str,
+        text: &mut Vec<u8>,
+        entries: &mut Vec<u8>,
+    ) -> Result<(), AllocError>
+        requires { is_full self.old.site.settings (state_of self.old.site) ≡ false }
+        ensures { MatchResult result
+            (λ _. AppliesOne self.old.site self.new.site name comma.now text.old.items text.new.items entries.old.items
+            entries.new.items)
+            (λ _. (take (length text.old.items) text.new.items ≡ text.old.items)
+            × (take (length entries.old.items) entries.new.items ≡ entries.old.items)) }
+    {
+        let reply = self.record(Event::Apply(name), entries)?;
+        append_listed(text, comma, &reply)
+    }
+
+    /// The name of an operation that is to be applied next: it is held and its past is applied. `None` where there is
+    /// none, or the history is full.
+    fn ready(&self) -> Option<OpName>
+        ensures some { IfSome result (IsReadyName (state_of self.now.site)) }
+        ensures free { OnSome result (is_full self.now.site.settings (state_of self.now.site) ≡ false) }
+        ensures none { IfNone result (IsAllApplied self.now.site.settings (state_of self.now.site)) }
+    {
+        if self.site.is_full() {
+            return None;
+        }
+        self.site.inbox().ready(self.site.ledger().clock())
+    }
+
+    /// One event, answered.
+    fn answer_event(
+        &mut self,
+        event: Event,
+        text: &mut Vec<u8>,
+        entries: &mut Vec<u8>,
+    ) -> Result<(), AllocError>
+        ensures { MatchResult result
+            (λ _. Answers self.old.site self.new.site event text.old.items text.new.items entries.old.items
+            entries.new.items)
+            (λ _. (take (length text.old.items) text.new.items ≡ text.old.items)
+            × (take (length entries.old.items) entries.new.items ≡ entries.old.items)) }
+    {
+        let reply = self.step(event, entries)?;
+        append_reply(text, &self.config, &reply, self.sent.as_slice())?;
+        self.apply_ready(text, entries)?;
+        append(text, "}\n")
+    }
+
+    /// Answers the line of an event: its answer, `{"reply":R,"sends":[M..],"then":[A..]}`, is added to the answers with
+    /// a line feed, and the lines of the entries that it recorded to the entries, each with a line feed. R is the reply,
+    /// each M a message that was sent, as the event's line of the sites that it goes to, and each A the reply of an
+    /// application that followed: whatever is held and ready is applied, until nothing is or the history is full.
+    ///
+    /// Errors: `BadLine` where the line is no event, and nothing has changed then; `OutOfMemory`, after which nothing
+    /// more may be asked of the site. Each leaves answers and entries as they were.
+    pub fn answer(
+        &mut self,
+        line: &[u8],
+        answers: &mut Vec<u8>,
+        entries: &mut Vec<u8>,
+    ) -> Result<(), NodeFault>
+        ensures answered { OnOk result ((text : List ℕ) × (lines : List ℕ)
+            × IsAnswered self.old.site self.new.site line.now text lines
+            × (answers.new.items ≡ answers.old.items ++ text) × (entries.new.items ≡ entries.old.items ++ lines)) }
+        ensures bad { result ≡ Err NodeFault.BadLine
+            → (event_on self.old.site.settings line.now ≡ None) × (self.new ≡ self.old) }
+        ensures err { OnErr result ((answers.new.items ≡ answers.old.items) × (entries.new.items ≡ entries.old.items)) }
+        ensures refusals { IfErr result IsLineFault }
+    {
+        let event = self.event_of(line)?;
+        let (answered, recorded) = (answers.len(), entries.len());
+        match self.answer_event(event, answers, entries) {
+            Ok(()) => Ok(()),
+            Err(_) => {
+                answers.truncate(answered);
+                entries.truncate(recorded);
+                Err(NodeFault::OutOfMemory)
+            }
+        }
+    }
+}

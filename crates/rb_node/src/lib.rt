@@ -1,0 +1,34 @@
+//! One site by lines: its configuration's line in, then the line of each event, and a line out for each; and the lines
+//! of its history, which the caller keeps where it keeps its data.
+//! Tests: rb_tests_runs, nodes.rt.
+#![tactic(auto)]
+
+mod answer;
+mod fault;
+mod node;
+mod replay;
+mod step;
+
+ghost use Rattle.rb_node.specs.Laws.{AnswersAreReplayed, ConfigsAreJournalLines, EntriesAreJournalLines};
+
+pub use fault::NodeFault;
+pub use node::Node;
+
+/// The line of a configuration and that of each entry are lines of a journal: each begins with `{` and has no line feed
+/// in it.
+pub fn lines_are_lines()
+    ensures configs { ConfigsAreJournalLines }
+    ensures entries { EntriesAreJournalLines }
+{
+    rb_history::lines_are_single();
+}
+
+/// The entries that an answer recorded, read from their lines and replayed one after another, lead from the site before
+/// it to the site after it, where a line holds each of them whole: its numbers fit their types, its places are known, and
+/// its reply isn't *out of memory*.
+pub fn replays_back()
+    ensures { AnswersAreReplayed }
+{
+    rb_history::entries_are_read();
+    rb_history::lines_are_single();
+}

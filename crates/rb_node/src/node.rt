@@ -1,0 +1,115 @@
+//! One site by lines.
+ghost use Rattle.std.specs.Prelude.{◌≡◌, ◌<◌, ◌≤◌, Some, None, IfOk, Err, MatchResult};
+ghost use Rattle.rb_money.specs.Settings.{Settings};
+ghost use Rattle.rb_commands.specs.declared.fault.LineFault.TheVariants.{Bad};
+ghost use Rattle.rb_site.specs.Seen.{first_seen};
+ghost use Rattle.rb_commands.specs.Configurations.{config_on};
+ghost use Rattle.rb_history.specs.ConfigLines.{config_json};
+ghost use Rattle.rb_node.specs.Answers.{line_of};
+
+use crate::fault::NodeFault;
+use rb_commands::{LineFault, read_config};
+use rb_history::write_config;
+use rb_lines::text_on;
+use rb_money::Config;
+use rb_site::{ErasedEntry, Message, Site};
+use std::alloc::{AllocError, Global};
+use std::marker::Model;
+
+/// One site of a bank, which is asked and answers by lines. It keeps no history: that is the caller's, as the lines of
+/// entries. It can't be dropped: it is ended.
+pub struct Node {
+    pub(crate) alloc: Global,
+    pub(crate) config: Config,
+    pub(crate) site: Site<ErasedEntry>,
+    /// The messages of the last event.
+    pub(crate) sent: Vec<Message>,
+}
+
+impl Model for Node {
+    ghost use Rattle.std.specs.Prelude.{◌≡◌};
+    ghost use Rattle.rb_node.specs.Answers.{SeenNode};
+
+    ghost Value = { SeenNode };
+
+    ghost view = { λ n. record { site = n.site; sent = n.sent.items } };
+
+    ghost invariant = { λ n. n.site.settings ≡ n.config };
+}
+
+/// The configuration on a line.
+#[tactic(auto, unfolding(rb_commands::specs::Configurations::config_on))]
+fn config_of(alloc: Global, line: &[u8]) -> Result<Config, LineFault>
+    ensures { MatchResult result
+        (λ config. config_on line.now ≡ Some config)
+        (λ why. why ≡ Bad → config_on line.now ≡ None) }
+{
+    let Some(text) = text_on(line) else {
+        return Err(LineFault::Bad);
+    };
+    read_config(alloc, text)
+}
+
+impl Node {
+    /// The site `me` (0 to 15) of the configuration on a line, before any event.
+    ///
+    /// Errors: `BadConfig` where the line is none; `NoSite` where it has no such site; `OutOfMemory`.
+    pub fn open(alloc: Global, line: &[u8], me: u8) -> Result<Node, NodeFault>
+        ensures opened { IfOk result (λ node. (s : Settings) × (config_on line.now ≡ Some s) × (me < s.sites)
+            × (node.site ≡ first_seen s me)) }
+        ensures bad { result ≡ Err NodeFault.BadConfig → config_on line.now ≡ None }
+        ensures no_site { result ≡ Err NodeFault.NoSite → (s : Settings) × (config_on line.now ≡ Some s) × (s.sites ≤ me) }
+        ensures not_bad_line { result ≡ Err NodeFault.BadLine → ⊥ }
+        ensures not_wrong { result ≡ Err NodeFault.WrongReply → ⊥ }
+    {
+        let config = match config_of(alloc, line) {
+            Ok(config) => config,
+            Err(LineFault::Bad) => return Err(NodeFault::BadConfig),
+            Err(LineFault::OutOfMemory) => return Err(NodeFault::OutOfMemory),
+        };
+        if me >= config.sites() {
+            return Err(NodeFault::NoSite);
+        }
+        let site = Site::open_keeping(alloc, &config, me)?;
+        Ok(Node {
+            alloc,
+            config,
+            site,
+            sent: Vec::new(alloc),
+        })
+    }
+
+    /// The configuration.
+    pub fn config(&self) -> &Config
+        ensures { result.now ≡ self.now.site.settings }
+    {
+        &self.config
+    }
+
+    /// The site's number.
+    pub fn me(&self) -> u8
+        ensures { result ≡ self.now.site.me }
+    {
+        self.site.me()
+    }
+
+    /// The line of the configuration, with its line feed: the first of a journal. An `Err` means out of memory.
+    pub fn config_line(&self) -> Result<Vec<u8>, AllocError>
+        ensures { IfOk result (λ line. line.items ≡ line_of (config_json self.now.site.settings)) }
+    {
+        let mut line = write_config(self.alloc, &self.config)?.into_bytes();
+        line.push(b'\n')?;
+        Ok(line)
+    }
+
+    /// Ends the site.
+    pub fn end(self) {
+        let Node {
+            alloc: _,
+            config: _,
+            site,
+            sent: _,
+        } = self;
+        site.end();
+    }
+}

@@ -1,0 +1,96 @@
+//! The line of an entry, replayed.
+ghost use Rattle.std.specs.Prelude.{◌≡◌, ◌≢◌, ◌++◌, ◌⊎◌, Some, None, true, length, take, Err, IfErr, OnOk, OnErr, MatchResult};
+ghost use Rattle.rb_site.specs.declared.entry.Entry.{Entry as EntryOf};
+ghost use Rattle.rb_site.specs.Events.{is_full, reply_to};
+ghost use Rattle.rb_site.specs.Seen.{state_of};
+ghost use Rattle.rb_commands.specs.Adds.{Adds};
+ghost use Rattle.rb_history.specs.Entries.{entry_on};
+ghost use Rattle.rb_node.specs.Answers.{sent_line};
+ghost use Rattle.rb_node.specs.Faults.{IsEntryFault};
+ghost use Rattle.rb_node.specs.Replays.{IsReplayedAs};
+
+use crate::answer::append_messages;
+use crate::{Node, NodeFault};
+use rb_commands::LineFault;
+use rb_commands::write::append::append;
+use rb_history::read_line;
+use rb_lines::text_on;
+use rb_money::Config;
+use rb_site::{Entry, Message};
+use std::alloc::AllocError;
+
+/// The messages as a line, where there are any.
+fn append_sends(out: &mut Vec<u8>, config: &Config, messages: &[Message]) -> Result<(), AllocError>
+    ensures { Adds result out.old.items out.new.items (sent_line config.now messages.now) }
+{
+    if messages.is_empty() {
+        return Ok(());
+    }
+    append(out, "{\"sends\":[")?;
+    append_messages(out, config, messages)?;
+    append(out, "}\n")
+}
+
+impl Node {
+    /// The entry of this site on a line.
+    #[tactic(auto, unfolding(rb_history::specs::Entries::entry_on))]
+    fn entry_of(&self, line: &[u8]) -> Result<Entry, NodeFault>
+        ensures { MatchResult result
+            (λ entry. entry_on self.now.site.settings line.now ≡ Some (self.now.site.me, entry))
+            (λ why. (why ≡ NodeFault.BadLine → (x : EntryOf) → entry_on self.now.site.settings line.now
+            ≢ Some (self.now.site.me, x)) × IsEntryFault why × (why ≢ NodeFault.WrongReply)) }
+    {
+        let Some(text) = text_on(line) else {
+            return Err(NodeFault::BadLine);
+        };
+        match read_line(self.alloc, &self.config, text) {
+            Ok((site, entry)) if site == self.site.me() => Ok(entry),
+            Err(LineFault::OutOfMemory) => Err(NodeFault::OutOfMemory),
+            _ => Err(NodeFault::BadLine),
+        }
+    }
+
+    /// The next entry of the site's history, from its line. What the entry sent stays to be sent again by
+    /// `append_sent`.
+    ///
+    /// Errors: `BadLine` where the line is no entry of this site; `WrongReply` where the site gives another reply, or
+    /// its history is full; `OutOfMemory`. After the last two nothing more may be asked of the site.
+    pub fn replay(&mut self, line: &[u8]) -> Result<(), NodeFault>
+        ensures replayed { OnOk result ((x : EntryOf) × (entry_on self.old.site.settings line.now
+            ≡ Some (self.old.site.me, x)) × IsReplayedAs self.old.site self.new x) }
+        ensures bad { result ≡ Err NodeFault.BadLine → ((x : EntryOf) → entry_on self.old.site.settings line.now
+            ≢ Some (self.old.site.me, x)) × (self.new ≡ self.old) }
+        ensures wrong { result ≡ Err NodeFault.WrongReply → (x : EntryOf)
+            × (entry_on self.old.site.settings line.now ≡ Some (self.old.site.me, x))
+            × ((is_full self.old.site.settings (state_of self.old.site) ≡ true)
+            ⊎ (x.reply ≢ reply_to self.old.site.settings (state_of self.old.site) x.event)) }
+        ensures refusals { IfErr result IsEntryFault }
+    {
+        let Entry { event, reply } = self.entry_of(line)?;
+        self.sent.clear();
+        if self.site.is_full() {
+            return Err(NodeFault::WrongReply);
+        }
+        let given = self.site.record(event, &mut self.sent)?;
+        if !given.same(&reply) {
+            return Err(NodeFault::WrongReply);
+        }
+        Ok(())
+    }
+
+    /// Adds the line `{"sends":[M..]}` of what the last entry sent, with its line feed; nothing where it sent nothing.
+    /// An `Err` means out of memory, and adds nothing.
+    pub fn append_sent(&self, out: &mut Vec<u8>) -> Result<(), AllocError>
+        ensures ok { OnOk result (out.new.items ≡ out.old.items ++ sent_line self.now.site.settings self.now.sent) }
+        ensures err { OnErr result (out.new.items ≡ out.old.items) }
+    {
+        let before = out.len();
+        match append_sends(out, &self.config, self.sent.as_slice()) {
+            Ok(()) => Ok(()),
+            Err(refused) => {
+                out.truncate(before);
+                Err(refused)
+            }
+        }
+    }
+}
