@@ -54,6 +54,7 @@ test: toolchain
 	examples/from_rows.py --check
 	tests/closure.py --check
 	tests/wrong_bodies.py --check
+	tests/plain_words.py --check
 	rt ci
 	@examples/bank.py --record crates/rbbank/out/rbbank
 	@examples/check.py --quiet crates/rbbank/out/rbbank
