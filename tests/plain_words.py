@@ -17,14 +17,14 @@ ROOT = os.path.dirname(os.path.dirname(os.path.abspath(__file__)))
 # each word with what to write for it, and the most that docs and doc comments may have
 WORDS = [
     ("told", "parsed, written, reported", 25, 12),
-    ("tells", "says, shows", 23, 22),
+    ("tells", "says, shows", 22, 21),
     ("stands", "is, holds", 46, 18),
-    ("room", "spare capacity", 42, 40),
+    ("room", "spare capacity", 41, 39),
     ("a front of", "a prefix of", 4, 4),
     ("owed", "buffered", 11, 16),
     ("wrong body", "mutant", 2, 0),
     ("wrong bodies", "mutants", 2, 0),
-    ("of so many", "up to", 7, 17),
+    ("of so many", "up to", 7, 20),
 ]
 
 
