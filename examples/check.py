@@ -1,7 +1,7 @@
 #!/usr/bin/env python3
-"""Runs every script, all histories and every migration of this folder through a built program, and compares what it
-writes, what it says on standard error, and its status. What the program's own help shows is run as well, its version
-is looked at, and a run of tellers is audited.
+"""Runs every script, all histories, every migration and every site of this folder through a built program, and compares
+what it writes, what it says on standard error, its status, and a site's journal. What the program's own help shows is
+run as well, its version is looked at, and a run of tellers is audited.
 
 usage: check.py [--quiet] PROGRAM      (--quiet tells only what is different)
 """
@@ -10,6 +10,7 @@ import os
 import re
 import subprocess
 import sys
+import tempfile
 
 import bank
 
@@ -33,6 +34,29 @@ def answered(program, path):
     with open(path, "rb") as given:
         run = subprocess.run([program, bank.word_of(path)], stdin=given, capture_output=True)
     return run.stdout, run.stderr, run.returncode
+
+
+def site_answered(program, path):
+    """What a site writes, and its journal at the end, which begins as the example has it."""
+    stem = path.removesuffix(".jsonl")
+    before = stored(stem + ".before", None)
+    with tempfile.TemporaryDirectory() as folder, open(path, "rb") as given:
+        journal = os.path.join(folder, "journal")
+        if before is not None:
+            with open(journal, "wb") as file:
+                file.write(before)
+        words = [program, "site", *stored(stem + ".words", b"").decode().split(), "--journal", journal]
+        run = subprocess.run(words, stdin=given, capture_output=True)
+        return (run.stdout, run.stderr, run.returncode), stored(journal, None)
+
+
+def is_same(program, path):
+    """Whether an example is answered as it is stored. A journal is compared where one is stored."""
+    stem = path.removesuffix(".jsonl")
+    if bank.word_of(path) != "site":
+        return answered(program, path) == expected(stem)
+    run, journal = site_answered(program, path)
+    return run == expected(stem) and journal == stored(stem + ".journal", journal)
 
 
 def shown(program, command):
@@ -71,7 +95,7 @@ def main():
     if len(words) != 1:
         sys.exit(__doc__)
     paths = sorted(glob.glob(os.path.join(HERE, "*.jsonl")))
-    same = [answered(words[0], path) == expected(path.removesuffix(".jsonl")) for path in paths]
+    same = [is_same(words[0], path) for path in paths]
     results = list(zip(map(os.path.basename, paths), same))
     results += [(command + " --help", helps(words[0], command)) for command in ["script", "audit", "migrate"]]
     results.append(("--version", tells_version(words[0])))

@@ -29,7 +29,7 @@ def examples():
     """The scripts and histories, but for the long run of tellers."""
     for path in sorted(glob.glob(os.path.join(bank.HERE, "*.jsonl"))):
         name = os.path.basename(path).removesuffix(".jsonl")
-        if not name.endswith(".migration") and not name.startswith("tellers"):
+        if not name.endswith((".migration", ".site")) and not name.startswith("tellers"):
             yield name, bank.read(path)
 
 
