@@ -1,0 +1,488 @@
+#!/usr/bin/env python3
+"""Ends the sites of a bank at random moments, over and over, and looks whether anything that was reported is lost.
+
+Three to five sites run as processes over pipes. Between them a router delays, reorders, repeats and loses messages;
+clients ask for everything. Processes are ended by SIGKILL at random moments, also while they start, and by a limit on
+the file's size in the middle of a write, and are started again on their journals. After each end the journal has to be
+what it was before, then the entry of each event that was answered, with that very answer, and then a first part of
+those that were given and not answered. What a site sends again as it starts has to be what its journal says it sent.
+At the end all messages are sent again and delivered: all sites then have the same balances and the same operations,
+and an audit orders the journals.
+
+It prints its seed and what happened. The same seed makes the same choices, but no two runs end a process at the same
+moment. The journals stay where --folder says, or where the run fails.
+"""
+import argparse
+import json
+import os
+import random
+import resource
+import select
+import shutil
+import signal
+import subprocess
+import sys
+import tempfile
+import time
+from collections import Counter
+
+LOST, REPEATED = 0.05, 0.1  # of the messages, how many the router loses, and how many it delivers once more
+PATIENCE = 60  # seconds for one answer
+MOST_BYTES = 40_000  # of the lines that are given at once, so that a pipe takes them
+LIMITED = 0.15  # of the starts, how many have a limit on the file's size
+AT_THE_START = 0.1  # of the ends, how many come while a site starts
+ACCOUNTS = ("ann", "bob", "eve")
+
+
+class Failed(Exception):
+    """What a site did that it may not do."""
+
+
+def compact(value):
+    return json.dumps(value, separators=(",", ":"), sort_keys=True)
+
+
+def whole_lines(data):
+    """The lines that a journal stands for: whole ones, up to the first that doesn't begin with a brace."""
+    end = 0
+    while data[end:end + 1] == b"{":
+        at = data.find(b"\n", end)
+        if at < 0:
+            break
+        end = at + 1
+    return data[:end]
+
+
+def read(path):
+    """The bytes of a file, none where it isn't there."""
+    if not os.path.exists(path):
+        return b""
+    with open(path, "rb") as file:
+        return file.read()
+
+
+def addressees(message, sites, sender):
+    """The sites that a message is for."""
+    if "token" in message:
+        return [message["token"][1]]
+    return [site for site in range(sites) if site != sender]
+
+
+class Clients:
+    """What clients ask for: everything, of any site."""
+
+    def __init__(self, pick, sites):
+        self.pick, self.sites, self.names = pick, sites, []
+
+    def request(self):
+        pick, account = self.pick, self.pick.choice(ACCOUNTS)
+        verb = pick.choices(["deposit", "withdraw", "interest", "transfer", "cancel"], [6, 3, 1, 2, 2])[0]
+        if verb == "cancel" and self.names:
+            return {"cancel": pick.choice(self.names[-40:])}
+        if verb == "transfer":
+            return {"transfer": [account, pick.choice(ACCOUNTS), pick.randrange(400)]}
+        if verb == "withdraw":
+            return {"withdraw": [account, pick.randrange(400)]}
+        if verb == "interest":
+            return {"interest": [account, pick.randrange(30)]}
+        return {"deposit": [account, 1 + pick.randrange(900)]}
+
+    def event(self):
+        pick, account = self.pick, self.pick.choice(ACCOUNTS)
+        other = pick.random()
+        if other < 0.7:
+            return self.request()
+        if other < 0.8:
+            return {"batch": [self.request() for _ in range(pick.randrange(5))]}
+        if other < 0.88:
+            return {"pass": pick.randrange(self.sites)}
+        if other < 0.94:
+            return {"balance": account}
+        if other < 0.96:
+            return {"asof": [account, pick.randrange(60)]}
+        return {"apply": f"B0.{1 + pick.randrange(99)}"} if other < 0.99 else {"statement": account}
+
+    def hear(self, reply):
+        """Notes which operations there are to cancel."""
+        self.names += [reply["name"]] if "kind" in reply else reply.get("names", [])
+
+
+class Site:
+    """A site: its journal, the process that runs on it, and what that was asked and answered since it started."""
+
+    def __init__(self, bank, number):
+        self.bank, self.number, self.process = bank, number, None
+        self.journal = os.path.join(bank.folder, f"{number}.journal")
+        self.entries = []       # the lines behind the configuration, as the journal was last found
+        self.sent = {}          # each message that it ever sent, by its name
+        self.asked, self.wanted, self.again, self.buffered = [], [], [], b""
+
+    # ---- the process
+
+    def start(self, resend=None, limit=None, ignored=False):
+        """Starts a process on the journal. A limit on the file's size ends it in a write, or fails that write."""
+        def bounds():
+            if limit is not None:
+                signal.signal(signal.SIGXFSZ, signal.SIG_IGN if ignored else signal.SIG_DFL)
+                resource.setrlimit(resource.RLIMIT_FSIZE, (limit, limit))
+        words = [self.bank.program, "site", "--me", str(self.number), "--journal", self.journal]
+        words += [] if resend is None else ["--resend", str(resend)]
+        self.process = subprocess.Popen(words, stdin=subprocess.PIPE, stdout=subprocess.PIPE, stderr=subprocess.PIPE,
+                                        bufsize=0, preexec_fn=bounds, restore_signals=not ignored)
+        self.limit = limit
+        self.asked, self.wanted, self.buffered = [], [], b""
+        last = self.entries if resend is None else self.entries[len(self.entries) - min(resend, len(self.entries)):]
+        sent = (sent_by(json.loads(line)["reply"]) for line in last)
+        self.again = [names for names in sent if names]
+        self.give([self.bank.config])
+
+    def give(self, lines):
+        """Writes lines to the process in one write. Whether it takes them shows later."""
+        try:
+            self.process.stdin.write("".join(line + "\n" for line in lines).encode())
+        except BrokenPipeError:
+            pass
+
+    def ask(self, events):
+        self.asked += [compact(event) for event in events]
+        self.give(self.asked[-len(events):])
+
+    def take(self, data):
+        """Takes what the process wrote: messages sent again first, and then an answer for each event."""
+        *lines, self.buffered = (self.buffered + data).split(b"\n")
+        for line in lines:
+            try:
+                value = json.loads(line)
+            except ValueError:
+                raise Failed(f"site {self.number} wrote {line[:200]!r}") from None
+            if compact(value).encode() != line:
+                raise Failed(f"site {self.number} wrote a line that isn't compact: {line[:200]!r}")
+            if value.keys() == {"sends"} and self.again:
+                self.sends(value["sends"], self.again.pop(0))
+            elif value.keys() == {"reply", "sends", "then"} and self.asked and not self.again:
+                self.answered(value)
+            else:
+                raise Failed(f"site {self.number} wrote {line[:200]!r}, and has to send {self.again[:1]} again")
+
+    def sends(self, messages, names):
+        """Messages of these names go out. One that is sent again is what it was."""
+        if [name_of(message) for message in messages] != names:
+            raise Failed(f"site {self.number} sent {compact(messages)[:200]} and not {names}")
+        for name, message in zip(names, messages):
+            if self.sent.setdefault(name, message) != message:
+                raise Failed(f"site {self.number} sent two messages of one name: {compact(message)}")
+        self.bank.route(self.number, messages)
+
+    def answered(self, answer):
+        """An answer to the first event without one: its entry, and those of the applications, have to be there."""
+        self.wanted.append(f'{{"event":{self.asked.pop(0)},"reply":{compact(answer["reply"])},"site":{self.number}}}')
+        for reply in answer["then"]:
+            if "applied" not in reply:
+                raise Failed(f"site {self.number} refused what it held: {compact(reply)}")
+            event = compact({"apply": reply["applied"]})
+            self.wanted.append(f'{{"event":{event},"reply":{compact(reply)},"site":{self.number}}}')
+        self.bank.count["events"] += 1
+        self.bank.clients.hear(answer["reply"])
+        self.sends(answer["sends"], sent_by(answer["reply"]))
+
+    def wait(self):
+        """Waits until all is answered. False where the process ended before."""
+        until = time.monotonic() + PATIENCE
+        while self.asked:
+            if not select.select([self.process.stdout], [], [], max(0, until - time.monotonic()))[0]:
+                raise Failed(f"site {self.number} didn't answer in {PATIENCE} s: {self.asked[0][:200]}")
+            data = os.read(self.process.stdout.fileno(), 1 << 20)
+            if not data:
+                return False
+            self.take(data)
+        return True
+
+    # ---- its end
+
+    def kill(self):
+        self.process.send_signal(signal.SIGKILL)
+        return self.ended()
+
+    def close(self):
+        """Ends a process at the end of its input."""
+        status, at_rest = self.ended()
+        if status != 0 or not at_rest or self.asked:
+            raise Failed(f"site {self.number} ended in {status}, its journal {'' if at_rest else 'not '}at rest")
+
+    def ended(self):
+        """Takes what the process has still written, looks at its status, and at the journal that it left."""
+        self.process.stdin.close()
+        self.take(self.process.stdout.read())
+        errors, status = self.process.stderr.read().decode(), self.process.wait()
+        self.process.stdout.close()
+        self.process.stderr.close()
+        self.process = None
+        known = {0: "", -signal.SIGKILL: ""}
+        if self.limit is not None:
+            known |= {-signal.SIGXFSZ: "", 3: "rbbank: journal failed\n"}
+        if known.get(status) != errors:
+            raise Failed(f"site {self.number} ended in {status}: {errors}")
+        if self.buffered and status in (0, 3):
+            raise Failed(f"site {self.number} wrote a line in part: {self.buffered[:200]!r}")
+        return status, self.look()
+
+    def look(self):
+        """Whether the journal is at rest. It has to have what it had, what was answered, and a part of what wasn't."""
+        data = read(self.journal)
+        lines = whole_lines(data)
+        config, *found = lines.decode().split("\n")[:-1] or [None]
+        if config not in (None, self.bank.written) or config is None and (self.entries or self.wanted):
+            raise Failed(f"the journal of site {self.number} begins otherwise than it was made")
+        known = len(self.entries)
+        if found[:known] != self.entries:
+            raise Failed(f"the journal of site {self.number} lost or changed an entry that it had")
+        behind = found[known:known + len(self.wanted)]
+        if behind != self.wanted:
+            at = next((n for n, line in enumerate(self.wanted) if behind[n:n + 1] != [line]), 0)
+            raise Failed(f"the journal of site {self.number} lacks what was answered: {self.wanted[at][:300]}")
+        self.look_behind(found[known + len(self.wanted):])
+        self.entries = found
+        return data in (lines + b" ", b"")
+
+    def look_behind(self, lines):
+        """What is behind the answered events has to be a first part of the others, with what was applied after each."""
+        waiting = iter(self.asked)
+        for line in lines:
+            entry = json.loads(line)
+            if "applied" in entry["reply"]:
+                continue
+            if compact(entry["event"]) != next(waiting, None):
+                raise Failed(f"the journal of site {self.number} has an entry of no event: {line[:300]}")
+            self.bank.count["unreported"] += 1
+
+
+class Bank:
+    """The sites, the messages on their way, and what happened."""
+
+    def __init__(self, asked, folder):
+        self.program, self.folder = os.path.abspath(asked.program), folder
+        self.pick = random.Random(asked.seed)
+        self.sites = asked.sites or 3 + self.pick.randrange(3)
+        inbox = self.pick.choice([40, 4096])
+        config = {"accounts": [[name, 1000] for name in ACCOUNTS], "inbox": inbox, "sites": self.sites, "version": 1}
+        self.config = compact(config)
+        self.written = compact({"blue": 10**6, "epoch": 4 * 10**9, "history": 10**8, "red": 10**6} | config)
+        self.clients = Clients(self.pick, self.sites)
+        self.wires = [[] for _ in range(self.sites)]
+        self.count, self.lossy, self.took = Counter(), True, 0.002
+        self.all = [Site(self, number) for number in range(self.sites)]
+
+    def route(self, sender, messages):
+        """Puts messages on their way. Some are lost."""
+        for message in messages:
+            for site in addressees(message, self.sites, sender):
+                if self.lossy and self.pick.random() < LOST:
+                    self.count["lost"] += 1
+                else:
+                    self.wires[site].append(message)
+
+    def arrives(self, wire):
+        """Any message of a wire, which may come once more later."""
+        at = self.pick.randrange(len(wire))
+        if self.pick.random() < REPEATED:
+            self.count["repeats"] += 1
+            return wire[at]
+        wire[at], wire[-1] = wire[-1], wire[at]
+        return wire.pop()
+
+    def events(self, site):
+        """One event, some, or many, that are given to a site at once: of clients and of the router."""
+        number = self.pick.choice([1, 1, 1 + self.pick.randrange(8), 1 + self.pick.randrange(120)])
+        given, size = [], 0
+        while len(given) < number and size < MOST_BYTES:
+            wire = self.wires[site.number]
+            comes = wire and self.pick.random() < (0.5 if len(wire) < 60 else 0.95)
+            given.append(self.arrives(wire) if comes else self.clients.event())
+            size += len(compact(given[-1])) + 1
+        return given
+
+    # ---- how a site runs and ends
+
+    def starts(self, site):
+        """Starts a site that doesn't run: with a limit on the file's size at times, and with what it sends again."""
+        size = os.path.getsize(site.journal) if os.path.exists(site.journal) else 0
+        limited = self.pick.random() < LIMITED
+        limit = size + self.pick.randrange(6000) if limited else None
+        site.start(self.pick.choice([None, 0, 1, 20]), limit, self.pick.random() < 0.5)
+        if self.pick.random() < AT_THE_START:
+            time.sleep(self.pick.random() * 0.01)
+            self.ends(site)
+
+    def ends(self, site):
+        """Ends a process where it hasn't ended, and counts how it did."""
+        status, at_rest = site.kill()
+        self.count["kills"] += 1
+        self.count["in a write"] += status in (3, -signal.SIGXFSZ)
+        self.count["torn"] += not at_rest
+
+    def turn(self):
+        """Gives a site some events. At times its process is ended before it can have answered them all."""
+        site = self.pick.choice(self.all)
+        if site.process is None:
+            return self.starts(site)
+        begun = time.monotonic()
+        site.ask(self.events(site))
+        if self.pick.random() < 0.3:
+            time.sleep(self.pick.random() * 1.3 * self.took)
+            return self.ends(site)
+        if not site.wait():
+            return self.ends(site)
+        self.took += (time.monotonic() - begun - self.took) * 0.1
+        return None
+
+    # ---- the end of a run
+
+    def settle(self):
+        """Starts all sites again, and delivers all that each of them ever sent until every site has all of it."""
+        for site in self.all:
+            if site.process is not None:
+                self.ends(site)
+        self.lossy, self.wires = False, [[] for _ in range(self.sites)]
+        for site in self.all:
+            site.start()
+            site.ask([{"balance": "ann"}])
+            if not site.wait():
+                raise Failed(f"site {site.number} ended by itself: {site.ended()}")
+        kept = [list(wire) for wire in self.wires]
+        for _ in range(200):
+            if not self.deliver(kept):
+                return
+        raise Failed("what was delivered again and again isn't applied everywhere")
+
+    def deliver(self, wires):
+        """Delivers each message of these wires that isn't applied, and says whether one wasn't."""
+        delivered = False
+        for site, wire in zip(self.all, wires):
+            done = {reply for line in site.entries + site.wanted for reply in names_of(json.loads(line)["reply"])}
+            left = [message for message in wire if name_of(message) not in done]
+            delivered = delivered or bool(left)
+            left.sort(key=lambda message: int(name_of(message).split(".")[-1].strip("R token")))
+            while left:
+                part, left = left[:30], left[30:]
+                self.pick.shuffle(part)
+                site.ask(part)
+                if not site.wait():
+                    raise Failed(f"site {site.number} ended by itself")
+        return delivered
+
+    def compare(self):
+        """All sites have the same balances and operations; an audit orders the journals."""
+        asked, told = [{"balance": name} for name in ACCOUNTS], []
+        for site in self.all:
+            site.ask(asked)
+            if not site.wait():
+                raise Failed(f"site {site.number} ended by itself")
+            told.append([json.loads(line)["reply"] for line in site.wanted[-len(asked):]])
+            site.close()
+        if any(each != told[0] for each in told):
+            raise Failed(f"the sites have different balances: {compact(told)}")
+        operations = [sorted(name for line in site.entries for name in names_of(json.loads(line)["reply"])
+                             if name[0] in "BR") for site in self.all]
+        if any(each != operations[0] for each in operations):
+            raise Failed("the sites applied different operations")
+        return told[0], len(operations[0])
+
+    def audit(self):
+        """Has an audit order the journals: one after another, all but the first without its first line."""
+        path = os.path.join(self.folder, "histories.jsonl")
+        with open(path, "wb") as out:
+            for number, site in enumerate(self.all):
+                journal = read(site.journal)
+                out.write(journal.partition(b"\n")[2] if number else journal)
+        with open(path, "rb") as given:
+            run = subprocess.run([self.program, "audit"], stdin=given, capture_output=True)
+        entries = sum(len(site.entries) for site in self.all)
+        if run.returncode != 0 or len(json.loads(run.stdout).get("order", [])) != entries:
+            raise Failed(f"the audit of {path} says {run.stdout[:300].decode()} {run.stderr.decode()}")
+        return entries
+
+    def stop(self):
+        """Ends all processes."""
+        for site in self.all:
+            if site.process is not None:
+                site.process.kill()
+                site.process.wait()
+
+
+def name_of(message):
+    """What a message is known by: the operation's name, or the token's epoch."""
+    return message["shadow"]["name"] if "shadow" in message else f"token {message['token'][0]}"
+
+
+def names_of(reply):
+    """The same of what a reply made, applied or took. A stale token needn't come again either."""
+    if "kind" in reply:
+        return [reply["name"]]
+    token = reply.get("taken", reply.get("stale"))
+    if token is not None:
+        return [f"token {token}"]
+    return [reply["applied"]] if "applied" in reply else reply.get("names", [])
+
+
+def sent_by(reply):
+    """The names of the messages that an event of this reply sent."""
+    if "passed" in reply:
+        return [f"token {reply['passed']}"]
+    return [reply["name"]] if "kind" in reply else reply.get("names", [])
+
+
+def run(asked, folder):
+    """A whole run. What it did, in a line."""
+    bank = Bank(asked, folder)
+    try:
+        while bank.count["kills"] < asked.kills:
+            bank.turn()
+        bank.settle()
+        balances, operations = bank.compare()
+        entries = bank.audit()
+    finally:
+        bank.stop()
+    count = bank.count
+    cents = ", ".join(f"{name} {reply['balance']}" for name, reply in zip(ACCOUNTS, balances))
+    return (f"seed {asked.seed}: {bank.sites} sites, {count['events']:,} events answered, {count['kills']} kills "
+            f"({count['in a write']} in a write), {count['torn']} torn ends,\n"
+            f"  {count['unreported']:,} entries recorded and not reported, {count['lost']:,} messages lost, "
+            f"{count['repeats']:,} repeats.\n"
+            f"  All sites have {cents} after {operations:,} operations; the audit orders {entries:,} entries.")
+
+
+def options():
+    reader = argparse.ArgumentParser(description=__doc__, formatter_class=argparse.RawDescriptionHelpFormatter)
+    reader.add_argument("program", metavar="PROGRAM", help="a built rbbank")
+    reader.add_argument("--kills", metavar="N", type=int, default=300, help="so many ends of a process, 300")
+    reader.add_argument("--sites", metavar="N", type=int, choices=range(2, 9), help="2 to 8; else 3 to 5 by the seed")
+    reader.add_argument("--seed", metavar="N", type=int, help="another seed makes other choices; else by the clock")
+    reader.add_argument("--folder", metavar="PATH", help="an empty folder for the journals, which stay there")
+    asked = reader.parse_args()
+    if not os.access(asked.program, os.X_OK) or os.path.isdir(asked.program):
+        reader.error(f"{asked.program}: no program")
+    if asked.folder and os.path.exists(asked.folder) and (not os.path.isdir(asked.folder) or os.listdir(asked.folder)):
+        reader.error(f"{asked.folder}: no empty folder")
+    asked.seed = int(time.time()) % 10**6 if asked.seed is None else asked.seed
+    return asked
+
+
+def main():
+    asked = options()
+    if asked.folder:
+        os.makedirs(asked.folder, exist_ok=True)
+    folder = asked.folder or tempfile.mkdtemp(prefix="crash-")
+    try:
+        print(run(asked, folder))
+    except Failed as why:
+        print(f"crash: {why}\nseed {asked.seed}; the journals are in {folder}")
+        return 1
+    except KeyboardInterrupt:
+        return 130
+    if not asked.folder:
+        shutil.rmtree(folder)
+    return 0
+
+
+if __name__ == "__main__":
+    sys.exit(main())
