@@ -84,7 +84,7 @@ crash: build
 
 # Three sites over mosquitto.
 broker: build
-	@examples/broker/three_sites.py crates/rbbank/out/rbbank
+	@examples/broker/three_sites.sh crates/rbbank/out/rbbank
 
 # Each allocation of the program and of four tests refused in turn (docs/GATE.md, "Beside the gate").
 refuse: build
