@@ -340,8 +340,10 @@ def of_the_page(sites):
         os.makedirs(os.path.join(folder, "bin"))
         os.symlink(os.path.abspath(sites.program), os.path.join(folder, "bin", "rbbank"))
         path = os.pathsep.join([os.path.join(folder, "bin"), EXAMPLES, os.environ["PATH"]])
-        run = subprocess.run(["bash", "-c", "\n".join(given)], cwd=folder, capture_output=True, timeout=60,
-                             env={**os.environ, "PATH": path})
+        # As in an interactive shell, each job is a process group of its own, which `kill %1` ends.
+        script = "\n".join(["set -m; trap 'kill %1 %2' EXIT", *given])
+        run = subprocess.run(["timeout", "60", "bash", "-c", script], cwd=folder, stdout=subprocess.PIPE,
+                             stderr=subprocess.DEVNULL, env={**os.environ, "PATH": path})
     yield "the pipes of docs/RUNNING.md", run.stdout.decode().splitlines() == told and told != []
 
 
