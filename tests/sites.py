@@ -17,6 +17,8 @@ import subprocess
 import sys
 import tempfile
 
+from site_process import read, whole_lines
+
 ROOT = os.path.dirname(os.path.dirname(os.path.abspath(__file__)))
 EXAMPLES = os.path.join(ROOT, "examples")
 BANK = b'{"accounts":[["ann",0]],"sites":2,"version":1}\n'
@@ -85,22 +87,9 @@ class Sites:
         return run.stdout or b"", run.stderr.decode(), run.returncode
 
 
-def read(path):
-    with open(path, "rb") as file:
-        return file.read()
-
-
 def write(path, data):
     with open(path, "wb") as file:
         file.write(data)
-
-
-def whole_lines(data):
-    """The lines that a journal stands for: whole ones, up to the first that doesn't begin with a brace."""
-    end = 0
-    while data[end:end + 1] == b"{" and b"\n" in data[end:]:
-        end = data.index(b"\n", end) + 1
-    return data[:end]
 
 
 def entries(journal):
@@ -327,24 +316,22 @@ def large_batch(sites):
 
 
 def of_the_page(sites):
-    """The pipes of docs/RUNNING.md, pasted into a shell."""
+    """The pipes of docs/RUNNING.md, pasted into a shell, print what the page says."""
     with open(os.path.join(ROOT, "docs", "RUNNING.md"), encoding="utf-8") as page:
-        found = re.search(r"\n    mkfifo (?:.*\n)+?(?=\n?\S)", page.read())
-    if shutil.which("bash") is None or found is None:
+        blocks = re.findall(r"(?:^    .*\n)+", page.read(), flags=re.M)
+    at = next(n for n, block in enumerate(blocks) if block.startswith("    mkfifo "))
+    given, told = (re.sub("(?m)^    ", "", block) for block in blocks[at:at + 2])
+    if shutil.which("bash") is None:
         return
-    given, told = [], []
-    for line in found.group().splitlines():
-        text = line.removeprefix("    ")
-        (told if text.startswith("{\"") else given).append(text)
     with tempfile.TemporaryDirectory() as folder:
         os.makedirs(os.path.join(folder, "bin"))
         os.symlink(os.path.abspath(sites.program), os.path.join(folder, "bin", "rbbank"))
         path = os.pathsep.join([os.path.join(folder, "bin"), EXAMPLES, os.environ["PATH"]])
         # As in an interactive shell, each job is a process group of its own, which `kill %1` ends.
-        script = "\n".join(["set -m; trap 'kill %1 %2' EXIT", *given])
+        script = "set -m; trap 'kill %1 %2' EXIT\n" + given
         run = subprocess.run(["timeout", "60", "bash", "-c", script], cwd=folder, stdout=subprocess.PIPE,
                              stderr=subprocess.DEVNULL, env={**os.environ, "PATH": path})
-    yield "the pipes of docs/RUNNING.md", run.stdout.decode().splitlines() == told and told != []
+    yield "the pipes of docs/RUNNING.md", run.stdout.decode() == told
 
 
 PARTS = [same_however_read, torn, audited, refused_journals, used_twice, failed, unwritten, lines_at_fault,
