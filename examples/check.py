@@ -69,7 +69,10 @@ def shown(program, command):
 def helps(program, command):
     """Whether the input that help shows is answered as it shows. An audit's answer is the first of those it lists."""
     given, told = shown(program, command)
-    run = subprocess.run([program, command], input=given.replace("\n  ", "\n")[2:], capture_output=True, text=True)
+    with tempfile.TemporaryDirectory() as folder:
+        options = ["--me", "0", "--journal", os.path.join(folder, "journal")] if command == "site" else []
+        words = [program, command, *options]
+        run = subprocess.run(words, input=given.replace("\n  ", "\n")[2:], capture_output=True, text=True)
     if command == "audit":
         told = told.split("   ")[0] + "\n"
     return (run.stdout, run.stderr, run.returncode) == (told.replace("\n  ", "\n")[2:], "", 0)
@@ -92,12 +95,15 @@ def tellers(program, sites, count):
 
 def main():
     words = [word for word in sys.argv[1:] if word != "--quiet"]
-    if len(words) != 1:
-        sys.exit(__doc__)
+    if len(words) != 1 or words[0] in ("-h", "--help"):
+        print(__doc__)
+        sys.exit(0 if words in (["--help"], ["-h"]) else 2)
+    if not os.access(words[0], os.X_OK) or os.path.isdir(words[0]):
+        sys.exit(f"check: {words[0]}: no program")
     paths = sorted(glob.glob(os.path.join(HERE, "*.jsonl")))
     same = [is_same(words[0], path) for path in paths]
     results = list(zip(map(os.path.basename, paths), same))
-    results += [(command + " --help", helps(words[0], command)) for command in ["script", "audit", "migrate"]]
+    results += [(command + " --help", helps(words[0], command)) for command in ["script", "audit", "migrate", "site"]]
     results.append(("--version", tells_version(words[0])))
     for sites, count in [(2, 1), (3, 4), (8, 16), (16, 16)]:
         results.append((f"threads at {sites} sites, audited", tellers(words[0], sites, count)))
@@ -107,4 +113,4 @@ def main():
     sys.exit(0 if all(same for _, same in results) else 1)
 
 
-main()
+bank.stops_in_words("check", main)

@@ -22,7 +22,7 @@ import picture
 
 PICTURES = os.path.join(bank.ROOT, "docs", "pictures")
 TESTS = os.path.join(bank.ROOT, "tests")
-SCRIPTS = ["draw.py", "explain.py", "demo.py", "bank.py", "check_drawings.py"]
+SCRIPTS = ["draw.py", "explain.py", "demo.py", "bank.py", "check.py", "check_drawings.py", "wire.py"]
 
 
 def examples():

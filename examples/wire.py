@@ -60,6 +60,16 @@ def compact(value):
     return json.dumps(value, separators=(",", ":"), sort_keys=True)
 
 
+def parsed(line):
+    """The messages and the replies of a site's line."""
+    try:
+        answer = json.loads(line)
+        messages = [message for message in answer["sends"] if "shadow" in message or len(message["token"]) == 3]
+        return messages, [answer["reply"], *answer["then"]] if "reply" in answer else []
+    except (ValueError, KeyError, TypeError):
+        sys.exit(f"wire: this is no line of a site: {line.strip()[:200]}")
+
+
 def carry(message, wires):
     """Gives a message to the sites that it is for: the token to its addressee, an operation to all."""
     for site, wire in wires.items():
@@ -73,11 +83,7 @@ def main():
     others = [site for site in range(asked.sites) if site != asked.me]
     wires = {site: Wire(asked.to.replace("{}", str(site))) for site in others}
     for line in sys.stdin:
-        try:
-            answer = json.loads(line)
-            messages, replies = answer["sends"], [answer["reply"], *answer["then"]] if "reply" in answer else []
-        except (ValueError, KeyError, TypeError):
-            sys.exit(f"wire: this is no line of a site: {line.strip()[:200]}")
+        messages, replies = parsed(line)
         for message in messages:
             carry(message, wires)
         for reply in replies:
