@@ -27,6 +27,7 @@ from collections import Counter
 from site_process import Failed, Site, compact, name_of, names_of, read
 
 LOST, REPEATED = 0.05, 0.1  # of the messages, how many the router loses, and how many it delivers once more
+LONGEST = 300  # messages on their way to a site, beyond which the router loses them
 MOST_BYTES = 40_000  # of the lines that are given at once, so that a pipe takes them
 LIMITED = 0.15  # of the starts, how many have a limit on the file's size
 AT_THE_START = 0.1  # of the ends, how many come while a site starts
@@ -40,15 +41,22 @@ def addressees(message, sites, sender):
     return [site for site in range(sites) if site != sender]
 
 
+def behind(message):
+    """How many operations its home had applied before a message's operation: fewer than before any that rests on it."""
+    blue, red = message["shadow"]["deps"] if "shadow" in message else ([], 0)
+    return sum(blue) + red
+
+
 class Clients:
-    """What clients ask for: everything, of any site."""
+    """What clients ask for: everything, of any site, and of the one with the token more often what needs it."""
 
     def __init__(self, pick, sites):
-        self.pick, self.sites, self.names = pick, sites, []
+        self.pick, self.sites, self.names, self.holder = pick, sites, [], 0
 
-    def request(self):
+    def request(self, site):
         pick, account = self.pick, self.pick.choice(ACCOUNTS)
-        verb = pick.choices(["deposit", "withdraw", "interest", "transfer", "cancel"], [6, 3, 1, 2, 2])[0]
+        weights = [4, 4, 1, 3, 3] if site == self.holder else [6, 1, 1, 1, 1]
+        verb = pick.choices(["deposit", "withdraw", "interest", "transfer", "cancel"], weights)[0]
         if verb == "cancel" and self.names:
             return {"cancel": pick.choice(self.names[-40:])}
         if verb == "transfer":
@@ -59,14 +67,14 @@ class Clients:
             return {"interest": [account, pick.randrange(30)]}
         return {"deposit": [account, 1 + pick.randrange(900)]}
 
-    def event(self):
+    def event(self, site):
         pick, account = self.pick, self.pick.choice(ACCOUNTS)
         other = pick.random()
         if other < 0.7:
-            return self.request()
+            return self.request(site)
         if other < 0.8:
-            return {"batch": [self.request() for _ in range(pick.randrange(5))]}
-        if other < 0.88:
+            return {"batch": [self.request(site) for _ in range(pick.randrange(5))]}
+        if other < (0.88 if site == self.holder else 0.81):
             return {"pass": pick.randrange(self.sites)}
         if other < 0.94:
             return {"balance": account}
@@ -74,9 +82,11 @@ class Clients:
             return {"asof": [account, pick.randrange(60)]}
         return {"apply": f"B0.{1 + pick.randrange(99)}"} if other < 0.99 else {"statement": account}
 
-    def hear(self, reply):
-        """Notes which operations there are to cancel."""
+    def hear(self, site, reply):
+        """Notes which operations there are to cancel, and where the token is."""
         self.names += [reply["name"]] if "kind" in reply else reply.get("names", [])
+        if "taken" in reply or "passed" in reply:
+            self.holder = site if "taken" in reply else None
 
 
 class Bank:
@@ -99,7 +109,7 @@ class Bank:
         """Puts messages on their way. Some are lost."""
         for message in messages:
             for site in addressees(message, self.sites, sender):
-                if self.lossy and self.pick.random() < LOST:
+                if self.lossy and (len(self.wires[site]) >= LONGEST or self.pick.random() < LOST):
                     self.count["lost"] += 1
                 else:
                     self.wires[site].append(message)
@@ -120,7 +130,7 @@ class Bank:
         while len(given) < number and size < MOST_BYTES:
             wire = self.wires[site.number]
             comes = wire and self.pick.random() < (0.5 if len(wire) < 60 else 0.95)
-            given.append(self.arrives(wire) if comes else self.clients.event())
+            given.append(self.arrives(wire) if comes else self.clients.event(site.number))
             size += len(compact(given[-1])) + 1
         return given
 
@@ -131,7 +141,7 @@ class Bank:
         size = os.path.getsize(site.journal) if os.path.exists(site.journal) else 0
         limited = self.pick.random() < LIMITED
         limit = size + self.pick.randrange(6000) if limited else None
-        site.start(self.pick.choice([None, 0, 1, 20]), limit, self.pick.random() < 0.5)
+        site.start(self.pick.choices([None, 0, 1, 20], [1, 4, 2, 3])[0], limit, self.pick.random() < 0.5)
         if self.pick.random() < AT_THE_START:
             time.sleep(self.pick.random() * 0.01)
             self.ends(site)
@@ -184,10 +194,9 @@ class Bank:
             done = {reply for line in site.entries + site.wanted for reply in names_of(json.loads(line)["reply"])}
             left = [message for message in wire if name_of(message) not in done]
             delivered = delivered or bool(left)
-            left.sort(key=lambda message: int(name_of(message).split(".")[-1].strip("R token")))
+            left.sort(key=behind)
             while left:
-                part, left = left[:30], left[30:]
-                self.pick.shuffle(part)
+                part, left = left[:100], left[100:]
                 site.ask(part)
                 if not site.wait():
                     raise Failed(f"site {site.number} ended by itself")

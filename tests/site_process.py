@@ -10,6 +10,7 @@ import subprocess
 import time
 
 PATIENCE = 60  # seconds for one answer
+JOURNAL_FAILED = "rbbank: journal failed\n"
 
 
 class Failed(Exception):
@@ -136,7 +137,7 @@ class Site:
             event = compact({"apply": reply["applied"]})
             self.wanted.append(f'{{"event":{event},"reply":{compact(reply)},"site":{self.number}}}')
         self.bank.count["events"] += 1
-        self.bank.clients.hear(answer["reply"])
+        self.bank.clients.hear(self.number, answer["reply"])
         self.sends(answer["sends"], sent_by(answer["reply"]))
 
     def wait(self):
@@ -171,10 +172,11 @@ class Site:
         self.process.stdout.close()
         self.process.stderr.close()
         self.process = None
-        known = {0: "", -signal.SIGKILL: ""}
+        known = [(0, ""), (-signal.SIGKILL, "")]
         if self.limit is not None:
-            known |= {-signal.SIGXFSZ: "", 3: "rbbank: journal failed\n"}
-        if known.get(status) != errors:
+            # It may be killed as it says that its journal failed.
+            known += [(-signal.SIGXFSZ, ""), (3, JOURNAL_FAILED), (-signal.SIGKILL, JOURNAL_FAILED)]
+        if (status, errors) not in known:
             raise Failed(f"site {self.number} ended in {status}: {errors}")
         if self.buffered and status in (0, 3):
             raise Failed(f"site {self.number} wrote a line in part: {self.buffered[:200]!r}")
