@@ -204,20 +204,20 @@ class Bank:
 
     def compare(self):
         """All sites have the same balances and operations; an audit orders the journals."""
-        asked, told = [{"balance": name} for name in ACCOUNTS], []
+        asked, answers = [{"balance": name} for name in ACCOUNTS], []
         for site in self.all:
             site.ask(asked)
             if not site.wait():
                 raise Failed(f"site {site.number} ended by itself")
-            told.append([json.loads(line)["reply"] for line in site.wanted[-len(asked):]])
+            answers.append([json.loads(line)["reply"] for line in site.wanted[-len(asked):]])
             site.close()
-        if any(each != told[0] for each in told):
-            raise Failed(f"the sites have different balances: {compact(told)}")
+        if any(each != answers[0] for each in answers):
+            raise Failed(f"the sites have different balances: {compact(answers)}")
         operations = [sorted(name for line in site.entries for name in names_of(json.loads(line)["reply"])
                              if name[0] in "BR") for site in self.all]
         if any(each != operations[0] for each in operations):
             raise Failed("the sites applied different operations")
-        return told[0], len(operations[0])
+        return answers[0], len(operations[0])
 
     def audit(self):
         """Has an audit order the journals: one after another, all but the first without its first line."""

@@ -115,21 +115,21 @@ def torn(sites):
         yield f"no line yet, {number}", sites.run(BANK, tail) == (b"", "", 0, journal[:first] + AT_REST)
     # What is behind goes on from the lines that were left.
     answer, errors, status, after = sites.run(BANK + BALANCE, journal[:-30], resend=0)
-    told = b'{"reply":{"balance":500},"sends":[],"then":[]}\n'
-    yield "a torn journal goes on", (answer, errors, status, after) == (told, "", 0, journal)
+    out = b'{"reply":{"balance":500},"sends":[],"then":[]}\n'
+    yield "a torn journal goes on", (answer, errors, status, after) == (out, "", 0, journal)
 
 
 def restarted(sites, bank, events, resend):
     """The answers of a site that starts again before each line, and its journal."""
     with tempfile.TemporaryDirectory() as folder:
         journal = os.path.join(folder, "journal")
-        told = b""
+        out = b""
         for line in events.splitlines(keepends=True):
             answer, errors, status = sites.at(journal, bank + line, resend=resend)
             if (errors, status) != ("", 0):
                 return None
-            told += answer
-        return told, read(journal)
+            out += answer
+        return out, read(journal)
 
 
 def one_at_a_time(sites, bank, events):
@@ -138,32 +138,32 @@ def one_at_a_time(sites, bank, events):
         journal = os.path.join(folder, "journal")
         run = subprocess.Popen(sites.words(journal), stdin=subprocess.PIPE, stdout=subprocess.PIPE)
         run.stdin.write(bank)
-        told = b""
+        out = b""
         for line in events.splitlines(keepends=True):
             run.stdin.write(line)
             run.stdin.flush()
-            told += run.stdout.readline()
+            out += run.stdout.readline()
         rest, _ = run.communicate()
-        return told + rest, read(journal)
+        return out + rest, read(journal)
 
 
 def same_however_read(sites):
     """A site answers the same however its lines come, and whenever it starts again."""
     bank = b'{"accounts":[["ann",100],["bob",0]],"sites":2,"version":1}\n'
-    told, errors, status, journal = sites.run(bank + EVENTS)
-    lines = told.count(b"\n"), EVENTS.count(b"\n")
+    out, errors, status, journal = sites.run(bank + EVENTS)
+    lines = out.count(b"\n"), EVENTS.count(b"\n")
     yield "each kind of event", (errors, status) == ("", 0) and lines[0] == lines[1] and journal.endswith(b"\n ")
-    yield "one line at a time", one_at_a_time(sites, bank, EVENTS) == (told, journal)
-    yield "started again before each line", restarted(sites, bank, EVENTS, 0) == (told, journal)
+    yield "one line at a time", one_at_a_time(sites, bank, EVENTS) == (out, journal)
+    yield "started again before each line", restarted(sites, bank, EVENTS, 0) == (out, journal)
     again, errors, status, same = sites.run(bank, journal)
-    messages = [message for line in told.splitlines() for message in sent_by(line)]
+    messages = [message for line in out.splitlines() for message in sent_by(line)]
     resent = [message for line in again.splitlines() for message in sent_by(line)]
     fine = (errors, status, same) == ("", 0, journal) and b'"reply"' not in again
     yield "all messages again", fine and messages == resent and len(messages) > 7
     loose = b"\n \t\r\n".join([b"", *bank.splitlines(), *EVENTS.splitlines()])
-    yield "blank lines, and a last line without its end", sites.run(loose) == (told, "", 0, journal)
+    yield "blank lines, and a last line without its end", sites.run(loose) == (out, "", 0, journal)
     config = b' {"version": 1, "sites": 2, "accounts": [["ann", 100], ["bob", 0]]}\n'
-    yield "another writing of the configuration", sites.run(config + EVENTS) == (told, "", 0, journal)
+    yield "another writing of the configuration", sites.run(config + EVENTS) == (out, "", 0, journal)
 
 
 def sent_by(line):
@@ -175,10 +175,10 @@ def sent_by(line):
 def audited(sites):
     """What really happened: the journals one after another, all but the first without its first line."""
     one, two = stored("site_deposit.site.journal"), stored("site_receives.site.journal")
-    for name, given, told in [("site 0 first", one + entries(two), b"[0,0,1,1,1]"),
+    for name, given, out in [("site 0 first", one + entries(two), b"[0,0,1,1,1]"),
                               ("site 1 first", two + entries(one), b"[0,0,1,1,1]"), ("site 0 alone", one, b"[0,0]")]:
         run = subprocess.run([sites.program, "audit"], input=given, capture_output=True)
-        yield f"audit of journals, {name}", (run.stdout, run.stderr) == (b'{"order":' + told + b"}\n", b"")
+        yield f"audit of journals, {name}", (run.stdout, run.stderr) == (b'{"order":' + out + b"}\n", b"")
 
 
 def refused_journals(sites):
@@ -223,12 +223,12 @@ def used_twice(sites):
         first = subprocess.Popen(sites.words(journal), stdin=subprocess.PIPE, stdout=subprocess.PIPE)
         first.stdin.write(BANK + b'{"deposit":["ann",500]}\n')
         first.stdin.flush()
-        told = first.stdout.readline()
+        out = first.stdout.readline()
         before = read(journal)
         second = sites.at(journal, BANK + BALANCE)
         yield "a second process", second == (b"", "rbbank: journal is in use\n", 2) and read(journal) == before
         rest, _ = first.communicate(BALANCE)
-        fine = told + rest == stored("site_deposit.site.expected")
+        fine = out + rest == stored("site_deposit.site.expected")
         yield "the first goes on", fine and read(journal) == stored("site_deposit.site.journal")
         yield "another behind it", sites.at(journal, BANK, resend=0) == (b"", "", 0)
 
@@ -262,7 +262,7 @@ def unwritten(sites):
 
 def lines_at_fault(sites):
     """Faults of lines are those of a script; what was answered before is in the journal."""
-    journal, told = stored("site_bad_line.site.journal"), stored("site_bad_line.site.expected")
+    journal, out = stored("site_bad_line.site.journal"), stored("site_bad_line.site.expected")
     deposit = BANK + b'{"deposit":["ann",500]}\n'
     cases = {
         "a command with a site": (b'{"balance":"ann","site":0}\n', "line 3: bad line"),
@@ -274,7 +274,7 @@ def lines_at_fault(sites):
         "a line too long, without its end": (b"x" * (LINE_LIMIT + 1), "line 3: line too long"),
     }
     for name, (given, fault) in cases.items():
-        yield f"fault: {name}", sites.run(deposit + given + BALANCE) == (told, f"rbbank: {fault}\n", 2, journal)
+        yield f"fault: {name}", sites.run(deposit + given + BALANCE) == (out, f"rbbank: {fault}\n", 2, journal)
     longest = b'{"balance":"ann"}'.ljust(LINE_LIMIT) + b"\n"
     both = stored("site_deposit.site.expected"), "", 0, stored("site_deposit.site.journal")
     yield "the longest line", sites.run(deposit + longest) == both
@@ -300,18 +300,18 @@ def many_sites(sites):
     """The last of sixteen sites, whose lines are those of version 2."""
     bank = b'{"accounts":[["ann",0]],"sites":16,"version":2}\n'
     shadow = b'{"shadow":{"account":"ann","amount":500,"deps":[[],0],"home":15,"kind":"deposit","name":"B15.1"}}'
-    told = b'{"reply":{"kind":"deposit","name":"B15.1"},"sends":[' + shadow + b'],"then":[]}\n'
+    out = b'{"reply":{"kind":"deposit","name":"B15.1"},"sends":[' + shadow + b'],"then":[]}\n'
     answer = sites.run(bank + b'{"deposit":["ann",500]}\n', me=15)
-    yield "the last of sixteen sites", answer[:3] == (told, "", 0)
+    yield "the last of sixteen sites", answer[:3] == (out, "", 0)
 
 
 def large_batch(sites):
     """Many lines in one read are answered as a script answers them, and one entry each is in the journal."""
     count = 20_000
     given = BANK + b'{"deposit":["ann",1]}\n' * count + BALANCE
-    told, errors, status, journal = sites.run(given)
+    out, errors, status, journal = sites.run(given)
     last = b'{"reply":{"balance":%d},"sends":[],"then":[]}' % count
-    fine = (errors, status) == ("", 0) and told.splitlines()[-1] == last and told.count(b"\n") == count + 1
+    fine = (errors, status) == ("", 0) and out.splitlines()[-1] == last and out.count(b"\n") == count + 1
     yield "many lines at once", fine and journal.count(b"\n") == count + 2 and journal.endswith(b"\n ")
 
 
@@ -320,7 +320,7 @@ def of_the_page(sites):
     with open(os.path.join(ROOT, "docs", "RUNNING.md"), encoding="utf-8") as page:
         blocks = re.findall(r"(?:^    .*\n)+", page.read(), flags=re.M)
     at = next(n for n, block in enumerate(blocks) if block.startswith("    mkfifo "))
-    given, told = (re.sub("(?m)^    ", "", block) for block in blocks[at:at + 2])
+    given, out = (re.sub("(?m)^    ", "", block) for block in blocks[at:at + 2])
     if shutil.which("bash") is None:
         return
     with tempfile.TemporaryDirectory() as folder:
@@ -331,7 +331,7 @@ def of_the_page(sites):
         script = "set -m; trap 'kill %1 %2' EXIT\n" + given
         run = subprocess.run(["timeout", "60", "bash", "-c", script], cwd=folder, stdout=subprocess.PIPE,
                              stderr=subprocess.DEVNULL, env={**os.environ, "PATH": path})
-    yield "the pipes of docs/RUNNING.md", run.stdout.decode() == told
+    yield "the pipes of docs/RUNNING.md", run.stdout.decode() == out
 
 
 PARTS = [same_however_read, torn, audited, refused_journals, used_twice, failed, unwritten, lines_at_fault,
