@@ -44,7 +44,7 @@ def addressees(message, sites, sender):
 def behind(message):
     """How many operations its home had applied before a message's operation: fewer than before any that rests on it."""
     blue, red = message["shadow"]["deps"] if "shadow" in message else ([], 0)
-    return sum(blue) + red
+    return sum(count[1] if isinstance(count, list) else count for count in blue) + red
 
 
 class Clients:
@@ -96,8 +96,9 @@ class Bank:
         self.program, self.folder = os.path.abspath(asked.program), folder
         self.pick = random.Random(asked.seed)
         self.sites = asked.sites or 3 + self.pick.randrange(3)
-        inbox = self.pick.choice([40, 4096])
-        config = {"accounts": [[name, 1000] for name in ACCOUNTS], "inbox": inbox, "sites": self.sites, "version": 1}
+        inbox, version = self.pick.choice([40, 4096]), self.pick.choice([1, 2])
+        config = {"accounts": [[name, 1000] for name in ACCOUNTS], "inbox": inbox, "sites": self.sites,
+                  "version": version}
         self.config = compact(config)
         self.written = compact({"blue": 10**6, "epoch": 4 * 10**9, "history": 10**8, "red": 10**6} | config)
         self.clients = Clients(self.pick, self.sites)

@@ -5,7 +5,7 @@ usage: sites.py [--quiet] PROGRAM      (--quiet prints only what is different)
 
 A journal cut at each byte, and with any bytes behind its space; a restart after each line; lines one at a time and all
 at once; another bank's journal; a folder, a device and a full disk as journal; a second process; output that can't be
-written; wrong words; the pipes that docs/RUNNING.md shows.
+written; wrong words; where strace is there, the order of writes and syncs; the pipes that docs/RUNNING.md shows.
 """
 import os
 import random
@@ -315,6 +315,44 @@ def large_batch(sites):
     yield "many lines at once", fine and journal.count(b"\n") == count + 2 and journal.endswith(b"\n ")
 
 
+def calls_of(sites, given, before):
+    """The calls of a site on its journal and its output, in order, each with what is behind its file: writes, cuts,
+    syncs and output. None where strace can't see them."""
+    with tempfile.TemporaryDirectory() as folder:
+        journal, trace = os.path.join(folder, "journal"), os.path.join(folder, "trace")
+        write(journal, before)
+        watched = "trace=pwrite64,write,writev,fdatasync,fsync,ftruncate"
+        words = ["strace", "-f", "-s", "8", "-e", watched, "-o", trace, *sites.words(journal, resend=0)]
+        run = subprocess.run(words, input=given, capture_output=True, timeout=60)
+        lines = read(trace).decode() if run.returncode == 0 else ""
+    found = re.findall(r"(pwrite64|write|fdatasync|fsync|ftruncate)v?\((\d+)(.*)\) += \d+", lines)
+    return [(call, rest) for call, fd, rest in found if call != "write" or fd == "1"]
+
+
+def in_order(sites):
+    """A batch is on the disk before its first byte is written, and that byte before anything is reported. No kill can
+    show it, since what was written outlives the process; the calls do."""
+    if shutil.which("strace") is None:
+        return
+    journal = stored("site_deposit.site.journal")
+    for name, before in [("a journal at rest", journal), ("a torn journal", journal[:-20]), ("a new journal", b"")]:
+        calls = calls_of(sites, BANK + b'{"deposit":["ann",500]}\n' + BALANCE, before)
+        if calls:
+            yield f"calls on {name}", is_in_order(calls)
+
+
+def is_in_order(calls):
+    """Whether each sync comes before what rests on it, for one batch whose output is the last call."""
+    unsynced = opened = False
+    for call, rest in calls:
+        first_byte = call == "pwrite64" and rest.startswith(', "{", 1,')
+        if unsynced and (first_byte or call == "write") or call == "write" and not opened:
+            return False
+        unsynced = call in ("pwrite64", "ftruncate")
+        opened = first_byte if call == "pwrite64" else opened
+    return calls[-1][0] == "write"
+
+
 def of_the_page(sites):
     """The pipes of docs/RUNNING.md, pasted into a shell, print what the page says."""
     with open(os.path.join(ROOT, "docs", "RUNNING.md"), encoding="utf-8") as page:
@@ -335,7 +373,7 @@ def of_the_page(sites):
 
 
 PARTS = [same_however_read, torn, audited, refused_journals, used_twice, failed, unwritten, lines_at_fault,
-         words_at_fault, many_sites, large_batch, of_the_page]
+         words_at_fault, many_sites, large_batch, in_order, of_the_page]
 
 
 def results(program):
