@@ -64,7 +64,7 @@ test: toolchain
 	@tests/cases.py --quiet crates/rbbank/out/rbbank
 	@examples/from_help.py --check crates/rbbank/out/rbbank
 	@tests/sites.py --quiet crates/rbbank/out/rbbank
-	@tests/crash.py crates/rbbank/out/rbbank --kills 20 --seed 1
+	@tests/crash.py --quiet crates/rbbank/out/rbbank --kills 20 --seed 1
 
 # Whether README.md names this machine's toolchain, as one that every crate was proved with.
 toolchain:

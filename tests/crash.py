@@ -268,6 +268,7 @@ def options():
     reader.add_argument("--kills", metavar="N", type=int, default=300, help="so many ends of a process, 300")
     reader.add_argument("--sites", metavar="N", type=int, choices=range(2, 9), help="2 to 8; else 3 to 5 by the seed")
     reader.add_argument("--seed", metavar="N", type=int, help="another seed makes other choices; else by the clock")
+    reader.add_argument("--quiet", action="store_true", help="print only what failed")
     reader.add_argument("--folder", metavar="PATH", help="an empty folder for the journals, which stay there")
     asked = reader.parse_args()
     if not os.access(asked.program, os.X_OK) or os.path.isdir(asked.program):
@@ -284,12 +285,14 @@ def main():
         os.makedirs(asked.folder, exist_ok=True)
     folder = asked.folder or tempfile.mkdtemp(prefix="crash-")
     try:
-        print(run(asked, folder))
+        happened = run(asked, folder)
     except Failed as why:
         print(f"crash: {why}\nseed {asked.seed}; the journals are in {folder}")
         return 1
     except KeyboardInterrupt:
         return 130
+    if not asked.quiet:
+        print(happened, flush=True)
     if not asked.folder:
         shutil.rmtree(folder)
     return 0
