@@ -25,7 +25,7 @@ BANK = b'{"accounts":[["ann",0]],"sites":2,"version":1}\n'
 BALANCE = b'{"balance":"ann"}\n'
 AT_REST = b" "
 LINE_LIMIT = 1_048_576  # bytes of a line without its line feed (docs/FORMAT.md)
-MEMORY = 1 << 30  # bytes that a site may take here
+MEMORY = 1 << 30  # bytes that a site may take whose journal is a device without an end
 # Each kind of event at site 0 of two: made, refused, received, held, applied and passed.
 EVENTS = b"""{"deposit":["ann",500]}
 {"withdraw":["ann",200]}
@@ -75,10 +75,11 @@ class Sites:
             at, errors, status = self.at(journal, given, limit, signals, output, **words)
             return at, errors, status, read(journal) if os.path.exists(journal) else None
 
-    def at(self, journal, given, limit=None, signals=True, output=subprocess.PIPE, **words):
+    def at(self, journal, given, limit=None, signals=True, output=subprocess.PIPE, memory=None, **words):
         """The same for a journal that is there."""
         def bounds():
-            resource.setrlimit(resource.RLIMIT_AS, (MEMORY, MEMORY))
+            if memory is not None:
+                resource.setrlimit(resource.RLIMIT_AS, (memory, memory))
             if limit is not None:
                 signal.signal(signal.SIGXFSZ, signal.SIG_DFL if signals else signal.SIG_IGN)
                 resource.setrlimit(resource.RLIMIT_FSIZE, (limit, limit))
@@ -239,7 +240,7 @@ def failed(sites):
     with tempfile.TemporaryDirectory() as folder:
         yield "a folder as journal", sites.at(folder, BANK) == failure
         yield "a journal in no folder", sites.at(os.path.join(folder, "no", "journal"), BANK) == failure
-    yield "a full device as journal", sites.at("/dev/full", BANK) == failure
+    yield "a full device as journal", sites.at("/dev/full", BANK, memory=MEMORY) == failure
     journal = stored("site_deposit.site.journal")
     deposits = BANK + b'{"deposit":["ann",1]}\n' * 40
     for more in [1, 2, 50, 500]:
