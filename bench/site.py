@@ -1,6 +1,6 @@
 #!/usr/bin/env python3
-"""Measures `rbbank site`: events a second by lines a read, on a disk and in memory; bytes of the journal; how long a start
-takes beside an audit of the same journal; and instructions an event beside the same commands in a script.
+"""Measures `rbbank site`: events a second by lines a read, on a disk and in memory; bytes of the journal; how long a
+start takes beside an audit of the same journal; and instructions an event beside the same commands in a script.
 
 README.md says what each number is.
 """
