@@ -1,4 +1,4 @@
-.PHONY: help demo try build install test toolchain check examples bench refuse wrong-bodies
+.PHONY: help demo try build install test toolchain check examples bench refuse wrong-bodies crash broker
 
 help:
 	@echo 'At once:'
@@ -19,6 +19,8 @@ help:
 	@echo '                     the mutants of a crate that the gate leaves out; without CRATE all of them, some hours'
 	@echo '  make refuse        each allocation of the program and of four tests refused in turn'
 	@echo '  make bench         the measurements of bench/README.md, some ten minutes'
+	@echo '  make crash         sites ended at random moments, over and over, and started again; some minutes'
+	@echo '  make broker        three sites over the message broker mosquitto, if it is installed'
 
 # The stored run, drawn, each command beside its reply.
 demo:
@@ -48,6 +50,7 @@ examples: build
 	@examples/check_drawings.py crates/rbbank/out/rbbank
 	@tests/cases.py crates/rbbank/out/rbbank
 	@examples/from_help.py --check crates/rbbank/out/rbbank
+	@tests/sites.py crates/rbbank/out/rbbank
 
 # The gate. The last line is 'N passed, 0 failed', or an example or a case that is answered otherwise.
 test: toolchain
@@ -61,6 +64,8 @@ test: toolchain
 	@examples/check_drawings.py --quiet crates/rbbank/out/rbbank
 	@tests/cases.py --quiet crates/rbbank/out/rbbank
 	@examples/from_help.py --check crates/rbbank/out/rbbank
+	@tests/sites.py --quiet crates/rbbank/out/rbbank
+	@tests/crash.py --quiet crates/rbbank/out/rbbank --kills 20 --seed 1
 
 # Whether README.md names this machine's toolchain, as one that every crate was proved with.
 toolchain:
@@ -73,6 +78,14 @@ check:
 # The measurements of bench/README.md.
 bench: build
 	@bench/run.py crates/rbbank/out/rbbank
+
+# Sites ended at random moments and started again: three, four and five of them.
+crash: build
+	@for sites in 3 4 5; do tests/crash.py crates/rbbank/out/rbbank --kills 300 --sites $$sites || exit 1; done
+
+# Three sites over mosquitto.
+broker: build
+	@examples/broker/three_sites.sh crates/rbbank/out/rbbank
 
 # Each allocation of the program and of four tests refused in turn (docs/GATE.md, "Beside the gate").
 refuse: build

@@ -41,9 +41,9 @@ def refused(program, word, path):
         return sum(b'"refused"' in line or b'"fault"' in line for line in run.stdout)
 
 
-def instructions(program, word, path):
+def instructions(program, word, path, *more):
     """How many instructions a run takes, by callgrind, or None where it can't tell."""
-    words = ["valgrind", "--tool=callgrind", "--callgrind-out-file=/dev/null", program, word]
+    words = ["valgrind", "--tool=callgrind", "--callgrind-out-file=/dev/null", program, word, *more]
     with open(path, "rb") as script:
         done = subprocess.run(words, stdin=script, capture_output=True, env=os.environ | {"GLIBC_TUNABLES": NO_REP})
     told = re.search(rb"Collected : (\d+)", done.stderr)

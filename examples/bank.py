@@ -121,14 +121,17 @@ def tried():
 
 
 def word_of(path):
-    """The command for a file, by its name as in this folder: NAME.histories.jsonl, NAME.migration.jsonl, or a script."""
-    return {"histories": "audit", "migration": "migrate"}.get(path.removesuffix(".jsonl").rpartition(".")[2], "script")
+    """The command for a file, by its name as in this folder: NAME.COMMAND.jsonl, or a script."""
+    commands = {"histories": "audit", "migration": "migrate", "site": "site"}
+    return commands.get(path.removesuffix(".jsonl").rpartition(".")[2], "script")
 
 
 def try_file(path):
     """Runs a file with no proof, prints what the program answers, and gives its status."""
-    data = read(path)
-    run = tried().run(word_of(path), data)
+    data, word = read(path), word_of(path)
+    if word == "site":
+        raise Stop(f"{path}: the lines of a site, which wants a journal as well; examples/check.py runs it")
+    run = tried().run(word, data)
     print("\n".join(run.replies))
     if run.error:
         print(run.error, file=sys.stderr)

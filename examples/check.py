@@ -1,7 +1,7 @@
 #!/usr/bin/env python3
-"""Runs every script, all histories and every migration of this folder through a built program, and compares what it
-writes, what it says on standard error, and its status. What the program's own help shows is run as well, its version
-is looked at, and a run of tellers is audited.
+"""Runs every script, all histories, every migration and every site of this folder through a built program, and compares
+what it writes, what it says on standard error, its status, and a site's journal. What the program's own help shows is
+run as well, its version is looked at, and a run of tellers is audited.
 
 usage: check.py [--quiet] PROGRAM      (--quiet tells only what is different)
 """
@@ -10,6 +10,7 @@ import os
 import re
 import subprocess
 import sys
+import tempfile
 
 import bank
 
@@ -35,6 +36,29 @@ def answered(program, path):
     return run.stdout, run.stderr, run.returncode
 
 
+def site_answered(program, path):
+    """What a site writes, and its journal at the end, which begins as the example has it."""
+    stem = path.removesuffix(".jsonl")
+    before = stored(stem + ".before", None)
+    with tempfile.TemporaryDirectory() as folder, open(path, "rb") as given:
+        journal = os.path.join(folder, "journal")
+        if before is not None:
+            with open(journal, "wb") as file:
+                file.write(before)
+        words = [program, "site", *stored(stem + ".words", b"").decode().split(), "--journal", journal]
+        run = subprocess.run(words, stdin=given, capture_output=True)
+        return (run.stdout, run.stderr, run.returncode), stored(journal, None)
+
+
+def is_same(program, path):
+    """Whether an example is answered as it is stored. A journal is compared where one is stored."""
+    stem = path.removesuffix(".jsonl")
+    if bank.word_of(path) != "site":
+        return answered(program, path) == expected(stem)
+    run, journal = site_answered(program, path)
+    return run == expected(stem) and journal == stored(stem + ".journal", journal)
+
+
 def shown(program, command):
     """The parts of a command's help that stand further in: its worked input, and the answer. What stands still further
     in is the rest of the line above it."""
@@ -45,7 +69,10 @@ def shown(program, command):
 def helps(program, command):
     """Whether the input that help shows is answered as it shows. An audit's answer is the first of those it lists."""
     given, told = shown(program, command)
-    run = subprocess.run([program, command], input=given.replace("\n  ", "\n")[2:], capture_output=True, text=True)
+    with tempfile.TemporaryDirectory() as folder:
+        options = ["--me", "0", "--journal", os.path.join(folder, "journal")] if command == "site" else []
+        words = [program, command, *options]
+        run = subprocess.run(words, input=given.replace("\n  ", "\n")[2:], capture_output=True, text=True)
     if command == "audit":
         told = told.split("   ")[0] + "\n"
     return (run.stdout, run.stderr, run.returncode) == (told.replace("\n  ", "\n")[2:], "", 0)
@@ -68,12 +95,15 @@ def tellers(program, sites, count):
 
 def main():
     words = [word for word in sys.argv[1:] if word != "--quiet"]
-    if len(words) != 1:
-        sys.exit(__doc__)
+    if len(words) != 1 or words[0] in ("-h", "--help"):
+        print(__doc__)
+        sys.exit(0 if words in (["--help"], ["-h"]) else 2)
+    if not os.access(words[0], os.X_OK) or os.path.isdir(words[0]):
+        sys.exit(f"check: {words[0]}: no program")
     paths = sorted(glob.glob(os.path.join(HERE, "*.jsonl")))
-    same = [answered(words[0], path) == expected(path.removesuffix(".jsonl")) for path in paths]
+    same = [is_same(words[0], path) for path in paths]
     results = list(zip(map(os.path.basename, paths), same))
-    results += [(command + " --help", helps(words[0], command)) for command in ["script", "audit", "migrate"]]
+    results += [(command + " --help", helps(words[0], command)) for command in ["script", "audit", "migrate", "site"]]
     results.append(("--version", tells_version(words[0])))
     for sites, count in [(2, 1), (3, 4), (8, 16), (16, 16)]:
         results.append((f"threads at {sites} sites, audited", tellers(words[0], sites, count)))
@@ -83,4 +113,4 @@ def main():
     sys.exit(0 if all(same for _, same in results) else 1)
 
 
-main()
+bank.stops_in_words("check", main)

@@ -22,14 +22,14 @@ import picture
 
 PICTURES = os.path.join(bank.ROOT, "docs", "pictures")
 TESTS = os.path.join(bank.ROOT, "tests")
-SCRIPTS = ["draw.py", "explain.py", "demo.py", "bank.py", "check_drawings.py"]
+SCRIPTS = ["draw.py", "explain.py", "demo.py", "bank.py", "check.py", "check_drawings.py", "wire.py"]
 
 
 def examples():
     """The scripts and histories, but for the long run of tellers."""
     for path in sorted(glob.glob(os.path.join(bank.HERE, "*.jsonl"))):
         name = os.path.basename(path).removesuffix(".jsonl")
-        if not name.endswith(".migration") and not name.startswith("tellers"):
+        if not name.endswith((".migration", ".site")) and not name.startswith("tellers"):
             yield name, bank.read(path)
 
 

@@ -79,6 +79,8 @@ def of_histories(found, data, path):
 
 def main():
     asked = options()
+    if bank.word_of(asked.file) == "site":
+        raise bank.Stop(f"{asked.file}: the lines of a site, which wants a journal as well; check.py runs it")
     data = bank.read(asked.file)
     program = bank.program(asked.program)
     found = world.world_of(program, data)

@@ -8,7 +8,8 @@ refused, a yellow band shows where the token is, and a fault of an audit is ring
   ● made   ○ held   ◉ applied   ✕ refused   ◆ token   ? asked   = came again   ║ has the token   [..] balance after it
 
 The replies and balances are the program's. Histories are drawn in the order in which an audit takes them; what it
-can't take comes last. Journals of a running site aren't drawn yet.
+can't take comes last. The journals of sites are such histories, one after another, all but the first without its first
+line.
 """
 import argparse
 import shutil

@@ -153,6 +153,16 @@ def of_histories(found, data):
     for step in found.steps:
         if step.fault:
             yield from of_fault(found, step, data)
+    yield from of_absent(found)
+
+
+def of_absent(found):
+    """Which sites sent what came, and have no entries here: an audit wants the journals of all."""
+    here = {step.site for step in found.steps}
+    homes = {step.event["shadow"]["home"] for step in found.steps if step.fault and "shadow" in step.event}
+    absent = ", ".join(str(home) for home in sorted(homes - here) if home < found.config["sites"])
+    if absent:
+        yield f"No entry of site {absent} is here: an audit wants the histories of all sites together."
 
 
 def status_of(found):

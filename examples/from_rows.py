@@ -51,7 +51,7 @@ def examples():
     """The names of the scripts of this folder that are answered whole."""
     stems = (os.path.basename(path).removesuffix(".jsonl") for path in glob.glob(os.path.join(HERE, "*.jsonl")))
     whole = (stem for stem in stems if not os.path.exists(os.path.join(HERE, stem + ".status")))
-    return sorted(stem for stem in whole if not stem.endswith((".histories", ".migration")))
+    return sorted(stem for stem in whole if not stem.endswith((".histories", ".migration", ".site")))
 
 
 def rows():

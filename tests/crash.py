@@ -1,0 +1,302 @@
+#!/usr/bin/env python3
+"""Ends the sites of a bank at random moments, over and over, and looks whether anything that was reported is lost.
+
+Three to five sites run as processes over pipes. Between them a router delays, reorders, repeats and loses messages;
+clients ask for everything. Processes are ended by SIGKILL at random moments, also while they start, and by a limit on
+the file's size in the middle of a write, and are started again on their journals. After each end the journal has to be
+what it was before, then the entry of each event that was answered, with that very answer, and then a first part of
+those that were given and not answered. What a site sends again as it starts has to be what its journal says it sent.
+At the end all messages are sent again and delivered: all sites then have the same balances and the same operations,
+and an audit orders the journals.
+
+It prints its seed and what happened. The same seed makes the same choices, but no two runs end a process at the same
+moment. The journals stay where --folder says, or where the run fails.
+"""
+import argparse
+import json
+import os
+import random
+import shutil
+import signal
+import subprocess
+import sys
+import tempfile
+import time
+from collections import Counter
+
+from site_process import Failed, Site, compact, name_of, names_of, read
+
+LOST, REPEATED = 0.05, 0.1  # of the messages, how many the router loses, and how many it delivers once more
+LONGEST = 300  # messages on their way to a site, beyond which the router loses them
+MOST_BYTES = 40_000  # of the lines that are given at once, so that a pipe takes them
+LIMITED = 0.15  # of the starts, how many have a limit on the file's size
+AT_THE_START = 0.1  # of the ends, how many come while a site starts
+ACCOUNTS = ("ann", "bob", "eve")
+
+
+def addressees(message, sites, sender):
+    """The sites that a message is for."""
+    if "token" in message:
+        return [message["token"][1]]
+    return [site for site in range(sites) if site != sender]
+
+
+def behind(message):
+    """How many operations its home had applied before a message's operation: fewer than before any that rests on it."""
+    blue, red = message["shadow"]["deps"] if "shadow" in message else ([], 0)
+    return sum(count[1] if isinstance(count, list) else count for count in blue) + red
+
+
+class Clients:
+    """What clients ask for: everything, of any site, and of the one with the token more often what needs it."""
+
+    def __init__(self, pick, sites):
+        self.pick, self.sites, self.names, self.holder = pick, sites, [], 0
+
+    def request(self, site):
+        pick, account = self.pick, self.pick.choice(ACCOUNTS)
+        weights = [4, 4, 1, 3, 3] if site == self.holder else [6, 1, 1, 1, 1]
+        verb = pick.choices(["deposit", "withdraw", "interest", "transfer", "cancel"], weights)[0]
+        if verb == "cancel" and self.names:
+            return {"cancel": pick.choice(self.names[-40:])}
+        if verb == "transfer":
+            return {"transfer": [account, pick.choice(ACCOUNTS), pick.randrange(400)]}
+        if verb == "withdraw":
+            return {"withdraw": [account, pick.randrange(400)]}
+        if verb == "interest":
+            return {"interest": [account, pick.randrange(30)]}
+        return {"deposit": [account, 1 + pick.randrange(900)]}
+
+    def event(self, site):
+        pick, account = self.pick, self.pick.choice(ACCOUNTS)
+        other = pick.random()
+        if other < 0.7:
+            return self.request(site)
+        if other < 0.8:
+            return {"batch": [self.request(site) for _ in range(pick.randrange(5))]}
+        if other < (0.88 if site == self.holder else 0.81):
+            return {"pass": pick.randrange(self.sites)}
+        if other < 0.94:
+            return {"balance": account}
+        if other < 0.96:
+            return {"asof": [account, pick.randrange(60)]}
+        return {"apply": f"B0.{1 + pick.randrange(99)}"} if other < 0.99 else {"statement": account}
+
+    def hear(self, site, reply):
+        """Notes which operations there are to cancel, and where the token is."""
+        self.names += [reply["name"]] if "kind" in reply else reply.get("names", [])
+        if "taken" in reply or "passed" in reply:
+            self.holder = site if "taken" in reply else None
+
+
+class Bank:
+    """The sites, the messages on their way, and what happened."""
+
+    def __init__(self, asked, folder):
+        self.program, self.folder = os.path.abspath(asked.program), folder
+        self.pick = random.Random(asked.seed)
+        self.sites = asked.sites or 3 + self.pick.randrange(3)
+        inbox, version = self.pick.choice([40, 4096]), self.pick.choice([1, 2])
+        config = {"accounts": [[name, 1000] for name in ACCOUNTS], "inbox": inbox, "sites": self.sites,
+                  "version": version}
+        self.config = compact(config)
+        self.written = compact({"blue": 10**6, "epoch": 4 * 10**9, "history": 10**8, "red": 10**6} | config)
+        self.clients = Clients(self.pick, self.sites)
+        self.wires = [[] for _ in range(self.sites)]
+        self.count, self.lossy, self.took = Counter(), True, 0.002
+        self.all = [Site(self, number) for number in range(self.sites)]
+
+    def route(self, sender, messages):
+        """Puts messages on their way. Some are lost."""
+        for message in messages:
+            for site in addressees(message, self.sites, sender):
+                if self.lossy and (len(self.wires[site]) >= LONGEST or self.pick.random() < LOST):
+                    self.count["lost"] += 1
+                else:
+                    self.wires[site].append(message)
+
+    def arrives(self, wire):
+        """Any message of a wire, which may come once more later."""
+        at = self.pick.randrange(len(wire))
+        if self.pick.random() < REPEATED:
+            self.count["repeats"] += 1
+            return wire[at]
+        wire[at], wire[-1] = wire[-1], wire[at]
+        return wire.pop()
+
+    def events(self, site):
+        """One event, some, or many, that are given to a site at once: of clients and of the router."""
+        number = self.pick.choice([1, 1, 1 + self.pick.randrange(8), 1 + self.pick.randrange(120)])
+        given, size = [], 0
+        while len(given) < number and size < MOST_BYTES:
+            wire = self.wires[site.number]
+            comes = wire and self.pick.random() < (0.5 if len(wire) < 60 else 0.95)
+            given.append(self.arrives(wire) if comes else self.clients.event(site.number))
+            size += len(compact(given[-1])) + 1
+        return given
+
+    # ---- how a site runs and ends
+
+    def starts(self, site):
+        """Starts a site that doesn't run: with a limit on the file's size at times, and with what it sends again."""
+        size = os.path.getsize(site.journal) if os.path.exists(site.journal) else 0
+        limited = self.pick.random() < LIMITED
+        limit = size + self.pick.randrange(6000) if limited else None
+        site.start(self.pick.choices([None, 0, 1, 20], [1, 4, 2, 3])[0], limit, self.pick.random() < 0.5)
+        if self.pick.random() < AT_THE_START:
+            time.sleep(self.pick.random() * 0.01)
+            self.ends(site)
+
+    def ends(self, site):
+        """Ends a process where it hasn't ended, and counts how it did."""
+        status, at_rest = site.kill()
+        self.count["kills"] += 1
+        self.count["in a write"] += status in (3, -signal.SIGXFSZ)
+        self.count["torn"] += not at_rest
+
+    def turn(self):
+        """Gives a site some events. At times its process is ended before it can have answered them all."""
+        site = self.pick.choice(self.all)
+        if site.process is None:
+            return self.starts(site)
+        begun = time.monotonic()
+        site.ask(self.events(site))
+        if self.pick.random() < 0.3:
+            time.sleep(self.pick.random() * 1.3 * self.took)
+            return self.ends(site)
+        if not site.wait():
+            return self.ends(site)
+        self.took += (time.monotonic() - begun - self.took) * 0.1
+        return None
+
+    # ---- the end of a run
+
+    def settle(self):
+        """Starts all sites again, and delivers all that each of them ever sent until every site has all of it."""
+        for site in self.all:
+            if site.process is not None:
+                self.ends(site)
+        self.lossy, self.wires = False, [[] for _ in range(self.sites)]
+        for site in self.all:
+            site.start()
+            site.ask([{"balance": "ann"}])
+            if not site.wait():
+                raise Failed(f"site {site.number} ended by itself: {site.ended()}")
+        kept = [list(wire) for wire in self.wires]
+        for _ in range(200):
+            if not self.deliver(kept):
+                return
+        raise Failed("what was delivered again and again isn't applied everywhere")
+
+    def deliver(self, wires):
+        """Delivers each message of these wires that isn't applied, and says whether one wasn't."""
+        delivered = False
+        for site, wire in zip(self.all, wires):
+            done = {reply for line in site.entries + site.wanted for reply in names_of(json.loads(line)["reply"])}
+            left = [message for message in wire if name_of(message) not in done]
+            delivered = delivered or bool(left)
+            left.sort(key=behind)
+            while left:
+                part, left = left[:100], left[100:]
+                site.ask(part)
+                if not site.wait():
+                    raise Failed(f"site {site.number} ended by itself")
+        return delivered
+
+    def compare(self):
+        """All sites have the same balances and operations; an audit orders the journals."""
+        asked, answers = [{"balance": name} for name in ACCOUNTS], []
+        for site in self.all:
+            site.ask(asked)
+            if not site.wait():
+                raise Failed(f"site {site.number} ended by itself")
+            answers.append([json.loads(line)["reply"] for line in site.wanted[-len(asked):]])
+            site.close()
+        if any(each != answers[0] for each in answers):
+            raise Failed(f"the sites have different balances: {compact(answers)}")
+        operations = [sorted(name for line in site.entries for name in names_of(json.loads(line)["reply"])
+                             if name[0] in "BR") for site in self.all]
+        if any(each != operations[0] for each in operations):
+            raise Failed("the sites applied different operations")
+        return answers[0], len(operations[0])
+
+    def audit(self):
+        """Has an audit order the journals: one after another, all but the first without its first line."""
+        path = os.path.join(self.folder, "histories.jsonl")
+        with open(path, "wb") as out:
+            for number, site in enumerate(self.all):
+                journal = read(site.journal)
+                out.write(journal.partition(b"\n")[2] if number else journal)
+        with open(path, "rb") as given:
+            run = subprocess.run([self.program, "audit"], stdin=given, capture_output=True)
+        entries = sum(len(site.entries) for site in self.all)
+        if run.returncode != 0 or len(json.loads(run.stdout).get("order", [])) != entries:
+            raise Failed(f"the audit of {path} says {run.stdout[:300].decode()} {run.stderr.decode()}")
+        return entries
+
+    def stop(self):
+        """Ends all processes."""
+        for site in self.all:
+            if site.process is not None:
+                site.process.kill()
+                site.process.wait()
+
+
+def run(asked, folder):
+    """A whole run. What it did, in a line."""
+    bank = Bank(asked, folder)
+    try:
+        while bank.count["kills"] < asked.kills:
+            bank.turn()
+        bank.settle()
+        balances, operations = bank.compare()
+        entries = bank.audit()
+    finally:
+        bank.stop()
+    count = bank.count
+    cents = ", ".join(f"{name} {reply['balance']}" for name, reply in zip(ACCOUNTS, balances))
+    return (f"seed {asked.seed}: {bank.sites} sites, {count['events']:,} events answered, {count['kills']} kills "
+            f"({count['in a write']} in a write), {count['torn']} torn ends,\n"
+            f"  {count['unreported']:,} entries recorded and not reported, {count['lost']:,} messages lost, "
+            f"{count['repeats']:,} repeats.\n"
+            f"  All sites have {cents} after {operations:,} operations; the audit orders {entries:,} entries.")
+
+
+def options():
+    reader = argparse.ArgumentParser(description=__doc__, formatter_class=argparse.RawDescriptionHelpFormatter)
+    reader.add_argument("program", metavar="PROGRAM", help="a built rbbank")
+    reader.add_argument("--kills", metavar="N", type=int, default=300, help="so many ends of a process, 300")
+    reader.add_argument("--sites", metavar="N", type=int, choices=range(2, 9), help="2 to 8; else 3 to 5 by the seed")
+    reader.add_argument("--seed", metavar="N", type=int, help="another seed makes other choices; else by the clock")
+    reader.add_argument("--quiet", action="store_true", help="print only what failed")
+    reader.add_argument("--folder", metavar="PATH", help="an empty folder for the journals, which stay there")
+    asked = reader.parse_args()
+    if not os.access(asked.program, os.X_OK) or os.path.isdir(asked.program):
+        reader.error(f"{asked.program}: no program")
+    if asked.folder and os.path.exists(asked.folder) and (not os.path.isdir(asked.folder) or os.listdir(asked.folder)):
+        reader.error(f"{asked.folder}: no empty folder")
+    asked.seed = int(time.time()) % 10**6 if asked.seed is None else asked.seed
+    return asked
+
+
+def main():
+    asked = options()
+    if asked.folder:
+        os.makedirs(asked.folder, exist_ok=True)
+    folder = asked.folder or tempfile.mkdtemp(prefix="crash-")
+    try:
+        happened = run(asked, folder)
+    except Failed as why:
+        print(f"crash: {why}\nseed {asked.seed}; the journals are in {folder}")
+        return 1
+    except KeyboardInterrupt:
+        return 130
+    if not asked.quiet:
+        print(happened, flush=True)
+    if not asked.folder:
+        shutil.rmtree(folder)
+    return 0
+
+
+if __name__ == "__main__":
+    sys.exit(main())

@@ -1,0 +1,212 @@
+"""A site as a process on its journal, for crash.py: each answer is kept, and compared with the journal once the process
+has ended, however it did.
+"""
+import json
+import os
+import resource
+import select
+import signal
+import subprocess
+import time
+
+PATIENCE = 60  # seconds for one answer
+JOURNAL_FAILED = "rbbank: journal failed\n"
+
+
+class Failed(Exception):
+    """What a site did that it may not do."""
+
+
+def compact(value):
+    return json.dumps(value, separators=(",", ":"), sort_keys=True)
+
+
+def whole_lines(data):
+    """The lines that a journal stands for: whole ones, up to the first that doesn't begin with a brace."""
+    end = 0
+    while data[end:end + 1] == b"{":
+        at = data.find(b"\n", end)
+        if at < 0:
+            break
+        end = at + 1
+    return data[:end]
+
+
+def read(path):
+    """The bytes of a file, none where it isn't there."""
+    if not os.path.exists(path):
+        return b""
+    with open(path, "rb") as file:
+        return file.read()
+
+
+def name_of(message):
+    """What a message is known by: the operation's name, or the token's epoch."""
+    return message["shadow"]["name"] if "shadow" in message else f"token {message['token'][0]}"
+
+
+def names_of(reply):
+    """The same of what a reply made, applied or took. A stale token needn't come again either."""
+    if "kind" in reply:
+        return [reply["name"]]
+    token = reply.get("taken", reply.get("stale"))
+    if token is not None:
+        return [f"token {token}"]
+    return [reply["applied"]] if "applied" in reply else reply.get("names", [])
+
+
+def sent_by(reply):
+    """The names of the messages that an event of this reply sent."""
+    if "passed" in reply:
+        return [f"token {reply['passed']}"]
+    return [reply["name"]] if "kind" in reply else reply.get("names", [])
+
+
+class Site:
+    """A site: its journal, the process that runs on it, and what that was asked and answered since it started."""
+
+    def __init__(self, bank, number):
+        self.bank, self.number, self.process = bank, number, None
+        self.journal = os.path.join(bank.folder, f"{number}.journal")
+        self.entries = []       # the lines behind the configuration, as the journal was last found
+        self.sent = {}          # each message that it ever sent, by its name
+        self.asked, self.wanted, self.again, self.buffered = [], [], [], b""
+
+    # ---- the process
+
+    def start(self, resend=None, limit=None, ignored=False):
+        """Starts a process on the journal. A limit on the file's size ends it in a write, or fails that write."""
+        def bounds():
+            if limit is not None:
+                signal.signal(signal.SIGXFSZ, signal.SIG_IGN if ignored else signal.SIG_DFL)
+                resource.setrlimit(resource.RLIMIT_FSIZE, (limit, limit))
+        words = [self.bank.program, "site", "--me", str(self.number), "--journal", self.journal]
+        words += [] if resend is None else ["--resend", str(resend)]
+        self.process = subprocess.Popen(words, stdin=subprocess.PIPE, stdout=subprocess.PIPE, stderr=subprocess.PIPE,
+                                        bufsize=0, preexec_fn=bounds, restore_signals=not ignored)
+        self.limit = limit
+        self.asked, self.wanted, self.buffered = [], [], b""
+        last = self.entries if resend is None else self.entries[len(self.entries) - min(resend, len(self.entries)):]
+        sent = (sent_by(json.loads(line)["reply"]) for line in last)
+        self.again = [names for names in sent if names]
+        self.give([self.bank.config])
+
+    def give(self, lines):
+        """Writes lines to the process in one write. Whether it takes them shows later."""
+        try:
+            self.process.stdin.write("".join(line + "\n" for line in lines).encode())
+        except BrokenPipeError:
+            pass
+
+    def ask(self, events):
+        self.asked += [compact(event) for event in events]
+        self.give(self.asked[-len(events):])
+
+    def take(self, data):
+        """Takes what the process wrote: messages sent again first, and then an answer for each event."""
+        *lines, self.buffered = (self.buffered + data).split(b"\n")
+        for line in lines:
+            try:
+                value = json.loads(line)
+            except ValueError:
+                raise Failed(f"site {self.number} wrote {line[:200]!r}") from None
+            if compact(value).encode() != line:
+                raise Failed(f"site {self.number} wrote a line that isn't compact: {line[:200]!r}")
+            if value.keys() == {"sends"} and self.again:
+                self.sends(value["sends"], self.again.pop(0))
+            elif value.keys() == {"reply", "sends", "then"} and self.asked and not self.again:
+                self.answered(value)
+            else:
+                raise Failed(f"site {self.number} wrote {line[:200]!r}, and has to send {self.again[:1]} again")
+
+    def sends(self, messages, names):
+        """Messages of these names go out. One that is sent again is what it was."""
+        if [name_of(message) for message in messages] != names:
+            raise Failed(f"site {self.number} sent {compact(messages)[:200]} and not {names}")
+        for name, message in zip(names, messages):
+            if self.sent.setdefault(name, message) != message:
+                raise Failed(f"site {self.number} sent two messages of one name: {compact(message)}")
+        self.bank.route(self.number, messages)
+
+    def answered(self, answer):
+        """An answer to the first event without one: its entry, and those of the applications, have to be there."""
+        self.wanted.append(f'{{"event":{self.asked.pop(0)},"reply":{compact(answer["reply"])},"site":{self.number}}}')
+        for reply in answer["then"]:
+            if "applied" not in reply:
+                raise Failed(f"site {self.number} refused what it held: {compact(reply)}")
+            event = compact({"apply": reply["applied"]})
+            self.wanted.append(f'{{"event":{event},"reply":{compact(reply)},"site":{self.number}}}')
+        self.bank.count["events"] += 1
+        self.bank.clients.hear(self.number, answer["reply"])
+        self.sends(answer["sends"], sent_by(answer["reply"]))
+
+    def wait(self):
+        """Waits until all is answered. False where the process ended before."""
+        until = time.monotonic() + PATIENCE
+        while self.asked:
+            if not select.select([self.process.stdout], [], [], max(0, until - time.monotonic()))[0]:
+                raise Failed(f"site {self.number} didn't answer in {PATIENCE} s: {self.asked[0][:200]}")
+            data = os.read(self.process.stdout.fileno(), 1 << 20)
+            if not data:
+                return False
+            self.take(data)
+        return True
+
+    # ---- its end
+
+    def kill(self):
+        self.process.send_signal(signal.SIGKILL)
+        return self.ended()
+
+    def close(self):
+        """Ends a process at the end of its input."""
+        status, at_rest = self.ended()
+        if status != 0 or not at_rest or self.asked:
+            raise Failed(f"site {self.number} ended in {status}, its journal {'' if at_rest else 'not '}at rest")
+
+    def ended(self):
+        """Takes what the process has still written, looks at its status, and at the journal that it left."""
+        self.process.stdin.close()
+        self.take(self.process.stdout.read())
+        errors, status = self.process.stderr.read().decode(), self.process.wait()
+        self.process.stdout.close()
+        self.process.stderr.close()
+        self.process = None
+        known = [(0, ""), (-signal.SIGKILL, "")]
+        if self.limit is not None:
+            # It may be killed as it says that its journal failed.
+            known += [(-signal.SIGXFSZ, ""), (3, JOURNAL_FAILED), (-signal.SIGKILL, JOURNAL_FAILED)]
+        if (status, errors) not in known:
+            raise Failed(f"site {self.number} ended in {status}: {errors}")
+        if self.buffered and status in (0, 3):
+            raise Failed(f"site {self.number} wrote a line in part: {self.buffered[:200]!r}")
+        return status, self.look()
+
+    def look(self):
+        """Whether the journal is at rest. It has to have what it had, what was answered, and a part of what wasn't."""
+        data = read(self.journal)
+        lines = whole_lines(data)
+        config, *found = lines.decode().split("\n")[:-1] or [None]
+        if config not in (None, self.bank.written) or config is None and (self.entries or self.wanted):
+            raise Failed(f"the journal of site {self.number} begins otherwise than it was made")
+        known = len(self.entries)
+        if found[:known] != self.entries:
+            raise Failed(f"the journal of site {self.number} lost or changed an entry that it had")
+        behind = found[known:known + len(self.wanted)]
+        if behind != self.wanted:
+            at = next((n for n, line in enumerate(self.wanted) if behind[n:n + 1] != [line]), 0)
+            raise Failed(f"the journal of site {self.number} lacks what was answered: {self.wanted[at][:300]}")
+        self.look_behind(found[known + len(self.wanted):])
+        self.entries = found
+        return data in (lines + b" ", b"")
+
+    def look_behind(self, lines):
+        """What is behind the answered events has to be a first part of the others, with what was applied after each."""
+        waiting = iter(self.asked)
+        for line in lines:
+            entry = json.loads(line)
+            if "applied" in entry["reply"]:
+                continue
+            if compact(entry["event"]) != next(waiting, None):
+                raise Failed(f"the journal of site {self.number} has an entry of no event: {line[:300]}")
+            self.bank.count["unreported"] += 1

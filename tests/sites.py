@@ -1,0 +1,405 @@
+#!/usr/bin/env python3
+"""Runs a site on journals that a crash or a fault left, and on faults that no file of examples/ can have.
+
+usage: sites.py [--quiet] PROGRAM      (--quiet prints only what is different)
+
+A journal cut at each byte, and with any bytes behind its space; a restart after each line; lines one at a time and all
+at once; another bank's journal; a folder, a device and a full disk as journal; a second process; output that can't be
+written; wrong words; where strace is there, the order of writes and syncs; the pipes that docs/RUNNING.md shows.
+"""
+import os
+import random
+import re
+import resource
+import shutil
+import signal
+import subprocess
+import sys
+import tempfile
+
+from site_process import read, whole_lines
+
+ROOT = os.path.dirname(os.path.dirname(os.path.abspath(__file__)))
+EXAMPLES = os.path.join(ROOT, "examples")
+BANK = b'{"accounts":[["ann",0]],"sites":2,"version":1}\n'
+BALANCE = b'{"balance":"ann"}\n'
+AT_REST = b" "
+LINE_LIMIT = 1_048_576  # bytes of a line without its line feed (docs/FORMAT.md)
+MEMORY = 1 << 30  # bytes that a site may take whose journal is a device without an end
+# Each kind of event at site 0 of two: made, refused, received, held, applied and passed.
+EVENTS = b"""{"deposit":["ann",500]}
+{"withdraw":["ann",200]}
+{"transfer":["ann","bob",50]}
+{"interest":["ann",150]}
+{"withdraw":["bob",99999]}
+{"cancel":"R1"}
+{"batch":[{"deposit":["bob",7]},{"withdraw":["ann",80]}]}
+{"batch":[]}
+{"shadow":{"account":"ann","amount":5,"deps":[[0,1,0,0,0,0,0,0],0],"home":1,"kind":"deposit","name":"B1.2"}}
+{"apply":"B1.2"}
+{"shadow":{"account":"bob","amount":6,"deps":[[0,0,0,0,0,0,0,0],0],"home":1,"kind":"deposit","name":"B1.1"}}
+{"shadow":{"account":"bob","amount":6,"deps":[[0,0,0,0,0,0,0,0],0],"home":1,"kind":"deposit","name":"B1.1"}}
+{"pass":1}
+{"withdraw":["ann",1]}
+{"token":[2,0,3]}
+{"token":[2,0,3]}
+{"asof":["ann",3]}
+{"statement":"ann"}
+{"balance":"eve"}
+{"balance":"bob"}
+"""
+
+
+def stored(name):
+    """A file of examples/."""
+    with open(os.path.join(EXAMPLES, name), "rb") as file:
+        return file.read()
+
+
+class Sites:
+    """Runs of a program's sites, each in a folder of its own."""
+
+    def __init__(self, program):
+        self.program = program
+
+    def words(self, journal, me=0, resend=None):
+        more = [] if resend is None else ["--resend", str(resend)]
+        return [self.program, "site", "--me", str(me), "--journal", journal, *more]
+
+    def run(self, given, before=None, limit=None, signals=True, output=subprocess.PIPE, **words):
+        """Output, errors and status of a site on this input and journal, and the journal afterwards (None: no file)."""
+        with tempfile.TemporaryDirectory() as folder:
+            journal = os.path.join(folder, "journal")
+            if before is not None:
+                write(journal, before)
+            at, errors, status = self.at(journal, given, limit, signals, output, **words)
+            return at, errors, status, read(journal) if os.path.exists(journal) else None
+
+    def at(self, journal, given, limit=None, signals=True, output=subprocess.PIPE, memory=None, **words):
+        """The same for a journal that is there."""
+        def bounds():
+            if memory is not None:
+                resource.setrlimit(resource.RLIMIT_AS, (memory, memory))
+            if limit is not None:
+                signal.signal(signal.SIGXFSZ, signal.SIG_DFL if signals else signal.SIG_IGN)
+                resource.setrlimit(resource.RLIMIT_FSIZE, (limit, limit))
+        run = subprocess.run(self.words(journal, **words), input=given, stdout=output, stderr=subprocess.PIPE,
+                             preexec_fn=bounds, restore_signals=signals, timeout=60)
+        return run.stdout or b"", run.stderr.decode(), run.returncode
+
+
+def write(path, data):
+    with open(path, "wb") as file:
+        file.write(data)
+
+
+def entries(journal):
+    """The lines of a journal at rest behind its configuration."""
+    return whole_lines(journal).split(b"\n", 1)[1]
+
+
+def torn(sites):
+    """A journal cut at each byte behind its first line, and with any bytes behind its space."""
+    journal = stored("site_deposit.site.journal")
+    first = journal.index(b"\n") + 1
+    for cut in range(first, len(journal) + 1):
+        kept = whole_lines(journal[:cut]) + AT_REST
+        yield f"cut at byte {cut}", sites.run(BANK, journal[:cut], resend=0) == (b"", "", 0, kept)
+    pick = random.Random(1)
+    line = b'{"event":{"balance":"ann"},"reply":{"balance":500},"site":0}\n'
+    behind = [b"\0" * 5000, line, line[1:], line[1:] + b" ", b"\n" + line, b"\n \n" + line * 3, b"{" * 70000]
+    behind += [bytes(pick.randrange(256) for _ in range(pick.randrange(1, 300))) for _ in range(20)]
+    for number, tail in enumerate(behind):
+        name = f"bytes behind the space, {number}"
+        yield name, sites.run(BANK, journal + tail, resend=0) == (b"", "", 0, journal)
+    for number, tail in enumerate([b"", b" ", b' "accounts":[', b" \n" + journal, b" \0\0"]):
+        yield f"no line yet, {number}", sites.run(BANK, tail) == (b"", "", 0, journal[:first] + AT_REST)
+    # What is behind goes on from the lines that were left.
+    answer, errors, status, after = sites.run(BANK + BALANCE, journal[:-30], resend=0)
+    out = b'{"reply":{"balance":500},"sends":[],"then":[]}\n'
+    yield "a torn journal goes on", (answer, errors, status, after) == (out, "", 0, journal)
+
+
+def restarted(sites, bank, events, resend):
+    """The answers of a site that starts again before each line, and its journal."""
+    with tempfile.TemporaryDirectory() as folder:
+        journal = os.path.join(folder, "journal")
+        out = b""
+        for line in events.splitlines(keepends=True):
+            answer, errors, status = sites.at(journal, bank + line, resend=resend)
+            if (errors, status) != ("", 0):
+                return None
+            out += answer
+        return out, read(journal)
+
+
+def one_at_a_time(sites, bank, events):
+    """The answers of a site that is given a line once the one before is answered, and its journal."""
+    with tempfile.TemporaryDirectory() as folder:
+        journal = os.path.join(folder, "journal")
+        run = subprocess.Popen(sites.words(journal), stdin=subprocess.PIPE, stdout=subprocess.PIPE)
+        run.stdin.write(bank)
+        out = b""
+        for line in events.splitlines(keepends=True):
+            run.stdin.write(line)
+            run.stdin.flush()
+            out += run.stdout.readline()
+        rest, _ = run.communicate()
+        return out + rest, read(journal)
+
+
+def same_however_read(sites):
+    """A site answers the same however its lines come, and whenever it starts again."""
+    bank = b'{"accounts":[["ann",100],["bob",0]],"sites":2,"version":1}\n'
+    out, errors, status, journal = sites.run(bank + EVENTS)
+    lines = out.count(b"\n"), EVENTS.count(b"\n")
+    yield "each kind of event", (errors, status) == ("", 0) and lines[0] == lines[1] and journal.endswith(b"\n ")
+    yield "one line at a time", one_at_a_time(sites, bank, EVENTS) == (out, journal)
+    yield "started again before each line", restarted(sites, bank, EVENTS, 0) == (out, journal)
+    again, errors, status, same = sites.run(bank, journal)
+    messages = [message for line in out.splitlines() for message in sent_by(line)]
+    resent = [message for line in again.splitlines() for message in sent_by(line)]
+    fine = (errors, status, same) == ("", 0, journal) and b'"reply"' not in again
+    yield "all messages again", fine and messages == resent and len(messages) > 7
+    loose = b"\n \t\r\n".join([b"", *bank.splitlines(), *EVENTS.splitlines()])
+    yield "blank lines, and a last line without its end", sites.run(loose) == (out, "", 0, journal)
+    config = b' {"version": 1, "sites": 2, "accounts": [["ann", 100], ["bob", 0]]}\n'
+    yield "another writing of the configuration", sites.run(config + EVENTS) == (out, "", 0, journal)
+
+
+def sent_by(line):
+    """The messages that an answer, or a line of messages sent again, has."""
+    found = re.search(rb'"sends":\[(.*?)\](?:,"then":\[[^\]]*\])?\}$', line)
+    return re.findall(rb'\{"(?:shadow":\{.*?\}|token":\[[^\]]*\])\}', found.group(1) if found else b"")
+
+
+def audited(sites):
+    """What really happened: the journals one after another, all but the first without its first line."""
+    one, two = stored("site_deposit.site.journal"), stored("site_receives.site.journal")
+    for name, given, out in [("site 0 first", one + entries(two), b"[0,0,1,1,1]"),
+                              ("site 1 first", two + entries(one), b"[0,0,1,1,1]"), ("site 0 alone", one, b"[0,0]")]:
+        run = subprocess.run([sites.program, "audit"], input=given, capture_output=True)
+        yield f"audit of journals, {name}", (run.stdout, run.stderr) == (b'{"order":' + out + b"}\n", b"")
+
+
+def refused_journals(sites):
+    """Journals that a site doesn't go on from, each of which is left as it was."""
+    journal = stored("site_deposit.site.journal")
+    first, rest = journal.split(b"\n", 1)
+    foreign = {
+        "with another start": first.replace(b'["ann",0]', b'["ann",1]') + b"\n" + rest,
+        "with another limit": first.replace(b'"blue":1000000', b'"blue":999999') + b"\n" + rest,
+        "of version 2": first.replace(b'"version":1', b'"version":2') + b"\n" + rest,
+        "whose first line is cut": first[:40],
+        "whose first line has no end": first,
+        "that is another file": b"some notes\nof mine\n",
+        "that begins with a line feed": b"\n" + journal,
+        "of bytes": bytes(range(33, 256)) * 40,
+    }
+    for name, before in foreign.items():
+        wanted = (b"", "rbbank: another bank's journal\n", 2, before)
+        yield f"a journal {name}", sites.run(BANK, before) == wanted
+    lines = rest.strip(b" ").splitlines(keepends=True)
+    bad = {
+        "a bad line": (lines[0] + b'{"event":{"balance":"ann"}}\n', 3, "bad line"),
+        "an entry of another site": (lines[0] + lines[1].replace(b'"site":0', b'"site":1'), 3, "bad line"),
+        "an entry of no site": (lines[0].replace(b'"site":0', b'"site":7') + lines[1], 2, "bad line"),
+        "a wrong reply": (lines[0].replace(b"B0.1", b"B0.2") + lines[1], 2, "wrong reply"),
+        "an entry left out": (lines[1], 2, "wrong reply"),
+        "an entry that stands twice": (lines[0] + lines[0], 3, "wrong reply"),
+    }
+    for name, (text, number, fault) in bad.items():
+        before = first + b"\n" + text + AT_REST
+        wanted = (b"", f"rbbank: journal line {number}: {fault}\n", 2, before)
+        yield f"a journal with {name}", sites.run(BANK, before) == wanted
+    torn_too = first + b"\n" + bad["a wrong reply"][0] + b"{torn"
+    wanted = (b"", "rbbank: journal line 2: wrong reply\n", 2, torn_too)
+    yield "a journal with a wrong reply and a torn end", sites.run(BANK, torn_too) == wanted
+
+
+def used_twice(sites):
+    """A second process on a journal is refused, and the first goes on. Once it has ended, another may begin."""
+    with tempfile.TemporaryDirectory() as folder:
+        journal = os.path.join(folder, "journal")
+        first = subprocess.Popen(sites.words(journal), stdin=subprocess.PIPE, stdout=subprocess.PIPE)
+        first.stdin.write(BANK + b'{"deposit":["ann",500]}\n')
+        first.stdin.flush()
+        out = first.stdout.readline()
+        before = read(journal)
+        second = sites.at(journal, BANK + BALANCE)
+        yield "a second process", second == (b"", "rbbank: journal is in use\n", 2) and read(journal) == before
+        rest, _ = first.communicate(BALANCE)
+        fine = out + rest == stored("site_deposit.site.expected")
+        yield "the first goes on", fine and read(journal) == stored("site_deposit.site.journal")
+        yield "another behind it", sites.at(journal, BANK, resend=0) == (b"", "", 0)
+
+
+def failed(sites):
+    """A journal that can't be opened, read or written: nothing more is answered, and what is on the disk stays."""
+    failure = (b"", "rbbank: journal failed\n", 3)
+    with tempfile.TemporaryDirectory() as folder:
+        yield "a folder as journal", sites.at(folder, BANK) == failure
+        yield "a journal in no folder", sites.at(os.path.join(folder, "no", "journal"), BANK) == failure
+    yield "a full device as journal", sites.at("/dev/full", BANK, memory=MEMORY) == failure
+    journal = stored("site_deposit.site.journal")
+    deposits = BANK + b'{"deposit":["ann",1]}\n' * 40
+    for more in [1, 2, 50, 500]:
+        limit = len(journal) + more
+        *run, after = sites.run(deposits, journal, limit, False, resend=0)
+        fine = tuple(run) == failure and after.startswith(journal[:-1]) and whole_lines(after) == journal[:-1]
+        yield f"a disk with {more} bytes left", fine and sites.run(BANK, after, resend=0)[3] == journal
+        *run, after = sites.run(deposits, journal, limit, True, resend=0)
+        fine = run[0] == b"" and run[2] == -signal.SIGXFSZ and whole_lines(after) == journal[:-1]
+        yield f"ended in a write after {more} bytes", fine and sites.run(BANK, after, resend=0)[3] == journal
+
+
+def unwritten(sites):
+    """Output that can't be written ends a site, whose journal is at rest, and has what wasn't reported."""
+    with open("/dev/full", "wb") as full:
+        given = BANK + b'{"deposit":["ann",500]}\n' + BALANCE
+        wanted = (b"", "rbbank: write failed\n", 3, stored("site_deposit.site.journal"))
+        yield "a full device as output", sites.run(given, output=full) == wanted
+
+
+def lines_at_fault(sites):
+    """Faults of lines are those of a script; what was answered before is in the journal."""
+    journal, out = stored("site_bad_line.site.journal"), stored("site_bad_line.site.expected")
+    deposit = BANK + b'{"deposit":["ann",500]}\n'
+    cases = {
+        "a command with a site": (b'{"balance":"ann","site":0}\n', "line 3: bad line"),
+        "a delivery": (b'{"deliver":1}\n', "line 3: bad line"),
+        "a configuration again": (BANK, "line 3: bad line"),
+        "no UTF-8": (b'{"balance":"\xff"}\n', "line 3: bad line"),
+        "blank lines before": (b"\n \n{}\n", "line 5: bad line"),
+        "a line too long": (b" " * LINE_LIMIT + b"{}\n", "line 3: line too long"),
+        "a line too long, without its end": (b"x" * (LINE_LIMIT + 1), "line 3: line too long"),
+    }
+    for name, (given, fault) in cases.items():
+        yield f"fault: {name}", sites.run(deposit + given + BALANCE) == (out, f"rbbank: {fault}\n", 2, journal)
+    longest = b'{"balance":"ann"}'.ljust(LINE_LIMIT) + b"\n"
+    both = stored("site_deposit.site.expected"), "", 0, stored("site_deposit.site.journal")
+    yield "the longest line", sites.run(deposit + longest) == both
+    yield "no configuration", sites.run(b"\n")[:3] == (b"", "rbbank: no configuration\n", 2)
+    bad = (b"", "rbbank: line 2: bad configuration\n", 2)
+    yield "a bad configuration", sites.run(b"\n" + BALANCE, journal)[:3] == bad
+    yield "... leaves the journal", sites.run(b"\n" + BALANCE, journal)[3] == journal
+
+
+def words_at_fault(sites):
+    """Words that aren't those of a site: a text on standard error, status 2, and no file."""
+    wanted = [[], ["--me", "0"], ["--journal", "j"], ["--me", "16", "--journal", "j"], ["--me", "-1", "--journal", "j"],
+              ["--me", "x", "--journal", "j"], ["--me", "0", "--journal", "j", "--resend", "100000001"],
+              ["--me", "0", "--journal", "j", "--resend", "all"], ["--me", "0", "--journal", "j", "more"]]
+    with tempfile.TemporaryDirectory() as folder:
+        for words in wanted:
+            run = subprocess.run([sites.program, "site", *words], input=BANK, capture_output=True, cwd=folder)
+            fine = (run.stdout, run.returncode) == (b"", 2) and run.stderr != b"" and os.listdir(folder) == []
+            yield f"words: site {' '.join(words)}", fine
+
+
+def many_sites(sites):
+    """The last of sixteen sites, whose lines are those of version 2."""
+    bank = b'{"accounts":[["ann",0]],"sites":16,"version":2}\n'
+    shadow = b'{"shadow":{"account":"ann","amount":500,"deps":[[],0],"home":15,"kind":"deposit","name":"B15.1"}}'
+    out = b'{"reply":{"kind":"deposit","name":"B15.1"},"sends":[' + shadow + b'],"then":[]}\n'
+    answer = sites.run(bank + b'{"deposit":["ann",500]}\n', me=15)
+    yield "the last of sixteen sites", answer[:3] == (out, "", 0)
+
+
+def large_batch(sites):
+    """Many lines in one read are answered as a script answers them, and one entry each is in the journal."""
+    count = 20_000
+    given = BANK + b'{"deposit":["ann",1]}\n' * count + BALANCE
+    out, errors, status, journal = sites.run(given)
+    last = b'{"reply":{"balance":%d},"sends":[],"then":[]}' % count
+    fine = (errors, status) == ("", 0) and out.splitlines()[-1] == last and out.count(b"\n") == count + 1
+    yield "many lines at once", fine and journal.count(b"\n") == count + 2 and journal.endswith(b"\n ")
+
+
+def calls_of(sites, given, before):
+    """The calls of a site on its journal and its output, in order, each with what is behind its file: writes, cuts,
+    syncs and output. None where strace can't see them."""
+    with tempfile.TemporaryDirectory() as folder:
+        journal, trace = os.path.join(folder, "journal"), os.path.join(folder, "trace")
+        write(journal, before)
+        watched = "trace=pwrite64,write,writev,fdatasync,fsync,ftruncate"
+        words = ["strace", "-f", "-s", "8", "-e", watched, "-o", trace, *sites.words(journal, resend=0)]
+        run = subprocess.run(words, input=given, capture_output=True, timeout=60)
+        lines = read(trace).decode() if run.returncode == 0 else ""
+    found = re.findall(r"(pwrite64|write|fdatasync|fsync|ftruncate)v?\((\d+)(.*)\) += \d+", lines)
+    return [(call, rest) for call, fd, rest in found if call != "write" or fd == "1"]
+
+
+def in_order(sites):
+    """A batch is on the disk before its first byte is written, and that byte before anything is reported. No kill can
+    show it, since what was written outlives the process; the calls do."""
+    if shutil.which("strace") is None:
+        return
+    journal = stored("site_deposit.site.journal")
+    for name, before in [("a journal at rest", journal), ("a torn journal", journal[:-20]), ("a new journal", b"")]:
+        calls = calls_of(sites, BANK + b'{"deposit":["ann",500]}\n' + BALANCE, before)
+        if calls:
+            yield f"calls on {name}", is_in_order(calls)
+
+
+def is_in_order(calls):
+    """Whether each sync comes before what rests on it, for one batch whose output is the last call."""
+    unsynced = opened = False
+    for call, rest in calls:
+        first_byte = call == "pwrite64" and rest.startswith(', "{", 1,')
+        if unsynced and (first_byte or call == "write") or call == "write" and not opened:
+            return False
+        unsynced = call in ("pwrite64", "ftruncate")
+        opened = first_byte if call == "pwrite64" else opened
+    return calls[-1][0] == "write"
+
+
+def of_the_page(sites):
+    """The pipes of docs/RUNNING.md, pasted into a shell, print what the page says."""
+    with open(os.path.join(ROOT, "docs", "RUNNING.md"), encoding="utf-8") as page:
+        blocks = re.findall(r"(?:^    .*\n)+", page.read(), flags=re.M)
+    at = next(n for n, block in enumerate(blocks) if block.startswith("    mkfifo "))
+    given, out = (re.sub("(?m)^    ", "", block) for block in blocks[at:at + 2])
+    if shutil.which("bash") is None:
+        return
+    with tempfile.TemporaryDirectory() as folder:
+        os.makedirs(os.path.join(folder, "bin"))
+        os.symlink(os.path.abspath(sites.program), os.path.join(folder, "bin", "rbbank"))
+        path = os.pathsep.join([os.path.join(folder, "bin"), EXAMPLES, os.environ["PATH"]])
+        # As in an interactive shell, each job is a process group of its own, which `kill %1` ends.
+        script = "set -m; trap 'kill %1 %2' EXIT\n" + given
+        run = subprocess.run(["timeout", "60", "bash", "-c", script], cwd=folder, stdout=subprocess.PIPE,
+                             stderr=subprocess.DEVNULL, env={**os.environ, "PATH": path})
+    yield "the pipes of docs/RUNNING.md", run.stdout.decode() == out
+
+
+PARTS = [same_however_read, torn, audited, refused_journals, used_twice, failed, unwritten, lines_at_fault,
+         words_at_fault, many_sites, large_batch, in_order, of_the_page]
+
+
+def results(program):
+    """Each case with whether it is as wanted."""
+    for part in PARTS:
+        try:
+            yield from part(Sites(program))
+        except (OSError, subprocess.TimeoutExpired, ValueError, IndexError) as why:
+            yield f"{part.__name__}: {why}", False
+
+
+def main():
+    words = [word for word in sys.argv[1:] if word != "--quiet"]
+    if len(words) != 1 or words[0].startswith("-"):
+        print(__doc__)
+        return 0 if words in (["--help"], ["-h"]) else 2
+    if not os.access(words[0], os.X_OK) or os.path.isdir(words[0]):
+        sys.exit(f"sites: {words[0]}: no program")
+    fine = True
+    for name, same in results(words[0]):
+        fine = fine and same
+        if not same or "--quiet" not in sys.argv:
+            print("same     " if same else "DIFFERENT", name)
+    return 0 if fine else 1
+
+
+if __name__ == "__main__":
+    sys.exit(main())
