@@ -6,7 +6,7 @@ use Rattle.std.proofs.lemmas.Bool.{cases_eq}
 use Rattle.std.proofs.lemmas.List.{take_at, drop_at, drop_more, take_all, take-take, append-nil}
 use Rattle.rb_journal.specs.Host.{IsWritten, Torn, Cut}
 use Rattle.rb_journal.specs.Lines.{recovered, IsBatch, at_rest}
-use Rattle.rb_journal.proofs.LineLemmas.{concat-append, recovered-append, parts, front_nothing, closed, short_nothing, lines-append}
+use Rattle.rb_journal.proofs.Public.Lines.{concat-append, recovered-append, parts, front_nothing, closed, short_nothing, lines-append}
 use Rattle.rb_journal.proofs.Ends.{take_past}
 
 module _ (file : List ℕ) where

@@ -1,6 +1,5 @@
-mod LineLemmas
+pub mod Public
 mod Ends
 mod Crash
-mod Moments
 mod RunLemmas
 mod Output

@@ -44,6 +44,18 @@ impl LineBatch {
         Ok(())
     }
 
+    /// Adds whole lines, each with its LF. `Err` means out of memory: nothing is added.
+    pub fn extend(&mut self, lines: &[u8]) -> Result<(), AllocError>
+        requires { IsBatch lines.now }
+        ensures bytes { OnOk result (self.new.bytes.items ≡ self.old.bytes.items ++ lines.now) }
+        ensures lines { OnOk result (recovered self.new.bytes.items ≡ recovered self.old.bytes.items
+            ++ recovered lines.now) }
+        ensures err { OnErr result (self.new.bytes.items ≡ self.old.bytes.items) }
+    {
+        add_lines(&mut self.bytes, lines)?;
+        Ok(())
+    }
+
     /// Takes all lines out, and keeps the spare capacity.
     pub fn clear(&mut self)
         ensures { self.new.bytes.items ≡ [] }
@@ -75,4 +87,11 @@ fn add_line(bytes: &mut Vec<u8>, line: &[u8]) -> Result<(), AllocError>
             Err(AllocError::from(error))
         }
     }
+}
+
+fn add_lines(bytes: &mut Vec<u8>, lines: &[u8]) -> Result<(), AllocError>
+    ensures ok { OnOk result (bytes.new.items ≡ bytes.old.items ++ lines.now) }
+    ensures err { OnErr result (bytes.new.items ≡ bytes.old.items) }
+{
+    bytes.extend_from_slice(lines)
 }

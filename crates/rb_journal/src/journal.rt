@@ -41,6 +41,7 @@ impl<H: Host> Journal<H> {
         ensures any_moment_err { IfErr result (λ e. LeavesOnly H.moment H.left_since host e.1
             (IsLeftAs (recovered bytes.now) (H.output host))) }
 
+        ensures later { IfOk result (λ journal. H.faults host ≤ H.faults journal.host) }
         ensures failed { IfErr result (λ e. e.0 ≡ HostError.DiskFailed → H.faults host < H.faults e.1) }
         ensures no_output_fault { IfErr result (λ e. e.0 ≡ HostError.OutputFailed → ⊥) }
         ensures full { IfErr result (λ e. e.0 ≡ HostError.Full → ⊥) }
@@ -182,6 +183,7 @@ pub fn recover<H: Host>(host: &mut H, bytes: &[u8]) -> Result<usize, HostError>
     ensures any_moment { LeavesOnly H.moment H.left_since host.old host.new
         (IsLeftAs (recovered bytes.now) (H.output host.old)) }
 
+    ensures later { H.faults host.old ≤ H.faults host.new }
     ensures failed { IsErrOf result HostError.DiskFailed → H.faults host.old < H.faults host.new }
     ensures no_output_fault { IsErrOf result HostError.OutputFailed → ⊥ }
     ensures full { IsErrOf result HostError.Full → ⊥ }

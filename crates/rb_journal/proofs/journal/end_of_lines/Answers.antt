@@ -6,7 +6,7 @@ use Rattle.std.proofs.lemmas.List.{take_rest, length-take-le}
 use Rattle.std.proofs.lemmas.List.Quantifiers.{position-Some}
 use Rattle.std.proofs.lemmas.List.Sums.{fails_before_first}
 use Rattle.rb_journal.specs.Lines.{lines_in, is_open, recovered}
-use Rattle.rb_journal.proofs.LineLemmas.{first_line, no_line, open-true, closed}
+use Rattle.rb_journal.proofs.Public.Lines.{first_line, no_line, open-true, closed}
 use Rattle.rb_journal.proofs.Crash.{cut_done}
 use Rattle.rb_journal.proofs.journal.end_of_lines.Goals as goal
 

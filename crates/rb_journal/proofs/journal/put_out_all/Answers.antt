@@ -1,7 +1,7 @@
 use Rattle.std.proofs.Common.{◌≡◌, ℕ, ◌+◌, ◌-◌, List, ◌++◌, length, take, drop, ◌∙◌, ap, arith, length-drop}
 use Rattle.std.proofs.lemmas.List.{take_rest}
 use Rattle.rb_journal.specs.Host.{Outputs, AddsPrefix}
-use Rattle.rb_journal.proofs.Moments.{goes_on}
+use Rattle.rb_journal.proofs.Public.Moments.{goes_on}
 use Rattle.rb_journal.proofs.Output.{output_more}
 use Rattle.rb_journal.proofs.journal.put_out_all.Goals as goal
 

@@ -3,7 +3,7 @@ use Rattle.std.specs.List.{concat}
 use Rattle.rb_journal.specs.Host.{Torn, Cut}
 use Rattle.rb_journal.specs.Lines.{recovered}
 use Rattle.rb_journal.specs.Journal.{IsLeftAs}
-use Rattle.rb_journal.proofs.Moments.{started, goes_on}
+use Rattle.rb_journal.proofs.Public.Moments.{started, goes_on}
 use Rattle.rb_journal.proofs.Ends.{written_at_end}
 use Rattle.rb_journal.proofs.Crash.{cut_keeps, cut_done, torn_end, recovered-at_rest}
 use Rattle.rb_journal.proofs.journal.recover.Goals as goal

@@ -2,7 +2,7 @@ use Rattle.std.proofs.Common.{◌≡◌, ℕ, ◌+◌, ◌≤◌, List, length, 
 use Rattle.std.specs.List.{concat}
 use Rattle.rb_journal.specs.Lines.{recovered, at_rest}
 use Rattle.rb_journal.specs.Journal.{IsLeftAs}
-use Rattle.rb_journal.proofs.Moments.{started, goes_on}
+use Rattle.rb_journal.proofs.Public.Moments.{started, goes_on}
 use Rattle.rb_journal.proofs.Crash.{shut_is, shut_at_rest, stays_shut}
 use Rattle.rb_journal.proofs.journal.stage.Goals as goal
 

@@ -1,6 +1,6 @@
 use Rattle.std.proofs.Common.{◌≡◌, take, sym, ◌∙◌, ap, subst, rules}
 use Rattle.rb_journal.specs.Lines.{recovered, IsBatch}
-use Rattle.rb_journal.proofs.LineLemmas.{are_lines}
+use Rattle.rb_journal.proofs.Public.Lines.{are_lines}
 use Rattle.rb_journal.proofs.Crash.{text_is}
 use Rattle.rb_journal.proofs.batch.LineBatch.of_file.Goals as goal
 

@@ -1,6 +1,6 @@
 use Rattle.std.proofs.Common.{◌≡◌, ℕ, List, [], ◌∷◌, ◌++◌, Result, Ok, Err, OnOk, OnErr, sym, ◌∙◌, ap, subst}
 use Rattle.rb_journal.specs.Lines.{recovered, IsBatch, IsLine}
-use Rattle.rb_journal.proofs.LineLemmas.{line_more, still_lines}
+use Rattle.rb_journal.proofs.Public.Lines.{line_more, still_lines}
 use Rattle.rb_journal.proofs.batch.LineBatch.push.Goals as goal
 
 either_way : {T E : Type 0} (result : Result T E) (old line new : List ℕ) → OnOk result (new ≡ old ++ (line ++ 10 ∷ [])) →

@@ -4,8 +4,8 @@ use Rattle.std.proofs.lemmas.List.{take_rest}
 use Rattle.rb_journal.specs.Host.{IsWritten, Torn, Only}
 use Rattle.rb_journal.specs.Lines.{recovered, at_rest, IsBatch}
 use Rattle.rb_journal.specs.Journal.{IsBeforeOrAfter}
-use Rattle.rb_journal.proofs.Moments.{goes_on, weaker}
-use Rattle.rb_journal.proofs.LineLemmas.{begins}
+use Rattle.rb_journal.proofs.Public.Moments.{goes_on, weaker}
+use Rattle.rb_journal.proofs.Public.Lines.{begins}
 use Rattle.rb_journal.proofs.Crash.{torn_gate, written_gate, after_gate, length-after}
 use Rattle.rb_journal.proofs.journal.Journal.append.Goals as goal
 

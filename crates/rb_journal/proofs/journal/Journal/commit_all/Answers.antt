@@ -3,7 +3,7 @@ use Rattle.std.proofs.lemmas.List.{append-nil}
 use Rattle.rb_journal.specs.Lines.{recovered}
 use Rattle.rb_journal.specs.Journal.{IsDurable}
 use Rattle.rb_journal.specs.Run.{IsStepped}
-use Rattle.rb_journal.proofs.Moments.{started, runs_on}
+use Rattle.rb_journal.proofs.Public.Moments.{started, runs_on}
 use Rattle.rb_journal.proofs.RunLemmas.{lines_more, output_all, within, within_start}
 use Rattle.rb_journal.proofs.journal.Journal.commit_all.Goals as goal
 
