@@ -1,4 +1,3 @@
-mod Moments
 mod Advance
 mod Runs
 mod Follow

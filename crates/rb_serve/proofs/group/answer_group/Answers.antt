@@ -6,7 +6,7 @@ use Rattle.rb_serve.specs.Faults.{fault_of_host}
 use Rattle.rb_serve.specs.Run.{IsRunOfTurns}
 use Rattle.rb_serve.specs.Steps.{Advances, point_of}
 use Rattle.rb_serve.specs.declared.fault.ServeFault.TheVariants.{Journal}
-use Rattle.rb_serve.proofs.Moments.{weaker}
+use Rattle.rb_journal.proofs.Public.Moments.{weaker}
 use Rattle.rb_serve.proofs.Runs.{durable_is_run, is_full, journal_cause}
 use Rattle.rb_serve.proofs.group.answer_group.Goals as goal
 

@@ -10,7 +10,7 @@ use Rattle.rb_serve.specs.Turns.{Turn}
 use Rattle.rb_serve.specs.declared.fault.ServeFault.TheVariants.{Journal}
 use Rattle.rb_serve.proofs.Ending.{ends_all, ends_group, ends_read, only_read, put_out, rests}
 use Rattle.rb_serve.proofs.Follow.{Follows, follows_read, follows_start, follows_steps, full_on, no_rest, rest_of, run_on, run_start}
-use Rattle.rb_serve.proofs.Moments.{runs_on, started}
+use Rattle.rb_journal.proofs.Public.Moments.{runs_on, started}
 use Rattle.rb_serve.proofs.run.serve.Goals as goal
 
 pub reads-init : goal.reads-init
