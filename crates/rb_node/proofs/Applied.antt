@@ -24,7 +24,7 @@ use Rattle.rb_commands.proofs.Public.Appended.{both, front_of_front, front_of_su
 use Rattle.rb_commands.proofs.Public.Listed.{rest_text, whole_text}
 use Rattle.rb_history.specs.Entries.{entry_json}
 use Rattle.rb_node.specs.Answers.{AppliesAll, AreReadyInTurn, IsAllApplied, IsReadyName, answer_json, entry_lines, line_of, messages_json}
-use Rattle.rb_node.specs.Steps.{Answers, Applies, AppliesOne, Steps}
+use Rattle.rb_node.specs.Steps.{AnswersEvent, Applies, AppliesOne, Steps}
 use Rattle.rb_node.proofs.Recorded.{me-next}
 
 -- what is ready is applied: the replies behind a text, the first behind this comma, and the lines of the entries
@@ -169,7 +169,7 @@ front_stays_two k l m xs ys e f = front_of_sum k m (xs ++ ys) (both k l m xs ys 
 pub answered : {A E : Type 0} (r : Result A E) (s : Settings) (old mid new : SeenSite) (e : Event) (reply : Reply) (sent : List Message)
     (a b c d k l m : List ℕ) → s ≡ old.settings → Steps old mid e reply k l → sent ≡ sent_at old.settings (state_of old) e
     → b ≡ a ++ front_text s reply sent → Applies mid new b c l m → Adds r c d (codes "}\n")
-    → MatchResult r (λ _. Answers old new e a d k m) (λ _. (take (length a) d ≡ a) × (take (length k) m ≡ k))
+    → MatchResult r (λ _. AnswersEvent old new e a d k m) (λ _. (take (length a) d ≡ a) × (take (length k) m ≡ k))
 answered (Ok y) s old mid new e reply sent a b c d k l m same step posted begun applies end =
     let settings = old.settings in
     let t = after_event settings (state_of old) e in

@@ -83,7 +83,7 @@ pub record AppliesAll (old new : SeenSite) (names : List OpName) (replies : List
 -- ---- the answer
 
 -- the site answers the line of an event by this text; these bytes are the lines of the entries that it recorded
-pub record IsAnswered (old new : SeenSite) (line text entries : List ℕ) : Type 0 where
+pub record IsSiteAnswer (old new : SeenSite) (line text entries : List ℕ) : Type 0 where
   pub event : Event
   pub is_event : event_on old.settings line ≡ Some event
   pub applied : List OpName

@@ -7,7 +7,7 @@ use Rattle.rb_site.specs.Seen.{SeenSite}
 use Rattle.rb_history.specs.ConfigLines.{config_json}
 use Rattle.rb_history.specs.Entries.{entry_json, entry_on}
 use Rattle.rb_history.specs.Fits.{Each, IsEvent, IsReply}
-use Rattle.rb_node.specs.Answers.{IsAnswered, SeenNode}
+use Rattle.rb_node.specs.Answers.{IsSiteAnswer, SeenNode}
 use Rattle.rb_node.specs.Replays.{IsReplayedAs}
 
 -- ---- lines
@@ -40,4 +40,4 @@ FitsLine s x = IsEvent s x.event × IsReply x.reply
 -- what an answer recorded is replayed to the site that it left, where lines hold its entries whole
 abbrev pub AnswersAreReplayed : Type 0
 AnswersAreReplayed = (old new : SeenSite) (line text entries : List ℕ) → IsConfigured old.settings → old.me < old.settings.sites
-    → (answer : IsAnswered old new line text entries) → Each (FitsLine old.settings) answer.recorded → AreReplayed old answer.recorded new
+    → (answer : IsSiteAnswer old new line text entries) → Each (FitsLine old.settings) answer.recorded → AreReplayed old answer.recorded new

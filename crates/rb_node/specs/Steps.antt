@@ -36,7 +36,7 @@ pub record Applies (old new : SeenSite) (text text_after entries entries_after :
   pub entries_are : entries_after ≡ entries ++ entry_lines old.settings old.me recorded
 
 -- an event is answered: the text of the answer behind what was there, and the lines of the entries
-pub record Answers (old new : SeenSite) (e : Event) (text text_after entries entries_after : List ℕ) : Type 0 where
+pub record AnswersEvent (old new : SeenSite) (e : Event) (text text_after entries entries_after : List ℕ) : Type 0 where
   pub applied : List OpName
   pub in_turn : AreReadyInTurn old.settings (after_event old.settings (state_of old) e) applied
   pub all : IsAllApplied old.settings (after_events old.settings (state_of old) (e ∷ map Apply applied))

@@ -10,9 +10,9 @@ ghost use Rattle.rb_site.specs.Seen.{state_of};
 ghost use Rattle.rb_commands.specs.Adds.{Adds};
 ghost use Rattle.rb_commands.specs.Replies.{reply_json};
 ghost use Rattle.rb_history.specs.Entries.{event_json};
-ghost use Rattle.rb_node.specs.Answers.{IsAllApplied, IsAnswered, IsReadyName, event_on, messages_json};
+ghost use Rattle.rb_node.specs.Answers.{IsAllApplied, IsSiteAnswer, IsReadyName, event_on, messages_json};
 ghost use Rattle.rb_node.specs.Faults.{IsLineFault};
-ghost use Rattle.rb_node.specs.Steps.{Answers, Applies, AppliesOne};
+ghost use Rattle.rb_node.specs.Steps.{AnswersEvent, Applies, AppliesOne};
 
 use crate::{Node, NodeFault};
 use rb_commands::write::append::append;
@@ -155,7 +155,7 @@ impl Node {
         entries: &mut Vec<u8>,
     ) -> Result<(), AllocError>
         ensures { MatchResult result
-            (λ _. Answers self.old.site self.new.site event text.old.items text.new.items entries.old.items
+            (λ _. AnswersEvent self.old.site self.new.site event text.old.items text.new.items entries.old.items
             entries.new.items)
             (λ _. (take (length text.old.items) text.new.items ≡ text.old.items)
             × (take (length entries.old.items) entries.new.items ≡ entries.old.items)) }
@@ -180,7 +180,7 @@ impl Node {
         entries: &mut Vec<u8>,
     ) -> Result<(), NodeFault>
         ensures answered { OnOk result ((text : List ℕ) × (lines : List ℕ)
-            × IsAnswered self.old.site self.new.site line.now text lines
+            × IsSiteAnswer self.old.site self.new.site line.now text lines
             × (answers.new.items ≡ answers.old.items ++ text) × (entries.new.items ≡ entries.old.items ++ lines)) }
         ensures bad { result ≡ Err NodeFault.BadLine
             → (event_on self.old.site.settings line.now ≡ None) × (self.new ≡ self.old) }

@@ -1,6 +1,6 @@
 //! One site by lines: its configuration's line in, then the line of each event, and a line out for each; and the lines
 //! of its history, which the caller keeps where it keeps its data.
-//! Tests: rb_tests_runs, nodes.rt.
+//! Tests: the rows of a site in examples/, tests/sites.py and tests/crash.py.
 #![tactic(auto)]
 
 mod answer;

@@ -4,7 +4,8 @@ ghost use Rattle.rb_site.specs.declared.entry.Entry.{Entry as EntryOf};
 ghost use Rattle.rb_site.specs.Events.{is_full, reply_to};
 ghost use Rattle.rb_site.specs.Seen.{state_of};
 ghost use Rattle.rb_commands.specs.Adds.{Adds};
-ghost use Rattle.rb_history.specs.Entries.{entry_on};
+ghost use Rattle.rb_history.specs.Entries.{entry_json, entry_on};
+ghost use Rattle.serde_json.specs.Written.{compact_text};
 ghost use Rattle.rb_node.specs.Answers.{sent_line};
 ghost use Rattle.rb_node.specs.Faults.{IsEntryFault};
 ghost use Rattle.rb_node.specs.Replays.{IsReplayedAs};
@@ -13,7 +14,7 @@ use crate::answer::append_messages;
 use crate::{Node, NodeFault};
 use rb_commands::LineFault;
 use rb_commands::write::append::append;
-use rb_history::read_line;
+use rb_history::{append_line, read_line};
 use rb_lines::text_on;
 use rb_money::Config;
 use rb_site::{Entry, Message};
@@ -66,7 +67,42 @@ impl Node {
             ⊎ (x.reply ≢ reply_to self.old.site.settings (state_of self.old.site) x.event)) }
         ensures refusals { IfErr result IsEntryFault }
     {
-        let Entry { event, reply } = self.entry_of(line)?;
+        let entry = self.entry_of(line)?;
+        self.replay_entry(entry)
+    }
+
+    /// The same, of a line that is exactly what `answer` adds to the entries: any other spelling of it is `BadLine`.
+    pub fn replay_written(&mut self, line: &[u8]) -> Result<(), NodeFault>
+        ensures replayed { OnOk result ((x : EntryOf) × (line.now
+            ≡ compact_text (entry_json self.old.site.settings self.old.site.me x))
+            × IsReplayedAs self.old.site self.new x) }
+        ensures bad { result ≡ Err NodeFault.BadLine → ((x : EntryOf) → (entry_on self.old.site.settings line.now
+            ≡ Some (self.old.site.me, x)) → line.now ≢ compact_text (entry_json self.old.site.settings
+            self.old.site.me x)) × (self.new ≡ self.old) }
+        ensures wrong { result ≡ Err NodeFault.WrongReply → (x : EntryOf)
+            × (line.now ≡ compact_text (entry_json self.old.site.settings self.old.site.me x))
+            × ((is_full self.old.site.settings (state_of self.old.site) ≡ true)
+            ⊎ (x.reply ≢ reply_to self.old.site.settings (state_of self.old.site) x.event)) }
+        ensures refusals { IfErr result IsEntryFault }
+    {
+        let entry = self.entry_of(line)?;
+        let mut written = Vec::new(self.alloc);
+        append_line(&mut written, &self.config, self.site.me(), &entry)?;
+        if written.as_slice() != line {
+            return Err(NodeFault::BadLine);
+        }
+        self.replay_entry(entry)
+    }
+
+    /// An entry of this site is its next one, where the site gives the reply that it has.
+    fn replay_entry(&mut self, entry: Entry) -> Result<(), NodeFault>
+        ensures replayed { OnOk result (IsReplayedAs self.old.site self.new entry) }
+        ensures wrong { result ≡ Err NodeFault.WrongReply
+            → (is_full self.old.site.settings (state_of self.old.site) ≡ true)
+            ⊎ (entry.reply ≢ reply_to self.old.site.settings (state_of self.old.site) entry.event) }
+        ensures refusals { IfErr result (λ why. (why ≡ NodeFault.WrongReply) ⊎ (why ≡ NodeFault.OutOfMemory)) }
+    {
+        let Entry { event, reply } = entry;
         self.sent.clear();
         if self.site.is_full() {
             return Err(NodeFault::WrongReply);
