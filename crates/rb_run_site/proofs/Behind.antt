@@ -1,0 +1,98 @@
+-- The site that was opened goes on over what is behind the configuration's line.
+use Rattle.std.proofs.Common.{inl, inr, ℕ, List, ◌++◌, Option, Some, None, Result, Ok, Err, ap, subst}
+use Rattle.std.specs.Prelude.{IfSome}
+use Rattle.rb_journal.specs.Lines.{recovered}
+use Rattle.rb_lines.specs.Lines.{lines_of}
+use Rattle.rb_site.specs.Seen.{SeenSite}
+use Rattle.rb_serve.specs.Ends.{IsFull}
+use Rattle.rb_serve.specs.Run.{served_input}
+use Rattle.rb_serve.specs.declared.fault.ServeFault.{ServeFault}
+use Rattle.rb_run_site.specs.Ends.{AnswersAll, AnswersBehind, IsFullBehind, RunsTo}
+use Rattle.rb_run_site.specs.Journals.{SiteAnswers, journal_of}
+use Rattle.rb_run_site.specs.Openings.{OpensSite}
+use Rattle.rb_run_site.specs.Runs.{AreBytesBehind, HasAnswered, IsLeftOrAnswered, IsSiteRun}
+use Rattle.rb_run_site.specs.Starts.{IsBehind, Starts, WaitsBehind}
+use Rattle.rb_run_site.specs.declared.fault.SiteFault.{SiteFault}
+use Rattle.rb_run_site.specs.declared.fault.SiteFault.TheVariants.{NoConfig, BadConfig, NoSite, AnotherJournal, BadEntry, WrongReply}
+use Rattle.rb_run_site.specs.declared.fault.SiteFault.TheVariants.{InUse, BadLine, LongLine, Read, Write, Journal, OutOfMemory}
+
+-- the bytes behind the configuration's line are what waits and what is still to be read
+pub behind_known : (input : Option (List ℕ)) (config : List ℕ) (number : ℕ) (pending : List ℕ) (left : Option (List ℕ))
+    → IfSome input (WaitsBehind config number pending left) → IfSome input (AreBytesBehind number (served_input pending left))
+behind_known None config number pending left w = tt
+behind_known (Some all) config number pending left w =
+    (pending ++ w.rest, ap (λ l. served_input pending l) w.left_is, config, w.behind)
+
+first_known : (input : Option (List ℕ)) (config : List ℕ) (number : ℕ) (pending : List ℕ) (left : Option (List ℕ))
+    → IfSome input (WaitsBehind config number pending left)
+    → IfSome input (λ all. (n : ℕ) × (later : List (List ℕ)) × IsBehind config n later all)
+first_known None config number pending left w = tt
+first_known (Some all) config number pending left w = (number, lines_of (pending ++ w.rest), w.behind)
+
+module _ (me most number : ℕ) (input left : Option (List ℕ)) (file config pending : List ℕ) (x : SeenSite) (first sends : List ℕ)
+    (opens : OpensSite config me most file x first sends) (waits : IfSome input (WaitsBehind config number pending left)) where
+  -- the site that was opened is the one that the input and the journal say
+  starts : Starts me input (recovered file) x
+  starts = record {
+    config = config;
+    is_of = opens.is_of;
+    first = first_known input config number pending left waits;
+    journal = opens.journal;
+  }
+
+  -- what it may leave at any moment is what the whole run may leave
+  pub run_behind : (output c d : List ℕ) → IsLeftOrAnswered (recovered file) x sends (served_input pending left) output c d
+      → IsSiteRun me most input (recovered file) output c d
+  run_behind output c d (inl at) = inl at
+  run_behind output c d (inr has) = inr (record {
+    start = x;
+    starts = starts;
+    number = number;
+    behind = served_input pending left;
+    behind_is = behind_known input config number pending left waits;
+    answered = subst (λ s. HasAnswered x s (served_input pending left) output c d) opens.sends_are has;
+  })
+
+  -- how it ends is how the whole run ends
+  pub ends_behind : (output : List ℕ) (still : Option (List ℕ)) (now : List (List ℕ)) (said : List ℕ) (ended : Result ℕ ServeFault)
+      → AnswersAll x sends number (served_input pending left) still output now said ended
+      → AnswersBehind me most input still (recovered file) output now said ended
+  ends_behind output still now said ended all = record {
+    start = x;
+    starts = starts;
+    number = number;
+    behind = served_input pending left;
+    behind_is = behind_known input config number pending left waits;
+    answered = subst (λ s. AnswersAll x s number (served_input pending left) still output now said ended) opens.sends_are all;
+  }
+
+  -- where the site's journal is full, the whole run's is
+  pub full_behind : IsFull SiteAnswers (served_input pending left) (journal_of x) → IsFullBehind me input (recovered file)
+  full_behind full = record {
+    start = x;
+    starts = starts;
+    number = number;
+    behind = served_input pending left;
+    behind_is = behind_known input config number pending left waits;
+    full = full;
+  }
+
+-- a run that did change something, with a weaker claim of its end
+pub ran : (A B : Result ℕ ServeFault → Type 0) (U : Type 0) (r : Result ℕ SiteFault) → ((e : Result ℕ ServeFault) → A e → B e)
+    → RunsTo A ⊥ r → RunsTo B U r
+ran A B U (Ok n) so a = so (Ok n) a
+ran A B U (Err (BadLine k)) so a = so _ a
+ran A B U (Err (LongLine k)) so (inl a) = inl (so _ a)
+ran A B U (Err (LongLine k)) so (inr none) = absurd none
+ran A B U (Err Read) so (inl a) = inl (so _ a)
+ran A B U (Err Read) so (inr none) = absurd none
+ran A B U (Err NoConfig) so a = absurd a
+ran A B U (Err (BadConfig k)) so a = absurd a
+ran A B U (Err NoSite) so a = absurd a
+ran A B U (Err AnotherJournal) so a = absurd a
+ran A B U (Err (BadEntry k)) so a = absurd a
+ran A B U (Err (WrongReply k)) so a = absurd a
+ran A B U (Err Write) so a = tt
+ran A B U (Err Journal) so a = tt
+ran A B U (Err OutOfMemory) so a = tt
+ran A B U (Err InUse) so a = absurd a

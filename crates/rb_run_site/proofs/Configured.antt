@@ -1,0 +1,51 @@
+-- What is behind the configuration's line, and the site that is opened for it.
+use Rattle.std.proofs.Common.{◌≡◌, ◌<◌, ◌≤◌, ◌+◌, ◌⊎◌, ℕ, Bool, true, List, [], ◌∷◌, ◌++◌, length, take, drop, Option, Some, None, refl, sym, ap, subst, ◌∙◌, arith}
+use Rattle.std.specs.Prelude.{IfSome}
+use Rattle.std.specs.Io.KnownBytes.{IsAtEnd}
+use Rattle.rb_site.specs.Seen.{SeenSite}
+use Rattle.rb_lines.specs.Lines.{line_len, lines_of}
+use Rattle.rb_lines.proofs.Public.Walks.{Walks, after_line}
+use Rattle.rb_run_site.specs.FirstLines.{WaitsAt}
+use Rattle.rb_run_site.specs.Openings.{OpensFile, OpensSite}
+use Rattle.rb_run_site.specs.Starts.{IsOf, WaitsBehind}
+
+-- the line at the front is the first of what waits
+next_line : (p rest : List ℕ) (e : Bool) (n : ℕ) → n ≡ line_len p → n ≤ length p → (n < length p) ⊎ ((n ≡ length p) × (0 < n) × (e ≡ true))
+    → (e ≡ true → rest ≡ []) → lines_of (p ++ rest) ≡ take n p ∷ lines_of (drop (n + 1) p ++ rest)
+next_line p rest e n len fits stands end =
+    let walk : Walks (p ++ rest) [] p rest e = record { got = p; lines = refl; bytes = refl; whole = λ going tail. refl } in
+    (after_line (p ++ rest) [] p rest e n walk len fits stands end).lines
+
+-- the configuration's line is taken: what waits is behind it
+pub behind : (a b : Option (List ℕ)) (number : ℕ) (p : List ℕ) (e : Bool) (n : ℕ) → IfSome a (WaitsAt number p b) → n ≡ line_len p
+    → n ≤ length p → (n < length p) ⊎ ((n ≡ length p) × (0 < n) × (e ≡ true)) → (e ≡ true → IsAtEnd b)
+    → IfSome a (WaitsBehind (take n p) (number + 1) (drop (n + 1) p) b)
+behind None b number p e n w len fits stands end = tt
+behind (Some all) None number p e n w len fits stands end = absurd (cc w.left_is)
+behind (Some all) (Some rest) number p e n w len fits stands end =
+    let same : rest ≡ w.rest = cc w.left_is in
+    let first = next_line p rest e n len fits stands end in
+    record {
+      rest = rest;
+      left_is = refl;
+      behind = record {
+        blanks = w.behind.blanks;
+        are_blank = w.behind.are_blank;
+        number_is = omega (arith, w.behind.number_is);
+        whole = w.behind.whole ∙ ap (λ r. w.behind.blanks ++ lines_of (p ++ r)) (sym same) ∙ ap (λ ls. w.behind.blanks ++ ls) first;
+      };
+    }
+
+-- the site that a file is replayed at is the configuration's
+pub opened : (config : List ℕ) (me most : ℕ) (old new : SeenSite) (file first sends : List ℕ) → IsOf config me old
+    → OpensFile old new file first sends most → OpensSite config me most file new first sends
+opened config me most old new file first sends is o = record {
+  is_of = record {
+    configured = is.configured ∙ ap Some (sym o.settings);
+    me_is = o.me ∙ is.me_is;
+    within = subst (λ c. me < c.sites) (sym o.settings) is.within;
+  };
+  journal = o.journal;
+  begins = o.begins;
+  sends_are = o.sends_are;
+}

@@ -1,0 +1,11 @@
+mod Behind
+mod Blanks
+mod Configured
+mod EntryLines
+mod Going
+mod Opened
+mod Owed
+mod Prefixes
+mod Replayed
+mod Split
+mod Turned

@@ -1,0 +1,115 @@
+-- The first lines of a journal were replayed, and others are left.
+use Rattle.std.proofs.Common.{◌≡◌, ◌+◌, ◌-◌, ◌≤◌, ◌==◌, ℕ, zero, suc, Bool, false, cond, List, [], ◌∷◌, ◌++◌, length, refl, sym, ap, ◌∙◌}
+use Rattle.std.proofs.Common.{append_assoc, append-nil, length-append, arith}
+use Rattle.std.specs.Prelude.{if◌then◌else◌}
+use Rattle.std.proofs.lemmas.Bool.Decides.{nat_tests}
+use Rattle.std.proofs.lemmas.List.{map-append}
+use Rattle.rb_money.specs.Settings.{Settings}
+use Rattle.rb_journal.specs.Lines.{IsBatch, recovered}
+use Rattle.rb_site.specs.declared.entry.Entry.{Entry}
+use Rattle.rb_site.specs.declared.event.Event.{Event}
+use Rattle.rb_site.specs.Events.{ModelSite, after_event, after_events, is_full, reply_to, sent_at}
+use Rattle.rb_site.specs.Histories.{events_of}
+use Rattle.rb_site.specs.Seen.{SeenSite, entry, next_site, next_sites, state_of, stepped}
+use Rattle.rb_site.proofs.Public.Seen.{settings-next, state-next}
+use Rattle.rb_node.specs.Answers.{SeenNode, sent_line}
+use Rattle.rb_run_site.specs.Journals.{lines_of_entries}
+use Rattle.rb_run_site.specs.Replays.{GoesOnBy, IsSplit, ReplaysLine, resent}
+use Rattle.rb_run_site.proofs.EntryLines.{fed}
+use Rattle.rb_run_site.proofs.Turned.{me_kept, settings_kept}
+
+pub record Replaying (old now : SeenSite) (lines rest : List ℕ) (skipped left number : ℕ) (sends sends_now : List ℕ) : Type 0 where
+  pub entries : List Entry
+  pub goes_on : GoesOnBy old now entries
+  pub lines_are : recovered lines ≡ lines_of_entries old.settings old.me entries ++ recovered rest
+  pub batch : IsBatch rest
+  pub number_is : number ≡ 2 + length entries
+  pub few : number + length rest ≤ 2 + length lines
+  pub left_is : left ≡ skipped - length entries
+  pub sends_are : sends_now ≡ sends ++ resent old.settings (state_of old) skipped entries
+
+-- ---- one entry more
+
+sites_push : (x : SeenSite) (es : List Event) (e : Event) → next_sites x (es ++ e ∷ []) ≡ next_site (next_sites x es) e
+sites_push x [] e = refl
+sites_push x (d ∷ es) e = sites_push (next_site x d) es e
+
+-- a site after events is the model's
+state_after : (x : SeenSite) (es : List Event) → state_of (next_sites x es) ≡ after_events x.settings (state_of x) es
+state_after x [] = refl
+state_after x (e ∷ es) =
+    state_after (next_site x e) es
+    ∙ ap (λ s. after_events s (state_of (next_site x e)) es) (settings-next x e)
+    ∙ ap (λ t. after_events x.settings t es) (state-next x e)
+
+recorded_as : (x : SeenSite) (y : Entry) → is_full x.settings (state_of x) ≡ false → y.reply ≡ reply_to x.settings (state_of x) y.event
+    → (next_site x y.event).entries ≡ x.entries ++ y ∷ []
+recorded_as x y free reply =
+    ap (λ b. (cond b x (stepped x y.event)).entries) free ∙ ap (λ r. x.entries ++ entry y.event r ∷ []) (sym reply)
+
+goes_on_more : (old mid new : SeenSite) (xs : List Entry) (x : Entry) → GoesOnBy old mid xs → is_full mid.settings (state_of mid) ≡ false
+    → x.reply ≡ reply_to mid.settings (state_of mid) x.event → new ≡ next_site mid x.event → GoesOnBy old new (xs ++ x ∷ [])
+goes_on_more old mid new xs x g free reply is = record {
+  after = is ∙ ap (λ y. next_site y x.event) g.after ∙ sym (sites_push old (events_of xs) x.event)
+      ∙ ap (next_sites old) (sym (map-append (λ (y : Entry). y.event) xs (x ∷ [])));
+  entries = ap (λ (y : SeenSite). y.entries) is ∙ recorded_as mid x free reply ∙ ap (λ es. es ++ x ∷ []) g.entries
+      ∙ append_assoc old.entries xs (x ∷ []);
+}
+
+-- what was sent again, once an entry more is replayed
+resent_more : (s : Settings) (t : ModelSite) (k : ℕ) (xs : List Entry) (x : Entry) → resent s t k (xs ++ x ∷ [])
+    ≡ resent s t k xs ++ (if (k - length xs) == 0 then sent_line s (sent_at s (after_events s t (events_of xs)) x.event) else [])
+resent_more s t zero [] x = append-nil _
+resent_more s t (suc k) [] x =
+    let more : (suc k - 0) ≡ suc k = omega arith in
+    let some : (suc k == 0) ≡ false = grind (arith, nat_tests) in
+    sym (ap (λ n. if n == 0 then sent_line s (sent_at s t x.event) else []) more
+    ∙ ap (λ b. if b then sent_line s (sent_at s t x.event) else []) some)
+resent_more s t zero (y ∷ xs) x =
+    ap (λ l. sent_line s (sent_at s t y.event) ++ l) (resent_more s (after_event s t y.event) zero xs x)
+    ∙ ap (λ n. sent_line s (sent_at s t y.event) ++ (resent s (after_event s t y.event) zero xs
+    ++ (if n == 0 then sent_line s (sent_at s (after_events s (after_event s t y.event) (events_of xs)) x.event) else [])))
+    (let less : 0 - length xs ≡ 0 - length (y ∷ xs) = omega arith in less)
+    ∙ sym (append_assoc (sent_line s (sent_at s t y.event)) (resent s (after_event s t y.event) zero xs) _)
+resent_more s t (suc k) (y ∷ xs) x = resent_more s (after_event s t y.event) k xs x
+    ∙ ap (λ n. resent s (after_event s t y.event) k xs
+    ++ (if n == 0 then sent_line s (sent_at s (after_events s (after_event s t y.event) (events_of xs)) x.event) else []))
+    (let same : k - length xs ≡ suc k - length (y ∷ xs) = omega arith in same)
+
+-- one line more is replayed
+pub one_more : (old mid : SeenSite) (new : SeenNode) (lines rest line later : List ℕ) (skipped left number : ℕ) (again : Bool)
+    (sends mid_sends new_sends : List ℕ) → Replaying old mid lines rest skipped left number sends mid_sends → IsSplit rest line later
+    → ReplaysLine mid new line again mid_sends new_sends → again ≡ (left == 0)
+    → Replaying old new.site lines later skipped (left - 1) (number + 1) sends new_sends
+one_more old mid new lines rest line later skipped left number again sends mid_sends new_sends i split r test =
+    let x = r.entry in
+    let xs = i.entries in
+    let longer : length (xs ++ x ∷ []) ≡ length xs + 1 = length-append xs (x ∷ []) in
+    let s : mid.settings ≡ old.settings = ap (λ (y : SeenSite). y.settings) i.goes_on.after ∙ settings_kept old (events_of xs) in
+    let m : mid.me ≡ old.me = ap (λ (y : SeenSite). y.me) i.goes_on.after ∙ me_kept old (events_of xs) in
+    let t : state_of mid ≡ after_events old.settings (state_of old) (events_of xs) =
+    ap state_of i.goes_on.after ∙ state_after old (events_of xs) in
+    let word : List ℕ = if again then sent_line mid.settings (sent_at mid.settings (state_of mid) x.event) else [] in
+    let said : (if again then sent_line mid.settings (sent_at mid.settings (state_of mid) x.event) else [])
+    ≡ (if (skipped - length xs) == 0 then sent_line old.settings (sent_at old.settings (after_events old.settings (state_of old) (events_of xs)) x.event) else []) =
+    ap (λ b. if b then sent_line mid.settings (sent_at mid.settings (state_of mid) x.event) else []) (test ∙ ap (λ n. n == 0) i.left_is)
+    ∙ ap (λ c. if (skipped - length xs) == 0 then sent_line c (sent_at c (state_of mid) x.event) else []) s
+    ∙ ap (λ u. if (skipped - length xs) == 0 then sent_line old.settings (sent_at old.settings u x.event) else []) t in
+    record {
+      entries = xs ++ x ∷ [];
+      goes_on = goes_on_more old mid new.site xs x i.goes_on r.replayed.free r.replayed.reply r.replayed.site;
+      lines_are = i.lines_are
+          ∙ ap (λ ls. lines_of_entries old.settings old.me xs ++ ls) (split.lines_are
+          ∙ ap (λ l. (l ++ 10 ∷ []) ∷ recovered later) r.line_is
+          ∙ ap (λ c. fed c mid.me x ∷ recovered later) s ∙ ap (λ n. fed old.settings n x ∷ recovered later) m)
+          ∙ sym (append_assoc (lines_of_entries old.settings old.me xs) (fed old.settings old.me x ∷ []) (recovered later))
+          ∙ ap (λ ls. ls ++ recovered later) (sym (map-append (fed old.settings old.me) xs (x ∷ [])));
+      batch = split.batch;
+      number_is = omega (arith, i.number_is, longer);
+      few = omega (arith, i.few, split.shorter);
+      left_is = omega (arith, i.left_is, longer);
+      sends_are = r.sends_are ∙ ap (λ l. l ++ word) i.sends_are
+          ∙ append_assoc sends (resent old.settings (state_of old) skipped xs) word
+          ∙ ap (λ l. sends ++ (resent old.settings (state_of old) skipped xs ++ l)) said
+          ∙ ap (λ l. sends ++ l) (sym (resent_more old.settings (state_of old) skipped xs x));
+    }

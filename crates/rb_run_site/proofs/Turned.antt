@@ -1,0 +1,78 @@
+-- An answer of a site is a turn of it over its journal.
+use Rattle.std.proofs.Common.{◌≡◌, ℕ, Bool, true, false, cond, List, [], ◌∷◌, ◌++◌, refl, sym, ap, subst, ◌∙◌}
+use Rattle.std.specs.Prelude.{map}
+use Rattle.std.specs.List.{concat}
+use Rattle.std.proofs.lemmas.List.{map-append}
+use Rattle.rb_money.specs.Settings.{IsConfigured}
+use Rattle.rb_site.specs.declared.entry.Entry.{Entry}
+use Rattle.rb_site.specs.declared.event.Event.{Event}
+use Rattle.rb_site.specs.declared.event.Event.TheVariants.{Apply}
+use Rattle.rb_site.specs.Events.{is_full}
+use Rattle.rb_site.specs.Seen.{SeenSite, next_site, next_sites, state_of, stepped}
+use Rattle.rb_site.proofs.Public.Seen.{settings-next}
+use Rattle.rb_history.specs.OneLine.{EntriesAreLines}
+use Rattle.rb_journal.specs.Lines.{IsBatch, recovered}
+use Rattle.rb_serve.specs.Turns.{IsTurn}
+use Rattle.rb_node.specs.Answers.{IsSiteAnswer}
+use Rattle.rb_run_site.specs.Journals.{SiteAnswers, journal_head, journal_of, lines_of_entries}
+use Rattle.rb_run_site.proofs.EntryLines.{are_theirs, fed, joined_lines}
+
+-- events keep a site's configuration and its number
+pub settings_kept : (x : SeenSite) (es : List Event) → (next_sites x es).settings ≡ x.settings
+settings_kept x [] = refl
+settings_kept x (e ∷ es) = settings_kept (next_site x e) es ∙ settings-next x e
+
+me_next : (x : SeenSite) (e : Event) → (next_site x e).me ≡ x.me
+me_next x e = by (is_full x.settings (state_of x))
+  where
+    by : (b : Bool) → (cond b x (stepped x e)).me ≡ x.me
+    by true = refl
+    by false = refl
+
+pub me_kept : (x : SeenSite) (es : List Event) → (next_sites x es).me ≡ x.me
+me_kept x [] = refl
+me_kept x (e ∷ es) = me_kept (next_site x e) es ∙ me_next x e
+
+-- a site with more entries has their lines more in its journal
+pub journal_grows : (old new : SeenSite) (s : new.settings ≡ old.settings) (m : new.me ≡ old.me) (xs : List Entry) →
+    new.entries ≡ old.entries ++ xs → journal_of new ≡ journal_of old ++ lines_of_entries old.settings old.me xs
+journal_grows old new s m xs more =
+    ap (λ t. journal_head t ∷ lines_of_entries t new.me new.entries) s
+    ∙ ap (λ me. journal_head old.settings ∷ lines_of_entries old.settings me new.entries) m
+    ∙ ap (λ ys. journal_head old.settings ∷ lines_of_entries old.settings old.me ys) more
+    ∙ ap (λ ls. journal_head old.settings ∷ ls) (map-append (fed old.settings old.me) old.entries xs)
+
+-- what a site adds to the entries are lines of a journal
+pub batched : EntriesAreLines → (old new : SeenSite) (line text entries : List ℕ) → IsConfigured old.settings
+    → IsSiteAnswer old new line text entries → IsBatch entries
+batched are old new line text entries ok a =
+    subst IsBatch (sym a.entries_are) (are_theirs are old.settings ok old.me a.recorded).batch
+
+-- the site took the line: it is a turn
+pub turned : EntriesAreLines → (old new : SeenSite) (line words entries text text_after : List ℕ) (batch batch_after : List (List ℕ)) →
+    IsConfigured old.settings → IsSiteAnswer old new line words entries → text_after ≡ text ++ words → batch_after ≡ batch ++ recovered entries
+    → IsTurn SiteAnswers (journal_of old) (journal_of new) batch batch_after line text text_after
+turned are old new line words entries text text_after batch batch_after ok a said more =
+    let added = lines_of_entries old.settings old.me a.recorded in
+    let theirs = are_theirs are old.settings ok old.me a.recorded in
+    let lines : recovered entries ≡ added = ap recovered a.entries_are ∙ theirs.lines in
+    let events = a.event ∷ map Apply a.applied in
+    let grown : journal_of new ≡ journal_of old ++ added =
+    journal_grows old new (ap (λ (x : SeenSite). x.settings) a.after ∙ settings_kept old events) (ap (λ (x : SeenSite). x.me) a.after
+    ∙ me_kept old events) a.recorded a.recorded_are in
+    let bytes : entries ≡ concat added = a.entries_are ∙ sym (joined_lines old.settings old.me a.recorded) in
+    record {
+      added = added;
+      words = words;
+      answered = record {
+        old = old;
+        new = new;
+        configured = ok;
+        before = refl;
+        answered = subst (IsSiteAnswer old new line words) bytes a;
+        after = grown;
+      };
+      lines_are = grown;
+      batch_is = more ∙ ap (λ ls. batch ++ ls) lines;
+      text_is = said;
+    }

@@ -1,0 +1,25 @@
+use Rattle.std.proofs.Common.{◌≡◌, ◌∙◌, ℕ, List, [], ◌∷◌, ◌==◌, false, length, Some, None, refl, sym, take}
+use Rattle.std.proofs.lemmas.Bool.Decides.{Decides-eqb}
+use Rattle.std.proofs.lemmas.Slice.Eq.{strip_prefix_is}
+use Rattle.rb_run_site.proofs.Prefixes.{begins, others}
+use Rattle.rb_run_site.proofs.entries.entries_in.Goals as goal
+
+some : (l : List ℕ) → l ≡ [] → (length l == 0) ≡ false → ⊥
+some [] e h = cc
+some (b ∷ l) e h = cc
+
+pub returns-in-Some : goal.returns-in-Some
+returns-in-Some c =
+    let lines = take c.end_of_lines.result c.args.bytes.now in
+    begins c.args.bytes.now c.args.first.now c.in-Some.entries.now c.requires.0 c.requires.1 c.requires.2
+    (sym c.end_of_lines.ensures.lines
+    ∙ strip_prefix_is Decides-eqb lines c.args.first.now (Some c.in-Some.entries) c.in-Some.ensures.cases)
+
+pub returns-in-None : goal.returns-in-None
+returns-in-None c =
+    let lines = take c.end_of_lines.result c.args.bytes.now in
+    let apart = strip_prefix_is Decides-eqb lines c.args.first.now None c.in-None.ensures.cases in (
+      refl,
+      others c.args.bytes.now c.args.first.now (λ rest e. apart rest (c.end_of_lines.ensures.lines ∙ e))
+          (λ e. some lines (c.end_of_lines.ensures.lines ∙ e) (sym c.is_empty.ensures ∙ c.if-is_empty.false)),
+    )

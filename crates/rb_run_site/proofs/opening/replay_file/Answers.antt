@@ -1,0 +1,33 @@
+use Rattle.std.proofs.Common.{◌≡◌, ◌-◌, ◌∙◌, sym, subst}
+use Rattle.serde_json.specs.Written.{compact_text}
+use Rattle.rb_money.specs.Settings.{IsConfigured}
+use Rattle.rb_history.specs.ConfigLines.{config_json}
+use Rattle.rb_journal.specs.Lines.{recovered}
+use Rattle.rb_run_site.specs.Files.{BeginsWith}
+use Rattle.rb_run_site.specs.Journals.{journal_head}
+use Rattle.rb_run_site.specs.Openings.{OpensFile}
+use Rattle.rb_run_site.specs.Replays.{ReplaysLines}
+use Rattle.rb_run_site.proofs.EntryLines.{config_is_line}
+use Rattle.rb_run_site.proofs.Opened.{replayed_file}
+use Rattle.rb_run_site.proofs.opening.replay_file.Goals as goal
+
+pub entries_in-requires : goal.entries_in-requires
+entries_in-requires c =
+    let s = c.args.node.now.site.settings in
+    let ok = subst IsConfigured c.config.ensures c.sites-sites.ensures.configured in
+    (compact_text (config_json s), config_is_line c.lines_are_single.ensures.configs s ok, c.deref.ensures.value ∙ c.in_ok-first.ensures)
+
+pub returns-in_ok-replay_all-in-Some : goal.returns-in_ok-replay_all-in-Some
+returns-in_ok-replay_all-in-Some c =
+    let old = c.args.node.now.site in
+    let new = c.replay_all.new.node.site in
+    let file = c.args.bytes.now in
+    let begins : BeginsWith file (journal_head old.settings) c.in-Some.entries.now =
+    subst (λ f. BeginsWith file f c.in-Some.entries.now) (c.deref.ensures.value ∙ c.in_ok-first.ensures)
+    (rw c.in-Some.is at c.in_ok-entries.ensures) in
+    let skipped : c.saturating_sub-skipped.result ≡ c.count_lines.result - c.args.resend = c.saturating_sub-skipped.ensures in
+    let replayed = subst (λ n. ReplaysLines old new (recovered c.in-Some.entries.now) n c.args.sends.now.items c.replay_all.new.sends.items)
+    skipped c.in_ok-replay_all-in-Some.ensures in
+    subst (λ f. OpensFile old new file f c.replay_all.new.sends.items c.args.resend) (sym c.new.ensures.items)
+    (replayed_file old new file c.in-Some.entries.now c.args.sends.now.items c.replay_all.new.sends.items c.args.resend c.count_lines.result
+    c.requires.first begins c.count_lines.ensures c.requires.none replayed)

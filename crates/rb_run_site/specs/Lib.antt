@@ -1,0 +1,9 @@
+pub mod Ends
+pub mod Faults
+pub mod Files
+pub mod FirstLines
+pub mod Journals
+pub mod Openings
+pub mod Replays
+pub mod Runs
+pub mod Starts

@@ -1,0 +1,49 @@
+-- A site that is opened over a file, of which nothing is changed yet.
+use Rattle.std.specs.Prelude.{◌≡◌, ◌⊎◌, ◌≤◌, ℕ, List, [], Some, None}
+use Rattle.rb_money.specs.Settings.{Settings}
+use Rattle.rb_commands.specs.Configurations.{config_on}
+use Rattle.rb_journal.specs.Lines.{recovered}
+use Rattle.rb_site.specs.Seen.{SeenSite}
+use Rattle.rb_run_site.specs.Journals.{journal_head, journal_of}
+use Rattle.rb_run_site.specs.Files.{BeginsWith, IsAnother}
+use Rattle.rb_run_site.specs.Replays.{EndsReplay}
+use Rattle.rb_run_site.specs.declared.fault.SiteFault.{SiteFault}
+use Rattle.rb_run_site.specs.declared.fault.SiteFault.TheVariants.{BadConfig, NoSite, AnotherJournal, BadEntry, WrongReply}
+use Rattle.rb_run_site.specs.declared.fault.SiteFault.TheVariants.{OutOfMemory}
+use Rattle.rb_run_site.specs.Starts.{IsJournalOf, IsOf, sent_again}
+
+-- the line that a journal is still to begin with: the configuration's, where it has no line
+abbrev pub IsToBegin : List (List ℕ) → SeenSite → List ℕ → Type 0
+IsToBegin lines x first = ((lines ≡ []) × (first ≡ journal_head x.settings)) ⊎ ((lines ≡ journal_of x) × (first ≡ []))
+
+-- the site went on by the file's entries, if it has any
+pub record OpensFile (old new : SeenSite) (file first sends : List ℕ) (most : ℕ) : Type 0 where
+  pub settings : new.settings ≡ old.settings
+  pub me : new.me ≡ old.me
+  pub journal : IsJournalOf (recovered file) new
+  pub begins : IsToBegin (recovered file) new first
+  pub sends_are : sends ≡ sent_again most new
+
+-- why a site of a line isn't opened: the line, of this number, is no configuration; or it has no such site
+abbrev pub EndsNode : List ℕ → ℕ → ℕ → SiteFault → Type 0
+EndsNode line number me (BadConfig n) = (n ≡ number) × (config_on line ≡ None)
+EndsNode line number me NoSite = (s : Settings) × (config_on line ≡ Some s) × (s.sites ≤ me)
+EndsNode line number me OutOfMemory = Unit {0}
+EndsNode line number me _ = ⊥
+
+-- why a file isn't replayed: it is another's, or a line of its entries isn't the site's next
+abbrev pub EndsFile : SeenSite → List ℕ → SiteFault → Type 0
+EndsFile old file AnotherJournal = IsAnother file (journal_head old.settings)
+EndsFile old file (BadEntry n) = (entries : List ℕ) × BeginsWith file (journal_head old.settings) entries
+    × EndsReplay old (recovered entries) (BadEntry n)
+EndsFile old file (WrongReply n) = (entries : List ℕ) × BeginsWith file (journal_head old.settings) entries
+    × EndsReplay old (recovered entries) (WrongReply n)
+EndsFile old file OutOfMemory = Unit {0}
+EndsFile old file _ = ⊥
+
+-- the site of the configuration on a line went on by the file's entries
+pub record OpensSite (config : List ℕ) (me most : ℕ) (file : List ℕ) (x : SeenSite) (first sends : List ℕ) : Type 0 where
+  pub is_of : IsOf config me x
+  pub journal : IsJournalOf (recovered file) x
+  pub begins : IsToBegin (recovered file) x first
+  pub sends_are : sends ≡ sent_again most x

@@ -1,0 +1,43 @@
+-- The site that a run starts with.
+use Rattle.std.specs.Prelude.{◌≡◌, ◌⊎◌, ℕ, ◌+◌, ◌-◌, ◌<◌, List, [], ◌∷◌, ◌++◌, length, Option, Some, IfSome}
+use Rattle.rb_site.specs.Events.{first_site}
+use Rattle.rb_site.specs.Seen.{SeenSite, first_seen}
+use Rattle.rb_commands.specs.Configurations.{config_on}
+use Rattle.rb_lines.specs.Lines.{lines_of}
+use Rattle.rb_serve.specs.Turns.{not_blank}
+use Rattle.rb_run_site.specs.Journals.{journal_of}
+use Rattle.rb_run_site.specs.Replays.{resent}
+
+-- the site is of the configuration on this line, and of this number
+pub record IsOf (config : List ℕ) (me : ℕ) (x : SeenSite) : Type 0 where
+  pub configured : config_on config ≡ Some x.settings
+  pub me_is : x.me ≡ me
+  pub within : me < x.settings.sites
+
+-- a journal without lines is of a site before any event; else the lines are the site's journal
+abbrev pub IsJournalOf : List (List ℕ) → SeenSite → Type 0
+IsJournalOf lines x = ((lines ≡ []) × (x ≡ first_seen x.settings x.me)) ⊎ (lines ≡ journal_of x)
+
+-- what is put out again: what the last so many entries sent
+abbrev pub sent_again : ℕ → SeenSite → List ℕ
+sent_again most x = resent x.settings (first_site x.me) (length x.entries - most) x.entries
+
+-- the input's first line that isn't blank is the configuration's, and these lines are behind it, of which the first has this number
+pub record IsBehind (config : List ℕ) (number : ℕ) (later : List (List ℕ)) (input : List ℕ) : Type 0 where
+  pub blanks : List (List ℕ)
+  pub are_blank : not_blank blanks ≡ []
+  pub number_is : number ≡ 2 + length blanks
+  pub whole : lines_of input ≡ blanks ++ config ∷ later
+
+-- what waits and what is still to be read is behind the configuration's line
+pub record WaitsBehind (config : List ℕ) (number : ℕ) (pending : List ℕ) (left : Option (List ℕ)) (input : List ℕ) : Type 0 where
+  pub rest : List ℕ
+  pub left_is : left ≡ Some rest
+  pub behind : IsBehind config number (lines_of (pending ++ rest)) input
+
+-- a run starts with this site: the one that the input's first line and the journal's lines say
+pub record Starts (me : ℕ) (input : Option (List ℕ)) (lines : List (List ℕ)) (x : SeenSite) : Type 0 where
+  pub config : List ℕ
+  pub is_of : IsOf config me x
+  pub first : IfSome input (λ all. (number : ℕ) × (later : List (List ℕ)) × IsBehind config number later all)
+  pub journal : IsJournalOf lines x

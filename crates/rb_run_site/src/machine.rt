@@ -1,0 +1,66 @@
+//! A site as what answers lines over a journal.
+ghost use Rattle.std.specs.Prelude.{◌≡◌};
+
+use rb_history::{configs_are_read, lines_are_single};
+use rb_journal::LineBatch;
+use rb_node::{Node, NodeFault};
+use rb_serve::{Machine, MachineFault};
+use std::alloc::Global;
+
+/// A site whose history is in a journal.
+pub struct SiteMachine {
+    pub node: Node,
+    entries: Vec<u8>,
+}
+
+impl SiteMachine {
+    /// The site, as the machine of its journal. This takes no memory.
+    pub fn new(alloc: Global, node: Node) -> SiteMachine
+        ensures { result.node ≡ node }
+    {
+        SiteMachine {
+            node,
+            entries: Vec::new(alloc),
+        }
+    }
+
+    /// Ends the site.
+    pub fn end(self) {
+        let SiteMachine { node, entries: _ } = self;
+        node.end();
+    }
+}
+
+impl Machine for SiteMachine {
+    ghost use Rattle.rb_run_site.specs.Journals.{SiteAnswers, journal_of};
+
+    ghost lines = { λ m. journal_of m.node.site };
+
+    ghost answers = { SiteAnswers };
+
+    fn answer_line(
+        &mut self,
+        line: &[u8],
+        batch: &mut LineBatch,
+        text: &mut Vec<u8>,
+    ) -> Result<(), MachineFault> {
+        // For facts alone: lines of entries and of configurations are lines, and the latter are read as they are.
+        lines_are_single();
+        configs_are_read();
+        let _sites = self.node.config().sites();
+        let before = text.len();
+        self.entries.clear();
+        match self.node.answer(line, text, &mut self.entries) {
+            Ok(()) => {}
+            Err(NodeFault::OutOfMemory) => return Err(MachineFault::OutOfMemory),
+            Err(_) => return Err(MachineFault::Bad),
+        }
+        match batch.extend(&self.entries) {
+            Ok(()) => Ok(()),
+            Err(_) => {
+                text.truncate(before);
+                Err(MachineFault::OutOfMemory)
+            }
+        }
+    }
+}

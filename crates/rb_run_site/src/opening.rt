@@ -1,0 +1,138 @@
+//! A site that is opened: its configuration read, its journal looked at and replayed. Nothing of the file is changed.
+ghost use Rattle.std.specs.Prelude.{◌≡◌, ◌+◌, ◌⊎◌, ◌<◌, ◌^◌, ◌≤◌, [], List, ℕ, true, false, length, Err, IfErr, IfOk, IfSome};
+ghost use Rattle.std.specs.Prelude.{MatchResult};
+ghost use Rattle.std.specs.Io.KnownBytes.{IsAtEnd};
+ghost use Rattle.rb_journal.specs.Lines.{recovered};
+ghost use Rattle.rb_site.specs.Seen.{first_seen};
+ghost use Rattle.rb_commands.specs.Configurations.{config_on};
+ghost use Rattle.rb_lines.specs.Buffers.{Counts};
+ghost use Rattle.rb_lines.specs.declared.limits.TheConstants.{MOST_READS};
+ghost use Rattle.rb_run_site.specs.Journals.{journal_head, journal_of};
+ghost use Rattle.rb_run_site.specs.Faults.{IsOpeningFault};
+ghost use Rattle.rb_run_site.specs.Openings.{EndsFile, EndsNode, OpensFile, OpensSite};
+ghost use Rattle.rb_run_site.specs.Starts.{IsOf, WaitsBehind};
+ghost use Rattle.rb_run_site.specs.declared.fault.SiteFault.TheVariants.{Read as NotRead};
+
+use crate::entries::entries_in;
+use crate::fault::SiteFault;
+use crate::first_line::first_line;
+use crate::machine::SiteMachine;
+use crate::replay::{count_lines, replay_all};
+use rb_history::lines_are_single;
+use rb_lines::{Buffers, Source, ToBytes};
+use rb_node::{Node, NodeFault};
+use std::alloc::Global;
+
+/// A site before its first event line.
+pub struct Opened {
+    pub machine: SiteMachine,
+    /// The configuration's line with its line feed, where the journal doesn't have it yet; else nothing.
+    pub first: Vec<u8>,
+    /// The lines of what is sent again.
+    pub sends: Vec<u8>,
+}
+
+impl Opened {
+    /// Ends the site.
+    pub fn end(self) {
+        let Opened {
+            machine,
+            first: _,
+            sends: _,
+        } = self;
+        machine.end();
+    }
+}
+
+/// The site of the configuration on a line, before any event.
+fn open_node(alloc: Global, line: &[u8], number: u64, me: u8) -> Result<Node, SiteFault>
+    ensures { MatchResult result
+        (λ node. IsOf line.now me node.site × (node.site ≡ first_seen node.site.settings me))
+        (EndsNode line.now number me) }
+{
+    match Node::open(alloc, line, me) {
+        Ok(node) => Ok(node),
+        Err(NodeFault::NoSite) => Err(SiteFault::NoSite),
+        Err(NodeFault::OutOfMemory) => Err(SiteFault::OutOfMemory),
+        Err(_) => Err(SiteFault::BadConfig { line: number }),
+    }
+}
+
+/// Replays the file's entries at a site before any event.
+fn replay_file(
+    alloc: Global,
+    node: &mut Node,
+    bytes: &[u8],
+    resend: usize,
+    sends: &mut Vec<u8>,
+) -> Result<Vec<u8>, SiteFault>
+    requires first { node.old.site ≡ first_seen node.old.site.settings node.old.site.me }
+    requires none { sends.old.items ≡ [] }
+    ensures { MatchResult result
+        (λ first. OpensFile node.old.site node.new.site bytes.now first.items sends.new.items resend)
+        (EndsFile node.old.site bytes.now) }
+{
+    // For facts alone: the line of a configuration is a line.
+    lines_are_single();
+    let _sites = node.config().sites();
+    let first = node.config_line()?;
+    match entries_in(bytes, &first)? {
+        Some(entries) => {
+            let skipped = count_lines(entries).saturating_sub(resend);
+            replay_all(node, entries, skipped, sends)?;
+            Ok(Vec::new(alloc))
+        }
+        None => Ok(first),
+    }
+}
+
+/// Reads the configuration, and opens site `me` of it with the history that the file has.
+///
+/// The number of the line behind the configuration's comes with it.
+pub fn open_site<S: Source>(
+    alloc: Global,
+    buffers: &mut Buffers,
+    reader: &mut S,
+    bytes: &[u8],
+    me: u8,
+    resend: usize,
+) -> Result<(Opened, u64), SiteFault>
+    requires unread { S.calls reader.old ≡ 0 }
+    requires pending { buffers.old.pending ≡ [] }
+    requires owed { buffers.old.owed.items ≡ [] }
+    requires reads { buffers.old.reads ≡ MOST_READS }
+    requires going { buffers.old.ended ≡ false }
+    ensures counted { Counts (S.calls reader.new) buffers.new.reads }
+    ensures end { buffers.new.ended ≡ true → IsAtEnd (S.remaining reader.new) }
+    ensures owed { IfOk result (λ _. buffers.new.owed.items ≡ []) }
+    ensures number { IfOk result (λ r. r.1 + length buffers.new.pending < 2 ^ 63) }
+    ensures opened { IfOk result (λ r. (config : List ℕ) × OpensSite config me resend bytes.now
+        r.0.machine.node.site r.0.first.items r.0.sends.items
+        × IfSome (S.remaining reader.old) (WaitsBehind config r.1 buffers.new.pending (S.remaining reader.new))) }
+    ensures only { IfErr result IsOpeningFault }
+    ensures read { result ≡ Err NotRead → (S.failed reader.new ≡ true) ⊎ (S.calls reader.new ≡ MOST_READS) }
+    ensures calls { S.calls reader.new ≤ MOST_READS }
+{
+    let mut nothing = ToBytes::new(alloc);
+    let (n, number) = first_line(buffers, reader, &mut nothing)?;
+    let mut node = open_node(alloc, &buffers.pending.as_slice()[..n], number, me)?;
+    buffers.skip_line(n);
+    let mut sends = Vec::new(alloc);
+    match replay_file(alloc, &mut node, bytes, resend, &mut sends) {
+        Ok(first) => {
+            let machine = SiteMachine::new(alloc, node);
+            Ok((
+                Opened {
+                    machine,
+                    first,
+                    sends,
+                },
+                number + 1,
+            ))
+        }
+        Err(fault) => {
+            node.end();
+            Err(fault)
+        }
+    }
+}

@@ -1,0 +1,91 @@
+//! The entries of a journal, replayed.
+ghost use Rattle.std.specs.Prelude.{◌≡◌, ◌==◌, [], length, position, MatchOption, MatchResult};
+ghost use Rattle.rb_journal.specs.Lines.{IsBatch, recovered};
+ghost use Rattle.rb_run_site.specs.Replays.{EndsReplay, IsSplit, ReplaysLine, ReplaysLines, StopsAtLine};
+
+use crate::fault::SiteFault;
+use rb_node::{Node, NodeFault};
+
+/// Where the first line feed is.
+fn first_feed(lines: &[u8]) -> Option<usize>
+    ensures { result ≡ position (λ b. b == 10) lines.now }
+{
+    lines.iter().position(|b| *b == b'\n')
+}
+
+/// The first line, without its line feed, and the lines behind it; `None` where there is none.
+fn split_line(lines: &[u8]) -> Option<(&[u8], &[u8])>
+    requires { IsBatch lines.now }
+    ensures { MatchOption result (recovered lines.now ≡ []) (λ split. IsSplit lines.now split.0.now split.1.now) }
+{
+    match first_feed(lines) {
+        Some(n) => Some((&lines[..n], &lines[n + 1..])),
+        None => None,
+    }
+}
+
+/// How many lines there are.
+pub fn count_lines(lines: &[u8]) -> usize
+    requires { IsBatch lines.now }
+    ensures { result ≡ length (recovered lines.now) }
+{
+    let mut rest = lines;
+    let mut count = 0;
+    while let Some((_line, later)) = split_line(rest) {
+        rest = later;
+        count += 1;
+    }
+    count
+}
+
+/// Replays one line of a journal, without its line feed. What its entry sent is added to `sends` where that is asked
+/// for.
+fn replay_one(
+    node: &mut Node,
+    line: &[u8],
+    number: u64,
+    again: bool,
+    sends: &mut Vec<u8>,
+) -> Result<(), SiteFault>
+    ensures { MatchResult result
+        (λ _. ReplaysLine node.old.site node.new line.now again sends.old.items sends.new.items)
+        (λ why. StopsAtLine node.old.site line.now number why) }
+{
+    match node.replay_written(line) {
+        Ok(()) => {}
+        Err(NodeFault::WrongReply) => return Err(SiteFault::WrongReply { line: number }),
+        Err(NodeFault::OutOfMemory) => return Err(SiteFault::OutOfMemory),
+        Err(_) => return Err(SiteFault::BadEntry { line: number }),
+    }
+    if again && node.append_sent(sends).is_err() {
+        return Err(SiteFault::OutOfMemory);
+    }
+    Ok(())
+}
+
+/// Replays the entries of these lines, each with its line feed, of which the first is line 2 of the journal. What they
+/// sent, but the first `skipped` of them, is added to `sends`, a line for each entry that sent any.
+///
+/// Errors: `BadEntry` and `WrongReply`, by the line's number; `OutOfMemory`.
+pub fn replay_all(
+    node: &mut Node,
+    lines: &[u8],
+    skipped: usize,
+    sends: &mut Vec<u8>,
+) -> Result<(), SiteFault>
+    requires { IsBatch lines.now }
+    ensures { MatchResult result
+        (λ _. ReplaysLines node.old.site node.new.site (recovered lines.now) skipped sends.old.items sends.new.items)
+        (λ why. EndsReplay node.old.site (recovered lines.now) why) }
+{
+    let mut rest = lines;
+    let mut left = skipped;
+    let mut number = 2u64;
+    while let Some((line, later)) = split_line(rest) {
+        replay_one(node, line, number, left == 0, sends)?;
+        rest = later;
+        left = left.saturating_sub(1);
+        number += 1;
+    }
+    Ok(())
+}

@@ -1,0 +1,190 @@
+//! One site between a reader and a host: a whole run.
+ghost use Rattle.std.specs.Prelude.{◌≡◌, ◌+◌, ◌<◌, ◌≤◌, ◌^◌, ◌⊎◌, [], true, length, Err, List, ℕ};
+ghost use Rattle.std.specs.Io.KnownBytes.{IsAtEnd};
+ghost use Rattle.rb_journal.specs.Host.{LeavesOnly, Only};
+ghost use Rattle.rb_journal.specs.Journal.{IsSettled};
+ghost use Rattle.rb_journal.specs.Lines.{at_rest, recovered};
+ghost use Rattle.rb_lines.specs.Buffers.{Counts};
+ghost use Rattle.rb_lines.specs.declared.limits.TheConstants.{MOST_READS};
+ghost use Rattle.rb_serve.specs.Ends.{EndsAtRest, IsFull};
+ghost use Rattle.rb_serve.specs.declared.fault.ServeFault.TheVariants.{Journal as JournalStopped, Read as ReadStopped};
+ghost use Rattle.rb_serve.specs.declared.fault.ServeFault.TheVariants.{Write as WriteStopped};
+ghost use Rattle.rb_serve.specs.Run.{served_input};
+ghost use Rattle.rb_run_site.specs.Ends.{AnswersAll, AnswersBehind, IsAtRest, IsFullBehind, RunsTo};
+ghost use Rattle.rb_run_site.specs.Openings.{IsToBegin};
+ghost use Rattle.rb_run_site.specs.Runs.{IsLeftOrAnswered, IsSiteRun};
+ghost use Rattle.rb_run_site.specs.Journals.{SiteAnswers, journal_of};
+ghost use Rattle.rb_run_site.specs.Starts.{IsJournalOf};
+ghost use Rattle.rb_run_site.specs.declared.fault.SiteFault.TheVariants.{Journal as DiskFailed, Read as NotRead};
+ghost use Rattle.rb_run_site.specs.declared.fault.SiteFault.TheVariants.{Write as NotWritten};
+
+use crate::fault::SiteFault;
+use crate::opening::{Opened, open_site};
+use rb_history::lines_are_single;
+use rb_journal::{Host, Journal};
+use rb_lines::{Buffers, Source};
+use rb_serve::{ServeFault, serve};
+use std::alloc::Global;
+
+/// What a run came to: the host that it ran over, and how many lines were answered, or why it stopped.
+pub struct Ran<H: Host> {
+    pub host: H,
+    pub ended: Result<u64, SiteFault>,
+}
+
+/// Adds the configuration's line to a journal that doesn't have it yet, puts out what is sent again, and answers the
+/// lines.
+fn go_on<S: Source, H: Host>(
+    alloc: Global,
+    opened: &mut Opened,
+    number: u64,
+    journal: &mut Journal<H>,
+    buffers: &mut Buffers,
+    reader: &mut S,
+) -> Result<u64, ServeFault>
+    requires settled { IsSettled H.is_usable H.content H.may_leave journal.old }
+    requires begins { IsToBegin (recovered (H.content journal.old.host)) opened.old.machine.node.site
+        opened.old.first.items }
+    requires journal { IsJournalOf (recovered (H.content journal.old.host)) opened.old.machine.node.site }
+    requires counted { Counts (S.calls reader.old) buffers.old.reads }
+    requires end { buffers.old.ended ≡ true → IsAtEnd (S.remaining reader.old) }
+    requires owed { buffers.old.owed.items ≡ [] }
+    requires number { number + length buffers.old.pending < 2 ^ 63 }
+    ensures settled { EndsAtRest result → IsSettled H.is_usable H.content H.may_leave journal.new }
+    ensures text { EndsAtRest result → AnswersAll opened.old.machine.node.site opened.old.sends.items number
+        (served_input buffers.old.pending (S.remaining reader.old)) (S.remaining reader.new)
+        (H.output journal.old.host) (recovered (H.content journal.new.host)) (H.output journal.new.host) result }
+    ensures any_moment { LeavesOnly H.moment H.left_since journal.old.host journal.new.host
+        (IsLeftOrAnswered (recovered (H.content journal.old.host)) opened.old.machine.node.site opened.old.sends.items
+        (served_input buffers.old.pending (S.remaining reader.old)) (H.output journal.old.host)) }
+    ensures read { result ≡ Err ReadStopped → (S.failed reader.new ≡ true) ⊎ (S.calls reader.new ≡ MOST_READS) }
+    ensures write { result ≡ Err WriteStopped → H.faults journal.old.host < H.faults journal.new.host }
+    ensures journal { result ≡ Err JournalStopped → (H.faults journal.old.host < H.faults journal.new.host)
+        ⊎ IsFull SiteAnswers (served_input buffers.old.pending (S.remaining reader.old))
+        (journal_of opened.old.machine.node.site) }
+    ensures calls { S.calls reader.new ≤ MOST_READS }
+{
+    // For a fact alone: the line of a configuration is a line.
+    lines_are_single();
+    let _sites = opened.machine.node.config().sites();
+    journal.commit_and_put_out(&opened.first, &opened.sends)?;
+    serve(alloc, &mut opened.machine, journal, buffers, number, reader)
+}
+
+/// Runs an opened site over a file, whose bytes these are.
+fn run_opened<S: Source, H: Host>(
+    alloc: Global,
+    mut opened: Opened,
+    number: u64,
+    buffers: &mut Buffers,
+    reader: &mut S,
+    host: H,
+    bytes: &[u8],
+) -> Ran<H>
+    requires usable { H.is_usable host }
+    requires bytes { bytes.now ≡ H.content host }
+    requires durable { Only (H.content host) (H.may_leave host) }
+    requires begins { IsToBegin (recovered bytes.now) opened.machine.node.site opened.first.items }
+    requires journal { IsJournalOf (recovered bytes.now) opened.machine.node.site }
+    requires counted { Counts (S.calls reader.old) buffers.old.reads }
+    requires end { buffers.old.ended ≡ true → IsAtEnd (S.remaining reader.old) }
+    requires owed { buffers.old.owed.items ≡ [] }
+    requires number { number + length buffers.old.pending < 2 ^ 63 }
+    ensures ended { RunsTo (AnswersAll opened.machine.node.site opened.sends.items number
+        (served_input buffers.old.pending (S.remaining reader.old)) (S.remaining reader.new) (H.output host)
+        (recovered (H.content result.host)) (H.output result.host)) ⊥ result.ended }
+    ensures rest { IsAtRest result.ended → H.content result.host ≡ at_rest (recovered (H.content result.host)) }
+    ensures durable { IsAtRest result.ended → Only (H.content result.host) (H.may_leave result.host) }
+    ensures any_moment { LeavesOnly H.moment H.left_since host result.host
+        (IsLeftOrAnswered (recovered bytes.now) opened.machine.node.site opened.sends.items
+        (served_input buffers.old.pending (S.remaining reader.old)) (H.output host)) }
+    ensures read { result.ended ≡ Err NotRead → (S.failed reader.new ≡ true) ⊎ (S.calls reader.new ≡ MOST_READS) }
+    ensures write { result.ended ≡ Err NotWritten → H.faults host < H.faults result.host }
+    ensures journal { result.ended ≡ Err DiskFailed → (H.faults host < H.faults result.host)
+        ⊎ IsFull SiteAnswers (served_input buffers.old.pending (S.remaining reader.old))
+        (journal_of opened.machine.node.site) }
+    ensures calls { S.calls reader.new ≤ MOST_READS }
+{
+    match Journal::open(host, bytes) {
+        Ok(mut journal) => {
+            let ended = go_on(alloc, &mut opened, number, &mut journal, buffers, reader);
+            opened.end();
+            let Journal { host, end: _ } = journal;
+            match ended {
+                Ok(count) => Ran {
+                    host,
+                    ended: Ok(count),
+                },
+                Err(fault) => Ran {
+                    host,
+                    ended: Err(SiteFault::from(fault)),
+                },
+            }
+        }
+        Err((error, host)) => {
+            opened.end();
+            Ran {
+                host,
+                ended: Err(SiteFault::from(ServeFault::from(error))),
+            }
+        }
+    }
+}
+
+/// Runs site `me` (0 to 15) of the configuration that the reader's first line has, over the file of the host, whose
+/// bytes these are. What the last `resend` entries of its journal sent is put out again; then each line of the reader
+/// is an event, and is answered by a line.
+pub fn run_site<S: Source, H: Host>(
+    alloc: Global,
+    reader: &mut S,
+    host: H,
+    bytes: &[u8],
+    me: u8,
+    resend: usize,
+) -> Ran<H>
+    requires usable { H.is_usable host }
+    requires bytes { bytes.now ≡ H.content host }
+    // After a restart, what is read is what is on the disk.
+    requires durable { Only (H.content host) (H.may_leave host) }
+    requires unread { S.calls reader.old ≡ 0 }
+
+    // The site that the input and the journal say has answered the lines behind the configuration, as the end says;
+    // or the run ended before anything was changed.
+    ensures ended { RunsTo (AnswersBehind me resend (S.remaining reader.old) (S.remaining reader.new)
+        (recovered bytes.now) (H.output host) (recovered (H.content result.host)) (H.output result.host))
+        (result.host ≡ host) result.ended }
+
+    // Then the file is whole lines and a closed gate, all of it on the disk.
+    ensures rest { IsAtRest result.ended → H.content result.host ≡ at_rest (recovered (H.content result.host)) }
+    ensures durable { IsAtRest result.ended → Only (H.content result.host) (H.may_leave result.host) }
+
+    // A crash at any moment leaves a journal that some first lines of the input have, and nothing was put out that it
+    // takes back.
+    ensures any_moment { LeavesOnly H.moment H.left_since host result.host
+        (IsSiteRun me resend (S.remaining reader.old) (recovered bytes.now) (H.output host)) }
+
+    // A failed read, a failed write and a failed journal are reported only for their causes, and at most so many reads
+    // are made.
+    ensures read { result.ended ≡ Err NotRead → (S.failed reader.new ≡ true) ⊎ (S.calls reader.new ≡ MOST_READS) }
+    ensures write { result.ended ≡ Err NotWritten → H.faults host < H.faults result.host }
+    ensures journal { result.ended ≡ Err DiskFailed → (H.faults host < H.faults result.host)
+        ⊎ IsFullBehind me (S.remaining reader.old) (recovered bytes.now) }
+    ensures calls { S.calls reader.new ≤ MOST_READS }
+{
+    let mut buffers = Buffers::new(alloc);
+    match open_site(alloc, &mut buffers, reader, bytes, me, resend) {
+        Ok((opened, number)) => run_opened(
+            alloc,
+            opened,
+            number,
+            &mut buffers,
+            reader,
+            host,
+            bytes,
+        ),
+        Err(fault) => Ran {
+            host,
+            ended: Err(fault),
+        },
+    }
+}
