@@ -9,9 +9,10 @@ use Rattle.rb_lines.specs.declared.fault.StreamFault.TheVariants.{NoConfig, OutO
 use Rattle.rb_lines.specs.Messages.{status_of}
 use Rattle.rb_run_threads.specs.declared.fault.ThreadsFault.{ThreadsFault}
 use Rattle.rb_run_threads.specs.Messages.{threads_status_of}
+use Rattle.rb_run_site.specs.declared.fault.SiteFault.{SiteFault}
 use Rattle.rbbank.specs.declared.answer.Answered.{Answered}
-use Rattle.rbbank.specs.declared.answer.Answered.TheVariants.{Script, Audit, Migrate, Threads, NotBuiltIn}
-use Rattle.rbbank.specs.Statuses.{IsEnd, IsEndOf, IsEndOfAudit, IsEndOfScript, IsEndOfThreads, IsEndOfWords}
+use Rattle.rbbank.specs.declared.answer.Answered.TheVariants.{Script, Audit, Migrate, Threads, SiteAsked}
+use Rattle.rbbank.specs.Statuses.{IsEnd, IsEndOf, IsEndOfAudit, IsEndOfScript, IsEndOfSite, IsEndOfThreads, IsEndOfWords}
 use Rattle.rbbank.specs.Statuses.{IsToldStatus, status_of_unread}
 
 -- memory ran out
@@ -23,7 +24,7 @@ fault_end n fault (inl e) = inr (inr (inl (fault, e)))
 fault_end n fault (inr e) = no_memory n e
 
 threads_fault_end : (n : ℕ) (fault : ThreadsFault) → IsToldStatus (threads_status_of fault) n → IsEnd n
-threads_fault_end n fault (inl e) = inr (inr (inr (fault, e)))
+threads_fault_end n fault (inl e) = inr (inr (inr (inl (fault, e))))
 threads_fault_end n fault (inr e) = no_memory n e
 
 script_end : (n : ℕ) (answered : Result ℕ StreamFault) → IsEndOfScript answered n → IsEnd n
@@ -39,13 +40,18 @@ threads_end : (n : ℕ) (ran : Result Unit ThreadsFault) → IsEndOfThreads ran 
 threads_end n (Ok u) e = inl e
 threads_end n (Err fault) e = threads_fault_end n fault e
 
+site_end : (n : ℕ) (ran : Result ℕ SiteFault) → IsEndOfSite ran n → IsEnd n
+site_end n (Ok count) e = inl e
+site_end n (Err fault) (inl e) = inr (inr (inr (inr (fault, e))))
+site_end n (Err fault) (inr e) = no_memory n e
+
 -- whatever was done
 pub any_end : (n : ℕ) (answered : Answered) → IsEndOf answered n → IsEnd n
 any_end n (Script ran) e = script_end n ran e
 any_end n (Audit ran) e = audit_end n ran e
 any_end n (Migrate ran) e = script_end n ran e
 any_end n (Threads ran) e = threads_end n ran e
-any_end n NotBuiltIn e = inr (inr (inl (NoConfig, e)))
+any_end n (SiteAsked me journal resend) e = site_end n e.0 e.1
 
 shown_end : (n : ℕ) → (n ≡ 0) ⊎ IsToldStatus (status_of Write) n → IsEnd n
 shown_end n (inl e) = inl e

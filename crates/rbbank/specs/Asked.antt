@@ -8,14 +8,15 @@ use Rattle.rb_run_migrate.specs.Run.{MigrationEndsAs}
 use Rattle.rb_run_threads.specs.Runs.{ThreadsEndAs}
 use Rattle.rbbank.specs.declared.answer.Answered.{Answered}
 use Rattle.rbbank.specs.declared.answer.Answered.TheVariants.{Script as ScriptRan, Audit as AuditRan, Migrate as MigrationRan}
-use Rattle.rbbank.specs.declared.answer.Answered.TheVariants.{Threads as TellersRan, NotBuiltIn}
+use Rattle.rbbank.specs.declared.answer.Answered.TheVariants.{Threads as TellersRan, SiteAsked}
 
 -- what was asked for was done, by the definition of its own run: a script on the reader's bytes, an audit of them or a migration, wherever
--- these bytes are known, or a run of tellers, which reads nothing. A site isn't built in yet: nothing is read or written
+-- these bytes are known, or a run of tellers, which reads nothing; or a site is to run as asked, and nothing was read or written
 abbrev pub DoesAsAsked : Words → Answered → Option (List ℕ) → Option (List ℕ) → List ℕ → Type 0
 DoesAsAsked Script (ScriptRan r) bytes left text = IfSome bytes (λ input. ScriptEndsAs r input left text)
 DoesAsAsked Audit (AuditRan r) bytes left text = IfSome bytes (λ input. AuditEndsAs r input left text)
 DoesAsAsked Migrate (MigrationRan r) bytes left text = IfSome bytes (λ input. MigrationEndsAs r input left text)
 DoesAsAsked (Threads sites tellers seed) (TellersRan r) bytes left text = ThreadsEndAs r sites tellers seed text × (left ≡ bytes)
-DoesAsAsked (Site me journal resend) NotBuiltIn bytes left text = (text ≡ []) × (left ≡ bytes)
+DoesAsAsked (Site me journal resend) (SiteAsked me' journal' resend') bytes left text =
+    (me' ≡ me) × (journal' ≡ journal) × (resend' ≡ resend) × (text ≡ []) × (left ≡ bytes)
 DoesAsAsked _ _ bytes left text = ⊥

@@ -9,8 +9,10 @@ use Rattle.rb_lines.specs.declared.fault.StreamFault.TheVariants.{Write}
 use Rattle.rb_lines.specs.Messages.{status_of}
 use Rattle.rb_run_threads.specs.declared.fault.ThreadsFault.{ThreadsFault}
 use Rattle.rb_run_threads.specs.Messages.{threads_status_of}
+use Rattle.rb_run_site.specs.declared.fault.SiteFault.{SiteFault}
+use Rattle.rb_run_site.specs.Faults.{site_status_of}
 use Rattle.rbbank.specs.declared.answer.Answered.{Answered}
-use Rattle.rbbank.specs.declared.answer.Answered.TheVariants.{Script, Audit, Migrate, Threads, NotBuiltIn}
+use Rattle.rbbank.specs.declared.answer.Answered.TheVariants.{Script, Audit, Migrate, Threads, SiteAsked}
 
 -- where the words can't be read
 abbrev pub status_of_unread : IoErrorKind → ℕ
@@ -44,14 +46,29 @@ abbrev pub IsEndOfThreads : Result Unit ThreadsFault → ℕ → Type 0
 IsEndOfThreads (Ok u) n = n ≡ 0
 IsEndOfThreads (Err fault) n = IsToldStatus (threads_status_of fault) n
 
--- whatever was done ends as a script, an audit, a migration or a run of threads does; a site isn't built in yet
+-- a site whose lines were all answered is no fault
+abbrev pub IsEndOfSite : Result ℕ SiteFault → ℕ → Type 0
+IsEndOfSite (Ok count) n = n ≡ 0
+IsEndOfSite (Err fault) n = IsToldStatus (site_status_of fault) n
+
+-- a run of a site ends as some run of it may
+abbrev pub IsEndOfSomeSite : ℕ → Type 0
+IsEndOfSomeSite n = (ran : Result ℕ SiteFault) × IsEndOfSite ran n
+
+-- whatever was done ends as a script, an audit, a migration, a run of threads or one of a site does
 abbrev pub IsEndOf : Answered → ℕ → Type 0
 IsEndOf (Script ran) n = IsEndOfScript ran n
 IsEndOf (Audit ran) n = IsEndOfAudit ran n
 IsEndOf (Migrate ran) n = IsEndOfScript ran n
 IsEndOf (Threads ran) n = IsEndOfThreads ran n
-IsEndOf NotBuiltIn n = n ≡ 2
+IsEndOf (SiteAsked me journal resend) n = IsEndOfSomeSite n
 
 -- 0, 1, or the status of a fault
 abbrev pub IsEnd : ℕ → Type 0
-IsEnd n = (n ≡ 0) ⊎ ((n ≡ 1) ⊎ (((fault : StreamFault) × (n ≡ status_of fault)) ⊎ ((fault : ThreadsFault) × (n ≡ threads_status_of fault))))
+IsEnd n = (n ≡ 0) ⊎ ((n ≡ 1) ⊎ (((fault : StreamFault) × (n ≡ status_of fault)) ⊎ (((fault : ThreadsFault) × (n ≡ threads_status_of fault))
+    ⊎ ((fault : SiteFault) × (n ≡ site_status_of fault)))))
+
+-- a site is to run
+abbrev pub IsSiteAsked : Answered → Type 0
+IsSiteAsked (SiteAsked me journal resend) = Unit {0}
+IsSiteAsked _ = ⊥

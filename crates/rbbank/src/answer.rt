@@ -5,6 +5,7 @@ ghost use Rattle.rb_lines.specs.declared.limits.TheConstants.{MOST_READS};
 ghost use Rattle.rb_cli.specs.declared.words.Words.{Words as TheWords};
 ghost use Rattle.rb_cli.specs.Words.{Ask};
 ghost use Rattle.rbbank.specs.Asked.{DoesAsAsked};
+ghost use Rattle.rbbank.specs.Statuses.{IsSiteAsked};
 
 use rb_branch::NoGate;
 use rb_cli::{Words, read_words};
@@ -19,7 +20,7 @@ use std::thread::Threads;
 
 /// What was done, and what it came to.
 #[derive(Clone, Copy, Debug, PartialEq, Eq)]
-pub enum Answered {
+pub enum Answered<'a> {
     /// A script was answered.
     Script(Result<u64, ScriptFault>),
     /// Histories were audited.
@@ -28,20 +29,24 @@ pub enum Answered {
     Migrate(Result<u64, ScriptFault>),
     /// Tellers ran.
     Threads(Result<(), ThreadsFault>),
-    /// A site was asked for, which isn't built in yet.
-    NotBuiltIn,
+    /// A site is to run over this file, which takes a disk as well. Nothing is done yet.
+    SiteAsked {
+        me: u8,
+        journal: &'a str,
+        resend: Option<u32>,
+    },
 }
 
 /// Does what the words after the program's name ask for, from this reader to this writer. Tellers read nothing;
-/// the handle starts their threads, and waits for them. Where the words ask for nothing, the error says so, and
-/// nothing is read or written.
+/// the handle starts their threads, and waits for them. A site takes a disk as well, so it is the caller's to run. Where
+/// the words ask for nothing, the error says so, and nothing is read or written.
 pub fn answer<'a, H: Threads + Wait + Sync, S: Source, W: Sink>(
     handle: &H,
     alloc: Global,
     words: &'a [&'a str],
     reader: &mut S,
     writer: &mut W,
-) -> Result<Answered, clap::Error>
+) -> Result<Answered<'a>, clap::Error>
     requires unread { S.calls reader.old ≡ 0 }
     requires fresh { W.failed writer.old ≡ false }
     ensures done { IfOk result (λ answered. (asked : TheWords) × Ask (map (λ word. word.now) words.entry.now) asked
@@ -49,6 +54,7 @@ pub fn answer<'a, H: Threads + Wait + Sync, S: Source, W: Sink>(
         × DoesAsAsked asked answered (S.remaining reader.old) (S.remaining reader.new) text) }
     ensures unasked { IfErr result (λ _. (asked : TheWords) → ¬ Ask (map (λ word. word.now) words.entry.now) asked) }
     ensures untouched { OnErr result ((reader.new ≡ reader.old) × (writer.new ≡ writer.old)) }
+    ensures asked { IfOk result (λ answered. IsSiteAsked answered → (reader.new ≡ reader.old) × (writer.new ≡ writer.old)) }
     ensures calls { S.calls reader.new ≤ S.calls reader.old + MOST_READS }
 {
     match read_words(alloc, words) {
@@ -65,7 +71,17 @@ pub fn answer<'a, H: Threads + Wait + Sync, S: Source, W: Sink>(
             let ran = run_threads(handle, alloc, sites, tellers, seed, NoGate, writer);
             Ok(Answered::Threads(ran))
         }
-        Ok(Words::Site { .. }) => Ok(Answered::NotBuiltIn),
+        Ok(
+            Words::Site {
+                me,
+                journal,
+                resend,
+            },
+        ) => Ok(Answered::SiteAsked {
+            me,
+            journal,
+            resend,
+        }),
         Err(error) => Err(error),
     }
 }

@@ -9,14 +9,16 @@ ghost use Rattle.std.specs.Process.{exit_status};
 ghost use Rattle.clap.specs.Words.{kind_of};
 ghost use Rattle.rb_lines.specs.Messages.{status_of};
 ghost use Rattle.rb_lines.specs.declared.fault.StreamFault.TheVariants.{Write as NotWritten};
-ghost use Rattle.rbbank.specs.Statuses.{IsEnd, IsEndOf, IsEndOfAudit, IsEndOfScript, IsEndOfThreads, IsEndOfWords};
+ghost use Rattle.rbbank.specs.Statuses.{IsEnd, IsEndOf, IsEndOfAudit, IsEndOfScript, IsEndOfThreads, IsEndOfWords, IsSiteAsked};
 ghost use Rattle.rbbank.specs.Statuses.{IsToldStatus, status_of_unread};
 
 mod answer;
+mod on_disk;
 
 use answer::{Answered, answer};
 use clap::error::ErrorKind;
-use rb_lines::{FromReader, ScriptFault, ToWriter, message, status};
+use on_disk::run_on_disk;
+use rb_lines::{FromReader, ScriptFault, Source, ToWriter, message, status};
 use rb_run_threads::{ThreadsFault, threads_message, threads_status};
 use std::alloc::AllocError;
 use std::process::ExitCode;
@@ -41,7 +43,7 @@ fn out_of_memory(rt: &HostRuntime) -> ExitCode
 }
 
 /// Says this line, if there was memory for it, and ends with this status.
-fn tell_line(rt: &HostRuntime, line: Result<String, AllocError>, status: u8) -> ExitCode
+pub(crate) fn tell_line(rt: &HostRuntime, line: Result<String, AllocError>, status: u8) -> ExitCode
     ensures { IsToldStatus status (exit_status result) }
 {
     match line {
@@ -133,24 +135,21 @@ fn end_of_threads(rt: &HostRuntime, ran: Result<(), ThreadsFault>) -> ExitCode
     }
 }
 
-/// Says that a site isn't built in yet.
-fn not_built_in(rt: &HostRuntime) -> ExitCode
-    ensures { exit_status result ≡ 2 }
-{
-    let _ = rt.eprintln("rbbank: site isn't built in yet");
-    ExitCode::from(WRONG_WORDS)
-}
-
-/// How whatever was asked for ends the program.
-fn end(rt: &HostRuntime, answered: Answered) -> ExitCode
-    ensures { IsEndOf answered (exit_status result) }
+/// How whatever was asked for ends the program. A site that was asked for runs now.
+fn end<S: Source>(rt: &HostRuntime, reader: &mut S, answered: Answered) -> ExitCode
+    requires { IsSiteAsked answered → S.calls reader.old ≡ 0 }
+    ensures { IsEndOf answered.entry (exit_status result) }
 {
     match answered {
         Answered::Script(ran) => end_of_script(rt, ran),
         Answered::Audit(ran) => end_of_audit(rt, ran),
         Answered::Migrate(ran) => end_of_script(rt, ran),
         Answered::Threads(ran) => end_of_threads(rt, ran),
-        Answered::NotBuiltIn => not_built_in(rt),
+        Answered::SiteAsked {
+            me,
+            journal,
+            resend,
+        } => run_on_disk(rt, reader, me, journal, resend),
     }
 }
 
@@ -176,7 +175,7 @@ fn run<H: Threads + Wait + Sync>(rt: &HostRuntime, handle: &H) -> ExitCode
     let mut reader = FromReader::new(rt.reader());
     let mut writer = ToWriter::new(io::writer(rt));
     match answer(handle, alloc, views.as_slice(), &mut reader, &mut writer) {
-        Ok(answered) => end(rt, answered),
+        Ok(answered) => end(rt, &mut reader, answered),
         Err(error) => tell_words(rt, error),
     }
 }
