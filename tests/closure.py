@@ -4,13 +4,14 @@ toolchain's own are left. A statement is a function with a contract, as World::r
 
 usage: closure.py                  the headline's: the functions and laws of README.md's table
        closure.py STATEMENT..      that of others, as Ledger::apply, rb_site::Site::open, run_script, Funds
-       closure.py --rooms          the four rooms of docs/MODEL.md: the headline, the program's text, what contracts of
+       closure.py --parts          the four parts of docs/MODEL.md: the headline, the program's text, what contracts of
                                    other public functions rest on, and what only ties inner code to proofs
-       closure.py --check          whether docs/MODEL.md tells each definition in its room and names none that there
-                                   isn't, whether the clauses of README.md's table are there and rest on as many
-                                   definitions as it says, and whether other crates cite each file of proofs/Public and
-                                   none else of proofs/, and whether no two definitions share a name; this is silent
-                                   where all is well
+       closure.py --write          writes docs/MODEL.md: each definition in its part with the comment above it, and the
+                                   words before the first section of a crate in each part as they are
+       closure.py --check          whether docs/MODEL.md is what --write makes and names no definition that there isn't,
+                                   whether the clauses of README.md's table are there and rest on as many definitions
+                                   as it says, whether other crates cite each file of proofs/Public and none else of
+                                   proofs/, and whether no two definitions share a name; this is silent where all is well
 
 Words are resolved by the 'use' lines of their file. A type of the code stands for the types of its fields, and one that
 clients see as a value of a model for that value.
@@ -20,10 +21,12 @@ import glob
 import os
 import re
 import sys
+import textwrap
 
 ROOT = os.path.dirname(os.path.dirname(os.path.abspath(__file__)))
-ROOMS = ["The headline", "The program's text", "Other public contracts", "Inner contracts"]
-PROGRAM = ["rb_run_script::run_script", "rb_run_audit::run_audit", "rb_run_migrate::run_migrate", "rb_run_threads::run_threads", "rb_cli::read_words"]
+PARTS = ["The headline", "The program's text", "Other public contracts", "Inner contracts"]
+PROGRAM = ["rb_run_script::run_script", "rb_run_audit::run_audit", "rb_run_migrate::run_migrate", "rb_run_threads::run_threads",
+           "rb_run_site::run_site", "rb_cli::read_words"]
 WORD = re.compile(r"[^\W\d]\w*")
 
 # a type of the code with its fields, and a trait with its functions
@@ -36,8 +39,9 @@ FUNCTION = re.compile(r"(?ms)" + IMPL + r"|^( *)(pub(?:\([^)]*\))? )?fn (\w+)(.*
 # a function and its clauses in README.md's table
 CALL = re.compile(r"`(\w+::\w+)`:? ?((?:(?:, )?`\w+`)*)")
 
-# a definition of specs/, a type of the code, or a function with a contract; `scope` tells what its words stand for
-Thing = collections.namedtuple("Thing", "kind crate file name text scope public")
+# a definition of specs/ with the comment above it, a type of the code, or a function with a contract; `scope` says what
+# its words stand for
+Thing = collections.namedtuple("Thing", "kind crate file name text scope public comment", defaults=[""])
 
 
 def read(*path):
@@ -74,6 +78,16 @@ def blocks(text, start):
     return [(at, text[at.start():end]) for at, end in zip(found, ends)]
 
 
+def comment_above(text, start):
+    """The comment that ends just above a place of a text."""
+    lines = []
+    for line in reversed(text[:start].rstrip(" ").splitlines()):
+        if not line.strip().startswith("-- ") or line.strip().startswith("-- ----"):
+            break
+        lines.insert(0, line.strip()[3:])
+    return " ".join(lines)
+
+
 def definitions(crate):
     """The definitions of a crate's specs/."""
     for file in files(crate, "specs", "antt"):
@@ -83,7 +97,8 @@ def definitions(crate):
         parts = [(at.group(1), part) for at, part in parts if not at.group(0).startswith("module")]
         scope.update({name: (f"{crate}/{file}", name) for name, _ in parts})
         for name, part in parts:
-            yield Thing("definition", crate, file, name, without(part, "--"), scope, True)
+            comment = comment_above(text, text.find(part))
+            yield Thing("definition", crate, file, name, without(part, "--"), scope, True, comment)
 
 
 def value_of(text, name):
@@ -117,7 +132,8 @@ def functions(crate):
     """The functions of a crate with their signatures and contracts. Those are public that other crates may call."""
     handed = exported(crate)
     for file in files(crate, "src", "rt"):
-        text, owner = read("crates", crate, file), None
+        # (a comment between clauses may end in what ends a signature)
+        text, owner = re.sub(r"(?m)^ *//.*$", "", read("crates", crate, file)), None
         for found in FUNCTION.finditer(text):
             if found.group(1):
                 owner = found.group(1)
@@ -216,8 +232,8 @@ def counted(things):
             yield f"README.md: {', '.join(names)} rests on {rests} definitions, and not on {number.group(1)}"
 
 
-def rooms(things):
-    """Each definition's room, the first that it belongs to."""
+def parts(things):
+    """Each definition's part, the first that it belongs to."""
     called, laws = headline()
     roots = [[it for name, _ in called for it in things.statements(name)], [], [], []]
     roots[0] += [it for law in laws for it in things.statements("rb_world::" + law)]
@@ -225,12 +241,12 @@ def rooms(things):
     roots[1] += [it for its in things.functions.values() for it in its if it.crate == "rbbank"]
     roots[2] += [it for its in things.functions.values() for it in its if it.public]
     roots[3] += list(things.definitions.values())
-    room = {}
+    part_of = {}
     for at, statements in enumerate(roots):
         for it in things.closure(statements):
             if it.kind == "definition":
-                room.setdefault((it.crate, it.file, it.name), at)
-    return room
+                part_of.setdefault((it.crate, it.file, it.name), at)
+    return part_of
 
 
 def tell(found):
@@ -258,23 +274,61 @@ def tell_closure(things, names):
     print(f"{sum(it.kind == 'definition' for it in found)} definitions")
 
 
-def tell_rooms(things):
-    room = rooms(things)
-    for at, name in enumerate(ROOMS):
-        found = [things.definitions[key] for key in room if room[key] == at]
+def tell_parts(things):
+    part_of = parts(things)
+    for at, name in enumerate(PARTS):
+        found = [things.definitions[key] for key in part_of if part_of[key] == at]
         print(f"{name}: {len(found)} definitions")
         tell(found)
         print()
 
 
-def told(text):
-    """The names that each room of a text tells, by crate."""
-    names = collections.defaultdict(set)
-    for at, part in blocks(text, r"^## (.*)$"):
-        for head, section in blocks(part, r"^### .*$"):
-            for crate in re.findall(r"crates/(\w+)/specs", head.group(0)):
-                names[at.group(1), crate].update(re.findall(r"`(\w+)`", section))
-    return names
+def wrapped(text):
+    """A text in lines of 120 columns, those behind the first two columns in."""
+    behind = "  " if text.startswith("- ") else ""
+    return textwrap.fill(text, 120, subsequent_indent=behind, break_long_words=False, break_on_hyphens=False)
+
+
+def entries(found):
+    """The lines for the definitions of a file: those without a comment of their own join the one before."""
+    items = []
+    for it in found:
+        if it.comment or not items:
+            items.append(([it.name], it.comment))
+        else:
+            items[-1][0].append(it.name)
+    for names, comment in items:
+        ending = "." if comment else ""
+        yield wrapped("- " + ", ".join(f"`{name}`" for name in names) + (": " if comment else "") + comment + ending)
+
+
+def section(crate, found):
+    """The lines for the definitions of a crate in one part."""
+    root = next(file for file in files(crate, "src", "rt") if file in ("src/lib.rt", "src/main.rt"))
+    about = re.match(r"(?://! ?.*\n)+", read("crates", crate, root)).group(0)
+    about = " ".join(line[3:].strip() for line in about.splitlines())
+    yield f"### {crate} (crates/{crate}/specs)\n\n" + wrapped(re.match(r".*?\.(?= |$)", about).group(0)) + "\n"
+    for file in dict.fromkeys(it.file for it in found):
+        first = read("crates", crate, file).splitlines()[0]
+        head = f"**{file.removeprefix('specs/')}**" + (": " + first[3:] if first.startswith("-- ") else "")
+        yield wrapped(head) + "\n\n" + "\n".join(entries([it for it in found if it.file == file])) + "\n"
+
+
+def model(things, text):
+    """docs/MODEL.md: the definitions part by part, and what this text has by hand before them in each and at the end."""
+    part_of, order = parts(things), re.findall(r"(?m)^(rb\w+)", read("crates.txt"))
+    made = [re.match(r"(?s).*?(?=^## )", text, re.MULTILINE | re.DOTALL).group(0)]
+    for at, part in blocks(text, r"^## .*$"):
+        name = at.group(0)[3:]
+        by_hand = re.split(r"(?m)^### .*crates/\w+/specs.*$", part)[0]
+        made.append(by_hand)
+        if name in PARTS:
+            # (the definitions in the order of the files; crates from the bottom up)
+            for crate in reversed(order):
+                found = [it for key, it in things.definitions.items()
+                         if it.crate == crate and part_of[key] == PARTS.index(name)]
+                made += [block + "\n" for block in section(crate, found)] if found else []
+    return "".join(made)
 
 
 def known(things):
@@ -311,19 +365,12 @@ def namesakes(things):
 
 
 def check(things):
-    """Says what docs/MODEL.md lacks or has too much, which clauses of README.md aren't there, and where proofs/ isn't as
-    docs/ARCHITECTURE.md tells, and which definitions share a name; how many."""
-    wrong, room, text = lemmas(things) + namesakes(things), rooms(things), read("docs/MODEL.md")
-    names, there = told(text), known(things)
-    belongs = collections.defaultdict(set)
-    for (crate, file, name), at in sorted(room.items()):
-        belongs[crate, name].add(ROOMS[at])
-        if name not in names[ROOMS[at], crate]:
-            wrong.append(f"docs/MODEL.md: {name} of crates/{crate}/{file} isn't told under '{ROOMS[at]}'")
-    for (where, crate), its in sorted(names.items()):
-        wrong += [f"docs/MODEL.md: {name} of {crate} doesn't belong under '{where}'" for name in sorted(its)
-                  if where not in belongs.get((crate, name), {where})]
-    for name in sorted(set(re.findall(r"`(\w*(?:[a-z]_|[a-z][A-Z])\w*)`", text)) - there):
+    """Says where docs/MODEL.md isn't as it is made, which clauses of README.md aren't there, where proofs/ isn't as
+    docs/ARCHITECTURE.md says, and which definitions share a name; how many."""
+    wrong, text = lemmas(things) + namesakes(things), read("docs/MODEL.md")
+    if text != model(things, text):
+        wrong.append("docs/MODEL.md isn't what the comments say now: tests/closure.py --write makes it")
+    for name in sorted(set(re.findall(r"`(\w*(?:[a-z]_|[a-z][A-Z])\w*)`", text)) - known(things)):
         wrong.append(f"docs/MODEL.md: there is no {name}")
     called, laws = headline()
     for name, clauses in called + [("rb_world::" + law, []) for law in laws]:
@@ -338,12 +385,16 @@ def check(things):
 
 def main():
     things, words = Things(), sys.argv[1:]
-    if words == ["--rooms"]:
-        tell_rooms(things)
-    elif words and words[0].startswith("--") and words != ["--check"]:
-        sys.exit(__doc__)
+    if words == ["--parts"]:
+        tell_parts(things)
+    elif words == ["--write"]:
+        made = model(things, read("docs/MODEL.md"))
+        with open(os.path.join(ROOT, "docs/MODEL.md"), "w", encoding="utf-8") as file:
+            file.write(made)
     elif words == ["--check"]:
         sys.exit(1 if check(things) else 0)
+    elif words and words[0].startswith("--"):
+        sys.exit(__doc__)
     else:
         tell_closure(things, words)
 
