@@ -18,12 +18,12 @@ ROOT = os.path.dirname(os.path.dirname(os.path.abspath(__file__)))
 
 # each word with what to write for it, and the most that docs, doc comments and definitions' comments may have
 WORDS = [
-    ("told", "parsed, written, reported", 20, 12, 7),
-    ("tells", "says, shows", 18, 21, 23),
-    ("stands", "is, holds", 28, 18, 24),
+    ("told", "parsed, written, reported", 3, 12, 7),
+    ("tells", "says, shows", 4, 21, 23),
+    ("stands", "is, holds", 8, 18, 24),
     ("room", "spare capacity", 37, 39, 13),
     ("a front of", "a prefix of", 0, 4, 3),
-    ("owed", "buffered", 9, 16, 5),
+    ("owed", "buffered", 8, 16, 5),
     ("wrong body", "mutant", 2, 0, 0),
     ("wrong bodies", "mutants", 2, 0, 0),
     ("of so many", "up to", 1, 20, 14),
