@@ -230,6 +230,13 @@ def counted(things):
         rests = sum(it.kind == "definition" for it in found)
         if number and int(number.group(1)) != rests:
             yield f"README.md: {', '.join(names)} rests on {rests} definitions, and not on {number.group(1)}"
+    called, laws = headline()
+    for said, names in ((r"must believe (\d+)", [name for name, _ in called] + ["rb_world::" + law for law in laws]),
+                        (r"`never_negative` alone (\d+)", ["rb_world::never_negative"])):
+        found = things.closure([it for name in names for it in things.statements(name)])
+        rests = sum(it.kind == "definition" for it in found)
+        if re.findall(said, read("README.md")) != [str(rests)]:
+            yield f"README.md: '{said}' should say {rests}"
 
 
 def parts(things):
