@@ -2,7 +2,7 @@
 //! out, and a crash at any moment leaves all of a batch or none of it.
 //!
 //! [`Journal`] keeps lines over a [`Host`], which is a file and an output in one: [`Disk`] is a file of the operating
-//! system, [`Memory`] one in memory. The program doesn't use it yet.
+//! system, [`Memory`] one in memory. `rbbank site` keeps its history so.
 //! Tests: rb_tests, journal.rt.
 #![tactic(auto)]
 
