@@ -2,15 +2,15 @@
 """Prints what a statement rests on: the definitions that it names, those that these name, and so on, until only the
 toolchain's own are left. A statement is a function with a contract, as World::run or one_token, or a definition.
 
-usage: closure.py                  the headline's: the functions and laws of README.md's table
+usage: closure.py                  the headline's: the functions and laws of the first table of docs/PROVED.md
        closure.py STATEMENT..      that of others, as Ledger::apply, rb_site::Site::open, run_script, Funds
        closure.py --parts          the four parts of docs/MODEL.md: the headline, the program's text, what contracts of
                                    other public functions rest on, and what only ties inner code to proofs
        closure.py --write          writes docs/MODEL.md: each definition in its part with the comment above it, and the
                                    words before the first section of a crate in each part as they are
        closure.py --check          whether docs/MODEL.md is what --write makes and names no definition that there isn't,
-                                   whether the clauses of README.md's table are there and rest on as many definitions
-                                   as it says, whether other crates cite each file of proofs/Public and none else of
+                                   whether the clauses of the tables of docs/PROVED.md are there and rest on as many
+                                   definitions as these say, README.md's numbers too, whether other crates cite each file of proofs/Public and none else of
                                    proofs/, and whether no two definitions share a name; this is silent where all is well
 
 Words are resolved by the 'use' lines of their file. A type of the code stands for the types of its fields, and one that
@@ -36,7 +36,7 @@ TYPE = re.compile(r"(?ms)^(?:pub(?:\([^)]*\))? )?(struct|enum|trait|type) (\w+)(
 IMPL = r"^impl(?:<[^\n]*?>)? (?:[\w:<>]+ for )?(\w+)|^(}) *$"
 FUNCTION = re.compile(r"(?ms)" + IMPL + r"|^( *)(pub(?:\([^)]*\))? )?fn (\w+)(.*?)(?=^\3\{|^\3    \{\}|\{\n|;\n)")
 
-# a function and its clauses in README.md's table
+# a function and its clauses in a table of docs/PROVED.md
 CALL = re.compile(r"`(\w+::\w+)`:? ?((?:(?:, )?`\w+`)*)")
 
 # a definition of specs/ with the comment above it, a type of the code, or a function with a contract; `scope` says what
@@ -209,32 +209,42 @@ class Things:
 
 
 def headline():
-    """The functions with the clauses, and the laws, of README.md's table."""
-    found = re.search(r"(?ms)^\| The sentence.*?\n\n", read("README.md"))
+    """The functions with the clauses, and the laws, of the headline's table."""
+    found = re.search(r"(?ms)^\| The sentence.*?\n\n", read("docs/PROVED.md"))
     if not found:
-        sys.exit("closure.py: README.md has no table that begins with '| The sentence'")
+        sys.exit("closure.py: docs/PROVED.md has no table that begins with '| The sentence'")
     table = found.group(0)
     called = [(name, re.findall(r"`(\w+)`", clauses)) for name, clauses in CALL.findall(table)]
     laws = re.findall(r"`(\w+)`", " ".join(re.findall(r"laws? ((?:(?:, )?`\w+`)+)", table)))
     return called, laws
 
 
+def resting(things, names):
+    """On how many definitions functions or laws rest."""
+    found = things.closure([it for name in names for it in things.statements(name)])
+    return sum(it.kind == "definition" for it in found)
+
+
+def named_in(things, row):
+    """The functions and laws of a row of docs/PROVED.md: CRATE::FUNCTION, CRATE::TYPE::FUNCTION or a law of rb_world."""
+    names = [name for name in re.findall(r"`(\w+(?:::\w+)+)`", row)]
+    return names + ["rb_world::" + law for law in re.findall(r"law `(\w+)`", row)]
+
+
 def counted(things):
-    """The rows of README.md's table whose number isn't that of the definitions that their statements rest on."""
-    table = re.search(r"(?ms)^\| The sentence.*?\n\n", read("README.md")).group(0)
-    for row in re.findall(r"(?m)^\| .*\|$", table):
-        number = re.search(r"\| (\d+)\b[^|]*\|$", row)
-        names = [name for name, _ in CALL.findall(row)]
-        names += ["rb_world::" + law for law in re.findall(r"law `(\w+)`", row)]
-        found = things.closure([it for name in names for it in things.statements(name)])
-        rests = sum(it.kind == "definition" for it in found)
-        if number and int(number.group(1)) != rests:
-            yield f"README.md: {', '.join(names)} rests on {rests} definitions, and not on {number.group(1)}"
+    """The rows of docs/PROVED.md, and the numbers of README.md, that say another number than there are definitions."""
+    for row in re.findall(r"(?m)^\| .*\|$", read("docs/PROVED.md")):
+        names, number = named_in(things, row), re.search(r"\| (\d+)\b[^|]*\|(?:[^|]*\|)?$", row)
+        if number and names and int(number.group(1)) != resting(things, names):
+            yield f"docs/PROVED.md: {', '.join(names)} rests on {resting(things, names)}, and not on {number.group(1)}"
+        for name, clauses in re.findall(r"`(\w+(?:::\w+)+)`: ((?:(?:, )?`\w+`)+)", row):
+            text = "".join(it.text for it in things.statements(name))
+            yield from (f"docs/PROVED.md: {name} has no clause {clause}" for clause in re.findall(r"\w+", clauses)
+                        if not re.search(rf"\b(?:ensures|requires) {clause} ", text))
     called, laws = headline()
     for said, names in ((r"must believe (\d+)", [name for name, _ in called] + ["rb_world::" + law for law in laws]),
                         (r"`never_negative` alone (\d+)", ["rb_world::never_negative"])):
-        found = things.closure([it for name in names for it in things.statements(name)])
-        rests = sum(it.kind == "definition" for it in found)
+        rests = resting(things, names)
         if re.findall(said, read("README.md")) != [str(rests)]:
             yield f"README.md: '{said}' should say {rests}"
 
@@ -372,7 +382,7 @@ def namesakes(things):
 
 
 def check(things):
-    """Says where docs/MODEL.md isn't as it is made, which clauses of README.md aren't there, where proofs/ isn't as
+    """Says where docs/MODEL.md isn't as it is made, which clauses of docs/PROVED.md aren't there, where proofs/ isn't as
     docs/ARCHITECTURE.md says, and which definitions share a name; how many."""
     wrong, text = lemmas(things) + namesakes(things), read("docs/MODEL.md")
     if text != model(things, text):
@@ -383,8 +393,8 @@ def check(things):
     for name, clauses in called + [("rb_world::" + law, []) for law in laws]:
         found = "".join(it.text for it in things.statements(name))
         if not found:
-            wrong.append(f"README.md: there is no {name}")
-        wrong += [f"README.md: {name} has no clause {it}" for it in clauses if f"ensures {it} " not in found]
+            wrong.append(f"docs/PROVED.md: there is no {name}")
+        wrong += [f"docs/PROVED.md: {name} has no clause {it}" for it in clauses if f"ensures {it} " not in found]
     wrong += counted(things)
     print("\n".join(wrong), end="\n" if wrong else "")
     return len(wrong)
