@@ -10,8 +10,9 @@ usage: closure.py                  the headline's: the functions and laws of the
                                    words before the first section of a crate in each part as they are
        closure.py --check          whether docs/MODEL.md is what --write makes and names no definition that there isn't,
                                    whether the clauses of the tables of docs/PROVED.md are there and rest on as many
-                                   definitions as these say, README.md's numbers too, whether other crates cite each file of proofs/Public and none else of
-                                   proofs/, and whether no two definitions share a name; this is silent where all is well
+                                   definitions as these say, README.md's numbers too, whether other crates cite each
+                                   file of proofs/Public and none else of proofs/, and whether no two definitions share
+                                   a name; this is silent where all is well
 
 Words are resolved by the 'use' lines of their file. A type of the code stands for the types of its fields, and one that
 clients see as a value of a model for that value.
@@ -25,8 +26,8 @@ import textwrap
 
 ROOT = os.path.dirname(os.path.dirname(os.path.abspath(__file__)))
 PARTS = ["The headline", "The program's text", "Other public contracts", "Inner contracts"]
-PROGRAM = ["rb_run_script::run_script", "rb_run_audit::run_audit", "rb_run_migrate::run_migrate", "rb_run_threads::run_threads",
-           "rb_run_site::run_site", "rb_cli::read_words"]
+PROGRAM = ["rb_run_script::run_script", "rb_run_audit::run_audit", "rb_run_migrate::run_migrate",
+           "rb_run_threads::run_threads", "rb_run_site::run_site", "rb_cli::read_words"]
 WORD = re.compile(r"[^\W\d]\w*")
 
 # a type of the code with its fields, and a trait with its functions
@@ -226,7 +227,7 @@ def resting(things, names):
 
 
 def named_in(things, row):
-    """The functions and laws of a row of docs/PROVED.md: CRATE::FUNCTION, CRATE::TYPE::FUNCTION or a law of rb_world."""
+    """What a row of docs/PROVED.md names: CRATE::FUNCTION, CRATE::TYPE::FUNCTION, or a law of rb_world."""
     names = [name for name in re.findall(r"`(\w+(?:::\w+)+)`", row)]
     return names + ["rb_world::" + law for law in re.findall(r"law `(\w+)`", row)]
 
@@ -332,7 +333,7 @@ def section(crate, found):
 
 
 def model(things, text):
-    """docs/MODEL.md: the definitions part by part, and what this text has by hand before them in each and at the end."""
+    """docs/MODEL.md: the definitions part by part, and what this text has by hand before them and at the end."""
     part_of, order = parts(things), re.findall(r"(?m)^(rb\w+)", read("crates.txt"))
     made = [re.match(r"(?s).*?(?=^## )", text, re.MULTILINE | re.DOTALL).group(0)]
     for at, part in blocks(text, r"^## .*$"):
@@ -356,7 +357,8 @@ def known(things):
 
 
 def lemmas(things):
-    """Says which files of proofs/ are open to other crates, but for those of proofs/Public, and which of these none cites."""
+    """Says which files of proofs/ but for those of proofs/Public are open to other crates, and which of these none
+    cites."""
     wrong, cited = [], set()
     for crate in things.crates:
         for folder, kind in (("src", "rt"), ("specs", "antt"), ("proofs", "antt")):
@@ -367,7 +369,8 @@ def lemmas(things):
         for file in files(crate, "proofs", "antt"):
             if file == "proofs/Lib.antt":
                 opened = re.findall(r"(?m)^pub mod (?!Public$)(\w+)", read("crates", crate, file))
-                wrong += [f"crates/{crate}/proofs/{it}.antt: only the files of proofs/Public are open to other crates" for it in opened]
+                wrong += [f"crates/{crate}/proofs/{it}.antt: only the files of proofs/Public are open to other crates"
+                          for it in opened]
             if file.startswith("proofs/Public/") and (crate, os.path.basename(file)[:-5]) not in cited:
                 wrong.append(f"crates/{crate}/{file}: no other crate cites it")
     return wrong
@@ -382,8 +385,8 @@ def namesakes(things):
 
 
 def check(things):
-    """Says where docs/MODEL.md isn't as it is made, which clauses of docs/PROVED.md aren't there, where proofs/ isn't as
-    docs/ARCHITECTURE.md says, and which definitions share a name; how many."""
+    """Says where docs/MODEL.md isn't as it is made, which clauses of docs/PROVED.md aren't there, where proofs/ isn't
+    as docs/ARCHITECTURE.md says, and which definitions share a name; how many."""
     wrong, text = lemmas(things) + namesakes(things), read("docs/MODEL.md")
     if text != model(things, text):
         wrong.append("docs/MODEL.md isn't what the comments say now: tests/closure.py --write makes it")

@@ -5,8 +5,8 @@ table.
 usage: plain_words.py              the table
        plain_words.py --check      the same, and ends in status 1 where a number is above the one stored here
 
-Docs are the Markdown files at the top and in docs/, bench/, examples/ and crates/*, but for docs/MODEL.md, which is made
-from the comments at definitions; these are the lines of crates/*/specs that begin with '--'. Doc comments are the lines
+Docs are the Markdown files at the top and in docs/, bench/, examples/ and crates/*, but for docs/MODEL.md, which is
+made from the comments at definitions; these are the lines of crates/*/specs that begin with '--'. Doc comments are the lines
 of crates/*/src that begin with '///' or '//!'. Lower a number here once it is lower there.
 """
 import glob
@@ -19,13 +19,13 @@ ROOT = os.path.dirname(os.path.dirname(os.path.abspath(__file__)))
 # each word with what to write for it, and the most that docs, doc comments and definitions' comments may have
 WORDS = [
     ("told", "parsed, written, reported", 3, 12, 7),
-    ("tells", "says, shows", 4, 21, 23),
-    ("stands", "is, holds", 8, 18, 24),
-    ("room", "spare capacity", 37, 39, 13),
+    ("tells", "says, shows", 2, 21, 23),
+    ("stands", "is, holds", 3, 18, 24),
+    ("room", "spare capacity", 22, 39, 13),
     ("a front of", "a prefix of", 0, 4, 3),
-    ("owed", "buffered", 8, 16, 5),
-    ("wrong body", "mutant", 2, 0, 0),
-    ("wrong bodies", "mutants", 2, 0, 0),
+    ("owed", "buffered", 3, 16, 5),
+    ("wrong body", "mutant", 1, 0, 0),
+    ("wrong bodies", "mutants", 0, 0, 0),
     ("of so many", "up to", 1, 20, 14),
 ]
 
