@@ -60,7 +60,7 @@ class Sites:
     """Runs of a program's sites, each in a folder of its own."""
 
     def __init__(self, program):
-        self.program = program
+        self.program = os.path.abspath(program)
 
     def words(self, journal, me=0, resend=None):
         more = [] if resend is None else ["--resend", str(resend)]
@@ -364,7 +364,7 @@ def of_the_page(sites):
         return
     with tempfile.TemporaryDirectory() as folder:
         os.makedirs(os.path.join(folder, "bin"))
-        os.symlink(os.path.abspath(sites.program), os.path.join(folder, "bin", "rbbank"))
+        os.symlink(sites.program, os.path.join(folder, "bin", "rbbank"))
         path = os.pathsep.join([os.path.join(folder, "bin"), EXAMPLES, os.environ["PATH"]])
         # As in an interactive shell, each job is a process group of its own, which `kill %1` ends.
         script = "set -m; trap 'kill %1 %2' EXIT\n" + given
