@@ -3,7 +3,8 @@
 
 usage: wrong_bodies.py CRATE..      tries the mutants of these crates
        wrong_bodies.py --all        tries those of every crate, some hours of processor time
-       wrong_bodies.py --check      proves nothing: whether each mutant still applies, some milliseconds
+       wrong_bodies.py --check      proves nothing: whether each mutant still applies, and docs/PROVED.md has their
+                                    numbers
 
 A file tests/wrong_bodies/CRATE.edits has the crate's mutants, each under its name in brackets, in the form of a must-fail
 edit: a line 'file: src/..', and pairs of lines 'old: TEXT' and 'new: TEXT'. It applies where each old text is in its file
@@ -66,9 +67,25 @@ def check():
             if why:
                 faults += 1
                 print(f"wrong_bodies: {crate} {name}: {why}")
-    if faults:
+    if faults or not counted():
         sys.exit(1)
     return count
+
+
+def counted():
+    """Whether the table of docs/PROVED.md has the number of each crate's mutants; says where it hasn't."""
+    with open(os.path.join(ROOT, "docs", "PROVED.md"), encoding="utf-8") as file:
+        said = set(re.findall(r"^\| (\w+) \| (\d+) \| (\d+) \|$", file.read(), flags=re.M))
+    found = set()
+    for crate in sorted(os.listdir(CRATES)):
+        in_gate = len(glob.glob(os.path.join(CRATES, crate, "must-fail", "*.edit")))
+        there = os.path.exists(os.path.join(MUTANTS, crate + ".edits"))
+        others = len(mutants_of(crate)) if there else 0
+        if in_gate or others:
+            found.add((crate, str(in_gate), str(others)))
+    for crate, in_gate, others in sorted(found - said):
+        print(f"wrong_bodies: docs/PROVED.md should say | {crate} | {in_gate} | {others} |")
+    return not found - said
 
 
 def copy_of(crates, top):
