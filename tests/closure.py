@@ -316,7 +316,7 @@ def entries(found):
         else:
             items[-1][0].append(it.name)
     for names, comment in items:
-        ending = "." if comment else ""
+        ending = "." if comment and not comment.endswith(".") else ""
         yield wrapped("- " + ", ".join(f"`{name}`" for name in names) + (": " if comment else "") + comment + ending)
 
 
