@@ -1,4 +1,5 @@
 //! Certificates that are checked. What audits find is in tests/cases, audits.cases.
+use crate::checks::equal;
 use rb_auditor::{Certificate, check};
 use rb_commands::read_config;
 use rb_history::read_line;
@@ -53,9 +54,10 @@ fn orders_are_checked(rt: HostRuntime) -> Result<(), Fail> {
     ];
     for (sites, want) in ORDERS {
         let certificate = Certificate::new(sites.to_vec(alloc)?);
-        assert_eq!(rt;
+        equal(
+            &rt,
             check(alloc, &config, histories.as_slice(), &certificate)?,
-            want
+            want,
         );
     }
     Ok(())

@@ -2,6 +2,7 @@
 ghost use Rattle.std.specs.Prelude.{◌≡◌};
 ghost use Rattle.rb_branch.specs.declared.limits.TheConstants.{RECEIPT_PARTS};
 
+use crate::checks::{equal, holds};
 use rb_branch::{
     Branch, CallFault, Entries, Gate, GatherFault, Inlet, NoGate, Outbox, RECEIPT_PARTS, Seat,
     SeatFault, links,
@@ -133,7 +134,11 @@ pub fn balance_is<E: Entries, R: Ledger, G: Gate + Drop, W: Wait + Abort>(
 ) -> Result<u32, Fail> {
     let number = asked(rt, branch, seat)?;
     let receipt = seat.receipt(number).ok_or("no receipt")?;
-    assert!(rt; receipt.reply.same(&Reply::Balance(cents)));
+    holds(
+        rt,
+        "the balance",
+        receipt.reply.same(&Reply::Balance(cents)),
+    );
     Ok(number)
 }
 
@@ -182,10 +187,10 @@ fn read_back<E: Entries, R: Ledger, G: Gate + Drop, W: Wait + Abort>(
 ) -> Result<(), Fail> {
     let first = deposited(rt, branch, seat, outbox, 5)?;
     let second = balance_is(rt, branch, seat, 5)?;
-    assert_eq!(rt; (first, second), (1, 2));
+    equal(rt, (first, second), (1, 2));
     for (number, wanted) in [(0, None), (1, Some(1)), (2, Some(2)), (3, None)] {
         let found = seat.receipt(number).map(|receipt| receipt.number);
-        assert_eq!(rt; found, wanted);
+        equal(rt, found, wanted);
     }
     Ok(())
 }
@@ -207,9 +212,9 @@ impl Case for OneServed {
         read_back(rt, branch, &mut teller, &copy)?;
         drop(outbox);
         drop(copy);
-        assert_eq!(rt; served_by(rt, branch, &mut server, inlet).ok(), Some(2));
+        equal(rt, served_by(rt, branch, &mut server, inlet).ok(), Some(2));
         let _number = balance_is(rt, branch, &mut server, 5)?;
-        assert_eq!(rt; teller.receipt(1).map(|receipt| receipt.unsent), Some(0));
+        equal(rt, teller.receipt(1).map(|receipt| receipt.unsent), Some(0));
         Ok(vec![in alloc; teller, server]?)
     }
 }
@@ -219,7 +224,7 @@ fn served(rt: HostRuntime) -> Result<(), Fail> {
     let config = some_sites(rt.alloc(), 2, Limits::largest())?;
     let reports = gathered(&rt, rt.alloc(), config, NoGate, &OneServed)??;
     for report in &reports {
-        assert_eq!(rt; report.balances.first().copied(), Some(5));
+        equal(&rt, report.balances.first().copied(), Some(5));
     }
     Ok(())
 }
@@ -234,7 +239,7 @@ impl Case for Seats {
         alloc: Global,
         branch: &Branch<E, R, G>,
     ) -> Result<Vec<Seat<E, R>>, Fail> {
-        assert_eq!(rt; branch.seat(rt, 2).err(), Some(SeatFault::NoSite));
+        equal(rt, branch.seat(rt, 2).err(), Some(SeatFault::NoSite));
         let mut seats = Vec::new(alloc);
         for _i in 0..1_024 {
             let seat = branch.seat(rt, 0)?;
@@ -242,7 +247,7 @@ impl Case for Seats {
                 return Err(Fail::from("no memory"));
             }
         }
-        assert_eq!(rt; branch.seat(rt, 1).err(), Some(SeatFault::Full));
+        equal(rt, branch.seat(rt, 1).err(), Some(SeatFault::Full));
         Ok(seats)
     }
 }
@@ -258,12 +263,12 @@ impl Case for Full {
         branch: &Branch<E, R, G>,
     ) -> Result<Vec<Seat<E, R>>, Fail> {
         let mut seat = branch.seat(rt, 0)?;
-        assert_eq!(rt; branch.apply_ready(rt, &mut seat).ok(), Some(None));
-        assert_eq!(rt; seat.receipts().len(), 0);
-        assert_eq!(rt; asked(rt, branch, &mut seat).ok(), Some(1));
+        equal(rt, branch.apply_ready(rt, &mut seat).ok(), Some(None));
+        equal(rt, seat.receipts().len(), 0);
+        equal(rt, asked(rt, branch, &mut seat).ok(), Some(1));
         let again = asked(rt, branch, &mut seat);
-        assert_eq!(rt; again.err(), Some(CallFault::HistoryFull));
-        assert_eq!(rt; seat.receipts().len(), 1);
+        equal(rt, again.err(), Some(CallFault::HistoryFull));
+        equal(rt, seat.receipts().len(), 1);
         Ok(vec![in alloc; seat]?)
     }
 }
@@ -283,9 +288,10 @@ impl Case for OneMissing {
         let mut first = branch.seat(rt, 0)?;
         let mut second = branch.seat(rt, 0)?;
         let number = deposited(rt, branch, &mut first, &outbox, 1)?;
-        assert_eq!(rt;
+        equal(
+            rt,
             first.receipt(number).map(|receipt| receipt.unsent),
-            Some(1)
+            Some(1),
         );
         let _number = deposited(rt, branch, &mut second, &outbox, 1)?;
         Ok(vec![in alloc; first]?)
@@ -296,13 +302,21 @@ impl Case for OneMissing {
 fn seat_faults(rt: HostRuntime) -> Result<(), Fail> {
     let alloc = rt.alloc();
     let config = some_sites(alloc, 2, Limits::largest())?;
-    assert!(rt; gathered(&rt, alloc, config, NoGate, &Seats)?.is_ok());
+    holds(
+        &rt,
+        "gathered",
+        gathered(&rt, alloc, config, NoGate, &Seats)?.is_ok(),
+    );
     let mut limits = Limits::largest();
     limits.history = 1;
     let config = some_sites(alloc, 2, limits)?;
-    assert!(rt; gathered(&rt, alloc, config, NoGate, &Full)?.is_ok());
+    holds(
+        &rt,
+        "gathered",
+        gathered(&rt, alloc, config, NoGate, &Full)?.is_ok(),
+    );
     let config = some_sites(alloc, 2, Limits::largest())?;
     let missing = gathered(&rt, alloc, config, NoGate, &OneMissing)?;
-    assert_eq!(rt; missing.err(), Some(GatherFault::Missing { site: 0 }));
+    equal(&rt, missing.err(), Some(GatherFault::Missing { site: 0 }));
     Ok(())
 }

@@ -1,6 +1,7 @@
 //! Lines of commands and configurations. What a line is read as is compared as Rust's `Debug` writes it. Bad lines are
 //! in tests/cases, bad_lines.cases.
 
+use crate::checks::{equal, equal_at};
 use rb_commands::{LineFault, read_command, read_config};
 use rb_history::{read_line, write_config};
 use std::test::Fail;
@@ -46,7 +47,7 @@ fn commands(rt: HostRuntime) -> Result<(), Fail> {
         let (line, wanted) = row.split_once(" is ").ok_or("no command")?;
         let read = read_command(rt.alloc(), &config, line)?;
         let shown = format!(in rt.alloc(); "{read:?}")?;
-        assert_eq!(rt; shown.as_str(), wanted, "at {line}");
+        equal_at(&rt, line, shown.as_str(), wanted);
     }
     Ok(())
 }
@@ -66,9 +67,9 @@ fn configurations(rt: HostRuntime) -> Result<(), Fail> {
     for row in CONFIGURATIONS.lines() {
         let (line, wanted) = row.split_once(" is ").ok_or("no configuration")?;
         let text = write_config(alloc, &read_config(alloc, line)?)?;
-        assert_eq!(rt; text.as_str(), wanted);
+        equal(&rt, text.as_str(), wanted);
         let again = write_config(alloc, &read_config(alloc, wanted)?)?;
-        assert_eq!(rt; again.as_str(), wanted);
+        equal(&rt, again.as_str(), wanted);
     }
     Ok(())
 }
@@ -83,13 +84,14 @@ fn nothing_is_a_bad_line(rt: HostRuntime) -> Result<(), Fail> {
         read_command(alloc, &config, "").err(),
         read_line(alloc, &config, "").err(),
     ];
-    assert_eq!(rt;
+    equal(
+        &rt,
         faults,
         [
             Some(LineFault::Bad),
             Some(LineFault::Bad),
-            Some(LineFault::Bad)
-        ]
+            Some(LineFault::Bad),
+        ],
     );
     Ok(())
 }

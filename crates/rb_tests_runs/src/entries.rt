@@ -1,6 +1,7 @@
 //! Lines of histories. What a line is read as is compared as Rust's `Debug` writes it. Other lines are in tests/cases,
 //! bad_lines.cases and migrations.cases.
 
+use crate::checks::{equal, holds};
 use rb_commands::read_config;
 use rb_history::{append_line, read_line, write_line};
 use rb_money::{Config, Place, Refusal};
@@ -22,8 +23,8 @@ pub fn both_ways(
     let text = write_line(rt.alloc(), config, site, &entry)?;
     let spaced = format!(in rt.alloc(); " {line}")?;
     let (again, back) = read_line(rt.alloc(), config, spaced.as_str())?;
-    assert_eq!(rt; text.as_str(), line);
-    assert!(rt; site == 1 && again == 1 && back.same(&entry), "at {line}");
+    equal(rt, text.as_str(), line);
+    holds(rt, line, site == 1 && again == 1 && back.same(&entry));
     Ok(entry)
 }
 
@@ -61,7 +62,7 @@ fn events(rt: HostRuntime) -> Result<(), Fail> {
         )?;
         let entry = both_ways(&rt, &config, line.as_str())?;
         let shown = format!(in rt.alloc(); "{:?}", entry.event)?;
-        assert_eq!(rt; shown.as_str(), wanted);
+        equal(&rt, shown.as_str(), wanted);
     }
     Ok(())
 }
@@ -75,9 +76,10 @@ fn places_past_the_accounts(rt: HostRuntime) -> Result<(), Fail> {
     };
     let mut out = Vec::from_slice(rt.alloc(), b"before ")?;
     append_line(&mut out, &config, 0, &entry)?;
-    assert_eq!(rt;
+    equal(
+        &rt,
         out.as_slice(),
-        br#"before {"event":{"balance":"?"},"reply":{"refused":1},"site":0}"#.as_slice()
+        br#"before {"event":{"balance":"?"},"reply":{"refused":1},"site":0}"#.as_slice(),
     );
     Ok(())
 }

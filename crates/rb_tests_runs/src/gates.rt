@@ -5,6 +5,7 @@ ghost use Rattle.rb_branch.specs.declared.limits.TheConstants.{RECEIPT_PARTS};
 use crate::branch::{
     asked, comes, comes_within, deposited, gathered_with, some_sites, to_the_second,
 };
+use crate::checks::{equal, holds};
 use rb_branch::{Branch, CallFault, Entries, Gate, GatherFault, Outbox, RECEIPT_PARTS, Seat};
 use rb_money::{Config, Limits};
 use rb_site::SiteReport;
@@ -235,16 +236,16 @@ fn gate(rt: HostRuntime) -> Result<(), Fail> {
     let reports = threaded(&rt, rt.alloc(), config, gate, &signs)??;
     let first = reports.first().ok_or("no report")?;
     let recorded = first.history.len() as u64;
-    assert_eq!(rt; (reports.len(), recorded), (2, 2 * DEPOSITS + 2));
-    assert_eq!(rt; first.balances.first().copied(), Some(2 * DEPOSITS));
-    assert!(rt; !signs.late.load(Ordering::SeqCst), "late");
-    assert!(rt; !signs.early.load(Ordering::SeqCst), "early");
+    equal(&rt, (reports.len(), recorded), (2, 2 * DEPOSITS + 2));
+    equal(&rt, first.balances.first().copied(), Some(2 * DEPOSITS));
+    holds(&rt, "late", !signs.late.load(Ordering::SeqCst));
+    holds(&rt, "early", !signs.early.load(Ordering::SeqCst));
     for counts in [&signs.entered, &signs.left] {
         let counted = [
             counts[0].load(Ordering::SeqCst),
             counts[1].load(Ordering::SeqCst),
         ];
-        assert_eq!(rt; counted, [2 * DEPOSITS + 2, 2]);
+        equal(&rt, counted, [2 * DEPOSITS + 2, 2]);
     }
     Ok(())
 }

@@ -9,6 +9,8 @@ mod audits;
 #[cfg(test)]
 mod branch;
 #[cfg(test)]
+mod checks;
+#[cfg(test)]
 mod commands;
 #[cfg(test)]
 mod entries;

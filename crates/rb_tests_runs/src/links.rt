@@ -3,6 +3,7 @@
 use crate::branch::{
     Case, balance_is, deposit, deposited, gathered, served_by, some_sites, to_the_second,
 };
+use crate::checks::equal;
 use rb_branch::{Branch, Entries, Gate, Inlet, NoGate, Outbox, Seat, links};
 use rb_kit::List;
 use rb_money::Limits;
@@ -104,10 +105,10 @@ impl Case for Sent {
         three_calls(rt, alloc, branch, &mut seat, &outbox)?;
         drop(outbox);
         for (receipt, unsent) in seat.receipts().iter().zip(self.unsent) {
-            assert_eq!(rt; receipt.unsent, unsent);
+            equal(rt, receipt.unsent, unsent);
         }
         for (inlet, wanted) in inlets.iter().zip(self.brought) {
-            assert_eq!(rt; brought(rt, alloc, inlet)?.as_str(), wanted);
+            equal(rt, brought(rt, alloc, inlet)?.as_str(), wanted);
         }
         Ok(vec![in alloc; seat]?)
     }
@@ -118,7 +119,7 @@ fn sent_by_links(rt: HostRuntime) -> Result<(), Fail> {
     for case in &SENT {
         let config = some_sites(rt.alloc(), 3, Limits::largest())?;
         let reports = gathered(&rt, rt.alloc(), config, NoGate, case)??;
-        assert_eq!(rt; reports.len(), 3);
+        equal(&rt, reports.len(), 3);
     }
     Ok(())
 }
@@ -141,9 +142,9 @@ impl Case for Turned {
         let _second = deposited(rt, branch, &mut teller, &outbox, 2)?;
         let first = inlet.next(rt).ok_or("nothing came")?;
         let second = inlet.next(rt).ok_or("one came")?;
-        assert_eq!(rt; outbox.post(rt, 0, 2, [second, first].as_slice()), 0);
+        equal(rt, outbox.post(rt, 0, 2, [second, first].as_slice()), 0);
         drop(outbox);
-        assert_eq!(rt; served_by(rt, branch, &mut server, inlet).ok(), Some(4));
+        equal(rt, served_by(rt, branch, &mut server, inlet).ok(), Some(4));
         let _number = balance_is(rt, branch, &mut server, 3)?;
         Ok(vec![in alloc; teller, server]?)
     }
@@ -153,6 +154,6 @@ impl Case for Turned {
 fn served_in_turned_order(rt: HostRuntime) -> Result<(), Fail> {
     let config = some_sites(rt.alloc(), 2, Limits::largest())?;
     let reports = gathered(&rt, rt.alloc(), config, NoGate, &Turned)??;
-    assert_eq!(rt; reports.len(), 2);
+    equal(&rt, reports.len(), 2);
     Ok(())
 }

@@ -1,5 +1,6 @@
 //! Migrations over bytes in memory. What migrations write is in tests/cases.
 
+use crate::checks::equal;
 use crate::scripts::{CONFIGURATION, Case, FAILING, Program, TEN, WHOLE, each_fails, ran};
 use rb_lines::ScriptFault;
 
@@ -71,6 +72,6 @@ const LINES: [(&str, u64); 5] = [
 fn lines_are_counted(rt: HostRuntime) {
     for (input, count) in LINES {
         let (answer, _text) = ran(rt.alloc(), Program::Migration, input, WHOLE);
-        assert_eq!(rt; answer, Ok(count));
+        equal(&rt, answer, Ok(count));
     }
 }

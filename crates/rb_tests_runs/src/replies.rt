@@ -1,5 +1,6 @@
 //! Replies as lines: what each is read as in a history is compared as Rust's `Debug` writes it.
 
+use crate::checks::equal;
 use crate::entries::{TWO_ACCOUNTS, both_ways};
 use rb_commands::{read_config, write_reply};
 use std::test::Fail;
@@ -50,9 +51,9 @@ fn replies(rt: HostRuntime) -> Result<(), Fail> {
         let line = format!(in rt.alloc(); "{front}{reply}{back}")?;
         let entry = both_ways(&rt, &config, line.as_str())?;
         let shown = format!(in rt.alloc(); "{:?}", entry.reply)?;
-        assert_eq!(rt; shown.as_str(), wanted);
+        equal(&rt, shown.as_str(), wanted);
         let text = write_reply(rt.alloc(), &entry.reply)?;
-        assert_eq!(rt; text.as_str().trim_end(), reply);
+        equal(&rt, text.as_str().trim_end(), reply);
     }
     Ok(())
 }

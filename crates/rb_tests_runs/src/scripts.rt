@@ -2,6 +2,7 @@
 //! What scripts answer is in the worked rows and in tests/cases.
 ghost use Rattle.std.specs.Prelude.{◌≡◌, false, None};
 
+use crate::checks::{equal, holds};
 use rb_lines::{
     FromBytes, ReadFailed, ScriptFault, Sink, Source, ToBytes, WriteFailed, message, status,
 };
@@ -113,7 +114,7 @@ fn answers_in_any_pieces(rt: HostRuntime) {
     for piece in [1, 2, 5, 4096] {
         let ends = Ends { piece, ..WHOLE };
         let (answer, text) = ran(rt.alloc(), Program::Script, DEPOSIT, ends);
-        assert_eq!(rt; (answer, text.as_slice()), (Ok(6), REPLIES.as_bytes()));
+        equal(&rt, (answer, text.as_slice()), (Ok(6), REPLIES.as_bytes()));
     }
 }
 
@@ -157,9 +158,10 @@ const FAILED: [Case; 5] = [
 pub fn each_fails(rt: &(impl Abort + AllocGlobal), cases: &[Case]) {
     for (program, input, ends, fault, written) in cases {
         let (answer, text) = ran(rt.alloc(), *program, input, *ends);
-        assert_eq!(rt;
+        equal(
+            rt,
             (answer, text.as_slice()),
-            (Err(*fault), written.as_bytes())
+            (Err(*fault), written.as_bytes()),
         );
     }
 }
@@ -275,7 +277,7 @@ fn replies_go_out_before_the_next_read(rt: HostRuntime) {
         Step::Write(14 + 16 + 19 + 16),
         Step::Read(0),
     ];
-    assert_eq!(rt; (result, steps.as_slice()), (Ok(6), want.as_slice()));
+    equal(&rt, (result, steps.as_slice()), (Ok(6), want.as_slice()));
 }
 
 #[test]
@@ -283,9 +285,10 @@ fn nothing_is_read_behind_a_bad_line(rt: HostRuntime) {
     // The first piece ends with the bad line.
     let (result, steps) = calls(rt.alloc(), COMMAND_BEHIND_BAD.as_bytes(), 47 + 33 + 8);
     let want = [Step::Read(88), Step::Write(33)];
-    assert_eq!(rt;
+    equal(
+        &rt,
         (result, steps.as_slice()),
-        (Err(ScriptFault::BadLine { line: 3 }), want.as_slice())
+        (Err(ScriptFault::BadLine { line: 3 }), want.as_slice()),
     );
 }
 
@@ -315,7 +318,7 @@ fn many_lines_take_few_writes(rt: HostRuntime) -> Result<(), Fail> {
     let reads = reads_in(steps.as_slice());
     let writes = steps.len().saturating_sub(reads);
     let few = writes <= reads.saturating_add(2);
-    assert_eq!(rt; (result, few), (Ok(10_000), true));
+    equal(&rt, (result, few), (Ok(10_000), true));
     Ok(())
 }
 
@@ -338,13 +341,17 @@ fn refuse_script(rt: HostRuntime) -> Result<(), Fail> {
     let written = written.strip_suffix(b"\n".as_slice()).unwrap_or(written);
     let wrote = written.len();
     match result {
-        Ok(answered) => assert_eq!(rt; (answered, wrote), (count, row.replies.len())),
+        Ok(answered) => equal(&rt, (answered, wrote), (count, row.replies.len())),
         Err(fault) => {
-            assert_eq!(rt; fault, ScriptFault::OutOfMemory);
+            equal(&rt, fault, ScriptFault::OutOfMemory);
             println!(rt; "{} stopped where it wrote {wrote} bytes", row.name)?;
         }
     }
-    assert!(rt; row.replies.as_bytes().starts_with(written));
+    holds(
+        &rt,
+        "a prefix of the replies",
+        row.replies.as_bytes().starts_with(written),
+    );
     Ok(())
 }
 
@@ -361,7 +368,7 @@ fn faults_in_words(rt: HostRuntime) -> Result<(), Fail> {
         (ScriptFault::OutOfMemory, "rbbank: out of memory", 4),
     ] {
         let said = message(rt.alloc(), fault)?;
-        assert_eq!(rt; (said.as_str(), status(fault)), (text, number));
+        equal(&rt, (said.as_str(), status(fault)), (text, number));
     }
     Ok(())
 }

@@ -5,6 +5,7 @@
 //! refuse` runs it with each refused in turn.
 
 use crate::branch::{Case, gathered};
+use crate::checks::{equal, equal_at, holds};
 use rb_branch::{
     Branch, CallFault, Entries, Gate, GatherFault, Inlet, NoGate, Outbox, Seat, links,
 };
@@ -76,8 +77,8 @@ fn called_again<E: Entries, R: Ledger, G: Gate + Drop, W: Wait + Abort>(
     match called(rt, branch, seat, outbox, event) {
         Ok(number) => Ok((number, false)),
         Err(fault) => {
-            assert_eq!(rt; fault, CallFault::OutOfMemory);
-            assert_eq!(rt; seat.receipts().len(), before);
+            equal(rt, fault, CallFault::OutOfMemory);
+            equal(rt, seat.receipts().len(), before);
             Ok((called(rt, branch, seat, outbox, copy)?, true))
         }
     }
@@ -172,11 +173,11 @@ impl<E: Entries, R: Ledger> Desks<E, R> {
         let (site, event) = match step_of(command, self.sent.as_slice()) {
             Step::At(site, event) => (site, event),
             Step::Lost => {
-                assert!(rt; self.may_lose, "a message never came");
+                holds(rt, "a message never came", self.may_lose);
                 return Ok(false);
             }
             Step::Unsent => {
-                assert_eq!(rt; wanted, NO_MESSAGE);
+                equal(rt, wanted, NO_MESSAGE);
                 return Ok(false);
             }
         };
@@ -186,7 +187,7 @@ impl<E: Entries, R: Ledger> Desks<E, R> {
             .receipt(number.ok_or("nothing to apply")?)
             .ok_or("no receipt")?;
         let line = twice!(write_reply(alloc, &receipt.reply));
-        assert_eq!(rt; line.as_str().trim_end(), wanted);
+        equal(rt, line.as_str().trim_end(), wanted);
         let count = sent_with(&receipt.reply);
         let refused = receipt.unsent as usize;
         let inlet = self.inlets.get(usize::from(site == 0)).ok_or("no link")?;
@@ -261,7 +262,7 @@ fn seat_calls(rt: HostRuntime) -> Result<(), Fail> {
         "transfer_and_cancel",
     ] {
         let reports = row_through(&rt, rt.alloc(), &row_named(name)?, false)??;
-        assert_eq!(rt; reports.len(), 2, "{name}");
+        equal_at(&rt, name, reports.len(), 2);
     }
     Ok(())
 }
@@ -270,8 +271,8 @@ fn seat_calls(rt: HostRuntime) -> Result<(), Fail> {
 fn refuse_seats(rt: HostRuntime) -> Result<(), Fail> {
     let row = row_named("batch_all_or_nothing")?;
     match row_through(&rt, rt.alloc(), &row, true)? {
-        Ok(reports) => assert_eq!(rt; reports.len(), 2),
-        Err(fault) => assert_eq!(rt; fault, GatherFault::OutOfMemory),
+        Ok(reports) => equal(&rt, reports.len(), 2),
+        Err(fault) => equal(&rt, fault, GatherFault::OutOfMemory),
     }
     Ok(())
 }

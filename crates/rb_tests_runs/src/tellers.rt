@@ -1,6 +1,7 @@
 //! Runs of tellers: a write that fails, and that two of them are under way at once. Runs of the program, with their
 //! audits, are made by tests/cases.py.
 use crate::branch::comes;
+use crate::checks::{equal, holds};
 use rb_branch::{Gate, NoGate};
 use rb_lines::ToBytes;
 use rb_run_threads::{ThreadsFault, run_threads, threads_message, threads_status};
@@ -14,9 +15,10 @@ fn writer_fails_midway(rt: HostRuntime) {
     let run = run_threads(&rt, rt.alloc(), 2, 1, 0, NoGate, &mut writer);
     let taken = writer.taken.as_slice();
     let begins = taken.starts_with(br#"{"accounts":[["a0",1000],"#);
-    assert_eq!(rt;
+    equal(
+        &rt,
         (run, begins, taken.len()),
-        (Err(ThreadsFault::Write), true, 100)
+        (Err(ThreadsFault::Write), true, 100),
     );
 }
 
@@ -28,7 +30,7 @@ fn threads_faults_in_words(rt: HostRuntime) -> Result<(), Fail> {
         (ThreadsFault::Gather, "rbbank: gather failed", 5),
     ] {
         let said = threads_message(rt.alloc(), fault)?;
-        assert_eq!(rt; (said.as_str(), threads_status(fault)), (text, number));
+        equal(&rt, (said.as_str(), threads_status(fault)), (text, number));
     }
     Ok(())
 }
@@ -73,8 +75,12 @@ fn gate_threads(rt: HostRuntime) -> Result<(), Fail> {
     };
     let mut writer = ToBytes::new(rt.alloc());
     let run = run_threads(&rt, rt.alloc(), 2, 2, 0, gate, &mut writer);
-    assert_eq!(rt; run, Ok(()));
-    assert!(rt; zero.load(Ordering::SeqCst) && one.load(Ordering::SeqCst));
-    assert!(rt; !late.load(Ordering::SeqCst));
+    equal(&rt, run, Ok(()));
+    holds(
+        &rt,
+        "both entered",
+        zero.load(Ordering::SeqCst) && one.load(Ordering::SeqCst),
+    );
+    holds(&rt, "not late", !late.load(Ordering::SeqCst));
     Ok(())
 }

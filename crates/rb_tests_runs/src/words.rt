@@ -1,6 +1,7 @@
 //! The words of the command line: their limits in the help, and the numbers of a run as they are read. What words are
 //! taken is in tests/cases.
 
+use crate::checks::{equal, holds};
 use rb_cli::{MOST_TELLERS, Words, read_words};
 use rb_money::MOST_SITES;
 use std::test::Fail;
@@ -15,8 +16,8 @@ fn limits_are_shown(rt: HostRuntime) -> Result<(), Fail> {
     };
     let sites = format!(in alloc; "How many sites there are, 2 to {MOST_SITES}")?;
     let tellers = format!(in alloc; "How many tellers there are, 1 to {MOST_TELLERS}")?;
-    assert!(rt; text.contains(sites.as_str()));
-    assert!(rt; text.contains(tellers.as_str()));
+    holds(&rt, "sites", text.contains(sites.as_str()));
+    holds(&rt, "tellers", text.contains(tellers.as_str()));
     Ok(())
 }
 
@@ -33,6 +34,10 @@ fn numbers_are_read(rt: HostRuntime) {
         "threads --seed 4294967295 --tellers 64 --sites 3",
     ] {
         let words: Vec<&str> = words.split(" ").collect(rt.alloc()).expect(&rt, "memory");
-        assert_eq!(rt; read_words(rt.alloc(), words.as_slice()).ok(), Some(run));
+        equal(
+            &rt,
+            read_words(rt.alloc(), words.as_slice()).ok(),
+            Some(run),
+        );
     }
 }
