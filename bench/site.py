@@ -53,7 +53,7 @@ def words(program, journal):
 
 
 def by_turns(program, journal, lines, at_once):
-    """Seconds that a client takes that gives so many lines at once, and then waits for their answers."""
+    """Seconds that a client takes that gives this number of lines at once, and then waits for their answers."""
     site = subprocess.Popen(words(program, journal), stdin=subprocess.PIPE, stdout=subprocess.PIPE, bufsize=0)
     parts = ["".join(lines[n:n + at_once]).encode() for n in range(0, len(lines), at_once)]
     site.stdin.write(BANK.encode() + parts[0])
@@ -84,7 +84,7 @@ def ended(process):
 
 
 def at_once(program, journal, lines, folder):
-    """Seconds an event of a site that reads a file of so many lines, less those of a site that reads none."""
+    """Seconds an event of a site that reads a file of these lines, less those of a site that reads none."""
     return (from_file(program, journal, lines, folder) - from_file(program, journal + "-none", [], folder)) / len(lines)
 
 
@@ -180,7 +180,7 @@ def costs(asked):
 
 
 def restarts(asked):
-    """A row: a journal of so many entries, a balance after each deposit, started again and audited."""
+    """A row: a journal of that number of entries, a balance after each deposit, started again and audited."""
     half = asked.entries // 2
     pairs = [line for pair in zip(events("deposit", half), events("balance", half)) for line in pair]
     with tempfile.TemporaryDirectory(dir=asked.memory) as folder:

@@ -91,7 +91,7 @@ def roff(text):
 
 
 def roff_rest(text):
-    """What stands below the options: indented lines as they are, the others filled."""
+    """What is below the options: indented lines as they are, the others filled."""
     lines, as_it_is = [], False
     for line in text.split("\n"):
         indented = line.startswith("  ")

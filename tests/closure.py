@@ -41,7 +41,7 @@ FUNCTION = re.compile(r"(?ms)" + IMPL + r"|^( *)(pub(?:\([^)]*\))? )?fn (\w+)(.*
 CALL = re.compile(r"`(\w+::\w+)`:? ?((?:(?:, )?`\w+`)*)")
 
 # a definition of specs/ with the comment above it, a type of the code, or a function with a contract; `scope` says what
-# its words stand for
+# its words mean
 Thing = collections.namedtuple("Thing", "kind crate file name text scope public comment", defaults=[""])
 
 

@@ -265,7 +265,7 @@ def run(asked, folder):
 def options():
     reader = argparse.ArgumentParser(description=__doc__, formatter_class=argparse.RawDescriptionHelpFormatter)
     reader.add_argument("program", metavar="PROGRAM", help="a built rbbank")
-    reader.add_argument("--kills", metavar="N", type=int, default=300, help="so many ends of a process, 300")
+    reader.add_argument("--kills", metavar="N", type=int, default=300, help="how many ends of a process, 300")
     reader.add_argument("--sites", metavar="N", type=int, choices=range(2, 9), help="2 to 8; else 3 to 5 by the seed")
     reader.add_argument("--seed", metavar="N", type=int, help="another seed makes other choices; else by the clock")
     reader.add_argument("--quiet", action="store_true", help="print only what failed")

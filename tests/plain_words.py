@@ -18,9 +18,9 @@ ROOT = os.path.dirname(os.path.dirname(os.path.abspath(__file__)))
 
 # each word with what to write for it, and the most that docs, doc comments and definitions' comments may have
 WORDS = [
-    ("told", "parsed, written, reported", 3, 12, 7),
-    ("tells", "says, shows", 2, 21, 23),
-    ("stands", "is, holds", 3, 18, 24),
+    ("told", "parsed, written, reported", 2, 12, 7),
+    ("tells", "says, shows", 1, 21, 23),
+    ("stands", "is, holds", 2, 18, 24),
     ("room", "spare capacity", 22, 39, 13),
     ("a front of", "a prefix of", 0, 4, 3),
     ("owed", "buffered", 3, 16, 5),

@@ -22,7 +22,7 @@ def compact(value):
 
 
 def whole_lines(data):
-    """The lines that a journal stands for: whole ones, up to the first that doesn't begin with a brace."""
+    """The lines that a journal has: whole ones, up to the first that doesn't begin with a brace."""
     end = 0
     while data[end:end + 1] == b"{":
         at = data.find(b"\n", end)

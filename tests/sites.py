@@ -206,7 +206,7 @@ def refused_journals(sites):
         "an entry of no site": (lines[0].replace(b'"site":0', b'"site":7') + lines[1], 2, "bad line"),
         "a wrong reply": (lines[0].replace(b"B0.1", b"B0.2") + lines[1], 2, "wrong reply"),
         "an entry left out": (lines[1], 2, "wrong reply"),
-        "an entry that stands twice": (lines[0] + lines[0], 3, "wrong reply"),
+        "an entry that is there twice": (lines[0] + lines[0], 3, "wrong reply"),
     }
     for name, (text, number, fault) in bad.items():
         before = first + b"\n" + text + AT_REST
