@@ -11,7 +11,7 @@ use Rattle.rb_site.specs.Worlds.{IsOwn}
 use Rattle.rb_crashes.specs.Crashes.{Acts, DiskSite, DiskStep, IsReported, MayHappen, Receives, TakesStep, after_step, first_disks}
 use Rattle.rb_crashes.proofs.Places
 
--- a site with these events, so many of them on its disk and so many reported
+-- a site with these events, and the numbers of those on its disk and of those reported
 abbrev pub disk : ℕ → ℕ → List Event → DiskSite
 disk on_disk reported es = record { events = es; on_disk = on_disk; reported = reported }
 

@@ -13,7 +13,7 @@ use Rattle.rb_serve.specs.Turns.{not_blank}
 use Rattle.rb_run_site.specs.declared.fault.SiteFault.TheVariants.{NoConfig, LongLine, Read, OutOfMemory}
 use Rattle.rb_run_site.specs.FirstLines.{FindsFirst}
 
--- blank lines were taken, so many that the next line has this number
+-- blank lines were taken, and the next line has this number
 pub record Blanks (all : List ℕ) (number : ℕ) (pending rest : List ℕ) (ended : Bool) : Type 0 where
   pub done : List (List ℕ)
   pub walks : Walks all done pending rest ended

@@ -15,7 +15,7 @@ use Rattle.rb_run_site.specs.declared.fault.SiteFault.{SiteFault}
 use Rattle.rb_run_site.specs.declared.fault.SiteFault.TheVariants.{BadEntry, WrongReply}
 use Rattle.rb_run_site.specs.declared.fault.SiteFault.TheVariants.{OutOfMemory}
 
--- what entries sent, but the first so many: a line for each that sent any message
+-- what entries sent, but for a number of the first: a line for each that sent any message
 abbrev pub resent : Settings → ModelSite → ℕ → List Entry → List ℕ
 resent s t k [] = []
 resent s t zero (x ∷ xs) = sent_line s (sent_at s t x.event) ++ resent s (after_event s t x.event) zero xs
@@ -26,7 +26,7 @@ pub record GoesOnBy (old new : SeenSite) (xs : List Entry) : Type 0 where
   pub after : new ≡ next_sites old (events_of xs)
   pub entries : new.entries ≡ old.entries ++ xs
 
--- the lines of a journal are these entries' of the site, which goes on by them; what they sent, but for the first so many, is added
+-- the lines of a journal are these entries' of the site, which goes on by them; what they sent, but for a number of the first, is added
 pub record ReplaysLines (old new : SeenSite) (lines : List (List ℕ)) (skipped : ℕ) (sends sends_after : List ℕ) : Type 0 where
   pub entries : List Entry
   pub goes_on : GoesOnBy old new entries

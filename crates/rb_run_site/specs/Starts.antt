@@ -18,7 +18,7 @@ pub record IsOf (config : List ℕ) (me : ℕ) (x : SeenSite) : Type 0 where
 abbrev pub IsJournalOf : List (List ℕ) → SeenSite → Type 0
 IsJournalOf lines x = ((lines ≡ []) × (x ≡ first_seen x.settings x.me)) ⊎ (lines ≡ journal_of x)
 
--- what is put out again: what the last so many entries sent
+-- what is put out again: what up to this number of the last entries sent
 abbrev pub sent_again : ℕ → SeenSite → List ℕ
 sent_again most x = resent x.settings (first_site x.me) (length x.entries - most) x.entries
 

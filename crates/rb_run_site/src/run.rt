@@ -163,7 +163,7 @@ pub fn run_site<S: Source, H: Host>(
     ensures any_moment { LeavesOnly H.moment H.left_since host result.host
         (IsSiteRun me resend (S.remaining reader.old) (recovered bytes.now) (H.output host)) }
 
-    // A failed read, a failed write and a failed journal are reported only for their causes, and at most so many reads
+    // A failed read, a failed write and a failed journal are reported only for their causes, and at most `MOST_READS`
     // are made.
     ensures read { result.ended ≡ Err NotRead → (S.failed reader.new ≡ true) ⊎ (S.calls reader.new ≡ MOST_READS) }
     ensures write { result.ended ≡ Err NotWritten → H.faults host < H.faults result.host }

@@ -37,7 +37,7 @@ pub record IsReadAnswered (turns : List Turn) (left : Option (List ℕ)) (input 
   pub whole : input ≡ taken ++ rest
   pub answered : lines_answered turns ≡ not_blank (whole_lines taken)
 
--- the turns are those of all lines, and so many
+-- the turns are those of all lines, and this is their number
 abbrev pub AreAll : List Turn → ℕ → Option (List ℕ) → Option (List ℕ) → Type 0
 AreAll turns n input left = (n ≡ length turns)
     × IfSome input (λ all. (lines_answered turns ≡ not_blank (lines_of all)) × (left ≡ Some []))

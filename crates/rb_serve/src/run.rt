@@ -64,7 +64,7 @@ pub fn serve<M: Machine, H: Host, S: Source>(
     ensures journal { result ≡ Err JournalFailed → (H.faults journal.old.host < H.faults journal.new.host)
         ⊎ IsFull M.answers (served_input buffers.old.pending (S.remaining reader.old))
         (recovered (H.content journal.old.host)) }
-    // At most so many reads are made, whatever is answered.
+    // At most `MOST_READS` reads are made, whatever is answered.
     ensures calls { S.calls reader.new ≤ MOST_READS }
 {
     let mut work = Work::new(alloc, number);

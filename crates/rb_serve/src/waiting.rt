@@ -12,7 +12,7 @@ use rb_lines::{Buffers, LINE_LIMIT, is_blank};
 
 /// What is at the front of the bytes that wait.
 pub enum Waiting {
-    /// A line of so many bytes, with its line feed or at the end of the input.
+    /// A line of this number of bytes, with its line feed or at the end of the input.
     Line(usize),
     /// More than `LINE_LIMIT` bytes without a line feed.
     Long,
@@ -35,7 +35,7 @@ fn next_waiting(buffers: &mut Buffers) -> Waiting
     Waiting::Nothing
 }
 
-/// Answers the line at the front, of so many bytes, or skips it where it is blank.
+/// Answers the line at the front, of this number of bytes, or skips it where it is blank.
 fn answer_next<M: Machine>(
     machine: &mut M,
     buffers: &mut Buffers,
