@@ -48,11 +48,11 @@ is_account_name name = nat_le 1 (length name) && nat_le (length name) LONGEST_NA
 abbrev pub IsLimit : ℕ → ℕ → Type 0
 IsLimit n most = (1 ≤ n) × (n ≤ most)
 
--- lines of so many sites may have this version: 1 up to the most sites of version 1, and 2 whatever the sites
+-- lines of a bank with this number of sites may have this version: 1 up to the most sites of version 1, and 2 whatever the sites
 abbrev pub IsVersion : ℕ → ℕ → Type 0
 IsVersion version sites = ((version ≡ 1) × (sites ≤ MOST_SITES_OF_VERSION_1)) ⊎ (version ≡ 2)
 
--- the version of so many sites where none is asked for: 1 where it may be
+-- the version for this number of sites where none is asked for: 1 where it may be
 abbrev pub version_of : ℕ → ℕ
 version_of sites = if nat_le sites MOST_SITES_OF_VERSION_1 then 1 else 2
 
@@ -68,7 +68,7 @@ pub record IsConfigured (s : Settings) : Type 0 where
   pub few_accounts : length s.names ≤ MOST_ACCOUNTS
   pub starts_of_all : length s.starts ≡ length s.names
   pub names : (i : ℕ) (name : List ℕ) → slice_get s.names i ≡ Some name → is_account_name name ≡ true
-  -- no name stands twice
+  -- no two accounts have the same name
   pub unique : (i j : ℕ) (name : List ℕ) → slice_get s.names i ≡ Some name → slice_get s.names j ≡ Some name → i ≡ j
   pub starts : (i n : ℕ) → slice_get s.starts i ≡ Some n → n ≤ MOST_CENTS
   pub blue : IsLimit s.limits.blue MOST_BLUE

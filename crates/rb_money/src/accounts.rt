@@ -36,7 +36,7 @@ impl Model for Accounts {
 }
 
 impl Accounts {
-    /// No account yet, with room for so many.
+    /// No account yet, with memory for this number of them. `Err` means out of memory.
     fn with_capacity(alloc: Global, capacity: usize) -> Result<Accounts, AllocError>
         ensures names { IfOk result (λ none. none.names ≡ []) }
         ensures starts { IfOk result (λ none. none.starts ≡ []) }
@@ -45,7 +45,7 @@ impl Accounts {
         Ok(Accounts { by_name })
     }
 
-    /// Adds an account behind the others.
+    /// Adds an account behind the others. `Err` means out of memory.
     fn push(&mut self, name: String, start: u64) -> Result<(), AllocError>
         requires room { length self.old.names < MOST_ACCOUNTS }
         requires fresh { is_among self.old.names (string_bytes name) ≡ false }
@@ -72,7 +72,7 @@ impl Accounts {
         Ok(list)
     }
 
-    /// The same accounts once more.
+    /// A copy of the accounts. `Err` means out of memory.
     pub(crate) fn try_copy(&self, alloc: Global) -> Result<Accounts, AllocError>
         ensures { IfOk result (λ copy. copy ≡ self.now) }
     {

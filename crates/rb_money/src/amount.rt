@@ -26,7 +26,7 @@ impl Model for Amount {
 }
 
 impl Amount {
-    /// The amount of so many cents, or `BadAmount` where they are not 1 to `MOST_CENTS`.
+    /// The amount of this number of cents, or `BadAmount` where it isn't 1 to `MOST_CENTS`.
     pub fn new(cents: u64) -> Result<Amount, Refusal>
         ensures value { IfOk result (λ amount. amount ≡ cents) }
         ensures proper { OnOk result (is_amount cents ≡ true) }

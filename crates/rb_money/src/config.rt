@@ -42,7 +42,7 @@ impl Model for Config {
     }) };
 }
 
-/// The version of a configuration of so many sites.
+/// The version of a configuration with this number of sites.
 fn version_of(sites: u8) -> u8
     ensures { result ≡ version_of sites }
 {

@@ -3,7 +3,7 @@ ghost use Rattle.std.specs.Prelude.{◌≡◌, ◌<◌, ◌^◌, ℕ, decimal, I
 
 use itoa::Buffer;
 
-/// The number below 2^32 that these digits are the text of, with no sign and no zero in front.
+/// The number below 2^32 that these digits are the text of, with no sign and no leading zero.
 pub fn read_number(text: &str) -> Option<u32>
     ensures found { IfSome result (λ n. text.now ≡ decimal n) }
     ensures only { (n : ℕ) → n < 2 ^ 32 → text.now ≡ decimal n → result ≡ Some n }

@@ -31,7 +31,7 @@ impl Model for Rate {
 }
 
 impl Rate {
-    /// The rate of so many basis points, or `BadRate` where they are more than `MOST_RATE`.
+    /// The rate of this number of basis points, or `BadRate` where it is more than `MOST_RATE`.
     pub fn new(basis_points: u32) -> Result<Rate, Refusal>
         ensures value { IfOk result (λ rate. rate ≡ basis_points) }
         ensures within { OnOk result (basis_points ≤ MOST_RATE) }

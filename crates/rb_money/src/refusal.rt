@@ -66,7 +66,7 @@ pub enum Refusal {
 impl Refusal {
     ghost use Rattle.rb_money.specs.Refusals.{number_of_refusal};
 
-    /// The number by which lines name the refusal: 1 to 24, and 0 where memory runs out, which no line tells.
+    /// The number by which lines name the refusal: 1 to 24, and 0 where memory runs out, which no line reports.
     pub fn number(&self) -> u8
         ensures { result ≡ number_of_refusal self.now }
     {

@@ -13,7 +13,7 @@ IsPart us vs = (u : Shadow) → Among u us → Among u vs
 abbrev pub IsClosed : List Shadow → Type 0
 IsClosed vs = (v : Shadow) → Among v vs → IsWithin (past v) (names vs)
 
--- cancellation commutes: the same operations agree in every order. So a cancellation may stand anywhere after its target, and a second one
+-- cancellation commutes: the same operations agree in every order. So a cancellation may come anywhere after its target, and a second one
 -- anywhere after it, with the same balances, numbers of cancellations and names
 abbrev pub CancellationCommutes : Type 0
 CancellationCommutes = (s : Settings) (us vs : List Shadow) → IsUnique us → IsUnique vs → IsPart us vs → IsPart vs us → Agree s us vs

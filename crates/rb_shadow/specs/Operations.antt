@@ -45,7 +45,7 @@ names_of_clock c (Red n) = nat_le 1 n && nat_le n c.red
 unfoldable pub past : Shadow → NameSet
 past v = names_of_clock v.deps
 
--- u stands before v in the order
+-- u precedes v: v's home had applied u
 abbrev pub Precedes : Shadow → Shadow → Type 0
 Precedes u v = past v u.name ≡ true
 
@@ -136,7 +136,7 @@ total f (u ∷ us) = f u +ℤ total f us
 unfoldable pub bal : Settings → List Shadow → Place → ℤ
 bal s us a = pos (start_of s a) +ℤ total (λ u. delta u a) (kept us)
 
--- no name stands twice
+-- no two operations have the same name
 abbrev pub IsUnique : List Shadow → Type 0
 IsUnique [] = Unit {0}
 IsUnique (u ∷ us) = (names us u.name ≡ false) × IsUnique us
@@ -179,7 +179,7 @@ abbrev pub number_of : OpName → ℕ
 number_of (Blue i n) = n
 number_of (Red n) = n
 
--- the row of a name, where operations stand in rows: first the red ones, and then the blue ones of each site
+-- the row of a name, where operations are kept in rows: first the red ones, and then the blue ones of each site
 abbrev pub row_of : OpName → ℕ
 row_of (Blue i n) = suc i
 row_of (Red n) = 0

@@ -19,7 +19,7 @@ abbrev pub is_foreign : OpName → ℕ → Bool
 is_foreign (Blue i n) home = not (i == home)
 is_foreign (Red n) home = false
 
--- a blue name of a site past so many
+-- a blue name of a site that the bank doesn't have
 abbrev pub is_absent : ℕ → OpName → Bool
 is_absent sites (Blue i n) = nat_le sites i
 is_absent sites (Red n) = false
@@ -35,7 +35,7 @@ may_be_nothing Interest = true
 may_be_nothing (Cancel x) = true
 may_be_nothing _ = false
 
--- the receiver, if there is one, is past so many accounts, or the own account
+-- the receiver, if there is one, is no account of the configuration, or the own account
 abbrev pub is_misdirected : ℕ → Place → Option Place → Bool
 is_misdirected accounts own None = false
 is_misdirected accounts own (Some to) = nat_le accounts to.0 || (to.0 == own.0)
@@ -44,7 +44,7 @@ is_misdirected accounts own (Some to) = nat_le accounts to.0 || (to.0 == own.0)
 abbrev pub is_miscoloured : Kind → OpName → Bool
 is_miscoloured k x = not (is_some (target_of k)) && not (same_colour (shown_colour x) (colour_of k None))
 
--- it cancels what its home can't have applied: a target of none of so many sites, or one that the clock doesn't count
+-- it cancels what its home can't have applied: a target of a site that the bank doesn't have, or one that the clock doesn't count
 abbrev pub cancels_unseen : ℕ → Kind → Deps → Bool
 cancels_unseen sites k c = unless (λ x. is_absent sites x || not (names_of_clock c x)) (target_of k) false
 
@@ -53,7 +53,7 @@ abbrev pub are_entries : ℕ → ℕ → List ℕ → Bool
 are_entries sites limit [] = true
 are_entries sites limit (n ∷ ns) = (if sites == 0 then n == 0 else nat_le n limit) && are_entries (sites - 1) limit ns
 
--- the entries are those of a clock of so many sites
+-- the entries are those of a clock for this number of sites
 abbrev pub is_clock : ℕ → Limits → Deps → Bool
 is_clock sites l c = are_entries sites l.blue c.blue && nat_le c.red l.red
 

@@ -32,7 +32,7 @@ impl Deps {
         1 <= n && n <= self.entry(name)
     }
 
-    /// Whether the entries are within their limits, and 0 past so many sites.
+    /// Whether the entries are within their limits, and 0 for all but the first `sites` sites.
     #[inline(always)]
     pub(crate) fn is_clock(&self, sites: u8, limits: Limits) -> bool
         ensures { result ≡ is_clock sites limits self.now }

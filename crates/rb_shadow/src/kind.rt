@@ -127,7 +127,7 @@ impl Kind {
         }
     }
 
-    /// Whether it would move money to an account past so many, or to its own.
+    /// Whether it would move money to an account whose place isn't below `accounts`, or to its own.
     #[inline(always)]
     pub(crate) fn is_misdirected(self, accounts: usize, own: Place) -> bool
         ensures { result ≡ is_misdirected accounts own (receiver_of self) }
@@ -148,7 +148,7 @@ impl Kind {
         }
     }
 
-    /// Whether it cancels an operation of none of so many sites, or one that isn't counted there.
+    /// Whether it cancels an operation of a site that the bank doesn't have, or one that the clock doesn't count.
     pub(crate) fn cancels_unseen(self, sites: u8, deps: &Deps) -> bool
         ensures { result ≡ cancels_unseen sites self deps.now }
     {

@@ -25,7 +25,7 @@ impl OpName {
         }
     }
 
-    /// The row of the name, where operations stand in rows: first that of the red ones, then that of the
+    /// The row of the name, where operations are kept in rows: first that of the red ones, then that of the
     /// first site's blue ones, and so on.
     pub fn row(self) -> usize
         ensures { result ≡ row_of self }
@@ -57,7 +57,7 @@ impl OpName {
         }
     }
 
-    /// Whether it is a blue name of none of so many sites.
+    /// Whether it is a blue name of a site that a bank of this number of sites doesn't have.
     pub(crate) fn is_absent(self, sites: u8) -> bool
         ensures { result ≡ is_absent sites self }
     {

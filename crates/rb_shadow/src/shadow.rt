@@ -6,7 +6,7 @@ ghost use Rattle.rb_shadow.specs.Sound.{fault_of};
 use crate::{Deps, Kind, OpName};
 use rb_money::{Config, MOST_CENTS, Place, Refusal};
 
-/// What a request did, as every site is told.
+/// What a request did, as it is sent to every site.
 #[derive(Clone, Copy, Debug, PartialEq, Eq)]
 pub struct Shadow {
     pub name: OpName,

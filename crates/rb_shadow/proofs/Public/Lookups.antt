@@ -7,7 +7,7 @@ use Rattle.rb_shadow.specs.declared.op_name.OpName.{OpName}
 use Rattle.rb_shadow.specs.Operations.{Among, find_in, kind_in, names, same_name}
 use Rattle.rb_shadow.proofs.Public.Members
 
--- what is found under a name stands in the list and has the name
+-- what is found under a name is in the list and has the name
 pub found : (us : List Shadow) (x : OpName) (v : Shadow) → find_in us x ≡ Some v → Among v us × (v.name ≡ x)
 found [] x v h = cc
 found (u ∷ us) x v h = at (same_name u.name x) refl h (found us x v)
@@ -46,7 +46,7 @@ kind_found (u ∷ us) x = at (same_name u.name x) (kind_found us x)
     at true more = refl
     at false more = more
 
--- what stands at an index stands in the list
+-- what is at an index is in the list
 pub Among-index : (us : List Shadow) (k : ℕ) (d : Shadow) → k < length us → Among (get_or us k d) us
 Among-index [] k d h = absurd (omega arith)
 Among-index (v ∷ us) zero d h = inl refl

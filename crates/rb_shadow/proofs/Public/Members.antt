@@ -138,7 +138,7 @@ pub never_empty : (us vs : List Shadow) (v : Shadow) → us ++ v ∷ vs ≡ [] �
 never_empty [] vs v e = cc
 never_empty (u ∷ us) vs v e = cc
 
--- what ends a list stands at its end or before it
+-- what ends a list is at its end or before it
 pub push_split : (us front back : List Shadow) (u v : Shadow) → us ++ u ∷ [] ≡ front ++ v ∷ back →
     ((back ≡ []) × (front ≡ us) × (v ≡ u)) ⊎ ((rest : List Shadow) × (back ≡ rest ++ u ∷ []) × (us ≡ front ++ v ∷ rest))
 push_split [] [] back u v e = inl (cc, refl, cc)
