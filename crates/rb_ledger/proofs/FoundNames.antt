@@ -1,4 +1,4 @@
--- What stands at a position, and under a name that was found.
+-- What is at a position, and under a name that was found.
 use Rattle.std.proofs.Common.{◌≡◌, ℕ, zero, suc, ◌-◌, ◌<◌, ◌≤◌, true, false, cond, List, [], ◌∷◌, length}
 use Rattle.std.proofs.Common.{get_or, refl, ap, sym, ◌∙◌, arith, ◌⊎◌, inl, inr, Some, None}
 use Rattle.std.specs.Prelude.{slice_get, ◌==◌, Option, option_map, option_and_then}
@@ -31,7 +31,7 @@ entry_there us (suc p) u e = (omega arith, sym (e ∙ ap (λ b. cond b None (sli
     test : (p : ℕ) → (suc p == 0) ≡ false
     test p = grind (arith, nat_tests)
 
--- what stands at the position that was found
+-- what is at the position that was found
 pub found_there : (us : List Shadow) (x : OpName) (p : ℕ) → Some p ≡ find_position us x →
     (t : Shadow) × (operation_at us p ≡ Some t) × (t.name ≡ x) × (find_in us x ≡ Some t)
 found_there us x p e = at (Members.bool_cases (names us x))
@@ -56,7 +56,7 @@ found_none us x e = elim (Members.bool_cases (names us x)) [
   | inr d ↦ d
 ]
 
--- under a name that wasn't found no operation stands
+-- under a name that wasn't found there is no operation
 pub found_nothing : (us : List Shadow) (x : OpName) → None ≡ find_position us x → None ≡ find_in us x
 found_nothing us x e = absent us (found_none us x e)
   where
@@ -64,7 +64,7 @@ found_nothing us x e = absent us (found_none us x e)
     absent [] d = refl
     absent (u ∷ us) d = let (first, rest) = Members.or-false _ _ d in absent us rest ∙ sym (ap (λ b. cond b (Some u) (find_in us x)) first)
 
--- a target stands in the list
+-- a target is in the list
 pub target_found : (us : List Shadow) (h : Shadow) (x : OpName) → HasTarget us h (Some x) → None ≡ find_in us x → ⊥
 target_found us h x (t, there, named, right) none = Members.true≢false (sym (Members.named us t there) ∙ ap (names us) named
     ∙ Lookups.unnamed us x (sym none))

@@ -104,7 +104,7 @@ other_few s us c hs h f configured kept are longer = at (other_of us h.kind) ref
           heads_few s us c hs b.0 kept are,
         )
 
--- the balance that stands in a head, and the balance of none
+-- the balance that a head holds, and the balance of none
 pub head_balance : (s : Settings) (us : List Shadow) (hs : List Head) (a : Place) (n : ℕ) → AreHeads s us hs → a.0 < length s.starts →
     n ≡ (get_or hs a.0 no_head).balance → n ≡ cents (bal s us a)
 head_balance s us hs a n are near is = is ∙ ap cents (are.each a (get_or hs a.0 no_head)

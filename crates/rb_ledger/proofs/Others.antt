@@ -61,7 +61,7 @@ pub other_apart : (s : Settings) (us : List Shadow) (h : Shadow) (b : Place) →
     other_of us h.kind ≡ Some b → (b.0 < length s.starts) × (h.account.0 ≡ b.0 → ⊥)
 other_apart s us h b valid may e = second_apart s us h b valid may.sound may.target e
 
--- what stands at an index may follow what stands before it
+-- what is at an index may follow what comes before it
 pub may_there : (s : Settings) (us : List Shadow) (i : ℕ) (u : Shadow) → IsValid s us → slice_get us i ≡ Some u →
     Legal.MayFollow s (take i us) u
 may_there s us i u valid there =

@@ -9,8 +9,8 @@ use Rattle.rb_ledger.specs.Valid.{IsValid}
 use Rattle.rb_ledger.specs.Records.{records_of}
 use Rattle.rb_ledger.specs.Index.{AreLinks, IsIndex}
 
--- the list and its links are whole; the index and the log are those of the first n operations, and the log has room
--- for the records of the others
+-- the list and its links are whole; the index and the log are those of the first n operations, and the log has spare
+-- capacity for the records of the others
 pub record IsAt (s : Settings) (us : List Shadow) (n : ℕ) (ls : List Links) (x : Index) (l : Log) : Type 0 where
   pub valid : IsValid s us
   pub within : n ≤ length us

@@ -13,7 +13,7 @@ use std::alloc::AllocError;
 
 impl Ledger {
     /// Adds a shadow at the end, and gives the record to undo that. A shadow that is refused comes
-    /// back, with the refusal of `check`, or else, where there was no room, `OutOfMemory`.
+    /// back, with the refusal of `check`, or else `OutOfMemory`.
     pub fn apply(&mut self, shadow: Shadow) -> Result<Undo, (Shadow, Refusal)>
         ensures applied { IfOk result (λ undo. (self.new.entries ≡ self.old.entries ++ shadow ∷ [])
             × (undo ≡ parts_of self.old.settings self.old.entries shadow)) }
@@ -69,7 +69,8 @@ impl Ledger {
         self.index.pop(&self.entries, parts, &links);
     }
 
-    /// Makes room for so many more operations. It takes no memory where there is room.
+    /// Reserves capacity for `additional` more operations. It takes no memory where there is enough.
+    /// `Err` means out of memory.
     pub fn reserve(&mut self, additional: usize) -> Result<(), AllocError>
         ensures settings { self.new.settings ≡ self.old.settings }
         ensures entries { self.new.entries ≡ self.old.entries }
@@ -89,7 +90,7 @@ impl Ledger {
         }
     }
 
-    /// Takes memory for one more entry where there is no room.
+    /// Takes memory for one more entry where there is no spare capacity. `Err` means out of memory.
     fn make_room(&mut self) -> Result<(), AllocError>
         ensures settings { self.new.settings ≡ self.old.settings }
         ensures entries { self.new.entries ≡ self.old.entries }
@@ -104,7 +105,7 @@ impl Ledger {
         self.grow(count * 2 + 8)
     }
 
-    /// Takes memory for so many entries.
+    /// Takes memory for `limit` entries in all. `Err` means out of memory.
     fn grow(&mut self, limit: usize) -> Result<(), AllocError>
         requires { length self.old.entries + self.old.room ≤ limit }
         ensures settings { self.new.settings ≡ self.old.settings }

@@ -17,8 +17,8 @@ use rb_vclock::Clock;
 use std::alloc::{AllocError, Global};
 
 /// What is read of a list of operations, so that no look-up, check, application or undo walks it. It changes
-/// in place with each operation that comes to the end of the list or leaves it. The list itself stands
-/// elsewhere.
+/// in place with each operation that comes to the end of the list or leaves it. The list itself is
+/// kept elsewhere.
 #[derive(Drop)]
 pub struct Index {
     /// The configuration, under which the list is valid.
@@ -137,7 +137,7 @@ impl Index {
         }
     }
 
-    /// Takes in an operation after those before, where there is room. The parts are what is kept to undo it,
+    /// Takes in an operation after those before, in spare capacity. The parts are what is kept to undo it,
     /// the links its links.
     pub fn push(&mut self, before: &[Shadow], shadow: &Shadow, parts: &UndoParts, links: &Links)
         requires index { IsIndex self.old.config before.now self.old }

@@ -130,7 +130,7 @@ impl Ledger {
     }
 }
 
-/// Whether so many entries on an account end in two blocks of one size, where the blocks are of 1, 3, 7
+/// Whether `count` entries on an account end in two blocks of one size, where the blocks are of 1, 3, 7
 /// and so on entries, the largest first, and only the last two may be of one size. The next entry then jumps
 /// back over both, and otherwise to the entry before it: so every entry is reached in few jumps.
 fn joins(count: u32) -> bool {

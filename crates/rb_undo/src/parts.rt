@@ -22,7 +22,7 @@ pub struct UndoParts {
 }
 
 impl UndoParts {
-    /// What stands in a place for a record that has none yet: zeros, so that a list of it is set at once.
+    /// What a place for a record holds before there is one: zeros, so that a list of it is set at once.
     pub const BLANK: UndoParts = UndoParts {
         position: 0,
         name: OpName::Blue { site: 0, n: 0 },

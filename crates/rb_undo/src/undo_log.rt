@@ -39,7 +39,8 @@ impl UndoLog {
         self.undos.len()
     }
 
-    /// Makes room for so many more records. It takes no memory where there is room.
+    /// Reserves capacity for `additional` more records. It takes no memory where there is enough. `Err` means out of
+    /// memory.
     pub fn reserve(&mut self, additional: usize) -> Result<(), AllocError>
         ensures parts { self.new.parts ≡ self.old.parts }
         ensures ok { OnOk result (additional ≤ self.new.room) }
@@ -63,7 +64,7 @@ impl UndoLog {
         Ok(())
     }
 
-    /// Takes memory for a record where there is no room.
+    /// Takes memory for a record where there is no spare capacity. `Err` means out of memory.
     fn make_room(&mut self) -> Result<(), AllocError>
         ensures parts { self.new.parts ≡ self.old.parts }
         ensures ok { OnOk result (0 < self.new.room) }
@@ -76,7 +77,7 @@ impl UndoLog {
         self.undos.reserve(1)
     }
 
-    /// Adds a record at the end, where there is room.
+    /// Adds a record at the end, in spare capacity.
     pub fn push_reserved(&mut self, undo: Undo)
         requires { 0 < self.old.room }
         ensures parts { self.new.parts ≡ self.old.parts ++ undo ∷ [] }
@@ -93,7 +94,7 @@ impl UndoLog {
         self.undos.pop()
     }
 
-    /// Moves the records of another log to the end, where there is room.
+    /// Moves the records of another log to the end, in spare capacity.
     pub fn append(&mut self, other: UndoLog)
         requires { length other.parts ≤ self.old.room }
         ensures parts { self.new.parts ≡ self.old.parts ++ other.parts }

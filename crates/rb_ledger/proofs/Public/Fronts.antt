@@ -1,4 +1,4 @@
--- Elements of a front of a list.
+-- Elements of a prefix of a list.
 use Rattle.std.proofs.Common.{◌≡◌, ℕ, suc, ◌+◌, ◌<◌, ◌≤◌, List, [], ◌∷◌, ◌++◌, length, take, ap, ◌∙◌, add-one, zero, refl, arith, Some}
 use Rattle.std.specs.Prelude.{slice_get}
 use Rattle.std.proofs.lemmas.Option.{slice_get_within, get_or_from_slice_get}
@@ -24,7 +24,7 @@ get_take (suc n) [] i z e = cc
 get_take (suc n) (x ∷ xs) zero z e = (omega arith, e)
 get_take (suc n) (x ∷ xs) (suc i) z e = let r : (i < n) × (slice_get xs i ≡ Some z) = get_take n xs i z e in (omega arith, r.1)
 
--- a front of a front
+-- a prefix of a prefix
 pub take_take : {X : Type 0} (xs : List X) (i n : ℕ) → i ≤ n → take i (take n xs) ≡ take i xs
 take_take xs zero n low = refl
 take_take xs (suc i) zero low = absurd (omega arith)

@@ -12,7 +12,7 @@ use Rattle.rb_ledger.proofs.Others
 use Rattle.rb_ledger.proofs.Overdraws
 use Rattle.rb_ledger.proofs.ledger.Ledger.links_of.Goals as goal
 
--- what stands in an option is one
+-- what an option holds is one
 one : (a b : Place) → Some a ≡ Some b → a ≡ b
 one a b e = cc
 
