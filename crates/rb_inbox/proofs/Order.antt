@@ -22,30 +22,30 @@ before-trans (Red m) (Blue j n) z h l = cc
 before-trans (Red m) (Red n) (Blue k p) h l = cc
 before-trans (Red m) (Red n) (Red p) h l = grind (arith, nat_tests)
 
--- a name stands before no name that stands before it
+-- a name comes before no name that comes before it
 pub before-one_way : (x y : OpName) → stands_before x y ≡ true → stands_before y x ≡ false
 before-one_way (Blue i m) (Blue j n) h = grind (arith, nat_tests)
 before-one_way (Blue i m) (Red n) h = refl
 before-one_way (Red m) (Blue j n) h = cc
 before-one_way (Red m) (Red n) h = grind (arith, nat_tests)
 
--- a name that stands before another is another
+-- a name that comes before another is another
 pub before-not_same : (x y : OpName) → stands_before x y ≡ true → same_name x y ≡ false
 before-not_same (Blue i m) (Blue j n) h = grind (arith, nat_tests)
 before-not_same (Blue i m) (Red n) h = refl
 before-not_same (Red m) (Blue j n) h = refl
 before-not_same (Red m) (Red n) h = grind (arith, nat_tests)
 
--- of two different names one stands before the other
+-- of two different names one comes before the other
 pub before-other_way : (x y : OpName) → same_name x y ≡ false → stands_before x y ≡ false → stands_before y x ≡ true
 before-other_way (Blue i m) (Blue j n) h k = grind (arith, nat_tests)
 before-other_way (Blue i m) (Red n) h k = cc
 before-other_way (Red m) (Blue j n) h k = refl
 before-other_way (Red m) (Red n) h k = grind (arith, nat_tests)
 
--- ---- what stands before all of a list
+-- ---- what comes before all of a list
 
--- what stands before the first of all stands before all
+-- what comes before the first of all comes before all
 pub before_all-trans : (x y : OpName) (us : List Shadow) → stands_before x y ≡ true → StandsBeforeAll y us → StandsBeforeAll x us
 before_all-trans x y [] h k = tt
 before_all-trans x y (u ∷ us) h k = (before-trans x y u.name h k.0, before_all-trans x y us h k.1)
@@ -63,7 +63,7 @@ before_all-without x (u ∷ us) h =
     ap (λ b. cond (not b) (u ∷ without x us) (without x us)) (Members.same_name-comm u.name x ∙ before-not_same x u.name h.0)
     ∙ ap (λ ws. u ∷ ws) (before_all-without x us h.1)
 
--- a name stands before all also with one more
+-- a name comes before all also with one more
 pub before_all-with_held : (x : OpName) (v : Shadow) (us : List Shadow) → stands_before x v.name ≡ true → StandsBeforeAll x us →
     StandsBeforeAll x (with_held v us)
 before_all-with_held x v [] h k = (h, tt)
@@ -73,7 +73,7 @@ before_all-with_held x v (u ∷ us) h k = at (stands_before v.name u.name) (befo
     at true r = (h, k)
     at false r = (k.0, r)
 
--- a name stands before some of all
+-- a name comes before some of all
 pub before_all-filter : (p : Shadow → Bool) (x : OpName) (us : List Shadow) → StandsBeforeAll x us → StandsBeforeAll x (filter p us)
 before_all-filter p x [] h = tt
 before_all-filter p x (u ∷ us) h = at (p u) (before_all-filter p x us h.1)
@@ -122,7 +122,7 @@ find-past (u ∷ us) x h l = at (stands_before u.name x) refl l (find-past us x 
     at true e l rest = ap (λ s. cond s (Some u) (find_in us x)) (before-not_same u.name x e) ∙ rest (omega arith)
     at false e l rest = absurd (omega arith)
 
--- what stands in the place is the operation of the name, if that is its name
+-- what is in the place is the operation of the name, if that is its name
 pub find-index : (us : List Shadow) (x : OpName) (d : Shadow) → IsInOrder us → held_before us x < length us
     → find_in us x ≡ cond (same_name (get_or us (held_before us x) d).name x) (Some (get_or us (held_before us x) d)) None
 find-index [] x d h l = absurd (omega arith)
@@ -148,7 +148,7 @@ find-same us x u h l e q =
     sym (find-index us x u h l ∙ ap (λ (w : Shadow). cond (same_name w.name x) (Some w) None) (sym e)
     ∙ ap (λ b. cond b (Some u) None) (ap (same_name u.name) (sym q) ∙ Members.same_name-refl u.name))
 
--- where another name stands at the place of a name it is held nowhere
+-- where another name is at the place of a name it is held nowhere
 pub find-other : (us : List Shadow) (x : OpName) (u : Shadow) → IsInOrder us → held_before us x < length us →
     u ≡ get_or us (held_before us x) u → (u.name ≡ x → ⊥) → None ≡ find_in us x
 find-other us x u h l e q =
@@ -239,7 +239,7 @@ Among-find (w ∷ us) u h (inr a) =
     ap (λ b. cond b (Some w) (find_in us u.name)) (before-not_same w.name u.name (before_all-among w.name us u h.0 a))
     ∙ Among-find us u h.1 a
 
--- what is left from a place on is what stands there, or has a later name
+-- what is left from a place on is what is there, or has a later name
 pub left_cases : (us : List Shadow) (k : ℕ) (d u : Shadow) → IsInOrder us → k < length us → Among u (drop k us) →
     (u ≡ get_or us k d) ⊎ (stands_before (get_or us k d).name u.name ≡ true)
 left_cases [] k d u h l a = absurd (omega arith)
@@ -282,7 +282,7 @@ found_inside n us b x o h e = ap (λ (b : Holding). find_in b.held x) h ∙ sym 
 pub unchanged : (n : ℕ) (us vs : List Shadow) (b : Holding) → us ≡ vs → holding n vs ≡ b → holding n us ≡ b
 unchanged n us vs b e h = ap (holding n) e ∙ h
 
--- where nothing stands under the name, nothing is left out
+-- where there is nothing under the name, nothing is left out
 pub without-absent : (us : List Shadow) (x : OpName) → find_in us x ≡ None → without x us ≡ us
 without-absent [] x h = refl
 without-absent (u ∷ us) x h = by (same_name u.name x) h (without-absent us x)

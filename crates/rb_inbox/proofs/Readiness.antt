@@ -59,7 +59,7 @@ Among-filter p (v ∷ us) u (inr a) e = at (p v) (Among-filter p us u a e)
     at true k = inr k
     at false k = k
 
--- what is held stands in the row of its name
+-- what is held is in the row of its name
 pub among_row : (rows : List (List Shadow)) (u : Shadow) → AreHeldRows 0 rows → Among u (held_of rows) →
     Among u (get_or rows (row_of u.name) [])
 among_row rows u h a = subst (Among u) (sym (row_is rows (row_of u.name) h))

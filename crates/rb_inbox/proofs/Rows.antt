@@ -192,7 +192,7 @@ find_in_row (u ∷ us) x = at (same_name u.name x) (is_of (row_of x) u) refl ref
 
 -- ---- a change of a row
 
--- a change that concerns a name leaves alone what stands before the name, and what stands after it
+-- a change that concerns a name leaves alone what comes before the name, and what comes after it
 pub record IsChangeAt (x : OpName) (f : List Shadow → List Shadow) : Type 0 where
   pub later : (us vs : List Shadow) → ((u : Shadow) → Among u us → stands_before u.name x ≡ true) → f (us ++ vs) ≡ us ++ f vs
   pub sooner : (us vs : List Shadow) → ((u : Shadow) → Among u vs → stands_before x u.name ≡ true) → f (us ++ vs) ≡ f us ++ vs

@@ -29,17 +29,17 @@ pub record Holding : Type 0 where
   pub limit : ℕ
   pub held : List Shadow
 
--- the name stands before each of the operations
+-- the name comes before that of each of the operations
 abbrev pub StandsBeforeAll : OpName → List Shadow → Type 0
 StandsBeforeAll x [] = Unit {0}
 StandsBeforeAll x (u ∷ us) = (stands_before x u.name ≡ true) × StandsBeforeAll x us
 
--- each operation stands before all later ones, so there is one for each name
+-- each operation's name comes before those of all later ones, so there is one for each name
 abbrev pub IsInOrder : List Shadow → Type 0
 IsInOrder [] = Unit {0}
 IsInOrder (u ∷ us) = StandsBeforeAll u.name us × IsInOrder us
 
--- how many of the first operations stand before the name
+-- how many of the first operations have names before this one
 abbrev pub held_before : List Shadow → OpName → ℕ
 held_before [] x = 0
 held_before (u ∷ us) x = if stands_before u.name x then suc (held_before us x) else 0
@@ -54,12 +54,12 @@ pub record IsNumbered (v : Shadow) : Type 0 where
 abbrev pub IsReady : Deps → Shadow → Type 0
 IsReady c v = IsWithin (past v) (names_of_clock c)
 
--- an operation can be put: nothing is held under its name, and there is room, or it is ready
+-- an operation can be put: nothing is held under its name, and the inbox isn't full, or it is ready
 pub record IsWelcome (b : Holding) (c : Deps) (v : Shadow) : Type 0 where
   pub new : find_in b.held v.name ≡ None
   pub room : b.limit ≤ length b.held → IsReady c v
 
--- an operation can't be put for want of room: nothing is held under its name, there is no room, and it isn't ready
+-- an operation can't be put as the inbox is full: nothing is held under its name, and it isn't ready
 pub record IsTooMany (b : Holding) (c : Deps) (v : Shadow) : Type 0 where
   pub new : find_in b.held v.name ≡ None
   pub full : b.limit ≤ length b.held

@@ -21,7 +21,7 @@ abbrev pub AreHeldRows : ℕ → List (List Shadow) → Type 0
 AreHeldRows r [] = Unit {0}
 AreHeldRows r (us ∷ rows) = IsHeldRow r us × AreHeldRows (suc r) rows
 
--- the lists are rows, and have so many operations
+-- the lists are rows, and have this number of operations in all
 pub record AreCounted (rows : List (List Shadow)) (count : ℕ) : Type 0 where
   pub each : AreHeldRows 0 rows
   pub counted : count ≡ length (held_of rows)

@@ -218,7 +218,7 @@ impl Inbox {
     }
 }
 
-/// Adds empty rows, until there are so many.
+/// Adds empty rows, until there are `count`. `Err` means out of memory.
 fn add_rows(rows: &mut Vec<Row>, count: usize, alloc: Global) -> Result<(), AllocError>
     ensures rows { (k : ℕ) × (rows.new.items ≡ rows.old.items ++ replicate k []) }
     ensures ok { OnOk result (count ≤ length rows.new.items) }
@@ -248,7 +248,7 @@ fn ready_in(row: &[Shadow], clock: &Clock) -> Option<OpName>
     None
 }
 
-/// Where a shadow of the name stands, or where it would.
+/// The index of the shadow of the name, or the one at which it would be put.
 fn index_of(shadows: &[Shadow], name: OpName) -> usize
     requires { IsInOrder shadows.now }
     ensures index { result ≡ held_before shadows.now name }

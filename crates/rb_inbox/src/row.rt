@@ -6,8 +6,8 @@ use std::alloc::{AllocError, Global};
 use std::marker::Model;
 
 /// Shadows in a row, behind free slots: at either end one is put in or taken out without a move of the
-/// others. Slots are made and given up so many at a time that this costs a constant number of moves
-/// for each call, on average.
+/// others. The slots that are made or given up at a time grow with the row, so that a call costs
+/// a constant number of moves, on average.
 #[derive(Drop)]
 pub struct Row {
     slots: Vec<Shadow>,

@@ -14,7 +14,7 @@ use Rattle.rb_ledger.specs.Valid.{operation_at, find_position, first_cancel_in, 
 use Rattle.rb_scratch.specs.Requests.{Plan}
 use Rattle.rb_scratch.proofs.Public.Positions.{no_position, at_position}
 
--- at a position that was found an operation stands
+-- at a position that was found there is an operation
 pub found_there : (us : List Shadow) (x : OpName) (p : ℕ) → find_position us x ≡ Some p → (t : Shadow) × (find_in us x ≡ Some t)
 found_there us x p h = at (names us x) refl h
   where
@@ -49,7 +49,7 @@ past_kind : (us : List Shadow) (x : OpName) (t : Shadow) → find_in us x ≡ So
 past_kind us x t found h = ap (plan_of_cancel us x) found ∙ ap (λ b. cond (not b) (Err NotCancellable)
     (cond (is_cancelled us x) (Err (AlreadyCancelled (first_cancel_from 1 us x))) (Ok (cancelling x t)))) h
 
--- the operation of the name stands at the position
+-- the operation of the name is at the position
 pub record IsFound (us : List Shadow) (x : OpName) (p : ℕ) (t : Shadow) : Type 0 where
   pub entry : operation_at us p ≡ Some t
   pub found : find_in us x ≡ Some t

@@ -23,7 +23,7 @@ made_in_batch s me us token r =
     if same_kind p.kind Declined then Err DeclinedFault
     else and_then (λ why. Err (RefusedFault why)) (allowed s us token (operation_of me us p)) Ok)
 
--- what is told of it: a refusal by its number
+-- how a reply reports it: a refusal by its number
 abbrev pub cause_of : RunFault → Cause
 cause_of DeclinedFault = DeclinedCause
 cause_of (RefusedFault why) = RefusedCause (number_of_refusal why)

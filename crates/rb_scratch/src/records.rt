@@ -7,7 +7,7 @@ use rb_undo::{Undo, UndoLog, UndoParts};
 use std::marker::Model;
 
 /// Undo records in order, at most as many as a batch has requests, each of which is still to be spent or
-/// sealed. They stand in the value itself and take no memory: a record is spent into its parts, and made
+/// sealed. They are kept in the value itself and take no memory: a record is spent into its parts, and made
 /// anew from them. Clients see the parts. They can't be dropped: they go to the end of a log, or are closed.
 pub struct Records {
     parts: [UndoParts; MOST_REQUESTS],
@@ -64,7 +64,7 @@ impl Records {
     }
 
     /// Moves the records to the end of a log, and answers how many they are. Out of memory they come
-    /// back, and nothing changes but that the log may have more room.
+    /// back, and nothing changes but that the log may have more spare capacity.
     pub fn append_to(self, log: &mut UndoLog) -> Result<usize, Records>
         ensures count { IfOk result (λ count. count ≡ length self.parts) }
         ensures log { OnOk result (log.new.parts ≡ log.old.parts ++ self.parts) }

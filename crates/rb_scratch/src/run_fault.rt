@@ -13,7 +13,7 @@ pub enum RunFault {
 impl RunFault {
     ghost use Rattle.rb_scratch.specs.Batches.{cause_of};
 
-    /// What is told of it: a refusal by its number.
+    /// How a reply reports it: a refusal by its number.
     pub fn cause(self) -> Cause
         ensures { result ≡ cause_of self }
     {

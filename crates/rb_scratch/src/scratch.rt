@@ -118,7 +118,7 @@ impl<'a> Scratch<'a> {
         self.undos.len()
     }
 
-    /// Runs a request: what it makes in a batch stands at the ledger's end, and its name is answered.
+    /// Runs a request: what it makes in a batch is at the ledger's end, and its name is answered.
     /// After a fault all is as before. The fault is `Refused(BadBatch)` for one request more than `MOST_REQUESTS`, else
     /// `Declined` or what refuses the request, else `Refused(OutOfMemory)`.
     pub fn run(&mut self, request: &Request) -> Result<OpName, RunFault>
@@ -220,8 +220,8 @@ impl<'a> Scratch<'a> {
         }
     }
 
-    /// Takes back what was run: the ledger's list is that at the opening, and there is room for
-    /// one more for each operation taken out.
+    /// Takes back what was run: the ledger's list is that at the opening, and there is spare
+    /// capacity for one more for each operation taken out.
     pub fn abort(self)
         requires { IsOfTheLast self.ledger.now self.undos.parts }
         ensures settings { self.exit.0.now.settings ≡ self.entry.ledger.now.settings }

@@ -135,7 +135,7 @@ covered s us a p n z valid sum =
     let low : pos 0 ≤ℤ bal s (take p us) a = valid.covered (take p us) (drop p us) (sym (take-append-drop p us)) a in
     omega (arith, ints, low, sum)
 
--- the last operation of all is the last of the first so many
+-- the last operation of all is the last of as many first ones as there are
 last_whole : (us : List Shadow) (a : Place) (p : ℕ) → IsLast us a p → IsLast (take (length us) us) a p
 last_whole us a p last = subst (λ vs. IsLast vs a p) (sym (take-length us)) last
 

@@ -11,7 +11,7 @@ use Rattle.rb_shadow.specs.declared.shadow.Shadow.{Shadow}
 use Rattle.rb_statements.specs.declared.row.Row.{Row}
 use Rattle.rb_statements.specs.declared.account.Statement.{Statement}
 
--- the row of an operation that stands after before, in the whole list
+-- the row of an operation, by the operations before it and the whole list
 abbrev pub row_after : Settings → List Shadow → Place → List Shadow → Shadow → Row
 row_after s all a before u =
     record {
@@ -33,7 +33,7 @@ rows_of s all a before (u ∷ us) = (if is_on before u a then row_after s all a 
 unfoldable pub statement_of : Settings → List Shadow → Place → Statement
 statement_of s us a = record { start = start_of s a; rows = rows_of s us a [] us; balance = cents (bal s us a) }
 
--- the balance of an account after the first n operations, or why it isn't told
+-- the balance of an account after the first n operations, or why there is none
 abbrev pub balance_as_of : Settings → List Shadow → Place → ℕ → Result ℕ Refusal
 balance_as_of s us a n =
     if not (is_account s a) then Err UnknownAccount

@@ -11,7 +11,7 @@ pub record SeenToken : Type 0 where
   pub limits : Limits
   pub token : Token
 
--- a view tells whether a site has the token, and how many red operations it needs
+-- a view says whether a site has the token, and how many red operations it needs
 pub record Shows (view : TokenView) (t : Token) : Type 0 where
   pub held : view.held ≡ t.held
   pub needed : view.needed ≡ t.needed

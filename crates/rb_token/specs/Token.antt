@@ -16,11 +16,11 @@ pub record Token : Type 0 where
 abbrev pub first_token : ℕ → Token
 first_token me = record { epoch = 0; held = me == 0; needed = 0 }
 
--- what a holder that applied so many red operations sends
+-- what a holder sends, given the number of red operations that it applied
 abbrev pub pass_message : Token → ℕ → ℕ → TokenMessage
 pass_message t to reds = record { epoch = t.epoch + 1; to = to; red = max t.needed reds }
 
--- why site `me` of so many may not pass the token to another
+-- why site `me` may not pass the token to another, in a bank with this number of sites
 abbrev pub refusal_of_pass : ℕ → Limits → ℕ → Token → ℕ → Option Refusal
 refusal_of_pass sites limits me t to =
     if nat_le sites to || (to == me) then Some NoSite
@@ -47,7 +47,7 @@ is_stale t m = nat_le m.epoch t.epoch
 abbrev pub taken_token : TokenMessage → Token
 taken_token m = record { epoch = m.epoch; held = true; needed = m.red }
 
--- why a site that applied so many red operations may not make another
+-- why a site may not make another red operation, given the number of those that it applied
 abbrev pub refusal_of_red : Token → ℕ → Option Refusal
 refusal_of_red t reds =
     if not t.held then Some NeedToken

@@ -68,7 +68,7 @@ impl TokenState {
         }
     }
 
-    /// What a generator at this site is told.
+    /// What a generator at this site knows of the token.
     pub fn view(&self) -> TokenView
         ensures me { result.me ≡ self.now.me }
         ensures shows { Shows result self.now.token }

@@ -1,4 +1,4 @@
-//! What a generator is told of the token.
+//! What a generator knows of the token.
 ghost use Rattle.std.specs.Prelude.{◌≡◌, Some, None, MatchResult};
 ghost use Rattle.rb_token.specs.Token.{Token, refusal_of_red};
 ghost use Rattle.rb_token.specs.Seen.{Shows};

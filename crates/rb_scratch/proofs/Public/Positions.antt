@@ -15,7 +15,7 @@ find_in-unnamed (u ∷ us) x h =
     let (first, rest) = Members.or-false _ _ h in
     ap (λ b. cond b (Some u) (find_in us x)) first ∙ find_in-unnamed us x rest
 
--- what stands at the position of a named operation is what is found
+-- what is at the position of a named operation is what is found
 position-found : (us : List Shadow) (x : OpName) (k : ℕ) → names us x ≡ true →
     (k ≤ position_from k us x) × (slice_get us (position_from k us x - k) ≡ find_in us x)
 position-found [] x k h = cc
@@ -36,7 +36,7 @@ position-found (u ∷ us) x k h = at (same_name u.name x) h (position-found us x
         let q : (k + 1 ≤ position_from (k + 1) us x) × (slice_get us (position_from (k + 1) us x - (k + 1)) ≡ find_in us x) = more h in
         (let low = q.0 in omega arith, further (position_from (k + 1) us x) k q.0 q.1)
 
--- under a name that wasn't found no operation stands
+-- under a name that wasn't found there is no operation
 pub no_position : (us : List Shadow) (x : OpName) → find_position us x ≡ None → find_in us x ≡ None
 no_position us x h = at (names us x) refl h
   where
@@ -44,7 +44,7 @@ no_position us x h = at (names us x) refl h
     at true e h = cc
     at false e h = find_in-unnamed us x e
 
--- at the position of a name its operation stands
+-- at the position of a name there is its operation
 pub at_position : (us : List Shadow) (x : OpName) (p : ℕ) → find_position us x ≡ Some p → operation_at us p ≡ find_in us x
 at_position us x p h = at (names us x) refl h
   where
