@@ -33,7 +33,7 @@ use Rattle.rb_site.specs.Events.{MakesAll, ModelSite, Outcome, Refuses, outcome_
 use Rattle.rb_site.specs.States.{Follows, Says, SiteState}
 use Rattle.rb_site.proofs.Handlers.{AnswersAlone, answers_as, follows_as, site_as, state_as}
 
--- what a request makes where the same list stands
+-- what a request makes where the list is the same
 same_made : (s now : Settings) (me here : ℕ) (us them : List Shadow) (known : Token) (r : Request) → now ≡ s → here ≡ me → them ≡ us →
     made_in_batch s me us known r ≡ made_in_batch now here them known r
 same_made s now me here us them known r same at list =
@@ -86,7 +86,7 @@ pub as_many : (s : Settings) (me : ℕ) (base vs : List Shadow) (view : TokenVie
 as_many s me base vs view book parts rs tried runs = tried_length base vs book parts tried
     ∙ batch_length s me base (seen view) 0 rs vs (runs (seen view) (seen_shows view))
 
--- what was tried on a scratch stands in the ledger that it was opened on
+-- what was tried on a scratch is in the ledger that it was opened on
 pub tried_here : (old opened book : Book) (view shown : TokenView) (parts before after : List UndoParts) (rs : List Request)
     (vs : List Shadow) → opened ≡ old → shown ≡ view → book.settings ≡ opened.settings
     → IsTried opened.entries vs book parts → after ≡ before ++ parts →

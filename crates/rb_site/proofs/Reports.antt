@@ -1,4 +1,4 @@
--- There is room for a report.
+-- There is memory for a report.
 use Rattle.std.proofs.Common.{◌≡◌, ◌∙◌, ℕ, ◌+◌, ◌<◌, ◌≤◌, Bool, true, false, cond, not, List, [], ◌∷◌, ◌++◌, length, ap, arith, refl, sym}
 use Rattle.std.proofs.Common.{subst, take, get_or, length-append}
 use Rattle.std.specs.Prelude.{zero, suc, Some, map, option_map, slice_get}
@@ -37,7 +37,7 @@ ops_grow t (Applies v) h = omega (arith, length-append t.ops (v ∷ []))
 ops_grow t (Takes m) h = omega arith
 ops_grow t (Passes m) h = omega arith
 
--- after an event there is still enough room
+-- after an event there is still enough memory
 pub still_enough : (room : RoomFor) (keeps : Bool) (old now : SiteState) (before after : List Message) (o : Outcome) (a : Answer) →
     Follows keeps old now before after o a → length (sent_by o) ≤ MOST_REQUESTS → length old.settings.starts ≤ room.accounts →
     length old.site.ops + MOST_REQUESTS ≤ room.entries → IsEnough room now

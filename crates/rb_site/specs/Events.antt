@@ -122,7 +122,7 @@ changed t (Takes m) = record t { token = taken_token m }
 changed t (Passes m) = record t { token = passed_token t.token m }
 changed t _ = t
 
--- there is no room in the history
+-- the history has as many entries as the limit allows
 abbrev pub is_full : Settings → ModelSite → Bool
 is_full s t = nat_le s.limits.history (length t.history)
 

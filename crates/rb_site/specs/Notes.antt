@@ -1,4 +1,4 @@
--- What is noted of a reply, so that it can be told twice.
+-- What is noted of a reply, so that it is both given and kept in the history.
 use Rattle.std.specs.Prelude.{◌≡◌, Bool, true, false, not, ◌&&◌, Option, Some, None}
 use Rattle.rb_site.specs.declared.reply.Reply.{Reply}
 use Rattle.rb_site.specs.declared.reply.Reply.TheVariants.{Names, Statement}

@@ -1,4 +1,4 @@
--- What a site tells as it is closed.
+-- What a site reports as it is closed.
 use Rattle.std.specs.Prelude.{◌≡◌, ℕ, ◌≤◌, List, [], ◌∷◌, length, map}
 use Rattle.std.specs.List.{range_with_len}
 use Rattle.rb_money.specs.Amounts.{cents}
@@ -18,7 +18,7 @@ balances_of s us = map (λ i. cents (bal s us (record { 0 = i }))) (range_with_l
 abbrev pub counts_of : List Shadow → List ℕ
 counts_of us = map (λ (u : Shadow). cancel_count us u.name) us
 
--- the report tells where the site stands, and its history
+-- the report is the site's state, field by field, and its history
 pub record IsReport (s : Settings) (t : ModelSite) (r : SiteReport) : Type 0 where
   pub me : r.me ≡ t.me
   pub balances : r.balances.items ≡ balances_of s t.ops
@@ -32,12 +32,12 @@ pub record IsReport (s : Settings) (t : ModelSite) (r : SiteReport) : Type 0 whe
   pub waiting : r.waiting ≡ length t.held
   pub history : r.history.items ≡ history_of s t
 
--- room for so many balances and so many counts
+-- memory for the balances of this number of accounts, and for the counts of this number of operations
 pub record RoomFor : Type 0 where
   pub accounts : ℕ
   pub entries : ℕ
 
--- the room is enough for a report of where the site stands
+-- the memory is enough for a report of the site's state
 pub record IsEnough (room : RoomFor) (now : SiteState) : Type 0 where
   pub accounts : length now.settings.starts ≤ room.accounts
   pub entries : length now.site.ops ≤ room.entries

@@ -21,11 +21,11 @@ first_seen s me = record { settings = s; me = me; entries = [] }
 abbrev pub entry : Event → Reply → Entry
 entry e reply = record { event = e; reply = reply }
 
--- where a site stands: the run of its events
+-- a site's state: what the run of its events leads to
 abbrev pub state_of : SeenSite → ModelSite
 state_of x = after_events x.settings (first_site x.me) (events_of x.entries)
 
--- the site with one event more, where there is room for it
+-- the site with one event more, where its history isn't full
 abbrev pub stepped : SeenSite → Event → SeenSite
 stepped x e = record x { entries = x.entries ++ entry e (reply_to x.settings (state_of x) e) ∷ [] }
 

@@ -1,4 +1,4 @@
--- Where a site stands between two events.
+-- The state of a site between two events.
 use Rattle.std.specs.Prelude.{◌≡◌, ◌<◌, Bool, List, [], ◌++◌}
 use Rattle.rb_money.specs.Settings.{Settings}
 use Rattle.rb_inbox.specs.Held.{Holding}
@@ -46,7 +46,7 @@ Follows keeps old new before after o answer =
     × Says keeps answer (reply_of old.settings old.site.ops o)
     × (after ≡ before ++ sent_by o)
 
--- a site's history replays, and it stands where the run of it leaves it
+-- a site's history replays, and its state is what the run of that leads to
 pub record IsStanding (x : SeenSite) (now : SiteState) : Type 0 where
   pub kept : IsReplayed x
   pub settings : now.settings ≡ x.settings

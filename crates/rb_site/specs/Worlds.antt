@@ -97,7 +97,7 @@ abbrev pub arrival : List Message → WorldEvent → Option Event
 arrival ms (At i e) = Some e
 arrival ms (Deliver i k) = option_map Receive (message_at ms k)
 
--- whether a site records the event: there is such a site, and such a message, and room in its history
+-- whether a site records the event: there is such a site, and such a message, and its history isn't full
 abbrev pub is_recorded_at : Settings → Option ModelSite → Bool
 is_recorded_at s None = false
 is_recorded_at s (Some t) = not (is_full s t)

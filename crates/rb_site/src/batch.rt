@@ -20,8 +20,8 @@ use rb_token::TokenView;
 use rb_undo::UndoLog;
 use std::alloc::Global;
 
-/// The refusal of a batch whose request of this index, from 0, is at fault. Out of memory is told as it
-/// is.
+/// The refusal of a batch whose request of this index, from 0, is at fault. Out of memory is
+/// answered as it is.
 fn why_stopped(index: u8, fault: RunFault) -> Refusal
     ensures { ((fault ≡ RunFault.Refused Refusal.OutOfMemory) × (result ≡ Refusal.OutOfMemory))
         ⊎ ((fault ≡ RunFault.Refused Refusal.OutOfMemory → ⊥)
@@ -34,7 +34,7 @@ fn why_stopped(index: u8, fault: RunFault) -> Refusal
     }
 }
 
-/// Runs the requests in order. Where one is at fault, those before it stand in the scratch.
+/// Runs the requests in order. Where one is at fault, what those before it made is in the scratch.
 fn run_all(scratch: &mut Scratch, requests: &[Request]) -> Result<(), Refusal>
     requires here { scratch.old.token.me < scratch.old.ledger.now.settings.sites }
     requires none { IsTried scratch.old.ledger.now.entries [] scratch.old.ledger.now scratch.old.undos.parts }
@@ -60,7 +60,7 @@ fn run_all(scratch: &mut Scratch, requests: &[Request]) -> Result<(), Refusal>
     Ok(())
 }
 
-/// The answer that names the ledger's last operations, so many, each of which is sent. There is room for
+/// The answer that names the ledger's last `count` operations, each of which is sent. There is memory for
 /// them.
 fn answer_of_last(ledger: &Ledger, count: usize, room: BatchRoom, sent: &mut Vec<Message>) -> Answer
     requires there { count ≤ length ledger.now.entries }

@@ -1,4 +1,4 @@
-//! Room for the answer to a batch.
+//! Memory for the answer to a batch.
 ghost use Rattle.std.specs.Prelude.{◌≡◌, ◌+◌, ◌≤◌, ◌++◌, [], IfOk, length, map, vec_len, vec_capacity};
 ghost use Rattle.rb_scratch.specs.Batches.{names_of_all};
 ghost use Rattle.rb_site.specs.Rooms.{IsRoomFor};
@@ -12,7 +12,7 @@ use std::alloc::{AllocError, Global};
 use std::marker::Model;
 
 /// Memory for the answer to a batch: for the names, and for the same in a history that keeps replies.
-/// Clients see for how many operations there is room, and whether the history keeps replies.
+/// Clients see for how many operations it is enough, and whether the history keeps replies.
 #[derive(Drop)]
 pub struct BatchRoom {
     most: usize,
@@ -34,7 +34,7 @@ impl Model for BatchRoom {
 }
 
 impl BatchRoom {
-    /// Room for so many operations, and for as many messages more than were sent. `Err` means out of memory.
+    /// Memory for up to `most` operations, and for as many messages after those sent. `Err` means out of memory.
     pub fn open(
         alloc: Global,
         most: usize,
@@ -60,7 +60,7 @@ impl BatchRoom {
         })
     }
 
-    /// The answer that names the operations, each of which is sent. There is room for them.
+    /// The answer that names the operations, each of which is sent. There is memory for them.
     pub fn filled(self, made: &[Shadow], sent: &mut Vec<Message>) -> Answer
         requires few { length made.now ≤ self.most }
         requires room { vec_len sent.old + length made.now ≤ vec_capacity sent.old }
@@ -98,7 +98,7 @@ fn with_names(mut names: Vec<OpName>, made: &[Shadow]) -> Vec<OpName>
     names
 }
 
-/// Adds the message that sends each operation, where there is room for it.
+/// Adds the message that sends each operation, in spare capacity.
 fn send(sent: &mut Vec<Message>, made: &[Shadow])
     requires { vec_len sent.old + length made.now ≤ vec_capacity sent.old }
     ensures { sent.new.items ≡ sent.old.items ++ map Message.Shadow made.now }

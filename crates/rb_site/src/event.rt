@@ -24,7 +24,7 @@ pub enum Event {
     Pass(u8),
     /// A teller asks for an account's balance.
     Balance(Place),
-    /// A teller asks for an account's balance after so many of the site's operations.
+    /// A teller asks for an account's balance after this number of the site's operations.
     AsOf(Place, u32),
     /// A teller asks for an account's statement.
     Statement(Place),

@@ -115,7 +115,7 @@ impl Journal {
             ⊎ ((why ≡ Refusal.OutOfMemory) × (refusal_of self.old.settings self.old.ops shadow ≡ None)))) }
     {
         if self.log.reserve(1).is_err() {
-            // Out of memory is told where nothing else refuses the shadow.
+            // Out of memory is the refusal where nothing else refuses the shadow.
             if let Err(why) = self.ledger.check(&shadow) {
                 return Err(why);
             }
@@ -180,8 +180,8 @@ impl Journal {
         )
     }
 
-    /// The balance of an account after so many operations, in cents, or why it isn't told. This takes
-    /// no memory, and changes nothing.
+    /// The balance of an account after the first `position` operations, in cents, or why there is none.
+    /// This takes no memory, and changes nothing.
     pub fn as_of(&mut self, place: Place, position: u32) -> Result<u64, Refusal>
         ensures same { self.new ≡ self.old }
         ensures balance { result ≡ balance_as_of self.old.settings self.old.ops place position }

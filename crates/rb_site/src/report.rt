@@ -1,11 +1,11 @@
-//! What a site tells as it is closed.
+//! What a site reports as it is closed.
 
 use crate::History;
 use rb_shadow::Shadow;
 use rb_token::TokenState;
 use rb_vclock::Clock;
 
-/// Where a site stood when it was closed, and its history.
+/// The state of a site when it was closed, and its history.
 #[derive(Drop)]
 pub struct SiteReport {
     /// The site's number.

@@ -1,4 +1,4 @@
-//! Room for the lists of a report.
+//! Memory for the lists of a report.
 ghost use Rattle.std.specs.Prelude.{◌≡◌, ◌≤◌, [], IfOk, OnOk, length, vec_capacity};
 ghost use Rattle.rb_site.specs.Reports.{balances_of, counts_of};
 
@@ -8,7 +8,7 @@ use std::alloc::{AllocError, Global};
 use std::marker::Model;
 
 /// Memory for the balances and the counts of a report, so that closing a site takes none. Clients see
-/// for how many there is room.
+/// for how many accounts and operations it is enough.
 #[derive(Drop)]
 pub struct Room {
     balances: Vec<u64>,
@@ -27,7 +27,7 @@ impl Model for Room {
 }
 
 impl Room {
-    /// Room for so many accounts, and for no operation yet. `Err` means out of memory.
+    /// Memory for this number of accounts, and for no operation yet. `Err` means out of memory.
     pub fn open(alloc: Global, accounts: usize) -> Result<Room, AllocError>
         ensures { IfOk result (λ room. accounts ≤ room.accounts) }
     {
@@ -39,7 +39,7 @@ impl Room {
         })
     }
 
-    /// Makes room for so many operations in all. `Err` means out of memory.
+    /// Takes memory for this number of operations in all. `Err` means out of memory.
     pub fn grow(&mut self, entries: usize) -> Result<(), AllocError>
         ensures ok { OnOk result (entries ≤ self.new.entries) }
         ensures kept { self.old.entries ≤ self.new.entries }
@@ -48,7 +48,7 @@ impl Room {
         self.counts.reserve(entries)
     }
 
-    /// The balances and the counts of a ledger, for which there is room.
+    /// The balances, in cents, and the counts of a ledger, for which there is memory.
     pub fn filled(self, ledger: &Ledger) -> (Vec<u64>, Vec<u32>)
         requires accounts { length ledger.now.settings.starts ≤ self.accounts }
         requires entries { length ledger.now.entries ≤ self.entries }

@@ -1,4 +1,4 @@
-//! Where a site stands between two events.
+//! The state of a site between two events.
 ghost use Rattle.std.specs.Prelude.{◌≡◌, ◌<◌, ◌&&◌, [], true, nat_le, if◌then◌else◌, IfOk, OnErr};
 ghost use Rattle.rb_shadow.specs.Operations.{clock_of, same_shadow};
 ghost use Rattle.rb_ledger.specs.Records.{records_of};
@@ -315,7 +315,7 @@ impl State {
     }
 
     #[tactic(auto, unfolding(crate::specs::Events::outcome_of))]
-    /// An account's balance after so many operations of the ledger.
+    /// An account's balance, in cents, after the first `position` operations of the ledger.
     fn as_of(&mut self, place: Place, position: u32) -> Answer
         ensures { Follows true self.old self.new [] [] (outcome_of self.old.settings self.old.site
             (Event.AsOf place position)) result }
@@ -340,7 +340,7 @@ impl State {
     }
 }
 
-/// Whether a batch may have so many requests.
+/// Whether a batch may have this number of requests: 1 to `MOST_REQUESTS`.
 fn is_batch(requests: usize) -> bool
     ensures { result ≡ (nat_le 1 requests && nat_le requests MOST_REQUESTS) }
 {

@@ -56,7 +56,7 @@ changed-with_history t h (Passes m) = refl
 
 -- ---- a step
 
--- the history has room exactly where the model site's has
+-- the history isn't full exactly where the model site's isn't
 pub is_full-state : (x : SeenSite) → IsReplayed x → nat_le x.settings.limits.history (length x.entries) ≡ is_full x.settings (state_of x)
 is_full-state x kept = ap (nat_le x.settings.limits.history) (sym (ap length (Seen.history-state x kept)
     ∙ length-map x.entries (λ (y : Entry). y.event)))

@@ -99,7 +99,7 @@ pub record IsRecorded (s : Settings) (w : World) (e : WorldEvent) : Type 0 where
   pub source : IsFrom w.messages event
   pub is : world_after s w e ≡ world_at s w (site_of e) (Some event) (Some site)
 
--- what stands at a place is one of them
+-- what is at a place is one of them
 pub at_place : (ms : List Message) (k : ℕ) (m : Message) → slice_get ms k ≡ Some m → IsAmong m ms
 at_place [] k m h = cc
 at_place (n ∷ ms) zero m h = inl (let e : m ≡ n = cc in e)

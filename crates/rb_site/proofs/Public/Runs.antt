@@ -34,11 +34,11 @@ same_me t (Applies v) = refl
 same_me t (Takes m) = refl
 same_me t (Passes m) = refl
 
--- the site after an event for which its history has room
+-- the site after an event, where its history wasn't full
 abbrev pub noted : Settings → ModelSite → Event → ModelSite
 noted s t e = record (changed t (outcome_of s t e)) { history = t.history ++ e ∷ [] }
 
--- the site stands as the run of its own history leaves it
+-- the site's state is what the run of its own history leads to
 abbrev pub IsRunOfItsHistory : Settings → ModelSite → Type 0
 IsRunOfItsHistory s t = after_events s (first_site t.me) t.history ≡ t
 

@@ -45,7 +45,7 @@ pub replays-push : (s : Settings) (t : ModelSite) (xs : List Entry) (e : Event) 
 replays-push s t [] e h = (refl, tt)
 replays-push s t (x ∷ xs) e h = (h.0, replays-push s (after_event s t x.event) xs e h.1)
 
--- where there is room, a site keeps what it keeps
+-- where its history isn't full, a site keeps what it keeps
 pub replayed-stepped : (x : SeenSite) (e : Event) → length x.entries < x.settings.limits.history → IsReplayed x → IsReplayed (stepped x e)
 replayed-stepped x e room kept = record {
   within = kept.within;
@@ -119,7 +119,7 @@ history-grown s t u more me longer run =
     ∙ entries-append s (first_site t.me) t.history more
     ∙ ap (λ v. history_of s t ++ with_replies s v more) run
 
--- an event for which there is room adds its entry
+-- an event adds its entry where the history isn't full
 pub history-noted : (s : Settings) (t : ModelSite) (e : Event) → is_full s t ≡ false → Runs.IsRunOfItsHistory s t →
     history_of s (after_event s t e) ≡ history_of s t ++ entry e (reply_to s t e) ∷ []
 history-noted s t e room run = history-grown s t (after_event s t e) (e ∷ []) (me_after s t e) (noted_history s t e room) run

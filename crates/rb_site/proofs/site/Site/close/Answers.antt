@@ -1,4 +1,4 @@
--- The report tells where the site stands.
+-- The report is the site's state.
 use Rattle.std.proofs.Common.{◌≡◌, ◌∙◌, ap, refl, sym}
 use Rattle.std.specs.Prelude.{List, [], ◌∷◌, map}
 use Rattle.rb_money.specs.Settings.{Settings}
