@@ -31,7 +31,7 @@ use Rattle.rb_auditor.specs.Progress.{IsWrongFound, site_after}
 use Rattle.rb_auditor.proofs.Replaying
 use Rattle.rb_auditor.proofs.Runs
 
--- a site stands where its history leaves it, and that replays
+-- a site's state is what its history leads to, and that replays
 pub record IsAtItsHistory (s : Settings) (i : ℕ) (t : ModelSite) : Type 0 where
   pub run : IsRunOfItsHistory s t
   pub stands : site_after s i (history_of s t) ≡ t

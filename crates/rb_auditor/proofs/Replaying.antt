@@ -41,15 +41,15 @@ replay-front s i xs ys h = record {
       h.room in omega arith;
 }
 
--- a front of a history that replays replays
+-- a prefix of a history that replays replays
 pub replay-take : (s : Settings) (i k : ℕ) (h : List Entry) → IsReplay s i h → IsReplay s i (take k h)
 replay-take s i k h r = replay-front s i (take k h) (drop k h) (subst (IsReplay s i) (sym (take-append-drop k h)) r)
 
--- where the site stands, its history is what was replayed
+-- the history of the site after a replay is what was replayed
 pub history_after : (s : Settings) (i : ℕ) (h : List Entry) → IsReplay s i h → history_of s (site_after s i h) ≡ h
 history_after s i h r = Seen.entries-state (record { settings = s; me = i; entries = h }) r
 
--- the site stands as the run of its own history leaves it
+-- the site's state is what the run of its own history leads to
 pub run_after : (s : Settings) (i : ℕ) (h : List Entry) → IsReplay s i h → Runs.IsRunOfItsHistory s (site_after s i h)
 run_after s i h r =
     let x : SeenSite = record { settings = s; me = i; entries = h } in
@@ -156,7 +156,7 @@ noted_or_not true x new e y r before after old free is reply test event sends =
 noted_or_not false x new e y r before after old free is reply test event sends =
     other_is_wrong x y (λ same. let wrong : IsTrue false = test.1 (reply ∙ ap (reply_to x.settings (state_of x)) event ∙ same) in cc)
 
--- where a replay stands after so many entries of a history, and what they sent
+-- the state of a replay after the first k entries of a history, and what they sent
 pub record IsReplaying (s : Settings) (me : ℕ) (h : List Entry) (k : ℕ) (site : SeenSite) (messages : List Message) (ends : List ℕ) : Type 0
   where
     pub site_is : site ≡ seen_at s me (take k h)

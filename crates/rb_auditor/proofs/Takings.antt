@@ -57,7 +57,7 @@ first_taken s hs n replays = record {
 site_now : (s : Settings) (i k : ℕ) (h : List Entry) → site_after s (0 + i) (take k h) ≡ site_after s i (take k h)
 site_now s i k h = ap (λ j. site_after s j (take k h)) (let q : 0 + i ≡ i = omega arith in q)
 
--- where the site stands that takes its next entry
+-- the state of the site that takes its next entry
 pub site_next : (p : Progress) (i k : ℕ) (h : List Entry) (x : Entry) → IsNextEntry p i k h x →
     slice_get (world_of p).sites i ≡ Some (site_after p.settings i (take k h))
 site_next p i k h x n = Lists.get_site p.settings 0 p.histories p.taken i k h n.there n.at ∙ ap Some (site_now p.settings i k h)

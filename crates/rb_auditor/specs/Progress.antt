@@ -26,7 +26,7 @@ pub record Progress : Type 0 where
 abbrev pub site_after : Settings → ℕ → List Entry → ModelSite
 site_after s i h = after_events s (first_site i) (events_of h)
 
--- the sites from i on, after so many entries of each history
+-- the sites from i on, each after this number of entries of its history
 abbrev pub sites_after : Settings → ℕ → List (List Entry) → List ℕ → List ModelSite
 sites_after s i [] ks = []
 sites_after s i (h ∷ hs) [] = []

@@ -7,7 +7,7 @@ between ms [] = []
 between ms (a ∷ []) = []
 between ms (a ∷ b ∷ ends) = take (b - a) (drop a ms) ∷ between ms (b ∷ ends)
 
--- there is an end, none comes before an earlier one, and the last is that of so many messages
+-- there is an end, none comes before an earlier one, and the last is this number of messages
 abbrev pub AreEnds : List ℕ → ℕ → Type 0
 AreEnds [] n = ⊥
 AreEnds (a ∷ []) n = a ≡ n

@@ -13,7 +13,7 @@ pub enum AuditFault {
     /// others wait for messages that no entry before them sent.
     #[error("entries wait for messages that were not sent")]
     Stuck { next: Vec<u32> },
-    /// There was no memory to tell.
+    /// There was no memory to find out.
     #[error("out of memory")]
     OutOfMemory,
 }

@@ -52,7 +52,7 @@ fn take_all(taking: &mut Taking<'_>) -> Result<(), AllocError>
     }
 }
 
-/// One round: from each site, from 0, as many entries as can be taken. It tells whether any was.
+/// One round: from each site, from 0, as many entries as can be taken. Answers whether any was.
 fn take_round(taking: &mut Taking<'_>) -> Result<bool, AllocError>
     ensures { IfOk result (λ took. MatchBool took (IsFurther taking.old taking.new) ((taking.new ≡ taking.old)
         × AllRest taking.old)) }
@@ -66,7 +66,7 @@ fn take_round(taking: &mut Taking<'_>) -> Result<bool, AllocError>
     Ok(took)
 }
 
-/// From one site as many entries as can be taken. It tells whether any was.
+/// From one site as many entries as can be taken. Answers whether any was.
 fn take_site(taking: &mut Taking<'_>, site: usize) -> Result<bool, AllocError>
     requires { site < length taking.old.histories }
     ensures { IfOk result (λ took. MatchBool took (IsFurther taking.old taking.new) ((taking.new ≡ taking.old)

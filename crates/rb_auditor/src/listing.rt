@@ -9,7 +9,7 @@ use crate::message::{row, slot};
 use rb_site::Message;
 use std::alloc::AllocError;
 
-/// Whether the message stands at this position.
+/// Whether the message is at this position.
 pub fn is_at(messages: &[Message], position: usize, message: &Message) -> bool
     ensures { IsTrue result ↔ (slice_get messages.now position ≡ Some message.now) }
 {
@@ -19,7 +19,7 @@ pub fn is_at(messages: &[Message], position: usize, message: &Message) -> bool
     }
 }
 
-/// Whether the message stands at the position that is listed for its number.
+/// Whether the message is at the position that is listed for its number.
 pub fn is_in_row(messages: &[Message], rows: &[Vec<usize>], message: &Message) -> bool
     ensures known { IsTrue result → IsAmong message.now messages.now }
     ensures found { (positions : List ℕ) (position : ℕ)
@@ -36,7 +36,7 @@ pub fn is_in_row(messages: &[Message], rows: &[Vec<usize>], message: &Message) -
     }
 }
 
-/// Whether the message stands at one of these positions.
+/// Whether the message is at one of these positions.
 pub fn is_at_one(messages: &[Message], positions: &[usize], message: &Message) -> bool
     ensures known { IsTrue result → IsAmong message.now messages.now }
     ensures found { (k position : ℕ) → slice_get positions.now k ≡ Some position

@@ -35,7 +35,7 @@ impl Sends {
         Sends { messages, ends }
     }
 
-    /// What the entry after so many others sends.
+    /// What the entry at this index, from 0, sends.
     pub fn after(&self, entries: usize) -> &[Message]
         requires { entries < length self.now }
         ensures { slice_get self.now entries ≡ Some result.now }
