@@ -102,14 +102,14 @@ get_set_now [] i x y at = cc
 get_set_now (z ∷ xs) zero x y at = refl
 get_set_now (z ∷ xs) (suc i) x y at = get_set_now xs i x y at
 
--- an item that stands in the list at this place
+-- an item that is in the list at this place
 pub record Occurs {X : Type 0} (lists : List (List X)) (j : ℕ) (x : X) : Type 0 where
   pub items : List X
   pub index : ℕ
   pub there : slice_get lists j ≡ Some items
   pub at : slice_get items index ≡ Some x
 
--- after a head is taken, it was that one, or it stands there still
+-- after a head is taken, it was that one, or it is still there
 left_or_head : {X : Type 0} (lists : List (List X)) (k : ℕ) (head : X) (rest : List X) (j : ℕ) (x : X)
     → slice_get lists k ≡ Some (head ∷ rest) → Occurs lists j x
     → ((j ≡ k) × (x ≡ head)) ⊎ Occurs (set lists k rest) j x

@@ -18,7 +18,7 @@ use Rattle.rb_site.specs.Seen.{SeenSite, Replays, entry, state_of}
 abbrev pub AllEmpty : {X : Type 0} → List (List X) → Type 0
 AllEmpty {X} lists = (k : ℕ) (l : List X) → slice_get lists k ≡ Some l → l ≡ []
 
--- each item in turn is the next of one of the lists, and nothing is left in the end: each stands there once, and each list in its order
+-- each item in turn is the next of one of the lists, and nothing is left in the end: each is there once, and each list in its order
 abbrev pub IsInterleaving : {X : Type 0} → List (List X) → List X → Type 0
 IsInterleaving lists [] = AllEmpty lists
 IsInterleaving {X} lists (x ∷ xs) =
@@ -65,7 +65,8 @@ entries_in reports = sum_by (λ r. vec_len r.history) reports
 abbrev pub seen : Settings → ℕ → List Entry → SeenSite
 seen s me entries = record { settings = s; me = me; entries = entries }
 
--- the report of a site of this configuration: its history replays and is within its limit, and all else that it tells is where that run stands
+-- the report of a site of this configuration: its history replays and is within its limit, and all else that it reports is the state that
+-- the history leads to
 pub record IsClosedReport (s : Settings) (r : SiteReport) : Type 0 where
   pub within : r.me < s.sites
   pub replays : Replays s (first_site r.me) r.history.items

@@ -28,7 +28,7 @@ AllRead site seats next = (k : ℕ) (seat : SeenSeat) → slice_get seats k ≡ 
 
 -- ---- the table of owners
 
--- a receipt of this number stands before the index m
+-- a receipt at an index below m has this number
 pub record HasWithin (m number : ℕ) (rs : List Receipt) : Type 0 where
   pub index : ℕ
   pub receipt : Receipt
@@ -47,7 +47,7 @@ pub record HoldsReceipt (site number : ℕ) (seats : List SeenSeat) (k : ℕ) : 
 abbrev pub AreDistinct : ℕ → List SeenSeat → Type 0
 AreDistinct site seats = (number j k : ℕ) → HoldsReceipt site number seats j → HoldsReceipt site number seats k → j ≡ k
 
--- k stands in the table at this number, where the table has it, and all else is as before
+-- the table has k for this number, where it is long enough, and all else is as before
 abbrev pub Puts : ℕ → ℕ → List ℕ → List ℕ → Type 0
 Puts number k old new =
     (length new ≡ length old)

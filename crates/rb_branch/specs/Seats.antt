@@ -137,7 +137,8 @@ pub record NoneLost (old new : List Message) (receipts : List Receipt) : Type 0 
   pub kept : (m : Message) → IsOneOf m old → IsOneOf m new ⊎ WasReceived m receipts
   pub refused : (m : Message) → WasRefused m receipts → IsOneOf m new ⊎ WasReceived m receipts
 
--- the seat has so many receipts more, at its end, all of events that serve its site; and no message is lost between these receipts and what the inlet kept before and keeps now
+-- the seat has this number of receipts more, at its end, all of events that serve its site; and no message is lost between these receipts
+-- and what the inlet kept before and keeps now
 pub record HasServed (old new : SeenSeat) (before now : List Message) (count : ℕ) : Type 0 where
   pub more : List Receipt
   pub seat : new ≡ record old { receipts = old.receipts ++ more }
@@ -145,6 +146,6 @@ pub record HasServed (old new : SeenSeat) (before now : List Message) (count : �
   pub count_is : count ≡ length more
   pub none_lost : NoneLost before now more
 
--- the last receipt's messages were refused by so many links, and all else is as before
+-- the last receipt says how many times a link refused one of its messages, and all else is as before
 abbrev pub SetsUnsent : SeenSeat → SeenSeat → ℕ → Type 0
 SetsUnsent old new count = (xs : List Receipt) (r : Receipt) → old.receipts ≡ xs ++ r ∷ [] → new ≡ record old { receipts = xs ++ record r { unsent = count } ∷ [] }

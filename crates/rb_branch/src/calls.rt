@@ -11,7 +11,7 @@ use rb_site::{Event, Message};
 use std::sync::Wait;
 use std::sync::ledger::Ledger;
 
-/// Each call is one event at the seat's site, and tells the number of its receipt in the seat, from 1. After
+/// Each call is one event at the seat's site, and answers the number of its receipt in the seat, from 1. After
 /// an `Err` site and seat are as before.
 impl<E: Entries, R: Ledger, G: Gate + Drop> Branch<E, R, G> {
     /// A request for one operation.
@@ -122,7 +122,7 @@ impl<E: Entries, R: Ledger, G: Gate + Drop> Branch<E, R, G> {
         self.ask(rt, seat, Event::Balance(place))
     }
 
-    /// A question for an account's balance after so many of the site's operations.
+    /// A question for an account's balance after this number of the site's operations.
     pub fn as_of<W: Wait>(
         &self,
         rt: &W,

@@ -105,7 +105,7 @@ impl<E: Entries, R: Ledger> Closed<E, R> {
     }
 }
 
-/// Looks at all sites, from the first. `missing` tells whether there are fewer receipts than entries.
+/// Looks at all sites, from the first. `missing` says that there are fewer receipts than entries.
 fn look_at_all(
     alloc: Global,
     reports: &[SiteReport],
@@ -147,7 +147,7 @@ fn look_at(
 {
     let site = report.me;
     if usize::from(site) != number {
-        // No type can say that each lock's site stands at its number, where `Branch::open` puts it.
+        // No type can say that each lock's site is at its number, where `Branch::open` puts it.
         return Err(GatherFault::OutOfMemory);
     }
     if missing && count_at(site, seats) < report.history.len() as u64 {

@@ -63,7 +63,7 @@ impl<E: Entries, R: Ledger> Model for Seat<E, R> {
 }
 
 /// One event at the desk, and its receipt at the end of the seat: its number there, from 1, and what is to be
-/// sent. Nothing else makes a receipt. Its room is made before the step.
+/// sent. Nothing else makes a receipt. Memory for it is taken before the step.
 ///
 /// `Err` means out of memory, or a full history, a full seat, or a seat of another site; desk and seat are
 /// then as before.

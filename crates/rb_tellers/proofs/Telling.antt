@@ -13,7 +13,7 @@ abbrev pub number_after : ℕ → List Entry → ℕ
 number_after x [] = x
 number_after x (e ∷ es) = number_after (next_number x) es
 
--- the last name that was told in these entries, or before them
+-- the name of the last operation made in these entries, or before them
 abbrev pub last_of : Option OpName → List Entry → Option OpName
 last_of last [] = last
 last_of last (e ∷ es) = last_of (last_after last e.reply) es
@@ -35,7 +35,7 @@ entries_of-snoc : (rs : List Receipt) (r : Receipt) → entries_of (rs ++ r ∷ 
 entries_of-snoc [] r = refl
 entries_of-snoc (s ∷ rs) r = ap (λ xs. entry s.event s.reply ∷ xs) (entries_of-snoc rs r)
 
--- where a teller stands after its receipts
+-- the state of a teller after its receipts
 pub record Stands (first site sites : ℕ) (c : SeenSeat) (x : ℕ) (last : Option OpName) (count : ℕ) : Type 0 where
   pub site_is : c.site ≡ site
   pub count_is : length c.receipts ≡ count

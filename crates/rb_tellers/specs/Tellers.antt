@@ -21,12 +21,13 @@ use Rattle.rb_site.specs.Seen.{entry}
 unfoldable pub next_number : ℕ → ℕ
 next_number x = (x * MULTIPLIER + INCREMENT) % 2 ^ 64
 
--- a cancellation of the last name that a teller was told of, or a deposit of 1 where there is none
+-- a cancellation of the last operation that a teller made, by its name, or a deposit of 1 cent where there is none
 abbrev pub cancel_or : Place → Option OpName → Request
 cancel_or a None = Deposit a 1
 cancel_or a (Some x) = Cancel x
 
--- the call at a number, by a teller of this site of so many who was last told of this name. With r the number divided by 2 ^ 33 and q = r / 8, the account is that of place r / 8192 modulo 4, and r modulo 8 says what is asked for
+-- the call at a number, by a teller of this site, of a bank of this number of sites, who last made the operation of this name. With r the
+-- number divided by 2 ^ 33 and q = r / 8, the account is that of place r / 8192 modulo 4, and r modulo 8 says what is asked for
 unfoldable pub call_of : ℕ → Option OpName → ℕ → ℕ → Event
 call_of x last site sites =
     let r = x / 8589934592 in let q = r / 8 in let kind = r % 8 in let a : Place = record { 0 = r / 8192 % 4 } in
@@ -36,14 +37,15 @@ call_of x last site sites =
     else if kind == 6 then Submit (cancel_or a last)
     else Pass ((site + 1) % sites)
 
--- the last name that a teller was told of, after a reply
+-- the name of the last operation that a teller made, after a reply
 abbrev pub last_after : Option OpName → Reply → Option OpName
 last_after last (Made name kind) = Some name
 last_after last reply = last
 
 -- ---- one teller
 
--- each entry is the call at the next number after x, by a teller who was last told of this name; so a call may depend on the replies before it
+-- each entry is the call at the next number after x, by a teller who last made the operation of this name; so a call may depend on the
+-- replies before it
 abbrev pub FollowsCalls : ℕ → ℕ → ℕ → Option OpName → List Entry → Type 0
 FollowsCalls site sites x last [] = Unit {0}
 FollowsCalls site sites x last (e ∷ es) =
@@ -66,7 +68,8 @@ pub record IsServer (site : ℕ) (seat : SeenSeat) : Type 0 where
 
 -- ---- a run
 
--- the seats of a run: first those of so many tellers, the t-th at site t % sites with first number seed + t, and then that of a serving thread at each site, in order
+-- the seats of a run: first those of the tellers, the t-th at site t % sites with first number seed + t, and then that of a serving thread
+-- at each site, in order
 pub record IsCrew (seed tellers sites : ℕ) (seats : List SeenSeat) : Type 0 where
   pub hired : List SeenSeat
   pub serving : List SeenSeat

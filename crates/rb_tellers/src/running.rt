@@ -18,11 +18,11 @@ use std::sync::ledger::{Blank, Ledger};
 use std::thread;
 use std::thread::Threads;
 
-/// So many tellers at the sites of a configuration, each in a thread of its own, and a serving thread for each
+/// Runs tellers at the sites of a configuration, each in a thread of its own, and a serving thread for each
 /// site. Teller `t`, from 0, is at site `t` modulo the number of sites, and its first number is `seed + t`. Once
 /// all have ended the sites are closed, and their reports are given in order.
 ///
-/// An `Err` comes once all threads have ended and all sites are closed. The gate is told of each call.
+/// An `Err` comes once all threads have ended and all sites are closed. The gate is called with each call.
 pub fn run_bank<G: Gate + Drop + Sync, W: Threads + Wait + Sync>(
     rt: &W,
     alloc: Global,

@@ -20,8 +20,8 @@ pub const MULTIPLIER: u64 = 6_364_136_223_846_793_005;
 /// What is added then.
 pub const INCREMENT: u64 = 1_442_695_040_888_963_407;
 
-/// A teller's calls, one after another, each chosen by the next number and the last name that it was
-/// told of; one that is refused is followed by the next. The seat comes back with a receipt for each.
+/// A teller's calls, one after another, each chosen by the next number and the name of the last operation
+/// that it made; one that is refused is followed by the next. The seat comes back with a receipt for each.
 pub(crate) fn tell<E: Entries, R: Ledger, G: Gate + Drop, W: Wait>(
     rt: &W,
     branch: &Branch<E, R, G>,
@@ -54,7 +54,7 @@ fn next_x(x: u64) -> u64
     x.wrapping_mul(MULTIPLIER).wrapping_add(INCREMENT)
 }
 
-/// The call at this number, by the teller of this site of so many, who was last told of this name.
+/// The call at this number, by a teller of this site, of a bank of `sites`, who last made the operation of this name.
 #[tactic(auto, unfolding(crate::specs::Tellers::call_of))]
 fn call_at(x: u64, last: Option<OpName>, site: u8, sites: u8) -> Event
     requires { site < sites }
@@ -96,7 +96,7 @@ fn cancel_last(account: Place, last: Option<OpName>) -> Request
     }
 }
 
-/// The name that the last receipt tells, or else the last before it.
+/// The name of the operation that the last receipt says was made, or else the last name before it.
 fn last_made<E: Entries, R: Ledger>(seat: &Seat<E, R>, last: Option<OpName>) -> Option<OpName>
     ensures { (xs : List Receipt) (r : Receipt) → seat.now.receipts ≡ xs ++ r ∷ [] → result ≡ last_after last r.reply }
 {
