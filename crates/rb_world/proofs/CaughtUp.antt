@@ -48,7 +48,7 @@ changed_grows t (Applies v) x h = names-left t.ops (v ∷ []) x h
 changed_grows t (Takes m) x h = h
 changed_grows t (Passes m) x h = h
 
--- the site after an event for which it has room
+-- the site after an event, where its history wasn't full
 pub after_roomy : (s : Settings) (t : ModelSite) (e : Event) → is_full s t ≡ false → after_event s t e ≡ Runs.noted s t e
 after_roomy s t e h = ap (λ b. cond b t (Runs.noted s t e)) h
 
@@ -57,7 +57,7 @@ pub history_after : (s : Settings) (t : ModelSite) (e : Event) → is_full s t �
 history_after s t e h =
     ap (λ (u : ModelSite). length u.history) (after_roomy s t e h) ∙ length-append t.history (e ∷ [])
 
--- ---- what stands while a site catches up
+-- ---- what holds while a site catches up
 
 pub record IsStage (s : Settings) (w : World) (i : ℕ) (t : ModelSite) (known : List Shadow) (front rest extra : List Message) : Type 0 where
   pub good : IsGood s w

@@ -137,7 +137,7 @@ site_receives s w i t v g at made = subst (IsTrusting s t v) (sym (ap (λ o. unl
 
 -- ---- the laws
 
--- the reply of a site with room
+-- the reply of a site whose history isn't full
 pub reply_roomy : (s : Settings) (t : ModelSite) (e : Event) → is_full s t ≡ false → reply_to s t e ≡ reply_of s t.ops (outcome_of s t e)
 reply_roomy s t e h = ap (λ b. cond b (Refused HistoryFull) (reply_of s t.ops (outcome_of s t e))) h
 

@@ -8,12 +8,12 @@ use Rattle.rb_shadow.specs.declared.deps.Deps.{Deps}
 abbrev pub largest : Limits
 largest = record { blue = MOST_BLUE; red = MOST_RED; inbox = MOST_INBOX; history = MOST_HISTORY; epoch = MOST_EPOCH }
 
--- the numbers, and zeros up to so many
+-- the numbers, and zeros up to this length
 abbrev filled : ℕ → List ℕ → List ℕ
 filled zero ns = []
 filled (suc many) [] = 0 ∷ filled many []
 filled (suc many) (n ∷ ns) = n ∷ filled many ns
 
--- a clock that counts so many blue operations of the first sites, none of the others, and so many red ones
+-- a clock that counts these numbers of blue operations of the first sites, none of the others, and this number of red ones
 abbrev pub counting : List ℕ → ℕ → Deps
 counting blue red = record { blue = filled MOST_SITES blue; red = red }

@@ -83,7 +83,7 @@ full_step w ev e t arrived at full =
 
 -- ---- a step that a site records
 
--- what is known where a site takes an event: its place, the event that arrives there, and that it has room
+-- what is known where a site takes an event: its place, the event that arrives there, and that its history isn't full
 pub record IsTaken (config : Settings) (xs : List SeenSite) (messages : List Message) (ev : WorldEvent) (e : Event) (x : SeenSite) : Type 0
   where
     pub arrived : arrival messages ev ≡ Some e
@@ -158,7 +158,7 @@ pub settings_kept : (s : Settings) (xs : List SeenSite) (i : ℕ) (x : SeenSite)
     AreOf s (slice_set xs i (next_site x e))
 settings_kept s xs i x e here all = All-set (λ (y : SeenSite). y.settings ≡ s) xs i (next_site x e) (Seen.settings-next x e ∙ here) all
 
--- the site at a place that has room
+-- the site at a place, where its history isn't full
 pub taken_at : (s : Settings) (xs : List SeenSite) (ms : List Message) (ev : WorldEvent) (e : Event) (i : ℕ) (x : SeenSite) → i ≡ site_of ev
     → arrival ms ev ≡ Some e → IsSomeAnd (slice_get (map state_of xs) i) (λ t. is_full s t ≡ false)
     → AreOf s xs → x ≡ get_or xs i x → IsTaken s xs ms ev e x

@@ -210,7 +210,7 @@ comes s ms t (AskStatement a) h = past_test s ms t (not (is_account s a)) _ _ (�
 
 -- ---- a step of the world
 
--- the site i stands as n, and these are the messages
+-- the site i is n, and these are the messages
 abbrev pub moved : World → ℕ → ModelSite → List Message → World
 moved w i n ms = record { sites = slice_set w.sites i n; messages = ms }
 

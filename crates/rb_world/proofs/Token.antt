@@ -74,7 +74,7 @@ RedsUpTo vs n = (v : Shadow) → Among v vs → red_number v.name ≤ n
 abbrev pub IsStale : World → TokenMessage → Type 0
 IsStale w m = EachSite w (λ j u. m.to ≡ j → m.epoch ≤ u.token.epoch)
 
--- site k, which stands as t, has it: no other has it, no message can be taken, and the site needs or has applied every red operation
+-- site k, which is t, has it: no other has it, no message can be taken, and the site needs or has applied every red operation
 pub record IsHeldAt (w : World) (k : ℕ) (t : ModelSite) : Type 0 where
   pub at : slice_get w.sites k ≡ Some t
   pub held : t.token.held ≡ true

@@ -58,7 +58,8 @@ ValidLists s w = EachSite w (λ i t. IsValid s t.ops)
 abbrev pub NeverNegative : Settings → World → Type 0
 NeverNegative s w = EachSite w (λ i t. (a : Place) → pos 0 ≤ℤ bal s t.ops a)
 
--- no site is stuck: while its history has room, an operation that was made and whose past is there is held or known when it is delivered, and applied when it is held
+-- no site is stuck: while its history isn't full, an operation that was made and whose past is there is held or known when it is delivered,
+-- and applied when it is held
 pub record NeverStuck (s : Settings) (w : World) : Type 0 where
   pub delivered : EachSite w (λ i t. is_full s t ≡ false → (v : Shadow) (k : ℕ) → message_at w.messages k ≡ Some (ShadowMessage v) → IsWithin (past v) (names t.ops)
       → (reply_in s w (Deliver i k) ≡ Held v.name) ⊎ (reply_in s w (Deliver i k) ≡ Already v.name))
@@ -74,7 +75,7 @@ catching_up i us k [] = []
 catching_up i us k (ShadowMessage v ∷ ms) = if names us v.name then catching_up i us (k + 1) ms else Deliver i k ∷ At i (Apply v.name) ∷ catching_up i us (k + 1) ms
 catching_up i us k (TokenOnItsWay m ∷ ms) = catching_up i us (k + 1) ms
 
--- while its history has room for them, two events for each operation that a site lacks bring it all that was made
+-- while its history may have that many entries more, two events for each operation that a site lacks bring it all that was made
 abbrev pub CanCatchUp : Settings → World → Type 0
 CanCatchUp s w = EachSite w (λ i t. length t.history + length (catching_up i t.ops 1 w.messages) ≤ s.limits.history
     → (u : ModelSite) → slice_get (world_after_all s w (catching_up i t.ops 1 w.messages)).sites i ≡ Some u

@@ -59,7 +59,7 @@ impl World {
         World::open_keeping(alloc, config)
     }
 
-    /// A list of events, and their replies. After running out of memory the world stands after as many
+    /// A list of events, and their replies. After running out of memory the world is as after as many
     /// events as `Stopped` says.
     pub fn run(&mut self, events: &[WorldEvent]) -> Result<Vec<Reply>, Stopped>
         requires { All IsCommand events.now }
@@ -103,7 +103,7 @@ impl World {
         self.recorded.as_slice()
     }
 
-    /// Ends the world: each site in turn tells where it stood. This takes no memory.
+    /// Ends the world: each site in turn reports its state. This takes no memory.
     pub fn close(self) -> Vec<SiteReport>
         ensures { AreReports self.settings self.world.sites result.items }
     {

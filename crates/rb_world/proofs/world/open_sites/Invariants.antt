@@ -1,4 +1,4 @@
--- So far there is a site for each number below, and there is room for the others.
+-- So far there is a site for each number below, and there is spare capacity for the others.
 use Rattle.std.proofs.Common.{◌≡◌, ◌≤◌, All, map, vec_len, vec_capacity}
 use Rattle.std.specs.List.{range_with_len}
 use Rattle.rb_site.specs.Events.{first_site}

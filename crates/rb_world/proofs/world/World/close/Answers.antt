@@ -1,4 +1,4 @@
--- Each site tells where it stood.
+-- Each site reports its state.
 use Rattle.std.proofs.Common.{◌≡◌, ◌∙◌, ◌+◌, ◌≤◌, List, [], ap, arith, length, subst, sym, vec_len, vec_capacity}
 use Rattle.rb_site.specs.declared.report.SiteReport.{SiteReport}
 use Rattle.rb_site.specs.Reports.{AreReports}

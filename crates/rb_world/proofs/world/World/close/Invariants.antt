@@ -1,4 +1,4 @@
--- So far each site after those left has told where it stood, and there is room for the other reports.
+-- So far each site after those left has reported its state, and there is spare capacity for the other reports.
 use Rattle.std.proofs.Common.{◌+◌, ◌≤◌, vec_len, vec_capacity}
 use Rattle.rb_world.proofs.Closing.{IsClosing}
 use Rattle.rb_world.proofs.world.World.close.Given as goal

@@ -1,4 +1,4 @@
--- So far the events below were answered, and there is room for the other replies.
+-- So far the events below were answered, and there is spare capacity for the other replies.
 use Rattle.std.proofs.Common.{◌≡◌, ◌≤◌, length, vec_len, vec_capacity}
 use Rattle.rb_world.proofs.Stepping.{IsRunSoFar}
 use Rattle.rb_world.proofs.world.World.run.Given as goal
