@@ -53,7 +53,7 @@ later_items : (s : Settings) (list : List Data) (r : Request) (rs : List Request
 later_items s [] r rs h = absurd (cc)
 later_items s (d ∷ list) r rs h = refl
 
--- a request in front of others
+-- a request before others
 pub more_asked : (s : Settings) (r q : Request) (rs : List Request) (text behind more rest : List ℕ) → SpellsRequest s r text behind
     → behind ≡ codes "}" ++ (codes "," ++ more) → SpellsRequests s (q ∷ rs) more rest
     → SpellsRequests s (r ∷ q ∷ rs) (codes "{\"" ++ text) rest

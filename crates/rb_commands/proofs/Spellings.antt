@@ -24,7 +24,7 @@ pub three_read : (first second : List ℕ) (n : ℕ) → n < 2 ^ 64 → IsRead (
 three_read first second n h =
     record { numbers = (tt, (tt, (IsNumber-decimal n h, tt))); shallow = omega arith; same = rw (number_of-decimal n h) refl }
 
--- a string with no escape, as it stands before what follows
+-- a string with no escape, as it is written before what follows
 pub string_text : (name rest : List ℕ) → escape name ≡ name → name ++ (codes "\"" ++ rest) ≡ (escape name ++ codes "\"") ++ rest
 string_text name rest plain = sym (append_assoc name (codes "\"") rest) ∙ ap (λ l. (l ++ codes "\"") ++ rest) (sym plain)
 

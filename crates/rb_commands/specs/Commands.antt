@@ -16,21 +16,21 @@ use Rattle.rb_shadow.specs.NameText.{IsName}
 use Rattle.rb_commands.specs.Requests.{ReadsRequests, account_place, place_at, asked_of, request_alone, request_of, requests_at}
 use Rattle.rb_commands.specs.Values.{number_json, name_json, pair_json, three_json, number_below, name_at, size_of, either}
 
--- what a teller sees of an account, or the request, that an object's key tells
+-- what a teller asks of an account, or the request, that an object is read as, by its key
 abbrev pub teller_event_of : Settings → Data → Option Event
 teller_event_of s d = either (get (codes "balance") d) (λ account. option_map Balance (place_at s account))
     (either (get (codes "asof") d) (asked_of s (2 ^ 32) AsOf)
     (either (get (codes "statement") d) (λ account. option_map Statement (place_at s account))
     (option_map Submit (request_of s d))))
 
--- the event of a site that an object's key tells
+-- the event of a site that an object is read as, by its key
 abbrev pub event_of : Settings → Data → Option Event
 event_of s d = either (get (codes "batch") d) (λ list. option_map Batch (requests_at s list))
     (either (get (codes "apply") d) (λ x. option_map Apply (name_at x))
     (either (get (codes "pass") d) (λ to. option_map Pass (number_below (2 ^ 8) to))
     (teller_event_of s d)))
 
--- the command for a site that an object's key tells
+-- the command for a site that an object is read as, by its key
 abbrev pub command_for : Settings → Data → ℕ → Option WorldEvent
 command_for s d site = either (get (codes "deliver") d) (λ m. option_map (Deliver site) (number_below (2 ^ 32) m))
     (option_map (At site) (event_of s d))
@@ -48,7 +48,7 @@ command_at s line = option_and_then (command_of s) (read line)
 abbrev pub sited_json : List ℕ → Data → ℕ → Data
 sited_json key value site = object (put key value (member (codes "site") (number_json site) no_members))
 
--- each command is read from the object that tells it
+-- each command is read from the object that it is written as
 pub record ReadsCommands (s : Settings) : Type 0 where
   pub deposit : (site amount : ℕ) (name : List ℕ) → site < 2 ^ 8 → amount < 2 ^ 64 →
       command_of s (sited_json (codes "deposit") (pair_json (string name) (number_json amount)) site)

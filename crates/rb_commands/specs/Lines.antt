@@ -9,7 +9,7 @@ Gives (Ok x) meant = meant ≡ Some x
 Gives (Err Bad) meant = meant ≡ None
 Gives (Err OutOfMemory) meant = Unit {0}
 
--- the same of what the result stands for
+-- the same of what the result is seen as
 abbrev pub GivesAs : {A B : Type 0} → (A → B) → Result A LineFault → Option B → Type 0
 GivesAs seen (Ok x) meant = meant ≡ Some (seen x)
 GivesAs seen (Err Bad) meant = meant ≡ None

@@ -43,7 +43,7 @@ batch_json index cause = object (member (codes "cause") (cause_json cause)
 abbrev pub message_json : ℕ → Data
 message_json why = object (member (codes "refused") (number_json 17) (member (codes "why") (number_json why) no_members))
 
--- a refusal: its number, and what it tells
+-- a refusal: its number, and what it holds besides
 abbrev pub refusal_json : Refusal → Data
 refusal_json (AlreadyCancelled position) = cancelled_json position
 refusal_json (RedBehind seen needed) = behind_json seen needed

@@ -31,7 +31,7 @@ abbrev pub transfer_at : Settings → Data → Option Request
 transfer_at s d = option_and_then (λ p. option_and_then (λ from. option_and_then
     (λ to. option_map (Transfer from to) (number_below (2 ^ 64) p.2)) (place_at s p.1)) (place_at s p.0)) (three_of d)
 
--- the request that an object's key tells
+-- the request that an object is read as, by its key
 abbrev pub request_of : Settings → Data → Option Request
 request_of s d = either (get (codes "deposit") d) (asked_of s (2 ^ 64) Deposit)
     (either (get (codes "withdraw") d) (asked_of s (2 ^ 64) Withdraw)
@@ -51,7 +51,7 @@ requests_in s (item d ds) = option_and_then (λ r. option_map (λ later. r ∷ l
 abbrev pub requests_at : Settings → Data → Option (List Request)
 requests_at s d = option_and_then (requests_in s) (as_array d)
 
--- each request of a batch is read from the object that tells it
+-- each request of a batch is read from the object that it is written as
 pub record ReadsRequests (s : Settings) : Type 0 where
   pub deposit : (amount : ℕ) (name : List ℕ) → amount < 2 ^ 64 → request_alone s
       (one_json (codes "deposit") (pair_json (string name) (number_json amount))) ≡ Some (Deposit (account_place s name) amount)

@@ -53,7 +53,7 @@ pub record Spells (s : Settings) (command : SiteCommand) (text rest : List ℕ) 
   pub read : IsRead value
   pub is : IsCommandOf s command key value
 
--- the same of a request, which may stand in a batch too: its value has no list in a list
+-- the same of a request, which may be in a batch too: its value has no list in a list
 pub record SpellsRequest (s : Settings) (r : Request) (text rest : List ℕ) : Type 0 where
   pub spelled : Spells s (Submit r) text rest
   pub flat : tree.depth (outline spelled.value) ≤ 1

@@ -9,7 +9,7 @@ use rb_scratch::Request;
 use rb_shadow::OpName;
 use rb_site::{Event, WorldEvent};
 
-/// A command but for its site. It takes far less room than an `Event`, which may hold a message.
+/// A command but for its site. It is far smaller than an `Event`, which may hold a message.
 #[derive(Drop)]
 pub enum SiteCommand {
     Submit(Request),

@@ -23,7 +23,7 @@ pub fails : (b : Bool) (P : Type 0) → Decides b P → ¬ P → b ≡ false
 fails true P d p = absurd (p (d.0 refl))
 fails false P d p = refl
 
--- the first place of a name that stands once
+-- the first place of a name that is there once
 found_from : (names : List (List ℕ)) (name : List ℕ) (k i : ℕ) → slice_get names i ≡ Some name
     → ((j : ℕ) → slice_get names j ≡ Some name → i ≡ j) → position_from (λ n. bytes_eq name n) k names ≡ Some (k + i)
 found_from [] name k i at once = cc

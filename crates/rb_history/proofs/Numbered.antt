@@ -59,7 +59,7 @@ numbered_fit i (n ∷ ns) within h = at (n == 0) (numbered_fit (i + 1) ns (omega
 
 -- ---- read
 
--- what stands before and at one more
+-- what is before one more and at it
 pub one_further : (counts : List ℕ) (least site n : ℕ) → length counts ≡ MOST_SITES → least ≤ site → site < MOST_SITES
     → drop least counts ≡ replicate (MOST_SITES - least) 0
     → take (site + 1) (set counts site n) ≡ (take least counts ++ replicate (site - least) 0) ++ n ∷ []

@@ -28,7 +28,7 @@ name_there names name place e = by_position (position (λ n. bytes_eq name n) na
         index : (i : ℕ) → Some (record { 0 = i }) ≡ Some place → place.0 ≡ i
         index i f = cc
 
--- no name stands at the place that no configuration has
+-- there is no name at the place that no configuration has
 pub nobody_there : (s : Settings) → IsConfigured s → unwrap_or (slice_get s.names NOWHERE.0) (codes "?") ≡ codes "?"
 nobody_there s c =
     let few = c.few_accounts in

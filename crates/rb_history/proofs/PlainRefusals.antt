@@ -1,4 +1,4 @@
--- A refusal that its number alone tells is written as the number.
+-- Refusals that are written as their numbers alone.
 use Rattle.std.proofs.Common.{◌≡◌, ◌==◌, ℕ, Bool, true, false, List, [], ◌∷◌, Some, codes, refl, ap, ◌∙◌, subst, rules}
 use Rattle.std.specs.Prelude.{if◌then◌else◌}
 use Rattle.json.proofs.Found.{Some_inj}

@@ -255,7 +255,7 @@ keeps s c t g (AsOf a n) =
     }))
 keeps s c t g (AskStatement a) = if_not s t (not (is_account s a)) _ _ g (λ e. record { order = g; sends = none_fit s })
 
--- the same of an event that may find no room in the history
+-- the same of an event that may find the history full
 stays : (s : Settings) → IsConfigured s → (t : ModelSite) → IsInOrder s t → (e : Event) →
     IsInOrder s (after_event s t e) × AllFit s (sent_at s t e)
 stays s c t g e = by (is_full s t) (keeps s c t g e)

@@ -1,4 +1,4 @@
--- How many of each site's blue operations a home had applied, as lines of either version of the format tell it.
+-- How many of each site's blue operations a home had applied, as lines of either version of the format have it.
 use Rattle.std.specs.Prelude.{ℕ, ◌+◌, ◌-◌, ◌^◌, ◌==◌, ◌&&◌, List, [], ◌∷◌, ◌++◌, length, take, replicate, nat_le, nat_lt, Option, Some}
 use Rattle.std.specs.Prelude.{None, if◌then◌else◌, option_and_then, option_map}
 use Rattle.serde_json.specs.Data.{Data, Items, no_items, item}

@@ -1,4 +1,4 @@
--- Entries that a line tells whole: their numbers fit their types, and their places are known.
+-- Entries that fit their lines: their numbers fit their types, and their places are known.
 use Rattle.std.specs.Prelude.{◌≡◌, ◌⊎◌, ℕ, ℤ, pos, negsuc, ◌<◌, ◌^◌, List, [], ◌∷◌, length, drop, Some, ⊤}
 use Rattle.serde_json.specs.Written.{compact_text}
 use Rattle.rb_money.specs.Settings.{IsConfigured, Settings}
@@ -81,7 +81,7 @@ abbrev pub IsCause : Cause → Type 0
 IsCause CauseDeclined = ⊤
 IsCause (CauseRefused n) = n < 2 ^ 8
 
--- of running out of memory no line tells
+-- a refusal that a line may have: any but running out of memory, with numbers that fit their types
 abbrev pub IsRefusal : Refusal → Type 0
 IsRefusal OutOfMemory = ⊥
 IsRefusal (AlreadyCancelled position) = position < 2 ^ 32
@@ -112,7 +112,7 @@ EntriesAreRead = (s : Settings) → IsConfigured s → (site : ℕ) (x : Entry) 
 abbrev pub EventsAreRead : Type 0
 EventsAreRead = (s : Settings) → IsConfigured s → (e : Event) → IsEvent s e → event_of_line s (compact_text (event_json s e)) ≡ Some e
 
--- what is read of any line is an entry of a site of the configuration that a line tells whole
+-- what is read from any line is an entry of a site of the configuration, and fits
 abbrev pub ReadEntriesFit : Type 0
 ReadEntriesFit = (s : Settings) (line : List ℕ) (site : ℕ) (x : Entry) → entry_of_line s line ≡ Some (site, x)
     → (site < s.sites) × IsEvent s x.event × IsReply x.reply

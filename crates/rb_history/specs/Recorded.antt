@@ -1,4 +1,4 @@
--- Which event of a history an object is: one that a command tells, or a receipt.
+-- Which event of a history an object is: one that a command asks for, or the arrival of a message.
 use Rattle.std.specs.Prelude.{ℕ, ◌^◌, ◌==◌, Option, Some, None, codes, if◌then◌else◌, option_and_then, option_map}
 use Rattle.serde_json.specs.Data.{Data}
 use Rattle.serde_json.specs.Find.{get}
@@ -20,7 +20,7 @@ use Rattle.rb_commands.specs.Values.{either, name_at, number_below, pair_of, siz
 use Rattle.rb_history.specs.Counts.{blue_at}
 use Rattle.rb_history.specs.Fields.{field, label_at}
 
--- what the home had applied, from the list of its blue counts, as the version tells them, and its red one
+-- what the home had applied, from the list of its blue counts, as the version has them, and its red one
 abbrev pub deps_at : ℕ → Data → Option Deps
 deps_at version d = option_and_then
     (λ p. option_and_then (λ blue. option_map (λ red. record { blue = blue; red = red }) (number_below (2 ^ 32) p.1))
@@ -56,7 +56,7 @@ token_at d = option_and_then (λ p. option_and_then
     (λ epoch. option_and_then (λ to. option_map (λ red. record { epoch = epoch; to = to; red = red }) (number_below (2 ^ 32) p.2))
     (number_below (2 ^ 8) p.1)) (number_below (2 ^ 32) p.0)) (three_of d)
 
--- the event that an object's key tells
+-- the event that an object is read as, by its key
 abbrev pub recorded_of : Settings → Data → Option Event
 recorded_of s d = either (get (codes "shadow") d) (λ v. option_map (λ made. Receive (ShadowMessage made)) (shadow_at s v))
     (either (get (codes "token") d) (λ m. option_map (λ sent. Receive (TokenOnItsWay sent)) (token_at m))

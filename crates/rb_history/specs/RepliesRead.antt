@@ -49,7 +49,7 @@ refused_batch_told d = if size_of d == 3 then option_and_then
 abbrev pub bad_message_told : Data → Option Refusal
 bad_message_told d = if size_of d == 2 then option_map BadMessage (field (codes "why") (number_below (2 ^ 8)) d) else None
 
--- the refusals that their numbers alone tell; of running out of memory no line tells
+-- the refusals that are written as their numbers alone; running out of memory is written in no line
 abbrev pub plain_refusals : List Refusal
 plain_refusals = UnknownAccount ∷ BadAmount ∷ BadRate ∷ UnknownOperation ∷ NotCancellable ∷ NumbersExhausted ∷ NeedToken ∷ WouldOverdraw
     ∷ DeltaTooLarge ∷ BadBatch ∷ NotHeld ∷ NotReady ∷ InboxFull ∷ Conflict ∷ NoMessage ∷ NoSite ∷ NotYours ∷ PositionBeyond ∷ HistoryFull
@@ -64,7 +64,7 @@ find_refusal n (r ∷ rs) = if number_of_refusal r == n then Some r else find_re
 abbrev pub plain_of : Data → ℕ → Option Refusal
 plain_of d n = if size_of d == 1 then find_refusal n plain_refusals else None
 
--- the refusal of this number that an object tells
+-- the refusal of this number that an object is read as
 abbrev pub refusal_told : Data → ℕ → Option Refusal
 refusal_told d n = if n == 6 then cancelled_of d
     else (if n == 9 then behind_of d
@@ -107,7 +107,7 @@ rows_in (item d ds) = option_and_then (λ r. option_map (λ later. r ∷ later) 
 abbrev pub rows_at : Data → Option (List Row)
 rows_at d = option_and_then rows_in (as_array d)
 
--- the reply of one name or one number that an object's key tells
+-- the reply of one name or one number that an object is read as, by its key
 abbrev pub simple_of : Data → Option Reply
 simple_of d = either (get (codes "held") d) (λ x. option_map Held (name_at x))
     (either (get (codes "already") d) (λ x. option_map Already (name_at x))
@@ -133,7 +133,7 @@ statement_told d = option_and_then (λ start. option_and_then (λ balance. optio
     (field (codes "balance") (number_below (2 ^ 64)) d))
     (field (codes "start") (number_below (2 ^ 64)) d)
 
--- the reply that tells no refusal
+-- the reply that is no refusal
 abbrev pub answer_of : Data → Option Reply
 answer_of d = if size_of d == 1 then short_of d
     else (if size_of d == 2 then made_told d else (if size_of d == 3 then statement_told d else None))

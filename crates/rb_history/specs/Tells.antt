@@ -1,4 +1,4 @@
--- Texts that begin with what is written for a part of a history's line, and then the rest follows: of parts that a line tells whole.
+-- Texts that begin with what is written for a part of a history's line, and then the rest follows: of parts that fit.
 use Rattle.std.specs.Prelude.{◌≡◌, ℕ, ◌<◌, ◌^◌, List, ◌++◌, codes, false, drop, length, map, unwrap_or, slice_get}
 use Rattle.json.specs.Print.{escape}
 use Rattle.serde_json.specs.Data.{Data}

@@ -69,7 +69,7 @@ known_long of (Some all) (Some x) s p e t f h is =
 front : (whole : LinesOutcome) (t : List ℕ) (n : ℕ) (o : LinesOutcome) → whole ≡ after_text t n o → IsFront t whole.text
 front whole t n o e = (o.text, ap (λ (x : LinesOutcome). x.text) e)
 
--- what is written so far is a front of what all lines come to
+-- what is written so far is a prefix of what all lines come to
 pub known_front : (of : Whole) (a b : Option (List ℕ)) (s : Stand) (p : List ℕ) (e : Bool) (t : List ℕ) → FollowsKnown of a b s p e t
     → IfSome a (λ input. IsFront t (of (lines_of input)).text)
 known_front of None b s p e t f = tt

@@ -1,4 +1,4 @@
--- Where a run over lines that are answered stands between two of them.
+-- The state of a run over lines that are answered, between two of them.
 use Rattle.std.proofs.Common.{◌≡◌, ◌<◌, ◌≤◌, ◌+◌, ◌-◌, ◌⊎◌, ℕ, Bool, true, false, List, [], ◌∷◌, ◌++◌, length, take, drop, sym, ap, ◌∙◌}
 use Rattle.std.proofs.Common.{arith, append-nil, append_assoc, zero-add}
 use Rattle.rb_lines.specs.Lines.{lines_of, whole_lines, line_len}

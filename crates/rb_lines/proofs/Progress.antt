@@ -1,4 +1,4 @@
--- What went out and what is owed, together, as a run goes on.
+-- What went out and what is buffered, together, as a run goes on.
 use Rattle.std.proofs.Common.{◌≡◌, ◌<◌, ◌≤◌, ◌+◌, ◌⊎◌, ℕ, Bool, true, false, List, [], ◌++◌, length, take, drop, Option, Some, None}
 use Rattle.std.proofs.Common.{Result, Err, sym, ap, ◌∙◌, subst, append-nil, append_assoc}
 use Rattle.std.specs.Prelude.{IfSome}
@@ -19,7 +19,7 @@ use Rattle.rb_lines.proofs.Follows.{Whole}
 abbrev pub IsAt : Whole → Option (List ℕ) → Option (List ℕ) → Option (List ℕ) → Option (List ℕ) → Stand → List ℕ → Bool → List ℕ → Type 0
 IsAt of w0 w r0 r s p e owed = (text : List ℕ) × Appends w0 w text × FollowsKnown of r0 r s p e (text ++ owed)
 
--- at the end, where some may still be owed
+-- at the end, where some may still be buffered
 abbrev pub IsOver : Whole → Option (List ℕ) → Option (List ℕ) → Option (List ℕ) → Option (List ℕ) → Result ℕ StreamFault → List ℕ → Type 0
 IsOver of w0 w r0 r result owed = (text : List ℕ) × Appends w0 w text × IfSome r0 (λ input. RunWillEndAs of result input r (text ++ owed))
 
@@ -29,13 +29,13 @@ both P Q (Some x) p q = (p, q)
 
 -- ---- between two lines
 
--- at first nothing was read and nothing is owed
+-- at first nothing was read and nothing is buffered
 pub starts : (w r : Option (List ℕ)) (s : Stand) (p : List ℕ) (e : Bool) (owed : List ℕ) → s.count ≡ 0 → p ≡ [] → e ≡ false → owed ≡ []
     → IsAt s.rest w w r r s p e owed
 starts w r s p e owed none empty going nothing =
     ([], Appends-nil w, subst (λ t. FollowsKnown s.rest r r s p e t) (sym nothing) (known_start r s p e none empty going))
 
--- bytes more were read, and some of what was owed went out
+-- bytes more were read, and some of what was buffered went out
 pub reads_on : (of : Whole) (w0 w w' r0 r r' : Option (List ℕ)) (s : Stand) (p p' : List ℕ) (e e' : Bool) (owed owed' : List ℕ)
     → IsAt of w0 w r0 r s p e owed → Reads p p' r r' → (e' ≡ false → e ≡ false) → Sends w w' owed owed'
     → IsAt of w0 w' r0 r' s p' e' owed'
@@ -100,7 +100,7 @@ twice : (of : Whole) (a : Option (List ℕ)) (text : List ℕ) → IfSome a (λ 
 twice of None text h = tt
 twice of (Some x) text h = (h, h)
 
--- some of what was owed before went out, and then there was no memory
+-- some of what was buffered before went out, and then there was no memory
 pub ends_out_of_memory : (of : Whole) (w0 w w' r0 r r' : Option (List ℕ)) (s : Stand) (p : List ℕ) (e : Bool) (owed owed' : List ℕ)
     → IsAt of w0 w r0 r s p e owed → Sends w w' owed owed' → IsOver of w0 w' r0 r' (Err OutOfMemory) owed'
 ends_out_of_memory of w0 w w' r0 r r' s p e owed owed' st sent = (
@@ -111,7 +111,7 @@ ends_out_of_memory of w0 w w' r0 r r' s p e owed owed' st sent = (
       ∙ sym (append_assoc st.0 sent.0 owed')) (known_front of r0 r s p e (st.0 ++ owed) st.2)),
 )
 
--- a front of a front
+-- a prefix of a prefix
 shorter : (text owed front rest whole : List ℕ) → IsFront (text ++ owed) whole → owed ≡ front ++ rest → IsFront (text ++ front) whole
 shorter text owed front rest whole h e = (
   rest ++ h.0,
@@ -125,7 +125,7 @@ all_shorter : (of : Whole) (a : Option (List ℕ)) (text owed front rest : List 
 all_shorter of None text owed front rest h e = tt
 all_shorter of (Some x) text owed front rest h e = shorter text owed front rest _ h e
 
--- a write failed, and nothing is owed any more
+-- a write failed, and nothing is buffered any more
 pub ends_unwritten : (of : Whole) (w0 w w' r0 r r' : Option (List ℕ)) (s : Stand) (p : List ℕ) (e : Bool) (owed owed' : List ℕ)
     → IsAt of w0 w r0 r s p e owed → AppendsFront w w' owed × (owed' ≡ []) → IsOver of w0 w' r0 r' (Err Write) owed'
 ends_unwritten of w0 w w' r0 r r' s p e owed owed' st (front, nothing) = (
@@ -139,14 +139,14 @@ ends_unwritten of w0 w w' r0 r r' s p e owed owed' st (front, nothing) = (
 
 -- ---- after the end
 
--- what was owed went out
+-- what was buffered went out
 pub over_written : (of : Whole) (w0 w w' r0 r : Option (List ℕ)) (result : Result ℕ StreamFault) (owed : List ℕ)
     → IsOver of w0 w r0 r result owed → Appends w w' owed
     → (text : List ℕ) × Appends w0 w' text × IfSome r0 (λ input. RunEndsAs of result input r text)
 over_written of w0 w w' None r result owed st written = (st.0 ++ owed, Appends-trans w0 w w' st.0 owed st.1 written, tt)
 over_written of w0 w w' (Some x) r result owed st written = (st.0 ++ owed, Appends-trans w0 w w' st.0 owed st.1 written, st.2.0)
 
--- a front of it did
+-- a prefix of it did
 pub over_unwritten : (of : Whole) (w0 w w' r0 r : Option (List ℕ)) (result : Result ℕ StreamFault) (owed : List ℕ)
     → IsOver of w0 w r0 r result owed → AppendsFront w w' owed
     → (text : List ℕ) × Appends w0 w' text × IfSome r0 (λ input. RunEndsAs of (Err Write) input r text)

@@ -14,7 +14,7 @@ pub record LinesOutcome : Type 0 where
 abbrev pub no_outcome : StreamFault → LinesOutcome
 no_outcome f = record { text = []; count = 0; fault = Some f }
 
--- the outcome, once this text of so many answers comes before it
+-- the outcome, once this text of this number of answers comes before it
 abbrev pub after_text : List ℕ → ℕ → LinesOutcome → LinesOutcome
 after_text text count o = record { text = text ++ o.text; count = count + o.count; fault = o.fault }
 
@@ -54,7 +54,7 @@ RunEndsAs of (Err Read) input left text = (rest : List ℕ) × (left ≡ Some re
 RunEndsAs of (Err Write) input left text = IsFront text (of (lines_of input)).text
 RunEndsAs of (Err OutOfMemory) input left text = IsFront text (of (lines_of input)).text
 
--- the same where some of the text is still owed: whatever front of it goes out is a front of the whole text
+-- the same where some of the text is still to be written: whatever prefix of it goes out is a prefix of the whole text
 abbrev pub RunWillEndAs : (List (List ℕ) → LinesOutcome) → Result ℕ StreamFault → List ℕ → Option (List ℕ) → List ℕ → Type 0
 RunWillEndAs of r input left text = RunEndsAs of r input left text × IsFront text (of (lines_of input)).text
 
@@ -79,7 +79,7 @@ pub record AnswersLine (old new : Stand) (l text : List ℕ) : Type 0 where
   pub count : old.count ≤ new.count
   pub one : new.count ≤ old.count + 1
 
--- there are no more lines: so many were answered, or there was no configuration
+-- there are no more lines: this number of them was answered, or there was no configuration
 abbrev pub EndsWith : Stand → Result ℕ StreamFault → Type 0
 EndsWith s (Ok n) = (n ≡ s.count) × (s.rest [] ≡ record { text = []; count = 0; fault = None })
 EndsWith s (Err f) = (f ≡ NoConfig) × (s.rest [] ≡ no_outcome NoConfig)

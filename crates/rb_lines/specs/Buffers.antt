@@ -1,4 +1,4 @@
--- Bytes that wait, bytes that are owed, and reads that are left.
+-- Bytes that wait, bytes that are buffered for the writer, and reads that are left.
 use Rattle.std.specs.Prelude.{◌≡◌, ℕ, ◌+◌, ◌*◌, ◌<◌, ◌≤◌, ◌⊎◌, Bool, true, false, List, [], ◌++◌, length, Option, Some, None}
 use Rattle.std.specs.Io.KnownBytes.{Appends, Consumes, Keeps}
 use Rattle.rb_lines.specs.declared.buffers.Buffers.{Buffers}
@@ -7,7 +7,7 @@ use Rattle.rb_lines.specs.declared.no_line.NoLine.TheVariants.{TooLong, Read, Wr
 use Rattle.rb_lines.specs.Lines.{line_len}
 use Rattle.rb_lines.specs.declared.limits.TheConstants.{LINE_LIMIT, READ_SIZE, MOST_READS}
 
--- so many calls were made, and so many more may be
+-- the reads that were made and those that may still be made are the most reads together
 abbrev pub Counts : ℕ → ℕ → Type 0
 Counts calls reads = calls + reads ≡ MOST_READS
 
@@ -15,7 +15,7 @@ Counts calls reads = calls + reads ≡ MOST_READS
 abbrev pub left : Buffers → ℕ
 left b = length b.pending + READ_SIZE * b.reads
 
--- a line of n bytes stands whole at the front, with its line feed or at the end of the source
+-- a line of n bytes is whole at the front, with its line feed or at the end of the source
 abbrev pub Stands : Buffers → ℕ → Type 0
 Stands b n = (n ≡ line_len b.pending) × (n ≤ LINE_LIMIT) × (n ≤ length b.pending)
     × ((n < length b.pending) ⊎ ((n ≡ length b.pending) × (0 < n) × (b.ended ≡ true)))
@@ -25,11 +25,11 @@ abbrev pub IsNextLine : Buffers → Option ℕ → Type 0
 IsNextLine b None = (b.pending ≡ []) × (b.ended ≡ true)
 IsNextLine b (Some n) = Stands b n
 
--- what was read stands at the end of what waits
+-- what was read is at the end of what waits
 abbrev pub Reads : List ℕ → List ℕ → Option (List ℕ) → Option (List ℕ) → Type 0
 Reads old new had has = (more : List ℕ) × (new ≡ old ++ more) × Consumes had has more
 
--- what went out was the front of what was owed, and the rest still is
+-- what went out was a prefix of what was buffered, and the rest still is
 abbrev pub Sends : Option (List ℕ) → Option (List ℕ) → List ℕ → List ℕ → Type 0
 Sends had has owed still = (sent : List ℕ) × Appends had has sent × (owed ≡ sent ++ still)
 

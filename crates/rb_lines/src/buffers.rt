@@ -1,4 +1,4 @@
-//! The bytes between a reader and a writer: no read while a whole line waits or a reply is owed.
+//! The bytes between a reader and a writer: no read while a whole line waits or a reply is buffered.
 ghost use Rattle.std.specs.Prelude.{◌≡◌, ◌≢◌, ◌↔◌, ◌+◌, ◌<◌, ◌≤◌, ◌⊎◌, [], true, false, Err, length, drop, MatchResult};
 ghost use Rattle.std.specs.Prelude.{IfOk, OnOk};
 ghost use Rattle.std.specs.Io.KnownBytes.{IsAtEnd};
@@ -27,7 +27,7 @@ pub struct Buffers {
 }
 
 impl Buffers {
-    /// Nothing was read, and nothing is owed.
+    /// Nothing was read, and nothing is buffered for the writer.
     pub fn new(alloc: Global) -> Buffers
         ensures pending { result.pending ≡ [] }
         ensures owed { result.owed.items ≡ [] }
@@ -42,7 +42,7 @@ impl Buffers {
         }
     }
 
-    /// Takes the line at the front, of so many bytes, with its line feed.
+    /// Takes the line at the front, of `n` bytes without its line feed, and that too.
     pub fn skip_line(&mut self, n: usize)
         requires { n ≤ length self.old.pending }
         ensures { self.new ≡ record self.old { pending = drop (n + 1) self.old.pending } }
@@ -78,8 +78,8 @@ impl Buffers {
         Ok(())
     }
 
-    /// Makes the next line stand at the front, and says how long it is: `None` at the end. What is owed goes out before
-    /// a read, and where it is much.
+    /// Brings the next line to the front, and says how many bytes it has: `None` at the end. What is buffered for the
+    /// writer goes out before a read, and once it has `MOST_OWED` bytes.
     #[inline(always)]
     pub fn next_line<S: Source, W: Sink>(
         &mut self,

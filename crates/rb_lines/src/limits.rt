@@ -1,4 +1,4 @@
-//! Limits of lines, and of what is read and owed.
+//! Limits of lines, of what is read and of what is buffered for the writer.
 
 /// The most reads of one input.
 pub const MOST_READS: u64 = 4_000_000_000;
@@ -9,5 +9,5 @@ pub const LINE_LIMIT: usize = 1_048_576;
 /// The bytes that one read asks for.
 pub const READ_SIZE: usize = 65_536;
 
-/// Replies go out once they have so many bytes, also where more lines wait.
+/// Replies go out once they have this number of bytes, also where more lines wait.
 pub const MOST_OWED: usize = 65_536;

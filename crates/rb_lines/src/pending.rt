@@ -12,7 +12,7 @@ use memchr::memchr;
 use std::alloc::{AllocError, Global};
 use std::marker::Model;
 
-/// A queue of bytes that is read as one slice, from `start` to `end`; what stands behind them is room for reads. It
+/// A queue of bytes that is read as one slice, from `start` to `end`; what is behind them is space for reads. It
 /// knows how far it was searched for a line feed, so each byte is looked at once.
 #[derive(Drop)]
 pub struct Pending {
@@ -30,7 +30,7 @@ impl Model for Pending {
 
     ghost view = { λ p. slice_range p.bytes.items p.start p.end };
 
-    // No line feed stands in the part that was searched.
+    // There is no line feed in the part that was searched.
     ghost invariant = { λ p. (p.start ≤ p.end) × (p.end ≤ length p.bytes.items)
         × (p.searched ≤ line_len (slice_range p.bytes.items p.start p.end)) };
 }
@@ -46,7 +46,7 @@ fn line_length(bytes: &[u8]) -> usize
     }
 }
 
-/// Makes room for a read behind the first bytes, which stay. An `Err` means out of memory.
+/// Makes space for a read behind the first bytes, which stay. An `Err` means out of memory.
 fn make_room(bytes: &mut Vec<u8>, end: usize) -> Result<(), AllocError>
     requires { end ≤ length bytes.old.items }
     ensures front { take end bytes.new.items ≡ take end bytes.old.items }
@@ -138,7 +138,7 @@ impl Pending {
         self.start = 0;
     }
 
-    /// Reads once, to the end of the bytes. An `Err` means out of memory for the room: there was no read then.
+    /// Reads once, to the end of the bytes. An `Err` means out of memory: there was no read then.
     pub fn read<S: Source>(
         &mut self,
         reader: &mut S,

@@ -15,7 +15,7 @@ pub trait Responder {
     fn number(&self) -> u64
         ensures { result ≡ (stand self.now).number };
 
-    /// Takes one line, which isn't too long, and owes its answer. After an `Err` nothing more is owed, and the run
+    /// Takes one line, which isn't too long, and buffers its answer in `owed`. An `Err` adds nothing there, and the run
     /// ends.
     fn answer_line(
         &mut self,

@@ -14,8 +14,8 @@ use crate::source::Source;
 use crate::write::flush;
 use std::alloc::Global;
 
-/// Answers each line, and says how many were answered. What is owed at the end, or at a fault, is still to be written;
-/// after a failed write nothing is.
+/// Answers each line, and says how many were answered. What is buffered at the end, or at a fault, is still to be
+/// written; after a failed write nothing is.
 fn answer_lines<S: Source, W: Sink, R: Responder>(
     alloc: Global,
     reader: &mut S,
@@ -61,7 +61,7 @@ fn answer_lines<S: Source, W: Sink, R: Responder>(
 /// Answers each line of the reader's bytes, and says how many were answered.
 ///
 /// The answers to the whole lines of one read go out before the next read, in one write where they fit. What was
-/// answered before a fault goes out before the fault is told; where that write fails, the fault is `Write`.
+/// answered before a fault goes out before the fault is reported; where that write fails, the fault is `Write`.
 pub fn run_lines<S: Source, W: Sink, R: Responder>(
     alloc: Global,
     reader: &mut S,
@@ -78,7 +78,7 @@ pub fn run_lines<S: Source, W: Sink, R: Responder>(
         (λ input. RunEndsAs (R.stand responder.old).rest result input (S.remaining reader.new) text) }
     ensures read { result ≡ Err Read → (S.failed reader.new ≡ true) ⊎ (S.calls reader.new ≡ MOST_READS) }
     ensures write { (result ≡ Err Write) ↔ (W.failed writer.new ≡ true) }
-    // At most so many reads are made, whatever is answered.
+    // There are up to `MOST_READS` reads, whatever is answered.
     ensures calls { S.calls reader.new ≤ S.calls reader.old + MOST_READS }
 {
     let mut buffers = Buffers::new(alloc);

@@ -15,7 +15,7 @@ pub trait Sink {
     // Whether a write has failed, or has taken nothing.
     ghost failed: { Self → Bool };
 
-    /// Takes bytes off the front of the buffer, and says how many.
+    /// Writes the first bytes of the buffer, and says how many.
     fn write(&mut self, buf: &[u8]) -> Result<usize, WriteFailed>
         ensures bound { IfOk result (λ n. n ≤ length buf.now) }
         ensures bytes { WriteAppends (contents self.old) (contents self.new) result buf.now }

@@ -17,7 +17,7 @@ pub trait Source {
     // How often it was read from, up to `u64::MAX`.
     ghost calls: { Self → ℕ };
 
-    /// Fills the front of the buffer, and says how many bytes that is: 0 only at the end, for a buffer that has room.
+    /// Reads into the first bytes of the buffer, and says how many: 0 only at the end, or where the buffer is empty.
     fn read(&mut self, buf: &mut [u8]) -> Result<usize, ReadFailed>
         ensures bound { IfOk result (λ n. n ≤ length buf.new) }
         ensures bytes { ReadConsumes (remaining self.old) (remaining self.new) result buf.new }

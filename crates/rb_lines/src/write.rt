@@ -5,7 +5,7 @@ ghost use Rattle.rb_lines.specs.Writes.{AppendsFront};
 
 use crate::sink::{Sink, WriteFailed};
 
-/// Writes the text. After an `Err` a front of it went out.
+/// Writes the text. After an `Err` a prefix of it went out.
 pub fn write_all<W: Sink>(writer: &mut W, text: &[u8]) -> Result<(), WriteFailed>
     ensures written { MatchResult result
         (λ _. Appends (W.contents writer.old) (W.contents writer.new) text.now
@@ -24,7 +24,8 @@ pub fn write_all<W: Sink>(writer: &mut W, text: &[u8]) -> Result<(), WriteFailed
     Ok(())
 }
 
-/// Writes what is owed, and keeps the room. Nothing is owed afterwards: after an `Err` a front of it went out.
+/// Writes what is buffered, and keeps the buffer's capacity. The buffer is empty afterwards: after an `Err` a prefix of
+/// it went out.
 pub fn flush<W: Sink>(writer: &mut W, owed: &mut Vec<u8>) -> Result<(), WriteFailed>
     ensures written { MatchResult result
         (λ _. Appends (W.contents writer.old) (W.contents writer.new) owed.old.items

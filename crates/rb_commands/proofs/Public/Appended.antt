@@ -13,7 +13,7 @@ front_stays old mid new a e h =
     in
     ap (take (length old)) whole ∙ take_at old (a ++ rest) (length old) refl
 
--- a front of a front
+-- a prefix of a prefix
 pub front_of_front : (old mid new : List ℕ) → take (length old) mid ≡ old → take (length mid) new ≡ mid → take (length old) new ≡ old
 front_of_front old mid new e h =
     let more = drop (length old) mid in

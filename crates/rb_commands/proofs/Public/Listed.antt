@@ -9,7 +9,7 @@ use Rattle.serde_json.specs.Written.{compact_text, items_text}
 use Rattle.rb_commands.specs.Adds.{Adds}
 use Rattle.rb_commands.proofs.Public.Appended.{then}
 
--- the items that are still to be written, where this stands before the first
+-- the items that are still to be written, with this before the first
 abbrev pub rest_text : List ℕ → List Data → List ℕ
 rest_text comma [] = []
 rest_text comma (d ∷ ds) = comma ++ (compact_text d ++ rest_text (codes ",") ds)

@@ -83,6 +83,6 @@ bytes_plain : (name : List ℕ) → list_all is_name_byte name ≡ true → AreP
 bytes_plain [] h = tt
 bytes_plain (b ∷ bs) h = let p = and_parts (is_name_byte b) (list_all is_name_byte bs) h in (byte_plain b p.0, bytes_plain bs p.1)
 
--- an account's name stands in quotes as it is
+-- an account's name is written in quotes as it is
 pub account_plain : (name : List ℕ) → is_account_name name ≡ true → escape name ≡ name
 account_plain name h = escape_plain name (bytes_plain name (and_parts (nat_le 1 (length name) && nat_le (length name) LONGEST_NAME) _ h).1)

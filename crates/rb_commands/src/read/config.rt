@@ -118,7 +118,7 @@ fn version(value: &Value) -> Option<u8>
     byte(value.get("version")?)
 }
 
-/// Whether lines of so many sites may have this version.
+/// Whether lines of a bank with this number of sites may have this version.
 fn is_version(version: u8, sites: u8) -> bool
     ensures { result ≡ is_version version sites }
 {

@@ -45,7 +45,7 @@ fn append_batch(out: &mut Vec<u8>, index: u8, cause: Cause) -> Result<(), AllocE
     append_number(out, "", index as u64, ",\"refused\":13}")
 }
 
-/// A refusal: its number, and what it tells.
+/// Adds a refusal: its number, and what it holds besides. An `Err` means out of memory.
 #[tactic(auto, unfolding(json::specs::Print::escape_byte))]
 pub fn append_refusal(out: &mut Vec<u8>, refusal: Refusal) -> Result<(), AllocError>
     ensures { Adds result out.old.items out.new.items (compact_text (refusal_json refusal)) }

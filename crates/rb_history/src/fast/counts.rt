@@ -64,7 +64,7 @@ fn parse_numbered(text: &str) -> Option<([u32; MOST_SITES], &str)>
     }
 }
 
-/// The counts of all sites, as this version of the format tells them.
+/// The counts of all sites, as this version of the format has them.
 #[tactic(auto, unfolding(crate::specs::Counts::blue_json))]
 pub fn parse_counts(version: u8, text: &str) -> Option<([u32; MOST_SITES], &str)>
     ensures { IfSome result (λ p. TellsCounts version p.0 text.now p.1.now) }

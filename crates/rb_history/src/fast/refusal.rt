@@ -58,7 +58,7 @@ fn parse_message(text: &str) -> Option<(Reply, &str)>
     Some((Reply::Refused(Refusal::BadMessage { why }), rest))
 }
 
-/// A refusal that its number tells, or a bad message.
+/// A refusal that is written as its number alone, or a bad message.
 pub fn parse_refused(text: &str) -> Option<(Reply, &str)>
     ensures { IfSome result (λ p. TellsReply p.0 text.now p.1.now) }
 {

@@ -74,7 +74,7 @@ fn message(value: &Value) -> Option<Refusal>
     Some(Refusal::BadMessage { why })
 }
 
-/// The refusals that their numbers alone tell.
+/// The refusals that are written as their numbers alone.
 const PLAIN: [Refusal; 20] = [
     Refusal::UnknownAccount,
     Refusal::BadAmount,
@@ -110,7 +110,7 @@ fn find_refusal(number: u8, refusals: &[Refusal]) -> Option<Refusal>
     None
 }
 
-/// The refusal that its number alone tells.
+/// The refusal that is written as this number alone.
 pub fn plain_refusal(number: u8) -> Option<Refusal>
     ensures { result ≡ find_refusal number plain_refusals }
 {
@@ -126,7 +126,7 @@ fn plain(value: &Value, number: u8) -> Option<Refusal>
     plain_refusal(number)
 }
 
-/// The refusal of this number that an object tells.
+/// The refusal of this number that an object is read as.
 pub fn refusal(value: &Value, number: u8) -> Option<Refusal>
     ensures { result ≡ refusal_told (view value.now) number }
 {

@@ -95,7 +95,7 @@ fn made(value: &Value) -> Option<Reply>
     Some(Reply::Made { name, kind })
 }
 
-/// A reply that tells no refusal.
+/// A reply that is no refusal.
 fn answer(alloc: Global, value: &Value) -> Result<Reply, LineFault>
     ensures { Gives result (answer_of (view value.now)) }
 {

@@ -30,7 +30,7 @@ fn append_entry(
 /// Adds the line of an entry of a site's history, without a line feed. An `Err` means out of memory, and adds
 /// nothing.
 ///
-/// A place past the accounts is written "?". A line has no limit: one that tells a long statement may be longer
+/// A place past the accounts is written "?". A line has no limit: one with a long statement may be longer
 /// than what is read.
 pub fn append_line(
     out: &mut Vec<u8>,

@@ -31,7 +31,7 @@ fn append_transfer(
     append_number(out, "", amount, "]}")
 }
 
-/// A request, as a command tells it.
+/// A request, as it is written in a command.
 #[tactic(auto, unfolding(json::specs::Print::escape_byte))]
 fn append_request(out: &mut Vec<u8>, config: &Config, request: Request) -> Result<(), AllocError>
     ensures { Adds result out.old.items out.new.items (compact_text (request_json config.now request)) }

@@ -23,7 +23,7 @@ fn append_deps(out: &mut Vec<u8>, version: u8, deps: &Deps) -> Result<(), AllocE
     append_number(out, ",", deps.red as u64, "]")
 }
 
-/// The front of a shadow: its account, its amount and what its home had applied.
+/// The first part of a shadow: its account, its amount in cents and what its home had applied.
 fn append_front(out: &mut Vec<u8>, config: &Config, shadow: &Shadow) -> Result<(), AllocError>
     ensures { Adds result out.old.items out.new.items (codes "{\"shadow\":{\"account\":"
         ++ (compact_text (account_json config.now shadow.now.account) ++ (codes ",\"amount\":"

@@ -47,7 +47,7 @@ pub fn order_line(alloc: Global, order: &[u8]) -> Result<Vec<u8>, AllocError>
     Ok(line)
 }
 
-/// The line that tells the number, from 1, of each site's next entry, where none of them can be taken.
+/// The line that reports the number, from 1, of each site's next entry, where none of them can be taken.
 /// With its line feed. `Err` means out of memory.
 pub fn stuck_line(alloc: Global, next: &[u32]) -> Result<Vec<u8>, AllocError>
     ensures { IfOk result (λ line. line.items ≡ verdict_line (stuck_json next.now)) }
@@ -58,7 +58,7 @@ pub fn stuck_line(alloc: Global, next: &[u32]) -> Result<Vec<u8>, AllocError>
     Ok(line)
 }
 
-/// The line that tells the first wrong reply, by its site, from 0, and the entry's number, from 1. With
+/// The line that reports the first wrong reply, by its site, from 0, and the entry's number, from 1. With
 /// its line feed. `Err` means out of memory.
 pub fn wrong_reply_line(alloc: Global, site: u8, event: u32) -> Result<Vec<u8>, AllocError>
     ensures { IfOk result (λ line. line.items ≡ verdict_line (wrong_reply_json site event)) }

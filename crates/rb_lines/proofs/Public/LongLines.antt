@@ -57,7 +57,7 @@ has_first : (ls : List (List ℕ)) → 0 < first_len ls → (l : List ℕ) × (m
 has_first [] h = absurd (omega arith)
 has_first (l ∷ ls) h = (l, ls, refl, refl)
 
--- where more than so many bytes have no line feed, the first line has more than so many
+-- where more than n bytes have no line feed, the first line has more than n
 pub long_line : (p tail : List ℕ) (n : ℕ) → n < line_len p
     → (l : List ℕ) × (more : List (List ℕ)) × (lines_of (p ++ tail) ≡ l ∷ more) × (n < length l)
 long_line p tail n h =

@@ -12,7 +12,7 @@ pub front_more : (text front rest rest' : List ℕ) (n : ℕ) → text ≡ front
 front_more text front rest rest' n e e' = e ∙ ap (λ l. front ++ l) (sym (take-append-drop n rest))
     ∙ sym (append_assoc front (take n rest) (drop n rest)) ∙ ap (λ l. (front ++ take n rest) ++ l) (sym e')
 
--- what is owed still goes out in two parts
+-- what is still buffered goes out in two parts
 pub Sends-then : (a b c : Option (List ℕ)) (owed still left : List ℕ) → Sends a b owed still → Sends b c still left → Sends a c owed left
 Sends-then a b c owed still left p q =
     (p.0 ++ q.0, Appends-trans a b c p.0 q.0 p.1 q.1, p.2 ∙ ap (λ l. p.0 ++ l) q.2 ∙ sym (append_assoc p.0 q.0 left))
@@ -21,7 +21,7 @@ Sends-then a b c owed still left p q =
 pub Sends-all : (a b : Option (List ℕ)) (owed still : List ℕ) → Appends a b owed → still ≡ [] → Sends a b owed still
 Sends-all a b owed still p e = (owed, p, sym (append-nil owed) ∙ ap (λ l. owed ++ l) (sym e))
 
--- a front of the rest went out
+-- a prefix of the rest went out
 pub Sends-front : (a b c : Option (List ℕ)) (owed still : List ℕ) → Sends a b owed still → AppendsFront b c still → AppendsFront a c owed
 Sends-front a b c owed still p q =
     (p.0 ++ q.0, (q.1.0, p.2 ∙ ap (λ l. p.0 ++ l) q.1.1 ∙ sym (append_assoc p.0 q.0 q.1.0)), Appends-trans a b c p.0 q.0 p.1 q.2)

@@ -31,7 +31,7 @@ after_read all done p p' r r' e e' w (more, at_end, taken) was = record {
       ∙ ap (λ x. done ++ whole_lines x) (sym (append_assoc p more tail) ∙ ap (λ x. x ++ tail) (sym at_end));
 }
 
--- the line that stands at the front is taken
+-- the line at the front is taken
 pub after_line : (all : List ℕ) (done : List (List ℕ)) (p r : List ℕ) (e : Bool) (n : ℕ) → Walks all done p r e → n ≡ line_len p
     → n ≤ length p
     → (n < length p) ⊎ ((n ≡ length p) × (0 < n) × (e ≡ true)) → (e ≡ true → r ≡ [])
@@ -62,7 +62,7 @@ after_line all done p r e n w len fits (inr (whole, some, ended)) end =
 pub at_end : (all : List ℕ) (done : List (List ℕ)) (p r : List ℕ) (e : Bool) → Walks all done p r e → p ≡ [] → r ≡ [] → lines_of all ≡ done
 at_end all done p r e w none end = w.lines ∙ ap (λ x. done ++ lines_of (x ++ r)) none ∙ ap (λ x. done ++ lines_of x) end ∙ append-nil done
 
--- a whole line that stands at the front is the next
+-- a whole line at the front is the next
 pub standing : (p r : List ℕ) (e : Bool) (n : ℕ) → n ≡ line_len p → n ≤ length p → (n < length p) ⊎ ((n ≡ length p) × (0 < n) × (e ≡ true))
     → (e ≡ true → r ≡ [])
     → (more : List (List ℕ)) × (lines_of (p ++ r) ≡ take n p ∷ more)
