@@ -16,7 +16,7 @@ module _ (file : List ℕ) where
   abbrev text : List ℕ
   text = concat (recovered file)
 
-  -- the lines, and then what stands for nothing
+  -- the lines, and then what is read as nothing
   behind_nothing : (rest : List ℕ) → recovered rest ≡ [] → recovered (text ++ rest) ≡ lines
   behind_nothing rest none = recovered-append file rest ∙ ap (λ (ls : List (List ℕ)). lines ++ ls) none ∙ append-nil lines
 
@@ -26,7 +26,7 @@ module _ (file : List ℕ) where
   pub length-at_rest : length (at_rest lines) ≡ length text + 1
   length-at_rest = omega (arith, length-append text (32 ∷ []))
 
-  -- while the gate is closed, the file stands for the lines
+  -- while the gate is closed, the file is read as the lines
   pub shut_is : (c : List ℕ) → take (length text + 1) c ≡ at_rest lines → recovered c ≡ lines
   shut_is c shut =
       let whole : c ≡ text ++ 32 ∷ drop (length text + 1) c =
@@ -76,7 +76,7 @@ module _ (file : List ℕ) where
       | inr shut ↦ inl (behind_nothing (gate ∷ (tail ++ 32 ∷ [])) (closed gate (tail ++ 32 ∷ []) shut))
     ]
 
-    -- the batch stands whole in each outcome of the write that opens the gate
+    -- each outcome of the write that opens the gate has the whole batch or none of it
     pub torn_gate : (c : List ℕ) → Torn (length text) 1 staged c → (recovered c ≡ lines) ⊎ (recovered c ≡ lines ++ recovered batch)
     torn_gate c torn =
         let gate = get_or c (length text) 0 in

@@ -16,7 +16,7 @@ pub data HostCall : Type 0 where
   wrote : (ok : Bool) (at : ℕ) (bytes : List ℕ) → HostCall
   cut : (ok : Bool) (len : ℕ) → HostCall
   synced : (ok : Bool) → HostCall
-  -- of these bytes so many were put out, from the first on
+  -- the first `count` of these bytes were put out
   output : (count : ℕ) (bytes : List ℕ) → HostCall
   -- these bytes were to be put out, and the call failed and put out none
   output_failed : (bytes : List ℕ) → HostCall

@@ -14,7 +14,7 @@ pub enum HostError {
     DiskFailed,
     /// The output failed.
     OutputFailed,
-    /// The file has no room below 2^60 bytes.
+    /// The file would have 2^60 bytes or more.
     Full,
 }
 

@@ -33,7 +33,7 @@ append_step b xs ys (line ∷ lines) is all so_far =
     let whole : concat (lines_in xs) ≡ xs = ap concat is ∙ rest in
     ap (λ (ls : List (List ℕ)). joined b ls) (so_far whole ∙ ap (λ (ls : List (List ℕ)). ls ++ lines_in ys) is)
 
--- whole lines, and then the lines of what stands behind them
+-- whole lines, and then the lines of what is behind them
 pub whole-append : (xs ys : List ℕ) → concat (lines_in xs) ≡ xs → lines_in (xs ++ ys) ≡ lines_in xs ++ lines_in ys
 whole-append [] ys all = refl
 whole-append (b ∷ xs) ys all = elim (cases_eq b 10) [
@@ -86,7 +86,7 @@ open_append (line ∷ lines) rest each =
     ∙ open-true line (lines_in (concat lines ++ rest)) each.1
     ∙ ap (λ (ls : List (List ℕ)). line ∷ ls) (open_append lines rest each.2)
 
--- what stands behind the lines of a file is read after them
+-- what is behind the lines of a file is read after them
 pub recovered-append : (file rest : List ℕ) → recovered (concat (recovered file) ++ rest) ≡ recovered file ++ recovered rest
 recovered-append file rest = open_append (recovered file) rest (each_open (lines_in file) (each_whole file))
 
@@ -117,7 +117,7 @@ open_front (line ∷ lines) = elim (cases_Bool (is_open line)) [
   | inr is ↦ (concat (line ∷ lines), ap (λ (ls : List (List ℕ)). concat ls ++ concat (line ∷ lines)) (sym (open-false line lines is)))
 ]
 
--- a file is its lines, and an end that stands for nothing
+-- a file is its lines, and an end that is read as nothing
 pub record Parts (file : List ℕ) : Type 0 where
   pub end : List ℕ
   pub split : file ≡ concat (recovered file) ++ end
@@ -134,7 +134,7 @@ parts file =
     append-nil (recovered file) ∙ ap recovered split ∙ recovered-append file end in
     record { end = end; split = split; nothing = sym (append_cancel_left (recovered file) [] (recovered end) twice) }
 
--- the first line of the front of bytes is the first of all, if there is one
+-- the first line of a prefix of bytes is the first of all, if there is one
 abbrev SameFirst : List (List ℕ) → List (List ℕ) → Type 0
 SameFirst [] all = Unit {0}
 SameFirst (line ∷ lines) [] = ⊥
@@ -168,7 +168,7 @@ none_open (line ∷ lines) (other ∷ others) same none = elim (cases_Bool (is_o
   | inr is ↦ open-false line lines (ap is_open same ∙ is)
 ]
 
--- nor does the front of such an end stand for anything
+-- nor is a prefix of such an end read as anything
 pub front_nothing : (n : ℕ) (end : List ℕ) → recovered end ≡ [] → recovered (take n end) ≡ []
 front_nothing n end none = none_open (lines_in (take n end)) (lines_in end) (same_first n end) none
 
@@ -176,7 +176,7 @@ closed_joined : (b : ℕ) (lines : List (List ℕ)) → (b ≡ 123 → ⊥) → 
 closed_joined b [] shut = refl
 closed_joined b (line ∷ lines) shut = open-false (b ∷ line) lines (ne_eqb b 123 shut)
 
--- a line that doesn't begin with `{` ends them, whatever stands behind it
+-- a line that doesn't begin with `{` ends them, whatever is behind it
 pub closed : (b : ℕ) (bytes : List ℕ) → (b ≡ 123 → ⊥) → recovered (b ∷ bytes) ≡ []
 closed b bytes shut = elim (cases_eq b 10) [
   | inl is ↦ ap (λ (ls : List (List ℕ)). take_while is_open ls) (whole-lf b bytes is) ∙ open-false (10 ∷ []) (lines_in bytes) refl
