@@ -1,4 +1,4 @@
--- Where an audit stands between two lines, for a source whose bytes are known.
+-- The state of an audit between two lines, for a source whose bytes are known.
 use Rattle.std.proofs.Common.{◌≡◌, ◌<◌, ◌≤◌, ◌+◌, ◌⊎◌, ℕ, Bool, true, false, List, [], ◌∷◌, ◌++◌, length, take, drop, Option, Some, None}
 use Rattle.std.proofs.Common.{Ok, Err, refl, sym, ap, ◌∙◌, rules, subst, append-nil, append_assoc}
 use Rattle.std.specs.Prelude.{IfSome}

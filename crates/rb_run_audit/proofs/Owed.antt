@@ -1,4 +1,4 @@
--- Where nothing is owed, nothing is sent.
+-- Where nothing is buffered, nothing goes out.
 use Rattle.std.proofs.Common.{◌≡◌, ℕ, List, [], ◌∷◌, ◌++◌, Option, refl, sym, subst, ◌∙◌}
 use Rattle.std.specs.Io.KnownBytes.{Appends}
 use Rattle.std.proofs.KnownBytes.{Appends-trans}
@@ -9,7 +9,7 @@ both_none [] [] e = (refl, refl)
 both_none [] (y ∷ b) e = absurd (cc e)
 both_none (x ∷ a) b e = absurd (cc e)
 
--- where nothing was owed, nothing went out, and nothing is owed
+-- where nothing was buffered, nothing went out, and nothing is buffered
 pub nothing_sent : (w0 w w' : Option (List ℕ)) (owed still : List ℕ) → Appends w0 w [] → owed ≡ [] → Sends w w' owed still
     → Appends w0 w' [] × (still ≡ [])
 nothing_sent w0 w w' owed still before none sent =

@@ -41,7 +41,7 @@ part_told None b c s found line front u is whole conf tells = tt
 part_told (Some all) b c s found line front u is whole conf tells =
     (input_at s c, found, line, whole_input all b c s u whole conf, tells, is)
 
--- all lines were taken, and a front of the line of the verdict was written
+-- all lines were taken, and a prefix of the line of the verdict was written
 pub untold : (w0 w w' a b : Option (List ℕ)) (c : Collected) (s : Settings) (found : Bool) (line : List ℕ) (u : Unit {0}) → Appends w0 w []
     → AppendsFront w w' line → IfSome a (λ input. CollectsAs (Ok u) c input b) → c.config ≡ Some s → TellsVerdict found (input_at s c) line
     → (text : List ℕ) × Appends w0 w' text × IfSome a (λ input. AuditEndsAs (Err Write) input b text)

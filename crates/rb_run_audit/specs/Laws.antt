@@ -24,7 +24,7 @@ abbrev pub with_entries : List (ℕ × Entry) → List (List Entry) → List (Li
 with_entries [] hs = hs
 with_entries (x ∷ xs) hs = with_entries xs (with_entry x.0 x.1 hs)
 
--- the histories that these entries make, of so many sites
+-- the histories that these entries make, in a world of this number of sites
 abbrev pub by_site : ℕ → List (ℕ × Entry) → List (List Entry)
 by_site sites xs = with_entries xs (replicate sites [])
 

@@ -9,7 +9,7 @@ use rb_money::Config;
 use rb_site::History;
 use std::alloc::{AllocError, Global};
 
-/// The line that tells what an audit found, and whether it has an order. `Err` means out of memory.
+/// The line that reports what an audit found, and whether the histories have an order. `Err` means out of memory.
 pub fn answer(
     alloc: Global,
     config: &Config,

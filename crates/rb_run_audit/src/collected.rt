@@ -51,7 +51,7 @@ fn entry_of(alloc: Global, config: &Config, line: &[u8]) -> Result<(u8, Entry), 
     read_line(alloc, config, text)
 }
 
-/// Histories without entries, so many.
+/// As many histories without entries as there are sites. `Err` means out of memory.
 fn none_recorded(alloc: Global, sites: u8) -> Result<Vec<History>, AllocError>
     ensures { IfOk result (λ histories. lists_of histories.items ≡ replicate sites []) }
 {

@@ -11,7 +11,7 @@ use crate::collected::Collected;
 use rb_lines::{Buffers, NoLine, ScriptFault, Sink, Source, StreamFault, write_all};
 use std::alloc::Global;
 
-/// Takes each line of the reader's bytes. Nothing is owed, so nothing is written.
+/// Takes each line of the reader's bytes. Nothing is buffered for the writer, so nothing is written.
 fn collect<S: Source, W: Sink>(
     alloc: Global,
     reader: &mut S,
@@ -50,11 +50,11 @@ fn collect<S: Source, W: Sink>(
     }
 }
 
-/// Audits the histories that the reader's bytes tell, answers one line, and says whether it has an order.
+/// Audits the histories in the reader's bytes, answers one line, and says whether they have an order.
 ///
 /// The first line that isn't to be skipped is the configuration, and each later one an entry of a site's history; those
-/// of a site stand in their order. The whole input is read before anything is answered. After a fault nothing was
-/// written, but for `Write`: then a front of the line.
+/// of a site come in their order. The whole input is read before anything is answered. After a fault nothing was
+/// written, but for `Write`: then a prefix of the line.
 pub fn run_audit<S: Source, W: Sink>(
     alloc: Global,
     reader: &mut S,
@@ -62,12 +62,12 @@ pub fn run_audit<S: Source, W: Sink>(
 ) -> Result<bool, ScriptFault>
     requires unread { S.calls reader.old ≡ 0 }
     requires fresh { W.failed writer.old ≡ false }
-    // What is written is what the audit of all histories of the input tells.
+    // What is written is what the audit of all histories of the input finds.
     ensures written { (text : List ℕ) × Appends (W.contents writer.old) (W.contents writer.new) text
         × IfSome (S.remaining reader.old) (λ input. AuditEndsAs result input (S.remaining reader.new) text) }
     ensures read { result ≡ Err Read → (S.failed reader.new ≡ true) ⊎ (S.calls reader.new ≡ MOST_READS) }
     ensures write { (result ≡ Err Write) ↔ (W.failed writer.new ≡ true) }
-    // At most so many reads are made, whatever is answered.
+    // There are up to `MOST_READS` reads, whatever is answered.
     ensures calls { S.calls reader.new ≤ S.calls reader.old + MOST_READS }
 {
     let mut collected = Collected::new(alloc);

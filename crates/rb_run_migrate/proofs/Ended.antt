@@ -8,7 +8,7 @@ use Rattle.rb_history.specs.ConfigLines.{config_json}
 use Rattle.rb_history.specs.Entries.{entry_json}
 use Rattle.rb_run_migrate.specs.Migration.{migrated_config_line, migrated_entry_line}
 
--- a front of what begins with a list is one of the list
+-- a prefix of what begins with a list is one of the list
 pub cut_back : (old new after : List ℕ) (before : ℕ) → before ≤ length old → take (length old) new ≡ old → after ≡ take before new
     → after ≡ take before old
 cut_back old new after before within begins is =

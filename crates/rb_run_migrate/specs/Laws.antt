@@ -25,7 +25,7 @@ MigratedEntriesAreRead = (first : List ℕ) (s : Settings) → config_at first �
     → entry_of_line s line ≡ Some (site, x)
     → entry_of_line (in_version_2 s) (compact_text (entry_json (in_version_2 s) site x)) ≡ Some (site, x)
 
--- a site answers a list of events in version 2 as before, and stands afterwards as before: replays are equal
+-- a site answers a list of events in version 2 as before, and has the same state afterwards: replays are equal
 pub record ReplaysAreEqual (s : Settings) (t : ModelSite) (es : List Event) : Type 0 where
   pub site : after_events (in_version_2 s) t es ≡ after_events s t es
   pub replies : replies_to_events (in_version_2 s) t es ≡ replies_to_events s t es

@@ -1,4 +1,4 @@
--- Where a migration stands between two lines.
+-- The state of a migration between two lines.
 use Rattle.std.specs.Prelude.{ℕ, List, Option, Some, None, refl}
 use Rattle.rb_lines.proofs.Public.Chosen.{first_chosen}
 use Rattle.rb_lines.specs.Lines.{is_long}
@@ -20,7 +20,7 @@ migration_rest_from (Some s) n ls = entries_from s n ls
 abbrev pub migration_rest : Session → List (List ℕ) → LinesOutcome
 migration_rest s ls = migration_rest_from s.versions s.number ls
 
--- where a run with the session stands
+-- the state of a run with the session
 abbrev pub migration_stand : Session → Stand
 migration_stand s = record { rest = migration_rest s; number = s.number; count = s.count }
 

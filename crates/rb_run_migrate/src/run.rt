@@ -14,7 +14,7 @@ use std::alloc::Global;
 ///
 /// The first line that isn't to be skipped is the configuration, and each later one an entry of a site's history, both
 /// of either version. The lines of one read go out before the next read, in one write where they fit. What was written
-/// before a fault goes out before the fault is told; where that write fails, the fault is `Write`.
+/// before a fault goes out before the fault is reported; where that write fails, the fault is `Write`.
 pub fn run_migrate<S: Source, W: Sink>(
     alloc: Global,
     reader: &mut S,
@@ -27,7 +27,7 @@ pub fn run_migrate<S: Source, W: Sink>(
         × IfSome (S.remaining reader.old) (λ input. MigrationEndsAs result input (S.remaining reader.new) text) }
     ensures read { result ≡ Err Read → (S.failed reader.new ≡ true) ⊎ (S.calls reader.new ≡ MOST_READS) }
     ensures write { (result ≡ Err Write) ↔ (W.failed writer.new ≡ true) }
-    // At most so many reads are made, whatever is answered.
+    // There are up to `MOST_READS` reads, whatever is answered.
     ensures calls { S.calls reader.new ≤ S.calls reader.old + MOST_READS }
 {
     let mut session = Session::new();

@@ -13,8 +13,8 @@ use rb_history::read_line;
 use rb_lines::{Responder, StreamFault, is_blank, text_on};
 use std::alloc::Global;
 
-/// Where a migration stands: the configuration once there is one, the number of the next line, and the lines written so
-/// far.
+/// The state of a migration: the configuration once there is one, the number of the next line, from 1, and the lines
+/// written so far.
 #[derive(Drop)]
 pub struct Session {
     pub versions: Option<Versions>,
@@ -22,7 +22,7 @@ pub struct Session {
     pub count: u64,
 }
 
-/// The configuration on a line, which is owed in version 2. After an `Err` nothing more is owed.
+/// The configuration on a line, which is buffered in version 2. An `Err` buffers nothing.
 #[tactic(auto, unfolding(rb_commands::specs::Configurations::config_on))]
 fn open(alloc: Global, line: &[u8], owed: &mut Vec<u8>) -> Result<Versions, LineFault>
     ensures opened { MatchResult result
@@ -43,7 +43,7 @@ fn open(alloc: Global, line: &[u8], owed: &mut Vec<u8>) -> Result<Versions, Line
     }
 }
 
-/// Owes the entry on a line in version 2. After an `Err` nothing more is owed.
+/// Buffers the entry on a line in version 2. An `Err` buffers nothing.
 #[tactic(auto, unfolding(rb_history::specs::Entries::entry_on))]
 fn answer_entry(
     alloc: Global,

@@ -27,8 +27,8 @@ impl Model for Versions {
     ghost invariant = { λ v. v.written ≡ in_version_2 v.read };
 }
 
-/// Adds a line feed, once more of a line stands at the end of these first bytes. An `Err` means out of memory, and
-/// takes that away.
+/// Adds a line feed, where the bytes after the first `before` are a line. An `Err` means out of memory, and takes the
+/// line away.
 #[tactic(auto, using(crate::proofs::Ended::cut_back))]
 fn end_line(out: &mut Vec<u8>, before: usize) -> Result<(), AllocError>
     requires { before ≤ length out.old.items }

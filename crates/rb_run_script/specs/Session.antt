@@ -1,4 +1,4 @@
--- Where a script stands between two lines, and what one line does.
+-- The state of a script between two lines, and what one line does.
 use Rattle.std.specs.Prelude.{◌≡◌, ℕ, List, ◌++◌, Option, Some, None, refl}
 use Rattle.std.proofs.Common.{ap}
 use Rattle.rb_lines.proofs.Public.Chosen.{first_chosen}
@@ -23,7 +23,7 @@ session_rest_from (Some w) n ls = script_outcome w (commands_from w.settings n l
 abbrev pub session_rest : Session → List (List ℕ) → LinesOutcome
 session_rest s ls = session_rest_from s.world s.number ls
 
--- where a run with the session stands
+-- the state of a run with the session
 abbrev pub session_stand : Session → Stand
 session_stand s = record { rest = session_rest s; number = s.number; count = s.count }
 
@@ -39,7 +39,7 @@ session_is_stand s = of s.world s.number s.count
       unfinished = tt;
     }
 
--- the line is a command, the world took it, and the line of its reply is owed
+-- the line is a command, the world took it, and the line of its reply is buffered
 pub record AnswersCommand (old new : SeenWorld) (l owed owed' : List ℕ) : Type 0 where
   pub command : WorldEvent
   pub is_command : command_on old.settings l ≡ Some command

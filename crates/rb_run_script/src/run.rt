@@ -13,7 +13,7 @@ use std::alloc::Global;
 ///
 /// The first line that isn't to be skipped is the configuration, and each later one a command. The replies to the whole
 /// lines of one read go out before the next read, in one write where they fit. What was answered before a fault goes
-/// out before the fault is told; where that write fails, the fault is `Write`.
+/// out before the fault is reported; where that write fails, the fault is `Write`.
 pub fn run_script<S: Source, W: Sink>(
     alloc: Global,
     reader: &mut S,
@@ -26,7 +26,7 @@ pub fn run_script<S: Source, W: Sink>(
         × IfSome (S.remaining reader.old) (λ input. ScriptEndsAs result input (S.remaining reader.new) text) }
     ensures read { result ≡ Err Read → (S.failed reader.new ≡ true) ⊎ (S.calls reader.new ≡ MOST_READS) }
     ensures write { (result ≡ Err Write) ↔ (W.failed writer.new ≡ true) }
-    // At most so many reads are made, whatever is answered.
+    // There are up to `MOST_READS` reads, whatever is answered.
     ensures calls { S.calls reader.new ≤ S.calls reader.old + MOST_READS }
 {
     let mut session = Session::new();

@@ -12,7 +12,8 @@ use rb_lines::{Responder, StreamFault, is_blank, text_on};
 use rb_world::LeanWorld;
 use std::alloc::Global;
 
-/// Where a script stands: the world once there is a configuration, the number of the next line, and the replies so far.
+/// The state of a script: the world once there is a configuration, the number of the next line, from 1, and the number
+/// of replies so far.
 pub struct Session {
     pub world: Option<LeanWorld>,
     pub number: u64,
@@ -36,7 +37,7 @@ fn open_world(alloc: Global, line: &[u8]) -> Result<LeanWorld, LineFault>
     }
 }
 
-/// Gives the world the command on a line, and owes its reply. After an `Err` nothing more is owed, and the script ends.
+/// Gives the world the command on a line, and buffers its reply. An `Err` buffers nothing, and ends the script.
 #[inline(always)]
 #[tactic(auto, unfolding(crate::specs::Script::command_on))]
 fn answer_command(
@@ -75,7 +76,7 @@ impl Session {
         }
     }
 
-    /// The script goes on with this world. One that stood there is ended.
+    /// The script goes on with this world. The one before it is ended.
     fn start(&mut self, world: LeanWorld)
         ensures { self.new ≡ record self.old { world = Some world } }
     {

@@ -27,7 +27,7 @@ entry_rest s site h i x below is =
     ∙ ap (λ t. t ++ history_text s site (drop (i + 1) h)) (entry_more s site h i x below is)
     ∙ append_assoc (history_text s site (take i h)) (entry_line s site x) (history_text s site (drop (i + 1) h))
 
--- one entry's line more went out or is owed
+-- one entry's line more went out or is buffered
 pub history_goes_on : (w0 w w' : Option (List ℕ)) (s : Settings) (site : ℕ) (h : List Entry) (i : ℕ) (x : Entry) (owed now still : List ℕ)
     → i < length h → x ≡ get_or h i x → Sends w0 w (owed ++ history_text s site (take i h)) now
     → Sends w w' (now ++ entry_line s site x) still → Sends w0 w' (owed ++ history_text s site (take (i + 1) h)) still
@@ -35,7 +35,7 @@ history_goes_on w0 w w' s site h i x owed now still below is before more =
     subst (λ t. Sends w0 w' (owed ++ t) still) (sym (entry_more s site h i x below is))
     (sends_more w0 w w' owed (history_text s site (take i h)) now (entry_line s site x) still before more)
 
--- a write failed at an entry: a front of the history's lines went out
+-- a write failed at an entry: a prefix of the history's lines went out
 pub history_stops : (w0 w w' : Option (List ℕ)) (s : Settings) (site : ℕ) (h : List Entry) (i : ℕ) (x : Entry) (owed now : List ℕ)
     → i < length h → x ≡ get_or h i x → Sends w0 w (owed ++ history_text s site (take i h)) now
     → AppendsFront w w' (now ++ entry_line s site x) → AppendsFront w0 w' (owed ++ history_text s site h)
@@ -57,7 +57,7 @@ histories_append s n (g ∷ gs) hs =
     ∙ ap (λ k. histories_text s (n + 1) gs ++ histories_text s k hs) (omega arith))
     ∙ sym (append_assoc (history_text s n g) (histories_text s (n + 1) gs) (histories_text s (n + length (g ∷ gs)) hs))
 
--- so many come before
+-- the number of histories before
 before_are : (rs : List SiteReport) (i : ℕ) → i < length rs → 0 + length (map history_of (take i rs)) ≡ i
 before_are rs i below = zero-add _ ∙ length-map (take i rs) history_of ∙ length-take-le i rs (omega arith)
 
@@ -84,7 +84,7 @@ report_rest s rs i r below is =
     ∙ ap (λ t. t ++ after s rs i) (report_more s rs i r below is)
     ∙ append_assoc (histories_text s 0 (map history_of (take i rs))) (history_text s i (history_of r)) (after s rs i)
 
--- one history more went out or is owed
+-- one history more went out or is buffered
 pub histories_go_on : (w0 w w' : Option (List ℕ)) (s : Settings) (rs : List SiteReport) (i : ℕ) (r : SiteReport) (owed now still : List ℕ)
     → i < length rs → r ≡ get_or rs i r → Sends w0 w (owed ++ histories_text s 0 (map history_of (take i rs))) now
     → Sends w w' (now ++ history_text s i (history_of r)) still
@@ -93,7 +93,7 @@ histories_go_on w0 w w' s rs i r owed now still below is before more =
     subst (λ t. Sends w0 w' (owed ++ t) still) (sym (report_more s rs i r below is))
     (sends_more w0 w w' owed (histories_text s 0 (map history_of (take i rs))) now (history_text s i (history_of r)) still before more)
 
--- a write failed at a history: a front of all histories' lines went out
+-- a write failed at a history: a prefix of all histories' lines went out
 pub histories_stop : (w0 w w' : Option (List ℕ)) (s : Settings) (rs : List SiteReport) (i : ℕ) (r : SiteReport) (owed now : List ℕ)
     → i < length rs → r ≡ get_or rs i r → Sends w0 w (owed ++ histories_text s 0 (map history_of (take i rs))) now
     → AppendsFront w w' (now ++ history_text s i (history_of r)) → AppendsFront w0 w' (owed ++ histories_text s 0 (map history_of rs))

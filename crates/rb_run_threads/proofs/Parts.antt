@@ -5,7 +5,7 @@ use Rattle.std.proofs.KnownBytes.{Appends-trans}
 use Rattle.rb_lines.specs.Buffers.{Sends}
 use Rattle.rb_lines.specs.Writes.{AppendsFront}
 
--- a line more went out or is owed
+-- a line more went out or is buffered
 pub sends_more : (w0 w w' : Option (List ℕ)) (owed text now line still : List ℕ) → Sends w0 w (owed ++ text) now
     → Sends w w' (now ++ line) still → Sends w0 w' (owed ++ (text ++ line)) still
 sends_more w0 w w' owed text now line still before more = (
@@ -15,7 +15,7 @@ sends_more w0 w w' owed text now line still before more = (
       ∙ sym (append_assoc before.0 more.0 still),
 )
 
--- a front of what is owed is one of all that was to be written
+-- a prefix of what is buffered is one of all that was to be written
 pub sends_front : (w0 w w' : Option (List ℕ)) (owed text now line rest : List ℕ) → Sends w0 w (owed ++ text) now
     → AppendsFront w w' (now ++ line) → AppendsFront w0 w' (owed ++ (text ++ (line ++ rest)))
 sends_front w0 w w' owed text now line rest before front = (
@@ -29,7 +29,7 @@ sends_front w0 w w' owed text now line rest before front = (
   Appends-trans w0 w w' before.0 front.0 before.1 front.2,
 )
 
--- what was owed went out
+-- what was buffered went out
 pub sends_all : (w0 w w' : Option (List ℕ)) (text now : List ℕ) → Sends w0 w text now → Appends w w' now → Sends w0 w' text []
 sends_all w0 w w' text now before all =
     (before.0 ++ now, Appends-trans w0 w w' before.0 now before.1 all, before.2 ∙ sym (append-nil (before.0 ++ now)))

@@ -58,7 +58,7 @@ pub whole_run : (w w' : Option (List ℕ)) (s : Settings) (sites tellers seed : 
 whole_run w w' s sites tellers seed hs is are sent =
     (sent.0, sent.1, subst (IsRun sites tellers seed) (sent.2 ∙ append-nil sent.0) (of_bank s sites tellers seed hs is are))
 
--- a front of the text of a run was written
+-- a prefix of the text of a run was written
 pub part_of_run : (w w' : Option (List ℕ)) (s : Settings) (sites tellers seed : ℕ) (hs : List (List Entry)) → s ≡ bank_of sites
     → AreTellers s tellers seed hs → AppendsFront w w' (text_of s hs)
     → (text : List ℕ) × Appends w w' text × BeginsRun sites tellers seed text

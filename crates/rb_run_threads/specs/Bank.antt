@@ -8,7 +8,7 @@ use Rattle.rb_money.specs.declared.limits.TheConstants.{MOST_BLUE, MOST_RED, MOS
 abbrev pub accounts : List Account
 accounts = (codes "a0", 1000) ∷ (codes "a1", 1000) ∷ (codes "a2", 1000) ∷ (codes "a3", 1000) ∷ []
 
--- so many sites, these accounts, and the largest limits
+-- a bank of this number of sites, with these accounts and the largest limits
 abbrev pub bank_of : ℕ → Settings
 bank_of sites =
     settings_of sites accounts (record { blue = MOST_BLUE; red = MOST_RED; inbox = MOST_INBOX; history = MOST_HISTORY; epoch = MOST_EPOCH })

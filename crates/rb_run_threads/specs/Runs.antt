@@ -10,7 +10,8 @@ use Rattle.rb_run_threads.specs.Texts.{text_of}
 use Rattle.rb_run_threads.specs.declared.fault.ThreadsFault.{ThreadsFault}
 use Rattle.rb_run_threads.specs.declared.fault.ThreadsFault.TheVariants.{OutOfMemory, Gather, Write}
 
--- histories of so many tellers, one for each site: it is its own replay, and but for what was received and applied it is what the site's
+-- the histories of a run with this number of tellers, one for each site: it is its own replay, and but for what was received and applied it
+-- is what the site's
 -- tellers did, interleaved
 pub record AreTellers (s : Settings) (tellers seed : ℕ) (hs : List (List Entry)) : Type 0 where
   pub each_site : length hs ≡ s.sites
@@ -27,7 +28,7 @@ pub record IsRun (sites tellers seed : ℕ) (text : List ℕ) : Type 0 where
 abbrev pub BeginsRun : ℕ → ℕ → ℕ → List ℕ → Type 0
 BeginsRun sites tellers seed text = (whole : List ℕ) × IsRun sites tellers seed whole × IsFront text whole
 
--- the result of a run of so many tellers at so many sites, where the text was written
+-- the result of a run of tellers at sites, by the numbers of both, where the text was written
 abbrev pub ThreadsEndAs : Result Unit ThreadsFault → ℕ → ℕ → ℕ → List ℕ → Type 0
 ThreadsEndAs (Ok u) sites tellers seed text = IsRun sites tellers seed text
 ThreadsEndAs (Err Write) sites tellers seed text = BeginsRun sites tellers seed text

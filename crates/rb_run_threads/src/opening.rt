@@ -23,7 +23,7 @@ fn accounts(alloc: Global) -> Result<Vec<(String, u64)>, AllocError>
     Ok(accounts)
 }
 
-/// The configuration of so many sites. `Err` means out of memory.
+/// The configuration of a run of threads at this number of sites. `Err` means out of memory.
 pub fn bank(alloc: Global, sites: u8) -> Result<Config, AllocError>
     requires some { 2 ≤ sites }
     requires few { sites ≤ MOST_SITES }

@@ -13,7 +13,7 @@ use rb_money::Config;
 use rb_site::{Entry, SiteReport};
 use std::alloc::{AllocError, Global};
 
-/// Owes the line of a configuration.
+/// Buffers the line of a configuration.
 #[tactic(auto, unfolding(crate::specs::Texts::config_line))]
 fn owe_config(alloc: Global, owed: &mut Vec<u8>, config: &Config) -> Result<(), AllocError>
     ensures { OnOk result (owed.new.items ≡ owed.old.items ++ config_line config.now) }
@@ -24,7 +24,7 @@ fn owe_config(alloc: Global, owed: &mut Vec<u8>, config: &Config) -> Result<(), 
     Ok(())
 }
 
-/// Owes the line of an entry.
+/// Buffers the line of an entry.
 #[tactic(auto, unfolding(crate::specs::Texts::entry_line))]
 fn owe_entry(owed: &mut Vec<u8>, config: &Config, site: u8, entry: &Entry) -> Result<(), AllocError>
     ensures { OnOk result (owed.new.items ≡ owed.old.items ++ entry_line config.now site entry.now) }
@@ -34,7 +34,7 @@ fn owe_entry(owed: &mut Vec<u8>, config: &Config, site: u8, entry: &Entry) -> Re
     Ok(())
 }
 
-/// Writes the line of an entry, or owes it until there is more.
+/// Writes the line of an entry, or buffers it until there is more.
 fn write_entry<W: Sink>(
     writer: &mut W,
     owed: &mut Vec<u8>,
@@ -55,7 +55,7 @@ fn write_entry<W: Sink>(
     Ok(())
 }
 
-/// Writes the lines of a site's history, the last of which may still be owed.
+/// Writes the lines of a site's history, the last of which may still be buffered.
 fn write_history<W: Sink>(
     writer: &mut W,
     owed: &mut Vec<u8>,
@@ -74,7 +74,7 @@ fn write_history<W: Sink>(
     Ok(())
 }
 
-/// Writes the lines of the histories of sites, the first of which is site 0. The last may still be owed.
+/// Writes the lines of the histories of sites, the first of which is site 0. The last may still be buffered.
 fn write_histories<W: Sink>(
     writer: &mut W,
     owed: &mut Vec<u8>,
@@ -95,7 +95,7 @@ fn write_histories<W: Sink>(
     Ok(())
 }
 
-/// Writes the lines of a configuration and of its sites' histories. After an `Err` a front of them went out.
+/// Writes the lines of a configuration and of its sites' histories. After an `Err` a prefix of them went out.
 pub fn write_text<W: Sink>(
     alloc: Global,
     writer: &mut W,

@@ -1,4 +1,4 @@
--- So far the lines of the histories before went out or are owed.
+-- So far the lines of the histories before went out or are buffered.
 use Rattle.std.proofs.Common.{◌≡◌, ◌++◌, take, map, false}
 use Rattle.rb_lines.specs.Buffers.{Sends}
 use Rattle.rb_site.specs.declared.report.SiteReport.{SiteReport}

@@ -1,4 +1,4 @@
--- So far the lines of the entries before went out or are owed.
+-- So far the lines of the entries before went out or are buffered.
 use Rattle.std.proofs.Common.{◌≡◌, ◌++◌, take, false}
 use Rattle.rb_lines.specs.Buffers.{Sends}
 use Rattle.rb_run_threads.specs.Texts.{history_text}

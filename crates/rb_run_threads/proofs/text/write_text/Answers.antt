@@ -6,7 +6,7 @@ use Rattle.rb_run_threads.specs.declared.unwritten.Unwritten.TheVariants.{Write}
 use Rattle.rb_run_threads.proofs.text.write_text.Goals as goal
 use Rattle.rb_lines.proofs.Public.Sending.{Sends-front}
 
--- the configuration's line was owed first
+-- the configuration's line was buffered first
 begun : (w0 w : Option (List ℕ)) (owed line rest now none : List ℕ) → none ≡ [] → owed ≡ none ++ line → Sends w0 w (owed ++ rest) now
     → Sends w0 w (line ++ rest) now
 begun w0 w owed line rest now none empty is sent = subst (λ t. Sends w0 w (t ++ rest) now) (is ∙ ap (λ t. t ++ line) empty) sent
