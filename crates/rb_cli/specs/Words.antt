@@ -34,7 +34,7 @@ pub record AskForThreads (words : List (List ℕ)) (sites tellers seed : ℕ) : 
   pub seed_given : IsGiven words (codes "--seed") (decimal seed)
   pub seed_fits : seed < 2 ^ 32
 
--- the messages of so many last entries are written again where a third option says so, or of all entries where there are two options alone
+-- a third option says of how many last entries the messages are written again; without it they are those of all entries
 abbrev pub IsResend : List (List ℕ) → Option ℕ → Type 0
 IsResend words None = length words ≡ 5
 IsResend words (Some n) = (length words ≡ 7) × IsGiven words (codes "--resend") (decimal n) × (n ≤ MOST_HISTORY)

@@ -23,15 +23,15 @@ pub enum Words<'a> {
     Audit,
     /// To write the histories on standard input again, in the newest version of their lines.
     Migrate,
-    /// To run so many tellers, 1 to `MOST_TELLERS`, at so many sites, 2 to `MOST_SITES`. The first numbers of the
-    /// tellers begin at the seed.
+    /// To run 1 to `MOST_TELLERS` tellers at 2 to `MOST_SITES` sites. The first numbers of the tellers begin at the
+    /// seed.
     Threads {
         sites: u8,
         tellers: u8,
         seed: u32,
     },
-    /// To run this site, 0 to `MOST_SITES` - 1, whose history is kept in this file. The messages of so many of its last
-    /// entries, 0 to `MOST_HISTORY`, are written again first, or those of all entries.
+    /// To run this site, 0 to `MOST_SITES` - 1, whose history is kept in this file. The messages of its last
+    /// `resend` entries, 0 to `MOST_HISTORY`, are written again first, or those of all entries.
     Site {
         me: u8,
         journal: &'a str,
