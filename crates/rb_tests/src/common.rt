@@ -39,7 +39,7 @@ pub fn accounts_of(
     Ok(all)
 }
 
-/// A configuration of so many sites.
+/// A configuration of this number of sites.
 pub fn config_of(
     alloc: Global,
     sites: u8,

@@ -65,7 +65,7 @@ const RUNS: [Run; 2] = [
     ),
 ];
 
-/// The balances after so many operations, and at last, are these.
+/// The balances after each number of operations, and at last, are these.
 fn balances_are(rt: &impl Abort, ledger: &Ledger, wanted: &[Balances]) {
     for position in 0..ledger.len() + 1 {
         let balances = (

@@ -83,7 +83,7 @@ fn config_faults(rt: HostRuntime) -> Result<(), Fail> {
     Ok(())
 }
 
-/// So many accounts, with names that differ.
+/// This number of accounts, with names that differ.
 fn many_accounts(alloc: Global, count: usize) -> Result<Vec<(String, u64)>, Fail> {
     let mut accounts = Vec::new(alloc);
     for i in 0..count {
@@ -106,7 +106,7 @@ fn a_thousand_accounts(rt: HostRuntime) -> Result<(), Fail> {
     Ok(())
 }
 
-/// Numbers of sites, with the version that a configuration of so many has. Each can be had in version 2.
+/// Numbers of sites, each with the version that a configuration of it has. Each can be had in version 2.
 #[test]
 fn versions(rt: HostRuntime) -> Result<(), Fail> {
     for (sites, version) in [(2, 1), (8, 1), (9, 2), (16, 2)] {
@@ -164,7 +164,7 @@ fn memory_is_looked_at_last(rt: HostRuntime) {
     }
 }
 
-/// The basis points of the rate that is made of so many, and the interest.
+/// The basis points of the rate made of this number of them, and the interest in cents.
 fn interest_at(balance: u64, basis_points: u32) -> Result<(u32, Result<Cents, Refusal>), Refusal> {
     let rate = Rate::new(basis_points)?;
     Ok((rate.basis_points(), interest_of(Cents(balance), rate)))

@@ -85,7 +85,7 @@ fn is_after(alloc: Global, world: &World, events: &[WorldEvent]) -> Result<bool,
     Ok(same)
 }
 
-/// Whether these are a row's replies past so many of them.
+/// Whether these are a row's replies after the first `past`.
 fn answers_rest(
     alloc: Global,
     row: &Row,
@@ -155,7 +155,7 @@ fn runs_of_rows(rt: HostRuntime) -> Result<(), Fail> {
     Ok(())
 }
 
-/// A ledger and a log without operations, with room for so many.
+/// A ledger and a log without operations, with capacity for `count`.
 fn roomy(alloc: Global, config: &Config, count: usize) -> Result<(Ledger, UndoLog), AllocError>
     ensures { IfOk result (λ it. (it.0.entries ≡ []) × (it.1.parts ≡ [])) }
 {
@@ -215,7 +215,7 @@ fn look_back(
     }
 }
 
-/// Once there is room for them, operations are applied, rewound and undone without memory.
+/// Once there is capacity for them, operations are applied, rewound and undone without memory.
 #[test]
 fn reserved(rt: HostRuntime) -> Result<(), Fail> {
     let alloc = rt.alloc();

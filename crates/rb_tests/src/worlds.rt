@@ -16,7 +16,7 @@ use std::alloc::{AllocError, Global};
 use std::process::Abort;
 use std::test::Fail;
 
-/// The commands on the lines after the configuration's: past so many of them, at most so many.
+/// The commands on the lines after the configuration's: without the first `past`, and up to `most`.
 pub fn commands(
     alloc: Global,
     config: &Config,

@@ -89,14 +89,14 @@ pub fn gathered<G: Gate + Drop, W: Wait + Abort + Print, C: Case>(
     )
 }
 
-/// So many sites with one account, that starts with nothing.
+/// This number of sites with one account, that starts with nothing.
 pub fn some_sites(alloc: Global, sites: u8, limits: Limits) -> Result<Config, Fail> {
     let mut accounts = Vec::new(alloc);
     accounts.push((String::from_str(alloc, "ann")?, 0))?;
     Ok(Config::new(alloc, sites, accounts, limits)?)
 }
 
-/// A deposit of so many cents on the first account.
+/// A deposit of this number of cents on the first account.
 pub fn deposit(amount: u64) -> Request {
     Request::Deposit {
         account: Place(0),
@@ -104,7 +104,7 @@ pub fn deposit(amount: u64) -> Request {
     }
 }
 
-/// A deposit of so many cents at a seat's site. Its receipt's number.
+/// A deposit of this number of cents at a seat's site. Its receipt's number.
 pub fn deposited<E: Entries, R: Ledger, G: Gate + Drop, W: Wait>(
     rt: &W,
     branch: &Branch<E, R, G>,
@@ -157,7 +157,7 @@ pub fn comes<C: Clock>(clock: &C, flag: &AtomicBool) -> bool {
     comes_within(clock, flag, TURNS)
 }
 
-/// Waits for a flag for so many looks, and says whether it came.
+/// Looks at a flag up to `looks` times, a millisecond apart, and says whether it came.
 pub fn comes_within<C: Clock>(clock: &C, flag: &AtomicBool, looks: u32) -> bool {
     for _ in 0..looks {
         if flag.load(Ordering::SeqCst) {
