@@ -54,7 +54,7 @@ get_zero (suc n) (suc i) k h = get_zero n i k h
 pub same_item : {A : Type 0} (o : Option A) (x y : A) → o ≡ Some x → o ≡ Some y → x ≡ y
 same_item o x y p q = cc
 
--- the item after a front
+-- the item after a prefix
 pub get_after : {A : Type 0} (xs ys : List A) (x : A) → slice_get ((xs ++ x ∷ []) ++ ys) (length xs) ≡ Some x
 get_after [] ys x = refl
 get_after (z ∷ xs) ys x = get_after xs ys x
@@ -123,7 +123,7 @@ pub first_sites : (s : Settings) (a : ℕ) (hs : List (List Entry))
 first_sites s a [] = refl
 first_sites s a (h ∷ hs) = ap (λ ts. first_site a ∷ ts) (first_sites s (a + 1) hs)
 
--- ---- fronts
+-- ---- prefixes
 
 pub get_front : (hs : List (List Entry)) (ks : List ℕ) (i k : ℕ) (h : List Entry) → slice_get hs i ≡ Some h → slice_get ks i ≡ Some k
     → slice_get (fronts_of hs ks) i ≡ Some (take k h)
@@ -133,7 +133,7 @@ get_front (g ∷ hs) (n ∷ ks) zero k h p q =
     let e : g ≡ h = cc in let f : n ≡ k = cc in ap (λ m. Some (take m g)) f ∙ ap (λ x. Some (take k x)) e
 get_front (g ∷ hs) (n ∷ ks) (suc i) k h p q = get_front hs ks i k h p q
 
--- where a front comes from
+-- where a prefix comes from
 pub record IsFront (hs : List (List Entry)) (ks : List ℕ) (i : ℕ) (f : List Entry) : Type 0 where
   pub history : List Entry
   pub taken : ℕ
@@ -150,7 +150,7 @@ from_front (g ∷ hs) (n ∷ ks) (suc i) f p =
     let r : IsFront hs ks i f = from_front hs ks i f p in
     record { history = r.history; taken = r.taken; there = r.there; at = r.at; is = r.is }
 
--- fronts that are whole
+-- prefixes that are whole
 pub whole_fronts : (hs : List (List Entry)) (ks : List ℕ) → length ks ≡ length hs
     → ((i k : ℕ) (h : List Entry) → slice_get hs i ≡ Some h → slice_get ks i ≡ Some k → take k h ≡ h) → fronts_of hs ks ≡ hs
 whole_fronts [] ks n all = refl
@@ -158,7 +158,7 @@ whole_fronts (h ∷ hs) [] n all = absurd (omega arith)
 whole_fronts (h ∷ hs) (k ∷ ks) n all =
     ap (λ f. f ∷ fronts_of hs ks) (all 0 k h refl refl) ∙ ap (λ fs. h ∷ fs) (whole_fronts hs ks (omega arith) (λ i. all (suc i)))
 
--- the numbers after the fronts
+-- the numbers after the prefixes
 pub next_numbers : (hs : List (List Entry)) (ks : List ℕ) → length ks ≡ length hs
     → ((i k : ℕ) (h : List Entry) → slice_get hs i ≡ Some h → slice_get ks i ≡ Some k → k ≤ length h)
     → map (λ (k : ℕ). k + 1) ks ≡ map (λ (f : List Entry). length f + 1) (fronts_of hs ks)

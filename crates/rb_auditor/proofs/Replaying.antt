@@ -1,4 +1,4 @@
--- Histories that replay, and their fronts.
+-- Histories that replay, and their prefixes.
 use Rattle.std.proofs.Common.{◌≡◌, ℕ, zero, suc, Bool, IsTrue, MatchBool, ◌↔◌, cond, ◌+◌, ◌*◌, ◌<◌, ◌≤◌, true, false, List, [], ◌∷◌, ◌++◌}
 use Rattle.std.proofs.Common.{length, take, drop, get_or, refl, ap, sym, subst, ◌∙◌, arith, Some, length-append}
 use Rattle.std.specs.Prelude.{map, slice_get, nat_le}
@@ -90,7 +90,7 @@ replayed_at s i h k x r at =
       more = ap (site_after s i) sp.more ∙ after_more s (first_site i) (take k h) x;
     }
 
--- the histories of sites after fronts are the fronts
+-- the histories of sites after prefixes are the prefixes
 pub histories_after : (s : Settings) (a : ℕ) (hs : List (List Entry)) (ks : List ℕ) →
     ((i : ℕ) (h : List Entry) → slice_get hs i ≡ Some h → IsReplay s (a + i) h) →
     map (history_of s) (sites_after s a hs ks) ≡ fronts_of hs ks

@@ -95,7 +95,7 @@ none_holds site i seats next owners v all at not distinct k h =
       | inr g ↦ g.1 k within mine
     ]
 
--- ---- numbers of an interleaving stand once
+-- ---- numbers of an interleaving are there once
 
 get_set_now : {X : Type 0} (xs : List X) (i : ℕ) (x y : X) → slice_get xs i ≡ Some y → slice_get (set xs i x) i ≡ Some x
 get_set_now [] i x y at = cc

@@ -69,7 +69,7 @@ found n (q ∷ rs) r h e = by_test (number_of_refusal q == n) refl e (found n rs
         subst (λ x. IsPlain x × (number_of_refusal x ≡ n)) (Some_inj q r g) (h.0, same)
     by_test false f g later = later g
 
--- a refusal of this number, among those that their numbers tell
+-- a refusal of this number, among those that are written as their numbers alone
 pub plain_json : (n : ℕ) (r : Refusal) → find_refusal n plain_refusals ≡ Some r
     → refusal_json r ≡ one_json (codes "refused") (number_json n)
 plain_json n r e = let p = found n plain_refusals r are_plain e in p.0.0 ∙ ap (λ m. one_json (codes "refused") (number_json m)) p.1

@@ -10,7 +10,7 @@ pub Reads-then : (a b c : Option (List ℕ)) (old mid new : List ℕ) → Reads 
 Reads-then a b c old mid new p q =
     (p.0 ++ q.0, q.1 ∙ ap (λ l. l ++ q.0) p.1 ∙ append_assoc old p.0 q.0, Consumes-trans a b c p.0 q.0 p.2 q.2)
 
--- what joins the front of a list joins a part that ends with the front
+-- what joins the prefix of a list joins a part that ends with the prefix
 pub Reads-part : (a b : Option (List ℕ)) (xs ys : List ℕ) (start end n : ℕ) → start ≤ end → end ≤ length xs
     → Reads (take end xs) (take (end + n) ys) a b → Reads (slice_range xs start end) (slice_range ys start (end + n)) a b
 Reads-part a b xs ys start end n ordered within (more, joined, given) = (

@@ -149,7 +149,7 @@ rests Write h = absurd h
 rests Journal h = absurd h
 rests OutOfMemory h = absurd h
 
--- where a read has failed and the journal is at rest, it wasn't for want of memory
+-- where a read has failed and the journal is at rest, there was memory
 pub only_read : (fault : ServeFault) → IsReadFault {T = Unit {0}} (Err fault) → EndsAtRest {T = ℕ} (Err fault) → fault ≡ Read
 only_read (BadLine k) is h = absurd is
 only_read (LongLine k) is h = absurd is

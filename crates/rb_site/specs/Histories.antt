@@ -55,7 +55,7 @@ abbrev pub IsFrom : List Message → Event → Type 0
 IsFrom ms (Receive m) = IsAmong m ms
 IsFrom ms _ = Unit {0}
 
--- no site sends the message in the fronts of the histories
+-- no site sends the message in the prefixes of the histories
 abbrev pub IsUnsent : Settings → List (List Entry) → Message → Type 0
 IsUnsent s fronts m = (j : ℕ) (f : List Entry) → slice_get fronts j ≡ Some f → ¬ IsAmong m (sends_of s (first_site j) (events_of f))
 

@@ -130,8 +130,8 @@ impl Journal {
         }
     }
 
-    /// Applies a shadow that may follow the operations, and keeps the record to undo that. After want of
-    /// memory all is as before.
+    /// Applies a shadow that may follow the operations, and keeps the record to undo that. An `Err`
+    /// means out of memory, and all is as before.
     pub fn append(&mut self, shadow: Shadow) -> Result<(), AllocError>
         requires { IsValid self.old.settings (self.old.ops ++ shadow ∷ []) }
         ensures ok { OnOk result (self.new ≡ record self.old { ops = self.old.ops ++ shadow ∷ [] }) }

@@ -1,4 +1,4 @@
--- Numbers in digits, among them those of refusals that tell more.
+-- Numbers in digits, among them those that refusals hold.
 use Rattle.std.proofs.Common.{◌≡◌, ℤ, pos, negsuc, codes, decimal, refl}
 use Rattle.std.specs.Fmt.{digits, signed_decimal}
 use Rattle.serde_json.specs.Find.{of_integer}

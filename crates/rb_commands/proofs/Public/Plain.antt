@@ -1,4 +1,4 @@
--- Bytes that stand in a string as they are.
+-- Bytes that are written in a string as they are.
 use Rattle.std.proofs.Common.{◌≡◌, ◌<◌, ◌≤◌, ◌^◌, ℕ, suc, List, [], ◌∷◌, ◌++◌, length, get_or, decimal, codes, refl, sym, true, ◌∙◌}
 use Rattle.std.proofs.Common.{append_assoc, arith}
 use Rattle.std.specs.Prelude.{⊤, ◌&&◌, nat_le}
@@ -55,7 +55,7 @@ plain_name (Blue s n) h = plain-append ((codes "B" ++ decimal s) ++ codes ".") (
     )) (plain_decimal n (omega arith))
 plain_name (Red n) h = plain-append (codes "R") (decimal n) (refl, tt) (plain_decimal n (omega arith))
 
--- bytes that need no escape stand between the quotes as they are
+-- bytes that need no escape are written between the quotes as they are
 pub quoted_plain : (xs : List ℕ) → ArePlain xs → quoted xs ≡ 34 ∷ (xs ++ 34 ∷ [])
 quoted_plain xs h = rw (escape_plain xs h) refl
 

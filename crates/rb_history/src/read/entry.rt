@@ -69,7 +69,7 @@ fn entry(alloc: Global, config: &Config, value: &Value) -> Result<(u8, Entry), L
 /// where there was no memory to read it.
 ///
 /// An account that the configuration doesn't have is read as `Place::NOWHERE`. The reply may be one that no
-/// site gives, and `why` and the number that stopped a batch may be any byte; but a line that reports want of
+/// site gives, and `why` and the number that stopped a batch may be any byte; but a line that reports running out of
 /// memory is bad, as is one of a site that the configuration doesn't have.
 pub fn read_line(alloc: Global, config: &Config, line: &str) -> Result<(u8, Entry), LineFault>
     ensures read { Gives result (entry_of_line config.now line.now) }

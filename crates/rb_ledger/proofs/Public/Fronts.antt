@@ -5,19 +5,19 @@ use Rattle.std.proofs.lemmas.Option.{slice_get_within, get_or_from_slice_get}
 use Rattle.std.proofs.Math.Seq.{take-suc}
 use Rattle.rb_shadow.specs.declared.shadow.Shadow.{Shadow}
 
--- a front with the next operation is the next front
+-- a prefix with the next operation is the next prefix
 pub one_more : (us : List Shadow) (i : ℕ) (u : Shadow) → slice_get us i ≡ Some u → take (i + 1) us ≡ take i us ++ u ∷ []
 one_more us i u e = let near : i < length us = slice_get_within us i u e in
     rw add-one (take-suc us i u near ∙ ap (λ (w : Shadow). take i us ++ w ∷ []) (get_or_from_slice_get us i u u e))
 
--- an item of a front is that of the list
+-- an item of a prefix is that of the list
 pub get_taken : {X : Type 0} (n : ℕ) (xs : List X) (i : ℕ) → i < n → slice_get (take n xs) i ≡ slice_get xs i
 get_taken zero xs i h = absurd (omega arith)
 get_taken (suc n) [] i h = refl
 get_taken (suc n) (x ∷ xs) zero h = refl
 get_taken (suc n) (x ∷ xs) (suc i) h = get_taken n xs i (omega arith)
 
--- an item of a front is within it, and the list's
+-- an item of a prefix is within it, and the list's
 pub get_take : {X : Type 0} (n : ℕ) (xs : List X) (i : ℕ) (z : X) → slice_get (take n xs) i ≡ Some z → (i < n) × (slice_get xs i ≡ Some z)
 get_take zero xs i z e = cc
 get_take (suc n) [] i z e = cc

@@ -81,14 +81,14 @@ on_entry us a p (inr (i, u, is, there, own)) some =
     let back : p - 1 ≡ i = omega (arith, is) in
     (u, ap (slice_get us) back ∙ there, ap (λ n. is_on (take n us) u a) back ∙ own)
 
--- a position on an account in a front is one in the list
+-- a position on an account in a prefix is one in the list
 pub on_taken : (us : List Shadow) (n : ℕ) (a : Place) (p : ℕ) → IsOn (take n us) a p → IsOn us a p
 on_taken us n a p (inl none) = inl none
 on_taken us n a p (inr (i, u, is, there, own)) =
     let (near, here) = Fronts.get_take n us i u there in
     inr (i, u, is, here, sym (on_front_same us i n u a (omega arith)) ∙ own)
 
--- a position on an account in a front is within it
+-- a position on an account in a prefix is within it
 pub on_taken_within : (us : List Shadow) (n : ℕ) (a : Place) (p : ℕ) → IsOn (take n us) a p → p ≤ n
 on_taken_within us n a p (inl none) = omega (arith, none)
 on_taken_within us n a p (inr (i, u, is, there, own)) = omega (arith, is, (Fronts.get_take n us i u there).0)
@@ -99,7 +99,7 @@ pub none_of_front : (us : List Shadow) (n : ℕ) (a : Place) (p i : ℕ) (u : Sh
 none_of_front us n a p i u none near there own = none i u (Fronts.get_taken n us i near ∙ there) (on_front_same us i n u a (omega arith)
     ∙ own)
 
--- where no operation of a front is on the account after a position
+-- where no operation of a prefix is on the account after a position
 pub none_in_front : (us : List Shadow) (n : ℕ) (a : Place) (p : ℕ) → ((i : ℕ) (u : Shadow) → i < n → slice_get us i ≡ Some u →
     is_on (take i us) u a ≡ true → i < p) → IsNoneAfter (take n us) a p
 none_in_front us n a p all i u there own = let (near, here) = Fronts.get_take n us i u there in

@@ -6,7 +6,7 @@ use Rattle.std.specs.Io.KnownBytes.{Appends}
 use Rattle.rb_lines.specs.Buffers.{Sends}
 use Rattle.rb_lines.specs.Writes.{AppendsFront}
 
--- a front that takes n bytes more
+-- a prefix that takes n bytes more
 pub front_more : (text front rest rest' : List ℕ) (n : ℕ) → text ≡ front ++ rest → rest' ≡ drop n rest
     → text ≡ (front ++ take n rest) ++ rest'
 front_more text front rest rest' n e e' = e ∙ ap (λ l. front ++ l) (sym (take-append-drop n rest))

@@ -1,4 +1,4 @@
--- A number's digits tell it.
+-- A number is read back from its digits.
 use Rattle.std.proofs.lemmas.Str.Parse.{IsNumeralModel, numerals_by_value, tells_digits}
 use Rattle.std.specs.Str.Parse.{AllDigits, digits_value}
 

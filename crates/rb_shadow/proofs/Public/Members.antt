@@ -95,7 +95,7 @@ split_at (v ∷ us) u (inl e) = ([], us, ap (λ (w : Shadow). w ∷ us) (sym e))
 split_at (v ∷ us) u (inr h) = let r : (front : List Shadow) × (back : List Shadow) × (us ≡ front ++ u ∷ back) = split_at us u h in
     (v ∷ r.0, r.1, ap (λ ws. v ∷ ws) r.2)
 
--- names stand once also without one in the middle
+-- names are unique also without one in the middle
 pub IsUnique-middle : (us vs : List Shadow) (u : Shadow) → IsUnique (us ++ u ∷ vs) → IsUnique (us ++ vs) × (names (us ++ vs) u.name ≡ false)
 IsUnique-middle [] vs u h = (h.1, h.0)
 IsUnique-middle (w ∷ us) vs u h =
@@ -105,7 +105,7 @@ IsUnique-middle (w ∷ us) vs u h =
     let apart' : (same_name u.name w.name ≡ false) × (names vs w.name ≡ false) = or-false _ _ apart.1 in
     ((names-append us vs w.name ∙ false-or _ _ apart.0 apart'.1, rest.0), false-or _ _ (same_name-comm w.name u.name ∙ apart'.0) rest.1)
 
--- names stand once with a new one at the end
+-- names are unique with a new one at the end
 pub IsUnique-push : (us : List Shadow) (u : Shadow) → IsUnique us → names us u.name ≡ false → IsUnique (us ++ u ∷ [])
 IsUnique-push [] u h k = (refl, tt)
 IsUnique-push (w ∷ us) u h k =
@@ -114,7 +114,7 @@ IsUnique-push (w ∷ us) u h k =
       IsUnique-push us u h.1 apart.1,
     )
 
--- names stand once in a front
+-- names are unique in a prefix
 pub IsUnique-front : (us vs : List Shadow) → IsUnique (us ++ vs) → IsUnique us
 IsUnique-front [] vs h = tt
 IsUnique-front (u ∷ us) vs h = ((or-false _ _ (sym (names-append us vs u.name) ∙ h.0)).0, IsUnique-front us vs h.1)

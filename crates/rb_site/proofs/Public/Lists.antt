@@ -1,4 +1,4 @@
--- Elements of a list after a function of each, and of a front.
+-- Elements of a list after a function of each, and of a prefix.
 use Rattle.std.proofs.Common.{◌≡◌, ℕ, zero, suc, List, [], ◌∷◌, ◌++◌, map, refl, Some}
 use Rattle.std.specs.Prelude.{slice_get}
 

@@ -46,13 +46,13 @@ sends-append s [] fs t = refl
 sends-append s (e ∷ es) fs t = ap (λ ms. sent_at s t e ++ ms) (sends-append s es fs (after_event s t e))
     ∙ sym (append_assoc (sent_at s t e) (sends_of s (after_event s t e) es) (sends_of s (after_events s (after_event s t e) es) fs))
 
--- a front sends no more
+-- a prefix sends no more
 front_sends : (s : Settings) (t : ModelSite) (h more : List Entry) (m : Message) → IsAmong m (sends_of s t (events_of h)) →
     IsAmong m (sends_of s t (events_of (h ++ more)))
 front_sends s t h more m k = subst (IsAmong m) (sym (ap (sends_of s t) (map-append (λ (x : Entry). x.event) h more)
     ∙ sends-append s (events_of h) (events_of more) t)) (among-left m (sends_of s t (events_of h)) _ k)
 
--- ---- a world within the fronts
+-- ---- a world within the prefixes
 
 pub record IsWithinFront (s : Settings) (fronts : List (List Entry)) (i : ℕ) (t : ModelSite) : Type 0 where
   pub me : t.me ≡ i
@@ -67,7 +67,7 @@ pub record IsWithinFronts (s : Settings) (fronts : List (List Entry)) (w : World
   pub sent : (m : Message) → IsAmong m w.messages → (j : ℕ) × (f : List Entry) × (slice_get fronts j ≡ Some f)
       × IsAmong m (sends_of s (first_site j) (events_of f))
 
--- what a site sends next it sends in its front
+-- what a site sends next it sends in its prefix
 sent_in_front : (s : Settings) (t t1 : ModelSite) (i : ℕ) (e : Event) (x : Entry) (front more : List Entry) (m : Message) → t.me ≡ i →
     IsRunOfItsHistory s t → x.event ≡ e → front ≡ (history_of s t ++ x ∷ []) ++ more → IsAmong m (sent_at s t e) →
     IsAmong m (sends_of s (first_site i) (events_of front))
@@ -88,7 +88,7 @@ cancel (x ∷ h) xs ys e = cancel h xs ys (let a : h ++ xs ≡ h ++ ys = cc in a
 from_sent : (ms : List Message) (e : Event) (m : Message) → e ≡ Receive m → IsFrom ms e → IsAmong m ms
 from_sent ms e m is h = subst (IsFrom ms) is h
 
--- a recorded event stays within the fronts
+-- a recorded event stays within the prefixes
 within_event : (s : Settings) (hs fronts : List (List Entry)) (w : World) (e : WorldEvent) (es : List WorldEvent)
     → ((i : ℕ) (h : List Entry) → slice_get hs i ≡ Some h → IsCut s fronts i h)
     → histories_of s (world_after_all s (world_after s w e) es) ≡ hs
@@ -147,7 +147,7 @@ within_event s hs fronts w e es cut gives r g = subst (IsWithinFronts s fronts) 
         (sym (append_assoc (history_of s t) old.more c.rest) ∙ ap (λ f. f ++ c.rest) (sym old.goes_on ∙ sym same) ∙ sym c.goes_on
         ∙ longer ∙ ap (λ h. h ++ later) grown ∙ append_assoc (history_of s t) (x ∷ []) later)
 
-    -- the new entry is in the front
+    -- the new entry is in the prefix
     in_front : (more rest : List Entry) → more ++ rest ≡ x ∷ later → IsBlocked s fronts rest → (more' : List Entry) × (more ≡ x ∷ more')
     in_front (y ∷ more) rest e b = (more, let a : y ∷ more ≡ x ∷ more = (let q : y ≡ x = cc in ap (λ z. z ∷ more) q) in a)
     in_front [] [] e b = cc
@@ -205,7 +205,7 @@ first_sites a zero i t h = cc
 first_sites a (suc n) zero t h = let e : t ≡ first_site a = cc in e ∙ ap first_site (let q : a ≡ a + 0 = omega arith in q)
 first_sites a (suc n) (suc i) t h = first_sites (a + 1) n i t h ∙ ap first_site (let q : (a + 1) + i ≡ a + suc i = omega arith in q)
 
--- each site's history ends where its front does
+-- each site's history ends where its prefix does
 ends_at_front : (s : Settings) (hs fronts : List (List Entry)) (w : World) (i : ℕ) (h : List Entry) → IsWithinFronts s fronts w →
     histories_of s w ≡ hs → IsCut s fronts i h → slice_get hs i ≡ Some h → slice_get fronts i ≡ Some h
 ends_at_front s hs fronts w i h g gives c at = by (slice_get w.sites i) refl (sym (slice_get-map (history_of s) w.sites i)
@@ -231,7 +231,7 @@ ends_at_front s hs fronts w i h g gives c at = by (slice_get w.sites i) refl (sy
         both : (o : Option (List Entry)) → o ≡ Some c.front → o ≡ Some (g.sites i t e).front → c.front ≡ (g.sites i t e).front
         both o p q = cc
 
--- a front for each site
+-- a prefix for each site
 abbrev HasFronts : Settings → List (List Entry) → Type 0
 HasFronts s fronts = (i : ℕ) (t : ModelSite) → slice_get (first_world s).sites i ≡ Some t → (f : List Entry) × (slice_get fronts i ≡ Some f)
 

@@ -9,7 +9,7 @@ use Rattle.rb_commands.proofs.Public.Numerals.{integer_text}
 use Rattle.rb_commands.proofs.Public.Plain.{quoted_label}
 use Rattle.rb_commands.proofs.write.statement.append_row.Goals as goal
 
--- the front of a row, and the rest of it
+-- the first part of a row, and the rest of it
 abbrev front_text : List ℕ → List ℕ → List ℕ → List ℕ
 front_text comma position name = comma ++ (codes "[" ++ (position ++ (codes "," ++ (name ++ codes ","))))
 

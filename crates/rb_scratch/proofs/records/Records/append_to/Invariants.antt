@@ -1,4 +1,4 @@
--- So far the records below stand at the log's end.
+-- So far the records below are at the log's end.
 use Rattle.std.proofs.Common.{◌≡◌, ◌+◌, ◌≤◌, ◌++◌, take}
 use Rattle.rb_scratch.proofs.records.Records.append_to.Given as goal
 
