@@ -1,13 +1,14 @@
 #!/usr/bin/env python3
-"""Counts words that cost a reader a second look, in docs, in doc comments and in comments at definitions, and prints a
-table.
+"""Counts words that cost a reader a second look, in docs, in doc comments, in comments at definitions and in other
+comments, and prints a table.
 
 usage: plain_words.py              the table
        plain_words.py --check      the same, and ends in status 1 where a number is above the one stored here
 
 Docs are the Markdown files at the top and in docs/, bench/, examples/ and crates/*, but for docs/MODEL.md, which is
-made from the comments at definitions; these are the lines of crates/*/specs that begin with '--'. Doc comments are the lines
-of crates/*/src that begin with '///' or '//!'. Lower a number here once it is lower there.
+made from the comments at definitions; these are the lines of crates/*/specs that begin with '--'. Doc comments are the
+lines of crates/*/src that begin with '///' or '//!'. Other comments are the other lines of crates/*/src that begin
+with '//', and the lines of crates/*/proofs that begin with '--'. Lower a number here once it is lower there.
 """
 import glob
 import os
@@ -16,17 +17,19 @@ import sys
 
 ROOT = os.path.dirname(os.path.dirname(os.path.abspath(__file__)))
 
-# each word with what to write for it, and the most that docs, doc comments and definitions' comments may have
+# each word with what to write for it, and the most that docs, doc comments, definitions and other comments may have
 WORDS = [
-    ("told", "parsed, written, reported", 2, 12, 7),
-    ("tells", "says, shows", 1, 21, 23),
-    ("stands", "is, holds", 2, 18, 24),
-    ("room", "spare capacity", 22, 39, 13),
-    ("a front of", "a prefix of", 0, 4, 3),
-    ("owed", "buffered", 3, 16, 5),
-    ("wrong body", "mutant", 1, 0, 0),
-    ("wrong bodies", "mutants", 0, 0, 0),
-    ("of so many", "up to", 1, 20, 14),
+    ("told", "parsed, written, reported", 0, 0, 0, 0),
+    ("tells", "says, shows", 0, 0, 0, 1),
+    ("stands", "is, holds", 0, 0, 0, 0),
+    ("stood", "was, were", 0, 0, 0, 0),
+    ("room", "spare capacity", 6, 0, 0, 0),
+    ("a front of", "a prefix of", 0, 0, 0, 0),
+    ("owed", "buffered", 0, 1, 0, 0),
+    ("wrong body", "mutant", 0, 0, 0, 0),
+    ("wrong bodies", "mutants", 0, 0, 0, 0),
+    ("of so many", "of this number of", 0, 0, 0, 0),
+    ("so many", "up to, this number of", 0, 0, 0, 0),
 ]
 
 
@@ -52,12 +55,15 @@ def main():
     if sys.argv[1:] not in ([], ["--check"]):
         sys.exit(__doc__)
     where = ["\n".join(texts("*.md", "docs/*.md", "bench/*.md", "examples/*.md", "crates/*/*.md")),
-             comments("crates/*/src/**/*.rt", "//[/!]"), comments("crates/*/specs/**/*.antt", "--")]
+             comments("crates/*/src/**/*.rt", "//[/!]"), comments("crates/*/specs/**/*.antt", "--"),
+             comments("crates/*/src/**/*.rt", "//(?![/!])") + "\n" + comments("crates/*/proofs/**/*.antt", "--")]
     above = []
-    print(f"{'word':14}{'docs':>6}{'most':>6}{'doc comments':>14}{'most':>6}{'definitions':>13}{'most':>6}  write")
+    print(f"{'word':14}{'docs':>6}{'most':>6}{'doc comments':>14}{'most':>6}{'definitions':>13}{'most':>6}"
+          f"{'comments':>10}{'most':>6}  write")
     for word, plain, *most in WORDS:
         found = [count(word, text) for text in where]
-        print(f"{word:14}{found[0]:6}{most[0]:6}{found[1]:14}{most[1]:6}{found[2]:13}{most[2]:6}  {plain}")
+        print(f"{word:14}{found[0]:6}{most[0]:6}{found[1]:14}{most[1]:6}{found[2]:13}{most[2]:6}"
+              f"{found[3]:10}{most[3]:6}  {plain}")
         if any(is_there > limit for is_there, limit in zip(found, most)):
             above.append(word)
     if above and sys.argv[1:]:
