@@ -13,6 +13,8 @@ use std::alloc::{AllocError, Global};
 /// An order in which a world could have recorded these histories, one for each site. Entries are taken
 /// in rounds from site 0, from each site as many as possible; where a site doesn't record an entry, or
 /// no entry can be taken any more, no world has the histories.
+///
+/// Errors: `WrongReply` or `Stuck` where no world has them, `OutOfMemory` where there was no memory to find out.
 pub fn audit(
     alloc: Global,
     config: &Config,

@@ -10,7 +10,7 @@ use rb_money::Config;
 use rb_site::History;
 use std::alloc::{AllocError, Global};
 
-/// Whether a world could have recorded these histories in this order.
+/// Whether a world could have recorded these histories in this order. `Err` means out of memory.
 pub fn check(
     alloc: Global,
     config: &Config,

@@ -51,6 +51,7 @@ pub fn is_at_one(messages: &[Message], positions: &[usize], message: &Message) -
 }
 
 /// Lists the position of a message: in its row where its number is the next there, and else among the others.
+/// `Err` means out of memory, and lists nothing more.
 pub fn list(
     rows: &mut Vec<Vec<usize>>,
     others: &mut Vec<usize>,

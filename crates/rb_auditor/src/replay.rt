@@ -12,7 +12,8 @@ use rb_money::Config;
 use rb_site::{Entry, ErasedEntry, Message, Site};
 use std::alloc::{AllocError, Global};
 
-/// What each entry of a history sends, if the site of this number records them all.
+/// What each entry of a history sends, if the site of this number records them all. Else `WrongReply`, or
+/// `OutOfMemory`.
 pub fn replay(
     alloc: Global,
     config: &Config,

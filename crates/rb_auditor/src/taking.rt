@@ -56,7 +56,8 @@ impl<'a> Model for Taking<'a> {
 }
 
 impl<'a> Taking<'a> {
-    /// Histories, one for each site, of which no entry is taken yet. Each is replayed, from site 0.
+    /// Histories, one for each site, of which no entry is taken yet. Each is replayed, from site 0: the first
+    /// that doesn't replay is a `WrongReply`.
     pub fn open(
         alloc: Global,
         config: &'a Config,
@@ -136,7 +137,7 @@ impl<'a> Taking<'a> {
         true
     }
 
-    /// The number of each site's next entry, from 1.
+    /// The number of each site's next entry, from 1. `Err` means out of memory.
     pub fn next(&self, alloc: Global) -> Result<Vec<u32>, AllocError>
         ensures { IfOk result (λ next. next.items ≡ map (λ k. k + 1) self.now.taken) }
     {

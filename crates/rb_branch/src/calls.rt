@@ -12,7 +12,7 @@ use std::sync::Wait;
 use std::sync::ledger::Ledger;
 
 /// Each call is one event at the seat's site, and answers the number of its receipt in the seat, from 1. After
-/// an `Err` site and seat are as before.
+/// an `Err`, that memory ran out or that the history or the seat is full, site and seat are as before.
 impl<E: Entries, R: Ledger, G: Gate + Drop> Branch<E, R, G> {
     /// A request for one operation.
     pub fn submit<W: Wait>(

@@ -10,7 +10,7 @@ use std::alloc::{AllocError, Global};
 use std::sync::Mutex;
 use std::sync::ledger::{Ledger, Share};
 
-/// A desk for each site of the configuration, in order.
+/// A desk for each site of the configuration, in order. `Err` means out of memory.
 pub(crate) fn open_desks<E: Entries>(
     alloc: Global,
     config: &Config,
@@ -64,7 +64,7 @@ pub(crate) fn close_desks<E: Entries>(
     (reports, all)
 }
 
-/// Takes all seats back, and merges their shares.
+/// Takes all seats back, and merges their shares. `Err` means out of memory.
 pub(crate) fn take_back<E: Entries, R: Ledger>(
     alloc: Global,
     seats: Vec<Seat<E, R>>,

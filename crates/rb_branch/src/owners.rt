@@ -8,7 +8,7 @@ use crate::given::Given;
 use std::alloc::{AllocError, Global};
 
 /// For each number of the site, from 1 to this count, the seat that has its receipt, counted from 0; the
-/// number of seats where none has. Of two with one number it is the last.
+/// number of seats where none has. Of two with one number it is the last. `Err` means out of memory.
 pub(crate) fn owners_of(
     alloc: Global,
     site: u8,

@@ -128,7 +128,7 @@ impl Inbox {
         None
     }
 
-    /// The shadow that is held under the name.
+    /// The shadow that is held under the name, or `None`.
     pub fn held(&self, name: &OpName) -> Option<&Shadow>
         ensures { option_copied result ≡ find_in self.now.held name.now }
     {

@@ -43,7 +43,7 @@ impl Row {
         &self.slots[self.free..]
     }
 
-    /// Puts a shadow in before the one at the index, or at the end.
+    /// Puts a shadow in before the one at the index, or at the end. `Err` means out of memory.
     pub fn insert(&mut self, index: usize, shadow: Shadow) -> Result<(), AllocError>
         requires { index ≤ length self.old }
         ensures ok { OnOk result (self.new ≡ insert self.old index shadow) }

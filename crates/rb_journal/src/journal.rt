@@ -25,6 +25,7 @@ pub struct Journal<H: Host> {
 
 impl<H: Host> Journal<H> {
     /// Opens a file that a crash may have left, whose bytes these are, and repairs its end. It may crash too.
+    /// An `Err` gives the host back: out of memory, or the file failed.
     pub fn open(mut host: H, bytes: &[u8]) -> Result<Journal<H>, (HostError, H)>
         requires usable { H.is_usable host }
         requires bytes { bytes.now ≡ H.content host }
@@ -165,8 +166,8 @@ fn put_out_all<H: Host>(host: &mut H, bytes: &[u8]) -> Result<(), HostError>
     Ok(())
 }
 
-/// Repairs the end of a file that a crash may have left, whose bytes these are, and answers where its lines end.
-/// It may crash too.
+/// Repairs the end of a file that a crash may have left, whose bytes these are, and answers where its lines end,
+/// in bytes. It may crash too. An `Err` means out of memory, or that the file failed.
 pub fn recover<H: Host>(host: &mut H, bytes: &[u8]) -> Result<usize, HostError>
     requires usable { H.is_usable host.old }
     requires bytes { bytes.now ≡ H.content host.old }

@@ -17,6 +17,7 @@ pub struct Step {
 impl<H: Host> Journal<H> {
     /// Commits each step, in order. A crash at any moment leaves the lines of some of the steps, none skipped and none
     /// in part, and what was put out are replies of those steps alone, in order, the last one perhaps in part.
+    /// The first step that fails ends it.
     pub fn commit_all(&mut self, steps: &[Step]) -> Result<(), HostError>
         requires { IsSettled H.is_usable H.content H.may_leave self.old }
 

@@ -51,7 +51,8 @@ impl Index {
         })
     }
 
-    /// The position of the operation of the name, counted from 1, in each list that this is the index of.
+    /// The position of the operation of the name, counted from 1, in each list that this is the index of, or
+    /// `None`.
     pub fn find(&self, name: &OpName) -> Option<u32>
         ensures { (us : List TheShadow) → IsIndex self.now.config us self.now → result ≡ find_position us name.now }
     {

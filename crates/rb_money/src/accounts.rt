@@ -56,7 +56,7 @@ impl Accounts {
         Ok(())
     }
 
-    /// These accounts, of which none is wrong.
+    /// These accounts, of which none is wrong. `Err` means out of memory.
     pub(crate) fn from_vec(
         alloc: Global,
         accounts: Vec<(String, u64)>,
@@ -92,7 +92,7 @@ impl Accounts {
         self.by_name.len()
     }
 
-    /// What the account at the place starts with, in cents.
+    /// What the account at the place starts with, in cents. `None` where there is no such account.
     pub fn start(&self, place: Place) -> Option<Cents>
         ensures account { is_some result ≡ nat_lt place.0 (length self.now.starts) }
         ensures start { IfSome result (λ start. start.0 ≡ slice_index self.now.starts place.0) }
@@ -103,7 +103,7 @@ impl Accounts {
         }
     }
 
-    /// The name of the account at the place.
+    /// The name of the account at the place. `None` where there is no such account.
     pub fn name(&self, place: Place) -> Option<&str>
         ensures { option_map (λ name. name.now) result ≡ slice_get self.now.names place.0 }
     {
@@ -113,7 +113,7 @@ impl Accounts {
         }
     }
 
-    /// The place of the account with the name.
+    /// The place of the account with the name. `None` where there is no such account.
     pub fn place(&self, name: &str) -> Option<Place>
         ensures { result ≡ place_in self.now.names name.now }
     {

@@ -84,7 +84,7 @@ fn are_limits(limits: &Limits) -> bool
     blue && red && inbox && history && epoch
 }
 
-/// The first thing that is wrong with a configuration, other than that memory may not suffice.
+/// The first thing that is wrong with a configuration, if any, other than that memory may not suffice.
 pub fn config_fault(sites: u8, accounts: &[(String, u64)], limits: &Limits) -> Option<ConfigFault>
     ensures first { result ≡ config_fault sites (map account_of accounts.now) limits.now }
     ensures no_memory { result ≢ Some ConfigFault.OutOfMemory }

@@ -129,7 +129,7 @@ fn cancellation(ledger: &Ledger, target: OpName) -> Result<Effect, Refusal>
     })
 }
 
-/// What the request would do, decided on the ledger as it is.
+/// What the request would do, decided on the ledger as it is, or why it is refused.
 #[inline(always)]
 pub(crate) fn decide(ledger: &Ledger, request: &Request) -> Result<Effect, Refusal>
     ensures plan { IsDecision ledger.now.settings ledger.now.entries request.now result }

@@ -53,7 +53,7 @@ impl Records {
         self.len += 1;
     }
 
-    /// Takes the last record out.
+    /// Takes the last record out. `None` where there is none.
     pub fn pop(&mut self) -> Option<Undo>
         ensures { MatchOption result ((self.old.parts ≡ []) × (self.new ≡ self.old)) (λ undo. self.old.parts
             ≡ self.new.parts ++ undo ∷ []) }

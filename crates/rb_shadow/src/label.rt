@@ -30,7 +30,7 @@ impl Label {
         }
     }
 
-    /// The kind whose word this is.
+    /// The kind whose word this is, or `None`.
     pub fn from_word(word: &str) -> Option<Label>
         ensures value { result ≡ label_of_word word.now }
         ensures found { IfSome result (λ label. word.now ≡ word_of label) }
@@ -40,7 +40,7 @@ impl Label {
         if rest.is_empty() { Some(label) } else { None }
     }
 
-    /// The kind whose word the text begins with, and the text behind the word.
+    /// The kind whose word the text begins with, and the text behind the word. `None` where it begins with none.
     #[inline(always)]
     pub fn strip_word(text: &str) -> Option<(Label, &str)>
         ensures some { IfSome result (λ p. text.now ≡ word_of p.0 ++ p.1.now) }

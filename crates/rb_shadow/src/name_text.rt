@@ -35,7 +35,8 @@ pub fn write_name(name: OpName, out: &mut String) -> Result<(), AllocError>
     }
 }
 
-/// The name that this is the text of, as `write_name` writes it and in no other spelling.
+/// The name that this is the text of, as `write_name` writes it and in no other spelling. `None` for any
+/// other text.
 pub fn read_name(text: &str) -> Option<OpName>
     ensures value { result ≡ name_of text.now }
     ensures found { IfSome result (λ name. text.now ≡ name_text name) }

@@ -47,7 +47,7 @@ impl Model for Journal {
 }
 
 impl Journal {
-    /// A ledger of the configuration without operations, and without records.
+    /// A ledger of the configuration without operations, and without records. `Err` means out of memory.
     pub fn open(alloc: Global, config: &Config) -> Result<Journal, AllocError>
         ensures { IfOk result (λ journal. journal ≡ record { settings = config.now; ops = [] }) }
     {
@@ -88,7 +88,7 @@ impl Journal {
         self.ledger.is_eligible(shadow)
     }
 
-    /// The applied shadow of a name.
+    /// The applied shadow of a name, or `None`.
     pub fn applied(&self, name: &OpName) -> Option<&Shadow>
         ensures { option_copied result ≡ find_in self.now.ops name.now }
     {

@@ -46,7 +46,7 @@ impl Model for State {
 }
 
 impl State {
-    /// The state of a site before any event.
+    /// The state of a site before any event. `Err` means out of memory.
     pub fn open(alloc: Global, config: &Config, me: u8) -> Result<State, AllocError>
         requires { me < config.now.sites }
         ensures { IfOk result (λ state. (state.settings ≡ config.now) × (state.site ≡ first_site me)) }

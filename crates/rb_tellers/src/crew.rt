@@ -39,7 +39,7 @@ impl<
     W: Threads + Wait + Sync + 's,
 > Crew<'s, X, E, R, G, W> {
     /// Runs all threads, and gives their seats back. The links close as the tellers end, and then the serving
-    /// threads end.
+    /// threads end. `Err` means out of memory, that no thread could be made, or a full history.
     pub(crate) fn run(&self, tellers: u8, seed: u32) -> Result<Vec<Seat<E, R>>, TellersFault>
         requires { 0 < self.now.sites }
         ensures { IfOk result (λ seats. IsCrew seed tellers self.now.sites seats.items) }

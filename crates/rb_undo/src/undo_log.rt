@@ -86,7 +86,7 @@ impl UndoLog {
         self.undos.push_reserved(undo)
     }
 
-    /// Takes the last record out.
+    /// Takes the last record out. `None` where there is none.
     pub fn pop(&mut self) -> Option<Undo>
         ensures { MatchOption result ((self.old.parts ≡ []) × (self.new ≡ self.old))
             (λ undo. (self.old.parts ≡ self.new.parts ++ undo ∷ []) × (self.new.room ≡ self.old.room + 1)) }

@@ -46,7 +46,7 @@ pub fn deposit_reaches_both(alloc: Global, amount: u64) -> Result<(u64, u64), Al
     Ok(both)
 }
 
-/// A withdrawal is cancelled: the balance after it, and after its cancellation, in cents.
+/// A withdrawal is cancelled: the balance after it, and after its cancellation, in cents. `Err` means out of memory.
 pub fn cancel_gives_back(alloc: Global, amount: u64) -> Result<(u64, u64), AllocError>
     ensures taken { IfOk result (λ balances. balance_in (after (withdrawal amount ∷ [])) 0 ann ≡ Some balances.0) }
     ensures given_back { IfOk result (λ balances. balance_in (after (withdrawal amount ∷ cancellation ∷ [])) 0 ann

@@ -1,4 +1,4 @@
-//! Events of a site, by a key of an object that may have others.
+//! Events of a site, by a key of an object that may have others. `None` and `Bad` mean that a value is none.
 ghost use Rattle.std.specs.Prelude.{◌≡◌, ◌^◌, IfOk, IfSome};
 ghost use Rattle.serde_json.specs.View.{view};
 ghost use Rattle.rb_site.specs.Worlds.{IsOwn};

@@ -1,4 +1,4 @@
-//! JSON values: numbers, names and lists of two or three in them.
+//! JSON values: numbers, names and lists of two or three in them. `None` means that a value is nothing of the kind.
 ghost use Rattle.std.specs.Prelude.{◌≡◌, ◌^◌, option_map};
 ghost use Rattle.serde_json.specs.Read.{read};
 ghost use Rattle.serde_json.specs.View.{view};
@@ -10,7 +10,7 @@ use rb_shadow::{OpName, read_name};
 use serde_json::Value;
 use std::alloc::Global;
 
-/// The JSON value that a line is.
+/// The JSON value that a line is: `Bad` where it is none, `OutOfMemory` where there was no memory to read it.
 pub fn read_value(alloc: Global, line: &str) -> Result<Value, LineFault>
     ensures { GivesAs view result (read line.now) }
 {

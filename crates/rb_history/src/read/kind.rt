@@ -61,6 +61,7 @@ fn kind_of(config: &Config, value: &Value, label: Label) -> Option<Kind>
     Some(kind)
 }
 
+/// The kind of the shadow that an object is.
 pub fn kind(config: &Config, value: &Value) -> Option<Kind>
     ensures { result ≡ kind_at config.now (view value.now) }
 {

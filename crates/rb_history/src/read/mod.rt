@@ -1,4 +1,4 @@
-//! What is read, from the JSON value of a line.
+//! What is read, from the JSON value of a line. `None` and `Bad` mean that a value is nothing of the kind.
 pub mod counts;
 pub mod entry;
 pub mod event;

@@ -1,4 +1,5 @@
-//! What is written: each appends to bytes, or makes a line.
+//! What is written: each appends to bytes, or makes a line. An `Err` means out of memory; some of it may have
+//! been appended then.
 pub mod account;
 pub mod config;
 pub mod counts;
