@@ -52,7 +52,7 @@ pub record IsNextEntry (p : Progress) (i k : ℕ) (h : List Entry) (x : Entry) :
   pub at : slice_get p.taken i ≡ Some k
   pub next : slice_get h k ≡ Some x
 
--- it is taken
+-- the progress with that entry taken too
 abbrev pub taken_next : Progress → ℕ → ℕ → List Entry → Entry → Progress
 taken_next p i k h x = record p {
   order = p.order ++ i ∷ [];
@@ -82,7 +82,7 @@ pub record Rests (p : Progress) (i : ℕ) : Type 0 where
   pub at : slice_get p.taken i ≡ Some taken
   pub held : IsHeldUp p.messages (drop taken history)
 
--- a run leads there
+-- a run of a world's own events leads to this world; each is recorded, and the order is that of their sites
 pub record IsReached (s : Settings) (order : List ℕ) (w : World) : Type 0 where
   pub events : List WorldEvent
   pub own : AreOwn events

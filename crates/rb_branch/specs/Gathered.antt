@@ -94,7 +94,7 @@ abbrev pub AllGathered : List SiteReport → List SeenSeat → Type 0
 AllGathered reports seats =
     (k : ℕ) (r : SiteReport) → slice_get reports k ≡ Some r → (r.me ≡ k) × IsGathered k r.history.items seats
 
--- the same of the sites before the n-th, from 0
+-- each of the first n reports is of the site of its number, and its history is the receipts of that site's seats, interleaved
 abbrev pub GatheredBefore : ℕ → List SiteReport → List SeenSeat → Type 0
 GatheredBefore n reports seats =
     (k : ℕ) → k < n → (r : SiteReport) → slice_get reports k ≡ Some r → (r.me ≡ k) × IsGathered k r.history.items seats
@@ -105,7 +105,8 @@ IsFirst reports seats (Missing site) = GatheredBefore site reports seats
 IsFirst reports seats (Mixed site) = GatheredBefore site reports seats
 IsFirst reports seats OutOfMemory = Unit {0}
 
--- what a fault says: there are fewer receipts than entries, at that site and in all; or its history isn't its seats' receipts, interleaved. Out of memory says nothing
+-- what a fault says: there are fewer receipts than entries, at that site and in all; or its history isn't its seats' receipts,
+-- interleaved. Out of memory says nothing
 abbrev pub Explains : List SiteReport → List SeenSeat → GatherFault → Type 0
 Explains reports seats (Missing site) =
     (r : SiteReport) × (slice_get reports site ≡ Some r) × (receipts_at site seats < vec_len r.history) × (receipts_in seats < entries_in reports)

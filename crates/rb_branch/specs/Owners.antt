@@ -53,7 +53,7 @@ Puts number k old new =
     (length new ≡ length old)
     × ((i v : ℕ) → slice_get new i ≡ Some v → ((v ≡ k) × (number ≡ i + 1)) ⊎ ((slice_get old i ≡ Some v) × (number ≢ i + 1)))
 
--- the same for the numbers of the first m receipts
+-- the table has k for the numbers of the first m receipts, where it is long enough, and all else is as before
 abbrev pub PutsAll : ℕ → List Receipt → ℕ → List ℕ → List ℕ → Type 0
 PutsAll m rs k old new =
     (length new ≡ length old)

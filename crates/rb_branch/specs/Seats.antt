@@ -24,7 +24,8 @@ pub record SeenSeat : Type 0 where
   pub site : ℕ
   pub receipts : List Receipt
 
--- a desk's site is one of the branch's configuration, its history replays and is within its limit; its share of the entries is one part, whose amount is their number
+-- a desk's site is one of the branch's configuration, its history replays and is within its limit; its share of the entries is one part,
+-- whose amount is their number
 pub record IsDesk (s : Settings) (site : SeenSite) (parts amount : ℕ) : Type 0 where
   pub settings : site.settings ≡ s
   pub within : site.me < s.sites
@@ -33,7 +34,8 @@ pub record IsDesk (s : Settings) (site : SeenSite) (parts amount : ℕ) : Type 0
   pub one_part : parts ≡ 1
   pub counted : amount ≡ length site.entries
 
--- the reply of a receipt is what some site of this number of the configuration, whose history replays and is one shorter than the receipt's number, answers to its event
+-- the reply of a receipt is what a site of this number answers to its event: one of the configuration, whose history replays and is one
+-- shorter than the receipt's number
 pub record IsSiteReply (s : Settings) (site : ℕ) (r : Receipt) : Type 0 where
   pub before : SeenSite
   pub settings : before.settings ≡ s
@@ -42,7 +44,8 @@ pub record IsSiteReply (s : Settings) (site : ℕ) (r : Receipt) : Type 0 where
   pub number : r.number ≡ length before.entries + 1
   pub reply : r.reply ≡ reply_to s (state_of before) r.event
 
--- a seat's site is one of the configuration's; its share of the receipts is one part, whose amount is their number; the reply of each is what such a site answers
+-- a seat's site is one of the configuration's; its share of the receipts is one part, whose amount is their number; the reply of each is
+-- what such a site answers
 pub record IsSeat (s : Settings) (site : ℕ) (receipts : List Receipt) (parts amount : ℕ) : Type 0 where
   pub within : site < s.sites
   pub one_part : parts ≡ 1
@@ -110,7 +113,7 @@ IsServed _ = ⊥
 
 -- ---- messages that are kept
 
--- some item of the list is so
+-- some item of the list has the property
 abbrev pub Any : {X : Type 0} → (X → Type 0) → List X → Type 0
 Any P [] = ⊥
 Any P (x ∷ xs) = P x ⊎ Any P xs
@@ -132,7 +135,8 @@ WasRefused m receipts = Any (λ r. (r.event ≡ Receive m) × (is_full_inbox r.r
 abbrev pub WasReceived : Message → List Receipt → Type 0
 WasReceived m receipts = Any (λ r. (r.event ≡ Receive m) × (is_full_inbox r.reply ≡ false)) receipts
 
--- no message is lost: each that was kept, or was refused by one of these receipts as the inbox was full, is kept, or was received by one of them with another reply
+-- no message is lost: each that was kept, or was refused by one of these receipts as the inbox was full, is kept, or was received by one
+-- of them with another reply
 pub record NoneLost (old new : List Message) (receipts : List Receipt) : Type 0 where
   pub kept : (m : Message) → IsOneOf m old → IsOneOf m new ⊎ WasReceived m receipts
   pub refused : (m : Message) → WasRefused m receipts → IsOneOf m new ⊎ WasReceived m receipts

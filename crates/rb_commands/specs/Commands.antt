@@ -81,6 +81,6 @@ pub record ReadsCommands (s : Settings) : Type 0 where
   pub deliver : (site m : ℕ) → site < 2 ^ 8 → m < 2 ^ 32 → command_of s (sited_json (codes "deliver") (number_json m) site)
       ≡ Some (Deliver site m)
 
--- the same in every configuration
+-- in every configuration each command is read from the object that it is written as
 abbrev pub CommandsAreRead : Type 0
 CommandsAreRead = (s : Settings) → ReadsCommands s

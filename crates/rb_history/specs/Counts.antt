@@ -34,7 +34,7 @@ abbrev pub counts_at : Data → Option (List ℕ)
 counts_at d = option_and_then (λ ns. if length ns == MOST_SITES_OF_VERSION_1 then Some ns else None)
     (option_and_then counts_in (as_array d))
 
--- the same, and 0 for each further site that there may be
+-- the counts, and 0 for each further site that there may be
 abbrev pub widened : List ℕ → List ℕ
 widened ns = ns ++ replicate (MOST_SITES - MOST_SITES_OF_VERSION_1) 0
 

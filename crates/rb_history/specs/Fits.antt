@@ -29,7 +29,7 @@ use Rattle.rb_money.specs.declared.place.TheConstants.Place.{NOWHERE}
 abbrev pub IsKnown : Settings → Place → Type 0
 IsKnown s a = (a.0 < length s.names) ⊎ (a ≡ NOWHERE)
 
--- each of the list is such
+-- each item of the list has the property
 abbrev pub Each : {A : Type 0} → (A → Type 0) → List A → Type 0
 Each P [] = ⊤
 Each P (x ∷ xs) = P x × Each P xs
@@ -69,7 +69,7 @@ IsEvent s (Balance a) = IsKnown s a
 IsEvent s (AsOf a n) = IsKnown s a × (n < 2 ^ 32)
 IsEvent s (Statement a) = IsKnown s a
 
--- what an i64 may be
+-- the number fits an i64
 abbrev pub IsMoved : ℤ → Type 0
 IsMoved (pos n) = n < 2 ^ 63
 IsMoved (negsuc n) = n < 2 ^ 63
@@ -103,12 +103,12 @@ IsReply (BalanceIs n) = n < 2 ^ 64
 IsReply (StatementIs t) = (t.start < 2 ^ 64) × Each IsStatementRow t.rows × (t.balance < 2 ^ 64)
 IsReply (Refused why) = IsRefusal why
 
--- the line of each such entry of a site of the configuration is read as the entry
+-- the line of each entry of a site of the configuration is read as the entry, where that fits
 abbrev pub EntriesAreRead : Type 0
 EntriesAreRead = (s : Settings) → IsConfigured s → (site : ℕ) (x : Entry) → site < s.sites → IsEvent s x.event → IsReply x.reply
     → entry_of_line s (compact_text (entry_json s site x)) ≡ Some (site, x)
 
--- the line of each such event by itself is read as the event
+-- the line of each event by itself is read as the event, where that fits
 abbrev pub EventsAreRead : Type 0
 EventsAreRead = (s : Settings) → IsConfigured s → (e : Event) → IsEvent s e → event_of_line s (compact_text (event_json s e)) ≡ Some e
 

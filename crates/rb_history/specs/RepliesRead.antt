@@ -22,11 +22,11 @@ use Rattle.rb_history.specs.Fields.{field, label_at, six_of}
 
 -- ---- refusals
 
--- the value is the word
+-- the value is the word "declined"
 abbrev pub tells_declined : Data → Bool
 tells_declined d = unwrap_or (option_map (λ word. bytes_eq word (codes "declined")) (as_str d)) false
 
--- what stopped a batch: the word, or any number below 2^8
+-- what stopped a batch: that word, or any number below 2^8
 abbrev pub cause_at : Data → Option Cause
 cause_at d = if tells_declined d then Some CauseDeclined else option_map CauseRefused (number_below (2 ^ 8) d)
 
@@ -55,12 +55,12 @@ plain_refusals = UnknownAccount ∷ BadAmount ∷ BadRate ∷ UnknownOperation �
     ∷ DeltaTooLarge ∷ BadBatch ∷ NotHeld ∷ NotReady ∷ InboxFull ∷ Conflict ∷ NoMessage ∷ NoSite ∷ NotYours ∷ PositionBeyond ∷ HistoryFull
     ∷ SameAccount ∷ []
 
--- the first of these that has the number
+-- the first refusal of a list that has the number
 abbrev pub find_refusal : ℕ → List Refusal → Option Refusal
 find_refusal n [] = None
 find_refusal n (r ∷ rs) = if number_of_refusal r == n then Some r else find_refusal n rs
 
--- such a refusal, from an object of one member
+-- a refusal that is written as its number alone, from an object of one member
 abbrev pub plain_of : Data → ℕ → Option Refusal
 plain_of d n = if size_of d == 1 then find_refusal n plain_refusals else None
 

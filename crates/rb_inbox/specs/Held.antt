@@ -15,12 +15,12 @@ stands_before (Blue i m) (Red n) = true
 stands_before (Red m) (Blue j n) = false
 stands_before (Red m) (Red n) = nat_lt m n
 
--- with an operation more, in its place
+-- the list with one operation more, in its place
 abbrev pub with_held : Shadow → List Shadow → List Shadow
 with_held v [] = v ∷ []
 with_held v (u ∷ us) = if stands_before v.name u.name then v ∷ u ∷ us else u ∷ with_held v us
 
--- without the operation of a name
+-- the list without the operation of a name
 abbrev pub without : OpName → List Shadow → List Shadow
 without x us = filter (λ u. not (same_name u.name x)) us
 

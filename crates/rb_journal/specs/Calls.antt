@@ -3,7 +3,7 @@ use Rattle.std.specs.Prelude.{◌≡◌, ◌⊎◌, ℕ, suc, ◌+◌, ◌≤◌
 use Rattle.std.specs.Prelude.{slice_index, ◌==◌, if◌then◌else◌}
 use Rattle.rb_journal.specs.Host.{Torn, Cut, AddsPrefix}
 
--- a kind, a number, whether the call succeeded, and bytes
+-- a call as it is noted: its kind, a number, whether it succeeded, and bytes
 abbrev pub NotedCall : Type 0
 NotedCall = ℕ × ℕ × Bool × List ℕ
 

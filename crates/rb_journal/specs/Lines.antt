@@ -13,7 +13,7 @@ abbrev pub lines_in : List ℕ → List (List ℕ)
 lines_in [] = []
 lines_in (b ∷ bytes) = if b == 10 then (10 ∷ []) ∷ lines_in bytes else joined b (lines_in bytes)
 
--- it begins with `{` (123)
+-- the line begins with `{` (123)
 abbrev pub is_open : List ℕ → Bool
 is_open [] = false
 is_open (b ∷ line) = b == 123

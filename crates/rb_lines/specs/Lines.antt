@@ -22,10 +22,10 @@ whole_lines (b ∷ bs) = if b == 10 then [] ∷ whole_lines bs else onto_whole b
 abbrev pub line_len : List ℕ → ℕ
 line_len bs = position_or_len (λ b. b == 10) bs
 
--- it has more bytes than a line may have
+-- the line has more bytes than a line may have
 abbrev pub is_long : List ℕ → Bool
 is_long l = nat_lt LINE_LIMIT (length l)
 
--- spaces, tabs and carriage returns alone
+-- the line has spaces, tabs and carriage returns alone, or nothing
 abbrev pub is_blank : List ℕ → Bool
 is_blank l = list_all (λ b. b == 32 || b == 9 || b == 13) l

@@ -3,7 +3,7 @@ use Rattle.std.specs.Prelude.{ℕ, List, ◌++◌, codes, decimal}
 use Rattle.rb_lines.specs.declared.fault.StreamFault.{StreamFault}
 use Rattle.rb_lines.specs.declared.fault.StreamFault.TheVariants.{NoConfig, BadConfig, BadLine, LongLine, Read, Write, OutOfMemory}
 
--- why it failed
+-- why a run failed, in words
 abbrev pub reason_of : StreamFault → List ℕ
 reason_of NoConfig = codes "no configuration"
 reason_of (BadConfig n) = codes "line " ++ decimal n ++ codes ": bad configuration"

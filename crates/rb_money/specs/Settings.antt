@@ -24,7 +24,7 @@ pub record AccountList : Type 0 where
   pub names : List (List ℕ)
   pub starts : List ℕ
 
--- the first place whose name that is
+-- the first place that has the name
 abbrev pub place_in : List (List ℕ) → List ℕ → Option Place
 place_in names name = option_map (λ i. record { 0 = i }) (position (λ n. bytes_eq name n) names)
 
@@ -56,7 +56,7 @@ IsVersion version sites = ((version ≡ 1) × (sites ≤ MOST_SITES_OF_VERSION_1
 abbrev pub version_of : ℕ → ℕ
 version_of sites = if nat_le sites MOST_SITES_OF_VERSION_1 then 1 else 2
 
--- the same but for the version of the lines, which is 2
+-- the configuration, but for the version of its lines, which is 2
 abbrev pub in_version_2 : Settings → Settings
 in_version_2 s = record s { version = 2 }
 

@@ -12,16 +12,16 @@ use Rattle.rb_node.specs.Replays.{IsReplayedAs}
 
 -- ---- lines
 
--- it begins with `{` (123), and no byte of it is a line feed (10)
+-- a journal's line begins with `{` (123), and no byte of it is a line feed (10)
 pub record IsJournalLine (line : List ℕ) : Type 0 where
   pub begins : slice_index line 0 ≡ 123
   pub one : All (λ b. b ≢ 10) line
 
--- the line of a configuration is such, without its line feed
+-- the line of a configuration is a journal's line, without its line feed
 abbrev pub ConfigsAreJournalLines : Type 0
 ConfigsAreJournalLines = (s : Settings) → IsConfigured s → IsJournalLine (compact_text (config_json s))
 
--- the line of an entry is, whatever the entry
+-- the line of an entry is a journal's line, whatever the entry
 abbrev pub EntriesAreJournalLines : Type 0
 EntriesAreJournalLines = (s : Settings) → IsConfigured s → (me : ℕ) (x : Entry) → IsJournalLine (compact_text (entry_json s me x))
 
@@ -33,11 +33,11 @@ AreReplayed old [] new = new ≡ old
 AreReplayed old (x ∷ xs) new = (next : SeenNode) × (entry_on old.settings (compact_text (entry_json old.settings old.me x)) ≡ Some (old.me, x))
     × IsReplayedAs old next x × AreReplayed next.site xs new
 
--- a line holds the entry whole
+-- the entry fits its line: its numbers fit their types, and its places are known
 abbrev pub FitsLine : Settings → Entry → Type 0
 FitsLine s x = IsEvent s x.event × IsReply x.reply
 
--- what an answer recorded is replayed to the site that it left, where lines hold its entries whole
+-- what an answer recorded is replayed to the site that it left, where its entries fit their lines
 abbrev pub AnswersAreReplayed : Type 0
 AnswersAreReplayed = (old new : SeenSite) (line text entries : List ℕ) → IsConfigured old.settings → old.me < old.settings.sites
     → (answer : IsSiteAnswer old new line text entries) → Each (FitsLine old.settings) answer.recorded → AreReplayed old answer.recorded new

@@ -32,7 +32,7 @@ IsOpeningFault InUse = ⊥
 IsOpeningFault Write = ⊥
 IsOpeningFault Journal = ⊥
 
--- why it stops
+-- why a run of a site stops, in words
 abbrev pub site_reason_of : SiteFault → List ℕ
 site_reason_of NoConfig = codes "no configuration"
 site_reason_of (BadConfig n) = codes "line " ++ decimal n ++ codes ": bad configuration"

@@ -36,6 +36,6 @@ batch_of s me us token index (r ∷ rs) =
     and_then Err (batch_of s me (us ++ v ∷ []) token (index + 1) rs) (λ vs.
     Ok (v ∷ vs)))
 
--- their names
+-- the names of a list of operations
 abbrev pub names_of_all : List Shadow → List OpName
 names_of_all vs = map (λ (v : Shadow). v.name) vs

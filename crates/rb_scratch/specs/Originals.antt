@@ -12,7 +12,7 @@ use Rattle.rb_scratch.specs.declared.request.Request.TheVariants.{Deposit as Ask
 use Rattle.rb_scratch.specs.declared.request.Request.TheVariants.{Cancel as AskCancel, Transfer as AskTransfer}
 use Rattle.rb_scratch.specs.Requests.{interest_on}
 
--- so much is added to an account
+-- the balances after an amount is added to an account
 abbrev pub after_deposit : (Place → ℤ) → Place → ℕ → Place → ℤ
 after_deposit b a x = λ q. b q +ℤ (if a.0 == q.0 then pos x else pos 0)
 
@@ -20,16 +20,16 @@ after_deposit b a x = λ q. b q +ℤ (if a.0 == q.0 then pos x else pos 0)
 abbrev pub grants : (Place → ℤ) → Place → ℕ → Bool
 grants b a x = not (int_lt (b a) (pos x))
 
--- so much is taken from an account where there is enough
+-- the balances after an amount is taken from an account, where there is enough
 abbrev pub after_withdraw : (Place → ℤ) → Place → ℕ → Place → ℤ
 after_withdraw b a x = λ q. b q +ℤ (if grants b a x && (a.0 == q.0) then neg_ℤ (pos x) else pos 0)
 
--- so much goes from an account to another where there is enough
+-- the balances after an amount goes from an account to another, where there is enough
 abbrev pub after_transfer : (Place → ℤ) → Place → Place → ℕ → Place → ℤ
 after_transfer b a c x = λ q. b q +ℤ (if grants b a x then (if a.0 == q.0 then neg_ℤ (pos x) else (if c.0 == q.0 then pos x else pos 0))
     else pos 0)
 
--- an account gets its interest at the rate
+-- the balances after an account gets its interest at the rate
 abbrev pub after_accrue : (Place → ℤ) → Place → ℕ → Place → ℤ
 after_accrue b a rate = λ q. b q +ℤ (if a.0 == q.0 then pos (interest_on b a rate) else pos 0)
 

@@ -28,7 +28,8 @@ use Rattle.rb_token.specs.declared.message.TokenMessage.{TokenMessage}
 
 -- ---- what a site is
 
--- a site: its number, the operations that it applied, in their order, those that it holds, one for each name and in the order of the names, what it knows of the token, and its events
+-- a site: its number, the operations that it applied, in their order, those that it holds, one for each name and in the order of the
+-- names, what it knows of the token, and its events
 pub record ModelSite : Type 0 where
   pub me : ℕ
   pub ops : List Shadow
@@ -48,7 +49,7 @@ pub data Outcome : Type 0 where
   Shows : (a : Place) → Outcome
   -- an operation is made here and sent
   Makes : (made : Shadow) → Outcome
-  -- those of a batch are, one after another
+  -- the operations of a batch are made here and sent, one after another
   MakesAll : (made : List Shadow) → Outcome
   Holds : (v : Shadow) → Outcome
   Applies : (v : Shadow) → Outcome
@@ -57,7 +58,8 @@ pub data Outcome : Type 0 where
 
 -- ---- shadows that are received or applied
 
--- a shadow that is known under its name: the same comes again, or another is a conflict
+-- what comes of a shadow whose name is known, by the one known: it is answered where it is the same, and refused as a conflict where it
+-- is another; where none is known, what comes next
 abbrev pub unless_known : Shadow → Option Shadow → Outcome → Outcome
 unless_known v None next = next
 unless_known v (Some u) next = if same_shadow u v then Answers (Already v.name) else Refuses Conflict
@@ -104,14 +106,14 @@ outcome_of s t (AsOf a n) =
     else Answers (BalanceIs (cents (bal s (take n t.ops) a)))
 outcome_of s t (AskStatement a) = if not (is_account s a) then Refuses UnknownAccount else Shows a
 
--- what is sent
+-- the messages that an outcome sends
 abbrev pub sent_by : Outcome → List Message
 sent_by (Makes v) = ShadowMessage v ∷ []
 sent_by (MakesAll vs) = map ShadowMessage vs
 sent_by (Passes m) = TokenOnItsWay m ∷ []
 sent_by _ = []
 
--- the site after it, but for the history
+-- the site after an outcome, but for its history
 abbrev pub changed : ModelSite → Outcome → ModelSite
 changed t (Drops x why) = record t { held = without x t.held }
 changed t (Makes v) = record t { ops = t.ops ++ v ∷ [] }
@@ -145,7 +147,7 @@ after_events s t (e ∷ es) = after_events s (after_event s t e) es
 
 -- ---- replies
 
--- the reply, at a site that applied us
+-- the reply to an outcome, at a site that applied the operations us
 abbrev pub reply_of : Settings → List Shadow → Outcome → Reply
 reply_of s us (Refuses why) = Refused why
 reply_of s us (Drops x why) = Refused why

@@ -14,7 +14,7 @@ use Rattle.rb_site.specs.States.{SiteState}
 abbrev pub balances_of : Settings → List Shadow → List ℕ
 balances_of s us = map (λ i. cents (bal s us (record { 0 = i }))) (range_with_len 0 (length s.starts))
 
--- how many operations cancel each one
+-- for each operation, how many cancel it
 abbrev pub counts_of : List Shadow → List ℕ
 counts_of us = map (λ (u : Shadow). cancel_count us u.name) us
 

@@ -6,6 +6,6 @@ pub record BatchRoomFor : Type 0 where
   pub most : ℕ
   pub keeps : Bool
 
--- it is memory for just that
+-- the memory is for this number of operations, and for a history that keeps replies or not, as given
 abbrev pub IsRoomFor : BatchRoomFor → Bool → ℕ → Type 0
 IsRoomFor room keeps most = room ≡ record { most = most; keeps = keeps }

@@ -41,13 +41,13 @@ abbrev pub message_at : List Message → ℕ → Option Message
 message_at ms zero = None
 message_at ms (suc k) = slice_get ms k
 
--- an event that is brought to a site: where there is no such event, or no such site, nothing happens
+-- the world after an event that is brought to a site; where there is no such event, or no such site, nothing happens
 abbrev pub world_at : Settings → World → ℕ → Option Event → Option ModelSite → World
 world_at s w i None t = w
 world_at s w i (Some e) None = w
 world_at s w i (Some e) (Some t) = record { sites = slice_set w.sites i (after_event s t e); messages = w.messages ++ sent_at s t e }
 
--- the reply to it
+-- the reply to an event that is brought to a site
 abbrev pub reply_at : Settings → Option ModelSite → Option Event → Reply
 reply_at s None e = Refused NoSite
 reply_at s (Some t) None = Refused NoMessage
@@ -81,7 +81,7 @@ abbrev pub IsOwn : Event → Type 0
 IsOwn (Receive m) = ⊥
 IsOwn _ = Unit {0}
 
--- the same of each event of a list
+-- in a list of events, messages come by deliveries alone
 abbrev pub AreOwn : List WorldEvent → Type 0
 AreOwn [] = Unit {0}
 AreOwn (At i e ∷ es) = IsOwn e × AreOwn es
@@ -97,12 +97,12 @@ abbrev pub arrival : List Message → WorldEvent → Option Event
 arrival ms (At i e) = Some e
 arrival ms (Deliver i k) = option_map Receive (message_at ms k)
 
--- whether a site records the event: there is such a site, and such a message, and its history isn't full
+-- whether an event that is brought to a site is recorded there: there is such a site, and its history isn't full
 abbrev pub is_recorded_at : Settings → Option ModelSite → Bool
 is_recorded_at s None = false
 is_recorded_at s (Some t) = not (is_full s t)
 
--- whether some site records the event of the world
+-- whether an event of the world is recorded: its site is there, its history isn't full, and a message that it delivers was sent
 abbrev pub is_recorded : Settings → World → WorldEvent → Bool
 is_recorded s w (At i e) = is_recorded_at s (slice_get w.sites i)
 is_recorded s w (Deliver i k) = is_recorded_at s (slice_get w.sites i) && is_some (message_at w.messages k)

@@ -16,7 +16,7 @@ use Rattle.rb_world.specs.Laws.{SeenWorld, next_worlds, opened}
 abbrev pub bank : Settings
 bank = record { sites = 2; names = codes "ann" ∷ []; starts = 1000 ∷ []; limits = record { blue = MOST_BLUE; red = MOST_RED; inbox = MOST_INBOX; history = MOST_HISTORY; epoch = MOST_EPOCH }; version = 1 }
 
--- its account
+-- the bank's only account
 abbrev pub ann : Place
 ann = record { 0 = 0 }
 

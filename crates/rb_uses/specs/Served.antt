@@ -17,7 +17,7 @@ pub record IsAttendant (seat : SeenSeat) : Type 0 where
   pub site_is : seat.site ≡ 1
   pub served : All (λ (r : Receipt). IsServed r.event) seat.receipts
 
--- these two seats
+-- the seats are that of the deposit at site 0 and that of the receipts at site 1
 pub record AreBoth (amount : ℕ) (seats : List SeenSeat) : Type 0 where
   pub depositor : SeenSeat
   pub server : SeenSeat

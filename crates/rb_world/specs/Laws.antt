@@ -23,7 +23,7 @@ use Rattle.rb_site.specs.Worlds.{AreOwn, World, first_world, is_recorded, made_i
 abbrev pub EachSite : World → (ℕ → ModelSite → Type 0) → Type 0
 EachSite w P = (i : ℕ) (t : ModelSite) → slice_get w.sites i ≡ Some t → P i t
 
--- a law of the world that any events of its own lead to, at any configuration of no more sites than there may be
+-- the law holds of every world that a bank's own events lead to, in any configuration of 1 to MOST_SITES sites
 abbrev pub Always : (Settings → World → Type 0) → Type 0
 Always P = (s : Settings) (es : List WorldEvent) → 1 ≤ s.sites → s.sites ≤ MOST_SITES → AreOwn es → P s (world_after_all s (first_world s) es)
 
@@ -93,16 +93,16 @@ abbrev pub is_receive : Event → Bool
 is_receive (Receive m) = true
 is_receive _ = false
 
--- a Receive that the site refuses
+-- the event is a receipt that the site refuses
 abbrev pub is_refused_receive : Settings → ModelSite → Event → Bool
 is_refused_receive s t e = is_receive e && is_refused (reply_to s t e)
 
--- the events without those
+-- a list of events without the receipts that the site refuses
 abbrev pub without_refused : Settings → ModelSite → List Event → List Event
 without_refused s t [] = []
 without_refused s t (e ∷ es) = if is_refused_receive s t e then without_refused s (after_event s t e) es else e ∷ without_refused s (after_event s t e) es
 
--- the replies to the events without those
+-- the replies to a list of events, without those that refuse receipts
 abbrev pub other_replies : Settings → ModelSite → List Event → List Reply
 other_replies s t [] = []
 other_replies s t (e ∷ es) = if is_refused_receive s t e then other_replies s (after_event s t e) es else reply_to s t e ∷ other_replies s (after_event s t e) es
@@ -156,7 +156,7 @@ next_world w e =
       events = if is_recorded w.settings w.world e then w.events ++ e ∷ [] else w.events;
     }
 
--- the reply to it
+-- the reply to one event
 abbrev pub next_reply : SeenWorld → WorldEvent → Reply
 next_reply w e = reply_in w.settings w.world e
 
@@ -165,7 +165,7 @@ abbrev pub next_worlds : SeenWorld → List WorldEvent → SeenWorld
 next_worlds w [] = w
 next_worlds w (e ∷ es) = next_worlds (next_world w e) es
 
--- the replies to them
+-- the replies to a list of events
 abbrev pub next_replies : SeenWorld → List WorldEvent → List Reply
 next_replies w [] = []
 next_replies w (e ∷ es) = next_reply w e ∷ next_replies (next_world w e) es
