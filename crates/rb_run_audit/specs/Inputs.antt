@@ -14,13 +14,13 @@ pub record Input : Type 0 where
   pub settings : Settings
   pub histories : List (List Entry)
 
--- an entry more at the end of this site's history
+-- the histories with an entry more at the end of this site's
 abbrev pub with_entry : ℕ → Entry → List (List Entry) → List (List Entry)
 with_entry site x [] = []
 with_entry zero x (h ∷ hs) = (h ++ x ∷ []) ∷ hs
 with_entry (suc n) x (h ∷ hs) = h ∷ with_entry n x hs
 
--- once these lines, the first of which is line n, have come to these histories
+-- the input, where these lines, the first of which is line n, come after those of these histories
 abbrev pub input_after : Settings → List (List Entry) → ℕ → List (List ℕ) → Result Input StreamFault
 input_after s hs n [] = Ok (record { settings = s; histories = hs })
 input_after s hs n (l ∷ ls) = if is_long l then Err (LongLine n) else (if is_blank l then input_after s hs (n + 1) ls

@@ -7,7 +7,7 @@ use Rattle.rb_run_migrate.specs.declared.session.Session.{Session}
 use Rattle.rb_lines.specs.Answers.{IsStand, LinesOutcome, Stand}
 use Rattle.rb_run_migrate.specs.Migration.{entries_from, migration_from}
 
--- before the first line
+-- the session before the first line
 abbrev pub first_migration : Session
 first_migration = record { versions = None; number = 1; count = 0 }
 

@@ -10,7 +10,7 @@ use Rattle.rb_run_script.specs.declared.session.Session.{Session}
 use Rattle.rb_lines.specs.Answers.{IsStand, LinesOutcome, Stand}
 use Rattle.rb_run_script.specs.Script.{command_on, commands_from, script_outcome, script_from}
 
--- before the first line
+-- the session before the first line
 abbrev pub first_session : Session
 first_session = record { world = None; number = 1; count = 0 }
 

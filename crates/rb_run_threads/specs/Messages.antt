@@ -3,7 +3,7 @@ use Rattle.std.specs.Prelude.{ℕ, List, ◌++◌, codes}
 use Rattle.rb_run_threads.specs.declared.fault.ThreadsFault.{ThreadsFault}
 use Rattle.rb_run_threads.specs.declared.fault.ThreadsFault.TheVariants.{OutOfMemory, Gather, Write}
 
--- why it failed
+-- why a run of tellers failed, in words
 abbrev pub threads_reason_of : ThreadsFault → List ℕ
 threads_reason_of OutOfMemory = codes "out of memory"
 threads_reason_of Gather = codes "gather failed"

@@ -10,21 +10,20 @@ use Rattle.rb_run_threads.specs.Texts.{text_of}
 use Rattle.rb_run_threads.specs.declared.fault.ThreadsFault.{ThreadsFault}
 use Rattle.rb_run_threads.specs.declared.fault.ThreadsFault.TheVariants.{OutOfMemory, Gather, Write}
 
--- the histories of a run with this number of tellers, one for each site: it is its own replay, and but for what was received and applied it
--- is what the site's
--- tellers did, interleaved
+-- the histories of a run with this number of tellers, one for each site: it is its own replay, and but for what was received and applied
+-- it is what the site's tellers did, interleaved
 pub record AreTellers (s : Settings) (tellers seed : ℕ) (hs : List (List Entry)) : Type 0 where
   pub each_site : length hs ≡ s.sites
   pub replays : (k : ℕ) (h : List Entry) → slice_get hs k ≡ Some h → IsReplayed (record { settings = s; me = k; entries = h })
   pub tellers_at : (k : ℕ) (h : List Entry) → slice_get hs k ≡ Some h → TellersAt seed tellers s.sites k h
 
--- the lines of such histories and of their configuration
+-- the text is the lines of a configuration and of the histories of a run of tellers
 pub record IsRun (sites tellers seed : ℕ) (text : List ℕ) : Type 0 where
   pub histories : List (List Entry)
   pub are_tellers : AreTellers (bank_of sites) tellers seed histories
   pub text_is : text ≡ text_of (bank_of sites) histories
 
--- the text begins those lines
+-- the text is a prefix of the lines of a run of tellers
 abbrev pub BeginsRun : ℕ → ℕ → ℕ → List ℕ → Type 0
 BeginsRun sites tellers seed text = (whole : List ℕ) × IsRun sites tellers seed whole × IsFront text whole
 

@@ -14,7 +14,7 @@ use Rattle.rb_run_site.specs.Faults.{site_status_of}
 use Rattle.rbbank.specs.declared.answer.Answered.{Answered}
 use Rattle.rbbank.specs.declared.answer.Answered.TheVariants.{Script, Audit, Migrate, Threads, SiteAsked}
 
--- where the words can't be read
+-- the status where the words can't be read
 abbrev pub status_of_unread : IoErrorKind → ℕ
 status_of_unread IoOutOfMemory = 4
 status_of_unread _ = 2
@@ -23,7 +23,7 @@ status_of_unread _ = 2
 abbrev pub IsToldStatus : ℕ → ℕ → Type 0
 IsToldStatus status n = (n ≡ status) ⊎ (n ≡ 4)
 
--- where the words ask for nothing: help or the version that was asked for is no fault where it is written
+-- the status where the words ask for nothing: help or the version that was asked for is no fault where it is written
 abbrev pub IsEndOfWords : ErrorKind → ℕ → Type 0
 IsEndOfWords NoMemory n = n ≡ 4
 IsEndOfWords DisplayHelp n = (n ≡ 0) ⊎ IsToldStatus (status_of Write) n
