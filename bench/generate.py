@@ -1,7 +1,8 @@
 #!/usr/bin/env python3
-"""Writes a script for `rbbank script`, or histories for `rbbank audit` and `rbbank migrate`: a configuration line and so many lines, the same for the same seed.
+"""Writes a script for `rbbank script`, or histories for `rbbank audit` and `rbbank migrate`: a configuration
+line and a given number of lines, the same for the same seed.
 
-README.md tells what each kind is.
+README.md says what each kind is.
 """
 import argparse
 import json
@@ -14,7 +15,7 @@ import mix
 from limits import LIMITS, version_of
 
 MIXED = {"mix": mix.mix, "histories": histories.histories, "migrations": histories.histories}
-# The same commands at a bank of so many sites, in version 2 of the lines.
+# The same commands at a bank of this number of sites, in version 2 of the lines.
 AT_SITES = {f"{kind}-{sites}": (kind, sites) for kind in ("cycle", "mix", "histories") for sites in (2, 8, 16)}
 KINDS = MIXED | kinds.LONG | kinds.SHORTEST | AT_SITES
 

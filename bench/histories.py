@@ -85,7 +85,7 @@ def recorded(run, known, to_token, event, site):
 
 
 def histories(seed, entries, version=1, **of_mix):
-    """The accounts with their starts, and then so many lines of histories, in a version of the lines."""
+    """The accounts with their starts, and then this number of lines of histories, in a version of the lines."""
     run, picked = mix.opened(seed, **of_mix)
     known, to_token = Known(len(run.sites), version), {}
     yield picked

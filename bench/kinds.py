@@ -12,7 +12,7 @@ RICH = LIMITS["MOST_CENTS"]
 FEW = [f"a{place}" for place in range(10)]
 # As many operations as an inbox holds.
 DEPTH = LIMITS["MOST_INBOX"]
-# Of the cancellations: so many operations are there before the first, and may be cancelled at any time after.
+# Of the cancellations: this number of operations is there before the first, and may be cancelled at any time after.
 POOL = 256
 
 

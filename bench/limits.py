@@ -9,5 +9,5 @@ LIMITS = {name: int(value) for file in FILES for name, value in CONSTANT.findall
 
 
 def version_of(sites):
-    """The version of the lines of a configuration of so many sites."""
+    """The version of the lines of a configuration of this number of sites."""
     return 1 if sites <= LIMITS["MOST_SITES_OF_VERSION_1"] else 2

@@ -10,14 +10,14 @@ from limits import LIMITS
 MOST = LIMITS["MOST_CENTS"]
 VERBS = ("deposit", "withdraw", "interest", "cancel", "balance", "pass", "transfer")
 DEFAULT_MIX = "deposit=6,withdraw=3,interest=1,cancel=1,balance=4,pass=1,transfer=1"
-# Of the deliveries, one in so many is of a message that came before.
+# Of the deliveries, one in this number is of a message that came before.
 REPEATS = 50
-# Of the withdrawals and transfers, one in so many is of more than there is.
+# Of the withdrawals and transfers, one in this number is of more than there is.
 DECLINED = 20
 
 
 class Operation:
-    """An operation with what it depends on: so many blue operations of each home, and so many red ones."""
+    """An operation with what it depends on: how many blue operations of each home, and how many red ones."""
 
     __slots__ = ("name", "home", "number", "red", "clock", "reds", "kind", "account", "amount", "target", "to")
 
@@ -113,7 +113,7 @@ class Mix:
         return items[self.pick(len(items))]
 
     def command(self, left):
-        """The next command, of so many. Where much is on its way, it moves on first; at the end, all that is left."""
+        """The next command, where this number is left. Where much is on its way, it moves on first; at the end, all of it."""
         if self.owed >= left:
             return self.moves_on()
         site = self.one_of(self.sites)
@@ -127,7 +127,7 @@ class Mix:
     # ---- messages
 
     def moves_on(self):
-        """A command that brings a site further: there is one while any is owed."""
+        """A command that brings a site further: there is one while any delivery or application is still to come."""
         for site in self.sites:
             ready = site.ready()
             if ready:

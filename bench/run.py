@@ -21,7 +21,7 @@ ROOT = os.path.dirname(os.path.dirname(os.path.abspath(__file__)))
 SIZES = "1000,10000,100000,1000000"
 # These are measured at each size, and those of the shortest ledgers that aren't here at the least size alone.
 AT_EACH = [*generate.MIXED, *kinds.LONG, "balance", "deposit"]
-# A site makes at most so many blue operations: three of each batch, two of each pair.
+# A site's blue operations allow no more commands than these: a batch makes three, a pair two.
 MOST = {"batches": LIMITS["MOST_BLUE"] // 3, "pairs": LIMITS["MOST_BLUE"] // 2}
 # Shorter scripts aren't timed, and for longer ones, or those that take more seconds, instructions aren't counted.
 LEAST_TIMED, MOST_COUNTED, SLOW = 10_000, 100_000, 2

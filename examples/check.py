@@ -3,7 +3,7 @@
 what it writes, what it says on standard error, its status, and a site's journal. What the program's own help shows is
 run as well, its version is looked at, and a run of tellers is audited.
 
-usage: check.py [--quiet] PROGRAM      (--quiet tells only what is different)
+usage: check.py [--quiet] PROGRAM      (--quiet prints only what is different)
 """
 import glob
 import os
@@ -26,7 +26,7 @@ def stored(path, otherwise):
 
 
 def expected(stem):
-    """What the run of an example writes, the fault that it tells, and its status."""
+    """What the run of an example writes, the fault that it reports, and its status."""
     return stored(stem + ".expected", b""), stored(stem + ".fault", b""), int(stored(stem + ".status", b"0"))
 
 
@@ -60,8 +60,8 @@ def is_same(program, path):
 
 
 def shown(program, command):
-    """The parts of a command's help that stand further in: its worked input, and the answer. What stands still further
-    in is the rest of the line above it."""
+    """The parts of a command's help that are indented: its worked input, and the answer. What is indented further is
+    the rest of the line above it."""
     text = subprocess.run([program, command, "--help"], capture_output=True, text=True).stdout.replace("\n    ", "")
     return [part for part in re.findall(r"(?m)(?:^  \S.*\n)+", text) if "{" in part]
 

@@ -125,7 +125,7 @@ def balances(asked, replies):
 
 
 def balances_with_room(program, config, lines, replies, asked):
-    """The balances, asked of the same run with room in each history for the questions."""
+    """The balances, asked of the same run with histories long enough for the questions."""
     config = compact(config | {"history": LARGEST_HISTORY})
     done = [line for line, reply in zip(lines, replies) if reply != '{"refused":23}']
     run = program.run("script", "\n".join([config, *done, *asked, ""]).encode())
@@ -288,7 +288,7 @@ def replayed(program, world, order, wrong):
 
 
 def clock_before(world, queue, step, name):
-    """What a site had applied before it made this operation, as its version of the lines tells it."""
+    """What a site had applied before it made this operation, as its version of the lines has it."""
     names = [each for before in queue[:step.position - 1] for each in before.changed]
     names += step.changed[:step.changed.index(name)]
     counts = Counter(int(each[1:].split(".")[0]) for each in names if each[0] == "B")

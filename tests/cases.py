@@ -44,7 +44,7 @@ CALL = re.compile(r'\{"event":\{"(deposit|withdraw|interest|cancel|pass)"')
 HAS = re.compile(r'"reply":\{"(applied|kind":"\w+","name)":"([^"]+)"\},"site":(\d+)\}$')
 TOKEN = re.compile(r'"reply":\{"(passed|taken)":(\d+)\}')
 # runs of one teller, which end the same each time: the sites and the seed. The second has each of a teller's answers,
-# and the third tells clocks by pairs
+# and the third writes clocks as pairs
 ONE_TELLER = [(2, 0), (3, 1281), (9, 4294967295)]
 
 

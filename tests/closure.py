@@ -14,8 +14,8 @@ usage: closure.py                  the headline's: the functions and laws of the
                                    file of proofs/Public and none else of proofs/, and whether no two definitions share
                                    a name; this is silent where all is well
 
-Words are resolved by the 'use' lines of their file. A type of the code stands for the types of its fields, and one that
-clients see as a value of a model for that value.
+Words are resolved by the 'use' lines of their file. A type of the code is resolved to the types of its fields, and one
+that clients see as a value of a model to that value.
 """
 import collections
 import glob
@@ -58,7 +58,7 @@ def without(text, comment):
 
 
 def imports(text):
-    """What each word of the 'use' lines of proofs stands for: its module and its name there."""
+    """What each word of the 'use' lines of proofs means: its module and its name there."""
     scope = {}
     for module, items in re.findall(r"(?m)^\s*(?:pub |ghost )?use ([\w.]+)\.\{(.*?)\}", text):
         for item in items.split(","):
@@ -103,7 +103,7 @@ def definitions(crate):
 
 
 def value_of(text, name):
-    """The value of the model as which clients see a type, if they do, and the 'use' lines that it stands beside."""
+    """The value of the model as which clients see a type, if they do, and the 'use' lines beside it."""
     found = re.search(r"(?ms)^impl[^\n]*\bModel for " + name + r"\b.*?^}", text)
     value = found and re.search(r"ghost Value = \{(.*?)\};", found.group(0), re.DOTALL)
     return (value.group(1), found.group(0)) if value else None

@@ -12,7 +12,7 @@ import re
 import sys
 
 TOP = os.path.dirname(os.path.dirname(os.path.abspath(__file__)))
-# What the prover makes of one function stands in several modules, whose last names are these.
+# What the prover makes of one function is in several modules, whose last names are these.
 PARTS = ("Answers Carried Code Goals Invariants Key Kinds Layout Lts Met Proof Reads Statement Tie TheImpl TheLaws "
          "TheLink").split()
 PART = re.compile(r"\.(" + "|".join(PARTS) + r")\b.*")

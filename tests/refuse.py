@@ -142,7 +142,7 @@ def all_tests(refuser, tests, runs):
     text, stops = test(refuser, runs, "scripts::refuse_script")
     if not stops:
         sys.exit("refuse: no script was stopped")
-    # It is never stopped: it needs no memory beyond the room that it makes first.
+    # It is never stopped: it needs no memory beyond what it takes first.
     room, _ = test(refuser, tests, "refused::reserved")
     calls, stops = test(refuser, runs, "seats::refuse_seats")
     if not stops:
