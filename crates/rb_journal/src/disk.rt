@@ -13,6 +13,7 @@ use std::os::unix::fs::FileExt;
 use std::rt::Files;
 use std::{fs, io};
 
+/// A host with a file of the system and an output. It keeps a record of its calls.
 #[derive(Drop)]
 pub struct Disk<P> {
     file: fs::File,

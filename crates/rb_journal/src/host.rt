@@ -6,9 +6,10 @@ ghost use Rattle.rb_journal.specs.Host.{DiskCause, OutputCause};
 
 use std::alloc::{AllocError, AllocFailed};
 
+/// Why a call of a host, or of a journal over it, fails.
 #[derive(Clone, Copy, Debug, PartialEq, Eq)]
 pub enum HostError {
-    /// No memory was to be had.
+    /// There was no memory.
     Memory,
     /// The file failed.
     DiskFailed,

@@ -17,7 +17,7 @@ use rb_site::{Entry, History};
 use std::alloc::{AllocError, Global};
 
 /// What was collected of an audit's lines: the configuration once there is one, then each site's history, and the
-/// number of the next line.
+/// number of the next line, from 1.
 #[derive(Drop)]
 pub struct Collected {
     pub config: Option<Config>,
