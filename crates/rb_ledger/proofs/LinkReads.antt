@@ -26,18 +26,14 @@ use Rattle.rb_ledger.proofs.ChainFacts
 use Rattle.rb_ledger.proofs.Public.OnAccount
 use Rattle.rb_ledger.proofs.FoundNames.{entry_there}
 
--- the entry and the links at a position on an account
-pub place_near : (us : List Shadow) (a : Place) (p m n : ℕ) → IsOn us a p → 0 < p → n ≡ length us → m ≡ n → p - 1 < m
-place_near us a p m n on some count same = omega (arith, OnAccount.on_within us a p on, some, count, same)
-
--- the link there, read from both lists
-pub link_read : (s : Settings) (us : List Shadow) (ls : List Links) (a : Place) (p m n : ℕ) (u : Shadow) (l : Links) → AreLinks s us ls →
-    IsOn us a p → 0 < p → n ≡ length us → u ≡ get_or us (p - 1) u → m ≡ length ls → l ≡ get_or ls (p - 1) l
-    → (u.account.0 ≡ a.0 → IsLink s (take (p - 1) us) (take p us) a l.own)
-    × ((u.account.0 ≡ a.0 → ⊥) → IsLink s (take (p - 1) us) (take p us) a l.other)
-link_read s us ls a p m n u l are on some many here count beside =
-    ChainFacts.link_on s us ls a p u l are on some
-    (slice_get_read us n (p - 1) u many (place_near us a p n n on some many refl) here)
+-- the link there, read from the list of links alone
+pub link_read : (s : Settings) (us : List Shadow) (ls : List Links) (a : Place) (p m : ℕ) (l : Links) → AreLinks s us ls → IsOn us a p →
+    0 < p → m ≡ length ls → l ≡ get_or ls (p - 1) l
+    → (l.account.0 ≡ a.0 → IsLink s (take (p - 1) us) (take p us) a l.own)
+    × ((l.account.0 ≡ a.0 → ⊥) → IsLink s (take (p - 1) us) (take p us) a l.other)
+link_read s us ls a p m l are on some count beside =
+    let (u, there, own) = OnAccount.on_entry us a p on some in
+    ChainFacts.link_on s us ls a p u l are on some there
     (slice_get_read ls m (p - 1) l count (omega (arith, OnAccount.on_within us a p on, some, count, are.count)) beside)
 
 -- the link there, by the list up to the entry before it

@@ -1,6 +1,6 @@
 -- What a ledger's parts are for the list that its clients see.
-use Rattle.std.proofs.Common.{◌≡◌, ℕ, List, length}
-use Rattle.std.proofs.Common.{get_or, ap, ◌∙◌, subst}
+use Rattle.std.proofs.Common.{◌≡◌, ℕ, List}
+use Rattle.std.proofs.Common.{subst}
 use Rattle.rb_money.specs.Settings.{Settings}
 use Rattle.rb_shadow.specs.declared.shadow.Shadow.{Shadow}
 use Rattle.rb_ledger.specs.declared.marks.Links.{Links}
@@ -17,13 +17,3 @@ seen us n x b index e = subst (λ (b : Book). IsIndex b.settings b.entries x) e 
 pub links_seen : (s : Settings) (us : List Shadow) (n : ℕ) (ls : List Links) (b : Book) → AreLinks s us ls →
     record { settings = s; entries = us; room = n } ≡ b → AreLinks b.settings b.entries ls
 links_seen s us n ls b links e = subst (λ (b : Book). AreLinks b.settings b.entries ls) e links
-
--- the list that is seen is as long
-pub entries_seen : (s : Settings) (us : List Shadow) (n : ℕ) (b : Book) → record { settings = s; entries = us; room = n } ≡ b →
-    length us ≡ length b.entries
-entries_seen s us n b e = ap (λ (b : Book). length b.entries) e
-
--- an entry that was read, as one of the list that is seen
-pub read_seen : (s : Settings) (us : List Shadow) (n i : ℕ) (b : Book) {u : Shadow} → record { settings = s; entries = us; room = n } ≡ b →
-    u ≡ get_or us i u → u ≡ get_or b.entries i u
-read_seen s us n i b {u} e read = read ∙ ap (λ (b : Book). get_or b.entries i u) e

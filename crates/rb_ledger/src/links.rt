@@ -62,9 +62,8 @@ impl Ledger {
         ensures { IsLink self.now.settings (take (position - 1) self.now.entries) (take position self.now.entries) place
             result }
     {
-        let index = position as usize - 1;
-        let links = self.links[index];
-        if self.entries[index].account == place {
+        let links = self.links[position as usize - 1];
+        if links.account == place {
             links.own
         } else {
             links.other
@@ -84,12 +83,17 @@ impl Ledger {
         if parts.other == Place::NOWHERE {
             return Links {
                 own,
+                account: shadow.account,
                 other: NO_LINK,
             };
         }
         let other_balance = parts.other_balance + taken - added;
         let other = self.link(parts.other, other_balance);
-        Links { own, other }
+        Links {
+            own,
+            account: shadow.account,
+            other,
+        }
     }
 
     /// The link of the next entry on an account, with the balance after it.

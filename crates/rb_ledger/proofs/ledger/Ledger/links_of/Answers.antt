@@ -1,4 +1,4 @@
-use Rattle.std.proofs.Common.{◌≡◌, ◌∷◌, ◌++◌, [], Some, ap, sym, ◌∙◌, subst, arith}
+use Rattle.std.proofs.Common.{◌≡◌, ◌∷◌, ◌++◌, [], Some, refl, ap, sym, ◌∙◌, subst, arith}
 use Rattle.std.specs.Prelude.{pos}
 use Rattle.rb_money.specs.declared.place.Place.{Place}
 use Rattle.rb_shadow.specs.Operations.{bal}
@@ -66,6 +66,7 @@ returns-then-eq c =
     c.moved_by-added.ensures.sums).1 in
     let place = ap (λ (p : UndoParts). p.place) c.requires.parts in
     record {
+      account = refl;
       own = subst (λ a. IsLink s us (us ++ h
           ∷ []) a c.link-own.result) place (record {
             balance = ap pos c.link-own.ensures.balance ∙ now ∙ ap (bal s (us ++ h
@@ -135,6 +136,7 @@ returns c =
     let other_now = (OneMore.other_seen s us h c.args.parts.now.other _ _ _
     valid c.requires.valid there other_was c.moved_by-added.ensures.sums).1 in
     record {
+      account = refl;
       own = subst (λ a. IsLink s us after a c.link-own.result) place (record {
         balance = ap pos c.link-own.ensures.balance ∙ now ∙ ap (bal s after) (sym place);
         earlier = c.link-own.ensures.earlier;
