@@ -208,6 +208,18 @@ parted (u ∷ us) x h zero (suc j) d up l e = before-trans u.name (get_or us j d
 parted (u ∷ us) x h (suc i) zero d up l e = absurd (omega arith)
 parted (u ∷ us) x h (suc i) (suc j) d up l e = parted us x h.1 i j d (omega arith) (omega arith) e
 
+-- where the last of them is before the name, all are
+pub all-before : (us : List Shadow) (x : OpName) (i : ℕ) (d : Shadow) → IsInOrder us → suc i ≡ length us →
+    stands_before (get_or us i d).name x ≡ true → length us ≡ held_before us x
+all-before [] x i d h l e = refl
+all-before (u ∷ []) x i d h l e =
+    ap (λ b. cond b 1 0) (sym (subst (λ k. stands_before (get_or (u ∷ []) k d).name x ≡ true) (let z : i ≡ 0 = omega arith in z) e))
+all-before (u ∷ w ∷ us) x zero d h l e = absurd (omega arith)
+all-before (u ∷ w ∷ us) x (suc i) d h l e =
+    ap suc (all-before (w ∷ us) x i d h.1 (omega arith) e)
+    ∙ ap (λ b. cond b (suc (held_before (w ∷ us) x)) 0)
+    (sym (parted (u ∷ w ∷ us) x h 0 (suc i) d (omega arith) (omega arith) e))
+
 -- the point where it is parted is the place of the name
 pub point-index : (us : List Shadow) (x : OpName) (i : ℕ) → i ≤ length us
     → IsPartitionPoint (λ (u : Shadow). stands_before u.name x ≡ true) (λ (u : Shadow). stands_before u.name x ≡ false) us i →

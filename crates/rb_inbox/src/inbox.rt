@@ -248,12 +248,22 @@ fn ready_in(row: &[Shadow], clock: &Clock) -> Option<OpName>
     None
 }
 
-/// The index of the shadow of the name, or the one at which it would be put.
+/// The index of the shadow of the name, or the one at which it would be put. Both ends are looked at first, since it is
+/// mostly there.
 fn index_of(shadows: &[Shadow], name: OpName) -> usize
     requires { IsInOrder shadows.now }
     ensures index { result ≡ held_before shadows.now name }
     ensures bound { result ≤ length shadows.now }
 {
+    let Some(last) = shadows.last() else {
+        return 0;
+    };
+    if comes_before(last.name, name) {
+        return shadows.len();
+    }
+    if !comes_before(shadows[0].name, name) {
+        return 0;
+    }
     shadows.partition_point(|held| comes_before(held.name, name))
 }
 
