@@ -228,6 +228,7 @@ impl State {
             (outcome_of_new self.old.settings self.old.site shadow)) }
         ensures err { OnErr result (self.new ≡ self.old) }
     {
+        // For a fact alone: the operations are a valid list, of at most `MOST_SITES` sites.
         let _sites = self.journal.config().sites();
         let why = match self.inbox.put(shadow, self.journal.clock()) {
             Ok(PutAnswer::Held) => return Ok(Answer::plain(Reply::Held(shadow.name))),
