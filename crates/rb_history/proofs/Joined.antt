@@ -4,7 +4,7 @@ use Rattle.rb_shadow.specs.NameText.{IsName, name_text}
 use Rattle.rb_shadow.specs.declared.op_name.OpName.{OpName}
 use Rattle.rb_commands.proofs.Public.Plain.{escape_plain, plain_name}
 use Rattle.json.specs.Print.{escape}
-use Rattle.rb_history.specs.Tells.{IsBetween, behind_quote}
+use Rattle.rb_history.specs.Beginnings.{IsBetween, behind_quote}
 
 -- a text between two others, each read after the one before it
 pub between : (text front behind middle more back rest : List ℕ) → text ≡ front ++ behind → behind ≡ middle ++ more → more ≡ back ++ rest

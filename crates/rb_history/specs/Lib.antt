@@ -5,7 +5,7 @@ pub mod Recorded
 pub mod RepliesRead
 pub mod Entries
 pub mod Fits
-pub mod Tells
+pub mod Beginnings
 pub mod Verdicts
 pub mod OneLine
 pub mod Messages

@@ -8,7 +8,7 @@ use Rattle.std.proofs.lemmas.List.Edits.{length-remove}
 use Rattle.rb_shadow.specs.Operations.{Among, find_in, same_name, row_of}
 use Rattle.rb_shadow.specs.declared.op_name.OpName.{OpName}
 use Rattle.rb_shadow.specs.declared.shadow.Shadow.{Shadow}
-use Rattle.rb_inbox.specs.Held.{IsNumbered, held_before, stands_before, with_held, without}
+use Rattle.rb_inbox.specs.Held.{IsNumbered, held_before, comes_before, with_held, without}
 use Rattle.rb_inbox.specs.Rows.{AreCounted, AreHeldRows, IsHeldRow, held_of}
 use Rattle.rb_inbox.proofs.Order.{found_within, in_order-filter, in_order-with_held, insert-index, remove-index}
 use Rattle.rb_inbox.proofs.Public.Holding.{held_cases, kept_among}
@@ -97,7 +97,7 @@ row-without r x us h = record {
 
 with_held-length : (v : Shadow) (us : List Shadow) → length (with_held v us) ≡ length us + 1
 with_held-length v [] = refl
-with_held-length v (u ∷ us) = at (stands_before v.name u.name) (with_held-length v us)
+with_held-length v (u ∷ us) = at (comes_before v.name u.name) (with_held-length v us)
   where
     at : (b : Bool) → length (with_held v us) ≡ length us + 1 → length (cond b (v ∷ u ∷ us) (u ∷ with_held v us)) ≡ length (u ∷ us) + 1
     at true e = omega arith

@@ -10,10 +10,10 @@ use Rattle.rb_shadow.specs.declared.op_name.OpName.{OpName}
 use Rattle.rb_shadow.specs.declared.op_name.OpName.TheVariants.{Blue, Red}
 use Rattle.rb_shadow.specs.declared.shadow.Shadow.{Shadow}
 use Rattle.rb_shadow.proofs.Public.Members
-use Rattle.rb_inbox.specs.Held.{Holding, IsInOrder, StandsBeforeAll, held_before, stands_before, with_held, without}
+use Rattle.rb_inbox.specs.Held.{Holding, IsInOrder, ComesBeforeAll, held_before, comes_before, with_held, without}
 
 -- the order of the names is transitive
-pub before-trans : (x y z : OpName) → stands_before x y ≡ true → stands_before y z ≡ true → stands_before x z ≡ true
+pub before-trans : (x y z : OpName) → comes_before x y ≡ true → comes_before y z ≡ true → comes_before x z ≡ true
 before-trans (Blue i m) (Blue j n) (Blue k p) h l = grind (arith, nat_tests)
 before-trans (Blue i m) (Blue j n) (Red p) h l = refl
 before-trans (Blue i m) (Red n) (Blue k p) h l = cc
@@ -23,21 +23,21 @@ before-trans (Red m) (Red n) (Blue k p) h l = cc
 before-trans (Red m) (Red n) (Red p) h l = grind (arith, nat_tests)
 
 -- a name comes before no name that comes before it
-pub before-one_way : (x y : OpName) → stands_before x y ≡ true → stands_before y x ≡ false
+pub before-one_way : (x y : OpName) → comes_before x y ≡ true → comes_before y x ≡ false
 before-one_way (Blue i m) (Blue j n) h = grind (arith, nat_tests)
 before-one_way (Blue i m) (Red n) h = refl
 before-one_way (Red m) (Blue j n) h = cc
 before-one_way (Red m) (Red n) h = grind (arith, nat_tests)
 
 -- a name that comes before another is another
-pub before-not_same : (x y : OpName) → stands_before x y ≡ true → same_name x y ≡ false
+pub before-not_same : (x y : OpName) → comes_before x y ≡ true → same_name x y ≡ false
 before-not_same (Blue i m) (Blue j n) h = grind (arith, nat_tests)
 before-not_same (Blue i m) (Red n) h = refl
 before-not_same (Red m) (Blue j n) h = refl
 before-not_same (Red m) (Red n) h = grind (arith, nat_tests)
 
 -- of two different names one comes before the other
-pub before-other_way : (x y : OpName) → same_name x y ≡ false → stands_before x y ≡ false → stands_before y x ≡ true
+pub before-other_way : (x y : OpName) → same_name x y ≡ false → comes_before x y ≡ false → comes_before y x ≡ true
 before-other_way (Blue i m) (Blue j n) h k = grind (arith, nat_tests)
 before-other_way (Blue i m) (Red n) h k = cc
 before-other_way (Red m) (Blue j n) h k = refl
@@ -46,39 +46,39 @@ before-other_way (Red m) (Red n) h k = grind (arith, nat_tests)
 -- ---- what comes before all of a list
 
 -- what comes before the first of all comes before all
-pub before_all-trans : (x y : OpName) (us : List Shadow) → stands_before x y ≡ true → StandsBeforeAll y us → StandsBeforeAll x us
+pub before_all-trans : (x y : OpName) (us : List Shadow) → comes_before x y ≡ true → ComesBeforeAll y us → ComesBeforeAll x us
 before_all-trans x y [] h k = tt
 before_all-trans x y (u ∷ us) h k = (before-trans x y u.name h k.0, before_all-trans x y us h k.1)
 
 -- it is the name of none of them
-pub before_all-find : (x : OpName) (us : List Shadow) → StandsBeforeAll x us → find_in us x ≡ None
+pub before_all-find : (x : OpName) (us : List Shadow) → ComesBeforeAll x us → find_in us x ≡ None
 before_all-find x [] h = refl
 before_all-find x (u ∷ us) h = ap (λ b. cond b (Some u) (find_in us x)) (Members.same_name-comm u.name x ∙ before-not_same x u.name h.0)
     ∙ before_all-find x us h.1
 
 -- nor is any of them left out without it
-pub before_all-without : (x : OpName) (us : List Shadow) → StandsBeforeAll x us → without x us ≡ us
+pub before_all-without : (x : OpName) (us : List Shadow) → ComesBeforeAll x us → without x us ≡ us
 before_all-without x [] h = refl
 before_all-without x (u ∷ us) h =
     ap (λ b. cond (not b) (u ∷ without x us) (without x us)) (Members.same_name-comm u.name x ∙ before-not_same x u.name h.0)
     ∙ ap (λ ws. u ∷ ws) (before_all-without x us h.1)
 
 -- a name comes before all also with one more
-pub before_all-with_held : (x : OpName) (v : Shadow) (us : List Shadow) → stands_before x v.name ≡ true → StandsBeforeAll x us →
-    StandsBeforeAll x (with_held v us)
+pub before_all-with_held : (x : OpName) (v : Shadow) (us : List Shadow) → comes_before x v.name ≡ true → ComesBeforeAll x us →
+    ComesBeforeAll x (with_held v us)
 before_all-with_held x v [] h k = (h, tt)
-before_all-with_held x v (u ∷ us) h k = at (stands_before v.name u.name) (before_all-with_held x v us h k.1)
+before_all-with_held x v (u ∷ us) h k = at (comes_before v.name u.name) (before_all-with_held x v us h k.1)
   where
-    at : (b : Bool) → StandsBeforeAll x (with_held v us) → StandsBeforeAll x (cond b (v ∷ u ∷ us) (u ∷ with_held v us))
+    at : (b : Bool) → ComesBeforeAll x (with_held v us) → ComesBeforeAll x (cond b (v ∷ u ∷ us) (u ∷ with_held v us))
     at true r = (h, k)
     at false r = (k.0, r)
 
 -- a name comes before some of all
-pub before_all-filter : (p : Shadow → Bool) (x : OpName) (us : List Shadow) → StandsBeforeAll x us → StandsBeforeAll x (filter p us)
+pub before_all-filter : (p : Shadow → Bool) (x : OpName) (us : List Shadow) → ComesBeforeAll x us → ComesBeforeAll x (filter p us)
 before_all-filter p x [] h = tt
 before_all-filter p x (u ∷ us) h = at (p u) (before_all-filter p x us h.1)
   where
-    at : (b : Bool) → StandsBeforeAll x (filter p us) → StandsBeforeAll x (cond b (u ∷ filter p us) (filter p us))
+    at : (b : Bool) → ComesBeforeAll x (filter p us) → ComesBeforeAll x (cond b (u ∷ filter p us) (filter p us))
     at true r = (h.0, r)
     at false r = r
 
@@ -87,10 +87,10 @@ before_all-filter p x (u ∷ us) h = at (p u) (before_all-filter p x us h.1)
 -- one more keeps the order
 pub in_order-with_held : (v : Shadow) (us : List Shadow) → IsInOrder us → find_in us v.name ≡ None → IsInOrder (with_held v us)
 in_order-with_held v [] h new = (tt, tt)
-in_order-with_held v (u ∷ us) h new = at (stands_before v.name u.name) (same_name u.name v.name) refl refl new
+in_order-with_held v (u ∷ us) h new = at (comes_before v.name u.name) (same_name u.name v.name) refl refl new
     (λ k. in_order-with_held v us h.1 k)
   where
-    at : (b s : Bool) → stands_before v.name u.name ≡ b → same_name u.name v.name ≡ s → cond s (Some u) (find_in us v.name) ≡ None
+    at : (b s : Bool) → comes_before v.name u.name ≡ b → same_name u.name v.name ≡ s → cond s (Some u) (find_in us v.name) ≡ None
         → (find_in us v.name ≡ None → IsInOrder (with_held v us)) → IsInOrder (cond b (v ∷ u ∷ us) (u ∷ with_held v us))
     at b true e q new rest = absurd (cc)
     at true false e q new rest = ((e, before_all-trans v.name u.name us e h.0), h)
@@ -114,9 +114,9 @@ in_order-filter p (u ∷ us) h = at (p u) (in_order-filter p us h.1)
 -- past the end nothing is of the name
 pub find-past : (us : List Shadow) (x : OpName) → IsInOrder us → length us ≤ held_before us x → find_in us x ≡ None
 find-past [] x h l = refl
-find-past (u ∷ us) x h l = at (stands_before u.name x) refl l (find-past us x h.1)
+find-past (u ∷ us) x h l = at (comes_before u.name x) refl l (find-past us x h.1)
   where
-    at : (b : Bool) → stands_before u.name x ≡ b → suc (length us) ≤ cond b (suc (held_before us x)) 0 →
+    at : (b : Bool) → comes_before u.name x ≡ b → suc (length us) ≤ cond b (suc (held_before us x)) 0 →
         (length us ≤ held_before us x → find_in us x ≡ None)
         → cond (same_name u.name x) (Some u) (find_in us x) ≡ None
     at true e l rest = ap (λ s. cond s (Some u) (find_in us x)) (before-not_same u.name x e) ∙ rest (omega arith)
@@ -126,9 +126,9 @@ find-past (u ∷ us) x h l = at (stands_before u.name x) refl l (find-past us x 
 pub find-index : (us : List Shadow) (x : OpName) (d : Shadow) → IsInOrder us → held_before us x < length us
     → find_in us x ≡ cond (same_name (get_or us (held_before us x) d).name x) (Some (get_or us (held_before us x) d)) None
 find-index [] x d h l = absurd (omega arith)
-find-index (u ∷ us) x d h l = at (stands_before u.name x) refl l (find-index us x d h.1)
+find-index (u ∷ us) x d h l = at (comes_before u.name x) refl l (find-index us x d h.1)
   where
-    at : (b : Bool) → stands_before u.name x ≡ b → cond b (suc (held_before us x)) 0 < suc (length us)
+    at : (b : Bool) → comes_before u.name x ≡ b → cond b (suc (held_before us x)) 0 < suc (length us)
         → (held_before us x < length us → find_in us x ≡ cond (same_name (get_or us (held_before us x) d).name x)
         (Some (get_or us (held_before us x) d)) None)
         → cond (same_name u.name x) (Some u) (find_in us x)
@@ -167,11 +167,11 @@ found_within us x u h e = at (nat_lt (held_before us x) (length us)) refl
 pub insert-index : (v : Shadow) (us : List Shadow) → IsInOrder us → find_in us v.name ≡ None →
     insert us (held_before us v.name) v ≡ with_held v us
 insert-index v [] h new = refl
-insert-index v (u ∷ us) h new = at (stands_before u.name v.name) (same_name u.name v.name) refl refl new (λ k. insert-index v us h.1 k)
+insert-index v (u ∷ us) h new = at (comes_before u.name v.name) (same_name u.name v.name) refl refl new (λ k. insert-index v us h.1 k)
   where
-    at : (b s : Bool) → stands_before u.name v.name ≡ b → same_name u.name v.name ≡ s → cond s (Some u) (find_in us v.name) ≡ None
+    at : (b s : Bool) → comes_before u.name v.name ≡ b → same_name u.name v.name ≡ s → cond s (Some u) (find_in us v.name) ≡ None
         → (find_in us v.name ≡ None → insert us (held_before us v.name) v ≡ with_held v us)
-        → insert (u ∷ us) (cond b (suc (held_before us v.name)) 0) v ≡ cond (stands_before v.name u.name) (v ∷ u ∷ us) (u ∷ with_held v us)
+        → insert (u ∷ us) (cond b (suc (held_before us v.name)) 0) v ≡ cond (comes_before v.name u.name) (v ∷ u ∷ us) (u ∷ with_held v us)
     at b true e q new rest = absurd (cc)
     at true false e q new rest = ap (λ ws. u ∷ ws) (rest new) ∙ ap (λ c. cond c (v ∷ u ∷ us) (u
         ∷ with_held v us)) (sym (before-one_way u.name v.name e))
@@ -181,27 +181,27 @@ insert-index v (u ∷ us) h new = at (stands_before u.name v.name) (same_name u.
 pub remove-index : (us : List Shadow) (x : OpName) (u : Shadow) → IsInOrder us → find_in us x ≡ Some u →
     remove us (held_before us x) ≡ without x us
 remove-index [] x w h found = absurd (cc)
-remove-index (u ∷ us) x w h found = at (stands_before u.name x) (same_name u.name x) refl refl found (λ k. remove-index us x w h.1 k)
+remove-index (u ∷ us) x w h found = at (comes_before u.name x) (same_name u.name x) refl refl found (λ k. remove-index us x w h.1 k)
   where
-    at : (b s : Bool) → stands_before u.name x ≡ b → same_name u.name x ≡ s → cond s (Some u) (find_in us x) ≡ Some w
+    at : (b s : Bool) → comes_before u.name x ≡ b → same_name u.name x ≡ s → cond s (Some u) (find_in us x) ≡ Some w
         → (find_in us x ≡ Some w → remove us (held_before us x) ≡ without x us)
         → remove (u ∷ us) (cond b (suc (held_before us x)) 0) ≡ cond (not s) (u ∷ without x us) (without x us)
     at true true e q found rest = absurd (Members.true≢false (sym q ∙ before-not_same u.name x e))
     at true false e q found rest = ap (λ ws. u ∷ ws) (rest found)
-    at false true e q found rest = sym (before_all-without x us (subst (λ y. StandsBeforeAll y us) (Members.same_name-true u.name x q) h.0))
+    at false true e q found rest = sym (before_all-without x us (subst (λ y. ComesBeforeAll y us) (Members.same_name-true u.name x q) h.0))
     at false false e q found rest = absurd (let none : find_in us x ≡ None = before_all-find x us
         (before_all-trans x u.name us (before-other_way u.name x q e) h.0) in cc)
 
 -- ---- the place that a search finds
 
-before_all-at : (x : OpName) (us : List Shadow) (k : ℕ) (d : Shadow) → StandsBeforeAll x us → k < length us →
-    stands_before x (get_or us k d).name ≡ true
+before_all-at : (x : OpName) (us : List Shadow) (k : ℕ) (d : Shadow) → ComesBeforeAll x us → k < length us →
+    comes_before x (get_or us k d).name ≡ true
 before_all-at x [] k d h l = absurd (omega arith)
 before_all-at x (u ∷ us) zero d h l = h.0
 before_all-at x (u ∷ us) (suc k) d h l = before_all-at x us k d h.1 (omega arith)
 
 -- the list is parted by a name
-pub parted : (us : List Shadow) (x : OpName) → IsInOrder us → IsPartitionedBy (λ (u : Shadow). stands_before u.name x) us
+pub parted : (us : List Shadow) (x : OpName) → IsInOrder us → IsPartitionedBy (λ (u : Shadow). comes_before u.name x) us
 parted [] x h i j d up l e = absurd (omega arith)
 parted (u ∷ us) x h zero zero d up l e = e
 parted (u ∷ us) x h zero (suc j) d up l e = before-trans u.name (get_or us j d).name x (before_all-at u.name us j d h.0 (omega arith)) e
@@ -210,10 +210,10 @@ parted (u ∷ us) x h (suc i) (suc j) d up l e = parted us x h.1 i j d (omega ar
 
 -- where the last of them is before the name, all are
 pub all-before : (us : List Shadow) (x : OpName) (i : ℕ) (d : Shadow) → IsInOrder us → suc i ≡ length us →
-    stands_before (get_or us i d).name x ≡ true → length us ≡ held_before us x
+    comes_before (get_or us i d).name x ≡ true → length us ≡ held_before us x
 all-before [] x i d h l e = refl
 all-before (u ∷ []) x i d h l e =
-    ap (λ b. cond b 1 0) (sym (subst (λ k. stands_before (get_or (u ∷ []) k d).name x ≡ true) (let z : i ≡ 0 = omega arith in z) e))
+    ap (λ b. cond b 1 0) (sym (subst (λ k. comes_before (get_or (u ∷ []) k d).name x ≡ true) (let z : i ≡ 0 = omega arith in z) e))
 all-before (u ∷ w ∷ us) x zero d h l e = absurd (omega arith)
 all-before (u ∷ w ∷ us) x (suc i) d h l e =
     ap suc (all-before (w ∷ us) x i d h.1 (omega arith) e)
@@ -222,7 +222,7 @@ all-before (u ∷ w ∷ us) x (suc i) d h l e =
 
 -- the point where it is parted is the place of the name
 pub point-index : (us : List Shadow) (x : OpName) (i : ℕ) → i ≤ length us
-    → IsPartitionPoint (λ (u : Shadow). stands_before u.name x ≡ true) (λ (u : Shadow). stands_before u.name x ≡ false) us i →
+    → IsPartitionPoint (λ (u : Shadow). comes_before u.name x ≡ true) (λ (u : Shadow). comes_before u.name x ≡ false) us i →
     i ≡ held_before us x
 point-index [] x zero l h = refl
 point-index [] x (suc i) l h = absurd (omega arith)
@@ -236,9 +236,9 @@ point-index (u ∷ us) x (suc i) l h =
 
 -- ---- what is held, by its name
 
-before_all-among : (x : OpName) (us : List Shadow) (u : Shadow) → StandsBeforeAll x us → Among u us → stands_before x u.name ≡ true
+before_all-among : (x : OpName) (us : List Shadow) (u : Shadow) → ComesBeforeAll x us → Among u us → comes_before x u.name ≡ true
 before_all-among x [] u h a = elim a [ ]
-before_all-among x (v ∷ us) u h (inl e) = ap (λ (w : Shadow). stands_before x w.name) e ∙ h.0
+before_all-among x (v ∷ us) u h (inl e) = ap (λ (w : Shadow). comes_before x w.name) e ∙ h.0
 before_all-among x (v ∷ us) u h (inr a) = before_all-among x us u h.1 a
 
 -- each operation is found by its name
@@ -253,7 +253,7 @@ Among-find (w ∷ us) u h (inr a) =
 
 -- what is left from a place on is what is there, or has a later name
 pub left_cases : (us : List Shadow) (k : ℕ) (d u : Shadow) → IsInOrder us → k < length us → Among u (drop k us) →
-    (u ≡ get_or us k d) ⊎ (stands_before (get_or us k d).name u.name ≡ true)
+    (u ≡ get_or us k d) ⊎ (comes_before (get_or us k d).name u.name ≡ true)
 left_cases [] k d u h l a = absurd (omega arith)
 left_cases (w ∷ us) zero d u h l (inl e) = inl e
 left_cases (w ∷ us) zero d u h l (inr a) = inr (before_all-among w.name us u h.0 a)

@@ -9,7 +9,7 @@ use Rattle.rb_shadow.specs.declared.op_name.OpName.{OpName}
 use Rattle.rb_shadow.specs.declared.op_name.OpName.TheVariants.{Blue, Red}
 use Rattle.rb_shadow.specs.declared.shadow.Shadow.{Shadow}
 use Rattle.rb_shadow.proofs.Public.Lookups.{Among-index}
-use Rattle.rb_inbox.specs.Held.{IsNumbered, IsReady, stands_before}
+use Rattle.rb_inbox.specs.Held.{IsNumbered, IsReady, comes_before}
 use Rattle.rb_inbox.specs.Rows.{AreHeldRows, IsHeldRow, held_of}
 use Rattle.rb_inbox.proofs.Changes.{finds_at}
 use Rattle.rb_inbox.proofs.Order.{Among-find, left_cases}
@@ -29,7 +29,7 @@ waits u c numbered l ready = at u.name numbered.next l
         let counted : nat_le 1 m && nat_le m c.red ≡ true = ready (Red m) named in grind (arith, nat_tests)
 
 -- of two names of a row the later has the greater number, at the same entry
-later_number : (x y : OpName) (c : Deps) → row_of x ≡ row_of y → stands_before x y ≡ true →
+later_number : (x y : OpName) (c : Deps) → row_of x ≡ row_of y → comes_before x y ≡ true →
     (number_of x < number_of y) × (entry_of c x ≡ entry_of c y)
 later_number (Blue i m) (Blue j n) c e h = (grind (arith, nat_tests), ap (slice_index c.blue) (let same : i ≡ j = omega arith in same))
 later_number (Blue i m) (Red n) c e h = absurd (omega arith)
@@ -42,7 +42,7 @@ pub none_from : (r : ℕ) (us : List Shadow) (k : ℕ) (d u : Shadow) (c : Deps)
     → Among u us → Among u (drop k us) → IsReady c u → ⊥
 none_from r us k d u c row within l a left ready = waits u c (row.numbered u a) (at (left_cases us k d u row.in_order within left)) ready
   where
-    at : (u ≡ get_or us k d) ⊎ (stands_before (get_or us k d).name u.name ≡ true) → entry_of c u.name + 1 < number_of u.name
+    at : (u ≡ get_or us k d) ⊎ (comes_before (get_or us k d).name u.name ≡ true) → entry_of c u.name + 1 < number_of u.name
     at (inl e) = subst (λ (w : Shadow). entry_of c w.name + 1 < number_of w.name) (sym e) l
     at (inr e) =
         let more : (number_of (get_or us k d).name < number_of u.name) × (entry_of c (get_or us k d).name ≡ entry_of c u.name) =

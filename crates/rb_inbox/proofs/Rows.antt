@@ -12,7 +12,7 @@ use Rattle.rb_shadow.specs.declared.op_name.OpName.TheVariants.{Blue, Red}
 use Rattle.rb_shadow.specs.declared.shadow.Shadow.{Shadow}
 use Rattle.rb_shadow.proofs.Public.Members
 use Rattle.rb_shadow.specs.Sound.{is_foreign}
-use Rattle.rb_inbox.specs.Held.{IsNumbered, StandsBeforeAll, stands_before, with_held, without}
+use Rattle.rb_inbox.specs.Held.{IsNumbered, ComesBeforeAll, comes_before, with_held, without}
 use Rattle.rb_inbox.specs.Rows.{AreHeldRows, IsHeldRow, held_of}
 use Rattle.rb_inbox.proofs.Order.{before-not_same, before-one_way, before_all-without}
 
@@ -22,17 +22,17 @@ joined rows = flat_map (λ us. us) rows
 
 -- ---- the order of the rows
 
-before-later : (x y : OpName) → 1 ≤ row_of x → row_of x < row_of y → stands_before x y ≡ true
+before-later : (x y : OpName) → 1 ≤ row_of x → row_of x < row_of y → comes_before x y ≡ true
 before-later (Blue i m) (Blue j n) h l = grind (arith, nat_tests)
 before-later (Blue i m) (Red n) h l = refl
 before-later (Red m) y h l = absurd (omega arith)
 
-before-red : (x y : OpName) → 1 ≤ row_of x → row_of y ≡ 0 → stands_before x y ≡ true
+before-red : (x y : OpName) → 1 ≤ row_of x → row_of y ≡ 0 → comes_before x y ≡ true
 before-red (Blue i m) (Blue j n) h e = absurd (omega arith)
 before-red (Blue i m) (Red n) h e = refl
 before-red (Red m) y h e = absurd (omega arith)
 
-before_all : (x : OpName) (us : List Shadow) → ((u : Shadow) → Among u us → stands_before x u.name ≡ true) → StandsBeforeAll x us
+before_all : (x : OpName) (us : List Shadow) → ((u : Shadow) → Among u us → comes_before x u.name ≡ true) → ComesBeforeAll x us
 before_all x [] h = tt
 before_all x (u ∷ us) h = (h u (inl refl), before_all x us (λ v a. h v (inr a)))
 
@@ -194,25 +194,25 @@ find_in_row (u ∷ us) x = at (same_name u.name x) (is_of (row_of x) u) refl ref
 
 -- a change that concerns a name leaves alone what comes before the name, and what comes after it
 pub record IsChangeAt (x : OpName) (f : List Shadow → List Shadow) : Type 0 where
-  pub later : (us vs : List Shadow) → ((u : Shadow) → Among u us → stands_before u.name x ≡ true) → f (us ++ vs) ≡ us ++ f vs
-  pub sooner : (us vs : List Shadow) → ((u : Shadow) → Among u vs → stands_before x u.name ≡ true) → f (us ++ vs) ≡ f us ++ vs
+  pub later : (us vs : List Shadow) → ((u : Shadow) → Among u us → comes_before u.name x ≡ true) → f (us ++ vs) ≡ us ++ f vs
+  pub sooner : (us vs : List Shadow) → ((u : Shadow) → Among u vs → comes_before x u.name ≡ true) → f (us ++ vs) ≡ f us ++ vs
 
 -- putting is a change at the name
 pub putting : (v : Shadow) → IsChangeAt v.name (with_held v)
 putting v = record { later = later; sooner = sooner }
   where
-    later : (us vs : List Shadow) → ((u : Shadow) → Among u us → stands_before u.name v.name ≡ true) →
+    later : (us vs : List Shadow) → ((u : Shadow) → Among u us → comes_before u.name v.name ≡ true) →
         with_held v (us ++ vs) ≡ us ++ with_held v vs
     later [] vs h = refl
     later (u ∷ us) vs h =
         ap (λ b. cond b (v ∷ u ∷ (us ++ vs)) (u ∷ with_held v (us ++ vs))) (before-one_way u.name v.name (h u (inl refl)))
         ∙ ap (λ ws. u ∷ ws) (later us vs (λ w a. h w (inr a)))
 
-    sooner : (us vs : List Shadow) → ((u : Shadow) → Among u vs → stands_before v.name u.name ≡ true) →
+    sooner : (us vs : List Shadow) → ((u : Shadow) → Among u vs → comes_before v.name u.name ≡ true) →
         with_held v (us ++ vs) ≡ with_held v us ++ vs
     sooner [] [] h = refl
     sooner [] (w ∷ vs) h = ap (λ b. cond b (v ∷ w ∷ vs) (w ∷ with_held v vs)) (h w (inl refl))
-    sooner (u ∷ us) vs h = at (stands_before v.name u.name) (sooner us vs h)
+    sooner (u ∷ us) vs h = at (comes_before v.name u.name) (sooner us vs h)
       where
         at : (b : Bool) → with_held v (us ++ vs) ≡ with_held v us ++ vs →
             cond b (v ∷ u ∷ (us ++ vs)) (u ∷ with_held v (us ++ vs)) ≡ cond b (v ∷ u ∷ us) (u ∷ with_held v us) ++ vs
@@ -223,12 +223,12 @@ putting v = record { later = later; sooner = sooner }
 pub removing : (x : OpName) → IsChangeAt x (without x)
 removing x = record { later = later; sooner = sooner }
   where
-    later : (us vs : List Shadow) → ((u : Shadow) → Among u us → stands_before u.name x ≡ true) → without x (us ++ vs) ≡ us ++ without x vs
+    later : (us vs : List Shadow) → ((u : Shadow) → Among u us → comes_before u.name x ≡ true) → without x (us ++ vs) ≡ us ++ without x vs
     later us vs h =
         filter-append (λ u. not (same_name u.name x)) us vs
         ∙ ap (λ ws. ws ++ without x vs) (filter_all (λ u. not (same_name u.name x)) us (λ u a. ap not (before-not_same u.name x (h u a))))
 
-    sooner : (us vs : List Shadow) → ((u : Shadow) → Among u vs → stands_before x u.name ≡ true) → without x (us ++ vs) ≡ without x us ++ vs
+    sooner : (us vs : List Shadow) → ((u : Shadow) → Among u vs → comes_before x u.name ≡ true) → without x (us ++ vs) ≡ without x us ++ vs
     sooner us vs h = filter-append (λ u. not (same_name u.name x)) us vs
         ∙ ap (λ ws. without x us ++ ws) (before_all-without x vs (before_all x vs h))
 

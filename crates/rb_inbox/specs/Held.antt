@@ -9,16 +9,16 @@ use Rattle.rb_shadow.specs.declared.op_name.OpName.TheVariants.{Blue, Red}
 use Rattle.rb_shadow.specs.declared.shadow.Shadow.{Shadow}
 
 -- the order of the names: blue ones by site and number, then red ones by number
-abbrev pub stands_before : OpName → OpName → Bool
-stands_before (Blue i m) (Blue j n) = nat_lt i j || ((i == j) && nat_lt m n)
-stands_before (Blue i m) (Red n) = true
-stands_before (Red m) (Blue j n) = false
-stands_before (Red m) (Red n) = nat_lt m n
+abbrev pub comes_before : OpName → OpName → Bool
+comes_before (Blue i m) (Blue j n) = nat_lt i j || ((i == j) && nat_lt m n)
+comes_before (Blue i m) (Red n) = true
+comes_before (Red m) (Blue j n) = false
+comes_before (Red m) (Red n) = nat_lt m n
 
 -- the list with one operation more, in its place
 abbrev pub with_held : Shadow → List Shadow → List Shadow
 with_held v [] = v ∷ []
-with_held v (u ∷ us) = if stands_before v.name u.name then v ∷ u ∷ us else u ∷ with_held v us
+with_held v (u ∷ us) = if comes_before v.name u.name then v ∷ u ∷ us else u ∷ with_held v us
 
 -- the list without the operation of a name
 abbrev pub without : OpName → List Shadow → List Shadow
@@ -30,19 +30,19 @@ pub record Holding : Type 0 where
   pub held : List Shadow
 
 -- the name comes before that of each of the operations
-abbrev pub StandsBeforeAll : OpName → List Shadow → Type 0
-StandsBeforeAll x [] = Unit {0}
-StandsBeforeAll x (u ∷ us) = (stands_before x u.name ≡ true) × StandsBeforeAll x us
+abbrev pub ComesBeforeAll : OpName → List Shadow → Type 0
+ComesBeforeAll x [] = Unit {0}
+ComesBeforeAll x (u ∷ us) = (comes_before x u.name ≡ true) × ComesBeforeAll x us
 
 -- each operation's name comes before those of all later ones, so there is one for each name
 abbrev pub IsInOrder : List Shadow → Type 0
 IsInOrder [] = Unit {0}
-IsInOrder (u ∷ us) = StandsBeforeAll u.name us × IsInOrder us
+IsInOrder (u ∷ us) = ComesBeforeAll u.name us × IsInOrder us
 
 -- how many of the first operations have names before this one
 abbrev pub held_before : List Shadow → OpName → ℕ
 held_before [] x = 0
-held_before (u ∷ us) x = if stands_before u.name x then suc (held_before us x) else 0
+held_before (u ∷ us) x = if comes_before u.name x then suc (held_before us x) else 0
 
 -- an operation that may be held: a blue name's site is its home, and the name's number, so at least 1, is one more than the entry of its
 -- past for the name

@@ -6,7 +6,7 @@ ghost use Rattle.std.specs.Option.{option_copied};
 ghost use Rattle.rb_shadow.specs.Operations.{Among, find_in, is_blue_of, is_red, row_of};
 ghost use Rattle.rb_shadow.specs.declared.shadow.Shadow.{Shadow};
 ghost use Rattle.rb_inbox.specs.Held.{HoldsReady, HoldsWaiting, IsInConflict, IsInOrder, IsNumbered, IsReady};
-ghost use Rattle.rb_inbox.specs.Held.{IsTooMany, IsWelcome, held_before, stands_before, with_held, without};
+ghost use Rattle.rb_inbox.specs.Held.{IsTooMany, IsWelcome, held_before, comes_before, with_held, without};
 ghost use Rattle.rb_inbox.specs.Rows.{IsHeldRow};
 
 use crate::PutAnswer;
@@ -79,7 +79,7 @@ impl Inbox {
                 Err(Refusal::Conflict)
             };
         }
-        if !self.has_room_for(&shadow, clock) {
+        if !self.may_hold(&shadow, clock) {
             return Err(Refusal::InboxFull);
         }
         match self.hold(shadow) {
@@ -106,7 +106,7 @@ impl Inbox {
     }
 
     #[tactic(auto, unfolding(rb_shadow::specs::Operations::past))]
-    fn has_room_for(&self, shadow: &Shadow, clock: &Clock) -> bool
+    fn may_hold(&self, shadow: &Shadow, clock: &Clock) -> bool
         ensures room { OnTrue result (self.now.limit ≤ length self.now.held → IsReady clock.now shadow.now) }
         ensures full { OnFalse result (self.now.limit ≤ length self.now.held) }
         ensures waits { OnFalse result (¬ IsReady clock.now shadow.now) }
@@ -268,7 +268,7 @@ fn index_of(shadows: &[Shadow], name: OpName) -> usize
 }
 
 fn comes_before(first: OpName, second: OpName) -> bool
-    ensures { result ≡ stands_before first second }
+    ensures { result ≡ comes_before first second }
 {
     match (first, second) {
         (OpName::Blue { site: i, n: m }, OpName::Blue { site: j, n }) => i < j || (i == j && m < n),

@@ -3,7 +3,7 @@ use Rattle.std.proofs.Common.{◌≡◌, ◌<◌, ◌≤◌, ◌+◌, ◌⊎◌,
 use Rattle.std.proofs.Common.{Result, Ok, Err, refl, sym, ap, ◌∙◌, rules, subst, append-nil, add-zero}
 use Rattle.std.specs.Prelude.{IfSome}
 use Rattle.std.specs.Io.KnownBytes.{IsAtEnd}
-use Rattle.rb_lines.specs.Answers.{AnswersLine, RunEndsAs, EndsAtLine, IsFaulty, EndsWith, IsStand, IsUnfinished, LinesOutcome, Stand}
+use Rattle.rb_lines.specs.Answers.{AnswersLine, RunEndsAs, EndsAtLine, IsFaulty, EndsWith, IsRunState, IsUnfinished, LinesOutcome, RunState}
 use Rattle.rb_lines.specs.Answers.{after_text, no_outcome}
 use Rattle.rb_lines.specs.declared.fault.StreamFault.{StreamFault}
 use Rattle.rb_lines.specs.declared.fault.StreamFault.TheVariants.{NoConfig, BadConfig, BadLine, LongLine, Read, Write, OutOfMemory}
@@ -16,13 +16,13 @@ use Rattle.rb_lines.proofs.Public.LongLines.{long_line}
 use Rattle.rb_lines.proofs.Public.Walks.{standing}
 
 -- these lines were answered, and this is written, where the source's bytes are known
-abbrev pub FollowsKnown : Whole → Option (List ℕ) → Option (List ℕ) → Stand → List ℕ → Bool → List ℕ → Type 0
+abbrev pub FollowsKnown : Whole → Option (List ℕ) → Option (List ℕ) → RunState → List ℕ → Bool → List ℕ → Type 0
 FollowsKnown of None now s p e t = Unit {0}
 FollowsKnown of (Some all) None s p e t = ⊥
 FollowsKnown of (Some all) (Some rest) s p e t = Follows of all s p rest e t
 
 -- at first no line was answered
-pub known_start : (a : Option (List ℕ)) (s : Stand) (p : List ℕ) (e : Bool) → s.count ≡ 0 → p ≡ [] → e ≡ false
+pub known_start : (a : Option (List ℕ)) (s : RunState) (p : List ℕ) (e : Bool) → s.count ≡ 0 → p ≡ [] → e ≡ false
     → FollowsKnown s.rest a a s p e []
 known_start None s p e none empty going = tt
 known_start (Some all) s p e none empty going =
@@ -30,7 +30,7 @@ known_start (Some all) s p e none empty going =
     (subst (λ d. Follows s.rest all s [] all d []) (sym going) (at_start all s none))
 
 -- bytes more were read
-pub known_read : (of : Whole) (a b b' : Option (List ℕ)) (s : Stand) (p p' : List ℕ) (e e' : Bool) (t : List ℕ)
+pub known_read : (of : Whole) (a b b' : Option (List ℕ)) (s : RunState) (p p' : List ℕ) (e e' : Bool) (t : List ℕ)
     → FollowsKnown of a b s p e t → Reads p p' b b' → (e' ≡ false → e ≡ false) → FollowsKnown of a b' s p' e' t
 known_read of None b b' s p p' e e' t f r was = tt
 known_read of (Some all) None b' s p p' e e' t f r was = absurd f
@@ -38,7 +38,7 @@ known_read of (Some all) (Some x) None s p p' e e' t f r was = absurd r.2
 known_read of (Some all) (Some x) (Some y) s p p' e e' t f r was = after_read of all s p p' x y e e' t f r was
 
 -- the line at the front was answered
-pub known_line : (of : Whole) (a b : Option (List ℕ)) (s s' : Stand) (p : List ℕ) (e : Bool) (t t' : List ℕ) (n : ℕ)
+pub known_line : (of : Whole) (a b : Option (List ℕ)) (s s' : RunState) (p : List ℕ) (e : Bool) (t t' : List ℕ) (n : ℕ)
     → FollowsKnown of a b s p e t → n ≡ line_len p → n ≤ length p
     → (n < length p) ⊎ ((n ≡ length p) × (0 < n) × (e ≡ true)) → (e ≡ true → IsAtEnd b) → AnswersLine s s' (take n p) t'
     → FollowsKnown of a b s' (drop (n + 1) p) e (t ++ t')
@@ -56,8 +56,8 @@ faulty whole t n f o e is = let all = e ∙ ap (after_text t n) is in record {
 }
 
 -- the next line is too long
-pub known_long : (of : Whole) (a b : Option (List ℕ)) (s : Stand) (p : List ℕ) (e : Bool) (t : List ℕ) → FollowsKnown of a b s p e t
-    → LINE_LIMIT < line_len p → IsStand s
+pub known_long : (of : Whole) (a b : Option (List ℕ)) (s : RunState) (p : List ℕ) (e : Bool) (t : List ℕ) → FollowsKnown of a b s p e t
+    → LINE_LIMIT < line_len p → IsRunState s
     → IfSome a (λ input. IsFaulty (of (lines_of input)) t (LongLine s.number))
 known_long of None b s p e t f h is = tt
 known_long of (Some all) None s p e t f h is = absurd f
@@ -70,15 +70,15 @@ front : (whole : LinesOutcome) (t : List ℕ) (n : ℕ) (o : LinesOutcome) → w
 front whole t n o e = (o.text, ap (λ (x : LinesOutcome). x.text) e)
 
 -- what is written so far is a prefix of what all lines come to
-pub known_front : (of : Whole) (a b : Option (List ℕ)) (s : Stand) (p : List ℕ) (e : Bool) (t : List ℕ) → FollowsKnown of a b s p e t
+pub known_front : (of : Whole) (a b : Option (List ℕ)) (s : RunState) (p : List ℕ) (e : Bool) (t : List ℕ) → FollowsKnown of a b s p e t
     → IfSome a (λ input. IsFront t (of (lines_of input)).text)
 known_front of None b s p e t f = tt
 known_front of (Some all) None s p e t f = absurd f
 known_front of (Some all) (Some x) s p e t f = front (of (lines_of all)) t s.count _ (ap of f.walks.lines ∙ f.outcome (lines_of (p ++ x)))
 
 -- no more is read
-pub known_stop : (of : Whole) (a b : Option (List ℕ)) (s : Stand) (p : List ℕ) (e : Bool) (t : List ℕ) → FollowsKnown of a b s p e t
-    → e ≡ false → line_len p ≡ length p → IsStand s
+pub known_stop : (of : Whole) (a b : Option (List ℕ)) (s : RunState) (p : List ℕ) (e : Bool) (t : List ℕ) → FollowsKnown of a b s p e t
+    → e ≡ false → line_len p ≡ length p → IsRunState s
     → IfSome a (λ input. RunEndsAs of (Err Read) input b t)
 known_stop of None b s p e t f going none is = tt
 known_stop of (Some all) None s p e t f going none is = absurd f
@@ -94,7 +94,7 @@ known_stop of (Some all) (Some x) s p e t f going none is =
       },
     )
 
-whole_end : (of : Whole) (all : List ℕ) (s : Stand) (t : List ℕ) → of (lines_of all) ≡ after_text t s.count (s.rest [])
+whole_end : (of : Whole) (all : List ℕ) (s : RunState) (t : List ℕ) → of (lines_of all) ≡ after_text t s.count (s.rest [])
     → s.rest [] ≡ record { text = []; count = 0; fault = None }
     → of (lines_of all) ≡ record { text = t; count = s.count; fault = None }
 whole_end of all s t whole is =
@@ -102,7 +102,7 @@ whole_end of all s t whole is =
     ∙ ap (λ n. record { text = t; count = n; fault = None }) (add-zero s.count)
 
 -- the result at the end of the source
-at_the_end : (of : Whole) (all : List ℕ) (b : Option (List ℕ)) (s : Stand) (t : List ℕ) (r : Result ℕ StreamFault)
+at_the_end : (of : Whole) (all : List ℕ) (b : Option (List ℕ)) (s : RunState) (t : List ℕ) (r : Result ℕ StreamFault)
     → of (lines_of all) ≡ after_text t s.count (s.rest []) → b ≡ Some [] → EndsWith s r
     → RunEndsAs of r all b t
 at_the_end of all b s t (Ok n) whole end (many, is) =
@@ -111,7 +111,7 @@ at_the_end of all b s t (Err f) whole end (unconfigured, is) =
     subst (λ g. RunEndsAs of (Err g) all b t) (sym unconfigured) (faulty (of (lines_of all)) t s.count NoConfig _ whole is)
 
 -- the result where there are no more lines
-pub known_end : (of : Whole) (a b : Option (List ℕ)) (s : Stand) (p : List ℕ) (e : Bool) (t : List ℕ) (r : Result ℕ StreamFault)
+pub known_end : (of : Whole) (a b : Option (List ℕ)) (s : RunState) (p : List ℕ) (e : Bool) (t : List ℕ) (r : Result ℕ StreamFault)
     → FollowsKnown of a b s p e t → p ≡ [] → IsAtEnd b → EndsWith s r
     → IfSome a (λ input. RunEndsAs of r input b t)
 known_end of None b s p e t r f none end is = tt
@@ -120,7 +120,7 @@ known_end of (Some all) (Some x) s p e t r f none end is =
     at_the_end of all (Some x) s t r (at_end of all s p x e t f none end) (ap Some end) is
 
 -- the result of a line at which a run ends
-at_fault : (of : Whole) (all : List ℕ) (b : Option (List ℕ)) (s : Stand) (t l : List ℕ) (more : List (List ℕ)) (f : StreamFault)
+at_fault : (of : Whole) (all : List ℕ) (b : Option (List ℕ)) (s : RunState) (t l : List ℕ) (more : List (List ℕ)) (f : StreamFault)
     → of (lines_of all) ≡ after_text t s.count (s.rest (l ∷ more)) → EndsAtLine s l f
     → RunEndsAs of (Err f) all b t
 at_fault of all b s t l more (BadConfig n) e h = faulty (of (lines_of all)) t s.count (BadConfig n) _ e (h more)
@@ -132,7 +132,7 @@ at_fault of all b s t l more Read e h = absurd h
 at_fault of all b s t l more Write e h = absurd h
 
 -- the result of a run that ends at the line at the front
-pub known_fault : (of : Whole) (a b : Option (List ℕ)) (s : Stand) (p : List ℕ) (e : Bool) (t : List ℕ) (n : ℕ) (f : StreamFault)
+pub known_fault : (of : Whole) (a b : Option (List ℕ)) (s : RunState) (p : List ℕ) (e : Bool) (t : List ℕ) (n : ℕ) (f : StreamFault)
     → FollowsKnown of a b s p e t → n ≡ line_len p → n ≤ length p
     → (n < length p) ⊎ ((n ≡ length p) × (0 < n) × (e ≡ true)) → (e ≡ true → IsAtEnd b) → EndsAtLine s (take n p) f
     → IfSome a (λ input. RunEndsAs of (Err f) input b t)

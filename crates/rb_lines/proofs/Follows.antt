@@ -4,14 +4,14 @@ use Rattle.std.proofs.Common.{arith, append-nil, append_assoc, zero-add}
 use Rattle.rb_lines.specs.Lines.{lines_of, whole_lines, line_len}
 use Rattle.rb_lines.proofs.Public.Walks.{Walks}
 use Rattle.rb_lines.proofs.Public.Walks as walk
-use Rattle.rb_lines.specs.Answers.{AnswersLine, LinesOutcome, Stand, after_text}
+use Rattle.rb_lines.specs.Answers.{AnswersLine, LinesOutcome, RunState, after_text}
 
 -- what lines come to
 abbrev pub Whole : Type 0
 Whole = List (List ℕ) → LinesOutcome
 
 -- these lines were answered, and this is written
-pub record Follows (of : Whole) (all : List ℕ) (s : Stand) (pending rest : List ℕ) (ended : Bool) (text : List ℕ) : Type 0 where
+pub record Follows (of : Whole) (all : List ℕ) (s : RunState) (pending rest : List ℕ) (ended : Bool) (text : List ℕ) : Type 0 where
   pub done : List (List ℕ)
   pub walks : Walks all done pending rest ended
   pub outcome : (ls : List (List ℕ)) → of (done ++ ls) ≡ after_text text s.count (s.rest ls)
@@ -21,7 +21,7 @@ nothing_yet n o none =
     ap (λ m. record { text = o.text; count = m; fault = o.fault }) (sym (zero-add o.count) ∙ ap (λ m. m + o.count) (sym none))
 
 -- at first no line was answered
-pub at_start : (all : List ℕ) (s : Stand) → s.count ≡ 0 → Follows s.rest all s [] all false []
+pub at_start : (all : List ℕ) (s : RunState) → s.count ≡ 0 → Follows s.rest all s [] all false []
 at_start all s none = record {
   done = [];
   walks = walk.at_start all;
@@ -29,7 +29,7 @@ at_start all s none = record {
 }
 
 -- bytes more were read: no line more was answered
-pub after_read : (of : Whole) (all : List ℕ) (s : Stand) (p p' r r' : List ℕ) (e e' : Bool) (t : List ℕ) → Follows of all s p r e t
+pub after_read : (of : Whole) (all : List ℕ) (s : RunState) (p p' r r' : List ℕ) (e e' : Bool) (t : List ℕ) → Follows of all s p r e t
     → (more : List ℕ) × (p' ≡ p ++ more) × (r ≡ more ++ r') → (e' ≡ false → e ≡ false) → Follows of all s p' r' e' t
 after_read of all s p p' r r' e e' t f more was =
     record { done = f.done; walks = walk.after_read all f.done p p' r r' e e' f.walks more was; outcome = f.outcome }
@@ -40,7 +40,7 @@ twice t t' m n o h =
     ap (λ c. record { text = t ++ (t' ++ o.text); count = c; fault = o.fault }) count
     ∙ ap (λ x. record { text = x; count = n + o.count; fault = o.fault }) (sym (append_assoc t t' o.text))
 
-said : (of : Whole) (done : List (List ℕ)) (l t t' : List ℕ) (s s' : Stand)
+said : (of : Whole) (done : List (List ℕ)) (l t t' : List ℕ) (s s' : RunState)
     → ((ls : List (List ℕ)) → of (done ++ ls) ≡ after_text t s.count (s.rest ls)) → AnswersLine s s' l t'
     → (ls : List (List ℕ)) → of ((done ++ l ∷ []) ++ ls) ≡ after_text (t ++ t') s'.count (s'.rest ls)
 said of done l t t' s s' before a ls =
@@ -48,7 +48,7 @@ said of done l t t' s s' before a ls =
     ∙ twice t t' s.count s'.count (s'.rest ls) a.count
 
 -- the line at the front was answered: its text comes at the end
-pub after_line : (of : Whole) (all : List ℕ) (s s' : Stand) (p r : List ℕ) (e : Bool) (t t' : List ℕ) (n : ℕ) → Follows of all s p r e t
+pub after_line : (of : Whole) (all : List ℕ) (s s' : RunState) (p r : List ℕ) (e : Bool) (t t' : List ℕ) (n : ℕ) → Follows of all s p r e t
     → n ≡ line_len p → n ≤ length p
     → (n < length p) ⊎ ((n ≡ length p) × (0 < n) × (e ≡ true)) → (e ≡ true → r ≡ []) → AnswersLine s s' (take n p) t'
     → Follows of all s' (drop (n + 1) p) r e (t ++ t')
@@ -59,25 +59,25 @@ after_line of all s s' p r e t t' n f len fits stands end a = record {
 }
 
 -- the lines of a run are those that were answered and these: what is left is what these come to
-outcome_of : (of : Whole) (done ls : List (List ℕ)) (s : Stand) (t : List ℕ) (all : List (List ℕ))
+outcome_of : (of : Whole) (done ls : List (List ℕ)) (s : RunState) (t : List ℕ) (all : List (List ℕ))
     → ((more : List (List ℕ)) → of (done ++ more) ≡ after_text t s.count (s.rest more)) → all ≡ done ++ ls
     → of all ≡ after_text t s.count (s.rest ls)
 outcome_of of done ls s t all outcome e = ap of e ∙ outcome ls
 
 -- nothing is left: these were all lines
-pub at_end : (of : Whole) (all : List ℕ) (s : Stand) (p r : List ℕ) (e : Bool) (t : List ℕ) → Follows of all s p r e t → p ≡ [] → r ≡ []
+pub at_end : (of : Whole) (all : List ℕ) (s : RunState) (p r : List ℕ) (e : Bool) (t : List ℕ) → Follows of all s p r e t → p ≡ [] → r ≡ []
     → of (lines_of all) ≡ after_text t s.count (s.rest [])
 at_end of all s p r e t f none end =
     outcome_of of f.done [] s t _ f.outcome (walk.at_end all f.done p r e f.walks none end ∙ sym (append-nil f.done))
 
 -- whatever the first of the lines to come, it is the next
-pub at_first : (of : Whole) (all : List ℕ) (s : Stand) (p r : List ℕ) (e : Bool) (t l : List ℕ) (more : List (List ℕ))
+pub at_first : (of : Whole) (all : List ℕ) (s : RunState) (p r : List ℕ) (e : Bool) (t l : List ℕ) (more : List (List ℕ))
     → Follows of all s p r e t → lines_of (p ++ r) ≡ l ∷ more
     → of (lines_of all) ≡ after_text t s.count (s.rest (l ∷ more))
 at_first of all s p r e t l more f first = outcome_of of f.done (l ∷ more) s t _ f.outcome (f.walks.lines ∙ ap (λ x. f.done ++ x) first)
 
 -- no whole line waits: what was read is answered
-pub at_rest : (of : Whole) (all : List ℕ) (s : Stand) (p r : List ℕ) (e : Bool) (t : List ℕ) → (f : Follows of all s p r e t) → e ≡ false
+pub at_rest : (of : Whole) (all : List ℕ) (s : RunState) (p r : List ℕ) (e : Bool) (t : List ℕ) → (f : Follows of all s p r e t) → e ≡ false
     → line_len p ≡ length p
     → of (whole_lines f.walks.got) ≡ after_text t s.count (s.rest [])
 at_rest of all s p r e t f going none =

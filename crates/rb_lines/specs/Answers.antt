@@ -61,31 +61,31 @@ RunWillEndAs of r input left text = RunEndsAs of r input left text × IsFront te
 -- ---- between two lines
 
 -- what the lines to come come to, the number of the first of them, and how many were answered
-pub record Stand : Type 0 where
+pub record RunState : Type 0 where
   pub rest : List (List ℕ) → LinesOutcome
   pub number : ℕ
   pub count : ℕ
 
 -- whatever answers lines: a line that is too long ends the run, and no line is no text and no bad line
-pub record IsStand (s : Stand) : Type 0 where
+pub record IsRunState (s : RunState) : Type 0 where
   pub long : (l : List ℕ) (ls : List (List ℕ)) → is_long l ≡ true → s.rest (l ∷ ls) ≡ no_outcome (LongLine s.number)
   pub no_text : (s.rest []).text ≡ []
   pub unfinished : IsUnfinished (s.rest []).fault
 
 -- the line was answered by this text, and the run goes on with the next
-pub record AnswersLine (old new : Stand) (l text : List ℕ) : Type 0 where
+pub record AnswersLine (old new : RunState) (l text : List ℕ) : Type 0 where
   pub follows : (ls : List (List ℕ)) → old.rest (l ∷ ls) ≡ after_text text (new.count - old.count) (new.rest ls)
   pub number : new.number ≡ old.number + 1
   pub count : old.count ≤ new.count
   pub one : new.count ≤ old.count + 1
 
 -- there are no more lines: this number of them was answered, or there was no configuration
-abbrev pub EndsWith : Stand → Result ℕ StreamFault → Type 0
+abbrev pub EndsWith : RunState → Result ℕ StreamFault → Type 0
 EndsWith s (Ok n) = (n ≡ s.count) × (s.rest [] ≡ record { text = []; count = 0; fault = None })
 EndsWith s (Err f) = (f ≡ NoConfig) × (s.rest [] ≡ no_outcome NoConfig)
 
 -- the run ends at this line; nothing is said of running out of memory
-abbrev pub EndsAtLine : Stand → List ℕ → StreamFault → Type 0
+abbrev pub EndsAtLine : RunState → List ℕ → StreamFault → Type 0
 EndsAtLine s l (BadConfig n) = (ls : List (List ℕ)) → s.rest (l ∷ ls) ≡ no_outcome (BadConfig n)
 EndsAtLine s l (BadLine n) = (ls : List (List ℕ)) → s.rest (l ∷ ls) ≡ no_outcome (BadLine n)
 EndsAtLine s l OutOfMemory = Unit {0}

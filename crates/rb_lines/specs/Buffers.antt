@@ -16,14 +16,14 @@ abbrev pub left : Buffers → ℕ
 left b = length b.pending + READ_SIZE * b.reads
 
 -- a line of n bytes is whole at the front, with its line feed or at the end of the source
-abbrev pub Stands : Buffers → ℕ → Type 0
-Stands b n = (n ≡ line_len b.pending) × (n ≤ LINE_LIMIT) × (n ≤ length b.pending)
+abbrev pub IsWholeLine : Buffers → ℕ → Type 0
+IsWholeLine b n = (n ≡ line_len b.pending) × (n ≤ LINE_LIMIT) × (n ≤ length b.pending)
     × ((n < length b.pending) ⊎ ((n ≡ length b.pending) × (0 < n) × (b.ended ≡ true)))
 
 -- the next line, or the end
 abbrev pub IsNextLine : Buffers → Option ℕ → Type 0
 IsNextLine b None = (b.pending ≡ []) × (b.ended ≡ true)
-IsNextLine b (Some n) = Stands b n
+IsNextLine b (Some n) = IsWholeLine b n
 
 -- what was read is at the end of what waits
 abbrev pub Reads : List ℕ → List ℕ → Option (List ℕ) → Option (List ℕ) → Type 0
@@ -31,7 +31,7 @@ Reads old new had has = (more : List ℕ) × (new ≡ old ++ more) × Consumes h
 
 -- what went out was a prefix of what was buffered, and the rest still is
 abbrev pub Sends : Option (List ℕ) → Option (List ℕ) → List ℕ → List ℕ → Type 0
-Sends had has owed still = (sent : List ℕ) × Appends had has sent × (owed ≡ sent ++ still)
+Sends had has buffered still = (sent : List ℕ) × Appends had has sent × (buffered ≡ sent ++ still)
 
 -- a read failed, or there were as many as there may be: nothing else changed
 abbrev pub HasRead : Buffers → Buffers → Option (List ℕ) → Option (List ℕ) → Bool → ℕ → NoLine → Type 0

@@ -8,7 +8,7 @@ ghost use Rattle.rb_lines.specs.Buffers.{Counts, HasRead, IsNextLine, Reads, Sen
 ghost use Rattle.rb_lines.specs.Writes.{AppendsFront};
 ghost use Rattle.rb_lines.specs.declared.no_line.NoLine.TheVariants.{TooLong, Read, Write, OutOfMemory};
 
-use crate::limits::{LINE_LIMIT, MOST_OWED, MOST_READS};
+use crate::limits::{LINE_LIMIT, MOST_BUFFERED, MOST_READS};
 use crate::no_line::NoLine;
 use crate::pending::Pending;
 use crate::sink::Sink;
@@ -21,7 +21,7 @@ use std::alloc::Global;
 #[derive(Drop)]
 pub struct Buffers {
     pub pending: Pending,
-    pub owed: Vec<u8>,
+    pub buffered: Vec<u8>,
     pub reads: u64,
     pub ended: bool,
 }
@@ -30,13 +30,13 @@ impl Buffers {
     /// Nothing was read, and nothing is buffered for the writer.
     pub fn new(alloc: Global) -> Buffers
         ensures pending { result.pending ≡ [] }
-        ensures owed { result.owed.items ≡ [] }
+        ensures buffered { result.buffered.items ≡ [] }
         ensures reads { result.reads ≡ MOST_READS }
         ensures going { result.ended ≡ false }
     {
         Buffers {
             pending: Pending::new(alloc),
-            owed: Vec::new(alloc),
+            buffered: Vec::new(alloc),
             reads: MOST_READS,
             ended: false,
         }
@@ -57,11 +57,11 @@ impl Buffers {
         requires counted { Counts (S.calls reader.old) self.old.reads }
         requires going { self.old.ended ≡ false }
         requires no_line_waits { line_len self.old.pending ≡ length self.old.pending }
-        requires nothing_owed { self.old.owed.items ≡ [] }
+        requires nothing_buffered { self.old.buffered.items ≡ [] }
         ensures counted { Counts (S.calls reader.new) self.new.reads }
         ensures fewer { OnOk result (self.new.reads < self.old.reads) }
         ensures left { OnOk result (left self.new ≤ left self.old) }
-        ensures owed { self.new.owed ≡ self.old.owed }
+        ensures buffered { self.new.buffered ≡ self.old.buffered }
         ensures read { MatchResult result
             (λ _. Reads self.old.pending self.new.pending (S.remaining reader.old) (S.remaining reader.new))
             (HasRead self.old self.new (S.remaining reader.old) (S.remaining reader.new) (S.failed reader.new)
@@ -79,7 +79,7 @@ impl Buffers {
     }
 
     /// Brings the next line to the front, and says how many bytes it has: `None` at the end. What is buffered for the
-    /// writer goes out before a read, and once it has `MOST_OWED` bytes.
+    /// writer goes out before a read, and once it has `MOST_BUFFERED` bytes.
     #[inline(always)]
     pub fn next_line<S: Source, W: Sink>(
         &mut self,
@@ -98,9 +98,9 @@ impl Buffers {
             (λ why. why ≢ OutOfMemory
             → Reads self.old.pending self.new.pending (S.remaining reader.old) (S.remaining reader.new)) }
         ensures sent { MatchResult result
-            (λ _. Sends (W.contents writer.old) (W.contents writer.new) self.old.owed.items self.new.owed.items)
+            (λ _. Sends (W.contents writer.old) (W.contents writer.new) self.old.buffered.items self.new.buffered.items)
             (λ why. why ≢ Write
-            → Sends (W.contents writer.old) (W.contents writer.new) self.old.owed.items self.new.owed.items) }
+            → Sends (W.contents writer.old) (W.contents writer.new) self.old.buffered.items self.new.buffered.items) }
 
         // No read while a line waits.
         ensures waits { line_len self.old.pending < length self.old.pending → S.calls reader.new ≡ S.calls reader.old }
@@ -112,13 +112,13 @@ impl Buffers {
             × (line_len self.new.pending ≡ length self.new.pending)
             × ((S.failed reader.new ≡ true) ⊎ (S.calls reader.new ≡ MOST_READS)) }
         ensures write { (result ≡ Err Write) ↔ (W.failed writer.new ≡ true) }
-        ensures nothing { result ≡ Err Write → 0 < length self.old.owed.items }
+        ensures nothing { result ≡ Err Write → 0 < length self.old.buffered.items }
         ensures front { result ≡ Err Write
-            → AppendsFront (W.contents writer.old) (W.contents writer.new) self.old.owed.items
-            × (self.new.owed.items ≡ []) }
+            → AppendsFront (W.contents writer.old) (W.contents writer.new) self.old.buffered.items
+            × (self.new.buffered.items ≡ []) }
     {
-        if self.owed.len() >= MOST_OWED {
-            flush(writer, &mut self.owed)?;
+        if self.buffered.len() >= MOST_BUFFERED {
+            flush(writer, &mut self.buffered)?;
         }
         'reads: loop {
             let n = self.pending.first_line();
@@ -131,7 +131,7 @@ impl Buffers {
             if self.ended {
                 return Ok(if n == 0 { None } else { Some(n) });
             }
-            flush(writer, &mut self.owed)?;
+            flush(writer, &mut self.buffered)?;
             self.read_more(reader)?;
         }
     }

@@ -10,4 +10,4 @@ pub const LINE_LIMIT: usize = 1_048_576;
 pub const READ_SIZE: usize = 65_536;
 
 /// Replies go out once they have this number of bytes, also where more lines wait.
-pub const MOST_OWED: usize = 65_536;
+pub const MOST_BUFFERED: usize = 65_536;

@@ -28,13 +28,13 @@ fn answer_lines<S: Source, W: Sink, R: Responder>(
     requires first { (R.stand responder.old).number ≡ 1 }
     requires none { (R.stand responder.old).count ≡ 0 }
     requires pending { buffers.old.pending ≡ [] }
-    requires owed { buffers.old.owed.items ≡ [] }
+    requires buffered { buffers.old.buffered.items ≡ [] }
     requires reads { buffers.old.reads ≡ MOST_READS }
     requires going { buffers.old.ended ≡ false }
     ensures written { (text : List ℕ) × Appends (W.contents writer.old) (W.contents writer.new) text
         × IfSome (S.remaining reader.old)
         (λ input. RunWillEndAs (R.stand responder.old).rest result input (S.remaining reader.new)
-        (text ++ buffers.new.owed.items)) }
+        (text ++ buffers.new.buffered.items)) }
     ensures read { result ≡ Err Read → (S.failed reader.new ≡ true) ⊎ (S.calls reader.new ≡ MOST_READS) }
     ensures write { (result ≡ Err Write) ↔ (W.failed writer.new ≡ true) }
     ensures calls { S.calls reader.new ≤ S.calls reader.old + MOST_READS }
@@ -53,7 +53,7 @@ fn answer_lines<S: Source, W: Sink, R: Responder>(
             Err(NoLine::OutOfMemory) => return Err(StreamFault::OutOfMemory),
         };
         let line = &buffers.pending.as_slice()[..n];
-        responder.answer_line(alloc, line, &mut buffers.owed)?;
+        responder.answer_line(alloc, line, &mut buffers.buffered)?;
         buffers.skip_line(n);
     }
 }
@@ -83,6 +83,6 @@ pub fn run_lines<S: Source, W: Sink, R: Responder>(
 {
     let mut buffers = Buffers::new(alloc);
     let answered = answer_lines(alloc, reader, writer, responder, &mut buffers);
-    flush(writer, &mut buffers.owed)?;
+    flush(writer, &mut buffers.buffered)?;
     answered
 }

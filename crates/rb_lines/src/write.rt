@@ -26,16 +26,16 @@ pub fn write_all<W: Sink>(writer: &mut W, text: &[u8]) -> Result<(), WriteFailed
 
 /// Writes what is buffered, and keeps the buffer's capacity. The buffer is empty afterwards: after an `Err` a prefix of
 /// it went out.
-pub fn flush<W: Sink>(writer: &mut W, owed: &mut Vec<u8>) -> Result<(), WriteFailed>
+pub fn flush<W: Sink>(writer: &mut W, buffered: &mut Vec<u8>) -> Result<(), WriteFailed>
     ensures written { MatchResult result
-        (λ _. Appends (W.contents writer.old) (W.contents writer.new) owed.old.items
+        (λ _. Appends (W.contents writer.old) (W.contents writer.new) buffered.old.items
         × (W.failed writer.new ≡ W.failed writer.old))
-        (λ _. AppendsFront (W.contents writer.old) (W.contents writer.new) owed.old.items
+        (λ _. AppendsFront (W.contents writer.old) (W.contents writer.new) buffered.old.items
         × (W.failed writer.new ≡ true)) }
-    ensures emptied { owed.new.items ≡ [] }
-    ensures nothing { OnErr result (0 < length owed.old.items) }
+    ensures emptied { buffered.new.items ≡ [] }
+    ensures nothing { OnErr result (0 < length buffered.old.items) }
 {
-    let written = write_all(writer, owed.as_slice());
-    owed.clear();
+    let written = write_all(writer, buffered.as_slice());
+    buffered.clear();
     written
 }

@@ -1,6 +1,6 @@
 mod Follows
 mod Histories
-mod Owed
+mod Buffered
 mod Taken
-mod Told
+mod Reported
 mod ReadBack

@@ -13,28 +13,28 @@ use Rattle.rb_run_audit.specs.Collects.{input_rest}
 use Rattle.rb_run_audit.specs.declared.collected.Collected.{Collected}
 
 -- the line has an order that certifies the histories
-pub record TellsOrder (x : Input) (line : List ℕ) : Type 0 where
+pub record ReportsOrder (x : Input) (line : List ℕ) : Type 0 where
   pub order : List ℕ
   pub certifies : Certifies x.settings x.histories order
   pub line_is : line ≡ verdict_line (order_json order)
 
 -- the line has the first entry that its site doesn't record
-pub record TellsWrongReply (x : Input) (line : List ℕ) : Type 0 where
+pub record ReportsWrongReply (x : Input) (line : List ℕ) : Type 0 where
   pub site : ℕ
   pub event : ℕ
   pub first : IsFirstWrong x.settings x.histories site event
   pub line_is : line ≡ verdict_line (wrong_reply_json site event)
 
 -- the line has a cut that no world passes
-pub record TellsStuck (x : Input) (line : List ℕ) : Type 0 where
+pub record ReportsStuck (x : Input) (line : List ℕ) : Type 0 where
   pub next : List ℕ
   pub stuck : IsStuckAt x.settings x.histories next
   pub line_is : line ≡ verdict_line (stuck_json next)
 
 -- the line that an audit of these histories answers, and whether it has an order: where it has none, no world has the histories
-abbrev pub TellsVerdict : Bool → Input → List ℕ → Type 0
-TellsVerdict true x line = TellsOrder x line
-TellsVerdict false x line = (¬ AreOneWorlds x.settings x.histories) × (TellsWrongReply x line ⊎ TellsStuck x line)
+abbrev pub ReportsVerdict : Bool → Input → List ℕ → Type 0
+ReportsVerdict true x line = ReportsOrder x line
+ReportsVerdict false x line = (¬ AreOneWorlds x.settings x.histories) × (ReportsWrongReply x line ⊎ ReportsStuck x line)
 
 -- no line so far is bad
 abbrev pub IsUnfinishedInput : Result Input StreamFault → Type 0
@@ -59,14 +59,15 @@ IsFaultyAudit input text f = (input_of (lines_of input) ≡ Err f) × (text ≡ 
 
 -- the result of an audit of this input, of which the second part is left, where the text was written
 abbrev pub AuditEndsAs : Result Bool StreamFault → List ℕ → Option (List ℕ) → List ℕ → Type 0
-AuditEndsAs (Ok found) input left text = (x : Input) × (input_of (lines_of input) ≡ Ok x) × TellsVerdict found x text × (left ≡ Some [])
+AuditEndsAs (Ok found) input left text = (x : Input) × (input_of (lines_of input) ≡ Ok x)
+    × ReportsVerdict found x text × (left ≡ Some [])
 AuditEndsAs (Err NoConfig) input left text = IsFaultyAudit input text NoConfig
 AuditEndsAs (Err (BadConfig n)) input left text = IsFaultyAudit input text (BadConfig n)
 AuditEndsAs (Err (BadLine n)) input left text = IsFaultyAudit input text (BadLine n)
 AuditEndsAs (Err (LongLine n)) input left text = IsFaultyAudit input text (LongLine n)
 AuditEndsAs (Err Read) input left text = (rest : List ℕ) × (left ≡ Some rest) × IsCollected input rest × (text ≡ [])
 AuditEndsAs (Err Write) input left text = (x : Input) × (found : Bool) × (line : List ℕ) × (input_of (lines_of input) ≡ Ok x)
-    × TellsVerdict found x line × IsFront text line
+    × ReportsVerdict found x line × IsFront text line
 AuditEndsAs (Err OutOfMemory) input left text = text ≡ []
 
 -- how the collecting of this input's lines ends, before anything is answered

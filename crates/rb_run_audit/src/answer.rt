@@ -1,7 +1,7 @@
 //! The line that an audit answers.
 ghost use Rattle.std.specs.Prelude.{◌≡◌, IfOk, length};
 ghost use Rattle.rb_auditor.specs.Findings.{lists_of};
-ghost use Rattle.rb_run_audit.specs.Run.{TellsVerdict};
+ghost use Rattle.rb_run_audit.specs.Run.{ReportsVerdict};
 
 use rb_auditor::{AuditFault, audit};
 use rb_history::{order_line, stuck_line, wrong_reply_line};
@@ -17,7 +17,7 @@ pub fn answer(
 ) -> Result<(bool, Vec<u8>), AllocError>
     requires { length histories.now ≡ config.now.sites }
     ensures { IfOk result
-        (λ told. TellsVerdict told.0 (record { settings = config.now; histories = lists_of histories.now })
+        (λ told. ReportsVerdict told.0 (record { settings = config.now; histories = lists_of histories.now })
         told.1.items) }
 {
     match audit(alloc, config, histories) {

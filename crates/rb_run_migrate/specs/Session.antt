@@ -4,7 +4,7 @@ use Rattle.rb_lines.proofs.Public.Chosen.{first_chosen}
 use Rattle.rb_lines.specs.Lines.{is_long}
 use Rattle.rb_money.specs.Settings.{Settings}
 use Rattle.rb_run_migrate.specs.declared.session.Session.{Session}
-use Rattle.rb_lines.specs.Answers.{IsStand, LinesOutcome, Stand}
+use Rattle.rb_lines.specs.Answers.{IsRunState, LinesOutcome, RunState}
 use Rattle.rb_run_migrate.specs.Migration.{entries_from, migration_from}
 
 -- the session before the first line
@@ -21,13 +21,14 @@ abbrev pub migration_rest : Session → List (List ℕ) → LinesOutcome
 migration_rest s ls = migration_rest_from s.versions s.number ls
 
 -- the state of a run with the session
-abbrev pub migration_stand : Session → Stand
-migration_stand s = record { rest = migration_rest s; number = s.number; count = s.count }
+abbrev pub migration_state : Session → RunState
+migration_state s = record { rest = migration_rest s; number = s.number; count = s.count }
 
 -- a line that is too long ends the migration, and no line is written as nothing
-pub migration_is_stand : (s : Session) → IsStand (migration_stand s)
-migration_is_stand s = of s.versions s.number s.count
+pub migration_is_state : (s : Session) → IsRunState (migration_state s)
+migration_is_state s = of s.versions s.number s.count
   where
-    of : (c : Option Settings) (n count : ℕ) → IsStand (record { rest = migration_rest_from c n; number = n; count = count })
+    of : (c : Option Settings) (n count : ℕ) →
+        IsRunState (record { rest = migration_rest_from c n; number = n; count = count })
     of None n count = record { long = λ l ls long. first_chosen (is_long l) _ _ long; no_text = refl; unfinished = tt }
     of (Some k) n count = record { long = λ l ls long. first_chosen (is_long l) _ _ long; no_text = refl; unfinished = tt }

@@ -24,11 +24,11 @@ pub struct Session {
 
 /// The configuration on a line, which is buffered in version 2. An `Err` buffers nothing.
 #[tactic(auto, unfolding(rb_commands::specs::Configurations::config_on))]
-fn open(alloc: Global, line: &[u8], owed: &mut Vec<u8>) -> Result<Versions, LineFault>
+fn open(alloc: Global, line: &[u8], buffered: &mut Vec<u8>) -> Result<Versions, LineFault>
     ensures opened { MatchResult result
-        (λ s. (config_on line.now ≡ Some s) × (owed.new.items ≡ owed.old.items ++ migrated_config_line s))
+        (λ s. (config_on line.now ≡ Some s) × (buffered.new.items ≡ buffered.old.items ++ migrated_config_line s))
         (λ why. why ≡ Bad → config_on line.now ≡ None) }
-    ensures err { OnErr result (owed.new.items ≡ owed.old.items) }
+    ensures err { OnErr result (buffered.new.items ≡ buffered.old.items) }
 {
     let Some(text) = text_on(line) else {
         return Err(LineFault::Bad);
@@ -37,7 +37,7 @@ fn open(alloc: Global, line: &[u8], owed: &mut Vec<u8>) -> Result<Versions, Line
     let Ok(versions) = Versions::new(alloc, config) else {
         return Err(LineFault::OutOfMemory);
     };
-    match versions.append_config(alloc, owed) {
+    match versions.append_config(alloc, buffered) {
         Ok(()) => Ok(versions),
         Err(_) => Err(LineFault::OutOfMemory),
     }
@@ -49,13 +49,13 @@ fn answer_entry(
     alloc: Global,
     versions: &Versions,
     line: &[u8],
-    owed: &mut Vec<u8>,
+    buffered: &mut Vec<u8>,
 ) -> Result<(), LineFault>
     ensures answered { MatchResult result
         (λ _. (x : ℕ × Entry) × (entry_on versions.now line.now ≡ Some x)
-        × (owed.new.items ≡ owed.old.items ++ migrated_entry_line versions.now x))
+        × (buffered.new.items ≡ buffered.old.items ++ migrated_entry_line versions.now x))
         (λ why. why ≡ Bad → entry_on versions.now line.now ≡ None) }
-    ensures err { OnErr result (owed.new.items ≡ owed.old.items) }
+    ensures err { OnErr result (buffered.new.items ≡ buffered.old.items) }
 {
     let Some(text) = text_on(line) else {
         return Err(LineFault::Bad);
@@ -64,7 +64,7 @@ fn answer_entry(
         Ok(read) => read,
         Err(fault) => return Err(fault),
     };
-    match versions.append_entry(owed, site, &entry) {
+    match versions.append_entry(buffered, site, &entry) {
         Ok(()) => Ok(()),
         Err(_) => Err(LineFault::OutOfMemory),
     }
@@ -84,9 +84,9 @@ impl Session {
 }
 
 impl Responder for Session {
-    ghost use Rattle.rb_run_migrate.specs.Session.{migration_is_stand, migration_stand};
+    ghost use Rattle.rb_run_migrate.specs.Session.{migration_is_state, migration_state};
 
-    ghost stand = { migration_stand };
+    ghost stand = { migration_state };
 
     fn number(&self) -> u64 {
         self.number
@@ -96,7 +96,7 @@ impl Responder for Session {
         &mut self,
         alloc: Global,
         line: &[u8],
-        owed: &mut Vec<u8>,
+        buffered: &mut Vec<u8>,
     ) -> Result<(), StreamFault> {
         let number = self.number;
         self.number = number + 1;
@@ -104,7 +104,7 @@ impl Responder for Session {
             return Ok(());
         }
         let Some(versions) = &self.versions else {
-            match open(alloc, line, owed) {
+            match open(alloc, line, buffered) {
                 Ok(versions) => self.versions = Some(versions),
                 Err(LineFault::Bad) => return Err(StreamFault::BadConfig { line: number }),
                 Err(LineFault::OutOfMemory) => return Err(StreamFault::OutOfMemory),
@@ -112,7 +112,7 @@ impl Responder for Session {
             self.count += 1;
             return Ok(());
         };
-        match answer_entry(alloc, versions, line, owed) {
+        match answer_entry(alloc, versions, line, buffered) {
             Ok(()) => self.count += 1,
             Err(LineFault::Bad) => return Err(StreamFault::BadLine { line: number }),
             Err(LineFault::OutOfMemory) => return Err(StreamFault::OutOfMemory),
@@ -127,5 +127,5 @@ impl Responder for Session {
         }
     }
 
-    ghost is_stand = { migration_is_stand };
+    ghost is_run_state = { migration_is_state };
 }

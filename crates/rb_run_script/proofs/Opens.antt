@@ -7,7 +7,7 @@ use Rattle.rb_lines.specs.Answers.{AnswersLine, LinesOutcome, after_text}
 use Rattle.rb_lines.specs.Lines.{is_blank, is_long}
 use Rattle.rb_commands.specs.Configurations.{config_on}
 use Rattle.rb_run_script.specs.Script.{commands_from, script_outcome}
-use Rattle.rb_run_script.specs.Session.{session_stand}
+use Rattle.rb_run_script.specs.Session.{session_state}
 
 -- nothing was written, and nothing counted
 nothing : (n : ℕ) (o : LinesOutcome) → after_text [] (n - n) o ≡ o
@@ -16,9 +16,9 @@ nothing n o = let none : (n - n) + o.count ≡ o.count = omega arith in ap (λ m
 -- the line of the configuration opens its world, and asks for no reply
 pub opens : (s s' : Session) (l : List ℕ) (k : Settings) → s.world ≡ None → is_long l ≡ false → is_blank l ≡ false → config_on l ≡ Some k
     → s' ≡ record { world = Some (opened k); number = s.number + 1; count = s.count }
-    → AnswersLine (session_stand s) (session_stand s') l []
+    → AnswersLine (session_state s) (session_state s') l []
 opens s s' l k none short some is e =
-    subst (λ x. AnswersLine (session_stand s) (session_stand x) l []) (sym e) (record {
+    subst (λ x. AnswersLine (session_state s) (session_state x) l []) (sym e) (record {
       follows = λ ls. rw (none, short, some, is) (sym (nothing s.count (script_outcome (opened k) (commands_from k (s.number + 1) ls))));
       number = refl;
       count = omega arith;

@@ -7,7 +7,7 @@ use Rattle.rb_site.specs.declared.world_event.WorldEvent.{WorldEvent}
 use Rattle.rb_world.specs.Laws.{SeenWorld, next_reply, next_world}
 use Rattle.rb_commands.specs.Replies.{line}
 use Rattle.rb_run_script.specs.declared.session.Session.{Session}
-use Rattle.rb_lines.specs.Answers.{IsStand, LinesOutcome, Stand}
+use Rattle.rb_lines.specs.Answers.{IsRunState, LinesOutcome, RunState}
 use Rattle.rb_run_script.specs.Script.{command_on, commands_from, script_outcome, script_from}
 
 -- the session before the first line
@@ -24,14 +24,15 @@ abbrev pub session_rest : Session → List (List ℕ) → LinesOutcome
 session_rest s ls = session_rest_from s.world s.number ls
 
 -- the state of a run with the session
-abbrev pub session_stand : Session → Stand
-session_stand s = record { rest = session_rest s; number = s.number; count = s.count }
+abbrev pub session_state : Session → RunState
+session_state s = record { rest = session_rest s; number = s.number; count = s.count }
 
 -- a line that is too long ends the script, and no line asks for nothing
-pub session_is_stand : (s : Session) → IsStand (session_stand s)
-session_is_stand s = of s.world s.number s.count
+pub session_is_state : (s : Session) → IsRunState (session_state s)
+session_is_state s = of s.world s.number s.count
   where
-    of : (w : Option SeenWorld) (n count : ℕ) → IsStand (record { rest = session_rest_from w n; number = n; count = count })
+    of : (w : Option SeenWorld) (n count : ℕ) →
+        IsRunState (record { rest = session_rest_from w n; number = n; count = count })
     of None n count = record { long = λ l ls long. first_chosen (is_long l) _ _ long; no_text = refl; unfinished = tt }
     of (Some w) n count = record {
       long = λ l ls long. ap (script_outcome w) (first_chosen (is_long l) _ _ long);
@@ -40,8 +41,8 @@ session_is_stand s = of s.world s.number s.count
     }
 
 -- the line is a command, the world took it, and the line of its reply is buffered
-pub record AnswersCommand (old new : SeenWorld) (l owed owed' : List ℕ) : Type 0 where
+pub record AnswersCommand (old new : SeenWorld) (l buffered buffered' : List ℕ) : Type 0 where
   pub command : WorldEvent
   pub is_command : command_on old.settings l ≡ Some command
   pub world : new ≡ next_world old command
-  pub owes : owed' ≡ owed ++ line (next_reply old command)
+  pub owes : buffered' ≡ buffered ++ line (next_reply old command)

@@ -44,12 +44,12 @@ fn answer_command(
     alloc: Global,
     world: &mut LeanWorld,
     line: &[u8],
-    owed: &mut Vec<u8>,
+    buffered: &mut Vec<u8>,
 ) -> Result<(), LineFault>
     ensures answered { MatchResult result
-        (λ _. AnswersCommand world.old world.new line.now owed.old.items owed.new.items)
+        (λ _. AnswersCommand world.old world.new line.now buffered.old.items buffered.new.items)
         (λ why. why ≡ Bad → command_on world.old.settings line.now ≡ None) }
-    ensures err { OnErr result (owed.new.items ≡ owed.old.items) }
+    ensures err { OnErr result (buffered.new.items ≡ buffered.old.items) }
 {
     let Some(text) = text_on(line) else {
         return Err(LineFault::Bad);
@@ -58,7 +58,7 @@ fn answer_command(
     let Ok(reply) = world.step(command) else {
         return Err(LineFault::OutOfMemory);
     };
-    match append_reply(owed, &reply) {
+    match append_reply(buffered, &reply) {
         Ok(()) => Ok(()),
         Err(_) => Err(LineFault::OutOfMemory),
     }
@@ -99,9 +99,9 @@ impl Session {
 }
 
 impl Responder for Session {
-    ghost use Rattle.rb_run_script.specs.Session.{session_is_stand, session_stand};
+    ghost use Rattle.rb_run_script.specs.Session.{session_is_state, session_state};
 
-    ghost stand = { session_stand };
+    ghost stand = { session_state };
 
     fn number(&self) -> u64 {
         self.number
@@ -111,7 +111,7 @@ impl Responder for Session {
         &mut self,
         alloc: Global,
         line: &[u8],
-        owed: &mut Vec<u8>,
+        buffered: &mut Vec<u8>,
     ) -> Result<(), StreamFault> {
         let number = self.number;
         self.number = number + 1;
@@ -126,7 +126,7 @@ impl Responder for Session {
             }
             return Ok(());
         };
-        match answer_command(alloc, world, line, owed) {
+        match answer_command(alloc, world, line, buffered) {
             Ok(()) => self.count += 1,
             Err(LineFault::Bad) => return Err(StreamFault::BadLine { line: number }),
             Err(LineFault::OutOfMemory) => return Err(StreamFault::OutOfMemory),
@@ -141,5 +141,5 @@ impl Responder for Session {
         }
     }
 
-    ghost is_stand = { session_is_stand };
+    ghost is_run_state = { session_is_state };
 }

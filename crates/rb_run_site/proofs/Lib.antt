@@ -4,7 +4,7 @@ mod Configured
 mod EntryLines
 mod Going
 mod Opened
-mod Owed
+mod Buffered
 mod Prefixes
 mod Replayed
 mod Split

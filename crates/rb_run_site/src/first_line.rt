@@ -1,7 +1,7 @@
 //! The first line of an input.
 ghost use Rattle.std.specs.Prelude.{◌≡◌, ◌+◌, ◌*◌, ◌≤◌, ◌⊎◌, [], false, true, take, Err, IfErr, IfOk, IfSome};
 ghost use Rattle.std.specs.Io.KnownBytes.{IsAtEnd};
-ghost use Rattle.rb_lines.specs.Buffers.{Counts, Stands, left};
+ghost use Rattle.rb_lines.specs.Buffers.{Counts, IsWholeLine, left};
 ghost use Rattle.rb_lines.specs.Lines.{is_blank};
 ghost use Rattle.rb_lines.specs.declared.limits.TheConstants.{MOST_READS, READ_SIZE};
 ghost use Rattle.rb_run_site.specs.Faults.{IsOpeningFault};
@@ -22,13 +22,13 @@ pub fn first_line<S: Source, W: Sink>(
     requires unread { S.calls reader.old ≡ 0 }
     requires fresh { W.failed writer.old ≡ false }
     requires pending { buffers.old.pending ≡ [] }
-    requires owed { buffers.old.owed.items ≡ [] }
+    requires buffered { buffers.old.buffered.items ≡ [] }
     requires reads { buffers.old.reads ≡ MOST_READS }
     requires going { buffers.old.ended ≡ false }
     ensures counted { Counts (S.calls reader.new) buffers.new.reads }
     ensures end { buffers.new.ended ≡ true → IsAtEnd (S.remaining reader.new) }
-    ensures owed { IfOk result (λ _. buffers.new.owed.items ≡ []) }
-    ensures line { IfOk result (λ found. Stands buffers.new found.0
+    ensures buffered { IfOk result (λ _. buffers.new.buffered.items ≡ []) }
+    ensures line { IfOk result (λ found. IsWholeLine buffers.new found.0
         × (is_blank (take found.0 buffers.new.pending) ≡ false)) }
     ensures number { IfOk result (λ found. (1 ≤ found.1)
         × (found.1 + left buffers.new ≤ READ_SIZE * MOST_READS + 1)) }

@@ -99,12 +99,12 @@ pub fn open_site<S: Source>(
 ) -> Result<(Opened, u64), SiteFault>
     requires unread { S.calls reader.old ≡ 0 }
     requires pending { buffers.old.pending ≡ [] }
-    requires owed { buffers.old.owed.items ≡ [] }
+    requires buffered { buffers.old.buffered.items ≡ [] }
     requires reads { buffers.old.reads ≡ MOST_READS }
     requires going { buffers.old.ended ≡ false }
     ensures counted { Counts (S.calls reader.new) buffers.new.reads }
     ensures end { buffers.new.ended ≡ true → IsAtEnd (S.remaining reader.new) }
-    ensures owed { IfOk result (λ _. buffers.new.owed.items ≡ []) }
+    ensures buffered { IfOk result (λ _. buffers.new.buffered.items ≡ []) }
     ensures number { IfOk result (λ r. r.1 + length buffers.new.pending < 2 ^ 63) }
     ensures opened { IfOk result (λ r. (config : List ℕ) × OpensSite config me resend bytes.now
         r.0.machine.node.site r.0.first.items r.0.sends.items

@@ -48,7 +48,7 @@ fn go_on<S: Source, H: Host>(
     requires journal { IsJournalOf (recovered (H.content journal.old.host)) opened.old.machine.node.site }
     requires counted { Counts (S.calls reader.old) buffers.old.reads }
     requires end { buffers.old.ended ≡ true → IsAtEnd (S.remaining reader.old) }
-    requires owed { buffers.old.owed.items ≡ [] }
+    requires buffered { buffers.old.buffered.items ≡ [] }
     requires number { number + length buffers.old.pending < 2 ^ 63 }
     ensures settled { EndsAtRest result → IsSettled H.is_usable H.content H.may_leave journal.new }
     ensures text { EndsAtRest result → AnswersAll opened.old.machine.node.site opened.old.sends.items number
@@ -88,7 +88,7 @@ fn run_opened<S: Source, H: Host>(
     requires journal { IsJournalOf (recovered bytes.now) opened.machine.node.site }
     requires counted { Counts (S.calls reader.old) buffers.old.reads }
     requires end { buffers.old.ended ≡ true → IsAtEnd (S.remaining reader.old) }
-    requires owed { buffers.old.owed.items ≡ [] }
+    requires buffered { buffers.old.buffered.items ≡ [] }
     requires number { number + length buffers.old.pending < 2 ^ 63 }
     ensures ended { RunsTo (AnswersAll opened.machine.node.site opened.sends.items number
         (served_input buffers.old.pending (S.remaining reader.old)) (S.remaining reader.new) (H.output host)

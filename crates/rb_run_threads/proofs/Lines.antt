@@ -28,20 +28,21 @@ entry_rest s site h i x below is =
     ∙ append_assoc (history_text s site (take i h)) (entry_line s site x) (history_text s site (drop (i + 1) h))
 
 -- one entry's line more went out or is buffered
-pub history_goes_on : (w0 w w' : Option (List ℕ)) (s : Settings) (site : ℕ) (h : List Entry) (i : ℕ) (x : Entry) (owed now still : List ℕ)
-    → i < length h → x ≡ get_or h i x → Sends w0 w (owed ++ history_text s site (take i h)) now
-    → Sends w w' (now ++ entry_line s site x) still → Sends w0 w' (owed ++ history_text s site (take (i + 1) h)) still
-history_goes_on w0 w w' s site h i x owed now still below is before more =
-    subst (λ t. Sends w0 w' (owed ++ t) still) (sym (entry_more s site h i x below is))
-    (sends_more w0 w w' owed (history_text s site (take i h)) now (entry_line s site x) still before more)
+pub history_goes_on : (w0 w w' : Option (List ℕ)) (s : Settings) (site : ℕ) (h : List Entry) (i : ℕ) (x : Entry)
+    (buffered now still : List ℕ)
+    → i < length h → x ≡ get_or h i x → Sends w0 w (buffered ++ history_text s site (take i h)) now
+    → Sends w w' (now ++ entry_line s site x) still → Sends w0 w' (buffered ++ history_text s site (take (i + 1) h)) still
+history_goes_on w0 w w' s site h i x buffered now still below is before more =
+    subst (λ t. Sends w0 w' (buffered ++ t) still) (sym (entry_more s site h i x below is))
+    (sends_more w0 w w' buffered (history_text s site (take i h)) now (entry_line s site x) still before more)
 
 -- a write failed at an entry: a prefix of the history's lines went out
-pub history_stops : (w0 w w' : Option (List ℕ)) (s : Settings) (site : ℕ) (h : List Entry) (i : ℕ) (x : Entry) (owed now : List ℕ)
-    → i < length h → x ≡ get_or h i x → Sends w0 w (owed ++ history_text s site (take i h)) now
-    → AppendsFront w w' (now ++ entry_line s site x) → AppendsFront w0 w' (owed ++ history_text s site h)
-history_stops w0 w w' s site h i x owed now below is before front =
-    subst (λ t. AppendsFront w0 w' (owed ++ t)) (sym (entry_rest s site h i x below is))
-    (sends_front w0 w w' owed (history_text s site (take i h)) now (entry_line s site x) (history_text s site (drop (i + 1) h)) before
+pub history_stops : (w0 w w' : Option (List ℕ)) (s : Settings) (site : ℕ) (h : List Entry) (i : ℕ) (x : Entry) (buffered now : List ℕ)
+    → i < length h → x ≡ get_or h i x → Sends w0 w (buffered ++ history_text s site (take i h)) now
+    → AppendsFront w w' (now ++ entry_line s site x) → AppendsFront w0 w' (buffered ++ history_text s site h)
+history_stops w0 w w' s site h i x buffered now below is before front =
+    subst (λ t. AppendsFront w0 w' (buffered ++ t)) (sym (entry_rest s site h i x below is))
+    (sends_front w0 w w' buffered (history_text s site (take i h)) now (entry_line s site x) (history_text s site (drop (i + 1) h)) before
     front)
 
 -- ---- one history after the other
@@ -85,19 +86,20 @@ report_rest s rs i r below is =
     ∙ append_assoc (histories_text s 0 (map history_of (take i rs))) (history_text s i (history_of r)) (after s rs i)
 
 -- one history more went out or is buffered
-pub histories_go_on : (w0 w w' : Option (List ℕ)) (s : Settings) (rs : List SiteReport) (i : ℕ) (r : SiteReport) (owed now still : List ℕ)
-    → i < length rs → r ≡ get_or rs i r → Sends w0 w (owed ++ histories_text s 0 (map history_of (take i rs))) now
+pub histories_go_on : (w0 w w' : Option (List ℕ)) (s : Settings) (rs : List SiteReport) (i : ℕ) (r : SiteReport)
+    (buffered now still : List ℕ)
+    → i < length rs → r ≡ get_or rs i r → Sends w0 w (buffered ++ histories_text s 0 (map history_of (take i rs))) now
     → Sends w w' (now ++ history_text s i (history_of r)) still
-    → Sends w0 w' (owed ++ histories_text s 0 (map history_of (take (i + 1) rs))) still
-histories_go_on w0 w w' s rs i r owed now still below is before more =
-    subst (λ t. Sends w0 w' (owed ++ t) still) (sym (report_more s rs i r below is))
-    (sends_more w0 w w' owed (histories_text s 0 (map history_of (take i rs))) now (history_text s i (history_of r)) still before more)
+    → Sends w0 w' (buffered ++ histories_text s 0 (map history_of (take (i + 1) rs))) still
+histories_go_on w0 w w' s rs i r buffered now still below is before more =
+    subst (λ t. Sends w0 w' (buffered ++ t) still) (sym (report_more s rs i r below is))
+    (sends_more w0 w w' buffered (histories_text s 0 (map history_of (take i rs))) now (history_text s i (history_of r)) still before more)
 
 -- a write failed at a history: a prefix of all histories' lines went out
-pub histories_stop : (w0 w w' : Option (List ℕ)) (s : Settings) (rs : List SiteReport) (i : ℕ) (r : SiteReport) (owed now : List ℕ)
-    → i < length rs → r ≡ get_or rs i r → Sends w0 w (owed ++ histories_text s 0 (map history_of (take i rs))) now
-    → AppendsFront w w' (now ++ history_text s i (history_of r)) → AppendsFront w0 w' (owed ++ histories_text s 0 (map history_of rs))
-histories_stop w0 w w' s rs i r owed now below is before front =
-    subst (λ t. AppendsFront w0 w' (owed ++ t)) (sym (report_rest s rs i r below is))
-    (sends_front w0 w w' owed (histories_text s 0 (map history_of (take i rs))) now (history_text s i (history_of r)) (after s rs i)
+pub histories_stop : (w0 w w' : Option (List ℕ)) (s : Settings) (rs : List SiteReport) (i : ℕ) (r : SiteReport) (buffered now : List ℕ)
+    → i < length rs → r ≡ get_or rs i r → Sends w0 w (buffered ++ histories_text s 0 (map history_of (take i rs))) now
+    → AppendsFront w w' (now ++ history_text s i (history_of r)) → AppendsFront w0 w' (buffered ++ histories_text s 0 (map history_of rs))
+histories_stop w0 w w' s rs i r buffered now below is before front =
+    subst (λ t. AppendsFront w0 w' (buffered ++ t)) (sym (report_rest s rs i r below is))
+    (sends_front w0 w w' buffered (histories_text s 0 (map history_of (take i rs))) now (history_text s i (history_of r)) (after s rs i)
     before front)

@@ -6,23 +6,23 @@ use Rattle.rb_lines.specs.Buffers.{Sends}
 use Rattle.rb_lines.specs.Writes.{AppendsFront}
 
 -- a line more went out or is buffered
-pub sends_more : (w0 w w' : Option (List ℕ)) (owed text now line still : List ℕ) → Sends w0 w (owed ++ text) now
-    → Sends w w' (now ++ line) still → Sends w0 w' (owed ++ (text ++ line)) still
-sends_more w0 w w' owed text now line still before more = (
+pub sends_more : (w0 w w' : Option (List ℕ)) (buffered text now line still : List ℕ) → Sends w0 w (buffered ++ text) now
+    → Sends w w' (now ++ line) still → Sends w0 w' (buffered ++ (text ++ line)) still
+sends_more w0 w w' buffered text now line still before more = (
   before.0 ++ more.0,
   Appends-trans w0 w w' before.0 more.0 before.1 more.1,
-  sym (append_assoc owed text line) ∙ ap (λ t. t ++ line) before.2 ∙ append_assoc before.0 now line ∙ ap (λ t. before.0 ++ t) more.2
+  sym (append_assoc buffered text line) ∙ ap (λ t. t ++ line) before.2 ∙ append_assoc before.0 now line ∙ ap (λ t. before.0 ++ t) more.2
       ∙ sym (append_assoc before.0 more.0 still),
 )
 
 -- a prefix of what is buffered is one of all that was to be written
-pub sends_front : (w0 w w' : Option (List ℕ)) (owed text now line rest : List ℕ) → Sends w0 w (owed ++ text) now
-    → AppendsFront w w' (now ++ line) → AppendsFront w0 w' (owed ++ (text ++ (line ++ rest)))
-sends_front w0 w w' owed text now line rest before front = (
+pub sends_front : (w0 w w' : Option (List ℕ)) (buffered text now line rest : List ℕ) → Sends w0 w (buffered ++ text) now
+    → AppendsFront w w' (now ++ line) → AppendsFront w0 w' (buffered ++ (text ++ (line ++ rest)))
+sends_front w0 w w' buffered text now line rest before front = (
   before.0 ++ front.0,
   (
     front.1.0 ++ rest,
-    sym (append_assoc owed text (line ++ rest)) ∙ ap (λ t. t ++ (line ++ rest)) before.2 ∙ append_assoc before.0 now (line ++ rest)
+    sym (append_assoc buffered text (line ++ rest)) ∙ ap (λ t. t ++ (line ++ rest)) before.2 ∙ append_assoc before.0 now (line ++ rest)
         ∙ ap (λ t. before.0 ++ t) (sym (append_assoc now line rest) ∙ ap (λ t. t ++ rest) front.1.1 ∙ append_assoc front.0 front.1.0 rest)
         ∙ sym (append_assoc before.0 front.0 (front.1.0 ++ rest)),
   ),

@@ -8,68 +8,73 @@ ghost use Rattle.rb_run_threads.specs.declared.unwritten.Unwritten.TheVariants.{
 
 use crate::unwritten::Unwritten;
 use rb_history::{append_line, write_config};
-use rb_lines::{MOST_OWED, Sink, flush};
+use rb_lines::{MOST_BUFFERED, Sink, flush};
 use rb_money::Config;
 use rb_site::{Entry, SiteReport};
 use std::alloc::{AllocError, Global};
 
 /// Buffers the line of a configuration.
 #[tactic(auto, unfolding(crate::specs::Texts::config_line))]
-fn owe_config(alloc: Global, owed: &mut Vec<u8>, config: &Config) -> Result<(), AllocError>
-    ensures { OnOk result (owed.new.items ≡ owed.old.items ++ config_line config.now) }
+fn buffer_config(alloc: Global, buffered: &mut Vec<u8>, config: &Config) -> Result<(), AllocError>
+    ensures { OnOk result (buffered.new.items ≡ buffered.old.items ++ config_line config.now) }
 {
     let line = write_config(alloc, config)?;
-    owed.extend_from_slice(line.as_bytes())?;
-    owed.push(b'\n')?;
+    buffered.extend_from_slice(line.as_bytes())?;
+    buffered.push(b'\n')?;
     Ok(())
 }
 
 /// Buffers the line of an entry.
 #[tactic(auto, unfolding(crate::specs::Texts::entry_line))]
-fn owe_entry(owed: &mut Vec<u8>, config: &Config, site: u8, entry: &Entry) -> Result<(), AllocError>
-    ensures { OnOk result (owed.new.items ≡ owed.old.items ++ entry_line config.now site entry.now) }
+fn buffer_entry(
+    buffered: &mut Vec<u8>,
+    config: &Config,
+    site: u8,
+    entry: &Entry,
+) -> Result<(), AllocError>
+    ensures { OnOk result (buffered.new.items ≡ buffered.old.items ++ entry_line config.now site entry.now) }
 {
-    append_line(owed, config, site, entry)?;
-    owed.push(b'\n')?;
+    append_line(buffered, config, site, entry)?;
+    buffered.push(b'\n')?;
     Ok(())
 }
 
 /// Writes the line of an entry, or buffers it until there is more.
 fn write_entry<W: Sink>(
     writer: &mut W,
-    owed: &mut Vec<u8>,
+    buffered: &mut Vec<u8>,
     config: &Config,
     site: u8,
     entry: &Entry,
 ) -> Result<(), Unwritten>
     requires fresh { W.failed writer.old ≡ false }
     ensures written { Writes result (W.contents writer.old) (W.contents writer.new)
-        (owed.old.items ++ entry_line config.now site entry.now) owed.new.items }
+        (buffered.old.items ++ entry_line config.now site entry.now) buffered.new.items }
     ensures write { (result ≡ Err Write) ↔ (W.failed writer.new ≡ true) }
 {
-    owe_entry(owed, config, site, entry)?;
-    if owed.len() < MOST_OWED {
+    buffer_entry(buffered, config, site, entry)?;
+    if buffered.len() < MOST_BUFFERED {
         return Ok(());
     }
-    flush(writer, owed)?;
+    flush(writer, buffered)?;
     Ok(())
 }
 
 /// Writes the lines of a site's history, the last of which may still be buffered.
 fn write_history<W: Sink>(
     writer: &mut W,
-    owed: &mut Vec<u8>,
+    buffered: &mut Vec<u8>,
     config: &Config,
     site: u8,
     history: &[Entry],
 ) -> Result<(), Unwritten>
     requires fresh { W.failed writer.old ≡ false }
     ensures written { Writes result (W.contents writer.old) (W.contents writer.new)
-        (owed.old.items ++ history_text config.now site history.now) owed.new.items }
+        (buffered.old.items ++ history_text config.now site history.now) buffered.new.items }
     ensures write { (result ≡ Err Write) ↔ (W.failed writer.new ≡ true) }
 {
     for entry in history {
-        write_entry(writer, owed, config, site, entry)?;
+        write_entry(writer, buffered, config, site, entry)?;
     }
     Ok(())
 }
@@ -77,20 +82,20 @@ fn write_history<W: Sink>(
 /// Writes the lines of the histories of sites, the first of which is site 0. The last may still be buffered.
 fn write_histories<W: Sink>(
     writer: &mut W,
-    owed: &mut Vec<u8>,
+    buffered: &mut Vec<u8>,
     config: &Config,
     reports: &[SiteReport],
 ) -> Result<(), Unwritten>
     requires fresh { W.failed writer.old ≡ false }
     requires few { length reports.now ≤ MOST_SITES }
     ensures written { Writes result (W.contents writer.old) (W.contents writer.new)
-        (owed.old.items ++ histories_text config.now 0 (map (λ (r : SiteReport). r.history.items) reports.now))
-        owed.new.items }
+        (buffered.old.items ++ histories_text config.now 0 (map (λ (r : SiteReport). r.history.items) reports.now))
+        buffered.new.items }
     ensures write { (result ≡ Err Write) ↔ (W.failed writer.new ≡ true) }
 {
     for site in 0..reports.len() {
         let history = reports[site].history.as_slice();
-        write_history(writer, owed, config, site as u8, history)?;
+        write_history(writer, buffered, config, site as u8, history)?;
     }
     Ok(())
 }
@@ -108,9 +113,9 @@ pub fn write_text<W: Sink>(
         (text_of config.now (map (λ (r : SiteReport). r.history.items) reports.now)) [] }
     ensures write { (result ≡ Err Write) ↔ (W.failed writer.new ≡ true) }
 {
-    let mut owed = Vec::new(alloc);
-    owe_config(alloc, &mut owed, config)?;
-    write_histories(writer, &mut owed, config, reports)?;
-    flush(writer, &mut owed)?;
+    let mut buffered = Vec::new(alloc);
+    buffer_config(alloc, &mut buffered, config)?;
+    write_histories(writer, &mut buffered, config, reports)?;
+    flush(writer, &mut buffered)?;
     Ok(())
 }

@@ -1,6 +1,6 @@
 -- Some lines of a run: what waits before and after them, and why no more were answered.
 use Rattle.std.specs.Prelude.{◌≡◌, ℕ, ◌+◌, ◌<◌, Bool, true, false, List, [], ◌++◌, length, take, Result, Ok, Err}
-use Rattle.rb_lines.specs.Buffers.{Stands}
+use Rattle.rb_lines.specs.Buffers.{IsWholeLine}
 use Rattle.rb_lines.specs.Lines.{is_blank, line_len, lines_of, whole_lines}
 use Rattle.rb_lines.specs.declared.buffers.Buffers.{Buffers}
 use Rattle.rb_lines.specs.declared.limits.TheConstants.{LINE_LIMIT}
@@ -44,13 +44,13 @@ pub record Advances (answers : Answers) (ended : Bool) (old new : Point) : Type 
 
 -- what is at the front of the bytes that wait
 abbrev pub IsWaiting : Buffers → Waiting → Type 0
-IsWaiting b (Line n) = Stands b n
+IsWaiting b (Line n) = IsWholeLine b n
 IsWaiting b Long = LINE_LIMIT < line_len b.pending
 IsWaiting b Nothing = (line_len b.pending ≡ length b.pending) × (b.ended ≡ true → b.pending ≡ [])
 
 -- the line at the front has no answer
 abbrev pub IsBadLine : Answers → List (List ℕ) → Buffers → Type 0
-IsBadLine answers lines b = (n : ℕ) × Stands b n × (is_blank (take n b.pending) ≡ false)
+IsBadLine answers lines b = (n : ℕ) × IsWholeLine b n × (is_blank (take n b.pending) ≡ false)
     × HasNoAnswer answers lines (take n b.pending)
 
 -- why no more of the lines that wait were answered; of running out of memory, and of what failed, nothing is said here

@@ -26,7 +26,7 @@ pub fn answer_group<M: Machine, H: Host>(
     requires settled { IsSettled H.is_usable H.content H.may_leave journal.old }
     requires same { M.lines machine.old ≡ recovered (H.content journal.old.host) }
     requires batch { work.old.batch.bytes.items ≡ [] }
-    requires buffered { buffers.old.owed.items ≡ [] }
+    requires buffered { buffers.old.buffered.items ≡ [] }
     requires number { work.old.number + length buffers.old.pending < 2 ^ 64 }
     requires count { work.old.count ≤ work.old.number }
 
@@ -50,15 +50,15 @@ pub fn answer_group<M: Machine, H: Host>(
         → IsFull M.answers (Some (buffers.old.pending ++ rest)) (recovered (H.content journal.old.host))) }
 
     ensures batch { EndsAtRest result → work.new.batch.bytes.items ≡ [] }
-    ensures buffered { EndsAtRest result → buffers.new.owed.items ≡ [] }
+    ensures buffered { EndsAtRest result → buffers.new.buffered.items ≡ [] }
     ensures reads { buffers.new.reads ≡ buffers.old.reads }
     ensures ended { buffers.new.ended ≡ buffers.old.ended }
     ensures number { work.new.number + length buffers.new.pending ≤ work.old.number + length buffers.old.pending }
     ensures count { work.new.count ≤ work.new.number }
 {
     let answered = answer_waiting(machine, buffers, work);
-    journal.commit_and_put_out(&work.batch.bytes, &buffers.owed)?;
+    journal.commit_and_put_out(&work.batch.bytes, &buffers.buffered)?;
     work.batch.clear();
-    buffers.owed.clear();
+    buffers.buffered.clear();
     answered
 }

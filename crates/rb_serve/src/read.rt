@@ -16,11 +16,11 @@ pub fn read_more<S: Source>(buffers: &mut Buffers, reader: &mut S) -> Result<(),
     requires counted { Counts (S.calls reader.old) buffers.old.reads }
     requires going { buffers.old.ended ≡ false }
     requires no_line_waits { line_len buffers.old.pending ≡ length buffers.old.pending }
-    requires nothing_buffered { buffers.old.owed.items ≡ [] }
+    requires nothing_buffered { buffers.old.buffered.items ≡ [] }
     ensures counted { Counts (S.calls reader.new) buffers.new.reads }
     ensures fewer { OnOk result (buffers.new.reads < buffers.old.reads) }
     ensures left { OnOk result (left buffers.new ≤ left buffers.old) }
-    ensures buffered { buffers.new.owed ≡ buffers.old.owed }
+    ensures buffered { buffers.new.buffered ≡ buffers.old.buffered }
     ensures read { OnOk result
         (Reads buffers.old.pending buffers.new.pending (S.remaining reader.old) (S.remaining reader.new)) }
     ensures end { OnOk result (buffers.new.ended ≡ true

@@ -38,7 +38,7 @@ pub fn serve<M: Machine, H: Host, S: Source>(
     requires same { M.lines machine.old ≡ recovered (H.content journal.old.host) }
     requires counted { Counts (S.calls reader.old) buffers.old.reads }
     requires end { buffers.old.ended ≡ true → IsAtEnd (S.remaining reader.old) }
-    requires buffered { buffers.old.owed.items ≡ [] }
+    requires buffered { buffers.old.buffered.items ≡ [] }
     requires number { number + length buffers.old.pending < 2 ^ 63 }
 
     // Where nothing has failed but a line or a read, the journal is at rest, and the machine is the run of its lines.

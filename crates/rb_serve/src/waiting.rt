@@ -1,7 +1,7 @@
 //! The lines that wait, answered one after another.
 ghost use Rattle.std.specs.Prelude.{◌≡◌, ◌≢◌, ◌+◌, ◌^◌, ◌<◌, ◌≤◌, ◌++◌, List, ℕ, [], Err, length, OnOk, OnErr};
 ghost use Rattle.rb_journal.specs.Lines.{recovered};
-ghost use Rattle.rb_lines.specs.Buffers.{Stands};
+ghost use Rattle.rb_lines.specs.Buffers.{IsWholeLine};
 ghost use Rattle.rb_serve.specs.Steps.{Advances, IsWaiting, StopsAt, point_of};
 ghost use Rattle.rb_serve.specs.declared.fault.ServeFault.TheVariants.{Journal, OutOfMemory, Write};
 
@@ -42,20 +42,20 @@ fn answer_next<M: Machine>(
     work: &mut Work,
     n: usize,
 ) -> Result<(), ServeFault>
-    requires line { Stands buffers.old n }
+    requires line { IsWholeLine buffers.old n }
     requires number { work.old.number + 1 < 2 ^ 64 }
     requires count { work.old.count ≤ work.old.number }
     ensures answered { OnOk result (Advances M.answers buffers.old.ended
-        (point_of (M.lines machine.old) buffers.old.owed.items work.old buffers.old)
-        (point_of (M.lines machine.new) buffers.new.owed.items work.new buffers.new)) }
+        (point_of (M.lines machine.old) buffers.old.buffered.items work.old buffers.old)
+        (point_of (M.lines machine.new) buffers.new.buffered.items work.new buffers.new)) }
     // What is added is added to the batch.
     ensures batch { OnOk result ((before : List (List ℕ))
         → M.lines machine.old ≡ before ++ recovered work.old.batch.bytes.items
         → M.lines machine.new ≡ before ++ recovered work.new.batch.bytes.items) }
     ensures machine { OnErr result (result ≢ Err OutOfMemory → M.lines machine.new ≡ M.lines machine.old) }
     ensures same { OnErr result ((lines : List (List ℕ)) →
-        point_of (lines ++ recovered work.new.batch.bytes.items) buffers.new.owed.items work.new buffers.new
-        ≡ point_of (lines ++ recovered work.old.batch.bytes.items) buffers.old.owed.items work.old buffers.old) }
+        point_of (lines ++ recovered work.new.batch.bytes.items) buffers.new.buffered.items work.new buffers.new
+        ≡ point_of (lines ++ recovered work.old.batch.bytes.items) buffers.old.buffered.items work.old buffers.old) }
     ensures stop { OnErr result (StopsAt M.answers (M.lines machine.new) work.new.number buffers.new result) }
     ensures not_write { result ≡ Err Write → ⊥ }
     ensures not_journal { result ≡ Err Journal → ⊥ }
@@ -67,7 +67,7 @@ fn answer_next<M: Machine>(
 {
     let line = &buffers.pending.as_slice()[..n];
     if !is_blank(line) {
-        match machine.answer_line(line, &mut work.batch, &mut buffers.owed) {
+        match machine.answer_line(line, &mut work.batch, &mut buffers.buffered) {
             Ok(()) => {}
             Err(MachineFault::Bad) => return Err(ServeFault::BadLine { line: work.number }),
             Err(MachineFault::OutOfMemory) => return Err(ServeFault::OutOfMemory),
@@ -89,8 +89,8 @@ pub fn answer_waiting<M: Machine>(
     requires number { work.old.number + length buffers.old.pending < 2 ^ 64 }
     requires count { work.old.count ≤ work.old.number }
     ensures answered { Advances M.answers buffers.old.ended
-        (point_of (M.lines machine.old) buffers.old.owed.items work.old buffers.old)
-        (point_of (M.lines machine.old ++ recovered work.new.batch.bytes.items) buffers.new.owed.items work.new
+        (point_of (M.lines machine.old) buffers.old.buffered.items work.old buffers.old)
+        (point_of (M.lines machine.old ++ recovered work.new.batch.bytes.items) buffers.new.buffered.items work.new
         buffers.new) }
     ensures machine { result ≢ Err OutOfMemory
         → M.lines machine.new ≡ M.lines machine.old ++ recovered work.new.batch.bytes.items }

@@ -8,7 +8,7 @@ use Rattle.rb_scratch.specs.declared.request.TheConstants.{MOST_REQUESTS}
 use Rattle.rb_money.specs.Settings.{Settings}
 use Rattle.rb_shadow.specs.Operations.{same_name}
 use Rattle.rb_shadow.specs.declared.shadow.Shadow.{Shadow}
-use Rattle.rb_inbox.specs.Held.{stands_before, with_held}
+use Rattle.rb_inbox.specs.Held.{comes_before, with_held}
 use Rattle.rb_site.specs.declared.answer.Answer.{Answer}
 use Rattle.rb_site.specs.declared.entry.Entry.{Entry}
 use Rattle.rb_site.specs.declared.event.Event.{Event}
@@ -51,7 +51,7 @@ still_enough room keeps old now before after o a follows few accounts entries =
 
 with_held-few : (v : Shadow) (us : List Shadow) → length (with_held v us) ≤ length us + 1
 with_held-few v [] = omega arith
-with_held-few v (u ∷ us) = by (stands_before v.name u.name) (with_held-few v us)
+with_held-few v (u ∷ us) = by (comes_before v.name u.name) (with_held-few v us)
   where
     by : (b : Bool) → length (with_held v us) ≤ length us + 1 → length (cond b (v ∷ u ∷ us) (u ∷ with_held v us)) ≤ length (u ∷ us) + 1
     by true rest = omega arith

@@ -6,7 +6,7 @@ use crate::TellersFault;
 use crate::joining::{join_servers, join_tellers, together};
 use crate::server::attend;
 use crate::server_of::ServerOf;
-use crate::teller::tell;
+use crate::teller::make_calls;
 use crate::teller_of::TellerOf;
 use rb_branch::{Branch, CallFault, Entries, Gate, Inlet, Outbox, Seat, links};
 use std::alloc::Global;
@@ -113,7 +113,7 @@ impl<
         let job = move || -> Result<Seat<E, R>, CallFault>
             requires { (seat.receipts ≡ []) × (seat.site < sites) }
             ensures { IfOk result (IsTeller first seat.site sites) }
-        { tell(rt, branch, seat, outbox, first, sites) };
+        { make_calls(rt, branch, seat, outbox, first, sites) };
         match self.scope.spawn_with(TellerOf { first, site, sites }, job) {
             Ok(handle) => Ok(handle),
             Err(_) => Err(TellersFault::OutOfMemory),

@@ -22,7 +22,7 @@ pub const INCREMENT: u64 = 1_442_695_040_888_963_407;
 
 /// A teller's calls, one after another, each chosen by the next number and the name of the last operation
 /// that it made; one that is refused is followed by the next. The seat comes back with a receipt for each.
-pub(crate) fn tell<E: Entries, R: Ledger, G: Gate + Drop, W: Wait>(
+pub(crate) fn make_calls<E: Entries, R: Ledger, G: Gate + Drop, W: Wait>(
     rt: &W,
     branch: &Branch<E, R, G>,
     mut seat: Seat<E, R>,

@@ -19,7 +19,7 @@ use Rattle.rb_site.specs.declared.world_event.WorldEvent.{WorldEvent}
 use Rattle.rb_site.specs.declared.world_event.WorldEvent.TheVariants.{At, Deliver}
 use Rattle.rb_site.specs.Events.{Answers, Applies, Drops, Holds, Makes, MakesAll, ModelSite, Outcome, Passes, Refuses, Shows, Takes}
 use Rattle.rb_site.specs.Events.{after_event, changed, is_full, outcome_of, sent_at}
-use Rattle.rb_inbox.specs.Held.{stands_before, with_held}
+use Rattle.rb_inbox.specs.Held.{comes_before, with_held}
 use Rattle.rb_site.specs.Worlds.{AreOwn, World, made_in, message_at, shadows_in, world_after, world_after_all, world_at}
 use Rattle.rb_world.specs.Laws.{CanCatchUp, catching_up}
 use Rattle.rb_world.proofs.Steps
@@ -110,7 +110,7 @@ roomy s t n h = at (length t.history) h
 
 held_there : (v : Shadow) (us : List Shadow) → Among v (with_held v us)
 held_there v [] = inl refl
-held_there v (u ∷ us) = at (stands_before v.name u.name) (held_there v us)
+held_there v (u ∷ us) = at (comes_before v.name u.name) (held_there v us)
   where
     at : (b : Bool) → Among v (with_held v us) → Among v (cond b (v ∷ u ∷ us) (u ∷ with_held v us))
     at true h = inl refl

@@ -43,7 +43,7 @@ fn out_of_memory(rt: &HostRuntime) -> ExitCode
 }
 
 /// Says this line, if there was memory for it, and ends with this status.
-pub(crate) fn tell_line(rt: &HostRuntime, line: Result<String, AllocError>, status: u8) -> ExitCode
+pub(crate) fn print_line(rt: &HostRuntime, line: Result<String, AllocError>, status: u8) -> ExitCode
     ensures { IsToldStatus status (exit_status result) }
 {
     match line {
@@ -56,10 +56,10 @@ pub(crate) fn tell_line(rt: &HostRuntime, line: Result<String, AllocError>, stat
 }
 
 /// Says why a script, an audit or a migration stopped.
-fn tell_fault(rt: &HostRuntime, fault: ScriptFault) -> ExitCode
+fn report_fault(rt: &HostRuntime, fault: ScriptFault) -> ExitCode
     ensures { IsToldStatus (status_of fault) (exit_status result) }
 {
-    tell_line(rt, message(rt.alloc(), fault), status(fault))
+    print_line(rt, message(rt.alloc(), fault), status(fault))
 }
 
 /// Writes help or the version, which was asked for, to standard output.
@@ -67,14 +67,14 @@ fn show(rt: &HostRuntime, asked: &clap::Error) -> ExitCode
     ensures { (exit_status result ≡ 0) ⊎ IsToldStatus (status_of NotWritten) (exit_status result) }
 {
     if rt.print(asked).is_err() {
-        return tell_fault(rt, ScriptFault::Write);
+        return report_fault(rt, ScriptFault::Write);
     }
     ExitCode::SUCCESS
 }
 
 /// Says what is wrong with the words. Help or the version that was asked for goes to standard output, and nothing is
 /// wrong where it is written.
-fn tell_words(rt: &HostRuntime, error: clap::Error) -> ExitCode
+fn report_words(rt: &HostRuntime, error: clap::Error) -> ExitCode
     ensures { IsEndOfWords (kind_of error) (exit_status result) }
 {
     match error.kind() {
@@ -88,7 +88,7 @@ fn tell_words(rt: &HostRuntime, error: clap::Error) -> ExitCode
 }
 
 /// Says why the words can't be read: there is no memory, or one of them isn't UTF-8.
-fn tell_unread(rt: &HostRuntime, error: io::Error) -> ExitCode
+fn report_unread(rt: &HostRuntime, error: io::Error) -> ExitCode
     ensures { exit_status result ≡ status_of_unread (error_kind error) }
 {
     match error.kind() {
@@ -106,7 +106,7 @@ fn end_of_script(rt: &HostRuntime, ran: Result<u64, ScriptFault>) -> ExitCode
 {
     match ran {
         Ok(_) => ExitCode::SUCCESS,
-        Err(fault) => tell_fault(rt, fault),
+        Err(fault) => report_fault(rt, fault),
     }
 }
 
@@ -117,7 +117,7 @@ fn end_of_audit(rt: &HostRuntime, ran: Result<bool, ScriptFault>) -> ExitCode
     match ran {
         Ok(true) => ExitCode::SUCCESS,
         Ok(false) => ExitCode::from(FAULT_FOUND),
-        Err(fault) => tell_fault(rt, fault),
+        Err(fault) => report_fault(rt, fault),
     }
 }
 
@@ -127,7 +127,7 @@ fn end_of_threads(rt: &HostRuntime, ran: Result<(), ThreadsFault>) -> ExitCode
 {
     match ran {
         Ok(()) => ExitCode::SUCCESS,
-        Err(fault) => tell_line(
+        Err(fault) => print_line(
             rt,
             threads_message(rt.alloc(), fault),
             threads_status(fault),
@@ -160,7 +160,7 @@ fn run<H: Threads + Wait + Sync>(rt: &HostRuntime, handle: &H) -> ExitCode
     let alloc = rt.alloc();
     let given = match env::args(rt) {
         Ok(given) => given,
-        Err(error) => return tell_unread(rt, error),
+        Err(error) => return report_unread(rt, error),
     };
     let Ok(words) = given.skip(1).collect::<Vec<String>>(alloc) else {
         return out_of_memory(rt);
@@ -176,7 +176,7 @@ fn run<H: Threads + Wait + Sync>(rt: &HostRuntime, handle: &H) -> ExitCode
     let mut writer = ToWriter::new(io::writer(rt));
     match answer(handle, alloc, views.as_slice(), &mut reader, &mut writer) {
         Ok(answered) => end(rt, &mut reader, answered),
-        Err(error) => tell_words(rt, error),
+        Err(error) => report_words(rt, error),
     }
 }
 

@@ -3,7 +3,7 @@ ghost use Rattle.std.specs.Prelude.{◌≡◌};
 ghost use Rattle.std.specs.Process.{exit_status};
 ghost use Rattle.rbbank.specs.Statuses.{IsEndOfSite, IsEndOfSomeSite};
 
-use crate::tell_line;
+use crate::print_line;
 use rb_journal::open_disk;
 use rb_lines::Source;
 use rb_run_site::{Ran, SiteFault, run_site, site_message, site_status};
@@ -34,7 +34,7 @@ fn end_of_site(rt: &HostRuntime, ran: Result<u64, SiteFault>) -> ExitCode
 {
     match ran {
         Ok(_) => ExitCode::SUCCESS,
-        Err(fault) => tell_line(rt, site_message(rt.alloc(), fault), site_status(fault)),
+        Err(fault) => print_line(rt, site_message(rt.alloc(), fault), site_status(fault)),
     }
 }
 

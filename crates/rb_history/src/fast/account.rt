@@ -1,7 +1,7 @@
 //! Accounts, in one pass. `None` says nothing of a text.
 ghost use Rattle.std.specs.Prelude.{◌≡◌, ◌<◌, ◌^◌, ◌++◌, IfSome, codes, decimal};
 ghost use Rattle.rb_history.specs.Fits.{IsKnown};
-ghost use Rattle.rb_history.specs.Tells.{IsBetween, account_behind_quote};
+ghost use Rattle.rb_history.specs.Beginnings.{IsBetween, account_behind_quote};
 
 use crate::fast::number::parse_long_between;
 use rb_commands::fast::scan::{parse_number, parse_prefix, parse_string};

@@ -5,7 +5,7 @@ ghost use Rattle.serde_json.specs.Written.{compact_text};
 ghost use Rattle.rb_money.specs.declared.limits.TheConstants.{MOST_SITES};
 ghost use Rattle.rb_commands.specs.Values.{number_json};
 ghost use Rattle.rb_history.specs.Counts.{numbered_json};
-ghost use Rattle.rb_history.specs.Tells.{TellsCounts, TellsEach, TellsNumbered};
+ghost use Rattle.rb_history.specs.Beginnings.{BeginsWithCounts, BeginsWithEach, BeginsWithNumbered};
 
 use crate::fast::number::parse_word_between;
 use crate::read::counts::widened;
@@ -14,7 +14,7 @@ use rb_money::{MOST_SITES, MOST_SITES_OF_VERSION_1};
 
 /// A count for each site that version 1 may have, and the closing bracket.
 fn parse_first(text: &str) -> Option<([u32; MOST_SITES_OF_VERSION_1], &str)>
-    ensures { IfSome result (λ p. TellsEach number_json (λ n. n < 2 ^ 32) p.0 text.now p.1.now) }
+    ensures { IfSome result (λ p. BeginsWithEach number_json (λ n. n < 2 ^ 32) p.0 text.now p.1.now) }
 {
     let mut counts = [0; MOST_SITES_OF_VERSION_1];
     let mut left = text;
@@ -46,7 +46,7 @@ fn parse_numbered_one(text: &str, least: usize) -> Option<(usize, u32, &str)>
 
 /// The counts above 0, each behind its site's number, and the closing bracket.
 fn parse_numbered(text: &str) -> Option<([u32; MOST_SITES], &str)>
-    ensures { IfSome result (λ p. TellsNumbered p.0 text.now p.1.now) }
+    ensures { IfSome result (λ p. BeginsWithNumbered p.0 text.now p.1.now) }
 {
     let mut counts = [0; MOST_SITES];
     let mut least = 0;
@@ -67,7 +67,7 @@ fn parse_numbered(text: &str) -> Option<([u32; MOST_SITES], &str)>
 /// The counts of all sites, as this version of the format has them.
 #[tactic(auto, unfolding(crate::specs::Counts::blue_json))]
 pub fn parse_counts(version: u8, text: &str) -> Option<([u32; MOST_SITES], &str)>
-    ensures { IfSome result (λ p. TellsCounts version p.0 text.now p.1.now) }
+    ensures { IfSome result (λ p. BeginsWithCounts version p.0 text.now p.1.now) }
 {
     let list = parse_prefix(text, "[")?;
     if version == 1 {

@@ -2,7 +2,7 @@
 ghost use Rattle.std.specs.Prelude.{◌≡◌, IfSome, Some};
 ghost use Rattle.rb_history.specs.Entries.{event_of_line, request_json};
 ghost use Rattle.rb_history.specs.Fits.{IsRequest};
-ghost use Rattle.rb_history.specs.Tells.{TellsEach, TellsEvent, TellsRequest};
+ghost use Rattle.rb_history.specs.Beginnings.{BeginsWithEach, BeginsWithEvent, BeginsWithRequest};
 
 use crate::fast::account::{parse_account_between, parse_asked};
 use crate::fast::name::parse_name_between;
@@ -17,21 +17,21 @@ use rb_token::TokenMessage;
 use std::alloc::Global;
 
 fn parse_deposit<'a>(config: &Config, text: &'a str) -> Option<(Request, &'a str)>
-    ensures { IfSome result (λ p. TellsRequest config.now p.0 text.now p.1.now) }
+    ensures { IfSome result (λ p. BeginsWithRequest config.now p.0 text.now p.1.now) }
 {
     let (account, amount, rest) = parse_asked(config, text, "{\"deposit\":[\"")?;
     Some((Request::Deposit { account, amount }, rest))
 }
 
 fn parse_withdraw<'a>(config: &Config, text: &'a str) -> Option<(Request, &'a str)>
-    ensures { IfSome result (λ p. TellsRequest config.now p.0 text.now p.1.now) }
+    ensures { IfSome result (λ p. BeginsWithRequest config.now p.0 text.now p.1.now) }
 {
     let (account, amount, rest) = parse_asked(config, text, "{\"withdraw\":[\"")?;
     Some((Request::Withdraw { account, amount }, rest))
 }
 
 fn parse_interest<'a>(config: &Config, text: &'a str) -> Option<(Request, &'a str)>
-    ensures { IfSome result (λ p. TellsRequest config.now p.0 text.now p.1.now) }
+    ensures { IfSome result (λ p. BeginsWithRequest config.now p.0 text.now p.1.now) }
 {
     let (account, rate, rest) = parse_asked(config, text, "{\"interest\":[\"")?;
     if rate >= 0x1_0000_0000 {
@@ -42,14 +42,14 @@ fn parse_interest<'a>(config: &Config, text: &'a str) -> Option<(Request, &'a st
 }
 
 fn parse_cancel<'a>(config: &Config, text: &'a str) -> Option<(Request, &'a str)>
-    ensures { IfSome result (λ p. TellsRequest config.now p.0 text.now p.1.now) }
+    ensures { IfSome result (λ p. BeginsWithRequest config.now p.0 text.now p.1.now) }
 {
     let (target, rest) = parse_name_between(text, "{\"cancel\":\"", "}")?;
     Some((Request::Cancel { target }, rest))
 }
 
 fn parse_transfer<'a>(config: &Config, text: &'a str) -> Option<(Request, &'a str)>
-    ensures { IfSome result (λ p. TellsRequest config.now p.0 text.now p.1.now) }
+    ensures { IfSome result (λ p. BeginsWithRequest config.now p.0 text.now p.1.now) }
 {
     let (from, rest) = parse_account_between(config, text, "{\"transfer\":[\"", ",\"")?;
     let (to, amount, rest) = parse_asked(config, rest, "")?;
@@ -58,7 +58,7 @@ fn parse_transfer<'a>(config: &Config, text: &'a str) -> Option<(Request, &'a st
 
 /// A request, as the first letter of its key says.
 fn parse_request<'a>(config: &Config, text: &'a str) -> Option<(Request, &'a str)>
-    ensures { IfSome result (λ p. TellsRequest config.now p.0 text.now p.1.now) }
+    ensures { IfSome result (λ p. BeginsWithRequest config.now p.0 text.now p.1.now) }
 {
     match text.as_bytes().get(2) {
         Some(b'd') => parse_deposit(config, text),
@@ -70,7 +70,7 @@ fn parse_request<'a>(config: &Config, text: &'a str) -> Option<(Request, &'a str
 }
 
 fn parse_submit<'a>(config: &Config, text: &'a str) -> Option<(Event, &'a str)>
-    ensures { IfSome result (λ p. TellsEvent config.now p.0 text.now p.1.now) }
+    ensures { IfSome result (λ p. BeginsWithEvent config.now p.0 text.now p.1.now) }
 {
     let (request, rest) = parse_request(config, text)?;
     Some((Event::Submit(request), rest))
@@ -83,7 +83,7 @@ fn parse_requests<'a>(
     text: &'a str,
 ) -> Option<(Vec<Request>, &'a str)>
     ensures { IfSome result
-        (λ p. TellsEach (request_json config.now) (IsRequest config.now) p.0.items text.now p.1.now) }
+        (λ p. BeginsWithEach (request_json config.now) (IsRequest config.now) p.0.items text.now p.1.now) }
 {
     let mut requests = Vec::new(alloc);
     let mut left = text;
@@ -103,21 +103,21 @@ fn parse_requests<'a>(
 }
 
 fn parse_batch<'a>(alloc: Global, config: &Config, text: &'a str) -> Option<(Event, &'a str)>
-    ensures { IfSome result (λ p. TellsEvent config.now p.0 text.now p.1.now) }
+    ensures { IfSome result (λ p. BeginsWithEvent config.now p.0 text.now p.1.now) }
 {
     let (requests, rest) = parse_requests(alloc, config, parse_prefix(text, "{\"batch\":[")?)?;
     Some((Event::Batch(List::new(requests)), parse_prefix(rest, "}")?))
 }
 
 fn parse_received<'a>(config: &Config, text: &'a str) -> Option<(Event, &'a str)>
-    ensures { IfSome result (λ p. TellsEvent config.now p.0 text.now p.1.now) }
+    ensures { IfSome result (λ p. BeginsWithEvent config.now p.0 text.now p.1.now) }
 {
     let (shadow, rest) = parse_shadow(config, text)?;
     Some((Event::Receive(Message::Shadow(shadow)), rest))
 }
 
 fn parse_token<'a>(config: &Config, text: &'a str) -> Option<(Event, &'a str)>
-    ensures { IfSome result (λ p. TellsEvent config.now p.0 text.now p.1.now) }
+    ensures { IfSome result (λ p. BeginsWithEvent config.now p.0 text.now p.1.now) }
 {
     let (epoch, rest) = parse_word_between(text, "{\"token\":[", ",")?;
     let (to, rest) = parse_byte_between(rest, "", ",")?;
@@ -127,28 +127,28 @@ fn parse_token<'a>(config: &Config, text: &'a str) -> Option<(Event, &'a str)>
 }
 
 fn parse_apply<'a>(config: &Config, text: &'a str) -> Option<(Event, &'a str)>
-    ensures { IfSome result (λ p. TellsEvent config.now p.0 text.now p.1.now) }
+    ensures { IfSome result (λ p. BeginsWithEvent config.now p.0 text.now p.1.now) }
 {
     let (name, rest) = parse_name_between(text, "{\"apply\":\"", "}")?;
     Some((Event::Apply(name), rest))
 }
 
 fn parse_pass<'a>(config: &Config, text: &'a str) -> Option<(Event, &'a str)>
-    ensures { IfSome result (λ p. TellsEvent config.now p.0 text.now p.1.now) }
+    ensures { IfSome result (λ p. BeginsWithEvent config.now p.0 text.now p.1.now) }
 {
     let (to, rest) = parse_byte_between(text, "{\"pass\":", "}")?;
     Some((Event::Pass(to), rest))
 }
 
 fn parse_balance<'a>(config: &Config, text: &'a str) -> Option<(Event, &'a str)>
-    ensures { IfSome result (λ p. TellsEvent config.now p.0 text.now p.1.now) }
+    ensures { IfSome result (λ p. BeginsWithEvent config.now p.0 text.now p.1.now) }
 {
     let (account, rest) = parse_account_between(config, text, "{\"balance\":\"", "}")?;
     Some((Event::Balance(account), rest))
 }
 
 fn parse_as_of<'a>(config: &Config, text: &'a str) -> Option<(Event, &'a str)>
-    ensures { IfSome result (λ p. TellsEvent config.now p.0 text.now p.1.now) }
+    ensures { IfSome result (λ p. BeginsWithEvent config.now p.0 text.now p.1.now) }
 {
     let (account, position, rest) = parse_asked(config, text, "{\"asof\":[\"")?;
     if position >= 0x1_0000_0000 {
@@ -158,7 +158,7 @@ fn parse_as_of<'a>(config: &Config, text: &'a str) -> Option<(Event, &'a str)>
 }
 
 fn parse_statement<'a>(config: &Config, text: &'a str) -> Option<(Event, &'a str)>
-    ensures { IfSome result (λ p. TellsEvent config.now p.0 text.now p.1.now) }
+    ensures { IfSome result (λ p. BeginsWithEvent config.now p.0 text.now p.1.now) }
 {
     let (account, rest) = parse_account_between(config, text, "{\"statement\":\"", "}")?;
     Some((Event::Statement(account), rest))
@@ -166,7 +166,7 @@ fn parse_statement<'a>(config: &Config, text: &'a str) -> Option<(Event, &'a str
 
 /// An event, as the first letters of its key say.
 pub fn parse_event<'a>(alloc: Global, config: &Config, text: &'a str) -> Option<(Event, &'a str)>
-    ensures { IfSome result (λ p. TellsEvent config.now p.0 text.now p.1.now) }
+    ensures { IfSome result (λ p. BeginsWithEvent config.now p.0 text.now p.1.now) }
 {
     match (text.as_bytes().get(2), text.as_bytes().get(3)) {
         (Some(b's'), Some(b'h')) => parse_received(config, text),

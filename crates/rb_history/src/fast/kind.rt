@@ -1,7 +1,7 @@
 //! Kinds, in one pass. `None` says nothing of a text.
 ghost use Rattle.std.specs.Prelude.{◌≡◌, ◌<◌, ◌++◌, IfSome, true};
 ghost use Rattle.rb_history.specs.Fits.{IsKind};
-ghost use Rattle.rb_history.specs.Tells.{behind_quote};
+ghost use Rattle.rb_history.specs.Beginnings.{behind_quote};
 ghost use Rattle.serde_json.specs.Written.{members_text};
 ghost use Rattle.rb_shadow.specs.Labels.{label_of, word_of};
 ghost use Rattle.rb_history.specs.Entries.{last_members};

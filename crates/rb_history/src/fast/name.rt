@@ -1,7 +1,7 @@
 //! Names of operations, in one pass. `None` says nothing of a text.
 ghost use Rattle.std.specs.Prelude.{◌≡◌, ◌<◌, ◌++◌, IfSome};
 ghost use Rattle.rb_shadow.specs.NameText.{IsName, name_text};
-ghost use Rattle.rb_history.specs.Tells.{IsBetween, behind_quote};
+ghost use Rattle.rb_history.specs.Beginnings.{IsBetween, behind_quote};
 
 use rb_commands::fast::scan::{parse_name, parse_prefix};
 use rb_shadow::OpName;

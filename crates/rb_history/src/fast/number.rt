@@ -1,6 +1,6 @@
 //! Numbers, in one pass. `None` says nothing of a text.
 ghost use Rattle.std.specs.Prelude.{◌<◌, ◌^◌, IfSome, decimal};
-ghost use Rattle.rb_history.specs.Tells.{IsBetween};
+ghost use Rattle.rb_history.specs.Beginnings.{IsBetween};
 
 use rb_commands::fast::scan::{parse_byte, parse_number, parse_prefix, parse_word};
 

@@ -3,7 +3,7 @@ ghost use Rattle.std.specs.Prelude.{◌≡◌, ◌++◌, IfSome};
 ghost use Rattle.serde_json.specs.Written.{compact_text};
 ghost use Rattle.rb_commands.specs.Replies.{cause_json};
 ghost use Rattle.rb_history.specs.Fits.{IsCause};
-ghost use Rattle.rb_history.specs.Tells.{TellsReply};
+ghost use Rattle.rb_history.specs.Beginnings.{BeginsWithReply};
 
 use crate::fast::number::{parse_byte_between, parse_word_between};
 use crate::read::refusal::plain_refusal;
@@ -13,7 +13,7 @@ use rb_site::Reply;
 
 /// Too few red operations applied.
 pub fn parse_behind(text: &str) -> Option<(Reply, &str)>
-    ensures { IfSome result (λ p. TellsReply p.0 text.now p.1.now) }
+    ensures { IfSome result (λ p. BeginsWithReply p.0 text.now p.1.now) }
 {
     let (needed, rest) = parse_word_between(text, "{\"needed\":", ",\"refused\":9,\"seen\":")?;
     let (seen, rest) = parse_word_between(rest, "", "}")?;
@@ -22,7 +22,7 @@ pub fn parse_behind(text: &str) -> Option<(Reply, &str)>
 
 /// An operation that is already cancelled.
 pub fn parse_cancelled(text: &str) -> Option<(Reply, &str)>
-    ensures { IfSome result (λ p. TellsReply p.0 text.now p.1.now) }
+    ensures { IfSome result (λ p. BeginsWithReply p.0 text.now p.1.now) }
 {
     let (position, rest) = parse_word_between(text, "{\"position\":", ",\"refused\":6}")?;
     let refusal = Refusal::AlreadyCancelled { position };
@@ -42,7 +42,7 @@ fn parse_cause(text: &str) -> Option<(Cause, &str)>
 
 /// A batch refused.
 pub fn parse_batch(text: &str) -> Option<(Reply, &str)>
-    ensures { IfSome result (λ p. TellsReply p.0 text.now p.1.now) }
+    ensures { IfSome result (λ p. BeginsWithReply p.0 text.now p.1.now) }
 {
     let (cause, rest) = parse_cause(parse_prefix(text, "{\"cause\":")?)?;
     let (index, rest) = parse_byte_between(rest, ",\"index\":", ",\"refused\":13}")?;
@@ -52,7 +52,7 @@ pub fn parse_batch(text: &str) -> Option<(Reply, &str)>
 
 /// A bad message.
 fn parse_message(text: &str) -> Option<(Reply, &str)>
-    ensures { IfSome result (λ p. TellsReply p.0 text.now p.1.now) }
+    ensures { IfSome result (λ p. BeginsWithReply p.0 text.now p.1.now) }
 {
     let (why, rest) = parse_byte_between(text, "{\"refused\":17,\"why\":", "}")?;
     Some((Reply::Refused(Refusal::BadMessage { why }), rest))
@@ -60,7 +60,7 @@ fn parse_message(text: &str) -> Option<(Reply, &str)>
 
 /// A refusal that is written as its number alone, or a bad message.
 pub fn parse_refused(text: &str) -> Option<(Reply, &str)>
-    ensures { IfSome result (λ p. TellsReply p.0 text.now p.1.now) }
+    ensures { IfSome result (λ p. BeginsWithReply p.0 text.now p.1.now) }
 {
     match parse_byte_between(text, "{\"refused\":", "}") {
         Some((number, rest)) => {

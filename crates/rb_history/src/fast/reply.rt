@@ -1,6 +1,6 @@
 //! Replies of a history's line, in one pass. `None` says nothing of a text.
 ghost use Rattle.std.specs.Prelude.{IfSome};
-ghost use Rattle.rb_history.specs.Tells.{TellsReply, TellsEach};
+ghost use Rattle.rb_history.specs.Beginnings.{BeginsWithReply, BeginsWithEach};
 ghost use Rattle.rb_shadow.specs.NameText.{IsName};
 ghost use Rattle.rb_commands.specs.Values.{name_json};
 
@@ -17,7 +17,7 @@ use std::alloc::Global;
 
 /// An operation that was made.
 fn parse_made(text: &str) -> Option<(Reply, &str)>
-    ensures { IfSome result (λ p. TellsReply p.0 text.now p.1.now) }
+    ensures { IfSome result (λ p. BeginsWithReply p.0 text.now p.1.now) }
 {
     let (kind, rest) = parse_label(parse_prefix(text, "{\"kind\":\"")?)?;
     let (name, rest) = parse_name_between(rest, ",\"name\":\"", "}")?;
@@ -26,7 +26,7 @@ fn parse_made(text: &str) -> Option<(Reply, &str)>
 
 /// The names of a list, and its closing bracket.
 fn parse_list<'a>(alloc: Global, text: &'a str) -> Option<(Vec<OpName>, &'a str)>
-    ensures { IfSome result (λ p. TellsEach name_json IsName p.0.items text.now p.1.now) }
+    ensures { IfSome result (λ p. BeginsWithEach name_json IsName p.0.items text.now p.1.now) }
 {
     let mut names = Vec::new(alloc);
     let mut left = text;
@@ -47,49 +47,49 @@ fn parse_list<'a>(alloc: Global, text: &'a str) -> Option<(Vec<OpName>, &'a str)
 
 /// What a batch made.
 fn parse_names<'a>(alloc: Global, text: &'a str) -> Option<(Reply, &'a str)>
-    ensures { IfSome result (λ p. TellsReply p.0 text.now p.1.now) }
+    ensures { IfSome result (λ p. BeginsWithReply p.0 text.now p.1.now) }
 {
     let (names, rest) = parse_list(alloc, parse_prefix(text, "{\"names\":[")?)?;
     Some((Reply::Names(List::new(names)), parse_prefix(rest, "}")?))
 }
 
 fn parse_held(text: &str) -> Option<(Reply, &str)>
-    ensures { IfSome result (λ p. TellsReply p.0 text.now p.1.now) }
+    ensures { IfSome result (λ p. BeginsWithReply p.0 text.now p.1.now) }
 {
     let (name, rest) = parse_name_between(text, "{\"held\":\"", "}")?;
     Some((Reply::Held(name), rest))
 }
 
 fn parse_already(text: &str) -> Option<(Reply, &str)>
-    ensures { IfSome result (λ p. TellsReply p.0 text.now p.1.now) }
+    ensures { IfSome result (λ p. BeginsWithReply p.0 text.now p.1.now) }
 {
     let (name, rest) = parse_name_between(text, "{\"already\":\"", "}")?;
     Some((Reply::Already(name), rest))
 }
 
 fn parse_applied(text: &str) -> Option<(Reply, &str)>
-    ensures { IfSome result (λ p. TellsReply p.0 text.now p.1.now) }
+    ensures { IfSome result (λ p. BeginsWithReply p.0 text.now p.1.now) }
 {
     let (name, rest) = parse_name_between(text, "{\"applied\":\"", "}")?;
     Some((Reply::Applied(name), rest))
 }
 
 fn parse_taken(text: &str) -> Option<(Reply, &str)>
-    ensures { IfSome result (λ p. TellsReply p.0 text.now p.1.now) }
+    ensures { IfSome result (λ p. BeginsWithReply p.0 text.now p.1.now) }
 {
     let (epoch, rest) = parse_word_between(text, "{\"taken\":", "}")?;
     Some((Reply::Taken(epoch), rest))
 }
 
 fn parse_stale(text: &str) -> Option<(Reply, &str)>
-    ensures { IfSome result (λ p. TellsReply p.0 text.now p.1.now) }
+    ensures { IfSome result (λ p. BeginsWithReply p.0 text.now p.1.now) }
 {
     let (epoch, rest) = parse_word_between(text, "{\"stale\":", "}")?;
     Some((Reply::Stale(epoch), rest))
 }
 
 fn parse_passed(text: &str) -> Option<(Reply, &str)>
-    ensures { IfSome result (λ p. TellsReply p.0 text.now p.1.now) }
+    ensures { IfSome result (λ p. BeginsWithReply p.0 text.now p.1.now) }
 {
     let (epoch, rest) = parse_word_between(text, "{\"passed\":", "}")?;
     Some((Reply::Passed(epoch), rest))
@@ -97,7 +97,7 @@ fn parse_passed(text: &str) -> Option<(Reply, &str)>
 
 /// A balance, in cents.
 fn parse_balance(text: &str) -> Option<(Reply, &str)>
-    ensures { IfSome result (λ p. TellsReply p.0 text.now p.1.now) }
+    ensures { IfSome result (λ p. BeginsWithReply p.0 text.now p.1.now) }
 {
     let (cents, rest) = parse_long_between(text, "{\"balance\":", "}")?;
     Some((Reply::Balance(cents), rest))
@@ -105,7 +105,7 @@ fn parse_balance(text: &str) -> Option<(Reply, &str)>
 
 /// A reply, as the first letters of its first key say.
 pub fn parse_reply<'a>(alloc: Global, text: &'a str) -> Option<(Reply, &'a str)>
-    ensures { IfSome result (λ p. TellsReply p.0 text.now p.1.now) }
+    ensures { IfSome result (λ p. BeginsWithReply p.0 text.now p.1.now) }
 {
     match (text.as_bytes().get(2), text.as_bytes().get(3)) {
         (Some(b'k'), _) => parse_made(text),

@@ -1,6 +1,6 @@
 //! Shadows of a history's line, in one pass. `None` says nothing of a text.
 ghost use Rattle.std.specs.Prelude.{IfSome};
-ghost use Rattle.rb_history.specs.Tells.{TellsDeps, TellsShadow};
+ghost use Rattle.rb_history.specs.Beginnings.{BeginsWithDeps, BeginsWithShadow};
 
 use crate::fast::account::parse_account_between;
 use crate::fast::counts::parse_counts;
@@ -13,7 +13,7 @@ use rb_shadow::{Deps, Shadow};
 
 /// What a home had applied.
 fn parse_deps<'a>(config: &Config, text: &'a str) -> Option<(Deps, &'a str)>
-    ensures { IfSome result (λ p. TellsDeps config.now.version p.0 text.now p.1.now) }
+    ensures { IfSome result (λ p. BeginsWithDeps config.now.version p.0 text.now p.1.now) }
 {
     let (blue, rest) = parse_counts(config.version(), parse_prefix(text, "[")?)?;
     let (red, rest) = parse_word_between(rest, ",", "]")?;
@@ -22,7 +22,7 @@ fn parse_deps<'a>(config: &Config, text: &'a str) -> Option<(Deps, &'a str)>
 
 /// A shadow, as the one member of an object.
 pub fn parse_shadow<'a>(config: &Config, text: &'a str) -> Option<(Shadow, &'a str)>
-    ensures { IfSome result (λ p. TellsShadow config.now p.0 text.now p.1.now) }
+    ensures { IfSome result (λ p. BeginsWithShadow config.now p.0 text.now p.1.now) }
 {
     let (account, rest) = parse_account_between(config, text, "{\"shadow\":{\"account\":\"", ",")?;
     let (amount, rest) = parse_long_between(rest, "\"amount\":", ",\"deps\":")?;

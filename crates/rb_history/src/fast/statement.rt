@@ -6,7 +6,7 @@ ghost use Rattle.json.specs.Token.{boolean};
 ghost use Rattle.serde_json.specs.Written.{compact_text};
 ghost use Rattle.rb_commands.specs.Statements.{row_json};
 ghost use Rattle.rb_history.specs.Fits.{IsMoved, IsStatementRow};
-ghost use Rattle.rb_history.specs.Tells.{TellsEach, TellsReply};
+ghost use Rattle.rb_history.specs.Beginnings.{BeginsWithEach, BeginsWithReply};
 
 use crate::fast::kind::parse_label;
 use crate::fast::name::parse_op_name;
@@ -68,7 +68,7 @@ fn parse_row(text: &str) -> Option<(Row, &str)>
 
 /// The rows of a list, and its closing bracket.
 fn parse_rows<'a>(alloc: Global, text: &'a str) -> Option<(Vec<Row>, &'a str)>
-    ensures { IfSome result (λ p. TellsEach row_json IsStatementRow p.0.items text.now p.1.now) }
+    ensures { IfSome result (λ p. BeginsWithEach row_json IsStatementRow p.0.items text.now p.1.now) }
 {
     let mut rows = Vec::new(alloc);
     let mut left = text;
@@ -89,7 +89,7 @@ fn parse_rows<'a>(alloc: Global, text: &'a str) -> Option<(Vec<Row>, &'a str)>
 
 /// A statement.
 pub fn parse_statement<'a>(alloc: Global, text: &'a str) -> Option<(Reply, &'a str)>
-    ensures { IfSome result (λ p. TellsReply p.0 text.now p.1.now) }
+    ensures { IfSome result (λ p. BeginsWithReply p.0 text.now p.1.now) }
 {
     let (balance, rest) = parse_long_between(text, "{\"balance\":", ",\"rows\":[")?;
     let (rows, rest) = parse_rows(alloc, rest)?;

@@ -4,7 +4,7 @@ use Rattle.rb_money.specs.Settings.{Settings}
 use Rattle.rb_shadow.specs.declared.shadow.Shadow.{Shadow}
 use Rattle.rb_shadow.specs.Sound.{IsSound}
 use Rattle.rb_shadow.proofs.Public.SoundFacts.{is_next, sound_facts}
-use Rattle.rb_inbox.specs.Held.{IsNumbered, stands_before, with_held}
+use Rattle.rb_inbox.specs.Held.{IsNumbered, comes_before, with_held}
 use Rattle.std.specs.Prelude.{filter}
 use Rattle.rb_shadow.specs.Operations.{Among}
 
@@ -26,7 +26,7 @@ kept_among p (v ∷ us) u h = at (p v) h (kept_among p us u)
 pub held_cases : (v : Shadow) (us : List Shadow) (u : Shadow) → Among u (with_held v us) → (u ≡ v) ⊎ Among u us
 held_cases v [] u (inl e) = inl e
 held_cases v [] u (inr h) = elim h [ ]
-held_cases v (w ∷ us) u h = at (stands_before v.name w.name) h (held_cases v us u)
+held_cases v (w ∷ us) u h = at (comes_before v.name w.name) h (held_cases v us u)
   where
     at : (b : Bool) → Among u (cond b (v ∷ w ∷ us) (w ∷ with_held v us)) → (Among u (with_held v us) → (u ≡ v) ⊎ Among u us) →
         (u ≡ v) ⊎ Among u (w ∷ us)

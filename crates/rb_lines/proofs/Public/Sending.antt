@@ -13,15 +13,17 @@ front_more text front rest rest' n e e' = e ∙ ap (λ l. front ++ l) (sym (take
     ∙ sym (append_assoc front (take n rest) (drop n rest)) ∙ ap (λ l. (front ++ take n rest) ++ l) (sym e')
 
 -- what is still buffered goes out in two parts
-pub Sends-then : (a b c : Option (List ℕ)) (owed still left : List ℕ) → Sends a b owed still → Sends b c still left → Sends a c owed left
-Sends-then a b c owed still left p q =
+pub Sends-then : (a b c : Option (List ℕ)) (buffered still left : List ℕ) → Sends a b buffered still → Sends b c still left →
+    Sends a c buffered left
+Sends-then a b c buffered still left p q =
     (p.0 ++ q.0, Appends-trans a b c p.0 q.0 p.1 q.1, p.2 ∙ ap (λ l. p.0 ++ l) q.2 ∙ sym (append_assoc p.0 q.0 left))
 
 -- all of it went out
-pub Sends-all : (a b : Option (List ℕ)) (owed still : List ℕ) → Appends a b owed → still ≡ [] → Sends a b owed still
-Sends-all a b owed still p e = (owed, p, sym (append-nil owed) ∙ ap (λ l. owed ++ l) (sym e))
+pub Sends-all : (a b : Option (List ℕ)) (buffered still : List ℕ) → Appends a b buffered → still ≡ [] → Sends a b buffered still
+Sends-all a b buffered still p e = (buffered, p, sym (append-nil buffered) ∙ ap (λ l. buffered ++ l) (sym e))
 
 -- a prefix of the rest went out
-pub Sends-front : (a b c : Option (List ℕ)) (owed still : List ℕ) → Sends a b owed still → AppendsFront b c still → AppendsFront a c owed
-Sends-front a b c owed still p q =
+pub Sends-front : (a b c : Option (List ℕ)) (buffered still : List ℕ) → Sends a b buffered still → AppendsFront b c still →
+    AppendsFront a c buffered
+Sends-front a b c buffered still p q =
     (p.0 ++ q.0, (q.1.0, p.2 ∙ ap (λ l. p.0 ++ l) q.1.1 ∙ sym (append_assoc p.0 q.0 q.1.0)), Appends-trans a b c p.0 q.0 p.1 q.2)

@@ -10,7 +10,7 @@ returns-in-Err-TooLong-clause-written g c =
     let kept = next.kept (λ e. cc (e, c.in-Err-TooLong.field-0-is)) in
     let sent = next.sent (λ e. cc (e, c.in-Err-TooLong.field-0-is)) in
     let now = reads_on _ _ _ _ _ _ _ _ _ _ _ _ _ _ c.lines.invariant.written kept next.was_going sent in
-    let is = g.met.R.Responder.is_stand c.lines.responder in
+    let is = g.met.R.Responder.is_run_state c.lines.responder in
     rw c.number.ensures (ends_long _ _ _ _ _ _ _ _ _ now (next.long (ap Err c.in-Err-TooLong.field-0-is)) is)
 
 pub returns-in-Err-Read-clause-written : goal.returns-in-Err-Read-clause-written
@@ -20,7 +20,7 @@ returns-in-Err-Read-clause-written g c =
     let sent = next.sent (λ e. cc (e, c.in-Err-Read.field-0-is)) in
     let now = reads_on _ _ _ _ _ _ _ _ _ _ _ _ _ _ c.lines.invariant.written kept next.was_going sent in
     let stop = next.read (ap Err c.in-Err-Read.field-0-is) in
-    ends_unread _ _ _ _ _ _ _ _ _ now stop.0 stop.1 (g.met.R.Responder.is_stand c.lines.responder)
+    ends_unread _ _ _ _ _ _ _ _ _ now stop.0 stop.1 (g.met.R.Responder.is_run_state c.lines.responder)
 
 pub returns-in-Err-Write-clause-written : goal.returns-in-Err-Write-clause-written
 returns-in-Err-Write-clause-written g c =

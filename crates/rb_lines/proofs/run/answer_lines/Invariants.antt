@@ -17,7 +17,7 @@ invariant-lines g l =
       count : (stand l.responder).count ≤ (stand l.responder).number;
       written : IsAt (stand l.fn.responder).rest (g.W.Sink.contents l.fn.writer) (g.W.Sink.contents l.writer)
           (g.S.Source.remaining l.fn.reader)
-          (g.S.Source.remaining l.reader) (stand l.responder) l.buffers.pending l.buffers.ended l.buffers.owed.items;
+          (g.S.Source.remaining l.reader) (stand l.responder) l.buffers.pending l.buffers.ended l.buffers.buffered.items;
     }
 
 abbrev pub decreases-lines : goal.decreases-lines

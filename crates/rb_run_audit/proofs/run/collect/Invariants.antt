@@ -11,7 +11,7 @@ invariant-lines g l = record {
   counted : Counts (g.S.Source.calls l.reader) l.buffers.reads;
   fresh : g.W.Sink.failed l.writer ≡ false;
   end : l.buffers.ended ≡ true → IsAtEnd (g.S.Source.remaining l.reader);
-  owed : l.buffers.owed.items ≡ [];
+  buffered : l.buffers.buffered.items ≡ [];
   number : l.collected.number + left l.buffers ≤ READ_SIZE * MOST_READS + 1;
   each : HasEachSite l.collected;
   written : Appends (g.W.Sink.contents l.fn.writer) (g.W.Sink.contents l.writer) [];

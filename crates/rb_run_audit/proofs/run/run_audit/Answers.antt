@@ -1,6 +1,6 @@
 use Rattle.std.proofs.Common.{rules, ◌≡◌, Err}
 use Rattle.rb_lines.specs.declared.fault.StreamFault.TheVariants.{Write}
-use Rattle.rb_run_audit.proofs.Told.{told, untold}
+use Rattle.rb_run_audit.proofs.Reported.{told, untold}
 use Rattle.rb_run_audit.proofs.run.run_audit.Goals as goal
 
 pub returns-clause-written : goal.returns-clause-written

@@ -3,7 +3,7 @@ use Rattle.std.proofs.lemmas.Bool.{false_from_ne_true}
 use Rattle.rb_lines.specs.Lines.{is_blank}
 use Rattle.rb_run_site.proofs.Blanks.{known_end, known_line, known_long, known_read, known_start}
 use Rattle.rb_run_site.proofs.Blanks.{known_stop}
-use Rattle.rb_run_site.proofs.Owed.{still_none}
+use Rattle.rb_run_site.proofs.Buffered.{still_none}
 use Rattle.rb_run_site.proofs.first_line.first_line.Goals as goal
 
 pub lines-init : goal.lines-init
@@ -11,7 +11,7 @@ lines-init g c = record {
   counted = omega (arith, c.requires.unread, c.requires.reads);
   fresh = c.requires.fresh;
   end = λ e. absurd (cc (e, c.requires.going));
-  owed = c.requires.owed;
+  buffered = c.requires.buffered;
   one = omega arith;
   number = omega (arith, ap length c.requires.pending, c.requires.reads);
   input = known_start _ _ _ c.requires.pending c.requires.going;
@@ -37,7 +37,7 @@ lines-preserved g c =
     let old = c.lines.invariant in
     let next = c.in-Ok-Some.ensures in
     let stands = rw c.in-Ok-Some.field-0-is at next.line in
-    let none = still_none (g.W.Sink.contents c.lines.writer) _ _ _ old.owed next.sent in
+    let none = still_none (g.W.Sink.contents c.lines.writer) _ _ _ old.buffered next.sent in
     let now = known_read _ _ _ _ _ _ _ _ old.input next.kept next.was_going in
     let rest = length-drop (c.in-Ok-Some.n + 1) c.next_line.new.self.pending in
     let blank : is_blank (take c.in-Ok-Some.n c.next_line.new.self.pending) ≡ true =
@@ -46,7 +46,7 @@ lines-preserved g c =
       counted = rw c.skip_line.ensures next.counted;
       fresh = false_from_ne_true _ (λ t. cc (next.write.1 t));
       end = rw c.skip_line.ensures next.end;
-      owed = rw c.skip_line.ensures none;
+      buffered = rw c.skip_line.ensures none;
       one = omega arith;
       number = rw c.skip_line.ensures (omega (arith, rest, next.left, stands.3, old.number));
       input = rw c.skip_line.ensures (known_line _ _ _ _ _ c.in-Ok-Some.n now stands.0 stands.2 stands.3 next.end blank);

@@ -10,7 +10,7 @@ invariant-lines g l = record {
   counted : Counts (g.S.Source.calls l.reader) l.buffers.reads;
   fresh : g.W.Sink.failed l.writer ≡ false;
   end : l.buffers.ended ≡ true → IsAtEnd (g.S.Source.remaining l.reader);
-  owed : l.buffers.owed.items ≡ [];
+  buffered : l.buffers.buffered.items ≡ [];
   one : 1 ≤ l.number;
   number : l.number + left l.buffers ≤ READ_SIZE * MOST_READS + 1;
   input : BlanksKnown (g.S.Source.remaining l.fn.reader) (g.S.Source.remaining l.reader) l.number l.buffers.pending l.buffers.ended;

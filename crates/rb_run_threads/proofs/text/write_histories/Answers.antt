@@ -9,8 +9,8 @@ returns-in_err-write_history-clause-written g c =
     let had = g.W.Sink.contents c.loop-site.writer in
     let written = rw (c.as_slice-history.ensures.value, ← c.index-reports-site.is) at c.in_err-write_history.ensures.written in
     rw passed
-    (histories_stop _ had _ c.args.config.now c.args.reports.now c.loop-site.site c.index-reports-site.result c.args.owed.now.items
-    c.loop-site.owed.items
+    (histories_stop _ had _ c.args.config.now c.args.reports.now c.loop-site.site c.index-reports-site.result c.args.buffered.now.items
+    c.loop-site.buffered.items
     c.loop-site-test.true c.index-reports-site.is c.loop-site.invariant.sent written)
 
 pub loop-site-preserved : goal.loop-site-preserved
@@ -20,7 +20,7 @@ loop-site-preserved g c =
     let written = rw (c.as_slice-history.ensures.value, ← c.index-reports-site.is) at wrote.written in
     record {
       fresh = false_from_ne_true _ (λ failed. cc (wrote.write.1 failed));
-      sent = histories_go_on _ had _ c.args.config.now c.args.reports.now c.loop-site.site c.index-reports-site.result c.args.owed.now.items
-          c.loop-site.owed.items
-          c.write_history.new.owed.items c.loop-site-test.true c.index-reports-site.is c.loop-site.invariant.sent written;
+      sent = histories_go_on _ had _ c.args.config.now c.args.reports.now c.loop-site.site c.index-reports-site.result c.args.buffered.now.items
+          c.loop-site.buffered.items
+          c.write_history.new.buffered.items c.loop-site-test.true c.index-reports-site.is c.loop-site.invariant.sent written;
     }

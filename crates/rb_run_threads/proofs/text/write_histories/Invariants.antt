@@ -9,5 +9,6 @@ abbrev pub invariant-loop-site : goal.invariant-loop-site
 invariant-loop-site g l = record {
   fresh : g.W.Sink.failed l.writer ≡ false;
   sent : Sends (g.W.Sink.contents l.fn.writer) (g.W.Sink.contents l.writer)
-      (l.fn.owed.items ++ histories_text l.config 0 (map (λ (r : SiteReport). r.history.items) (take l.site l.reports))) l.owed.items;
+      (l.fn.buffered.items ++ histories_text l.config 0 (map (λ (r : SiteReport). r.history.items)
+      (take l.site l.reports))) l.buffered.items;
 }

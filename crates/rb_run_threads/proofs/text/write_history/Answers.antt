@@ -9,7 +9,7 @@ returns-in_err-write_entry-clause-written g c =
     let had = g.W.Sink.contents c.loop-entry.writer in
     rw passed
     (history_stops _ had _ c.args.config.now c.args.site c.args.history.now c.loop-entry.entry-index c.entry-item.result
-    c.args.owed.now.items c.loop-entry.owed.items
+    c.args.buffered.now.items c.loop-entry.buffered.items
     c.loop-entry-test.true c.entry-item.is c.loop-entry.invariant.sent c.in_err-write_entry.ensures.written)
 
 pub loop-entry-preserved : goal.loop-entry-preserved
@@ -19,6 +19,6 @@ loop-entry-preserved g c =
     record {
       fresh = false_from_ne_true _ (λ failed. cc (wrote.write.1 failed));
       sent = history_goes_on _ had _ c.args.config.now c.args.site c.args.history.now c.loop-entry.entry-index c.entry-item.result
-          c.args.owed.now.items c.loop-entry.owed.items
-          c.write_entry.new.owed.items c.loop-entry-test.true c.entry-item.is c.loop-entry.invariant.sent wrote.written;
+          c.args.buffered.now.items c.loop-entry.buffered.items
+          c.write_entry.new.buffered.items c.loop-entry-test.true c.entry-item.is c.loop-entry.invariant.sent wrote.written;
     }

@@ -8,5 +8,5 @@ abbrev pub invariant-loop-entry : goal.invariant-loop-entry
 invariant-loop-entry g l = record {
   fresh : g.W.Sink.failed l.writer ≡ false;
   sent : Sends (g.W.Sink.contents l.fn.writer) (g.W.Sink.contents l.writer)
-      (l.fn.owed.items ++ history_text l.config l.site (take l.entry-index l.history)) l.owed.items;
+      (l.fn.buffered.items ++ history_text l.config l.site (take l.entry-index l.history)) l.buffered.items;
 }

@@ -17,13 +17,13 @@ returns-in_err-commit_and_put_out-clause-any_moment g c = λ rest end.
     let output = g.H.Host.output host in
     let now = c.answer_waiting-answered.new in
     let old = c.args.buffers.now in
-    let steps = subst (λ ls. Advances g.M.Machine.answers old.ended (point_of ls old.owed.items c.args.work.now old)
-    (point_of (ls ++ recovered now.work.batch.bytes.items) now.buffers.owed.items now.work now.buffers)) c.requires.same
+    let steps = subst (λ ls. Advances g.M.Machine.answers old.ended (point_of ls old.buffered.items c.args.work.now old)
+    (point_of (ls ++ recovered now.work.batch.bytes.items) now.buffers.buffered.items now.work now.buffers)) c.requires.same
     c.answer_waiting-answered.ensures.answered in
     weaker g.H.Host.moment g.H.Host.left_since host c.commit_and_put_out.new.self.host _
     (IsRunOfTurns g.M.Machine.answers (Some (old.pending ++ rest)) lines output) c.commit_and_put_out.ensures.any_moment
-    (λ f d kept. durable_is_run g.M.Machine.answers old.ended (point_of lines old.owed.items c.args.work.now old)
-    (point_of (lines ++ recovered now.work.batch.bytes.items) now.buffers.owed.items now.work now.buffers) rest c.deref.result.now output
+    (λ f d kept. durable_is_run g.M.Machine.answers old.ended (point_of lines old.buffered.items c.args.work.now old)
+    (point_of (lines ++ recovered now.work.batch.bytes.items) now.buffers.buffered.items now.work now.buffers) rest c.deref.result.now output
     c.deref-2.result.now f d steps end (ap (λ l. lines ++ recovered l) (sym c.deref.ensures.value)) c.requires.buffered
     (sym c.deref-2.ensures.value) kept)
 
@@ -34,13 +34,13 @@ returns-clause-any_moment g c = λ rest end.
     let output = g.H.Host.output host in
     let now = c.answer_waiting-answered.new in
     let old = c.args.buffers.now in
-    let steps = subst (λ ls. Advances g.M.Machine.answers old.ended (point_of ls old.owed.items c.args.work.now old)
-    (point_of (ls ++ recovered now.work.batch.bytes.items) now.buffers.owed.items now.work now.buffers)) c.requires.same
+    let steps = subst (λ ls. Advances g.M.Machine.answers old.ended (point_of ls old.buffered.items c.args.work.now old)
+    (point_of (ls ++ recovered now.work.batch.bytes.items) now.buffers.buffered.items now.work now.buffers)) c.requires.same
     c.answer_waiting-answered.ensures.answered in
     weaker g.H.Host.moment g.H.Host.left_since host c.commit_and_put_out.new.self.host _
     (IsRunOfTurns g.M.Machine.answers (Some (old.pending ++ rest)) lines output) c.commit_and_put_out.ensures.any_moment
-    (λ f d kept. durable_is_run g.M.Machine.answers old.ended (point_of lines old.owed.items c.args.work.now old)
-    (point_of (lines ++ recovered now.work.batch.bytes.items) now.buffers.owed.items now.work now.buffers) rest c.deref.result.now output
+    (λ f d kept. durable_is_run g.M.Machine.answers old.ended (point_of lines old.buffered.items c.args.work.now old)
+    (point_of (lines ++ recovered now.work.batch.bytes.items) now.buffers.buffered.items now.work now.buffers) rest c.deref.result.now output
     c.deref-2.result.now f d steps end (ap (λ l. lines ++ recovered l) (sym c.deref.ensures.value)) c.requires.buffered
     (sym c.deref-2.ensures.value) kept)
 
@@ -53,13 +53,13 @@ returns-in_err-commit_and_put_out-clause-journal g c = λ is.
     let lines = recovered (g.H.Host.content c.args.journal.now.host) in
     let now = c.answer_waiting-answered.new in
     let old = c.args.buffers.now in
-    let steps = subst (λ ls. Advances g.M.Machine.answers old.ended (point_of ls old.owed.items c.args.work.now old)
-    (point_of (ls ++ recovered now.work.batch.bytes.items) now.buffers.owed.items now.work now.buffers)) c.requires.same
+    let steps = subst (λ ls. Advances g.M.Machine.answers old.ended (point_of ls old.buffered.items c.args.work.now old)
+    (point_of (ls ++ recovered now.work.batch.bytes.items) now.buffers.buffered.items now.work now.buffers)) c.requires.same
     c.answer_waiting-answered.ensures.answered in
     let batch : c.deref.result.now ≡ now.work.batch.bytes.items = c.deref.ensures.value in
     ⊎_elim (λ (disk : error ≡ DiskFailed). inl (why.failed (ap Err disk)))
-    (λ (full : error ≡ Full). inr (λ rest end. is_full g.M.Machine.answers old.ended (point_of lines old.owed.items c.args.work.now old)
-    (point_of (lines ++ recovered now.work.batch.bytes.items) now.buffers.owed.items now.work now.buffers) rest c.deref.result.now
+    (λ (full : error ≡ Full). inr (λ rest end. is_full g.M.Machine.answers old.ended (point_of lines old.buffered.items c.args.work.now old)
+    (point_of (lines ++ recovered now.work.batch.bytes.items) now.buffers.buffered.items now.work now.buffers) rest c.deref.result.now
     c.args.journal.now.end steps end (ap (λ l. lines ++ recovered l) (sym batch)) (subst IsBatch (sym batch) now.work.batch.whole)
     c.requires.settled.end (why.full (ap Err full))))
     (journal_cause error journal)

@@ -21,7 +21,7 @@ invariant-reads g l =
       settled : IsSettled host.is_usable host.content host.may_leave l.journal;
       same : g.M.Machine.lines l.machine ≡ recovered (host.content l.journal.host);
       batch : l.work.batch.bytes.items ≡ [];
-      buffered : l.buffers.owed.items ≡ [];
+      buffered : l.buffers.buffered.items ≡ [];
       counted : Counts (g.S.Source.calls l.reader) l.buffers.reads;
       end : l.buffers.ended ≡ true → IsAtEnd (g.S.Source.remaining l.reader);
       number : l.work.number + left l.buffers ≤ l.fn.number + left l.fn.buffers;

@@ -10,7 +10,7 @@ pub returns-clause-answered : goal.returns-clause-answered
 returns-clause-answered g c =
     let line = c.requires.line in
     let n = c.args.n in
-    let p = point_of (g.M.Machine.lines c.args.machine.now) c.args.buffers.now.owed.items c.args.work.now c.args.buffers.now in
+    let p = point_of (g.M.Machine.lines c.args.machine.now) c.args.buffers.now.buffered.items c.args.work.now c.args.buffers.now in
     let waits = c.args.buffers.now.pending in
     let here : c.as_slice.result.now ≡ waits = c.as_slice.ensures in
     elim c.if-not-is_blank.branch [

@@ -11,7 +11,7 @@ lines-init g c =
     let lines = g.M.Machine.lines c.args.machine.now in
     record {
       answered = no_step g.M.Machine.answers c.args.buffers.now.ended
-          (point_of lines c.args.buffers.now.owed.items c.args.work.now c.args.buffers.now);
+          (point_of lines c.args.buffers.now.buffered.items c.args.work.now c.args.buffers.now);
       batch = sym (append-nil lines) ∙ ap (λ l. lines ++ recovered l) (sym c.requires.batch);
       reads = search rules;
       ended = search rules;
@@ -25,13 +25,14 @@ lines-preserved g c =
     let step = c.in_ok-answer_next.ensures in
     let same = c.next_waiting.ensures.same in
     let lines = g.M.Machine.lines in
-    let start = point_of (lines c.args.machine.now) c.args.buffers.now.owed.items c.args.work.now c.args.buffers.now in
-    let mid = point_of (lines c.lines.machine) c.lines.buffers.owed.items c.lines.work c.lines.buffers in
-    let end = point_of (lines c.answer_next.new.machine) c.answer_next.new.buffers.owed.items c.answer_next.new.work
+    let start = point_of (lines c.args.machine.now) c.args.buffers.now.buffered.items c.args.work.now c.args.buffers.now in
+    let mid = point_of (lines c.lines.machine) c.lines.buffers.buffered.items c.lines.work c.lines.buffers in
+    let end = point_of (lines c.answer_next.new.machine) c.answer_next.new.buffers.buffered.items c.answer_next.new.work
     c.answer_next.new.buffers in
     let next : Advances g.M.Machine.answers c.args.buffers.now.ended mid end =
     subst (λ e. Advances g.M.Machine.answers e mid end) inv.ended
-    (subst (λ (b : Buffers). Advances g.M.Machine.answers b.ended (point_of (lines c.lines.machine) b.owed.items c.lines.work b) end) same
+    (subst (λ (b : Buffers). Advances g.M.Machine.answers b.ended (point_of
+    (lines c.lines.machine) b.buffered.items c.lines.work b) end) same
     step.answered) in
     record {
       answered = steps_then g.M.Machine.answers c.args.buffers.now.ended start mid end inv.answered next;

@@ -9,8 +9,8 @@ invariant-lines g l =
     let lines = g.M.Machine.lines in
     record {
       answered : Advances g.M.Machine.answers l.fn.buffers.ended
-          (point_of (lines l.fn.machine) l.fn.buffers.owed.items l.fn.work l.fn.buffers)
-          (point_of (lines l.machine) l.buffers.owed.items l.work l.buffers);
+          (point_of (lines l.fn.machine) l.fn.buffers.buffered.items l.fn.work l.fn.buffers)
+          (point_of (lines l.machine) l.buffers.buffered.items l.work l.buffers);
       batch : lines l.machine ≡ lines l.fn.machine ++ recovered l.work.batch.bytes.items;
       reads : l.buffers.reads ≡ l.fn.buffers.reads;
       ended : l.buffers.ended ≡ l.fn.buffers.ended;

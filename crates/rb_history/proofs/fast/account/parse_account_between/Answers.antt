@@ -1,4 +1,4 @@
-use Rattle.rb_history.specs.Tells.{account_behind_quote}
+use Rattle.rb_history.specs.Beginnings.{account_behind_quote}
 use Rattle.rb_history.proofs.Joined.{between}
 use Rattle.rb_history.proofs.fast.account.parse_account_between.Goals as goal
 

@@ -1,5 +1,5 @@
 use Rattle.std.proofs.Common.{◌≡◌, ◌++◌, List, ℕ, codes, decimal, ap, ◌∙◌, append_assoc}
-use Rattle.rb_history.specs.Tells.{account_behind_quote}
+use Rattle.rb_history.specs.Beginnings.{account_behind_quote}
 use Rattle.rb_history.proofs.fast.account.parse_asked.Goals as goal
 
 asked_told : (text front account n more rest : List ℕ) → text ≡ (front ++ (account ++ codes ",")) ++ more

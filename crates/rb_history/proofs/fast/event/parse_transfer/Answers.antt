@@ -1,6 +1,6 @@
 use Rattle.std.proofs.Common.{◌≡◌, ◌++◌, List, ℕ, codes, decimal, ap, ◌∙◌, append_assoc}
 use Rattle.json.specs.Print.{escape_byte}
-use Rattle.rb_history.specs.Tells.{account_behind_quote}
+use Rattle.rb_history.specs.Beginnings.{account_behind_quote}
 use Rattle.rb_history.proofs.fast.event.parse_transfer.Goals as goal
 
 transfer_told : (text from to amount more rest : List ℕ) → text ≡ (codes "{\"transfer\":[\"" ++ (from ++ codes ",\"")) ++ more

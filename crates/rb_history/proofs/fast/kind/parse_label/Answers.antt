@@ -3,7 +3,7 @@ use Rattle.json.specs.Print.{escape_byte}
 use Rattle.rb_shadow.specs.declared.label.Label.{Label}
 use Rattle.rb_shadow.specs.declared.label.Label.TheVariants.{Deposit}
 use Rattle.rb_shadow.specs.Labels.{word_of}
-use Rattle.rb_history.specs.Tells.{behind_quote}
+use Rattle.rb_history.specs.Beginnings.{behind_quote}
 use Rattle.rb_history.proofs.fast.kind.parse_label.Goals as goal
 
 -- a kind's word needs no escape

@@ -1,5 +1,5 @@
 use Rattle.rb_shadow.specs.NameText.{name_text}
-use Rattle.rb_history.specs.Tells.{behind_quote}
+use Rattle.rb_history.specs.Beginnings.{behind_quote}
 use Rattle.rb_history.proofs.Joined.{between}
 use Rattle.rb_history.proofs.fast.name.parse_name_between.Goals as goal
 

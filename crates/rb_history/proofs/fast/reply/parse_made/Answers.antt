@@ -1,7 +1,7 @@
 use Rattle.std.proofs.Common.{◌++◌, codes}
 use Rattle.rb_shadow.specs.NameText.{name_text}
 use Rattle.rb_shadow.specs.Labels.{word_of}
-use Rattle.rb_history.specs.Tells.{behind_quote}
+use Rattle.rb_history.specs.Beginnings.{behind_quote}
 use Rattle.rb_history.proofs.Joined.{between}
 use Rattle.json.specs.Print.{escape_byte}
 use Rattle.rb_history.proofs.fast.reply.parse_made.Goals as goal

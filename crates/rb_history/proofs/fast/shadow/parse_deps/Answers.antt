@@ -1,7 +1,7 @@
 use Rattle.std.proofs.Common.{◌++◌, codes, decimal, subst}
 use Rattle.serde_json.specs.Written.{compact_text}
 use Rattle.rb_history.specs.Counts.{blue_json}
-use Rattle.rb_history.specs.Tells.{TellsCounts}
+use Rattle.rb_history.specs.Beginnings.{BeginsWithCounts}
 use Rattle.rb_history.proofs.Joined.{between}
 use Rattle.rb_history.proofs.fast.shadow.parse_deps.Goals as goal
 
@@ -13,7 +13,7 @@ returns c =
     let text = c.args.text.now in
     let here = c.in_ok-parse_prefix.field-0.now in
     let rest = c.in_ok-blue.rest.now in
-    let counts : TellsCounts version blue here rest = subst (λ v. TellsCounts v blue here rest) c.version.ensures.same
+    let counts : BeginsWithCounts version blue here rest = subst (λ v. BeginsWithCounts v blue here rest) c.version.ensures.same
     c.in_ok-blue.ensures in
     record {
       sites = counts.sites;

@@ -4,7 +4,7 @@ use Rattle.serde_json.specs.Written.{compact_text, members_text}
 use Rattle.rb_shadow.specs.NameText.{name_text}
 use Rattle.rb_shadow.specs.Labels.{word_of}
 use Rattle.rb_history.specs.Entries.{deps_json, last_members}
-use Rattle.rb_history.specs.Tells.{account_behind_quote, behind_quote}
+use Rattle.rb_history.specs.Beginnings.{account_behind_quote, behind_quote}
 use Rattle.rb_history.proofs.fast.shadow.parse_shadow.Goals as goal
 
 shadow_text : (account amount deps home kind name last rest : List ℕ)

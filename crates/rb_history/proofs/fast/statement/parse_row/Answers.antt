@@ -5,7 +5,7 @@ use Rattle.json.specs.Token.{boolean}
 use Rattle.rb_shadow.specs.NameText.{name_text}
 use Rattle.rb_shadow.specs.Labels.{word_of}
 use Rattle.rb_commands.proofs.Public.Numerals.{integer_text}
-use Rattle.rb_history.specs.Tells.{behind_quote}
+use Rattle.rb_history.specs.Beginnings.{behind_quote}
 use Rattle.rb_history.proofs.fast.statement.parse_row.Goals as goal
 
 row_text : (position name kind moved cancelled balance rest : List ℕ)

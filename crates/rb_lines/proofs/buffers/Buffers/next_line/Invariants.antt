@@ -14,7 +14,7 @@ invariant-reads g l = record {
   read : Reads l.fn.self.pending l.self.pending (g.S.Source.remaining l.fn.reader) (g.S.Source.remaining l.reader);
   waited : line_len l.fn.self.pending < length l.fn.self.pending
       → (g.S.Source.calls l.reader ≡ g.S.Source.calls l.fn.reader) × (l.self.pending ≡ l.fn.self.pending);
-  sent : Sends (g.W.Sink.contents l.fn.writer) (g.W.Sink.contents l.writer) l.fn.self.owed.items l.self.owed.items;
+  sent : Sends (g.W.Sink.contents l.fn.writer) (g.W.Sink.contents l.writer) l.fn.self.buffered.items l.self.buffered.items;
 }
 
 abbrev pub decreases-reads : goal.decreases-reads

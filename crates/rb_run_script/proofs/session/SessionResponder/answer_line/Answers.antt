@@ -10,7 +10,7 @@ returns-in_default c =
     let short : is_long c.args.line.now ≡ false = search rules in
     let some : is_blank c.args.line.now ≡ false = search rules in (
       [],
-      sym (append-nil c.args.owed.now.items),
+      sym (append-nil c.args.buffered.now.items),
       opens old _ c.args.line.now settings c.in_default.is short some on (c.start.ensures
           ∙ ap (λ w. record { world = Some w; number = old.number + 1; count = old.count }) opened),
     )

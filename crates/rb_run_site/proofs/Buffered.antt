@@ -7,5 +7,5 @@ both_none [] b e = sym e
 both_none (x ∷ a) b e = absurd (cc e)
 
 -- where nothing was buffered, nothing is
-pub still_none : (w w' : Option (List ℕ)) (owed still : List ℕ) → owed ≡ [] → Sends w w' owed still → still ≡ []
-still_none w w' owed still none sent = both_none sent.0 still (sym none ∙ sent.2)
+pub still_none : (w w' : Option (List ℕ)) (buffered still : List ℕ) → buffered ≡ [] → Sends w w' buffered still → still ≡ []
+still_none w w' buffered still none sent = both_none sent.0 still (sym none ∙ sent.2)

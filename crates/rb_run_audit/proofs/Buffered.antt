@@ -10,8 +10,8 @@ both_none [] (y ∷ b) e = absurd (cc e)
 both_none (x ∷ a) b e = absurd (cc e)
 
 -- where nothing was buffered, nothing went out, and nothing is buffered
-pub nothing_sent : (w0 w w' : Option (List ℕ)) (owed still : List ℕ) → Appends w0 w [] → owed ≡ [] → Sends w w' owed still
+pub nothing_sent : (w0 w w' : Option (List ℕ)) (buffered still : List ℕ) → Appends w0 w [] → buffered ≡ [] → Sends w w' buffered still
     → Appends w0 w' [] × (still ≡ [])
-nothing_sent w0 w w' owed still before none sent =
+nothing_sent w0 w w' buffered still before none sent =
     let parts = both_none sent.0 still (sym none ∙ sent.2) in
     (Appends-trans w0 w w' [] [] before (subst (λ t. Appends w w' t) parts.0 sent.1), parts.1)

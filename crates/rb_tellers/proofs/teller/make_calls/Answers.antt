@@ -1,6 +1,6 @@
 use Rattle.std.proofs.Common.{sym}
 use Rattle.rb_tellers.proofs.Telling.{stands_first, stands_next}
-use Rattle.rb_tellers.proofs.teller.tell.Goals as goal
+use Rattle.rb_tellers.proofs.teller.make_calls.Goals as goal
 
 pub loop-i-init : goal.loop-i-init
 loop-i-init g c = stands_first _ _ _ _ (sym c.site-site.ensures.same) c.requires.fresh

@@ -30,39 +30,40 @@ account_behind_quote s a = behind_quote (unwrap_or (slice_get s.names a.0) (code
 abbrev pub IsBetween : List ℕ → List ℕ → List ℕ → List ℕ → List ℕ → Type 0
 IsBetween middle text front back rest = text ≡ (front ++ (middle ++ back)) ++ rest
 
-abbrev pub TellsRequest : Settings → Request → List ℕ → List ℕ → Type 0
-TellsRequest s r text rest = IsRequest s r × (text ≡ compact_text (request_json s r) ++ rest)
+abbrev pub BeginsWithRequest : Settings → Request → List ℕ → List ℕ → Type 0
+BeginsWithRequest s r text rest = IsRequest s r × (text ≡ compact_text (request_json s r) ++ rest)
 
 -- the items of a list, and its closing bracket
-abbrev pub TellsEach : {A : Type 0} → (A → Data) → (A → Type 0) → List A → List ℕ → List ℕ → Type 0
-TellsEach written P xs text rest = Each P xs × (text ≡ items_text false (items_of (map written xs)) ++ rest)
+abbrev pub BeginsWithEach : {A : Type 0} → (A → Data) → (A → Type 0) → List A → List ℕ → List ℕ → Type 0
+BeginsWithEach written P xs text rest = Each P xs × (text ≡ items_text false (items_of (map written xs)) ++ rest)
 
 -- the counts above 0 of all sites, each behind its site's number, and the closing bracket
-pub record TellsNumbered (ns text rest : List ℕ) : Type 0 where
+pub record BeginsWithNumbered (ns text rest : List ℕ) : Type 0 where
   pub sites : length ns ≡ MOST_SITES
   pub fit : Each (λ n. n < 2 ^ 32) ns
   pub told : text ≡ items_text false (items_of (map numbered_json (numbered_from 0 ns))) ++ rest
 
 -- the counts of all sites, in a version of the format
-pub record TellsCounts (version : ℕ) (ns text rest : List ℕ) : Type 0 where
+pub record BeginsWithCounts (version : ℕ) (ns text rest : List ℕ) : Type 0 where
   pub sites : length ns ≡ MOST_SITES
   pub fit : Each (λ n. n < 2 ^ 32) ns
   pub further : version ≡ 1 → Each (λ n. n ≡ 0) (drop MOST_SITES_OF_VERSION_1 ns)
   pub told : text ≡ compact_text (blue_json version ns) ++ rest
 
 -- what a home had applied, in a version of the format
-pub record TellsDeps (version : ℕ) (d : Deps) (text rest : List ℕ) : Type 0 where
+pub record BeginsWithDeps (version : ℕ) (d : Deps) (text rest : List ℕ) : Type 0 where
   pub sites : length d.blue ≡ MOST_SITES
   pub blue : Each (λ n. n < 2 ^ 32) d.blue
   pub further : version ≡ 1 → Each (λ n. n ≡ 0) (drop MOST_SITES_OF_VERSION_1 d.blue)
   pub red : d.red < 2 ^ 32
   pub told : text ≡ compact_text (deps_json version d) ++ rest
 
-abbrev pub TellsShadow : Settings → Shadow → List ℕ → List ℕ → Type 0
-TellsShadow s v text rest = IsShadow s v × (text ≡ compact_text (one_json (codes "shadow") (shadow_json s v)) ++ rest)
+abbrev pub BeginsWithShadow : Settings → Shadow → List ℕ → List ℕ → Type 0
+BeginsWithShadow s v text rest = IsShadow s v
+    × (text ≡ compact_text (one_json (codes "shadow") (shadow_json s v)) ++ rest)
 
-abbrev pub TellsEvent : Settings → Event → List ℕ → List ℕ → Type 0
-TellsEvent s e text rest = IsEvent s e × (text ≡ compact_text (event_json s e) ++ rest)
+abbrev pub BeginsWithEvent : Settings → Event → List ℕ → List ℕ → Type 0
+BeginsWithEvent s e text rest = IsEvent s e × (text ≡ compact_text (event_json s e) ++ rest)
 
-abbrev pub TellsReply : Reply → List ℕ → List ℕ → Type 0
-TellsReply r text rest = IsReply r × (text ≡ compact_text (reply_json r) ++ rest)
+abbrev pub BeginsWithReply : Reply → List ℕ → List ℕ → Type 0
+BeginsWithReply r text rest = IsReply r × (text ≡ compact_text (reply_json r) ++ rest)
