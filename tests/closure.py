@@ -35,7 +35,8 @@ TYPE = re.compile(r"(?ms)^(?:pub(?:\([^)]*\))? )?(struct|enum|trait|type) (\w+)(
 
 # the head or the end of an impl, or a function with its signature and contract
 IMPL = r"^impl(?:<[^\n]*?>)? (?:[\w:<>]+ for )?(\w+)|^(}) *$"
-FUNCTION = re.compile(r"(?ms)" + IMPL + r"|^( *)(pub(?:\([^)]*\))? )?fn (\w+)(.*?)(?=^\3\{|^\3    \{\}|\{\n|;\n)")
+HEAD = r'^( *)(pub(?:\([^)]*\))? )?(?:extern "C" )?fn (\w+)'
+FUNCTION = re.compile(r"(?ms)" + IMPL + "|" + HEAD + r"(.*?)(?=^\3\{|^\3    \{\}|\{\n|;\n)")
 
 # a function and its clauses in a table of docs/PROVED.md
 CALL = re.compile(r"`(\w+::\w+)`:? ?((?:(?:, )?`\w+`)*)")
@@ -123,10 +124,12 @@ def types(crate):
 
 
 def exported(crate):
-    """The names that a crate's root hands to other crates."""
-    roots = [read("crates", crate, file) for file in files(crate, "src", "rt") if file in ("src/lib.rt", "src/main.rt")]
+    """The names that a crate's root hands to other crates, or any of its files to C."""
+    texts = {file: read("crates", crate, file) for file in files(crate, "src", "rt")}
+    roots = [text for file, text in texts.items() if file in ("src/lib.rt", "src/main.rt")]
     found = re.findall(r"(?ms)^pub use (.*?);|^pub (?:type|fn) (\w+)", "".join(roots))
-    return set(WORD.findall(" ".join(part for parts in found for part in parts)))
+    to_c = re.findall(r'(?m)^pub extern "C" fn (\w+)', "".join(texts.values()))
+    return set(WORD.findall(" ".join(part for parts in found for part in parts))).union(to_c)
 
 
 def functions(crate):
