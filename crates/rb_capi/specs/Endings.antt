@@ -1,0 +1,69 @@
+-- How a run from memory to memory ends, and what C finds then.
+use Rattle.std.specs.Prelude.{◌≡◌, ◌≢◌, ℕ, ℤ, pos, List, [], ◌++◌, length, take, drop, min, nat_le, Result, Ok, Err, if◌then◌else◌}
+use Rattle.rb_lines.specs.declared.fault.StreamFault.{StreamFault}
+use Rattle.rb_lines.specs.declared.fault.StreamFault.TheVariants.{NoConfig, BadConfig, BadLine, LongLine, Read, Write, OutOfMemory}
+use Rattle.rb_lines.specs.Messages.{status_of}
+use Rattle.rb_capi.specs.declared.ending.Ending.{Ending}
+
+-- the number of the line that is wrong, or 0 where none is
+abbrev pub number_of_line : StreamFault → ℕ
+number_of_line NoConfig = 0
+number_of_line (BadConfig n) = n
+number_of_line (BadLine n) = n
+number_of_line (LongLine n) = n
+number_of_line Read = 0
+number_of_line Write = 0
+number_of_line OutOfMemory = 0
+
+-- at a fault the status is the program's, and the number that of the line that is wrong
+pub record IsEndAtFault (fault : StreamFault) (e : Ending) : Type 0 where
+  pub status : e.status ≡ status_of fault
+  pub number : e.number ≡ number_of_line fault
+
+-- a script or a migration that ended well has the status 0, and the number is that of the lines that were written
+abbrev pub IsEndOfLines : Result ℕ StreamFault → Ending → Type 0
+IsEndOfLines (Ok count) e = e ≡ record { status = 0; number = count }
+IsEndOfLines (Err fault) e = IsEndAtFault fault e
+
+-- ---- from memory to memory
+
+-- a read or a write fails for want of memory alone
+abbrev pub result_in_memory : {A : Type 0} → Result A StreamFault → Result A StreamFault
+result_in_memory (Ok x) = Ok x
+result_in_memory (Err NoConfig) = Err NoConfig
+result_in_memory (Err (BadConfig n)) = Err (BadConfig n)
+result_in_memory (Err (BadLine n)) = Err (BadLine n)
+result_in_memory (Err (LongLine n)) = Err (LongLine n)
+result_in_memory (Err Read) = Err OutOfMemory
+result_in_memory (Err Write) = Err OutOfMemory
+result_in_memory (Err OutOfMemory) = Err OutOfMemory
+
+-- the text that was written, or none where a read or a write failed
+abbrev pub text_in_memory : {A : Type 0} → Result A StreamFault → List ℕ → List ℕ
+text_in_memory (Ok x) text = text
+text_in_memory (Err NoConfig) text = text
+text_in_memory (Err (BadConfig n)) text = text
+text_in_memory (Err (BadLine n)) text = text
+text_in_memory (Err (LongLine n)) text = text
+text_in_memory (Err Read) text = []
+text_in_memory (Err Write) text = []
+text_in_memory (Err OutOfMemory) text = text
+
+-- the run ended well, at a line that is wrong, or where memory ran out: no read and no write failed
+pub record IsInMemory {A : Type 0} (r : Result A StreamFault) : Type 0 where
+  pub no_read : r ≢ Err Read
+  pub no_write : r ≢ Err Write
+
+-- ---- what C finds
+
+-- a buffer once a text was put at its beginning, as much of it as there is capacity for: what is behind it stays
+abbrev pub buffer_with : List ℕ → List ℕ → List ℕ
+buffer_with text before = take (length before) text ++ drop (length text) before
+
+-- a run wrote this text and ended so, and C finds the text at the beginning of the buffer, how many bytes were written, the number and
+-- the status of the run; where the buffer is too short for the whole text, the status of a failed write, and how many bytes the text has
+pub record IsHandedOver (text : List ℕ) (e : Ending) (before after : List ℕ) (written number : ℕ) (status : ℤ) : Type 0 where
+  pub buffer : after ≡ buffer_with text before
+  pub written_is : written ≡ min (length text) (length before)
+  pub number_is : number ≡ (if nat_le (length text) (length before) then e.number else length text)
+  pub status_is : status ≡ pos (if nat_le (length text) (length before) then e.status else status_of Write)

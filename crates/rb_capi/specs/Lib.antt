@@ -1,0 +1,4 @@
+pub mod Endings
+pub mod Script
+pub mod Audit
+pub mod Migrate
