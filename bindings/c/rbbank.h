@@ -1,0 +1,115 @@
+/* The core of the bank, for C: sites that answer lines, and the three runs from bytes to bytes.
+ *
+ * Lines, limits, refusals and statuses are those of docs/FORMAT.md. What each call does is proved of the code behind
+ * it (crates/rb_capi). The rest is the caller's to keep:
+ *
+ * - A handle begins with all bytes zero (`struct rbbank bank = {0};`). It is never copied, compared or looked into;
+ *   two copies of one handle would end one bank twice. It may be moved: the old place is then forgotten.
+ * - One call at a time on a handle, and from one thread at a time. Two handles know nothing of each other.
+ * - Each pointer has as many bytes behind it as its length says, for the time of the call alone: nothing that is
+ *   passed is kept. With a length of 0 the pointer isn't followed. What is written (`out`, `written`, `number`)
+ *   overlaps nothing else that is passed.
+ * - A handle that was opened is closed, else its memory is lost. Closing twice, and a zeroed handle, are fine.
+ *
+ * No call has another condition: any bytes are answered. A line is passed without its line feed, and has at most
+ * 1,048,576 bytes where the program's limit is to hold. Nothing is printed, no file is opened, no thread started.
+ */
+#ifndef RBBANK_H
+#define RBBANK_H
+
+#include <stddef.h>
+#include <stdint.h>
+
+#ifdef __cplusplus
+extern "C" {
+#endif
+
+/* What calls on a handle return. */
+enum {
+    RBBANK_OK = 0,
+    RBBANK_NONE = 1,     /* the handle is zeroed or closed, or its memory ran out before: nothing happened */
+    RBBANK_BAD_LINE = 2, /* no configuration, no command, no event, no entry of this site: nothing changed */
+    RBBANK_REFUSED = 3,  /* rbbank_site_open: no such site; rbbank_site_replay: the site gives another reply */
+    RBBANK_NO_MEMORY = 4 /* memory ran out: the handle is closed, and the last answer is lost */
+};
+
+/* ---- All sites of a bank, with the messages between them, as `rbbank script` has them */
+
+struct rbbank {
+    void *at;
+};
+
+/* Opens the bank of a configuration's line, before any command. A bank that the handle had is ended first.
+ * 0, 2 (no configuration) or 4; after 2 and 4 the handle is closed. */
+int32_t rbbank_open(struct rbbank *bank, const uint8_t *config, size_t length);
+
+/* Gives the bank a command's line, such as {"deposit":["ann",500],"site":0}. 0: the reply is kept, a refusal too, and
+ * can be read by rbbank_reply; 1; 2 (no command): nothing has changed, the reply that was kept before neither; 4. */
+int32_t rbbank_answer(struct rbbank *bank, const uint8_t *line, size_t length);
+
+/* Copies the kept reply, which has one line feed, at its end, from byte `from` (0 and up) on: how many bytes were
+ * copied, 0 to `length`. Fewer than `length`: that was the rest. It is kept until rbbank_answer returns 0 or 4, or the
+ * bank is opened or closed. */
+size_t rbbank_reply(struct rbbank *bank, size_t from, uint8_t *out, size_t length);
+
+/* Ends the bank, and gives its memory back. The handle is zeroed, and may be opened again. */
+void rbbank_close(struct rbbank *bank);
+
+/* ---- One site, as `rbbank site` has it; the journal is the caller's */
+
+struct rbbank_site {
+    void *at;
+};
+
+/* Opens site `me` (0 to 15) of the bank of a configuration's line, before any event. Its entries are then the
+ * journal's first line. A site that the handle had is ended first.
+ * 0, 2 (no configuration), 3 (the configuration has no such site) or 4; after 2, 3 and 4 the handle is closed. */
+int32_t rbbank_site_open(struct rbbank_site *site, uint8_t me, const uint8_t *config, size_t length);
+
+/* Gives the site an event's line: a command without its site, or a message of another site. 0: the answer
+ * {"reply":..,"sends":[..],"then":[..]} is kept, and so are its entries; 1; 2 (no event): nothing has changed, what
+ * was kept before neither; 4.
+ * Write the entries where they last before anyone sees the answer: then a crash takes back nothing that was seen. */
+int32_t rbbank_site_answer(struct rbbank_site *site, const uint8_t *line, size_t length);
+
+/* Copies the kept answer, as rbbank_reply does. After a replay it is the line {"sends":[..]} of what the entry sent,
+ * and nothing where it sent nothing. */
+size_t rbbank_site_reply(struct rbbank_site *site, size_t from, uint8_t *out, size_t length);
+
+/* Copies the lines that the kept answer adds to the journal, each with its line feed, as rbbank_reply does; none where
+ * the history is full, and none after a replay. After an open it is the configuration's line, with all eight keys. */
+size_t rbbank_site_entries(struct rbbank_site *site, size_t from, uint8_t *out, size_t length);
+
+/* Gives a site that was opened again the next line of its journal, behind the first. 0; 1; 2 (no entry of this site):
+ * nothing has changed; 3 (the site gives another reply than the entry has, or its history is full): the handle is
+ * closed; 4. */
+int32_t rbbank_site_replay(struct rbbank_site *site, const uint8_t *line, size_t length);
+
+/* Ends the site, and gives its memory back. The handle is zeroed, and may be opened again. */
+void rbbank_site_close(struct rbbank_site *site);
+
+/* ---- Whole runs, from all lines of an input to all lines of the output
+ *
+ * They return the program's statuses: 0; 1 where an audit found a fault; 2 for a bad line; 3 where `out`, of
+ * `capacity` bytes, is too short; 4 where memory ran out. `*written` bytes of `out` were written: with 0 and 1 the
+ * whole output, with 2 what was written before the bad line, with 3 a prefix. `*number` is with 0 and 1 how many lines
+ * were written; with 2 the number of the bad line, from 1, blank ones counted, or 0 where the input has no
+ * configuration; with 3 how many bytes `out` has to have. The input is at most 4,000,000,000 bytes. */
+
+/* Commands in, replies out: `rbbank script`. */
+int32_t rbbank_script(const uint8_t *input, size_t length, uint8_t *out, size_t capacity, size_t *written,
+                      uint64_t *number);
+
+/* The histories of a bank's sites in; an order of all of it, or the fault: `rbbank audit`. */
+int32_t rbbank_audit(const uint8_t *input, size_t length, uint8_t *out, size_t capacity, size_t *written,
+                     uint64_t *number);
+
+/* The histories of either version in, of version 2 out: `rbbank migrate`. */
+int32_t rbbank_migrate(const uint8_t *input, size_t length, uint8_t *out, size_t capacity, size_t *written,
+                       uint64_t *number);
+
+#ifdef __cplusplus
+}
+#endif
+
+#endif

@@ -1,0 +1,318 @@
+/* The commands of the program over the library, for check.py: what each writes has to be what the program writes.
+ *
+ * usage: rows script|audit|migrate|bank|odd < LINES
+ *        rows site --me S --journal FILE [--resend N] < LINES
+ *        rows odd-site --me S < LINES
+ *        rows calls COUNT < TWO LINES
+ *
+ * `bank` answers a script line by line. `odd` and `odd-site` go on after bad lines, and write the status before each
+ * answer. `calls` gives the second line COUNT times to the bank of the first, and writes nothing, for
+ * bench/bindings.py. A fault is `rbbank: line N` without its kind.
+ */
+#include "rbbank.h"
+
+#include <stdio.h>
+#include <stdlib.h>
+#include <string.h>
+
+struct text {
+    uint8_t *bytes;
+    size_t length;
+};
+
+/* A line of a text, with its number from 1. Blank lines are left out. */
+struct line {
+    struct text text;
+    size_t number, rest;
+};
+
+static void stop(const char *what, size_t number, const char *more) {
+    fflush(stdout);
+    if (number == 0)
+        fprintf(stderr, "rbbank: %s\n", what);
+    else
+        fprintf(stderr, "rbbank: %s %zu%s\n", what, number, more);
+    exit(2);
+}
+
+static void *larger(void *bytes, size_t size) {
+    void *more = realloc(bytes, size);
+    if (more == NULL)
+        exit(4);
+    return more;
+}
+
+static struct text read_all(FILE *file) {
+    struct text all = {larger(NULL, 1), 0};
+    size_t size = 1, n;
+    while ((n = fread(all.bytes + all.length, 1, size - all.length, file)) > 0) {
+        all.length += n;
+        if (all.length == size)
+            all.bytes = larger(all.bytes, size *= 2);
+    }
+    return all;
+}
+
+static int is_blank(struct text line) {
+    for (size_t i = 0; i < line.length; i++)
+        if (line.bytes[i] != ' ' && line.bytes[i] != '\t' && line.bytes[i] != '\r')
+            return 0;
+    return 1;
+}
+
+static int next_line(struct text all, struct line *line) {
+    while (line->rest < all.length) {
+        uint8_t *at = all.bytes + line->rest, *end = memchr(at, '\n', all.length - line->rest);
+        size_t length = end == NULL ? all.length - line->rest : (size_t)(end - at);
+        line->text = (struct text){at, length};
+        line->rest += length + 1;
+        line->number++;
+        if (!is_blank(line->text))
+            return 1;
+    }
+    return 0;
+}
+
+typedef int32_t running(const uint8_t *, size_t, uint8_t *, size_t, size_t *, uint64_t *);
+
+/* A whole run, with a larger output where the first is too short. */
+static int whole(running *call, struct text all) {
+    size_t capacity = all.length, written;
+    uint64_t number;
+    uint8_t *out = larger(NULL, capacity + 1);
+    int32_t status = call(all.bytes, all.length, out, capacity, &written, &number);
+    if (status == 3) {
+        capacity = (size_t)number;
+        out = larger(out, capacity);
+        status = call(all.bytes, all.length, out, capacity, &written, &number);
+    }
+    fwrite(out, 1, written, stdout);
+    free(out);
+    if (status == 2)
+        stop(number == 0 ? "no configuration" : "line", number, "");
+    return status;
+}
+
+static void print_reply(struct rbbank *bank) {
+    uint8_t part[100];
+    size_t from = 0, n;
+    while ((n = rbbank_reply(bank, from, part, sizeof part)) > 0) {
+        fwrite(part, 1, n, stdout);
+        from += n;
+    }
+}
+
+static void first_line(struct text all, struct line *line) {
+    if (!next_line(all, line))
+        stop("no configuration", 0, "");
+}
+
+/* A script, a line at a time. With `odd` it goes on after a bad line, and prints each status. */
+static int bank(struct text all, int odd) {
+    struct line line = {0};
+    struct rbbank bank = {0};
+    first_line(all, &line);
+    int32_t status = rbbank_open(&bank, line.text.bytes, line.text.length);
+    while (status == RBBANK_OK && next_line(all, &line)) {
+        status = rbbank_answer(&bank, line.text.bytes, line.text.length);
+        if (odd)
+            printf("%d\n", status);
+        if (status == RBBANK_OK)
+            print_reply(&bank);
+        if (odd && status == RBBANK_BAD_LINE)
+            status = RBBANK_OK;
+    }
+    rbbank_close(&bank);
+    if (status == RBBANK_BAD_LINE)
+        stop("line", line.number, "");
+    return status;
+}
+
+/* One command over and over: the two calls that a host makes of it. */
+static int calls(struct text all, long count) {
+    struct line line = {0};
+    struct rbbank bank = {0};
+    uint8_t reply[4096];
+    first_line(all, &line);
+    int32_t status = rbbank_open(&bank, line.text.bytes, line.text.length);
+    if (!next_line(all, &line))
+        stop("no command", 0, "");
+    for (long i = 0; i < count && status == RBBANK_OK; i++) {
+        status = rbbank_answer(&bank, line.text.bytes, line.text.length);
+        if (rbbank_reply(&bank, 0, reply, sizeof reply) == 0)
+            status = 1;
+    }
+    rbbank_close(&bank);
+    return status;
+}
+
+static void print_site(struct rbbank_site *site) {
+    uint8_t part[100];
+    size_t from = 0, n;
+    while ((n = rbbank_site_reply(site, from, part, sizeof part)) > 0) {
+        fwrite(part, 1, n, stdout);
+        from += n;
+    }
+}
+
+typedef size_t copying(struct rbbank_site *, size_t, uint8_t *, size_t);
+
+/* Adds all that a copying call has to a text. */
+static struct text with(struct text text, copying *call, struct rbbank_site *site) {
+    size_t from = 0, n, size = 100;
+    do {
+        text.bytes = larger(text.bytes, text.length + size);
+        n = call(site, from, text.bytes + text.length, size);
+        text.length += n;
+        from += n;
+    } while (n == size);
+    return text;
+}
+
+static struct text entries_of(struct rbbank_site *site) {
+    return with((struct text){NULL, 0}, rbbank_site_entries, site);
+}
+
+static void keep_entries(struct rbbank_site *site, FILE *journal) {
+    struct text entries = entries_of(site);
+    fwrite(entries.bytes, 1, entries.length, journal);
+    fflush(journal);
+    free(entries.bytes);
+}
+
+/* The lines of a journal up to what a crash left: each begins with a brace, and has its line feed. */
+static size_t whole_lines(struct text journal) {
+    size_t end = 0;
+    while (end < journal.length && journal.bytes[end] == '{') {
+        uint8_t *at = memchr(journal.bytes + end, '\n', journal.length - end);
+        if (at == NULL)
+            break;
+        end = (size_t)(at - journal.bytes) + 1;
+    }
+    return end;
+}
+
+/* How many lines a text has. */
+static long count_of(struct text text) {
+    long count = 0;
+    for (size_t i = 0; i < text.length; i++)
+        count += text.bytes[i] == '\n';
+    return count;
+}
+
+/* Gives a site the entries of its journal, and then prints again what the last of them sent. */
+static void replay(struct rbbank_site *site, struct text journal, long resend) {
+    struct line line = {0};
+    struct text again = {NULL, 0};
+    long left = count_of(journal) - 1;
+    for (next_line(journal, &line); next_line(journal, &line); left--) {
+        int32_t status = rbbank_site_replay(site, line.text.bytes, line.text.length);
+        if (status != RBBANK_OK)
+            stop("journal line", line.number, status == RBBANK_REFUSED ? ": wrong reply" : ": bad line");
+        if (resend < 0 || left <= resend)
+            again = with(again, rbbank_site_reply, site);
+    }
+    fwrite(again.bytes, 1, again.length, stdout);
+    free(again.bytes);
+}
+
+/* The journal that a site goes on from: that of a file, replayed, or a new one. */
+static struct text opened(struct rbbank_site *site, const char *path, long resend) {
+    FILE *file = fopen(path, "rb");
+    struct text config = entries_of(site), all = {NULL, 0};
+    if (file != NULL) {
+        all = read_all(file);
+        fclose(file);
+    }
+    struct text before = {all.bytes, whole_lines(all)};
+    if (before.length == 0 && (all.length == 0 || all.bytes[0] == ' ')) {
+        free(all.bytes);
+        return config;
+    }
+    if (before.length < config.length || memcmp(before.bytes, config.bytes, config.length) != 0)
+        stop("another bank's journal", 0, "");
+    free(config.bytes);
+    replay(site, before, resend);
+    return before;
+}
+
+static int site(struct text all, unsigned me, const char *path, long resend) {
+    struct line line = {0};
+    struct rbbank_site site = {0};
+    first_line(all, &line);
+    int32_t status = rbbank_site_open(&site, (uint8_t)me, line.text.bytes, line.text.length);
+    if (status != RBBANK_OK)
+        stop(status == RBBANK_REFUSED ? "no such site" : "line", status == RBBANK_REFUSED ? 0 : line.number, "");
+    struct text kept = opened(&site, path, resend);
+    FILE *journal = fopen(path, "wb");
+    if (journal == NULL)
+        return 3;
+    fwrite(kept.bytes, 1, kept.length, journal);
+    free(kept.bytes);
+    while (status == RBBANK_OK && next_line(all, &line)) {
+        status = rbbank_site_answer(&site, line.text.bytes, line.text.length);
+        if (status == RBBANK_OK) {
+            keep_entries(&site, journal);
+            print_site(&site);
+        }
+    }
+    fwrite(" ", 1, 1, journal);
+    fclose(journal);
+    rbbank_site_close(&site);
+    if (status == RBBANK_BAD_LINE)
+        stop("line", line.number, "");
+    return status;
+}
+
+/* A site that goes on after a bad line, with no journal. */
+static int odd_site(struct text all, unsigned me) {
+    struct line line = {0};
+    struct rbbank_site site = {0};
+    first_line(all, &line);
+    int32_t status = rbbank_site_open(&site, (uint8_t)me, line.text.bytes, line.text.length);
+    while ((status == RBBANK_OK || status == RBBANK_BAD_LINE) && next_line(all, &line)) {
+        status = rbbank_site_answer(&site, line.text.bytes, line.text.length);
+        printf("%d\n", status);
+        if (status == RBBANK_OK)
+            print_site(&site);
+        free(entries_of(&site).bytes);
+    }
+    rbbank_site_close(&site);
+    return status == RBBANK_BAD_LINE ? 0 : status;
+}
+
+/* The word behind an option. */
+static const char *word(int count, char **words, const char *option, const char *otherwise) {
+    for (int i = 1; i + 1 < count; i++)
+        if (strcmp(words[i], option) == 0)
+            return words[i + 1];
+    return otherwise;
+}
+
+static int run(int count, char **words, struct text all) {
+    const char *what = count > 1 ? words[1] : "";
+    unsigned me = (unsigned)atoi(word(count, words, "--me", "0"));
+    if (strcmp(what, "script") == 0)
+        return whole(rbbank_script, all);
+    if (strcmp(what, "audit") == 0)
+        return whole(rbbank_audit, all);
+    if (strcmp(what, "migrate") == 0)
+        return whole(rbbank_migrate, all);
+    if (strcmp(what, "bank") == 0 || strcmp(what, "odd") == 0)
+        return bank(all, what[0] == 'o');
+    if (strcmp(what, "calls") == 0)
+        return calls(all, count > 2 ? atol(words[2]) : 0);
+    if (strcmp(what, "odd-site") == 0)
+        return odd_site(all, me);
+    if (strcmp(what, "site") == 0)
+        return site(all, me, word(count, words, "--journal", "journal"), atol(word(count, words, "--resend", "-1")));
+    stop("rows script|audit|migrate|bank|odd|site|odd-site|calls", 0, "");
+    return 2;
+}
+
+int main(int count, char **words) {
+    struct text all = read_all(stdin);
+    int status = run(count, words, all);
+    free(all.bytes);
+    return status;
+}
