@@ -1,0 +1,196 @@
+//! The commands of the program over the crate, for bindings/check.py: what each writes has to be what the program
+//! writes.
+//!
+//! usage: rows script|audit|migrate|bank < LINES
+//!        rows site --me S --journal FILE [--resend N] < LINES
+//!        rows calls COUNT < TWO LINES
+//!
+//! `bank` answers a script line by line. `calls` gives the second line COUNT times to the bank of the first, and writes
+//! nothing, for bench/bindings.py. A fault is `rbbank: line N` without its kind.
+use rbbank::{Audit, Bank, OpenError, ReplayError, RunError, Site};
+use std::io::{Read, Write};
+use std::process::ExitCode;
+use std::{env, fs, io};
+
+/// A fault of the input, in words.
+struct Stop(String);
+
+fn stop<T>(why: impl Into<String>) -> Result<T, Stop> {
+    Err(Stop(why.into()))
+}
+
+fn write(text: &str) {
+    let mut out = io::stdout().lock();
+    out.write_all(text.as_bytes())
+        .and_then(|()| out.flush())
+        .expect("standard output takes it");
+}
+
+/// The lines that aren't blank, each with its number.
+fn lines_of(input: &str) -> impl Iterator<Item = (usize, &str)> {
+    let numbered = input
+        .split('\n')
+        .enumerate()
+        .map(|(at, line)| (at + 1, line));
+    numbered.filter(|(_, line)| !line.trim_matches([' ', '\t', '\r']).is_empty())
+}
+
+/// What a whole run wrote, or its fault behind what it wrote before.
+fn whole(run: Result<String, RunError>) -> Result<(), Stop> {
+    match run {
+        Ok(text) => write(&text),
+        Err(RunError::BadLine { line, written }) => {
+            write(&written);
+            return stop(format!("line {line}"));
+        }
+        Err(why) => return stop(why.to_string()),
+    }
+    Ok(())
+}
+
+fn audit(input: &str) -> Result<ExitCode, Stop> {
+    match rbbank::audit(input) {
+        Ok(Audit::Order(line)) => whole(Ok(line + "\n")).map(|()| ExitCode::SUCCESS),
+        Ok(Audit::Fault(line)) => whole(Ok(line + "\n")).map(|()| ExitCode::from(1)),
+        Err(why) => whole(Err(why)).map(|()| ExitCode::SUCCESS),
+    }
+}
+
+/// A script, a line at a time.
+fn bank(input: &str) -> Result<(), Stop> {
+    let mut lines = lines_of(input);
+    let Some((number, config)) = lines.next() else {
+        return stop("no configuration");
+    };
+    let mut bank = Bank::open(config).or_else(|_| stop(format!("line {number}")))?;
+    for (number, line) in lines {
+        let reply = bank
+            .answer(line)
+            .or_else(|_| stop(format!("line {number}")))?;
+        write(&format!("{reply}\n"));
+    }
+    Ok(())
+}
+
+/// One command over and over.
+fn calls(input: &str, count: &str) -> Result<(), Stop> {
+    let mut lines = input.lines();
+    let (config, line) = (lines.next().unwrap_or(""), lines.next().unwrap_or(""));
+    let mut bank = Bank::open(config).or_else(|_| stop("line 1"))?;
+    for _ in 0..count.parse().unwrap_or(0u64) {
+        if bank.answer(line).is_err() {
+            return stop("line 2");
+        }
+    }
+    Ok(())
+}
+
+/// The lines of a journal up to what a crash left: each begins with a brace, and has its line feed.
+fn whole_lines(journal: &[u8]) -> &str {
+    let mut end = 0;
+    while journal.get(end) == Some(&b'{') {
+        match journal[end..].iter().position(|byte| *byte == b'\n') {
+            Some(at) => end += at + 1,
+            None => break,
+        }
+    }
+    std::str::from_utf8(&journal[..end]).unwrap_or("")
+}
+
+/// Gives a site what its journal has, then writes again what the last entries sent, and returns the journal's lines.
+fn replay(site: &mut Site, journal: &[u8], resend: Option<usize>) -> Result<String, Stop> {
+    let config = site.entries().to_owned();
+    let before = whole_lines(journal);
+    let is_new = before.is_empty() && matches!(journal.first(), None | Some(b' '));
+    if !is_new && !before.starts_with(&config) {
+        return stop("another bank's journal");
+    }
+    let entries: Vec<&str> = before.lines().skip(1).collect();
+    let mut again = String::new();
+    for (at, entry) in entries.iter().enumerate() {
+        let sends = match site.replay(entry) {
+            Ok(sends) => sends,
+            Err(ReplayError::BadLine) => return stop(format!("journal line {}: bad line", at + 2)),
+            Err(why) => return stop(format!("journal line {}: {why}", at + 2)),
+        };
+        if !sends.is_empty()
+            && at >= entries.len() - resend.unwrap_or(entries.len()).min(entries.len())
+        {
+            again += &format!("{sends}\n");
+        }
+    }
+    write(&again);
+    Ok(if is_new { config } else { before.to_owned() })
+}
+
+/// A site with its journal, which is written before the answer is.
+fn site(words: &[String], input: &str) -> Result<(), Stop> {
+    let word = |name: &str| {
+        words
+            .iter()
+            .position(|word| word == name)
+            .map(|at| words[at + 1].as_str())
+    };
+    let number_of = |name: &str| word(name).map(|word| word.parse().expect("a number"));
+    let (me, path) = (
+        number_of("--me").expect("--me"),
+        word("--journal").expect("--journal"),
+    );
+    let mut lines = lines_of(input);
+    let Some((number, config)) = lines.next() else {
+        return stop("no configuration");
+    };
+    let mut site = match Site::open(me as u8, config) {
+        Ok(site) => site,
+        Err(OpenError::NoSuchSite) => return stop("no such site"),
+        Err(_) => return stop(format!("line {number}")),
+    };
+    let kept = replay(
+        &mut site,
+        &fs::read(path).unwrap_or_default(),
+        number_of("--resend"),
+    )?;
+    let mut journal = fs::File::create(path).expect("a file");
+    let mut keep = |text: &str| {
+        journal
+            .write_all(text.as_bytes())
+            .expect("the journal takes it")
+    };
+    keep(&kept);
+    let mut end = Ok(());
+    for (number, line) in lines {
+        let Ok(answer) = site.answer(line).map(str::to_owned) else {
+            end = stop(format!("line {number}"));
+            break;
+        };
+        keep(site.entries());
+        write(&format!("{answer}\n"));
+    }
+    keep(" ");
+    end
+}
+
+fn run(words: &[String]) -> Result<ExitCode, Stop> {
+    let mut input = String::new();
+    io::stdin()
+        .read_to_string(&mut input)
+        .expect("standard input is UTF-8");
+    match words.first().map_or("", String::as_str) {
+        "script" => whole(rbbank::script(&input)),
+        "migrate" => whole(rbbank::migrate(&input)),
+        "audit" => return audit(&input),
+        "bank" => bank(&input),
+        "site" => site(&words[1..], &input),
+        "calls" => calls(&input, words.get(1).map_or("", String::as_str)),
+        _ => stop("rows script|audit|migrate|bank|site|calls"),
+    }
+    .map(|()| ExitCode::SUCCESS)
+}
+
+fn main() -> ExitCode {
+    let words: Vec<String> = env::args().skip(1).collect();
+    run(&words).unwrap_or_else(|Stop(why)| {
+        eprintln!("rbbank: {why}");
+        ExitCode::from(2)
+    })
+}
