@@ -1,0 +1,129 @@
+"""Each call once, and each exception that a caller can bring about: python3 -m unittest -v test_rbbank."""
+import copy
+import doctest
+import json
+import threading
+import unittest
+
+import rbbank
+
+CONFIG = '{"accounts":[["ann",0]],"sites":2,"version":1}'
+DEPOSIT = '{"deposit":["ann",500],"site":0}'
+MADE = '{"kind":"deposit","name":"B0.1"}'
+EVENT = '{"deposit":["ann",500]}'
+
+
+class Banks(unittest.TestCase):
+
+    def test_answers(self):
+        with rbbank.Bank(CONFIG) as bank:
+            self.assertEqual(bank.answer(DEPOSIT), MADE)
+            self.assertEqual(bank.answer(b'{"deliver":1,"site":1}'), '{"held":"B0.1"}')
+            self.assertEqual(bank.answer('{"apply":"B0.1","site":1}'), '{"applied":"B0.1"}')
+            self.assertEqual(bank.answer('{"balance":"eve","site":1}'), '{"refused":1}')
+            for bad in ["", "{", "{}", CONFIG, '{"balance":"ann"}', b"\xff", "\0"]:
+                self.assertRaises(rbbank.BadLine, bank.answer, bad)
+            self.assertEqual(bank.answer('{"balance":"ann","site":1}'), '{"balance":500}')
+
+    def test_a_long_reply_comes_whole(self):
+        with rbbank.Bank(CONFIG) as bank:
+            for _ in range(2000):
+                bank.answer(DEPOSIT)
+            statement = json.loads(bank.answer('{"statement":"ann","site":0}'))
+            self.assertEqual((len(statement["rows"]), statement["balance"]), (2000, 1_000_000))
+            self.assertEqual(bank.answer('{"balance":"ann","site":0}'), '{"balance":1000000}')
+
+    def test_each_length_of_a_reply(self):
+        """Replies around the size of the buffer."""
+        with rbbank.Bank(CONFIG) as bank:
+            lengths = set()
+            for _ in range(150):
+                bank.answer('{"deposit":["ann",1],"site":0}')
+                text = bank.answer('{"statement":"ann","site":0}')
+                lengths.add(len(text))
+                json.loads(text)
+            self.assertTrue(min(lengths) < 4000 and max(lengths) > 4200)
+
+    def test_closed(self):
+        bank = rbbank.Bank(CONFIG)
+        other = copy.copy(bank)
+        bank.close()
+        bank.close()
+        self.assertRaises(rbbank.Closed, bank.answer, DEPOSIT)
+        self.assertRaises(rbbank.Closed, other.answer, DEPOSIT)
+
+    def test_not_opened(self):
+        self.assertRaises(rbbank.BadLine, rbbank.Bank, DEPOSIT)
+        self.assertRaises(rbbank.BadLine, rbbank.Site, 0, "")
+        self.assertRaises(rbbank.NoSuchSite, rbbank.Site, 2, CONFIG)
+        self.assertRaises(rbbank.NoSuchSite, rbbank.Site, 256, CONFIG)
+        self.assertRaises(rbbank.NoSuchSite, rbbank.Site, -1, CONFIG)
+
+    def test_threads_wait_for_each_other(self):
+        with rbbank.Bank(CONFIG) as bank:
+            names = []
+
+            def deposit():
+                names.extend(json.loads(bank.answer(DEPOSIT))["name"] for _ in range(500))
+
+            threads = [threading.Thread(target=deposit) for _ in range(4)]
+            for thread in threads:
+                thread.start()
+            for thread in threads:
+                thread.join()
+            self.assertEqual(sorted(names), sorted(f"B0.{n}" for n in range(1, 2001)))
+
+
+class Sites(unittest.TestCase):
+
+    def test_a_message_comes(self):
+        with rbbank.Site(0, CONFIG) as home, rbbank.Site(1, CONFIG) as other:
+            message = json.loads(home.answer(EVENT))["sends"][0]
+            taken = other.answer(json.dumps(message, separators=(",", ":")))
+            self.assertEqual(taken, '{"reply":{"held":"B0.1"},"sends":[],"then":[{"applied":"B0.1"}]}')
+            self.assertEqual(other.entries().count(b"\n"), 2)
+            self.assertRaises(rbbank.BadLine, other.answer, DEPOSIT)
+            other.answer('{"balance":"ann"}')
+            self.assertEqual(other.entries(), b'{"event":{"balance":"ann"},"reply":{"balance":500},"site":1}\n')
+
+    def test_a_journal_is_replayed(self):
+        with rbbank.Site(0, CONFIG) as site:
+            first = site.entries()
+            self.assertEqual(json.loads(first)["blue"], 1_000_000)
+            sends = json.loads(site.answer(EVENT))["sends"]
+            entry = site.entries()
+        again = rbbank.Site(0, CONFIG)
+        self.assertRaises(rbbank.BadLine, again.replay, entry.replace(b'"site":0', b'"site":1').rstrip())
+        self.assertEqual(json.loads(again.replay(entry.rstrip())), {"sends": sends})
+        self.assertRaises(rbbank.WrongReply, again.replay, entry.rstrip())
+        self.assertRaises(rbbank.Closed, again.replay, entry.rstrip())
+
+
+class Runs(unittest.TestCase):
+
+    def test_script(self):
+        self.assertEqual(rbbank.script(f"{CONFIG}\n{DEPOSIT}\n"), MADE + "\n")
+        with self.assertRaises(rbbank.LineFault) as fault:
+            rbbank.script(f"{CONFIG}\n\n{DEPOSIT}\n{{}}\n{DEPOSIT}\n")
+        self.assertEqual((fault.exception.line, fault.exception.written), (4, MADE + "\n"))
+        self.assertRaisesRegex(rbbank.LineFault, "no configuration", rbbank.script, " \n")
+
+    def test_an_output_longer_than_was_thought(self):
+        lines = [CONFIG] + [DEPOSIT] * 100 + ['{"statement":"ann","site":0}'] * 100
+        self.assertEqual(rbbank.script("\n".join(lines)).count("\n"), 200)
+
+    def test_audit_and_migrate(self):
+        history = CONFIG + '\n{"event":{"balance":"ann"},"reply":{"balance":0},"site":1}\n'
+        self.assertEqual(rbbank.audit(history), (True, '{"order":[1]}'))
+        wrong = rbbank.audit(history.replace(":0},", ":7},"))
+        self.assertEqual(wrong, (False, '{"event":1,"fault":"reply","site":1}'))
+        self.assertTrue(rbbank.migrate(history).split("\n")[0].endswith('"version":2}'))
+
+
+def load_tests(_loader, tests, _pattern):
+    tests.addTests(doctest.DocTestSuite(rbbank))
+    return tests
+
+
+if __name__ == "__main__":
+    unittest.main()
