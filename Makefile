@@ -58,6 +58,7 @@ test: toolchain
 	tests/closure.py --check
 	tests/wrong_bodies.py --check
 	tests/plain_words.py --check
+	bindings/declarations.py --check
 	rt ci
 	@examples/bank.py --record crates/rbbank/out/rbbank
 	@examples/check.py --quiet crates/rbbank/out/rbbank
