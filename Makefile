@@ -1,4 +1,4 @@
-.PHONY: help demo try build install test toolchain check examples bench refuse wrong-bodies crash broker
+.PHONY: help demo try build install test toolchain check examples bench bindings refuse wrong-bodies crash broker
 
 help:
 	@echo 'At once:'
@@ -12,6 +12,8 @@ help:
 	@echo '                     copies the program, its manual page and completions for three shells, after make build'
 	@echo '  make examples      every example, and every case of tests/cases, through the program, after make build'
 	@echo '  make test          the gate; about an hour; with kit 13f half a minute where nothing changed since (docs/GATE.md)'
+	@echo '  make bindings      the library for C, Rust and Python (bindings/), their tests, and the shop of examples/shop;'
+	@echo '                     wants gcc or clang, and cargo'
 	@echo
 	@echo 'While you change something:'
 	@echo '  make check         proves every crate, over what earlier checks kept'
@@ -51,6 +53,12 @@ examples: build
 	@tests/cases.py crates/rbbank/out/rbbank
 	@examples/from_help.py --check crates/rbbank/out/rbbank
 	@tests/sites.py crates/rbbank/out/rbbank
+
+# The library in bindings/out, its tests in each language, the same answers by each of them, and the shop. What is
+# missing is said, and ends it in a status.
+bindings: build
+	@bindings/build.py
+	@bindings/check.py crates/rbbank/out/rbbank
 
 # The gate. The last line is 'N passed, 0 failed', or an example or a case that is answered otherwise.
 test: toolchain

@@ -1,0 +1,265 @@
+#!/usr/bin/env python3
+"""The library from C, Rust and Python: the tests of each, and whether each answers as the program does.
+
+usage: check.py [--quiet] PROGRAM      (--quiet prints only what is different)
+
+Every script, histories, migration and site of examples/ goes through the three, whole and by handles, and what they
+write, their status and the journal are compared with what examples/ has, byte for byte. 10,000 odd lines, valid and
+broken, always the same, go through C under AddressSanitizer (and some under valgrind, where it is there): those that
+are taken have to be answered as PROGRAM answers them, and those that aren't have to be bad lines to PROGRAM.
+It wants what build.py makes. Where a compiler is missing, it says so and ends in status 1.
+"""
+import concurrent.futures
+import glob
+import os
+import random
+import re
+import shutil
+import subprocess
+import sys
+import tempfile
+
+sys.dont_write_bytecode = True
+import build
+
+HERE = os.path.dirname(os.path.abspath(__file__))
+ROOT = os.path.dirname(HERE)
+EXAMPLES = os.path.join(ROOT, "examples")
+sys.path.insert(1, os.path.join(ROOT, "bench"))
+import odd_lines
+
+LINES, SEED = 10_000, 31
+UNDER_VALGRIND = 300  # odd lines, since it takes a hundred times as long
+ENVIRONMENT = os.environ | {
+    "RBBANK_LIB": build.OUT, "CARGO_TARGET_DIR": os.path.join(build.OUT, "cargo"), "PYTHONDONTWRITEBYTECODE": "1",
+    "ASAN_OPTIONS": "detect_leaks=1:abort_on_error=0:exitcode=86",
+}
+WORDS = {"histories": "audit", "migration": "migrate", "site": "site"}
+
+
+def run(words, given=b"", folder=None):
+    """What a command writes, its errors and its status."""
+    done = subprocess.run(words, input=given, capture_output=True, cwd=folder, env=ENVIRONMENT, timeout=600)
+    return done.stdout, done.stderr, done.returncode
+
+
+def stored(path, otherwise=b""):
+    """What a file has, where it is there."""
+    if not os.path.exists(path):
+        return otherwise
+    with open(path, "rb") as file:
+        return file.read()
+
+
+# ---- the tests and the rows, by each language
+
+def compiled(name, *flags):
+    """A program of bindings/c, linked with the library, or None where the compiler refuses it."""
+    out = os.path.join(build.OUT, "-".join([name, *(flag.strip("-").replace("=", "-") for flag in flags)]))
+    strict = ["-std=c11", "-D_DEFAULT_SOURCE", "-Wall", "-Wextra", "-Wpedantic", "-Werror", "-O1", "-g"]
+    source = os.path.join(HERE, "c", name + ".c")
+    _, errors, status = run([build.c_compiler(), *strict, *flags, "-o", out, source, build.STATIC])
+    if status != 0:
+        print(errors.decode(), file=sys.stderr)
+        return None
+    return out
+
+
+def of_c():
+    """The words that run the rows, and the tests: each with whether it passes."""
+    yield "C, test.c", passes([compiled("test")])
+    yield "C, test.c under AddressSanitizer", passes([compiled("test", "-fsanitize=address")])
+    yield "C, example.c", example()
+
+
+def example():
+    """Whether the example prints what the bank and the site answer, and leaves the journal that the site has."""
+    program = compiled("example")
+    if program is None:
+        return False
+    with tempfile.TemporaryDirectory() as folder:
+        journal = os.path.join(folder, "journal")
+        found = run([program, journal])
+        kept = stored(journal)
+    site = stored(os.path.join(EXAMPLES, "site_deposit.site.expected")).splitlines(keepends=True)[0]
+    entry = stored(os.path.join(EXAMPLES, "site_deposit.site.journal")).splitlines(keepends=True)[1]
+    replies = b'{"kind":"deposit","name":"B0.1"}\n{"held":"B0.1"}\n{"applied":"B0.1"}\n{"balance":500}\n'
+    return found == (replies + site, b"", 0) and kept.splitlines(keepends=True)[1:] == [entry]
+
+
+def of_rust():
+    crate = os.path.join(HERE, "rust")
+    yield "Rust, tests and documentation", passes(["cargo", "test", "--offline", "--quiet"], crate)
+    yield "Rust, no warning", passes(["cargo", "build", "--offline", "--quiet", "--all-targets"], crate, quiet=True)
+
+
+def of_python():
+    folder = os.path.join(HERE, "python")
+    yield "Python, tests and documentation", passes([sys.executable, "test_rbbank.py"], folder)
+
+
+def passes(words, folder=None, quiet=False):
+    """Whether a command ends in 0, and with `quiet` says nothing. What it says is printed where it doesn't."""
+    if words[0] is None:
+        return False
+    out, errors, status = run(words, folder=folder)
+    fine = status == 0 and not (quiet and errors)
+    if not fine:
+        print((out + errors).decode("utf-8", "replace"), file=sys.stderr)
+    return fine
+
+
+def rows_of_rust():
+    words = ["cargo", "build", "--offline", "--quiet", "--release", "--example", "rows"]
+    fine = passes(words, os.path.join(HERE, "rust"))
+    return [os.path.join(build.OUT, "cargo", "release", "examples", "rows")] if fine else [None]
+
+
+# Each language: what has to be there, its tests, and the words that run its rows.
+LANGUAGES = {
+    "C": (build.c_compiler, of_c, lambda: [compiled("rows")]),
+    "Rust": (lambda: shutil.which("cargo"), of_rust, rows_of_rust),
+    "Python": (lambda: sys.executable, of_python, lambda: [sys.executable, os.path.join(HERE, "python", "rows.py")]),
+}
+NEEDS = {"C": "C compiler", "Rust": "cargo", "Python": "Python"}
+
+
+def fault_of(text):
+    """A line on standard error, whose kind of bad line the library's caller doesn't know."""
+    return re.sub(rb"(?m)^(rbbank: line \d+): .*$", rb"\1", text)
+
+
+def row(rows, path, word):
+    """Whether an example is answered as it is stored, and its journal is what it has to be."""
+    stem = path.removesuffix(".jsonl")
+    before = stored(stem + ".before", None)
+    with tempfile.TemporaryDirectory() as folder:
+        journal = os.path.join(folder, "journal")
+        if before is not None:
+            with open(journal, "wb") as file:
+                file.write(before)
+        more = [*stored(stem + ".words").decode().split(), "--journal", journal] if word == "site" else []
+        found = run([*rows, word, *more], stored(path))
+        after = stored(journal, None)
+    wanted = stored(stem + ".expected"), fault_of(stored(stem + ".fault")), int(stored(stem + ".status", b"0"))
+    return found == wanted and after == stored(stem + ".journal", after)
+
+
+def same_rows(name, rows):
+    """Each example through the rows of a language."""
+    for path in sorted(glob.glob(os.path.join(EXAMPLES, "*.jsonl"))):
+        kind = WORDS.get(path.removesuffix(".jsonl").rpartition(".")[2], "script")
+        for word in ["script", "bank"] if kind == "script" else [kind]:
+            yield f"{name}, {word}: {os.path.basename(path)}", row(rows, path, word)
+
+
+# ---- odd lines, through C
+
+def odd_lines_of(form):
+    """Odd lines with no line feed in them, none blank."""
+    odd = odd_lines.Odd(SEED)
+    lines = []
+    while len(lines) < LINES:
+        odd.spaced = odd.one_in(4)
+        line = (odd.line() if form == "odd" else odd.spoilt(odd.event())).encode()
+        if line.strip() and b"\n" not in line:
+            lines.append(line)
+    return lines
+
+
+def sorted_out(out, lines):
+    """The answers to the lines that were taken, these lines, and the bad ones. None where a status is another."""
+    answers, taken, bad = [], [], []
+    left = iter(out.splitlines(keepends=True))
+    for line, status in zip(lines, left):
+        if status not in (b"0\n", b"2\n"):
+            return None
+        if status == b"0\n":
+            answers.append(next(left, b""))
+        (taken if status == b"0\n" else bad).append(line)
+    return (answers, taken, bad) if len(taken) + len(bad) == len(lines) and next(left, None) is None else None
+
+
+class Program:
+    """The built program, for the same lines."""
+
+    def __init__(self, path):
+        self.path = path
+
+    def answer(self, form, lines):
+        if form == "odd":
+            return run([self.path, "script"], b"".join(line + b"\n" for line in [odd_lines.CONFIG[:-1], *lines]))
+        with tempfile.TemporaryDirectory() as folder:
+            words = [self.path, "site", "--me", "0", "--journal", os.path.join(folder, "journal")]
+            return run(words, b"".join(line + b"\n" for line in [odd_lines.CONFIG[:-1], *lines]))
+
+    def is_bad(self, form, line):
+        return self.answer(form, [line]) == (b"", b"rbbank: line 2: bad line\n", 2)
+
+
+def odd(program, form):
+    """Odd lines through C under AddressSanitizer, beside the program."""
+    rows, lines = compiled("rows", "-fsanitize=address"), odd_lines_of(form)
+    given = b"".join(line + b"\n" for line in [odd_lines.CONFIG[:-1], *lines])
+    out, errors, status = run([rows, form], given) if rows else (b"", b"", None)
+    if errors:
+        print(errors.decode("utf-8", "replace")[:3000], file=sys.stderr)
+    found = sorted_out(out, lines)
+    yield f"C, {LINES:,} lines by {form} under AddressSanitizer", (errors, status) == (b"", 0) and found is not None
+    if found is None:
+        return
+    answers, taken, bad = found
+    same = program.answer(form, taken) == (b"".join(answers), b"", 0)
+    yield f"... {len(taken):,} taken, answered as by the program", same and len(taken) > LINES // 4
+    # A site's journal takes its time, so of its bad lines some are tried.
+    tried = bad if form == "odd" else random.Random(SEED).sample(bad, min(len(bad), 300))
+    with concurrent.futures.ThreadPoolExecutor(os.cpu_count()) as pool:
+        fine = all(pool.map(lambda line: program.is_bad(form, line), tried))
+    yield f"... {len(bad):,} bad ones, of which {len(tried):,} are bad to the program", fine and len(bad) > LINES // 50
+    if shutil.which("valgrind"):
+        words = ["valgrind", "--quiet", "--error-exitcode=9", "--leak-check=full", compiled("rows"), form]
+        some = run(words, b"".join(given.splitlines(keepends=True)[:UNDER_VALGRIND + 1]))
+        yield f"C, {UNDER_VALGRIND} of them under valgrind", some[1:] == (b"", 0) and out.startswith(some[0])
+
+
+def shop():
+    yield "the shop of examples/shop", passes([sys.executable, os.path.join(EXAMPLES, "shop", "run.py"), "--quiet"])
+
+
+def results(program):
+    """Each case with whether it is as wanted, None for what isn't tested."""
+    words = [sys.executable, os.path.join(HERE, "declarations.py"), "--check"]
+    yield "declarations and exports", passes(words)
+    for name, (needed, tests, rows) in LANGUAGES.items():
+        if needed() is None:
+            yield f"no {NEEDS[name]} on PATH, so nothing of {name} is tested", None
+            continue
+        yield from tests()
+        words = rows()
+        yield from same_rows(name, words) if words[0] else [(f"{name}, rows", False)]
+    if build.c_compiler():
+        for form in ["odd", "odd-site"]:
+            yield from odd(Program(program), form)
+    yield from shop()
+
+
+def main():
+    words = [word for word in sys.argv[1:] if word != "--quiet"]
+    if len(words) != 1 or words[0].startswith("-"):
+        print(__doc__)
+        return 0 if words in (["--help"], ["-h"]) else 2
+    if not os.access(words[0], os.X_OK) or os.path.isdir(words[0]):
+        sys.exit(f"check.py: {words[0]}: no program")
+    if not os.path.exists(build.SHARED):
+        sys.exit("check.py: there is no library yet: bindings/build.py")
+    fine, count = True, 0
+    for name, same in results(os.path.abspath(words[0])):
+        fine, count = bool(fine and same), count + bool(same)
+        if not same or "--quiet" not in sys.argv:
+            print({True: "same     ", False: "DIFFERENT", None: "SKIPPED  "}[same], name, flush=True)
+    print(f"bindings: {count} as wanted" + ("" if fine else ", not all"))
+    return 0 if fine else 1
+
+
+if __name__ == "__main__":
+    sys.exit(main())
