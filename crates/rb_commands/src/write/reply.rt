@@ -5,7 +5,8 @@ ghost use Rattle.rb_commands.specs.Adds.{Adds};
 ghost use Rattle.rb_commands.specs.Replies.{line, reply_json, made_json};
 ghost use Rattle.rb_commands.specs.Values.{name_json, list_json, one_json};
 
-use crate::write::append::{append, append_named, append_number, append_three};
+use crate::write::append::{append, append_named, append_number};
+use crate::write::piece::Piece;
 use crate::write::refusal::append_refusal;
 use crate::write::statement::append_statement;
 use rb_shadow::{Label, OpName};
@@ -16,8 +17,13 @@ use std::alloc::{AllocError, Global};
 fn append_made(out: &mut Vec<u8>, name: OpName, kind: Label) -> Result<(), AllocError>
     ensures { Adds result out.old.items out.new.items (compact_text (made_json name kind)) }
 {
-    append_three(out, "{\"kind\":\"", kind.word(), "\",\"name\":")?;
-    append_named(out, "", name, "}")
+    let mut piece = Piece::new();
+    piece.text("}");
+    piece.name(name);
+    piece.text("\",\"name\":");
+    piece.text(kind.word());
+    piece.text("{\"kind\":\"");
+    piece.append_to(out)
 }
 
 /// A name, behind a text.

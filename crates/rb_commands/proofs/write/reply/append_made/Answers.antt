@@ -1,8 +1,7 @@
-use Rattle.std.proofs.Common.{◌≡◌, ◌++◌, codes, append_assoc, ap, ◌∙◌, sym, List, ℕ}
+use Rattle.std.proofs.Common.{◌≡◌, ◌++◌, codes, append_assoc, ap, ◌∙◌, sym, refl, List, ℕ}
 use Rattle.json.specs.Print.{escape_byte, quoted}
 use Rattle.rb_shadow.specs.NameText.{name_text}
 use Rattle.rb_shadow.specs.Labels.{word_of}
-use Rattle.rb_commands.proofs.Public.Appended.{then}
 use Rattle.rb_commands.proofs.Public.Plain.{quoted_label}
 use Rattle.rb_commands.proofs.write.reply.append_made.Goals as goal
 
@@ -10,8 +9,11 @@ use Rattle.rb_commands.proofs.write.reply.append_made.Goals as goal
 abbrev made_with : List ℕ → List ℕ → List ℕ
 made_with label name = codes "{\"kind\":" ++ (label ++ (codes ",\"name\":" ++ (name ++ codes "}")))
 
-made_text : (label name : List ℕ) → (codes "{\"kind\":\"" ++ (label ++ codes "\",\"name\":")) ++ (name ++ codes "}")
-    ≡ made_with (codes "\"" ++ (label ++ codes "\"")) name
+-- the same, piece by piece
+abbrev made_by : List ℕ → List ℕ → List ℕ
+made_by label name = codes "{\"kind\":\"" ++ (label ++ (codes "\",\"name\":" ++ (name ++ codes "}")))
+
+made_text : (label name : List ℕ) → made_by label name ≡ made_with (codes "\"" ++ (label ++ codes "\"")) name
 made_text label name = simp append_assoc
 
 pub returns : goal.returns
@@ -19,7 +21,14 @@ unfolding escape_byte
 returns c =
     let label = word_of c.args.kind in
     let name = quoted (name_text c.args.name) in
-    let first = rw c.word.ensures at c.in_ok-append_three.ensures in
-    let same = made_text label name ∙ ap (λ l. made_with l name) (sym (quoted_label c.args.kind)) in
-    then c.append_named.result c.args.out.now.items c.append_three.new.out.items c.append_named.new.out.items
-    (codes "{\"kind\":\"" ++ (label ++ codes "\",\"name\":")) (name ++ codes "}") _ first c.append_named.ensures same
+    let built : c.text-4.new.self ≡ made_by label name = rw (
+      c.text-4.ensures,
+      c.text-3.ensures,
+      c.word.ensures,
+      c.text-2.ensures,
+      c.name.ensures.text,
+      c.text.ensures,
+      c.new-piece.ensures,
+    ) refl in
+    let same = built ∙ made_text label name ∙ ap (λ l. made_with l name) (sym (quoted_label c.args.kind)) in
+    rw same at c.append_to.ensures
