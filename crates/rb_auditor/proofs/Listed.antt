@@ -1,7 +1,8 @@
 -- Where messages are listed.
 use Rattle.std.proofs.Common.{◌≡◌, ℕ, zero, suc, ◌+◌, ◌<◌, List, [], ◌∷◌, ◌++◌, length, take, refl, ap, sym, subst, ◌∙◌, ◌⊎◌, inl, inr}
 use Rattle.std.proofs.Common.{arith, length-append, Some, IsTrue, Bool, true, false, append_assoc, Vec, get_or}
-use Rattle.std.specs.Prelude.{slice_get, slice_set}
+use Rattle.std.specs.Borrow.{Bor}
+use Rattle.std.specs.Prelude.{map, slice_get, slice_set}
 use Rattle.std.specs.Option.{option_map}
 use Rattle.std.proofs.lemmas.List.{length-take-le, take_more}
 use Rattle.std.proofs.lemmas.Option.{slice_get-map, slice_get_read}
@@ -12,6 +13,10 @@ use Rattle.rb_site.proofs.Public.Places.{same_number}
 use Rattle.rb_site.proofs.Public.Lists.{get_front}
 use Rattle.rb_auditor.specs.Sent.{AreListed, IsListed, row_of_message, slot_of}
 use Rattle.rb_auditor.proofs.Lists
+
+-- the messages that are kept elsewhere
+abbrev pub read : List (Bor Message) → List Message
+read ms = map (λ m. m.now) ms
 
 -- a row of the rows
 pub row_at : {X Z : Type 0} (rows : List (Vec X Z)) (r : ℕ) (v : Vec X Z) → r < length rows → v ≡ get_or rows r v

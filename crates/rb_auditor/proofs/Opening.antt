@@ -1,6 +1,6 @@
 -- Histories that are replayed one after another, before any entry is taken.
 use Rattle.std.proofs.Common.{◌≡◌, ℕ, ◌+◌, ◌-◌, ◌<◌, List, [], ◌∷◌, ◌++◌, length, take, ap, sym, subst, ◌∙◌, inl, inr, arith, Some}
-use Rattle.std.specs.Prelude.{replicate, slice_get}
+use Rattle.std.specs.Prelude.{slice_get}
 use Rattle.rb_money.specs.Settings.{Settings}
 use Rattle.rb_site.specs.declared.entry.Entry.{Entry}
 use Rattle.rb_site.specs.declared.message.Message.{Message}
@@ -10,7 +10,7 @@ use Rattle.rb_site.proofs.Public.Places.{same_number}
 use Rattle.rb_auditor.specs.declared.audit_fault.AuditFault.{AuditFault}
 use Rattle.rb_auditor.specs.declared.audit_fault.AuditFault.TheVariants.{WrongReply, Stuck, OutOfMemory}
 use Rattle.rb_auditor.specs.Findings.{IsReplay}
-use Rattle.rb_auditor.specs.Progress.{IsWrongFound, Progress, first_progress}
+use Rattle.rb_auditor.specs.Progress.{IsWrongFound}
 use Rattle.rb_auditor.specs.Replays.{IsWrongIn, sends_by}
 use Rattle.rb_auditor.proofs.Listed
 use Rattle.rb_auditor.proofs.Lists
@@ -60,16 +60,3 @@ sends_more s hs ss place h ms n at is old i g less there = elim (same_number pla
       Listed.get_end ss i ms (n ∙ sym e) ∙ ap Some here
   | inr ne ↦ get_front ss (ms ∷ []) i (sends_by s (first_site i) g) (old i g (let q : i < place + 1 = less in omega (arith, ne)) there)
 ]
-
--- nothing was taken yet
-pub started : (s : Settings) (hs : List (List Entry)) (order taken : List ℕ) (messages : List Message)
-    → order ≡ [] → taken ≡ replicate (length hs) 0 → messages ≡ []
-    → first_progress s hs ≡ record { settings = s; histories = hs; order = order; taken = taken; messages = messages }
-started s hs order taken messages e f g =
-    ap (λ o. at_first o none []) (sym e) ∙ ap (λ t. at_first order t []) (sym f) ∙ ap (at_first order taken) (sym g)
-  where
-    none : List ℕ
-    none = replicate (length hs) 0
-
-    at_first : List ℕ → List ℕ → List Message → Progress
-    at_first o t ms = record { settings = s; histories = hs; order = o; taken = t; messages = ms }

@@ -4,6 +4,7 @@ ghost use Rattle.rb_auditor.specs.Certificates.{Certifies};
 ghost use Rattle.rb_auditor.specs.Findings.{IsFound, Refutes, lists_of};
 ghost use Rattle.rb_auditor.specs.Progress.{AllRest, IsFurther, Rests};
 
+use crate::replay::replay_all;
 use crate::taking::Taking;
 use crate::{AuditFault, Certificate};
 use rb_money::Config;
@@ -25,9 +26,12 @@ pub fn audit(
     ensures found { IfErr result (IsFound config.now (lists_of histories.now)) }
     ensures refuted { IfErr result (Refutes config.now (lists_of histories.now)) }
 {
-    let mut taking = match Taking::open(alloc, config, histories) {
-        Ok(taking) => taking,
+    let sends = match replay_all(alloc, config, histories) {
+        Ok(sends) => sends,
         Err(fault) => return Err(fault),
+    };
+    let Ok(mut taking) = Taking::open(alloc, config, histories, sends.as_slice()) else {
+        return Err(AuditFault::OutOfMemory);
     };
     let Ok(()) = take_all(&mut taking) else {
         return Err(AuditFault::OutOfMemory);

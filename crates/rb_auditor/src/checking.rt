@@ -4,6 +4,7 @@ ghost use Rattle.rb_auditor.specs.Progress.{first_progress};
 ghost use Rattle.rb_auditor.specs.Certificates.{Certifies};
 ghost use Rattle.rb_auditor.specs.Findings.{lists_of};
 
+use crate::replay::replay_all;
 use crate::taking::Taking;
 use crate::{AuditFault, Certificate};
 use rb_money::Config;
@@ -22,8 +23,11 @@ pub fn check(
     if histories.len() != config.sites() as usize {
         return Ok(false);
     }
-    match Taking::open(alloc, config, histories) {
-        Ok(mut taking) => follow(&mut taking, certificate.as_slice()),
+    match replay_all(alloc, config, histories) {
+        Ok(sends) => {
+            let mut taking = Taking::open(alloc, config, histories, sends.as_slice())?;
+            follow(&mut taking, certificate.as_slice())
+        }
         Err(AuditFault::WrongReply { site: _, event: _ }) => Ok(false),
         Err(AuditFault::Stuck { next: _ }) => Ok(false),
         Err(AuditFault::OutOfMemory) => Err(AllocError),

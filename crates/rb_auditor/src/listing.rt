@@ -1,5 +1,5 @@
 //! Where messages are listed, by their numbers.
-ghost use Rattle.std.specs.Prelude.{◌≡◌, ◌↔◌, ℕ, List, Some, IsTrue, OnOk, slice_get};
+ghost use Rattle.std.specs.Prelude.{◌≡◌, ◌↔◌, ℕ, List, Some, IsTrue, OnOk, map, slice_get};
 ghost use Rattle.rb_site.specs.declared.message.Message.{Message as TheMessage};
 ghost use Rattle.rb_site.specs.Histories.{IsAmong};
 ghost use Rattle.rb_auditor.specs.Findings.{lists_of};
@@ -10,8 +10,8 @@ use rb_site::Message;
 use std::alloc::AllocError;
 
 /// Whether the message is at this position.
-pub fn is_at(messages: &[Message], position: usize, message: &Message) -> bool
-    ensures { IsTrue result ↔ (slice_get messages.now position ≡ Some message.now) }
+pub fn is_at(messages: &[&Message], position: usize, message: &Message) -> bool
+    ensures { IsTrue result ↔ (slice_get (map (λ m. m.now) messages.now) position ≡ Some message.now) }
 {
     match messages.get(position) {
         Some(known) => known.same(message),
@@ -20,12 +20,12 @@ pub fn is_at(messages: &[Message], position: usize, message: &Message) -> bool
 }
 
 /// Whether the message is at the position that is listed for its number.
-pub fn is_in_row(messages: &[Message], rows: &[Vec<usize>], message: &Message) -> bool
-    ensures known { IsTrue result → IsAmong message.now messages.now }
+pub fn is_in_row(messages: &[&Message], rows: &[Vec<usize>], message: &Message) -> bool
+    ensures known { IsTrue result → IsAmong message.now (map (λ m. m.now) messages.now) }
     ensures found { (positions : List ℕ) (position : ℕ)
         → slice_get (lists_of rows.now) (row_of_message message.now) ≡ Some positions
         → slice_get positions (slot_of message.now) ≡ Some position
-        → slice_get messages.now position ≡ Some message.now → IsTrue result }
+        → slice_get (map (λ m. m.now) messages.now) position ≡ Some message.now → IsTrue result }
 {
     match rows.get(row(message)) {
         Some(positions) => match positions.get(slot(message)) {
@@ -37,10 +37,10 @@ pub fn is_in_row(messages: &[Message], rows: &[Vec<usize>], message: &Message) -
 }
 
 /// Whether the message is at one of these positions.
-pub fn is_at_one(messages: &[Message], positions: &[usize], message: &Message) -> bool
-    ensures known { IsTrue result → IsAmong message.now messages.now }
+pub fn is_at_one(messages: &[&Message], positions: &[usize], message: &Message) -> bool
+    ensures known { IsTrue result → IsAmong message.now (map (λ m. m.now) messages.now) }
     ensures found { (k position : ℕ) → slice_get positions.now k ≡ Some position
-        → slice_get messages.now position ≡ Some message.now → IsTrue result }
+        → slice_get (map (λ m. m.now) messages.now) position ≡ Some message.now → IsTrue result }
 {
     for position in positions {
         if is_at(messages, *position, message) {

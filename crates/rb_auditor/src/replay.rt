@@ -1,25 +1,47 @@
 //! Histories, replayed by their sites.
-ghost use Rattle.std.specs.Prelude.{◌≡◌, ◌<◌, ◌++◌, ◌∷◌, [], IfOk, IfErr, MatchBool};
+ghost use Rattle.std.specs.Prelude.{◌≡◌, ◌<◌, ◌++◌, ◌∷◌, [], IfOk, IfErr, MatchBool, length};
 ghost use Rattle.rb_money.specs.Settings.{IsConfigured};
 ghost use Rattle.rb_site.specs.Events.{first_site};
 ghost use Rattle.rb_site.specs.Seen.{IsReplayed, first_seen};
-ghost use Rattle.rb_auditor.specs.Findings.{IsReplay};
+ghost use Rattle.rb_auditor.specs.Findings.{IsReplay, lists_of};
+ghost use Rattle.rb_auditor.specs.Progress.{AreSends, IsTaking, IsWrongFound, first_progress};
 ghost use Rattle.rb_auditor.specs.Replays.{RecordsEntry, IsWrongIn, sends_by, seen_at};
 
 use crate::AuditFault;
 use crate::sends::Sends;
 use rb_money::Config;
-use rb_site::{Entry, ErasedEntry, Message, Site};
+use rb_site::{Entry, ErasedEntry, History, Message, Site};
 use std::alloc::{AllocError, Global};
+
+/// What each entry of each history sends, one history for each site, if these record them all. They are replayed from
+/// site 0 on. Else `WrongReply`, or `OutOfMemory`.
+pub fn replay_all(
+    alloc: Global,
+    config: &Config,
+    histories: &[History],
+) -> Result<Vec<Sends>, AuditFault>
+    requires { length histories.now ≡ config.now.sites }
+    ensures replays { IfOk result (λ _. IsTaking (first_progress config.now (lists_of histories.now))) }
+    ensures sends { IfOk result (λ sends. AreSends config.now (lists_of histories.now) sends.items) }
+    ensures wrong { IfErr result (IsWrongFound config.now (lists_of histories.now)) }
+{
+    let sites = config.sites();
+    let mut sends = Vec::new(alloc);
+    if sends.reserve(sites as usize).is_err() {
+        return Err(AuditFault::OutOfMemory);
+    }
+    for site in 0..sites {
+        match replay(alloc, config, site, histories[site as usize].as_slice()) {
+            Ok(posted) => sends.push_reserved(posted),
+            Err(fault) => return Err(fault),
+        }
+    }
+    Ok(sends)
+}
 
 /// What each entry of a history sends, if the site of this number records them all. Else `WrongReply`, or
 /// `OutOfMemory`.
-pub fn replay(
-    alloc: Global,
-    config: &Config,
-    me: u8,
-    history: &[Entry],
-) -> Result<Sends, AuditFault>
+fn replay(alloc: Global, config: &Config, me: u8, history: &[Entry]) -> Result<Sends, AuditFault>
     requires me { me < config.now.sites }
     requires configured { IsConfigured config.now }
     ensures replays { IfOk result (λ sends. IsReplay config.now me history.now) }

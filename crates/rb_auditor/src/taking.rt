@@ -1,14 +1,12 @@
 //! Entries of histories, taken one after another.
-ghost use Rattle.std.specs.Prelude.{◌≡◌, ◌+◌, ◌<◌, ◌↔◌, IsTrue, IfOk, IfErr, OnErr, MatchBool, length, map};
+ghost use Rattle.std.specs.Prelude.{◌≡◌, ◌+◌, ◌<◌, ◌↔◌, IsTrue, IfOk, OnErr, MatchBool, length, map};
 ghost use Rattle.rb_auditor.specs.Findings.{lists_of};
 ghost use Rattle.rb_site.specs.Histories.{IsFrom};
-ghost use Rattle.rb_auditor.specs.Progress.{IsDone, IsLeft, IsTaking, IsWrongFound, Rests, Took};
-ghost use Rattle.rb_auditor.specs.Progress.{first_progress};
+ghost use Rattle.rb_auditor.specs.Progress.{AreSends, IsDone, IsLeft, IsTaking, Rests, Took, first_progress};
 
-use crate::replay::replay;
+use crate::Certificate;
 use crate::sends::Sends;
 use crate::sent::Sent;
-use crate::{AuditFault, Certificate};
 use rb_money::Config;
 use rb_site::{Event, History};
 use std::alloc::{AllocError, Global};
@@ -21,12 +19,12 @@ pub struct Taking<'a> {
     config: &'a Config,
     histories: &'a [History],
     // What each entry of each history sends.
-    sends: Vec<Sends>,
+    sends: &'a [Sends],
     order: Vec<u8>,
     // How many entries of each history were taken.
     taken: Vec<usize>,
     // What these sent.
-    sent: Sent,
+    sent: Sent<'a>,
 }
 
 impl<'a> Model for Taking<'a> {
@@ -51,46 +49,34 @@ impl<'a> Model for Taking<'a> {
       taken = t.taken.items;
       messages = t.sent;
     })
-        × AreSends t.config.now (lists_of t.histories.now) t.sends.items
+        × AreSends t.config.now (lists_of t.histories.now) t.sends.now
         × IsConfigured t.config.now };
 }
 
 impl<'a> Taking<'a> {
-    /// Histories, one for each site, of which no entry is taken yet. Each is replayed, from site 0: the first
-    /// that doesn't replay is a `WrongReply`.
+    /// Histories, one for each site, which their sites record, and what each of their entries sends. No entry is
+    /// taken yet.
     pub fn open(
         alloc: Global,
         config: &'a Config,
         histories: &'a [History],
-    ) -> Result<Taking<'a>, AuditFault>
-        requires { length histories.now ≡ config.now.sites }
-        ensures ok { IfOk result (λ taking. taking ≡ first_progress config.now (lists_of histories.now)) }
-        ensures wrong { IfErr result (IsWrongFound config.now (lists_of histories.now)) }
+        sends: &'a [Sends],
+    ) -> Result<Taking<'a>, AllocError>
+        requires replayed { IsTaking (first_progress config.now (lists_of histories.now)) }
+        requires sends { AreSends config.now (lists_of histories.now) sends.now }
+        ensures { IfOk result (λ taking. taking ≡ first_progress config.now (lists_of histories.now)) }
     {
-        let sites = config.sites();
-        let mut sends = Vec::new(alloc);
+        let sent = Sent::new(alloc, config.sites())?;
         let mut taken = Vec::new(alloc);
-        if sends.reserve(sites as usize).is_err() || taken.reserve(sites as usize).is_err() {
-            return Err(AuditFault::OutOfMemory);
-        }
-        for site in 0..sites {
-            match replay(alloc, config, site, histories[site as usize].as_slice()) {
-                Ok(posted) => sends.push_reserved(posted),
-                Err(fault) => return Err(fault),
-            }
-            taken.push_reserved(0);
-        }
-        match Sent::new(alloc, sites) {
-            Ok(sent) => Ok(Taking {
-                config,
-                histories,
-                sends,
-                order: Vec::new(alloc),
-                taken,
-                sent,
-            }),
-            Err(_) => Err(AuditFault::OutOfMemory),
-        }
+        taken.resize(histories.len(), 0)?;
+        Ok(Taking {
+            config,
+            histories,
+            sends,
+            order: Vec::new(alloc),
+            taken,
+            sent,
+        })
     }
 
     /// Takes the next entry of a site, if one is left, and it isn't the receipt of a message that
@@ -110,7 +96,8 @@ impl<'a> Taking<'a> {
             return Ok(false);
         }
         self.order.reserve(1)?;
-        self.sent.add_all(self.sends[site].after(taken))?;
+        let sends = self.sends;
+        self.sent.add_all(sends[site].after(taken))?;
         self.taken[site] = taken + 1;
         self.order.push_reserved(site as u8);
         Ok(true)
@@ -165,7 +152,7 @@ impl<'a> Taking<'a> {
 }
 
 /// Whether the event is no receipt, or that of a message that was sent.
-fn may_come(sent: &Sent, event: &Event) -> bool
+fn may_come(sent: &Sent<'_>, event: &Event) -> bool
     ensures { IsTrue result ↔ IsFrom sent.now event.now }
 {
     match event {

@@ -13,17 +13,17 @@ returns-in-Err-clause-refuted c =
 pub returns-then-is_done-clause-certified : goal.returns-then-is_done-clause-certified
 returns-then-is_done-clause-certified c =
     Takings.certified_as c.take_all.new.taking c.args.config.now (lists_of c.args.histories.now) c.close.result
-    ((c.in-Ok-take_all.ensures.same).0 ∙ ap (λ (p : Progress). p.settings) c.in-Ok.ensures.ok)
-    ((c.in-Ok-take_all.ensures.same).1 ∙ ap (λ (p : Progress). p.histories) c.in-Ok.ensures.ok)
+    ((c.in-Ok-take_all.ensures.same).0 ∙ ap (λ (p : Progress). p.settings) c.in-Ok-open.ensures)
+    ((c.in-Ok-take_all.ensures.same).1 ∙ ap (λ (p : Progress). p.histories) c.in-Ok-open.ensures)
     c.close.ensures.order
     (Takings.all_certified c.take_all.new.taking c.is_done.ensures.taking c.if-is_done.ensures.done)
 
-stuck_at : (c : goal.After-drop-taking-inside-in-Ok-next-6)
+stuck_at : (c : goal.After-drop-sends-in-Ok-next)
     → IsStuckAt c.args.config.now (lists_of c.args.histories.now) c.in-Ok-next.next.items
 stuck_at c =
     Takings.stuck_as c.take_all.new.taking c.args.config.now (lists_of c.args.histories.now) c.in-Ok-next.next.items
-    ((c.in-Ok-take_all.ensures.same).0 ∙ ap (λ (p : Progress). p.settings) c.in-Ok.ensures.ok)
-    ((c.in-Ok-take_all.ensures.same).1 ∙ ap (λ (p : Progress). p.histories) c.in-Ok.ensures.ok)
+    ((c.in-Ok-take_all.ensures.same).0 ∙ ap (λ (p : Progress). p.settings) c.in-Ok-open.ensures)
+    ((c.in-Ok-take_all.ensures.same).1 ∙ ap (λ (p : Progress). p.histories) c.in-Ok-open.ensures)
     c.in-Ok-next.ensures
     c.is_done.ensures.taking c.in-Ok-take_all.ensures.rest c.if-is_done.ensures.done
 

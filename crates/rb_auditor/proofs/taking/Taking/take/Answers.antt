@@ -49,15 +49,15 @@ returns-then-not-may_come-clause-ok c =
           (λ come. Listed.not_false c.may_come.result c.if-not-may_come.true (c.may_come.ensures.1 come))),
     )
 
-pub index-requires : goal.index-requires
-index-requires c =
+pub bounds-sends-site : goal.bounds-sends-site
+bounds-sends-site c =
     let at : slice_get (lists_of c.self.inside.histories.now) c.args.site ≡ Some c.index-self-site.result.items =
     Counting.history_at _ c.args.self.now c.self.inside.histories.now c.args.site c.index-self-site.result c.self.view_is refl c.requires
     c.index-self-site.is in
-    let less : c.args.site < length c.self.inside.sends.items =
-    Sending.sends_long c.self.inside.config.now (lists_of c.self.inside.histories.now) c.self.inside.sends.items c.args.site
+    let less : c.args.site < length c.self.inside.sends.now =
+    Sending.sends_long c.self.inside.config.now (lists_of c.self.inside.histories.now) c.self.inside.sends.now c.args.site
     c.index-self-site.result.items c.self.invariant.1 at in
-    omega (arith, c.self.inside.sends.ok.0)
+    omega (arith, less)
 
 pub after-requires : goal.after-requires
 after-requires c =
@@ -67,9 +67,9 @@ after-requires c =
     let next : slice_get c.index-self-site.result.items c.index-taken.result.now ≡ Some c.in-Some.entry.now =
     entry_at c.deref.result.now c.index-self-site.result.items c.index-taken.result.now c.in-Some.entry.now (c.deref.ensures.value
     ∙ ap (λ (v : Vec Entry Global). v.items) (sym c.index-self-site.is)) (c.in-Some.ensures.lookup.3).0 c.in-Some.ensures.lookup.1 in
-    Sending.sends_long_at c.self.inside.config.now (lists_of c.self.inside.histories.now) c.self.inside.sends.items c.args.site
-    c.index-taken.result.now c.index-self-site.result.items c.in-Some.entry.now c.index.result.now c.self.invariant.1 at next
-    c.index.ensures
+    Sending.sends_long_at c.self.inside.config.now (lists_of c.self.inside.histories.now) c.self.inside.sends.now c.args.site
+    c.index-taken.result.now c.index-self-site.result.items c.in-Some.entry.now c.index-sends-site.result c.self.invariant.1 at next
+    c.index-sends-site.is
 
 -- the value with the entry taken
 abbrev new_progress : goal.After-push_reserved → Progress
@@ -104,9 +104,9 @@ took c =
     ≡ (taken_next (old_progress c) c.args.site c.index-taken.result.now c.index-self-site.result.items c.in-Some.entry.now).messages =
     c.in_ok-add_all.ensures.ok
     ∙ ap (λ ms. c.self.inside.sent ++ ms)
-    (Sending.sends_known c.self.inside.config.now (lists_of c.self.inside.histories.now) c.self.inside.sends.items c.args.site
-    c.index-taken.result.now c.index-self-site.result.items c.in-Some.entry.now c.index.result.now c.after.result.now
-    c.self.invariant.1 at next c.index.ensures c.after.ensures) in
+    (Sending.sends_known c.self.inside.config.now (lists_of c.self.inside.histories.now) c.self.inside.sends.now c.args.site
+    c.index-taken.result.now c.index-self-site.result.items c.in-Some.entry.now c.index-sends-site.result c.after.result.now
+    c.self.invariant.1 at next c.index-sends-site.is c.after.ensures) in
     record {
       taken = c.index-taken.result.now;
       history = c.index-self-site.result.items;

@@ -1,11 +1,11 @@
 -- So far the histories below replay.
 use Rattle.std.proofs.Common.{◌≡◌, ℕ, ◌<◌, ◌≤◌, List, Some, vec_len, vec_capacity}
-use Rattle.std.specs.Prelude.{replicate, slice_get}
+use Rattle.std.specs.Prelude.{slice_get}
 use Rattle.rb_site.specs.declared.entry.Entry.{Entry}
 use Rattle.rb_site.specs.Events.{first_site}
 use Rattle.rb_auditor.specs.Findings.{IsReplay, lists_of}
 use Rattle.rb_auditor.specs.Replays.{sends_by}
-use Rattle.rb_auditor.proofs.taking.Taking.open.Given as goal
+use Rattle.rb_auditor.proofs.replay.replay_all.Given as goal
 
 abbrev pub invariant-loop-site : goal.invariant-loop-site
 invariant-loop-site l = record {
@@ -13,8 +13,5 @@ invariant-loop-site l = record {
   sends_are : (i : ℕ) (h : List Entry) → i < l.site → slice_get (lists_of l.histories) i ≡ Some h
       → slice_get l.sends.items i ≡ Some (sends_by l.config (first_site i) h);
   sends_len : vec_len l.sends ≡ l.site;
-  none_taken : l.taken.items ≡ replicate l.site 0;
-  taken_len : vec_len l.taken ≡ l.site;
   room : l.sites ≤ vec_capacity l.sends;
-  taken_room : l.sites ≤ vec_capacity l.taken;
 }
