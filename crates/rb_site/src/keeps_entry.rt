@@ -42,6 +42,19 @@ pub struct ErasedEntry {
     reply: Erased<Reply>,
 }
 
+impl ErasedEntry {
+    /// Nothing but the knowledge of an event and its reply.
+    pub(crate) fn of(event: &Event, reply: &Reply) -> ErasedEntry
+        ensures event { result.event.value ≡ event.now }
+        ensures reply { result.reply.value ≡ reply.now }
+    {
+        ErasedEntry {
+            event: Erased::of(event),
+            reply: Erased::of(reply),
+        }
+    }
+}
+
 impl KeepsEntry for ErasedEntry {
     ghost entry = { λ x. record { event = x.event.value; reply = x.reply.value } };
 
@@ -50,9 +63,6 @@ impl KeepsEntry for ErasedEntry {
     const KEEPS: bool = false;
 
     fn note(event: Event, reply: &Reply, _noted: Option<Reply>) -> ErasedEntry {
-        ErasedEntry {
-            event: Erased::of(&event),
-            reply: Erased::of(reply),
-        }
+        ErasedEntry::of(&event, reply)
     }
 }
