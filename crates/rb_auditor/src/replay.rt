@@ -78,7 +78,7 @@ fn note_all(
     }
     ends.push_reserved(0);
     for (k, entry) in history.iter().enumerate() {
-        let Ok(noted) = note(alloc, site, entry, &mut messages) else {
+        let Ok(noted) = note(site, entry, &mut messages) else {
             return Err(AuditFault::OutOfMemory);
         };
         if !noted {
@@ -94,7 +94,6 @@ fn note_all(
 
 /// Whether the site records the entry. What it sends goes to the end of the messages.
 fn note(
-    alloc: Global,
     site: &mut Site<ErasedEntry>,
     entry: &Entry,
     messages: &mut Vec<Message>,
@@ -107,7 +106,6 @@ fn note(
     if site.is_full() {
         return Ok(false);
     }
-    let event = entry.event.try_copy(alloc)?;
-    let reply = site.record(event, messages)?;
+    let reply = site.record_read(&entry.event, messages)?;
     Ok(reply.same(&entry.reply))
 }
