@@ -3,3 +3,4 @@ mod Ends
 mod Crash
 mod RunLemmas
 mod Output
+mod Silent

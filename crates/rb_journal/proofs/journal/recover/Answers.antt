@@ -2,143 +2,73 @@ use Rattle.std.proofs.Common.{◌≡◌, ℕ, List, [], ◌∷◌, ◌++◌, len
 use Rattle.std.specs.List.{concat}
 use Rattle.rb_journal.specs.Host.{Torn, Cut}
 use Rattle.rb_journal.specs.Lines.{recovered}
-use Rattle.rb_journal.specs.Journal.{IsLeftAs}
-use Rattle.rb_journal.proofs.Public.Moments.{started, goes_on}
+use Rattle.rb_journal.proofs.Silent.{Keeps, first_call, called, synced}
 use Rattle.rb_journal.proofs.Ends.{written_at_end}
 use Rattle.rb_journal.proofs.Crash.{cut_keeps, cut_done, torn_end, recovered-at_rest}
+use Rattle.rb_journal.proofs.journal.recover.Given.{Over}
+use Rattle.rb_journal.proofs.journal.recover.Goals.{After-cut, After-sync, In_ok-cut, After-write_at, After-sync-2}
 use Rattle.rb_journal.proofs.journal.recover.Goals as goal
 
-pub returns-in_err-cut-clause-any_moment : goal.returns-in_err-cut-clause-any_moment
-returns-in_err-cut-clause-any_moment g c =
+-- the cut keeps the lines
+cut : (g : Over) (c : goal.After-cut g) → Keeps g.H.Host.moment g.H.Host.left_since g.H.Host.may_leave g.H.Host.output
+    (λ f. recovered f ≡ recovered c.args.bytes.now) c.args.host.now c.cut.new.self
+cut g c =
     let bytes = c.args.bytes.now in
-    let end = c.end_of_lines-end.ensures.length in
-    let P = IsLeftAs (recovered bytes) (g.H.Host.output c.args.host.now) in
-    let at_start = started g.H.Host.moment g.H.Host.left_since c.args.host.now P
-    (λ f d left. let now = g.met.H.Host.only_now c.args.host.now f d left in
-    (ap recovered (c.requires.durable f now.0 ∙ sym c.requires.bytes), now.1)) in
-    let after_cut : (f : List ℕ) → g.H.Host.may_leave c.cut.new.self f → recovered f ≡ recovered bytes = λ f now.
-    let from = c.cut.ensures.crash f now in
-    let was = c.requires.durable from.0 from.1 ∙ sym c.requires.bytes in
-    cut_keeps bytes f (subst (λ (n : ℕ). Cut n bytes f) end (subst (λ (d : List ℕ). Cut c.end_of_lines-end.result d f) was from.2)) in
-    let cut = goes_on g.H.Host.moment g.H.Host.left_since c.args.host.now c.args.host.now c.cut.new.self P _ at_start c.cut.ensures.time
-    (λ f d now. (after_cut f now.0, now.1)) in
-    cut
+    let was : (f : List ℕ) → g.H.Host.may_leave c.args.host.now f → f ≡ bytes = λ f now. c.requires.durable f now ∙ sym c.requires.bytes in
+    first_call (g.met.H.Host.only_now c.args.host.now) (λ f now. ap recovered (was f now)) c.cut.ensures.time c.cut.ensures.output
+    (λ f now. let from = c.cut.ensures.crash f now in
+    cut_keeps bytes f (subst (λ (n : ℕ). Cut n bytes f) c.end_of_lines-end.ensures.length
+    (subst (λ (d : List ℕ). Cut c.end_of_lines-end.result d f) (was from.0 from.1) from.2)))
+
+-- so does the sync of the cut
+cut_synced : (g : Over) (c : goal.After-sync g) → Keeps g.H.Host.moment g.H.Host.left_since g.H.Host.may_leave g.H.Host.output
+    (λ f. recovered f ≡ recovered c.args.bytes.now) c.args.host.now c.sync.new.self
+cut_synced g c = synced (cut g (goal.at.After-sync g c).After-cut) c.sync.ensures.time c.sync.ensures.output c.sync.ensures.crash
+
+-- after the cut the file is the lines alone
+is_cut : (g : Over) (c : goal.In_ok-cut g) → g.H.Host.content c.cut.new.self ≡ concat (recovered c.args.bytes.now)
+is_cut g c =
+    c.in_ok-cut.ensures.cut ∙ ap (λ (f : List ℕ). take c.end_of_lines-end.result f) (sym c.requires.bytes)
+    ∙ ap (λ (n : ℕ). take n c.args.bytes.now) c.end_of_lines-end.ensures.length ∙ cut_done c.args.bytes.now
+
+-- the write of the gate keeps the lines
+gate_written : (g : Over) (c : goal.After-write_at g) → Keeps g.H.Host.moment g.H.Host.left_since g.H.Host.may_leave g.H.Host.output
+    (λ f. recovered f ≡ recovered c.args.bytes.now) c.args.host.now c.write_at.new.self
+gate_written g c =
+    let bytes = c.args.bytes.now in
+    let at = goal.at.After-write_at g c in
+    let kept = cut_synced g at.After-sync in
+    called kept.run kept.same c.write_at.ensures.time c.write_at.ensures.output
+    (λ f now. let from = c.write_at.ensures.crash f now in
+    torn_end bytes f (subst (λ (n : ℕ). Torn n 1 (concat (recovered bytes)) f) c.end_of_lines-end.ensures.length
+    (subst (λ (d : List ℕ). Torn c.end_of_lines-end.result 1 d f)
+    (c.in_ok-sync.ensures.durable from.0 from.1 ∙ is_cut g at.In_ok-cut) from.2)))
+
+-- so does the sync of the gate
+gate_synced : (g : Over) (c : goal.After-sync-2 g) → Keeps g.H.Host.moment g.H.Host.left_since g.H.Host.may_leave g.H.Host.output
+    (λ f. recovered f ≡ recovered c.args.bytes.now) c.args.host.now c.sync-2.new.self
+gate_synced g c =
+    synced (gate_written g (goal.at.After-sync-2 g c).After-write_at) c.sync-2.ensures.time c.sync-2.ensures.output c.sync-2.ensures.crash
+
+pub returns-in_err-cut-clause-any_moment : goal.returns-in_err-cut-clause-any_moment
+returns-in_err-cut-clause-any_moment g c = (cut g (goal.at.returns-in_err-cut-clause-any_moment g c).After-cut).run
 
 pub returns-in_err-sync-clause-any_moment : goal.returns-in_err-sync-clause-any_moment
-returns-in_err-sync-clause-any_moment g c =
-    let bytes = c.args.bytes.now in
-    let end = c.end_of_lines-end.ensures.length in
-    let P = IsLeftAs (recovered bytes) (g.H.Host.output c.args.host.now) in
-    let at_start = started g.H.Host.moment g.H.Host.left_since c.args.host.now P
-    (λ f d left. let now = g.met.H.Host.only_now c.args.host.now f d left in
-    (ap recovered (c.requires.durable f now.0 ∙ sym c.requires.bytes), now.1)) in
-    let after_cut : (f : List ℕ) → g.H.Host.may_leave c.cut.new.self f → recovered f ≡ recovered bytes = λ f now.
-    let from = c.cut.ensures.crash f now in
-    let was = c.requires.durable from.0 from.1 ∙ sym c.requires.bytes in
-    cut_keeps bytes f (subst (λ (n : ℕ). Cut n bytes f) end (subst (λ (d : List ℕ). Cut c.end_of_lines-end.result d f) was from.2)) in
-    let cut = goes_on g.H.Host.moment g.H.Host.left_since c.args.host.now c.args.host.now c.cut.new.self P _ at_start c.cut.ensures.time
-    (λ f d now. (after_cut f now.0, now.1)) in
-    let kept = goes_on g.H.Host.moment g.H.Host.left_since c.args.host.now c.cut.new.self c.sync.new.self P _ cut c.sync.ensures.time
-    (λ f d now. (after_cut f (c.sync.ensures.crash f now.0), now.1 ∙ c.cut.ensures.output)) in
-    kept
+returns-in_err-sync-clause-any_moment g c = (cut_synced g (goal.at.returns-in_err-sync-clause-any_moment g c).After-sync).run
 
 pub returns-in_err-write_at-clause-any_moment : goal.returns-in_err-write_at-clause-any_moment
-returns-in_err-write_at-clause-any_moment g c =
-    let bytes = c.args.bytes.now in
-    let end = c.end_of_lines-end.ensures.length in
-    let P = IsLeftAs (recovered bytes) (g.H.Host.output c.args.host.now) in
-    let at_start = started g.H.Host.moment g.H.Host.left_since c.args.host.now P
-    (λ f d left. let now = g.met.H.Host.only_now c.args.host.now f d left in
-    (ap recovered (c.requires.durable f now.0 ∙ sym c.requires.bytes), now.1)) in
-    let after_cut : (f : List ℕ) → g.H.Host.may_leave c.cut.new.self f → recovered f ≡ recovered bytes = λ f now.
-    let from = c.cut.ensures.crash f now in
-    let was = c.requires.durable from.0 from.1 ∙ sym c.requires.bytes in
-    cut_keeps bytes f (subst (λ (n : ℕ). Cut n bytes f) end (subst (λ (d : List ℕ). Cut c.end_of_lines-end.result d f) was from.2)) in
-    let cut = goes_on g.H.Host.moment g.H.Host.left_since c.args.host.now c.args.host.now c.cut.new.self P _ at_start c.cut.ensures.time
-    (λ f d now. (after_cut f now.0, now.1)) in
-    let kept = goes_on g.H.Host.moment g.H.Host.left_since c.args.host.now c.cut.new.self c.sync.new.self P _ cut c.sync.ensures.time
-    (λ f d now. (after_cut f (c.sync.ensures.crash f now.0), now.1 ∙ c.cut.ensures.output)) in
-    let is_cut = c.in_ok-cut.ensures.cut ∙ ap (λ (f : List ℕ). take c.end_of_lines-end.result f) (sym c.requires.bytes)
-    ∙ ap (λ (n : ℕ). take n bytes) end ∙ cut_done bytes in
-    let after_write : (f : List ℕ) → g.H.Host.may_leave c.write_at.new.self f → recovered f ≡ recovered bytes = λ f now.
-    let from = c.write_at.ensures.crash f now in
-    let was = c.in_ok-sync.ensures.durable from.0 from.1 ∙ is_cut in
-    torn_end bytes f (subst (λ (n : ℕ). Torn n 1 (concat (recovered bytes)) f) end
-    (subst (λ (d : List ℕ). Torn c.end_of_lines-end.result 1 d f) was from.2)) in
-    let shut = goes_on g.H.Host.moment g.H.Host.left_since c.args.host.now c.sync.new.self c.write_at.new.self P _ kept
-    c.write_at.ensures.time (λ f d now. (after_write f now.0, now.1 ∙ c.sync.ensures.output ∙ c.cut.ensures.output)) in
-    shut
+returns-in_err-write_at-clause-any_moment g c = (gate_written g (goal.at.returns-in_err-write_at-clause-any_moment g c).After-write_at).run
 
 pub returns-in_err-sync-2-clause-any_moment : goal.returns-in_err-sync-2-clause-any_moment
-returns-in_err-sync-2-clause-any_moment g c =
-    let bytes = c.args.bytes.now in
-    let end = c.end_of_lines-end.ensures.length in
-    let P = IsLeftAs (recovered bytes) (g.H.Host.output c.args.host.now) in
-    let at_start = started g.H.Host.moment g.H.Host.left_since c.args.host.now P
-    (λ f d left. let now = g.met.H.Host.only_now c.args.host.now f d left in
-    (ap recovered (c.requires.durable f now.0 ∙ sym c.requires.bytes), now.1)) in
-    let after_cut : (f : List ℕ) → g.H.Host.may_leave c.cut.new.self f → recovered f ≡ recovered bytes = λ f now.
-    let from = c.cut.ensures.crash f now in
-    let was = c.requires.durable from.0 from.1 ∙ sym c.requires.bytes in
-    cut_keeps bytes f (subst (λ (n : ℕ). Cut n bytes f) end (subst (λ (d : List ℕ). Cut c.end_of_lines-end.result d f) was from.2)) in
-    let cut = goes_on g.H.Host.moment g.H.Host.left_since c.args.host.now c.args.host.now c.cut.new.self P _ at_start c.cut.ensures.time
-    (λ f d now. (after_cut f now.0, now.1)) in
-    let kept = goes_on g.H.Host.moment g.H.Host.left_since c.args.host.now c.cut.new.self c.sync.new.self P _ cut c.sync.ensures.time
-    (λ f d now. (after_cut f (c.sync.ensures.crash f now.0), now.1 ∙ c.cut.ensures.output)) in
-    let is_cut = c.in_ok-cut.ensures.cut ∙ ap (λ (f : List ℕ). take c.end_of_lines-end.result f) (sym c.requires.bytes)
-    ∙ ap (λ (n : ℕ). take n bytes) end ∙ cut_done bytes in
-    let after_write : (f : List ℕ) → g.H.Host.may_leave c.write_at.new.self f → recovered f ≡ recovered bytes = λ f now.
-    let from = c.write_at.ensures.crash f now in
-    let was = c.in_ok-sync.ensures.durable from.0 from.1 ∙ is_cut in
-    torn_end bytes f (subst (λ (n : ℕ). Torn n 1 (concat (recovered bytes)) f) end
-    (subst (λ (d : List ℕ). Torn c.end_of_lines-end.result 1 d f) was from.2)) in
-    let shut = goes_on g.H.Host.moment g.H.Host.left_since c.args.host.now c.sync.new.self c.write_at.new.self P _ kept
-    c.write_at.ensures.time (λ f d now. (after_write f now.0, now.1 ∙ c.sync.ensures.output ∙ c.cut.ensures.output)) in
-    let ended = goes_on g.H.Host.moment g.H.Host.left_since c.args.host.now c.write_at.new.self c.sync-2.new.self P _ shut
-    c.sync-2.ensures.time (λ f d now. (
-      after_write f (c.sync-2.ensures.crash f now.0),
-      now.1 ∙ c.write_at.ensures.output ∙ c.sync.ensures.output ∙ c.cut.ensures.output,
-    )) in
-    ended
+returns-in_err-sync-2-clause-any_moment g c = (gate_synced g (goal.at.returns-in_err-sync-2-clause-any_moment g c).After-sync-2).run
 
 pub returns-clause-any_moment : goal.returns-clause-any_moment
-returns-clause-any_moment g c =
-    let bytes = c.args.bytes.now in
-    let end = c.end_of_lines-end.ensures.length in
-    let P = IsLeftAs (recovered bytes) (g.H.Host.output c.args.host.now) in
-    let at_start = started g.H.Host.moment g.H.Host.left_since c.args.host.now P
-    (λ f d left. let now = g.met.H.Host.only_now c.args.host.now f d left in
-    (ap recovered (c.requires.durable f now.0 ∙ sym c.requires.bytes), now.1)) in
-    let after_cut : (f : List ℕ) → g.H.Host.may_leave c.cut.new.self f → recovered f ≡ recovered bytes = λ f now.
-    let from = c.cut.ensures.crash f now in
-    let was = c.requires.durable from.0 from.1 ∙ sym c.requires.bytes in
-    cut_keeps bytes f (subst (λ (n : ℕ). Cut n bytes f) end (subst (λ (d : List ℕ). Cut c.end_of_lines-end.result d f) was from.2)) in
-    let cut = goes_on g.H.Host.moment g.H.Host.left_since c.args.host.now c.args.host.now c.cut.new.self P _ at_start c.cut.ensures.time
-    (λ f d now. (after_cut f now.0, now.1)) in
-    let kept = goes_on g.H.Host.moment g.H.Host.left_since c.args.host.now c.cut.new.self c.sync.new.self P _ cut c.sync.ensures.time
-    (λ f d now. (after_cut f (c.sync.ensures.crash f now.0), now.1 ∙ c.cut.ensures.output)) in
-    let is_cut = c.in_ok-cut.ensures.cut ∙ ap (λ (f : List ℕ). take c.end_of_lines-end.result f) (sym c.requires.bytes)
-    ∙ ap (λ (n : ℕ). take n bytes) end ∙ cut_done bytes in
-    let after_write : (f : List ℕ) → g.H.Host.may_leave c.write_at.new.self f → recovered f ≡ recovered bytes = λ f now.
-    let from = c.write_at.ensures.crash f now in
-    let was = c.in_ok-sync.ensures.durable from.0 from.1 ∙ is_cut in
-    torn_end bytes f (subst (λ (n : ℕ). Torn n 1 (concat (recovered bytes)) f) end
-    (subst (λ (d : List ℕ). Torn c.end_of_lines-end.result 1 d f) was from.2)) in
-    let shut = goes_on g.H.Host.moment g.H.Host.left_since c.args.host.now c.sync.new.self c.write_at.new.self P _ kept
-    c.write_at.ensures.time (λ f d now. (after_write f now.0, now.1 ∙ c.sync.ensures.output ∙ c.cut.ensures.output)) in
-    let ended = goes_on g.H.Host.moment g.H.Host.left_since c.args.host.now c.write_at.new.self c.sync-2.new.self P _ shut
-    c.sync-2.ensures.time (λ f d now. (
-      after_write f (c.sync-2.ensures.crash f now.0),
-      now.1 ∙ c.write_at.ensures.output ∙ c.sync.ensures.output ∙ c.cut.ensures.output,
-    )) in
-    ended
+returns-clause-any_moment g c = (gate_synced g (goal.at.returns-clause-any_moment g c).After-sync-2).run
 
 pub returns-clause-same : goal.returns-clause-same
 returns-clause-same g c =
     let bytes = c.args.bytes.now in
-    let end = c.end_of_lines-end.ensures.length in
-    let is_cut = c.in_ok-cut.ensures.cut ∙ ap (λ (f : List ℕ). take c.end_of_lines-end.result f) (sym c.requires.bytes)
-    ∙ ap (λ (n : ℕ). take n bytes) end ∙ cut_done bytes in
-    let is_kept = c.sync.ensures.content ∙ is_cut in
-    let is_written = written_at_end _ _ _ _ (end ∙ sym (ap length is_kept)) c.in_ok-write_at.ensures.written in
+    let is_kept = c.sync.ensures.content ∙ is_cut g (goal.at.returns-clause-same g c).In_ok-cut in
+    let is_written = written_at_end _ _ _ _ (c.end_of_lines-end.ensures.length ∙ sym (ap length is_kept))
+    c.in_ok-write_at.ensures.written in
     ap recovered (c.sync-2.ensures.content ∙ is_written ∙ ap (λ (l : List ℕ). l ++ 32 ∷ []) is_kept) ∙ recovered-at_rest bytes
