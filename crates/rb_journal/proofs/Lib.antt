@@ -1,4 +1,5 @@
 pub mod Public
+mod Batches
 mod Ends
 mod Crash
 mod RunLemmas

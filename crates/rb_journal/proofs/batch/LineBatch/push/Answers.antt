@@ -1,19 +1,16 @@
-use Rattle.std.proofs.Common.{◌≡◌, ℕ, List, [], ◌∷◌, ◌++◌, Result, Ok, Err, OnOk, OnErr, sym, ◌∙◌, ap, subst}
-use Rattle.rb_journal.specs.Lines.{recovered, IsBatch, IsLine}
+use Rattle.std.proofs.Common.{[], ◌∷◌, ◌++◌, ◌∙◌, ap}
+use Rattle.rb_journal.specs.Lines.{recovered}
+use Rattle.rb_journal.proofs.Batches.{either_way}
 use Rattle.rb_journal.proofs.Public.Lines.{line_more, still_lines}
 use Rattle.rb_journal.proofs.batch.LineBatch.push.Goals as goal
-
-either_way : {T E : Type 0} (result : Result T E) (old line new : List ℕ) → OnOk result (new ≡ old ++ (line ++ 10 ∷ [])) →
-    OnErr result (new ≡ old) → IsBatch old → IsLine line → IsBatch new
-either_way (Ok x) old line new ok err all is = subst IsBatch (sym ok) (still_lines old line all is)
-either_way (Err e) old line new ok err all is = subst IsBatch (sym err) all
 
 pub invariant_of-self : goal.invariant_of-self
 invariant_of-self c =
     let old = c.args.self.now in
+    let line = c.args.line.now in
     record {
-      whole = either_way c.add_line.result old.bytes.items c.args.line.now c.add_line.new.bytes.items c.add_line.ensures.ok
-          c.add_line.ensures.err old.whole c.requires;
+      whole = either_way c.add_line.result old.bytes.items (line ++ 10 ∷ []) c.add_line.new.bytes.items c.add_line.ensures.ok
+          c.add_line.ensures.err old.whole (still_lines old.bytes.items line old.whole c.requires);
     }
 
 pub returns-clause-lines : goal.returns-clause-lines
