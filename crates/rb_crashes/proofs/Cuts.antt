@@ -253,22 +253,22 @@ recording_safe s w i d e at g come = by (nat_le s.limits.history (length d.event
 
 step_safe : (s : Settings) (w : List DiskSite) (i : ℕ) (d : DiskSite) (step : DiskStep) → slice_get w i ≡ Some d → IsSafe s w →
     MayHappen s w d step → IsSafe s (slice_set w i (after_step s d step))
-step_safe s w i d (Acts e) at g own = recording_safe s w i d e at g
+step_safe s w i d (Acts e) at g (own, all) = recording_safe s w i d e at g
     (λ c cuts x there. Grown.brings_own s (world_of_run s x.events) i (after_events s (first_site i) d.events) e
     (site_is s c i d x there) own)
-step_safe s w i d (Receives m) at g r = recording_safe s w i d (Receive m) at g
+step_safe s w i d (Receives m) at g (alone, r) = recording_safe s w i d (Receive m) at g
     (λ c cuts x there. Grown.brings_message s (world_of_run s x.events) i (after_events s (first_site i) d.events) m
     (site_is s c i d x there) ((x.sent m).1 (reported_sent s w c m cuts r)))
-step_safe s w i d (Syncs n) at g (least, most) =
+step_safe s w i d (Syncs n) at g ((least, most), all) =
     let o : IsBounded s d = g.order i d at in
     let a : d.reported ≤ d.on_disk = o.reported in
     quiet s w i d (record d { on_disk = n }) at g (record { reported = omega arith; on_disk = most; within = o.within })
     (λ b cut. record { count = cut.count; least = cut.least; most = cut.most; is = cut.is })
-step_safe s w i d (Reports n) at g (least, most) =
+step_safe s w i d (Reports n) at g ((least, most), all) =
     let o : IsBounded s d = g.order i d at in
     quiet s w i d (record d { reported = n }) at g (record { reported = most; on_disk = o.on_disk; within = o.within })
     (λ b cut. record { count = cut.count; least = let k : n ≤ cut.count = cut.least in omega arith; most = cut.most; is = cut.is })
-step_safe s w i d (Restarts n) at g (least, most) =
+step_safe s w i d (Restarts n) at g ((least, most), all) =
     let o : IsBounded s d = g.order i d at in
     let a : d.reported ≤ d.on_disk = o.reported in
     let z : length d.events ≤ s.limits.history = o.within in

@@ -55,9 +55,9 @@ step_keeps : (s : Settings) (w : List DiskSite) (d : DiskSite) (step : DiskStep)
     Keeps d (after_step s d step)
 step_keeps s w d (Acts e) o may = records s d e o
 step_keeps s w d (Receives m) o may = records s d (Receive m) o
-step_keeps s w d (Syncs n) o may = record { more = omega arith; same = refl }
-step_keeps s w d (Reports n) o (least, most) = record { more = least; same = refl }
-step_keeps s w d (Restarts n) o (least, most) =
+step_keeps s w d (Syncs n) o ((least, most), all) = record { more = omega arith; same = refl }
+step_keeps s w d (Reports n) o ((least, most), all) = record { more = least; same = refl }
+step_keeps s w d (Restarts n) o ((least, most), all) =
     let a : d.reported ≤ d.on_disk = o.reported in
     record { more = omega arith; same = take-take d.reported n d.events (omega arith) }
 

@@ -1,5 +1,7 @@
+pub mod Public
 mod Cuts
 mod Grown
+mod Interleaving
 mod Invisible
 mod Kept
 mod Losing

@@ -28,13 +28,13 @@ recorded s w i d e free = ap (λ b. slice_set w i (cond b d (record d { events =
 pub acts : (s : Settings) (w : List DiskSite) (i : ℕ) (d : DiskSite) (e : Event) → slice_get w i ≡ Some d → IsOwn e →
     length d.events < s.limits.history → TakesStep s w (slice_set w i (record d { events = d.events ++ e ∷ [] }))
 acts s w i d e at own free =
-    record { number = i; site = d; at = at; step = Acts e; may = own; is = recorded s w i d e free }
+    record { number = i; site = d; at = at; step = Acts e; may = (own, tt); is = recorded s w i d e free }
 
 -- a message is delivered
 pub receives : (s : Settings) (w : List DiskSite) (i : ℕ) (d : DiskSite) (m : Message) → slice_get w i ≡ Some d → IsReported s w m →
     length d.events < s.limits.history → TakesStep s w (slice_set w i (record d { events = d.events ++ Receive m ∷ [] }))
 receives s w i d m at out free =
-    record { number = i; site = d; at = at; step = Receives m; may = out; is = recorded s w i d (Receive m) free }
+    record { number = i; site = d; at = at; step = Receives m; may = (tt, out); is = recorded s w i d (Receive m) free }
 
 -- any other step that may happen
 abbrev pub takes : (s : Settings) (w : List DiskSite) (i : ℕ) (d : DiskSite) (step : DiskStep) → slice_get w i ≡ Some d →

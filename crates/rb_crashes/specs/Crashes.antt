@@ -66,14 +66,23 @@ pub data DiskStep : Type 0 where
 abbrev pub IsFromTo : ℕ → ℕ → ℕ → Type 0
 IsFromTo a n b = (a ≤ n) × (n ≤ b)
 
--- what may happen at a site: messages come by deliveries alone, and only reported ones do; only what is on the disk is
--- reported; and a crash takes nothing from the disk
+-- what a step needs at its site alone: messages come by deliveries alone; only what is on the disk is reported; and a
+-- crash takes nothing from the disk
+abbrev pub MayHappenAlone : DiskSite → DiskStep → Type 0
+MayHappenAlone d (Acts e) = IsOwn e
+MayHappenAlone d (Receives m) = Unit {0}
+MayHappenAlone d (Syncs n) = IsFromTo d.on_disk n (length d.events)
+MayHappenAlone d (Reports n) = IsFromTo d.reported n d.on_disk
+MayHappenAlone d (Restarts n) = IsFromTo d.on_disk n (length d.events)
+
+-- what it needs of the world: only reported messages are delivered
+abbrev pub WasReported : Settings → List DiskSite → DiskStep → Type 0
+WasReported s w (Receives m) = IsReported s w m
+WasReported s w _ = Unit {0}
+
+-- what may happen at a site of a world
 abbrev pub MayHappen : Settings → List DiskSite → DiskSite → DiskStep → Type 0
-MayHappen s w d (Acts e) = IsOwn e
-MayHappen s w d (Receives m) = IsReported s w m
-MayHappen s w d (Syncs n) = IsFromTo d.on_disk n (length d.events)
-MayHappen s w d (Reports n) = IsFromTo d.reported n d.on_disk
-MayHappen s w d (Restarts n) = IsFromTo d.on_disk n (length d.events)
+MayHappen s w d step = MayHappenAlone d step × WasReported s w step
 
 -- the site with one event more, unless its history is full
 abbrev pub with_event : Settings → DiskSite → Event → DiskSite
@@ -86,6 +95,16 @@ after_step s d (Receives m) = with_event s d (Receive m)
 after_step s d (Syncs n) = record d { on_disk = n }
 after_step s d (Reports n) = record d { reported = n }
 after_step s d (Restarts n) = record d { events = take n d.events; on_disk = n }
+
+-- the site after a list of steps
+abbrev pub after_steps : Settings → DiskSite → List DiskStep → DiskSite
+after_steps s d [] = d
+after_steps s d (step ∷ steps) = after_steps s (after_step s d step) steps
+
+-- each step of a list may happen at the site alone, when it is taken
+abbrev pub MayAllHappen : Settings → DiskSite → List DiskStep → Type 0
+MayAllHappen s d [] = Unit {0}
+MayAllHappen s d (step ∷ steps) = MayHappenAlone d step × MayAllHappen s (after_step s d step) steps
 
 -- one step of a world, which may happen at one of its sites
 pub record TakesStep (s : Settings) (w v : List DiskSite) : Type 0 where

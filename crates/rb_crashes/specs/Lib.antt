@@ -1,2 +1,3 @@
 pub mod Crashes
+pub mod Interleaved
 pub mod Laws

@@ -6,10 +6,12 @@
 //! reported, to a client or to another site, is in the site's history for good.
 //!
 //! Nothing here runs. The contract of each function is a law: specs/Crashes.antt says what a site with a disk is
-//! and what may happen at it, specs/Laws.antt says the laws. The last three say that these say something: crashes do
+//! and what may happen at it, specs/Interleaved.antt how steps of single sites make up a world's, specs/Laws.antt the
+//! laws. The last three say that these say something: crashes do
 //! take events away, and both promises would fail if a crash took what was reported.
 #![tactic(auto)]
 
+ghost use Rattle.rb_crashes.specs.Interleaved.{InterleavedStepsLead};
 ghost use Rattle.rb_crashes.specs.Laws.{AfterSteps, HidesCrashes, CrashesLoseEvents, DeeperCrashesShow};
 ghost use Rattle.rb_crashes.specs.Laws.{ForgetsTheReported, HeadlineHolds, KeepsTheReported, ReportsTheDurable};
 
@@ -49,6 +51,13 @@ pub fn nothing_reported_is_lost()
 /// At each site what is reported is on the disk, what is on the disk was recorded, and the history is within its limit.
 pub fn reports_the_durable()
     ensures { AfterSteps ReportsTheDurable }
+{}
+
+/// Steps of single sites, each of which may happen at its site alone, lead from world to world in whatever order they
+/// are taken: where each message that is delivered was reported before by some site. So what a run of one site says of
+/// its own steps is enough for the laws of the worlds that such runs make up.
+pub fn interleaved_steps_lead()
+    ensures { InterleavedStepsLead }
 {}
 
 /// A restart from fewer events than were reported, which is no step of a world, loses some of what was reported:
