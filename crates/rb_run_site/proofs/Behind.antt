@@ -38,6 +38,7 @@ module _ (me most number : ℕ) (input left : Option (List ℕ)) (file config pe
     is_of = opens.is_of;
     first = first_known input config number pending left waits;
     journal = opens.journal;
+    replayed = opens.replayed;
   }
 
   -- what it may leave at any moment is what the whole run may leave
@@ -67,7 +68,7 @@ module _ (me most number : ℕ) (input left : Option (List ℕ)) (file config pe
   }
 
   -- where the site's journal is full, the whole run's is
-  pub full_behind : IsFull SiteAnswers (served_input pending left) (journal_of x) → IsFullBehind me input (recovered file)
+  pub full_behind : IsFull SiteAnswers (served_input pending left) x (journal_of x) → IsFullBehind me input (recovered file)
   full_behind full = record {
     start = x;
     starts = starts;

@@ -2,7 +2,7 @@
 use Rattle.std.proofs.Common.{◌≡◌, ◌<◌, ◌≤◌, ◌+◌, ◌⊎◌, ℕ, Bool, true, List, [], ◌∷◌, ◌++◌, length, take, drop, Option, Some, None, refl, sym, ap, subst, ◌∙◌, arith}
 use Rattle.std.specs.Prelude.{IfSome}
 use Rattle.std.specs.Io.KnownBytes.{IsAtEnd}
-use Rattle.rb_site.specs.Seen.{SeenSite}
+use Rattle.rb_site.specs.Seen.{IsReplayed, SeenSite, first_seen}
 use Rattle.rb_lines.specs.Lines.{line_len, lines_of}
 use Rattle.rb_lines.proofs.Public.Walks.{Walks, after_line}
 use Rattle.rb_run_site.specs.FirstLines.{WaitsAt}
@@ -36,15 +36,20 @@ behind (Some all) (Some rest) number p e n w len fits stands end =
       };
     }
 
+-- a site before any event has nothing to replay
+first_replayed : (old : SeenSite) (me : ℕ) → me < old.settings.sites → old ≡ first_seen old.settings me → IsReplayed old
+first_replayed old me low begins = subst IsReplayed (sym begins) (record { within = low; replays = tt; room = omega arith })
+
 -- the site that a file is replayed at is the configuration's
 pub opened : (config : List ℕ) (me most : ℕ) (old new : SeenSite) (file first sends : List ℕ) → IsOf config me old
-    → OpensFile old new file first sends most → OpensSite config me most file new first sends
-opened config me most old new file first sends is o = record {
+    → old ≡ first_seen old.settings me → OpensFile old new file first sends most → OpensSite config me most file new first sends
+opened config me most old new file first sends is begins o = record {
   is_of = record {
     configured = is.configured ∙ ap Some (sym o.settings);
     me_is = o.me ∙ is.me_is;
     within = subst (λ c. me < c.sites) (sym o.settings) is.within;
   };
+  replayed = o.replayed (first_replayed old me is.within begins);
   journal = o.journal;
   begins = o.begins;
   sends_are = o.sends_are;

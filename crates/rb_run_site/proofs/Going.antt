@@ -61,7 +61,7 @@ further output sends more d some = (
   some.1 ∙ append_assoc output sends (take some.0 more) ∙ ap (λ l. output ++ l) (sym (take-append-add sends more some.0)),
 )
 
-first_none : (input : Option (List ℕ)) → IfSome input (AreFirst [])
+first_none : (input : Option (List ℕ)) → IfSome input (AreFirst {S = SeenSite} [])
 first_none None = tt
 first_none (Some all) = (not_blank (lines_of all), refl)
 
@@ -81,11 +81,11 @@ begun lines x first sends reply input output c d is same (inr at) = inr (record 
 -- turns behind what was sent again
 pub answered : (lines : List (List ℕ)) (x : SeenSite) (sends : List ℕ) (input : Option (List ℕ)) (output : List ℕ)
     (mid : List (List ℕ)) (so_far c d : List ℕ) → journal_of x ≡ mid → so_far ≡ output ++ sends
-    → IsRunOfTurns SiteAnswers input mid so_far c d → IsLeftOrAnswered lines x sends input output c d
+    → IsRunOfTurns SiteAnswers input x mid so_far c d → IsLeftOrAnswered lines x sends input output c d
 answered lines x sends input output mid so_far c d same said run =
-    let run : IsRunOfTurns SiteAnswers input (journal_of x) (output ++ sends) c d =
-    subst (λ l. IsRunOfTurns SiteAnswers input (journal_of x) l c d) said
-    (subst (λ ls. IsRunOfTurns SiteAnswers input ls so_far c d) (sym same) run) in
+    let run : IsRunOfTurns SiteAnswers input x (journal_of x) (output ++ sends) c d =
+    subst (λ l. IsRunOfTurns SiteAnswers input x (journal_of x) l c d) said
+    (subst (λ ls. IsRunOfTurns SiteAnswers input x ls so_far c d) (sym same) run) in
     inr (record {
       turns = run.turns;
       are = run.are;
@@ -97,13 +97,14 @@ answered lines x sends input output mid so_far c d same said run =
 -- all turns of a run, behind what was sent again
 pub all_answered : (x : SeenSite) (sends : List ℕ) (number : ℕ) (input left : Option (List ℕ)) (output : List ℕ) (now : List (List ℕ))
     (said : List ℕ) (mid : List (List ℕ)) (so_far : List ℕ) (ended : Result ℕ ServeFault) → journal_of x ≡ mid → so_far ≡ output ++ sends
-    → (turns : List Turn) × IsPutOut SiteAnswers mid so_far turns now said × EndsAs SiteAnswers mid turns number input left ended
+    → (turns : List (Turn SeenSite)) × IsPutOut SiteAnswers x mid so_far turns now said
+    × EndsAs SiteAnswers x turns number input left ended
     → AnswersAll x sends number input left output now said ended
 all_answered x sends number input left output now said mid so_far ended same is (turns, put, ends) = record {
   turns = turns;
-  put = subst (λ l. IsPutOut SiteAnswers (journal_of x) l turns now said) is
-      (subst (λ ls. IsPutOut SiteAnswers ls so_far turns now said) (sym same) put);
-  ends = subst (λ ls. EndsAs SiteAnswers ls turns number input left ended) (sym same) ends;
+  put = subst (λ l. IsPutOut SiteAnswers x (journal_of x) l turns now said) is
+      (subst (λ ls. IsPutOut SiteAnswers x ls so_far turns now said) (sym same) put);
+  ends = ends;
 }
 
 -- the same lines and output at the start

@@ -8,4 +8,5 @@ mod Buffered
 mod Prefixes
 mod Replayed
 mod Split
+mod Stepped
 mod Turned

@@ -1,15 +1,16 @@
 -- A file's entries, replayed.
-use Rattle.std.proofs.Common.{◌≡◌, ◌-◌, ℕ, List, [], ◌∷◌, ◌++◌, length, refl, sym, ap, ◌∙◌, inr}
+use Rattle.std.proofs.Common.{◌≡◌, ◌-◌, ℕ, List, [], ◌∷◌, ◌++◌, length, refl, sym, ap, subst, ◌∙◌, inr}
 use Rattle.std.proofs.lemmas.List.{length-map}
 use Rattle.rb_journal.specs.Lines.{recovered}
 use Rattle.rb_site.specs.Events.{first_site}
-use Rattle.rb_site.specs.Seen.{SeenSite, first_seen, state_of}
+use Rattle.rb_site.specs.Seen.{IsReplayed, SeenSite, first_seen, state_of}
 use Rattle.rb_site.specs.Histories.{events_of}
 use Rattle.rb_run_site.specs.Files.{BeginsWith}
 use Rattle.rb_run_site.specs.Journals.{journal_head, journal_of, lines_of_entries}
 use Rattle.rb_run_site.specs.Openings.{OpensFile}
 use Rattle.rb_run_site.specs.Replays.{ReplaysLines, resent}
 use Rattle.rb_run_site.proofs.EntryLines.{fed}
+use Rattle.rb_run_site.proofs.Stepped.{all_replayed}
 use Rattle.rb_run_site.proofs.Turned.{me_kept, settings_kept}
 
 -- the file's lines are replayed: it is the journal of the site after them
@@ -30,6 +31,7 @@ replayed_file old new file entries sends sends_after most count first begins cou
     record {
       settings = s;
       me = m;
+      replayed = λ was. subst IsReplayed (sym r.goes_on.after) (all_replayed old (events_of r.entries) was);
       journal = inr journal;
       begins = inr (journal, refl);
       sends_are = r.sends_are ∙ ap (λ l. l ++ resent old.settings (state_of old) (count - most) r.entries) none

@@ -51,7 +51,7 @@ batched are old new line text entries ok a =
 -- the site took the line: it is a turn
 pub turned : EntriesAreLines → (old new : SeenSite) (line words entries text text_after : List ℕ) (batch batch_after : List (List ℕ)) →
     IsConfigured old.settings → IsSiteAnswer old new line words entries → text_after ≡ text ++ words → batch_after ≡ batch ++ recovered entries
-    → IsTurn SiteAnswers (journal_of old) (journal_of new) batch batch_after line text text_after
+    → IsTurn SiteAnswers old new (journal_of old) (journal_of new) batch batch_after line text text_after
 turned are old new line words entries text text_after batch batch_after ok a said more =
     let added = lines_of_entries old.settings old.me a.recorded in
     let theirs = are_theirs are old.settings ok old.me a.recorded in
@@ -65,10 +65,7 @@ turned are old new line words entries text text_after batch batch_after ok a sai
       added = added;
       words = words;
       answered = record {
-        old = old;
-        new = new;
         configured = ok;
-        before = refl;
         answered = subst (IsSiteAnswer old new line words) bytes a;
         after = grown;
       };

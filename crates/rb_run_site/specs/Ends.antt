@@ -12,15 +12,16 @@ use Rattle.rb_run_site.specs.declared.fault.SiteFault.{SiteFault}
 use Rattle.rb_run_site.specs.declared.fault.SiteFault.TheVariants.{NoConfig, BadConfig, NoSite, AnotherJournal, BadEntry, WrongReply}
 use Rattle.rb_run_site.specs.declared.fault.SiteFault.TheVariants.{InUse, BadLine, LongLine, Read, Write, Journal, OutOfMemory}
 
--- these were the turns of a site: their entries are in the journal and all their text was put out, behind what was sent again; the run over
--- these bytes, whose first line has this number, ended so
+-- these were the turns of a site: their entries are in the journal and all their text was put out, behind what was sent
+-- again; the run over these bytes, whose first line has this number, ended so
 pub record AnswersAll (x : SeenSite) (sends : List ℕ) (number : ℕ) (bytes left : Option (List ℕ)) (output : List ℕ) (now : List (List ℕ))
     (said : List ℕ) (ended : Result ℕ ServeFault) : Type 0 where
-  pub turns : List Turn
-  pub put : IsPutOut SiteAnswers (journal_of x) (output ++ sends) turns now said
-  pub ends : EndsAs SiteAnswers (journal_of x) turns number bytes left ended
+  pub turns : List (Turn SeenSite)
+  pub put : IsPutOut SiteAnswers x (journal_of x) (output ++ sends) turns now said
+  pub ends : EndsAs SiteAnswers x turns number bytes left ended
 
--- the site that the input's first line and the journal's lines say answered what is behind, and the run over that ended so
+-- the site that the input's first line and the journal's lines say answered what is behind, and the run over that ended
+-- so
 pub record AnswersBehind (me most : ℕ) (input left : Option (List ℕ)) (lines : List (List ℕ)) (output : List ℕ) (now : List (List ℕ))
     (said : List ℕ) (ended : Result ℕ ServeFault) : Type 0 where
   pub start : SeenSite
@@ -30,17 +31,18 @@ pub record AnswersBehind (me most : ℕ) (input left : Option (List ℕ)) (lines
   pub behind_is : IfSome input (AreBytesBehind number behind)
   pub answered : AnswersAll start (sent_again most start) number behind left output now said ended
 
--- the journal of the site that the input's first line and the journal's lines say, with what the first of the lines behind add, is full
+-- the journal of the site that the input's first line and the journal's lines say, with what the first of the lines
+-- behind add, is full
 pub record IsFullBehind (me : ℕ) (input : Option (List ℕ)) (lines : List (List ℕ)) : Type 0 where
   pub start : SeenSite
   pub starts : Starts me input lines start
   pub number : ℕ
   pub behind : Option (List ℕ)
   pub behind_is : IfSome input (AreBytesBehind number behind)
-  pub full : IsFull SiteAnswers behind (journal_of start)
+  pub full : IsFull SiteAnswers behind start (journal_of start)
 
--- the end of a run: all lines were answered, or a line or a read was at fault after those before it were; or the file and the output are as
--- they were. Of a failed journal or output and of running out of memory nothing is said here
+-- the end of a run: all lines were answered, or a line or a read was at fault after those before it were; or the file
+-- and the output are as they were. Of a failed journal or output and of running out of memory nothing is said here
 abbrev pub RunsTo : (Result ℕ ServeFault → Type 0) → Type 0 → Result ℕ SiteFault → Type 0
 RunsTo answers unchanged (Ok n) = answers (Ok n)
 RunsTo answers unchanged (Err (BadLine k)) = answers (Err (BadInput k))

@@ -20,11 +20,8 @@ lines_of_entries s me xs = map (λ x. line_of (entry_json s me x)) xs
 abbrev pub journal_of : SeenSite → List (List ℕ)
 journal_of x = journal_head x.settings ∷ lines_of_entries x.settings x.me x.entries
 
--- a site with this journal answers the line by this text, and the lines of its new entries are these
-pub record SiteAnswers (lines : List (List ℕ)) (line : List ℕ) (added : List (List ℕ)) (text : List ℕ) : Type 0 where
-  pub old : SeenSite
-  pub new : SeenSite
+-- the site answers the line by this text and is then the second; the lines of its new entries are these
+pub record SiteAnswers (old : SeenSite) (line : List ℕ) (added : List (List ℕ)) (text : List ℕ) (new : SeenSite) : Type 0 where
   pub configured : IsConfigured old.settings
-  pub before : lines ≡ journal_of old
   pub answered : IsSiteAnswer old new line text (concat added)
-  pub after : journal_of new ≡ lines ++ added
+  pub after : journal_of new ≡ journal_of old ++ added

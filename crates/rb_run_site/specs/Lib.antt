@@ -7,3 +7,4 @@ pub mod Openings
 pub mod Replays
 pub mod Runs
 pub mod Starts
+pub mod Steps

@@ -3,7 +3,7 @@ use Rattle.std.specs.Prelude.{◌≡◌, ◌⊎◌, ◌≤◌, ℕ, List, [], So
 use Rattle.rb_money.specs.Settings.{Settings}
 use Rattle.rb_commands.specs.Configurations.{config_on}
 use Rattle.rb_journal.specs.Lines.{recovered}
-use Rattle.rb_site.specs.Seen.{SeenSite}
+use Rattle.rb_site.specs.Seen.{IsReplayed, SeenSite}
 use Rattle.rb_run_site.specs.Journals.{journal_head, journal_of}
 use Rattle.rb_run_site.specs.Files.{BeginsWith, IsAnother}
 use Rattle.rb_run_site.specs.Replays.{EndsReplay}
@@ -20,6 +20,7 @@ IsToBegin lines x first = ((lines ≡ []) × (first ≡ journal_head x.settings)
 pub record OpensFile (old new : SeenSite) (file first sends : List ℕ) (most : ℕ) : Type 0 where
   pub settings : new.settings ≡ old.settings
   pub me : new.me ≡ old.me
+  pub replayed : IsReplayed old → IsReplayed new
   pub journal : IsJournalOf (recovered file) new
   pub begins : IsToBegin (recovered file) new first
   pub sends_are : sends ≡ sent_again most new
@@ -44,6 +45,7 @@ EndsFile old file _ = ⊥
 -- the site of the configuration on a line went on by the file's entries
 pub record OpensSite (config : List ℕ) (me most : ℕ) (file : List ℕ) (x : SeenSite) (first sends : List ℕ) : Type 0 where
   pub is_of : IsOf config me x
+  pub replayed : IsReplayed x
   pub journal : IsJournalOf (recovered file) x
   pub begins : IsToBegin (recovered file) x first
   pub sends_are : sends ≡ sent_again most x

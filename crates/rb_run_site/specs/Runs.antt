@@ -15,11 +15,12 @@ abbrev pub AreBytesBehind : ℕ → Option (List ℕ) → List ℕ → Type 0
 AreBytesBehind number behind input = (bytes : List ℕ) × (behind ≡ Some bytes)
     × (config : List ℕ) × IsBehind config number (lines_of bytes) input
 
--- the file is the journal of a site with the entries of some turns, which answer the first lines of these bytes, in order, and skip none that
--- isn't blank; what was put out is a prefix of what is sent again, and then of the texts of these turns
+-- the file is the journal of a site with the entries of some turns, which answer the first lines of these bytes, in
+-- order, and skip none that isn't blank; what was put out is a prefix of what is sent again, and then of the texts of
+-- these turns
 pub record HasAnswered (x : SeenSite) (sends : List ℕ) (bytes : Option (List ℕ)) (output c d : List ℕ) : Type 0 where
-  pub turns : List Turn
-  pub are : AreTurns SiteAnswers (journal_of x) turns
+  pub turns : List (Turn SeenSite)
+  pub are : AreTurns SiteAnswers x turns
   pub in_order : IfSome bytes (AreFirst turns)
   pub lines_are : recovered c ≡ journal_of x ++ lines_added turns
   pub output_is : AddsPrefix output (sends ++ texts turns) d
@@ -37,7 +38,7 @@ pub record HasRun (me most : ℕ) (input : Option (List ℕ)) (lines : List (Lis
   pub behind_is : IfSome input (AreBytesBehind number behind)
   pub answered : HasAnswered start (sent_again most start) behind output c d
 
--- at any moment nothing has changed yet, or the site has answered some lines: whatever was put out of their answers, their entries are in
--- the file
+-- at any moment nothing has changed yet, or the site has answered some lines: whatever was put out of their answers,
+-- their entries are in the file
 abbrev pub IsSiteRun : ℕ → ℕ → Option (List ℕ) → List (List ℕ) → List ℕ → List ℕ → List ℕ → Type 0
 IsSiteRun me most input lines output c d = IsLeftAs lines output c d ⊎ HasRun me most input lines output c d

@@ -1,7 +1,7 @@
 -- The site that a run starts with.
 use Rattle.std.specs.Prelude.{◌≡◌, ◌⊎◌, ℕ, ◌+◌, ◌-◌, ◌<◌, List, [], ◌∷◌, ◌++◌, length, Option, Some, IfSome}
 use Rattle.rb_site.specs.Events.{first_site}
-use Rattle.rb_site.specs.Seen.{SeenSite, first_seen}
+use Rattle.rb_site.specs.Seen.{IsReplayed, SeenSite, first_seen}
 use Rattle.rb_commands.specs.Configurations.{config_on}
 use Rattle.rb_lines.specs.Lines.{lines_of}
 use Rattle.rb_serve.specs.Turns.{not_blank}
@@ -22,7 +22,8 @@ IsJournalOf lines x = ((lines ≡ []) × (x ≡ first_seen x.settings x.me)) ⊎
 abbrev pub sent_again : ℕ → SeenSite → List ℕ
 sent_again most x = resent x.settings (first_site x.me) (length x.entries - most) x.entries
 
--- the input's first line that isn't blank is the configuration's, and these lines are behind it, of which the first has this number
+-- the input's first line that isn't blank is the configuration's, and these lines are behind it, of which the first has
+-- this number
 pub record IsBehind (config : List ℕ) (number : ℕ) (later : List (List ℕ)) (input : List ℕ) : Type 0 where
   pub blanks : List (List ℕ)
   pub are_blank : not_blank blanks ≡ []
@@ -35,9 +36,10 @@ pub record WaitsBehind (config : List ℕ) (number : ℕ) (pending : List ℕ) (
   pub left_is : left ≡ Some rest
   pub behind : IsBehind config number (lines_of (pending ++ rest)) input
 
--- a run starts with this site: the one that the input's first line and the journal's lines say
+-- a run starts with this site: the one that the input's first line and the journal's lines say; its history replays
 pub record Starts (me : ℕ) (input : Option (List ℕ)) (lines : List (List ℕ)) (x : SeenSite) : Type 0 where
   pub config : List ℕ
   pub is_of : IsOf config me x
   pub first : IfSome input (λ all. (number : ℕ) × (later : List (List ℕ)) × IsBehind config number later all)
   pub journal : IsJournalOf lines x
+  pub replayed : IsReplayed x

@@ -1,7 +1,7 @@
 //! A site as what answers lines over a journal.
 ghost use Rattle.std.specs.Prelude.{◌≡◌};
 
-use rb_history::{configs_are_read, lines_are_single};
+use rb_history::lines_are_single;
 use rb_journal::LineBatch;
 use rb_node::{Node, NodeFault};
 use rb_serve::{Machine, MachineFault};
@@ -32,9 +32,14 @@ impl SiteMachine {
 }
 
 impl Machine for SiteMachine {
+    ghost use Rattle.rb_site.specs.Seen.{SeenSite};
     ghost use Rattle.rb_run_site.specs.Journals.{SiteAnswers, journal_of};
 
-    ghost lines = { λ m. journal_of m.node.site };
+    ghost State = { SeenSite };
+
+    ghost state = { λ m. m.node.site };
+
+    ghost lines = { journal_of };
 
     ghost answers = { SiteAnswers };
 
@@ -44,9 +49,8 @@ impl Machine for SiteMachine {
         batch: &mut LineBatch,
         text: &mut Vec<u8>,
     ) -> Result<(), MachineFault> {
-        // For facts alone: lines of entries and of configurations are lines, and the latter are read as they are.
+        // For a fact alone: lines of entries are lines.
         lines_are_single();
-        configs_are_read();
         let _sites = self.node.config().sites();
         let before = text.len();
         self.entries.clear();

@@ -14,6 +14,7 @@ ghost use Rattle.rb_run_site.specs.Ends.{AnswersAll, AnswersBehind, IsAtRest, Is
 ghost use Rattle.rb_run_site.specs.Openings.{IsToBegin};
 ghost use Rattle.rb_run_site.specs.Runs.{IsLeftOrAnswered, IsSiteRun};
 ghost use Rattle.rb_run_site.specs.Journals.{SiteAnswers, journal_of};
+ghost use Rattle.rb_run_site.specs.Steps.{IsRunOfSteps};
 ghost use Rattle.rb_run_site.specs.Starts.{IsJournalOf};
 ghost use Rattle.rb_run_site.specs.declared.fault.SiteFault.TheVariants.{Journal as DiskFailed, Read as NotRead};
 ghost use Rattle.rb_run_site.specs.declared.fault.SiteFault.TheVariants.{Write as NotWritten};
@@ -61,7 +62,7 @@ fn go_on<S: Source, H: Host>(
     ensures write { result ≡ Err WriteStopped → H.faults journal.old.host < H.faults journal.new.host }
     ensures journal { result ≡ Err JournalStopped → (H.faults journal.old.host < H.faults journal.new.host)
         ⊎ IsFull SiteAnswers (served_input buffers.old.pending (S.remaining reader.old))
-        (journal_of opened.old.machine.node.site) }
+        opened.old.machine.node.site (journal_of opened.old.machine.node.site) }
     ensures calls { S.calls reader.new ≤ MOST_READS }
 {
     // For a fact alone: the line of a configuration is a line.
@@ -102,7 +103,7 @@ fn run_opened<S: Source, H: Host>(
     ensures write { result.ended ≡ Err NotWritten → H.faults host < H.faults result.host }
     ensures journal { result.ended ≡ Err DiskFailed → (H.faults host < H.faults result.host)
         ⊎ IsFull SiteAnswers (served_input buffers.old.pending (S.remaining reader.old))
-        (journal_of opened.machine.node.site) }
+        opened.machine.node.site (journal_of opened.machine.node.site) }
     ensures calls { S.calls reader.new ≤ MOST_READS }
 {
     match Journal::open(host, bytes) {
@@ -162,6 +163,10 @@ pub fn run_site<S: Source, H: Host>(
     // takes back.
     ensures any_moment { LeavesOnly H.moment H.left_since host result.host
         (IsSiteRun me resend (S.remaining reader.old) (recovered bytes.now) (H.output host)) }
+
+    // And that is a run of steps of a site with a disk, as the laws of worlds whose sites crash have them.
+    ensures steps { LeavesOnly H.moment H.left_since host result.host
+        (IsRunOfSteps me resend (S.remaining reader.old) (recovered bytes.now) (H.output host)) }
 
     // A failed read, a failed write and a failed journal are reported only for their causes, and at most `MOST_READS`
     // are made.

@@ -8,39 +8,42 @@ use Rattle.std.proofs.lemmas.List.Elements.{filter-append}
 use Rattle.rb_lines.specs.Lines.{is_blank, line_len, lines_of, whole_lines}
 use Rattle.rb_lines.proofs.Public.LongLines.{len_is, first}
 use Rattle.rb_lines.proofs.Public.Walks.{Walks, after_line}
-use Rattle.rb_serve.specs.Turns.{Answers, AreTurns, IsTurn, Turn, lines_added, lines_answered, not_blank, texts}
+use Rattle.rb_serve.specs.Turns.{Answers, AreTurns, IsTurn, Turn, lines_added, lines_answered, not_blank, state_after, texts}
 use Rattle.rb_serve.specs.Steps.{Advances, IsTaken, Point}
 
--- turns, and then turns after their lines
-pub turns_then : (answers : Answers) (lines : List (List ℕ)) (xs ys : List Turn) → AreTurns answers lines xs
-    → AreTurns answers (lines ++ lines_added xs) ys → AreTurns answers lines (xs ++ ys)
-turns_then answers lines [] ys a b = subst (λ ls. AreTurns answers ls ys) (append-nil lines) b
-turns_then answers lines (x ∷ xs) ys a b = (
-  a.0,
-  turns_then answers (lines ++ x.added) xs ys a.1
-      (subst (λ ls. AreTurns answers ls ys) (sym (append_assoc lines x.added (lines_added xs))) b),
-)
+-- turns, and then turns in the state that they left
+pub turns_then : {S : Type 0} (answers : Answers S) (s : S) (xs ys : List (Turn S)) → AreTurns answers s xs
+    → AreTurns answers (state_after s xs) ys → AreTurns answers s (xs ++ ys)
+turns_then answers s [] ys a b = b
+turns_then answers s (x ∷ xs) ys a b = (a.0, turns_then answers x.after xs ys a.1 b)
+
+-- the state after some turns and then others
+pub state_then : {S : Type 0} (s now new : S) (xs ys : List (Turn S)) → now ≡ state_after s xs → new ≡ state_after now ys
+    → new ≡ state_after s (xs ++ ys)
+state_then s now new [] ys a b = b ∙ ap (λ t. state_after t ys) a
+state_then s now new (x ∷ xs) ys a b = state_then x.after now new xs ys a b
 
 -- the lines that turns add, behind those that others added
-pub added_then : (lines now new : List (List ℕ)) (xs ys : List Turn) → now ≡ lines ++ lines_added xs → new ≡ now ++ lines_added ys
+pub added_then : {S : Type 0} (lines now new : List (List ℕ)) (xs ys : List (Turn S)) → now ≡ lines ++ lines_added xs
+    → new ≡ now ++ lines_added ys
     → new ≡ lines ++ lines_added (xs ++ ys)
-added_then lines now new xs ys a b =
+added_then {S} lines now new xs ys a b =
     b ∙ ap (λ ls. ls ++ lines_added ys) a ∙ append_assoc lines (lines_added xs) (lines_added ys)
-    ∙ ap (λ ls. lines ++ ls) (sym (flat_map-append (λ (t : Turn). t.added) xs ys))
+    ∙ ap (λ ls. lines ++ ls) (sym (flat_map-append (λ (t : Turn S). t.added) xs ys))
 
 -- the text of turns, behind that of others
-pub texts_then : (text now new : List ℕ) (xs ys : List Turn) → now ≡ text ++ texts xs → new ≡ now ++ texts ys
+pub texts_then : {S : Type 0} (text now new : List ℕ) (xs ys : List (Turn S)) → now ≡ text ++ texts xs → new ≡ now ++ texts ys
     → new ≡ text ++ texts (xs ++ ys)
-texts_then text now new xs ys a b =
+texts_then {S} text now new xs ys a b =
     b ∙ ap (λ l. l ++ texts ys) a ∙ append_assoc text (texts xs) (texts ys)
-    ∙ ap (λ l. text ++ l) (sym (flat_map-append (λ (t : Turn). t.text) xs ys))
+    ∙ ap (λ l. text ++ l) (sym (flat_map-append (λ (t : Turn S). t.text) xs ys))
 
 -- the lines that turns answer, behind those that others answered
-pub answered_then : (xs ys : List Turn) (before behind : List (List ℕ)) → lines_answered xs ≡ not_blank before
+pub answered_then : {S : Type 0} (xs ys : List (Turn S)) (before behind : List (List ℕ)) → lines_answered xs ≡ not_blank before
     → lines_answered ys ≡ not_blank behind
     → lines_answered (xs ++ ys) ≡ not_blank (before ++ behind)
-answered_then xs ys before behind a b =
-    map-append (λ (t : Turn). t.line) xs ys ∙ ap (λ ls. ls ++ lines_answered ys) a ∙ ap (λ ls. not_blank before ++ ls) b
+answered_then {S} xs ys before behind a b =
+    map-append (λ (t : Turn S). t.line) xs ys ∙ ap (λ ls. ls ++ lines_answered ys) a ∙ ap (λ ls. not_blank before ++ ls) b
     ∙ sym (filter-append (λ line. not (is_blank line)) before behind)
 
 -- ---- lines that are taken
@@ -77,11 +80,12 @@ one_taken p e n len fits at_front = record {
 
 -- ---- steps
 
-pub no_step : (answers : Answers) (e : Bool) (p : Point) → Advances answers e p p
+pub no_step : {S : Type 0} (answers : Answers S) (e : Bool) (p : Point S) → Advances answers e p p
 no_step answers e p = record {
   turns = [];
   taken = [];
   are = tt;
+  state_is = refl;
   lines_are = sym (append-nil p.lines);
   text_is = sym (append-nil p.text);
   count_is = omega arith;
@@ -91,11 +95,13 @@ no_step answers e p = record {
 }
 
 -- some steps, and then others
-pub steps_then : (answers : Answers) (e : Bool) (p q r : Point) → Advances answers e p q → Advances answers e q r → Advances answers e p r
+pub steps_then : {S : Type 0} (answers : Answers S) (e : Bool) (p q r : Point S) → Advances answers e p q → Advances answers e q r
+    → Advances answers e p r
 steps_then answers e p q r a b = record {
   turns = a.turns ++ b.turns;
   taken = a.taken ++ b.taken;
-  are = turns_then answers p.lines a.turns b.turns a.are (subst (λ ls. AreTurns answers ls b.turns) a.lines_are b.are);
+  are = turns_then answers p.state a.turns b.turns a.are (subst (λ s. AreTurns answers s b.turns) a.state_is b.are);
+  state_is = state_then p.state q.state r.state a.turns b.turns a.state_is b.state_is;
   lines_are = added_then p.lines q.lines r.lines a.turns b.turns a.lines_are b.lines_are;
   text_is = texts_then p.text q.text r.text a.turns b.turns a.text_is b.text_is;
   count_is = omega (arith, a.count_is, b.count_is, length-append a.turns b.turns);
@@ -105,14 +111,17 @@ steps_then answers e p q r a b = record {
 }
 
 -- a blank line is skipped
-pub skips : (answers : Answers) (e : Bool) (p q : Point) (n : ℕ) → n ≡ line_len p.pending → n ≤ length p.pending → IsFirst p.pending e n
+pub skips : {S : Type 0} (answers : Answers S) (e : Bool) (p q : Point S) (n : ℕ) → n ≡ line_len p.pending → n ≤ length p.pending
+    → IsFirst p.pending e n
     → is_blank (take n p.pending) ≡ true
-    → q.lines ≡ p.lines → q.text ≡ p.text → q.pending ≡ drop (n + 1) p.pending → q.number ≡ p.number + 1 → q.count ≡ p.count
+    → q.state ≡ p.state → q.lines ≡ p.lines → q.text ≡ p.text → q.pending ≡ drop (n + 1) p.pending → q.number ≡ p.number + 1
+    → q.count ≡ p.count
     → Advances answers e p q
-skips answers e p q n len fits at_front blank lines text left number count = record {
+skips answers e p q n len fits at_front blank state lines text left number count = record {
   turns = [];
   taken = take n p.pending ∷ [];
   are = tt;
+  state_is = state;
   lines_are = lines ∙ sym (append-nil p.lines);
   text_is = text ∙ sym (append-nil p.text);
   count_is = omega (arith, count);
@@ -122,15 +131,18 @@ skips answers e p q n len fits at_front blank lines text left number count = rec
 }
 
 -- a line is answered
-pub answers_one : (answers : Answers) (e : Bool) (p q : Point) (n : ℕ) (new batch batch_new : List (List ℕ)) (text_new : List ℕ)
+pub answers_one : {S : Type 0} (answers : Answers S) (e : Bool) (p q : Point S) (n : ℕ) (new : S) (lines_new batch batch_new : List (List ℕ))
+    (text_new : List ℕ)
     → n ≡ line_len p.pending → n ≤ length p.pending → IsFirst p.pending e n → is_blank (take n p.pending) ≡ false
-    → IsTurn answers p.lines new batch batch_new (take n p.pending) p.text text_new
-    → q.lines ≡ new → q.text ≡ text_new → q.pending ≡ drop (n + 1) p.pending → q.number ≡ p.number + 1 → q.count ≡ p.count + 1
+    → IsTurn answers p.state new p.lines lines_new batch batch_new (take n p.pending) p.text text_new
+    → q.state ≡ new → q.lines ≡ lines_new → q.text ≡ text_new → q.pending ≡ drop (n + 1) p.pending → q.number ≡ p.number + 1
+    → q.count ≡ p.count + 1
     → Advances answers e p q
-answers_one answers e p q n new batch batch_new text_new len fits at_front some turn lines text left number count = record {
-  turns = record { line = take n p.pending; added = turn.added; text = turn.words } ∷ [];
+answers_one answers e p q n new lines_new batch batch_new text_new len fits at_front some turn state lines text left number count = record {
+  turns = record { line = take n p.pending; added = turn.added; text = turn.words; after = new } ∷ [];
   taken = take n p.pending ∷ [];
   are = (turn.answered, tt);
+  state_is = state;
   lines_are = lines ∙ turn.lines_are ∙ ap (λ ls. p.lines ++ ls) (sym (append-nil turn.added));
   text_is = text ∙ turn.text_is ∙ ap (λ l. p.text ++ l) (sym (append-nil turn.words));
   count_is = omega (arith, count);
@@ -140,7 +152,8 @@ answers_one answers e p q n new batch batch_new text_new len fits at_front some 
 }
 
 -- what a line adds to the journal's lines is in the batch too
-pub batch_more : (answers : Answers) (lines new batch batch_new before : List (List ℕ)) (line text text_new : List ℕ)
-    → IsTurn answers lines new batch batch_new line text text_new → lines ≡ before ++ batch → new ≡ before ++ batch_new
-batch_more answers lines new batch batch_new before line text text_new turn is =
+pub batch_more : {S : Type 0} (answers : Answers S) (old new : S) (lines lines_new batch batch_new before : List (List ℕ))
+    (line text text_new : List ℕ) → IsTurn answers old new lines lines_new batch batch_new line text text_new
+    → lines ≡ before ++ batch → lines_new ≡ before ++ batch_new
+batch_more answers old new lines lines_new batch batch_new before line text text_new turn is =
     turn.lines_are ∙ ap (λ ls. ls ++ turn.added) is ∙ append_assoc before batch turn.added ∙ ap (λ ls. before ++ ls) (sym turn.batch_is)

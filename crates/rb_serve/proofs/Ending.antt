@@ -10,20 +10,22 @@ use Rattle.rb_lines.proofs.Public.LongLines.{long_line}
 use Rattle.rb_lines.proofs.Public.Walks.{at_end, at_rest, standing}
 use Rattle.rb_serve.specs.Ends.{AreAll, EndsAs, EndsAtRest, IsReadAnswered, IsBad, IsNext, IsPutOut}
 use Rattle.rb_serve.specs.Steps.{IsBadLine, IsReadFault, Point, StopsAt}
-use Rattle.rb_serve.specs.Turns.{Answers, Turn, lines_answered, not_blank}
+use Rattle.rb_serve.specs.Turns.{Answers, HasNoAnswer, Turn, lines_answered, not_blank}
 use Rattle.rb_serve.specs.declared.fault.ServeFault.{ServeFault}
 use Rattle.rb_serve.specs.declared.fault.ServeFault.TheVariants.{BadLine, LongLine, Read, Write, Journal, OutOfMemory}
 use Rattle.rb_serve.proofs.Follow.{Follows, WalkedKnown}
 
 -- all that the turns come to was put out
-pub put_out : (answers : Answers) (input : Option (List ℕ)) (lines : List (List ℕ)) (output : List ℕ) (first : ℕ) (p : Point)
-    (rest : Option (List ℕ)) (e : Bool) → (f : Follows answers input lines output first p rest e)
-    → IsPutOut answers lines output f.turns p.lines p.text
-put_out answers input lines output first p rest e f = record { are = f.are; lines_are = f.lines_are; output_is = f.output_is }
+pub put_out : {S : Type 0} (answers : Answers S) (input : Option (List ℕ)) (start : S) (lines : List (List ℕ))
+    (output : List ℕ) (first : ℕ) (p : Point S) (rest : Option (List ℕ)) (e : Bool)
+    → (f : Follows answers input start lines output first p rest e)
+    → IsPutOut answers start lines output f.turns p.lines p.text
+put_out answers input start lines output first p rest e f = record { are = f.are; lines_are = f.lines_are; output_is = f.output_is }
 
 -- ---- the end of the input
 
-all_known : (input : Option (List ℕ)) (turns : List Turn) (first : ℕ) (rest : Option (List ℕ)) (p : List ℕ) (e : Bool) (n : ℕ)
+all_known : {S : Type 0} (input : Option (List ℕ)) (turns : List (Turn S))
+    (first : ℕ) (rest : Option (List ℕ)) (p : List ℕ) (e : Bool) (n : ℕ)
     → WalkedKnown input turns first rest p e n → p ≡ [] → IsAtEnd rest
     → IfSome input (λ all. (lines_answered turns ≡ not_blank (lines_of all)) × (rest ≡ Some []))
 all_known None turns first rest p e n w none end = tt
@@ -32,15 +34,17 @@ all_known (Some all) turns first (Some r) p e n w none end =
     (w.answered ∙ ap not_blank (sym (at_end all w.done p r e w.walks none end)), ap Some end)
 
 -- nothing waits, and the input has ended
-pub ends_all : (answers : Answers) (input : Option (List ℕ)) (lines : List (List ℕ)) (output : List ℕ) (first : ℕ) (p : Point)
-    (rest : Option (List ℕ)) (e : Bool) → (f : Follows answers input lines output first p rest e) → p.pending ≡ [] → IsAtEnd rest
+pub ends_all : {S : Type 0} (answers : Answers S) (input : Option (List ℕ)) (start : S) (lines : List (List ℕ))
+    (output : List ℕ) (first : ℕ) (p : Point S) (rest : Option (List ℕ)) (e : Bool)
+    → (f : Follows answers input start lines output first p rest e) → p.pending ≡ [] → IsAtEnd rest
     → AreAll f.turns p.count input rest
-ends_all answers input lines output first p rest e f none end =
+ends_all answers input start lines output first p rest e f none end =
     (f.count_is, all_known input f.turns first rest p.pending e p.number f.walked none end)
 
 -- ---- a line that isn't answered
 
-next_known : (input : Option (List ℕ)) (turns : List Turn) (first : ℕ) (rest : Option (List ℕ)) (p : List ℕ) (e : Bool) (number n : ℕ)
+next_known : {S : Type 0} (input : Option (List ℕ)) (turns : List (Turn S))
+    (first : ℕ) (rest : Option (List ℕ)) (p : List ℕ) (e : Bool) (number n : ℕ)
     → WalkedKnown input turns first rest p e number → n ≡ line_len p → n ≤ length p
     → (n < length p) ⊎ ((n ≡ length p) × (0 < n) × (e ≡ true)) → (e ≡ true → IsAtEnd rest)
     → IfSome input (IsNext turns first number (take n p))
@@ -57,20 +61,22 @@ next_known (Some all) turns first (Some r) p e number n w len fits at_front end 
     }
 
 -- the line at the front has no answer
-pub ends_bad : (answers : Answers) (input : Option (List ℕ)) (lines : List (List ℕ)) (output : List ℕ) (first : ℕ) (p : Point)
-    (rest : Option (List ℕ)) (b : Buffers) → (f : Follows answers input lines output first p rest b.ended) → p.pending ≡ b.pending
-    → IsBadLine answers p.lines b → (b.ended ≡ true → IsAtEnd rest)
-    → IsBad answers lines f.turns first p.number input
-ends_bad answers input lines output first p rest b f same (n, at_front, some, none) end =
+pub ends_bad : {S : Type 0} (answers : Answers S) (input : Option (List ℕ)) (start : S) (lines : List (List ℕ))
+    (output : List ℕ) (first : ℕ) (p : Point S) (rest : Option (List ℕ)) (b : Buffers)
+    → (f : Follows answers input start lines output first p rest b.ended) → p.pending ≡ b.pending
+    → IsBadLine answers p.state b → (b.ended ≡ true → IsAtEnd rest)
+    → IsBad answers start f.turns first p.number input
+ends_bad answers input start lines output first p rest b f same (n, at_front, some, none) end =
     let walked = subst (λ l. WalkedKnown input f.turns first rest l b.ended p.number) same f.walked in (
       take n b.pending,
       some,
       search rules,
-      subst (λ ls. (added : List (List ℕ)) (text : List ℕ) → ¬ answers ls (take n b.pending) added text) f.lines_are none,
+      subst (λ s. HasNoAnswer answers s (take n b.pending)) f.state_is none,
       next_known input f.turns first rest b.pending b.ended p.number n walked at_front.0 at_front.2 at_front.3 end,
     )
 
-long_known : (input : Option (List ℕ)) (turns : List Turn) (first : ℕ) (rest : Option (List ℕ)) (p : List ℕ) (e : Bool) (number : ℕ)
+long_known : {S : Type 0} (input : Option (List ℕ)) (turns : List (Turn S))
+    (first : ℕ) (rest : Option (List ℕ)) (p : List ℕ) (e : Bool) (number : ℕ)
     → WalkedKnown input turns first rest p e number → LINE_LIMIT < line_len p
     → IfSome input (λ all. (line : List ℕ) × (is_long line ≡ true) × IsNext turns first number line all)
 long_known None turns first rest p e number w h = tt
@@ -91,7 +97,8 @@ long_known (Some all) turns first (Some r) p e number w h =
 
 -- ---- no more is read
 
-read_known : (input : Option (List ℕ)) (turns : List Turn) (first : ℕ) (rest left : Option (List ℕ)) (p : List ℕ) (e : Bool) (number : ℕ)
+read_known : {S : Type 0} (input : Option (List ℕ)) (turns : List (Turn S))
+    (first : ℕ) (rest left : Option (List ℕ)) (p : List ℕ) (e : Bool) (number : ℕ)
     → WalkedKnown input turns first rest p e number → e ≡ false → line_len p ≡ length p → Keeps rest left
     → IfSome input (IsReadAnswered turns left)
 read_known None turns first rest left p e number w going none kept = tt
@@ -106,39 +113,42 @@ read_known (Some all) turns first (Some r) (Some x) p e number w going none kept
 }
 
 -- a read failed, or there were as many as there may be
-pub ends_read : (answers : Answers) (input : Option (List ℕ)) (lines : List (List ℕ)) (output : List ℕ) (first : ℕ) (p : Point)
-    (rest left : Option (List ℕ)) (e : Bool) → (f : Follows answers input lines output first p rest e) → e ≡ false
+pub ends_read : {S : Type 0} (answers : Answers S) (input : Option (List ℕ)) (start : S) (lines : List (List ℕ))
+    (output : List ℕ) (first : ℕ) (p : Point S) (rest left : Option (List ℕ)) (e : Bool)
+    → (f : Follows answers input start lines output first p rest e) → e ≡ false
     → line_len p.pending ≡ length p.pending → Keeps rest left
     → IfSome input (IsReadAnswered f.turns left)
-ends_read answers input lines output first p rest left e f going none kept =
+ends_read answers input start lines output first p rest left e f going none kept =
     read_known input f.turns first rest left p.pending e p.number f.walked going none kept
 
 -- ---- each way
 
 -- a group that stopped: the turns so far, and why
-pub ends_group : (answers : Answers) (input : Option (List ℕ)) (lines : List (List ℕ)) (output : List ℕ) (first : ℕ) (p : Point)
-    (rest : Option (List ℕ)) (b : Buffers) (fault : ServeFault) → Follows answers input lines output first p rest b.ended
-    → p.pending ≡ b.pending → StopsAt {T = Unit {0}} answers p.lines p.number b (Err fault)
+pub ends_group : {S : Type 0} (answers : Answers S) (input : Option (List ℕ)) (start : S) (lines : List (List ℕ))
+    (output : List ℕ) (first : ℕ) (p : Point S) (rest : Option (List ℕ)) (b : Buffers) (fault : ServeFault)
+    → Follows answers input start lines output first p rest b.ended
+    → p.pending ≡ b.pending → StopsAt {T = Unit {0}} answers p.state p.number b (Err fault)
     → EndsAtRest {T = ℕ} (Err fault)
     → (b.ended ≡ true → IsAtEnd rest)
-    → (turns : List Turn) × IsPutOut answers lines output turns p.lines p.text × EndsAs answers lines turns first input rest (Err fault)
-ends_group answers input lines output first p rest b (BadLine k) f same stop at_rest end = (
+    → (turns : List (Turn S)) × IsPutOut answers start lines output turns p.lines p.text
+    × EndsAs answers start turns first input rest (Err fault)
+ends_group answers input start lines output first p rest b (BadLine k) f same stop at_rest end = (
   f.turns,
-  put_out answers input lines output first p rest b.ended f,
-  subst (λ n. IsBad answers lines f.turns first n input) (sym stop.0)
-      (ends_bad answers input lines output first p rest b f same stop.1 end),
+  put_out answers input start lines output first p rest b.ended f,
+  subst (λ n. IsBad answers start f.turns first n input) (sym stop.0)
+      (ends_bad answers input start lines output first p rest b f same stop.1 end),
 )
-ends_group answers input lines output first p rest b (LongLine k) f same stop at_rest end = (
+ends_group answers input start lines output first p rest b (LongLine k) f same stop at_rest end = (
   f.turns,
-  put_out answers input lines output first p rest b.ended f,
-  subst (λ n. EndsAs answers lines f.turns first input rest (Err (LongLine n))) (sym stop.0)
+  put_out answers input start lines output first p rest b.ended f,
+  subst (λ n. EndsAs answers start f.turns first input rest (Err (LongLine n))) (sym stop.0)
       (long_known input f.turns first rest b.pending b.ended p.number
       (subst (λ l. WalkedKnown input f.turns first rest l b.ended p.number) same f.walked) stop.1),
 )
-ends_group answers input lines output first p rest b Read f same stop at_rest end = absurd stop
-ends_group answers input lines output first p rest b Write f same stop at_rest end = absurd at_rest
-ends_group answers input lines output first p rest b Journal f same stop at_rest end = absurd at_rest
-ends_group answers input lines output first p rest b OutOfMemory f same stop at_rest end = absurd at_rest
+ends_group answers input start lines output first p rest b Read f same stop at_rest end = absurd stop
+ends_group answers input start lines output first p rest b Write f same stop at_rest end = absurd at_rest
+ends_group answers input start lines output first p rest b Journal f same stop at_rest end = absurd at_rest
+ends_group answers input start lines output first p rest b OutOfMemory f same stop at_rest end = absurd at_rest
 
 -- whether a fault leaves the journal at rest doesn't rest on what the call returns otherwise
 pub rests : (fault : ServeFault) → EndsAtRest {T = ℕ} (Err fault) → EndsAtRest {T = Unit {0}} (Err fault)

@@ -1,4 +1,5 @@
 mod Advance
 mod Runs
 mod Follow
+mod Groups
 mod Ending

@@ -16,7 +16,8 @@ use Rattle.rb_serve.specs.Turns.{Answers, Turn, lines_added, lines_answered, not
 use Rattle.rb_serve.specs.declared.fault.ServeFault.TheVariants.{Journal}
 
 -- where lines were taken, the turns that answer them are first
-pub first_of_taken : (turns : List Turn) (p q : List ℕ) (e : Bool) (taken : List (List ℕ)) (rest : List ℕ) → IsTaken p e taken q
+pub first_of_taken : {S : Type 0} (turns : List (Turn S)) (p q : List ℕ) (e : Bool) (taken : List (List ℕ)) (rest : List ℕ)
+    → IsTaken p e taken q
     → (e ≡ true → rest ≡ []) → lines_answered turns ≡ not_blank taken
     → AreFirst turns (p ++ rest)
 first_of_taken turns p q e taken rest is end answered = (
@@ -26,10 +27,11 @@ first_of_taken turns p q e taken rest is end answered = (
 )
 
 -- at each moment of a commit there are the turns before it, or those of the batch too
-pub durable_is_run : (answers : Answers) (e : Bool) (p q : Point) (rest batch output reply c d : List ℕ) → Advances answers e p q
+pub durable_is_run : {S : Type 0} (answers : Answers S) (e : Bool) (p q : Point S) (rest batch output reply c d : List ℕ)
+    → Advances answers e p q
     → (e ≡ true → rest ≡ []) → q.lines ≡ p.lines ++ recovered batch → p.text ≡ [] → q.text ≡ reply
     → IsDurable p.lines (recovered batch) output reply c d
-    → IsRunOfTurns answers (Some (p.pending ++ rest)) p.lines output c d
+    → IsRunOfTurns answers (Some (p.pending ++ rest)) p.state p.lines output c d
 durable_is_run answers e p q rest batch output reply c d a end lines none text (inl at) = record {
   turns = [];
   are = tt;
@@ -53,10 +55,10 @@ concat_then [] ys = refl
 concat_then (x ∷ xs) ys = ap (λ l. x ++ l) (concat_then xs ys) ∙ sym (append_assoc x (concat xs) (concat ys))
 
 -- a batch that finds no place below 2^60 bytes
-pub is_full : (answers : Answers) (e : Bool) (p q : Point) (rest batch : List ℕ) (end : ℕ) → Advances answers e p q
+pub is_full : {S : Type 0} (answers : Answers S) (e : Bool) (p q : Point S) (rest batch : List ℕ) (end : ℕ) → Advances answers e p q
     → (e ≡ true → rest ≡ []) → q.lines ≡ p.lines ++ recovered batch → IsBatch batch → end ≡ length (concat p.lines)
     → 2 ^ 60 ≤ end + length batch
-    → IsFull answers (Some (p.pending ++ rest)) p.lines
+    → IsFull answers (Some (p.pending ++ rest)) p.state p.lines
 is_full answers e p q rest batch end a over lines whole at long = record {
   turns = a.turns;
   are = a.are;

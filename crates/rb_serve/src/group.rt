@@ -24,30 +24,33 @@ pub fn answer_group<M: Machine, H: Host>(
     work: &mut Work,
 ) -> Result<(), ServeFault>
     requires settled { IsSettled H.is_usable H.content H.may_leave journal.old }
-    requires same { M.lines machine.old ≡ recovered (H.content journal.old.host) }
+    requires same { M.lines (M.state machine.old) ≡ recovered (H.content journal.old.host) }
     requires batch { work.old.batch.bytes.items ≡ [] }
     requires buffered { buffers.old.buffered.items ≡ [] }
     requires number { work.old.number + length buffers.old.pending < 2 ^ 64 }
     requires count { work.old.count ≤ work.old.number }
 
     ensures settled { EndsAtRest result → IsSettled H.is_usable H.content H.may_leave journal.new }
-    ensures same { EndsAtRest result → M.lines machine.new ≡ recovered (H.content journal.new.host) }
+    ensures same { EndsAtRest result → M.lines (M.state machine.new) ≡ recovered (H.content journal.new.host) }
     ensures answered { EndsAtRest result → Advances M.answers buffers.old.ended
-        (point_of (recovered (H.content journal.old.host)) (H.output journal.old.host) work.old buffers.old)
-        (point_of (recovered (H.content journal.new.host)) (H.output journal.new.host) work.new buffers.new) }
-    ensures stop { StopsAt M.answers (M.lines machine.new) work.new.number buffers.new result }
+        (point_of (M.state machine.old) (recovered (H.content journal.old.host)) (H.output journal.old.host) work.old
+        buffers.old)
+        (point_of (M.state machine.new) (recovered (H.content journal.new.host)) (H.output journal.new.host) work.new
+        buffers.new) }
+    ensures stop { StopsAt M.answers (M.state machine.new) work.new.number buffers.new result }
 
     // A crash leaves a run over these lines, whatever is read behind them.
     ensures any_moment { (rest : List ℕ) → (buffers.old.ended ≡ true → rest ≡ [])
         → LeavesOnly H.moment H.left_since journal.old.host journal.new.host
-        (IsRunOfTurns M.answers (Some (buffers.old.pending ++ rest)) (recovered (H.content journal.old.host))
-        (H.output journal.old.host)) }
+        (IsRunOfTurns M.answers (Some (buffers.old.pending ++ rest)) (M.state machine.old)
+        (recovered (H.content journal.old.host)) (H.output journal.old.host)) }
 
     ensures later { H.faults journal.old.host ≤ H.faults journal.new.host }
     ensures write { result ≡ Err Write → H.faults journal.old.host < H.faults journal.new.host }
     ensures journal { result ≡ Err JournalFailed → (H.faults journal.old.host < H.faults journal.new.host)
         ⊎ ((rest : List ℕ) → (buffers.old.ended ≡ true → rest ≡ [])
-        → IsFull M.answers (Some (buffers.old.pending ++ rest)) (recovered (H.content journal.old.host))) }
+        → IsFull M.answers (Some (buffers.old.pending ++ rest)) (M.state machine.old)
+        (recovered (H.content journal.old.host))) }
 
     ensures batch { EndsAtRest result → work.new.batch.bytes.items ≡ [] }
     ensures buffered { EndsAtRest result → buffers.new.buffered.items ≡ [] }

@@ -18,11 +18,18 @@ pub enum MachineFault {
 
 /// What answers lines, one after another. Its state is the run of a journal's lines.
 pub trait Machine {
-    /// The journal's lines that the machine is the run of, each with its line feed.
-    ghost lines: { Self → List (List ℕ) };
+    /// What clauses see of a machine.
+    ghost State: { Type 0 };
 
-    /// After these lines of the journal, the input line may be answered by adding these lines, with this text.
-    ghost answers: { List (List ℕ) → List ℕ → List (List ℕ) → List ℕ → Type 0 };
+    /// The machine's state.
+    ghost state: { Self → State };
+
+    /// The journal's lines that a machine in that state is the run of, each with its line feed.
+    ghost lines: { State → List (List ℕ) };
+
+    /// In the first state, the input line may be answered by adding these lines, with this text, and then the state is
+    /// the second.
+    ghost answers: { State → List ℕ → List (List ℕ) → List ℕ → State → Type 0 };
 
     /// Takes one line, which isn't blank and not too long: adds its lines to the batch, and its answer to the text.
     /// After an `Err` neither has changed. `Bad`: the machine hasn't either. `OutOfMemory`: ask nothing more of it.
@@ -34,11 +41,12 @@ pub trait Machine {
     ) -> Result<(), MachineFault>
         requires some { is_blank line.now ≡ false }
         requires short { length line.now ≤ LINE_LIMIT }
-        ensures answered { OnOk result (IsTurn answers (lines self.old) (lines self.new)
+        ensures answered { OnOk result (IsTurn answers (state self.old) (state self.new)
+            (lines (state self.old)) (lines (state self.new))
             (recovered batch.old.bytes.items) (recovered batch.new.bytes.items) line.now
             text.old.items text.new.items) }
-        ensures bad { IsErrOf result MachineFault.Bad → HasNoAnswer answers (lines self.old) line.now }
-        ensures same { IsErrOf result MachineFault.Bad → lines self.new ≡ lines self.old }
+        ensures bad { IsErrOf result MachineFault.Bad → HasNoAnswer answers (state self.old) line.now }
+        ensures same { IsErrOf result MachineFault.Bad → state self.new ≡ state self.old }
         ensures batch_err { OnErr result (batch.new.bytes.items ≡ batch.old.bytes.items) }
         ensures text_err { OnErr result (text.new.items ≡ text.old.items) };
 }

@@ -35,7 +35,7 @@ pub fn serve<M: Machine, H: Host, S: Source>(
     reader: &mut S,
 ) -> Result<u64, ServeFault>
     requires settled { IsSettled H.is_usable H.content H.may_leave journal.old }
-    requires same { M.lines machine.old ≡ recovered (H.content journal.old.host) }
+    requires same { M.lines (M.state machine.old) ≡ recovered (H.content journal.old.host) }
     requires counted { Counts (S.calls reader.old) buffers.old.reads }
     requires end { buffers.old.ended ≡ true → IsAtEnd (S.remaining reader.old) }
     requires buffered { buffers.old.buffered.items ≡ [] }
@@ -43,26 +43,26 @@ pub fn serve<M: Machine, H: Host, S: Source>(
 
     // Where nothing has failed but a line or a read, the journal is at rest, and the machine is the run of its lines.
     ensures settled { EndsAtRest result → IsSettled H.is_usable H.content H.may_leave journal.new }
-    ensures same { EndsAtRest result → M.lines machine.new ≡ recovered (H.content journal.new.host) }
+    ensures same { EndsAtRest result → M.lines (M.state machine.new) ≡ recovered (H.content journal.new.host) }
 
     // Then the lines and the text are those of the turns, and the turns are those of the lines of the input.
-    ensures text { EndsAtRest result → (turns : List Turn)
-        × IsPutOut M.answers (recovered (H.content journal.old.host)) (H.output journal.old.host) turns
-        (recovered (H.content journal.new.host)) (H.output journal.new.host)
-        × EndsAs M.answers (recovered (H.content journal.old.host)) turns number
+    ensures text { EndsAtRest result → (turns : List (Turn M.State))
+        × IsPutOut M.answers (M.state machine.old) (recovered (H.content journal.old.host))
+        (H.output journal.old.host) turns (recovered (H.content journal.new.host)) (H.output journal.new.host)
+        × EndsAs M.answers (M.state machine.old) turns number
         (served_input buffers.old.pending (S.remaining reader.old)) (S.remaining reader.new) result }
 
     // A crash at any moment leaves a file and an output of a run: nothing is put out that it takes back, and no line
     // of the journal is skipped or there in part.
     ensures any_moment { LeavesOnly H.moment H.left_since journal.old.host journal.new.host
-        (IsRunOfTurns M.answers (served_input buffers.old.pending (S.remaining reader.old))
+        (IsRunOfTurns M.answers (served_input buffers.old.pending (S.remaining reader.old)) (M.state machine.old)
         (recovered (H.content journal.old.host)) (H.output journal.old.host)) }
 
     // Each other fault comes only for its cause.
     ensures read { result ≡ Err Read → (S.failed reader.new ≡ true) ⊎ (S.calls reader.new ≡ MOST_READS) }
     ensures write { result ≡ Err Write → H.faults journal.old.host < H.faults journal.new.host }
     ensures journal { result ≡ Err JournalFailed → (H.faults journal.old.host < H.faults journal.new.host)
-        ⊎ IsFull M.answers (served_input buffers.old.pending (S.remaining reader.old))
+        ⊎ IsFull M.answers (served_input buffers.old.pending (S.remaining reader.old)) (M.state machine.old)
         (recovered (H.content journal.old.host)) }
     // At most `MOST_READS` reads are made, whatever is answered.
     ensures calls { S.calls reader.new ≤ MOST_READS }

@@ -46,17 +46,17 @@ fn answer_next<M: Machine>(
     requires number { work.old.number + 1 < 2 ^ 64 }
     requires count { work.old.count ≤ work.old.number }
     ensures answered { OnOk result (Advances M.answers buffers.old.ended
-        (point_of (M.lines machine.old) buffers.old.buffered.items work.old buffers.old)
-        (point_of (M.lines machine.new) buffers.new.buffered.items work.new buffers.new)) }
+        (point_of (M.state machine.old) (M.lines (M.state machine.old)) buffers.old.buffered.items work.old buffers.old)
+        (point_of (M.state machine.new) (M.lines (M.state machine.new)) buffers.new.buffered.items work.new buffers.new)) }
     // What is added is added to the batch.
     ensures batch { OnOk result ((before : List (List ℕ))
-        → M.lines machine.old ≡ before ++ recovered work.old.batch.bytes.items
-        → M.lines machine.new ≡ before ++ recovered work.new.batch.bytes.items) }
-    ensures machine { OnErr result (result ≢ Err OutOfMemory → M.lines machine.new ≡ M.lines machine.old) }
-    ensures same { OnErr result ((lines : List (List ℕ)) →
-        point_of (lines ++ recovered work.new.batch.bytes.items) buffers.new.buffered.items work.new buffers.new
-        ≡ point_of (lines ++ recovered work.old.batch.bytes.items) buffers.old.buffered.items work.old buffers.old) }
-    ensures stop { OnErr result (StopsAt M.answers (M.lines machine.new) work.new.number buffers.new result) }
+        → M.lines (M.state machine.old) ≡ before ++ recovered work.old.batch.bytes.items
+        → M.lines (M.state machine.new) ≡ before ++ recovered work.new.batch.bytes.items) }
+    ensures machine { OnErr result (result ≢ Err OutOfMemory → M.state machine.new ≡ M.state machine.old) }
+    ensures same { OnErr result ((state : M.State) (lines : List (List ℕ)) →
+        point_of state (lines ++ recovered work.new.batch.bytes.items) buffers.new.buffered.items work.new buffers.new
+        ≡ point_of state (lines ++ recovered work.old.batch.bytes.items) buffers.old.buffered.items work.old buffers.old) }
+    ensures stop { OnErr result (StopsAt M.answers (M.state machine.new) work.new.number buffers.new result) }
     ensures not_write { result ≡ Err Write → ⊥ }
     ensures not_journal { result ≡ Err Journal → ⊥ }
     ensures reads { buffers.new.reads ≡ buffers.old.reads }
@@ -88,13 +88,14 @@ pub fn answer_waiting<M: Machine>(
     requires batch { work.old.batch.bytes.items ≡ [] }
     requires number { work.old.number + length buffers.old.pending < 2 ^ 64 }
     requires count { work.old.count ≤ work.old.number }
-    ensures answered { Advances M.answers buffers.old.ended
-        (point_of (M.lines machine.old) buffers.old.buffered.items work.old buffers.old)
-        (point_of (M.lines machine.old ++ recovered work.new.batch.bytes.items) buffers.new.buffered.items work.new
-        buffers.new) }
-    ensures machine { result ≢ Err OutOfMemory
-        → M.lines machine.new ≡ M.lines machine.old ++ recovered work.new.batch.bytes.items }
-    ensures stop { StopsAt M.answers (M.lines machine.new) work.new.number buffers.new result }
+    // Of a machine without memory nothing is said: then there is the state before the line that it didn't answer.
+    ensures answered { (state : M.State) × Advances M.answers buffers.old.ended
+        (point_of (M.state machine.old) (M.lines (M.state machine.old)) buffers.old.buffered.items work.old buffers.old)
+        (point_of state (M.lines (M.state machine.old) ++ recovered work.new.batch.bytes.items)
+        buffers.new.buffered.items work.new buffers.new) × (result ≢ Err OutOfMemory → M.state machine.new ≡ state) }
+    ensures machine { result ≢ Err OutOfMemory → M.lines (M.state machine.new)
+        ≡ M.lines (M.state machine.old) ++ recovered work.new.batch.bytes.items }
+    ensures stop { StopsAt M.answers (M.state machine.new) work.new.number buffers.new result }
     ensures not_write { result ≡ Err Write → ⊥ }
     ensures not_journal { result ≡ Err Journal → ⊥ }
     ensures reads { buffers.new.reads ≡ buffers.old.reads }

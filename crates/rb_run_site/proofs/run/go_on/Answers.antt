@@ -85,7 +85,7 @@ returns-clause-any_moment g c =
     (IsLeftOrAnswered lines x sends input output) c.commit_and_put_out.ensures.any_moment
     (λ f d at. begun lines x first sends c.deref-2.result.now input output f d is c.deref-2.ensures.value at) in
     runs_on host.moment host.left_since was mid new.journal.host (IsLeftOrAnswered lines x sends input output)
-    (IsRunOfTurns SiteAnswers input (recovered (host.content mid)) (host.output mid)) so_far c.serve.ensures.any_moment
+    (IsRunOfTurns SiteAnswers input x (recovered (host.content mid)) (host.output mid)) so_far c.serve.ensures.any_moment
     (λ f d run. answered lines x sends input output (recovered (host.content mid)) (host.output mid) f d
     (sym (c.in_ok-commit_and_put_out.ensures.lines ∙ is.whole))
     (c.in_ok-commit_and_put_out.ensures.output ∙ ap (λ l. host.output was ++ l) c.deref-2.ensures.value) run)
@@ -104,5 +104,5 @@ returns-clause-journal g c = λ failed.
     c.requires.journal (subst (λ f. IsToBegin lines x f) (sym c.deref.ensures.value) c.requires.begins) in
     let same : recovered (host.content mid) ≡ journal_of x = c.in_ok-commit_and_put_out.ensures.lines ∙ is.whole in
     ⊎_elim (λ (more : host.faults mid < host.faults new). inl (omega (arith, more, c.commit_and_put_out.ensures.later)))
-    (λ (full : IsFull SiteAnswers input (recovered (host.content mid))). inr (subst (λ ls. IsFull SiteAnswers input ls) same full))
+    (λ (full : IsFull SiteAnswers input x (recovered (host.content mid))). inr (subst (λ ls. IsFull SiteAnswers input x ls) same full))
     (c.serve.ensures.journal failed)

@@ -61,5 +61,5 @@ returns-in-Err-ended-clause-journal g c = λ failed.
     let passed : c.from.result ≡ DiskFailed = cc failed in
     let is : fault ≡ JournalStopped = only_journal fault (sym same ∙ passed) in
     ⊎_elim (λ (more : host.faults mid < host.faults new). inl (omega (arith, more, c.in-Ok.ensures.later)))
-    (λ (full : IsFull SiteAnswers input (journal_of x)). inr full)
+    (λ (full : IsFull SiteAnswers input x (journal_of x)). inr full)
     (c.in-Err-ended.ensures.journal (ap Err is))

@@ -6,7 +6,9 @@ use Rattle.rb_serve.specs.Run.{served_input}
 use Rattle.rb_run_site.specs.Ends.{AnswersAll, AnswersBehind}
 use Rattle.rb_run_site.specs.Journals.{SiteAnswers, journal_of}
 use Rattle.rb_run_site.specs.Runs.{IsLeftOrAnswered, IsSiteRun}
+use Rattle.rb_run_site.specs.Steps.{IsRunOfSteps}
 use Rattle.rb_run_site.proofs.Behind.{ends_behind, full_behind, ran, run_behind}
+use Rattle.rb_run_site.proofs.Stepped.{stepped_run}
 use Rattle.rb_journal.proofs.Public.Moments.{weaker}
 use Rattle.rb_run_site.proofs.run.run_site.Goals as goal
 
@@ -51,6 +53,25 @@ returns-in-Ok-clause-any_moment g c =
     (λ f d run. run_behind c.args.me c.args.resend c.in-Ok.number input left file is.0 mid.buffers.pending x first sends is.1 is.2
     output f d run)
 
+pub returns-in-Ok-clause-steps : goal.returns-in-Ok-clause-steps
+returns-in-Ok-clause-steps g c =
+    let host = g.H.Host in
+    let is = c.in-Ok.ensures.opened in
+    let input = g.S.Source.remaining c.args.reader.now in
+    let mid = c.open_site.new in
+    let left = g.S.Source.remaining mid.reader in
+    let was = c.args.host in
+    let new = c.run_opened.result.host in
+    let x = c.in-Ok.opened.machine.node.site in
+    let first = c.in-Ok.opened.first.items in
+    let sends = c.in-Ok.opened.sends.items in
+    let output = host.output was in
+    let file = c.args.bytes.now in
+    weaker host.moment host.left_since was new (IsLeftOrAnswered (recovered file) x sends (served_input mid.buffers.pending left) output)
+    (IsRunOfSteps c.args.me c.args.resend input (recovered file) output) c.run_opened.ensures.any_moment
+    (λ f d run. stepped_run c.args.me c.args.resend input (recovered file) output f d
+    (run_behind c.args.me c.args.resend c.in-Ok.number input left file is.0 mid.buffers.pending x first sends is.1 is.2 output f d run))
+
 pub returns-in-Ok-clause-journal : goal.returns-in-Ok-clause-journal
 returns-in-Ok-clause-journal g c = λ failed.
     let host = g.H.Host in
@@ -59,7 +80,7 @@ returns-in-Ok-clause-journal g c = λ failed.
     let left = g.S.Source.remaining mid.reader in
     let x = c.in-Ok.opened.machine.node.site in
     ⊎_elim (λ (more : host.faults c.args.host < host.faults c.run_opened.result.host). inl more)
-    (λ (full : IsFull SiteAnswers (served_input mid.buffers.pending left) (journal_of x)). inr
+    (λ (full : IsFull SiteAnswers (served_input mid.buffers.pending left) x (journal_of x)). inr
     (full_behind c.args.me c.args.resend c.in-Ok.number (g.S.Source.remaining c.args.reader.now) left c.args.bytes.now is.0
     mid.buffers.pending x c.in-Ok.opened.first.items c.in-Ok.opened.sends.items is.1 is.2 full))
     (c.run_opened.ensures.journal failed)

@@ -17,14 +17,16 @@ returns-in_err-commit_and_put_out-clause-any_moment g c = λ rest end.
     let output = g.H.Host.output host in
     let now = c.answer_waiting-answered.new in
     let old = c.args.buffers.now in
-    let steps = subst (λ ls. Advances g.M.Machine.answers old.ended (point_of ls old.buffered.items c.args.work.now old)
-    (point_of (ls ++ recovered now.work.batch.bytes.items) now.buffers.buffered.items now.work now.buffers)) c.requires.same
-    c.answer_waiting-answered.ensures.answered in
+    let begin = g.M.Machine.state c.args.machine.now in
+    let last = c.answer_waiting-answered.ensures.answered.0 in
+    let steps = subst (λ ls. Advances g.M.Machine.answers old.ended (point_of begin ls old.buffered.items c.args.work.now old)
+    (point_of last (ls ++ recovered now.work.batch.bytes.items) now.buffers.buffered.items now.work now.buffers)) c.requires.same
+    c.answer_waiting-answered.ensures.answered.1 in
     weaker g.H.Host.moment g.H.Host.left_since host c.commit_and_put_out.new.self.host _
-    (IsRunOfTurns g.M.Machine.answers (Some (old.pending ++ rest)) lines output) c.commit_and_put_out.ensures.any_moment
-    (λ f d kept. durable_is_run g.M.Machine.answers old.ended (point_of lines old.buffered.items c.args.work.now old)
-    (point_of (lines ++ recovered now.work.batch.bytes.items) now.buffers.buffered.items now.work now.buffers) rest c.deref.result.now output
-    c.deref-2.result.now f d steps end (ap (λ l. lines ++ recovered l) (sym c.deref.ensures.value)) c.requires.buffered
+    (IsRunOfTurns g.M.Machine.answers (Some (old.pending ++ rest)) begin lines output) c.commit_and_put_out.ensures.any_moment
+    (λ f d kept. durable_is_run g.M.Machine.answers old.ended (point_of begin lines old.buffered.items c.args.work.now old)
+    (point_of last (lines ++ recovered now.work.batch.bytes.items) now.buffers.buffered.items now.work now.buffers) rest
+    c.deref.result.now output c.deref-2.result.now f d steps end (ap (λ l. lines ++ recovered l) (sym c.deref.ensures.value)) c.requires.buffered
     (sym c.deref-2.ensures.value) kept)
 
 pub returns-clause-any_moment : goal.returns-clause-any_moment
@@ -34,14 +36,16 @@ returns-clause-any_moment g c = λ rest end.
     let output = g.H.Host.output host in
     let now = c.answer_waiting-answered.new in
     let old = c.args.buffers.now in
-    let steps = subst (λ ls. Advances g.M.Machine.answers old.ended (point_of ls old.buffered.items c.args.work.now old)
-    (point_of (ls ++ recovered now.work.batch.bytes.items) now.buffers.buffered.items now.work now.buffers)) c.requires.same
-    c.answer_waiting-answered.ensures.answered in
+    let begin = g.M.Machine.state c.args.machine.now in
+    let last = c.answer_waiting-answered.ensures.answered.0 in
+    let steps = subst (λ ls. Advances g.M.Machine.answers old.ended (point_of begin ls old.buffered.items c.args.work.now old)
+    (point_of last (ls ++ recovered now.work.batch.bytes.items) now.buffers.buffered.items now.work now.buffers)) c.requires.same
+    c.answer_waiting-answered.ensures.answered.1 in
     weaker g.H.Host.moment g.H.Host.left_since host c.commit_and_put_out.new.self.host _
-    (IsRunOfTurns g.M.Machine.answers (Some (old.pending ++ rest)) lines output) c.commit_and_put_out.ensures.any_moment
-    (λ f d kept. durable_is_run g.M.Machine.answers old.ended (point_of lines old.buffered.items c.args.work.now old)
-    (point_of (lines ++ recovered now.work.batch.bytes.items) now.buffers.buffered.items now.work now.buffers) rest c.deref.result.now output
-    c.deref-2.result.now f d steps end (ap (λ l. lines ++ recovered l) (sym c.deref.ensures.value)) c.requires.buffered
+    (IsRunOfTurns g.M.Machine.answers (Some (old.pending ++ rest)) begin lines output) c.commit_and_put_out.ensures.any_moment
+    (λ f d kept. durable_is_run g.M.Machine.answers old.ended (point_of begin lines old.buffered.items c.args.work.now old)
+    (point_of last (lines ++ recovered now.work.batch.bytes.items) now.buffers.buffered.items now.work now.buffers) rest
+    c.deref.result.now output c.deref-2.result.now f d steps end (ap (λ l. lines ++ recovered l) (sym c.deref.ensures.value)) c.requires.buffered
     (sym c.deref-2.ensures.value) kept)
 
 pub returns-in_err-commit_and_put_out-clause-journal : goal.returns-in_err-commit_and_put_out-clause-journal
@@ -53,13 +57,15 @@ returns-in_err-commit_and_put_out-clause-journal g c = λ is.
     let lines = recovered (g.H.Host.content c.args.journal.now.host) in
     let now = c.answer_waiting-answered.new in
     let old = c.args.buffers.now in
-    let steps = subst (λ ls. Advances g.M.Machine.answers old.ended (point_of ls old.buffered.items c.args.work.now old)
-    (point_of (ls ++ recovered now.work.batch.bytes.items) now.buffers.buffered.items now.work now.buffers)) c.requires.same
-    c.answer_waiting-answered.ensures.answered in
+    let begin = g.M.Machine.state c.args.machine.now in
+    let last = c.answer_waiting-answered.ensures.answered.0 in
+    let steps = subst (λ ls. Advances g.M.Machine.answers old.ended (point_of begin ls old.buffered.items c.args.work.now old)
+    (point_of last (ls ++ recovered now.work.batch.bytes.items) now.buffers.buffered.items now.work now.buffers)) c.requires.same
+    c.answer_waiting-answered.ensures.answered.1 in
     let batch : c.deref.result.now ≡ now.work.batch.bytes.items = c.deref.ensures.value in
     ⊎_elim (λ (disk : error ≡ DiskFailed). inl (why.failed (ap Err disk)))
-    (λ (full : error ≡ Full). inr (λ rest end. is_full g.M.Machine.answers old.ended (point_of lines old.buffered.items c.args.work.now old)
-    (point_of (lines ++ recovered now.work.batch.bytes.items) now.buffers.buffered.items now.work now.buffers) rest c.deref.result.now
+    (λ (full : error ≡ Full). inr (λ rest end. is_full g.M.Machine.answers old.ended (point_of begin lines old.buffered.items c.args.work.now old)
+    (point_of last (lines ++ recovered now.work.batch.bytes.items) now.buffers.buffered.items now.work now.buffers) rest c.deref.result.now
     c.args.journal.now.end steps end (ap (λ l. lines ++ recovered l) (sym batch)) (subst IsBatch (sym batch) now.work.batch.whole)
     c.requires.settled.end (why.full (ap Err full))))
     (journal_cause error journal)

@@ -17,9 +17,10 @@ invariant-reads g l =
     let input = served_input l.fn.buffers.pending (g.S.Source.remaining l.fn.reader) in
     let lines = recovered (host.content l.fn.journal.host) in
     let output = host.output l.fn.journal.host in
+    let begin = g.M.Machine.state l.fn.machine in
     record {
       settled : IsSettled host.is_usable host.content host.may_leave l.journal;
-      same : g.M.Machine.lines l.machine ≡ recovered (host.content l.journal.host);
+      same : g.M.Machine.lines (g.M.Machine.state l.machine) ≡ recovered (host.content l.journal.host);
       batch : l.work.batch.bytes.items ≡ [];
       buffered : l.buffers.buffered.items ≡ [];
       counted : Counts (g.S.Source.calls l.reader) l.buffers.reads;
@@ -27,10 +28,10 @@ invariant-reads g l =
       number : l.work.number + left l.buffers ≤ l.fn.number + left l.fn.buffers;
       count : l.work.count ≤ l.work.number;
       later : host.faults l.fn.journal.host ≤ host.faults l.journal.host;
-      follows : Follows answers input lines output l.fn.number
-          (point_of (recovered (host.content l.journal.host)) (host.output l.journal.host) l.work l.buffers)
+      follows : Follows answers input begin lines output l.fn.number
+          (point_of (g.M.Machine.state l.machine) (recovered (host.content l.journal.host)) (host.output l.journal.host) l.work l.buffers)
           (g.S.Source.remaining l.reader) l.buffers.ended;
-      any_moment : LeavesOnly host.moment host.left_since l.fn.journal.host l.journal.host (IsRunOfTurns answers input lines output);
+      any_moment : LeavesOnly host.moment host.left_since l.fn.journal.host l.journal.host (IsRunOfTurns answers input begin lines output);
     }
 
 abbrev pub decreases-reads : goal.decreases-reads

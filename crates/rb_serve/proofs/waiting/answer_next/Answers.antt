@@ -10,17 +10,20 @@ pub returns-clause-answered : goal.returns-clause-answered
 returns-clause-answered g c =
     let line = c.requires.line in
     let n = c.args.n in
-    let p = point_of (g.M.Machine.lines c.args.machine.now) c.args.buffers.now.buffered.items c.args.work.now c.args.buffers.now in
+    let state = g.M.Machine.state in
+    let lines = g.M.Machine.lines in
+    let was = state c.args.machine.now in
+    let p = point_of was (lines was) c.args.buffers.now.buffered.items c.args.work.now c.args.buffers.now in
     let waits = c.args.buffers.now.pending in
     let here : c.as_slice.result.now ≡ waits = c.as_slice.ensures in
     elim c.if-not-is_blank.branch [
       | then-not-is_blank+in-Ok w ↦
           let some : is_blank (take n waits) ≡ false = ap (λ l. is_blank (take n l)) (sym here) ∙ sym w.if-not-is_blank.ensures in
           let turn = rw here at w.in-Ok.ensures.answered in
-          answers_one g.M.Machine.answers c.args.buffers.now.ended p _ n _ _ _ _ line.0 line.2 line.3 some turn
-          (ap g.M.Machine.lines w.machine-is) (search rules) (search rules) (search rules) (search rules)
+          answers_one g.M.Machine.answers c.args.buffers.now.ended p _ n _ _ _ _ _ line.0 line.2 line.3 some turn
+          (ap state w.machine-is) (ap lines (ap state w.machine-is)) (search rules) (search rules) (search rules) (search rules)
       | else-not-is_blank w ↦
           let blank : is_blank (take n waits) ≡ true = ap (λ l. is_blank (take n l)) (sym here) ∙ sym w.if-not-is_blank.ensures in
           skips g.M.Machine.answers c.args.buffers.now.ended p _ n line.0 line.2 line.3 blank
-          (ap g.M.Machine.lines w.machine-is) (search rules) (search rules) (search rules) (search rules)
+          (ap state w.machine-is) (ap lines (ap state w.machine-is)) (search rules) (search rules) (search rules) (search rules)
     ]

@@ -6,12 +6,13 @@ use Rattle.rb_serve.proofs.waiting.answer_waiting.Given as goal
 
 abbrev pub invariant-lines : goal.invariant-lines
 invariant-lines g l =
+    let state = g.M.Machine.state in
     let lines = g.M.Machine.lines in
     record {
       answered : Advances g.M.Machine.answers l.fn.buffers.ended
-          (point_of (lines l.fn.machine) l.fn.buffers.buffered.items l.fn.work l.fn.buffers)
-          (point_of (lines l.machine) l.buffers.buffered.items l.work l.buffers);
-      batch : lines l.machine ≡ lines l.fn.machine ++ recovered l.work.batch.bytes.items;
+          (point_of (state l.fn.machine) (lines (state l.fn.machine)) l.fn.buffers.buffered.items l.fn.work l.fn.buffers)
+          (point_of (state l.machine) (lines (state l.machine)) l.buffers.buffered.items l.work l.buffers);
+      batch : lines (state l.machine) ≡ lines (state l.fn.machine) ++ recovered l.work.batch.bytes.items;
       reads : l.buffers.reads ≡ l.fn.buffers.reads;
       ended : l.buffers.ended ≡ l.fn.buffers.ended;
       number : l.work.number + length l.buffers.pending ≤ l.fn.work.number + length l.fn.buffers.pending;

@@ -1,0 +1,64 @@
+-- A run of a site, as steps of a site with a disk.
+use Rattle.std.specs.Prelude.{◌≡◌, ◌⊎◌, ℕ, List, [], ◌∷◌, ◌++◌, length, map, take, Option, Some}
+use Rattle.rb_money.specs.Settings.{Settings}
+use Rattle.rb_shadow.specs.declared.op_name.OpName.{OpName}
+use Rattle.rb_site.specs.declared.event.Event.{Event}
+use Rattle.rb_site.specs.declared.event.Event.TheVariants.{Apply, Receive}
+use Rattle.rb_site.specs.Events.{first_site}
+use Rattle.rb_site.specs.Histories.{events_of, with_replies}
+use Rattle.rb_site.specs.Seen.{SeenSite, next_sites}
+use Rattle.rb_crashes.specs.Crashes.{Acts, DiskSite, DiskStep, MayAllHappen, Receives, Reports, Syncs, after_steps}
+use Rattle.rb_journal.specs.Journal.{IsLeftAs}
+use Rattle.rb_journal.specs.Lines.{recovered}
+use Rattle.rb_node.specs.Answers.{event_on}
+use Rattle.rb_serve.specs.Turns.{Turn}
+use Rattle.rb_run_site.specs.Journals.{journal_of}
+use Rattle.rb_run_site.specs.Runs.{HasRun}
+
+-- a site that restarts with its journal: all of its events are on its disk, and any of them may have been reported
+-- before
+abbrev pub restarted : SeenSite → DiskSite
+restarted x = record { events = events_of x.entries; on_disk = length x.entries; reported = length x.entries }
+
+-- the journal of the events that a site has on its disk, each with its reply
+abbrev pub journal_on_disk : Settings → ℕ → DiskSite → List (List ℕ)
+journal_on_disk s me d =
+    journal_of (record { settings = s; me = me; entries = with_replies s (first_site me) (take d.on_disk d.events) })
+
+-- an event as a step: a message is delivered, or it is an event of the site's own
+abbrev pub step_of : Event → DiskStep
+step_of (Receive m) = Receives m
+step_of e = Acts e
+
+-- the steps of a turn: the event on its line and what is applied after it; then all that the site has is on its disk;
+-- and only then it is reported
+pub record IsTurnInSteps (x : SeenSite) (t : Turn SeenSite) (steps : List DiskStep) : Type 0 where
+  pub event : Event
+  pub on_line : event_on x.settings t.line ≡ Some event
+  pub applied : List OpName
+  pub after : t.after ≡ next_sites x (event ∷ map Apply applied)
+  pub steps_are : steps ≡ map step_of (event ∷ map Apply applied)
+      ++ Syncs (length t.after.entries) ∷ Reports (length t.after.entries) ∷ []
+
+-- the steps of turns, one after another
+abbrev pub AreStepsOf : SeenSite → List (Turn SeenSite) → List DiskStep → Type 0
+AreStepsOf x [] steps = steps ≡ []
+AreStepsOf x (t ∷ turns) steps = (first : List DiskStep) × (later : List DiskStep) × (steps ≡ first ++ later)
+    × IsTurnInSteps x t first × AreStepsOf t.after turns later
+
+-- the turns of a site that restarts are steps, each of which may happen at it alone; after them the lines of the file
+-- are the journal of what it has on its disk, and all of that was reported
+pub record AreSteps (x : SeenSite) (turns : List (Turn SeenSite)) (file : List ℕ) : Type 0 where
+  pub steps : List DiskStep
+  pub are_theirs : AreStepsOf x turns steps
+  pub may : MayAllHappen x.settings (restarted x) steps
+  pub last : DiskSite
+  pub last_is : last ≡ after_steps x.settings (restarted x) steps
+  pub lines_are : recovered file ≡ journal_on_disk x.settings x.me last
+  pub reported : last.reported ≡ length last.events
+
+-- at any moment nothing has changed yet, or the run of the site is one of steps: so what was put out is a prefix of
+-- what is sent again and of the texts of turns whose events are on the disk and count as reported
+abbrev pub IsRunOfSteps : ℕ → ℕ → Option (List ℕ) → List (List ℕ) → List ℕ → List ℕ → List ℕ → Type 0
+IsRunOfSteps me most input lines output c d = IsLeftAs lines output c d
+    ⊎ ((run : HasRun me most input lines output c d) × AreSteps run.start run.answered.turns c)
