@@ -55,7 +55,7 @@ def stored(path, otherwise=b""):
 
 def compiled(name, *flags):
     """A program of bindings/c, linked with the library, or None where the compiler refuses it."""
-    out = os.path.join(build.OUT, "-".join([name, *(flag.strip("-").replace("=", "-") for flag in flags)]))
+    out = os.path.join(build.OUT, name + ("-asan" if flags else ""))
     strict = ["-std=c11", "-D_DEFAULT_SOURCE", "-Wall", "-Wextra", "-Wpedantic", "-Werror", "-O1", "-g"]
     source = os.path.join(HERE, "c", name + ".c")
     _, errors, status = run([build.c_compiler(), *strict, *flags, "-o", out, source, build.STATIC])
@@ -69,6 +69,8 @@ def of_c():
     """The words that run the rows, and the tests: each with whether it passes."""
     yield "C, test.c", passes([compiled("test")])
     yield "C, test.c under AddressSanitizer", passes([compiled("test", "-fsanitize=address")])
+    refused = compiled("refused", "-fsanitize=address", "-Wl,--wrap=malloc,--wrap=realloc")
+    yield "C, each allocation refused, under AddressSanitizer", passes([refused])
     yield "C, example.c", example()
 
 

@@ -163,7 +163,8 @@ static void whole_runs(void) {
     WANTED(runs(rbbank_script, "", 2, 0, "") && runs(rbbank_script, "\n{}\n", 2, 2, ""));
     snprintf(lines, sizeof lines, "%s\n%s\n", CONFIG, ENTRY);
     WANTED(runs(rbbank_audit, lines, 0, 1, "{\"order\":[0]}\n"));
-    snprintf(lines, sizeof lines, "%s\n%s\n", CONFIG, "{\"event\":{\"balance\":\"ann\"},\"reply\":{\"balance\":1},\"site\":0}");
+    static const char balance[] = "{\"event\":{\"balance\":\"ann\"},\"reply\":{\"balance\":1},\"site\":0}";
+    snprintf(lines, sizeof lines, "%s\n%s\n", CONFIG, balance);
     WANTED(runs(rbbank_audit, lines, 1, 1, "{\"event\":1,\"fault\":\"reply\",\"site\":0}\n"));
     snprintf(lines, sizeof lines, "%s%s\n", HEAD, ENTRY);
     snprintf(wanted, sizeof wanted, "%s%s\n", HEAD, ENTRY);

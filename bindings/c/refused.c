@@ -1,0 +1,130 @@
+/* Each allocation of the library refused in turn: every call still answers, by 0 or by 4, and after 4 the handle is
+ * closed. Linked with -Wl,--wrap=malloc,--wrap=realloc. Prints what is wrong; ends in 0 where nothing is. */
+#include "rbbank.h"
+
+#include <stdio.h>
+#include <stdlib.h>
+#include <string.h>
+
+static const char CONFIG[] = "{\"accounts\":[[\"ann\",900]],\"sites\":2,\"version\":1}";
+static const char *const COMMANDS[] = {
+    "{\"deposit\":[\"ann\",500],\"site\":0}",
+    "{\"batch\":[{\"withdraw\":[\"ann\",9]},{\"cancel\":\"B0.1\"}],\"site\":0}",
+    "{\"deliver\":1,\"site\":1}",
+    "{\"apply\":\"B0.1\",\"site\":1}",
+    "{\"site\":1,\"statement\":\"ann\"}",
+    "{\"pass\":1,\"site\":0}",
+};
+static const char *const EVENTS[] = {
+    "{\"deposit\":[\"ann\",500]}",
+    "{\"shadow\":{\"account\":\"ann\",\"amount\":5,\"deps\":[[0,0,0,0,0,0,0,0],0],\"home\":1,\"kind\":\"deposit\","
+    "\"name\":\"B1.1\"}}",
+    "{\"batch\":[{\"withdraw\":[\"ann\",9]},{\"cancel\":\"B0.1\"}]}",
+    "{\"statement\":\"ann\"}",
+};
+static const char ENTRY[] = "{\"event\":{\"deposit\":[\"ann\",500]},"
+                            "\"reply\":{\"kind\":\"deposit\",\"name\":\"B0.1\"},\"site\":0}";
+#define EACH(list, i) for (size_t i = 0; i < sizeof(list) / sizeof *(list); i++)
+#define BYTES(text) (const uint8_t *)(text), strlen(text)
+
+static long left = -1; /* allocations until one is refused; none is while it is below 0 */
+static int refused;
+
+void *__real_malloc(size_t size);
+void *__real_realloc(void *at, size_t size);
+void *__wrap_malloc(size_t size);
+void *__wrap_realloc(void *at, size_t size);
+
+static int refuses(void) {
+    if (left < 0 || --left != 0)
+        return 0;
+    left = -1;
+    return refused = 1;
+}
+
+void *__wrap_malloc(size_t size) {
+    return refuses() ? NULL : __real_malloc(size);
+}
+
+void *__wrap_realloc(void *at, size_t size) {
+    return refuses() ? NULL : __real_realloc(at, size);
+}
+
+/* Whether a call answered as it has to: 4 just where an allocation was refused, which closes the handle. */
+static int fits(int32_t status, const void *handle, int was_open) {
+    if (!was_open)
+        return status == RBBANK_NONE && handle == NULL;
+    return status == RBBANK_OK ? handle != NULL : status == RBBANK_NO_MEMORY && handle == NULL && refused;
+}
+
+static int a_bank(void) {
+    struct rbbank bank = {0};
+    uint8_t out[64];
+    int32_t status = rbbank_open(&bank, BYTES(CONFIG));
+    int fine = fits(status, bank.at, 1);
+    EACH(COMMANDS, i) {
+        int was_open = bank.at != NULL;
+        fine = fits(rbbank_answer(&bank, BYTES(COMMANDS[i])), bank.at, was_open) && fine;
+        fine = (rbbank_reply(&bank, 0, out, sizeof out) > 0) == (bank.at != NULL) && fine;
+    }
+    rbbank_close(&bank);
+    return fine;
+}
+
+static int a_site(void) {
+    struct rbbank_site site = {0};
+    uint8_t out[64];
+    int32_t status = rbbank_site_open(&site, 0, BYTES(CONFIG));
+    int fine = fits(status, site.at, 1);
+    EACH(EVENTS, i) {
+        int was_open = site.at != NULL;
+        fine = fits(rbbank_site_answer(&site, BYTES(EVENTS[i])), site.at, was_open) && fine;
+        fine = (rbbank_site_entries(&site, 0, out, sizeof out) > 0) == (site.at != NULL) && fine;
+    }
+    status = rbbank_site_open(&site, 0, BYTES(CONFIG));
+    fine = fits(status, site.at, 1) && fine;
+    int was_open = site.at != NULL;
+    fine = fits(rbbank_site_replay(&site, BYTES(ENTRY)), site.at, was_open) && fine;
+    rbbank_site_close(&site);
+    return fine;
+}
+
+static int whole_runs(void) {
+    char lines[1000];
+    uint8_t out[4000];
+    size_t written = 0, length = (size_t)snprintf(lines, sizeof lines, "%s\n", CONFIG);
+    uint64_t number;
+    EACH(COMMANDS, i)
+        length += (size_t)snprintf(lines + length, sizeof lines - length, "%s\n", COMMANDS[i]);
+    int32_t status = rbbank_script((uint8_t *)lines, length, out, sizeof out, &written, &number);
+    int fine = status == 0 ? number == sizeof COMMANDS / sizeof *COMMANDS : status == 4 && refused;
+    length = (size_t)snprintf(lines, sizeof lines, "%s\n%s\n", CONFIG, ENTRY);
+    status = rbbank_audit((uint8_t *)lines, length, out, sizeof out, &written, &number);
+    fine = (status == 0 ? number == 1 : status == 4 && refused) && fine;
+    status = rbbank_migrate((uint8_t *)lines, length, out, sizeof out, &written, &number);
+    return (status == 0 ? number == 2 : status == 4 && refused) && fine;
+}
+
+/* Whether all is as it has to be with each allocation refused, and with none. */
+static int each_refused(const char *name, int (*uses)(void)) {
+    long nth = 0;
+    do {
+        refused = 0;
+        left = ++nth;
+        int fine = uses();
+        left = -1;
+        if (!fine) {
+            printf("refused.c: %s, allocation %ld\n", name, nth);
+            return 0;
+        }
+    } while (refused);
+    printf("%s: %ld allocations refused in turn\n", name, nth - 1);
+    return nth > 1;
+}
+
+int main(void) {
+    int fine = each_refused("a bank", a_bank);
+    fine = each_refused("a site", a_site) && fine;
+    fine = each_refused("whole runs", whole_runs) && fine;
+    return !fine;
+}
