@@ -92,6 +92,7 @@ CALLS: dict[str, tuple[typing.Any, list[typing.Any]]] = {
     "rbbank_migrate": (ctypes.c_int32, _RUNS),
 }
 _FILE = "librbbank.so"
+_PART = 4096  # bytes that are copied at once
 _OK, _NONE, _BAD_LINE, _REFUSED, _NO_MEMORY = range(5)
 _loaded: dict[str, typing.Any] = {}
 
@@ -131,7 +132,8 @@ class _Handle:
         self._at = ctypes.c_void_p()
         self._ref = ctypes.byref(self._at)
         self._lock = threading.Lock()
-        self._part = ctypes.create_string_buffer(4096)
+        self._part = ctypes.create_string_buffer(_PART)
+        self._view = memoryview(self._part)
         self._finalizer = weakref.finalize(self, _call(self._prefix + "close"), self._ref)
         self._answer, self._reply = _call(self._prefix + "answer"), _call(self._prefix + "reply")
 
@@ -148,12 +150,10 @@ class _Handle:
 
     def _kept(self, call: typing.Any) -> bytes:
         """All that one of the copying calls has, in parts."""
-        size = len(self._part)
-        count = call(self._ref, 0, self._part, size)
-        text = ctypes.string_at(self._part, count)
-        while count == size:
-            count = call(self._ref, len(text), self._part, size)
-            text += ctypes.string_at(self._part, count)
+        text, count = b"", _PART
+        while count == _PART:
+            count = call(self._ref, len(text), self._part, _PART)
+            text += self._view[:count]
         return text
 
     def answer(self, line: Line) -> str:
@@ -161,9 +161,11 @@ class _Handle:
 
         Raises BadLine, after which all is as it was; Closed; MemoryError, after which it is closed.
         """
-        data = _bytes(line)
+        data = line.encode() if isinstance(line, str) else line
         with self._lock:
-            self._status(self._answer(self._ref, data, len(data)))
+            status = self._answer(self._ref, data, len(data))
+            if status != _OK:
+                self._status(status)
             return self._kept(self._reply)[:-1].decode()
 
     def close(self) -> None:
