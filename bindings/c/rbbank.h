@@ -28,7 +28,7 @@ extern "C" {
 enum {
     RBBANK_OK = 0,
     RBBANK_NONE = 1,     /* the handle is zeroed or closed, or its memory ran out before: nothing happened */
-    RBBANK_BAD_LINE = 2, /* no configuration, no command, no event, no entry of this site: nothing changed */
+    RBBANK_BAD_LINE = 2, /* no command, no event, no entry of this site: nothing changed; no configuration: closed */
     RBBANK_REFUSED = 3,  /* rbbank_site_open: no such site; rbbank_site_replay: the site gives another reply */
     RBBANK_NO_MEMORY = 4 /* memory ran out: the handle is closed, and the last answer is lost */
 };
