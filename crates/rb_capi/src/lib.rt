@@ -1,7 +1,24 @@
-//! The core for C: a static library. Its exports take and give bytes.
+//! The core for C: a static library. A bank, all sites of a configuration or one of them, lies behind a handle that C
+//! keeps, and is asked and answers by lines; whole scripts, audits and migrations go from bytes to bytes.
 #![tactic(auto)]
 
 mod audit;
+mod bank;
+mod bank_handle;
+mod copy;
 mod ending;
+mod kept_site;
 mod migrate;
 mod script;
+mod site;
+mod site_handle;
+
+ghost use Rattle.rb_history.specs.Messages.{MessagesAreRead};
+
+/// Each message that a site sends is read by every other site as that message: its line, one of `sends` on the line of
+/// an answer, is the line of an event that is the message's receipt.
+pub fn messages_are_read()
+    ensures { MessagesAreRead }
+{
+    rb_history::messages_are_read();
+}

@@ -1,0 +1,2 @@
+pub mod BankHandleValues
+pub mod SiteHandleValues

@@ -1,0 +1,52 @@
+-- A site that C keeps, with the texts of its last answer.
+use Rattle.std.specs.Prelude.{◌≡◌, ◌≢◌, ℕ, true, List, [], Option, Some, None, ◌⊎◌}
+use Rattle.rb_money.specs.Settings.{Settings}
+use Rattle.rb_site.specs.declared.entry.Entry.{Entry}
+use Rattle.rb_site.specs.Events.{is_full, reply_to}
+use Rattle.rb_site.specs.Seen.{SeenSite, first_seen, state_of}
+use Rattle.rb_history.specs.ConfigLines.{config_json}
+use Rattle.rb_history.specs.Entries.{entry_on}
+use Rattle.rb_node.specs.Answers.{SeenNode, IsSiteAnswer, line_of, sent_line}
+use Rattle.rb_node.specs.Replays.{IsReplayedAs}
+
+-- the site, the text of its last answer, and the lines for its journal
+pub record SeenKept : Type 0 where
+  pub site : SeenSite
+  pub answer : List ℕ
+  pub entries : List ℕ
+
+-- before any event: nothing was answered, and the journal begins with the line of the configuration
+abbrev pub first_kept : Settings → ℕ → SeenKept
+first_kept s me = record { site = first_seen s me; answer = []; entries = line_of (config_json s) }
+
+-- the line is an event that the site answers: by this text, with the lines of the entries that it recorded
+abbrev pub AnswersLine : SeenKept → SeenKept → List ℕ → Type 0
+AnswersLine old new l = IsSiteAnswer old.site new.site l new.answer new.entries
+
+-- the line is the site's next entry; the answer is what the entry sent, to be sent again, and the journal has its line already
+pub record ReplaysLine (old new : SeenKept) (l : List ℕ) : Type 0 where
+  pub entry : Entry
+  pub on_line : entry_on old.site.settings l ≡ Some (old.site.me, entry)
+  pub node : SeenNode
+  pub replayed : IsReplayedAs old.site node entry
+  pub site : new.site ≡ node.site
+  pub answer : new.answer ≡ sent_line node.site.settings node.sent
+  pub entries : new.entries ≡ []
+
+-- the line is no entry of the site
+abbrev pub IsNoEntry : SeenSite → List ℕ → Type 0
+IsNoEntry t l = (x : Entry) → entry_on t.settings l ≢ Some (t.me, x)
+
+-- the line is an entry of the site, which has another reply than the site gives, or for which the history is full
+abbrev pub IsWrongEntry : SeenSite → List ℕ → Type 0
+IsWrongEntry t l = (x : Entry) × (entry_on t.settings l ≡ Some (t.me, x))
+    × ((is_full t.settings (state_of t) ≡ true) ⊎ (x.reply ≢ reply_to t.settings (state_of t) x.event))
+
+-- the texts that are kept: those of the last answer, and none where there is no site
+abbrev pub kept_text : Option SeenKept → List ℕ
+kept_text None = []
+kept_text (Some k) = k.answer
+
+abbrev pub kept_entries : Option SeenKept → List ℕ
+kept_entries None = []
+kept_entries (Some k) = k.entries

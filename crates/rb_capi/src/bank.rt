@@ -1,0 +1,167 @@
+//! A bank: all sites of a configuration with their messages.
+ghost use Rattle.std.specs.Prelude.{◌≡◌, ◌≢◌, ◌⊎◌, ◌↔◌, None, Some, MatchResult, pos};
+ghost use Rattle.rb_money.specs.Settings.{Settings};
+ghost use Rattle.rb_site.specs.declared.world_event.WorldEvent.{WorldEvent as CommandOf};
+ghost use Rattle.rb_commands.specs.declared.fault.LineFault.TheVariants.{Bad};
+ghost use Rattle.rb_commands.specs.Configurations.{config_on};
+ghost use Rattle.rb_run_script.specs.Script.{command_on};
+ghost use Rattle.rb_capi.specs.Banks.{SeenBank, first_bank, kept_answer, next_bank};
+ghost use Rattle.rb_capi.specs.Copies.{Copies};
+
+use crate::bank_handle::BankHandle;
+use crate::copy::copy_from;
+use rb_commands::{LineFault, append_reply, read_command, read_config};
+use rb_lines::text_on;
+use rb_world::LeanWorld;
+use std::alloc::Global;
+use std::marker::Model;
+
+/// The sites of a bank with their messages, and the line of the last answer.
+pub struct Bank {
+    world: LeanWorld,
+    answer: Vec<u8>,
+}
+
+impl Model for Bank {
+    ghost use Rattle.rb_capi.specs.Banks.{SeenBank};
+
+    ghost Value = { SeenBank };
+
+    ghost view = { λ b. record { world = b.world; answer = b.answer.items } };
+}
+
+impl Drop for Bank {
+    fn drop(self) {
+        let Bank { world, answer: _ } = self;
+        world.end();
+    }
+}
+
+/// The bank of the configuration on a line, before any event.
+#[tactic(auto, unfolding(rb_commands::specs::Configurations::config_on))]
+fn open(alloc: Global, config: &[u8]) -> Result<Bank, LineFault>
+    ensures { MatchResult result
+        (λ bank. (s : Settings) × (config_on config.now ≡ Some s) × (bank ≡ first_bank s))
+        (λ why. why ≡ Bad → config_on config.now ≡ None) }
+{
+    let Some(text) = text_on(config) else {
+        return Err(LineFault::Bad);
+    };
+    let config = read_config(alloc, text)?;
+    match LeanWorld::open_keeping(alloc, config) {
+        Ok(world) => Ok(Bank {
+            world,
+            answer: Vec::new(alloc),
+        }),
+        Err(_) => Err(LineFault::OutOfMemory),
+    }
+}
+
+impl Bank {
+    /// Gives the bank the command on a line, and keeps the line of its reply.
+    #[tactic(auto, unfolding(rb_run_script::specs::Script::command_on))]
+    fn answer_line(&mut self, alloc: Global, line: &[u8]) -> Result<(), LineFault>
+        ensures { MatchResult result
+            (λ _. (command : CommandOf) × (command_on self.old.world.settings line.now ≡ Some command)
+            × (self.new ≡ next_bank self.old command))
+            (λ why. why ≡ Bad → (command_on self.old.world.settings line.now ≡ None) × (self.new ≡ self.old)) }
+    {
+        let Some(text) = text_on(line) else {
+            return Err(LineFault::Bad);
+        };
+        let command = read_command(alloc, self.world.config(), text)?;
+        let Ok(reply) = self.world.step(command) else {
+            return Err(LineFault::OutOfMemory);
+        };
+        self.answer.clear();
+        match append_reply(&mut self.answer, &reply) {
+            Ok(()) => Ok(()),
+            Err(_) => Err(LineFault::OutOfMemory),
+        }
+    }
+}
+
+/// Opens the bank of the configuration on a line, before any event. A bank that was kept there before is ended.
+///
+/// Statuses: 0; 2 where the line is no configuration; 4 for want of memory. After 2 and 4 there is no bank.
+#[unsafe(no_mangle)]
+pub extern "C" fn rbbank_open(alloc: Global, bank: &mut BankHandle, config: &[u8]) -> i32
+    ensures opened { result ≡ pos 0 → (s : Settings) × (config_on config.now ≡ Some s)
+        × (bank.new.value ≡ Some (first_bank s)) }
+    ensures bad { result ≡ pos 2 → config_on config.now ≡ None }
+    ensures empty { result ≢ pos 0 → bank.new.value ≡ None }
+    ensures statuses { (result ≡ pos 0) ⊎ ((result ≡ pos 2) ⊎ (result ≡ pos 4)) }
+{
+    bank.clear(alloc);
+    let opened = match open(alloc, config) {
+        Ok(opened) => opened,
+        Err(LineFault::Bad) => return 2,
+        Err(LineFault::OutOfMemory) => return 4,
+    };
+    match Box::new(alloc, opened) {
+        Ok(opened) => {
+            bank.put(opened);
+            0
+        }
+        Err(_) => 4,
+    }
+}
+
+/// Gives the bank the command on a line, and keeps the line of its reply, with its line feed, as the answer.
+///
+/// Statuses: 0; 1 where there is no bank; 2 where the line is no command, and then nothing has changed, the kept answer
+/// included; 4 for want of memory, which ends the bank.
+#[unsafe(no_mangle)]
+pub extern "C" fn rbbank_answer(alloc: Global, bank: &mut BankHandle, line: &[u8]) -> i32
+    ensures answered { result ≡ pos 0 → (old : SeenBank) × (command : CommandOf) × (bank.old.value ≡ Some old)
+        × (command_on old.world.settings line.now ≡ Some command) × (bank.new.value ≡ Some (next_bank old command)) }
+    ensures none { (result ≡ pos 1) ↔ (bank.old.value ≡ None) }
+    ensures bad { result ≡ pos 2 → (old : SeenBank) × (bank.old.value ≡ Some old)
+        × (command_on old.world.settings line.now ≡ None) × (bank.new.value ≡ bank.old.value) }
+    ensures ended { result ≡ pos 4 → bank.new.value ≡ None }
+    ensures still_none { bank.old.value ≡ None → bank.new.value ≡ None }
+    ensures statuses { (result ≡ pos 0) ⊎ ((result ≡ pos 1) ⊎ ((result ≡ pos 2) ⊎ (result ≡ pos 4))) }
+{
+    let Some(mut kept) = bank.take(alloc) else {
+        return 1;
+    };
+    match kept.answer_line(alloc, line) {
+        Ok(()) => {
+            bank.put(kept);
+            0
+        }
+        Err(LineFault::Bad) => {
+            bank.put(kept);
+            2
+        }
+        Err(LineFault::OutOfMemory) => 4,
+    }
+}
+
+/// Copies the kept answer from its byte `from` (0 is the first) on, as much of it as fits: how many bytes these were.
+/// No byte was where there is no bank, nothing was answered, or `from` is at the answer's end or behind it.
+#[unsafe(no_mangle)]
+pub extern "C" fn rbbank_reply(
+    alloc: Global,
+    bank: &mut BankHandle,
+    from: usize,
+    out: &mut [u8],
+) -> usize
+    ensures copied { Copies (kept_answer bank.old.value) from out.old out.new result }
+    ensures same { bank.new.value ≡ bank.old.value }
+{
+    let Some(kept) = bank.take(alloc) else {
+        return 0;
+    };
+    let n = copy_from(kept.answer.as_slice(), from, out);
+    bank.put(kept);
+    n
+}
+
+/// Ends the bank, if there is one.
+#[unsafe(no_mangle)]
+pub extern "C" fn rbbank_close(alloc: Global, bank: &mut BankHandle)
+    ensures { bank.new.value ≡ None }
+{
+    bank.clear(alloc);
+}

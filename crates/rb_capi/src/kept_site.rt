@@ -1,0 +1,106 @@
+//! A site with the texts of its last answer.
+ghost use Rattle.std.specs.Prelude.{◌≡◌, ◌<◌, ◌≤◌, [], Some, None, IfOk, Err, MatchResult, OnOk};
+ghost use Rattle.rb_money.specs.Settings.{Settings};
+ghost use Rattle.rb_commands.specs.Configurations.{config_on};
+ghost use Rattle.rb_node.specs.Answers.{event_on};
+ghost use Rattle.rb_capi.specs.Sites.{AnswersLine, IsNoEntry, IsWrongEntry, ReplaysLine, first_kept};
+
+use rb_node::{Node, NodeFault};
+use std::alloc::Global;
+use std::marker::Model;
+use std::mem::swap;
+
+/// A site with the text of its last answer and the lines for its journal.
+pub struct KeptSite {
+    node: Node,
+    pub(crate) answer: Vec<u8>,
+    pub(crate) entries: Vec<u8>,
+    /// Where the next answer is written, so that a bad line leaves the last one as it is. Empty between two calls.
+    next_answer: Vec<u8>,
+    next_entries: Vec<u8>,
+}
+
+impl Model for KeptSite {
+    ghost use Rattle.std.specs.Prelude.{◌≡◌, []};
+    ghost use Rattle.rb_capi.specs.Sites.{SeenKept};
+
+    ghost Value = { SeenKept };
+
+    ghost view = { λ k. record { site = k.node.site; answer = k.answer.items; entries = k.entries.items } };
+
+    ghost invariant = { λ k. (k.next_answer.items ≡ []) × (k.next_entries.items ≡ []) };
+}
+
+impl Drop for KeptSite {
+    fn drop(self) {
+        let KeptSite {
+            node,
+            answer: _,
+            entries: _,
+            next_answer: _,
+            next_entries: _,
+        } = self;
+        node.end();
+    }
+}
+
+impl KeptSite {
+    /// The site of a number of the configuration on a line, before any event.
+    pub fn open(alloc: Global, config: &[u8], me: u8) -> Result<KeptSite, NodeFault>
+        ensures opened { IfOk result (λ site. (s : Settings) × (config_on config.now ≡ Some s) × (me < s.sites)
+            × (site ≡ first_kept s me)) }
+        ensures bad { result ≡ Err NodeFault.BadConfig → config_on config.now ≡ None }
+        ensures no_site { result ≡ Err NodeFault.NoSite → (s : Settings) × (config_on config.now ≡ Some s)
+            × (s.sites ≤ me) }
+    {
+        let node = Node::open(alloc, config, me)?;
+        let entries = match node.config_line() {
+            Ok(line) => line,
+            Err(_) => {
+                node.end();
+                return Err(NodeFault::OutOfMemory);
+            }
+        };
+        Ok(KeptSite {
+            node,
+            answer: Vec::new(alloc),
+            entries,
+            next_answer: Vec::new(alloc),
+            next_entries: Vec::new(alloc),
+        })
+    }
+
+    /// Answers the line of an event, and keeps the answer's line and the lines of its entries.
+    ///
+    /// Errors: `BadLine` where the line is no event, and nothing has changed then; `OutOfMemory`.
+    pub fn answer_line(&mut self, line: &[u8]) -> Result<(), NodeFault>
+        ensures answered { OnOk result (AnswersLine self.old self.new line.now) }
+        ensures bad { result ≡ Err NodeFault.BadLine
+            → (event_on self.old.site.settings line.now ≡ None) × (self.new ≡ self.old) }
+    {
+        self.node
+            .answer(line, &mut self.next_answer, &mut self.next_entries)?;
+        swap(&mut self.answer, &mut self.next_answer);
+        swap(&mut self.entries, &mut self.next_entries);
+        self.next_answer.clear();
+        self.next_entries.clear();
+        Ok(())
+    }
+
+    /// Replays the line of the site's next entry, and keeps the line of what the entry sent, for it to be sent again.
+    ///
+    /// Errors: `BadLine` where the line is no entry of this site, and nothing has changed then; `WrongReply` where the
+    /// site gives another reply, or its history is full; `OutOfMemory`.
+    pub fn replay_line(&mut self, line: &[u8]) -> Result<(), NodeFault>
+        ensures replayed { OnOk result (ReplaysLine self.old self.new line.now) }
+        ensures bad { result ≡ Err NodeFault.BadLine
+            → IsNoEntry self.old.site line.now × (self.new ≡ self.old) }
+        ensures wrong { result ≡ Err NodeFault.WrongReply → IsWrongEntry self.old.site line.now }
+    {
+        self.node.replay(line)?;
+        self.answer.clear();
+        self.entries.clear();
+        self.node.append_sent(&mut self.answer)?;
+        Ok(())
+    }
+}

@@ -1,0 +1,167 @@
+//! One site of a bank.
+ghost use Rattle.std.specs.Prelude.{◌≡◌, ◌≢◌, ◌<◌, ◌≤◌, ◌⊎◌, ◌↔◌, None, Some, pos};
+ghost use Rattle.rb_money.specs.Settings.{Settings};
+ghost use Rattle.rb_commands.specs.Configurations.{config_on};
+ghost use Rattle.rb_node.specs.Answers.{event_on};
+ghost use Rattle.rb_capi.specs.Copies.{Copies};
+ghost use Rattle.rb_capi.specs.Sites.{AnswersLine, IsNoEntry, IsWrongEntry, ReplaysLine, SeenKept};
+ghost use Rattle.rb_capi.specs.Sites.{first_kept, kept_entries, kept_text};
+
+use crate::copy::copy_from;
+use crate::kept_site::KeptSite;
+use crate::site_handle::SiteHandle;
+use rb_node::NodeFault;
+use std::alloc::Global;
+
+/// Opens the site `me` (0 to 15) of the configuration on a line, before any event. A site that was kept there before is
+/// ended. The kept entries are the line of the configuration, with its line feed: the first of the site's journal.
+///
+/// Statuses: 0; 2 where the line is no configuration; 3 where it has no such site; 4 for want of memory. After 2, 3 and
+/// 4 there is no site.
+#[unsafe(no_mangle)]
+pub extern "C" fn rbbank_site_open(
+    alloc: Global,
+    site: &mut SiteHandle,
+    me: u8,
+    config: &[u8],
+) -> i32
+    ensures opened { result ≡ pos 0 → (s : Settings) × (config_on config.now ≡ Some s) × (me < s.sites)
+        × (site.new.value ≡ Some (first_kept s me)) }
+    ensures bad { result ≡ pos 2 → config_on config.now ≡ None }
+    ensures no_site { result ≡ pos 3 → (s : Settings) × (config_on config.now ≡ Some s) × (s.sites ≤ me) }
+    ensures empty { result ≢ pos 0 → site.new.value ≡ None }
+    ensures statuses { (result ≡ pos 0) ⊎ ((result ≡ pos 2) ⊎ ((result ≡ pos 3) ⊎ (result ≡ pos 4))) }
+{
+    site.clear(alloc);
+    let opened = match KeptSite::open(alloc, config, me) {
+        Ok(opened) => opened,
+        Err(NodeFault::BadConfig) => return 2,
+        Err(NodeFault::NoSite) => return 3,
+        Err(_) => return 4,
+    };
+    match Box::new(alloc, opened) {
+        Ok(opened) => {
+            site.put(opened);
+            0
+        }
+        Err(_) => 4,
+    }
+}
+
+/// Answers the line of an event, and keeps the answer's line, with its line feed, and the lines of the entries that the
+/// site recorded: these belong into its journal before anyone is told the answer.
+///
+/// Statuses: 0; 1 where there is no site; 2 where the line is no event, and then nothing has changed, the kept texts
+/// included; 4 for want of memory, which ends the site.
+#[unsafe(no_mangle)]
+pub extern "C" fn rbbank_site_answer(alloc: Global, site: &mut SiteHandle, line: &[u8]) -> i32
+    ensures answered { result ≡ pos 0 → (old : SeenKept) × (new : SeenKept) × (site.old.value ≡ Some old)
+        × (site.new.value ≡ Some new) × AnswersLine old new line.now }
+    ensures none { (result ≡ pos 1) ↔ (site.old.value ≡ None) }
+    ensures bad { result ≡ pos 2 → (old : SeenKept) × (site.old.value ≡ Some old)
+        × (event_on old.site.settings line.now ≡ None) × (site.new.value ≡ site.old.value) }
+    ensures ended { result ≡ pos 4 → site.new.value ≡ None }
+    ensures still_none { site.old.value ≡ None → site.new.value ≡ None }
+    ensures statuses { (result ≡ pos 0) ⊎ ((result ≡ pos 1) ⊎ ((result ≡ pos 2) ⊎ (result ≡ pos 4))) }
+{
+    let Some(mut kept) = site.take(alloc) else {
+        return 1;
+    };
+    match kept.answer_line(line) {
+        Ok(()) => {
+            site.put(kept);
+            0
+        }
+        Err(NodeFault::BadLine) => {
+            site.put(kept);
+            2
+        }
+        Err(_) => 4,
+    }
+}
+
+/// Replays the line of the site's next entry, as a restart does with each line of the journal behind the first. The kept
+/// answer is then the line `{"sends":[..]}` of what the entry sent, with its line feed, to be sent again, or empty where
+/// it sent nothing; and there are no kept entries.
+///
+/// Statuses: 0; 1 where there is no site; 2 where the line is no entry of this site, and then nothing has changed; 3
+/// where the site gives another reply than the entry has, or its history is full, and 4 for want of memory, each of
+/// which ends the site.
+#[unsafe(no_mangle)]
+pub extern "C" fn rbbank_site_replay(alloc: Global, site: &mut SiteHandle, line: &[u8]) -> i32
+    ensures replayed { result ≡ pos 0 → (old : SeenKept) × (new : SeenKept) × (site.old.value ≡ Some old)
+        × (site.new.value ≡ Some new) × ReplaysLine old new line.now }
+    ensures none { (result ≡ pos 1) ↔ (site.old.value ≡ None) }
+    ensures bad { result ≡ pos 2 → (old : SeenKept) × (site.old.value ≡ Some old)
+        × IsNoEntry old.site line.now × (site.new.value ≡ site.old.value) }
+    ensures wrong { result ≡ pos 3 → (old : SeenKept) × (site.old.value ≡ Some old)
+        × IsWrongEntry old.site line.now × (site.new.value ≡ None) }
+    ensures ended { result ≡ pos 4 → site.new.value ≡ None }
+    ensures still_none { site.old.value ≡ None → site.new.value ≡ None }
+    ensures statuses { (result ≡ pos 0) ⊎ ((result ≡ pos 1) ⊎ ((result ≡ pos 2) ⊎ ((result ≡ pos 3)
+        ⊎ (result ≡ pos 4)))) }
+{
+    let Some(mut kept) = site.take(alloc) else {
+        return 1;
+    };
+    match kept.replay_line(line) {
+        Ok(()) => {
+            site.put(kept);
+            0
+        }
+        Err(NodeFault::BadLine) => {
+            site.put(kept);
+            2
+        }
+        Err(NodeFault::WrongReply) => 3,
+        Err(_) => 4,
+    }
+}
+
+/// Copies the kept answer from its byte `from` (0 is the first) on, as much of it as fits: how many bytes these were.
+/// No byte was where there is no site, nothing was answered, or `from` is at the answer's end or behind it.
+#[unsafe(no_mangle)]
+pub extern "C" fn rbbank_site_reply(
+    alloc: Global,
+    site: &mut SiteHandle,
+    from: usize,
+    out: &mut [u8],
+) -> usize
+    ensures copied { Copies (kept_text site.old.value) from out.old out.new result }
+    ensures same { site.new.value ≡ site.old.value }
+{
+    let Some(kept) = site.take(alloc) else {
+        return 0;
+    };
+    let n = copy_from(kept.answer.as_slice(), from, out);
+    site.put(kept);
+    n
+}
+
+/// The same of the kept entries: the lines for the site's journal of the last answer, each with its line feed; after an
+/// open the line of the configuration.
+#[unsafe(no_mangle)]
+pub extern "C" fn rbbank_site_entries(
+    alloc: Global,
+    site: &mut SiteHandle,
+    from: usize,
+    out: &mut [u8],
+) -> usize
+    ensures copied { Copies (kept_entries site.old.value) from out.old out.new result }
+    ensures same { site.new.value ≡ site.old.value }
+{
+    let Some(kept) = site.take(alloc) else {
+        return 0;
+    };
+    let n = copy_from(kept.entries.as_slice(), from, out);
+    site.put(kept);
+    n
+}
+
+/// Ends the site, if there is one.
+#[unsafe(no_mangle)]
+pub extern "C" fn rbbank_site_close(alloc: Global, site: &mut SiteHandle)
+    ensures { site.new.value ≡ None }
+{
+    site.clear(alloc);
+}

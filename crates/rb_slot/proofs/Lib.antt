@@ -1,0 +1,2 @@
+pub mod RawBoxValues
+pub mod SlotValues
