@@ -1,2 +1,2 @@
-pub mod BankHandleValues
-pub mod SiteHandleValues
+mod BankHandleValues
+mod SiteHandleValues

@@ -20,11 +20,11 @@ abbrev pub first_kept : Settings → ℕ → SeenKept
 first_kept s me = record { site = first_seen s me; answer = []; entries = line_of (config_json s) }
 
 -- the line is an event that the site answers: by this text, with the lines of the entries that it recorded
-abbrev pub AnswersLine : SeenKept → SeenKept → List ℕ → Type 0
-AnswersLine old new l = IsSiteAnswer old.site new.site l new.answer new.entries
+abbrev pub AnswersEventLine : SeenKept → SeenKept → List ℕ → Type 0
+AnswersEventLine old new l = IsSiteAnswer old.site new.site l new.answer new.entries
 
 -- the line is the site's next entry; the answer is what the entry sent, to be sent again, and the journal has its line already
-pub record ReplaysLine (old new : SeenKept) (l : List ℕ) : Type 0 where
+pub record ReplaysEntryLine (old new : SeenKept) (l : List ℕ) : Type 0 where
   pub entry : Entry
   pub on_line : entry_on old.site.settings l ≡ Some (old.site.me, entry)
   pub node : SeenNode
@@ -34,8 +34,8 @@ pub record ReplaysLine (old new : SeenKept) (l : List ℕ) : Type 0 where
   pub entries : new.entries ≡ []
 
 -- the line is no entry of the site
-abbrev pub IsNoEntry : SeenSite → List ℕ → Type 0
-IsNoEntry t l = (x : Entry) → entry_on t.settings l ≢ Some (t.me, x)
+abbrev pub IsNoEntryLine : SeenSite → List ℕ → Type 0
+IsNoEntryLine t l = (x : Entry) → entry_on t.settings l ≢ Some (t.me, x)
 
 -- the line is an entry of the site, which has another reply than the site gives, or for which the history is full
 abbrev pub IsWrongEntry : SeenSite → List ℕ → Type 0

@@ -3,7 +3,7 @@ ghost use Rattle.std.specs.Prelude.{◌≡◌, ◌<◌, ◌≤◌, [], Some, Non
 ghost use Rattle.rb_money.specs.Settings.{Settings};
 ghost use Rattle.rb_commands.specs.Configurations.{config_on};
 ghost use Rattle.rb_node.specs.Answers.{event_on};
-ghost use Rattle.rb_capi.specs.Sites.{AnswersLine, IsNoEntry, IsWrongEntry, ReplaysLine, first_kept};
+ghost use Rattle.rb_capi.specs.Sites.{AnswersEventLine, IsNoEntryLine, IsWrongEntry, ReplaysEntryLine, first_kept};
 
 use rb_node::{Node, NodeFault};
 use std::alloc::Global;
@@ -74,7 +74,7 @@ impl KeptSite {
     ///
     /// Errors: `BadLine` where the line is no event, and nothing has changed then; `OutOfMemory`.
     pub fn answer_line(&mut self, line: &[u8]) -> Result<(), NodeFault>
-        ensures answered { OnOk result (AnswersLine self.old self.new line.now) }
+        ensures answered { OnOk result (AnswersEventLine self.old self.new line.now) }
         ensures bad { result ≡ Err NodeFault.BadLine
             → (event_on self.old.site.settings line.now ≡ None) × (self.new ≡ self.old) }
     {
@@ -92,9 +92,9 @@ impl KeptSite {
     /// Errors: `BadLine` where the line is no entry of this site, and nothing has changed then; `WrongReply` where the
     /// site gives another reply, or its history is full; `OutOfMemory`.
     pub fn replay_line(&mut self, line: &[u8]) -> Result<(), NodeFault>
-        ensures replayed { OnOk result (ReplaysLine self.old self.new line.now) }
+        ensures replayed { OnOk result (ReplaysEntryLine self.old self.new line.now) }
         ensures bad { result ≡ Err NodeFault.BadLine
-            → IsNoEntry self.old.site line.now × (self.new ≡ self.old) }
+            → IsNoEntryLine self.old.site line.now × (self.new ≡ self.old) }
         ensures wrong { result ≡ Err NodeFault.WrongReply → IsWrongEntry self.old.site line.now }
     {
         self.node.replay(line)?;

@@ -4,7 +4,7 @@ ghost use Rattle.rb_money.specs.Settings.{Settings};
 ghost use Rattle.rb_commands.specs.Configurations.{config_on};
 ghost use Rattle.rb_node.specs.Answers.{event_on};
 ghost use Rattle.rb_capi.specs.Copies.{Copies};
-ghost use Rattle.rb_capi.specs.Sites.{AnswersLine, IsNoEntry, IsWrongEntry, ReplaysLine, SeenKept};
+ghost use Rattle.rb_capi.specs.Sites.{AnswersEventLine, IsNoEntryLine, IsWrongEntry, ReplaysEntryLine, SeenKept};
 ghost use Rattle.rb_capi.specs.Sites.{first_kept, kept_entries, kept_text};
 
 use crate::copy::copy_from;
@@ -56,7 +56,7 @@ pub extern "C" fn rbbank_site_open(
 #[unsafe(no_mangle)]
 pub extern "C" fn rbbank_site_answer(alloc: Global, site: &mut SiteHandle, line: &[u8]) -> i32
     ensures answered { result ≡ pos 0 → (old : SeenKept) × (new : SeenKept) × (site.old.value ≡ Some old)
-        × (site.new.value ≡ Some new) × AnswersLine old new line.now }
+        × (site.new.value ≡ Some new) × AnswersEventLine old new line.now }
     ensures none { (result ≡ pos 1) ↔ (site.old.value ≡ None) }
     ensures bad { result ≡ pos 2 → (old : SeenKept) × (site.old.value ≡ Some old)
         × (event_on old.site.settings line.now ≡ None) × (site.new.value ≡ site.old.value) }
@@ -90,10 +90,10 @@ pub extern "C" fn rbbank_site_answer(alloc: Global, site: &mut SiteHandle, line:
 #[unsafe(no_mangle)]
 pub extern "C" fn rbbank_site_replay(alloc: Global, site: &mut SiteHandle, line: &[u8]) -> i32
     ensures replayed { result ≡ pos 0 → (old : SeenKept) × (new : SeenKept) × (site.old.value ≡ Some old)
-        × (site.new.value ≡ Some new) × ReplaysLine old new line.now }
+        × (site.new.value ≡ Some new) × ReplaysEntryLine old new line.now }
     ensures none { (result ≡ pos 1) ↔ (site.old.value ≡ None) }
     ensures bad { result ≡ pos 2 → (old : SeenKept) × (site.old.value ≡ Some old)
-        × IsNoEntry old.site line.now × (site.new.value ≡ site.old.value) }
+        × IsNoEntryLine old.site line.now × (site.new.value ≡ site.old.value) }
     ensures wrong { result ≡ pos 3 → (old : SeenKept) × (site.old.value ≡ Some old)
         × IsWrongEntry old.site line.now × (site.new.value ≡ None) }
     ensures ended { result ≡ pos 4 → site.new.value ≡ None }

@@ -1,2 +1,2 @@
-pub mod RawBoxValues
-pub mod SlotValues
+mod RawBoxValues
+mod SlotValues
