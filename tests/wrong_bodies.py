@@ -4,12 +4,13 @@
 usage: wrong_bodies.py CRATE..      tries the mutants of these crates
        wrong_bodies.py --all        tries those of every crate, some hours of processor time
        wrong_bodies.py --check      proves nothing: whether each mutant still applies, and docs/PROVED.md has their
-                                    numbers
+                                    numbers, and the names of those of must-fail/
 
 A file tests/wrong_bodies/CRATE.edits has the crate's mutants, each under its name in brackets, in the form of a must-fail
 edit: a line 'file: src/..', and pairs of lines 'old: TEXT' and 'new: TEXT'. It applies where each old text is in its file
 exactly once. Mutants are tried on a copy of the repository, over what earlier checks kept.
 """
+import collections
 import glob
 import os
 import re
@@ -67,7 +68,7 @@ def check():
             if why:
                 faults += 1
                 print(f"wrong_bodies: {crate} {name}: {why}")
-    if faults or not counted():
+    if faults or not counted() or not named():
         sys.exit(1)
     return count
 
@@ -86,6 +87,18 @@ def counted():
     for crate, in_gate, others in sorted(found - said):
         print(f"wrong_bodies: docs/PROVED.md should say | {crate} | {in_gate} | {others} |")
     return not found - said
+
+
+def named():
+    """Whether the tables of promises in docs/PROVED.md name each mutant of the gate once; says which they don't."""
+    with open(os.path.join(ROOT, "docs", "PROVED.md"), encoding="utf-8") as file:
+        rows = re.findall(r"^\|.*\| \d+ \|([^|]*)\|[^|]*\|$", file.read(), flags=re.M)
+    said = collections.Counter(name for cell in rows for name in re.findall(r"`(\w+)`", cell))
+    edits = glob.glob(os.path.join(CRATES, "*", "must-fail", "*.edit"))
+    there = collections.Counter(os.path.basename(it)[: -len(".edit")] for it in edits)
+    for name in sorted((there - said) | (said - there)):
+        print(f"wrong_bodies: {name}: docs/PROVED.md names it {said[name]} times, and must-fail/ has it {there[name]} times")
+    return said == there
 
 
 def copy_of(crates, top):
