@@ -10,7 +10,7 @@ use Rattle.rb_run_site.specs.Openings.{OpensFile, OpensSite}
 use Rattle.rb_run_site.specs.Starts.{IsOf, WaitsBehind}
 
 -- the line at the front is the first of what waits
-next_line : (p rest : List ℕ) (e : Bool) (n : ℕ) → n ≡ line_len p → n ≤ length p → (n < length p) ⊎ ((n ≡ length p) × (0 < n) × (e ≡ true))
+pub next_line : (p rest : List ℕ) (e : Bool) (n : ℕ) → n ≡ line_len p → n ≤ length p → (n < length p) ⊎ ((n ≡ length p) × (0 < n) × (e ≡ true))
     → (e ≡ true → rest ≡ []) → lines_of (p ++ rest) ≡ take n p ∷ lines_of (drop (n + 1) p ++ rest)
 next_line p rest e n len fits stands end =
     let walk : Walks (p ++ rest) [] p rest e = record { got = p; lines = refl; bytes = refl; whole = λ going tail. refl } in

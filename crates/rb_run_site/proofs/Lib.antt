@@ -1,5 +1,6 @@
 mod Behind
 mod Blanks
+mod Causes
 mod Configured
 mod EntryLines
 mod Going

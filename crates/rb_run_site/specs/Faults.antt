@@ -16,7 +16,8 @@ fault_of_serve NotWritten = Write
 fault_of_serve DiskFailed = Journal
 fault_of_serve NoMemory = OutOfMemory
 
--- a fault that is found before the file is changed: of the configuration, of the journal's lines, of a read, or of memory
+-- a fault that is found before the file is changed: of the configuration, of the journal's lines, of a read, or of
+-- memory
 abbrev pub IsOpeningFault : SiteFault → Type 0
 IsOpeningFault NoConfig = Unit {0}
 IsOpeningFault (BadConfig n) = Unit {0}
@@ -31,6 +32,14 @@ IsOpeningFault (BadLine n) = ⊥
 IsOpeningFault InUse = ⊥
 IsOpeningFault Write = ⊥
 IsOpeningFault Journal = ⊥
+
+-- a fault of finding the input's first line, or of memory
+abbrev pub IsFirstLineFault : SiteFault → Type 0
+IsFirstLineFault NoConfig = Unit {0}
+IsFirstLineFault (LongLine n) = Unit {0}
+IsFirstLineFault Read = Unit {0}
+IsFirstLineFault OutOfMemory = Unit {0}
+IsFirstLineFault _ = ⊥
 
 -- why a run of a site stops, in words
 abbrev pub site_reason_of : SiteFault → List ℕ

@@ -1,14 +1,17 @@
 -- A site that is opened over a file, of which nothing is changed yet.
-use Rattle.std.specs.Prelude.{◌≡◌, ◌⊎◌, ◌≤◌, ℕ, List, [], Some, None}
+use Rattle.std.specs.Prelude.{◌≡◌, ◌⊎◌, ◌≤◌, ◌<◌, ℕ, List, [], ◌∷◌, Option, Some, None, IfSome}
 use Rattle.rb_money.specs.Settings.{Settings}
 use Rattle.rb_commands.specs.Configurations.{config_on}
 use Rattle.rb_journal.specs.Lines.{recovered}
-use Rattle.rb_site.specs.Seen.{IsReplayed, SeenSite}
+use Rattle.rb_lines.specs.Lines.{lines_of}
+use Rattle.rb_serve.specs.Turns.{not_blank}
+use Rattle.rb_site.specs.Seen.{IsReplayed, SeenSite, first_seen}
 use Rattle.rb_run_site.specs.Journals.{journal_head, journal_of}
 use Rattle.rb_run_site.specs.Files.{BeginsWith, IsAnother}
+use Rattle.rb_run_site.specs.FirstLines.{IsBehindBlanks}
 use Rattle.rb_run_site.specs.Replays.{EndsReplay}
 use Rattle.rb_run_site.specs.declared.fault.SiteFault.{SiteFault}
-use Rattle.rb_run_site.specs.declared.fault.SiteFault.TheVariants.{BadConfig, NoSite, AnotherJournal, BadEntry, WrongReply}
+use Rattle.rb_run_site.specs.declared.fault.SiteFault.TheVariants.{NoConfig, BadConfig, NoSite, AnotherJournal, BadEntry, WrongReply}
 use Rattle.rb_run_site.specs.declared.fault.SiteFault.TheVariants.{OutOfMemory}
 use Rattle.rb_run_site.specs.Starts.{IsJournalOf, IsOf, sent_again}
 
@@ -41,6 +44,28 @@ EndsFile old file (WrongReply n) = (entries : List ℕ) × BeginsWith file (jour
     × EndsReplay old (recovered entries) (WrongReply n)
 EndsFile old file OutOfMemory = Unit {0}
 EndsFile old file _ = ⊥
+
+-- the site of the configuration on the line isn't opened over the file, for this fault
+abbrev pub EndsOpening : ℕ → List ℕ → SiteFault → ℕ → List ℕ → Type 0
+EndsOpening me file fault number line =
+    (s : Settings) × (config_on line ≡ Some s) × (me < s.sites) × EndsFile (first_seen s me) file fault
+
+-- of the input's first line that isn't blank, and of its number, this holds
+pub record HasFirstLine (input : Option (List ℕ)) (P : ℕ → List ℕ → Type 0) : Type 0 where
+  pub number : ℕ
+  pub line : List ℕ
+  pub first : IfSome input (λ all. (later : List (List ℕ)) × IsBehindBlanks number (line ∷ later) all)
+  pub holds : P number line
+
+-- what a fault of the opening says of the input's first line and of the file's bytes
+abbrev pub IsOpeningCause : ℕ → Option (List ℕ) → List ℕ → SiteFault → Type 0
+IsOpeningCause me input file NoConfig = IfSome input (λ all. not_blank (lines_of all) ≡ [])
+IsOpeningCause me input file (BadConfig n) = HasFirstLine input (λ number line. EndsNode line number me (BadConfig n))
+IsOpeningCause me input file NoSite = HasFirstLine input (λ number line. EndsNode line number me NoSite)
+IsOpeningCause me input file AnotherJournal = HasFirstLine input (EndsOpening me file AnotherJournal)
+IsOpeningCause me input file (BadEntry n) = HasFirstLine input (EndsOpening me file (BadEntry n))
+IsOpeningCause me input file (WrongReply n) = HasFirstLine input (EndsOpening me file (WrongReply n))
+IsOpeningCause me input file _ = Unit {0}
 
 -- the site of the configuration on a line went on by the file's entries
 pub record OpensSite (config : List ℕ) (me most : ℕ) (file : List ℕ) (x : SeenSite) (first sends : List ℕ) : Type 0 where

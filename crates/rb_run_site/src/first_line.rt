@@ -4,7 +4,7 @@ ghost use Rattle.std.specs.Io.KnownBytes.{IsAtEnd};
 ghost use Rattle.rb_lines.specs.Buffers.{Counts, IsWholeLine, left};
 ghost use Rattle.rb_lines.specs.Lines.{is_blank};
 ghost use Rattle.rb_lines.specs.declared.limits.TheConstants.{MOST_READS, READ_SIZE};
-ghost use Rattle.rb_run_site.specs.Faults.{IsOpeningFault};
+ghost use Rattle.rb_run_site.specs.Faults.{IsFirstLineFault, IsOpeningFault};
 ghost use Rattle.rb_run_site.specs.FirstLines.{FindsFirst};
 ghost use Rattle.rb_run_site.specs.declared.fault.SiteFault.TheVariants.{Read as NotRead};
 
@@ -35,6 +35,7 @@ pub fn first_line<S: Source, W: Sink>(
     ensures input { IfSome (S.remaining reader.old)
         (λ input. FindsFirst result input buffers.new.pending (S.remaining reader.new)) }
     ensures only { IfErr result IsOpeningFault }
+    ensures kind { IfErr result IsFirstLineFault }
     ensures read { result ≡ Err NotRead → (S.failed reader.new ≡ true) ⊎ (S.calls reader.new ≡ MOST_READS) }
     ensures calls { S.calls reader.new ≤ MOST_READS }
 {

@@ -9,7 +9,7 @@ ghost use Rattle.rb_lines.specs.Buffers.{Counts};
 ghost use Rattle.rb_lines.specs.declared.limits.TheConstants.{MOST_READS};
 ghost use Rattle.rb_run_site.specs.Journals.{journal_head, journal_of};
 ghost use Rattle.rb_run_site.specs.Faults.{IsOpeningFault};
-ghost use Rattle.rb_run_site.specs.Openings.{EndsFile, EndsNode, OpensFile, OpensSite};
+ghost use Rattle.rb_run_site.specs.Openings.{EndsFile, EndsNode, IsOpeningCause, OpensFile, OpensSite};
 ghost use Rattle.rb_run_site.specs.Starts.{IsOf, WaitsBehind};
 ghost use Rattle.rb_run_site.specs.declared.fault.SiteFault.TheVariants.{Read as NotRead};
 
@@ -110,6 +110,7 @@ pub fn open_site<S: Source>(
         r.0.machine.node.site r.0.first.items r.0.sends.items
         × IfSome (S.remaining reader.old) (WaitsBehind config r.1 buffers.new.pending (S.remaining reader.new))) }
     ensures only { IfErr result IsOpeningFault }
+    ensures cause { IfErr result (IsOpeningCause me (S.remaining reader.old) bytes.now) }
     ensures read { result ≡ Err NotRead → (S.failed reader.new ≡ true) ⊎ (S.calls reader.new ≡ MOST_READS) }
     ensures calls { S.calls reader.new ≤ MOST_READS }
 {

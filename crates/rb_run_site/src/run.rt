@@ -1,5 +1,5 @@
 //! One site between a reader and a host: a whole run.
-ghost use Rattle.std.specs.Prelude.{◌≡◌, ◌+◌, ◌<◌, ◌≤◌, ◌^◌, ◌⊎◌, [], true, length, Err, List, ℕ};
+ghost use Rattle.std.specs.Prelude.{◌≡◌, ◌+◌, ◌<◌, ◌≤◌, ◌^◌, ◌⊎◌, [], true, length, Err, IfErr, List, ℕ};
 ghost use Rattle.std.specs.Io.KnownBytes.{IsAtEnd};
 ghost use Rattle.rb_journal.specs.Host.{LeavesOnly, Only};
 ghost use Rattle.rb_journal.specs.Journal.{IsSettled};
@@ -11,7 +11,7 @@ ghost use Rattle.rb_serve.specs.declared.fault.ServeFault.TheVariants.{Journal a
 ghost use Rattle.rb_serve.specs.declared.fault.ServeFault.TheVariants.{Write as WriteStopped};
 ghost use Rattle.rb_serve.specs.Run.{served_input};
 ghost use Rattle.rb_run_site.specs.Ends.{AnswersAll, AnswersBehind, IsAtRest, IsFullBehind, RunsTo};
-ghost use Rattle.rb_run_site.specs.Openings.{IsToBegin};
+ghost use Rattle.rb_run_site.specs.Openings.{IsOpeningCause, IsToBegin};
 ghost use Rattle.rb_run_site.specs.Runs.{IsLeftOrAnswered, IsSiteRun};
 ghost use Rattle.rb_run_site.specs.Journals.{SiteAnswers, journal_of};
 ghost use Rattle.rb_run_site.specs.Steps.{IsRunOfSteps};
@@ -154,6 +154,9 @@ pub fn run_site<S: Source, H: Host>(
     ensures ended { RunsTo (AnswersBehind me resend (S.remaining reader.old) (S.remaining reader.new)
         (recovered bytes.now) (H.output host) (recovered (H.content result.host)) (H.output result.host))
         (result.host ≡ host) result.ended }
+
+    // Each fault of the opening comes only for its cause, by the input's first line and the file's lines.
+    ensures opening { IfErr result.ended (IsOpeningCause me (S.remaining reader.old) bytes.now) }
 
     // Then the file is whole lines and a closed gate, all of it on the disk.
     ensures rest { IsAtRest result.ended → H.content result.host ≡ at_rest (recovered (H.content result.host)) }
