@@ -49,7 +49,7 @@ pub extern "C" fn rbbank_site_open(
 }
 
 /// Answers the line of an event, and keeps the answer's line, with its line feed, and the lines of the entries that the
-/// site recorded: these belong into its journal before anyone is told the answer.
+/// site recorded: these belong into its journal before anyone sees the answer.
 ///
 /// Statuses: 0; 1 where there is no site; 2 where the line is no event, and then nothing has changed, the kept texts
 /// included; 4 for want of memory, which ends the site.
