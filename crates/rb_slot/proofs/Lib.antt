@@ -1,2 +1,1 @@
-mod RawBoxValues
-mod SlotValues
+pub mod Public

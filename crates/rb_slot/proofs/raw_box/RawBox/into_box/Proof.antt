@@ -32,7 +32,7 @@ use Rattle.core.proofs.cell.Inside.{Good}
 use Rattle.std_alloc.proofs.BoxSteps.Form as box
 use Rattle.std_alloc.proofs.BoxSteps.Steps.{box_out, box_in}
 use Rattle.std.proofs.raw_atomic.Walks.{proved_at, leaves}
-use Rattle.rb_slot.proofs.RawBoxValues.{both, RawBox, raw_box_good, raw_box_out}
+use Rattle.rb_slot.proofs.Public.RawBoxValues.{both, RawBox, raw_box_good, raw_box_out}
 use Rattle.std_alloc.specs.contracts.boxed.Box.from_raw as callee
 use Rattle.std_alloc.proofs.boxed.Box.from_raw.Met.{met}
 use Rattle.rb_slot.specs.contracts.raw_box.RawBox.into_box.{ended, clauses}

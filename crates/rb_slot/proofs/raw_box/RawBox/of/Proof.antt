@@ -33,7 +33,7 @@ use Rattle.std_alloc.specs.Box.Ownership.{box_owns}
 use Rattle.std_alloc.proofs.BoxSteps.Form as box
 use Rattle.std_alloc.proofs.BoxSteps.Steps.{box_out, box_in}
 use Rattle.std.proofs.raw_atomic.Walks.{proved_at, leaves}
-use Rattle.rb_slot.proofs.RawBoxValues.{both, raw_box_good, raw_box_in}
+use Rattle.rb_slot.proofs.Public.RawBoxValues.{both, raw_box_good, raw_box_in}
 use Rattle.std_alloc.specs.contracts.boxed.Box.into_raw_with_allocator as callee
 use Rattle.std_alloc.proofs.boxed.Box.into_raw_with_allocator.Met.{met}
 use Rattle.rb_slot.specs.contracts.raw_box.RawBox.of.{ended, clauses}

@@ -30,8 +30,8 @@ use Rattle.std.specs.contracts.impls.GlobalAllocator.TheImpl.{ghosts}
 use Rattle.std.specs.declared.option.Option.TheVariants.{None, Some}
 use Rattle.std_alloc.proofs.ResultValues.{and_tt}
 use Rattle.std.proofs.raw_atomic.Walks.{proved_at, leaves}
-use Rattle.rb_slot.proofs.RawBoxValues.{both, RawBox, raw_box_good, raw_box_in}
-use Rattle.rb_slot.proofs.SlotValues.{Slot, slot_out, either_slot}
+use Rattle.rb_slot.proofs.Public.RawBoxValues.{both, RawBox, raw_box_good, raw_box_in}
+use Rattle.rb_slot.proofs.Public.SlotValues.{Slot, slot_out, either_slot}
 use Rattle.rb_slot.specs.contracts.slot.Slot.into_raw_box.{ended, clauses}
 use Rattle.rb_slot.specs.contracts.slot.Slot.into_raw_box.Key.{name as #self}
 use Rattle.rb_slot.proofs.slot.Slot.into_raw_box.Statement.{statement}

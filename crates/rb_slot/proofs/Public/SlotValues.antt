@@ -29,7 +29,7 @@ use Rattle.std.proofs.GlobalToken.{dealloc_token-Testable}
 use Rattle.std_alloc.specs.Box.Ownership.{box_owns}
 use Rattle.rb_slot.specs.Slots.{slot_owns}
 use Rattle.rb_slot.specs.contracts.slot.Slot as slot
-use Rattle.rb_slot.proofs.RawBoxValues.{both}
+use Rattle.rb_slot.proofs.Public.RawBoxValues.{both}
 
 abbrev pub Z : RattleType
 Z = heap.the_row

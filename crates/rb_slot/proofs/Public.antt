@@ -1,0 +1,3 @@
+-- What other crates cite.
+pub mod RawBoxValues
+pub mod SlotValues
