@@ -64,7 +64,8 @@ static int a_bank(void) {
     int fine = fits(status, bank.at, 1);
     EACH(COMMANDS, i) {
         int was_open = bank.at != NULL;
-        fine = fits(rbbank_answer(&bank, BYTES(COMMANDS[i])), bank.at, was_open) && fine;
+        status = rbbank_answer(&bank, BYTES(COMMANDS[i]));
+        fine = fits(status, bank.at, was_open) && fine;
         fine = (rbbank_reply(&bank, 0, out, sizeof out) > 0) == (bank.at != NULL) && fine;
     }
     rbbank_close(&bank);
@@ -78,13 +79,15 @@ static int a_site(void) {
     int fine = fits(status, site.at, 1);
     EACH(EVENTS, i) {
         int was_open = site.at != NULL;
-        fine = fits(rbbank_site_answer(&site, BYTES(EVENTS[i])), site.at, was_open) && fine;
+        status = rbbank_site_answer(&site, BYTES(EVENTS[i]));
+        fine = fits(status, site.at, was_open) && fine;
         fine = (rbbank_site_entries(&site, 0, out, sizeof out) > 0) == (site.at != NULL) && fine;
     }
     status = rbbank_site_open(&site, 0, BYTES(CONFIG));
     fine = fits(status, site.at, 1) && fine;
     int was_open = site.at != NULL;
-    fine = fits(rbbank_site_replay(&site, BYTES(ENTRY)), site.at, was_open) && fine;
+    status = rbbank_site_replay(&site, BYTES(ENTRY));
+    fine = fits(status, site.at, was_open) && fine;
     rbbank_site_close(&site);
     return fine;
 }
