@@ -25,7 +25,7 @@ WORDS = [
     ("stood", "was, were", 0, 0, 0, 0),
     ("room", "spare capacity", 6, 0, 0, 0),
     ("a front of", "a prefix of", 0, 0, 0, 0),
-    ("owed", "buffered", 0, 1, 0, 0),
+    ("owed", "buffered", 0, 0, 0, 0),
     ("wrong body", "mutant", 0, 0, 0, 0),
     ("wrong bodies", "mutants", 0, 0, 0, 0),
     ("of so many", "of this number of", 0, 0, 0, 0),

@@ -94,7 +94,7 @@ void rbbank_site_close(struct rbbank_site *site);
  * `capacity` bytes, is too short; 4 where memory ran out. `*written` bytes of `out` were written: with 0 and 1 the
  * whole output, with 2 what was written before the bad line, with 3 a prefix. `*number` is with 0 and 1 how many lines
  * were written; with 2 the number of the bad line, from 1, blank ones counted, or 0 where the input has no
- * configuration; with 3 how many bytes `out` has to have. The input is at most 4,000,000,000 bytes. */
+ * configuration; with 3 how many bytes `out` has to have. */
 
 /* Commands in, replies out: `rbbank script`. */
 int32_t rbbank_script(const uint8_t *input, size_t length, uint8_t *out, size_t capacity, size_t *written,

@@ -1,5 +1,6 @@
 //! The core for C: a static library. A bank, all sites of a configuration or one of them, lies behind a handle that C
 //! keeps, and is asked and answers by lines; whole scripts, audits and migrations go from bytes to bytes.
+//! Tests: bindings/check.py, by C, Rust and Python (`make bindings`).
 #![tactic(auto)]
 
 mod audit;
