@@ -113,7 +113,7 @@ class Mix:
         return items[self.pick(len(items))]
 
     def command(self, left):
-        """The next command, where this number is left. Where much is on its way, it moves on first; at the end, all of it."""
+        """The next command, where this number is left. Where much is on its way, it moves on first; at the end, all."""
         if self.owed >= left:
             return self.moves_on()
         site = self.one_of(self.sites)

@@ -60,9 +60,11 @@ pub record IsInMemory {A : Type 0} (r : Result A StreamFault) : Type 0 where
 abbrev pub buffer_with : List ℕ → List ℕ → List ℕ
 buffer_with text before = take (length before) text ++ drop (length text) before
 
--- a run wrote this text and ended so, and C finds the text at the beginning of the buffer, how many bytes were written, the number and
--- the status of the run; where the buffer is too short for the whole text, the status of a failed write, and how many bytes the text has
-pub record IsHandedOver (text : List ℕ) (e : Ending) (before after : List ℕ) (written number : ℕ) (status : ℤ) : Type 0 where
+-- a run wrote this text and ended so, and C finds the text at the beginning of the buffer, how many bytes were written,
+-- the number and the status of the run; where the buffer is too short for the whole text, the status of a failed write,
+-- and how many bytes the text has
+pub record IsHandedOver (text : List ℕ) (e : Ending) (before after : List ℕ) (written number : ℕ) (status : ℤ) :
+    Type 0 where
   pub buffer : after ≡ buffer_with text before
   pub written_is : written ≡ min (length text) (length before)
   pub number_is : number ≡ (if nat_le (length text) (length before) then e.number else length text)

@@ -23,7 +23,8 @@ first_kept s me = record { site = first_seen s me; answer = []; entries = line_o
 abbrev pub AnswersEventLine : SeenKept → SeenKept → List ℕ → Type 0
 AnswersEventLine old new l = IsSiteAnswer old.site new.site l new.answer new.entries
 
--- the line is the site's next entry; the answer is what the entry sent, to be sent again, and the journal has its line already
+-- the line is the site's next entry; the answer is what the entry sent, to be sent again, and the journal has its line
+-- already
 pub record ReplaysEntryLine (old new : SeenKept) (l : List ℕ) : Type 0 where
   pub entry : Entry
   pub on_line : entry_on old.site.settings l ≡ Some (old.site.me, entry)

@@ -13,8 +13,8 @@ use std::alloc::Global;
 use std::marker::Model;
 use std::mem::replace;
 
-/// What C keeps of a bank, its `struct rbbank`: a pointer that C never follows, or null. All its bytes are zero to begin
-/// with.
+/// What C keeps of a bank, its `struct rbbank`: a pointer that C never follows, or null. All its bytes are zero to
+/// begin with.
 #[repr(C)]
 pub struct BankHandle {
     at: *mut u8,

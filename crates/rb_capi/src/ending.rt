@@ -63,8 +63,8 @@ pub fn end_of_lines(ran: Result<u64, ScriptFault>) -> Ending
 }
 
 /// Puts the text at the beginning of `out`, as much of it as there is capacity for: `written` is how many bytes these
-/// are. Where that is the whole text, the result is the run's status, and the number the run's. Else it is the status of
-/// a failed write, and the number is how many bytes the text has.
+/// are. Where that is the whole text, the result is the run's status, and the number the run's. Else it is the status
+/// of a failed write, and the number is how many bytes the text has.
 pub fn hand_over(
     text: &[u8],
     ending: Ending,

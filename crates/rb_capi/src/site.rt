@@ -80,9 +80,9 @@ pub extern "C" fn rbbank_site_answer(alloc: Global, site: &mut SiteHandle, line:
     }
 }
 
-/// Replays the line of the site's next entry, as a restart does with each line of the journal behind the first. The kept
-/// answer is then the line `{"sends":[..]}` of what the entry sent, with its line feed, to be sent again, or empty where
-/// it sent nothing; and there are no kept entries.
+/// Replays the line of the site's next entry, as a restart does with each line of the journal behind the first. The
+/// kept answer is then the line `{"sends":[..]}` of what the entry sent, with its line feed, to be sent again, or empty
+/// where it sent nothing; and there are no kept entries.
 ///
 /// Statuses: 0; 1 where there is no site; 2 where the line is no entry of this site, and then nothing has changed; 3
 /// where the site gives another reply than the entry has, or its history is full, and 4 for want of memory, each of
