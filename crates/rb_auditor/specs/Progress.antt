@@ -1,5 +1,6 @@
 -- Entries of histories taken one after another.
-use Rattle.std.specs.Prelude.{◌≡◌, ℕ, ◌+◌, ◌-◌, ◌<◌, ◌≤◌, List, [], ◌∷◌, ◌++◌, length, map, take, drop, replicate, Some, slice_get, slice_set}
+use Rattle.std.specs.Prelude.{◌≡◌, ℕ, ◌+◌, ◌-◌, ◌<◌, ◌≤◌, List, [], ◌∷◌, ◌++◌, length, map, take, drop, replicate, Some}
+use Rattle.std.specs.Prelude.{slice_get, slice_set}
 use Rattle.rb_money.specs.Settings.{Settings}
 use Rattle.rb_site.specs.declared.entry.Entry.{Entry}
 use Rattle.rb_site.specs.declared.event.Event.TheVariants.{Receive}
@@ -96,7 +97,8 @@ pub record IsTaking (p : Progress) : Type 0 where
   pub counts : length p.taken ≡ length p.histories
   pub replays : (i : ℕ) (h : List Entry) → slice_get p.histories i ≡ Some h → IsReplay p.settings i h
   pub within : (i k : ℕ) (h : List Entry) → slice_get p.histories i ≡ Some h → slice_get p.taken i ≡ Some k → k ≤ length h
-  pub sent : (i k : ℕ) (h : List Entry) → slice_get p.histories i ≡ Some h → slice_get p.taken i ≡ Some k → (m : Message) → IsAmong m (sends_of p.settings (first_site i) (events_of (take k h))) → IsAmong m p.messages
+  pub sent : (i k : ℕ) (h : List Entry) → slice_get p.histories i ≡ Some h → slice_get p.taken i ≡ Some k → (m : Message)
+      → IsAmong m (sends_of p.settings (first_site i) (events_of (take k h))) → IsAmong m p.messages
   pub reached : IsReached p.settings p.order (world_of p)
 
 -- all entries were taken

@@ -202,18 +202,18 @@ distinct site history seats h number j k a b =
 -- the seat that was tested has the number next
 pub holds_here : (site number : ℕ) (seats : List SeenSeat) (next : List ℕ) (v : ℕ) (c : SeenSeat) (b : Bool) → v < length seats
     → c ≡ get_or seats v c → b ≡ is_next site (slice_index next v) number c → b ≡ true → IsHolder site number seats next v
-holds_here site number seats next v c b within is tells positive =
-    (c, slice_get-get_or seats v c within ∙ ap Some (sym is), sym tells ∙ positive)
+holds_here site number seats next v c b within is counted positive =
+    (c, slice_get-get_or seats v c within ∙ ap Some (sym is), sym counted ∙ positive)
 
 -- the seat that was tested has it not
 pub holds_not : (site number : ℕ) (seats : List SeenSeat) (next : List ℕ) (v : ℕ) (c : SeenSeat) (b : Bool) → v < length seats
     → c ≡ get_or seats v c → b ≡ is_next site (slice_index next v) number c → b ≡ false → ¬ IsHolder site number seats next v
-holds_not site number seats next v c b within is tells negative h =
+holds_not site number seats next v c b within is counted negative h =
     let found : slice_get seats v ≡ Some c = slice_get-get_or seats v c within ∙ ap Some (sym is) in
     let same : h.0 ≡ c = cc (h.1, found) in
     let P : SeenSeat → Type 0 = λ d. is_next site (slice_index next v) number d ≡ true in
     let positive = subst P same h.2 in
-    let both : false ≡ true = sym negative ∙ tells ∙ positive in
+    let both : false ≡ true = sym negative ∙ counted ∙ positive in
     cc
 
 -- there is no seat past the last

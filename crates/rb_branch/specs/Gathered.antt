@@ -1,5 +1,6 @@
 -- When histories are made of receipts.
-use Rattle.std.specs.Prelude.{◌≡◌, ℕ, ◌+◌, ◌<◌, ◌≤◌, ◌^◌, List, [], ◌∷◌, All, ◌==◌, if◌then◌else◌, Some, map, length, slice_get, slice_set, sum_by, vec_len}
+use Rattle.std.specs.Prelude.{◌≡◌, ℕ, ◌+◌, ◌<◌, ◌≤◌, ◌^◌, List, [], ◌∷◌, All, ◌==◌, if◌then◌else◌, Some, map, length}
+use Rattle.std.specs.Prelude.{slice_get, slice_set, sum_by, vec_len}
 use Rattle.rb_money.specs.Settings.{Settings}
 use Rattle.rb_money.specs.declared.limits.TheConstants.{MOST_SITES}
 use Rattle.rb_branch.specs.declared.gather_fault.GatherFault.{GatherFault}
@@ -18,7 +19,8 @@ use Rattle.rb_site.specs.Seen.{SeenSite, Replays, entry, state_of}
 abbrev pub AllEmpty : {X : Type 0} → List (List X) → Type 0
 AllEmpty {X} lists = (k : ℕ) (l : List X) → slice_get lists k ≡ Some l → l ≡ []
 
--- each item in turn is the next of one of the lists, and nothing is left in the end: each is there once, and each list in its order
+-- each item in turn is the next of one of the lists, and nothing is left in the end: each is there once, and each list
+-- in its order
 abbrev pub IsInterleaving : {X : Type 0} → List (List X) → List X → Type 0
 IsInterleaving lists [] = AllEmpty lists
 IsInterleaving {X} lists (x ∷ xs) =
@@ -65,8 +67,8 @@ entries_in reports = sum_by (λ r. vec_len r.history) reports
 abbrev pub seen : Settings → ℕ → List Entry → SeenSite
 seen s me entries = record { settings = s; me = me; entries = entries }
 
--- the report of a site of this configuration: its history replays and is within its limit, and all else that it reports is the state that
--- the history leads to
+-- the report of a site of this configuration: its history replays and is within its limit, and all else that it reports
+-- is the state that the history leads to
 pub record IsClosedReport (s : Settings) (r : SiteReport) : Type 0 where
   pub within : r.me < s.sites
   pub replays : Replays s (first_site r.me) r.history.items
@@ -94,22 +96,25 @@ abbrev pub AllGathered : List SiteReport → List SeenSeat → Type 0
 AllGathered reports seats =
     (k : ℕ) (r : SiteReport) → slice_get reports k ≡ Some r → (r.me ≡ k) × IsGathered k r.history.items seats
 
--- each of the first n reports is of the site of its number, and its history is the receipts of that site's seats, interleaved
+-- each of the first n reports is of the site of its number, and its history is the receipts of that site's seats,
+-- interleaved
 abbrev pub GatheredBefore : ℕ → List SiteReport → List SeenSeat → Type 0
 GatheredBefore n reports seats =
     (k : ℕ) → k < n → (r : SiteReport) → slice_get reports k ≡ Some r → (r.me ≡ k) × IsGathered k r.history.items seats
 
--- the site of a fault is the first at fault: the history of each site before it is the receipts of that site's seats, interleaved
+-- the site of a fault is the first at fault: the history of each site before it is the receipts of that site's seats,
+-- interleaved
 abbrev pub IsFirst : List SiteReport → List SeenSeat → GatherFault → Type 0
 IsFirst reports seats (Missing site) = GatheredBefore site reports seats
 IsFirst reports seats (Mixed site) = GatheredBefore site reports seats
 IsFirst reports seats OutOfMemory = Unit {0}
 
--- what a fault says: there are fewer receipts than entries, at that site and in all; or its history isn't its seats' receipts,
--- interleaved. Out of memory says nothing
+-- what a fault says: there are fewer receipts than entries, at that site and in all; or its history isn't its seats'
+-- receipts, interleaved. Out of memory says nothing
 abbrev pub Explains : List SiteReport → List SeenSeat → GatherFault → Type 0
 Explains reports seats (Missing site) =
-    (r : SiteReport) × (slice_get reports site ≡ Some r) × (receipts_at site seats < vec_len r.history) × (receipts_in seats < entries_in reports)
+    (r : SiteReport) × (slice_get reports site ≡ Some r) × (receipts_at site seats < vec_len r.history)
+    × (receipts_in seats < entries_in reports)
 Explains reports seats (Mixed site) =
     (r : SiteReport) × (slice_get reports site ≡ Some r) × ¬ IsGathered site r.history.items seats
 Explains reports seats OutOfMemory = Unit {0}

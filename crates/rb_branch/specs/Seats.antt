@@ -1,5 +1,6 @@
 -- What a call does to a desk and to a seat.
-use Rattle.std.specs.Prelude.{◌≡◌, ◌≢◌, ◌⊎◌, ℕ, ◌+◌, ◌≤◌, ◌<◌, Bool, true, false, Option, Some, None, zero, suc, slice_get, List, [], ◌∷◌, ◌++◌, length, All}
+use Rattle.std.specs.Prelude.{◌≡◌, ◌≢◌, ◌⊎◌, ℕ, ◌+◌, ◌≤◌, ◌<◌, Bool, true, false, Option, Some, None, zero, suc}
+use Rattle.std.specs.Prelude.{slice_get, List, [], ◌∷◌, ◌++◌, length, All}
 use Rattle.rb_money.specs.Settings.{Settings}
 use Rattle.rb_money.specs.declared.limits.TheConstants.{MOST_SITES}
 use Rattle.rb_branch.specs.declared.limits.TheConstants.{MOST_RECEIPTS, MOST_SEATS, RECEIPT_PARTS}
@@ -24,8 +25,8 @@ pub record SeenSeat : Type 0 where
   pub site : ℕ
   pub receipts : List Receipt
 
--- a desk's site is one of the branch's configuration, its history replays and is within its limit; its share of the entries is one part,
--- whose amount is their number
+-- a desk's site is one of the branch's configuration, its history replays and is within its limit; its share of the
+-- entries is one part, whose amount is their number
 pub record IsDesk (s : Settings) (site : SeenSite) (parts amount : ℕ) : Type 0 where
   pub settings : site.settings ≡ s
   pub within : site.me < s.sites
@@ -34,8 +35,8 @@ pub record IsDesk (s : Settings) (site : SeenSite) (parts amount : ℕ) : Type 0
   pub one_part : parts ≡ 1
   pub counted : amount ≡ length site.entries
 
--- the reply of a receipt is what a site of this number answers to its event: one of the configuration, whose history replays and is one
--- shorter than the receipt's number
+-- the reply of a receipt is what a site of this number answers to its event: one of the configuration, whose history
+-- replays and is one shorter than the receipt's number
 pub record IsSiteReply (s : Settings) (site : ℕ) (r : Receipt) : Type 0 where
   pub before : SeenSite
   pub settings : before.settings ≡ s
@@ -44,8 +45,8 @@ pub record IsSiteReply (s : Settings) (site : ℕ) (r : Receipt) : Type 0 where
   pub number : r.number ≡ length before.entries + 1
   pub reply : r.reply ≡ reply_to s (state_of before) r.event
 
--- a seat's site is one of the configuration's; its share of the receipts is one part, whose amount is their number; the reply of each is
--- what such a site answers
+-- a seat's site is one of the configuration's; its share of the receipts is one part, whose amount is their number; the
+-- reply of each is what such a site answers
 pub record IsSeat (s : Settings) (site : ℕ) (receipts : List Receipt) (parts amount : ℕ) : Type 0 where
   pub within : site < s.sites
   pub one_part : parts ≡ 1
@@ -53,7 +54,8 @@ pub record IsSeat (s : Settings) (site : ℕ) (receipts : List Receipt) (parts a
   pub few : length receipts ≤ MOST_RECEIPTS
   pub answered : All (IsSiteReply s site) receipts
 
--- there are as many entries as receipts; of the parts of the receipts each seat that was given has one, and the rest counts nothing
+-- there are as many entries as receipts; of the parts of the receipts each seat that was given has one, and the rest
+-- counts nothing
 pub record AreBooks (all seats entries receipts parts amount : ℕ) : Type 0 where
   pub same : entries ≡ receipts
   pub all_parts : all ≡ RECEIPT_PARTS
@@ -77,15 +79,20 @@ abbrev pub receipt_at : List Receipt → ℕ → Option Receipt
 receipt_at rs zero = None
 receipt_at rs (suc k) = slice_get rs k
 
--- one event at the desk, the given one. The seat has its receipt at the end: the new entry's number, the event and the reply
+-- one event at the desk, the given one. The seat has its receipt at the end: the new entry's number, the event and the
+-- reply
 pub record Records (old new : SeenSite) (event : Event) (before now : SeenSeat) (number : ℕ) (posted : List Message) : Type 0 where
   pub here : before.site ≡ old.me
   pub run : new ≡ stepped old event
-  pub seat : now ≡ record before { receipts = before.receipts ++ receipt (length new.entries) event (reply_to old.settings (state_of old) event) 0 ∷ [] }
+  pub seat : now ≡ record before {
+    receipts = before.receipts
+        ++ receipt (length new.entries) event (reply_to old.settings (state_of old) event) 0 ∷ [];
+  }
   pub number_is : number ≡ length now.receipts
   pub posted_is : posted ≡ sent_at old.settings (state_of old) event
 
--- why nothing is recorded, but for running out of memory: the seat is of another site, the history is full, or the seat is
+-- why nothing is recorded, but for running out of memory: the seat is of another site, the history is full, or the seat
+-- is
 abbrev pub CannotRecord : SeenSite → SeenSeat → Type 0
 CannotRecord desk seat = (seat.site ≢ desk.me) ⊎ ((is_full desk.settings (state_of desk) ≡ true) ⊎ (MOST_RECEIPTS ≤ length seat.receipts))
 
@@ -135,14 +142,14 @@ WasRefused m receipts = Any (λ r. (r.event ≡ Receive m) × (is_full_inbox r.r
 abbrev pub WasReceived : Message → List Receipt → Type 0
 WasReceived m receipts = Any (λ r. (r.event ≡ Receive m) × (is_full_inbox r.reply ≡ false)) receipts
 
--- no message is lost: each that was kept, or was refused by one of these receipts as the inbox was full, is kept, or was received by one
--- of them with another reply
+-- no message is lost: each that was kept, or was refused by one of these receipts as the inbox was full, is kept, or
+-- was received by one of them with another reply
 pub record NoneLost (old new : List Message) (receipts : List Receipt) : Type 0 where
   pub kept : (m : Message) → IsOneOf m old → IsOneOf m new ⊎ WasReceived m receipts
   pub refused : (m : Message) → WasRefused m receipts → IsOneOf m new ⊎ WasReceived m receipts
 
--- the seat has this number of receipts more, at its end, all of events that serve its site; and no message is lost between these receipts
--- and what the inlet kept before and keeps now
+-- the seat has this number of receipts more, at its end, all of events that serve its site; and no message is lost
+-- between these receipts and what the inlet kept before and keeps now
 pub record HasServed (old new : SeenSeat) (before now : List Message) (count : ℕ) : Type 0 where
   pub more : List Receipt
   pub seat : new ≡ record old { receipts = old.receipts ++ more }
@@ -152,4 +159,5 @@ pub record HasServed (old new : SeenSeat) (before now : List Message) (count : �
 
 -- the last receipt says how many times a link refused one of its messages, and all else is as before
 abbrev pub SetsUnsent : SeenSeat → SeenSeat → ℕ → Type 0
-SetsUnsent old new count = (xs : List Receipt) (r : Receipt) → old.receipts ≡ xs ++ r ∷ [] → new ≡ record old { receipts = xs ++ record r { unsent = count } ∷ [] }
+SetsUnsent old new count = (xs : List Receipt) (r : Receipt) → old.receipts ≡ xs ++ r ∷ []
+    → new ≡ record old { receipts = xs ++ record r { unsent = count } ∷ [] }

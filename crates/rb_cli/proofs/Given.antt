@@ -22,10 +22,12 @@ some_same : (a b : List ℕ) → Some a ≡ Some b → a ≡ b
 some_same a b e = cc e
 
 -- and the other way round
-pub text_of : (words : List (Bor (List ℕ))) (k : ℕ) (text : List ℕ) → k < length words → slice_get (map (λ word. word.now) words) k ≡ Some text
+pub text_of : (words : List (Bor (List ℕ))) (k : ℕ) (text : List ℕ) → k < length words → slice_get (map (λ word. word.now) words) k
+    ≡ Some text
     → (get_or words k nowhere).now ≡ text
 text_of words k text below at = some_same _ _ (sym (text_is words k below) ∙ at)
 
 -- where there is a text, there is a word
-pub is_word : (words : List (Bor (List ℕ))) (k : ℕ) (text : List ℕ) → slice_get (map (λ word. word.now) words) k ≡ Some text → k < length words
+pub is_word : (words : List (Bor (List ℕ))) (k : ℕ) (text : List ℕ) → slice_get (map (λ word. word.now) words) k ≡ Some text
+    → k < length words
 is_word words k text at = subst (λ n. k < n) (length-map words (λ word. word.now)) (slice_get_within _ k text at)

@@ -95,7 +95,7 @@ plain_line =
 abbrev pub command_line : App
 command_line = with_subcommand (with_subcommand plain_line threads_line.top) site_line.top
 
--- the kinds of error that words may end in, out of memory aside: those of the first word that the command line doesn't take, and where it
--- takes all, that they ask for nothing
+-- the kinds of error that words may end in, out of memory aside: those of the first word that the command line doesn't
+-- take, and where it takes all, that they ask for nothing
 abbrev pub kinds_of : List (List ℕ) → Kinds
 kinds_of words = or_else (fault_of command_line words) (InvalidSubcommand ∷ [])

@@ -53,7 +53,8 @@ has_known_keys d = size_of d == 3 + has (codes "blue") d + has (codes "red") d +
 abbrev pub version_at : Data → Option ℕ
 version_at d = option_and_then (number_below (2 ^ 8)) (get (codes "version") d)
 
--- lines of a bank with this number of sites may have this version: 1 up to the most sites of version 1, and 2 whatever the sites
+-- lines of a bank with this number of sites may have this version: 1 up to the most sites of version 1, and 2 whatever
+-- the sites
 abbrev pub is_version : ℕ → ℕ → Bool
 is_version version sites = ((version == 1) && nat_le sites MOST_SITES_OF_VERSION_1) || (version == 2)
 

@@ -1,5 +1,6 @@
--- Whatever sites lose behind what they reported, the rest of their histories is one world's. So a crash, which leaves such a rest, keeps
--- this, and an event more is brought to the world of the rest before it: its message, if any, was reported, so it is there.
+-- Whatever sites lose behind what they reported, the rest of their histories is one world's. So a crash, which leaves
+-- such a rest, keeps this, and an event more is brought to the world of the rest before it: its message, if any, was
+-- reported, so it is there.
 use Rattle.std.proofs.Common.{◌≡◌, ℕ, suc, ◌+◌, ◌<◌, ◌≤◌, Bool, true, false, cond, List, [], ◌∷◌, ◌++◌, length, take, drop, refl, ap, sym}
 use Rattle.std.proofs.Common.{subst, ◌∙◌, arith, inl, inr, Some}
 use Rattle.std.specs.Prelude.{map, nat_le, slice_get, slice_set}

@@ -4,8 +4,10 @@ use Rattle.std.specs.Prelude.{◌≢◌, ◌==◌, slice_get, slice_set}
 use Rattle.std.proofs.lemmas.Bool.{eq-eqb, eqb-true}
 use Rattle.rb_money.specs.Settings.{Settings}
 use Rattle.rb_site.proofs.Public.Places as Sets
-use Rattle.rb_crashes.specs.Crashes.{DiskSite, DiskStep, Goes, Leads, MayAllHappen, MayHappenAlone, Stays, TakesStep, WasReported, after_step}
-use Rattle.rb_crashes.specs.Interleaved.{AreReportedBefore, InterleavedStepsLead, MayHappenApart, StepAt, steps_at, with_step, world_after_steps}
+use Rattle.rb_crashes.specs.Crashes.{DiskSite, DiskStep, Goes, Leads, MayAllHappen, MayHappenAlone, Stays, TakesStep}
+use Rattle.rb_crashes.specs.Crashes.{WasReported, after_step}
+use Rattle.rb_crashes.specs.Interleaved.{AreReportedBefore, InterleavedStepsLead, MayHappenApart, StepAt, steps_at}
+use Rattle.rb_crashes.specs.Interleaved.{with_step, world_after_steps}
 use Rattle.rb_crashes.proofs.Places
 
 -- a step is among those of its own site

@@ -41,7 +41,8 @@ use Rattle.rb_site.proofs.Public.Stuck.{among-cases}
 use Rattle.rb_history.specs.Fits.{IsEvent, IsShadow}
 use Rattle.rb_history.proofs.MadeFit.{made_fits}
 
--- what holds of a site, whatever its events: its list is valid, what it holds is sound, and the token is within the limits
+-- what holds of a site, whatever its events: its list is valid, what it holds is sound, and the token is within the
+-- limits
 record IsInOrder (s : Settings) (t : ModelSite) : Type 0 where
   me : t.me < s.sites
   valid : IsValid s t.ops

@@ -42,7 +42,8 @@ request_json s (Cancel x) = one_json (codes "cancel") (name_json x)
 request_json s (Transfer from to amount) = one_json (codes "transfer")
     (three_json (account_json s from) (account_json s to) (number_json amount))
 
--- what the home had applied, in this version of the format: how many of each site's blue operations, and how many red ones
+-- what the home had applied, in this version of the format: how many of each site's blue operations, and how many red
+-- ones
 abbrev pub deps_json : ℕ → Deps → Data
 deps_json version d = pair_json (blue_json version d.blue) (number_json d.red)
 

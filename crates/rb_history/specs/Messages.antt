@@ -9,7 +9,8 @@ use Rattle.rb_site.specs.Events.{first_site}
 use Rattle.rb_site.specs.Histories.{IsAmong, sends_of}
 use Rattle.rb_history.specs.Entries.{event_json, event_of_line}
 
--- each message that a site sends, whatever its events, is read as the receipt of the message, from the line that is written for that
+-- each message that a site sends, whatever its events, is read as the receipt of the message, from the line that is
+-- written for that
 abbrev pub MessagesAreRead : Type 0
 MessagesAreRead = (s : Settings) → IsConfigured s → (me : ℕ) → me < s.sites → (es : List Event) (m : Message)
     → IsAmong m (sends_of s (first_site me) es) → event_of_line s (compact_text (event_json s (Receive m))) ≡ Some (Receive m)

@@ -26,7 +26,8 @@ deps_at version d = option_and_then
     (λ p. option_and_then (λ blue. option_map (λ red. record { blue = blue; red = red }) (number_below (2 ^ 32) p.1))
     (blue_at version p.0)) (pair_of d)
 
--- a cancellation has a target as the seventh of its members, a transfer an account to which it goes, and no other kind has a seventh
+-- a cancellation has a target as the seventh of its members, a transfer an account to which it goes, and no other kind
+-- has a seventh
 abbrev pub kind_of : Settings → Data → Label → Option Kind
 kind_of s d Deposit = if size_of d == 6 then Some DepositKind else None
 kind_of s d Withdraw = if size_of d == 6 then Some WithdrawKind else None

@@ -33,8 +33,8 @@ drop-copies : (n : ℕ) (v : Shadow) (us : List Shadow) → drop n (replicate (s
 drop-copies zero v us = refl
 drop-copies (suc n) v us = drop-copies n v us
 
--- copies of an operation, one more than a list has operations, are added at its end and then turned to its front: the last of them is the
--- operation, behind free slots
+-- copies of an operation, one more than a list has operations, are added at its end and then turned to its front: the
+-- last of them is the operation, behind free slots
 pub front_made : (us more turned : List Shadow) (n m k : ℕ) (v : Shadow) → n ≡ length us → m ≡ n → k ≡ n
     → more ≡ take (2 * n + 1) us ++ replicate (2 * n + 1 - k) v → turned ≡ drop m more ++ take m more → drop n turned ≡ v ∷ us
 front_made us more turned n m k v count same whole grown round =

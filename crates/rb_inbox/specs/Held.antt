@@ -44,8 +44,8 @@ abbrev pub held_before : List Shadow → OpName → ℕ
 held_before [] x = 0
 held_before (u ∷ us) x = if comes_before u.name x then suc (held_before us x) else 0
 
--- an operation that may be held: a blue name's site is its home, and the name's number, so at least 1, is one more than the entry of its
--- past for the name
+-- an operation that may be held: a blue name's site is its home, and the name's number, so at least 1, is one more than
+-- the entry of its past for the name
 pub record IsNumbered (v : Shadow) : Type 0 where
   pub home : is_foreign v.name v.home ≡ false
   pub next : number_of v.name ≡ entry_of v.deps v.name + 1

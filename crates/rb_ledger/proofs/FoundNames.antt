@@ -39,7 +39,7 @@ found_there us x p e = at (Members.bool_cases (names us x))
     at : (names us x ≡ true) ⊎ (names us x ≡ false) → (t : Shadow) × (operation_at us p ≡ Some t) × (t.name ≡ x) × (find_in us x ≡ Some t)
     at (inr d) = let none : Some p ≡ None = e ∙ ap (λ b. cond b (Some (position_from 1 us x)) None) d in cc
     at (inl d) =
-        let (q, t, there, named, stood, found) = CancelFacts.stands 1 us x d in
+        let (q, t, there, named, stood, found) = CancelFacts.found_at 1 us x d in
         let one : Some p ≡ Some (position_from 1 us x) = e ∙ ap (λ b. cond b (Some (position_from 1 us x)) None) d in
         let is : p ≡ position_from 1 us x = cc in
         let back : p - 1 ≡ q = omega (arith, is, stood) in (

@@ -13,7 +13,7 @@ use Rattle.rb_lines.specs.Lines.{lines_of, is_long, line_len}
 use Rattle.rb_lines.specs.declared.limits.TheConstants.{LINE_LIMIT}
 use Rattle.rb_lines.proofs.Follows.{Follows, Whole, at_start, after_read, after_line, at_end, at_first, at_rest}
 use Rattle.rb_lines.proofs.Public.LongLines.{long_line}
-use Rattle.rb_lines.proofs.Public.Walks.{standing}
+use Rattle.rb_lines.proofs.Public.Walks.{line_at_front}
 
 -- these lines were answered, and this is written, where the source's bytes are known
 abbrev pub FollowsKnown : Whole → Option (List ℕ) → Option (List ℕ) → RunState → List ℕ → Bool → List ℕ → Type 0
@@ -139,5 +139,5 @@ pub known_fault : (of : Whole) (a b : Option (List ℕ)) (s : RunState) (p : Lis
 known_fault of None b s p e t n f k len fits st end h = tt
 known_fault of (Some all) None s p e t n f k len fits st end h = absurd k
 known_fault of (Some all) (Some x) s p e t n f k len fits st end h =
-    let first = standing p x e n len fits st end in
+    let first = line_at_front p x e n len fits st end in
     at_fault of all (Some x) s t (take n p) first.0 f (at_first of all s p x e t (take n p) first.0 k first.1) h

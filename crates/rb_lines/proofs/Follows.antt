@@ -52,9 +52,9 @@ pub after_line : (of : Whole) (all : List ℕ) (s s' : RunState) (p r : List ℕ
     → n ≡ line_len p → n ≤ length p
     → (n < length p) ⊎ ((n ≡ length p) × (0 < n) × (e ≡ true)) → (e ≡ true → r ≡ []) → AnswersLine s s' (take n p) t'
     → Follows of all s' (drop (n + 1) p) r e (t ++ t')
-after_line of all s s' p r e t t' n f len fits stands end a = record {
+after_line of all s s' p r e t t' n f len fits at_front end a = record {
   done = f.done ++ take n p ∷ [];
-  walks = walk.after_line all f.done p r e n f.walks len fits stands end;
+  walks = walk.after_line all f.done p r e n f.walks len fits at_front end;
   outcome = said of f.done (take n p) t t' s s' f.outcome a;
 }
 

@@ -54,11 +54,11 @@ pub goes_on : (of : Whole) (w0 w r0 r : Option (List ℕ)) (s s' : RunState) (p 
     → (n < length p) ⊎ ((n ≡ length p) × (0 < n) × (e ≡ true)) → (e ≡ true → IsAtEnd r)
     → (text : List ℕ) × (buffered' ≡ buffered ++ text) × AnswersLine s s' (take n p) text →
     IsAt of w0 w r0 r s' (drop (n + 1) p) e buffered'
-goes_on of w0 w r0 r s s' p e buffered buffered' n st len fits stands end answered = (
+goes_on of w0 w r0 r s s' p e buffered buffered' n st len fits at_front end answered = (
   st.0,
   st.1,
   subst (λ t. FollowsKnown of r0 r s' (drop (n + 1) p) e t) (append_assoc st.0 buffered answered.0 ∙ ap (λ t. st.0 ++ t) (sym answered.1))
-      (known_line of r0 r s s' p e (st.0 ++ buffered) answered.0 n st.2 len fits stands end answered.2),
+      (known_line of r0 r s s' p e (st.0 ++ buffered) answered.0 n st.2 len fits at_front end answered.2),
 )
 
 -- ---- the ends
@@ -88,9 +88,9 @@ pub ends_at_fault : (of : Whole) (w0 w r0 r : Option (List ℕ)) (s : RunState) 
     (f : StreamFault) → IsAt of w0 w r0 r s p e buffered → n ≡ line_len p → n ≤ length p
     → (n < length p) ⊎ ((n ≡ length p) × (0 < n) × (e ≡ true)) → (e ≡ true → IsAtEnd r) → (buffered' ≡ buffered) × EndsAtLine s (take n p) f
     → IsOver of w0 w r0 r (Err f) buffered'
-ends_at_fault of w0 w r0 r s p e buffered buffered' n f st len fits stands end (same, fault) =
+ends_at_fault of w0 w r0 r s p e buffered buffered' n f st len fits at_front end (same, fault) =
     subst (λ o. IsOver of w0 w r0 r (Err f) o) (sym same)
-    (with_front of w0 w r0 r s p e buffered (Err f) st (known_fault of r0 r s p e (st.0 ++ buffered) n f st.2 len fits stands end fault))
+    (with_front of w0 w r0 r s p e buffered (Err f) st (known_fault of r0 r s p e (st.0 ++ buffered) n f st.2 len fits at_front end fault))
 
 -- there are no more lines
 pub ends_here : (of : Whole) (w0 w r0 r : Option (List ℕ)) (s : RunState) (p : List ℕ) (e : Bool) (buffered : List ℕ)

@@ -9,11 +9,11 @@ use std::alloc::Global;
 /// What answers the lines of a run, one after another.
 pub trait Responder {
     // What the lines to come come to, the number of the first of them, and how many were answered.
-    ghost stand: { Self → RunState };
+    ghost state: { Self → RunState };
 
     /// The number of the next line, from 1.
     fn number(&self) -> u64
-        ensures { result ≡ (stand self.now).number };
+        ensures { result ≡ (state self.now).number };
 
     /// Takes one line, which isn't too long, and adds its answer to `buffered`. An `Err` adds nothing, and the run ends
     /// with it.
@@ -24,17 +24,17 @@ pub trait Responder {
         buffered: &mut Vec<u8>,
     ) -> Result<(), StreamFault>
         requires short { length line.now ≤ LINE_LIMIT }
-        requires number { (stand self.old).number < 2 ^ 63 }
-        requires count { (stand self.old).count < 2 ^ 63 }
+        requires number { (state self.old).number < 2 ^ 63 }
+        requires count { (state self.old).count < 2 ^ 63 }
         ensures { MatchResult result
             (λ _. (text : List ℕ) × (buffered.new.items ≡ buffered.old.items ++ text)
-            × AnswersLine (stand self.old) (stand self.new) line.now text)
-            (λ fault. (buffered.new.items ≡ buffered.old.items) × EndsAtLine (stand self.old) line.now fault) };
+            × AnswersLine (state self.old) (state self.new) line.now text)
+            (λ fault. (buffered.new.items ≡ buffered.old.items) × EndsAtLine (state self.old) line.now fault) };
 
     /// Where there are no more lines: how many were answered, or that there was no configuration.
     fn end(&self) -> Result<u64, StreamFault>
-        ensures { EndsWith (stand self.now) result };
+        ensures { EndsWith (state self.now) result };
 
     // A line that is too long ends the run, and no line is no text and no bad line.
-    ghost is_run_state: { (s : Self) → IsRunState (stand s) };
+    ghost is_run_state: { (s : Self) → IsRunState (state s) };
 }

@@ -25,15 +25,15 @@ fn answer_lines<S: Source, W: Sink, R: Responder>(
 ) -> Result<u64, StreamFault>
     requires unread { S.calls reader.old ≡ 0 }
     requires fresh { W.failed writer.old ≡ false }
-    requires first { (R.stand responder.old).number ≡ 1 }
-    requires none { (R.stand responder.old).count ≡ 0 }
+    requires first { (R.state responder.old).number ≡ 1 }
+    requires none { (R.state responder.old).count ≡ 0 }
     requires pending { buffers.old.pending ≡ [] }
     requires buffered { buffers.old.buffered.items ≡ [] }
     requires reads { buffers.old.reads ≡ MOST_READS }
     requires going { buffers.old.ended ≡ false }
     ensures written { (text : List ℕ) × Appends (W.contents writer.old) (W.contents writer.new) text
         × IfSome (S.remaining reader.old)
-        (λ input. RunWillEndAs (R.stand responder.old).rest result input (S.remaining reader.new)
+        (λ input. RunWillEndAs (R.state responder.old).rest result input (S.remaining reader.new)
         (text ++ buffers.new.buffered.items)) }
     ensures read { result ≡ Err Read → (S.failed reader.new ≡ true) ⊎ (S.calls reader.new ≡ MOST_READS) }
     ensures write { (result ≡ Err Write) ↔ (W.failed writer.new ≡ true) }
@@ -70,12 +70,12 @@ pub fn run_lines<S: Source, W: Sink, R: Responder>(
 ) -> Result<u64, StreamFault>
     requires unread { S.calls reader.old ≡ 0 }
     requires fresh { W.failed writer.old ≡ false }
-    requires first { (R.stand responder.old).number ≡ 1 }
-    requires none { (R.stand responder.old).count ≡ 0 }
+    requires first { (R.state responder.old).number ≡ 1 }
+    requires none { (R.state responder.old).count ≡ 0 }
     // What is written is what the lines come to, and nothing else.
     ensures written { (text : List ℕ) × Appends (W.contents writer.old) (W.contents writer.new) text
         × IfSome (S.remaining reader.old)
-        (λ input. RunEndsAs (R.stand responder.old).rest result input (S.remaining reader.new) text) }
+        (λ input. RunEndsAs (R.state responder.old).rest result input (S.remaining reader.new) text) }
     ensures read { result ≡ Err Read → (S.failed reader.new ≡ true) ⊎ (S.calls reader.new ≡ MOST_READS) }
     ensures write { (result ≡ Err Write) ↔ (W.failed writer.new ≡ true) }
     // There are up to `MOST_READS` reads, whatever is answered.

@@ -10,8 +10,8 @@ use Rattle.rb_money.specs.declared.limits.TheConstants.{MOST_SITES, MOST_SITES_O
 use Rattle.rb_money.specs.declared.limits.TheConstants.{MOST_HISTORY, MOST_EPOCH}
 use Rattle.rb_money.specs.declared.place.Place.{Place}
 
--- the sites, the name and the starting balance of each account in order of place, the limits, and the version of the lines, which nothing
--- but lines looks at
+-- the sites, the name and the starting balance of each account in order of place, the limits, and the version of the
+-- lines, which nothing but lines looks at
 pub record Settings : Type 0 where
   pub sites : ℕ
   pub names : List (List ℕ)
@@ -48,7 +48,8 @@ is_account_name name = nat_le 1 (length name) && nat_le (length name) LONGEST_NA
 abbrev pub IsLimit : ℕ → ℕ → Type 0
 IsLimit n most = (1 ≤ n) × (n ≤ most)
 
--- lines of a bank with this number of sites may have this version: 1 up to the most sites of version 1, and 2 whatever the sites
+-- lines of a bank with this number of sites may have this version: 1 up to the most sites of version 1, and 2 whatever
+-- the sites
 abbrev pub IsVersion : ℕ → ℕ → Type 0
 IsVersion version sites = ((version ≡ 1) × (sites ≤ MOST_SITES_OF_VERSION_1)) ⊎ (version ≡ 2)
 

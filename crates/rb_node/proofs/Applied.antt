@@ -1,5 +1,6 @@
 -- What is ready is applied, one operation after another, and an answer is written around that.
-use Rattle.std.proofs.Common.{◌≡◌, ℕ, ◌+◌, ◌-◌, ◌<◌, false, List, [], ◌∷◌, ◌++◌, codes, length, take, arith, length-append, refl, sym, ap, subst, ◌∙◌, append_assoc, append-nil}
+use Rattle.std.proofs.Common.{◌≡◌, ℕ, ◌+◌, ◌-◌, ◌<◌, false, List, [], ◌∷◌, ◌++◌, codes, length, take, arith}
+use Rattle.std.proofs.Common.{length-append, refl, sym, ap, subst, ◌∙◌, append_assoc, append-nil}
 use Rattle.std.proofs.lemmas.Bool.Decides.{nat_tests}
 use Rattle.std.specs.Prelude.{map, nat_le, Result, Ok, Err, MatchResult}
 use Rattle.std.specs.Result.{IsErr}
@@ -79,12 +80,14 @@ applies_more comma x old mid new a b c k l m free ready one rest =
       replies = one.reply ∷ rest.replies;
       recorded = step.recorded ++ rest.recorded;
       applied = record {
-        in_turn = (free, ready, along (λ r u. AreReadyInTurn r u rest.names) s mid.settings t (state_of mid) kept state rest.applied.in_turn);
+        in_turn =
+            (free, ready, along (λ r u. AreReadyInTurn r u rest.names) s mid.settings t (state_of mid) kept state rest.applied.in_turn);
         all = along (λ r u. IsAllApplied r (after_events r u events)) s mid.settings t (state_of mid) kept state rest.applied.all;
         after = rest.applied.after ∙ ap (λ y. next_sites y events) step.site;
         replies_are = ap (λ r. r ∷ rest.replies) step.reply_is
             ∙ ap (λ rs. reply_to s (state_of old) (Apply x) ∷ rs)
-            (along (λ r u. rest.replies ≡ replies_to_events r u events) s mid.settings t (state_of mid) kept state rest.applied.replies_are);
+            (along (λ r u. rest.replies ≡ replies_to_events r u events)
+            s mid.settings t (state_of mid) kept state rest.applied.replies_are);
         recorded_are = rest.applied.recorded_are ∙ ap (λ xs. xs ++ rest.recorded) step.recorded_are
             ∙ append_assoc old.entries step.recorded rest.recorded;
       };

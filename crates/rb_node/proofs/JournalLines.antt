@@ -16,7 +16,8 @@ not_feed b h = λ e. let fails : not (b == 10) ≡ false = ap not (eq-eqb b 10 e
 
 none_is : (l : List ℕ) → list_all (λ b. not (b == 10)) l ≡ true → All (λ b. b ≢ 10) l
 none_is [] h = λ k d below. absurd (omega arith)
-none_is (b ∷ l) h = let p = and_parts (not (b == 10)) (list_all (λ c. not (c == 10)) l) h in All-cons (λ c. c ≢ 10) b l (not_feed b p.0) (none_is l p.1)
+none_is (b ∷ l) h = let p = and_parts (not (b == 10)) (list_all (λ c. not (c == 10)) l) h in All-cons (λ c. c ≢ 10) b l (not_feed b p.0)
+    (none_is l p.1)
 
 pub configs_lines : ConfigsAreLines → ConfigsAreJournalLines
 configs_lines h s is = record { begins = refl; one = none_is (compact_text (config_json s)) (h s is).no_feed }

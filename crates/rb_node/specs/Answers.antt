@@ -41,7 +41,8 @@ line_of d = compact_text d ++ 10 ∷ []
 abbrev pub messages_json : Settings → List Message → Data
 messages_json s ms = list_json (λ m. event_json s (Receive m)) ms
 
--- an answer: the reply, the messages that were sent, and the replies to the applications that followed; the keys in byte order
+-- an answer: the reply, the messages that were sent, and the replies to the applications that followed; the keys in
+-- byte order
 abbrev pub answer_json : Settings → Reply → List Message → List Reply → Data
 answer_json s reply sent later = object
     (member (codes "reply") (reply_json reply)
@@ -72,7 +73,8 @@ AreReadyInTurn s t (x ∷ xs) = (is_full s t ≡ false) × IsReadyName t x × Ar
 abbrev pub IsAllApplied : Settings → ModelSite → Type 0
 IsAllApplied s t = (is_full s t ≡ true) ⊎ ((x : OpName) → ¬ IsReadyName t x)
 
--- the operations of these names were applied at a site, until nothing more is: it replied so, and recorded these entries
+-- the operations of these names were applied at a site, until nothing more is: it replied so, and recorded these
+-- entries
 pub record AppliesAll (old new : SeenSite) (names : List OpName) (replies : List Reply) (recorded : List Entry) : Type 0 where
   pub in_turn : AreReadyInTurn old.settings (state_of old) names
   pub all : IsAllApplied old.settings (after_events old.settings (state_of old) (map Apply names))
@@ -90,7 +92,8 @@ pub record IsSiteAnswer (old new : SeenSite) (line text entries : List ℕ) : Ty
   pub in_turn : AreReadyInTurn old.settings (after_event old.settings (state_of old) event) applied
   pub all : IsAllApplied old.settings (after_events old.settings (state_of old) (event ∷ map Apply applied))
   pub after : new ≡ next_sites old (event ∷ map Apply applied)
-  pub text_is : text ≡ line_of (answer_json old.settings (reply_to old.settings (state_of old) event) (sent_at old.settings (state_of old) event)
+  pub text_is : text ≡ line_of (answer_json old.settings (reply_to old.settings (state_of old) event)
+      (sent_at old.settings (state_of old) event)
       (replies_to_events old.settings (after_event old.settings (state_of old) event) (map Apply applied)))
   pub recorded : List Entry
   pub recorded_are : new.entries ≡ old.entries ++ recorded

@@ -5,7 +5,8 @@ use Rattle.rb_site.specs.Events.{is_full, reply_to, sent_at}
 use Rattle.rb_site.specs.Seen.{SeenSite, next_site, state_of}
 use Rattle.rb_node.specs.Answers.{SeenNode}
 
--- the history wasn't full, the site gives the entry's reply to its event, and it is the site after it, with the messages that it sent
+-- the history wasn't full, the site gives the entry's reply to its event, and it is the site after it, with the
+-- messages that it sent
 pub record IsReplayedAs (old : SeenSite) (new : SeenNode) (x : Entry) : Type 0 where
   pub free : is_full old.settings (state_of old) ≡ false
   pub reply : x.reply ≡ reply_to old.settings (state_of old) x.event

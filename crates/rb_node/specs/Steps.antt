@@ -41,7 +41,8 @@ pub record AnswersEvent (old new : SeenSite) (e : Event) (text text_after entrie
   pub in_turn : AreReadyInTurn old.settings (after_event old.settings (state_of old) e) applied
   pub all : IsAllApplied old.settings (after_events old.settings (state_of old) (e ∷ map Apply applied))
   pub after : new ≡ next_sites old (e ∷ map Apply applied)
-  pub text_is : text_after ≡ text ++ line_of (answer_json old.settings (reply_to old.settings (state_of old) e) (sent_at old.settings (state_of old) e)
+  pub text_is : text_after ≡ text
+      ++ line_of (answer_json old.settings (reply_to old.settings (state_of old) e) (sent_at old.settings (state_of old) e)
       (replies_to_events old.settings (after_event old.settings (state_of old) e) (map Apply applied)))
   pub recorded : List Entry
   pub recorded_are : new.entries ≡ old.entries ++ recorded

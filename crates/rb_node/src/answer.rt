@@ -1,5 +1,6 @@
 //! The line of an event, answered.
-ghost use Rattle.std.specs.Prelude.{◌≡◌, ◌++◌, codes, List, ℕ, Some, None, false, map, length, take, Err, IfErr, IfNone, IfSome};
+ghost use Rattle.std.specs.Prelude.{◌≡◌, ◌++◌, codes, List, ℕ, Some, None, false, map, length, take, Err, IfErr};
+ghost use Rattle.std.specs.Prelude.{IfNone, IfSome};
 ghost use Rattle.std.specs.Prelude.{OnErr, OnOk, MatchResult};
 ghost use Rattle.std.specs.Option.{OnSome};
 ghost use Rattle.serde_json.specs.View.{items_of};
@@ -167,9 +168,9 @@ impl Node {
     }
 
     /// Answers the line of an event: its answer, `{"reply":R,"sends":[M..],"then":[A..]}`, is added to the answers with
-    /// a line feed, and the lines of the entries that it recorded to the entries, each with a line feed. R is the reply,
-    /// each M a message that was sent, as the event's line of the sites that it goes to, and each A the reply of an
-    /// application that followed: whatever is held and ready is applied, until nothing is or the history is full.
+    /// a line feed, and the lines of the entries that it recorded to the entries, each with a line feed. R is the
+    /// reply, each M a message that was sent, as the event's line of the sites that it goes to, and each A the reply of
+    /// an application that followed: whatever is held and ready is applied, until nothing is or the history is full.
     ///
     /// Errors: `BadLine` where the line is no event, and nothing has changed then; `OutOfMemory`, after which nothing
     /// more may be asked of the site. Each leaves answers and entries as they were.

@@ -58,7 +58,8 @@ impl Node {
         ensures opened { IfOk result (λ node. (s : Settings) × (config_on line.now ≡ Some s) × (me < s.sites)
             × (node.site ≡ first_seen s me)) }
         ensures bad { result ≡ Err NodeFault.BadConfig → config_on line.now ≡ None }
-        ensures no_site { result ≡ Err NodeFault.NoSite → (s : Settings) × (config_on line.now ≡ Some s) × (s.sites ≤ me) }
+        ensures no_site { result ≡ Err NodeFault.NoSite → (s : Settings) × (config_on line.now ≡ Some s)
+            × (s.sites ≤ me) }
         ensures not_bad_line { result ≡ Err NodeFault.BadLine → ⊥ }
         ensures not_wrong { result ≡ Err NodeFault.WrongReply → ⊥ }
     {

@@ -1,5 +1,6 @@
 //! The line of an entry, replayed.
-ghost use Rattle.std.specs.Prelude.{◌≡◌, ◌≢◌, ◌++◌, ◌⊎◌, Some, None, true, length, take, Err, IfErr, OnOk, OnErr, MatchResult};
+ghost use Rattle.std.specs.Prelude.{◌≡◌, ◌≢◌, ◌++◌, ◌⊎◌, Some, None, true, length, take, Err, IfErr, OnOk, OnErr};
+ghost use Rattle.std.specs.Prelude.{MatchResult};
 ghost use Rattle.rb_site.specs.declared.entry.Entry.{Entry as EntryOf};
 ghost use Rattle.rb_site.specs.Events.{is_full, reply_to};
 ghost use Rattle.rb_site.specs.Seen.{state_of};

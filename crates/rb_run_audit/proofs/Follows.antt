@@ -12,7 +12,7 @@ use Rattle.rb_lines.specs.declared.limits.TheConstants.{LINE_LIMIT}
 use Rattle.rb_lines.specs.declared.fault.StreamFault.{StreamFault}
 use Rattle.rb_lines.specs.declared.fault.StreamFault.TheVariants.{NoConfig, BadConfig, BadLine, LongLine, Read, Write, OutOfMemory}
 use Rattle.rb_lines.proofs.Public.LongLines.{long_line}
-use Rattle.rb_lines.proofs.Public.Walks.{Walks, standing}
+use Rattle.rb_lines.proofs.Public.Walks.{Walks, line_at_front}
 use Rattle.rb_lines.proofs.Public.Walks as walk
 use Rattle.rb_run_audit.specs.declared.collected.Collected.{Collected}
 use Rattle.rb_run_audit.specs.Inputs.{input_from, input_of}
@@ -62,11 +62,11 @@ pub known_line : (a b : Option (List ℕ)) (c c' : Collected) (p : List ℕ) (e 
     → n ≤ length p
     → (n < length p) ⊎ ((n ≡ length p) × (0 < n) × (e ≡ true)) → (e ≡ true → IsAtEnd b) → Takes c c' (take n p)
     → FollowsKnown a b c' (drop (n + 1) p) e
-known_line None b c c' p e n f len fits stands end t = tt
-known_line (Some all) None c c' p e n f len fits stands end t = absurd f
-known_line (Some all) (Some x) c c' p e n f len fits stands end t = record {
+known_line None b c c' p e n f len fits at_front end t = tt
+known_line (Some all) None c c' p e n f len fits at_front end t = absurd f
+known_line (Some all) (Some x) c c' p e n f len fits at_front end t = record {
   done = f.done ++ take n p ∷ [];
-  walks = walk.after_line all f.done p x e n f.walks len fits stands end;
+  walks = walk.after_line all f.done p x e n f.walks len fits at_front end;
   input = took f.done (take n p) c c' f.input t;
 }
 
@@ -140,10 +140,10 @@ pub known_fault : (a b : Option (List ℕ)) (c c' : Collected) (p : List ℕ) (e
     → n ≡ line_len p → n ≤ length p
     → (n < length p) ⊎ ((n ≡ length p) × (0 < n) × (e ≡ true)) → (e ≡ true → IsAtEnd b) → InputEndsAt c (take n p) f
     → IfSome a (λ input. CollectsAs (Err f) c' input b)
-known_fault None b c c' p e n f k len fits stands end h = tt
-known_fault (Some all) None c c' p e n f k len fits stands end h = absurd k
-known_fault (Some all) (Some x) c c' p e n f k len fits stands end h =
-    let (more, first) = standing p x e n len fits stands end in
+known_fault None b c c' p e n f k len fits at_front end h = tt
+known_fault (Some all) None c c' p e n f k len fits at_front end h = absurd k
+known_fault (Some all) (Some x) c c' p e n f k len fits at_front end h =
+    let (more, first) = line_at_front p x e n len fits at_front end in
     at_fault all (Some x) c (take n p) more f (input_is k.done (take n p ∷ more) _ c k.input (k.walks.lines ∙ ap (λ y. k.done ++ y) first))
     h
 

@@ -21,30 +21,32 @@ whole_input : (all : List ℕ) (b : Option (List ℕ)) (c : Collected) (s : Sett
     → c.config ≡ Some s → input_of (lines_of all) ≡ Ok (input_at s c)
 whole_input all b c s u whole conf = whole.0 ∙ ap (λ m. input_rest_from m (lists_of c.histories.items) c.number []) conf
 
-all_told : (a b : Option (List ℕ)) (c : Collected) (s : Settings) (found : Bool) (line : List ℕ) (u : Unit {0})
+of_whole : (a b : Option (List ℕ)) (c : Collected) (s : Settings) (found : Bool) (line : List ℕ) (u : Unit {0})
     → IfSome a (λ input. CollectsAs (Ok u) c input b) → c.config ≡ Some s → ReportsVerdict found (input_at s c) line
     → IfSome a (λ input. AuditEndsAs (Ok found) input b line)
-all_told None b c s found line u whole conf tells = tt
-all_told (Some all) b c s found line u whole conf tells = (input_at s c, whole_input all b c s u whole conf, tells, whole.1)
+of_whole None b c s found line u whole conf shown = tt
+of_whole (Some all) b c s found line u whole conf shown = (input_at s c, whole_input all b c s u whole conf, shown, whole.1)
 
 -- all lines were taken, and the line of the verdict was written
-pub told : (w0 w w' a b : Option (List ℕ)) (c : Collected) (s : Settings) (found : Bool) (line : List ℕ) (u : Unit {0}) → Appends w0 w []
+pub reported : (w0 w w' a b : Option (List ℕ)) (c : Collected) (s : Settings) (found : Bool) (line : List ℕ) (u : Unit {0})
+    → Appends w0 w []
     → Appends w w' line → IfSome a (λ input. CollectsAs (Ok u) c input b) → c.config ≡ Some s → ReportsVerdict found (input_at s c) line
     → (text : List ℕ) × Appends w0 w' text × IfSome a (λ input. AuditEndsAs (Ok found) input b text)
-told w0 w w' a b c s found line u before written whole conf tells =
-    (line, Appends-trans w0 w w' [] line before written, all_told a b c s found line u whole conf tells)
+reported w0 w w' a b c s found line u before written whole conf shown =
+    (line, Appends-trans w0 w w' [] line before written, of_whole a b c s found line u whole conf shown)
 
-part_told : (a b : Option (List ℕ)) (c : Collected) (s : Settings) (found : Bool) (line front : List ℕ) (u : Unit {0}) → IsFront front line
+of_part : (a b : Option (List ℕ)) (c : Collected) (s : Settings) (found : Bool) (line front : List ℕ) (u : Unit {0}) → IsFront front line
     → IfSome a (λ input. CollectsAs (Ok u) c input b) → c.config ≡ Some s → ReportsVerdict found (input_at s c) line
     → IfSome a (λ input. AuditEndsAs (Err Write) input b front)
-part_told None b c s found line front u is whole conf tells = tt
-part_told (Some all) b c s found line front u is whole conf tells =
-    (input_at s c, found, line, whole_input all b c s u whole conf, tells, is)
+of_part None b c s found line front u is whole conf shown = tt
+of_part (Some all) b c s found line front u is whole conf shown =
+    (input_at s c, found, line, whole_input all b c s u whole conf, shown, is)
 
 -- all lines were taken, and a prefix of the line of the verdict was written
-pub untold : (w0 w w' a b : Option (List ℕ)) (c : Collected) (s : Settings) (found : Bool) (line : List ℕ) (u : Unit {0}) → Appends w0 w []
+pub part_reported : (w0 w w' a b : Option (List ℕ)) (c : Collected) (s : Settings) (found : Bool) (line : List ℕ) (u : Unit {0})
+    → Appends w0 w []
     → AppendsFront w w' line → IfSome a (λ input. CollectsAs (Ok u) c input b) → c.config ≡ Some s →
     ReportsVerdict found (input_at s c) line
     → (text : List ℕ) × Appends w0 w' text × IfSome a (λ input. AuditEndsAs (Err Write) input b text)
-untold w0 w w' a b c s found line u before part whole conf tells =
-    (part.0, Appends-trans w0 w w' [] part.0 before part.2, part_told a b c s found line part.0 u part.1 whole conf tells)
+part_reported w0 w w' a b c s found line u before part whole conf shown =
+    (part.0, Appends-trans w0 w w' [] part.0 before part.2, of_part a b c s found line part.0 u part.1 whole conf shown)

@@ -36,7 +36,8 @@ IsWritable s x = (x.0 < s.sites) × IsEvent s x.1.event × IsReply x.1.reply
 abbrev pub HasShortLines : List ℕ → Type 0
 HasShortLines bytes = list_all (λ l. not (is_long l)) (lines_of bytes) ≡ true
 
--- an audit takes the text of a configuration and entries as that configuration, and those entries by site, unless a line is too long
+-- an audit takes the text of a configuration and entries as that configuration, and those entries by site, unless a
+-- line is too long
 abbrev pub InputsAreReadBack : Type 0
 InputsAreReadBack = (s : Settings) → IsConfigured s → (xs : List (ℕ × Entry)) → Each (IsWritable s) xs → HasShortLines (input_text s xs)
     → input_of (lines_of (input_text s xs)) ≡ Ok (record { settings = s; histories = by_site s.sites xs })

@@ -31,7 +31,8 @@ pub record ReportsStuck (x : Input) (line : List ℕ) : Type 0 where
   pub stuck : IsStuckAt x.settings x.histories next
   pub line_is : line ≡ verdict_line (stuck_json next)
 
--- the line that an audit of these histories answers, and whether it has an order: where it has none, no world has the histories
+-- the line that an audit of these histories answers, and whether it has an order: where it has none, no world has the
+-- histories
 abbrev pub ReportsVerdict : Bool → Input → List ℕ → Type 0
 ReportsVerdict true x line = ReportsOrder x line
 ReportsVerdict false x line = (¬ AreOneWorlds x.settings x.histories) × (ReportsWrongReply x line ⊎ ReportsStuck x line)

@@ -17,8 +17,8 @@ pub fn answer(
 ) -> Result<(bool, Vec<u8>), AllocError>
     requires { length histories.now ≡ config.now.sites }
     ensures { IfOk result
-        (λ told. ReportsVerdict told.0 (record { settings = config.now; histories = lists_of histories.now })
-        told.1.items) }
+        (λ found. ReportsVerdict found.0 (record { settings = config.now; histories = lists_of histories.now })
+        found.1.items) }
 {
     match audit(alloc, config, histories) {
         Ok(order) => Ok((true, order_line(alloc, order.as_slice())?)),

@@ -75,5 +75,5 @@ event s _ h = h
 -- what a migration writes for an entry is read as that entry
 pub entries : ReadConfigsAreConfigured → EntriesAreRead → ReadEntriesFit → MigratedEntriesAreRead
 entries made back fits first s read line site x is =
-    let told = fits s line site x is in
-    back (in_version_2 s) (configured s (made first s read)) site x told.0 (event s x.event told.1) told.2
+    let fit = fits s line site x is in
+    back (in_version_2 s) (configured s (made first s read)) site x fit.0 (event s x.event fit.1) fit.2

@@ -36,7 +36,7 @@ config_is l s e = at (is_utf8 l) e
 
 -- an entry that was read can be written in version 2
 writable : ReadEntriesFit → (s : Settings) (l : List ℕ) (x : ℕ × Entry) → entry_on s l ≡ Some x → IsWritable (in_version_2 s) x
-writable fits s l x e = let told = fits s l x.0 x.1 (entry_is s l x e) in (told.0, event s x.1.event told.1, told.2)
+writable fits s l x e = let fit = fits s l x.0 x.1 (entry_is s l x e) in (fit.0, event s x.1.event fit.1, fit.2)
 
 -- ---- what an audit makes of one line
 

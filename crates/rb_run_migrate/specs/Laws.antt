@@ -18,8 +18,8 @@ abbrev pub MigratedConfigsAreRead : Type 0
 MigratedConfigsAreRead = (line : List ℕ) (s : Settings) → config_at line ≡ Some s
     → config_at (compact_text (config_json (in_version_2 s))) ≡ Some (in_version_2 s)
 
--- under whatever a configuration's line was read as: each entry that a line is, in either version, is read again from its line in version
--- 2, the same site and the same entry
+-- under whatever a configuration's line was read as: each entry that a line is, in either version, is read again from
+-- its line in version 2, the same site and the same entry
 abbrev pub MigratedEntriesAreRead : Type 0
 MigratedEntriesAreRead = (first : List ℕ) (s : Settings) → config_at first ≡ Some s → (line : List ℕ) (site : ℕ) (x : Entry)
     → entry_of_line s line ≡ Some (site, x)
@@ -33,13 +33,15 @@ pub record ReplaysAreEqual (s : Settings) (t : ModelSite) (es : List Event) : Ty
 abbrev pub MigratedReplaysAreEqual : Type 0
 MigratedReplaysAreEqual = (s : Settings) (t : ModelSite) (es : List Event) → ReplaysAreEqual s t es
 
--- an audit takes both texts, and as the same histories, the second under the settings in version 2, unless a line of it is too long
+-- an audit takes both texts, and as the same histories, the second under the settings in version 2, unless a line of it
+-- is too long
 pub record IsSameInput (input text : List ℕ) : Type 0 where
   pub taken : Input
   pub before : input_of (lines_of input) ≡ Ok taken
   pub after : HasShortLines text
       → input_of (lines_of text) ≡ Ok (record { settings = in_version_2 taken.settings; histories = taken.histories })
 
--- where a migration of these bytes has no fault, an audit takes the text that it writes as what it takes the bytes as, in version 2
+-- where a migration of these bytes has no fault, an audit takes the text that it writes as what it takes the bytes as,
+-- in version 2
 abbrev pub MigrationsAreRead : Type 0
 MigrationsAreRead = (input : List ℕ) → (migration_of (lines_of input)).fault ≡ None → IsSameInput input (migration_of (lines_of input)).text

@@ -1,4 +1,4 @@
--- What the lines of a migration come to: the configuration and the entries in version 2 of the format, up to the first line that is bad.
+-- The lines of a migration: configuration and entries in version 2 of the format, up to the first line that is bad.
 use Rattle.std.specs.Prelude.{ℕ, ◌+◌, List, [], ◌∷◌, ◌++◌, None, codes, if◌then◌else◌}
 use Rattle.std.specs.Option.{option_map_or}
 use Rattle.serde_json.specs.Written.{compact_text}

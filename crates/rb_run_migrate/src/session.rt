@@ -86,7 +86,7 @@ impl Session {
 impl Responder for Session {
     ghost use Rattle.rb_run_migrate.specs.Session.{migration_is_state, migration_state};
 
-    ghost stand = { migration_state };
+    ghost state = { migration_state };
 
     fn number(&self) -> u64 {
         self.number

@@ -101,7 +101,7 @@ impl Session {
 impl Responder for Session {
     ghost use Rattle.rb_run_script.specs.Session.{session_is_state, session_state};
 
-    ghost stand = { session_state };
+    ghost state = { session_state };
 
     fn number(&self) -> u64 {
         self.number

@@ -1,5 +1,6 @@
 -- The blank lines before the first one that isn't, for a source whose bytes are known.
-use Rattle.std.proofs.Common.{◌≡◌, ◌<◌, ◌≤◌, ◌+◌, ◌⊎◌, ℕ, Bool, true, false, cond, List, [], ◌∷◌, ◌++◌, length, take, drop, Option, Some, None}
+use Rattle.std.proofs.Common.{◌≡◌, ◌<◌, ◌≤◌, ◌+◌, ◌⊎◌, ℕ, Bool, true, false, cond, List, [], ◌∷◌, ◌++◌, length, take}
+use Rattle.std.proofs.Common.{drop, Option, Some, None}
 use Rattle.std.proofs.Common.{Ok, Err, refl, sym, ap, ◌∙◌, rules, subst, arith, length-append}
 use Rattle.std.specs.Prelude.{IfSome, not}
 use Rattle.std.specs.Io.KnownBytes.{IsAtEnd}
@@ -62,11 +63,11 @@ blank_more (x ∷ done) l none blank = by (is_blank x) none (λ q. blank_more do
 pub known_line : (a b : Option (List ℕ)) (n : ℕ) (p : List ℕ) (e : Bool) (k : ℕ) → BlanksKnown a b n p e → k ≡ line_len p → k ≤ length p
     → (k < length p) ⊎ ((k ≡ length p) × (0 < k) × (e ≡ true)) → (e ≡ true → IsAtEnd b) → is_blank (take k p) ≡ true
     → BlanksKnown a b (n + 1) (drop (k + 1) p) e
-known_line None b n p e k f len fits stands end blank = tt
-known_line (Some all) None n p e k f len fits stands end blank = absurd f
-known_line (Some all) (Some x) n p e k f len fits stands end blank = record {
+known_line None b n p e k f len fits at_front end blank = tt
+known_line (Some all) None n p e k f len fits at_front end blank = absurd f
+known_line (Some all) (Some x) n p e k f len fits at_front end blank = record {
   done = f.done ++ take k p ∷ [];
-  walks = walk.after_line all f.done p x e k f.walks len fits stands end;
+  walks = walk.after_line all f.done p x e k f.walks len fits at_front end;
   are_blank = blank_more f.done (take k p) f.are_blank blank;
   number_is = omega (arith, f.number_is, length-append f.done (take k p ∷ []));
 }

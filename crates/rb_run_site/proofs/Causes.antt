@@ -39,9 +39,9 @@ first_cause me input file pending left _ kind f = tt
 pub first_line_is : (input left : Option (List ℕ)) (number : ℕ) (p : List ℕ) (e : Bool) (n : ℕ) → IfSome input (WaitsAt number p left)
     → n ≡ line_len p → n ≤ length p → (n < length p) ⊎ ((n ≡ length p) × (0 < n) × (e ≡ true)) → (e ≡ true → IsAtEnd left)
     → IfSome input (λ all. (later : List (List ℕ)) × IsBehindBlanks number (take n p ∷ later) all)
-first_line_is None left number p e n w len fits stands end = tt
-first_line_is (Some all) None number p e n w len fits stands end = absurd (cc w.left_is)
-first_line_is (Some all) (Some rest) number p e n w len fits stands end =
+first_line_is None left number p e n w len fits at_front end = tt
+first_line_is (Some all) None number p e n w len fits at_front end = absurd (cc w.left_is)
+first_line_is (Some all) (Some rest) number p e n w len fits at_front end =
     let same : rest ≡ w.rest = cc w.left_is in (
       lines_of (drop (n + 1) p ++ rest),
       record {
@@ -49,7 +49,7 @@ first_line_is (Some all) (Some rest) number p e n w len fits stands end =
         are_blank = w.behind.are_blank;
         number_is = w.behind.number_is;
         whole = w.behind.whole ∙ ap (λ r. w.behind.blanks ++ lines_of (p ++ r)) (sym same)
-            ∙ ap (λ ls. w.behind.blanks ++ ls) (next_line p rest e n len fits stands end);
+            ∙ ap (λ ls. w.behind.blanks ++ ls) (next_line p rest e n len fits at_front end);
       },
     )
 

@@ -1,5 +1,6 @@
 -- What is behind the configuration's line, and the site that is opened for it.
-use Rattle.std.proofs.Common.{◌≡◌, ◌<◌, ◌≤◌, ◌+◌, ◌⊎◌, ℕ, Bool, true, List, [], ◌∷◌, ◌++◌, length, take, drop, Option, Some, None, refl, sym, ap, subst, ◌∙◌, arith}
+use Rattle.std.proofs.Common.{◌≡◌, ◌<◌, ◌≤◌, ◌+◌, ◌⊎◌, ℕ, Bool, true, List, [], ◌∷◌, ◌++◌, length, take, drop, Option}
+use Rattle.std.proofs.Common.{Some, None, refl, sym, ap, subst, ◌∙◌, arith}
 use Rattle.std.specs.Prelude.{IfSome}
 use Rattle.std.specs.Io.KnownBytes.{IsAtEnd}
 use Rattle.rb_site.specs.Seen.{IsReplayed, SeenSite, first_seen}
@@ -10,21 +11,22 @@ use Rattle.rb_run_site.specs.Openings.{OpensFile, OpensSite}
 use Rattle.rb_run_site.specs.Starts.{IsOf, WaitsBehind}
 
 -- the line at the front is the first of what waits
-pub next_line : (p rest : List ℕ) (e : Bool) (n : ℕ) → n ≡ line_len p → n ≤ length p → (n < length p) ⊎ ((n ≡ length p) × (0 < n) × (e ≡ true))
+pub next_line : (p rest : List ℕ) (e : Bool) (n : ℕ) → n ≡ line_len p → n ≤ length p
+    → (n < length p) ⊎ ((n ≡ length p) × (0 < n) × (e ≡ true))
     → (e ≡ true → rest ≡ []) → lines_of (p ++ rest) ≡ take n p ∷ lines_of (drop (n + 1) p ++ rest)
-next_line p rest e n len fits stands end =
+next_line p rest e n len fits at_front end =
     let walk : Walks (p ++ rest) [] p rest e = record { got = p; lines = refl; bytes = refl; whole = λ going tail. refl } in
-    (after_line (p ++ rest) [] p rest e n walk len fits stands end).lines
+    (after_line (p ++ rest) [] p rest e n walk len fits at_front end).lines
 
 -- the configuration's line is taken: what waits is behind it
 pub behind : (a b : Option (List ℕ)) (number : ℕ) (p : List ℕ) (e : Bool) (n : ℕ) → IfSome a (WaitsAt number p b) → n ≡ line_len p
     → n ≤ length p → (n < length p) ⊎ ((n ≡ length p) × (0 < n) × (e ≡ true)) → (e ≡ true → IsAtEnd b)
     → IfSome a (WaitsBehind (take n p) (number + 1) (drop (n + 1) p) b)
-behind None b number p e n w len fits stands end = tt
-behind (Some all) None number p e n w len fits stands end = absurd (cc w.left_is)
-behind (Some all) (Some rest) number p e n w len fits stands end =
+behind None b number p e n w len fits at_front end = tt
+behind (Some all) None number p e n w len fits at_front end = absurd (cc w.left_is)
+behind (Some all) (Some rest) number p e n w len fits at_front end =
     let same : rest ≡ w.rest = cc w.left_is in
-    let first = next_line p rest e n len fits stands end in
+    let first = next_line p rest e n len fits at_front end in
     record {
       rest = rest;
       left_is = refl;

@@ -91,7 +91,8 @@ one_more old mid new lines rest line later skipped left number again sends mid_s
     ap state_of i.goes_on.after ∙ state_after old (events_of xs) in
     let word : List ℕ = if again then sent_line mid.settings (sent_at mid.settings (state_of mid) x.event) else [] in
     let said : (if again then sent_line mid.settings (sent_at mid.settings (state_of mid) x.event) else [])
-    ≡ (if (skipped - length xs) == 0 then sent_line old.settings (sent_at old.settings (after_events old.settings (state_of old) (events_of xs)) x.event) else []) =
+    ≡ (if (skipped - length xs) == 0
+    then sent_line old.settings (sent_at old.settings (after_events old.settings (state_of old) (events_of xs)) x.event) else []) =
     ap (λ b. if b then sent_line mid.settings (sent_at mid.settings (state_of mid) x.event) else []) (test ∙ ap (λ n. n == 0) i.left_is)
     ∙ ap (λ c. if (skipped - length xs) == 0 then sent_line c (sent_at c (state_of mid) x.event) else []) s
     ∙ ap (λ u. if (skipped - length xs) == 0 then sent_line old.settings (sent_at old.settings u x.event) else []) t in

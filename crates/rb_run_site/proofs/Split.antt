@@ -1,6 +1,7 @@
 -- A batch, split at its first line feed.
 use Rattle.std.proofs.Common.{◌≡◌, ◌+◌, ◌<◌, ◌==◌, ℕ, zero, suc, true, List, [], ◌∷◌, ◌++◌, length, take, drop, get_or, refl, sym, ap, ◌∙◌}
-use Rattle.std.proofs.Common.{position, Some, None, arith, add-one, drop-cons, take-append-drop, append_assoc, length-drop, take_while, inl, inr}
+use Rattle.std.proofs.Common.{position, Some, None, arith, add-one, drop-cons, take-append-drop, append_assoc}
+use Rattle.std.proofs.Common.{length-drop, take_while, inl, inr}
 use Rattle.std.specs.Prelude.{◌≢◌, All, slice_index}
 use Rattle.std.specs.List.{position_or_len}
 use Rattle.std.proofs.lemmas.Bool.{cases_lt, cond-true, eqb-true, eq-eqb, false≢true, lt-ltb}

@@ -50,7 +50,8 @@ batched are old new line text entries ok a =
 
 -- the site took the line: it is a turn
 pub turned : EntriesAreLines → (old new : SeenSite) (line words entries text text_after : List ℕ) (batch batch_after : List (List ℕ)) →
-    IsConfigured old.settings → IsSiteAnswer old new line words entries → text_after ≡ text ++ words → batch_after ≡ batch ++ recovered entries
+    IsConfigured old.settings → IsSiteAnswer old new line words entries → text_after ≡ text ++ words → batch_after ≡ batch
+    ++ recovered entries
     → IsTurn SiteAnswers old new (journal_of old) (journal_of new) batch batch_after line text text_after
 turned are old new line words entries text text_after batch batch_after ok a said more =
     let added = lines_of_entries old.settings old.me a.recorded in

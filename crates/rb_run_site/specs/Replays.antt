@@ -26,7 +26,8 @@ pub record GoesOnBy (old new : SeenSite) (xs : List Entry) : Type 0 where
   pub after : new ≡ next_sites old (events_of xs)
   pub entries : new.entries ≡ old.entries ++ xs
 
--- the lines of a journal are these entries' of the site, which goes on by them; what they sent, but for a number of the first, is added
+-- the lines of a journal are these entries' of the site, which goes on by them; what they sent, but for a number of the
+-- first, is added
 pub record ReplaysLines (old new : SeenSite) (lines : List (List ℕ)) (skipped : ℕ) (sends sends_after : List ℕ) : Type 0 where
   pub entries : List Entry
   pub goes_on : GoesOnBy old new entries

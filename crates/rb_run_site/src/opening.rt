@@ -1,5 +1,6 @@
 //! A site that is opened: its configuration read, its journal looked at and replayed. Nothing of the file is changed.
-ghost use Rattle.std.specs.Prelude.{◌≡◌, ◌+◌, ◌⊎◌, ◌<◌, ◌^◌, ◌≤◌, [], List, ℕ, true, false, length, Err, IfErr, IfOk, IfSome};
+ghost use Rattle.std.specs.Prelude.{◌≡◌, ◌+◌, ◌⊎◌, ◌<◌, ◌^◌, ◌≤◌, [], List, ℕ, true, false, length, Err, IfErr, IfOk};
+ghost use Rattle.std.specs.Prelude.{IfSome};
 ghost use Rattle.std.specs.Prelude.{MatchResult};
 ghost use Rattle.std.specs.Io.KnownBytes.{IsAtEnd};
 ghost use Rattle.rb_journal.specs.Lines.{recovered};

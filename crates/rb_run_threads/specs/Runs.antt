@@ -10,8 +10,8 @@ use Rattle.rb_run_threads.specs.Texts.{text_of}
 use Rattle.rb_run_threads.specs.declared.fault.ThreadsFault.{ThreadsFault}
 use Rattle.rb_run_threads.specs.declared.fault.ThreadsFault.TheVariants.{OutOfMemory, Gather, Write}
 
--- the histories of a run with this number of tellers, one for each site: it is its own replay, and but for what was received and applied
--- it is what the site's tellers did, interleaved
+-- the histories of a run with this number of tellers, one for each site: it is its own replay, and but for what was
+-- received and applied it is what the site's tellers did, interleaved
 pub record AreTellers (s : Settings) (tellers seed : ℕ) (hs : List (List Entry)) : Type 0 where
   pub each_site : length hs ≡ s.sites
   pub replays : (k : ℕ) (h : List Entry) → slice_get hs k ≡ Some h → IsReplayed (record { settings = s; me = k; entries = h })

@@ -124,7 +124,8 @@ covered_sides s me us p k valid e plain right own a side = elim (OnAccount.on_si
         )
 
 -- what is planned and allowed leaves none of its accounts less than nothing
-pub covered : (s : Settings) (me : ℕ) (us : List Shadow) (token : Token) (p : Plan) (k : Kind) → IsValid s us → p.kind ≡ k → IsPlanned s us p k
+pub covered : (s : Settings) (me : ℕ) (us : List Shadow) (token : Token) (p : Plan) (k : Kind) → IsValid s us → p.kind ≡ k
+    → IsPlanned s us p k
     → HasTarget us (shadow_of me us p) (target_of p.kind)
     → IsAllowed s us token (shadow_of me us p) (next_name me us (colour_in us p.kind))
     → (a : Place) → is_on us (shadow_of me us p) a ≡ true → pos 0 ≤ℤ bal s (us ++ shadow_of me us p ∷ []) a

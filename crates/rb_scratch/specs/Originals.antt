@@ -45,8 +45,8 @@ granted_kind b (AskTransfer a c n) = if grants b a n then Transfer c else Declin
 abbrev pub left_out : OpName → List Shadow → List Shadow
 left_out x us = filter (λ (u : Shadow). not (same_name u.name x)) us
 
--- the operation that a request makes does to every balance, at the end of a list, what the published bank does on that request. That bank
--- has no cancellation: after one each balance is as if its target had never been made
+-- the operation that a request makes does to every balance, at the end of a list, what the published bank does on that
+-- request. That bank has no cancellation: after one each balance is as if its target had never been made
 abbrev pub DoesOriginal : Settings → List Shadow → Request → Shadow → Type 0
 DoesOriginal s us (AskDeposit a n) v = (q : Place) → bal s (us ++ v ∷ []) q ≡ after_deposit (bal s us) a n q
 DoesOriginal s us (AskWithdraw a n) v = (q : Place) → bal s (us ++ v ∷ []) q ≡ after_withdraw (bal s us) a n q

@@ -32,8 +32,8 @@ pub record IsAdded (was now : Book) (parts more : List UndoParts) (v : Shadow) :
   -- so the records are still those of the last operations
   pub tried : (base made : List Shadow) → IsTried base made was parts → IsTried base (made ++ v ∷ []) now more
 
--- why a request of a batch is not made: there are the most already, or it makes nothing, or there is no memory, and then the ledger has no
--- spare capacity
+-- why a request of a batch is not made: there are the most already, or it makes nothing, or there is no memory, and
+-- then the ledger has no spare capacity
 pub record IsFault (book : Book) (parts : List UndoParts) (me : ℕ) (known : Token) (r : Request) (fault : RunFault) : Type 0 where
   pub many : MOST_REQUESTS ≤ length parts → fault ≡ RefusedFault BadBatch
   pub few : length parts < MOST_REQUESTS → (made_in_batch book.settings me book.entries known r ≡ Err fault)

@@ -131,7 +131,8 @@ skips answers e p q n len fits at_front blank state lines text left number count
 }
 
 -- a line is answered
-pub answers_one : {S : Type 0} (answers : Answers S) (e : Bool) (p q : Point S) (n : ℕ) (new : S) (lines_new batch batch_new : List (List ℕ))
+pub answers_one : {S : Type 0} (answers : Answers S) (e : Bool) (p q : Point S) (n : ℕ) (new : S)
+    (lines_new batch batch_new : List (List ℕ))
     (text_new : List ℕ)
     → n ≡ line_len p.pending → n ≤ length p.pending → IsFirst p.pending e n → is_blank (take n p.pending) ≡ false
     → IsTurn answers p.state new p.lines lines_new batch batch_new (take n p.pending) p.text text_new

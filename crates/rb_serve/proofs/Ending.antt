@@ -7,7 +7,7 @@ use Rattle.rb_lines.specs.Lines.{is_long, line_len, lines_of}
 use Rattle.rb_lines.specs.declared.buffers.Buffers.{Buffers}
 use Rattle.rb_lines.specs.declared.limits.TheConstants.{LINE_LIMIT}
 use Rattle.rb_lines.proofs.Public.LongLines.{long_line}
-use Rattle.rb_lines.proofs.Public.Walks.{at_end, at_rest, standing}
+use Rattle.rb_lines.proofs.Public.Walks.{at_end, at_rest, line_at_front}
 use Rattle.rb_serve.specs.Ends.{AreAll, EndsAs, EndsAtRest, IsReadAnswered, IsBad, IsNext, IsPutOut}
 use Rattle.rb_serve.specs.Steps.{IsBadLine, IsReadFault, Point, StopsAt}
 use Rattle.rb_serve.specs.Turns.{Answers, HasNoAnswer, Turn, lines_answered, not_blank}
@@ -51,7 +51,7 @@ next_known : {S : Type 0} (input : Option (List ℕ)) (turns : List (Turn S))
 next_known None turns first rest p e number n w len fits at_front end = tt
 next_known (Some all) turns first None p e number n w len fits at_front end = absurd w
 next_known (Some all) turns first (Some r) p e number n w len fits at_front end =
-    let is = standing p r e n len fits at_front end in
+    let is = line_at_front p r e n len fits at_front end in
     record {
       before = w.done;
       later = is.0;

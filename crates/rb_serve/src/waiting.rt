@@ -47,7 +47,8 @@ fn answer_next<M: Machine>(
     requires count { work.old.count ≤ work.old.number }
     ensures answered { OnOk result (Advances M.answers buffers.old.ended
         (point_of (M.state machine.old) (M.lines (M.state machine.old)) buffers.old.buffered.items work.old buffers.old)
-        (point_of (M.state machine.new) (M.lines (M.state machine.new)) buffers.new.buffered.items work.new buffers.new)) }
+        (point_of (M.state machine.new) (M.lines (M.state machine.new)) buffers.new.buffered.items work.new
+        buffers.new)) }
     // What is added is added to the batch.
     ensures batch { OnOk result ((before : List (List ℕ))
         → M.lines (M.state machine.old) ≡ before ++ recovered work.old.batch.bytes.items
@@ -55,7 +56,8 @@ fn answer_next<M: Machine>(
     ensures machine { OnErr result (result ≢ Err OutOfMemory → M.state machine.new ≡ M.state machine.old) }
     ensures same { OnErr result ((state : M.State) (lines : List (List ℕ)) →
         point_of state (lines ++ recovered work.new.batch.bytes.items) buffers.new.buffered.items work.new buffers.new
-        ≡ point_of state (lines ++ recovered work.old.batch.bytes.items) buffers.old.buffered.items work.old buffers.old) }
+        ≡ point_of state (lines ++ recovered work.old.batch.bytes.items) buffers.old.buffered.items work.old
+        buffers.old) }
     ensures stop { OnErr result (StopsAt M.answers (M.state machine.new) work.new.number buffers.new result) }
     ensures not_write { result ≡ Err Write → ⊥ }
     ensures not_journal { result ≡ Err Journal → ⊥ }

@@ -13,13 +13,14 @@ IsPart us vs = (u : Shadow) → Among u us → Among u vs
 abbrev pub IsClosed : List Shadow → Type 0
 IsClosed vs = (v : Shadow) → Among v vs → IsWithin (past v) (names vs)
 
--- cancellation commutes: the same operations agree in every order. So a cancellation may come anywhere after its target, and a second one
--- anywhere after it, with the same balances, numbers of cancellations and names
+-- cancellation commutes: the same operations agree in every order. So a cancellation may come anywhere after its
+-- target, and a second one anywhere after it, with the same balances, numbers of cancellations and names
 abbrev pub CancellationCommutes : Type 0
 CancellationCommutes = (s : Settings) (us vs : List Shadow) → IsUnique us → IsUnique vs → IsPart us vs → IsPart vs us → Agree s us vs
 
--- where a balance comes from in a list of operations: the list has no red one, and no less than the start; or of its red ones the last,
--- after whose past, each operation of it once, the balance with it was not negative, and the list has no less than that
+-- where a balance comes from in a list of operations: the list has no red one, and no less than the start; or of its
+-- red ones the last, after whose past, each operation of it once, the balance with it was not negative, and the list
+-- has no less than that
 abbrev pub IsFunded : Settings → List Shadow → List Shadow → Place → Type 0
 IsFunded s all vs a =
     (((v : Shadow) → Among v vs → is_red v.name ≡ false) × (pos (start_of s a) ≤ℤ bal s vs a))

@@ -77,8 +77,8 @@ receiver_of _ = None
 abbrev pub cancels : Kind → OpName → Bool
 cancels k y = unless (λ x. same_name x y) (target_of k) false
 
--- an operation's colour, by its kind and by its target's: a withdrawal and a transfer are red, and so is a cancellation of anything but a
--- withdrawal
+-- an operation's colour, by its kind and by its target's: a withdrawal and a transfer are red, and so is a cancellation
+-- of anything but a withdrawal
 abbrev pub colour_of : Kind → Option Kind → Colour
 colour_of Withdraw target = RedColour
 colour_of (Transfer to) target = RedColour
@@ -94,7 +94,8 @@ cancel_count us x = count_by (λ u. cancels u.kind x) us
 abbrev pub is_cancelled : List Shadow → OpName → Bool
 is_cancelled us x = list_any (λ u. cancels u.kind x) us
 
--- what an operation of a kind and an amount moves on its own account: a deposit and interest add it, a withdrawal and a transfer take it
+-- what an operation of a kind and an amount moves on its own account: a deposit and interest add it, a withdrawal and a
+-- transfer take it
 abbrev pub moved : Kind → ℕ → ℤ
 moved Deposit n = pos n
 moved Interest n = pos n
@@ -107,7 +108,8 @@ abbrev pub arrived : Option Place → ℕ → Place → ℤ
 arrived None n a = pos 0
 arrived (Some to) n a = if to.0 == a.0 then pos n else pos 0
 
--- what an operation moves on an account: on its own what its kind says, on a transfer's second account its amount, and nothing on any other
+-- what an operation moves on an account: on its own what its kind says, on a transfer's second account its amount, and
+-- nothing on any other
 abbrev pub delta : Shadow → Place → ℤ
 delta u a = if u.account.0 == a.0 then moved u.kind u.amount else arrived (receiver_of u.kind) u.amount a
 
@@ -153,7 +155,8 @@ colour_in us k = colour_of k (option_and_then (kind_in us) (target_of k))
 abbrev pub AreOrdered : Shadow → Shadow → Type 0
 AreOrdered u v = u.name ≢ v.name → Precedes u v ⊎ Precedes v u
 
--- a RedBlue order: a set of operations, ordered by their pasts, in which the red ones, and those of one home, are in line
+-- a RedBlue order: a set of operations, ordered by their pasts, in which the red ones, and those of one home, are in
+-- line
 pub record IsLawful (us : List Shadow) : Type 0 where
   pub unique : IsUnique us
   pub closed : (v : Shadow) → Among v us → IsWithin (past v) (names us)

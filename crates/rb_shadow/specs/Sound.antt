@@ -44,7 +44,8 @@ is_misdirected accounts own (Some to) = nat_le accounts to.0 || (to.0 == own.0)
 abbrev pub is_miscoloured : Kind → OpName → Bool
 is_miscoloured k x = not (is_some (target_of k)) && not (same_colour (shown_colour x) (colour_of k None))
 
--- it cancels what its home can't have applied: a target of a site that the bank doesn't have, or one that the clock doesn't count
+-- it cancels what its home can't have applied: a target of a site that the bank doesn't have, or one that the clock
+-- doesn't count
 abbrev pub cancels_unseen : ℕ → Kind → Deps → Bool
 cancels_unseen sites k c = unless (λ x. is_absent sites x || not (names_of_clock c x)) (target_of k) false
 

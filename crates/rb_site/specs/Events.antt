@@ -1,12 +1,14 @@
 -- One event of a site.
-use Rattle.std.specs.Prelude.{ℕ, Bool, if◌then◌else◌, not, ◌&&◌, nat_le, nat_lt, ◌==◌, List, [], ◌∷◌, ◌++◌, length, map, take, Option, Some, None}
+use Rattle.std.specs.Prelude.{ℕ, Bool, if◌then◌else◌, not, ◌&&◌, nat_le, nat_lt, ◌==◌, List, [], ◌∷◌, ◌++◌, length, map}
+use Rattle.std.specs.Prelude.{take, Option, Some, None}
 use Rattle.rb_scratch.specs.declared.request.TheConstants.{MOST_REQUESTS}
 use Rattle.rb_money.specs.Amounts.{cents}
 use Rattle.rb_money.specs.Refusals.{and_then, unless}
 use Rattle.rb_money.specs.Settings.{Settings, is_account}
 use Rattle.rb_money.specs.declared.place.Place.{Place}
 use Rattle.rb_money.specs.declared.refusal.Refusal.{Refusal}
-use Rattle.rb_money.specs.declared.refusal.Refusal.TheVariants.{UnknownAccount, BadBatch, NotHeld, NotReady, InboxFull, BadMessage, Conflict, PositionBeyond, HistoryFull}
+use Rattle.rb_money.specs.declared.refusal.Refusal.TheVariants.{UnknownAccount, BadBatch, NotHeld, NotReady, InboxFull}
+use Rattle.rb_money.specs.declared.refusal.Refusal.TheVariants.{BadMessage, Conflict, PositionBeyond, HistoryFull}
 use Rattle.rb_shadow.specs.Labels.{label_of}
 use Rattle.rb_shadow.specs.Operations.{bal, red_count, find_in, same_shadow, is_eligible}
 use Rattle.rb_shadow.specs.Sound.{fault_of}
@@ -21,15 +23,17 @@ use Rattle.rb_site.specs.declared.event.Event.TheVariants.{Submit, Batch, Receiv
 use Rattle.rb_site.specs.declared.message.Message.{Message}
 use Rattle.rb_site.specs.declared.message.Message.TheVariants.{Shadow as ShadowMessage, Token as TokenOnItsWay}
 use Rattle.rb_site.specs.declared.reply.Reply.{Reply}
-use Rattle.rb_site.specs.declared.reply.Reply.TheVariants.{Made, Names as NamesMade, Held, Already, Taken, Stale, Applied, Passed, Balance as BalanceIs, Statement as StatementIs, Refused}
+use Rattle.rb_site.specs.declared.reply.Reply.TheVariants.{Made, Names as NamesMade, Held, Already, Taken, Stale}
+use Rattle.rb_site.specs.declared.reply.Reply.TheVariants.{Applied, Passed, Balance as BalanceIs}
+use Rattle.rb_site.specs.declared.reply.Reply.TheVariants.{Statement as StatementIs, Refused}
 use Rattle.rb_statements.specs.Statements.{statement_of}
 use Rattle.rb_token.specs.Token.{Token, first_token, taken_token, passed_token, pass_message, refusal_of_pass, refusal_of_token, is_stale}
 use Rattle.rb_token.specs.declared.message.TokenMessage.{TokenMessage}
 
 -- ---- what a site is
 
--- a site: its number, the operations that it applied, in their order, those that it holds, one for each name and in the order of the
--- names, what it knows of the token, and its events
+-- a site: its number, the operations that it applied, in their order, those that it holds, one for each name and in the
+-- order of the names, what it knows of the token, and its events
 pub record ModelSite : Type 0 where
   pub me : ℕ
   pub ops : List Shadow
@@ -39,7 +43,8 @@ pub record ModelSite : Type 0 where
 
 -- ---- what an event comes to
 
--- what an event comes to. Only these change more than the history: Drops, Makes, MakesAll, Holds, Applies, Takes and Passes
+-- what an event comes to. Only these change more than the history: Drops, Makes, MakesAll, Holds, Applies, Takes and
+-- Passes
 pub data Outcome : Type 0 where
   Refuses : (why : Refusal) → Outcome
   -- what is held under the name can't be applied, and is let go
@@ -58,8 +63,8 @@ pub data Outcome : Type 0 where
 
 -- ---- shadows that are received or applied
 
--- what comes of a shadow whose name is known, by the one known: it is answered where it is the same, and refused as a conflict where it
--- is another; where none is known, what comes next
+-- what comes of a shadow whose name is known, by the one known: it is answered where it is the same, and refused as a
+-- conflict where it is another; where none is known, what comes next
 abbrev pub unless_known : Shadow → Option Shadow → Outcome → Outcome
 unless_known v None next = next
 unless_known v (Some u) next = if same_shadow u v then Answers (Already v.name) else Refuses Conflict

@@ -1,5 +1,6 @@
 -- Sites that share nothing but messages.
-use Rattle.std.specs.Prelude.{ℕ, zero, suc, Bool, false, List, [], ◌∷◌, ◌++◌, map, Option, Some, None, option_map, slice_get, slice_set, not, ◌&&◌, is_some}
+use Rattle.std.specs.Prelude.{ℕ, zero, suc, Bool, false, List, [], ◌∷◌, ◌++◌, map, Option, Some, None, option_map}
+use Rattle.std.specs.Prelude.{slice_get, slice_set, not, ◌&&◌, is_some}
 use Rattle.std.specs.List.{range_with_len}
 use Rattle.rb_money.specs.Settings.{Settings}
 use Rattle.rb_money.specs.declared.refusal.Refusal.TheVariants.{NoMessage, NoSite}
@@ -102,7 +103,8 @@ abbrev pub is_recorded_at : Settings → Option ModelSite → Bool
 is_recorded_at s None = false
 is_recorded_at s (Some t) = not (is_full s t)
 
--- whether an event of the world is recorded: its site is there, its history isn't full, and a message that it delivers was sent
+-- whether an event of the world is recorded: its site is there, its history isn't full, and a message that it delivers
+-- was sent
 abbrev pub is_recorded : Settings → World → WorldEvent → Bool
 is_recorded s w (At i e) = is_recorded_at s (slice_get w.sites i)
 is_recorded s w (Deliver i k) = is_recorded_at s (slice_get w.sites i) && is_some (message_at w.messages k)

@@ -1,5 +1,6 @@
 -- The calls of tellers, each by its own numbers and by what it was answered.
-use Rattle.std.specs.Prelude.{◌≡◌, ℕ, ◌+◌, ◌*◌, ◌/◌, ◌%◌, ◌^◌, List, [], ◌∷◌, ◌++◌, slice_get, ◌==◌, nat_lt, if◌then◌else◌, Option, Some, None, map, length, All, Bool, true, false}
+use Rattle.std.specs.Prelude.{◌≡◌, ℕ, ◌+◌, ◌*◌, ◌/◌, ◌%◌, ◌^◌, List, [], ◌∷◌, ◌++◌, slice_get, ◌==◌, nat_lt}
+use Rattle.std.specs.Prelude.{if◌then◌else◌, Option, Some, None, map, length, All, Bool, true, false}
 use Rattle.rb_branch.specs.declared.receipt.Receipt.{Receipt}
 use Rattle.rb_branch.specs.Gathered.{IsInterleaving}
 use Rattle.rb_branch.specs.Seats.{IsServed, SeenSeat}
@@ -26,8 +27,9 @@ abbrev pub cancel_or : Place → Option OpName → Request
 cancel_or a None = Deposit a 1
 cancel_or a (Some x) = Cancel x
 
--- the call at a number, by a teller of this site, of a bank of this number of sites, who last made the operation of this name. With r the
--- number divided by 2 ^ 33 and q = r / 8, the account is that of place r / 8192 modulo 4, and r modulo 8 says what is asked for
+-- the call at a number, by a teller of this site, of a bank of this number of sites, who last made the operation of
+-- this name. With r the number divided by 2 ^ 33 and q = r / 8, the account is that of place r / 8192 modulo 4, and r
+-- modulo 8 says what is asked for
 unfoldable pub call_of : ℕ → Option OpName → ℕ → ℕ → Event
 call_of x last site sites =
     let r = x / 8589934592 in let q = r / 8 in let kind = r % 8 in let a : Place = record { 0 = r / 8192 % 4 } in
@@ -44,8 +46,8 @@ last_after last reply = last
 
 -- ---- one teller
 
--- each entry is the call at the next number after x, by a teller who last made the operation of this name; so a call may depend on the
--- replies before it
+-- each entry is the call at the next number after x, by a teller who last made the operation of this name; so a call
+-- may depend on the replies before it
 abbrev pub FollowsCalls : ℕ → ℕ → ℕ → Option OpName → List Entry → Type 0
 FollowsCalls site sites x last [] = Unit {0}
 FollowsCalls site sites x last (e ∷ es) =
@@ -68,8 +70,8 @@ pub record IsServer (site : ℕ) (seat : SeenSeat) : Type 0 where
 
 -- ---- a run
 
--- the seats of a run: first those of the tellers, the t-th at site t % sites with first number seed + t, and then that of a serving thread
--- at each site, in order
+-- the seats of a run: first those of the tellers, the t-th at site t % sites with first number seed + t, and then that
+-- of a serving thread at each site, in order
 pub record IsCrew (seed tellers sites : ℕ) (seats : List SeenSeat) : Type 0 where
   pub hired : List SeenSeat
   pub serving : List SeenSeat

@@ -1,5 +1,5 @@
-//! What was found is compared with what is wanted. Each is one function, proved once: `assert_eq!` in its place is proved
-//! anew wherever it is written.
+//! What was found is compared with what is wanted. Each is one function, proved once: `assert_eq!` in its place is
+//! proved anew wherever it is written.
 use std::fmt::Debug;
 use std::process::Abort;
 

@@ -104,7 +104,8 @@ fn second_cancellation_moves_nothing(rt: HostRuntime) -> Result<(), Fail> {
     Ok(())
 }
 
-/// Ann's balance before the withdrawal, after it and after each of its two cancellations, and how often it is cancelled.
+/// Ann's balance before the withdrawal, after it and after each of its two cancellations, and how often it is
+/// cancelled.
 #[test]
 fn cancellations_are_counted(rt: HostRuntime) -> Result<(), Fail> {
     for (applied, seen) in [

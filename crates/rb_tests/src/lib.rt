@@ -1,5 +1,5 @@
-//! Tests of the crates up to worlds, a file for what is tested, and the worked rows for the tests above. Cases that a run
-//! of the program shows are in tests/cases.
+//! Tests of the crates up to worlds, a file for what is tested, and the worked rows for the tests above. Cases that a
+//! run of the program shows are in tests/cases.
 #![tactic(auto)]
 
 #[cfg(test)]

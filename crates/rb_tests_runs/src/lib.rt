@@ -1,5 +1,5 @@
-//! Tests of the crates of text, of threads and of runs, a file for what is tested. Cases that a run of the program shows
-//! are in tests/cases.
+//! Tests of the crates of text, of threads and of runs, a file for what is tested. Cases that a run of the program
+//! shows are in tests/cases.
 #![tactic(auto)]
 
 #[cfg(test)]

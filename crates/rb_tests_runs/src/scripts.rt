@@ -329,8 +329,8 @@ fn refuse_script(rt: HostRuntime) -> Result<(), Fail> {
     let row = row_named("deposit_reaches_the_other_site")?;
     let mut reader = FromBytes::new(row.script.as_bytes());
     let mut writer = ToBytes::new(rt.alloc());
-    // Spare capacity for the text, so that no write takes memory. Where it is refused, it is had at once when it is asked
-    // for again.
+    // Spare capacity for the text, so that no write takes memory. Where it is refused, it is had at once when it is
+    // asked for again.
     let capacity = row.replies.len().saturating_add(1);
     if writer.taken.reserve(capacity).is_err() {
         writer.taken.reserve(capacity)?;

@@ -5,8 +5,8 @@ use Rattle.rb_money.specs.declared.refusal.Refusal.{Refusal}
 use Rattle.rb_money.specs.declared.refusal.Refusal.TheVariants.{NumbersExhausted, NeedToken, RedBehind, BadMessage, NoSite, NotYours}
 use Rattle.rb_token.specs.declared.message.TokenMessage.{TokenMessage}
 
--- what a site knows of the token: the greatest epoch that it has seen, whether it has the token, and how many red operations it needs to
--- have applied before it makes one
+-- what a site knows of the token: the greatest epoch that it has seen, whether it has the token, and how many red
+-- operations it needs to have applied before it makes one
 pub record Token : Type 0 where
   pub epoch : ℕ
   pub held : Bool

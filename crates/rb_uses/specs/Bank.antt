@@ -14,7 +14,13 @@ use Rattle.rb_world.specs.Laws.{SeenWorld, next_worlds, opened}
 
 -- two sites, one account that starts with 1,000 cents, and the largest limits
 abbrev pub bank : Settings
-bank = record { sites = 2; names = codes "ann" ∷ []; starts = 1000 ∷ []; limits = record { blue = MOST_BLUE; red = MOST_RED; inbox = MOST_INBOX; history = MOST_HISTORY; epoch = MOST_EPOCH }; version = 1 }
+bank = record {
+  sites = 2;
+  names = codes "ann" ∷ [];
+  starts = 1000 ∷ [];
+  limits = record { blue = MOST_BLUE; red = MOST_RED; inbox = MOST_INBOX; history = MOST_HISTORY; epoch = MOST_EPOCH };
+  version = 1;
+}
 
 -- the bank's only account
 abbrev pub ann : Place

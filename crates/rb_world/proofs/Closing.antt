@@ -13,14 +13,14 @@ use Rattle.rb_world.proofs.Stepping.{AreOf}
 pub record IsClosing (s : Settings) (all : List ModelSite) (rs : List SiteReport) (left : List SeenSite) : Type 0 where
   pub closed : List SeenSite
   pub together : map state_of (left ++ closed) ≡ all
-  pub told : AreReports s (map state_of closed) (reverse rs)
+  pub reports : AreReports s (map state_of closed) (reverse rs)
   pub settings : AreOf s left
 
 pub closing-first : (s : Settings) (all : List ModelSite) (xs : List SeenSite) → map state_of xs ≡ all → AreOf s xs → IsClosing s all [] xs
 closing-first s all xs sites settings = record {
   closed = [];
   together = ap (map state_of) (append-nil xs) ∙ sites;
-  told = tt;
+  reports = tt;
   settings = settings;
 }
 
@@ -32,10 +32,10 @@ closing-next s all before left rs x r popped far is =
     record {
       closed = x ∷ far.closed;
       together = ap (map state_of) (sym (append_assoc left (x ∷ []) far.closed) ∙ ap (λ ys. ys ++ far.closed) (sym popped)) ∙ far.together;
-      told =
+      reports =
           let P : List SiteReport → Type 0 = λ qs. AreReports s (map state_of (x ∷ far.closed)) qs in
           subst P (sym (reverse-append rs (r ∷ [])))
-          ((let Q : Settings → Type 0 = λ z. IsReport z (state_of x) r in subst Q kept.1 is), far.told);
+          ((let Q : Settings → Type 0 = λ z. IsReport z (state_of x) r in subst Q kept.1 is), far.reports);
       settings = kept.0;
     }
 
@@ -44,4 +44,4 @@ pub closing-whole : (s : Settings) (all : List ModelSite) (rs : List SiteReport)
 closing-whole s all rs (x ∷ left) none far = absurd (omega arith)
 closing-whole s all rs [] none far =
     let P : List ModelSite → Type 0 = λ ts. AreReports s ts (reverse rs) in
-    subst P far.together far.told
+    subst P far.together far.reports

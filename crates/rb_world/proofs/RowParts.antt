@@ -14,6 +14,7 @@ filled zero ns = []
 filled (suc many) [] = 0 ∷ filled many []
 filled (suc many) (n ∷ ns) = n ∷ filled many ns
 
--- a clock that counts these numbers of blue operations of the first sites, none of the others, and this number of red ones
+-- a clock that counts these numbers of blue operations of the first sites, none of the others, and this number of red
+-- ones
 abbrev pub counting : List ℕ → ℕ → Deps
 counting blue red = record { blue = filled MOST_SITES blue; red = red }

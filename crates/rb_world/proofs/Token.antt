@@ -74,7 +74,8 @@ RedsUpTo vs n = (v : Shadow) → Among v vs → red_number v.name ≤ n
 abbrev pub IsStale : World → TokenMessage → Type 0
 IsStale w m = EachSite w (λ j u. m.to ≡ j → m.epoch ≤ u.token.epoch)
 
--- site k, which is t, has it: no other has it, no message can be taken, and the site needs or has applied every red operation
+-- site k, which is t, has it: no other has it, no message can be taken, and the site needs or has applied every red
+-- operation
 pub record IsHeldAt (w : World) (k : ℕ) (t : ModelSite) : Type 0 where
   pub at : slice_get w.sites k ≡ Some t
   pub held : t.token.held ≡ true
@@ -83,7 +84,8 @@ pub record IsHeldAt (w : World) (k : ℕ) (t : ModelSite) : Type 0 where
   pub stale : (m : TokenMessage) → AmongTokens m (tokens_in w.messages) → IsStale w m
   pub reds : RedsUpTo (made_in w) (max t.token.needed (red_count t.ops))
 
--- it is on its way by the message m: no site has it, no other message can be taken, and the message counts every red operation
+-- it is on its way by the message m: no site has it, no other message can be taken, and the message counts every red
+-- operation
 pub record IsOnItsWay (w : World) (m : TokenMessage) : Type 0 where
   pub sent : AmongTokens m (tokens_in w.messages)
   pub unheld : EachSite w (λ j u. u.token.held ≡ false)

@@ -1,11 +1,13 @@
 -- Laws over every run.
-use Rattle.std.specs.Prelude.{◌≡◌, ℕ, ◌+◌, if◌then◌else◌, ◌≤◌, Bool, true, false, List, [], ◌∷◌, ◌++◌, length, Some, slice_get, ◌⊎◌, ◌&&◌, pos, ◌≤ℤ◌}
+use Rattle.std.specs.Prelude.{◌≡◌, ℕ, ◌+◌, if◌then◌else◌, ◌≤◌, Bool, true, false, List, [], ◌∷◌, ◌++◌, length, Some}
+use Rattle.std.specs.Prelude.{slice_get, ◌⊎◌, ◌&&◌, pos, ◌≤ℤ◌}
 use Rattle.rb_money.specs.Settings.{Settings}
 use Rattle.rb_money.specs.declared.limits.TheConstants.{MOST_SITES}
 use Rattle.rb_money.specs.declared.place.Place.{Place}
 use Rattle.rb_money.specs.declared.refusal.Refusal.TheVariants.{BadMessage, Conflict}
 use Rattle.rb_shadow.specs.declared.shadow.Shadow.{Shadow}
-use Rattle.rb_shadow.specs.Operations.{Agree, Among, AreSame, IsLawful, IsSerialization, IsUnique, IsWithin, bal, clock_of, names, names_of_clock, past}
+use Rattle.rb_shadow.specs.Operations.{Agree, Among, AreSame, IsLawful, IsSerialization, IsUnique, IsWithin, bal}
+use Rattle.rb_shadow.specs.Operations.{clock_of, names, names_of_clock, past}
 use Rattle.rb_shadow.specs.Laws.{IsClosed, IsFunded, IsPart}
 use Rattle.rb_ledger.specs.Valid.{IsValid}
 use Rattle.rb_site.specs.declared.event.Event.{Event}
@@ -17,7 +19,8 @@ use Rattle.rb_site.specs.declared.reply.Reply.TheVariants.{Held, Already, Applie
 use Rattle.rb_site.specs.declared.world_event.WorldEvent.{WorldEvent}
 use Rattle.rb_site.specs.declared.world_event.WorldEvent.TheVariants.{At, Deliver}
 use Rattle.rb_site.specs.Events.{ModelSite, after_event, after_events, first_site, is_full, replies_to_events, reply_to}
-use Rattle.rb_site.specs.Worlds.{AreOwn, World, first_world, is_recorded, made_in, message_at, reply_in, world_after, world_after_all, world_of_run}
+use Rattle.rb_site.specs.Worlds.{AreOwn, World, first_world, is_recorded, made_in, message_at, reply_in, world_after}
+use Rattle.rb_site.specs.Worlds.{world_after_all, world_of_run}
 
 -- what holds of each site of a world
 abbrev pub EachSite : World → (ℕ → ModelSite → Type 0) → Type 0
@@ -25,13 +28,15 @@ EachSite w P = (i : ℕ) (t : ModelSite) → slice_get w.sites i ≡ Some t → 
 
 -- the law holds of every world that a bank's own events lead to, in any configuration of 1 to MOST_SITES sites
 abbrev pub Always : (Settings → World → Type 0) → Type 0
-Always P = (s : Settings) (es : List WorldEvent) → 1 ≤ s.sites → s.sites ≤ MOST_SITES → AreOwn es → P s (world_after_all s (first_world s) es)
+Always P = (s : Settings) (es : List WorldEvent) → 1 ≤ s.sites → s.sites ≤ MOST_SITES → AreOwn es
+    → P s (world_after_all s (first_world s) es)
 
 -- at most one site has the token
 abbrev pub OneToken : Settings → World → Type 0
 OneToken s w = EachSite w (λ i t. t.token.held ≡ true → EachSite w (λ j u. u.token.held ≡ true → i ≡ j))
 
--- the operations made are a RedBlue order; each site's list is a causal serialization of some of them there, and has all that were made there
+-- the operations made are a RedBlue order; each site's list is a causal serialization of some of them there, and has
+-- all that were made there
 pub record RedBlue (s : Settings) (w : World) : Type 0 where
   pub lawful : IsLawful (made_in w)
   pub serial : EachSite w (λ i t. IsSerialization i t.ops)
@@ -58,24 +63,30 @@ ValidLists s w = EachSite w (λ i t. IsValid s t.ops)
 abbrev pub NeverNegative : Settings → World → Type 0
 NeverNegative s w = EachSite w (λ i t. (a : Place) → pos 0 ≤ℤ bal s t.ops a)
 
--- no site is stuck: while its history isn't full, an operation that was made and whose past is there is held or known when it is delivered,
--- and applied when it is held
+-- no site is stuck: while its history isn't full, an operation that was made and whose past is there is held or known
+-- when it is delivered, and applied when it is held
 pub record NeverStuck (s : Settings) (w : World) : Type 0 where
-  pub delivered : EachSite w (λ i t. is_full s t ≡ false → (v : Shadow) (k : ℕ) → message_at w.messages k ≡ Some (ShadowMessage v) → IsWithin (past v) (names t.ops)
+  pub delivered : EachSite w (λ i t. is_full s t ≡ false → (v : Shadow) (k : ℕ) → message_at w.messages k ≡ Some (ShadowMessage v)
+      → IsWithin (past v) (names t.ops)
       → (reply_in s w (Deliver i k) ≡ Held v.name) ⊎ (reply_in s w (Deliver i k) ≡ Already v.name))
-  pub applied : EachSite w (λ i t. is_full s t ≡ false → (v : Shadow) → Among v t.held → IsWithin (past v) (names t.ops) → reply_in s w (At i (Apply v.name)) ≡ Applied v.name)
+  pub applied : EachSite w (λ i t. is_full s t ≡ false → (v : Shadow) → Among v t.held → IsWithin (past v) (names t.ops)
+      → reply_in s w (At i (Apply v.name)) ≡ Applied v.name)
 
 -- no delivery is refused as a bad message or as a conflict
 abbrev pub TrustsItsOwn : Settings → World → Type 0
-TrustsItsOwn s w = (i k : ℕ) → (reply_in s w (Deliver i k) ≡ Refused Conflict → ⊥) × ((why : ℕ) → reply_in s w (Deliver i k) ≡ Refused (BadMessage why) → ⊥)
+TrustsItsOwn s w = (i k : ℕ)
+    → (reply_in s w (Deliver i k) ≡ Refused Conflict → ⊥) × ((why : ℕ) → reply_in s w (Deliver i k) ≡ Refused (BadMessage why) → ⊥)
 
--- what brings a site all that was sent: each operation that it lacks is delivered, in the order of the messages, and applied
+-- what brings a site all that was sent: each operation that it lacks is delivered, in the order of the messages, and
+-- applied
 abbrev pub catching_up : ℕ → List Shadow → ℕ → List Message → List WorldEvent
 catching_up i us k [] = []
-catching_up i us k (ShadowMessage v ∷ ms) = if names us v.name then catching_up i us (k + 1) ms else Deliver i k ∷ At i (Apply v.name) ∷ catching_up i us (k + 1) ms
+catching_up i us k (ShadowMessage v ∷ ms) =
+    if names us v.name then catching_up i us (k + 1) ms else Deliver i k ∷ At i (Apply v.name) ∷ catching_up i us (k + 1) ms
 catching_up i us k (TokenOnItsWay m ∷ ms) = catching_up i us (k + 1) ms
 
--- while its history may have that many entries more, two events for each operation that a site lacks bring it all that was made
+-- while its history may have that many entries more, two events for each operation that a site lacks bring it all that
+-- was made
 abbrev pub CanCatchUp : Settings → World → Type 0
 CanCatchUp s w = EachSite w (λ i t. length t.history + length (catching_up i t.ops 1 w.messages) ≤ s.limits.history
     → (u : ModelSite) → slice_get (world_after_all s w (catching_up i t.ops 1 w.messages)).sites i ≡ Some u
@@ -100,12 +111,14 @@ is_refused_receive s t e = is_receive e && is_refused (reply_to s t e)
 -- a list of events without the receipts that the site refuses
 abbrev pub without_refused : Settings → ModelSite → List Event → List Event
 without_refused s t [] = []
-without_refused s t (e ∷ es) = if is_refused_receive s t e then without_refused s (after_event s t e) es else e ∷ without_refused s (after_event s t e) es
+without_refused s t (e ∷ es) =
+    if is_refused_receive s t e then without_refused s (after_event s t e) es else e ∷ without_refused s (after_event s t e) es
 
 -- the replies to a list of events, without those that refuse receipts
 abbrev pub other_replies : Settings → ModelSite → List Event → List Reply
 other_replies s t [] = []
-other_replies s t (e ∷ es) = if is_refused_receive s t e then other_replies s (after_event s t e) es else reply_to s t e ∷ other_replies s (after_event s t e) es
+other_replies s t (e ∷ es) =
+    if is_refused_receive s t e then other_replies s (after_event s t e) es else reply_to s t e ∷ other_replies s (after_event s t e) es
 
 -- two sites differ in their histories at most
 pub record AreAlike (t u : ModelSite) : Type 0 where

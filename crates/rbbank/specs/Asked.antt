@@ -10,8 +10,9 @@ use Rattle.rbbank.specs.declared.answer.Answered.{Answered}
 use Rattle.rbbank.specs.declared.answer.Answered.TheVariants.{Script as ScriptRan, Audit as AuditRan, Migrate as MigrationRan}
 use Rattle.rbbank.specs.declared.answer.Answered.TheVariants.{Threads as TellersRan, SiteAsked}
 
--- what was asked for was done, by the definition of its own run: a script on the reader's bytes, an audit of them or a migration, wherever
--- these bytes are known, or a run of tellers, which reads nothing; or a site is to run as asked, and nothing was read or written
+-- what was asked for was done, by the definition of its own run: a script on the reader's bytes, an audit of them or a
+-- migration, wherever these bytes are known, or a run of tellers, which reads nothing; or a site is to run as asked,
+-- and nothing was read or written
 abbrev pub DoesAsAsked : Words → Answered → Option (List ℕ) → Option (List ℕ) → List ℕ → Type 0
 DoesAsAsked Script (ScriptRan r) bytes left text = IfSome bytes (λ input. ScriptEndsAs r input left text)
 DoesAsAsked Audit (AuditRan r) bytes left text = IfSome bytes (λ input. AuditEndsAs r input left text)

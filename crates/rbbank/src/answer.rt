@@ -38,8 +38,8 @@ pub enum Answered<'a> {
 }
 
 /// Does what the words after the program's name ask for, from this reader to this writer. Tellers read nothing;
-/// the handle starts their threads, and waits for them. A site takes a disk as well, so it is the caller's to run. Where
-/// the words ask for nothing, the error says so, and nothing is read or written.
+/// the handle starts their threads, and waits for them. A site takes a disk as well, so it is the caller's to run.
+/// Where the words ask for nothing, the error says so, and nothing is read or written.
 pub fn answer<'a, H: Threads + Wait + Sync, S: Source, W: Sink>(
     handle: &H,
     alloc: Global,
@@ -54,7 +54,8 @@ pub fn answer<'a, H: Threads + Wait + Sync, S: Source, W: Sink>(
         × DoesAsAsked asked answered (S.remaining reader.old) (S.remaining reader.new) text) }
     ensures unasked { IfErr result (λ _. (asked : TheWords) → ¬ Ask (map (λ word. word.now) words.entry.now) asked) }
     ensures untouched { OnErr result ((reader.new ≡ reader.old) × (writer.new ≡ writer.old)) }
-    ensures asked { IfOk result (λ answered. IsSiteAsked answered → (reader.new ≡ reader.old) × (writer.new ≡ writer.old)) }
+    ensures asked { IfOk result
+        (λ answered. IsSiteAsked answered → (reader.new ≡ reader.old) × (writer.new ≡ writer.old)) }
     ensures calls { S.calls reader.new ≤ S.calls reader.old + MOST_READS }
 {
     match read_words(alloc, words) {

@@ -9,7 +9,8 @@ ghost use Rattle.std.specs.Process.{exit_status};
 ghost use Rattle.clap.specs.Words.{kind_of};
 ghost use Rattle.rb_lines.specs.Messages.{status_of};
 ghost use Rattle.rb_lines.specs.declared.fault.StreamFault.TheVariants.{Write as NotWritten};
-ghost use Rattle.rbbank.specs.Statuses.{IsEnd, IsEndOf, IsEndOfAudit, IsEndOfScript, IsEndOfThreads, IsEndOfWords, IsSiteAsked};
+ghost use Rattle.rbbank.specs.Statuses.{IsEnd, IsEndOf, IsEndOfAudit, IsEndOfScript, IsEndOfThreads, IsEndOfWords};
+ghost use Rattle.rbbank.specs.Statuses.{IsSiteAsked};
 ghost use Rattle.rbbank.specs.Statuses.{IsToldStatus, status_of_unread};
 
 mod answer;

@@ -63,12 +63,13 @@ pub at_end : (all : List ℕ) (done : List (List ℕ)) (p r : List ℕ) (e : Boo
 at_end all done p r e w none end = w.lines ∙ ap (λ x. done ++ lines_of (x ++ r)) none ∙ ap (λ x. done ++ lines_of x) end ∙ append-nil done
 
 -- a whole line at the front is the next
-pub standing : (p r : List ℕ) (e : Bool) (n : ℕ) → n ≡ line_len p → n ≤ length p → (n < length p) ⊎ ((n ≡ length p) × (0 < n) × (e ≡ true))
+pub line_at_front : (p r : List ℕ) (e : Bool) (n : ℕ) → n ≡ line_len p → n ≤ length p
+    → (n < length p) ⊎ ((n ≡ length p) × (0 < n) × (e ≡ true))
     → (e ≡ true → r ≡ [])
     → (more : List (List ℕ)) × (lines_of (p ++ r) ≡ take n p ∷ more)
-standing p r e n len fits (inl more) end =
+line_at_front p r e n len fits (inl more) end =
     (lines_of (drop (n + 1) p ++ r), let short : line_len p < length p = omega (arith, len) in rw (← len) at (first_line p r short))
-standing p r e n len fits (inr (whole, some, ended)) end =
+line_at_front p r e n len fits (inr (whole, some, ended)) end =
     let one : lines_of p ≡ p ∷ [] = last_line p (sym len ∙ whole) (omega arith) in
     let line : take n p ≡ p = rw whole (take_all p) in
     ([], ap (λ x. lines_of (p ++ x)) (end ended) ∙ ap lines_of (append-nil p) ∙ one ∙ ap (λ x. x ∷ []) (sym line))

@@ -103,7 +103,8 @@ all_seen s us h (Some x) few valid (t, there, named, right) =
 all_seen s us h None few valid t = refl
 
 -- what a fit plan makes at a valid list is sound
-pub plan_sound : (s : Settings) (me : ℕ) (us : List Shadow) (p : Plan) → s.sites ≤ MOST_SITES → me < s.sites → IsValid s us → IsFit s me us p →
+pub plan_sound : (s : Settings) (me : ℕ) (us : List Shadow) (p : Plan) → s.sites ≤ MOST_SITES → me < s.sites → IsValid s us
+    → IsFit s me us p →
     IsSound s (shadow_of me us p)
 unfolding fault_of
 plan_sound s me us p few here valid fit =

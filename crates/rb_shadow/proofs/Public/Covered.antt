@@ -168,7 +168,8 @@ last_red all (v ∷ vs) line trans part = at (Members.bool_cases (is_red v.name)
 
 -- ---- a closed part of the operations covers every account
 
--- what the red operations of a set rest on: each comes where its home had covered it, and what adds is cancelled by red ones alone
+-- what the red operations of a set rest on: each comes where its home had covered it, and what adds is cancelled by red
+-- ones alone
 pub record IsCovered (s : Settings) (all : List Shadow) : Type 0 where
   pub taken_red : (u : Shadow) → Among u all → takes u.kind ≡ true → is_red u.name ≡ true
   pub cancel_red : (u c : Shadow) → Among u all → Among c all → cancels c.kind u.name ≡ true → adds u.kind ≡ true → is_red c.name ≡ true

@@ -10,7 +10,8 @@ use Rattle.rb_auditor.proofs.Lists
 use Rattle.rb_auditor.proofs.listing.is_in_row.Goals as goal
 
 pub returns-in-Some-get-clause-known : goal.returns-in-Some-get-clause-known
-returns-in-Some-get-clause-known c = λ yes. Recorded.at_place (Listed.read c.args.messages.now) c.in-Some-get.position.now c.args.message.now
+returns-in-Some-get-clause-known c = λ yes. Recorded.at_place (Listed.read c.args.messages.now) c.in-Some-get.position.now
+    c.args.message.now
     (c.is_at.ensures.0 yes)
 
 pub returns-in-Some-get-clause-found : goal.returns-in-Some-get-clause-found

@@ -22,7 +22,8 @@ returns-in-Some-clause-found c =
 
 pub returns-clause-none : goal.returns-clause-none
 returns-clause-none c = λ file is_file given.
-    let below = is_word c.args.words.now (2 * given.0 + 2) _ given.2 in c.loop-i.invariant file is_file given.0 (omega (arith, below)) given.1 given.2
+    let below = is_word c.args.words.now (2 * given.0 + 2) _ given.2 in
+    c.loop-i.invariant file is_file given.0 (omega (arith, below)) given.1 given.2
 
 pub loop-i-preserved : goal.loop-i-preserved
 loop-i-preserved c = λ file is_file.

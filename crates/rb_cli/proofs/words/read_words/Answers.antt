@@ -21,9 +21,9 @@ of_first (k ∷ ks) next e has = has
 
 pub returns-in_err-_matches-clause-kinds : goal.returns-in_err-_matches-clause-kinds
 returns-in_err-_matches-clause-kinds c =
-    let told = err_from_is_err_and c.from_residual-in_err-_matches.result c.from_residual-in_err-_matches.ensures.1 in
+    let read = err_from_is_err_and c.from_residual-in_err-_matches.result c.from_residual-in_err-_matches.ensures.1 in
     let has = c.in_err-_matches.ensures.kinds (ap is_simple_and_free c.in_ok-command.ensures ∙ is_known) in
-    rw (told.1, told.2)
+    rw (read.1, read.2)
     (of_first _ _ c.in_err-_matches.field-0.0
     (subst (λ (a : App). HasKind (fault_of a (map (λ word. word.now) c.args.words.now)) c.in_err-_matches.field-0.0)
     c.in_ok-command.ensures has))

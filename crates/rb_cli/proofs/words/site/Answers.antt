@@ -31,4 +31,5 @@ returns-in_err-me-clause-none c =
 
 pub returns-in_err-journal-clause-none : goal.returns-in_err-journal-clause-none
 returns-in_err-journal-clause-none c =
-    if_none _ _ (for_site _ (texts c.args.words.now c.requires.count) (λ me journal is. c.in_err-journal.ensures.none journal is.is_file is.journal_given))
+    if_none _ _ (for_site _ (texts c.args.words.now c.requires.count)
+    (λ me journal is. c.in_err-journal.ensures.none journal is.is_file is.journal_given))

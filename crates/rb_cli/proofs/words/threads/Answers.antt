@@ -7,7 +7,8 @@ use Rattle.rb_cli.specs.declared.words.Words.{Words}
 use Rattle.rb_cli.specs.declared.words.Words.TheVariants.{Script, Audit, Migrate, Threads, Site}
 use Rattle.rb_cli.proofs.words.threads.Goals as goal
 
-for_threads : (words : List (List ℕ)) → length words ≡ 7 → slice_get words 0 ≡ Some (codes "threads") → ((sites tellers seed : ℕ) → ¬ AskForThreads words sites tellers seed)
+for_threads : (words : List (List ℕ)) → length words ≡ 7 → slice_get words 0 ≡ Some (codes "threads")
+    → ((sites tellers seed : ℕ) → ¬ AskForThreads words sites tellers seed)
     → (asked : Words) → ¬ Ask words asked
 for_threads words seven first none Script is = absurd (omega (arith, ap length is))
 for_threads words seven first none Audit is = absurd (omega (arith, ap length is))

@@ -44,16 +44,16 @@ returns-in-Ok-None-clause-written g c =
 pub returns-in_err-answer_line-clause-written : goal.returns-in_err-answer_line-clause-written
 returns-in_err-answer_line-clause-written g c =
     let next = c.in-Ok-Some.ensures in
-    let stands = rw c.in-Ok-Some.field-0-is at next.line in
+    let at_front = rw c.in-Ok-Some.field-0-is at next.line in
     let now = reads_on _ _ _ _ _ _ _ _ _ _ _ _ _ _ c.lines.invariant.written next.kept next.was_going next.sent in
     let answered = rw c.as_slice.ensures at c.in_err-answer_line.ensures in
     let passed : c.from_residual.result ≡ Err c.in_err-answer_line.field-0.0 = search rules in
-    rw passed (ends_at_fault _ _ _ _ _ _ _ _ _ _ c.in-Ok-Some.n _ now stands.0 stands.2 stands.3 next.end answered)
+    rw passed (ends_at_fault _ _ _ _ _ _ _ _ _ _ c.in-Ok-Some.n _ now at_front.0 at_front.2 at_front.3 next.end answered)
 
 pub lines-preserved : goal.lines-preserved
 lines-preserved g c =
     let next = c.in-Ok-Some.ensures in
-    let stands = rw c.in-Ok-Some.field-0-is at next.line in
+    let at_front = rw c.in-Ok-Some.field-0-is at next.line in
     let now = reads_on _ _ _ _ _ _ _ _ _ _ _ _ _ _ c.lines.invariant.written next.kept next.was_going next.sent in
     let answered = rw c.as_slice.ensures at c.in_ok-answer_line.ensures in
     let rest = length-drop (c.in-Ok-Some.n + 1) c.next_line.new.self.pending in
@@ -61,7 +61,8 @@ lines-preserved g c =
       counted = rw c.skip_line.ensures next.counted;
       fresh = false_from_ne_true _ (λ t. cc (next.write.1 t));
       end = rw c.skip_line.ensures next.end;
-      number = rw c.skip_line.ensures (omega (arith, rest, answered.2.number, next.left, stands.3, c.lines.invariant.number));
+      number = rw c.skip_line.ensures (omega (arith, rest, answered.2.number, next.left, at_front.3, c.lines.invariant.number));
       count = omega (arith, answered.2.number, answered.2.one, c.lines.invariant.count);
-      written = rw c.skip_line.ensures (goes_on _ _ _ _ _ _ _ _ _ _ _ c.in-Ok-Some.n now stands.0 stands.2 stands.3 next.end answered);
+      written = rw c.skip_line.ensures (goes_on _ _ _ _ _ _ _ _ _ _ _ c.in-Ok-Some.n now at_front.0 at_front.2 at_front.3 next.end
+          answered);
     }

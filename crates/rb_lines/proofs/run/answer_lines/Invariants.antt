@@ -8,16 +8,16 @@ use Rattle.rb_lines.proofs.run.answer_lines.Given as goal
 
 abbrev pub invariant-lines : goal.invariant-lines
 invariant-lines g l =
-    let stand = g.R.Responder.stand in
+    let state = g.R.Responder.state in
     record {
       counted : Counts (g.S.Source.calls l.reader) l.buffers.reads;
       fresh : g.W.Sink.failed l.writer ≡ false;
       end : l.buffers.ended ≡ true → IsAtEnd (g.S.Source.remaining l.reader);
-      number : (stand l.responder).number + left l.buffers ≤ READ_SIZE * MOST_READS + 1;
-      count : (stand l.responder).count ≤ (stand l.responder).number;
-      written : IsAt (stand l.fn.responder).rest (g.W.Sink.contents l.fn.writer) (g.W.Sink.contents l.writer)
+      number : (state l.responder).number + left l.buffers ≤ READ_SIZE * MOST_READS + 1;
+      count : (state l.responder).count ≤ (state l.responder).number;
+      written : IsAt (state l.fn.responder).rest (g.W.Sink.contents l.fn.writer) (g.W.Sink.contents l.writer)
           (g.S.Source.remaining l.fn.reader)
-          (g.S.Source.remaining l.reader) (stand l.responder) l.buffers.pending l.buffers.ended l.buffers.buffered.items;
+          (g.S.Source.remaining l.reader) (state l.responder) l.buffers.pending l.buffers.ended l.buffers.buffered.items;
     }
 
 abbrev pub decreases-lines : goal.decreases-lines

@@ -22,7 +22,7 @@ pub lines-preserved : goal.lines-preserved
 lines-preserved g c =
     let old = c.lines.invariant in
     let next = c.in-Ok-Some.ensures in
-    let stands = rw c.in-Ok-Some.field-0-is at next.line in
+    let at_front = rw c.in-Ok-Some.field-0-is at next.line in
     let sent = nothing_sent _ (g.W.Sink.contents c.lines.writer) _ _ _ old.written old.buffered next.sent in
     let now = known_read _ _ _ _ _ _ _ _ old.input next.kept next.was_going in
     let took = rw c.as_slice.ensures at c.in_ok-take_line.ensures in
@@ -32,10 +32,10 @@ lines-preserved g c =
       fresh = false_from_ne_true _ (λ t. cc (next.write.1 t));
       end = rw c.skip_line.ensures next.end;
       buffered = rw c.skip_line.ensures sent.1;
-      number = rw c.skip_line.ensures (omega (arith, rest, took.number, next.left, stands.3, old.number));
+      number = rw c.skip_line.ensures (omega (arith, rest, took.number, next.left, at_front.3, old.number));
       each = took.each;
       written = sent.0;
-      input = rw c.skip_line.ensures (known_line _ _ _ _ _ _ c.in-Ok-Some.n now stands.0 stands.2 stands.3 next.end took);
+      input = rw c.skip_line.ensures (known_line _ _ _ _ _ _ c.in-Ok-Some.n now at_front.0 at_front.2 at_front.3 next.end took);
     }
 
 pub returns-in-Ok-None-clause-written : goal.returns-in-Ok-None-clause-written
@@ -91,8 +91,9 @@ returns-in_err-take_line-clause-written g c =
 pub returns-in_err-take_line-clause-input : goal.returns-in_err-take_line-clause-input
 returns-in_err-take_line-clause-input g c =
     let next = c.in-Ok-Some.ensures in
-    let stands = rw c.in-Ok-Some.field-0-is at next.line in
+    let at_front = rw c.in-Ok-Some.field-0-is at next.line in
     let now = known_read _ _ _ _ _ _ _ _ c.lines.invariant.input next.kept next.was_going in
     let ended = rw c.as_slice.ensures at c.in_err-take_line.ensures in
     let passed : c.from_residual.result ≡ Err c.in_err-take_line.field-0.0 = search rules in
-    rw passed (known_fault _ _ c.lines.collected c.take_line.new.self _ _ c.in-Ok-Some.n _ now stands.0 stands.2 stands.3 next.end ended)
+    rw passed (known_fault _ _ c.lines.collected c.take_line.new.self _ _ c.in-Ok-Some.n _ now at_front.0 at_front.2 at_front.3 next.end
+    ended)

@@ -1,6 +1,6 @@
 use Rattle.std.proofs.Common.{rules, ◌≡◌, Err}
 use Rattle.rb_lines.specs.declared.fault.StreamFault.TheVariants.{Write}
-use Rattle.rb_run_audit.proofs.Reported.{told, untold}
+use Rattle.rb_run_audit.proofs.Reported.{reported, part_reported}
 use Rattle.rb_run_audit.proofs.run.run_audit.Goals as goal
 
 pub returns-clause-written : goal.returns-clause-written
@@ -8,7 +8,8 @@ returns-clause-written g c =
     let collected = c.in_ok-collect.ensures in
     let answered = rw c.as_slice.ensures.value at c.in_ok-found.ensures in
     let written = rw c.as_slice-2.ensures.value at c.in_ok-write_all.ensures.written.0 in
-    told _ (g.W.Sink.contents c.collect.new.writer) _ (g.S.Source.remaining c.args.reader.now) _ c.collect.new.collected c.in-Some.config _
+    reported _ (g.W.Sink.contents c.collect.new.writer) _ (g.S.Source.remaining c.args.reader.now) _ c.collect.new.collected
+    c.in-Some.config _
     _ _ collected.written written collected.input c.in-Some.is answered
 
 pub returns-in_err-write_all-clause-written : goal.returns-in_err-write_all-clause-written
@@ -18,5 +19,5 @@ returns-in_err-write_all-clause-written g c =
     let written = rw c.as_slice-2.ensures.value at c.in_err-write_all.ensures.written.0 in
     let passed : c.from_residual-in_err-write_all.result ≡ Err Write = search rules in
     rw passed
-    (untold _ (g.W.Sink.contents c.collect.new.writer) _ (g.S.Source.remaining c.args.reader.now) _ c.collect.new.collected
+    (part_reported _ (g.W.Sink.contents c.collect.new.writer) _ (g.S.Source.remaining c.args.reader.now) _ c.collect.new.collected
     c.in-Some.config _ _ _ collected.written written collected.input c.in-Some.is answered)

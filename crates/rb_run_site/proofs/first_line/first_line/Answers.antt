@@ -36,7 +36,7 @@ pub lines-preserved : goal.lines-preserved
 lines-preserved g c =
     let old = c.lines.invariant in
     let next = c.in-Ok-Some.ensures in
-    let stands = rw c.in-Ok-Some.field-0-is at next.line in
+    let at_front = rw c.in-Ok-Some.field-0-is at next.line in
     let none = still_none (g.W.Sink.contents c.lines.writer) _ _ _ old.buffered next.sent in
     let now = known_read _ _ _ _ _ _ _ _ old.input next.kept next.was_going in
     let rest = length-drop (c.in-Ok-Some.n + 1) c.next_line.new.self.pending in
@@ -48,8 +48,8 @@ lines-preserved g c =
       end = rw c.skip_line.ensures next.end;
       buffered = rw c.skip_line.ensures none;
       one = omega arith;
-      number = rw c.skip_line.ensures (omega (arith, rest, next.left, stands.3, old.number));
-      input = rw c.skip_line.ensures (known_line _ _ _ _ _ c.in-Ok-Some.n now stands.0 stands.2 stands.3 next.end blank);
+      number = rw c.skip_line.ensures (omega (arith, rest, next.left, at_front.3, old.number));
+      input = rw c.skip_line.ensures (known_line _ _ _ _ _ c.in-Ok-Some.n now at_front.0 at_front.2 at_front.3 next.end blank);
     }
 
 pub returns-in-Ok-None-clause-input : goal.returns-in-Ok-None-clause-input

@@ -20,7 +20,8 @@ loop-site-preserved g c =
     let written = rw (c.as_slice-history.ensures.value, ← c.index-reports-site.is) at wrote.written in
     record {
       fresh = false_from_ne_true _ (λ failed. cc (wrote.write.1 failed));
-      sent = histories_go_on _ had _ c.args.config.now c.args.reports.now c.loop-site.site c.index-reports-site.result c.args.buffered.now.items
+      sent = histories_go_on _ had _ c.args.config.now c.args.reports.now c.loop-site.site c.index-reports-site.result
+          c.args.buffered.now.items
           c.loop-site.buffered.items
           c.write_history.new.buffered.items c.loop-site-test.true c.index-reports-site.is c.loop-site.invariant.sent written;
     }

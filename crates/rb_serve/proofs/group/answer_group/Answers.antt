@@ -26,7 +26,8 @@ returns-in_err-commit_and_put_out-clause-any_moment g c = λ rest end.
     (IsRunOfTurns g.M.Machine.answers (Some (old.pending ++ rest)) begin lines output) c.commit_and_put_out.ensures.any_moment
     (λ f d kept. durable_is_run g.M.Machine.answers old.ended (point_of begin lines old.buffered.items c.args.work.now old)
     (point_of last (lines ++ recovered now.work.batch.bytes.items) now.buffers.buffered.items now.work now.buffers) rest
-    c.deref.result.now output c.deref-2.result.now f d steps end (ap (λ l. lines ++ recovered l) (sym c.deref.ensures.value)) c.requires.buffered
+    c.deref.result.now output c.deref-2.result.now f d steps end
+    (ap (λ l. lines ++ recovered l) (sym c.deref.ensures.value)) c.requires.buffered
     (sym c.deref-2.ensures.value) kept)
 
 pub returns-clause-any_moment : goal.returns-clause-any_moment
@@ -45,7 +46,8 @@ returns-clause-any_moment g c = λ rest end.
     (IsRunOfTurns g.M.Machine.answers (Some (old.pending ++ rest)) begin lines output) c.commit_and_put_out.ensures.any_moment
     (λ f d kept. durable_is_run g.M.Machine.answers old.ended (point_of begin lines old.buffered.items c.args.work.now old)
     (point_of last (lines ++ recovered now.work.batch.bytes.items) now.buffers.buffered.items now.work now.buffers) rest
-    c.deref.result.now output c.deref-2.result.now f d steps end (ap (λ l. lines ++ recovered l) (sym c.deref.ensures.value)) c.requires.buffered
+    c.deref.result.now output c.deref-2.result.now f d steps end
+    (ap (λ l. lines ++ recovered l) (sym c.deref.ensures.value)) c.requires.buffered
     (sym c.deref-2.ensures.value) kept)
 
 pub returns-in_err-commit_and_put_out-clause-journal : goal.returns-in_err-commit_and_put_out-clause-journal
@@ -64,7 +66,8 @@ returns-in_err-commit_and_put_out-clause-journal g c = λ is.
     c.answer_waiting-answered.ensures.answered.1 in
     let batch : c.deref.result.now ≡ now.work.batch.bytes.items = c.deref.ensures.value in
     ⊎_elim (λ (disk : error ≡ DiskFailed). inl (why.failed (ap Err disk)))
-    (λ (full : error ≡ Full). inr (λ rest end. is_full g.M.Machine.answers old.ended (point_of begin lines old.buffered.items c.args.work.now old)
+    (λ (full : error ≡ Full). inr (λ rest end. is_full g.M.Machine.answers old.ended
+    (point_of begin lines old.buffered.items c.args.work.now old)
     (point_of last (lines ++ recovered now.work.batch.bytes.items) now.buffers.buffered.items now.work now.buffers) rest c.deref.result.now
     c.args.journal.now.end steps end (ap (λ l. lines ++ recovered l) (sym batch)) (subst IsBatch (sym batch) now.work.batch.whole)
     c.requires.settled.end (why.full (ap Err full))))

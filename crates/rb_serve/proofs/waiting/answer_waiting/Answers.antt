@@ -63,7 +63,8 @@ returns-in_err-answer_next-clause-answered g c =
       subst (Advances g.M.Machine.answers e start) (sym (step.same last lines))
           (subst (λ (b : Buffers). Advances g.M.Machine.answers e start
           (point_of last (lines ++ recovered work.batch.bytes.items) b.buffered.items work b)) (sym c.next_waiting.ensures.same)
-          (subst (λ ls. Advances g.M.Machine.answers e start (point_of last ls c.lines.buffers.buffered.items work c.lines.buffers)) inv.batch
+          (subst (λ ls. Advances g.M.Machine.answers e start (point_of last ls c.lines.buffers.buffered.items work c.lines.buffers))
+          inv.batch
           inv.answered)),
       λ other. step.machine (λ no_memory. other (passed ∙ no_memory)),
     )

@@ -16,12 +16,14 @@ same_front us ws v w e = elim (Members.push_split us ws [] v w e) [
 
 pub undo-requires : goal.undo-requires
 undo-requires c =
-    let (front, last, longer, is, rest) = Records.records_of-last c.args.ledger.now.settings c.args.ledger.now.entries c.pop.new.self.parts c.in-Some.undo (sym c.requires ∙ c.in-Some.ensures.0) in
+    let (front, last, longer, is, rest) = Records.records_of-last c.args.ledger.now.settings c.args.ledger.now.entries
+    c.pop.new.self.parts c.in-Some.undo (sym c.requires ∙ c.in-Some.ensures.0) in
     (front, last, longer, is)
 
 pub returns-in-Some-clause-records : goal.returns-in-Some-clause-records
 returns-in-Some-clause-records c =
-    let (front, last, longer, is, rest) = Records.records_of-last c.args.ledger.now.settings c.args.ledger.now.entries c.pop.new.self.parts c.in-Some.undo (sym c.requires ∙ c.in-Some.ensures.0) in
+    let (front, last, longer, is, rest) = Records.records_of-last c.args.ledger.now.settings c.args.ledger.now.entries
+    c.pop.new.self.parts c.in-Some.undo (sym c.requires ∙ c.in-Some.ensures.0) in
     let (taken, same) = c.undo.ensures.entries in
     rest ∙ ap (records_of c.args.ledger.now.settings) (sym (same_front front c.undo.new.self.entries last taken (sym longer ∙ same)))
     ∙ ap (λ (s : Settings). records_of s c.undo.new.self.entries) (sym c.undo.ensures.settings)

@@ -11,4 +11,5 @@ returns-then-front-gt-SHORT c =
     let front = c.args.front.now in
     let name = quoted (name_text c.args.name) in
     let two = both old c.append.new.out.items mid front name c.in_ok-append.ensures c.in_ok-append_name.ensures in
-    then c.append-then-front-gt-SHORT.result old mid c.append-then-front-gt-SHORT.new.out.items _ c.args.back.now _ two c.append-then-front-gt-SHORT.ensures (append_assoc front _ _)
+    then c.append-then-front-gt-SHORT.result old mid c.append-then-front-gt-SHORT.new.out.items _ c.args.back.now _ two
+    c.append-then-front-gt-SHORT.ensures (append_assoc front _ _)

@@ -16,5 +16,6 @@ returns c =
       c.in_ok-requests.ensures.0,
       between c.args.text.now
           (codes "{\"batch\":[") c.in_ok-parse_prefix.field-0.now list c.in_ok-requests.rest.now
-          (codes "}") c.in_ok-parse_prefix-2.field-0.now c.in_ok-parse_prefix.ensures c.in_ok-requests.ensures.1 c.in_ok-parse_prefix-2.ensures,
+          (codes "}") c.in_ok-parse_prefix-2.field-0.now c.in_ok-parse_prefix.ensures c.in_ok-requests.ensures.1
+          c.in_ok-parse_prefix-2.ensures,
     )

@@ -7,6 +7,7 @@ pub returns : goal.returns
 returns c = (
   c.in_ok-name.ensures.0,
   between c.args.text.now c.args.front.now c.in_ok-parse_prefix.field-0.now
-      (behind_quote (name_text c.in_ok-name.name)) c.in_ok-name.rest.now c.args.back.now c.in_ok-parse_prefix-2.field-0.now c.in_ok-parse_prefix.ensures
+      (behind_quote (name_text c.in_ok-name.name)) c.in_ok-name.rest.now c.args.back.now c.in_ok-parse_prefix-2.field-0.now
+      c.in_ok-parse_prefix.ensures
       c.in_ok-name.ensures.1 c.in_ok-parse_prefix-2.ensures,
 )

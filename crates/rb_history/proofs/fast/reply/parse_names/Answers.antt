@@ -15,5 +15,6 @@ returns c =
       c.in_ok-names.ensures.0,
       between c.args.text.now
           (codes "{\"names\":[") c.in_ok-parse_prefix.field-0.now list c.in_ok-names.rest.now
-          (codes "}") c.in_ok-parse_prefix-2.field-0.now c.in_ok-parse_prefix.ensures c.in_ok-names.ensures.1 c.in_ok-parse_prefix-2.ensures,
+          (codes "}") c.in_ok-parse_prefix-2.field-0.now c.in_ok-parse_prefix.ensures c.in_ok-names.ensures.1
+          c.in_ok-parse_prefix-2.ensures,
     )
