@@ -1,6 +1,6 @@
 -- The first thing that is wrong with a configuration that is asked for.
 use Rattle.std.specs.Prelude.{ℕ, ◌+◌, ◌&&◌, Bool, not, List, [], ◌∷◌, ◌++◌, length, map, Option, Some, None, nat_le, nat_lt, if◌then◌else◌}
-use Rattle.std.specs.Prelude.{String, string_bytes}
+use Rattle.std.specs.Prelude.{◌≡◌, ◌<◌, String, false, get_or, string_bytes, take}
 use Rattle.std.specs.List.{list_any}
 use Rattle.std.specs.Option.{option_or}
 use Rattle.std.specs.Str.{bytes_eq}
@@ -47,6 +47,11 @@ account_fault before i (a ∷ later) =
     else (if is_among before a.0 then Some (Twice i)
     else (if nat_lt MOST_CENTS a.1 then Some (Start i)
     else account_fault (before ++ a.0 ∷ []) (i + 1) later))
+
+-- each of the first n accounts has a name that none before it has
+abbrev pub AreNewUpTo : ℕ → List (String Global × ℕ) → Type 0
+AreNewUpTo n accounts = (i : ℕ) (a : String Global × ℕ) → i < n →
+    is_among (map (λ b. b.0) (map account_of (take i accounts))) (string_bytes (get_or accounts i a).0) ≡ false
 
 -- the number is from 1 to the most
 abbrev pub is_limit : ℕ → ℕ → Bool

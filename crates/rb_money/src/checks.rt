@@ -1,6 +1,7 @@
 //! What is looked at before a configuration is made.
-ghost use Rattle.std.specs.Prelude.{◌≡◌, ◌≢◌, ◌≤◌, [], length, map};
-ghost use Rattle.rb_money.specs.Faults.{account_fault, account_of, are_limits, config_fault, is_among, is_limit};
+ghost use Rattle.std.specs.Prelude.{◌≡◌, ◌≢◌, ◌≤◌, [], false, length, map, true};
+ghost use Rattle.rb_money.specs.Faults.{AreNewUpTo, account_fault, account_of, are_limits, config_fault, is_among};
+ghost use Rattle.rb_money.specs.Faults.{is_limit};
 ghost use Rattle.rb_money.specs.Settings.{is_account_name, is_name_byte};
 ghost use Rattle.rb_money.specs.declared.limits.TheConstants.{MOST_ACCOUNTS};
 
@@ -8,6 +9,8 @@ use crate::accounts::LONGEST_NAME;
 use crate::cents::MOST_CENTS;
 use crate::fault::ConfigFault;
 use crate::limits::{Limits, MOST_ACCOUNTS, MOST_SITES};
+use indexmap::IndexSet;
+use std::alloc::Global;
 
 fn is_name_byte(byte: u8) -> bool
     ensures { result ≡ is_name_byte byte }
@@ -44,18 +47,46 @@ fn has_name(accounts: &[(String, u64)], name: &str) -> bool
     false
 }
 
+/// Whether one of the accounts before has the name, which none has where it is known to be new.
+fn is_repeated(before: &[(String, u64)], name: &str, is_new: bool) -> bool
+    requires { is_new ≡ true → is_among (map (λ a. a.0) (map account_of before.now)) name.now ≡ false }
+    ensures { result ≡ is_among (map (λ a. a.0) (map account_of before.now)) name.now }
+{
+    !is_new && has_name(before, name)
+}
+
+/// How many accounts there are before the first that has the name of an earlier one: fewer where there is no
+/// memory to look each name up among the earlier ones.
+fn count_distinct(alloc: Global, accounts: &[(String, u64)]) -> usize
+    ensures { AreNewUpTo result accounts.now }
+{
+    let Ok(mut seen) = IndexSet::with_capacity(alloc, accounts.len()) else {
+        return 0;
+    };
+    for (i, account) in accounts.iter().enumerate() {
+        let Ok(is_new) = seen.insert(account.0.as_str()) else {
+            return i;
+        };
+        if !is_new {
+            return i;
+        }
+    }
+    accounts.len()
+}
+
 /// The first account that is wrong, and how.
-fn account_fault(accounts: &[(String, u64)]) -> Option<ConfigFault>
+fn account_fault(alloc: Global, accounts: &[(String, u64)]) -> Option<ConfigFault>
     requires { length accounts.now ≤ MOST_ACCOUNTS }
     ensures first { result ≡ account_fault [] 0 (map account_of accounts.now) }
     ensures no_memory { result ≢ Some ConfigFault.OutOfMemory }
 {
+    let distinct = count_distinct(alloc, accounts);
     for (i, account) in accounts.iter().enumerate() {
         let place = i as u16;
         if !is_account_name(account.0.as_bytes()) {
             return Some(ConfigFault::Name(place));
         }
-        if has_name(&accounts[..i], account.0.as_str()) {
+        if is_repeated(&accounts[..i], account.0.as_str(), i < distinct) {
             return Some(ConfigFault::Twice(place));
         }
         if account.1 > MOST_CENTS {
@@ -84,8 +115,14 @@ fn are_limits(limits: &Limits) -> bool
     blue && red && inbox && history && epoch
 }
 
-/// The first thing that is wrong with a configuration, if any, other than that memory may not suffice.
-pub fn config_fault(sites: u8, accounts: &[(String, u64)], limits: &Limits) -> Option<ConfigFault>
+/// The first thing that is wrong with a configuration, if any, other than that memory may not suffice. With
+/// memory it takes time in proportion to the accounts, and without it their square.
+pub fn config_fault(
+    alloc: Global,
+    sites: u8,
+    accounts: &[(String, u64)],
+    limits: &Limits,
+) -> Option<ConfigFault>
     ensures first { result ≡ config_fault sites (map account_of accounts.now) limits.now }
     ensures no_memory { result ≢ Some ConfigFault.OutOfMemory }
 {
@@ -95,7 +132,7 @@ pub fn config_fault(sites: u8, accounts: &[(String, u64)], limits: &Limits) -> O
     if accounts.is_empty() || accounts.len() > MOST_ACCOUNTS {
         return Some(ConfigFault::Accounts);
     }
-    if let Some(fault) = account_fault(accounts) {
+    if let Some(fault) = account_fault(alloc, accounts) {
         return Some(fault);
     }
     if are_limits(limits) {

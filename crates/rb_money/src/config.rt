@@ -70,7 +70,7 @@ impl Config {
         ensures memory_last { result ≡ Err ConfigFault.OutOfMemory →
             config_fault sites (map account_of accounts.items) limits ≡ None }
     {
-        if let Some(fault) = checks::config_fault(sites, &accounts, &limits) {
+        if let Some(fault) = checks::config_fault(alloc, sites, &accounts, &limits) {
             return Err(fault);
         }
         match Accounts::from_vec(alloc, accounts) {
