@@ -39,7 +39,7 @@ impl Index {
         ensures index { IfOk result (λ index. IsIndex config.now [] index) }
         ensures limit { IfOk result (λ index. index.rows.limit ≡ 0) }
     {
-        let config = config.try_copy(alloc)?;
+        let config = config.try_copy()?;
         let heads = starting_heads(alloc, &config)?;
         let rows = Rows::new(alloc, usize::from(config.sites()) + 1)?;
         Ok(Index {

@@ -72,17 +72,6 @@ impl Accounts {
         Ok(list)
     }
 
-    /// A copy of the accounts. `Err` means out of memory.
-    pub(crate) fn try_copy(&self, alloc: Global) -> Result<Accounts, AllocError>
-        ensures { IfOk result (λ copy. copy ≡ self.now) }
-    {
-        let mut copy = Accounts::with_capacity(alloc, self.len())?;
-        for (name, start) in self.by_name.iter() {
-            copy.push(name.clone()?, *start)?;
-        }
-        Ok(copy)
-    }
-
     /// How many accounts there are.
     pub fn len(&self) -> usize
         ensures names { result ≡ length self.now.names }

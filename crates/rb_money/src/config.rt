@@ -1,8 +1,9 @@
 //! The configuration of a bank.
-ghost use Rattle.std.specs.Prelude.{◌≡◌, ◌≢◌, ◌≤◌, map, None, IfErr, IfOk, OnOk};
-ghost use Rattle.rb_money.specs.Faults.{account_of, config_fault, settings_of};
+ghost use Rattle.std.specs.Prelude.{◌≡◌, ◌≢◌, ◌≤◌, [], length, map, None, IfErr, IfOk, OnOk};
+ghost use Rattle.std.specs.Arc.{arc_value};
+ghost use Rattle.rb_money.specs.Faults.{account_fault, account_of, config_fault, listed, settings_of};
 ghost use Rattle.rb_money.specs.Settings.{in_version_2, IsConfigured, version_of};
-ghost use Rattle.rb_money.specs.declared.limits.TheConstants.{MOST_SITES};
+ghost use Rattle.rb_money.specs.declared.limits.TheConstants.{MOST_ACCOUNTS, MOST_SITES};
 
 use crate::accounts::Accounts;
 use crate::checks;
@@ -10,33 +11,36 @@ use crate::fault::ConfigFault;
 use crate::limits::{Limits, MOST_SITES_OF_VERSION_1};
 use std::alloc::{AllocError, Global};
 use std::marker::Model;
+use std::sync::Arc;
 
-/// The sites, the accounts with their starting balances, the limits, and the version of the lines.
+/// The sites, the accounts with their starting balances, the limits, and the version of the lines. Its copies
+/// share the accounts.
 #[derive(Drop)]
 pub struct Config {
     sites: u8,
-    accounts: Accounts,
+    accounts: Arc<Accounts, Global>,
     limits: Limits,
     version: u8,
 }
 
 impl Model for Config {
+    ghost use Rattle.std.specs.Arc.{arc_value};
     ghost use Rattle.rb_money.specs.Settings.{Settings, IsConfigured};
 
     ghost Value = { Settings };
 
     ghost view = { λ c. record {
       sites = c.sites;
-      names = c.accounts.names;
-      starts = c.accounts.starts;
+      names = (arc_value c.accounts).names;
+      starts = (arc_value c.accounts).starts;
       limits = c.limits;
       version = c.version;
     } };
 
     ghost invariant = { λ c. IsConfigured (record {
       sites = c.sites;
-      names = c.accounts.names;
-      starts = c.accounts.starts;
+      names = (arc_value c.accounts).names;
+      starts = (arc_value c.accounts).starts;
       limits = c.limits;
       version = c.version;
     }) };
@@ -51,6 +55,16 @@ fn version_of(sites: u8) -> u8
     } else {
         2
     }
+}
+
+/// These accounts, of which none is wrong, to be shared. `Err` means out of memory.
+fn shared(alloc: Global, accounts: Vec<(String, u64)>) -> Result<Arc<Accounts, Global>, AllocError>
+    requires few { length accounts.items ≤ MOST_ACCOUNTS }
+    requires proper { account_fault [] 0 (map account_of accounts.items) ≡ None }
+    ensures { IfOk result (λ list. arc_value list ≡ listed (map account_of accounts.items)) }
+{
+    let accounts = Accounts::from_vec(alloc, accounts)?;
+    Ok(Arc::new(alloc, accounts)?)
 }
 
 impl Config {
@@ -73,7 +87,7 @@ impl Config {
         if let Some(fault) = checks::config_fault(alloc, sites, &accounts, &limits) {
             return Err(fault);
         }
-        match Accounts::from_vec(alloc, accounts) {
+        match shared(alloc, accounts) {
             Ok(accounts) => Ok(Config {
                 sites,
                 accounts,
@@ -84,12 +98,12 @@ impl Config {
         }
     }
 
-    /// An equal configuration. `Err` means out of memory.
-    pub fn try_copy(&self, alloc: Global) -> Result<Config, AllocError>
+    /// An equal configuration, with the same accounts in memory. `Err` means that they have too many owners.
+    pub fn try_copy(&self) -> Result<Config, AllocError>
         ensures same { IfOk result (λ config. config ≡ self.now) }
         ensures configured { IfOk result IsConfigured }
     {
-        let accounts = self.accounts.try_copy(alloc)?;
+        let accounts = Arc::try_clone(&self.accounts)?;
         Ok(Config {
             sites: self.sites,
             accounts,

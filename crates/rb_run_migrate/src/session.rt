@@ -34,7 +34,7 @@ fn open(alloc: Global, line: &[u8], buffered: &mut Vec<u8>) -> Result<Versions, 
         return Err(LineFault::Bad);
     };
     let config = read_config(alloc, text)?;
-    let Ok(versions) = Versions::new(alloc, config) else {
+    let Ok(versions) = Versions::new(config) else {
         return Err(LineFault::OutOfMemory);
     };
     match versions.append_config(alloc, buffered) {

@@ -46,10 +46,10 @@ fn end_line(out: &mut Vec<u8>, before: usize) -> Result<(), AllocError>
 
 impl Versions {
     /// The configuration in both versions. `Err` means out of memory.
-    pub fn new(alloc: Global, read: Config) -> Result<Versions, AllocError>
+    pub fn new(read: Config) -> Result<Versions, AllocError>
         ensures { IfOk result (λ versions. versions ≡ read) }
     {
-        let copy = read.try_copy(alloc)?;
+        let copy = read.try_copy()?;
         let written = copy.to_version2();
         Ok(Versions { read, written })
     }

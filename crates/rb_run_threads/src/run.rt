@@ -41,7 +41,7 @@ pub fn run_threads<G: Gate + Drop + Sync, K: Sink, W: Threads + Wait + Sync>(
     ensures write { (result ≡ Err Write) ↔ (K.failed writer.new ≡ true) }
 {
     let config = bank(alloc, sites)?;
-    let copy = config.try_copy(alloc)?;
+    let copy = config.try_copy()?;
     let reports = match run_bank(rt, alloc, copy, gate, tellers, seed) {
         Ok(reports) => reports,
         Err(TellersFault::OutOfMemory) => return Err(ThreadsFault::OutOfMemory),

@@ -147,7 +147,7 @@ fn look_up(rt: &impl Abort, config: &Config) {
 fn look_ups(rt: HostRuntime) -> Result<(), Fail> {
     let config = config_of(rt.alloc(), 3, LOOKED_UP, Limits::largest())?;
     look_up(&rt, &config);
-    look_up(&rt, &config.try_copy(rt.alloc())?);
+    look_up(&rt, &config.try_copy()?);
     Ok(())
 }
 

@@ -78,7 +78,7 @@ fn same_worlds(world: &World, other: &World) -> bool {
 fn is_after(alloc: Global, world: &World, events: &[WorldEvent]) -> Result<bool, Fail>
     requires { All IsCommand events.now }
 {
-    let config = world.config().try_copy(alloc)?;
+    let config = world.config().try_copy()?;
     let mut other = World::open(alloc, config)?;
     let same = other.run(events).is_ok() && same_worlds(world, &other);
     let _reports = other.close();

@@ -244,7 +244,7 @@ fn row_through<W: Wait + Abort + Print>(
     may_lose: bool,
 ) -> Result<Result<Vec<SiteReport>, GatherFault>, Fail> {
     let config = twice!(config_of(alloc, row));
-    let copy = twice!(config.try_copy(alloc));
+    let copy = config.try_copy()?;
     let case = Through {
         config: &config,
         row,

@@ -1,4 +1,5 @@
 use Rattle.std.proofs.Common.{◌≡◌, ℕ, sym, subst, None}
+use Rattle.std.specs.Arc.{arc_value}
 use Rattle.std.specs.Prelude.{map}
 use Rattle.rb_money.specs.Faults.{account_of, config_fault}
 use Rattle.rb_money.specs.Settings.{AccountList, IsConfigured, version_of}
@@ -19,4 +20,4 @@ invariant_of-result c =
     }) in
     let kept = subst (λ list. Configured list (version_of c.args.sites)) (sym c.in-Ok.ensures)
     (configured c.args.sites (map account_of c.args.accounts.items) c.args.limits none) in
-    subst (Configured c.in-Ok.accounts) (sym c.version_of.ensures) kept
+    subst (Configured (arc_value c.in-Ok.accounts)) (sym c.version_of.ensures) kept
