@@ -8,9 +8,9 @@ use Rattle.std.proofs.lemmas.List.Edits.{length-remove}
 use Rattle.rb_shadow.specs.Operations.{Among, find_in, same_name, row_of}
 use Rattle.rb_shadow.specs.declared.op_name.OpName.{OpName}
 use Rattle.rb_shadow.specs.declared.shadow.Shadow.{Shadow}
-use Rattle.rb_inbox.specs.Held.{IsNumbered, held_before, comes_before, with_held, without}
+use Rattle.rb_inbox.specs.Held.{Holding, IsNumbered, held_before, index_in_row, comes_before, with_held, without}
 use Rattle.rb_inbox.specs.Rows.{AreCounted, AreHeldRows, IsHeldRow, held_of}
-use Rattle.rb_inbox.proofs.Order.{found_within, in_order-filter, in_order-with_held, insert-index, remove-index}
+use Rattle.rb_inbox.proofs.Order.{found_within, holding, in_order-filter, in_order-with_held, insert-index, remove-index}
 use Rattle.rb_inbox.proofs.Public.Holding.{held_cases, kept_among}
 use Rattle.rb_inbox.proofs.Rows.{find_in_row, held-change, held-length, held-more, is_of, putting, removing, row_at, row_is, rows-more}
 use Rattle.rb_inbox.proofs.Rows.{rows-set}
@@ -45,6 +45,13 @@ pub index_within : (rows : List (List Shadow)) (x : OpName) (u : Shadow) (r : �
     → held_before (get_or rows r []) x < length (get_or rows r [])
 index_within rows x u r e h found = found_within (get_or rows r []) x u (row_at rows r h).in_order (finds_at rows x r e h ∙ found)
 
+-- the index of a name in its row, of what is held, is one in the row itself
+pub index_there : (rows : List (List Shadow)) (n : ℕ) (b : Holding) (x : OpName) (r index : ℕ) → holding n (held_of rows) ≡ b →
+    r ≡ row_of x → AreHeldRows 0 rows → index ≡ index_in_row b.held x → index ≡ held_before (get_or rows r []) x
+index_there rows n b x r index same e h i =
+    i ∙ ap (λ (b : Holding). index_in_row b.held x) (sym same)
+    ∙ ap (λ (us : List Shadow). held_before us x) (ap (λ (k : ℕ). filter (is_of k) (held_of rows)) (sym e) ∙ sym (row_is rows r h))
+
 -- a row that was read at its place
 pub row_there : (rows : List (List Shadow)) (r : ℕ) (row : List Shadow) → r < length rows → row ≡ get_or rows r row → row ≡ get_or rows r []
 row_there rows r row l e = e ∙ get_or_default rows r row [] l
@@ -55,9 +62,9 @@ pub slice_there : (rows items : List (List Shadow)) (r : ℕ) (row slice : List 
 slice_there rows items r row slice same l e s = s ∙ row_there items r row l e ∙ ap (λ (ws : List (List Shadow)). get_or ws r []) same
 
 -- a row that was changed at the place of a name
-pub changed_there : (f : List Shadow → ℕ → List Shadow) (row old looked there : List Shadow) (index : ℕ) (x : OpName)
-    → row ≡ f old index → old ≡ there → index ≡ held_before looked x → looked ≡ there → row ≡ f there (held_before there x)
-changed_there f row old looked there index x made o p l = made ∙ ap (λ us. f us index) o ∙ ap (f there) (p ∙ ap (λ us. held_before us x) l)
+pub changed_there : (f : List Shadow → ℕ → List Shadow) (row old there : List Shadow) (index : ℕ) (x : OpName)
+    → row ≡ f old index → old ≡ there → index ≡ held_before there x → row ≡ f there (held_before there x)
+changed_there f row old there index x made o p = made ∙ ap (λ us. f us index) o ∙ ap (f there) p
 
 -- ---- the rows after a change
 

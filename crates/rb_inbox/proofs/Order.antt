@@ -111,6 +111,15 @@ in_order-filter p (u ∷ us) h = at (p u) (in_order-filter p us h.1)
 
 -- ---- the place of a name
 
+-- it is in the list, or at its end
+pub held_before-bound : (us : List Shadow) (x : OpName) → held_before us x ≤ length us
+held_before-bound [] x = omega arith
+held_before-bound (u ∷ us) x = at (comes_before u.name x) (held_before-bound us x)
+  where
+    at : (b : Bool) → held_before us x ≤ length us → cond b (suc (held_before us x)) 0 ≤ suc (length us)
+    at true l = omega arith
+    at false l = omega arith
+
 -- past the end nothing is of the name
 pub find-past : (us : List Shadow) (x : OpName) → IsInOrder us → length us ≤ held_before us x → find_in us x ≡ None
 find-past [] x h l = refl
@@ -277,7 +286,8 @@ Among-end us i u l a = at (subst (λ (ws : List Shadow). Among u ws) (drop_all i
 
 -- ---- the inbox's value
 
-abbrev holding : ℕ → List Shadow → Holding
+-- with its limit
+abbrev pub holding : ℕ → List Shadow → Holding
 holding n us = record { limit = n; held = us }
 
 -- the value after a change of the list

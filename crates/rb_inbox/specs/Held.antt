@@ -1,7 +1,7 @@
 -- The list of held operations: one for each name, in the order of the names.
 use Rattle.std.specs.Prelude.{◌≡◌, ◌≢◌, ℕ, suc, ◌+◌, ◌≤◌, Bool, true, false, if◌then◌else◌, not, ◌&&◌, ◌||◌, nat_lt, ◌==◌, List, [], ◌∷◌}
 use Rattle.std.specs.Prelude.{length, filter, Some, None}
-use Rattle.rb_shadow.specs.Operations.{entry_of, find_in, names_of_clock, number_of, past, same_name, IsWithin}
+use Rattle.rb_shadow.specs.Operations.{entry_of, find_in, names_of_clock, number_of, past, row_of, same_name, IsWithin}
 use Rattle.rb_shadow.specs.Sound.{is_foreign}
 use Rattle.rb_shadow.specs.declared.deps.Deps.{Deps}
 use Rattle.rb_shadow.specs.declared.op_name.OpName.{OpName}
@@ -43,6 +43,10 @@ IsInOrder (u ∷ us) = ComesBeforeAll u.name us × IsInOrder us
 abbrev pub held_before : List Shadow → OpName → ℕ
 held_before [] x = 0
 held_before (u ∷ us) x = if comes_before u.name x then suc (held_before us x) else 0
+
+-- how many of the operations in the row of the name have names before it
+abbrev pub index_in_row : List Shadow → OpName → ℕ
+index_in_row held x = held_before (filter (λ u. row_of u.name == row_of x) held) x
 
 -- an operation that may be held: a blue name's site is its home, and the name's number, so at least 1, is one more than
 -- the entry of its past for the name

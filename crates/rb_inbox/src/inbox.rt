@@ -6,7 +6,8 @@ ghost use Rattle.std.specs.Option.{option_copied};
 ghost use Rattle.rb_shadow.specs.Operations.{Among, find_in, is_blue_of, is_red, row_of};
 ghost use Rattle.rb_shadow.specs.declared.shadow.Shadow.{Shadow};
 ghost use Rattle.rb_inbox.specs.Held.{HoldsReady, HoldsWaiting, IsInConflict, IsInOrder, IsNumbered, IsReady};
-ghost use Rattle.rb_inbox.specs.Held.{IsTooMany, IsWelcome, held_before, comes_before, with_held, without};
+ghost use Rattle.rb_inbox.specs.Held.{IsTooMany, IsWelcome, comes_before, held_before, index_in_row, with_held};
+ghost use Rattle.rb_inbox.specs.Held.{without};
 ghost use Rattle.rb_inbox.specs.Rows.{IsHeldRow};
 
 use crate::PutAnswer;
@@ -72,7 +73,8 @@ impl Inbox {
             ⊎ (why ≡ Refusal.OutOfMemory)) }
         ensures err { OnErr result (self.new ≡ self.old) }
     {
-        if let Some(held) = self.held(&shadow.name) {
+        let (index, held) = self.find(&shadow.name);
+        if let Some(held) = held {
             return if held.same(&shadow) {
                 Ok(PutAnswer::Already)
             } else {
@@ -82,15 +84,16 @@ impl Inbox {
         if !self.may_hold(&shadow, clock) {
             return Err(Refusal::InboxFull);
         }
-        match self.hold(shadow) {
+        match self.hold(shadow, index) {
             Ok(()) => Ok(PutAnswer::Held),
             Err(_) => Err(Refusal::OutOfMemory),
         }
     }
 
-    /// Holds a shadow whose name is held by no other.
-    fn hold(&mut self, shadow: Shadow) -> Result<(), AllocError>
+    /// Holds a shadow whose name is held by no other, at the index in its row.
+    fn hold(&mut self, shadow: Shadow, index: usize) -> Result<(), AllocError>
         requires new { find_in self.old.held shadow.name ≡ None }
+        requires index { index ≡ index_in_row self.old.held shadow.name }
         requires numbered { IsNumbered shadow }
         ensures ok { OnOk result (self.new ≡ record self.old { held = with_held shadow self.old.held }) }
         ensures err { OnErr result (self.new ≡ self.old) }
@@ -99,7 +102,6 @@ impl Inbox {
         let count = self.count.checked_add(1).ok_or(AllocError)?;
         let row = shadow.name.row();
         add_rows(&mut self.rows, row + 1, self.alloc)?;
-        let index = index_of(self.rows[row].as_slice(), shadow.name);
         self.rows[row].insert(index, shadow)?;
         self.count = count;
         Ok(())
@@ -132,12 +134,26 @@ impl Inbox {
     pub fn held(&self, name: &OpName) -> Option<&Shadow>
         ensures { option_copied result ≡ find_in self.now.held name.now }
     {
+        self.find(name).1
+    }
+
+    /// The index of the name in its row, or the one at which it would be put, and the shadow that is held under it.
+    #[inline(always)]
+    fn find(&self, name: &OpName) -> (usize, Option<&Shadow>)
+        ensures index { result.0 ≡ index_in_row self.now.held name.now }
+        ensures held { option_copied result.1 ≡ find_in self.now.held name.now }
+    {
         let row = self.row(name.row());
-        let shadow = row.get(index_of(row, *name))?;
-        if shadow.name == *name {
-            Some(shadow)
-        } else {
-            None
+        let index = index_of(row, *name);
+        match row.get(index) {
+            None => (index, None),
+            Some(shadow) => {
+                if shadow.name == *name {
+                    (index, Some(shadow))
+                } else {
+                    (index, None)
+                }
+            }
         }
     }
 
@@ -156,13 +172,14 @@ impl Inbox {
         ensures refusals { IfErr result (λ why. (why ≡ Refusal.NotHeld) ⊎ (why ≡ Refusal.NotReady)) }
         ensures err { OnErr result (self.new ≡ self.old) }
     {
-        let Some(&shadow) = self.held(&name) else {
+        let (index, held) = self.find(&name);
+        let Some(&shadow) = held else {
             return Err(Refusal::NotHeld);
         };
         if !clock.at_least(&shadow.deps) {
             return Err(Refusal::NotReady);
         }
-        self.remove(&name);
+        self.remove_at(&name, index);
         Ok(shadow)
     }
 
@@ -170,15 +187,22 @@ impl Inbox {
     pub fn remove(&mut self, name: &OpName)
         ensures { self.new ≡ record self.old { held = without name.now self.old.held } }
     {
-        match self.held(name) {
+        let (index, held) = self.find(name);
+        match held {
             None => {}
-            Some(_) => {
-                let row = name.row();
-                let index = index_of(self.rows[row].as_slice(), *name);
-                self.rows[row].remove(index);
-                self.count -= 1;
-            }
+            Some(_) => self.remove_at(name, index),
         }
+    }
+
+    /// Lets go the shadow that is held under the name, at its index in its row.
+    fn remove_at(&mut self, name: &OpName, index: usize)
+        requires held { (u : Shadow) × (find_in self.old.held name.now ≡ Some u) }
+        requires index { index ≡ index_in_row self.old.held name.now }
+        ensures { self.new ≡ record self.old { held = without name.now self.old.held } }
+    {
+        let row = name.row();
+        self.rows[row].remove(index);
+        self.count -= 1;
     }
 
     /// How many shadows are held.

@@ -1,14 +1,13 @@
-use Rattle.std.proofs.Common.{◌≡◌, ◌<◌, ◌+◌, ◌∙◌, List, [], ap, sym, subst, arith, rules, set, length, get_or}
+use Rattle.std.proofs.Common.{◌≡◌, ◌<◌, ◌+◌, ◌∙◌, List, [], ap, subst, arith, rules, set, length, get_or}
 use Rattle.std.specs.Prelude.{insert, Err, None, Ok, OnErr, Result}
 use Rattle.std.specs.declared.alloc.AllocError.{AllocError}
 use Rattle.std.proofs.lemmas.List.{set-get_or}
 use Rattle.rb_shadow.specs.Operations.{find_in}
 use Rattle.rb_shadow.specs.declared.shadow.Shadow.{Shadow}
-use Rattle.rb_inbox.specs.Held.{Holding, IsInOrder, with_held}
+use Rattle.rb_inbox.specs.Held.{Holding, with_held}
 use Rattle.rb_inbox.specs.Rows.{AreCounted, held_of}
-use Rattle.rb_inbox.proofs.Changes.{after_put, changed_there, grown, grown_holds, row_there}
-use Rattle.rb_inbox.proofs.Order.{changed, unchanged}
-use Rattle.rb_inbox.proofs.Rows.{row_at}
+use Rattle.rb_inbox.proofs.Changes.{after_put, changed_there, grown, grown_holds, index_there, row_there}
+use Rattle.rb_inbox.proofs.Order.{changed, held_before-bound, unchanged}
 use Rattle.rb_inbox.proofs.inbox.Inbox.hold.Goals as goal
 
 on_err : {P : Type 0} (r : Result (Unit {0}) AllocError) → P → OnErr r P
@@ -23,14 +22,18 @@ returns-in_err-add_rows-clause-err c =
     on_err c.from_residual-in_err-add_rows.result (unchanged c.self.inside.limit _ _ c.args.self.now
     (grown_holds c.self.inside.rows.items _ _ c.add_rows.ensures.rows.1) c.self.view_is)
 
-pub index_of-index-requires : goal.index_of-index-requires
-index_of-index-requires c =
-    let rows = c.add_rows.new.rows.items in
-    let within : c.row-row.result < length rows = omega (arith, c.in_ok-add_rows.ensures.ok) in
+pub insert-requires : goal.insert-requires
+insert-requires c =
+    let rows : List (List Shadow) = c.add_rows.new.rows.items in
+    let row = c.row-row.result in
+    let within : row < length rows = omega (arith, c.in_ok-add_rows.ensures.ok) in
+    let same = unchanged c.self.inside.limit _ _ c.args.self.now (grown_holds c.self.inside.rows.items rows _ c.add_rows.ensures.rows.1)
+    c.self.view_is in
     let all = grown c.self.inside.rows.items rows c.self.inside.count _ c.add_rows.ensures.rows.1 c.self.invariant in
-    subst IsInOrder (sym (c.as_slice.ensures ∙ row_there rows c.row-row.result c.index.result.now within
-    c.index.ensures))
-    (row_at rows c.row-row.result all.each).in_order
+    let index = index_there rows c.self.inside.limit c.args.self.now c.args.shadow.name row c.args.index same c.row-row.ensures all.each
+    c.requires.index in
+    let long = ap length (row_there rows row c.index_mut.result.now within c.index_mut.ensures.value) in
+    omega (arith, index, long, held_before-bound (get_or rows row []) c.args.shadow.name)
 
 -- where the row couldn't grow, the rows are as before
 as_before : (c : goal.After-from_residual-in_err-insert) → set c.add_rows.new.rows.items c.row-row.result c.insert.new.self
@@ -62,13 +65,12 @@ with_it c =
     let new : find_in (held_of rows) c.args.shadow.name ≡ None =
     ap (λ (us : List Shadow). find_in us c.args.shadow.name) same ∙ ap (λ (b : Holding). find_in b.held c.args.shadow.name) c.self.view_is
     ∙ c.requires.new in
-    let put = after_put rows c.self.inside.count c.args.shadow row c.insert.new.self
-    (grown c.self.inside.rows.items rows c.self.inside.count _ c.add_rows.ensures.rows.1 c.self.invariant) c.requires.numbered new
-    c.row-row.ensures within
-    (changed_there (λ us index. insert us index c.args.shadow) c.insert.new.self c.index_mut.result.now c.as_slice.result.now
-    (get_or rows row []) c.index_of-index.result c.args.shadow.name
-    c.in_ok-insert.ensures.ok (row_there rows row c.index_mut.result.now within c.index_mut.ensures.value) c.index_of-index.ensures.index
-    (c.as_slice.ensures ∙ row_there rows row c.index.result.now within c.index.ensures)) in
+    let all = grown c.self.inside.rows.items rows c.self.inside.count _ c.add_rows.ensures.rows.1 c.self.invariant in
+    let index = index_there rows c.self.inside.limit c.args.self.now c.args.shadow.name row c.args.index
+    (unchanged c.self.inside.limit _ _ c.args.self.now same c.self.view_is) c.row-row.ensures all.each c.requires.index in
+    let put = after_put rows c.self.inside.count c.args.shadow row c.insert.new.self all c.requires.numbered new c.row-row.ensures within
+    (changed_there (λ us index. insert us index c.args.shadow) c.insert.new.self c.index_mut.result.now (get_or rows row []) c.args.index
+    c.args.shadow.name c.in_ok-insert.ensures.ok (row_there rows row c.index_mut.result.now within c.index_mut.ensures.value) index) in
     (put.0, put.1 ∙ ap (with_held c.args.shadow) same)
 
 pub invariant_of-self-2 : goal.invariant_of-self-2
