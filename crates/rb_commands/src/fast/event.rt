@@ -72,8 +72,23 @@ fn parse_delivery<'a>(config: &Config, text: &'a str) -> Option<(SiteCommand, &'
     Some((SiteCommand::Deliver(message), rest))
 }
 
-/// Any but a request.
-fn parse_other<'a>(alloc: Global, config: &Config, text: &'a str) -> Option<(SiteCommand, &'a str)>
+/// A request.
+#[inline(always)]
+fn parse_submission<'a>(config: &Config, text: &'a str) -> Option<(SiteCommand, &'a str)>
+    ensures { IfSome result (λ p. Spells config.now p.0 text.now p.1.now) }
+{
+    match parse_request(config, text) {
+        Some((request, rest)) => Some((SiteCommand::Submit(request), rest)),
+        None => None,
+    }
+}
+
+/// Any. Where the first byte of a key is that of two, the one that comes more often is tried first.
+pub fn parse_event<'a>(
+    alloc: Global,
+    config: &Config,
+    text: &'a str,
+) -> Option<(SiteCommand, &'a str)>
     ensures { IfSome result (λ p. Spells config.now p.0 text.now p.1.now) }
 {
     match text.as_bytes().first() {
@@ -85,23 +100,12 @@ fn parse_other<'a>(alloc: Global, config: &Config, text: &'a str) -> Option<(Sit
             Some(balance) => Some(balance),
             None => parse_batch(alloc, config, text),
         },
-        Some(b'd') => parse_delivery(config, text),
+        Some(b'd') => match parse_submission(config, text) {
+            Some(deposit) => Some(deposit),
+            None => parse_delivery(config, text),
+        },
         Some(b'p') => parse_pass(config, text),
         Some(b's') => parse_statement(config, text),
-        _ => None,
-    }
-}
-
-/// Any.
-pub fn parse_event<'a>(
-    alloc: Global,
-    config: &Config,
-    text: &'a str,
-) -> Option<(SiteCommand, &'a str)>
-    ensures { IfSome result (λ p. Spells config.now p.0 text.now p.1.now) }
-{
-    match parse_request(config, text) {
-        Some((request, rest)) => Some((SiteCommand::Submit(request), rest)),
-        None => parse_other(alloc, config, text),
+        _ => parse_submission(config, text),
     }
 }
