@@ -106,6 +106,6 @@ fn note(
     if site.is_full() {
         return Ok(false);
     }
-    let reply = site.record_read(&entry.event, messages)?;
+    let reply = site.record(&entry.event, messages)?;
     Ok(reply.same(&entry.reply))
 }

@@ -69,7 +69,6 @@ impl<E: Entries, R: Ledger> Model for Seat<E, R> {
 /// then as before.
 pub fn record<E: Entries, R: Ledger, W: Wait>(
     rt: &W,
-    alloc: Global,
     desk: &mut Desk<E>,
     seat: &mut Seat<E, R>,
     books: &Mutex<Books<E, R>>,
@@ -83,15 +82,14 @@ pub fn record<E: Entries, R: Ledger, W: Wait>(
         return Err(CallFault::HistoryFull);
     }
     seat.receipts.reserve(1)?;
-    let copy = event.try_copy(alloc)?;
-    let (reply, posted) = desk.site.step(event)?;
+    let (reply, posted) = desk.site.step(&event)?;
     // For a fact alone: the history replays.
     let _replays = desk.site.history();
     let number = desk.site.len();
     books.lock(rt).count(&mut desk.share, &mut seat.share);
     seat.receipts.push_reserved(Receipt {
         number,
-        event: copy,
+        event,
         reply,
         unsent: 0,
     });
@@ -102,7 +100,6 @@ pub fn record<E: Entries, R: Ledger, W: Wait>(
 /// `record` puts it. `None` comes only where there is none; there is no event then.
 pub fn record_ready<E: Entries, R: Ledger, W: Wait>(
     rt: &W,
-    alloc: Global,
     desk: &mut Desk<E>,
     seat: &mut Seat<E, R>,
     books: &Mutex<Books<E, R>>,
@@ -117,7 +114,7 @@ pub fn record_ready<E: Entries, R: Ledger, W: Wait>(
     let Some(name) = desk.ready() else {
         return Ok(None);
     };
-    let (number, _posted) = record(rt, alloc, desk, seat, books, Event::Apply(name))?;
+    let (number, _posted) = record(rt, desk, seat, books, Event::Apply(name))?;
     Ok(Some(number))
 }
 

@@ -70,7 +70,7 @@ impl Bank {
             return Err(LineFault::Bad);
         };
         let command = read_command(alloc, self.world.config(), text)?;
-        let Ok(reply) = self.world.step(command) else {
+        let Ok(reply) = self.world.step(&command) else {
             return Err(LineFault::OutOfMemory);
         };
         self.answer.clear();

@@ -108,7 +108,7 @@ impl Node {
         if self.site.is_full() {
             return Err(NodeFault::WrongReply);
         }
-        let given = self.site.record(event, &mut self.sent)?;
+        let given = self.site.record(&event, &mut self.sent)?;
         if !given.same(&reply) {
             return Err(NodeFault::WrongReply);
         }

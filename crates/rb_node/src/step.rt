@@ -42,9 +42,8 @@ impl Node {
             ++ sent_at self.old.site.settings (state_of self.old.site) event))
             (λ _. take (length entries.old.items) entries.new.items ≡ entries.old.items) }
     {
-        let copy = event.try_copy(self.alloc)?;
-        let reply = self.site.record(event, &mut self.sent)?;
-        let entry = Entry { event: copy, reply };
+        let reply = self.site.record(&event, &mut self.sent)?;
+        let entry = Entry { event, reply };
         append_entry(entries, &self.config, self.site.me(), &entry)?;
         let Entry { event: _, reply } = entry;
         Ok(reply)

@@ -55,7 +55,7 @@ fn answer_command(
         return Err(LineFault::Bad);
     };
     let command = read_command(alloc, world.config(), text)?;
-    let Ok(reply) = world.step(command) else {
+    let Ok(reply) = world.step(&command) else {
         return Err(LineFault::OutOfMemory);
     };
     match append_reply(buffered, &reply) {

@@ -1,13 +1,21 @@
 //! What a site's history keeps of its entries.
-ghost use Rattle.std.specs.Prelude.{◌≡◌, Bool, true, false};
+ghost use Rattle.std.specs.Prelude.{◌≡◌, Bool, true, false, IfOk};
 ghost use Rattle.rb_site.specs.Notes.{IsNoted};
 ghost use Rattle.rb_site.specs.declared.entry.Entry.{Entry as TheEntry};
+ghost use Rattle.rb_site.specs.declared.event.Event.{Event as TheEvent};
 
 use crate::{Entry, Event, Reply};
 use rb_kit::Erased;
+use std::alloc::{AllocError, Global};
 
 /// What is kept of an entry: all of it, or nothing that takes memory.
 pub trait KeepsEntry: Drop {
+    /// What is kept of an event, before there is a reply.
+    type Kept: Drop;
+
+    // The event of which that was kept.
+    ghost kept: { Self.Kept → TheEvent };
+
     // The entry that was noted.
     ghost entry: { Self → TheEntry };
 
@@ -16,18 +24,30 @@ pub trait KeepsEntry: Drop {
     /// Whether the reply is kept, so that one that holds memory is needed twice.
     const KEEPS: bool;
 
-    /// Notes an event with its reply, of which this was noted.
-    fn note(event: Event, reply: &Reply, noted: Option<Reply>) -> Self
+    /// Keeps an event. `Err` means out of memory.
+    fn keep(alloc: Global, event: &Event) -> Result<Self::Kept, AllocError>
+        ensures { IfOk result (λ k. kept k ≡ event.now) };
+
+    /// Notes an event that was kept with its reply, of which this was noted.
+    fn note(event: Self::Kept, reply: &Reply, noted: Option<Reply>) -> Self
         requires { IsNoted KEEPS reply.now noted }
-        ensures { entry result ≡ record { event = event; reply = reply.now } };
+        ensures { entry result ≡ record { event = kept event; reply = reply.now } };
 }
 
 impl KeepsEntry for Entry {
+    type Kept = Event;
+
+    ghost kept = { λ e. e };
+
     ghost entry = { λ x. x };
 
     ghost KEEPS = { true };
 
     const KEEPS: bool = true;
+
+    fn keep(alloc: Global, event: &Event) -> Result<Event, AllocError> {
+        event.try_copy(alloc)
+    }
 
     fn note(event: Event, reply: &Reply, noted: Option<Reply>) -> Entry {
         let reply = reply.again(noted);
@@ -42,27 +62,25 @@ pub struct ErasedEntry {
     reply: Erased<Reply>,
 }
 
-impl ErasedEntry {
-    /// Nothing but the knowledge of an event and its reply.
-    pub(crate) fn of(event: &Event, reply: &Reply) -> ErasedEntry
-        ensures event { result.event.value ≡ event.now }
-        ensures reply { result.reply.value ≡ reply.now }
-    {
-        ErasedEntry {
-            event: Erased::of(event),
-            reply: Erased::of(reply),
-        }
-    }
-}
-
 impl KeepsEntry for ErasedEntry {
+    type Kept = Erased<Event>;
+
+    ghost kept = { λ e. e.value };
+
     ghost entry = { λ x. record { event = x.event.value; reply = x.reply.value } };
 
     ghost KEEPS = { false };
 
     const KEEPS: bool = false;
 
-    fn note(event: Event, reply: &Reply, _noted: Option<Reply>) -> ErasedEntry {
-        ErasedEntry::of(&event, reply)
+    fn keep(_alloc: Global, event: &Event) -> Result<Erased<Event>, AllocError> {
+        Ok(Erased::of(event))
+    }
+
+    fn note(event: Erased<Event>, reply: &Reply, _noted: Option<Reply>) -> ErasedEntry {
+        ErasedEntry {
+            event,
+            reply: Erased::of(reply),
+        }
     }
 }

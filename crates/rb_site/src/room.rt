@@ -1,5 +1,5 @@
 //! Memory for the lists of a report.
-ghost use Rattle.std.specs.Prelude.{◌≡◌, ◌≤◌, [], IfOk, OnOk, length, vec_capacity};
+ghost use Rattle.std.specs.Prelude.{◌≡◌, ◌≤◌, [], true, IfOk, OnOk, length, vec_capacity};
 ghost use Rattle.rb_site.specs.Reports.{balances_of, counts_of};
 
 use rb_ledger::Ledger;
@@ -27,24 +27,31 @@ impl Model for Room {
 }
 
 impl Room {
-    /// Memory for this number of accounts, and for no operation yet. `Err` means out of memory.
-    pub fn open(alloc: Global, accounts: usize) -> Result<Room, AllocError>
-        ensures { IfOk result (λ room. accounts ≤ room.accounts) }
+    /// Memory for this number of accounts, and for no operation yet, where there will be a report. `Err` means out of
+    /// memory.
+    pub fn open(alloc: Global, reports: bool, accounts: usize) -> Result<Room, AllocError>
+        ensures { reports ≡ true → IfOk result (λ room. accounts ≤ room.accounts) }
     {
         let mut balances = Vec::new(alloc);
-        balances.reserve(accounts)?;
+        if reports {
+            balances.reserve(accounts)?;
+        }
         Ok(Room {
             balances,
             counts: Vec::new(alloc),
         })
     }
 
-    /// Takes memory for this number of operations in all. `Err` means out of memory.
-    pub fn grow(&mut self, entries: usize) -> Result<(), AllocError>
-        ensures ok { OnOk result (entries ≤ self.new.entries) }
+    /// Takes memory for this number of operations in all, where there will be a report. `Err` means out of memory.
+    #[inline(always)]
+    pub fn grow(&mut self, reports: bool, entries: usize) -> Result<(), AllocError>
+        ensures ok { reports ≡ true → OnOk result (entries ≤ self.new.entries) }
         ensures kept { self.old.entries ≤ self.new.entries }
         ensures accounts { self.new.accounts ≡ self.old.accounts }
     {
+        if !reports {
+            return Ok(());
+        }
         self.counts.reserve(entries)
     }
 

@@ -63,7 +63,7 @@ pub fn cancel_gives_back(alloc: Global, amount: u64) -> Result<(u64, u64), Alloc
     let events = [WorldEvent::At(0, Event::Submit(withdrawal))];
     let mut world = bank_after(alloc, events.as_slice())?;
     let taken = balance(&world, 0, ANN);
-    match world.step(WorldEvent::At(0, Event::Submit(cancellation))) {
+    match world.step(&WorldEvent::At(0, Event::Submit(cancellation))) {
         Ok(_) => {
             let given_back = balance(&world, 0, ANN);
             world.end();
@@ -99,7 +99,7 @@ pub fn batch_is_refused_whole(
         amount: withdrawn,
     })?;
     let mut world = open_bank(alloc)?;
-    match world.step(WorldEvent::At(0, Event::Batch(List::new(requests)))) {
+    match world.step(&WorldEvent::At(0, Event::Batch(List::new(requests)))) {
         Ok(reply) => {
             let answered = (reply, balance(&world, 0, ANN), world.messages().len());
             world.end();

@@ -21,6 +21,7 @@ use Rattle.rb_site.specs.Worlds.{AreOwn, IsCommand, World, arrival, first_world,
 use Rattle.rb_site.specs.Worlds.{reply_in, world_after, world_at}
 use Rattle.rb_site.proofs.Public.Runs
 use Rattle.rb_site.proofs.Public.Seen
+use Rattle.rb_world.specs.Brought.{brought_by}
 use Rattle.rb_world.specs.Laws.{IsRunOf, SeenWorld, next_replies, next_reply, next_world, next_worlds}
 
 -- ---- an event and the site that it is for
@@ -80,6 +81,22 @@ full_step w ev e t arrived at full =
       sym (here.reply ∙ ap (λ b. cond b (Refused HistoryFull) (reply_of w.settings t.ops (outcome_of w.settings t e))) full),
       still w ev (here.recorded ∙ ap not full),
     )
+
+-- the event of the world by which something arrives at a site is for that site
+pub site_brought : (i : ℕ) (e : Event) (d : Option ℕ) → i ≡ site_of (brought_by i e d)
+site_brought i e None = refl
+site_brought i e (Some k) = refl
+
+-- at a site that is there, and whose history is full or isn't: where it is, nothing happens
+pub full_at : (w : SeenWorld) (ev : WorldEvent) (e : Event) (i : ℕ) (full : Bool) → i ≡ site_of ev → arrival w.world.messages ev ≡ Some e
+    → IsSomeAnd (slice_get w.world.sites i) (λ t. is_full w.settings t ≡ full) → full ≡ true
+    → (Refused HistoryFull ≡ next_reply w ev) × (w ≡ next_world w ev)
+full_at w ev e i full place arrived is filled = by (slice_get w.world.sites i) refl is
+  where
+    by : (o : Option ModelSite) → slice_get w.world.sites i ≡ o → IsSomeAnd o (λ t. is_full w.settings t ≡ full)
+        → (Refused HistoryFull ≡ next_reply w ev) × (w ≡ next_world w ev)
+    by None q h = absurd h
+    by (Some t) q h = full_step w ev e t arrived (ap (slice_get w.world.sites) (sym place) ∙ q) (h ∙ filled)
 
 -- ---- a step that a site records
 

@@ -76,23 +76,12 @@ impl World {
             return Err(Stopped { answered: 0 });
         }
         for (answered, event) in events.iter().enumerate() {
-            match self.step_as(event) {
+            match self.step(event) {
                 Ok(reply) => replies.push_reserved(reply),
                 Err(_) => return Err(Stopped { answered }),
             }
         }
         Ok(replies)
-    }
-
-    /// One event of a run, which is copied.
-    fn step_as(&mut self, event: &WorldEvent) -> Result<Reply, AllocError>
-        requires { IsCommand event.now }
-        ensures ok { IfOk result (λ reply. (reply ≡ next_reply self.old event.now)
-            × (self.new ≡ next_world self.old event.now)) }
-        ensures err { OnErr result (self.new ≡ self.old) }
-    {
-        let event = event.try_copy(self.alloc)?;
-        self.step(event)
     }
 
     /// The events that the sites recorded, in order. The world is the run of them.
@@ -145,40 +134,50 @@ impl<E: KeepsEntry, R: KeepsEvent> World<E, R> {
 
     /// One event, and its reply. It is listed where a site recorded it. `Err` means out of memory, and comes
     /// only for an event that a site would record: the world is then as before.
-    pub fn step(&mut self, event: WorldEvent) -> Result<Reply, AllocError>
-        requires { IsCommand event }
-        ensures ok { IfOk result (λ reply. (reply ≡ next_reply self.old event)
-            × (self.new ≡ next_world self.old event)) }
+    pub fn step(&mut self, event: &WorldEvent) -> Result<Reply, AllocError>
+        requires { IsCommand event.now }
+        ensures ok { IfOk result (λ reply. (reply ≡ next_reply self.old event.now)
+            × (self.new ≡ next_world self.old event.now)) }
         ensures err { OnErr result (self.new ≡ self.old) }
-        ensures recordable { OnErr result (is_recorded self.old.settings self.old.world event ≡ true) }
+        ensures recordable { OnErr result (is_recorded self.old.settings self.old.world event.now ≡ true) }
     {
         let number = event.site();
         let Some(site) = self.site(number) else {
             return Ok(Reply::Refused(Refusal::NoSite));
         };
         let full = site.is_full();
-        let Some((arrived, delivered)) = self.brought(event) else {
-            return Ok(Reply::Refused(Refusal::NoMessage));
-        };
+        match event {
+            WorldEvent::At(_, event) => self.take(number, full, event, None),
+            WorldEvent::Deliver(_, sent) => match self.message(*sent) {
+                Some(message) => self.take(number, full, &Event::Receive(message), Some(*sent)),
+                None => Ok(Reply::Refused(Refusal::NoMessage)),
+            },
+        }
+    }
+
+    #[inline(always)]
+    /// What arrives at a site, by an event of its own or by the delivery of the message of that number, is taken, unless
+    /// its history is full.
+    fn take(
+        &mut self,
+        site: u8,
+        full: bool,
+        arrived: &Event,
+        delivered: Option<u32>,
+    ) -> Result<Reply, AllocError>
+        requires command { IsCommand (brought_by site arrived.now delivered) }
+        requires full { IsSomeAnd (slice_get self.old.world.sites site) (λ site. is_full self.old.settings site ≡ full) }
+        requires arrived { arrival self.old.world.messages (brought_by site arrived.now delivered) ≡ Some arrived.now }
+        ensures ok { IfOk result (λ reply. (reply ≡ next_reply self.old (brought_by site arrived.now delivered))
+            × (self.new ≡ next_world self.old (brought_by site arrived.now delivered))) }
+        ensures err { OnErr result (self.new ≡ self.old) }
+        ensures recordable { OnErr result (full ≡ false) }
+    {
         if full {
             return Ok(Reply::Refused(Refusal::HistoryFull));
         }
-        let noted = R::note(self.alloc, number, &arrived, delivered)?;
-        self.record(number, arrived, noted)
-    }
-
-    /// What an event brings to its site: an event of its own, or the receipt of the message of a number, with that.
-    fn brought(&self, event: WorldEvent) -> Option<(Event, Option<u32>)>
-        ensures arrived { option_map (λ b. b.0) result ≡ arrival self.now.world.messages event }
-        ensures by { IfSome result (λ b. brought_by (site_of event) b.0 b.1 ≡ event) }
-    {
-        match event {
-            WorldEvent::At(_, event) => Some((event, None)),
-            WorldEvent::Deliver(_, number) => match self.message(number) {
-                Some(message) => Some((Event::Receive(message), Some(number))),
-                None => None,
-            },
-        }
+        let noted = R::note(self.alloc, site, arrived, delivered)?;
+        self.record(site, arrived, noted)
     }
 
     /// The message of a number, from 1.
@@ -192,10 +191,10 @@ impl<E: KeepsEntry, R: KeepsEvent> World<E, R> {
     }
 
     /// A site takes an event for which its history has spare capacity.
-    fn record(&mut self, site: u8, arrived: Event, noted: R) -> Result<Reply, AllocError>
+    fn record(&mut self, site: u8, arrived: &Event, noted: R) -> Result<Reply, AllocError>
         requires command { IsCommand (R.noted noted) }
         requires site { site ≡ site_of (R.noted noted) }
-        requires arrived { arrival self.old.world.messages (R.noted noted) ≡ Some arrived }
+        requires arrived { arrival self.old.world.messages (R.noted noted) ≡ Some arrived.now }
         requires room { IsSomeAnd (slice_get self.old.world.sites site) (λ site. is_full self.old.settings site
             ≡ false) }
         ensures ok { IfOk result (λ reply. (reply ≡ next_reply self.old (R.noted noted))

@@ -7,7 +7,7 @@ pub returns-then-is_full : goal.returns-then-is_full
 returns-then-is_full c = Replaying.full_is_wrong c.args.site.now c.args.entry.now c.requires (sym c.is_full.ensures ∙ c.if-is_full.true)
 
 pub returns : goal.returns
-returns c = Replaying.noted_or_not c.same.result c.args.site.now c.record_read.new.self c.args.entry.now.event c.args.entry.now
-    c.in_ok-reply.reply c.args.messages.now.items c.record_read.new.sent.items
+returns c = Replaying.noted_or_not c.same.result c.args.site.now c.«record».new.self c.args.entry.now.event c.args.entry.now
+    c.in_ok-reply.reply c.args.messages.now.items c.«record».new.sent.items
     c.requires (sym c.is_full.ensures ∙ c.if-is_full.false) (c.in_ok-reply.ensures.ok).0 (c.in_ok-reply.ensures.ok).1 c.same.ensures
     refl (c.in_ok-reply.ensures.ok).2

@@ -1,4 +1,4 @@
-use Rattle.std.proofs.Common.{◌≡◌, ◌++◌, ap, sym, ◌∙◌}
+use Rattle.std.proofs.Common.{◌≡◌, ◌++◌, ap, refl, sym, ◌∙◌}
 use Rattle.rb_site.specs.Events.{reply_to, sent_at}
 use Rattle.rb_site.specs.Seen.{SeenSite, entry, next_site, state_of}
 use Rattle.rb_history.specs.Entries.{entry_json}
@@ -12,14 +12,14 @@ returns c =
     let event = c.args.event in
     let reply = c.in_ok-reply.reply in
     let entries = c.args.entries.now.items in
-    let x = entry c.in_ok-copy.copy reply in
+    let x = entry event reply in
     let seen : c.self.inside.site ≡ old = ap (λ (v : SeenNode). v.site) c.self.view_is in
     let is : c.record.new.self ≡ next_site old event = c.in_ok-reply.ensures.ok.0 ∙ ap (λ y. next_site y event) seen in
     record {
       recorded = (
         recorded old c.record.new.self event reply x c.me.result entries c.append_entry.new.out.items c.requires is
             (c.in_ok-reply.ensures.ok.1 ∙ ap (λ (y : SeenSite). reply_to y.settings (state_of y) event) seen)
-            (ap (λ v. entry v reply) c.in_ok-copy.ensures)
+            refl
             (c.me.ensures.same ∙ ap (λ (y : SeenSite). y.me) is ∙ me-next old event)
             (c.in_ok-append_entry.ensures ∙ ap (λ s. entries ++ line_of (entry_json s c.me.result x))
             (sym c.self.invariant ∙ ap (λ (y : SeenSite). y.settings) seen)),

@@ -8,5 +8,5 @@ use Rattle.rb_site.proofs.site.Site.step.Goals as goal
 
 pub returns-clause-few : goal.returns-clause-few
 returns-clause-few g c = subst (λ ms. length ms ≤ MOST_REQUESTS) (sym ((c.in_ok-reply.ensures.ok).2
-    ∙ ap (λ ms. ms ++ sent_at c.args.self.now.settings (state_of c.args.self.now) c.args.event) c.new-posted.ensures.items))
-    (sent_few c.args.self.now.settings (state_of c.args.self.now) c.args.event)
+    ∙ ap (λ ms. ms ++ sent_at c.args.self.now.settings (state_of c.args.self.now) c.args.event.now) c.new-posted.ensures.items))
+    (sent_few c.args.self.now.settings (state_of c.args.self.now) c.args.event.now)

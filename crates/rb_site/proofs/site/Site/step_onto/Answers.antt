@@ -9,9 +9,9 @@ use Rattle.rb_site.proofs.site.Site.step_onto.Goals as goal
 pub returns-then-is_full-clause-ok : goal.returns-then-is_full-clause-ok
 returns-then-is_full-clause-ok g c =
     let full : is_full c.args.self.now.settings (state_of c.args.self.now) ≡ true = sym c.is_full.ensures ∙ c.if-is_full.true in (
-      sym (ap (λ b. cond b c.args.self.now (stepped c.args.self.now c.args.event)) full),
+      sym (ap (λ b. cond b c.args.self.now (stepped c.args.self.now c.args.event.now)) full),
       sym (ap (λ b. cond b (Refused HistoryFull) (reply_of c.args.self.now.settings (state_of c.args.self.now).ops
-          (outcome_of c.args.self.now.settings (state_of c.args.self.now) c.args.event))) full),
+          (outcome_of c.args.self.now.settings (state_of c.args.self.now) c.args.event.now))) full),
       sym (append-nil c.args.sent.now.items) ∙ sym (ap (λ b. c.args.sent.now.items
-          ++ cond b [] (sent_by (outcome_of c.args.self.now.settings (state_of c.args.self.now) c.args.event))) full),
+          ++ cond b [] (sent_by (outcome_of c.args.self.now.settings (state_of c.args.self.now) c.args.event.now))) full),
     )

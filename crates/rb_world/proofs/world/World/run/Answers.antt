@@ -8,9 +8,9 @@ use Rattle.rb_world.proofs.world.World.run.Goals as goal
 
 pub loop-answered-preserved : goal.loop-answered-preserved
 loop-answered-preserved c = (
-  (let P : List Reply → Type 0 = λ rs. IsRunSoFar c.args.self.now c.args.events.now (c.loop-answered.answered + 1) c.step_as.new.self rs in
+  (let P : List Reply → Type 0 = λ rs. IsRunSoFar c.args.self.now c.args.events.now (c.loop-answered.answered + 1) c.step.new.self rs in
       subst P (sym c.push_reserved.ensures.items)
-      (run_more c.args.self.now c.args.events.now c.loop-answered.answered _ c.loop-answered.self c.step_as.new.self
+      (run_more c.args.self.now c.args.events.now c.loop-answered.answered _ c.loop-answered.self c.step.new.self
       c.loop-answered.replies.items c.in-Ok.reply c.loop-answered-test.true c.loop-answered.invariant.0
       ((c.in-Ok.ensures.ok).1 ∙ ap (next_world c.loop-answered.self) c.index-events-answered.is) ((c.in-Ok.ensures.ok).0
       ∙ ap (next_reply c.loop-answered.self) c.index-events-answered.is))),
