@@ -6,6 +6,7 @@ mod UsualLines
 mod Spellings
 mod Members
 mod Scanned
+mod Blanks
 mod Batches
 mod Versions
 mod Configured

@@ -7,4 +7,5 @@ pub mod Commands
 pub mod Configurations
 pub mod Adds
 pub mod Spelled
+pub mod Blanks
 pub mod Laws

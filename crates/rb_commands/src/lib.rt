@@ -1,8 +1,8 @@
 //! Lines of a script: its configuration, commands and replies as JSON.
 //!
 //! Lines are written in [`write`], read by the JSON value in [`read`], and, as programs spell them, in one pass in
-//! [`fast`]. What lines of histories are made of as well is public beside them: [`write::append`], [`fast::scan`],
-//! [`read::value`], an event or an account from a JSON value, and a reply's object.
+//! [`fast`]. What lines of histories are made of as well is public beside them: [`write::append`], [`fast::blanks`],
+//! [`fast::scan`], [`read::value`], an event or an account from a JSON value, and a reply's object.
 //! Tests: rb_tests_runs, commands.rt, replies.rt.
 #![tactic(auto)]
 

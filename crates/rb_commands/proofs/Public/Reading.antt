@@ -1,5 +1,5 @@
 -- What is read is what was written.
-use Rattle.std.proofs.Common.{List, ◌++◌, Option, ◌≡◌, [], Some, refl, sym, ap, ◌∙◌, ◌≤◌, append-nil}
+use Rattle.std.proofs.Common.{ℕ, List, ◌++◌, Option, ◌≡◌, [], Some, None, IfSome, refl, sym, ap, ◌∙◌, ◌≤◌, append-nil}
 use Rattle.std.specs.Prelude.{option_map, option_and_then}
 use Rattle.serde_json.specs.Data.{Data}
 use Rattle.rb_shadow.proofs.Public.NameOf.{value_is, candidate_is}
@@ -32,3 +32,10 @@ compact_read turned d numbers shallow same =
     ∙ tokens-print (json_tokens j) (ArePrintable-json_tokens j numbers) ∙ sym (append-nil (json_tokens j)) in
     ap (λ ts. option_and_then of_json (option_and_then (λ p. json.if_last p.0 p.1) (json.value max_depth ts))) text
     ∙ ap (λ o. option_and_then of_json (option_and_then (λ p. json.if_last p.0 p.1) o)) (value-json_tokens j max_depth [] shallow) ∙ same
+
+-- what a text is read as, one of the same tokens is read as too
+pub read_alike : {A : Type 0} (f : Data → Option A) (xs ys : List ℕ) (r : Option A) → tokens xs ≡ tokens ys
+    → IfSome r (λ x. option_and_then f (read xs) ≡ Some x) → IfSome r (λ x. option_and_then f (read ys) ≡ Some x)
+read_alike f xs ys None e h = h
+read_alike f xs ys (Some x) e h =
+    ap (λ ts. option_and_then f (option_and_then of_json (option_and_then (λ p. json.if_last p.0 p.1) (json.value max_depth ts)))) (sym e) ∙ h

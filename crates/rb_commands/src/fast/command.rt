@@ -3,6 +3,7 @@ ghost use Rattle.std.specs.Prelude.{◌≡◌, ◌++◌, Some, IfSome, codes, de
 ghost use Rattle.rb_site.specs.Worlds.{IsCommand};
 ghost use Rattle.rb_commands.specs.Commands.{command_at};
 
+use crate::fast::blanks::without_blanks;
 use crate::fast::event::parse_event;
 use crate::fast::scan::{parse_byte, parse_prefix};
 use rb_money::Config;
@@ -58,4 +59,13 @@ pub fn parse_command(alloc: Global, config: &Config, line: &str) -> Option<World
         Some(rest) => parse_site_first(alloc, config, rest),
         None => parse_site_last(alloc, config, text),
     }
+}
+
+/// The command of a line with blanks between its tokens.
+pub fn parse_spaced(alloc: Global, config: &Config, line: &str) -> Option<WorldEvent>
+    ensures value { IfSome result (λ c. command_at config.now line.now ≡ Some c) }
+    ensures command { IfSome result IsCommand }
+{
+    let text = without_blanks(alloc, line)?;
+    parse_command(alloc, config, text.as_str())
 }

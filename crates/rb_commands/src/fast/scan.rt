@@ -42,7 +42,7 @@ const MOST: u64 = 1_000_000_000_000_000_000;
 
 /// The number that the text begins with, and how many digits it has. A zero is a number by itself.
 #[inline(always)]
-fn parse_digits(text: &[u8]) -> Option<(u64, usize)>
+pub(crate) fn parse_digits(text: &[u8]) -> Option<(u64, usize)>
     ensures { IfSome result (λ p. (p.0 < 2 ^ 64) × (p.1 ≤ length text.now) × (take p.1 text.now ≡ decimal p.0)) }
 {
     if text.len() == 0 || text[0] < b'0' || b'9' < text[0] {
@@ -116,7 +116,7 @@ pub fn parse_name(text: &str) -> Option<(OpName, &str)>
 
 /// How many bytes come before a quote, where none is part of an escape.
 #[inline(always)]
-fn find_quote(text: &[u8]) -> Option<usize>
+pub(crate) fn find_quote(text: &[u8]) -> Option<usize>
     ensures { IfSome result (λ len. (len < length text.now) × (slice_index text.now len ≡ 34)
         × (escape (take len text.now) ≡ take len text.now)) }
 {

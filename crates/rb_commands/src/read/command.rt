@@ -7,7 +7,7 @@ ghost use Rattle.rb_commands.specs.Commands.{command_for, command_of, command_at
 ghost use Rattle.rb_commands.specs.Lines.{Gives};
 ghost use Rattle.rb_commands.specs.Values.{number_below};
 
-use crate::fast::command::parse_command;
+use crate::fast::command::{parse_command, parse_spaced};
 use crate::fault::LineFault;
 use crate::read::event::event;
 use crate::read::value::{byte, read_value, size, word};
@@ -67,6 +67,9 @@ pub fn read_command(alloc: Global, config: &Config, line: &str) -> Result<WorldE
     ensures command { IfOk result IsCommand }
 {
     if let Some(command) = parse_command(alloc, config, line) {
+        return Ok(command);
+    }
+    if let Some(command) = parse_spaced(alloc, config, line) {
         return Ok(command);
     }
     match read_value(alloc, line) {

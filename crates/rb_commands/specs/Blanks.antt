@@ -1,0 +1,7 @@
+-- Tokens that are read alike, whatever follows them.
+use Rattle.std.specs.Prelude.{◌≡◌, ℕ, List, ◌++◌}
+use Rattle.json.specs.Lex.{between, lex}
+
+-- a text of whole tokens: two texts that are read alike are so behind it too
+abbrev pub AreTokens : List ℕ → Type 0
+AreTokens front = (xs ys : List ℕ) → lex between xs ≡ lex between ys → lex between (front ++ xs) ≡ lex between (front ++ ys)
