@@ -1,3 +1,4 @@
+pub mod Public
 mod Shapes
 mod CountsLength
 mod Numbered
@@ -29,3 +30,7 @@ mod OneLine
 mod MadeFit
 mod SentFits
 mod EventLine
+mod ListBounds
+mod StatementsFit
+mod CausesFit
+mod AnswersFit

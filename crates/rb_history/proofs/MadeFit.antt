@@ -75,7 +75,8 @@ name_fits s c (Red n) home near own within =
     let small : n ≤ s.limits.red = grind (arith, nat_tests) in
     omega arith
 
-facts_name : (s : Settings) → IsConfigured s → (v : Shadow) → SoundFacts s v → IsName v.name
+-- the name of a sound operation fits a line
+pub facts_name : (s : Settings) → IsConfigured s → (v : Shadow) → SoundFacts s v → IsName v.name
 facts_name s c v f = name_fits s c v.name v.home f.home f.own f.within
 
 kind_fits : (s : Settings) → IsConfigured s → (us : List Shadow) (v : Shadow) (kind : Kind) → IsValid s us →

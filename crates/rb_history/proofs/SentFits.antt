@@ -33,7 +33,7 @@ use Rattle.rb_site.specs.declared.message.Message.{Message}
 use Rattle.rb_site.specs.declared.message.Message.TheVariants.{Shadow as ShadowMessage, Token as TokenOnItsWay}
 use Rattle.rb_site.specs.declared.reply.Reply.TheVariants.{Already, Stale}
 use Rattle.rb_site.specs.Events.{ModelSite, Outcome, Refuses, Answers, Makes, MakesAll, Holds, Takes, Passes, after_event, changed}
-use Rattle.rb_site.specs.Events.{first_site}
+use Rattle.rb_site.specs.Events.{after_events, first_site}
 use Rattle.rb_site.specs.Events.{is_full, outcome_of, outcome_of_check, sent_at}
 use Rattle.rb_site.specs.Events.{sent_by, unless_known}
 use Rattle.rb_site.specs.Histories.{IsAmong, sends_of}
@@ -43,19 +43,20 @@ use Rattle.rb_history.proofs.MadeFit.{made_fits}
 
 -- what holds of a site, whatever its events: its list is valid, what it holds is sound, and the token is within the
 -- limits
-record IsInOrder (s : Settings) (t : ModelSite) : Type 0 where
-  me : t.me < s.sites
-  valid : IsValid s t.ops
-  held : (v : Shadow) → Among v t.held → IsSound s v
-  needed : t.token.needed ≤ s.limits.red
+pub record IsInOrder (s : Settings) (t : ModelSite) : Type 0 where
+  pub me : t.me < s.sites
+  pub valid : IsValid s t.ops
+  pub held : (v : Shadow) → Among v t.held → IsSound s v
+  pub needed : t.token.needed ≤ s.limits.red
 
-abbrev AllFit : Settings → List Message → Type 0
+-- the messages fit lines
+abbrev pub AllFit : Settings → List Message → Type 0
 AllFit s ms = (m : Message) → IsAmong m ms → IsEvent s (Receive m)
 
 -- an outcome keeps a site in order, and what it sends fits
-record Keeps (s : Settings) (t : ModelSite) (o : Outcome) : Type 0 where
-  order : IsInOrder s (changed t o)
-  sends : AllFit s (sent_by o)
+pub record Keeps (s : Settings) (t : ModelSite) (o : Outcome) : Type 0 where
+  pub order : IsInOrder s (changed t o)
+  pub sends : AllFit s (sent_by o)
 
 none_fit : (s : Settings) → AllFit s []
 none_fit s m h = absurd h
@@ -198,7 +199,8 @@ clock_reds : (us : List Shadow) (most : ℕ) → nat_le (clock_of us).red most �
 unfolding clock_of
 clock_reds us most h = grind (arith, nat_tests)
 
-few_reds : (s : Settings) (us : List Shadow) → IsValid s us → red_count us ≤ s.limits.red
+-- a valid list has few red operations
+pub few_reds : (s : Settings) (us : List Shadow) → IsValid s us → red_count us ≤ s.limits.red
 few_reds s us valid = clock_reds us s.limits.red
     (and_parts (are_entries s.sites s.limits.blue (clock_of us).blue) (nat_le (clock_of us).red s.limits.red) (clock_is_clock s us valid)).1
 
@@ -228,7 +230,8 @@ passes s c t to g e =
 
 -- ---- one event, and all
 
-keeps : (s : Settings) → IsConfigured s → (t : ModelSite) → IsInOrder s t → (e : Event) → Keeps s t (outcome_of s t e)
+-- an event keeps a site in order, and what it sends fits
+pub keeps : (s : Settings) → IsConfigured s → (t : ModelSite) → IsInOrder s t → (e : Event) → Keeps s t (outcome_of s t e)
 unfolding outcome_of
 keeps s c t g (Submit r) = submits s c t g r (made_of s t.me t.ops t.token r) refl
 keeps s c t g (Batch rs) =
@@ -278,12 +281,16 @@ all_fit s c (e ∷ es) t g m h =
     by first later (inl here) = first m here
     by first later (inr there) = later m there
 
+-- a site before any event is in order
+pub first_in_order : (s : Settings) → IsConfigured s → (me : ℕ) → me < s.sites → IsInOrder s (first_site me)
+first_in_order s c me low = record { me = low; valid = IsValid-none s; held = λ v h. absurd h; needed = omega arith }
+
+-- and so is one after any events
+pub in_order : (s : Settings) → IsConfigured s → (es : List Event) (t : ModelSite) → IsInOrder s t → IsInOrder s (after_events s t es)
+in_order s c [] t g = g
+in_order s c (e ∷ es) t g = in_order s c es (after_event s t e) (stays s c t g e).0
+
 -- each message that a site sends fits a line
 pub sends_fit : (s : Settings) → IsConfigured s → (me : ℕ) → me < s.sites → (es : List Event) (m : Message)
     → IsAmong m (sends_of s (first_site me) es) → IsEvent s (Receive m)
-sends_fit s c me low es = all_fit s c es (first_site me) (record {
-  me = low;
-  valid = IsValid-none s;
-  held = λ v h. absurd h;
-  needed = omega arith;
-})
+sends_fit s c me low es = all_fit s c es (first_site me) (first_in_order s c me low)

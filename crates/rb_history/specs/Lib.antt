@@ -9,3 +9,4 @@ pub mod Beginnings
 pub mod Verdicts
 pub mod OneLine
 pub mod Messages
+pub mod Sites

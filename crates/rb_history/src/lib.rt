@@ -11,6 +11,7 @@ ghost use Rattle.rb_history.specs.ConfigLines.{ConfigsAreRead};
 ghost use Rattle.rb_history.specs.Fits.{EntriesAreRead, EventsAreRead, ReadEntriesFit};
 ghost use Rattle.rb_history.specs.Messages.{MessagesAreRead};
 ghost use Rattle.rb_history.specs.OneLine.{ConfigsAreLines, EntriesAreLines};
+ghost use Rattle.rb_history.specs.Sites.{HeldNamesFitLines, ReadEventsFit, RepliesFitLines};
 
 pub use rb_commands::{LineFault, read_command, read_config, write_reply};
 pub use read::entry::read_line;
@@ -46,6 +47,18 @@ pub fn messages_are_read()
 /// Each entry that is read from a line is one that `entries_are_read` speaks of.
 pub fn read_entries_fit()
     ensures { ReadEntriesFit }
+{}
+
+/// Each event that is read from a line by itself is one that `events_are_read` speaks of.
+pub fn read_events_fit()
+    ensures { ReadEventsFit }
+{}
+
+/// Whatever its events, each reply of a site fits a line: its numbers fit their types, and it isn't *out of memory*. So
+/// does the name of each operation that it holds.
+pub fn replies_fit()
+    ensures replies { RepliesFitLines }
+    ensures held { HeldNamesFitLines }
 {}
 
 /// What is written for a configuration or an entry is one line: UTF-8 with no line feed in it.

@@ -1,0 +1,25 @@
+-- What a site replies and holds fits a line, whatever its events.
+use Rattle.std.specs.Prelude.{◌≡◌, ℕ, ◌<◌, List, Some}
+use Rattle.rb_money.specs.Settings.{IsConfigured, Settings}
+use Rattle.rb_shadow.specs.NameText.{IsName}
+use Rattle.rb_shadow.specs.Operations.{find_in}
+use Rattle.rb_shadow.specs.declared.op_name.OpName.{OpName}
+use Rattle.rb_shadow.specs.declared.shadow.Shadow.{Shadow}
+use Rattle.rb_site.specs.declared.event.Event.{Event}
+use Rattle.rb_site.specs.Events.{after_events, first_site, reply_to}
+use Rattle.rb_history.specs.Entries.{event_of_line}
+use Rattle.rb_history.specs.Fits.{IsEvent, IsReply}
+
+-- the reply of a site to any event fits a line, whatever its events before
+abbrev pub RepliesFitLines : Type 0
+RepliesFitLines = (s : Settings) → IsConfigured s → (me : ℕ) → me < s.sites → (es : List Event) (e : Event)
+    → IsReply (reply_to s (after_events s (first_site me) es) e)
+
+-- and so does the name of each operation that it holds
+abbrev pub HeldNamesFitLines : Type 0
+HeldNamesFitLines = (s : Settings) → IsConfigured s → (me : ℕ) → me < s.sites → (es : List Event) (x : OpName)
+    (v : Shadow) → find_in (after_events s (first_site me) es).held x ≡ Some v → IsName x
+
+-- what is read from any line as an event by itself fits
+abbrev pub ReadEventsFit : Type 0
+ReadEventsFit = (s : Settings) (line : List ℕ) (e : Event) → event_of_line s line ≡ Some e → IsEvent s e
