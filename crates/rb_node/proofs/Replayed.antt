@@ -1,6 +1,7 @@
 -- What an answer recorded is replayed from its lines.
-use Rattle.std.proofs.Common.{◌≡◌, ◌<◌, Bool, true, false, cond, List, [], ◌∷◌, ◌++◌, refl, sym, ap, subst, ◌∙◌, append_assoc, append-nil}
+use Rattle.std.proofs.Common.{◌≡◌, ◌<◌, ℕ, Bool, true, false, cond, List, [], ◌∷◌, ◌++◌, refl, sym, ap, subst, ◌∙◌, append_assoc, append-nil}
 use Rattle.std.specs.Prelude.{map, Some, None}
+use Rattle.std.specs.Str.{is_utf8}
 use Rattle.std.proofs.lemmas.List.{append_cancel_left}
 use Rattle.serde_json.specs.Written.{compact_text}
 use Rattle.rb_money.specs.Settings.{IsConfigured, Settings}
@@ -8,17 +9,81 @@ use Rattle.rb_shadow.specs.declared.op_name.OpName.{OpName}
 use Rattle.rb_site.specs.declared.entry.Entry.{Entry}
 use Rattle.rb_site.specs.declared.event.Event.{Event}
 use Rattle.rb_site.specs.declared.event.Event.TheVariants.{Apply}
-use Rattle.rb_site.specs.Events.{ModelSite, after_event, is_full, reply_to, sent_at}
-use Rattle.rb_site.specs.Histories.{with_replies}
+use Rattle.rb_site.specs.Events.{ModelSite, after_event, after_events, first_site, is_full, reply_to, sent_at}
+use Rattle.rb_site.specs.Histories.{events_of, with_replies}
 use Rattle.rb_site.specs.Seen.{SeenSite, entry, next_site, next_sites, state_of, stepped}
-use Rattle.rb_site.proofs.Public.Runs.{noted}
+use Rattle.rb_site.proofs.Public.Runs.{after_events-append, noted}
 use Rattle.rb_site.proofs.Public.Seen.{settings-next, state-next}
-use Rattle.rb_history.specs.Entries.{entry_json, entry_of_line, entry_on}
-use Rattle.rb_history.specs.Fits.{Each, EntriesAreRead}
+use Rattle.rb_history.specs.Entries.{entry_json, entry_of_line, entry_on, event_of_line}
+use Rattle.rb_history.specs.Fits.{Each, EntriesAreRead, IsEvent, IsReply}
 use Rattle.rb_history.specs.OneLine.{EntriesAreLines}
-use Rattle.rb_node.specs.Answers.{AreReadyInTurn}
-use Rattle.rb_node.specs.Laws.{AnswersAreReplayed, AreReplayed, FitsLine}
+use Rattle.rb_history.specs.Sites.{HeldNamesFitLines, ReadEventsFit, RepliesFitLines}
+use Rattle.rb_node.specs.Answers.{AreReadyInTurn, IsSiteAnswer, event_on}
+use Rattle.rb_node.specs.Laws.{AnswersAreReplayed, AreReplayed}
+use Rattle.rb_node.specs.Replays.{IsReadBack}
 use Rattle.rb_node.proofs.Recorded.{next-free, next-full}
+
+-- the laws of lines
+pub record LineLaws : Type 0 where
+  pub entries : EntriesAreRead
+  pub lines : EntriesAreLines
+  pub events : ReadEventsFit
+  pub replies : RepliesFitLines
+  pub held : HeldNamesFitLines
+
+-- ---- what fits
+
+-- an entry that fits its line: its numbers fit their types, and its places are known
+abbrev FitsLine : Settings → Entry → Type 0
+FitsLine s x = IsEvent s x.event × IsReply x.reply
+
+-- one event more
+more : (s : Settings) (me : ℕ) (before : List Event) (e : Event)
+    → after_events s (first_site me) (before ++ e ∷ []) ≡ after_event s (after_events s (first_site me) before) e
+more s me before e = after_events-append s before (e ∷ []) (first_site me)
+
+-- the entries of a run fit where its events do
+run_fits : RepliesFitLines → (s : Settings) → IsConfigured s → (me : ℕ) → me < s.sites → (before es : List Event) → Each (IsEvent s) es
+    → Each (FitsLine s) (with_replies s (after_events s (first_site me) before) es)
+run_fits replies s c me low before [] fits = tt
+run_fits replies s c me low before (e ∷ es) fits = (
+  (fits.0, replies s c me low before e),
+  subst (λ t. Each (FitsLine s) (with_replies s t es)) (more s me before e)
+      (run_fits replies s c me low (before ++ e ∷ []) es fits.1),
+)
+
+-- the names of what is ready in turn fit
+ready_fits : HeldNamesFitLines → (s : Settings) → IsConfigured s → (me : ℕ) → me < s.sites → (before : List Event) (xs : List OpName)
+    → AreReadyInTurn s (after_events s (first_site me) before) xs → Each (IsEvent s) (map Apply xs)
+ready_fits held s c me low before [] turn = tt
+ready_fits held s c me low before (x ∷ xs) turn =
+    let (v, there, ready) = turn.1 in (
+      held s c me low before x v there,
+      ready_fits held s c me low (before ++ Apply x ∷ []) xs
+          (subst (λ t. AreReadyInTurn s t xs) (sym (more s me before (Apply x))) turn.2),
+    )
+
+-- what is on a line, the line is
+event_is : (s : Settings) (l : List ℕ) (e : Event) → event_on s l ≡ Some e → event_of_line s l ≡ Some e
+unfolding event_on
+event_is s l e is = at (is_utf8 l) is
+  where
+    at : (b : Bool) → cond b (event_of_line s l) None ≡ Some e → event_of_line s l ≡ Some e
+    at true h = h
+    at false h = absurd (cc)
+
+-- the events of an answer fit
+answer_fits : LineLaws → (old new : SeenSite) (line text entries : List ℕ) → IsConfigured old.settings → old.me < old.settings.sites
+    → (answer : IsSiteAnswer old new line text entries) → Each (IsEvent old.settings) (answer.event ∷ map Apply answer.applied)
+answer_fits laws old new line text entries c low answer =
+    let s = old.settings in
+    let before = events_of old.entries in (
+      laws.events s line answer.event (event_is s line answer.event answer.is_event),
+      ready_fits laws.held s c old.me low (before ++ answer.event ∷ []) answer.applied
+          (subst (λ t. AreReadyInTurn s t answer.applied) (sym (more s old.me before answer.event)) answer.in_turn),
+    )
+
+-- ---- what is replayed
 
 -- the history isn't full before any of the events
 abbrev AreFree : Settings → ModelSite → List Event → Type 0
@@ -62,7 +127,7 @@ site_next x e is = by (is_full x.settings (state_of x))
 
 -- the line of an entry is read as that entry
 entry_read : EntriesAreRead → EntriesAreLines → (x : SeenSite) (y : Entry) → IsSite x → FitsLine x.settings y
-    → entry_on x.settings (compact_text (entry_json x.settings x.me y)) ≡ Some (x.me, y)
+    → IsReadBack x.settings x.me y
 unfolding entry_on
 entry_read read lines x y is fits =
     let line = compact_text (entry_json x.settings x.me y) in
@@ -91,7 +156,7 @@ run_replayed read lines x s t (e ∷ es) is f g free fits =
 -- a run's entries, where the site has gone through it
 gone_through : EntriesAreRead → EntriesAreLines → (old new : SeenSite) (es : List Event) (recorded : List Entry) → IsSite old
     → AreFree old.settings (state_of old) es → new ≡ next_sites old es → new.entries ≡ old.entries ++ recorded
-    → Each (FitsLine old.settings) recorded → AreReplayed old recorded new
+    → Each (FitsLine old.settings) (with_replies old.settings (state_of old) es) → AreReplayed old recorded new
 gone_through read lines old new es recorded is free after are fits =
     let s = old.settings in
     let t = state_of old in
@@ -99,7 +164,7 @@ gone_through read lines old new es recorded is free after are fits =
     (sym (entries_after old s t es refl refl free) ∙ ap (λ (y : SeenSite). y.entries) (sym after) ∙ are) in
     let P : List Entry → Type 0 = λ xs. AreReplayed old xs new in
     let Q : SeenSite → Type 0 = λ y. AreReplayed old (with_replies s t es) y in
-    subst P same (subst Q (sym after) (run_replayed read lines old s t es is refl refl free (subst (Each (FitsLine s)) (sym same) fits)))
+    subst P same (subst Q (sym after) (run_replayed read lines old s t es is refl refl free fits))
 
 -- a full history: nothing was recorded
 stayed : (old new : SeenSite) (e : Event) (xs : List OpName) (recorded : List Entry) → is_full old.settings (state_of old) ≡ true
@@ -118,12 +183,19 @@ stayed old new e (x ∷ xs) recorded full turn after are =
     absurd (cc)
 
 -- an answer's entries
-pub answers_replayed : EntriesAreRead → EntriesAreLines → AnswersAreReplayed
-answers_replayed read lines old new line text entries configured within answer fits =
+pub answers_replayed : LineLaws → AnswersAreReplayed
+answers_replayed laws old new line text entries configured within answer =
     by (is_full old.settings (state_of old)) refl
   where
+    es : List Event
+    es = answer.event ∷ map Apply answer.applied
+
+    fits : Each (FitsLine old.settings) (with_replies old.settings (state_of old) es)
+    fits = run_fits laws.replies old.settings configured old.me within (events_of old.entries) es
+        (answer_fits laws old new line text entries configured within answer)
+
     by : (b : Bool) → is_full old.settings (state_of old) ≡ b → AreReplayed old answer.recorded new
     by true q = stayed old new answer.event answer.applied answer.recorded q answer.in_turn answer.after answer.recorded_are
-    by false q = gone_through read lines old new (answer.event ∷ map Apply answer.applied) answer.recorded
+    by false q = gone_through laws.entries laws.lines old new es answer.recorded
         (record { configured = configured; within = within }) (q, ready_free old.settings _ answer.applied answer.in_turn) answer.after
         answer.recorded_are fits

@@ -1,14 +1,13 @@
 -- What holds of every answer: its entries' lines are a journal's, and they are replayed.
-use Rattle.std.specs.Prelude.{◌≡◌, ◌≢◌, ℕ, ◌<◌, List, [], ◌∷◌, Some, All, slice_index}
+use Rattle.std.specs.Prelude.{◌≡◌, ◌≢◌, ℕ, ◌<◌, List, [], ◌∷◌, All, slice_index}
 use Rattle.serde_json.specs.Written.{compact_text}
 use Rattle.rb_money.specs.Settings.{IsConfigured, Settings}
 use Rattle.rb_site.specs.declared.entry.Entry.{Entry}
 use Rattle.rb_site.specs.Seen.{SeenSite}
 use Rattle.rb_history.specs.ConfigLines.{config_json}
-use Rattle.rb_history.specs.Entries.{entry_json, entry_on}
-use Rattle.rb_history.specs.Fits.{Each, IsEvent, IsReply}
+use Rattle.rb_history.specs.Entries.{entry_json}
 use Rattle.rb_node.specs.Answers.{IsSiteAnswer, SeenNode}
-use Rattle.rb_node.specs.Replays.{IsReplayedAs}
+use Rattle.rb_node.specs.Replays.{IsReadBack, IsReplayedAs}
 
 -- ---- lines
 
@@ -30,14 +29,10 @@ EntriesAreJournalLines = (s : Settings) → IsConfigured s → (me : ℕ) (x : E
 -- the line of each entry is read as that entry of the site, and the site is the last after all were replayed
 abbrev pub AreReplayed : SeenSite → List Entry → SeenSite → Type 0
 AreReplayed old [] new = new ≡ old
-AreReplayed old (x ∷ xs) new = (next : SeenNode) × (entry_on old.settings (compact_text (entry_json old.settings old.me x)) ≡ Some (old.me, x))
-    × IsReplayedAs old next x × AreReplayed next.site xs new
+AreReplayed old (x ∷ xs) new = (next : SeenNode) × IsReadBack old.settings old.me x × IsReplayedAs old next x
+    × AreReplayed next.site xs new
 
--- the entry fits its line: its numbers fit their types, and its places are known
-abbrev pub FitsLine : Settings → Entry → Type 0
-FitsLine s x = IsEvent s x.event × IsReply x.reply
-
--- what an answer recorded is replayed to the site that it left, where its entries fit their lines
+-- what an answer recorded is replayed to the site that it left
 abbrev pub AnswersAreReplayed : Type 0
 AnswersAreReplayed = (old new : SeenSite) (line text entries : List ℕ) → IsConfigured old.settings → old.me < old.settings.sites
-    → (answer : IsSiteAnswer old new line text entries) → Each (FitsLine old.settings) answer.recorded → AreReplayed old answer.recorded new
+    → (answer : IsSiteAnswer old new line text entries) → AreReplayed old answer.recorded new

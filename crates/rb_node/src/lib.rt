@@ -24,11 +24,12 @@ pub fn lines_are_lines()
 }
 
 /// The entries that an answer recorded, read from their lines and replayed one after another, lead from the site before
-/// it to the site after it, where a line holds each of them whole: its numbers fit their types, its places are known,
-/// and its reply isn't *out of memory*.
+/// it to the site after it.
 pub fn replays_back()
     ensures { AnswersAreReplayed }
 {
     rb_history::entries_are_read();
     rb_history::lines_are_single();
+    rb_history::read_events_fit();
+    rb_history::replies_fit();
 }

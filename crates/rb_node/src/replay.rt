@@ -9,7 +9,7 @@ ghost use Rattle.rb_history.specs.Entries.{entry_json, entry_on};
 ghost use Rattle.serde_json.specs.Written.{compact_text};
 ghost use Rattle.rb_node.specs.Answers.{sent_line};
 ghost use Rattle.rb_node.specs.Faults.{IsEntryFault};
-ghost use Rattle.rb_node.specs.Replays.{IsReplayedAs};
+ghost use Rattle.rb_node.specs.Replays.{IsReadBack, IsReplayedAs};
 
 use crate::answer::append_messages;
 use crate::{Node, NodeFault};
@@ -76,12 +76,13 @@ impl Node {
     pub fn replay_written(&mut self, line: &[u8]) -> Result<(), NodeFault>
         ensures replayed { OnOk result ((x : EntryOf) × (line.now
             ≡ compact_text (entry_json self.old.site.settings self.old.site.me x))
-            × IsReplayedAs self.old.site self.new x) }
+            × IsReadBack self.old.site.settings self.old.site.me x × IsReplayedAs self.old.site self.new x) }
         ensures bad { result ≡ Err NodeFault.BadLine → ((x : EntryOf) → (entry_on self.old.site.settings line.now
             ≡ Some (self.old.site.me, x)) → line.now ≢ compact_text (entry_json self.old.site.settings
             self.old.site.me x)) × (self.new ≡ self.old) }
         ensures wrong { result ≡ Err NodeFault.WrongReply → (x : EntryOf)
             × (line.now ≡ compact_text (entry_json self.old.site.settings self.old.site.me x))
+            × IsReadBack self.old.site.settings self.old.site.me x
             × ((is_full self.old.site.settings (state_of self.old.site) ≡ true)
             ⊎ (x.reply ≢ reply_to self.old.site.settings (state_of self.old.site) x.event)) }
         ensures refusals { IfErr result IsEntryFault }
