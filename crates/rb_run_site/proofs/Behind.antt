@@ -39,6 +39,7 @@ module _ (me most number : ℕ) (input left : Option (List ℕ)) (file config pe
     first = first_known input config number pending left waits;
     journal = opens.journal;
     replayed = opens.replayed;
+    read = opens.read;
   }
 
   -- what it may leave at any moment is what the whole run may leave

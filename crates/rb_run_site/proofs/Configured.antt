@@ -6,6 +6,7 @@ use Rattle.std.specs.Io.KnownBytes.{IsAtEnd}
 use Rattle.rb_site.specs.Seen.{IsReplayed, SeenSite, first_seen}
 use Rattle.rb_lines.specs.Lines.{line_len, lines_of}
 use Rattle.rb_lines.proofs.Public.Walks.{Walks, after_line}
+use Rattle.rb_node.specs.Replays.{IsReadWhole}
 use Rattle.rb_run_site.specs.FirstLines.{WaitsAt}
 use Rattle.rb_run_site.specs.Openings.{OpensFile, OpensSite}
 use Rattle.rb_run_site.specs.Starts.{IsOf, WaitsBehind}
@@ -39,8 +40,11 @@ behind (Some all) (Some rest) number p e n w len fits at_front end =
     }
 
 -- a site before any event has nothing to replay
-first_replayed : (old : SeenSite) (me : ℕ) → me < old.settings.sites → old ≡ first_seen old.settings me → IsReplayed old
+pub first_replayed : (old : SeenSite) (me : ℕ) → me < old.settings.sites → old ≡ first_seen old.settings me → IsReplayed old
 first_replayed old me low begins = subst IsReplayed (sym begins) (record { within = low; replays = tt; room = omega arith })
+
+first_read : (old : SeenSite) (me : ℕ) → old ≡ first_seen old.settings me → IsReadWhole old
+first_read old me begins = subst IsReadWhole (sym begins) tt
 
 -- the site that a file is replayed at is the configuration's
 pub opened : (config : List ℕ) (me most : ℕ) (old new : SeenSite) (file first sends : List ℕ) → IsOf config me old
@@ -52,6 +56,7 @@ opened config me most old new file first sends is begins o = record {
     within = subst (λ c. me < c.sites) (sym o.settings) is.within;
   };
   replayed = o.replayed (first_replayed old me is.within begins);
+  read = o.read (first_read old me begins);
   journal = o.journal;
   begins = o.begins;
   sends_are = o.sends_are;

@@ -8,6 +8,8 @@ mod Opened
 mod Buffered
 mod Prefixes
 mod Replayed
+mod Restarts
 mod Split
 mod Stepped
+mod Taken
 mod Turned

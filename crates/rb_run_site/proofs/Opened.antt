@@ -5,6 +5,8 @@ use Rattle.rb_journal.specs.Lines.{recovered}
 use Rattle.rb_site.specs.Events.{first_site}
 use Rattle.rb_site.specs.Seen.{IsReplayed, SeenSite, first_seen, state_of}
 use Rattle.rb_site.specs.Histories.{events_of}
+use Rattle.rb_history.specs.Fits.{Each}
+use Rattle.rb_node.specs.Replays.{IsReadBack}
 use Rattle.rb_run_site.specs.Files.{BeginsWith}
 use Rattle.rb_run_site.specs.Journals.{journal_head, journal_of, lines_of_entries}
 use Rattle.rb_run_site.specs.Openings.{OpensFile}
@@ -32,6 +34,9 @@ replayed_file old new file entries sends sends_after most count first begins cou
       settings = s;
       me = m;
       replayed = λ was. subst IsReplayed (sym r.goes_on.after) (all_replayed old (events_of r.entries) was);
+      read = λ was. subst (Each (IsReadBack new.settings new.me)) (sym has)
+          (subst (λ i. Each (IsReadBack new.settings i) r.entries) (sym m)
+          (subst (λ c. Each (IsReadBack c old.me) r.entries) (sym s) r.read));
       journal = inr journal;
       begins = inr (journal, refl);
       sends_are = r.sends_are ∙ ap (λ l. l ++ resent old.settings (state_of old) (count - most) r.entries) none

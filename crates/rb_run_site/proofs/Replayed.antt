@@ -1,5 +1,5 @@
 -- The first lines of a journal were replayed, and others are left.
-use Rattle.std.proofs.Common.{◌≡◌, ◌+◌, ◌-◌, ◌≤◌, ◌==◌, ℕ, zero, suc, Bool, false, cond, List, [], ◌∷◌, ◌++◌, length, refl, sym, ap, ◌∙◌}
+use Rattle.std.proofs.Common.{◌≡◌, ◌+◌, ◌-◌, ◌≤◌, ◌==◌, ℕ, zero, suc, Bool, false, cond, List, [], ◌∷◌, ◌++◌, length, refl, sym, ap, subst, ◌∙◌}
 use Rattle.std.proofs.Common.{append_assoc, append-nil, length-append, arith}
 use Rattle.std.specs.Prelude.{if◌then◌else◌}
 use Rattle.std.proofs.lemmas.Bool.Decides.{nat_tests}
@@ -12,7 +12,10 @@ use Rattle.rb_site.specs.Events.{ModelSite, after_event, after_events, is_full, 
 use Rattle.rb_site.specs.Histories.{events_of}
 use Rattle.rb_site.specs.Seen.{SeenSite, entry, next_site, next_sites, state_of, stepped}
 use Rattle.rb_site.proofs.Public.Seen.{settings-next, state-next}
+use Rattle.rb_history.specs.Fits.{Each}
+use Rattle.rb_history.proofs.Public.Each.{each_both}
 use Rattle.rb_node.specs.Answers.{SeenNode, sent_line}
+use Rattle.rb_node.specs.Replays.{IsReadBack}
 use Rattle.rb_run_site.specs.Journals.{lines_of_entries}
 use Rattle.rb_run_site.specs.Replays.{GoesOnBy, IsSplit, ReplaysLine, resent}
 use Rattle.rb_run_site.proofs.EntryLines.{fed}
@@ -22,6 +25,7 @@ pub record Replaying (old now : SeenSite) (lines rest : List ℕ) (skipped left 
   pub entries : List Entry
   pub goes_on : GoesOnBy old now entries
   pub lines_are : recovered lines ≡ lines_of_entries old.settings old.me entries ++ recovered rest
+  pub read : Each (IsReadBack old.settings old.me) entries
   pub batch : IsBatch rest
   pub number_is : number ≡ 2 + length entries
   pub few : number + length rest ≤ 2 + length lines
@@ -35,7 +39,7 @@ sites_push x [] e = refl
 sites_push x (d ∷ es) e = sites_push (next_site x d) es e
 
 -- a site after events is the model's
-state_after : (x : SeenSite) (es : List Event) → state_of (next_sites x es) ≡ after_events x.settings (state_of x) es
+pub state_after : (x : SeenSite) (es : List Event) → state_of (next_sites x es) ≡ after_events x.settings (state_of x) es
 state_after x [] = refl
 state_after x (e ∷ es) =
     state_after (next_site x e) es
@@ -105,6 +109,8 @@ one_more old mid new lines rest line later skipped left number again sends mid_s
           ∙ ap (λ c. fed c mid.me x ∷ recovered later) s ∙ ap (λ n. fed old.settings n x ∷ recovered later) m)
           ∙ sym (append_assoc (lines_of_entries old.settings old.me xs) (fed old.settings old.me x ∷ []) (recovered later))
           ∙ ap (λ ls. ls ++ recovered later) (sym (map-append (fed old.settings old.me) xs (x ∷ [])));
+      read = each_both (IsReadBack old.settings old.me) xs (x ∷ []) i.read
+          (subst (λ n. IsReadBack old.settings n x) m (subst (λ c. IsReadBack c mid.me x) s r.read), tt);
       batch = split.batch;
       number_is = omega (arith, i.number_is, longer);
       few = omega (arith, i.few, split.shorter);

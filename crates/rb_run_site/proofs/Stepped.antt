@@ -114,16 +114,17 @@ events_recorded s x (e ∷ es) k r same is =
 -- ---- one turn
 
 -- the steps of a turn lead from a site that restarts to one that does
-record TakesTurn (s : Settings) (x : SeenSite) (t : Turn SeenSite) : Type 0 where
-  steps : List DiskStep
-  theirs : IsTurnInSteps x t steps
-  after : after_steps s (restarted x) steps ≡ restarted t.after
-  may : MayAllHappen s (restarted x) steps
-  replayed : IsReplayed t.after
-  settings : t.after.settings ≡ x.settings
-  me : t.after.me ≡ x.me
+pub record TakesTurn (s : Settings) (x : SeenSite) (t : Turn SeenSite) : Type 0 where
+  pub steps : List DiskStep
+  pub theirs : IsTurnInSteps x t steps
+  pub after : after_steps s (restarted x) steps ≡ restarted t.after
+  pub may : MayAllHappen s (restarted x) steps
+  pub replayed : IsReplayed t.after
+  pub settings : t.after.settings ≡ x.settings
+  pub me : t.after.me ≡ x.me
 
-turn_taken : (s : Settings) (x : SeenSite) (t : Turn SeenSite) → s ≡ x.settings → IsReplayed x
+-- a turn is steps
+pub turn_taken : (s : Settings) (x : SeenSite) (t : Turn SeenSite) → s ≡ x.settings → IsReplayed x
     → SiteAnswers x t.line t.added t.text t.after → TakesTurn s x t
 turn_taken s x t same is a = record {
   steps = map step_of es ++ (Syncs m ∷ Reports m ∷ []);
@@ -164,17 +165,18 @@ turn_taken s x t same is a = record {
 
 -- ---- all turns
 
-record TakesTurns (s : Settings) (x : SeenSite) (turns : List (Turn SeenSite)) : Type 0 where
-  steps : List DiskStep
-  theirs : AreStepsOf x turns steps
-  after : after_steps s (restarted x) steps ≡ restarted (state_after x turns)
-  may : MayAllHappen s (restarted x) steps
-  replayed : IsReplayed (state_after x turns)
-  settings : (state_after x turns).settings ≡ x.settings
-  me : (state_after x turns).me ≡ x.me
-  journal : journal_of (state_after x turns) ≡ journal_of x ++ lines_added turns
+pub record TakesTurns (s : Settings) (x : SeenSite) (turns : List (Turn SeenSite)) : Type 0 where
+  pub steps : List DiskStep
+  pub theirs : AreStepsOf x turns steps
+  pub after : after_steps s (restarted x) steps ≡ restarted (state_after x turns)
+  pub may : MayAllHappen s (restarted x) steps
+  pub replayed : IsReplayed (state_after x turns)
+  pub settings : (state_after x turns).settings ≡ x.settings
+  pub me : (state_after x turns).me ≡ x.me
+  pub journal : journal_of (state_after x turns) ≡ journal_of x ++ lines_added turns
 
-turns_taken : (s : Settings) (x : SeenSite) (turns : List (Turn SeenSite)) → s ≡ x.settings → IsReplayed x
+-- turns are steps
+pub turns_taken : (s : Settings) (x : SeenSite) (turns : List (Turn SeenSite)) → s ≡ x.settings → IsReplayed x
     → AreTurns SiteAnswers x turns → TakesTurns s x turns
 turns_taken s x [] same is are = record {
   steps = [];
@@ -213,24 +215,25 @@ on_disk s me x f g is =
     whole : take (length x.entries) (events_of x.entries) ≡ events_of x.entries
     whole = ap (λ n. take n (events_of x.entries)) (sym (length-map x.entries (λ (y : Entry). y.event))) ∙ take-length (events_of x.entries)
 
+-- the turns of a site over its journal are steps
+pub are_steps : (x : SeenSite) (turns : List (Turn SeenSite)) (file : List ℕ) → IsReplayed x → AreTurns SiteAnswers x turns
+    → recovered file ≡ journal_of x ++ lines_added turns → AreSteps x turns file
+are_steps x turns file is are lines =
+    let all : TakesTurns x.settings x turns = turns_taken x.settings x turns refl is are in
+    record {
+      steps = all.steps;
+      are_theirs = all.theirs;
+      may = all.may;
+      last = restarted (state_after x turns);
+      last_is = sym all.after;
+      lines_are = lines ∙ sym all.journal ∙ sym (on_disk x.settings x.me (state_after x turns) all.settings all.me all.replayed);
+      reported = sym (length-map (state_after x turns).entries (λ (y : Entry). y.event));
+    }
+
 -- what has run is steps
 pub stepped_run : (me most : ℕ) (input : Option (List ℕ)) (lines : List (List ℕ)) (output c d : List ℕ)
     → IsSiteRun me most input lines output c d
     → IsRunOfSteps me most input lines output c d
 stepped_run me most input lines output c d (inl at) = inl at
 stepped_run me most input lines output c d (inr run) =
-    let x = run.start in
-    let a = run.answered in
-    let all : TakesTurns x.settings x a.turns = turns_taken x.settings x a.turns refl run.starts.replayed a.are in
-    inr (
-      run,
-      record {
-        steps = all.steps;
-        are_theirs = all.theirs;
-        may = all.may;
-        last = restarted (state_after x a.turns);
-        last_is = sym all.after;
-        lines_are = a.lines_are ∙ sym all.journal ∙ sym (on_disk x.settings x.me (state_after x a.turns) all.settings all.me all.replayed);
-        reported = sym (length-map (state_after x a.turns).entries (λ (y : Entry). y.event));
-      },
-    )
+    inr (run, are_steps run.start run.answered.turns c run.starts.replayed run.answered.are run.answered.lines_are)

@@ -22,7 +22,8 @@ pub settings_kept : (x : SeenSite) (es : List Event) → (next_sites x es).setti
 settings_kept x [] = refl
 settings_kept x (e ∷ es) = settings_kept (next_site x e) es ∙ settings-next x e
 
-me_next : (x : SeenSite) (e : Event) → (next_site x e).me ≡ x.me
+-- nor does one event change the number
+pub me_next : (x : SeenSite) (e : Event) → (next_site x e).me ≡ x.me
 me_next x e = by (is_full x.settings (state_of x))
   where
     by : (b : Bool) → (cond b x (stepped x e)).me ≡ x.me

@@ -5,6 +5,7 @@ pub mod FirstLines
 pub mod Journals
 pub mod Openings
 pub mod Replays
+pub mod Restarts
 pub mod Runs
 pub mod Starts
 pub mod Steps

@@ -6,6 +6,7 @@ use Rattle.rb_journal.specs.Lines.{recovered}
 use Rattle.rb_lines.specs.Lines.{lines_of}
 use Rattle.rb_serve.specs.Turns.{not_blank}
 use Rattle.rb_site.specs.Seen.{IsReplayed, SeenSite, first_seen}
+use Rattle.rb_node.specs.Replays.{IsReadWhole}
 use Rattle.rb_run_site.specs.Journals.{journal_head, journal_of}
 use Rattle.rb_run_site.specs.Files.{BeginsWith, IsAnother}
 use Rattle.rb_run_site.specs.FirstLines.{IsBehindBlanks}
@@ -24,6 +25,7 @@ pub record OpensFile (old new : SeenSite) (file first sends : List ℕ) (most : 
   pub settings : new.settings ≡ old.settings
   pub me : new.me ≡ old.me
   pub replayed : IsReplayed old → IsReplayed new
+  pub read : IsReadWhole old → IsReadWhole new
   pub journal : IsJournalOf (recovered file) new
   pub begins : IsToBegin (recovered file) new first
   pub sends_are : sends ≡ sent_again most new
@@ -71,6 +73,7 @@ IsOpeningCause me input file _ = Unit {0}
 pub record OpensSite (config : List ℕ) (me most : ℕ) (file : List ℕ) (x : SeenSite) (first sends : List ℕ) : Type 0 where
   pub is_of : IsOf config me x
   pub replayed : IsReplayed x
+  pub read : IsReadWhole x
   pub journal : IsJournalOf (recovered file) x
   pub begins : IsToBegin (recovered file) x first
   pub sends_are : sends ≡ sent_again most x

@@ -8,8 +8,9 @@ use Rattle.rb_site.specs.Events.{ModelSite, after_event, is_full, reply_to, sent
 use Rattle.rb_site.specs.Histories.{events_of}
 use Rattle.rb_site.specs.Seen.{SeenSite, next_sites, state_of}
 use Rattle.rb_history.specs.Entries.{entry_json, entry_on}
+use Rattle.rb_history.specs.Fits.{Each}
 use Rattle.rb_node.specs.Answers.{SeenNode, sent_line}
-use Rattle.rb_node.specs.Replays.{IsReplayedAs}
+use Rattle.rb_node.specs.Replays.{IsReadBack, IsReplayedAs}
 use Rattle.rb_run_site.specs.Journals.{lines_of_entries}
 use Rattle.rb_run_site.specs.declared.fault.SiteFault.{SiteFault}
 use Rattle.rb_run_site.specs.declared.fault.SiteFault.TheVariants.{BadEntry, WrongReply}
@@ -26,12 +27,13 @@ pub record GoesOnBy (old new : SeenSite) (xs : List Entry) : Type 0 where
   pub after : new ≡ next_sites old (events_of xs)
   pub entries : new.entries ≡ old.entries ++ xs
 
--- the lines of a journal are these entries' of the site, which goes on by them; what they sent, but for a number of the
--- first, is added
+-- the lines of a journal are these entries' of the site, each of which is read from its line, and the site goes on by
+-- them; what they sent, but for a number of the first, is added
 pub record ReplaysLines (old new : SeenSite) (lines : List (List ℕ)) (skipped : ℕ) (sends sends_after : List ℕ) : Type 0 where
   pub entries : List Entry
   pub goes_on : GoesOnBy old new entries
   pub lines_are : lines ≡ lines_of_entries old.settings old.me entries
+  pub read : Each (IsReadBack old.settings old.me) entries
   pub sends_are : sends_after ≡ sends ++ resent old.settings (state_of old) skipped entries
 
 -- a line is no entry of the site, as it is written
@@ -41,6 +43,7 @@ IsNoEntry x line = (e : Entry) → entry_on x.settings line ≡ Some (x.me, e) �
 -- a line is an entry that isn't the site's next: its history is full, or it gives another reply
 abbrev pub IsOtherwise : SeenSite → List ℕ → Type 0
 IsOtherwise x line = (e : Entry) × (line ≡ compact_text (entry_json x.settings x.me e))
+    × IsReadBack x.settings x.me e
     × ((is_full x.settings (state_of x) ≡ true) ⊎ (e.reply ≢ reply_to x.settings (state_of x) e.event))
 
 -- lines are this one, with its line feed, and then those of these bytes
@@ -49,10 +52,11 @@ pub record IsSplit (lines line later : List ℕ) : Type 0 where
   pub batch : IsBatch later
   pub shorter : length later < length lines
 
--- the line of an entry was replayed; what it sent is added, where it is sent again
+-- the line of an entry was read as the entry, which was replayed; what it sent is added, where it is sent again
 pub record ReplaysLine (old : SeenSite) (new : SeenNode) (line : List ℕ) (again : Bool) (sends sends_after : List ℕ) : Type 0 where
   pub entry : Entry
   pub line_is : line ≡ compact_text (entry_json old.settings old.me entry)
+  pub read : IsReadBack old.settings old.me entry
   pub replayed : IsReplayedAs old new entry
   pub sends_are : sends_after ≡ sends ++ (if again then sent_line old.settings (sent_at old.settings (state_of old) entry.event) else [])
 
@@ -71,6 +75,7 @@ pub record StopsReplay (old : SeenSite) (lines : List (List ℕ)) (number : ℕ)
   pub line : List ℕ
   pub later : List (List ℕ)
   pub lines_are : lines ≡ lines_of_entries old.settings old.me entries ++ (line ++ 10 ∷ []) ∷ later
+  pub read : Each (IsReadBack old.settings old.me) entries
   pub number_is : number ≡ 2 + length entries
   pub stops : P mid line
 

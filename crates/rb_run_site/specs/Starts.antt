@@ -4,6 +4,7 @@ use Rattle.rb_site.specs.Events.{first_site}
 use Rattle.rb_site.specs.Seen.{IsReplayed, SeenSite, first_seen}
 use Rattle.rb_commands.specs.Configurations.{config_on}
 use Rattle.rb_lines.specs.Lines.{lines_of}
+use Rattle.rb_node.specs.Replays.{IsReadWhole}
 use Rattle.rb_serve.specs.Turns.{not_blank}
 use Rattle.rb_run_site.specs.Journals.{journal_of}
 use Rattle.rb_run_site.specs.Replays.{resent}
@@ -36,10 +37,12 @@ pub record WaitsBehind (config : List ℕ) (number : ℕ) (pending : List ℕ) (
   pub left_is : left ≡ Some rest
   pub behind : IsBehind config number (lines_of (pending ++ rest)) input
 
--- a run starts with this site: the one that the input's first line and the journal's lines say; its history replays
+-- a run starts with this site: the one that the input's first line and the journal's lines say; its history replays,
+-- and the line of each of its entries is read as that entry
 pub record Starts (me : ℕ) (input : Option (List ℕ)) (lines : List (List ℕ)) (x : SeenSite) : Type 0 where
   pub config : List ℕ
   pub is_of : IsOf config me x
   pub first : IfSome input (λ all. (number : ℕ) × (later : List (List ℕ)) × IsBehind config number later all)
   pub journal : IsJournalOf lines x
   pub replayed : IsReplayed x
+  pub read : IsReadWhole x

@@ -11,6 +11,22 @@ mod opening;
 mod replay;
 mod run;
 
+ghost use Rattle.rb_run_site.specs.Restarts.{RestartedRunsAreOne, RestartsAreTaken, RestartsGoOn};
+
 pub use fault::{SiteFault, site_message, site_status};
 pub use machine::SiteMachine;
 pub use run::{Ran, run_site};
+
+/// However often a site ran and crashed, each run over the file that the crash before it left: the next run starts with
+/// the very site that all turns led to whose entries the file has, and all turns are one run of a site that doesn't
+/// crash. So what the site answers is what it would have answered without the crashes, after the same events. And that
+/// file is never at fault.
+pub fn restart_goes_on()
+    ensures site { RestartsGoOn }
+    ensures run { RestartedRunsAreOne }
+    ensures taken { RestartsAreTaken }
+{
+    rb_commands::read_configs_are_configured();
+    rb_history::configs_are_read();
+    rb_node::replays_back();
+}

@@ -1,0 +1,23 @@
+use Rattle.rb_run_site.proofs.Restarts.{RestartLaws, goes_on, is_taken, one_run}
+use Rattle.rb_run_site.proofs.restart_goes_on.Goals as goal
+
+pub returns-clause-site : goal.returns-clause-site
+returns-clause-site c = goes_on (record {
+  configs = c.configs_are_read.ensures;
+  configured = c.read_configs_are_configured.ensures;
+  replays = c.replays_back.ensures;
+})
+
+pub returns-clause-run : goal.returns-clause-run
+returns-clause-run c = one_run (record {
+  configs = c.configs_are_read.ensures;
+  configured = c.read_configs_are_configured.ensures;
+  replays = c.replays_back.ensures;
+})
+
+pub returns-clause-taken : goal.returns-clause-taken
+returns-clause-taken c = is_taken (record {
+  configs = c.configs_are_read.ensures;
+  configured = c.read_configs_are_configured.ensures;
+  replays = c.replays_back.ensures;
+})
