@@ -1,0 +1,344 @@
+//! One site of the bank, one event at a time.
+
+use crate::bank::{Bank, Cause, Kind, MOST_CENTS, NOWHERE, Name, Op, Refusal, Request, TokenMessage};
+use crate::inbox::{Held, Inbox};
+use crate::ledger::Ledger;
+use crate::ops::Ops;
+
+/// The most requests of a batch.
+const MOST_REQUESTS: usize = 16;
+
+/// The most basis points of interest, which are also all.
+const MOST_RATE: u32 = 10_000;
+
+/// What a site answers.
+#[derive(Clone, Copy)]
+pub enum Reply {
+    /// The operation at this place among all was made.
+    Made(u32),
+    /// The last operations of the ledger were made, so many.
+    Names(usize),
+    Held(Name),
+    Already(Name),
+    Taken(u32),
+    Stale(u32),
+    Applied(Name),
+    /// The token was sent.
+    Passed(TokenMessage),
+    Balance(u64),
+    /// The statement of this account.
+    Statement(u32),
+    Refused(Refusal),
+}
+
+impl From<Result<Reply, Refusal>> for Reply {
+    fn from(answer: Result<Reply, Refusal>) -> Reply {
+        answer.unwrap_or_else(Reply::Refused)
+    }
+}
+
+pub struct Site {
+    me: u8,
+    pub ledger: Ledger,
+    inbox: Inbox,
+    epoch: u32,
+    has_token: bool,
+    /// How many red operations it needs to have applied before it makes one.
+    needed: u32,
+    /// The entries of its history.
+    recorded: u32,
+}
+
+impl Site {
+    pub fn new(bank: &Bank, me: u8) -> Site {
+        Site {
+            me,
+            ledger: Ledger::new(bank),
+            inbox: Inbox::new(bank),
+            epoch: 0,
+            has_token: me == 0,
+            needed: 0,
+            recorded: 0,
+        }
+    }
+
+    /// All sites of a bank.
+    pub fn all(bank: &Bank) -> Vec<Site> {
+        (0..bank.sites).map(|me| Site::new(bank, me)).collect()
+    }
+
+    /// Adds an entry to the history, or says that it is full.
+    #[inline]
+    pub fn record(&mut self, bank: &Bank) -> Result<(), Refusal> {
+        if self.recorded >= bank.limits.history {
+            return Err(Refusal::HISTORY_FULL);
+        }
+        self.recorded += 1;
+        Ok(())
+    }
+
+    /// Makes the operation that is asked for.
+    #[inline]
+    pub fn submit(&mut self, bank: &Bank, ops: &mut Ops, request: &Request) -> Result<Reply, Refusal> {
+        let planned = self.plan(bank, ops, request)?;
+        Ok(Reply::Made(self.make(bank, ops, planned)?))
+    }
+
+    /// Makes the operations of all requests, or none.
+    pub fn batch(&mut self, bank: &Bank, ops: &mut Ops, requests: &[Request]) -> Result<Reply, Refusal> {
+        if !(1..=MOST_REQUESTS).contains(&requests.len()) {
+            return Err(Refusal::BAD_BATCH);
+        }
+        let before = (self.ledger.len(), ops.len());
+        for (index, request) in requests.iter().enumerate() {
+            if let Err(cause) = self.make_in_batch(bank, ops, request) {
+                while self.ledger.len() > before.0 {
+                    self.ledger.undo(bank, ops);
+                }
+                ops.truncate(before.1);
+                return Err(Refusal::BatchRefused { index: index as u32, cause });
+            }
+        }
+        Ok(Reply::Names(requests.len()))
+    }
+
+    fn make_in_batch(&mut self, bank: &Bank, ops: &mut Ops, request: &Request) -> Result<(), Cause> {
+        let refused = |why: Refusal| Cause::Refused(why.number());
+        let planned = self.plan(bank, ops, request).map_err(refused)?;
+        if planned.kind == Kind::Declined {
+            return Err(Cause::Declined);
+        }
+        self.make(bank, ops, planned).map_err(refused)?;
+        Ok(())
+    }
+
+    /// The operation that a request makes, still without its name.
+    #[inline]
+    fn plan(&self, bank: &Bank, ops: &Ops, request: &Request) -> Result<Op, Refusal> {
+        match *request {
+            Request::Deposit { account, amount } => {
+                known(bank, account)?;
+                is_amount(amount)?;
+                Ok(self.planned(account, amount, Kind::Deposit))
+            }
+            Request::Withdraw { account, amount } => {
+                known(bank, account)?;
+                is_amount(amount)?;
+                Ok(self.planned(account, amount, self.if_covered(account, amount, Kind::Withdraw)))
+            }
+            Request::Interest { account, rate } => {
+                known(bank, account)?;
+                let amount = self.interest(account, rate)?;
+                Ok(self.planned(account, amount, Kind::Interest))
+            }
+            Request::Cancel { target } => self.plan_cancel(ops, target),
+            Request::Transfer { from, to, amount } => {
+                known(bank, from)?;
+                known(bank, to)?;
+                is_amount(amount)?;
+                self.plan_transfer(from, to, amount)
+            }
+        }
+    }
+
+    fn planned(&self, account: u32, amount: u64, kind: Kind) -> Op {
+        let (account, to) = (account as u16, NOWHERE as u16);
+        Op { amount, number: 0, target_number: 0, account, to, row: 0, target_row: 0, home: self.me, kind }
+    }
+
+    /// The kind that was asked for, where the balance covers the amount.
+    fn if_covered(&self, account: u32, amount: u64, kind: Kind) -> Kind {
+        if self.ledger.balance(account) < amount { Kind::Declined } else { kind }
+    }
+
+    /// The balance's share, rounded down. The product is taken in two parts, as the whole of it can be over 64 bits.
+    fn interest(&self, account: u32, rate: u32) -> Result<u64, Refusal> {
+        if rate > MOST_RATE {
+            return Err(Refusal::BAD_RATE);
+        }
+        let (balance, all, rate) = (self.ledger.balance(account), u64::from(MOST_RATE), u64::from(rate));
+        let share = balance / all * rate + balance % all * rate / all;
+        if share > MOST_CENTS {
+            return Err(Refusal::DELTA_TOO_LARGE);
+        }
+        Ok(share)
+    }
+
+    fn plan_transfer(&self, from: u32, to: u32, amount: u64) -> Result<Op, Refusal> {
+        if from == to {
+            return Err(Refusal::SAME_ACCOUNT);
+        }
+        let kind = self.if_covered(from, amount, Kind::Transfer);
+        let to = if kind == Kind::Transfer { to } else { NOWHERE };
+        Ok(Op { to: to as u16, ..self.planned(from, amount, kind) })
+    }
+
+    fn plan_cancel(&self, ops: &Ops, target: Name) -> Result<Op, Refusal> {
+        let Some((place, cancelled_at)) = self.ledger.find(target) else {
+            return Err(Refusal::UNKNOWN_OPERATION);
+        };
+        let op = ops.get(place);
+        if !op.kind.may_be_cancelled() {
+            return Err(Refusal::NOT_CANCELLABLE);
+        }
+        if cancelled_at != 0 {
+            return Err(Refusal::AlreadyCancelled { position: cancelled_at });
+        }
+        let planned = self.planned(op.account.into(), op.amount, Kind::Cancel);
+        Ok(Op { target_row: op.row, target_number: op.number, ..planned })
+    }
+
+    /// Makes a planned operation, which gets the next name of its colour, and applies it. Gives its place among all.
+    #[inline]
+    fn make(&mut self, bank: &Bank, ops: &mut Ops, mut op: Op) -> Result<u32, Refusal> {
+        let is_red = self.is_red(ops, &op);
+        op.row = if is_red { 0 } else { self.me + 1 };
+        op.number = self.ledger.clock()[usize::from(op.row)] + 1;
+        if op.number > bank.limits.most_in_row(op.row.into()) {
+            return Err(Refusal::NUMBERS_EXHAUSTED);
+        }
+        let effect = self.ledger.effect(ops, &op);
+        if is_red {
+            self.may_make_red()?;
+            if op.kind == Kind::Cancel && self.ledger.overdraws(&effect) {
+                return Err(Refusal::WOULD_OVERDRAW);
+            }
+        }
+        let place = ops.add(op, self.ledger.clock());
+        self.ledger.apply(place, &op, &effect);
+        Ok(place)
+    }
+
+    /// Whether an operation takes from an account.
+    fn is_red(&self, ops: &Ops, op: &Op) -> bool {
+        match op.kind {
+            Kind::Withdraw | Kind::Transfer => true,
+            Kind::Cancel => {
+                let target = Name { row: u32::from(op.target_row), number: op.target_number };
+                self.ledger.find(target).is_none_or(|(place, _)| ops.get(place).kind != Kind::Withdraw)
+            }
+            _ => false,
+        }
+    }
+
+    fn may_make_red(&self) -> Result<(), Refusal> {
+        if !self.has_token {
+            return Err(Refusal::NEED_TOKEN);
+        }
+        let seen = self.ledger.reds();
+        if seen < self.needed {
+            return Err(Refusal::RedBehind { seen, needed: self.needed });
+        }
+        Ok(())
+    }
+
+    /// Receives an operation that is sound by itself, by its place among all.
+    #[inline]
+    pub fn receive(&mut self, bank: &Bank, ops: &Ops, place: u32) -> Result<Reply, Refusal> {
+        let op = ops.get(place);
+        let name = op.name();
+        let if_same = |known: u32| if known == place { Ok(Reply::Already(name)) } else { Err(Refusal::CONFLICT) };
+        if self.ledger.has(op.row, op.number) {
+            return self.ledger.find(name).map_or(Err(Refusal::CONFLICT), |(known, _)| if_same(known));
+        }
+        if op.home == self.me {
+            return Err(Refusal::CONFLICT);
+        }
+        let row = usize::from(op.row);
+        match self.inbox.find(row, op.number) {
+            Ok(at) => if_same(self.inbox.get(row, at)),
+            Err(at) => {
+                let is_full = self.inbox.len() >= bank.limits.inbox as usize;
+                if is_full && !self.ledger.covers(ops.clock(place)) {
+                    return Err(Refusal::INBOX_FULL);
+                }
+                self.inbox.put(row, at, Held { number: op.number, op: place });
+                Ok(Reply::Held(name))
+            }
+        }
+    }
+
+    /// Applies a held operation.
+    #[inline]
+    pub fn apply(&mut self, ops: &Ops, name: Name) -> Result<Reply, Refusal> {
+        let row = name.row as usize;
+        let Ok(at) = self.inbox.find(row, name.number) else {
+            return Err(Refusal::NOT_HELD);
+        };
+        let place = self.inbox.get(row, at);
+        if !self.ledger.covers(ops.clock(place)) {
+            return Err(Refusal::NOT_READY);
+        }
+        let op = ops.get(place);
+        let effect = self.ledger.effect(ops, op);
+        let refusal = match self.ledger.find(name) {
+            Some((known, _)) if known == place => return Err(Refusal::NOT_READY),
+            Some(_) => Some(Refusal::CONFLICT),
+            None => self.ledger.refusal_of(ops, op, &effect),
+        };
+        self.inbox.take(row, at);
+        if let Some(refusal) = refusal {
+            return Err(refusal);
+        }
+        self.ledger.apply(place, op, &effect);
+        Ok(Reply::Applied(name))
+    }
+
+    /// Receives a token.
+    pub fn receive_token(&mut self, bank: &Bank, token: TokenMessage) -> Result<Reply, Refusal> {
+        if token.to != self.me {
+            return Err(Refusal::NOT_YOURS);
+        }
+        if token.epoch > bank.limits.epoch || token.red > bank.limits.red {
+            return Err(Refusal::BadMessage { why: 2 });
+        }
+        if token.epoch <= self.epoch {
+            return Ok(Reply::Stale(token.epoch));
+        }
+        (self.epoch, self.has_token, self.needed) = (token.epoch, true, token.red);
+        Ok(Reply::Taken(token.epoch))
+    }
+
+    /// Sends the token to another site.
+    pub fn pass(&mut self, bank: &Bank, to: u8) -> Result<Reply, Refusal> {
+        if to >= bank.sites || to == self.me {
+            return Err(Refusal::NO_SITE);
+        }
+        if self.epoch >= bank.limits.epoch {
+            return Err(Refusal::NUMBERS_EXHAUSTED);
+        }
+        if !self.has_token {
+            return Err(Refusal::NEED_TOKEN);
+        }
+        (self.epoch, self.has_token) = (self.epoch + 1, false);
+        let red = self.needed.max(self.ledger.reds());
+        Ok(Reply::Passed(TokenMessage { epoch: self.epoch, to, red }))
+    }
+
+    #[inline]
+    pub fn balance(&self, bank: &Bank, account: u32) -> Result<Reply, Refusal> {
+        known(bank, account)?;
+        Ok(Reply::Balance(self.ledger.balance(account)))
+    }
+
+    pub fn balance_as_of(&self, bank: &Bank, account: u32, position: u32) -> Result<Reply, Refusal> {
+        known(bank, account)?;
+        if position as usize > self.ledger.len() {
+            return Err(Refusal::POSITION_BEYOND);
+        }
+        Ok(Reply::Balance(self.ledger.balance_as_of(bank, account, position)))
+    }
+
+    pub fn statement(&self, bank: &Bank, account: u32) -> Result<Reply, Refusal> {
+        known(bank, account)?;
+        Ok(Reply::Statement(account))
+    }
+}
+
+fn known(bank: &Bank, account: u32) -> Result<(), Refusal> {
+    if bank.has(account) { Ok(()) } else { Err(Refusal::UNKNOWN_ACCOUNT) }
+}
+
+fn is_amount(amount: u64) -> Result<(), Refusal> {
+    if (1..=MOST_CENTS).contains(&amount) { Ok(()) } else { Err(Refusal::BAD_AMOUNT) }
+}
