@@ -180,9 +180,9 @@ def main():
         for word, input_ in inputs:
             answer = answers(programs, word, input_)
             if answer is None:
-                with open(f"/tmp/fuzz-{word}-{seed}", "wb") as file:
+                with open(os.path.join(tempfile.gettempdir(), f"fuzz-{word}-{seed}"), "wb") as file:
                     file.write(input_)
-                sys.exit(f"seed {seed}: {word} differs: /tmp/fuzz-{word}-{seed}")
+                sys.exit(f"seed {seed}: {word} differs: {file.name}")
             verdict = word if word != "audit" else f"audit {answer[0][:16]!r}"
             seen[verdict, answer[2]] = seen.get((verdict, answer[2]), 0) + 1
     counts = (f"{count} {name} with status {status}" for (name, status), count in sorted(seen.items()))
