@@ -24,6 +24,8 @@ pub struct Node {
     pub(crate) site: Site<ErasedEntry>,
     /// The messages of the last event.
     pub(crate) sent: Vec<Message>,
+    /// The last entry, written to compare it with its line; it keeps its memory from one entry to the next.
+    pub(crate) written: Vec<u8>,
 }
 
 impl Model for Node {
@@ -77,6 +79,7 @@ impl Node {
             config,
             site,
             sent: Vec::new(alloc),
+            written: Vec::new(alloc),
         })
     }
 
@@ -110,6 +113,7 @@ impl Node {
             config: _,
             site,
             sent: _,
+            written: _,
         } = self;
         site.end();
     }

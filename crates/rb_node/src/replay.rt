@@ -88,9 +88,9 @@ impl Node {
         ensures refusals { IfErr result IsEntryFault }
     {
         let entry = self.entry_of(line)?;
-        let mut written = Vec::new(self.alloc);
-        append_line(&mut written, &self.config, self.site.me(), &entry)?;
-        if written.as_slice() != line {
+        self.written.clear();
+        append_line(&mut self.written, &self.config, self.site.me(), &entry)?;
+        if self.written.as_slice() != line {
             return Err(NodeFault::BadLine);
         }
         self.replay_entry(entry)
