@@ -30,14 +30,25 @@ macro_rules! twice {
     };
 }
 
-/// Whether two sites hold the same of the shadows that these messages bring.
-fn same_held(site: &Site, other: &Site, messages: &[Message]) -> bool {
+/// Whether two sites hold the same of the shadows that a world's messages bring.
+fn same_held(site: &Site, other: &Site, world: &World) -> bool {
     let mut same = site.inbox().len() == other.inbox().len();
-    for message in messages {
-        if let Message::Shadow(shadow) = message {
+    for k in 0..world.message_count() {
+        let number = (k as u32).saturating_add(1);
+        if let Some(Message::Shadow(shadow)) = world.message(number) {
             let name = &shadow.name;
             same = same && site.inbox().held(name) == other.inbox().held(name);
         }
+    }
+    same
+}
+
+/// Whether two worlds sent the same messages.
+fn same_messages(world: &World, other: &World) -> bool {
+    let mut same = world.message_count() == other.message_count();
+    for k in 0..world.message_count() {
+        let number = (k as u32).saturating_add(1);
+        same = same && world.message(number) == other.message(number);
     }
     same
 }
@@ -57,7 +68,7 @@ fn same_sites(site: &Site, other: &Site) -> bool {
 
 /// Whether two worlds are equal in their sites, the messages that were sent and the events.
 fn same_worlds(world: &World, other: &World) -> bool {
-    let mut same = world.messages() == other.messages();
+    let mut same = same_messages(world, other);
     same = same && world.events().len() == other.events().len();
     for (event, it) in world.events().iter().zip(other.events()) {
         same = same && event.same(it);
@@ -65,9 +76,7 @@ fn same_worlds(world: &World, other: &World) -> bool {
     for place in 0..world.config().sites() {
         same = same
             && match (world.site(place), other.site(place)) {
-                (Some(site), Some(it)) => {
-                    same_sites(site, it) && same_held(site, it, world.messages())
-                }
+                (Some(site), Some(it)) => same_sites(site, it) && same_held(site, it, world),
                 _ => false,
             };
     }

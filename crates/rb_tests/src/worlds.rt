@@ -75,7 +75,7 @@ fn nothing_is_recorded_where_no_site_or_message_is(rt: HostRuntime) -> Result<()
     let event = WorldEvent::Deliver(0, 1);
     let _reply = world.step(&event).expect(&rt, "answered");
     holds(&rt, "no event", world.events().is_empty());
-    holds(&rt, "no message", world.messages().is_empty());
+    holds(&rt, "no message", world.message_count() == 0);
     for place in 0..2u8 {
         let site = world.site(place).expect(&rt, "a site");
         holds(&rt, "no entry", site.history().is_empty());

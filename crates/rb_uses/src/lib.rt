@@ -101,7 +101,7 @@ pub fn batch_is_refused_whole(
     let mut world = open_bank(alloc)?;
     match world.step(&WorldEvent::At(0, Event::Batch(List::new(requests)))) {
         Ok(reply) => {
-            let answered = (reply, balance(&world, 0, ANN), world.messages().len());
+            let answered = (reply, balance(&world, 0, ANN), world.message_count());
             world.end();
             Ok(answered)
         }

@@ -10,20 +10,21 @@ ghost use Rattle.rb_site.specs.Worlds.{IsCommand, arrival, is_recorded, message_
 ghost use Rattle.rb_world.specs.Brought.{brought_by};
 ghost use Rattle.rb_world.specs.Laws.{Holds, IsRunOf, next_replies, next_reply, next_world, next_worlds, opened};
 
+use crate::sent::{Sent, kept_message};
 use crate::{KeepsEvent, Stopped};
 use rb_money::{Config, Refusal};
 use rb_site::{Entry, Event, KeepsEntry, Message, Reply, Site, SiteReport, WorldEvent};
 use std::alloc::{AllocError, Global};
 use std::marker::Model;
 
-/// One site for each site number, every message that was ever sent, and the events that the sites
+/// One site for each site number, where every message that was ever sent is kept, and the events that the sites
 /// recorded. It is always the run of its events. It can't be dropped: it is closed or ended. `E` is what
 /// the sites keep of each entry, and `R` is what the world keeps of each event.
 pub struct World<E: KeepsEntry = Entry, R: KeepsEvent = WorldEvent> {
     alloc: Global,
     config: Config,
     sites: Vec<Site<E>>,
-    sent: Vec<Message>,
+    sent: Sent,
     recorded: Vec<R>,
     reports: Vec<SiteReport>,
 }
@@ -32,21 +33,30 @@ impl<E: KeepsEntry, R: KeepsEvent> Model for World<E, R> {
     ghost use Rattle.std.specs.Prelude.{◌≡◌, ◌≤◌, [], All, length, map, vec_capacity};
     ghost use Rattle.rb_site.specs.Seen.{SeenSite, state_of};
     ghost use Rattle.rb_world.specs.Laws.{SeenWorld, IsRunOf};
+    ghost use Rattle.rb_world.specs.Sent.{AreKept, kept_messages};
 
     ghost Value = { SeenWorld };
 
     ghost view = { λ w. record {
       settings = w.config;
-      world = record { sites = map state_of w.sites.items; messages = w.sent.items };
+      world = record {
+        sites = map state_of w.sites.items;
+        messages = kept_messages (map state_of w.sites.items) w.sent.tokens.items w.sent.places.items;
+      };
       events = map R.noted w.recorded.items;
     } };
 
     ghost invariant = { λ w. IsRunOf (record {
       settings = w.config;
-      world = record { sites = map state_of w.sites.items; messages = w.sent.items };
+      world = record {
+        sites = map state_of w.sites.items;
+        messages = kept_messages (map state_of w.sites.items) w.sent.tokens.items w.sent.places.items;
+      };
       events = map R.noted w.recorded.items;
     })
         × All (λ (x : SeenSite). x.settings ≡ w.config) w.sites.items
+        × AreKept (map state_of w.sites.items) w.sent.tokens.items w.sent.places.items
+        × (w.sent.posted.items ≡ [])
         × (w.reports.items ≡ [])
         × (length w.sites.items ≤ vec_capacity w.reports) };
 }
@@ -126,7 +136,7 @@ impl<E: KeepsEntry, R: KeepsEvent> World<E, R> {
             alloc,
             config,
             sites,
-            sent: Vec::new(alloc),
+            sent: Sent::new(alloc),
             recorded: Vec::new(alloc),
             reports,
         })
@@ -180,16 +190,7 @@ impl<E: KeepsEntry, R: KeepsEvent> World<E, R> {
         self.record(site, arrived, noted)
     }
 
-    /// The message of a number, from 1.
-    fn message(&self, number: u32) -> Option<Message>
-        ensures { result ≡ message_at self.now.world.messages number }
-    {
-        if number == 0 {
-            return None;
-        }
-        self.sent.get(number as usize - 1).copied()
-    }
-
+    #[inline(always)]
     /// A site takes an event for which its history has spare capacity.
     fn record(&mut self, site: u8, arrived: &Event, noted: R) -> Result<Reply, AllocError>
         requires command { IsCommand (R.noted noted) }
@@ -202,7 +203,10 @@ impl<E: KeepsEntry, R: KeepsEvent> World<E, R> {
         ensures err { OnErr result (self.new ≡ self.old) }
     {
         self.recorded.reserve(1)?;
-        let reply = self.sites[site as usize].record(arrived, &mut self.sent)?;
+        self.sent.reserve()?;
+        let applied = self.sites[site as usize].ledger().len();
+        let reply = self.sites[site as usize].record(arrived, &mut self.sent.posted)?;
+        self.sent.note(site, applied);
         self.recorded.push_reserved(noted);
         Ok(reply)
     }
@@ -222,12 +226,28 @@ impl<E: KeepsEntry, R: KeepsEvent> World<E, R> {
         self.sites.get(site as usize)
     }
 
-    /// Every message that was ever sent, in order. Whatever happened, the laws of a world hold.
-    pub fn messages(&self) -> &[Message]
-        ensures same { result.now ≡ self.now.world.messages }
+    /// How many messages were ever sent.
+    pub fn message_count(&self) -> usize
+        ensures { result ≡ length self.now.world.messages }
+    {
+        self.sent.places.len()
+    }
+
+    /// The message of a number, from 1 in the order of sending; `None` where there is no such message. Whatever
+    /// happened, the laws of a world hold.
+    pub fn message(&self, number: u32) -> Option<Message>
+        ensures same { result ≡ message_at self.now.world.messages number }
         ensures holds { Holds self.now.settings self.now.world }
     {
-        self.sent.as_slice()
+        // For a fact alone: the world is the run of its events.
+        let places = &self.sent.places;
+        if number == 0 {
+            return None;
+        }
+        match places.get(number as usize - 1) {
+            Some(kept) => kept_message(self.sites.as_slice(), self.sent.tokens.as_slice(), *kept),
+            None => None,
+        }
     }
 
     /// Ends the world.
