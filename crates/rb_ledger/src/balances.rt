@@ -52,7 +52,7 @@ impl Ledger {
     }
 
     /// The balance of an account just after its entry at the position, or what it starts with.
-    fn balance_at(&self, position: u32, place: Place) -> u64
+    pub(crate) fn balance_at(&self, position: u32, place: Place) -> u64
         requires on { IsOn self.now.entries place position }
         requires account { place.0 < length self.now.settings.starts }
         ensures sum { pos result ≡ bal self.now.settings (take position self.now.entries) place }
