@@ -1,0 +1,17 @@
+-- One record more.
+use Rattle.std.proofs.Common.{◌≡◌, ◌+◌, ◌<◌, ◌∙◌, List, ap, arith, length, sym}
+use Rattle.rb_shadow.specs.declared.shadow.Shadow.{Shadow}
+use Rattle.rb_ledger.specs.Book.{Book}
+use Rattle.rb_ledger.proofs.RecordReads.{one_record_more}
+use Rattle.rb_ledger.proofs.ledger.Ledger.records.Goals as goal
+
+pub loop-k-preserved : goal.loop-k-preserved
+loop-k-preserved c =
+    let same : c.deref-entry-items.result.now ≡ c.args.self.now.entries =
+    c.deref-entry-items.ensures.value ∙ ap (λ (b : Book). b.entries) c.self.view_is in
+    let many : length c.deref-entry-items.result.now ≡ length c.args.self.now.entries = ap length same in (
+      one_record_more c.args.self.now.settings c.args.self.now.entries c.deref-entry-items.result.now c.loop-k.k _ c.loop-k.log.parts _ _
+          same (omega (arith, many, c.loop-k-test.true)) (c.new.ensures ∙ c.record_of-parts.ensures) c.loop-k.invariant.0
+          c.push_reserved.ensures.parts,
+      omega (arith, c.push_reserved.ensures.room, c.loop-k.invariant.1),
+    )
