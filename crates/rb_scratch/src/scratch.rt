@@ -188,36 +188,21 @@ impl<'a> Scratch<'a> {
         }
     }
 
-    /// Keeps what was run: puts the records at the log's end, and answers how many operations that are,
-    /// the ledger's last. It takes memory only where the log has too little spare capacity. Out of memory
-    /// the scratch comes back, and nothing changes but that the log may have more spare capacity.
-    pub fn keep(self, log: &mut UndoLog) -> Result<usize, Scratch<'a>>
-        ensures* ledger { sem 𝓛 (RestsIfOk the_row self.entry.ledger (λ scratch. scratch.ledger.ghost_name) result
-            (λ book. book ≡ self.entry.ledger.now)) }
-        ensures count { IfOk result (λ count. count ≡ length self.entry.undos.parts) }
-        ensures log { OnOk result (log.new.parts ≡ log.old.parts ++ self.entry.undos.parts) }
-        ensures back { IfErr result (λ back. (back.ledger.ghost_name ≡ self.entry.ledger.ghost_name)
-            × (back.ledger.now ≡ self.entry.ledger.now) × (back.token ≡ self.entry.token)
-            × (back.undos ≡ self.entry.undos)) }
-        ensures unchanged { OnErr result (log.new.parts ≡ log.old.parts) }
-        ensures short { OnErr result (log.old.room < length self.entry.undos.parts) }
-        ensures grows { OnErr result (log.old.room ≤ log.new.room) }
+    /// Keeps what was run, and gives up the undo of it. Answers how many operations that are, the ledger's last. This
+    /// takes no memory.
+    pub fn keep(self) -> usize
+        ensures ledger { self.exit.0.now ≡ self.entry.ledger.now }
+        ensures count { result ≡ length self.entry.undos.parts }
     {
         let Scratch {
-            ledger,
-            token,
+            ledger: _,
+            token: _,
             undos,
-            alloc,
+            alloc: _,
         } = self;
-        match undos.append_to(log) {
-            Ok(count) => Ok(count),
-            Err(undos) => Err(Scratch {
-                ledger,
-                token,
-                undos,
-                alloc,
-            }),
-        }
+        let count = undos.len();
+        undos.close();
+        count
     }
 
     /// Takes back what was run: the ledger's list is that at the opening, and there is spare

@@ -87,37 +87,17 @@ as_many s me base vs view book parts rs tried runs = tried_length base vs book p
     ∙ batch_length s me base (seen view) 0 rs vs (runs (seen view) (seen_shows view))
 
 -- what was tried on a scratch is in the ledger that it was opened on
-pub tried_here : (old opened book : Book) (view shown : TokenView) (parts before after : List UndoParts) (rs : List Request)
-    (vs : List Shadow) → opened ≡ old → shown ≡ view → book.settings ≡ opened.settings
-    → IsTried opened.entries vs book parts → after ≡ before ++ parts →
+pub tried_here : (old opened book : Book) (view shown : TokenView) (parts : List UndoParts) (rs : List Request)
+    (vs : List Shadow) → opened ≡ old → shown ≡ view → IsTried opened.entries vs book parts →
     ((known : Token) → Shows shown known → batch_of opened.settings shown.me opened.entries known 0 rs ≡ Ok vs)
-    → (book.entries ≡ old.entries ++ vs) × (after ≡ before ++ logged old.settings old.entries vs)
+    → (book.entries ≡ old.entries ++ vs)
     × ((known : Token) → Shows view known → batch_of old.settings view.me old.entries known 0 rs ≡ Ok vs)
-tried_here old opened book view shown parts before after rs vs is sees same tried grown runs =
+tried_here old opened book view shown parts rs vs is sees tried runs =
     let B : Book → Type 0 = λ b. (known : Token) → Shows view known → batch_of b.settings view.me b.entries known 0 rs ≡ Ok vs in
     let V : TokenView → Type 0 = λ t. (known : Token) → Shows t known → batch_of opened.settings t.me opened.entries known 0 rs ≡ Ok vs in (
       tried.entries ∙ ap (λ (b : Book). b.entries ++ vs) is,
-      grown ∙ ap (λ ps. before ++ ps) (tried.records ∙ ap (λ s. logged s opened.entries vs) same
-          ∙ ap (λ (b : Book). logged b.settings b.entries vs) is),
       subst B is (subst V sees runs),
     )
-
--- ---- the records of a batch
-
--- the log has the list's records, whether a batch was made or refused
-pub journaled : {A : Type 0} (X : A → Type 0) (Y : Refusal → Type 0) (r : Result A Refusal) (s now : Settings) (us later : List Shadow)
-    (ps qs : List UndoParts) → now ≡ s → ps ≡ records_of s us
-    → ((a : A) → X a → (made : List Shadow) × (later ≡ us ++ made) × (qs ≡ ps ++ logged s us made)) →
-    ((why : Refusal) → Y why → (later ≡ us) × (qs ≡ ps)) → IfOk r X → IfErr r Y → qs ≡ records_of now later
-journaled X Y (Ok a) s now us later ps qs same kept more less ok err =
-    let (made, grown, noted) = more a ok in
-    noted ∙ ap (λ rs. rs ++ logged s us made) kept ∙ sym (records_of-append s us made)
-    ∙ ap (records_of s) (sym grown)
-    ∙ ap (λ z. records_of z later) (sym same)
-journaled X Y (Err why) s now us later ps qs same kept more less ok err =
-    let (back, noted) = less why err in
-    noted ∙ kept ∙ ap (records_of s) (sym back)
-    ∙ ap (λ z. records_of z later) (sym same)
 
 -- ---- what a batch comes to
 

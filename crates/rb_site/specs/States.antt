@@ -18,7 +18,7 @@ pub record SiteState : Type 0 where
   pub settings : Settings
   pub site : ModelSite
 
--- a ledger with its undo records: the configuration's settings, and the operations that were applied
+-- a ledger: the configuration's settings, and the operations that were applied
 pub record SeenLedger : Type 0 where
   pub settings : Settings
   pub ops : List Shadow

@@ -1,8 +1,7 @@
-//! The requests of a batch, made on a ledger with its undo log.
+//! The requests of a batch, made on a ledger.
 ghost use Rattle.std.specs.Prelude.{◌≡◌, ◌≤◌, ◌<◌, ◌++◌, [], ◌⊎◌, List, length, map, Ok, Err, IfOk, IfErr, OnOk, ◌+◌};
 ghost use Rattle.std.specs.Prelude.{vec_len, vec_capacity};
 ghost use Rattle.rb_shadow.specs.declared.shadow.Shadow.{Shadow as TheShadow};
-ghost use Rattle.rb_ledger.specs.Records.{logged};
 ghost use Rattle.rb_token.specs.Token.{Token};
 ghost use Rattle.rb_token.specs.Seen.{Shows};
 ghost use Rattle.rb_scratch.specs.Batches.{batch_of, cause_of, names_of_all};
@@ -17,7 +16,6 @@ use rb_ledger::Ledger;
 use rb_money::Refusal;
 use rb_scratch::{Request, RunFault, Scratch};
 use rb_token::TokenView;
-use rb_undo::UndoLog;
 use std::alloc::Global;
 
 /// The refusal of a batch whose request of this index, from 0, is at fault. Out of memory is
@@ -77,14 +75,12 @@ fn answer_of_last(ledger: &Ledger, count: usize, room: BatchRoom, sent: &mut Vec
 }
 
 /// Makes the requests at the site of the token's view, each after those before it: all of them or none.
-/// The answer names the operations, their messages are put at the end of what was sent, and their
-/// records at the log's end.
+/// The answer names the operations, and their messages are put at the end of what was sent.
 ///
 /// Refuses, and changes nothing: with `BatchRefused` by the first request at fault, or with `OutOfMemory`.
 pub fn run_batch(
     alloc: Global,
     ledger: &mut Ledger,
-    log: &mut UndoLog,
     token: TokenView,
     requests: &[Request],
     keeps: bool,
@@ -94,13 +90,11 @@ pub fn run_batch(
     requires few { length requests.now ≤ MOST_REQUESTS }
     ensures settings { ledger.new.settings ≡ ledger.old.settings }
     ensures made { IfOk result (λ answer. (made : List TheShadow) × (ledger.new.entries ≡ ledger.old.entries ++ made)
-        × (log.new.parts ≡ log.old.parts ++ logged ledger.old.settings ledger.old.entries made)
         × Says keeps answer (Reply.Names (names_of_all made))
         × (sent.new.items ≡ sent.old.items ++ map Message.Shadow made)
         × ((known : Token) → Shows token known → batch_of ledger.old.settings token.me ledger.old.entries known 0
         requests.now ≡ Ok made)) }
-    ensures refused { IfErr result (λ why. (ledger.new.entries ≡ ledger.old.entries) × (log.new.parts ≡ log.old.parts)
-        × (sent.new.items ≡ sent.old.items)
+    ensures refused { IfErr result (λ why. (ledger.new.entries ≡ ledger.old.entries) × (sent.new.items ≡ sent.old.items)
         × ((why ≡ Refusal.OutOfMemory) ⊎ ((known : Token) → Shows token known →
         batch_of ledger.old.settings token.me ledger.old.entries known 0 requests.now ≡ Err why))) }
 {
@@ -116,12 +110,6 @@ pub fn run_batch(
             return Err(Refusal::OutOfMemory);
         }
     };
-    let count = match scratch.keep(log) {
-        Ok(count) => count,
-        Err(back) => {
-            back.abort();
-            return Err(Refusal::OutOfMemory);
-        }
-    };
+    let count = scratch.keep();
     Ok(answer_of_last(ledger, count, room, sent))
 }

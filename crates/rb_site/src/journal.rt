@@ -1,4 +1,4 @@
-//! A site's ledger with its undo records.
+//! A site's ledger.
 ghost use Rattle.std.specs.Prelude.{◌≡◌, ◌<◌, ◌≤◌, ◌++◌, ◌∷◌, ◌⊎◌, [], List, length, map, Some, None, Ok, Err, IfOk};
 ghost use Rattle.std.specs.Prelude.{IfErr, OnOk, OnErr, option_copied};
 ghost use Rattle.rb_ledger.specs.Checks.{refusal_of};
@@ -16,46 +16,38 @@ ghost use Rattle.rb_site.specs.States.{Says};
 use crate::answer::Answer;
 use crate::batch::run_batch;
 use crate::{Message, Reply};
-use core::mem::replace_with;
 use rb_ledger::Ledger;
 use rb_money::{Config, Place, Refusal};
 use rb_scratch::Request;
 use rb_shadow::{OpName, Shadow};
-use rb_statements::as_of;
+use rb_statements::balance_at;
 use rb_token::TokenView;
 use rb_undo::UndoLog;
 use rb_vclock::Clock;
 use std::alloc::{AllocError, Global};
 use std::marker::Model;
 
-/// A ledger and its undo records, one for each operation. Clients see the settings and the operations.
+/// A site's ledger. Clients see the settings and the operations. The record to undo an operation isn't kept: it is made
+/// anew from the ledger.
 pub struct Journal {
     ledger: Ledger,
-    log: UndoLog,
 }
 
 impl Model for Journal {
-    ghost use Rattle.std.specs.Prelude.{◌≡◌};
-    ghost use Rattle.rb_ledger.specs.Records.{records_of};
     ghost use Rattle.rb_site.specs.States.{SeenLedger};
 
     ghost Value = { SeenLedger };
 
     ghost view = { λ j. record { settings = j.ledger.settings; ops = j.ledger.entries } };
-
-    ghost invariant = { λ j. j.log.parts ≡ records_of j.ledger.settings j.ledger.entries };
 }
 
 impl Journal {
-    /// A ledger of the configuration without operations, and without records. `Err` means out of memory.
+    /// A ledger of the configuration without operations. `Err` means out of memory.
     pub fn open(alloc: Global, config: &Config) -> Result<Journal, AllocError>
         ensures { IfOk result (λ journal. journal ≡ record { settings = config.now; ops = [] }) }
     {
         let ledger = Ledger::open(alloc, config)?;
-        Ok(Journal {
-            ledger,
-            log: UndoLog::new(alloc),
-        })
+        Ok(Journal { ledger })
     }
 
     /// The ledger.
@@ -98,15 +90,14 @@ impl Journal {
         }
     }
 
-    /// The undo records: the k-th is that of the first k operations.
-    pub fn log(&self) -> &UndoLog
-        ensures { result.now.parts ≡ records_of self.now.settings self.now.ops }
+    /// The undo records, made anew: the k-th is that of the first k operations. `Err` means out of memory.
+    pub fn log(&self, alloc: Global) -> Result<UndoLog, AllocError>
+        ensures { IfOk result (λ log. log.parts ≡ records_of self.now.settings self.now.ops) }
     {
-        &self.log
+        self.ledger.records(alloc)
     }
 
-    /// Applies a shadow, and keeps the record to undo that. After a refusal, which is that of
-    /// `Ledger::check`, or else out of memory, all is as before.
+    /// Applies a shadow. After a refusal, which is that of `Ledger::check`, or else out of memory, all is as before.
     pub fn apply(&mut self, shadow: Shadow) -> Result<(), Refusal>
         ensures applied { OnOk result (self.new ≡ record self.old { ops = self.old.ops ++ shadow ∷ [] }) }
         ensures taken { OnOk result (refusal_of self.old.settings self.old.ops shadow ≡ None) }
@@ -114,32 +105,23 @@ impl Journal {
             × ((refusal_of self.old.settings self.old.ops shadow ≡ Some why)
             ⊎ ((why ≡ Refusal.OutOfMemory) × (refusal_of self.old.settings self.old.ops shadow ≡ None)))) }
     {
-        if self.log.reserve(1).is_err() {
-            // Out of memory is the refusal where nothing else refuses the shadow.
-            if let Err(why) = self.ledger.check(&shadow) {
-                return Err(why);
-            }
-            return Err(Refusal::OutOfMemory);
-        }
         match self.ledger.apply(shadow) {
             Ok(undo) => {
-                self.log.push_reserved(undo);
+                undo.seal();
                 Ok(())
             }
             Err((_, why)) => Err(why),
         }
     }
 
-    /// Applies a shadow that may follow the operations, and keeps the record to undo that. An `Err`
-    /// means out of memory, and all is as before.
+    /// Applies a shadow that may follow the operations. An `Err` means out of memory, and all is as before.
     pub fn append(&mut self, shadow: Shadow) -> Result<(), AllocError>
         requires { IsValid self.old.settings (self.old.ops ++ shadow ∷ []) }
         ensures ok { OnOk result (self.new ≡ record self.old { ops = self.old.ops ++ shadow ∷ [] }) }
         ensures err { OnErr result (self.new ≡ self.old) }
     {
-        self.log.reserve(1)?;
         let undo = self.ledger.apply_valid(shadow)?;
-        self.log.push_reserved(undo);
+        undo.seal();
         Ok(())
     }
 
@@ -169,44 +151,23 @@ impl Journal {
             × ((why ≡ Refusal.OutOfMemory) ⊎ ((known : Token) → Shows token known →
             batch_of self.old.settings token.me self.old.ops known 0 requests.now ≡ Err why))) }
     {
-        run_batch(
-            alloc,
-            &mut self.ledger,
-            &mut self.log,
-            token,
-            requests,
-            keeps,
-            sent,
-        )
+        run_batch(alloc, &mut self.ledger, token, requests, keeps, sent)
     }
 
     /// The balance of an account after the first `position` operations, in cents, or why there is none.
-    /// This takes no memory, and changes nothing.
-    pub fn as_of(&mut self, place: Place, position: u32) -> Result<u64, Refusal>
-        ensures same { self.new ≡ self.old }
-        ensures balance { result ≡ balance_as_of self.old.settings self.old.ops place position }
+    /// This takes no memory.
+    pub fn as_of(&self, place: Place, position: u32) -> Result<u64, Refusal>
+        ensures { result ≡ balance_as_of self.now.settings self.now.ops place position }
     {
-        replace_with(self, (place, position), seen_as_of)
+        balance_at(&self.ledger, place, position)
     }
 
-    /// Gives up the undo of every operation, and gives the operations and their clock.
+    /// Gives up the ledger for its operations and their clock.
     pub fn close(self) -> (Vec<Shadow>, Clock)
         ensures entries { result.0.items ≡ self.ops }
         ensures clock { result.1 ≡ clock_of self.ops }
     {
-        let Journal { ledger, log } = self;
-        log.close();
+        let Journal { ledger } = self;
         ledger.close()
     }
-}
-
-/// The balance of an account as of a position, and the journal as it was.
-fn seen_as_of(journal: Journal, asked: (Place, u32)) -> (Journal, Result<u64, Refusal>)
-    ensures same { result.0 ≡ journal }
-    ensures balance { result.1 ≡ balance_as_of journal.settings journal.ops asked.0 asked.1 }
-{
-    let (place, position) = asked;
-    let Journal { ledger, log } = journal;
-    let (ledger, log, balance) = as_of(ledger, log, place, position);
-    (Journal { ledger, log }, balance)
 }

@@ -83,11 +83,11 @@ impl State {
         self.journal.ledger()
     }
 
-    /// The undo records: the k-th is that of the first k operations.
-    pub fn log(&self) -> &UndoLog
-        ensures { result.now.parts ≡ records_of self.now.settings self.now.site.ops }
+    /// The undo records, made anew: the k-th is that of the first k operations. `Err` means out of memory.
+    pub fn log(&self) -> Result<UndoLog, AllocError>
+        ensures { IfOk result (λ log. log.parts ≡ records_of self.now.settings self.now.site.ops) }
     {
-        self.journal.log()
+        self.journal.log(self.alloc)
     }
 
     /// What the site holds.
@@ -317,8 +317,8 @@ impl State {
 
     #[tactic(auto, unfolding(crate::specs::Events::outcome_of))]
     /// An account's balance, in cents, after the first `position` operations of the ledger.
-    fn as_of(&mut self, place: Place, position: u32) -> Answer
-        ensures { Follows true self.old self.new [] [] (outcome_of self.old.settings self.old.site
+    fn as_of(&self, place: Place, position: u32) -> Answer
+        ensures { Follows true self.now self.now [] [] (outcome_of self.now.settings self.now.site
             (Event.AsOf place position)) result }
     {
         match self.journal.as_of(place, position) {

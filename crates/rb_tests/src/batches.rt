@@ -62,20 +62,14 @@ fn committed(alloc: Global, ledger: &mut Ledger, log: &mut UndoLog) -> Tried {
     }
 }
 
-/// What was tried, of which only the records to undo it are kept. How many that were.
-fn kept(alloc: Global, ledger: &mut Ledger, log: &mut UndoLog) -> Tried {
+/// What was tried and kept, its undo given up. How many operations that were.
+fn kept(alloc: Global, ledger: &mut Ledger) -> Tried {
     let sites = ledger.config().sites();
     prove!(0 < sites);
     let mut scratch = Scratch::open(alloc, ledger, HOLDER);
     let first = scratch.run(&DEPOSIT_50);
     let second = scratch.run(&WITHDRAW_57);
-    match scratch.keep(log) {
-        Ok(records) => (first, second, records),
-        Err(back) => {
-            back.abort();
-            (first, second, 0)
-        }
-    }
+    (first, second, scratch.keep())
 }
 
 /// A deposit of 7 cents.
@@ -125,33 +119,26 @@ fn all_are_kept(rt: HostRuntime) -> Result<(), Fail> {
     Ok(())
 }
 
-/// The position and the name that the last record has, which is taken.
-fn last_of(log: &mut UndoLog) -> Option<(u32, OpName)> {
-    match log.pop() {
-        Some(undo) => {
-            let parts = undo.spend();
-            Some((parts.position, parts.name))
-        }
-        None => None,
-    }
+/// The position and the name that the record of an operation has.
+fn record_of(ledger: &Ledger, position: u32) -> Option<(u32, OpName)> {
+    let parts = ledger.record(position)?;
+    Some((parts.position, parts.name))
 }
 
-/// What is tried and kept as records alone behind a deposit, the last record, how many are before it, and what the
-/// ledger has then.
-fn after_keep(alloc: Global) -> Result<(Tried, Option<(u32, OpName)>, usize, Left), Fail> {
+/// What is tried and kept behind a deposit, the records of the second and the third operation, and what the ledger has
+/// then.
+fn after_keep(alloc: Global) -> Result<(Tried, [Option<(u32, OpName)>; 2], Left), Fail> {
     let mut ledger = ledger_after(alloc, &[("ann", 0)], &DEPOSIT_7)?;
-    let mut log = UndoLog::new(alloc);
-    let tried = kept(alloc, &mut ledger, &mut log);
-    let last = last_of(&mut log);
-    let records = log.len();
-    log.close();
-    Ok((tried, last, records, left_in(&ledger)))
+    let tried = kept(alloc, &mut ledger);
+    let records = [record_of(&ledger, 2), record_of(&ledger, 3)];
+    Ok((tried, records, left_in(&ledger)))
 }
 
 #[test]
-fn records_alone_are_kept(rt: HostRuntime) -> Result<(), Fail> {
-    let (tried, last, records, left) = after_keep(rt.alloc())?;
-    equal(&rt, (tried, last, records), (BOTH, Some((3, RED_1)), 1));
+fn all_are_kept_without_records(rt: HostRuntime) -> Result<(), Fail> {
+    let (tried, records, left) = after_keep(rt.alloc())?;
+    equal(&rt, tried, BOTH);
+    equal(&rt, records, [Some((2, BLUE_2)), Some((3, RED_1))]);
     equal(&rt, left, (3, 2, Some(0)));
     Ok(())
 }

@@ -150,6 +150,7 @@ fn reports_of_sites(rt: HostRuntime) -> Result<(), Fail> {
 /// Whether two ledgers answer each look-up of a position alike.
 fn same_at(ledger: &Ledger, other: &Ledger, position: u32) -> bool {
     let mut same = ledger.entry(position) == other.entry(position)
+        && ledger.record(position) == other.record(position)
         && ledger.count(position) == other.count(position)
         && ledger.first_cancel(position) == other.first_cancel(position);
     for place in 0..3u16 {

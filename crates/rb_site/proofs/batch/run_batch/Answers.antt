@@ -27,34 +27,33 @@ pub answer_of_last-requires-clause-there : goal.answer_of_last-requires-clause-t
 answer_of_last-requires-clause-there c =
     let (vs, tried, runs) = c.in_default.ensures.tried in
     enough _ c.open-scratch.result.ledger.now.entries vs _ c.run_all.new.scratch.ledger.now c.run_all.new.scratch.undos.parts (search rules)
-    c.in-Ok-keep.ensures.count tried
+    c.keep-count.ensures.count tried
 
 pub answer_of_last-requires-clause-few : goal.answer_of_last-requires-clause-few
 answer_of_last-requires-clause-few c =
     let (vs, tried, runs) = c.in_default.ensures.tried in
     let many = as_many _ _ _ vs c.open-scratch.result.token c.run_all.new.scratch.ledger.now c.run_all.new.scratch.undos.parts
     c.args.requests.now tried runs in
-    omega (arith, c.in-Ok-keep.ensures.count, many, ap (λ (r : BatchRoomFor). r.most) c.in-Ok.ensures.ok.0)
+    omega (arith, c.keep-count.ensures.count, many, ap (λ (r : BatchRoomFor). r.most) c.in-Ok.ensures.ok.0)
 
 pub answer_of_last-requires-clause-room : goal.answer_of_last-requires-clause-room
 answer_of_last-requires-clause-room c =
     let (vs, tried, runs) = c.in_default.ensures.tried in
     let many = as_many _ _ _ vs c.open-scratch.result.token c.run_all.new.scratch.ledger.now c.run_all.new.scratch.undos.parts
     c.args.requests.now tried runs in
-    omega (arith, c.in-Ok-keep.ensures.count, many, c.in-Ok.ensures.ok.1)
+    omega (arith, c.keep-count.ensures.count, many, c.in-Ok.ensures.ok.1)
 
 pub returns-clause-made : goal.returns-clause-made
 returns-clause-made c =
     let (vs, tried, runs) = c.in_default.ensures.tried in
-    let (grown, noted, makes) = tried_here c.args.ledger.now c.open-scratch.result.ledger.now c.run_all.new.scratch.ledger.now c.args.token
-    c.open-scratch.result.token c.run_all.new.scratch.undos.parts c.args.log.now.parts c.keep.new.log.parts c.args.requests.now vs
-    c.open-scratch.ensures.ledger c.open-scratch.ensures.token c.run_all.ensures.settings tried c.in-Ok-keep.ensures.log runs in
-    let count : length vs ≡ c.in-Ok-keep.count = sym (tried_length c.open-scratch.result.ledger.now.entries vs
-    c.run_all.new.scratch.ledger.now c.run_all.new.scratch.undos.parts tried) ∙ sym c.in-Ok-keep.ensures.count in
+    let (grown, makes) = tried_here c.args.ledger.now c.open-scratch.result.ledger.now c.run_all.new.scratch.ledger.now c.args.token
+    c.open-scratch.result.token c.run_all.new.scratch.undos.parts c.args.requests.now vs c.open-scratch.ensures.ledger
+    c.open-scratch.ensures.token tried runs in
+    let count : length vs ≡ c.keep-count.result = sym (tried_length c.open-scratch.result.ledger.now.entries vs
+    c.run_all.new.scratch.ledger.now c.run_all.new.scratch.undos.parts tried) ∙ sym c.keep-count.ensures.count in
     let K : Bool → Type 0 = λ keeps. Says keeps c.answer_of_last.result (NamesMade (names_of_all vs)) in (
       vs,
       as_left _ c.run_all.new.scratch.ledger.now.entries _ grown (search rules),
-      noted,
       subst K (ap (λ (r : BatchRoomFor). r.keeps) c.in-Ok.ensures.ok.0)
           (c.answer_of_last.ensures.answer c.args.ledger.now.entries vs
           (as_left _ c.run_all.new.scratch.ledger.now.entries _ grown (search rules)) count),
