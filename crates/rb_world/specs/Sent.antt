@@ -1,6 +1,8 @@
 -- Where the messages of a world are kept.
 use Rattle.std.specs.Prelude.{ℕ, ◌+◌, ◌≡◌, List, [], ◌∷◌, length, map, Option, Some, None, option_map, option_and_then}
-use Rattle.std.specs.Prelude.{slice_get}
+use Rattle.std.specs.Prelude.{slice_get, ◌≤◌, ◌<◌, ◌^◌, vec_capacity}
+use Rattle.rb_scratch.specs.declared.request.TheConstants.{MOST_REQUESTS}
+use Rattle.rb_world.specs.declared.sent.Sent.{Sent}
 use Rattle.std.specs.List.{range_with_len}
 use Rattle.rb_ledger.specs.Valid.{operation_at}
 use Rattle.rb_token.specs.declared.message.TokenMessage.{TokenMessage}
@@ -31,7 +33,7 @@ abbrev pub AreKept : List ModelSite → List TokenMessage → List Kept → Type
 AreKept ts tokens [] = Unit {0}
 AreKept ts tokens (p ∷ ps) = ((m : Message) × (kept_at ts tokens p ≡ Some m)) × AreKept ts tokens ps
 
--- the places of so many operations of a site, behind the first n of its ledger
+-- the places of k operations of a site, behind the first n of its ledger
 abbrev pub places_from : ℕ → ℕ → ℕ → List Kept
 places_from i n k = map (Operation i) (range_with_len (n + 1) k)
 
@@ -45,3 +47,9 @@ places_of i n k ms = places_from i n (length ms)
 abbrev pub token_of : List Message → List TokenMessage
 token_of (TokenOnItsWay m ∷ ms) = m ∷ []
 token_of _ = []
+
+-- there is memory to note what one event sends: a token message, or as many operations as a batch may have requests
+pub record CanNote (sent : Sent) : Type 0 where
+  pub places : length sent.places.items + MOST_REQUESTS ≤ vec_capacity sent.places
+  pub tokens : length sent.tokens.items + 1 ≤ vec_capacity sent.tokens
+  pub numbered : length sent.tokens.items < 2 ^ 32

@@ -1,8 +1,8 @@
 //! Where the messages that were sent are kept.
-ghost use Rattle.std.specs.Prelude.{◌≡◌, ◌+◌, ◌<◌, ◌≤◌, ◌^◌, ◌++◌, ◌∷◌, [], length, map, OnOk, OnErr, vec_capacity};
+ghost use Rattle.std.specs.Prelude.{◌≡◌, ◌+◌, ◌<◌, ◌≤◌, ◌^◌, ◌++◌, ◌∷◌, [], length, map, true, false, OnOk, OnErr, vec_capacity};
 ghost use Rattle.rb_site.specs.Seen.{SeenSite, state_of};
 ghost use Rattle.rb_scratch.specs.declared.request.TheConstants.{MOST_REQUESTS};
-ghost use Rattle.rb_world.specs.Sent.{kept_at, places_from, places_of, token_of};
+ghost use Rattle.rb_world.specs.Sent.{CanNote, kept_at, places_from, places_of, token_of};
 ghost use Rattle.rb_world.specs.declared.sent.Kept.TheVariants.{Token as TokenAt};
 
 use rb_scratch::MOST_REQUESTS;
@@ -26,6 +26,8 @@ pub struct Sent {
     pub tokens: Vec<TokenMessage>,
     /// What the last event sent, until its places are noted; nothing between two events. It keeps its memory.
     pub posted: Vec<Message>,
+    /// Whether there is known to be memory to note what one event sends.
+    pub ready: bool,
 }
 
 impl Sent {
@@ -34,38 +36,59 @@ impl Sent {
         ensures places { result.places.items ≡ [] }
         ensures tokens { result.tokens.items ≡ [] }
         ensures posted { result.posted.items ≡ [] }
+        ensures not_ready { result.ready ≡ false }
     {
         Sent {
             places: Vec::new(alloc),
             tokens: Vec::new(alloc),
             posted: Vec::new(alloc),
+            ready: false,
         }
     }
 
-    /// Takes memory to note what one event sends. `Err` means out of memory, or 2^32 token messages.
-    pub fn reserve(&mut self) -> Result<(), AllocError>
+    /// Takes memory to note what one event sends, where there isn't known to be enough. `Err` means out of memory, or
+    /// 2^32 token messages.
+    #[inline(always)]
+    pub fn make_ready(&mut self) -> Result<(), AllocError>
+        requires ready { self.old.ready ≡ true → CanNote self.old }
         ensures places { self.new.places.items ≡ self.old.places.items }
         ensures tokens { self.new.tokens.items ≡ self.old.tokens.items }
         ensures posted { self.new.posted.items ≡ self.old.posted.items }
-        ensures ok { OnOk result ((length self.old.places.items + MOST_REQUESTS ≤ vec_capacity self.new.places)
-            × (length self.old.tokens.items + 1 ≤ vec_capacity self.new.tokens)
-            × (length self.old.tokens.items < 2 ^ 32)) }
+        ensures ok { OnOk result (CanNote self.new) }
+        ensures ready { self.new.ready ≡ true → CanNote self.new }
+    {
+        if self.ready {
+            return Ok(());
+        }
+        self.reserve()
+    }
+
+    /// Takes memory to note what one event sends. `Err` means out of memory, or 2^32 token messages.
+    fn reserve(&mut self) -> Result<(), AllocError>
+        requires { self.old.ready ≡ false }
+        ensures places { self.new.places.items ≡ self.old.places.items }
+        ensures tokens { self.new.tokens.items ≡ self.old.tokens.items }
+        ensures posted { self.new.posted.items ≡ self.old.posted.items }
+        ensures ok { OnOk result (CanNote self.new) }
+        ensures err { OnErr result (self.new.ready ≡ false) }
     {
         if self.tokens.len() > u32::MAX as usize {
             return Err(AllocError);
         }
         self.places.reserve(MOST_REQUESTS)?;
-        self.tokens.reserve(1)
+        self.tokens.reserve(1)?;
+        self.ready = true;
+        Ok(())
     }
 
     /// Notes where what was posted is kept: nothing, one token message, or the operations that the site's ledger has
     /// behind the first `before`.
+    #[inline(always)]
     pub fn note(&mut self, site: u8, before: u32)
         requires few { length self.old.posted.items ≤ MOST_REQUESTS }
         requires fits { before + MOST_REQUESTS < 2 ^ 32 }
-        requires places { length self.old.places.items + MOST_REQUESTS ≤ vec_capacity self.old.places }
-        requires tokens { length self.old.tokens.items + 1 ≤ vec_capacity self.old.tokens }
-        requires numbered { length self.old.tokens.items < 2 ^ 32 }
+        requires ready { CanNote self.old }
+        ensures ready { self.new.ready ≡ true → CanNote self.new }
         ensures places { self.new.places.items ≡ self.old.places.items
             ++ places_of site before (length self.old.tokens.items) self.old.posted.items }
         ensures tokens { self.new.tokens.items ≡ self.old.tokens.items ++ token_of self.old.posted.items }
@@ -89,11 +112,13 @@ impl Sent {
             ∷ [] }
         ensures tokens { self.new.tokens.items ≡ self.old.tokens.items ++ token ∷ [] }
         ensures posted { self.new.posted.items ≡ [] }
+        ensures not_ready { self.new.ready ≡ false }
     {
         let place = self.tokens.len() as u32;
         self.places.push_reserved(Kept::Token { place });
         self.tokens.push_reserved(token);
         self.posted.clear();
+        self.ready = false;
     }
 
     /// Notes as many operations as messages were posted, behind the first `before` of the site's ledger.
@@ -105,6 +130,7 @@ impl Sent {
             (length self.old.posted.items) }
         ensures tokens { self.new.tokens.items ≡ self.old.tokens.items }
         ensures posted { self.new.posted.items ≡ [] }
+        ensures not_ready { self.new.ready ≡ false }
     {
         for k in 0..self.posted.len() {
             let position = before + k as u32 + 1;
@@ -112,6 +138,7 @@ impl Sent {
                 .push_reserved(Kept::Operation { site, position });
         }
         self.posted.clear();
+        self.ready = false;
     }
 }
 

@@ -30,10 +30,10 @@ pub struct World<E: KeepsEntry = Entry, R: KeepsEvent = WorldEvent> {
 }
 
 impl<E: KeepsEntry, R: KeepsEvent> Model for World<E, R> {
-    ghost use Rattle.std.specs.Prelude.{◌≡◌, ◌≤◌, [], All, length, map, vec_capacity};
+    ghost use Rattle.std.specs.Prelude.{◌≡◌, ◌≤◌, [], true, All, length, map, vec_capacity};
     ghost use Rattle.rb_site.specs.Seen.{SeenSite, state_of};
     ghost use Rattle.rb_world.specs.Laws.{SeenWorld, IsRunOf};
-    ghost use Rattle.rb_world.specs.Sent.{AreKept, kept_messages};
+    ghost use Rattle.rb_world.specs.Sent.{AreKept, CanNote, kept_messages};
 
     ghost Value = { SeenWorld };
 
@@ -57,6 +57,7 @@ impl<E: KeepsEntry, R: KeepsEvent> Model for World<E, R> {
         × All (λ (x : SeenSite). x.settings ≡ w.config) w.sites.items
         × AreKept (map state_of w.sites.items) w.sent.tokens.items w.sent.places.items
         × (w.sent.posted.items ≡ [])
+        × (w.sent.ready ≡ true → CanNote w.sent)
         × (w.reports.items ≡ [])
         × (length w.sites.items ≤ vec_capacity w.reports) };
 }
@@ -203,7 +204,7 @@ impl<E: KeepsEntry, R: KeepsEvent> World<E, R> {
         ensures err { OnErr result (self.new ≡ self.old) }
     {
         self.recorded.reserve(1)?;
-        self.sent.reserve()?;
+        self.sent.make_ready()?;
         let applied = self.sites[site as usize].ledger().len();
         let reply = self.sites[site as usize].record(arrived, &mut self.sent.posted)?;
         self.sent.note(site, applied);

@@ -55,13 +55,13 @@ kept g c =
     ∙ get_or_from_slice_get c.self.inside.sites.items c.args.site x c.index.result.now at))
     c.self.invariant.2 (c.in_ok-reply.ensures.ok).0
     ((c.in_ok-reply.ensures.ok).2 ∙ ap (λ ms. ms ++ sent_at x.settings (state_of x) c.args.arrived.now)
-    (c.reserve-2.ensures.posted ∙ c.self.invariant.3))
-    (c.note.ensures.tokens ∙ ap (λ ms. ms ++ token_of c.«record».new.sent.items) c.reserve-2.ensures.tokens)
+    (c.make_ready.ensures.posted ∙ c.self.invariant.3))
+    (c.note.ensures.tokens ∙ ap (λ ms. ms ++ token_of c.«record».new.sent.items) c.make_ready.ensures.tokens)
     (c.note.ensures.places
-    ∙ ap (λ ps. ps ++ places_of c.args.site c.len-applied.result (length c.reserve-2.new.self.tokens.items) c.«record».new.sent.items)
-    c.reserve-2.ensures.places
+    ∙ ap (λ ps. ps ++ places_of c.args.site c.len-applied.result (length c.make_ready.new.self.tokens.items) c.«record».new.sent.items)
+    c.make_ready.ensures.places
     ∙ ap (λ ms. c.self.inside.sent.places.items ++ places_of c.args.site c.len-applied.result (length ms) c.«record».new.sent.items)
-    c.reserve-2.ensures.tokens)
+    c.make_ready.ensures.tokens)
 
 the_step : (g : Over) (c : goal.After-push_reserved g) → shown_world c.self.inside.config
     (slice_set c.self.inside.sites.items c.args.site c.«record».new.self)
@@ -88,7 +88,7 @@ the_step g c =
 pub note-requires-clause-few : goal.note-requires-clause-few
 note-requires-clause-few g c =
     let x : SeenSite = c.index_mut.result.now in
-    let none : c.reserve-2.new.self.posted.items ≡ [] = c.reserve-2.ensures.posted ∙ c.self.invariant.3 in
+    let none : c.make_ready.new.self.posted.items ≡ [] = c.make_ready.ensures.posted ∙ c.self.invariant.3 in
     let P : List Message → Type 0 = λ ms. length ms ≤ MOST_REQUESTS in
     subst P (sym ((c.in_ok-reply.ensures.ok).2 ∙ ap (λ ms. ms ++ sent_at x.settings (state_of x) c.args.arrived.now) none))
     (sent_few x.settings (state_of x) c.args.arrived.now)
@@ -101,8 +101,9 @@ invariant_of-self-2 g c = (
       c.index_mut.result.now c.args.arrived.now (taken g c).settings c.self.invariant.1)),
   (kept g c).1,
   c.note.ensures.posted,
-  c.self.invariant.4,
-  (let room : length c.self.inside.sites.items ≤ vec_capacity c.self.inside.reports = c.self.invariant.5 in
+  c.note.ensures.ready,
+  c.self.invariant.5,
+  (let room : length c.self.inside.sites.items ≤ vec_capacity c.self.inside.reports = c.self.invariant.6 in
       let same : length (slice_set c.self.inside.sites.items c.args.site c.«record».new.self) ≡ length c.self.inside.sites.items =
       length-set c.self.inside.sites.items c.args.site c.«record».new.self in
       omega arith),
