@@ -9,14 +9,12 @@ use Rattle.rb_money.specs.declared.limits.TheConstants.{MOST_SITES, MOST_SITES_O
 use Rattle.rb_money.specs.declared.place.Place.{Place}
 use Rattle.rb_scratch.specs.declared.request.Request.{Request}
 use Rattle.rb_shadow.specs.declared.deps.Deps.{Deps}
-use Rattle.rb_shadow.specs.declared.shadow.Shadow.{Shadow}
 use Rattle.rb_site.specs.declared.event.Event.{Event}
 use Rattle.rb_site.specs.declared.reply.Reply.{Reply}
 use Rattle.rb_commands.specs.Replies.{reply_json}
-use Rattle.rb_commands.specs.Values.{one_json}
 use Rattle.rb_history.specs.Counts.{blue_json, numbered_from, numbered_json}
-use Rattle.rb_history.specs.Entries.{deps_json, event_json, request_json, shadow_json}
-use Rattle.rb_history.specs.Fits.{Each, IsEvent, IsReply, IsRequest, IsShadow}
+use Rattle.rb_history.specs.Entries.{deps_json, event_json, request_json}
+use Rattle.rb_history.specs.Fits.{Each, IsEvent, IsReply, IsRequest}
 
 -- a string behind its first quote
 abbrev pub behind_quote : List ℕ → List ℕ
@@ -57,10 +55,6 @@ pub record BeginsWithDeps (version : ℕ) (d : Deps) (text rest : List ℕ) : Ty
   pub further : version ≡ 1 → Each (λ n. n ≡ 0) (drop MOST_SITES_OF_VERSION_1 d.blue)
   pub red : d.red < 2 ^ 32
   pub told : text ≡ compact_text (deps_json version d) ++ rest
-
-abbrev pub BeginsWithShadow : Settings → Shadow → List ℕ → List ℕ → Type 0
-BeginsWithShadow s v text rest = IsShadow s v
-    × (text ≡ compact_text (one_json (codes "shadow") (shadow_json s v)) ++ rest)
 
 abbrev pub BeginsWithEvent : Settings → Event → List ℕ → List ℕ → Type 0
 BeginsWithEvent s e text rest = IsEvent s e × (text ≡ compact_text (event_json s e) ++ rest)

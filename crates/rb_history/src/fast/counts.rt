@@ -74,6 +74,5 @@ pub fn parse_counts(version: u8, text: &str) -> Option<([u32; MOST_SITES], &str)
         let (first, rest) = parse_first(list)?;
         return Some((widened(&first), rest));
     }
-    let (all, rest) = parse_numbered(list)?;
-    Some((all, rest))
+    parse_numbered(list)
 }

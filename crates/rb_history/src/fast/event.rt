@@ -7,7 +7,7 @@ ghost use Rattle.rb_history.specs.Beginnings.{BeginsWithEach, BeginsWithEvent, B
 use crate::fast::account::{parse_account_between, parse_asked};
 use crate::fast::name::parse_name_between;
 use crate::fast::number::{parse_byte_between, parse_word_between};
-use crate::fast::shadow::parse_shadow;
+use crate::fast::shadow::parse_received;
 use rb_commands::fast::scan::parse_prefix;
 use rb_kit::List;
 use rb_money::Config;
@@ -109,13 +109,6 @@ fn parse_batch<'a>(alloc: Global, config: &Config, text: &'a str) -> Option<(Eve
     Some((Event::Batch(List::new(requests)), parse_prefix(rest, "}")?))
 }
 
-fn parse_received<'a>(config: &Config, text: &'a str) -> Option<(Event, &'a str)>
-    ensures { IfSome result (λ p. BeginsWithEvent config.now p.0 text.now p.1.now) }
-{
-    let (shadow, rest) = parse_shadow(config, text)?;
-    Some((Event::Receive(Message::Shadow(shadow)), rest))
-}
-
 fn parse_token<'a>(config: &Config, text: &'a str) -> Option<(Event, &'a str)>
     ensures { IfSome result (λ p. BeginsWithEvent config.now p.0 text.now p.1.now) }
 {
@@ -168,14 +161,15 @@ fn parse_statement<'a>(config: &Config, text: &'a str) -> Option<(Event, &'a str
 pub fn parse_event<'a>(alloc: Global, config: &Config, text: &'a str) -> Option<(Event, &'a str)>
     ensures { IfSome result (λ p. BeginsWithEvent config.now p.0 text.now p.1.now) }
 {
-    match (text.as_bytes().get(2), text.as_bytes().get(3)) {
+    let key = text.as_bytes();
+    match (key.get(2), key.get(3)) {
         (Some(b's'), Some(b'h')) => parse_received(config, text),
         (Some(b's'), _) => parse_statement(config, text),
         (Some(b'a'), Some(b'p')) => parse_apply(config, text),
         (Some(b'a'), _) => parse_as_of(config, text),
-        (Some(b'b'), _) => match parse_balance(config, text) {
-            Some(told) => Some(told),
-            None => parse_batch(alloc, config, text),
+        (Some(b'b'), _) => match key.get(4) {
+            Some(b'l') => parse_balance(config, text),
+            _ => parse_batch(alloc, config, text),
         },
         (Some(b'p'), _) => parse_pass(config, text),
         (Some(b't'), Some(b'o')) => parse_token(config, text),
@@ -189,7 +183,9 @@ pub fn parse_event_line(alloc: Global, config: &Config, line: &str) -> Option<Ev
 {
     // For a fact alone: its settings are those of a configuration.
     let _sites = config.sites();
-    let (event, rest) = parse_event(alloc, config, line)?;
+    let Some((event, rest)) = parse_event(alloc, config, line) else {
+        return None;
+    };
     if rest != "" {
         return None;
     }

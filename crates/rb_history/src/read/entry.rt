@@ -8,10 +8,12 @@ ghost use Rattle.rb_history.specs.RepliesRead.{reply_told};
 ghost use Rattle.rb_commands.specs.Values.{number_below};
 ghost use Rattle.rb_history.specs.Fields.{field};
 
-use crate::fast::entry::parse_entry;
+use crate::fast::entry::parse_entry_end;
+use crate::fast::event::parse_event;
 use crate::read::event::event;
 use crate::read::reply::reply;
 use rb_commands::LineFault;
+use rb_commands::fast::scan::parse_prefix;
 use rb_commands::read::value::{read_value, size};
 use rb_money::Config;
 use rb_site::{Entry, Event, Reply};
@@ -60,7 +62,10 @@ fn entry(alloc: Global, config: &Config, value: &Value) -> Result<(u8, Entry), L
     let Some(site) = site_of(config, value) else {
         return Err(LineFault::Bad);
     };
-    let event = event_of(alloc, config, value)?;
+    let event = match event_of(alloc, config, value) {
+        Ok(event) => event,
+        Err(fault) => return Err(fault),
+    };
     let reply = reply_of(alloc, value)?;
     Ok((site, Entry { event, reply }))
 }
@@ -75,8 +80,14 @@ pub fn read_line(alloc: Global, config: &Config, line: &str) -> Result<(u8, Entr
     ensures read { Gives result (entry_of_line config.now line.now) }
     ensures site { IfOk result (λ x. x.0 < config.now.sites) }
 {
-    if let Some(read) = parse_entry(alloc, config, line) {
-        return Ok(read);
+    // For a fact alone: its settings are those of a configuration.
+    let _sites = config.sites();
+    if let Some(text) = parse_prefix(line, "{\"event\":") {
+        if let Some((event, rest)) = parse_event(alloc, config, text) {
+            if let Some((site, reply)) = parse_entry_end(alloc, config, rest) {
+                return Ok((site, Entry { event, reply }));
+            }
+        }
     }
     match read_value(alloc, line) {
         Ok(value) => entry(alloc, config, &value),

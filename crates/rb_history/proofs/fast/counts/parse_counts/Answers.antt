@@ -1,8 +1,9 @@
-use Rattle.std.proofs.Common.{◌≡◌, ◌++◌, codes, length, ap, sym, subst, ◌∙◌, rules}
+use Rattle.std.proofs.Common.{◌≡◌, ◌++◌, ℕ, List, Option, Some, None, codes, length, ap, sym, subst, ◌∙◌, rules}
+use Rattle.std.specs.Prelude.{IfSome}
 use Rattle.serde_json.specs.Written.{compact_text}
 use Rattle.rb_money.specs.declared.limits.TheConstants.{MOST_SITES_OF_VERSION_1}
 use Rattle.rb_history.specs.Counts.{blue_json, widened}
-use Rattle.rb_history.specs.Beginnings.{BeginsWithCounts}
+use Rattle.rb_history.specs.Beginnings.{BeginsWithCounts, BeginsWithNumbered}
 use Rattle.rb_history.proofs.CountsBack.{widened_fits, widened_further, widened_json, widened_length}
 use Rattle.rb_history.proofs.fast.counts.parse_counts.Goals as goal
 
@@ -23,11 +24,22 @@ returns-then-version-eq1 c =
     subst (λ v. BeginsWithCounts v c.widened.result text rest) (sym one) (subst (λ ns. BeginsWithCounts 1 ns text rest)
     (sym c.widened.ensures) told)
 
-pub returns : goal.returns
+-- what is known of a value that there is
+if_some : {A : Type 0} {P Q : A → Type 0} (o : Option A) → ((x : A) → P x → Q x) → IfSome o P → IfSome o Q
+if_some (Some x) f h = f x h
+if_some None f h = tt
+
+-- counts with their numbers, in a version that has them
+numbered : (version : ℕ) (ns text list rest : List ℕ) → (version ≡ 1 → ⊥) → text ≡ codes "[" ++ list → BeginsWithNumbered ns list rest
+    → BeginsWithCounts version ns text rest
 unfolding blue_json
-returns c = record {
-  sites = c.in_ok-all.ensures.sites;
-  fit = c.in_ok-all.ensures.fit;
-  further = search rules;
+numbered version ns text list rest other e n = record {
+  sites = n.sites;
+  fit = n.fit;
+  further = λ one. absurd (other one);
   told = search rules;
 }
+
+pub returns : goal.returns
+returns c = if_some c.parse_numbered.result (λ p n. numbered c.args.version p.0 c.args.text.now c.in_ok-list.list.now p.1.now
+    c.if-version-eq1.false c.in_ok-list.ensures n) c.parse_numbered.ensures

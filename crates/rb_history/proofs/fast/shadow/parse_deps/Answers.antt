@@ -8,13 +8,13 @@ use Rattle.rb_history.proofs.fast.shadow.parse_deps.Goals as goal
 pub returns : goal.returns
 returns c =
     let version = c.args.config.now.version in
-    let blue = c.in_ok-blue.blue in
+    let blue = c.in-Some.counts.0 in
     let red = c.in_ok-red.red in
     let text = c.args.text.now in
     let here = c.in_ok-parse_prefix.field-0.now in
-    let rest = c.in_ok-blue.rest.now in
+    let rest = c.in-Some.counts.1.now in
     let counts : BeginsWithCounts version blue here rest = subst (λ v. BeginsWithCounts v blue here rest) c.version.ensures.same
-    c.in_ok-blue.ensures in
+    c.in-Some.ensures in
     record {
       sites = counts.sites;
       blue = counts.fit;
