@@ -9,7 +9,7 @@ use Rattle.rb_site.specs.declared.event.Event.{Event}
 use Rattle.rb_site.specs.declared.event.Event.TheVariants as ev
 use Rattle.rb_site.specs.declared.message.Message.{Message}
 use Rattle.rb_branch.specs.declared.receipt.Receipt.{Receipt}
-use Rattle.rb_branch.specs.Seats.{HasOneMore, HasServed, IsApply, IsOneOf, IsServed, WasReceived, WasRefused, NoneLost, SeenSeat, Any}
+use Rattle.rb_branch.specs.Seats.{HasOneMore, HasServed, IsApply, IsOneOf, IsServed, WasReceived, NoneLost, SeenSeat, Any}
 use Rattle.rb_branch.specs.Seats.{is_full_inbox}
 
 abbrev Refuses : Message → Receipt → Type 0

@@ -4,7 +4,7 @@ use Rattle.std.specs.Prelude.{◌≢◌, ◌==◌, slice_get, slice_set}
 use Rattle.std.proofs.lemmas.Bool.{eq-eqb, eqb-true}
 use Rattle.rb_money.specs.Settings.{Settings}
 use Rattle.rb_site.proofs.Public.Places as Sets
-use Rattle.rb_crashes.specs.Crashes.{DiskSite, DiskStep, Goes, Leads, MayAllHappen, MayHappenAlone, Stays, TakesStep}
+use Rattle.rb_crashes.specs.Crashes.{DiskSite, Goes, Leads, MayAllHappen, MayHappenAlone, Stays, TakesStep}
 use Rattle.rb_crashes.specs.Crashes.{WasReported, after_step}
 use Rattle.rb_crashes.specs.Interleaved.{AreReportedBefore, InterleavedStepsLead, MayHappenApart, StepAt, steps_at}
 use Rattle.rb_crashes.specs.Interleaved.{with_step, world_after_steps}

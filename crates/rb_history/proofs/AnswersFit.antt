@@ -1,5 +1,5 @@
 -- What a site replies and holds fits a line, whatever its events.
-use Rattle.std.proofs.Common.{◌≡◌, ◌<◌, ◌≤◌, ◌+◌, ◌^◌, ℕ, Bool, true, false, cond, not, ◌&&◌, ◌||◌, List, [], ◌∷◌, ◌++◌, length, Option}
+use Rattle.std.proofs.Common.{◌≡◌, ◌≤◌, ◌+◌, ◌^◌, ℕ, Bool, true, false, cond, not, ◌&&◌, ◌||◌, List, [], ◌∷◌, ◌++◌, length, Option}
 use Rattle.std.proofs.Common.{Some, None, Result, Ok, Err, refl, subst, inl, inr, arith}
 use Rattle.std.specs.Prelude.{◌==◌, IfErr, IfSome, map, nat_le, nat_lt, take}
 use Rattle.std.proofs.Common.{sym, take-append-drop, drop}
@@ -14,7 +14,6 @@ use Rattle.rb_money.specs.declared.refusal.Refusal.TheVariants.{PositionBeyond, 
 use Rattle.rb_shadow.specs.NameText.{IsName}
 use Rattle.rb_shadow.specs.Operations.{Among, find_in, is_eligible, red_count, same_shadow}
 use Rattle.rb_shadow.specs.Sound.{IsSound, fault_of}
-use Rattle.rb_shadow.specs.declared.op_name.OpName.{OpName}
 use Rattle.rb_shadow.specs.declared.shadow.Shadow.{Shadow}
 use Rattle.rb_shadow.proofs.Public.Lookups.{found}
 use Rattle.rb_shadow.proofs.Public.Members
@@ -26,9 +25,8 @@ use Rattle.rb_ledger.proofs.Public.ValidClocks.{member_sound}
 use Rattle.rb_inbox.specs.Held.{comes_before, with_held}
 use Rattle.rb_scratch.specs.Batches.{batch_of, names_of_all}
 use Rattle.rb_scratch.specs.Requests.{made_of}
-use Rattle.rb_scratch.specs.declared.request.Request.{Request}
 use Rattle.rb_scratch.specs.declared.request.TheConstants.{MOST_REQUESTS}
-use Rattle.rb_token.specs.Token.{is_stale, pass_message, refusal_of_pass, refusal_of_token}
+use Rattle.rb_token.specs.Token.{is_stale, refusal_of_pass, refusal_of_token}
 use Rattle.rb_token.specs.declared.message.TokenMessage.{TokenMessage}
 use Rattle.rb_site.specs.declared.event.Event.{Event}
 use Rattle.rb_site.specs.declared.event.Event.TheVariants.{Submit, Batch, Receive, Apply, Pass, Balance, AsOf, Statement as AskStatement}
@@ -41,7 +39,7 @@ use Rattle.rb_history.specs.Fits.{Each, IsEvent, IsRefusal, IsReply}
 use Rattle.rb_history.specs.Recorded.{event_at}
 use Rattle.rb_history.specs.Sites.{HeldNamesFitLines, ReadEventsFit, RepliesFitLines}
 use Rattle.rb_history.proofs.CausesFit.{batch_fits, check_fits, fault_fits, pass_fits, request_fits, token_fits}
-use Rattle.rb_history.proofs.FitsLaws.{IsByte, IsWord, fits_next, fits_some}
+use Rattle.rb_history.proofs.FitsLaws.{IsWord, fits_next, fits_some}
 use Rattle.rb_history.proofs.MadeFit.{facts_name}
 use Rattle.rb_history.proofs.ReceiptsFit.{event}
 use Rattle.rb_history.proofs.SentFits.{AllFit, IsInOrder, Keeps, few_reds, first_in_order, in_order, keeps}

@@ -1,6 +1,6 @@
 -- A statement of a valid list fits a line, and so does what refers to a position in one.
 use Rattle.std.proofs.Common.{◌≡◌, ◌<◌, ◌≤◌, ◌+◌, ◌^◌, ℕ, suc, Bool, true, false, cond, List, [], ◌∷◌, ◌++◌, length, sym, subst, arith}
-use Rattle.std.proofs.Common.{append_assoc, append-nil, inl, refl}
+use Rattle.std.proofs.Common.{append_assoc, inl, refl}
 use Rattle.std.specs.Prelude.{ℤ, pos, negsuc, neg_ℤ, ◌+ℤ◌, ◌≤ℤ◌}
 use Rattle.std.proofs.lemmas.Int.{ints}
 use Rattle.std.proofs.lemmas.List.{length-append}
@@ -17,7 +17,6 @@ use Rattle.rb_ledger.proofs.Public.Legal.{IsValid-front}
 use Rattle.rb_ledger.proofs.Public.ValidClocks.{member_sound}
 use Rattle.rb_site.specs.declared.reply.Reply.TheVariants.{Statement}
 use Rattle.rb_statements.specs.Statements.{row_after, rows_of, statement_of}
-use Rattle.rb_statements.specs.declared.row.Row.{Row}
 use Rattle.rb_history.specs.Fits.{Each, IsMoved, IsReply, IsStatementRow}
 use Rattle.rb_history.proofs.ListBounds.{few_operations, small_balance, small_start}
 use Rattle.rb_history.proofs.MadeFit.{facts_name}

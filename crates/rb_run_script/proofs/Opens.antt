@@ -1,5 +1,5 @@
 -- The line of the configuration.
-use Rattle.std.proofs.Common.{◌≡◌, ◌+◌, ◌-◌, ℕ, false, true, List, [], ◌∷◌, Option, Some, None, refl, sym, ap, subst, arith}
+use Rattle.std.proofs.Common.{◌≡◌, ◌+◌, ◌-◌, ℕ, false, List, [], Some, None, refl, sym, ap, subst, arith}
 use Rattle.rb_money.specs.Settings.{Settings}
 use Rattle.rb_world.specs.Laws.{opened}
 use Rattle.rb_run_script.specs.declared.session.Session.{Session}

@@ -1,11 +1,9 @@
 -- Why a site isn't opened.
-use Rattle.std.proofs.Common.{◌≡◌, ◌<◌, ◌≤◌, ◌+◌, ◌⊎◌, ℕ, Bool, true, List, [], ◌∷◌, ◌++◌, length, take, drop, Option, Some, None}
-use Rattle.std.proofs.Common.{Result, Ok, Err, sym, ap, subst, ◌∙◌, inl, inr}
+use Rattle.std.proofs.Common.{◌≡◌, ◌<◌, ◌≤◌, ◌+◌, ◌⊎◌, ℕ, Bool, true, List, ◌∷◌, ◌++◌, length, take, drop, Option, Some, None}
+use Rattle.std.proofs.Common.{Result, Ok, Err, sym, ap, subst, ◌∙◌}
 use Rattle.std.specs.Prelude.{IfErr, IfSome}
 use Rattle.std.specs.Io.KnownBytes.{IsAtEnd}
-use Rattle.rb_commands.specs.Configurations.{config_on}
 use Rattle.rb_lines.specs.Lines.{line_len, lines_of}
-use Rattle.rb_money.specs.Settings.{Settings}
 use Rattle.rb_serve.specs.declared.fault.ServeFault.{ServeFault}
 use Rattle.rb_site.specs.Seen.{SeenSite, first_seen}
 use Rattle.rb_run_site.specs.Ends.{RunsTo}
@@ -15,7 +13,6 @@ use Rattle.rb_run_site.specs.Openings.{EndsFile, EndsNode, IsOpeningCause}
 use Rattle.rb_run_site.specs.Starts.{IsOf}
 use Rattle.rb_run_site.specs.declared.fault.SiteFault.{SiteFault}
 use Rattle.rb_run_site.specs.declared.fault.SiteFault.TheVariants.{NoConfig, BadConfig, NoSite, AnotherJournal, BadEntry, WrongReply}
-use Rattle.rb_run_site.specs.declared.fault.SiteFault.TheVariants.{InUse, BadLine, LongLine, Read, Write, Journal, OutOfMemory}
 use Rattle.rb_run_site.proofs.Configured.{next_line}
 
 -- the input has no first line

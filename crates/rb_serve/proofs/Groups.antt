@@ -1,5 +1,5 @@
 -- A group of lines more, after the turns so far.
-use Rattle.std.proofs.Common.{◌≡◌, ◌<◌, ◌≤◌, ◌⊎◌, ◌++◌, ⊎_elim, inl, inr, ℕ, Bool, true, List, [], Option, Some, sym, subst, arith}
+use Rattle.std.proofs.Common.{◌≡◌, ◌<◌, ◌≤◌, ◌⊎◌, ◌++◌, inl, inr, ℕ, Bool, true, List, [], Option, Some, sym, subst, arith}
 use Rattle.std.specs.Io.KnownBytes.{IsAtEnd}
 use Rattle.rb_journal.specs.Host.{LeavesOnly}
 use Rattle.rb_journal.proofs.Public.Moments.{runs_on}

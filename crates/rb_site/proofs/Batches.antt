@@ -1,6 +1,6 @@
 -- The requests of a batch, one by one.
 use Rattle.std.proofs.Common.{◌≡◌, ◌∙◌, ℕ, ◌+◌, ◌<◌, ◌≤◌, ◌⊎◌, inl, inr, List, [], ◌∷◌, ◌++◌, drop, get_or, length, take, ap, arith, refl}
-use Rattle.std.proofs.Common.{subst, sym, Bool, true, false, cond, not, ◌&&◌, Result, Ok, Err, IfOk, IfErr, map}
+use Rattle.std.proofs.Common.{subst, sym, Bool, true, false, cond, not, ◌&&◌, Result, Ok, Err, map}
 use Rattle.std.specs.Prelude.{nat_le}
 use Rattle.std.proofs.lemmas.List.{drop_more, length-take-le, take-append-drop, take_more}
 use Rattle.rb_money.specs.Refusals.{and_then}
@@ -10,8 +10,6 @@ use Rattle.rb_money.specs.declared.refusal.Refusal.TheVariants.{BadBatch, BatchR
 use Rattle.rb_shadow.specs.declared.shadow.Shadow.{Shadow}
 use Rattle.rb_undo.specs.declared.parts.UndoParts.{UndoParts}
 use Rattle.rb_ledger.specs.Book.{Book}
-use Rattle.rb_ledger.proofs.Public.Records.{records_of-append}
-use Rattle.rb_ledger.specs.Records.{logged, records_of}
 use Rattle.rb_token.specs.Token.{Token}
 use Rattle.rb_token.specs.Seen.{Shows}
 use Rattle.rb_token.specs.declared.view.TokenView.{TokenView}

@@ -1,4 +1,4 @@
-use Rattle.rb_run_site.proofs.Restarts.{RestartLaws, goes_on, is_taken, one_run}
+use Rattle.rb_run_site.proofs.Restarts.{goes_on, is_taken, one_run}
 use Rattle.rb_run_site.proofs.restart_goes_on.Goals as goal
 
 pub returns-clause-site : goal.returns-clause-site

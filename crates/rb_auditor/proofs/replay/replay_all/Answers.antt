@@ -1,7 +1,6 @@
 -- One history more replays.
-use Rattle.std.proofs.Common.{◌≡◌, ◌∙◌, ℕ, ◌+◌, ◌<◌, ◌≤◌, ◌++◌, ◌∷◌, [], List, Some, ap, sym, subst, length, arith}
+use Rattle.std.proofs.Common.{◌≡◌, ◌∙◌, ◌+◌, ◌<◌, ◌≤◌, Some, ap, sym, subst, length, arith}
 use Rattle.std.specs.Prelude.{slice_get}
-use Rattle.rb_site.specs.declared.entry.Entry.{Entry}
 use Rattle.rb_site.specs.Events.{first_site}
 use Rattle.rb_auditor.specs.Findings.{IsReplay, lists_of}
 use Rattle.rb_auditor.specs.Replays.{IsWrongIn, sends_by}

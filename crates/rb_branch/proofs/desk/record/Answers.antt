@@ -1,5 +1,5 @@
 -- A seat with one receipt more.
-use Rattle.std.proofs.Common.{rules, ◌≡◌, ◌∙◌, ◌+◌, All, cond, false, length, length-append, sym, ap, subst, List, [], ◌∷◌, ◌++◌}
+use Rattle.std.proofs.Common.{rules, ◌≡◌, ◌∙◌, All, cond, false, length, length-append, sym, ap, subst, [], ◌∷◌, ◌++◌}
 use Rattle.std.proofs.lemmas.List.Elements.{All-append, All-cons, All-nil}
 use Rattle.rb_site.specs.Events.{is_full}
 use Rattle.rb_site.specs.Seen.{SeenSite, state_of, stepped}

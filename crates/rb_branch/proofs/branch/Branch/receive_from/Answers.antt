@@ -1,4 +1,4 @@
-use Rattle.std.proofs.Common.{ℕ, ◌+◌}
+use Rattle.std.proofs.Common.{ℕ}
 use Rattle.rb_branch.specs.Seats.{HasServed}
 use Rattle.rb_branch.proofs.Served.{on_err, served_more, served_same}
 use Rattle.rb_branch.proofs.branch.Branch.receive_from.Goals as goal

@@ -1,5 +1,5 @@
 -- The report shows the site's history, and the share counts it.
-use Rattle.std.proofs.Common.{◌≡◌, ℕ, ◌<◌, ◌^◌, length, sym, ap, ◌∙◌, subst, vec_len, rules, arith}
+use Rattle.std.proofs.Common.{ℕ, ◌<◌, ◌^◌, length, sym, ap, ◌∙◌, subst, vec_len, rules, arith}
 use Rattle.rb_branch.proofs.ClosedReports.{closed_report, report_history}
 use Rattle.rb_branch.proofs.desk.Desk.close.Goals as goal
 

@@ -22,9 +22,9 @@ use Rattle.core.proofs.atomic.Steps.{Ptr-Good}
 use Rattle.core.proofs.cell.Inside.{Good}
 use Rattle.std.proofs.raw_atomic.Walks.{proved_at, leaves}
 use Rattle.rb_slot.proofs.Public.RawBoxValues.{both, both_tt}
-use Rattle.rb_slot.proofs.Public.SlotValues.{Z, Slot, slot_in, slot_out}
+use Rattle.rb_slot.proofs.Public.SlotValues.{Z, Slot, slot_in}
 use Rattle.rb_capi.specs.contracts.kept_site.KeptSite.{the_row as site_row}
-use Rattle.rb_capi.proofs.SiteHandleValues.{SiteHandle, handle_in, handle_out}
+use Rattle.rb_capi.proofs.SiteHandleValues.{SiteHandle, handle_out}
 use Rattle.rb_capi.specs.contracts.site_handle.SiteHandle.into_slot.{ended, clauses}
 use Rattle.rb_capi.specs.contracts.site_handle.SiteHandle.into_slot.Key.{name as #self}
 use Rattle.rb_capi.proofs.site_handle.SiteHandle.into_slot.Statement.{statement}

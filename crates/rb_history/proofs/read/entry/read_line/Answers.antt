@@ -1,4 +1,4 @@
-use Rattle.std.proofs.Common.{◌≡◌, ◌++◌, codes, ap, ◌∙◌}
+use Rattle.std.proofs.Common.{◌++◌, codes, ap, ◌∙◌}
 use Rattle.json.specs.Print.{escape_byte}
 use Rattle.serde_json.specs.View.{view}
 use Rattle.serde_json.specs.Written.{compact_text}

@@ -1,6 +1,5 @@
 -- One record more.
-use Rattle.std.proofs.Common.{◌≡◌, ◌+◌, ◌<◌, ◌∙◌, List, ap, arith, length, sym}
-use Rattle.rb_shadow.specs.declared.shadow.Shadow.{Shadow}
+use Rattle.std.proofs.Common.{◌≡◌, ◌∙◌, ap, arith, length}
 use Rattle.rb_ledger.specs.Book.{Book}
 use Rattle.rb_ledger.proofs.RecordReads.{one_record_more}
 use Rattle.rb_ledger.proofs.ledger.Ledger.records.Goals as goal
