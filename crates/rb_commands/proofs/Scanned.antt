@@ -1,6 +1,8 @@
 -- What a scan of a line's bytes finds.
 use Rattle.std.proofs.Common.{◌≡◌, ◌<◌, ◌≤◌, ◌+◌, ◌-◌, ◌*◌, ◌/◌, ◌%◌, ◌^◌, decimal, ℕ, List, [], ◌∷◌, ◌++◌, length, take, get_or, sym, ap}
-use Rattle.std.proofs.Common.{◌∙◌, arith, subst}
+use Rattle.std.proofs.Common.{◌∙◌, arith, drop, subst}
+use Rattle.std.proofs.Math.Seq.{take-add}
+use Rattle.std.specs.Int.{to_le_bytes, w64}
 use Rattle.std.specs.Str.{IsUtf8, IsCharBoundary}
 use Rattle.std.proofs.lemmas.Str.{IsCharBoundary-from_take, IsCharBoundary-after_ascii}
 use Rattle.std.proofs.lemmas.List.{take_more}
@@ -13,6 +15,13 @@ use Rattle.json.proofs.Printed.Strings.{escape_byte_plain}
 pub same_more : (text front : List ℕ) (i : ℕ) → i < length text → i < length front → get_or text i 0 ≡ get_or front i 0 →
     take i text ≡ take i front → take (i + 1) text ≡ take (i + 1) front
 same_more text front i h k here e = take_more text i 0 h ∙ (λ j. e j ++ (here j ∷ [])) ∙ sym (take_more front i 0 k)
+
+-- eight bytes more of two texts that begin alike
+pub same_eight_more : (text front : List ℕ) (i x y : ℕ) → to_le_bytes w64 x ≡ take 8 (drop i text) →
+    to_le_bytes w64 y ≡ take 8 (drop i front) → x ≡ y → take i text ≡ take i front → take (i + 8) text ≡ take (i + 8) front
+same_eight_more text front i x y here there same e =
+    let alike = sym here ∙ ap (to_le_bytes w64) same ∙ there in
+    take-add i 8 text ∙ (λ j. e j ++ alike j) ∙ sym (take-add i 8 front)
 
 -- a plain byte more
 pub one_more : (text : List ℕ) (i : ℕ) → i < length text → escape (take i text) ≡ take i text → (get_or text i 0 ≡ 34 → ⊥) →

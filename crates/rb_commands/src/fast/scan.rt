@@ -1,21 +1,58 @@
 //! What a text begins with as this program spells it, and what follows it: no space, no escape. `None` says nothing
 //! of a text.
-ghost use Rattle.std.specs.Prelude.{◌≡◌, ◌<◌, ◌≤◌, ◌^◌, ◌++◌, IfSome, IsTrue, codes, decimal, length, slice_index};
-ghost use Rattle.std.specs.Prelude.{take};
+ghost use Rattle.std.specs.Prelude.{◌≡◌, ◌<◌, ◌≤◌, ◌+◌, ◌^◌, ◌++◌, IfSome, IsTrue, codes, decimal, length};
+ghost use Rattle.std.specs.Prelude.{drop, slice_index, take};
+ghost use Rattle.std.specs.Int.{to_le_bytes, w64};
 ghost use Rattle.json.specs.Print.{escape};
 ghost use Rattle.rb_shadow.specs.NameText.{IsName, name_text};
 
 use rb_shadow::OpName;
 
+/// The eight bytes from this place on as a number, the lowest first.
+#[inline(always)]
+fn word_at(bytes: &[u8], at: usize) -> u64
+    requires { at + 8 ≤ length bytes.now }
+    ensures { to_le_bytes w64 result ≡ take 8 (drop at bytes.now) }
+{
+    u64::from_le_bytes([
+        bytes[at],
+        bytes[at + 1],
+        bytes[at + 2],
+        bytes[at + 3],
+        bytes[at + 4],
+        bytes[at + 5],
+        bytes[at + 6],
+        bytes[at + 7],
+    ])
+}
+
+/// How many bytes of the front the text has too, eight at once while eight are left. `None` where they differ.
+#[inline(always)]
+fn same_words(text: &[u8], front: &[u8]) -> Option<usize>
+    requires { length front.now ≤ length text.now }
+    ensures { IfSome result (λ len. (len ≤ length front.now) × (take len text.now ≡ take len front.now)) }
+{
+    let mut len = 0;
+    while front.len() - len >= 8 {
+        if word_at(text, len) != word_at(front, len) {
+            return None;
+        }
+        len += 8;
+    }
+    Some(len)
+}
+
 /// Whether these bytes begin with those of the front.
-#[inline]
+#[inline(always)]
 fn begins(text: &[u8], front: &[u8]) -> bool
     ensures { IsTrue result → (length front.now ≤ length text.now) × (take (length front.now) text.now ≡ front.now) }
 {
     if text.len() < front.len() {
         return false;
     }
-    let mut len = 0;
+    let Some(mut len) = same_words(text, front) else {
+        return false;
+    };
     while len < front.len() {
         if text[len] != front[len] {
             return false;

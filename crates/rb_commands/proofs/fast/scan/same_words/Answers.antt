@@ -1,0 +1,11 @@
+use Rattle.std.proofs.Common.{arith}
+use Rattle.rb_commands.proofs.Scanned.{same_eight_more}
+use Rattle.rb_commands.proofs.fast.scan.same_words.Goals as goal
+
+pub loop-len-preserved : goal.loop-len-preserved
+loop-len-preserved c =
+    let here = c.word_at.ensures in
+    let there = c.word_at-in-loop-len.ensures in record {
+      within = omega arith;
+      same = same_eight_more c.args.text.now c.args.front.now c.loop-len.len _ _ here there c.if-word_at.false c.loop-len.invariant.same;
+    }
