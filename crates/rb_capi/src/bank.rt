@@ -1,8 +1,9 @@
 //! A bank: all sites of a configuration with their messages.
 ghost use Rattle.std.specs.Prelude.{◌≡◌, ◌≢◌, ◌⊎◌, ◌↔◌, None, Some, MatchResult, pos};
 ghost use Rattle.rb_money.specs.Settings.{Settings};
+ghost use Rattle.rb_site.specs.Worlds.{IsCommand};
 ghost use Rattle.rb_site.specs.declared.world_event.WorldEvent.{WorldEvent as CommandOf};
-ghost use Rattle.rb_commands.specs.declared.fault.LineFault.TheVariants.{Bad};
+ghost use Rattle.rb_commands.specs.declared.fault.LineFault.TheVariants.{Bad, OutOfMemory};
 ghost use Rattle.rb_commands.specs.Configurations.{config_on};
 ghost use Rattle.rb_run_script.specs.Script.{command_on};
 ghost use Rattle.rb_capi.specs.Banks.{SeenBank, first_bank, kept_answer, next_bank};
@@ -10,8 +11,9 @@ ghost use Rattle.rb_capi.specs.Copies.{Copies};
 
 use crate::bank_handle::BankHandle;
 use crate::copy::copy_from;
-use rb_commands::{LineFault, append_reply, read_command, read_config};
+use rb_commands::{LineFault, append_reply, parse_command, read_any_command, read_config};
 use rb_lines::text_on;
+use rb_site::WorldEvent;
 use rb_world::LeanWorld;
 use std::alloc::Global;
 use std::marker::Model;
@@ -58,6 +60,22 @@ fn open(alloc: Global, config: &[u8]) -> Result<Bank, LineFault>
 }
 
 impl Bank {
+    /// Gives the bank a command, and keeps the line of its reply. An `Err` means out of memory.
+    #[inline(always)]
+    fn take_command(&mut self, command: &WorldEvent) -> Result<(), LineFault>
+        requires { IsCommand command.now }
+        ensures { MatchResult result (λ _. self.new ≡ next_bank self.old command.now) (λ why. why ≡ OutOfMemory) }
+    {
+        let Ok(reply) = self.world.step(command) else {
+            return Err(LineFault::OutOfMemory);
+        };
+        self.answer.clear();
+        match append_reply(&mut self.answer, &reply) {
+            Ok(()) => Ok(()),
+            Err(_) => Err(LineFault::OutOfMemory),
+        }
+    }
+
     /// Gives the bank the command on a line, and keeps the line of its reply.
     #[tactic(auto, unfolding(rb_run_script::specs::Script::command_on))]
     fn answer_line(&mut self, alloc: Global, line: &[u8]) -> Result<(), LineFault>
@@ -69,14 +87,12 @@ impl Bank {
         let Some(text) = text_on(line) else {
             return Err(LineFault::Bad);
         };
-        let command = read_command(alloc, self.world.config(), text)?;
-        let Ok(reply) = self.world.step(&command) else {
-            return Err(LineFault::OutOfMemory);
-        };
-        self.answer.clear();
-        match append_reply(&mut self.answer, &reply) {
-            Ok(()) => Ok(()),
-            Err(_) => Err(LineFault::OutOfMemory),
+        match parse_command(alloc, self.world.config(), text) {
+            Some((command, site)) => self.take_command(&command.at(site)),
+            None => {
+                let command = read_any_command(alloc, self.world.config(), text)?;
+                self.take_command(&command)
+            }
         }
     }
 }

@@ -15,11 +15,13 @@ pub mod write;
 ghost use Rattle.rb_commands.specs.Commands.{CommandsAreRead};
 ghost use Rattle.rb_commands.specs.Laws.{ReadConfigsAreConfigured};
 
+pub use fast::command::parse_command;
 pub use fault::LineFault;
-pub use read::command::read_command;
+pub use read::command::{read_any_command, read_command};
 pub use read::config::read_config;
 pub use read::event::event;
 pub use read::request::account;
+pub use site_command::SiteCommand;
 pub use write::reply::{append_reply, append_value, write_reply};
 
 /// Each command is read from its JSON object.

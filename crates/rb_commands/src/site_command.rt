@@ -29,16 +29,18 @@ impl SiteCommand {
         ensures value { result ≡ with_site site self }
         ensures command { IsCommand result }
     {
-        let event = match self {
-            SiteCommand::Submit(request) => Event::Submit(request),
-            SiteCommand::Batch(requests) => Event::Batch(requests),
-            SiteCommand::Apply(name) => Event::Apply(name),
-            SiteCommand::Pass(to) => Event::Pass(to),
-            SiteCommand::Balance(account) => Event::Balance(account),
-            SiteCommand::AsOf(account, position) => Event::AsOf(account, position),
-            SiteCommand::Statement(account) => Event::Statement(account),
-            SiteCommand::Deliver(message) => return WorldEvent::Deliver(site, message),
-        };
-        WorldEvent::At(site, event)
+        match self {
+            SiteCommand::Submit(request) => WorldEvent::At(site, Event::Submit(request)),
+            SiteCommand::Batch(requests) => WorldEvent::At(site, Event::Batch(requests)),
+            SiteCommand::Apply(name) => WorldEvent::At(site, Event::Apply(name)),
+            SiteCommand::Pass(to) => WorldEvent::At(site, Event::Pass(to)),
+            SiteCommand::Balance(account) => WorldEvent::At(site, Event::Balance(account)),
+            SiteCommand::AsOf(account, position) => WorldEvent::At(
+                site,
+                Event::AsOf(account, position),
+            ),
+            SiteCommand::Statement(account) => WorldEvent::At(site, Event::Statement(account)),
+            SiteCommand::Deliver(message) => WorldEvent::Deliver(site, message),
+        }
     }
 }

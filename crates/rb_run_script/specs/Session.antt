@@ -8,7 +8,7 @@ use Rattle.rb_world.specs.Laws.{SeenWorld, next_reply, next_world}
 use Rattle.rb_commands.specs.Replies.{line}
 use Rattle.rb_run_script.specs.declared.session.Session.{Session}
 use Rattle.rb_lines.specs.Answers.{IsRunState, LinesOutcome, RunState}
-use Rattle.rb_run_script.specs.Script.{command_on, commands_from, script_outcome, script_from}
+use Rattle.rb_run_script.specs.Script.{commands_from, script_outcome, script_from}
 
 -- the session before the first line
 abbrev pub first_session : Session
@@ -40,9 +40,9 @@ session_is_state s = of s.world s.number s.count
       unfinished = tt;
     }
 
--- the line is a command, the world took it, and the line of its reply is buffered
-pub record AnswersCommand (old new : SeenWorld) (l buffered buffered' : List ℕ) : Type 0 where
+-- there is a command, the world took it, and the line of its reply is buffered
+pub record AnswersCommand (asked : Option WorldEvent) (old new : SeenWorld) (buffered buffered' : List ℕ) : Type 0 where
   pub command : WorldEvent
-  pub is_command : command_on old.settings l ≡ Some command
+  pub is_command : asked ≡ Some command
   pub world : new ≡ next_world old command
   pub owes : buffered' ≡ buffered ++ line (next_reply old command)

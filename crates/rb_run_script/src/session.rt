@@ -1,14 +1,18 @@
 //! The lines of a script, one at a time.
-ghost use Rattle.std.specs.Prelude.{◌≡◌, None, Some, MatchResult, OnErr};
+ghost use Rattle.std.specs.Prelude.{◌≡◌, ◌++◌, None, Some, MatchResult, OnErr};
 ghost use Rattle.rb_money.specs.Settings.{Settings};
-ghost use Rattle.rb_world.specs.Laws.{opened};
-ghost use Rattle.rb_commands.specs.declared.fault.LineFault.TheVariants.{Bad};
+ghost use Rattle.rb_site.specs.Worlds.{IsCommand};
+ghost use Rattle.rb_world.specs.Laws.{next_reply, next_world, opened};
+ghost use Rattle.rb_commands.specs.declared.fault.LineFault.TheVariants.{Bad, OutOfMemory};
+ghost use Rattle.rb_commands.specs.Commands.{command_at};
 ghost use Rattle.rb_commands.specs.Configurations.{config_on};
+ghost use Rattle.rb_commands.specs.Replies.{line};
 ghost use Rattle.rb_run_script.specs.Script.{command_on};
 ghost use Rattle.rb_run_script.specs.Session.{AnswersCommand, first_session};
 
-use rb_commands::{LineFault, append_reply, read_command, read_config};
+use rb_commands::{LineFault, append_reply, parse_command, read_any_command, read_config};
 use rb_lines::{Responder, StreamFault, is_blank, text_on};
+use rb_site::WorldEvent;
 use rb_world::LeanWorld;
 use std::alloc::Global;
 
@@ -37,7 +41,48 @@ fn open_world(alloc: Global, line: &[u8]) -> Result<LeanWorld, LineFault>
     }
 }
 
-/// Gives the world the command on a line, and buffers its reply. An `Err` buffers nothing, and ends the script.
+/// Gives the world a command, and buffers the line of its reply. An `Err` means out of memory, and buffers nothing.
+#[inline(always)]
+fn take_command(
+    world: &mut LeanWorld,
+    command: &WorldEvent,
+    buffered: &mut Vec<u8>,
+) -> Result<(), LineFault>
+    requires { IsCommand command.now }
+    ensures answered { MatchResult result
+        (λ _. (world.new ≡ next_world world.old command.now)
+        × (buffered.new.items ≡ buffered.old.items ++ line (next_reply world.old command.now)))
+        (λ why. (why ≡ OutOfMemory) × (buffered.new.items ≡ buffered.old.items)) }
+{
+    let Ok(reply) = world.step(command) else {
+        return Err(LineFault::OutOfMemory);
+    };
+    match append_reply(buffered, &reply) {
+        Ok(()) => Ok(()),
+        Err(_) => Err(LineFault::OutOfMemory),
+    }
+}
+
+/// Gives the world the command on a line in any spelling.
+#[inline(never)]
+fn answer_any_command(
+    alloc: Global,
+    world: &mut LeanWorld,
+    text: &str,
+    buffered: &mut Vec<u8>,
+) -> Result<(), LineFault>
+    ensures answered { MatchResult result
+        (λ _. AnswersCommand (command_at world.old.settings text.now) world.old world.new buffered.old.items
+        buffered.new.items)
+        (λ why. why ≡ Bad → command_at world.old.settings text.now ≡ None) }
+    ensures err { OnErr result (buffered.new.items ≡ buffered.old.items) }
+{
+    let command = read_any_command(alloc, world.config(), text)?;
+    take_command(world, &command, buffered)
+}
+
+/// Gives the world the command on a line, and buffers its reply. An `Err` buffers nothing, and ends the script. In the
+/// usual spelling a command is a small value until the world takes it.
 #[inline(always)]
 #[tactic(auto, unfolding(crate::specs::Script::command_on))]
 fn answer_command(
@@ -47,20 +92,17 @@ fn answer_command(
     buffered: &mut Vec<u8>,
 ) -> Result<(), LineFault>
     ensures answered { MatchResult result
-        (λ _. AnswersCommand world.old world.new line.now buffered.old.items buffered.new.items)
+        (λ _. AnswersCommand (command_on world.old.settings line.now) world.old world.new buffered.old.items
+        buffered.new.items)
         (λ why. why ≡ Bad → command_on world.old.settings line.now ≡ None) }
     ensures err { OnErr result (buffered.new.items ≡ buffered.old.items) }
 {
     let Some(text) = text_on(line) else {
         return Err(LineFault::Bad);
     };
-    let command = read_command(alloc, world.config(), text)?;
-    let Ok(reply) = world.step(&command) else {
-        return Err(LineFault::OutOfMemory);
-    };
-    match append_reply(buffered, &reply) {
-        Ok(()) => Ok(()),
-        Err(_) => Err(LineFault::OutOfMemory),
+    match parse_command(alloc, world.config(), text) {
+        Some((command, site)) => take_command(world, &command.at(site), buffered),
+        None => answer_any_command(alloc, world, text, buffered),
     }
 }
 

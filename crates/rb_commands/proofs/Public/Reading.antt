@@ -34,8 +34,8 @@ compact_read turned d numbers shallow same =
     ∙ ap (λ o. option_and_then of_json (option_and_then (λ p. json.if_last p.0 p.1) o)) (value-json_tokens j max_depth [] shallow) ∙ same
 
 -- what a text is read as, one of the same tokens is read as too
-pub read_alike : {A : Type 0} (f : Data → Option A) (xs ys : List ℕ) (r : Option A) → tokens xs ≡ tokens ys
-    → IfSome r (λ x. option_and_then f (read xs) ≡ Some x) → IfSome r (λ x. option_and_then f (read ys) ≡ Some x)
-read_alike f xs ys None e h = h
-read_alike f xs ys (Some x) e h =
+pub read_alike : {A B : Type 0} (f : Data → Option A) (seen : B → A) (xs ys : List ℕ) (r : Option B) → tokens xs ≡ tokens ys
+    → IfSome r (λ x. option_and_then f (read xs) ≡ Some (seen x)) → IfSome r (λ x. option_and_then f (read ys) ≡ Some (seen x))
+read_alike f seen xs ys None e h = h
+read_alike f seen xs ys (Some x) e h =
     ap (λ ts. option_and_then f (option_and_then of_json (option_and_then (λ p. json.if_last p.0 p.1) (json.value max_depth ts)))) (sym e) ∙ h

@@ -59,6 +59,20 @@ fn command(alloc: Global, config: &Config, value: &Value) -> Result<WorldEvent, 
     }
 }
 
+/// The command that a line is, as `read_command` reads it, but that a line without blanks is read no faster.
+pub fn read_any_command(alloc: Global, config: &Config, line: &str) -> Result<WorldEvent, LineFault>
+    ensures value { Gives result (command_at config.now line.now) }
+    ensures command { IfOk result IsCommand }
+{
+    if let Some((command, site)) = parse_spaced(alloc, config, line) {
+        return Ok(command.at(site));
+    }
+    match read_value(alloc, line) {
+        Ok(value) => command(alloc, config, &value),
+        Err(fault) => Err(fault),
+    }
+}
+
 /// The command that a line is: `Bad` where it is none, `OutOfMemory` where there was no memory to read it.
 ///
 /// An account that the configuration doesn't have is read as `Place::NOWHERE`. A batch may have any number of requests.
@@ -66,14 +80,8 @@ pub fn read_command(alloc: Global, config: &Config, line: &str) -> Result<WorldE
     ensures value { Gives result (command_at config.now line.now) }
     ensures command { IfOk result IsCommand }
 {
-    if let Some(command) = parse_command(alloc, config, line) {
-        return Ok(command);
-    }
-    if let Some(command) = parse_spaced(alloc, config, line) {
-        return Ok(command);
-    }
-    match read_value(alloc, line) {
-        Ok(value) => command(alloc, config, &value),
-        Err(fault) => Err(fault),
+    match parse_command(alloc, config, line) {
+        Some((command, site)) => Ok(command.at(site)),
+        None => read_any_command(alloc, config, line),
     }
 }
