@@ -41,6 +41,7 @@ pub record IsPart {X : Type 0} (ms : List X) (ends : List ℕ) (k a b : ℕ) : T
 pub next : {X : Type 0} (ms : List X) (ends : List ℕ) (k : ℕ) → k < length (between ms ends) → k + 1 < length ends
 next ms ends k less = let more : suc k < length ends = long ms ends k less in omega arith
 
+-- the ends that are read at k and next to it are in order and have the part k between them
 pub part : {X : Type 0} (ms : List X) (ends : List ℕ) (k a b : ℕ) → AreEnds ends (length ms) → k < length (between ms ends)
     → a ≡ get_or ends k a → b ≡ get_or ends (k + 1) b → IsPart ms ends k a b
 part {X} ms ends k a b ends_are less first end =
@@ -64,6 +65,7 @@ ends_more [] m n e le = absurd e
 ends_more (a ∷ []) m n e le = (omega arith, refl)
 ends_more (a ∷ b ∷ ends) m n (first, rest) le = (first, ends_more (b ∷ ends) m n rest le)
 
+-- what is added up to one end more is one part more, behind those before
 pub between_more : {X : Type 0} (ms new : List X) (ends : List ℕ) (n : ℕ) → AreEnds ends (length ms) → n ≡ length (ms ++ new)
     → between (ms ++ new) (ends ++ n ∷ []) ≡ between ms ends ++ new ∷ []
 between_more ms new [] n e is = absurd e

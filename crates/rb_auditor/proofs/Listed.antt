@@ -25,6 +25,7 @@ row_at {X} {Z} rows r v less is =
     slice_get-map (λ (v : Vec X Z). v.items) rows r
     ∙ ap (option_map (λ (v : Vec X Z). v.items)) (slice_get_read rows (length rows) r v refl less is)
 
+-- an item that is added at the end is found at the number of those before
 pub get_end : {A : Type 0} (xs : List A) (k : ℕ) (x : A) → length xs ≡ k → slice_get (xs ++ x ∷ []) k ≡ Some x
 get_end [] zero x e = refl
 get_end [] (suc k) x e = cc
@@ -46,6 +47,7 @@ kept_in_row rows others r row more at j m (inl (positions, there, position)) = e
   | inr ne ↦ inl (positions, Places.get_set_other rows r (row_of_message m) (row ++ more) ne ∙ there, position)
 ]
 
+-- a message is listed once its position is added to its row, where its place is the one just behind that row
 pub listed_in_row : (rows : List (List ℕ)) (others row : List ℕ) (position : ℕ) (m : Message)
     → slice_get rows (row_of_message m) ≡ Some row → length row ≡ slot_of m
     → IsListed (slice_set rows (row_of_message m) (row ++ position ∷ [])) others position m
@@ -62,6 +64,7 @@ pub kept_apart : (rows : List (List ℕ)) (others more : List ℕ) (j : ℕ) (m 
 kept_apart rows others more j m (inl h) = inl h
 kept_apart rows others more j m (inr (k, at)) = inr (k, get_front others more k j at)
 
+-- a message is listed once its position is added to the others
 pub listed_apart : (rows : List (List ℕ)) (others : List ℕ) (position : ℕ) (m : Message)
     → IsListed rows (others ++ position ∷ []) position m
 listed_apart rows others position m = inr (length others, get_end others (length others) position refl)
@@ -82,6 +85,7 @@ listed_more rows new_rows others new_others ms n position is kept here all j m a
     at_end (x ∷ xs) zero h = inl h
     at_end (x ∷ xs) (suc i) h = elim (at_end xs i h) [ inl k ↦ inl k | inr (e, same) ↦ inr (ap suc e, same) ]
 
+-- what is false isn't true
 pub not_false : (b : Bool) → b ≡ false → IsTrue b → ⊥
 not_false true e h = cc
 not_false false e h = cc

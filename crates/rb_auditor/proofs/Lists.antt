@@ -19,6 +19,7 @@ pub record IsSplit {A : Type 0} (xs : List A) (k : ℕ) (x : A) : Type 0 where
   pub within : k < length xs
   pub front : length (take k xs) ≡ k
 
+-- a list is split around the item that is found at a place
 pub split_at : {A : Type 0} (xs : List A) (k : ℕ) (x : A) → slice_get xs k ≡ Some x → IsSplit xs k x
 split_at [] k x h = cc
 split_at (y ∷ ys) zero x h =
@@ -45,6 +46,7 @@ split_at (y ∷ ys) (suc k) x h =
           let q : length (take k ys) ≡ k = i.front in omega arith;
     }
 
+-- what is found in a list of zeros is 0
 pub get_zero : (n i k : ℕ) → slice_get (replicate n 0) i ≡ Some k → k ≡ 0
 get_zero zero i k h = cc
 get_zero (suc n) zero k h = let e : 0 ≡ k = cc in sym e
@@ -61,6 +63,7 @@ get_after (z ∷ xs) ys x = get_after xs ys x
 
 -- ---- sites
 
+-- the site at a place is the one after what was taken of the history there
 pub get_site : (s : Settings) (a : ℕ) (hs : List (List Entry)) (ks : List ℕ) (i k : ℕ) (h : List Entry) → slice_get hs i ≡ Some h
     → slice_get ks i ≡ Some k → slice_get (sites_after s a hs ks) i ≡ Some (site_after s (a + i) (take k h))
 get_site s a [] ks i k h p q = cc
@@ -81,6 +84,7 @@ pub record IsSiteOf (s : Settings) (hs : List (List Entry)) (ks : List ℕ) (a i
   pub at : slice_get ks i ≡ Some taken
   pub is : t ≡ site_after s (a + i) (take taken history)
 
+-- a site that is found at a place comes from the history and the number of entries that are there
 pub from_site : (s : Settings) (a : ℕ) (hs : List (List Entry)) (ks : List ℕ) (i : ℕ) (t : ModelSite)
     → slice_get (sites_after s a hs ks) i ≡ Some t → IsSiteOf s hs ks a i t
 from_site s a [] ks i t p = cc
@@ -104,6 +108,7 @@ from_site s a (g ∷ hs) (n ∷ ks) (suc i) t p =
           r.is ∙ ap (λ j. site_after s j (take r.taken r.history)) (let z : a + 1 + i ≡ a + suc i = omega arith in z);
     }
 
+-- to set how many entries are taken of one history is to set its site to the one after these
 pub set_site : (s : Settings) (a : ℕ) (hs : List (List Entry)) (ks : List ℕ) (i n : ℕ) (h : List Entry) → slice_get hs i ≡ Some h
     → sites_after s a hs (slice_set ks i n) ≡ slice_set (sites_after s a hs ks) i (site_after s (a + i) (take n h))
 set_site s a [] ks i n h p = cc
@@ -118,6 +123,7 @@ set_site s a (g ∷ hs) (k ∷ ks) (suc i) n h p =
     ∙ ap (λ j. slice_set (sites_after s (a + 1) hs ks) i (site_after s j (take n h))) (let z : a + 1 + i ≡ a + suc i = omega arith in
     z))
 
+-- with no entry taken, the sites are those from a on, each at its beginning
 pub first_sites : (s : Settings) (a : ℕ) (hs : List (List Entry))
     → sites_after s a hs (replicate (length hs) 0) ≡ map first_site (range_with_len a (length hs))
 first_sites s a [] = refl
@@ -125,6 +131,7 @@ first_sites s a (h ∷ hs) = ap (λ ts. first_site a ∷ ts) (first_sites s (a +
 
 -- ---- prefixes
 
+-- the prefix at a place is what was taken of the history there
 pub get_front : (hs : List (List Entry)) (ks : List ℕ) (i k : ℕ) (h : List Entry) → slice_get hs i ≡ Some h → slice_get ks i ≡ Some k
     → slice_get (fronts_of hs ks) i ≡ Some (take k h)
 get_front [] ks i k h p q = cc
@@ -141,6 +148,7 @@ pub record IsFront (hs : List (List Entry)) (ks : List ℕ) (i : ℕ) (f : List 
   pub at : slice_get ks i ≡ Some taken
   pub is : f ≡ take taken history
 
+-- a prefix that is found at a place comes from the history and the number of entries that are there
 pub from_front : (hs : List (List Entry)) (ks : List ℕ) (i : ℕ) (f : List Entry) → slice_get (fronts_of hs ks) i ≡ Some f
     → IsFront hs ks i f
 from_front [] ks i f p = cc

@@ -121,6 +121,7 @@ wrong_is_final s hs site event f one =
 pub stuck_is_final : (s : Settings) (hs : List (List Entry)) (next : List ℕ) → IsStuckAt s hs next → ¬ AreOneWorlds s hs
 stuck_is_final s hs next f one = Stuck.stuck_final s hs f.fronts f.stuck one
 
+-- what a replay of all histories finds shows that no world has them, but for running out of memory
 pub wrong_refutes : (s : Settings) (hs : List (List Entry)) (fault : AuditFault) → IsWrongFound s hs fault → Refutes s hs fault
 wrong_refutes s hs (WrongReply site event) w = wrong_is_final s hs site event w
 wrong_refutes s hs (Stuck next) w = absurd w

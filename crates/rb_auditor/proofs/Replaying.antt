@@ -33,6 +33,7 @@ replays-at : (s : Settings) (t : ModelSite) (xs ys : List Entry) (x : Entry) →
 replays-at s t [] ys x h = h.0
 replays-at s t (y ∷ xs) ys x h = replays-at s (after_event s t y.event) xs ys x h.1
 
+-- entries replay that replay with more behind them
 pub replay-front : (s : Settings) (i : ℕ) (xs ys : List Entry) → IsReplay s i (xs ++ ys) → IsReplay s i xs
 replay-front s i xs ys h = record {
   within = h.within;
@@ -68,6 +69,7 @@ pub record IsReplayedAt (s : Settings) (i : ℕ) (h : List Entry) (k : ℕ) (x :
   pub history : history_of s (site_after s i (take k h)) ≡ take k h
   pub more : site_after s i (take (k + 1) h) ≡ after_event s (site_after s i (take k h)) x.event
 
+-- a site after one entry more is the site before it, gone on by its event
 pub after_more : (s : Settings) (t : ModelSite) (xs : List Entry) (x : Entry) →
     after_events s t (events_of (xs ++ x ∷ [])) ≡ after_event s (after_events s t (events_of xs)) x.event
 after_more s t xs x = ap (after_events s t) (map-append (λ (y : Entry). y.event) xs (x ∷ []))
@@ -76,6 +78,7 @@ after_more s t xs x = ap (after_events s t) (map-append (λ (y : Entry). y.event
 not_full : (s : Settings) (t : ModelSite) (k : ℕ) → length t.history ≡ k → k < s.limits.history → is_full s t ≡ false
 not_full s t k e lt = grind (arith, nat_tests)
 
+-- at an entry of a history that replays the site isn't full, gives the entry's reply and goes on by its event
 pub replayed_at : (s : Settings) (i : ℕ) (h : List Entry) (k : ℕ) (x : Entry) → IsReplay s i h → slice_get h k ≡ Some x →
     IsReplayedAt s i h k x
 replayed_at s i h k x r at =

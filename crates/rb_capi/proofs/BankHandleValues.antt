@@ -22,6 +22,7 @@ use Rattle.rb_slot.proofs.Public.SlotValues.{Z, al}
 use Rattle.rb_capi.specs.contracts.bank.Bank.{the_row as bank_row}
 use Rattle.rb_capi.specs.contracts.bank_handle.BankHandle as handle
 
+-- the handle that C keeps of a bank, as its contract has it
 abbrev pub BankHandle : RattleType
 BankHandle = handle.the_row
 

@@ -22,6 +22,7 @@ use Rattle.rb_slot.proofs.Public.SlotValues.{Z, al}
 use Rattle.rb_capi.specs.contracts.kept_site.KeptSite.{the_row as site_row}
 use Rattle.rb_capi.specs.contracts.site_handle.SiteHandle as handle
 
+-- the handle that C keeps of a site, as its contract has it
 abbrev pub SiteHandle : RattleType
 SiteHandle = handle.the_row
 

@@ -98,6 +98,7 @@ unfolding lex
 blank_read [] h e = absurd (omega arith)
 blank_read (x ∷ xs) h e = (λ j. lex between (sym e j ∷ xs))
 
+-- what is behind a blank at the beginning of a text is read as the text is
 pub blank_at : (text rest : List ℕ) → rest ≡ drop 1 text → 0 < length text → get_or text 0 0 ≡ 32 → lex between rest ≡ lex between text
 blank_at text rest same h e = ap (lex between) same ∙ blank_read text h e
 

@@ -62,6 +62,7 @@ one_leads s w x xs apart reported rest (Some d) at later =
     } in
     Goes {v = v} step (rest v (after_one s w x xs d at apart) later)
 
+-- interleaved steps that may happen at their own sites, and deliver reported messages alone, lead from world to world
 pub lead : InterleavedStepsLead
 lead s w [] apart before = Stays
 lead s w (x ∷ xs) apart (reported, later) =

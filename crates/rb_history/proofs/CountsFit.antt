@@ -72,6 +72,7 @@ numbered i (item d ds) =
 
 -- ---- either
 
+-- counts of all sites: each is below 2^32, and in version 1 those past its most sites are 0
 pub record AreBlue (version : ℕ) (ns : List ℕ) : Type 0 where
   pub sites : length ns ≡ MOST_SITES
   pub fit : Each IsWord ns

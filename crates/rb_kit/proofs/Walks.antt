@@ -8,12 +8,15 @@ use denote.RattleType.{RattleType, Valss}
 use denote.Steps.{nothing}
 use denote.Struct.Struct.{Struct, within}
 
+-- the struct without a name whose fields have these types
 abbrev pub plainly : List RattleType → RattleType
 plainly Rs = Struct (record { name = []; args = []; types = []; fields = Rs })
 
+-- the machine value of a struct without fields
 abbrev pub none : Val
 none = vstruct vnil
 
+-- the machine value of a struct of one field
 abbrev pub one : Val → Val
 one u = vstruct (vcons u vnil)
 

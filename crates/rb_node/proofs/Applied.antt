@@ -100,6 +100,7 @@ applies_more comma x old mid new a b c k l m free ready one rest =
 below : (limit n : ℕ) → nat_le limit n ≡ false → n < limit
 below limit n h = grind (arith, nat_tests)
 
+-- after an event at a site whose history isn't full, the history has capacity for fewer entries
 pub spare_falls : (old mid : SeenSite) (e : Event) (reply : Reply) (k l : List ℕ) → is_full old.settings (state_of old) ≡ false
     → Steps old mid e reply k l
     → mid.settings.limits.history - length (state_of mid).history < old.settings.limits.history - length (state_of old).history

@@ -37,6 +37,7 @@ no_entries : (lines : List (List ℕ)) (x : SeenSite) → lines ≡ [] → IsJou
 no_entries lines x none (inl is) = ap (λ (y : SeenSite). y.entries) is.1
 no_entries lines x none (inr is) = absurd (cc (none, is))
 
+-- so it is with what a configured site's journal is still to begin with, where a configuration's line is one line
 pub begins : ConfigsAreLines → (lines : List (List ℕ)) (x : SeenSite) (first : List ℕ) → IsConfigured x.settings → IsJournalOf lines x
     → IsToBegin lines x first → Begins lines x first
 begins are lines x first ok of (inl is) =

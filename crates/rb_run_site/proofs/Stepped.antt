@@ -73,6 +73,7 @@ replayed_next x e is = by (is_full x.settings (state_of x)) refl
         let spare : length (events_of x.entries) < x.settings.limits.history = grind (arith, nat_tests) in
         replayed-stepped x e (omega arith) is
 
+-- and so it does with a list of events more
 pub all_replayed : (x : SeenSite) (es : List Event) → IsReplayed x → IsReplayed (next_sites x es)
 all_replayed x [] is = is
 all_replayed x (e ∷ es) is = all_replayed (next_site x e) es (replayed_next x e is)
@@ -165,6 +166,7 @@ turn_taken s x t same is a = record {
 
 -- ---- all turns
 
+-- the steps of turns lead from a site that restarts to one that does, and the turns' lines are added to its journal
 pub record TakesTurns (s : Settings) (x : SeenSite) (turns : List (Turn SeenSite)) : Type 0 where
   pub steps : List DiskStep
   pub theirs : AreStepsOf x turns steps

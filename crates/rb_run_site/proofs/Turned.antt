@@ -30,6 +30,7 @@ me_next x e = by (is_full x.settings (state_of x))
     by true = refl
     by false = refl
 
+-- nor does a list of events
 pub me_kept : (x : SeenSite) (es : List Event) → (next_sites x es).me ≡ x.me
 me_kept x [] = refl
 me_kept x (e ∷ es) = me_kept (next_site x e) es ∙ me_next x e

@@ -20,6 +20,7 @@ use Rattle.rb_scratch.specs.Requests.{Plan, interest_on, plan_of}
 use Rattle.rb_money.specs.Amounts.{is_amount}
 use Rattle.rb_scratch.proofs.Public.Made.{passed_by, not_true}
 
+-- the configuration has the plan's account, and its amount is from 1 to the most cents
 pub record IsFor (s : Settings) (p : Plan) : Type 0 where
   pub account : is_account s p.account ≡ true
   pub amount : is_amount p.amount ≡ true

@@ -69,6 +69,7 @@ whole_one p tail e n len (inl more) going =
     (first p tail (omega (arith, len_is p, len, more))).1
 whole_one p tail e n len (inr last) going = absurd (cc (going, last.2))
 
+-- before any line is taken: all bytes are those that wait and the rest
 pub start : (p rest : List ℕ) (e : Bool) → Walks (p ++ rest) [] p rest e
 start p rest e = record { got = p; lines = refl; bytes = refl; whole = λ going tail. refl }
 
@@ -80,6 +81,7 @@ one_taken p e n len fits at_front = record {
 
 -- ---- steps
 
+-- no step: no line was taken and none was answered
 pub no_step : {S : Type 0} (answers : Answers S) (e : Bool) (p : Point S) → Advances answers e p p
 no_step answers e p = record {
   turns = [];

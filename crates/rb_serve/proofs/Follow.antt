@@ -137,6 +137,7 @@ abbrev pub rest_of : Option (List ℕ) → List ℕ
 rest_of None = []
 rest_of (Some r) = r
 
+-- and at the input's end that is nothing
 pub no_rest : (rest : Option (List ℕ)) → IsAtEnd rest → rest_of rest ≡ []
 no_rest None end = refl
 no_rest (Some r) end = end

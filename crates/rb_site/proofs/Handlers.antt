@@ -45,6 +45,7 @@ follows_as keeps old now before after o p a e h = let P : Outcome → Type 0 = �
 abbrev pub AnswersAlone : SiteState → SiteState → Outcome → Answer → Type 0
 AnswersAlone old now o a = Follows true old now [] [] o a
 
+-- what answers an outcome alone answers an equal one
 abbrev pub answers_as : (old now : SiteState) (o p : Outcome) (a : Answer) → o ≡ p → AnswersAlone old now p a → AnswersAlone old now o a
 answers_as old now o p a e h = follows_as true old now [] [] o p a e h
 
@@ -57,6 +58,7 @@ noted_less keeps reply None h = by (is_plain reply) h
     by true e = refl
     by false e = cc
 
+-- what follows an outcome for a history that keeps replies does so for any
 pub follows_less : (keeps : Bool) (old now : SiteState) (before after : List Message) (o : Outcome) (a : Answer) →
     Follows true old now before after o a → Follows keeps old now before after o a
 follows_less keeps old now before after o a h = (h.0, (h.1.0, noted_less keeps (reply_of old.settings old.site.ops o) a.noted h.1.1), h.2)
@@ -75,11 +77,13 @@ follows_plain keeps old now before o a h = follows_silent keeps old now before o
 abbrev pub state_as : Settings → ℕ → List Shadow → List Shadow → Token → SiteState
 state_as s me ops held token = record { settings = s; site = record { me = me; ops = ops; held = held; token = token; history = [] } }
 
+-- a site by its parts, its history left out
 abbrev pub site_as : ℕ → List Shadow → List Shadow → Token → ModelSite
 site_as me ops held token = record { me = me; ops = ops; held = held; token = token; history = [] }
 
 -- ---- the token goes to another site
 
+-- a pass that nothing refuses: the token's message is sent, and the site has the token no more
 pub passes : (s : Settings) (me : ℕ) (ops held : List Shadow) (token later : Token) (to reds : ℕ) (m : TokenMessage)
     (before after : List Message) (a : Answer)
     → refusal_of_pass s.sites s.limits me token to ≡ None → reds ≡ red_count ops → m ≡ pass_message token to reds →
@@ -113,6 +117,7 @@ comes_to_check s t x v o found eligible sound refusal =
     ∙ ap (λ b. cond (not b) (Refuses NotReady) (outcome_of_check v (refusal_of_sound s t.ops v))) eligible
     ∙ ap (outcome_of_check v) (sym (refusal-sound s t.ops v sound) ∙ refusal)
 
+-- a sound held shadow whose past is applied, where the ledger's check lets it: it is applied, and held no more
 pub applies : (s : Settings) (me : ℕ) (ops held more less : List Shadow) (token : Token) (x : OpName) (v : Shadow) (a : Answer) →
     find_in held x ≡ Some v → is_eligible ops v ≡ true → IsSound s v → refusal_of s ops v ≡ None
     → more ≡ ops ++ v ∷ [] → less ≡ without v.name held → Says true a (Applied v.name)
@@ -121,6 +126,7 @@ applies s me ops held more less token x v a found eligible sound refusal grown t
     answers_as _ _ _ _ a (comes_to_check s (site_as me ops held token) x v None found eligible sound refusal)
     (ap (λ us. state_as s me us less token) grown ∙ ap (λ vs. state_as s me (ops ++ v ∷ []) vs token) taken, is, refl)
 
+-- the same where the check refuses it, but not as not ready: it is let go with that refusal
 pub drops : (s : Settings) (me : ℕ) (ops held less : List Shadow) (token : Token) (x : OpName) (v : Shadow) (why : Refusal) (a : Answer) →
     find_in held x ≡ Some v → is_eligible ops v ≡ true → IsSound s v → refusal_of s ops v ≡ Some why → (why ≡ NotReady → ⊥)
     → less ≡ without v.name held → Says true a (Refused why)
@@ -129,6 +135,7 @@ drops s me ops held less token x v why a found eligible sound refusal other take
     answers_as _ _ _ _ a (comes_to_check s (site_as me ops held token) x v (Some why) found eligible sound refusal ∙ dropped v why other)
     (ap (λ vs. state_as s me ops vs token) taken, is, refl)
 
+-- the same where the check refuses it as not ready: it stays held, and nothing changes
 pub waits : (s : Settings) (me : ℕ) (ops held : List Shadow) (token : Token) (x : OpName) (v : Shadow) (a : Answer) →
     find_in held x ≡ Some v → is_eligible ops v ≡ true → IsSound s v → refusal_of s ops v ≡ Some NotReady → Says true a (Refused NotReady)
     → AnswersAlone (state_as s me ops held token) (state_as s me ops held token) (outcome_of s (site_as me ops held token) (Apply x)) a
@@ -142,6 +149,7 @@ pub refusal_is : (why : Refusal) (o : Option Refusal) → (o ≡ Some why) ⊎ (
 refusal_is why o (inl e) memory = e
 refusal_is why o (inr h) memory = absurd (memory h.0)
 
+-- what is refused as not ready isn't refused for running out of memory
 pub not_memory : (why : Refusal) → why ≡ NotReady → why ≡ OutOfMemory → ⊥
 not_memory why e h = let bad : NotReady ≡ OutOfMemory = sym e ∙ h in cc
 
@@ -173,6 +181,7 @@ pub ready_means : (s : Settings) (us : List Shadow) (c : Deps) (v : Shadow) → 
 ready_means s us c v few valid same ready =
     Eligible.eligible_from us v (λ x h. ValidClocks.valid_clock s us few valid x ∙ ap (λ d. names_of_clock d x) (sym same) ∙ ready x h)
 
+-- what isn't ready at the clock of a valid list isn't eligible there
 pub waits_means : (s : Settings) (us : List Shadow) (c : Deps) (v : Shadow) → s.sites ≤ MOST_SITES → IsValid s us → c ≡ clock_of us →
     ¬ IsReady c v → is_eligible us v ≡ false
 waits_means s us c v few valid same waits = by (is_eligible us v) refl
@@ -200,6 +209,7 @@ known_comes s t v u b found test =
     ap (λ o. unless_known v o (cond (is_too_many s t v) (Refuses InboxFull) (Holds v))) found
     ∙ ap (λ c. cond c (Answers (Already v.name)) (Refuses Conflict)) test
 
+-- a shadow that isn't applied, where the inbox welcomes it at the clock of a valid list: it is held
 pub holds : (s : Settings) (me : ℕ) (ops : List Shadow) (inbox later : Holding) (token : Token) (c : Deps) (v : Shadow) (a : Answer) →
     s.sites ≤ MOST_SITES → IsValid s ops → c ≡ clock_of ops → inbox.limit ≡ s.limits.inbox
     → IsWelcome inbox c v → later ≡ record inbox { held = with_held v inbox.held } → Says true a (Held v.name)
@@ -218,6 +228,7 @@ holds s me ops inbox later token c v a few valid same limit welcome grown is =
     test : is_too_many s (site_as me ops inbox.held token) v ≡ false
     test = by (nat_le s.limits.inbox (length inbox.held)) refl
 
+-- the same where the inbox is full and the shadow isn't ready: it is refused, and nothing changes
 pub too_many : (s : Settings) (me : ℕ) (ops : List Shadow) (inbox : Holding) (token : Token) (c : Deps) (v : Shadow) (a : Answer) →
     s.sites ≤ MOST_SITES → IsValid s ops → c ≡ clock_of ops → inbox.limit ≡ s.limits.inbox
     → IsTooMany inbox c v → Says true a (Refused InboxFull)
@@ -235,6 +246,7 @@ too_many s me ops inbox token c v a few valid same limit many is =
         let first : nat_le s.limits.inbox (length inbox.held) ≡ true = grind (arith, nat_tests, full) in
         ap (λ b. b && not (is_eligible ops v)) first ∙ ap not (waits_means s ops c v few valid same many.waits)
 
+-- the same where it is held already: the answer is that, and nothing changes
 pub already : (s : Settings) (me : ℕ) (ops held : List Shadow) (token : Token) (v : Shadow) (a : Answer) → find_in held v.name ≡ Some v →
     Says true a (Already v.name)
     → AnswersAlone (state_as s me ops held token) (state_as s me ops held token) (outcome_of_new s (site_as me ops held token) v) a
@@ -242,6 +254,7 @@ already s me ops held token v a found is =
     answers_as _ _ _ _ a (known_comes s (site_as me ops held token) v v true found (SameShadows.same_shadow-refl v))
     (refl, is, refl)
 
+-- the same where another is held under its name: it is refused as a conflict, and nothing changes
 pub conflicts : (s : Settings) (me : ℕ) (ops : List Shadow) (inbox : Holding) (token : Token) (v : Shadow) (a : Answer) →
     IsInConflict inbox v → Says true a (Refused Conflict)
     → AnswersAlone (state_as s me ops inbox.held token) (state_as s me ops inbox.held token)

@@ -103,6 +103,7 @@ sites-push : (x : SeenSite) (es : List Event) (e : Event) → next_sites x (es +
 sites-push x [] e = refl
 sites-push x (d ∷ es) e = sites-push (next_site x d) es e
 
+-- a step on from the first events of a list is the run with one event more of it
 pub sites_more : (x : SeenSite) (es : List Event) (k : ℕ) (d : Event) (now later : SeenSite) → k < length es →
     now ≡ next_sites x (take k es) → later ≡ next_site now (get_or es k d) → later ≡ next_sites x (take (k + 1) es)
 sites_more x es k d now later there far one = one ∙ ap (λ y. next_site y (get_or es k d)) far

@@ -26,6 +26,7 @@ pub record IsStep (x : SeenSite) (now : SiteState) (before after : List Message)
   pub sent : after ≡ before ++ sent_at x.settings (state_of x) e
   pub standing : IsStanding (noted_in x e a.reply) now
 
+-- where a site is the run of its history, which isn't full, what follows the event's outcome is the model's step
 pub is_step : (keeps : Bool) (x : SeenSite) (old now : SiteState) (before after : List Message) (e : Event) (a : Answer) →
     is_full x.settings (state_of x) ≡ false → IsStanding x old → Follows keeps old now before after (outcome_of old.settings old.site e) a →
     IsStep x now before after e a

@@ -52,6 +52,7 @@ changed_grows t (Passes m) x h = h
 pub after_roomy : (s : Settings) (t : ModelSite) (e : Event) → is_full s t ≡ false → after_event s t e ≡ Runs.noted s t e
 after_roomy s t e h = ap (λ b. cond b t (Runs.noted s t e)) h
 
+-- where a site's history wasn't full, it has one entry more after an event
 pub history_after : (s : Settings) (t : ModelSite) (e : Event) → is_full s t ≡ false →
     length (after_event s t e).history ≡ length t.history + 1
 history_after s t e h =
@@ -59,6 +60,8 @@ history_after s t e h =
 
 -- ---- what holds while a site catches up
 
+-- a site that catches up in a good world: it applied the operations it knew and those of the messages that are done
+-- with; others are to come, behind which are those sent meanwhile
 pub record IsStage (s : Settings) (w : World) (i : ℕ) (t : ModelSite) (known : List Shadow) (front rest extra : List Message) : Type 0 where
   pub good : IsGood s w
   pub at : slice_get w.sites i ≡ Some t
@@ -100,6 +103,7 @@ stage_after s w i t known front rest extra e x own is room g =
     grows : IsWithin (names t.ops) (names (after_event s t x).ops)
     grows y h = ap (λ (u : ModelSite). names u.ops y) (after_roomy s t x room) ∙ changed_grows t (outcome_of s t x) y h
 
+-- a history that may have at least one entry more isn't full
 pub roomy : (s : Settings) (t : ModelSite) (n : ℕ) → length t.history + suc n ≤ s.limits.history → is_full s t ≡ false
 roomy s t n h = at (length t.history) h
   where
@@ -261,6 +265,7 @@ caught_up s (ShadowMessage v ∷ rest) w i k t known front extra e g room u ther
         go w2 t2 extra2 (step_on s w2 i t2 known front rest extra2 (ShadowMessage v) g2
         (with_last s w2 i t2 known front rest extra2 v g2 there2)) (omega arith) there'
 
+-- in a good world a site whose history may have the entries for it can be brought to all that was made
 pub can_catch_up : (s : Settings) (w : World) → IsGood s w → CanCatchUp s w
 can_catch_up s w g i t at room u there =
     caught_up s w.messages w i 1 t t.ops [] [] refl

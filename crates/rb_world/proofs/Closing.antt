@@ -16,6 +16,7 @@ pub record IsClosing (s : Settings) (all : List ModelSite) (rs : List SiteReport
   pub reports : AreReports s (map state_of closed) (reverse rs)
   pub settings : AreOf s left
 
+-- before any report all sites are left, each of the configuration
 pub closing-first : (s : Settings) (all : List ModelSite) (xs : List SeenSite) → map state_of xs ≡ all → AreOf s xs → IsClosing s all [] xs
 closing-first s all xs sites settings = record {
   closed = [];
@@ -24,6 +25,7 @@ closing-first s all xs sites settings = record {
   settings = settings;
 }
 
+-- the last of the sites that are left gives its report
 pub closing-next : (s : Settings) (all : List ModelSite) (before left : List SeenSite) (rs : List SiteReport) (x : SeenSite)
     (r : SiteReport) → before ≡ left ++ x ∷ [] → IsClosing s all rs before → IsReport x.settings (state_of x) r →
     IsClosing s all (rs ++ r ∷ []) left
@@ -39,6 +41,7 @@ closing-next s all before left rs x r popped far is =
       settings = kept.0;
     }
 
+-- where no site is left, the reports, the last one first, are those of all sites in their order
 pub closing-whole : (s : Settings) (all : List ModelSite) (rs : List SiteReport) (left : List SeenSite) → length left ≡ 0 →
     IsClosing s all rs left → AreReports s all (reverse rs)
 closing-whole s all rs (x ∷ left) none far = absurd (omega arith)

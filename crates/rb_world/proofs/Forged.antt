@@ -145,6 +145,8 @@ no_trace_from s (e ∷ es) t h room room' = by (is_refused_receive s t e) refl (
               ∙ ap (λ rs. reply_to s t e ∷ rs) r'.1,
         )
 
+-- over no more events than its history may have, a site comes from its start to the same state but for the history,
+-- and to the same other replies, without the messages that it refuses
 pub no_trace : (s : Settings) (me : ℕ) (es : List Event) → length es ≤ s.limits.history
     → AreAlike (after_events s (first_site me) (without_refused s (first_site me) es)) (after_events s (first_site me) es)
     × (replies_to_events s (first_site me) (without_refused s (first_site me) es) ≡ other_replies s (first_site me) es)

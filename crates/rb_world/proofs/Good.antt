@@ -60,6 +60,8 @@ pub record IsInOrder (s : Settings) (all : List Shadow) (i : ℕ) (t : ModelSite
 abbrev pub AreWithin : Settings → List TokenMessage → Type 0
 AreWithin s ns = (m : TokenMessage) → AmongTokens m ns → (m.epoch ≤ s.limits.epoch) × (m.red ≤ s.limits.red)
 
+-- what is known of a world, which is good then: its sites are few and in order, the token is in one place, the
+-- operations made are ordered, and the token messages are within the limits
 pub record IsGood (s : Settings) (w : World) : Type 0 where
   pub few : s.sites ≤ MOST_SITES
   pub place : IsInOnePlace w
@@ -311,6 +313,7 @@ passed_within s w i t m g at may k h = elim (Token.tokens_cases (tokens_in w.mes
         let c : m.red ≡ max t.token.needed (red_count t.ops) = may.red in
         omega arith
 
+-- each kind of step keeps a world good
 pub keeps_good : (s : Settings) → Keeps s (IsGood s)
 keeps_good s = record {
   notes = λ w i t h g at. let o = g.sites i t at in stays s w i t _ w.messages g at (place.notes w i t h g.place at) refl g.tokens
@@ -336,6 +339,7 @@ keeps_good s = record {
 no_entry : (P : List Shadow → Shadow → Type 0) → EachEntry [] P
 no_entry P before v after e = absurd (Members.never_empty before after v (sym e))
 
+-- a world of 1 to MOST_SITES sites is good before any event
 pub first_good : (s : Settings) → 1 ≤ s.sites → s.sites ≤ MOST_SITES → IsGood s (first_world s)
 first_good s some few = record {
   few = few;
@@ -354,5 +358,6 @@ first_good s some few = record {
   tokens = λ m h. elim h [ ];
 }
 
+-- a world of 1 to MOST_SITES sites is good after every run in which messages come by deliveries alone
 pub good_run : (s : Settings) (es : List WorldEvent) → 1 ≤ s.sites → s.sites ≤ MOST_SITES → AreOwn es → IsGood s (world_of_run s es)
 good_run s es some few own = Steps.after_all s (IsGood s) (keeps_good s) es (first_world s) own (first_good s some few)

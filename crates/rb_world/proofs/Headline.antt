@@ -14,6 +14,7 @@ use Rattle.rb_world.proofs.Ready
 use Rattle.rb_world.proofs.Stepping.{IsRunSoFar, next_run}
 use Rattle.rb_world.proofs.Token
 
+-- all laws hold of a world of 1 to MOST_SITES sites after every run in which messages come by deliveries alone
 pub holds : (s : Settings) (es : List WorldEvent) → 1 ≤ s.sites → s.sites ≤ MOST_SITES → AreOwn es → Holds s (world_of_run s es)
 holds s es some few own =
     let w = world_of_run s es in
@@ -39,6 +40,7 @@ run_of_worlds x (e ∷ es) zero run own = run
 run_of_worlds x (e ∷ es) (suc k) run own = run_of_worlds (next_world x e) es k (next_run x e run (All-head IsCommand e es own))
     (All-tail IsCommand e es own)
 
+-- all laws hold of a world that is the run of its own events
 pub holds_of_run : (x : SeenWorld) → IsRunOf x → Holds x.settings x.world
 holds_of_run x run =
     subst (Holds x.settings) (sym run.is)

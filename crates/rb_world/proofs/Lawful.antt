@@ -16,6 +16,8 @@ use Rattle.rb_world.specs.Laws.{Clocks, Funds, ValidLists, NeverNegative, RedBlu
 use Rattle.rb_world.proofs.Good.{IsGood}
 use Rattle.rb_world.proofs.Order.{IsOrderedSet}
 
+-- in a good world the operations made are a RedBlue order, and each site's list is a causal serialization of some of
+-- them, with all that were made there
 pub red_blue : (s : Settings) (w : World) → IsGood s w → RedBlue s w
 red_blue s w g = record {
   lawful = record {
@@ -38,20 +40,25 @@ red_blue s w g = record {
     o : IsOrderedSet s all
     o = g.order
 
+-- in a good world the names that a site applied are those of its clock
 pub clocks : (s : Settings) (w : World) → IsGood s w → Clocks s w
 clocks s w g i t at = ValidClocks.valid_clock s t.ops g.few (g.sites i t at).valid
 
+-- in a good world sites that applied the same operations agree
 pub agreement : (s : Settings) (w : World) → IsGood s w → Agreement s w
 agreement s w g i t at j u at' same =
     Balances.agreement s (made_in w) t.ops u.ops (red_blue s w g).lawful (g.sites i t at).part (g.sites j u at').part
     (g.sites i t at).valid.unique (g.sites j u at').valid.unique same
 
+-- in a good world each site's list is valid
 pub valid_lists : (s : Settings) (w : World) → IsGood s w → ValidLists s w
 valid_lists s w g i t at = (g.sites i t at).valid
 
+-- in a good world no balance of a site is negative
 pub never_negative : (s : Settings) (w : World) → IsGood s w → NeverNegative s w
 never_negative s w g i t at a = Legal.covers s t.ops a (g.sites i t at).valid
 
+-- in a good world each balance of a closed part of what was made has its source
 pub funds : (s : Settings) (w : World) → IsGood s w → Funds s w
 funds s w g vs part unique closed a =
     let l = (red_blue s w g).lawful in

@@ -59,6 +59,7 @@ applied_if_ready s w i t v g here there fresh within =
 
 -- ---- the replies
 
+-- in a good world a site that gets to apply an operation that it holds, and whose past is there, applies it
 pub site_applies : (s : Settings) (w : World) (i : ℕ) (t : ModelSite) (v : Shadow) → IsGood s w → slice_get w.sites i ≡ Some t →
     Among v t.held → IsWithin (past v) (names t.ops) → outcome_of s t (Apply v.name) ≡ Applies v
 unfolding outcome_of
@@ -81,6 +82,8 @@ abbrev pub IsTrusting : Settings → ModelSite → Shadow → Outcome → Type 0
 IsTrusting s t v o = ((o ≡ Answers (Already v.name)) × ((names t.ops v.name ≡ true) ⊎ Among v t.held))
     ⊎ ((o ≡ Holds v) ⊎ ((o ≡ Refuses InboxFull) × (is_eligible t.ops v ≡ false)))
 
+-- in a good world an operation that was made, when a site receives it, is known there, comes to be held, or is refused
+-- for a full inbox while it isn't eligible
 pub site_receives : (s : Settings) (w : World) (i : ℕ) (t : ModelSite) (v : Shadow) → IsGood s w → slice_get w.sites i ≡ Some t →
     Among v (made_in w) → IsTrusting s t v (outcome_of s t (Receive (ShadowMessage v)))
 unfolding outcome_of
@@ -149,6 +152,7 @@ reply_there : (s : Settings) (w : World) (i k : ℕ) (t : ModelSite) (m : Messag
 reply_there s w i k t m at h = ap (λ o. reply_at s o (option_map Receive (message_at w.messages k))) at
     ∙ ap (λ o. reply_at s (Some t) (option_map Receive o)) h
 
+-- in a good world no site is stuck
 pub never_stuck : (s : Settings) (w : World) → IsGood s w → NeverStuck s w
 never_stuck s w g = record {
   delivered = λ i t at room v k h within.
@@ -214,6 +218,7 @@ trusts_site s w i t m g at sent = by_room (is_full s t)
     by_room true = trusts_full
     by_room false = by_message m sent
 
+-- in a good world no delivery is refused as a bad message or as a conflict
 pub trusts_its_own : (s : Settings) (w : World) → IsGood s w → TrustsItsOwn s w
 trusts_its_own s w g i k = by_site (slice_get w.sites i) refl
   where

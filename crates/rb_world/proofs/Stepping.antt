@@ -36,6 +36,7 @@ and_true : (b : Bool) → (not b && true) ≡ not b
 and_true true = refl
 and_true false = refl
 
+-- where an event arrives at a site that is there, the world's step is that of the site
 pub arrives : (s : Settings) (w : World) (ev : WorldEvent) (e : Event) (t : ModelSite) → arrival w.messages ev ≡ Some e →
     slice_get w.sites (site_of ev) ≡ Some t → Arrives s w ev e t
 arrives s w (At i d) e t arrived at = record {
@@ -67,6 +68,7 @@ arrives s w (Deliver i k) e t arrived at = by (message_at w.messages k) refl arr
 abbrev pub world_as : Settings → World → List WorldEvent → SeenWorld
 world_as s w es = record { settings = s; world = w; events = es }
 
+-- an event that no site records leaves the world as it is
 pub still : (w : SeenWorld) (ev : WorldEvent) → is_recorded w.settings w.world ev ≡ false → w ≡ next_world w ev
 still w ev h =
     sym (ap (λ b. world_as w.settings (world_after w.settings w.world ev) (cond b (w.events ++ ev ∷ []) w.events)) h
@@ -115,6 +117,8 @@ sites_and ts ms = record { sites = ts; messages = ms }
 abbrev pub shown_world : Settings → List SeenSite → List Message → List WorldEvent → SeenWorld
 shown_world s xs ms es = world_as s (sites_and (map state_of xs) ms) es
 
+-- where a site takes an event, its reply is the world's, and its step, with the messages that it sends and the event in
+-- the list, is the world's step
 pub taken_step : (s : Settings) (xs : List SeenSite) (ms : List Message) (es : List WorldEvent) (ev : WorldEvent) (e : Event) (x : SeenSite)
     → IsTaken s xs ms ev e x
     → (reply_to x.settings (state_of x) e ≡ next_reply (shown_world s xs ms es) ev)
@@ -146,6 +150,7 @@ own-push [] (Deliver i k) own h = tt
 own-push (At j d ∷ es) ev own h = (own.0, own-push es ev own.1 h)
 own-push (Deliver j d ∷ es) ev own h = own-push es ev own h
 
+-- after one command more the world is the run of its events still
 pub next_run : (w : SeenWorld) (ev : WorldEvent) → IsRunOf w → IsCommand ev → IsRunOf (next_world w ev)
 next_run w ev run command = by (is_recorded w.settings w.world ev) refl
   where
@@ -168,9 +173,11 @@ next_run w ev run command = by (is_recorded w.settings w.world ev) refl
 abbrev pub AreOf : Settings → List SeenSite → Type 0
 AreOf s xs = All (λ (y : SeenSite). y.settings ≡ s) xs
 
+-- a single site that has the configuration
 pub one_of : (s : Settings) (x : SeenSite) → x.settings ≡ s → AreOf s (x ∷ [])
 one_of s x h = All-cons (λ (y : SeenSite). y.settings ≡ s) x [] h (All-nil _)
 
+-- where a site of the configuration takes one event more and is set among such sites, all have the configuration
 pub settings_kept : (s : Settings) (xs : List SeenSite) (i : ℕ) (x : SeenSite) (e : Event) → x.settings ≡ s → AreOf s xs →
     AreOf s (slice_set xs i (next_site x e))
 settings_kept s xs i x e here all = All-set (λ (y : SeenSite). y.settings ≡ s) xs i (next_site x e) (Seen.settings-next x e ∙ here) all
@@ -209,6 +216,7 @@ replies-push : (w : SeenWorld) (es : List WorldEvent) (e : WorldEvent) →
 replies-push w [] e = refl
 replies-push w (d ∷ es) e = ap (λ rs. next_reply w d ∷ rs) (replies-push (next_world w d) es e)
 
+-- the run so far, with the next event, the world after it and its reply
 pub run_more : (start : SeenWorld) (events : List WorldEvent) (k : ℕ) (d : WorldEvent) (now later : SeenWorld) (replies : List Reply)
     (reply : Reply) → k < length events → IsRunSoFar start events k now replies
     → later ≡ next_world now (get_or events k d) → reply ≡ next_reply now (get_or events k d) →

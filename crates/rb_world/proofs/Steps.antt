@@ -68,22 +68,28 @@ sent_among m (n ∷ ms) (inr h) = sent_one_more ms n m (sent_among m ms h)
 pub sent_message : (ms : List Message) (k : ℕ) (m : Message) → message_at ms k ≡ Some m → IsSent ms m
 sent_message ms k m h = sent_among m ms (placed ms k m h)
 
+-- what is known of an operation that a site comes to hold: it was sent, it is another site's, and its name is neither
+-- applied nor held there
 pub record MayHold (ms : List Message) (t : ModelSite) (v : Shadow) : Type 0 where
   pub sent : Among v (shadows_in ms)
   pub fresh : names t.ops v.name ≡ false
   pub foreign : v.home ≢ t.me
   pub free : names t.held v.name ≡ false
 
+-- what is known of an operation that a site comes to apply: it is held there and eligible, and no check refuses it
 pub record MayApply (s : Settings) (t : ModelSite) (v : Shadow) : Type 0 where
   pub held : Among v t.held
   pub eligible : is_eligible t.ops v ≡ true
   pub right : refusal_of_sound s t.ops v ≡ None
 
+-- what is known of a token message that a site takes: it was sent, to this site, and its epoch is later than the site's
 pub record MayTake (ms : List Message) (t : ModelSite) (m : TokenMessage) : Type 0 where
   pub sent : AmongTokens m (tokens_in ms)
   pub mine : m.to ≡ t.me
   pub later : t.token.epoch < m.epoch
 
+-- what is known where a site passes the token by a message: the site has it, and the message goes to another site,
+-- with the next epoch, within the limit, and the larger of the red numbers that the site needs and has applied
 pub record MayPass (s : Settings) (t : ModelSite) (m : TokenMessage) : Type 0 where
   pub held : t.token.held ≡ true
   pub to_other : m.to ≢ t.me
@@ -92,6 +98,8 @@ pub record MayPass (s : Settings) (t : ModelSite) (m : TokenMessage) : Type 0 wh
   pub within : m.epoch ≤ s.limits.epoch
   pub red : m.red ≡ max t.token.needed (red_count t.ops)
 
+-- what is known at a site where an event comes to an outcome, by the outcome; nothing where the outcome refuses,
+-- answers, shows or drops something
 abbrev pub Comes : Settings → List Message → ModelSite → Outcome → Type 0
 Comes s ms t (Refuses why) = Unit {0}
 Comes s ms t (Answers reply) = Unit {0}

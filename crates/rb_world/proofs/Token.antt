@@ -29,11 +29,13 @@ use Rattle.rb_site.proofs.Public.Places.{get_set_other, get_set_same, same_numbe
 
 -- ---- messages
 
+-- the operations in two lists of messages together
 pub shadows_in-append : (ms ns : List Message) → shadows_in (ms ++ ns) ≡ shadows_in ms ++ shadows_in ns
 shadows_in-append [] ns = refl
 shadows_in-append (ShadowMessage v ∷ ms) ns = ap (λ vs. v ∷ vs) (shadows_in-append ms ns)
 shadows_in-append (TokenOnItsWay m ∷ ms) ns = shadows_in-append ms ns
 
+-- the token messages in two lists of messages together
 pub tokens_in-append : (ms ns : List Message) → tokens_in (ms ++ ns) ≡ tokens_in ms ++ tokens_in ns
 tokens_in-append [] ns = refl
 tokens_in-append (ShadowMessage v ∷ ms) ns = tokens_in-append ms ns
@@ -43,15 +45,19 @@ tokens_in-append (TokenOnItsWay m ∷ ms) ns = ap (λ vs. m ∷ vs) (tokens_in-a
 pub made_more : (ms : List Message) (v : Shadow) → shadows_in (ms ++ ShadowMessage v ∷ []) ≡ shadows_in ms ++ v ∷ []
 made_more ms v = shadows_in-append ms (ShadowMessage v ∷ [])
 
+-- one more shadow that is sent leaves the token messages as they are
 pub tokens_same : (ms : List Message) (v : Shadow) → tokens_in (ms ++ ShadowMessage v ∷ []) ≡ tokens_in ms
 tokens_same ms v = tokens_in-append ms (ShadowMessage v ∷ []) ∙ append-nil (tokens_in ms)
 
+-- one more token message that is sent leaves the operations as they are
 pub made_same : (ms : List Message) (m : TokenMessage) → shadows_in (ms ++ TokenOnItsWay m ∷ []) ≡ shadows_in ms
 made_same ms m = shadows_in-append ms (TokenOnItsWay m ∷ []) ∙ append-nil (shadows_in ms)
 
+-- one more token message is sent
 pub tokens_more : (ms : List Message) (m : TokenMessage) → tokens_in (ms ++ TokenOnItsWay m ∷ []) ≡ tokens_in ms ++ m ∷ []
 tokens_more ms m = tokens_in-append ms (TokenOnItsWay m ∷ [])
 
+-- a token message of two lists together is in the first or in the second
 pub tokens_cases : (ms ns : List TokenMessage) (m : TokenMessage) → AmongTokens m (ms ++ ns) → AmongTokens m ms ⊎ AmongTokens m ns
 tokens_cases [] ns m h = inr h
 tokens_cases (n ∷ ms) ns m (inl e) = inl (inl e)
@@ -63,6 +69,7 @@ tokens_right (n ∷ ms) ns m h = inr (tokens_right ms ns m h)
 
 -- ---- where the token is
 
+-- the number in a red operation's name, or 0 where the operation is blue
 abbrev pub red_number : OpName → ℕ
 red_number (Blue i n) = 0
 red_number (Red n) = n
@@ -71,6 +78,7 @@ red_number (Red n) = n
 abbrev pub RedsUpTo : List Shadow → ℕ → Type 0
 RedsUpTo vs n = (v : Shadow) → Among v vs → red_number v.name ≤ n
 
+-- the site that the message goes to has its epoch already, or a later one
 abbrev pub IsStale : World → TokenMessage → Type 0
 IsStale w m = EachSite w (λ j u. m.to ≡ j → m.epoch ≤ u.token.epoch)
 
@@ -93,13 +101,16 @@ pub record IsOnItsWay (w : World) (m : TokenMessage) : Type 0 where
   pub stale : (n : TokenMessage) → AmongTokens n (tokens_in w.messages) → (n ≡ m) ⊎ IsStale w n
   pub reds : RedsUpTo (made_in w) m.red
 
+-- each site has its place as its number, and the token is at a site or on its way by a message
 pub record IsInOnePlace (w : World) : Type 0 where
   pub numbered : EachSite w (λ i t. t.me ≡ i)
   pub place : ((k : ℕ) × (t : ModelSite) × IsHeldAt w k t) ⊎ ((m : TokenMessage) × IsOnItsWay w m)
 
+-- nothing is both true and false
 pub true≢false' : (b : Bool) → b ≡ true → b ≡ false → ⊥
 true≢false' b h k = cc
 
+-- at a place there is only one site
 pub same_site : (w : World) (k : ℕ) (t u : ModelSite) → slice_get w.sites k ≡ Some t → slice_get w.sites k ≡ Some u → u ≡ t
 same_site w k t u a b = cc
 
@@ -302,6 +313,7 @@ passed s w i t m p at may = record { numbered = numbered_quietly w i t n ms p.nu
     ]
     by (inr (o, on)) = absurd (true≢false' t.token.held may.held (on.unheld i t at))
 
+-- each kind of step keeps the token in one place
 pub keeps_place : (s : Settings) → Keeps s IsInOnePlace
 keeps_place s = record {
   notes = λ w i t h p at. quiet w i t t.ops t.held h w.messages p at refl (omega arith) (λ v k. inl k);
@@ -317,6 +329,8 @@ keeps_place s = record {
 
 -- ---- before any event
 
+-- of sites before any event, numbered on from a first number, the one at a place has that number and the place added,
+-- and the place is below how many they are
 pub first_sites : (a n i : ℕ) (t : ModelSite) → slice_get (map first_site (range_with_len a n)) i ≡ Some t →
     (t ≡ first_site (a + i)) × (i < n)
 first_sites a zero i t h = cc
@@ -324,9 +338,11 @@ first_sites a (suc n) zero t h = (let e : t ≡ first_site a = cc in e ∙ ap fi
 first_sites a (suc n) (suc i) t h = let r : (t ≡ first_site ((a + 1) + i)) × (i < n) = first_sites (a + 1) n i t h in
     (r.0 ∙ ap first_site (let q : (a + 1) + i ≡ a + suc i = omega arith in q), let q : i < n = r.1 in omega arith)
 
+-- in the world before any event, what is at a place is the site of that number before any event
 pub first_is : (s : Settings) (i : ℕ) (t : ModelSite) → slice_get (first_world s).sites i ≡ Some t → t ≡ first_site i
 first_is s i t h = (first_sites 0 s.sites i t h).0 ∙ ap first_site (let q : 0 + i ≡ i = omega arith in q)
 
+-- before any event the token is in one place, if there is a site
 pub first_place : (s : Settings) → 1 ≤ s.sites → IsInOnePlace (first_world s)
 first_place s some = record {
   numbered = λ i t h. ap (λ (u : ModelSite). u.me) (first_is s i t h);
@@ -353,6 +369,7 @@ first_place s some = record {
 
 -- ---- the law
 
+-- where the token is in one place, at most one site has it
 pub one_holder : (s : Settings) (w : World) → IsInOnePlace w → OneToken s w
 one_holder s w p i t at held j u at' held' = by p.place
   where

@@ -7,20 +7,25 @@ use Rattle.std.proofs.lemmas.List.{append-nil, append_cancel_left}
 use Rattle.std.proofs.lemmas.List.Sums.{take_while-cons}
 use Rattle.rb_journal.specs.Lines.{joined, lines_in, is_open, recovered, IsBatch, IsLine}
 
+-- the bytes of two lists of lines together
 pub concat-append : (xs ys : List (List ℕ)) → concat (xs ++ ys) ≡ concat xs ++ concat ys
 concat-append [] ys = refl
 concat-append (x ∷ xs) ys = ap (λ (l : List ℕ). x ++ l) (concat-append xs ys) ∙ sym (append_assoc x (concat xs) (concat ys))
 
+-- an LF at the beginning is a line alone, before the lines of what is behind it
 pub whole-lf : (b : ℕ) (bytes : List ℕ) → b ≡ 10 → lines_in (b ∷ bytes) ≡ (10 ∷ []) ∷ lines_in bytes
 whole-lf b bytes is = cond-true _ _ _ (eq-eqb b 10 is)
 
+-- any other byte at the beginning belongs to the first line of what is behind it, if there is one
 pub whole-other : (b : ℕ) (bytes : List ℕ) → (b ≡ 10 → ⊥) → lines_in (b ∷ bytes) ≡ joined b (lines_in bytes)
 whole-other b bytes other = cond-false _ _ _ (ne_eqb b 10 other)
 
+-- a first line that begins with `{` is read, and behind it what is read of the others
 pub open-true : (line : List ℕ) (lines : List (List ℕ)) → is_open line ≡ true →
     take_while is_open (line ∷ lines) ≡ line ∷ take_while is_open lines
 open-true line lines is = take_while-cons is_open line lines ∙ cond-true (is_open line) (line ∷ take_while is_open lines) [] is
 
+-- behind a first line that doesn't begin with `{` nothing is read, nor is that line
 pub open-false : (line : List ℕ) (lines : List (List ℕ)) → is_open line ≡ false → take_while is_open (line ∷ lines) ≡ []
 open-false line lines is = take_while-cons is_open line lines ∙ cond-false (is_open line) (line ∷ take_while is_open lines) [] is
 
@@ -123,6 +128,7 @@ pub record Parts (file : List ℕ) : Type 0 where
   pub split : file ≡ concat (recovered file) ++ end
   pub nothing : recovered end ≡ []
 
+-- every file is made up of such parts
 pub parts : (file : List ℕ) → Parts file
 parts file =
     let whole = whole_front file in
@@ -250,5 +256,6 @@ pub line_more : (bytes line : List ℕ) → IsBatch bytes → IsLine line →
 line_more bytes line all is = lines-append bytes (line ++ 10 ∷ []) all
     ∙ ap (λ (ls : List (List ℕ)). recovered bytes ++ ls) (line_alone line is)
 
+-- lines, and behind them one more with its LF, are lines
 pub still_lines : (bytes line : List ℕ) → IsBatch bytes → IsLine line → IsBatch (bytes ++ (line ++ 10 ∷ []))
 still_lines bytes line all is = both_lines bytes (line ++ 10 ∷ []) all (ap concat (line_alone line is) ∙ append-nil (line ++ 10 ∷ []))

@@ -28,6 +28,7 @@ IsAllowed s us token v (Blue i n) = Unit {0}
 IsAllowed s us token v (Red n) = (token.held ≡ true) × (token.needed ≤ red_count us)
     × ((is_some (target_of v.kind) && overdraws s us v) ≡ false)
 
+-- an operation that a site made of a request: it is as planned, its number is within the limit, and it is allowed
 pub record IsMadeAt (s : Settings) (me : ℕ) (us : List Shadow) (token : Token) (v : Shadow) : Type 0 where
   pub request : Request
   pub plan : Plan

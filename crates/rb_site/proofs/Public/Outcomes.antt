@@ -61,6 +61,7 @@ pub is_full-state : (x : SeenSite) → IsReplayed x → nat_le x.settings.limits
 is_full-state x kept = ap (nat_le x.settings.limits.history) (sym (ap length (Seen.history-state x kept)
     ∙ length-map x.entries (λ (y : Entry). y.event)))
 
+-- where the model site's history isn't full, the site's has fewer entries than its limit
 pub room_left : (x : SeenSite) → IsReplayed x → is_full x.settings (state_of x) ≡ false → length x.entries < x.settings.limits.history
 room_left x kept free =
     let test : nat_le x.settings.limits.history (length x.entries) ≡ false = is_full-state x kept ∙ free in
@@ -143,6 +144,7 @@ sends_few s t (AsOf a n) = few_if (not (is_account s a)) UnknownAccount _
     (few_if (nat_lt (length t.ops) n) PositionBeyond (Answers (BalanceIs (cents (bal s (take n t.ops) a)))) (lit≤ tt))
 sends_few s t (AskStatement a) = few_if (not (is_account s a)) UnknownAccount (Shows a) (lit≤ tt)
 
+-- the same at a site whose history may be full
 pub sent_few : (s : Settings) (t : ModelSite) (e : Event) → length (sent_at s t e) ≤ MOST_REQUESTS
 sent_few s t e = few (is_full s t) (sent_by (outcome_of s t e)) (sends_few s t e)
   where

@@ -76,6 +76,7 @@ later_event s w i t (Deliver j k) at = by (message_at w.messages k)
     by None = not_yet w i t at
     by (Some m) = later_at s w i j t (Receive m) at (slice_get w.sites j) refl
 
+-- after any list of events, a site of the world has gone on from what it was
 pub later_all : (s : Settings) (es : List WorldEvent) (w : World) (i : ℕ) (t : ModelSite) → slice_get w.sites i ≡ Some t →
     Later (world_after_all s w es) i t
 later_all s [] w i t at = not_yet w i t at
@@ -123,6 +124,8 @@ roomy s (Some t) h = (t, refl, not_true (is_full s t) h)
     not_true true k = cc
     not_true false k = refl
 
+-- where messages come by deliveries alone, a recorded event is at a site whose history isn't full, and is the site's
+-- own or receives a message that was sent
 pub is_recorded_event : (s : Settings) (w : World) (e : WorldEvent) → AreOwn (e ∷ []) → is_recorded s w e ≡ true → IsRecorded s w e
 is_recorded_event s w (At i x) own h = let (t, at, room) = roomy s (slice_get w.sites i) h in
     record { event = x; site = t; at = at; room = room; source = own_from w.messages x own.0; is = ap (world_at s w i (Some x)) at }
@@ -149,6 +152,7 @@ is_recorded_event s w (Deliver i k) own h = by (message_at w.messages k) refl h
           is = ap (λ o. world_at s w i (option_map Receive o) (slice_get w.sites i)) e ∙ ap (world_at s w i (Some (Receive m))) at;
         }
 
+-- where messages come by deliveries alone in a list, they do in its first event and in the rest
 pub split_own : (e : WorldEvent) (es : List WorldEvent) → AreOwn (e ∷ es) → AreOwn (e ∷ []) × AreOwn es
 split_own (At i x) es h = ((h.0, tt), h.1)
 split_own (Deliver i k) es h = (tt, h)

@@ -12,16 +12,19 @@ use Rattle.rb_site.specs.Events.{Answers, Applies, Drops, Holds, Makes, MakesAll
 use Rattle.rb_site.specs.Events.{after_event, after_events, changed, first_site, is_full, outcome_of, sent_by}
 use Rattle.rb_site.specs.Worlds.{World, is_recorded, is_recorded_at, message_at, world_after, world_after_all, world_at}
 
+-- a site after two lists of events is the one after the second, begun after the first
 pub after_events-append : (s : Settings) (es fs : List Event) (t : ModelSite) →
     after_events s t (es ++ fs) ≡ after_events s (after_events s t es) fs
 after_events-append s [] fs t = refl
 after_events-append s (e ∷ es) fs t = after_events-append s es fs (after_event s t e)
 
+-- the same of a world
 pub world-append : (s : Settings) (es fs : List WorldEvent) (w : World) →
     world_after_all s w (es ++ fs) ≡ world_after_all s (world_after_all s w es) fs
 world-append s [] fs w = refl
 world-append s (e ∷ es) fs w = world-append s es fs (world_after s w e)
 
+-- no outcome changes the site's number
 pub same_me : (t : ModelSite) (o : Outcome) → (changed t o).me ≡ t.me
 same_me t (Refuses why) = refl
 same_me t (Answers r) = refl

@@ -40,6 +40,7 @@ settings-next x e = by (is_full x.settings (state_of x))
     by true = refl
     by false = refl
 
+-- entries that replay still do with one more, whose reply is the one that the run gives there
 pub replays-push : (s : Settings) (t : ModelSite) (xs : List Entry) (e : Event) → Replays s t xs →
     Replays s t (xs ++ entry e (reply_to s (after_events s t (events_of xs)) e) ∷ [])
 replays-push s t [] e h = (refl, tt)
@@ -77,6 +78,7 @@ pub me_of_run : (s : Settings) (t : ModelSite) (es : List Event) → (after_even
 me_of_run s t [] = refl
 me_of_run s t (e ∷ es) = me_of_run s (after_event s t e) es ∙ me_after s t e
 
+-- the number of the model site is the site's
 pub me-state : (x : SeenSite) → (state_of x).me ≡ x.me
 me-state x = me_of_run x.settings (first_site x.me) (events_of x.entries)
 
@@ -105,6 +107,7 @@ pub events_from : (s : Settings) (t : ModelSite) (es : List Event) → events_of
 events_from s t [] = refl
 events_from s t (e ∷ es) = ap (λ xs. e ∷ xs) (events_from s (after_event s t e) es)
 
+-- the entries of two lists of events are those of the first, then those of the second after the first
 pub entries-append : (s : Settings) (t : ModelSite) (es fs : List Event) →
     with_replies s t (es ++ fs) ≡ with_replies s t es ++ with_replies s (after_events s t es) fs
 entries-append s t [] fs = refl

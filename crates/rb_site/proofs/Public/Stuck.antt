@@ -26,20 +26,24 @@ use Rattle.rb_site.proofs.Public.Places.{get_set_other, get_set_same, same_numbe
 
 -- ---- messages
 
+-- a message of the first list is one of the two together
 pub among-left : (m : Message) (ms ns : List Message) → IsAmong m ms → IsAmong m (ms ++ ns)
 among-left m [] ns h = elim h [ ]
 among-left m (n ∷ ms) ns (inl e) = inl e
 among-left m (n ∷ ms) ns (inr h) = inr (among-left m ms ns h)
 
+-- a message of the second list is one of the two together
 pub among-right : (m : Message) (ms ns : List Message) → IsAmong m ns → IsAmong m (ms ++ ns)
 among-right m [] ns h = h
 among-right m (n ∷ ms) ns h = inr (among-right m ms ns h)
 
+-- a message of two lists together is one of the first or one of the second
 pub among-cases : (m : Message) (ms ns : List Message) → IsAmong m (ms ++ ns) → IsAmong m ms ⊎ IsAmong m ns
 among-cases m [] ns h = inr h
 among-cases m (n ∷ ms) ns (inl e) = inl (inl e)
 among-cases m (n ∷ ms) ns (inr h) = elim (among-cases m ms ns h) [ inl k ↦ inl (inr k) | inr k ↦ inr k ]
 
+-- two lists of events send what the first sends, and then what the second sends after the first
 pub sends-append : (s : Settings) (es fs : List Event) (t : ModelSite) →
     sends_of s t (es ++ fs) ≡ sends_of s t es ++ sends_of s (after_events s t es) fs
 sends-append s [] fs t = refl
@@ -54,6 +58,7 @@ front_sends s t h more m k = subst (IsAmong m) (sym (ap (sends_of s t) (map-appe
 
 -- ---- a world within the prefixes
 
+-- the site has this number and is the run of its history, and its prefix begins with that history
 pub record IsWithinFront (s : Settings) (fronts : List (List Entry)) (i : ℕ) (t : ModelSite) : Type 0 where
   pub me : t.me ≡ i
   pub run : IsRunOfItsHistory s t
@@ -62,6 +67,7 @@ pub record IsWithinFront (s : Settings) (fronts : List (List Entry)) (i : ℕ) (
   pub more : List Entry
   pub goes_on : front ≡ history_of s t ++ more
 
+-- each site of the world is within its prefix, and each message that was sent is sent in a prefix
 pub record IsWithinFronts (s : Settings) (fronts : List (List Entry)) (w : World) : Type 0 where
   pub sites : (i : ℕ) (t : ModelSite) → slice_get w.sites i ≡ Some t → IsWithinFront s fronts i t
   pub sent : (m : Message) → IsAmong m w.messages → (j : ℕ) × (f : List Entry) × (slice_get fronts j ≡ Some f)
@@ -200,6 +206,7 @@ within_all s hs fronts (e ∷ es) w cut own gives g =
       | inr h ↦ subst (IsWithinFronts s fronts) (sym (Runs.unrecorded s w e h)) g
     ])
 
+-- of the sites before any event, numbered on from any number, each place has the one of its number
 pub first_sites : (a n i : ℕ) (t : ModelSite) → slice_get (map first_site (range_with_len a n)) i ≡ Some t → t ≡ first_site (a + i)
 first_sites a zero i t h = cc
 first_sites a (suc n) zero t h = let e : t ≡ first_site a = cc in e ∙ ap first_site (let q : a ≡ a + 0 = omega arith in q)
@@ -244,6 +251,7 @@ first_within s fronts has = record {
   sent = λ m h. elim h [ ];
 }
 
+-- stuck histories are not one world's
 pub stuck_final : StuckIsFinal
 stuck_final s hs fronts stuck one =
     stuck.left (ends_at_front s hs fronts (world_of_run s one.events) stuck.site stuck.history

@@ -31,9 +31,11 @@ use Rattle.rb_slot.specs.Slots.{slot_owns}
 use Rattle.rb_slot.specs.contracts.slot.Slot as slot
 use Rattle.rb_slot.proofs.Public.RawBoxValues.{both}
 
+-- the type of the global allocator
 abbrev pub Z : RattleType
 Z = heap.the_row
 
+-- the global allocator, with its laws and its ghosts
 abbrev pub al : Al
 al = record { row = Z; laws = heap_laws.the_row_laws; g = ghosts; d = impl [] tnil dnil; drops = impl [] tnil dnil }
 
