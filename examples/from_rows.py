@@ -15,6 +15,7 @@ import json
 import os
 import re
 import sys
+import textwrap
 
 HERE = os.path.dirname(os.path.abspath(__file__))
 CRATES = os.path.join(os.path.dirname(HERE), "crates")
@@ -22,7 +23,7 @@ TABLES = os.path.join(CRATES, "rb_tests", "src")
 COMPUTED = os.path.join(CRATES, "rb_world", "proofs")
 WIDTH = 139
 MADE = "-- Made: the rest of this file, by examples/from_rows.py, from the runs in examples/.\n"
-UNFOLDED = re.compile(r"^-- Each run unfolds (.+)\.$", re.MULTILINE)
+UNFOLDED = re.compile(r"^-- Each run unfolds ([^.]+)\.$", re.MULTILINE)
 # limits that terms name, each as a number of lines
 CENTS, RATE, BLUE, RED, EPOCH = "MOST_CENTS", "MOST_RATE", "MOST_BLUE", "MOST_RED", "MOST_EPOCH"
 LIMITS = {CENTS: 10**11, RATE: 10**4, BLUE: 10**6, RED: 10**6, EPOCH: 4 * 10**9}
@@ -210,7 +211,8 @@ def wrapped(line):
 def computed(name, run, events, replies, unfolded):
     """That a run is answered so."""
     lines = [f"{name} : {run}", f"    ({listed(events)})", f"    ≡ {listed(replies)}"]
-    return "\n" + "\n".join([*map(wrapped, lines), f"unfolding {unfolded}", f"{name} = refl", ""])
+    unfolding = textwrap.fill(f"unfolding {unfolded}", WIDTH, subsequent_indent="    ")
+    return "\n" + "\n".join([*map(wrapped, lines), unfolding, f"{name} = refl", ""])
 
 
 def worked_runs(unfolded):
@@ -237,7 +239,7 @@ def with_runs(path, runs):
     unfolded = UNFOLDED.search(head)
     if unfolded is None:
         sys.exit(f"from_rows: {path} doesn't say what each run unfolds")
-    return head + MADE + "".join(runs(unfolded.group(1)))
+    return head + MADE + "".join(runs(unfolded.group(1).replace("\n-- ", " ")))
 
 
 def table(says, name, parts):

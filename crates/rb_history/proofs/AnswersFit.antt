@@ -113,7 +113,8 @@ says_apply : (s : Settings) (t : ModelSite) (o : Option Shadow) →
     Says (unless (λ v. cond (not (is_eligible t.ops v)) (Refuses NotReady) (outcome_of_check v (refusal_of_sound s t.ops v))) o
     (Refuses NotHeld))
 says_apply s t None = tt
-says_apply s t (Some v) = says_if (not (is_eligible t.ops v)) NotReady _ tt (λ e. says_check v (refusal_of_sound s t.ops v) (check_fits s t.ops v))
+says_apply s t (Some v) =
+    says_if (not (is_eligible t.ops v)) NotReady _ tt (λ e. says_check v (refusal_of_sound s t.ops v) (check_fits s t.ops v))
 
 says_made : {A : Type 0} (q : Result A Refusal) (f : A → Outcome) → IfErr q IsRefusal → ((x : A) → Says (f x)) → Says (and_then Refuses q f)
 says_made (Ok x) f h k = k x
@@ -163,7 +164,8 @@ says s c t g (Receive (ShadowMessage v)) =
     says_unknown v (find_in t.held v.name) _ name
     (says_if (nat_le s.limits.inbox (length t.held) && not (is_eligible t.ops v)) InboxFull (Holds v) tt (λ e. tt)))))
 says s c t g (Receive (TokenOnItsWay m)) =
-    says_none (λ why. why) (refusal_of_token s.limits t.me m) _ (token_fits s.limits t.me m) (λ e. by (is_stale t.token m) (few_epochs s c t.me m e))
+    says_none (λ why. why) (refusal_of_token s.limits t.me m) _ (token_fits s.limits t.me m)
+    (λ e. by (is_stale t.token m) (few_epochs s c t.me m e))
   where
     by : (b : Bool) → IsWord m.epoch → Says (cond b (Answers (Stale m.epoch)) (Takes m))
     by true low = low
@@ -173,8 +175,9 @@ says s c t g (Pass to) =
     says_none (λ why. why) (refusal_of_pass s.sites s.limits t.me t.token to) _ (pass_fits s.sites s.limits t.me t.token to) (λ e. tt)
 says s c t g (Balance a) = says_if (not (is_account s a)) UnknownAccount _ tt (λ e. balance_fits s c t.ops a g.valid)
 says s c t g (AsOf a n) =
+    let valid = subst (IsValid s) (sym (take-append-drop n t.ops)) g.valid in
     says_if (not (is_account s a)) UnknownAccount _ tt (λ e. says_if (nat_lt (length t.ops) n) PositionBeyond _ tt (λ f.
-    balance_fits s c (take n t.ops) a (IsValid-front s (take n t.ops) (drop n t.ops) (subst (IsValid s) (sym (take-append-drop n t.ops)) g.valid))))
+    balance_fits s c (take n t.ops) a (IsValid-front s (take n t.ops) (drop n t.ops) valid)))
 says s c t g (AskStatement a) = says_if (not (is_account s a)) UnknownAccount _ tt (λ e. tt)
 
 -- ---- the laws

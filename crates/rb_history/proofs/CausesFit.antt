@@ -175,8 +175,8 @@ check_fits s us v =
     by (names us v.name) (unless (λ u. same_shadow u v) (find_in us v.name) false) (not (is_eligible us v))
     (has_wrong_target us v (target_of v.kind)) (not (same_colour (shown_colour v.name) (colour_in us v.kind))) (overdraws s us v)
   where
-    by : (a b d e f g : Bool) → IfSome (cond a (cond b (Some NotReady) (Some Conflict)) (cond d (Some NotReady) (cond e (Some (BadMessage 6))
-        (cond f (Some (BadMessage 5)) (cond g (Some WouldOverdraw) None))))) IsRefusal
+    by : (a b d e f g : Bool) → IfSome (cond a (cond b (Some NotReady) (Some Conflict)) (cond d (Some NotReady)
+        (cond e (Some (BadMessage 6)) (cond f (Some (BadMessage 5)) (cond g (Some WouldOverdraw) None))))) IsRefusal
     by true true d e f g = tt
     by true false d e f g = tt
     by false b true e f g = tt

@@ -18,12 +18,12 @@ use Rattle.rb_history.proofs.PartsFit.{number}
 use Rattle.rb_history.proofs.ReceiptsFit.{event}
 use Rattle.rb_history.proofs.RepliesFit.{reply}
 
-abbrev IsTold : Settings → ℕ × Entry → Type 0
-IsTold s x = (x.0 < s.sites) × IsEvent s x.1.event × IsReply x.1.reply
+abbrev FitsLine : Settings → ℕ × Entry → Type 0
+FitsLine s x = (x.0 < s.sites) × IsEvent s x.1.event × IsReply x.1.reply
 
-entry : (s : Settings) (d : Data) → Fits d → IfSome (entry_of_object s d) (IsTold s)
+entry : (s : Settings) (d : Data) → Fits d → IfSome (entry_of_object s d) (FitsLine s)
 entry s d f =
-    let Q = IsTold s in
+    let Q = FitsLine s in
     let site_there = fits_field (λ n. n < s.sites) (codes "site") (number_below s.sites) d (number s.sites) in
     let event_there = fits_field (IsEvent s) (codes "event") (event_at s) d (event s) in
     let reply_there = fits_then Fits IsReply reply_told (get (codes "reply") d) (fits_get (codes "reply") d f) reply in
@@ -34,5 +34,5 @@ entry s d f =
 
 -- each entry that is read is one of which a line has all
 pub read_fits : ReadEntriesFit
-read_fits s line site x is = fits_some (IsTold s) (entry_of_line s line) (site, x)
-    (fits_then Fits (IsTold s) (entry_of_object s) (read line) (fits_read line) (entry s)) is
+read_fits s line site x is = fits_some (FitsLine s) (entry_of_line s line) (site, x)
+    (fits_then Fits (FitsLine s) (entry_of_object s) (read line) (fits_read line) (entry s)) is

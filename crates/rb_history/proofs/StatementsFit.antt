@@ -46,8 +46,8 @@ moved_fits : (z : ℤ) → z ≤ℤ pos MOST_BALANCE → neg_ℤ (pos MOST_BALAN
 moved_fits (pos n) most least = let few : n ≤ MOST_BALANCE = omega (arith, ints, most) in omega (arith, few)
 moved_fits (negsuc n) most least = let few : n ≤ MOST_BALANCE = omega (arith, ints, least) in omega (arith, few)
 
-row_fits : (s : Settings) → IsConfigured s → (all : List Shadow) (a : Place) (before : List Shadow) (u : Shadow) → IsValid s (before ++ u ∷ [])
-    → IsStatementRow (row_after s all a before u)
+row_fits : (s : Settings) → IsConfigured s → (all : List Shadow) (a : Place) (before : List Shadow) (u : Shadow) →
+    IsValid s (before ++ u ∷ []) → IsStatementRow (row_after s all a before u)
 row_fits s c all a before u valid =
     let now = small_balance s c (before ++ u ∷ []) a valid in
     let was = small_balance s c before a (IsValid-front s before (u ∷ []) valid) in

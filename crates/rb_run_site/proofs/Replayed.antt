@@ -1,5 +1,6 @@
 -- The first lines of a journal were replayed, and others are left.
-use Rattle.std.proofs.Common.{◌≡◌, ◌+◌, ◌-◌, ◌≤◌, ◌==◌, ℕ, zero, suc, Bool, false, cond, List, [], ◌∷◌, ◌++◌, length, refl, sym, ap, subst, ◌∙◌}
+use Rattle.std.proofs.Common.{◌≡◌, ◌+◌, ◌-◌, ◌≤◌, ◌==◌, ℕ, zero, suc, Bool, false, cond, List, [], ◌∷◌, ◌++◌, length}
+use Rattle.std.proofs.Common.{refl, sym, ap, subst, ◌∙◌}
 use Rattle.std.proofs.Common.{append_assoc, append-nil, length-append, arith}
 use Rattle.std.specs.Prelude.{if◌then◌else◌}
 use Rattle.std.proofs.lemmas.Bool.Decides.{nat_tests}
@@ -21,6 +22,8 @@ use Rattle.rb_run_site.specs.Replays.{GoesOnBy, IsSplit, ReplaysLine, resent}
 use Rattle.rb_run_site.proofs.EntryLines.{fed}
 use Rattle.rb_run_site.proofs.Turned.{me_kept, settings_kept}
 
+-- a site went on by the entries of the first lines, each read back from its line, and the rest are lines too; with the
+-- number of the next line, how many entries are still to be skipped, and what the others sent
 pub record Replaying (old now : SeenSite) (lines rest : List ℕ) (skipped left number : ℕ) (sends sends_now : List ℕ) : Type 0 where
   pub entries : List Entry
   pub goes_on : GoesOnBy old now entries

@@ -101,6 +101,8 @@ same_site reads x y c d m h k e =
 
 -- ---- the laws
 
+-- each configuration is read from its line, settings that are read are a configuration's, and what answers recorded is
+-- replayed
 pub record RestartLaws : Type 0 where
   pub configs : ConfigsAreRead
   pub configured : ReadConfigsAreConfigured
@@ -216,5 +218,7 @@ is_taken laws me start turns file runs config number fault of is (s, on, low, en
     let same : Some s ≡ Some start.settings = sym on ∙ of in
     let settings : s ≡ last.settings = let e : s ≡ start.settings = cc in e ∙ sym all.settings in
     let number_is : me ≡ last.me = sym (all.me ∙ w.number) in
-    not_at_fault last file (w.lines_are ∙ sym all.journal) all.replayed (turns_read laws.replays start turns w.replayed w.are w.read) fault is
-    (subst (λ i. EndsFile (first_seen last.settings i) file fault) number_is (subst (λ c. EndsFile (first_seen c me) file fault) settings ends))
+    let read = turns_read laws.replays start turns w.replayed w.are w.read in
+    let same_settings = subst (λ c. EndsFile (first_seen c me) file fault) settings ends in
+    not_at_fault last file (w.lines_are ∙ sym all.journal) all.replayed read fault is
+    (subst (λ i. EndsFile (first_seen last.settings i) file fault) number_is same_settings)

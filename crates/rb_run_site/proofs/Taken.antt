@@ -90,7 +90,8 @@ no_bad_entry : (x : SeenSite) (file entries : List ℕ) (number : ℕ) → IsWho
 no_bad_entry x file entries number w begins stop =
     let old = first_seen x.settings x.me in
     let at = at_entry x file entries number IsNoEntry w begins stop in
-    let s : stop.mid.settings ≡ x.settings = ap (λ (y : SeenSite). y.settings) stop.goes_on.after ∙ settings_kept old (events_of stop.entries) in
+    let s : stop.mid.settings ≡ x.settings = ap (λ (y : SeenSite). y.settings) stop.goes_on.after
+    ∙ settings_kept old (events_of stop.entries) in
     let m : stop.mid.me ≡ x.me = ap (λ (y : SeenSite). y.me) stop.goes_on.after ∙ me_kept old (events_of stop.entries) in
     let none : IsNoEntry (record { settings = x.settings; me = x.me; entries = stop.mid.entries }) stop.line =
     subst (λ i. IsNoEntry (record { settings = x.settings; me = i; entries = stop.mid.entries }) stop.line) m

@@ -15,7 +15,8 @@ use Rattle.rb_scratch.specs.declared.request.Request.TheVariants.{Withdraw as As
 use Rattle.rb_site.specs.declared.message.Message.TheVariants.{Shadow as ShadowMessage, Token as TokenOnItsWay}
 use Rattle.rb_shadow.specs.declared.label.Label.TheVariants.{Deposit as DepositLabel, Withdraw as WithdrawLabel, Cancel as CancelLabel}
 use Rattle.rb_site.specs.declared.event.Event.TheVariants.{Submit, Receive, Apply, Pass, Statement as AskStatement}
-use Rattle.rb_site.specs.declared.reply.Reply.TheVariants.{Made, Held, Already, Taken, Stale, Applied, Passed, Statement as StatementIs, Refused}
+use Rattle.rb_site.specs.declared.reply.Reply.TheVariants.{Made, Held, Already, Taken, Stale, Applied, Passed, Statement as StatementIs}
+use Rattle.rb_site.specs.declared.reply.Reply.TheVariants.{Refused}
 use Rattle.rb_scratch.specs.Requests.{plan_of, operation_of, allowed, made_of}
 use Rattle.rb_site.specs.Events.{outcome_of, first_site, replies_to_events}
 use Rattle.rb_scratch.specs.Batches.{made_in_batch, batch_of}
@@ -25,7 +26,8 @@ use Rattle.rb_world.proofs.RowParts.{largest, counting}
 place : ℕ → Place
 place n = record { 0 = n }
 
--- Each run unfolds place bal past clock_of is_eligible same_shadow names_listed fault_of plan_of operation_of allowed made_of outcome_of made_in_batch batch_of statement_of.
+-- Each run unfolds place bal past clock_of is_eligible same_shadow names_listed fault_of plan_of operation_of allowed
+-- made_of outcome_of made_in_batch batch_of statement_of.
 -- Made: the rest of this file, by examples/from_rows.py, from the runs in examples/.
 
 seen_operation_is_not_applied_again : replies_to_events (record {
@@ -45,7 +47,8 @@ seen_operation_is_not_applied_again : replies_to_events (record {
     }))) ∷ (Receive (TokenOnItsWay (record { epoch = 1; to = 1; red = 0 }))) ∷ (Submit (AskWithdraw (place 0) 7))
     ∷ (Apply (Red 1)) ∷ (Apply (Red 1)) ∷ [])
     ≡ (Held (Red 1)) ∷ (Taken 1) ∷ (Made (Red 1) WithdrawLabel) ∷ (Refused NotReady) ∷ (Refused NotReady) ∷ []
-unfolding place bal past clock_of is_eligible same_shadow names_listed fault_of plan_of operation_of allowed made_of outcome_of made_in_batch batch_of statement_of
+unfolding place bal past clock_of is_eligible same_shadow names_listed fault_of plan_of operation_of allowed made_of outcome_of
+    made_in_batch batch_of statement_of
 seen_operation_is_not_applied_again = refl
 
 cancel_of_a_wrong_amount_of_nothing : replies_to_events (record {
@@ -71,7 +74,8 @@ cancel_of_a_wrong_amount_of_nothing : replies_to_events (record {
       kind = (Cancel (Blue 0 1));
     }))) ∷ (Apply (Red 1)) ∷ (Apply (Red 1)) ∷ [])
     ≡ (Held (Blue 0 1)) ∷ (Applied (Blue 0 1)) ∷ (Held (Red 1)) ∷ (Refused (BadMessage 6)) ∷ (Refused NotHeld) ∷ []
-unfolding place bal past clock_of is_eligible same_shadow names_listed fault_of plan_of operation_of allowed made_of outcome_of made_in_batch batch_of statement_of
+unfolding place bal past clock_of is_eligible same_shadow names_listed fault_of plan_of operation_of allowed made_of outcome_of
+    made_in_batch batch_of statement_of
 cancel_of_a_wrong_amount_of_nothing = refl
 
 cancel_of_a_wrong_amount_or_colour : replies_to_events (record {
@@ -123,7 +127,8 @@ cancel_of_a_wrong_amount_or_colour : replies_to_events (record {
     ≡ (Held (Blue 0 1)) ∷ (Applied (Blue 0 1)) ∷ (Held (Blue 0 2)) ∷ (Refused (BadMessage 6)) ∷ (Held (Blue 0 2))
     ∷ (Refused (BadMessage 5)) ∷ (Refused NotHeld) ∷ (Held (Red 1)) ∷ (Applied (Red 1)) ∷ (Held (Red 2)) ∷ (Refused (BadMessage 5))
     ∷ []
-unfolding place bal past clock_of is_eligible same_shadow names_listed fault_of plan_of operation_of allowed made_of outcome_of made_in_batch batch_of statement_of
+unfolding place bal past clock_of is_eligible same_shadow names_listed fault_of plan_of operation_of allowed made_of outcome_of
+    made_in_batch batch_of statement_of
 cancel_of_a_wrong_amount_or_colour = refl
 
 overdrawing_cancel_waits_and_goes : replies_to_events (record {
@@ -220,7 +225,8 @@ overdrawing_cancel_waits_and_goes : replies_to_events (record {
       }) ∷ [];
       balance = 100;
     })) ∷ []
-unfolding place bal past clock_of is_eligible same_shadow names_listed fault_of plan_of operation_of allowed made_of outcome_of made_in_batch batch_of statement_of
+unfolding place bal past clock_of is_eligible same_shadow names_listed fault_of plan_of operation_of allowed made_of outcome_of
+    made_in_batch batch_of statement_of
 overdrawing_cancel_waits_and_goes = refl
 
 entry_past_the_sites : replies_to_events (record {
@@ -239,7 +245,8 @@ entry_past_the_sites : replies_to_events (record {
       kind = Deposit;
     }))) ∷ [])
     ≡ (Refused (BadMessage 7)) ∷ []
-unfolding place bal past clock_of is_eligible same_shadow names_listed fault_of plan_of operation_of allowed made_of outcome_of made_in_batch batch_of statement_of
+unfolding place bal past clock_of is_eligible same_shadow names_listed fault_of plan_of operation_of allowed made_of outcome_of
+    made_in_batch batch_of statement_of
 entry_past_the_sites = refl
 
 blue_entry_over_the_limit : replies_to_events (record {
@@ -258,7 +265,8 @@ blue_entry_over_the_limit : replies_to_events (record {
       kind = Deposit;
     }))) ∷ [])
     ≡ (Refused (BadMessage 7)) ∷ []
-unfolding place bal past clock_of is_eligible same_shadow names_listed fault_of plan_of operation_of allowed made_of outcome_of made_in_batch batch_of statement_of
+unfolding place bal past clock_of is_eligible same_shadow names_listed fault_of plan_of operation_of allowed made_of outcome_of
+    made_in_batch batch_of statement_of
 blue_entry_over_the_limit = refl
 
 entries_at_the_limits : replies_to_events (record {
@@ -277,7 +285,8 @@ entries_at_the_limits : replies_to_events (record {
       kind = Deposit;
     }))) ∷ [])
     ≡ (Held (Blue 0 1)) ∷ []
-unfolding place bal past clock_of is_eligible same_shadow names_listed fault_of plan_of operation_of allowed made_of outcome_of made_in_batch batch_of statement_of
+unfolding place bal past clock_of is_eligible same_shadow names_listed fault_of plan_of operation_of allowed made_of outcome_of
+    made_in_batch batch_of statement_of
 entries_at_the_limits = refl
 
 red_entry_over_the_limit : replies_to_events (record {
@@ -296,7 +305,8 @@ red_entry_over_the_limit : replies_to_events (record {
       kind = Deposit;
     }))) ∷ [])
     ≡ (Refused (BadMessage 7)) ∷ []
-unfolding place bal past clock_of is_eligible same_shadow names_listed fault_of plan_of operation_of allowed made_of outcome_of made_in_batch batch_of statement_of
+unfolding place bal past clock_of is_eligible same_shadow names_listed fault_of plan_of operation_of allowed made_of outcome_of
+    made_in_batch batch_of statement_of
 red_entry_over_the_limit = refl
 
 cancel_of_a_missing_site : replies_to_events (record {
@@ -315,7 +325,8 @@ cancel_of_a_missing_site : replies_to_events (record {
       kind = (Cancel (Blue 2 1));
     }))) ∷ [])
     ≡ (Refused (BadMessage 6)) ∷ []
-unfolding place bal past clock_of is_eligible same_shadow names_listed fault_of plan_of operation_of allowed made_of outcome_of made_in_batch batch_of statement_of
+unfolding place bal past clock_of is_eligible same_shadow names_listed fault_of plan_of operation_of allowed made_of outcome_of
+    made_in_batch batch_of statement_of
 cancel_of_a_missing_site = refl
 
 cancel_of_a_missing_site_that_is_counted : replies_to_events (record {
@@ -334,7 +345,8 @@ cancel_of_a_missing_site_that_is_counted : replies_to_events (record {
       kind = (Cancel (Blue 2 1));
     }))) ∷ [])
     ≡ (Refused (BadMessage 6)) ∷ []
-unfolding place bal past clock_of is_eligible same_shadow names_listed fault_of plan_of operation_of allowed made_of outcome_of made_in_batch batch_of statement_of
+unfolding place bal past clock_of is_eligible same_shadow names_listed fault_of plan_of operation_of allowed made_of outcome_of
+    made_in_batch batch_of statement_of
 cancel_of_a_missing_site_that_is_counted = refl
 
 cancel_of_number_nothing : replies_to_events (record {
@@ -353,7 +365,8 @@ cancel_of_number_nothing : replies_to_events (record {
       kind = (Cancel (Blue 0 0));
     }))) ∷ [])
     ≡ (Refused (BadMessage 6)) ∷ []
-unfolding place bal past clock_of is_eligible same_shadow names_listed fault_of plan_of operation_of allowed made_of outcome_of made_in_batch batch_of statement_of
+unfolding place bal past clock_of is_eligible same_shadow names_listed fault_of plan_of operation_of allowed made_of outcome_of
+    made_in_batch batch_of statement_of
 cancel_of_number_nothing = refl
 
 red_number_nothing : replies_to_events (record {
@@ -372,7 +385,8 @@ red_number_nothing : replies_to_events (record {
       kind = Withdraw;
     }))) ∷ [])
     ≡ (Refused (BadMessage 2)) ∷ []
-unfolding place bal past clock_of is_eligible same_shadow names_listed fault_of plan_of operation_of allowed made_of outcome_of made_in_batch batch_of statement_of
+unfolding place bal past clock_of is_eligible same_shadow names_listed fault_of plan_of operation_of allowed made_of outcome_of
+    made_in_batch batch_of statement_of
 red_number_nothing = refl
 
 red_number_over_the_limit : replies_to_events (record {
@@ -391,7 +405,8 @@ red_number_over_the_limit : replies_to_events (record {
       kind = Withdraw;
     }))) ∷ [])
     ≡ (Refused (BadMessage 2)) ∷ []
-unfolding place bal past clock_of is_eligible same_shadow names_listed fault_of plan_of operation_of allowed made_of outcome_of made_in_batch batch_of statement_of
+unfolding place bal past clock_of is_eligible same_shadow names_listed fault_of plan_of operation_of allowed made_of outcome_of
+    made_in_batch batch_of statement_of
 red_number_over_the_limit = refl
 
 blue_withdrawal : replies_to_events (record {
@@ -410,7 +425,8 @@ blue_withdrawal : replies_to_events (record {
       kind = Withdraw;
     }))) ∷ [])
     ≡ (Refused (BadMessage 5)) ∷ []
-unfolding place bal past clock_of is_eligible same_shadow names_listed fault_of plan_of operation_of allowed made_of outcome_of made_in_batch batch_of statement_of
+unfolding place bal past clock_of is_eligible same_shadow names_listed fault_of plan_of operation_of allowed made_of outcome_of
+    made_in_batch batch_of statement_of
 blue_withdrawal = refl
 
 amount_over_the_limit : replies_to_events (record {
@@ -429,7 +445,8 @@ amount_over_the_limit : replies_to_events (record {
       kind = Deposit;
     }))) ∷ [])
     ≡ (Refused (BadMessage 4)) ∷ []
-unfolding place bal past clock_of is_eligible same_shadow names_listed fault_of plan_of operation_of allowed made_of outcome_of made_in_batch batch_of statement_of
+unfolding place bal past clock_of is_eligible same_shadow names_listed fault_of plan_of operation_of allowed made_of outcome_of
+    made_in_batch batch_of statement_of
 amount_over_the_limit = refl
 
 declined_of_nothing : replies_to_events (record {
@@ -448,7 +465,8 @@ declined_of_nothing : replies_to_events (record {
       kind = Declined;
     }))) ∷ [])
     ≡ (Refused (BadMessage 4)) ∷ []
-unfolding place bal past clock_of is_eligible same_shadow names_listed fault_of plan_of operation_of allowed made_of outcome_of made_in_batch batch_of statement_of
+unfolding place bal past clock_of is_eligible same_shadow names_listed fault_of plan_of operation_of allowed made_of outcome_of
+    made_in_batch batch_of statement_of
 declined_of_nothing = refl
 
 red_of_a_missing_site : replies_to_events (record {
@@ -467,7 +485,8 @@ red_of_a_missing_site : replies_to_events (record {
       kind = Withdraw;
     }))) ∷ [])
     ≡ (Refused (BadMessage 1)) ∷ []
-unfolding place bal past clock_of is_eligible same_shadow names_listed fault_of plan_of operation_of allowed made_of outcome_of made_in_batch batch_of statement_of
+unfolding place bal past clock_of is_eligible same_shadow names_listed fault_of plan_of operation_of allowed made_of outcome_of
+    made_in_batch batch_of statement_of
 red_of_a_missing_site = refl
 
 red_of_this_site : replies_to_events (record {
@@ -486,7 +505,8 @@ red_of_this_site : replies_to_events (record {
       kind = Withdraw;
     }))) ∷ [])
     ≡ (Refused Conflict) ∷ []
-unfolding place bal past clock_of is_eligible same_shadow names_listed fault_of plan_of operation_of allowed made_of outcome_of made_in_batch batch_of statement_of
+unfolding place bal past clock_of is_eligible same_shadow names_listed fault_of plan_of operation_of allowed made_of outcome_of
+    made_in_batch batch_of statement_of
 red_of_this_site = refl
 
 token_of_another_comes_first : replies_to_events (record {
@@ -498,7 +518,8 @@ token_of_another_comes_first : replies_to_events (record {
 }) (first_site 1)
     ((Receive (TokenOnItsWay (record { epoch = MOST_EPOCH + 1; to = 0; red = 0 }))) ∷ [])
     ≡ (Refused NotYours) ∷ []
-unfolding place bal past clock_of is_eligible same_shadow names_listed fault_of plan_of operation_of allowed made_of outcome_of made_in_batch batch_of statement_of
+unfolding place bal past clock_of is_eligible same_shadow names_listed fault_of plan_of operation_of allowed made_of outcome_of
+    made_in_batch batch_of statement_of
 token_of_another_comes_first = refl
 
 token_epoch_over_the_limit : replies_to_events (record {
@@ -510,7 +531,8 @@ token_epoch_over_the_limit : replies_to_events (record {
 }) (first_site 1)
     ((Receive (TokenOnItsWay (record { epoch = MOST_EPOCH + 1; to = 1; red = 0 }))) ∷ [])
     ≡ (Refused (BadMessage 2)) ∷ []
-unfolding place bal past clock_of is_eligible same_shadow names_listed fault_of plan_of operation_of allowed made_of outcome_of made_in_batch batch_of statement_of
+unfolding place bal past clock_of is_eligible same_shadow names_listed fault_of plan_of operation_of allowed made_of outcome_of
+    made_in_batch batch_of statement_of
 token_epoch_over_the_limit = refl
 
 token_red_count_over_the_limit : replies_to_events (record {
@@ -522,7 +544,8 @@ token_red_count_over_the_limit : replies_to_events (record {
 }) (first_site 1)
     ((Receive (TokenOnItsWay (record { epoch = 0; to = 1; red = MOST_RED + 1 }))) ∷ [])
     ≡ (Refused (BadMessage 2)) ∷ []
-unfolding place bal past clock_of is_eligible same_shadow names_listed fault_of plan_of operation_of allowed made_of outcome_of made_in_batch batch_of statement_of
+unfolding place bal past clock_of is_eligible same_shadow names_listed fault_of plan_of operation_of allowed made_of outcome_of
+    made_in_batch batch_of statement_of
 token_red_count_over_the_limit = refl
 
 token_of_unseen_reds : replies_to_events (record {
@@ -539,7 +562,8 @@ token_of_unseen_reds : replies_to_events (record {
       red = 0;
     }))) ∷ (Submit (AskWithdraw (place 0) 1)) ∷ (Pass 0) ∷ [])
     ≡ (Taken 5) ∷ (Refused (RedBehind 0 3)) ∷ (Stale 4) ∷ (Taken 6) ∷ (Made (Red 1) WithdrawLabel) ∷ (Passed 7) ∷ []
-unfolding place bal past clock_of is_eligible same_shadow names_listed fault_of plan_of operation_of allowed made_of outcome_of made_in_batch batch_of statement_of
+unfolding place bal past clock_of is_eligible same_shadow names_listed fault_of plan_of operation_of allowed made_of outcome_of
+    made_in_batch batch_of statement_of
 token_of_unseen_reds = refl
 
 blue_name_of_another_home : replies_to_events (record {
@@ -558,7 +582,8 @@ blue_name_of_another_home : replies_to_events (record {
       kind = Deposit;
     }))) ∷ [])
     ≡ (Refused (BadMessage 1)) ∷ []
-unfolding place bal past clock_of is_eligible same_shadow names_listed fault_of plan_of operation_of allowed made_of outcome_of made_in_batch batch_of statement_of
+unfolding place bal past clock_of is_eligible same_shadow names_listed fault_of plan_of operation_of allowed made_of outcome_of
+    made_in_batch batch_of statement_of
 blue_name_of_another_home = refl
 
 missing_site : replies_to_events (record {
@@ -577,7 +602,8 @@ missing_site : replies_to_events (record {
       kind = Deposit;
     }))) ∷ [])
     ≡ (Refused (BadMessage 1)) ∷ []
-unfolding place bal past clock_of is_eligible same_shadow names_listed fault_of plan_of operation_of allowed made_of outcome_of made_in_batch batch_of statement_of
+unfolding place bal past clock_of is_eligible same_shadow names_listed fault_of plan_of operation_of allowed made_of outcome_of
+    made_in_batch batch_of statement_of
 missing_site = refl
 
 blue_number_nothing : replies_to_events (record {
@@ -596,7 +622,8 @@ blue_number_nothing : replies_to_events (record {
       kind = Deposit;
     }))) ∷ [])
     ≡ (Refused (BadMessage 2)) ∷ []
-unfolding place bal past clock_of is_eligible same_shadow names_listed fault_of plan_of operation_of allowed made_of outcome_of made_in_batch batch_of statement_of
+unfolding place bal past clock_of is_eligible same_shadow names_listed fault_of plan_of operation_of allowed made_of outcome_of
+    made_in_batch batch_of statement_of
 blue_number_nothing = refl
 
 blue_number_over_the_limit : replies_to_events (record {
@@ -615,7 +642,8 @@ blue_number_over_the_limit : replies_to_events (record {
       kind = Deposit;
     }))) ∷ [])
     ≡ (Refused (BadMessage 2)) ∷ []
-unfolding place bal past clock_of is_eligible same_shadow names_listed fault_of plan_of operation_of allowed made_of outcome_of made_in_batch batch_of statement_of
+unfolding place bal past clock_of is_eligible same_shadow names_listed fault_of plan_of operation_of allowed made_of outcome_of
+    made_in_batch batch_of statement_of
 blue_number_over_the_limit = refl
 
 missing_account : replies_to_events (record {
@@ -634,7 +662,8 @@ missing_account : replies_to_events (record {
       kind = Deposit;
     }))) ∷ [])
     ≡ (Refused (BadMessage 3)) ∷ []
-unfolding place bal past clock_of is_eligible same_shadow names_listed fault_of plan_of operation_of allowed made_of outcome_of made_in_batch batch_of statement_of
+unfolding place bal past clock_of is_eligible same_shadow names_listed fault_of plan_of operation_of allowed made_of outcome_of
+    made_in_batch batch_of statement_of
 missing_account = refl
 
 deposit_of_nothing : replies_to_events (record {
@@ -653,7 +682,8 @@ deposit_of_nothing : replies_to_events (record {
       kind = Deposit;
     }))) ∷ [])
     ≡ (Refused (BadMessage 4)) ∷ []
-unfolding place bal past clock_of is_eligible same_shadow names_listed fault_of plan_of operation_of allowed made_of outcome_of made_in_batch batch_of statement_of
+unfolding place bal past clock_of is_eligible same_shadow names_listed fault_of plan_of operation_of allowed made_of outcome_of
+    made_in_batch batch_of statement_of
 deposit_of_nothing = refl
 
 interest_of_nothing : replies_to_events (record {
@@ -672,7 +702,8 @@ interest_of_nothing : replies_to_events (record {
       kind = Interest;
     }))) ∷ (Apply (Blue 0 1)) ∷ [])
     ≡ (Held (Blue 0 1)) ∷ (Applied (Blue 0 1)) ∷ []
-unfolding place bal past clock_of is_eligible same_shadow names_listed fault_of plan_of operation_of allowed made_of outcome_of made_in_batch batch_of statement_of
+unfolding place bal past clock_of is_eligible same_shadow names_listed fault_of plan_of operation_of allowed made_of outcome_of
+    made_in_batch batch_of statement_of
 interest_of_nothing = refl
 
 red_deposit : replies_to_events (record {
@@ -685,7 +716,8 @@ red_deposit : replies_to_events (record {
     ((Receive (ShadowMessage (record { name = (Red 1); home = 0; deps = counting [] 0; account = (place 0); amount = 5; kind = Deposit })))
     ∷ [])
     ≡ (Refused (BadMessage 5)) ∷ []
-unfolding place bal past clock_of is_eligible same_shadow names_listed fault_of plan_of operation_of allowed made_of outcome_of made_in_batch batch_of statement_of
+unfolding place bal past clock_of is_eligible same_shadow names_listed fault_of plan_of operation_of allowed made_of outcome_of
+    made_in_batch batch_of statement_of
 red_deposit = refl
 
 cancel_of_the_unseen : replies_to_events (record {
@@ -704,7 +736,8 @@ cancel_of_the_unseen : replies_to_events (record {
       kind = (Cancel (Red 1));
     }))) ∷ [])
     ≡ (Refused (BadMessage 6)) ∷ []
-unfolding place bal past clock_of is_eligible same_shadow names_listed fault_of plan_of operation_of allowed made_of outcome_of made_in_batch batch_of statement_of
+unfolding place bal past clock_of is_eligible same_shadow names_listed fault_of plan_of operation_of allowed made_of outcome_of
+    made_in_batch batch_of statement_of
 cancel_of_the_unseen = refl
 
 number_left_out : replies_to_events (record {
@@ -723,7 +756,8 @@ number_left_out : replies_to_events (record {
       kind = Deposit;
     }))) ∷ [])
     ≡ (Refused (BadMessage 7)) ∷ []
-unfolding place bal past clock_of is_eligible same_shadow names_listed fault_of plan_of operation_of allowed made_of outcome_of made_in_batch batch_of statement_of
+unfolding place bal past clock_of is_eligible same_shadow names_listed fault_of plan_of operation_of allowed made_of outcome_of
+    made_in_batch batch_of statement_of
 number_left_out = refl
 
 blue_of_this_site : replies_to_events (record {
@@ -742,7 +776,8 @@ blue_of_this_site : replies_to_events (record {
       kind = Deposit;
     }))) ∷ [])
     ≡ (Refused Conflict) ∷ []
-unfolding place bal past clock_of is_eligible same_shadow names_listed fault_of plan_of operation_of allowed made_of outcome_of made_in_batch batch_of statement_of
+unfolding place bal past clock_of is_eligible same_shadow names_listed fault_of plan_of operation_of allowed made_of outcome_of
+    made_in_batch batch_of statement_of
 blue_of_this_site = refl
 
 two_of_one_name : replies_to_events (record {
@@ -775,7 +810,8 @@ two_of_one_name : replies_to_events (record {
       kind = Deposit;
     }))) ∷ [])
     ≡ (Held (Blue 0 1)) ∷ (Refused Conflict) ∷ (Already (Blue 0 1)) ∷ []
-unfolding place bal past clock_of is_eligible same_shadow names_listed fault_of plan_of operation_of allowed made_of outcome_of made_in_batch batch_of statement_of
+unfolding place bal past clock_of is_eligible same_shadow names_listed fault_of plan_of operation_of allowed made_of outcome_of
+    made_in_batch batch_of statement_of
 two_of_one_name = refl
 
 uncovered_withdrawal : replies_to_events (record {
@@ -794,7 +830,8 @@ uncovered_withdrawal : replies_to_events (record {
       kind = Withdraw;
     }))) ∷ (Apply (Red 1)) ∷ (Apply (Red 1)) ∷ [])
     ≡ (Held (Red 1)) ∷ (Refused WouldOverdraw) ∷ (Refused NotHeld) ∷ []
-unfolding place bal past clock_of is_eligible same_shadow names_listed fault_of plan_of operation_of allowed made_of outcome_of made_in_batch batch_of statement_of
+unfolding place bal past clock_of is_eligible same_shadow names_listed fault_of plan_of operation_of allowed made_of outcome_of
+    made_in_batch batch_of statement_of
 uncovered_withdrawal = refl
 
 cancel_of_a_declined : replies_to_events (record {
@@ -821,7 +858,8 @@ cancel_of_a_declined : replies_to_events (record {
       kind = (Cancel (Blue 0 1));
     }))) ∷ (Apply (Blue 0 2)) ∷ (Apply (Blue 0 2)) ∷ [])
     ≡ (Held (Blue 0 1)) ∷ (Applied (Blue 0 1)) ∷ (Held (Blue 0 2)) ∷ (Refused (BadMessage 6)) ∷ (Refused NotHeld) ∷ []
-unfolding place bal past clock_of is_eligible same_shadow names_listed fault_of plan_of operation_of allowed made_of outcome_of made_in_batch batch_of statement_of
+unfolding place bal past clock_of is_eligible same_shadow names_listed fault_of plan_of operation_of allowed made_of outcome_of
+    made_in_batch batch_of statement_of
 cancel_of_a_declined = refl
 
 red_made_twice : replies_to_events (record {
@@ -841,7 +879,8 @@ red_made_twice : replies_to_events (record {
     }))) ∷ (Receive (TokenOnItsWay (record { epoch = 1; to = 1; red = 0 }))) ∷ (Submit (AskWithdraw (place 0) 7))
     ∷ (Apply (Red 1)) ∷ (Apply (Red 1)) ∷ [])
     ≡ (Held (Red 1)) ∷ (Taken 1) ∷ (Made (Red 1) WithdrawLabel) ∷ (Refused Conflict) ∷ (Refused NotHeld) ∷ []
-unfolding place bal past clock_of is_eligible same_shadow names_listed fault_of plan_of operation_of allowed made_of outcome_of made_in_batch batch_of statement_of
+unfolding place bal past clock_of is_eligible same_shadow names_listed fault_of plan_of operation_of allowed made_of outcome_of
+    made_in_batch batch_of statement_of
 red_made_twice = refl
 
 red_made_twice_by_a_cancel : replies_to_events (record {
@@ -871,7 +910,8 @@ red_made_twice_by_a_cancel : replies_to_events (record {
       red = 0;
     }))) ∷ (Submit (AskWithdraw (place 0) 7)) ∷ (Apply (Red 1)) ∷ [])
     ≡ (Held (Blue 0 1)) ∷ (Applied (Blue 0 1)) ∷ (Held (Red 1)) ∷ (Taken 1) ∷ (Made (Red 1) WithdrawLabel) ∷ (Refused Conflict) ∷ []
-unfolding place bal past clock_of is_eligible same_shadow names_listed fault_of plan_of operation_of allowed made_of outcome_of made_in_batch batch_of statement_of
+unfolding place bal past clock_of is_eligible same_shadow names_listed fault_of plan_of operation_of allowed made_of outcome_of
+    made_in_batch batch_of statement_of
 red_made_twice_by_a_cancel = refl
 
 token_of_another : replies_to_events (record {
@@ -883,7 +923,8 @@ token_of_another : replies_to_events (record {
 }) (first_site 1)
     ((Receive (TokenOnItsWay (record { epoch = 1; to = 0; red = 0 }))) ∷ [])
     ≡ (Refused NotYours) ∷ []
-unfolding place bal past clock_of is_eligible same_shadow names_listed fault_of plan_of operation_of allowed made_of outcome_of made_in_batch batch_of statement_of
+unfolding place bal past clock_of is_eligible same_shadow names_listed fault_of plan_of operation_of allowed made_of outcome_of
+    made_in_batch batch_of statement_of
 token_of_another = refl
 
 token_red_count_too_large : replies_to_events (record {
@@ -895,7 +936,8 @@ token_red_count_too_large : replies_to_events (record {
 }) (first_site 1)
     ((Receive (TokenOnItsWay (record { epoch = 1; to = 1; red = MOST_RED + 1 }))) ∷ [])
     ≡ (Refused (BadMessage 2)) ∷ []
-unfolding place bal past clock_of is_eligible same_shadow names_listed fault_of plan_of operation_of allowed made_of outcome_of made_in_batch batch_of statement_of
+unfolding place bal past clock_of is_eligible same_shadow names_listed fault_of plan_of operation_of allowed made_of outcome_of
+    made_in_batch batch_of statement_of
 token_red_count_too_large = refl
 
 stale_token : replies_to_events (record {
@@ -907,7 +949,8 @@ stale_token : replies_to_events (record {
 }) (first_site 1)
     ((Receive (TokenOnItsWay (record { epoch = 0; to = 1; red = 0 }))) ∷ [])
     ≡ (Stale 0) ∷ []
-unfolding place bal past clock_of is_eligible same_shadow names_listed fault_of plan_of operation_of allowed made_of outcome_of made_in_batch batch_of statement_of
+unfolding place bal past clock_of is_eligible same_shadow names_listed fault_of plan_of operation_of allowed made_of outcome_of
+    made_in_batch batch_of statement_of
 stale_token = refl
 
 forged_transfers : replies_to_events (record {
@@ -940,5 +983,6 @@ forged_transfers : replies_to_events (record {
       kind = (Transfer (place 1));
     }))) ∷ [])
     ≡ (Refused (BadMessage 3)) ∷ (Refused (BadMessage 3)) ∷ (Refused (BadMessage 5)) ∷ []
-unfolding place bal past clock_of is_eligible same_shadow names_listed fault_of plan_of operation_of allowed made_of outcome_of made_in_batch batch_of statement_of
+unfolding place bal past clock_of is_eligible same_shadow names_listed fault_of plan_of operation_of allowed made_of outcome_of
+    made_in_batch batch_of statement_of
 forged_transfers = refl

@@ -1,5 +1,6 @@
 -- The messages that are kept at places.
-use Rattle.std.proofs.Common.{◌≡◌, ◌≢◌, ◌∙◌, ℕ, zero, suc, ◌+◌, ◌-◌, ◌==◌, Bool, true, false, cond, List, [], ◌∷◌, ◌++◌, length, map, Option, Some, None}
+use Rattle.std.proofs.Common.{◌≡◌, ◌≢◌, ◌∙◌, ℕ, zero, suc, ◌+◌, ◌-◌, ◌==◌, Bool, true, false, cond, List, [], ◌∷◌, ◌++◌}
+use Rattle.std.proofs.Common.{length, map, Option, Some, None}
 use Rattle.std.proofs.Common.{ap, append_assoc, arith, inl, inr, refl, subst, sym}
 use Rattle.std.proofs.lemmas.Bool.Decides.{nat_tests}
 use Rattle.std.proofs.lemmas.Option.{slice_get-map}
@@ -85,7 +86,8 @@ operation_stays us vs n v = by (n == 0)
     by false h = get_front us vs (n - 1) v h
 
 -- a site goes on, with operations behind those that it applied
-site_goes_on : (ts : List ModelSite) (tokens more : List TokenMessage) (i : ℕ) (t u : ModelSite) (vs : List Shadow) → slice_get ts i ≡ Some t
+site_goes_on : (ts : List ModelSite) (tokens more : List TokenMessage) (i : ℕ) (t u : ModelSite) (vs : List Shadow) →
+    slice_get ts i ≡ Some t
     → u.ops ≡ t.ops ++ vs → Stays ts tokens (slice_set ts i u) (tokens ++ more)
 site_goes_on ts tokens more i t u vs at grown (TokenAt k) m kept = by (slice_get tokens k) refl kept
   where
@@ -241,6 +243,7 @@ noted_more i n k old noted now so_far is =
 
 -- ---- the message of a number
 
+-- with a message at each place, the message of a number that isn't 0 is that of the place of the number less 1
 pub numbered : (ts : List ModelSite) (tokens : List TokenMessage) (ps : List Kept) (n : ℕ) → AreKept ts tokens ps → n ≢ 0 →
     message_at (kept_messages ts tokens ps) n ≡ option_and_then (kept_at ts tokens) (slice_get ps (n - 1))
 numbered ts tokens ps zero are some = absurd (some refl)

@@ -6,17 +6,24 @@ use Rattle.rb_money.specs.Settings.{Settings}
 use Rattle.rb_money.specs.declared.place.Place.{Place}
 use Rattle.rb_money.specs.declared.place.TheConstants.Place.{NOWHERE}
 use Rattle.rb_money.specs.declared.refusal.Cause.TheVariants.{Declined as DeclinedCause, Refused as RefusedCause}
-use Rattle.rb_money.specs.declared.refusal.Refusal.TheVariants.{UnknownAccount, BadAmount, BadRate, UnknownOperation, NotCancellable, AlreadyCancelled, NumbersExhausted, NeedToken, RedBehind, WouldOverdraw, DeltaTooLarge, BadBatch, BatchRefused, NotHeld, NotReady, InboxFull, NoMessage, NoSite, NotYours, PositionBeyond, HistoryFull, SameAccount}
+use Rattle.rb_money.specs.declared.refusal.Refusal.TheVariants.{UnknownAccount, BadAmount, BadRate, UnknownOperation, NotCancellable}
+use Rattle.rb_money.specs.declared.refusal.Refusal.TheVariants.{AlreadyCancelled, NumbersExhausted, NeedToken, RedBehind, WouldOverdraw}
+use Rattle.rb_money.specs.declared.refusal.Refusal.TheVariants.{DeltaTooLarge, BadBatch, BatchRefused, NotHeld, NotReady, InboxFull}
+use Rattle.rb_money.specs.declared.refusal.Refusal.TheVariants.{NoMessage, NoSite, NotYours, PositionBeyond, HistoryFull, SameAccount}
 use Rattle.rb_money.specs.declared.cents.TheConstants.{MOST_CENTS}
 use Rattle.rb_money.specs.declared.rate.TheConstants.{MOST_RATE}
 use Rattle.rb_shadow.specs.declared.op_name.OpName.TheVariants.{Blue, Red}
 use Rattle.rb_shadow.specs.Operations.{bal, past, clock_of, is_eligible, same_shadow, names_listed}
 use Rattle.rb_shadow.specs.Sound.{fault_of}
-use Rattle.rb_scratch.specs.declared.request.Request.TheVariants.{Deposit as AskDeposit, Withdraw as AskWithdraw, Interest as AskInterest, Cancel as AskCancel, Transfer as AskTransfer}
-use Rattle.rb_shadow.specs.declared.label.Label.TheVariants.{Deposit as DepositLabel, Withdraw as WithdrawLabel, Declined as DeclinedLabel, Interest as InterestLabel, Cancel as CancelLabel, Transfer as TransferLabel}
+use Rattle.rb_scratch.specs.declared.request.Request.TheVariants.{Deposit as AskDeposit, Withdraw as AskWithdraw, Interest as AskInterest}
+use Rattle.rb_scratch.specs.declared.request.Request.TheVariants.{Cancel as AskCancel, Transfer as AskTransfer}
+use Rattle.rb_shadow.specs.declared.label.Label.TheVariants.{Deposit as DepositLabel, Withdraw as WithdrawLabel}
+use Rattle.rb_shadow.specs.declared.label.Label.TheVariants.{Declined as DeclinedLabel, Interest as InterestLabel, Cancel as CancelLabel}
+use Rattle.rb_shadow.specs.declared.label.Label.TheVariants.{Transfer as TransferLabel}
 use Rattle.rb_site.specs.declared.event.Event.TheVariants.{Submit, Batch, Apply, Pass, Balance, AsOf, Statement as AskStatement}
 use Rattle.rb_site.specs.declared.reply.Reply.{Reply}
-use Rattle.rb_site.specs.declared.reply.Reply.TheVariants.{Made, Names as NamesMade, Held, Already, Taken, Stale, Applied, Passed, Balance as BalanceIs, Statement as StatementIs, Refused}
+use Rattle.rb_site.specs.declared.reply.Reply.TheVariants.{Made, Names as NamesMade, Held, Already, Taken, Stale, Applied, Passed}
+use Rattle.rb_site.specs.declared.reply.Reply.TheVariants.{Balance as BalanceIs, Statement as StatementIs, Refused}
 use Rattle.rb_site.specs.declared.world_event.WorldEvent.{WorldEvent}
 use Rattle.rb_site.specs.declared.world_event.WorldEvent.TheVariants.{At, Deliver}
 use Rattle.rb_scratch.specs.Requests.{plan_of, operation_of, allowed, made_of}
@@ -38,7 +45,8 @@ replies_of_all s w (e ∷ es) = reply_in s w e ∷ replies_of_all s (world_after
 abbrev replies_of_run : Settings → List WorldEvent → List Reply
 replies_of_run s es = replies_of_all s (first_world s) es
 
--- Each run unfolds place bal past clock_of is_eligible same_shadow names_listed fault_of plan_of operation_of allowed made_of outcome_of made_in_batch batch_of statement_of.
+-- Each run unfolds place bal past clock_of is_eligible same_shadow names_listed fault_of plan_of operation_of allowed
+-- made_of outcome_of made_in_batch batch_of statement_of.
 -- Made: the rest of this file, by examples/from_rows.py, from the runs in examples/.
 
 as_of_each_position : replies_of_run (record { sites = 2; names = codes "ann" ∷ []; starts = (1000) ∷ []; limits = largest; version = 1 })
@@ -47,7 +55,8 @@ as_of_each_position : replies_of_run (record { sites = 2; names = codes "ann" �
     ∷ (At 0 (Submit (AskWithdraw (place 0) 1))) ∷ [])
     ≡ (Made (Red 1) WithdrawLabel) ∷ (Made (Blue 0 1) CancelLabel) ∷ (BalanceIs 1000) ∷ (BalanceIs 700) ∷ (BalanceIs 1000)
     ∷ (Refused PositionBeyond) ∷ (BalanceIs 1000) ∷ (Made (Red 2) WithdrawLabel) ∷ []
-unfolding place bal past clock_of is_eligible same_shadow names_listed fault_of plan_of operation_of allowed made_of outcome_of made_in_batch batch_of statement_of
+unfolding place bal past clock_of is_eligible same_shadow names_listed fault_of plan_of operation_of allowed made_of outcome_of
+    made_in_batch batch_of statement_of
 as_of_each_position = refl
 
 batch_all_or_nothing : replies_of_run (record { sites = 2; names = codes "ann" ∷ []; starts = (0) ∷ []; limits = largest; version = 1 })
@@ -60,7 +69,8 @@ batch_all_or_nothing : replies_of_run (record { sites = 2; names = codes "ann" �
     ∷ (AskDeposit (place 0) 1) ∷ (AskDeposit (place 0) 1) ∷ (AskDeposit (place 0) 1) ∷ (AskDeposit (place 0) 1) ∷ []))) ∷ [])
     ≡ (Refused (BatchRefused 1 DeclinedCause)) ∷ (BalanceIs 0) ∷ (Made (Blue 0 1) DepositLabel) ∷ (Held (Blue 0 1)) ∷ (Refused NoMessage)
     ∷ (NamesMade ((Blue 0 2) ∷ (Red 1) ∷ [])) ∷ (BalanceIs 0) ∷ (Refused BadBatch) ∷ (Refused BadBatch) ∷ []
-unfolding place bal past clock_of is_eligible same_shadow names_listed fault_of plan_of operation_of allowed made_of outcome_of made_in_batch batch_of statement_of
+unfolding place bal past clock_of is_eligible same_shadow names_listed fault_of plan_of operation_of allowed made_of outcome_of
+    made_in_batch batch_of statement_of
 batch_all_or_nothing = refl
 
 deposit_reaches_the_other_site : replies_of_run (record {
@@ -73,7 +83,8 @@ deposit_reaches_the_other_site : replies_of_run (record {
     ((At 0 (Submit (AskDeposit (place 0) 500))) ∷ (At 0 (Balance (place 0))) ∷ (At 1 (Balance (place 0))) ∷ (Deliver 1 1)
     ∷ (At 1 (Apply (Blue 0 1))) ∷ (At 1 (Balance (place 0))) ∷ [])
     ≡ (Made (Blue 0 1) DepositLabel) ∷ (BalanceIs 500) ∷ (BalanceIs 0) ∷ (Held (Blue 0 1)) ∷ (Applied (Blue 0 1)) ∷ (BalanceIs 500) ∷ []
-unfolding place bal past clock_of is_eligible same_shadow names_listed fault_of plan_of operation_of allowed made_of outcome_of made_in_batch batch_of statement_of
+unfolding place bal past clock_of is_eligible same_shadow names_listed fault_of plan_of operation_of allowed made_of outcome_of
+    made_in_batch batch_of statement_of
 deposit_reaches_the_other_site = refl
 
 interest_stays : replies_of_run (record {
@@ -112,7 +123,8 @@ interest_stays : replies_of_run (record {
       }) ∷ [];
       balance = 10;
     })) ∷ []
-unfolding place bal past clock_of is_eligible same_shadow names_listed fault_of plan_of operation_of allowed made_of outcome_of made_in_batch batch_of statement_of
+unfolding place bal past clock_of is_eligible same_shadow names_listed fault_of plan_of operation_of allowed made_of outcome_of
+    made_in_batch batch_of statement_of
 interest_stays = refl
 
 out_of_order_delivery : replies_of_run (record { sites = 2; names = codes "ann" ∷ []; starts = (0) ∷ []; limits = largest; version = 1 })
@@ -121,7 +133,8 @@ out_of_order_delivery : replies_of_run (record { sites = 2; names = codes "ann" 
     ∷ [])
     ≡ (Made (Blue 0 1) DepositLabel) ∷ (Made (Blue 0 2) DepositLabel) ∷ (Held (Blue 0 2)) ∷ (Refused NotReady) ∷ (Refused NotHeld)
     ∷ (Held (Blue 0 1)) ∷ (Applied (Blue 0 1)) ∷ (Applied (Blue 0 2)) ∷ (BalanceIs 12) ∷ []
-unfolding place bal past clock_of is_eligible same_shadow names_listed fault_of plan_of operation_of allowed made_of outcome_of made_in_batch batch_of statement_of
+unfolding place bal past clock_of is_eligible same_shadow names_listed fault_of plan_of operation_of allowed made_of outcome_of
+    made_in_batch batch_of statement_of
 out_of_order_delivery = refl
 
 refused_transfers : replies_of_run (record {
@@ -138,7 +151,8 @@ refused_transfers : replies_of_run (record {
     ∷ [])
     ≡ (Refused UnknownAccount) ∷ (Refused UnknownAccount) ∷ (Refused BadAmount) ∷ (Refused SameAccount) ∷ (Made (Blue 0 1) DeclinedLabel)
     ∷ (Refused NeedToken) ∷ (Refused (BatchRefused 1 DeclinedCause)) ∷ (BalanceIs 100) ∷ []
-unfolding place bal past clock_of is_eligible same_shadow names_listed fault_of plan_of operation_of allowed made_of outcome_of made_in_batch batch_of statement_of
+unfolding place bal past clock_of is_eligible same_shadow names_listed fault_of plan_of operation_of allowed made_of outcome_of
+    made_in_batch batch_of statement_of
 refused_transfers = refl
 
 repeated_delivery : replies_of_run (record { sites = 2; names = codes "ann" ∷ []; starts = (0) ∷ []; limits = largest; version = 1 })
@@ -148,14 +162,16 @@ repeated_delivery : replies_of_run (record { sites = 2; names = codes "ann" ∷ 
     ≡ (Made (Blue 0 1) DepositLabel) ∷ (Made (Blue 0 2) DepositLabel) ∷ (Held (Blue 0 2)) ∷ (Refused NotReady) ∷ (Refused NotHeld)
     ∷ (Held (Blue 0 1)) ∷ (Applied (Blue 0 1)) ∷ (Applied (Blue 0 2)) ∷ (BalanceIs 12) ∷ (Already (Blue 0 1)) ∷ (Already (Blue 0 1))
     ∷ (Refused NotHeld) ∷ []
-unfolding place bal past clock_of is_eligible same_shadow names_listed fault_of plan_of operation_of allowed made_of outcome_of made_in_batch batch_of statement_of
+unfolding place bal past clock_of is_eligible same_shadow names_listed fault_of plan_of operation_of allowed made_of outcome_of
+    made_in_batch batch_of statement_of
 repeated_delivery = refl
 
 sixteen_sites : replies_of_run (record { sites = 16; names = codes "ann" ∷ []; starts = (0) ∷ []; limits = largest; version = 2 })
     ((At 15 (Submit (AskDeposit (place 0) 500))) ∷ (Deliver 0 1) ∷ (At 0 (Apply (Blue 15 1))) ∷ (At 0 (Balance (place 0)))
     ∷ (At 16 (Balance (place 0))) ∷ [])
     ≡ (Made (Blue 15 1) DepositLabel) ∷ (Held (Blue 15 1)) ∷ (Applied (Blue 15 1)) ∷ (BalanceIs 500) ∷ (Refused NoSite) ∷ []
-unfolding place bal past clock_of is_eligible same_shadow names_listed fault_of plan_of operation_of allowed made_of outcome_of made_in_batch batch_of statement_of
+unfolding place bal past clock_of is_eligible same_shadow names_listed fault_of plan_of operation_of allowed made_of outcome_of
+    made_in_batch batch_of statement_of
 sixteen_sites = refl
 
 spent_transfer_stays : replies_of_run (record {
@@ -168,7 +184,8 @@ spent_transfer_stays : replies_of_run (record {
     ((At 0 (Submit (AskTransfer (place 0) (place 1) 30))) ∷ (At 0 (Submit (AskWithdraw (place 1) 10)))
     ∷ (At 0 (Submit (AskCancel (Red 1)))) ∷ (At 0 (Balance (place 1))) ∷ [])
     ≡ (Made (Red 1) TransferLabel) ∷ (Made (Red 2) WithdrawLabel) ∷ (Refused WouldOverdraw) ∷ (BalanceIs 20) ∷ []
-unfolding place bal past clock_of is_eligible same_shadow names_listed fault_of plan_of operation_of allowed made_of outcome_of made_in_batch batch_of statement_of
+unfolding place bal past clock_of is_eligible same_shadow names_listed fault_of plan_of operation_of allowed made_of outcome_of
+    made_in_batch batch_of statement_of
 spent_transfer_stays = refl
 
 stale_token : replies_of_run (record { sites = 2; names = codes "ann" ∷ []; starts = (100) ∷ []; limits = largest; version = 1 })
@@ -179,7 +196,8 @@ stale_token : replies_of_run (record { sites = 2; names = codes "ann" ∷ []; st
     ≡ (Made (Red 1) WithdrawLabel) ∷ (Passed 1) ∷ (Taken 1) ∷ (Refused (RedBehind 0 1)) ∷ (Held (Red 1)) ∷ (Applied (Red 1))
     ∷ (Made (Red 2) WithdrawLabel) ∷ (BalanceIs 70) ∷ (Passed 2) ∷ (Stale 1) ∷ (Refused NeedToken) ∷ (Refused NotYours) ∷ (Taken 2)
     ∷ (Refused (RedBehind 1 2)) ∷ []
-unfolding place bal past clock_of is_eligible same_shadow names_listed fault_of plan_of operation_of allowed made_of outcome_of made_in_batch batch_of statement_of
+unfolding place bal past clock_of is_eligible same_shadow names_listed fault_of plan_of operation_of allowed made_of outcome_of
+    made_in_batch batch_of statement_of
 stale_token = refl
 
 token_waits_for_reds : replies_of_run (record { sites = 2; names = codes "ann" ∷ []; starts = (100) ∷ []; limits = largest; version = 1 })
@@ -187,7 +205,8 @@ token_waits_for_reds : replies_of_run (record { sites = 2; names = codes "ann" �
     ∷ (Deliver 1 1) ∷ (At 1 (Apply (Red 1))) ∷ (At 1 (Submit (AskWithdraw (place 0) 20))) ∷ (At 1 (Balance (place 0))) ∷ [])
     ≡ (Made (Red 1) WithdrawLabel) ∷ (Passed 1) ∷ (Taken 1) ∷ (Refused (RedBehind 0 1)) ∷ (Held (Red 1)) ∷ (Applied (Red 1))
     ∷ (Made (Red 2) WithdrawLabel) ∷ (BalanceIs 70) ∷ []
-unfolding place bal past clock_of is_eligible same_shadow names_listed fault_of plan_of operation_of allowed made_of outcome_of made_in_batch batch_of statement_of
+unfolding place bal past clock_of is_eligible same_shadow names_listed fault_of plan_of operation_of allowed made_of outcome_of
+    made_in_batch batch_of statement_of
 token_waits_for_reds = refl
 
 transfer_and_cancel : replies_of_run (record {
@@ -219,7 +238,8 @@ transfer_and_cancel : replies_of_run (record {
       }) ∷ [];
       balance = 0;
     })) ∷ []
-unfolding place bal past clock_of is_eligible same_shadow names_listed fault_of plan_of operation_of allowed made_of outcome_of made_in_batch batch_of statement_of
+unfolding place bal past clock_of is_eligible same_shadow names_listed fault_of plan_of operation_of allowed made_of outcome_of
+    made_in_batch batch_of statement_of
 transfer_and_cancel = refl
 
 two_cancels_of_one_withdrawal : replies_of_run (record {
@@ -235,7 +255,8 @@ two_cancels_of_one_withdrawal : replies_of_run (record {
     ≡ (Made (Red 1) WithdrawLabel) ∷ (Held (Red 1)) ∷ (Applied (Red 1)) ∷ (Made (Blue 0 1) CancelLabel) ∷ (Made (Blue 1 1) CancelLabel)
     ∷ (Held (Blue 0 1)) ∷ (Applied (Blue 0 1)) ∷ (Held (Blue 1 1)) ∷ (Applied (Blue 1 1)) ∷ (BalanceIs 1000) ∷ (BalanceIs 1000)
     ∷ (BalanceIs 1000) ∷ (BalanceIs 700) ∷ []
-unfolding place bal past clock_of is_eligible same_shadow names_listed fault_of plan_of operation_of allowed made_of outcome_of made_in_batch batch_of statement_of
+unfolding place bal past clock_of is_eligible same_shadow names_listed fault_of plan_of operation_of allowed made_of outcome_of
+    made_in_batch batch_of statement_of
 two_cancels_of_one_withdrawal = refl
 
 uncovered_withdrawal_is_declined : replies_of_run (record {
@@ -247,14 +268,16 @@ uncovered_withdrawal_is_declined : replies_of_run (record {
 })
     ((At 1 (Submit (AskWithdraw (place 0) 101))) ∷ (At 1 (Balance (place 0))) ∷ [])
     ≡ (Made (Blue 1 1) DeclinedLabel) ∷ (BalanceIs 100) ∷ []
-unfolding place bal past clock_of is_eligible same_shadow names_listed fault_of plan_of operation_of allowed made_of outcome_of made_in_batch batch_of statement_of
+unfolding place bal past clock_of is_eligible same_shadow names_listed fault_of plan_of operation_of allowed made_of outcome_of
+    made_in_batch batch_of statement_of
 uncovered_withdrawal_is_declined = refl
 
 batch_without_token : replies_of_run (record { sites = 2; names = codes "ann" ∷ []; starts = (100) ∷ []; limits = largest; version = 1 })
     ((At 1 (Submit (AskWithdraw (place 0) 50))) ∷ (At 1 (Submit (AskDeposit (place 0) 1))) ∷ (At 1 (Batch ((AskDeposit (place 0) 1)
     ∷ (AskWithdraw (place 0) 50) ∷ []))) ∷ (At 1 (Balance (place 0))) ∷ [])
     ≡ (Refused NeedToken) ∷ (Made (Blue 1 1) DepositLabel) ∷ (Refused (BatchRefused 1 (RefusedCause 8))) ∷ (BalanceIs 101) ∷ []
-unfolding place bal past clock_of is_eligible same_shadow names_listed fault_of plan_of operation_of allowed made_of outcome_of made_in_batch batch_of statement_of
+unfolding place bal past clock_of is_eligible same_shadow names_listed fault_of plan_of operation_of allowed made_of outcome_of
+    made_in_batch batch_of statement_of
 batch_without_token = refl
 
 cancelled_deposit_would_overdraw : replies_of_run (record {
@@ -268,7 +291,8 @@ cancelled_deposit_would_overdraw : replies_of_run (record {
     ∷ (Deliver 1 1) ∷ (At 1 (Apply (Blue 0 1))) ∷ (Deliver 1 2) ∷ (At 1 (Apply (Red 1))) ∷ (At 1 (Submit (AskCancel (Blue 0 1)))) ∷ [])
     ≡ (Made (Blue 0 1) DepositLabel) ∷ (Made (Red 1) WithdrawLabel) ∷ (Refused WouldOverdraw) ∷ (Held (Blue 0 1)) ∷ (Applied (Blue 0 1))
     ∷ (Held (Red 1)) ∷ (Applied (Red 1)) ∷ (Refused NeedToken) ∷ []
-unfolding place bal past clock_of is_eligible same_shadow names_listed fault_of plan_of operation_of allowed made_of outcome_of made_in_batch batch_of statement_of
+unfolding place bal past clock_of is_eligible same_shadow names_listed fault_of plan_of operation_of allowed made_of outcome_of
+    made_in_batch batch_of statement_of
 cancelled_deposit_would_overdraw = refl
 
 cancelled_deposit_later : replies_of_run (record { sites = 2; names = codes "ann" ∷ []; starts = (0) ∷ []; limits = largest; version = 1 })
@@ -276,7 +300,8 @@ cancelled_deposit_later : replies_of_run (record { sites = 2; names = codes "ann
     ∷ (At 0 (Submit (AskCancel (Blue 0 1)))) ∷ (At 0 (Balance (place 0))) ∷ (At 0 (AsOf (place 0) 3)) ∷ [])
     ≡ (Made (Blue 0 1) DepositLabel) ∷ (Made (Red 1) WithdrawLabel) ∷ (Made (Blue 0 2) DepositLabel) ∷ (Made (Red 2) CancelLabel)
     ∷ (BalanceIs 0) ∷ (BalanceIs 100) ∷ []
-unfolding place bal past clock_of is_eligible same_shadow names_listed fault_of plan_of operation_of allowed made_of outcome_of made_in_batch batch_of statement_of
+unfolding place bal past clock_of is_eligible same_shadow names_listed fault_of plan_of operation_of allowed made_of outcome_of
+    made_in_batch batch_of statement_of
 cancelled_deposit_later = refl
 
 what_cannot_be_cancelled : replies_of_run (record {
@@ -291,7 +316,8 @@ what_cannot_be_cancelled : replies_of_run (record {
     ∷ (At 0 (Submit (AskCancel (Red 1)))) ∷ [])
     ≡ (Made (Blue 0 1) DeclinedLabel) ∷ (Refused NotCancellable) ∷ (Made (Red 1) WithdrawLabel) ∷ (Made (Blue 0 2) CancelLabel)
     ∷ (Refused NotCancellable) ∷ (Refused UnknownOperation) ∷ (Refused (AlreadyCancelled 3)) ∷ []
-unfolding place bal past clock_of is_eligible same_shadow names_listed fault_of plan_of operation_of allowed made_of outcome_of made_in_batch batch_of statement_of
+unfolding place bal past clock_of is_eligible same_shadow names_listed fault_of plan_of operation_of allowed made_of outcome_of
+    made_in_batch batch_of statement_of
 what_cannot_be_cancelled = refl
 
 amounts_at_the_limits : replies_of_run (record { sites = 2; names = codes "ann" ∷ []; starts = (0) ∷ []; limits = largest; version = 1 })
@@ -303,7 +329,8 @@ amounts_at_the_limits : replies_of_run (record { sites = 2; names = codes "ann" 
     ≡ (Refused BadAmount) ∷ (Made (Blue 0 1) DepositLabel) ∷ (Made (Blue 0 2) DepositLabel) ∷ (Refused BadAmount) ∷ (Refused DeltaTooLarge)
     ∷ (Refused BadRate) ∷ (Made (Blue 0 3) InterestLabel) ∷ (Refused UnknownAccount) ∷ (Refused UnknownAccount)
     ∷ (BalanceIs (MOST_CENTS + 1)) ∷ []
-unfolding place bal past clock_of is_eligible same_shadow names_listed fault_of plan_of operation_of allowed made_of outcome_of made_in_batch batch_of statement_of
+unfolding place bal past clock_of is_eligible same_shadow names_listed fault_of plan_of operation_of allowed made_of outcome_of
+    made_in_batch batch_of statement_of
 amounts_at_the_limits = refl
 
 numbers_exhausted : replies_of_run (record {
@@ -320,7 +347,8 @@ numbers_exhausted : replies_of_run (record {
     ∷ (At 0 (Submit (AskWithdraw (place 0) 1))) ∷ (At 0 (Submit (AskCancel (Red 1)))) ∷ (At 0 (Balance (place 0))) ∷ [])
     ≡ (Made (Blue 0 1) DepositLabel) ∷ (Refused NumbersExhausted) ∷ (Made (Red 1) WithdrawLabel) ∷ (Refused NumbersExhausted)
     ∷ (Refused NumbersExhausted) ∷ (BalanceIs 3) ∷ []
-unfolding place bal past clock_of is_eligible same_shadow names_listed fault_of plan_of operation_of allowed made_of outcome_of made_in_batch batch_of statement_of
+unfolding place bal past clock_of is_eligible same_shadow names_listed fault_of plan_of operation_of allowed made_of outcome_of
+    made_in_batch batch_of statement_of
 numbers_exhausted = refl
 
 full_inbox_takes_eligible : replies_of_run (record {
@@ -334,7 +362,8 @@ full_inbox_takes_eligible : replies_of_run (record {
     ∷ (Deliver 1 2) ∷ (Deliver 1 3) ∷ (Deliver 1 1) ∷ (At 1 (Apply (Blue 0 1))) ∷ (At 1 (Apply (Blue 0 2))) ∷ (Deliver 1 3) ∷ [])
     ≡ (Made (Blue 0 1) DepositLabel) ∷ (Made (Blue 0 2) DepositLabel) ∷ (Made (Blue 0 3) DepositLabel) ∷ (Held (Blue 0 2))
     ∷ (Refused InboxFull) ∷ (Held (Blue 0 1)) ∷ (Applied (Blue 0 1)) ∷ (Applied (Blue 0 2)) ∷ (Held (Blue 0 3)) ∷ []
-unfolding place bal past clock_of is_eligible same_shadow names_listed fault_of plan_of operation_of allowed made_of outcome_of made_in_batch batch_of statement_of
+unfolding place bal past clock_of is_eligible same_shadow names_listed fault_of plan_of operation_of allowed made_of outcome_of
+    made_in_batch batch_of statement_of
 full_inbox_takes_eligible = refl
 
 history_full : replies_of_run (record {
@@ -346,7 +375,8 @@ history_full : replies_of_run (record {
 })
     ((At 0 (Submit (AskDeposit (place 0) 5))) ∷ (At 0 (Balance (place 0))) ∷ (At 0 (Balance (place 0))) ∷ (At 1 (Balance (place 0))) ∷ [])
     ≡ (Made (Blue 0 1) DepositLabel) ∷ (BalanceIs 5) ∷ (Refused HistoryFull) ∷ (BalanceIs 0) ∷ []
-unfolding place bal past clock_of is_eligible same_shadow names_listed fault_of plan_of operation_of allowed made_of outcome_of made_in_batch batch_of statement_of
+unfolding place bal past clock_of is_eligible same_shadow names_listed fault_of plan_of operation_of allowed made_of outcome_of
+    made_in_batch batch_of statement_of
 history_full = refl
 
 pass_and_epochs : replies_of_run (record {
@@ -359,13 +389,15 @@ pass_and_epochs : replies_of_run (record {
     ((At 0 (Pass 0)) ∷ (At 0 (Pass 2)) ∷ (At 1 (Pass 0)) ∷ (At 0 (Pass 1)) ∷ (Deliver 1 1) ∷ (At 1 (Pass 0)) ∷ (At 0 (Pass 1)) ∷ [])
     ≡ (Refused NoSite) ∷ (Refused NoSite) ∷ (Refused NeedToken) ∷ (Passed 1) ∷ (Taken 1) ∷ (Refused NumbersExhausted)
     ∷ (Refused NumbersExhausted) ∷ []
-unfolding place bal past clock_of is_eligible same_shadow names_listed fault_of plan_of operation_of allowed made_of outcome_of made_in_batch batch_of statement_of
+unfolding place bal past clock_of is_eligible same_shadow names_listed fault_of plan_of operation_of allowed made_of outcome_of
+    made_in_batch batch_of statement_of
 pass_and_epochs = refl
 
 no_site_no_message : replies_of_run (record { sites = 2; names = codes "ann" ∷ []; starts = (0) ∷ []; limits = largest; version = 1 })
     ((At 2 (Balance (place 0))) ∷ (Deliver 0 0) ∷ (Deliver 0 1) ∷ [])
     ≡ (Refused NoSite) ∷ (Refused NoMessage) ∷ (Refused NoMessage) ∷ []
-unfolding place bal past clock_of is_eligible same_shadow names_listed fault_of plan_of operation_of allowed made_of outcome_of made_in_batch batch_of statement_of
+unfolding place bal past clock_of is_eligible same_shadow names_listed fault_of plan_of operation_of allowed made_of outcome_of
+    made_in_batch batch_of statement_of
 no_site_no_message = refl
 
 full_history_comes_first : replies_of_run (record {
@@ -381,7 +413,8 @@ full_history_comes_first : replies_of_run (record {
     ≡ (BalanceIs 0) ∷ (Refused HistoryFull) ∷ (Refused HistoryFull) ∷ (Refused HistoryFull) ∷ (Refused HistoryFull) ∷ (Refused HistoryFull)
     ∷ (Refused HistoryFull) ∷ (Refused NoMessage) ∷ (Refused NoSite) ∷ (Made (Blue 1 1) DepositLabel) ∷ (Refused HistoryFull)
     ∷ (Refused HistoryFull) ∷ []
-unfolding place bal past clock_of is_eligible same_shadow names_listed fault_of plan_of operation_of allowed made_of outcome_of made_in_batch batch_of statement_of
+unfolding place bal past clock_of is_eligible same_shadow names_listed fault_of plan_of operation_of allowed made_of outcome_of
+    made_in_batch batch_of statement_of
 full_history_comes_first = refl
 
 behind_then_overdrawn : replies_of_run (record { sites = 2; names = codes "ann" ∷ []; starts = (0) ∷ []; limits = largest; version = 1 })
@@ -392,7 +425,8 @@ behind_then_overdrawn : replies_of_run (record { sites = 2; names = codes "ann" 
     ≡ (Made (Blue 0 1) DepositLabel) ∷ (Made (Red 1) WithdrawLabel) ∷ (Held (Blue 0 1)) ∷ (Applied (Blue 0 1)) ∷ (Passed 1) ∷ (Taken 1)
     ∷ (Refused (RedBehind 0 1)) ∷ (Held (Red 1)) ∷ (Applied (Red 1)) ∷ (Refused WouldOverdraw) ∷ (Made (Blue 1 1) CancelLabel)
     ∷ (Made (Red 2) CancelLabel) ∷ (Refused NeedToken) ∷ (Made (Blue 0 2) CancelLabel) ∷ (Refused (AlreadyCancelled 4)) ∷ []
-unfolding place bal past clock_of is_eligible same_shadow names_listed fault_of plan_of operation_of allowed made_of outcome_of made_in_batch batch_of statement_of
+unfolding place bal past clock_of is_eligible same_shadow names_listed fault_of plan_of operation_of allowed made_of outcome_of
+    made_in_batch batch_of statement_of
 behind_then_overdrawn = refl
 
 batches_refused : replies_of_run (record {
@@ -412,7 +446,8 @@ batches_refused : replies_of_run (record {
     ∷ (Refused (BatchRefused 1 (RefusedCause 3))) ∷ (Refused (BatchRefused 0 (RefusedCause 4)))
     ∷ (Refused (BatchRefused 2 (RefusedCause 7))) ∷ (Refused (BatchRefused 2 DeclinedCause))
     ∷ (Refused (BatchRefused 2 (RefusedCause 10))) ∷ (Refused (BatchRefused 1 (RefusedCause 8))) ∷ (BalanceIs 5) ∷ []
-unfolding place bal past clock_of is_eligible same_shadow names_listed fault_of plan_of operation_of allowed made_of outcome_of made_in_batch batch_of statement_of
+unfolding place bal past clock_of is_eligible same_shadow names_listed fault_of plan_of operation_of allowed made_of outcome_of
+    made_in_batch batch_of statement_of
 batches_refused = refl
 
 batch_cancels_its_own : replies_of_run (record { sites = 2; names = codes "ann" ∷ []; starts = (0) ∷ []; limits = largest; version = 1 })
@@ -423,7 +458,8 @@ batch_cancels_its_own : replies_of_run (record { sites = 2; names = codes "ann" 
     ≡ (NamesMade ((Blue 0 1) ∷ (Red 1) ∷ (Blue 0 2) ∷ (Red 2) ∷ (Blue 0 3) ∷ [])) ∷ (BalanceIs 2)
     ∷ (Refused (BatchRefused 0 (RefusedCause 6))) ∷ (Refused (BatchRefused 2 (RefusedCause 6))) ∷ (Made (Blue 0 4) DepositLabel)
     ∷ (Held (Blue 0 4)) ∷ (Refused NoMessage) ∷ []
-unfolding place bal past clock_of is_eligible same_shadow names_listed fault_of plan_of operation_of allowed made_of outcome_of made_in_batch batch_of statement_of
+unfolding place bal past clock_of is_eligible same_shadow names_listed fault_of plan_of operation_of allowed made_of outcome_of
+    made_in_batch batch_of statement_of
 batch_cancels_its_own = refl
 
 declined_in_a_statement : replies_of_run (record {
@@ -442,7 +478,8 @@ declined_in_a_statement : replies_of_run (record {
           ∷ (record { position = 3; name = (Blue 0 2); kind = CancelLabel; moved = (pos 10); cancelled = false; balance = 10 }) ∷ [];
       balance = 10;
     })) ∷ []
-unfolding place bal past clock_of is_eligible same_shadow names_listed fault_of plan_of operation_of allowed made_of outcome_of made_in_batch batch_of statement_of
+unfolding place bal past clock_of is_eligible same_shadow names_listed fault_of plan_of operation_of allowed made_of outcome_of
+    made_in_batch batch_of statement_of
 declined_in_a_statement = refl
 
 needed_count_passes_on : replies_of_run (record { sites = 3; names = codes "ann" ∷ []; starts = (9) ∷ []; limits = largest; version = 1 })
@@ -453,7 +490,8 @@ needed_count_passes_on : replies_of_run (record { sites = 3; names = codes "ann"
     ≡ (Made (Red 1) WithdrawLabel) ∷ (Passed 1) ∷ (Taken 1) ∷ (Passed 2) ∷ (Taken 2) ∷ (Refused (RedBehind 0 1))
     ∷ (Refused UnknownOperation) ∷ (Held (Red 1)) ∷ (Applied (Red 1)) ∷ (Made (Blue 2 1) CancelLabel) ∷ (Stale 2) ∷ (Passed 3)
     ∷ (Taken 3) ∷ (Refused (RedBehind 0 1)) ∷ (Made (Blue 1 1) DeclinedLabel) ∷ []
-unfolding place bal past clock_of is_eligible same_shadow names_listed fault_of plan_of operation_of allowed made_of outcome_of made_in_batch batch_of statement_of
+unfolding place bal past clock_of is_eligible same_shadow names_listed fault_of plan_of operation_of allowed made_of outcome_of
+    made_in_batch batch_of statement_of
 needed_count_passes_on = refl
 
 refusals_are_recorded : replies_of_run (record {
@@ -468,7 +506,8 @@ refusals_are_recorded : replies_of_run (record {
     ∷ (At 0 (Balance (place 0))) ∷ [])
     ≡ (Refused UnknownAccount) ∷ (Refused BadAmount) ∷ (Refused UnknownOperation) ∷ (Refused BadBatch) ∷ (Refused NotHeld)
     ∷ (Refused NoSite) ∷ (Refused PositionBeyond) ∷ (Refused (BatchRefused 0 DeclinedCause)) ∷ (Refused HistoryFull) ∷ []
-unfolding place bal past clock_of is_eligible same_shadow names_listed fault_of plan_of operation_of allowed made_of outcome_of made_in_batch batch_of statement_of
+unfolding place bal past clock_of is_eligible same_shadow names_listed fault_of plan_of operation_of allowed made_of outcome_of
+    made_in_batch batch_of statement_of
 refusals_are_recorded = refl
 
 unrecorded_refusals : replies_of_run (record {
@@ -481,5 +520,6 @@ unrecorded_refusals : replies_of_run (record {
     ((Deliver 0 0) ∷ (Deliver 0 7) ∷ (At 2 (Balance (place 0))) ∷ (Deliver 2 0) ∷ (At 0 (Balance (place 0))) ∷ (At 0 (Balance (place 0)))
     ∷ [])
     ≡ (Refused NoMessage) ∷ (Refused NoMessage) ∷ (Refused NoSite) ∷ (Refused NoSite) ∷ (BalanceIs 0) ∷ (Refused HistoryFull) ∷ []
-unfolding place bal past clock_of is_eligible same_shadow names_listed fault_of plan_of operation_of allowed made_of outcome_of made_in_batch batch_of statement_of
+unfolding place bal past clock_of is_eligible same_shadow names_listed fault_of plan_of operation_of allowed made_of outcome_of
+    made_in_batch batch_of statement_of
 unrecorded_refusals = refl

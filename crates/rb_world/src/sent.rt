@@ -1,5 +1,6 @@
 //! Where the messages that were sent are kept.
-ghost use Rattle.std.specs.Prelude.{◌≡◌, ◌+◌, ◌<◌, ◌≤◌, ◌^◌, ◌++◌, ◌∷◌, [], length, map, true, false, OnOk, OnErr, vec_capacity};
+ghost use Rattle.std.specs.Prelude.{◌≡◌, ◌+◌, ◌<◌, ◌≤◌, ◌^◌, ◌++◌, ◌∷◌, [], length, map};
+ghost use Rattle.std.specs.Prelude.{true, false, OnOk, OnErr, vec_capacity};
 ghost use Rattle.rb_site.specs.Seen.{SeenSite, state_of};
 ghost use Rattle.rb_scratch.specs.declared.request.TheConstants.{MOST_REQUESTS};
 ghost use Rattle.rb_world.specs.Sent.{CanNote, kept_at, places_from, places_of, token_of};

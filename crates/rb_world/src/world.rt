@@ -166,9 +166,9 @@ impl<E: KeepsEntry, R: KeepsEvent> World<E, R> {
         }
     }
 
+    /// What arrives at a site, by an event of its own or by the delivery of the message of that number, is taken,
+    /// unless its history is full.
     #[inline(always)]
-    /// What arrives at a site, by an event of its own or by the delivery of the message of that number, is taken, unless
-    /// its history is full.
     fn take(
         &mut self,
         site: u8,
@@ -177,7 +177,8 @@ impl<E: KeepsEntry, R: KeepsEvent> World<E, R> {
         delivered: Option<u32>,
     ) -> Result<Reply, AllocError>
         requires command { IsCommand (brought_by site arrived.now delivered) }
-        requires full { IsSomeAnd (slice_get self.old.world.sites site) (λ site. is_full self.old.settings site ≡ full) }
+        requires full { IsSomeAnd (slice_get self.old.world.sites site)
+            (λ site. is_full self.old.settings site ≡ full) }
         requires arrived { arrival self.old.world.messages (brought_by site arrived.now delivered) ≡ Some arrived.now }
         ensures ok { IfOk result (λ reply. (reply ≡ next_reply self.old (brought_by site arrived.now delivered))
             × (self.new ≡ next_world self.old (brought_by site arrived.now delivered))) }
@@ -191,8 +192,8 @@ impl<E: KeepsEntry, R: KeepsEvent> World<E, R> {
         self.record(site, arrived, noted)
     }
 
-    #[inline(always)]
     /// A site takes an event for which its history has spare capacity.
+    #[inline(always)]
     fn record(&mut self, site: u8, arrived: &Event, noted: R) -> Result<Reply, AllocError>
         requires command { IsCommand (R.noted noted) }
         requires site { site ≡ site_of (R.noted noted) }

@@ -38,4 +38,5 @@ pub read_alike : {A B : Type 0} (f : Data → Option A) (seen : B → A) (xs ys 
     → IfSome r (λ x. option_and_then f (read xs) ≡ Some (seen x)) → IfSome r (λ x. option_and_then f (read ys) ≡ Some (seen x))
 read_alike f seen xs ys None e h = h
 read_alike f seen xs ys (Some x) e h =
-    ap (λ ts. option_and_then f (option_and_then of_json (option_and_then (λ p. json.if_last p.0 p.1) (json.value max_depth ts)))) (sym e) ∙ h
+    ap (λ ts. option_and_then f (option_and_then of_json (option_and_then (λ p. json.if_last p.0 p.1) (json.value max_depth ts))))
+    (sym e) ∙ h
