@@ -59,7 +59,7 @@ fn command(alloc: Global, config: &Config, value: &Value) -> Result<WorldEvent, 
     }
 }
 
-/// The command that a line is, as `read_command` reads it, but that a line without blanks is read no faster.
+/// The same as `read_command`, for a caller that has tried `parse_command`: the usual spelling isn't looked for first.
 pub fn read_any_command(alloc: Global, config: &Config, line: &str) -> Result<WorldEvent, LineFault>
     ensures value { Gives result (command_at config.now line.now) }
     ensures command { IfOk result IsCommand }
