@@ -1,5 +1,5 @@
 //! The options of the commands.
-ghost use Rattle.std.specs.Prelude.{◌≡◌, None, Some, codes, false, pos, true};
+ghost use Rattle.std.specs.Prelude.{◌≡◌, None, codes, false, pos, true};
 ghost use Rattle.clap.specs.Words.{rule_of};
 ghost use Rattle.clap.specs.declared.builder.value_parser.ValueParser.TheVariants.{Signed};
 ghost use Rattle.rb_cli.specs.Words.{option_rule, within};
@@ -30,12 +30,19 @@ fn option<'a>(
         .required(required)
 }
 
-/// The option with values of this kind.
-fn of_kind<'a>(option: Arg<'a>, parser: ValueParser<'a>) -> Arg<'a>
-    ensures rule { rule_of result ≡ record (rule_of option.entry) { parser = Some parser.entry } }
+/// The numbers from the least to the most.
+fn numbers<'a>(least: u32, most: u32) -> ValueParser<'a>
+    ensures { result ≡ Signed (pos least) (pos most) }
+{
+    value_parser!(u32).range(least as i64..=most as i64)
+}
+
+/// The option with numbers from the least to the most.
+fn with_numbers<'a>(option: Arg<'a>, least: u32, most: u32) -> Arg<'a>
+    ensures rule { rule_of result ≡ record (rule_of option.entry) { parser = within least most } }
     ensures local { result.global ≡ option.entry.global }
 {
-    option.value_parser(parser)
+    option.value_parser(numbers(least, most))
 }
 
 /// How many sites a run of threads has.
@@ -43,8 +50,8 @@ pub fn sites<'a>(alloc: Global) -> Arg<'a>
     ensures rule { rule_of result ≡ option_rule (codes "sites") (within 2 most_sites) true }
     ensures local { result.global ≡ false }
 {
-    let number = value_parser!(u8).range(2..=MOST_SITES as i64);
-    of_kind(option(alloc, "sites", "K", texts::SITES, true), number)
+    let sites = option(alloc, "sites", "K", texts::SITES, true);
+    with_numbers(sites, 2, MOST_SITES as u32)
 }
 
 /// How many tellers a run of threads has.
@@ -52,8 +59,8 @@ pub fn tellers<'a>(alloc: Global) -> Arg<'a>
     ensures rule { rule_of result ≡ option_rule (codes "tellers") (within 1 most_tellers) true }
     ensures local { result.global ≡ false }
 {
-    let number = value_parser!(u8).range(1..=MOST_TELLERS as i64);
-    of_kind(option(alloc, "tellers", "T", texts::TELLERS, true), number)
+    let tellers = option(alloc, "tellers", "T", texts::TELLERS, true);
+    with_numbers(tellers, 1, MOST_TELLERS)
 }
 
 /// What the numbers of a run of threads begin with.
@@ -61,10 +68,8 @@ pub fn seed<'a>(alloc: Global) -> Arg<'a>
     ensures rule { rule_of result ≡ option_rule (codes "seed") (within 0 4294967295) true }
     ensures local { result.global ≡ false }
 {
-    of_kind(
-        option(alloc, "seed", "S", texts::SEED, true),
-        value_parser!(u32),
-    )
+    let seed = option(alloc, "seed", "S", texts::SEED, true);
+    with_numbers(seed, 0, u32::MAX)
 }
 
 /// Which site is run.
@@ -72,8 +77,8 @@ pub fn me<'a>(alloc: Global) -> Arg<'a>
     ensures rule { rule_of result ≡ option_rule (codes "me") (within 0 15) true }
     ensures local { result.global ≡ false }
 {
-    let number = value_parser!(u8).range(0..=MOST_SITES as i64 - 1);
-    of_kind(option(alloc, "me", "S", texts::ME, true), number)
+    let me = option(alloc, "me", "S", texts::ME, true);
+    with_numbers(me, 0, MOST_SITES as u32 - 1)
 }
 
 /// The file that the site's history is kept in.
@@ -89,6 +94,6 @@ pub fn resend<'a>(alloc: Global) -> Arg<'a>
     ensures rule { rule_of result ≡ option_rule (codes "resend") (within 0 most_resent) false }
     ensures local { result.global ≡ false }
 {
-    let number = value_parser!(u32).range(0..=MOST_HISTORY as i64);
-    of_kind(option(alloc, "resend", "N", texts::RESEND, false), number)
+    let resend = option(alloc, "resend", "N", texts::RESEND, false);
+    with_numbers(resend, 0, MOST_HISTORY)
 }

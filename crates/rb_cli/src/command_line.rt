@@ -25,39 +25,24 @@ fn part<'a>(
         .after_help(help)
 }
 
-/// The command line with one more command.
-fn with_part<'a>(command: Command<'a>, part: Command<'a>) -> Result<Command<'a>, AllocError>
-    requires { (out-Command part).has_globals ≡ false }
-    ensures { IfOk result (λ it. app_of it ≡ with_subcommand (app_of command.entry) (app_of part.entry).top) }
-{
-    command.subcommand(part)
-}
-
-/// A command with one more option.
-fn with_option<'a>(command: Command<'a>, option: Arg<'a>) -> Result<Command<'a>, AllocError>
-    requires command { (out-Command command).has_globals ≡ false }
-    requires option { option.global ≡ false }
-    ensures shape { IfOk result (λ it. app_of it ≡ with_rule (app_of command.entry) (rule_of option.entry)) }
-    ensures local { IfOk result (λ it. (out-Command it).has_globals ≡ false) }
-{
-    command.arg(option)
-}
-
 /// The command for a run of threads, with its options.
 fn threads<'a>(alloc: Global) -> Result<Command<'a>, AllocError>
     ensures shape { IfOk result (λ command. app_of command ≡ threads_line) }
     ensures local { IfOk result (λ command. (out-Command command).has_globals ≡ false) }
 {
-    let command = part(
+    let options = vec![in alloc;
+        arguments::sites(alloc),
+        arguments::tellers(alloc),
+        arguments::seed(alloc),
+    ]?;
+    part(
         alloc,
         "threads",
         texts::THREADS_USAGE,
         texts::THREADS,
         texts::THREADS_HELP,
-    );
-    let command = with_option(command, arguments::sites(alloc))?;
-    let command = with_option(command, arguments::tellers(alloc))?;
-    with_option(command, arguments::seed(alloc))
+    )
+    .args(options)
 }
 
 /// The command for one site, with its options.
@@ -65,16 +50,19 @@ fn site<'a>(alloc: Global) -> Result<Command<'a>, AllocError>
     ensures shape { IfOk result (λ command. app_of command ≡ site_line) }
     ensures local { IfOk result (λ command. (out-Command command).has_globals ≡ false) }
 {
-    let command = part(
+    let options = vec![in alloc;
+        arguments::me(alloc),
+        arguments::journal(alloc),
+        arguments::resend(alloc),
+    ]?;
+    part(
         alloc,
         "site",
         texts::SITE_USAGE,
         texts::SITE,
         texts::SITE_HELP,
-    );
-    let command = with_option(command, arguments::me(alloc))?;
-    let command = with_option(command, arguments::journal(alloc))?;
-    with_option(command, arguments::resend(alloc))
+    )
+    .args(options)
 }
 
 /// The command line before its commands.
@@ -88,41 +76,54 @@ fn top<'a>(alloc: Global) -> Command<'a>
         .subcommand_required(true)
 }
 
-/// The command line with the commands that have no options.
-fn without_options<'a>(alloc: Global) -> Result<Command<'a>, AllocError>
-    ensures { IfOk result (λ command. app_of command ≡ plain_line) }
+/// The command `script`.
+fn script<'a>(alloc: Global) -> Command<'a>
+    ensures shape { app_of result ≡ new_app (codes "script") }
+    ensures local { (out-Command result).has_globals ≡ false }
 {
-    let script = part(
+    part(
         alloc,
         "script",
         texts::SCRIPT_USAGE,
         texts::SCRIPT,
         texts::SCRIPT_HELP,
-    );
-    let command = with_part(top(alloc), script)?;
-    let audit = part(
+    )
+}
+
+/// The command `audit`.
+fn audit<'a>(alloc: Global) -> Command<'a>
+    ensures shape { app_of result ≡ new_app (codes "audit") }
+    ensures local { (out-Command result).has_globals ≡ false }
+{
+    part(
         alloc,
         "audit",
         texts::AUDIT_USAGE,
         texts::AUDIT,
         texts::AUDIT_HELP,
-    );
-    let command = with_part(command, audit)?;
-    let migrate = part(
+    )
+}
+
+/// The command `migrate`.
+fn migrate<'a>(alloc: Global) -> Command<'a>
+    ensures shape { app_of result ≡ new_app (codes "migrate") }
+    ensures local { (out-Command result).has_globals ≡ false }
+{
+    part(
         alloc,
         "migrate",
         texts::MIGRATE_USAGE,
         texts::MIGRATE,
         texts::MIGRATE_HELP,
-    );
-    with_part(command, migrate)
+    )
 }
 
 /// The command line that the program takes.
 pub fn command_line<'a>(alloc: Global) -> Result<Command<'a>, AllocError>
     ensures { IfOk result (λ command. app_of command ≡ line) }
 {
-    let command = without_options(alloc)?;
-    let command = with_part(command, threads(alloc)?)?;
-    with_part(command, site(alloc)?)
+    let threads = threads(alloc)?;
+    let site = site(alloc)?;
+    let parts = vec![in alloc; script(alloc), audit(alloc), migrate(alloc), threads, site]?;
+    top(alloc).subcommands(parts)
 }

@@ -1,13 +1,13 @@
 //! What a command line asks for.
-ghost use Rattle.std.specs.Prelude.{◌≡◌, codes, length, map, slice_get, IfErr, IfNone, IfOk, IfSome, Some};
-ghost use Rattle.clap.specs.Words.{HasKind};
-ghost use Rattle.rb_cli.specs.Words.{Ask, kinds_of};
+ghost use Rattle.std.specs.Prelude.{◌≡◌, codes, length, map, slice_get, IfErr, IfNone, IfOk, IfSome, IsErr, Some};
+ghost use Rattle.clap.specs.Words.{HasKind, app_of};
+ghost use Rattle.rb_cli.specs.Words.{Ask, command_line as line, kinds_of};
 
 use crate::command_line::command_line;
 use crate::options::{file_of, number_of};
 use crate::texts;
-use clap::Error;
 use clap::error::ErrorKind;
+use clap::{Command, Error};
 use rb_money::{MOST_HISTORY, MOST_SITES};
 use std::alloc::Global;
 
@@ -105,6 +105,24 @@ fn asked_for<'a>(words: &[&'a str]) -> Option<Words<'a>>
     }
 }
 
+/// The error that this command line has for words that ask for nothing. Where it takes the words, the error says so.
+fn refused_by<'a>(command: &mut Command<'a>, words: &'a [&'a str]) -> Result<Words<'a>, Error>
+    requires { app_of command.now ≡ line }
+    ensures err { IsErr result }
+    ensures kinds { IfErr result (HasKind (kinds_of (map (λ word. word.now) words.entry.now))) }
+{
+    command.try_get_matches_from_mut(words)?;
+    Err(command.error(ErrorKind::InvalidSubcommand, texts::NOT_ASKED)?)
+}
+
+/// The error that the program's command line has for words that ask for nothing.
+fn refused<'a>(alloc: Global, words: &'a [&'a str]) -> Result<Words<'a>, Error>
+    ensures err { IsErr result }
+    ensures kinds { IfErr result (HasKind (kinds_of (map (λ word. word.now) words.entry.now))) }
+{
+    refused_by(&mut command_line(alloc)?, words)
+}
+
 /// What the words after the program's name ask for. The error has the text to show: `ErrorKind::DisplayHelp` is help
 /// that was asked for, `ErrorKind::DisplayVersion` the version.
 pub fn read_words<'a>(alloc: Global, words: &'a [&'a str]) -> Result<Words<'a>, Error>
@@ -117,7 +135,5 @@ pub fn read_words<'a>(alloc: Global, words: &'a [&'a str]) -> Result<Words<'a>, 
     if let Some(asked) = asked_for(words) {
         return Ok(asked);
     }
-    let mut command = command_line(alloc)?;
-    let _matches = command.try_get_matches_from_mut(words)?;
-    Err(command.error(ErrorKind::InvalidSubcommand, texts::NOT_ASKED)?)
+    refused(alloc, words)
 }

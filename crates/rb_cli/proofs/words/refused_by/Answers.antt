@@ -6,7 +6,7 @@ use Rattle.clap.specs.Words.{App, HasKind, Kinds, fault_of, is_simple_and_free}
 use Rattle.clap.specs.declared.error.Error.{Error}
 use Rattle.clap.proofs.OnLiterals.{clap_on_literals}
 use Rattle.rb_cli.specs.Words.{command_line}
-use Rattle.rb_cli.proofs.words.read_words.Goals as goal
+use Rattle.rb_cli.proofs.words.refused_by.Goals as goal
 
 -- the command line is one whose errors are known
 is_known : is_simple_and_free command_line ≡ true
@@ -19,11 +19,11 @@ of_first [] next e (inl none) = inl none
 of_first [] next e (inr never) = absurd never
 of_first (k ∷ ks) next e has = has
 
-pub returns-in_err-_matches-clause-kinds : goal.returns-in_err-_matches-clause-kinds
-returns-in_err-_matches-clause-kinds c =
-    let read = err_from_is_err_and c.from_residual-in_err-_matches.result c.from_residual-in_err-_matches.ensures.1 in
-    let has = c.in_err-_matches.ensures.kinds (ap is_simple_and_free c.in_ok-command.ensures ∙ is_known) in
+pub returns-in_err-try_get_matches_from_mut-clause-kinds : goal.returns-in_err-try_get_matches_from_mut-clause-kinds
+returns-in_err-try_get_matches_from_mut-clause-kinds c =
+    let read = err_from_is_err_and c.from_residual.result c.from_residual.ensures.1 in
+    let has = c.in_err-try_get_matches_from_mut.ensures.kinds (ap is_simple_and_free c.requires ∙ is_known) in
     rw (read.1, read.2)
-    (of_first _ _ c.in_err-_matches.field-0.0
-    (subst (λ (a : App). HasKind (fault_of a (map (λ word. word.now) c.args.words.now)) c.in_err-_matches.field-0.0)
-    c.in_ok-command.ensures has))
+    (of_first _ _ c.in_err-try_get_matches_from_mut.field-0.0
+    (subst (λ (a : App). HasKind (fault_of a (map (λ word. word.now) c.args.words.now)) c.in_err-try_get_matches_from_mut.field-0.0)
+    c.requires has))

@@ -1,0 +1,28 @@
+-- The command line has the commands that were added in turn.
+use Rattle.std.proofs.Common.{◌≡◌, false, ap, sym, subst, ◌∙◌}
+use Rattle.std.proofs.lemmas.Result.{IfOk-weaker}
+use Rattle.clap.specs.Words.{AddsInTurn, AddsSubcommand, App, app_of, with_subcommand}
+use Rattle.clap.specs.declared.builder.command.Command.{Command}
+use Rattle.clap.specs.declared.builder.command.Command.TheViews.{out-Command}
+use Rattle.rb_cli.specs.Words.{command_line}
+use Rattle.rb_cli.proofs.command_line.command_line.Goals as goal
+
+-- one more command
+added : (old part new : Command) (app of_part : App) → app_of old ≡ app → app_of part ≡ of_part → (out-Command part).has_globals ≡ false
+    → AddsSubcommand old part new → app_of new ≡ with_subcommand app of_part.top
+added old part new app of_part old_is part_is local adds = adds.shape local
+    ∙ (ap (λ (a : App). with_subcommand a (app_of part).top) old_is ∙ ap (λ (a : App). with_subcommand app a.top) part_is)
+
+pub returns : goal.returns
+returns c =
+    let Adds = AddsInTurn AddsSubcommand c.top.result in
+    let threads = c.in_ok-threads.ensures in
+    let site = c.in_ok-site.ensures in
+    IfOk-weaker c.subcommands.result (Adds c.in_ok-parts.parts.items) (λ it. app_of it ≡ command_line) (λ it in_turn.
+    let all = subst (λ parts. Adds parts it) c.in_ok-parts.ensures.items in_turn in
+    let one = added _ _ all.0 _ _ c.top.ensures c.script.ensures.shape c.script.ensures.local all.1 in
+    let two = added _ _ all.2.0 _ _ one c.audit.ensures.shape c.audit.ensures.local all.2.1 in
+    let three = added _ _ all.2.2.0 _ _ two c.migrate.ensures.shape c.migrate.ensures.local all.2.2.1 in
+    let four = added _ _ all.2.2.2.0 _ _ three threads.shape threads.local all.2.2.2.1 in
+    let five = added _ _ all.2.2.2.2.0 _ _ four site.shape site.local all.2.2.2.2.1 in
+    ap app_of (sym all.2.2.2.2.2) ∙ five) c.subcommands.ensures
