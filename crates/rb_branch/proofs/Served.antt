@@ -1,7 +1,7 @@
 -- Receipts of a serving seat, put together.
-use Rattle.std.proofs.Common.{◌≡◌, ℕ, zero, suc, ◌+◌, ◌-◌, ◌≤◌, List, [], ◌∷◌, ◌++◌, length, refl, sym, ap, ◌∙◌, subst, arith}
+use Rattle.std.proofs.Common.{◌≡◌, ℕ, zero, suc, ◌+◌, ◌-◌, List, [], ◌∷◌, ◌++◌, length, refl, sym, ap, ◌∙◌, subst, arith}
 use Rattle.std.proofs.Common.{length-append, append_assoc, append-nil, get_or, set, remove, Bool, true, false, true≢false, Some, ◌⊎◌, inl}
-use Rattle.std.proofs.Common.{inr}
+use Rattle.std.proofs.Common.{None, inr}
 use Rattle.std.specs.Prelude.{All, OnErr, MatchBool, MatchOption, Option, Result, Ok, Err, slice_get}
 use Rattle.std.proofs.lemmas.List.Elements.{All-append}
 use Rattle.std.proofs.Math.Seq.{set-append_seam, get_or-append_seam}
@@ -114,7 +114,7 @@ lost_received kept k m r at is not = record {
 }
 
 -- more receipts after the first ones
-pub served_more : (a b c : SeenSeat) (k l m : List Message) (n p : ℕ) → HasServed a b k l n → HasServed b c l m p
+served_more : (a b c : SeenSeat) (k l m : List Message) (n p : ℕ) → HasServed a b k l n → HasServed b c l m p
     → HasServed a c k m (n + p)
 served_more a b c k l m n p h t = record {
   more = h.more ++ t.more;
@@ -126,17 +126,43 @@ served_more a b c k l m n p h t = record {
   none_lost = lost_more k l m h.more t.more h.none_lost t.none_lost;
 }
 
-served_taken : (a : SeenSeat) (k l : List Message) (m : Message) → l ≡ k ++ m ∷ [] → HasServed a a k l 0
-served_taken a k l m is = record {
+-- some number of receipts more
+abbrev pub Serves : SeenSeat → SeenSeat → List Message → List Message → Type 0
+Serves a b k l = (n : ℕ) × HasServed a b k l n
+
+-- more receipts after the first ones
+pub serves_more : (a b c : SeenSeat) (k l m : List Message) → Serves a b k l → Serves b c l m → Serves a c k m
+serves_more a b c k l m h t = (h.0 + t.0, served_more a b c k l m h.0 t.0 h.1 t.1)
+
+-- no receipt more
+none_more : (a : SeenSeat) (k l : List Message) → NoneLost k l [] → HasServed a a k l 0
+none_more a k l lost = record {
   more = [];
   seat = ap (λ (xs : List Receipt). record a { receipts = xs }) (sym (append-nil a.receipts));
   served = served_nothing;
   count_is = refl;
-  none_lost = lost_taken k l m is;
+  none_lost = lost;
 }
 
+-- no receipt yet
+pub serves_none : (a : SeenSeat) (k : List Message) → Serves a a k k
+serves_none a k = (0, none_more a k k (record { kept = λ m i. inl i; refused = λ m i. absurd i }))
+
+-- the same, of equal ends
+pub serves_same : (a b c : SeenSeat) (k l m : List Message) → Serves a b k l → c ≡ b → m ≡ l → Serves a c k m
+serves_same a b c k l m h seat inlet =
+    let P : SeenSeat → Type 0 = λ s. Serves a s k m in
+    let Q : List Message → Type 0 = λ i. Serves a b k i in
+    subst P (sym seat) (subst Q (sym inlet) h)
+
+-- and then what was taken from a link, if anything was
+pub serves_taken : (a b : SeenSeat) (k l m : List Message) (t : Bool) → Serves a b k l
+    → MatchBool t ((x : Message) × (m ≡ l ++ x ∷ [])) (m ≡ l) → Serves a b k m
+serves_taken a b k l m true h taken = serves_more a b b k l m h (0, none_more b l m (lost_taken l m taken.0 taken.1))
+serves_taken a b k l m false h taken = serves_same a b b k l m h refl taken
+
 -- the receipt of an application
-pub served_apply : (b c : SeenSeat) (kept : List Message) (n : ℕ) → HasOneMore b c IsApply n → HasServed b c kept kept 1
+served_apply : (b c : SeenSeat) (kept : List Message) (n : ℕ) → HasOneMore b c IsApply n → HasServed b c kept kept 1
 served_apply b c kept n h = record {
   more = h.last ∷ [];
   seat = h.seat;
@@ -196,66 +222,19 @@ set_last items items' xs r now n count is len at left =
     let found : now ≡ r = at ∙ (λ i. get_or (is i) (here i) now) ∙ get_or-append_seam xs r [] now in
     left ∙ (λ i. set (is i) (here i) (record (found i) { unsent = count })) ∙ set-append_seam xs r [] (record r { unsent = count })
 
--- seat and inlet as they were
-pub served_same : (a b b' : SeenSeat) (k l l' : List Message) (n : ℕ) → HasServed a b k l n → b' ≡ b → l' ≡ l → HasServed a b' k l' n
-served_same a b b' k l l' n h seat inlet =
-    let P : SeenSeat → Type 0 = λ s. HasServed a s k l' n in
-    let Q : List Message → Type 0 = λ m. HasServed a b k m n in
-    subst P (sym seat) (subst Q (sym inlet) h)
+-- and then an application, if there was one
+pub serves_ready : (a b c : SeenSeat) (k l : List Message) (o : Option ℕ) → Serves a b k l
+    → MatchOption o (c ≡ b) (λ n. HasOneMore b c IsApply n) → Serves a c k l
+serves_ready a b c k l None h ready = serves_same a b c k l l h ready refl
+serves_ready a b c k l (Some n) h ready = serves_more a b c k l l h (1, served_apply b c l n ready)
 
--- a step of one receipt, and more after it
-served_then : (a b c : SeenSeat) (k l m : List Message) (n : ℕ) → HasServed a b k l 1 → HasServed b c l m n → HasServed a c k m (n + 1)
-served_then a b c k l m n h t =
-    let P : ℕ → Type 0 = HasServed a c k m in
-    let swap : 1 + n ≡ n + 1 = omega arith in
-    subst P swap (served_more a b c k l m 1 n h t)
-
--- an application, and more after it
-applied_then : (a b c : SeenSeat) (k m : List Message) (p n : ℕ) → HasOneMore a b IsApply p → HasServed b c k m n
-    → HasServed a c k m (n + 1)
-applied_then a b c k m p n h t = served_then a b c k k m n (served_apply a b k p h) t
-
--- an application after all that, and more after it
-pub served_applied : (a b c d : SeenSeat) (k l m : List Message) (n p q : ℕ)
-    → HasServed a b k l n → HasOneMore b c IsApply p → HasServed c d l m q → HasServed a d k m (n + (q + 1))
-served_applied a b c d k l m n p q h one t = served_more a b d k l m n (q + 1) h (applied_then b c d l m p q one t)
-
--- a message is kept behind the others, after all that
-pub served_and_taken : (a b : SeenSeat) (k l l' : List Message) (m : Message) (n : ℕ)
-    → HasServed a b k l n → l' ≡ l ++ m ∷ [] → HasServed a b k l' n
-served_and_taken a b k l l' m n h is =
-    let P : ℕ → Type 0 = HasServed a b k l' in
-    let same : n + 0 ≡ n = omega arith in
-    subst P same (served_more a b b k l l' n 0 h (served_taken b l l' m is))
-
--- the application that an answer is of
-pub applied_of : (a b : SeenSeat) (o : Option ℕ) (n : ℕ) → o ≡ Some n → MatchOption o (b ≡ a) (λ k. HasOneMore a b IsApply k)
-    → HasOneMore a b IsApply n
-applied_of a b o n is h =
-    let P : Option ℕ → Type 0 = λ x. MatchOption x (b ≡ a) (λ k. HasOneMore a b IsApply k) in
-    subst P is h
-
--- the message that was taken from a link
-pub kept_one : (b : Bool) (k l : List Message) → b ≡ true → MatchBool b ((m : Message) × (l ≡ k ++ m ∷ [])) (l ≡ k)
-    → (m : Message) × (l ≡ k ++ m ∷ [])
-kept_one true k l is h = h
-kept_one false k l is h = absurd (true≢false (sym is))
-
--- nothing came by a link that is closed
-pub kept_none : (b : Bool) (k l : List Message) → b ≡ false → MatchBool b ((m : Message) × (l ≡ k ++ m ∷ [])) (l ≡ k) → l ≡ k
-kept_none false k l is h = h
-kept_none true k l is h = absurd (true≢false is)
-
--- the same, of equal ends
-pub served_along : (a b b' : SeenSeat) (k l l' : List Message) (n n' : ℕ) → HasServed a b k l n → b' ≡ b → l' ≡ l → n' ≡ n
-    → HasServed a b' k l' n'
-served_along a b b' k l l' n n' h seat inlet count =
-    let P : ℕ → Type 0 = HasServed a b' k l' in
-    subst P (sym count) (served_same a b b' k l l' n h seat inlet)
-
--- the count is within the receipts
-pub served_count : (a b : SeenSeat) (k l : List Message) (n : ℕ) → HasServed a b k l n → n ≤ length b.receipts
-served_count a b k l n h = omega (arith, h.count_is, ap (λ (c : SeenSeat). length c.receipts) h.seat, length-append a.receipts h.more)
+-- how many receipts more there are
+pub served_since : (a b : SeenSeat) (k l : List Message) (xs ys : List Receipt) → Serves a b k l → xs ≡ a.receipts → ys ≡ b.receipts
+    → HasServed a b k l (length ys - length xs)
+served_since a b k l xs ys h before now =
+    let more = ap (λ (c : SeenSeat). length c.receipts) h.1.seat ∙ length-append a.receipts h.1.more in
+    let same : h.0 ≡ length ys - length xs = omega (arith, h.1.count_is, more, ap length before, ap length now) in
+    subst (λ (n : ℕ). HasServed a b k l n) same h.1
 
 -- what holds of any error
 pub on_err : {T E : Type 0} (P : Type 0) (r : Result T E) → P → OnErr r P

@@ -1,12 +1,12 @@
 //! Desks, seats, and the one call that makes a receipt.
 ghost use Rattle.std.specs.Prelude.{◌≡◌, ◌<◌, ◌≤◌, ◌++◌, ◌∷◌, [], All, IfNone, IfOk, IfSome, List, OnErr, Err, Ok};
-ghost use Rattle.std.specs.Prelude.{None, length};
+ghost use Rattle.std.specs.Prelude.{IsTrue, None, false, length};
 ghost use Rattle.std.specs.Option.{option_copied};
-ghost use Rattle.rb_site.specs.Events.{first_site};
-ghost use Rattle.rb_site.specs.Seen.{Replays, first_seen};
+ghost use Rattle.rb_site.specs.Events.{first_site, is_full, reply_to, sent_at};
+ghost use Rattle.rb_site.specs.Seen.{Replays, first_seen, state_of, stepped};
 ghost use Rattle.rb_branch.specs.Gathered.{IsClosedReport};
 ghost use Rattle.rb_branch.specs.Seats.{Records, SetsUnsent, CannotRecord, IsReadyAt, IsSiteReply, is_full_inbox};
-ghost use Rattle.rb_branch.specs.Seats.{receipt_at};
+ghost use Rattle.rb_branch.specs.Seats.{receipt, receipt_at};
 ghost use Rattle.rb_branch.specs.declared.call_fault.CallFault.TheVariants.{HistoryFull};
 ghost use Rattle.rb_branch.specs.declared.limits.TheConstants.{MOST_RECEIPTS};
 ghost use Rattle.rb_branch.specs.declared.receipt.Receipt.{Receipt as ReceiptOf};
@@ -19,7 +19,7 @@ use crate::{Books, CallFault, Entries, MOST_RECEIPTS, Receipt};
 use rb_money::Refusal;
 use rb_shadow::OpName;
 use rb_site::{Event, Posted, Reply, Site, SiteReport};
-use std::alloc::Global;
+use std::alloc::{AllocError, Global};
 use std::marker::{Model, PhantomData};
 use std::sync::ledger::{Ledger, Share};
 use std::sync::{Mutex, Wait};
@@ -78,22 +78,53 @@ pub fn record<E: Entries, R: Ledger, W: Wait>(
     ensures err { OnErr result ((desk.new ≡ desk.old) × (seat.new ≡ seat.old)) }
     ensures full { result ≡ Err HistoryFull → CannotRecord desk.old seat.old }
 {
-    if desk.site.me() != seat.site || desk.site.is_full() || seat.receipts.len() >= MOST_RECEIPTS {
+    let Desk { site, share: entry } = desk;
+    let Seat {
+        site: me,
+        receipts,
+        share,
+        ..
+    } = seat;
+    let posted = note(site, *me, receipts, event)?;
+    books.lock(rt).count(entry, share);
+    Ok((receipts.len() as u32, posted))
+}
+
+/// One event at a site, and its receipt at the end of these, a seat's at the site of this number. Memory
+/// for it is taken before the step. After an `Err` site and receipts are as before.
+fn note(
+    site: &mut Site,
+    me: u8,
+    receipts: &mut Vec<Receipt>,
+    event: Event,
+) -> Result<Posted, CallFault>
+    ensures here { IfOk result (λ _. me ≡ site.old.me) }
+    ensures few { IfOk result (λ _. length receipts.old.items < MOST_RECEIPTS) }
+    ensures step { IfOk result (λ _. site.new ≡ stepped site.old event) }
+    ensures replays { IfOk result (λ _. Replays site.new.settings (first_site site.new.me) site.new.entries) }
+    ensures room { IfOk result (λ _. length site.new.entries ≤ site.new.settings.limits.history) }
+    ensures receipt { IfOk result (λ _. receipts.new.items ≡ receipts.old.items
+        ++ receipt (length site.new.entries) event (reply_to site.old.settings (state_of site.old) event) 0 ∷ []) }
+    ensures posted { IfOk result (λ p. p.items ≡ sent_at site.old.settings (state_of site.old) event) }
+    ensures err { OnErr result ((site.new ≡ site.old) × (receipts.new.items ≡ receipts.old.items)) }
+    ensures full { result ≡ Err HistoryFull
+        → CannotRecord site.old (record { site = me; receipts = receipts.old.items }) }
+{
+    if site.me() != me || site.is_full() || receipts.len() >= MOST_RECEIPTS {
         return Err(CallFault::HistoryFull);
     }
-    seat.receipts.reserve(1)?;
-    let (reply, posted) = desk.site.step(&event)?;
+    receipts.reserve(1)?;
+    let (reply, posted) = site.step(&event)?;
     // For a fact alone: the history replays.
-    let _replays = desk.site.history();
-    let number = desk.site.len();
-    books.lock(rt).count(&mut desk.share, &mut seat.share);
-    seat.receipts.push_reserved(Receipt {
+    let _replays = site.history();
+    let number = site.len();
+    receipts.push_reserved(Receipt {
         number,
         event,
         reply,
         unsent: 0,
     });
-    Ok((seat.receipts.len() as u32, posted))
+    Ok(posted)
 }
 
 /// A held operation whose past the desk's site applied is applied, and its receipt is the last of the seat, as

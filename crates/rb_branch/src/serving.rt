@@ -1,5 +1,5 @@
 //! The serving of a site: what comes by its link is received, and what is ready is applied.
-ghost use Rattle.std.specs.Prelude.{◌≡◌, ◌<◌, ℕ, IfOk, OnErr, length};
+ghost use Rattle.std.specs.Prelude.{◌<◌, ◌+◌, ◌^◌, ℕ, IfOk, OnErr, length};
 ghost use Rattle.rb_branch.specs.Seats.{HasServed};
 
 use crate::{Branch, CallFault, Entries, Gate, Inlet, Seat};
@@ -24,92 +24,91 @@ impl<E: Entries, R: Ledger, G: Gate + Drop> Branch<E, R, G> {
         ensures ok { IfOk result (λ n. HasServed seat.old seat.new inlet.old inlet.new n) }
         ensures err { OnErr result ((n : ℕ) × HasServed seat.old seat.new inlet.old inlet.new n) }
     {
-        let mut made: u64 = 0;
-        let mut first: usize = 0;
-        for _ in rt.forever() {
-            let more = self.receive_and_apply(rt, seat, inlet, first)?;
-            // For a fact alone: the seat has at most `MOST_RECEIPTS` receipts.
-            let _few = seat.receipts().len();
-            made += more;
-            first = inlet.kept().len();
-            let taken = inlet.take(rt)?;
-            if !taken {
-                break;
-            }
-        }
-        Ok(made)
+        let before = seat.receipts().len();
+        self.serve_all(rt, seat, inlet)?;
+        Ok((seat.receipts().len() - before) as u64)
     }
 
-    /// Receives what is kept from this index on. Then applies what is ready until nothing is, and receives all
-    /// that is kept after each application.
-    fn receive_and_apply<W: Wait>(
+    /// Serves until the link is closed.
+    fn serve_all<W: Wait>(
+        &self,
+        rt: &W,
+        seat: &mut Seat<E, R>,
+        inlet: &mut Inlet,
+    ) -> Result<(), CallFault>
+        ensures { (n : ℕ) × HasServed seat.old seat.new inlet.old inlet.new n }
+    {
+        let mut first: usize = 0;
+        for _ in rt.forever() {
+            let Some(next) = self.serve_once(rt, seat, inlet, first)? else {
+                return Ok(());
+            };
+            first = next;
+        }
+        Ok(())
+    }
+
+    /// Receives what is kept from this index on. Then applies what is ready or, where nothing is, takes the next
+    /// message: the index to receive from next, which after an application is that of all. `None` once the link
+    /// is closed.
+    fn serve_once<W: Wait>(
         &self,
         rt: &W,
         seat: &mut Seat<E, R>,
         inlet: &mut Inlet,
         first: usize,
-    ) -> Result<u64, CallFault>
-        ensures ok { IfOk result (λ n. HasServed seat.old seat.new inlet.old inlet.new n) }
-        ensures err { OnErr result ((n : ℕ) × HasServed seat.old seat.new inlet.old inlet.new n) }
+    ) -> Result<Option<usize>, CallFault>
+        ensures { (n : ℕ) × HasServed seat.old seat.new inlet.old inlet.new n }
     {
-        let mut made: u64 = self.receive_from(rt, seat, inlet, first)?;
-        for _ in rt.forever() {
-            let Some(_number) = self.apply_ready(rt, seat)? else {
-                break;
-            };
-            let more = self.receive_from(rt, seat, inlet, 0)?;
-            // For a fact alone: the seat has at most `MOST_RECEIPTS` receipts.
-            let _few = seat.receipts().len();
-            made += more + 1;
+        self.receive_from(rt, seat, inlet, first)?;
+        if self.apply_ready(rt, seat)?.is_some() {
+            return Ok(Some(0));
         }
-        Ok(made)
+        let kept = inlet.kept().len();
+        let taken = inlet.take(rt)?;
+        if !taken {
+            return Ok(None);
+        }
+        Ok(Some(kept))
     }
 
-    /// Receives each kept message once, from this index on: how many receipts the seat has more.
+    /// Receives each kept message once, from this index on.
     fn receive_from<W: Wait>(
         &self,
         rt: &W,
         seat: &mut Seat<E, R>,
         inlet: &mut Inlet,
         first: usize,
-    ) -> Result<u64, CallFault>
-        ensures ok { IfOk result (λ n. HasServed seat.old seat.new inlet.old inlet.new n) }
-        ensures err { OnErr result ((n : ℕ) × HasServed seat.old seat.new inlet.old inlet.new n) }
+    ) -> Result<(), CallFault>
+        ensures { (n : ℕ) × HasServed seat.old seat.new inlet.old inlet.new n }
     {
-        let mut made: u64 = 0;
         let mut index = first;
-        for _ in rt.forever() {
-            if index >= inlet.kept().len() {
-                break;
-            }
-            let gone = self.receive_at(rt, seat, inlet, index)?;
-            // For a fact alone: the seat has at most `MOST_RECEIPTS` receipts.
-            let _few = seat.receipts().len();
-            made += 1;
-            index = if gone { index } else { index + 1 };
+        while index < inlet.kept().len() {
+            index = self.receive_at(rt, seat, inlet, index)?;
         }
-        Ok(made)
+        Ok(())
     }
 
-    /// Receives the kept message at this index. It stays where the inbox is full, and goes otherwise: whether
-    /// it went.
+    /// Receives the kept message at this index. It stays where the inbox is full, and goes otherwise: the index
+    /// of the next.
     fn receive_at<W: Wait>(
         &self,
         rt: &W,
         seat: &mut Seat<E, R>,
         inlet: &mut Inlet,
         index: usize,
-    ) -> Result<bool, CallFault>
-        requires { index < length inlet.old }
-        ensures ok { IfOk result (λ _. HasServed seat.old seat.new inlet.old inlet.new 1) }
-        ensures err { OnErr result ((seat.new ≡ seat.old) × (inlet.new ≡ inlet.old)) }
+    ) -> Result<usize, CallFault>
+        requires within { index < length inlet.old }
+        requires fits { index + 1 < 2 ^ 64 }
+        ensures served { (n : ℕ) × HasServed seat.old seat.new inlet.old inlet.new n }
+        ensures fewer { IfOk result (λ next. length inlet.new + index < length inlet.old + next) }
     {
         let message = inlet.message(index);
         let _number = self.receive(rt, seat, message)?;
         if seat.found_full() {
-            return Ok(false);
+            return Ok(index + 1);
         }
         inlet.let_go(index);
-        Ok(true)
+        Ok(index)
     }
 }

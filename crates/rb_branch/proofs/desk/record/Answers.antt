@@ -1,32 +1,31 @@
--- A seat with one receipt more.
-use Rattle.std.proofs.Common.{rules, ◌≡◌, ◌∙◌, All, cond, false, length, length-append, sym, ap, subst, [], ◌∷◌, ◌++◌}
-use Rattle.std.proofs.lemmas.List.Elements.{All-append, All-cons, All-nil}
-use Rattle.rb_site.specs.Events.{is_full}
-use Rattle.rb_site.specs.Seen.{SeenSite, state_of, stepped}
-use Rattle.rb_branch.specs.Seats.{IsSiteReply, receipt}
-use Rattle.rb_branch.specs.declared.receipt.Receipt.{Receipt}
+use Rattle.std.proofs.Common.{◌≡◌, length, rules}
+use Rattle.rb_branch.proofs.Recorded.{desk_more, desk_same, recorded, seat_more, seat_same}
 use Rattle.rb_branch.proofs.desk.record.Goals as goal
+
+pub invariant_of-desk : goal.invariant_of-desk
+invariant_of-desk g c =
+    desk_same g.E.Entries.settings c.desk.inside.site c.note.new.site _ _ c.desk.invariant c.in_err-posted.ensures.err.0
+
+pub invariant_of-seat : goal.invariant_of-seat
+invariant_of-seat g c =
+    seat_same g.E.Entries.settings c.seat.inside.site _ _ c.seat.inside.receipts.items c.note.new.receipts.items c.seat.invariant
+    c.in_err-posted.ensures.err.1
+
+pub invariant_of-desk-2 : goal.invariant_of-desk-2
+invariant_of-desk-2 g c =
+    desk_more g.E.Entries.settings c.desk.inside.site c.note.new.site _ _ _ _ c.args.event c.desk.invariant c.in_ok-posted.ensures.step
+    c.in_ok-posted.ensures.replays c.in_ok-posted.ensures.room c.count.ensures.entry.0 c.count.ensures.entry.1
 
 pub invariant_of-seat-2 : goal.invariant_of-seat-2
 invariant_of-seat-2 g c =
-    let P : Receipt → Type 0 = IsSiteReply g.E.Entries.settings c.seat.inside.site in
-    let last : Receipt = receipt c.len-number.result c.args.event c.in_ok-reply.reply 0 in
-    let site : SeenSite = c.desk.inside.site in
-    let free : is_full site.settings (state_of site) ≡ false = sym c.is_full.ensures ∙ c.if-is_full.false in
-    let one : c.step.new.self ≡ stepped site c.args.event = (c.in_ok-reply.ensures.ok).0
-    ∙ ap (λ b. cond b site (stepped site c.args.event)) free in
-    record {
-      within = c.seat.invariant.within;
-      one_part = search rules;
-      counted = search rules;
-      few = search rules;
-      answered = subst (All P) (sym (c.push_reserved.ensures.items ∙ ap (λ rs. rs ++ last ∷ []) c.in_ok-reserve.ensures.items))
-          (All-append P c.seat.inside.receipts.items (last ∷ []) c.seat.invariant.answered (All-cons P last [] (record {
-            before = c.desk.inside.site;
-            settings = c.desk.invariant.settings;
-            me = search rules;
-            replays = search rules;
-            number = c.len-number.ensures ∙ ap (λ (x : SeenSite). length x.entries) one ∙ length-append site.entries (_ ∷ []);
-            reply = search rules;
-          }) (All-nil P)));
-    }
+    seat_more g.E.Entries.settings c.desk.inside.site c.note.new.site c.seat.inside.site _ _ _ _ _ _ c.args.event
+    c.seat.inside.receipts.items c.note.new.receipts.items c.desk.invariant c.seat.invariant
+    c.in_ok-posted.ensures.here c.in_ok-posted.ensures.few
+    c.in_ok-posted.ensures.step c.in_ok-posted.ensures.receipt c.count.ensures.receipt.0 c.count.ensures.receipt.1
+
+pub returns-clause-ok : goal.returns-clause-ok
+returns-clause-ok g c =
+    let len : c.len.result ≡ length c.note.new.receipts.items = search rules in
+    recorded c.desk.inside.site c.args.desk.now c.note.new.site c.args.event c.seat.inside.site _ c.seat.inside.receipts.items
+    c.note.new.receipts.items c.args.seat.now _ c.desk.view_is c.seat.view_is c.in_ok-posted.ensures.here
+    c.in_ok-posted.ensures.step c.in_ok-posted.ensures.receipt len c.in_ok-posted.ensures.posted
