@@ -1,55 +1,13 @@
 -- How many entries of each history were taken, as the code reads it.
-use Rattle.std.proofs.Common.{◌≡◌, ℕ, ◌+◌, ◌<◌, ◌≤◌, List, [], length, get_or, refl, ap, sym, ◌∙◌, inl, inr, arith, Some, Vec}
+use Rattle.std.proofs.Common.{◌≡◌, ℕ, ◌+◌, ◌<◌, ◌≤◌, List, [], length, get_or, ap, ◌∙◌, inl, inr, arith, Some}
 use Rattle.std.specs.Prelude.{slice_get}
-use Rattle.std.proofs.lemmas.Option.{slice_get-get_or, slice_get_read, slice_get_within}
+use Rattle.std.proofs.lemmas.Option.{slice_get-get_or}
 use Rattle.rb_money.specs.declared.limits.TheConstants.{MOST_HISTORY}
 use Rattle.rb_money.specs.Settings.{IsConfigured}
 use Rattle.rb_site.specs.declared.entry.Entry.{Entry}
 use Rattle.rb_site.proofs.Public.Places.{same_number}
-use Rattle.rb_auditor.specs.Findings.{lists_of}
 use Rattle.rb_auditor.specs.Progress.{IsTaking, Progress}
-use Rattle.rb_auditor.proofs.Listed
 use Rattle.rb_auditor.proofs.Lists
-use Rattle.rb_auditor.proofs.Public.Lengths.{length_lists}
-
--- ---- what is read. The code's value is p, which its client sees as q
-
--- the history that is read at i
-pub history_at : {Z : Type 0} (p q : Progress) (hs : List (Vec Entry Z)) (i : ℕ) (v : Vec Entry Z)
-    → p ≡ q → p.histories ≡ lists_of hs → i < length q.histories → v ≡ get_or hs i v → slice_get p.histories i ≡ Some v.items
-history_at p q hs i v same is less here =
-    let n : length q.histories ≡ length (lists_of hs) = ap (λ (r : Progress). length r.histories) (sym same) ∙ ap length is in
-    let m : length (lists_of hs) ≡ length hs = length_lists hs in
-    ap (λ gs. slice_get gs i) is ∙ Listed.row_at hs i v (omega arith) here
-
--- the number that is read at i
-pub taken_at : (p q : Progress) (i t : ℕ) → p ≡ q → IsTaking p → i < length q.histories → t ≡ get_or p.taken i t
-    → slice_get p.taken i ≡ Some t
-taken_at p q i t same v less here =
-    let n : length q.histories ≡ length p.histories = ap (λ (r : Progress). length r.histories) (sym same) in
-    let m : length p.taken ≡ length p.histories = v.counts in
-    slice_get_read p.taken (length p.taken) i t refl (omega arith) here
-
--- there are as many histories for the client
-pub below_length : {Z : Type 0} (p q : Progress) (hs : List (Vec Entry Z)) (i : ℕ)
-    → p ≡ q → p.histories ≡ lists_of hs → i < length hs → i < length q.histories
-below_length p q hs i same is less =
-    let n : length q.histories ≡ length (lists_of hs) = ap (λ (r : Progress). length r.histories) (sym same) ∙ ap length is in
-    let m : length (lists_of hs) ≡ length hs = length_lists hs in
-    omega arith
-
--- each history of the client is below a number that is past those of the code
-pub below_now : {Z : Type 0} (p q : Progress) (hs : List (Vec Entry Z)) (i : ℕ) (h : List Entry) (n : ℕ)
-    → p ≡ q → p.histories ≡ lists_of hs → length hs ≤ n → slice_get q.histories i ≡ Some h → i < n
-below_now p q hs i h n same is less at =
-    let e : q.histories ≡ lists_of hs = ap (λ (r : Progress). r.histories) (sym same) ∙ is in
-    let m : length (lists_of hs) ≡ length hs = length_lists hs in
-    let within : i < length (lists_of hs) = slice_get_within (lists_of hs) i h (ap (λ gs. slice_get gs i) (sym e) ∙ at) in
-    omega arith
-
--- each history is below their number
-pub below_all : (hs : List (List Entry)) (i : ℕ) (h : List Entry) (n : ℕ) → slice_get hs i ≡ Some h → n ≡ length hs → i < n
-below_all hs i h n at e = let within : i < length hs = slice_get_within hs i h at in omega arith
 
 -- ---- what the numbers say
 

@@ -1,5 +1,4 @@
-pub mod Public
-mod Ends
+mod Lengths
 mod Lists
 mod Replaying
 mod Messages
@@ -9,6 +8,8 @@ mod Following
 mod Refuting
 mod Listed
 mod Counting
-mod Opening
 mod Resting
-mod Sending
+mod Steps
+mod Kept
+mod Judged
+mod Read

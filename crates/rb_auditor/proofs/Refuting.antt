@@ -23,11 +23,9 @@ use Rattle.rb_site.proofs.Public.Seen
 use Rattle.rb_site.proofs.Public.Stuck
 use Rattle.std.proofs.lemmas.List.{length-map}
 use Rattle.std.proofs.lemmas.List.FromFn.{length-range_with_len}
-use Rattle.rb_auditor.specs.declared.audit_fault.AuditFault.{AuditFault}
-use Rattle.rb_auditor.specs.declared.audit_fault.AuditFault.TheVariants.{WrongReply, Stuck, OutOfMemory}
 use Rattle.rb_auditor.specs.Certificates.{Certifies}
-use Rattle.rb_auditor.specs.Findings.{IsFirstWrong, IsReplay, IsStuckAt, Refutes}
-use Rattle.rb_auditor.specs.Progress.{IsWrongFound, site_after}
+use Rattle.rb_auditor.specs.Findings.{IsFirstWrong, IsReplay, IsStuckAt}
+use Rattle.rb_auditor.specs.Progress.{site_after}
 use Rattle.rb_auditor.proofs.Replaying
 use Rattle.rb_auditor.proofs.Runs
 
@@ -120,12 +118,6 @@ wrong_is_final s hs site event f one =
 -- receipts of messages that no entry before sent
 pub stuck_is_final : (s : Settings) (hs : List (List Entry)) (next : List ℕ) → IsStuckAt s hs next → ¬ AreOneWorlds s hs
 stuck_is_final s hs next f one = Stuck.stuck_final s hs f.fronts f.stuck one
-
--- what a replay of all histories finds shows that no world has them, but for running out of memory
-pub wrong_refutes : (s : Settings) (hs : List (List Entry)) (fault : AuditFault) → IsWrongFound s hs fault → Refutes s hs fault
-wrong_refutes s hs (WrongReply site event) w = wrong_is_final s hs site event w
-wrong_refutes s hs (Stuck next) w = absurd w
-wrong_refutes s hs OutOfMemory w = tt
 
 -- what is certified is one world's
 pub one_worlds : (s : Settings) (hs : List (List Entry)) (order : List ℕ) → Certifies s hs order → AreOneWorlds s hs

@@ -1,12 +1,10 @@
 -- Histories that replay, and their prefixes.
-use Rattle.std.proofs.Common.{◌≡◌, ℕ, zero, suc, Bool, IsTrue, MatchBool, ◌↔◌, cond, ◌+◌, ◌*◌, ◌<◌, ◌≤◌, true, false, List, [], ◌∷◌, ◌++◌}
-use Rattle.std.proofs.Common.{length, take, drop, get_or, refl, ap, sym, subst, ◌∙◌, arith, Some, length-append}
+use Rattle.std.proofs.Common.{◌≡◌, ℕ, suc, Bool, IsTrue, MatchBool, ◌↔◌, cond, ◌+◌, ◌<◌, ◌≤◌, true, false, List, [], ◌∷◌, ◌++◌}
+use Rattle.std.proofs.Common.{length, take, drop, refl, ap, sym, subst, ◌∙◌, arith, Some, length-append}
 use Rattle.std.specs.Prelude.{map, slice_get, nat_le}
 use Rattle.std.proofs.lemmas.Bool.Decides.{nat_tests}
-use Rattle.std.proofs.lemmas.List.{length-map, length-take-le, take-append-drop, take_more, map-append}
-use Rattle.rb_scratch.specs.declared.request.TheConstants.{MOST_REQUESTS}
-use Rattle.rb_money.specs.declared.limits.TheConstants.{MOST_HISTORY}
-use Rattle.rb_money.specs.Settings.{IsConfigured, Settings}
+use Rattle.std.proofs.lemmas.List.{length-map, take-append-drop, map-append}
+use Rattle.rb_money.specs.Settings.{Settings}
 use Rattle.rb_site.specs.declared.entry.Entry.{Entry}
 use Rattle.rb_site.specs.Events.{ModelSite, after_event, after_events, first_site, is_full, reply_to, sent_at}
 use Rattle.rb_site.specs.Histories.{events_of, history_of}
@@ -14,14 +12,12 @@ use Rattle.rb_site.specs.declared.event.Event.{Event}
 use Rattle.rb_site.specs.declared.message.Message.{Message}
 use Rattle.rb_site.specs.declared.reply.Reply.{Reply}
 use Rattle.rb_site.specs.Seen.{IsReplayed, Replays, SeenSite, entry, next_site, state_of, stepped}
-use Rattle.rb_auditor.specs.Replays.{RecordsEntry, seen_at, sends_by}
+use Rattle.rb_auditor.specs.Replays.{RecordsEntry, seen_at}
 use Rattle.rb_site.proofs.Public.Runs
 use Rattle.rb_site.proofs.Public.Seen
 use Rattle.rb_site.proofs.Public.Outcomes
 use Rattle.rb_auditor.specs.Findings.{IsReplay}
 use Rattle.rb_auditor.specs.Progress.{fronts_of, site_after, sites_after}
-use Rattle.rb_auditor.specs.Sends.{AreEnds, between}
-use Rattle.rb_auditor.proofs.Ends
 use Rattle.rb_auditor.proofs.Lists.{IsSplit, split_at}
 
 replays-front : (s : Settings) (t : ModelSite) (xs ys : List Entry) → Replays s t (xs ++ ys) → Replays s t xs
@@ -107,19 +103,6 @@ histories_after s a (h ∷ hs) (k ∷ ks) all =
 
 -- ---- one entry more
 
--- what each entry sends, and one more
-pub sends_by_more : (s : Settings) (t : ModelSite) (xs : List Entry) (x : Entry) →
-    sends_by s t (xs ++ x ∷ []) ≡ sends_by s t xs ++ sent_at s (after_events s t (events_of xs)) x.event ∷ []
-sends_by_more s t [] x = refl
-sends_by_more s t (y ∷ xs) x = ap (λ ms. sent_at s t y.event ∷ ms) (sends_by_more s (after_event s t y.event) xs x)
-
--- what an entry sends
-pub sends_at : (s : Settings) (t : ModelSite) (xs : List Entry) (k : ℕ) (x : Entry) → slice_get xs k ≡ Some x →
-    slice_get (sends_by s t xs) k ≡ Some (sent_at s (after_events s t (events_of (take k xs))) x.event)
-sends_at s t [] k x h = cc
-sends_at s t (y ∷ xs) zero x h = let e : y ≡ x = cc in ap (λ (z : Entry). Some (sent_at s t z.event)) e
-sends_at s t (y ∷ xs) (suc k) x h = sends_at s (after_event s t y.event) xs k x h
-
 -- where the history is full, one more is wrong
 pub full_is_wrong : (x : SeenSite) (y : Entry) → IsReplayed x → is_full x.settings (state_of x) ≡ true →
     ¬ IsReplayed (seen_at x.settings x.me (x.entries ++ y ∷ []))
@@ -158,56 +141,3 @@ noted_or_not true x new e y r before after old free is reply test event sends =
     noted x new e y r before after old free is reply (test.0 refl) event sends
 noted_or_not false x new e y r before after old free is reply test event sends =
     other_is_wrong x y (λ same. let wrong : IsTrue false = test.1 (reply ∙ ap (reply_to x.settings (state_of x)) event ∙ same) in cc)
-
--- the state of a replay after the first k entries of a history, and what they sent
-pub record IsReplaying (s : Settings) (me : ℕ) (h : List Entry) (k : ℕ) (site : SeenSite) (messages : List Message) (ends : List ℕ) : Type 0
-  where
-    pub site_is : site ≡ seen_at s me (take k h)
-    pub replays : IsReplay s me (take k h)
-    pub ends_are : AreEnds ends (length messages)
-    pub sends : between messages ends ≡ sends_by s (first_site me) (take k h)
-    pub few : length messages ≤ MOST_REQUESTS * k
-
--- an entry more
-pub replaying_more : (s : Settings) (me : ℕ) (h : List Entry) (k : ℕ) (x : Entry) (site new : SeenSite) (before after : List Message)
-    (ends : List ℕ) → k < length h → x ≡ get_or h k x → IsReplaying s me h k site before ends → RecordsEntry site new x before after →
-    IsReplaying s me h (k + 1) new after (ends ++ length after ∷ [])
-replaying_more s me h k x site new before after ends less at r n = record {
-  site_is = now;
-  replays = subst IsReplayed now n.replays;
-  ends_are = Ends.ends_more ends (length before) (length after) r.ends_are (omega (arith, sizes));
-  sends =
-      ap (λ ms. between ms (ends ++ length after ∷ [])) n.sends
-      ∙ Ends.between_more before sent ends (length after) r.ends_are (ap length n.sends)
-      ∙ ap (λ ss. ss ++ sent ∷ []) r.sends
-      ∙ ap (λ m. sends_by s (first_site me) (take k h) ++ m ∷ []) (ap (λ (z : SeenSite). sent_at z.settings (state_of z) x.event) r.site_is)
-      ∙ sym (sends_by_more s (first_site me) (take k h) x)
-      ∙ ap (sends_by s (first_site me)) longer;
-  few = let old : length before ≤ MOST_REQUESTS * k = r.few in omega (arith, sizes, most);
-}
-  where
-    sent : List Message
-    sent = sent_at site.settings (state_of site) x.event
-
-    sizes : length after ≡ length before + length sent
-    sizes = ap length n.sends ∙ length-append before sent
-
-    most : length sent ≤ MOST_REQUESTS
-    most = Outcomes.sent_few site.settings (state_of site) x.event
-
-    longer : take k h ++ x ∷ [] ≡ take (k + 1) h
-    longer = ap (λ y. take k h ++ y ∷ []) at ∙ sym (take_more h k x less)
-
-    now : new ≡ seen_at s me (take (k + 1) h)
-    now = n.is ∙ ap (λ (z : SeenSite). record z { entries = z.entries ++ x ∷ [] }) r.site_is ∙ ap (seen_at s me) longer
-
--- the numbers of entries and messages so far
-pub counts_fit : (s : Settings) (me : ℕ) (h : List Entry) (k : ℕ) (site : SeenSite) (messages : List Message) (ends : List ℕ) →
-    IsConfigured s → k ≤ length h → IsReplaying s me h k site messages ends →
-    (k ≤ MOST_HISTORY) × (length messages ≤ MOST_REQUESTS * MOST_HISTORY)
-counts_fit s me h k site messages ends c less r =
-    let taken : length (take k h) ≡ k = length-take-le k h less in
-    let room : length (take k h) ≤ s.limits.history = r.replays.room in
-    let most : s.limits.history ≤ MOST_HISTORY = c.history.1 in
-    let all : length messages ≤ MOST_REQUESTS * k = r.few in
-    (omega arith, omega arith)

@@ -54,6 +54,15 @@ first_taken s hs n replays = record {
   };
 }
 
+-- the same of a progress that is said by its parts
+pub first_as : (s : Settings) (hs : List (List Entry)) (order taken : List ℕ) (ms : List Message) → order ≡ [] → ms ≡ []
+    → record { settings = s; histories = hs; order = []; taken = taken; messages = [] } ≡ first_progress s hs
+    → IsTaking (first_progress s hs) → IsTaking (record { settings = s; histories = hs; order = order; taken = taken; messages = ms })
+first_as s hs order taken ms e f g v =
+    let P : List ℕ → List Message → Type 0 =
+    λ o m. IsTaking (record { settings = s; histories = hs; order = o; taken = taken; messages = m }) in
+    subst (λ o. P o ms) (sym e) (subst (P []) (sym f) (subst IsTaking (sym g) v))
+
 -- ---- one entry more
 
 site_now : (s : Settings) (i k : ℕ) (h : List Entry) → site_after s (0 + i) (take k h) ≡ site_after s i (take k h)

@@ -1,6 +1,7 @@
+pub mod Audits
 pub mod Certificates
 pub mod Findings
+pub mod Kept
 pub mod Progress
 pub mod Replays
-pub mod Sends
 pub mod Sent

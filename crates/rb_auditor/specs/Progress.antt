@@ -10,10 +10,7 @@ use Rattle.rb_site.specs.Events.{ModelSite, after_events, first_site, sent_at}
 use Rattle.rb_site.specs.Histories.{IsAmong, IsFrom, events_of, site_of, sends_of}
 use Rattle.rb_site.specs.Worlds.{AreOwn, World, first_world, world_of_run}
 use Rattle.rb_auditor.specs.Certificates.{AllRecorded}
-use Rattle.rb_auditor.specs.declared.audit_fault.AuditFault.{AuditFault}
-use Rattle.rb_auditor.specs.declared.audit_fault.AuditFault.TheVariants.{WrongReply, Stuck, OutOfMemory}
-use Rattle.rb_auditor.specs.Findings.{IsFirstWrong, IsReplay}
-use Rattle.rb_auditor.specs.Replays.{sends_by}
+use Rattle.rb_auditor.specs.Findings.{IsReplay}
 
 -- histories, the order in which entries were taken, how many of each history, and the messages that these sent
 pub record Progress : Type 0 where
@@ -129,13 +126,3 @@ pub record IsFurther (p q : Progress) : Type 0 where
 -- no entry can be taken now
 abbrev pub AllRest : Progress → Type 0
 AllRest p = (i : ℕ) → i < length p.histories → Rests p i
-
--- what each entry of each history sends
-abbrev pub AreSends : Settings → List (List Entry) → List (List (List Message)) → Type 0
-AreSends s hs ss = (i : ℕ) (h : List Entry) → slice_get hs i ≡ Some h → slice_get ss i ≡ Some (sends_by s (first_site i) h)
-
--- what a replay of all histories finds
-abbrev pub IsWrongFound : Settings → List (List Entry) → AuditFault → Type 0
-IsWrongFound s hs (WrongReply site event) = IsFirstWrong s hs site event
-IsWrongFound s hs (Stuck next) = ⊥
-IsWrongFound s hs OutOfMemory = Unit {0}

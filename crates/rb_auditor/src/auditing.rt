@@ -1,19 +1,21 @@
 //! The search for an order.
-ghost use Rattle.std.specs.Prelude.{◌≡◌, ◌<◌, ◌≤◌, IfOk, IfErr, OnOk, MatchBool, length};
+ghost use Rattle.std.specs.Prelude.{◌≡◌, ◌<◌, IfOk, IfErr, OnOk, MatchBool, length};
 ghost use Rattle.rb_auditor.specs.Certificates.{Certifies};
 ghost use Rattle.rb_auditor.specs.Findings.{IsFound, Refutes, lists_of};
+ghost use Rattle.rb_auditor.specs.Kept.{AreJudged, histories_in};
 ghost use Rattle.rb_auditor.specs.Progress.{AllRest, IsFurther, Rests};
 
-use crate::replay::replay_all;
+use crate::notes::Notes;
 use crate::taking::Taking;
+use crate::whole::read_all;
+use crate::wrong::first_wrong;
 use crate::{AuditFault, Certificate};
 use rb_money::Config;
-use rb_site::History;
+use rb_site::{History, Message};
 use std::alloc::{AllocError, Global};
 
-/// An order in which a world could have recorded these histories, one for each site. Entries are taken
-/// in rounds from site 0, from each site as many as possible; where a site doesn't record an entry, or
-/// no entry can be taken any more, no world has the histories.
+/// An order in which a world could have recorded these histories, one for each site: what an `Auditor` of their entries
+/// finds.
 ///
 /// Errors: `WrongReply` or `Stuck` where no world has them, `OutOfMemory` where there was no memory to find out.
 pub fn audit(
@@ -26,11 +28,28 @@ pub fn audit(
     ensures found { IfErr result (IsFound config.now (lists_of histories.now)) }
     ensures refuted { IfErr result (Refutes config.now (lists_of histories.now)) }
 {
-    let sends = match replay_all(alloc, config, histories) {
-        Ok(sends) => sends,
-        Err(fault) => return Err(fault),
-    };
-    let Ok(mut taking) = Taking::open(alloc, config, histories, sends.as_slice()) else {
+    match read_all(alloc, config, histories) {
+        Ok(read) => read.finish(),
+        Err(_) => Err(AuditFault::OutOfMemory),
+    }
+}
+
+/// An order for the histories of which that is kept, or why there is none.
+pub fn find(
+    alloc: Global,
+    config: &Config,
+    notes: &[Notes],
+    messages: &[Message],
+) -> Result<Certificate, AuditFault>
+    requires { AreJudged config.now notes.now messages.now }
+    ensures certified { IfOk result (Certifies config.now (histories_in notes.now)) }
+    ensures found { IfErr result (IsFound config.now (histories_in notes.now)) }
+    ensures refuted { IfErr result (Refutes config.now (histories_in notes.now)) }
+{
+    if let Some((site, event)) = first_wrong(config, notes) {
+        return Err(AuditFault::WrongReply { site, event });
+    }
+    let Ok(mut taking) = Taking::open(alloc, config, notes, messages) else {
         return Err(AuditFault::OutOfMemory);
     };
     let Ok(()) = take_all(&mut taking) else {

@@ -1,14 +1,17 @@
 //! The check of an order.
-ghost use Rattle.std.specs.Prelude.{◌≡◌, ◌↔◌, IsTrue, IfOk, length};
-ghost use Rattle.rb_auditor.specs.Progress.{first_progress};
+ghost use Rattle.std.specs.Prelude.{◌≡◌, ◌↔◌, IsTrue, IfOk};
 ghost use Rattle.rb_auditor.specs.Certificates.{Certifies};
 ghost use Rattle.rb_auditor.specs.Findings.{lists_of};
+ghost use Rattle.rb_auditor.specs.Kept.{AreJudged, histories_in};
+ghost use Rattle.rb_auditor.specs.Progress.{first_progress};
 
-use crate::replay::replay_all;
+use crate::Certificate;
+use crate::notes::Notes;
 use crate::taking::Taking;
-use crate::{AuditFault, Certificate};
+use crate::whole::read_all;
+use crate::wrong::first_wrong;
 use rb_money::Config;
-use rb_site::History;
+use rb_site::{History, Message};
 use std::alloc::{AllocError, Global};
 
 /// Whether a world could have recorded these histories in this order. `Err` means out of memory.
@@ -23,15 +26,25 @@ pub fn check(
     if histories.len() != config.sites() as usize {
         return Ok(false);
     }
-    match replay_all(alloc, config, histories) {
-        Ok(sends) => {
-            let mut taking = Taking::open(alloc, config, histories, sends.as_slice())?;
-            follow(&mut taking, certificate.as_slice())
-        }
-        Err(AuditFault::WrongReply { site: _, event: _ }) => Ok(false),
-        Err(AuditFault::Stuck { next: _ }) => Ok(false),
-        Err(AuditFault::OutOfMemory) => Err(AllocError),
+    read_all(alloc, config, histories)?.check(certificate)
+}
+
+/// Whether a world could have recorded the histories of which that is kept in this order. `Err` means out of memory.
+pub fn follow_all(
+    alloc: Global,
+    config: &Config,
+    notes: &[Notes],
+    messages: &[Message],
+    order: &[u8],
+) -> Result<bool, AllocError>
+    requires { AreJudged config.now notes.now messages.now }
+    ensures { IfOk result (λ yes. IsTrue yes ↔ Certifies config.now (histories_in notes.now) order.now) }
+{
+    if first_wrong(config, notes).is_some() {
+        return Ok(false);
     }
+    let mut taking = Taking::open(alloc, config, notes, messages)?;
+    follow(&mut taking, order)
 }
 
 /// Whether entries can be taken in this order until none is left.

@@ -4,16 +4,23 @@
 
 mod audit_fault;
 mod auditing;
+mod auditor;
 mod certificate;
 mod checking;
 mod listing;
 mod message;
+mod notes;
 mod replay;
-mod sends;
 mod sent;
+mod sites;
+mod step;
+mod store;
 mod taking;
+mod whole;
+mod wrong;
 
 pub use audit_fault::AuditFault;
 pub use auditing::audit;
+pub use auditor::Auditor;
 pub use certificate::Certificate;
 pub use checking::check;

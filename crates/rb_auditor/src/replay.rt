@@ -1,107 +1,93 @@
-//! Histories, replayed by their sites.
-ghost use Rattle.std.specs.Prelude.{◌≡◌, ◌<◌, ◌++◌, ◌∷◌, [], IfOk, IfErr, MatchBool, length};
-ghost use Rattle.rb_money.specs.Settings.{IsConfigured};
-ghost use Rattle.rb_site.specs.Events.{first_site};
-ghost use Rattle.rb_site.specs.Seen.{IsReplayed, first_seen};
-ghost use Rattle.rb_auditor.specs.Findings.{IsReplay, lists_of};
-ghost use Rattle.rb_auditor.specs.Progress.{AreSends, IsTaking, IsWrongFound, first_progress};
-ghost use Rattle.rb_auditor.specs.Replays.{RecordsEntry, IsWrongIn, sends_by, seen_at};
+//! One entry more of a history, replayed by its site.
+ghost use Rattle.std.specs.Prelude.{◌≡◌, ◌++◌, ◌∷◌, [], IfOk, OnOk, OnErr, MatchBool};
+ghost use Rattle.rb_site.specs.Seen.{IsReplayed};
+ghost use Rattle.rb_auditor.specs.Kept.{AreNotes, IsMore, IsPlaced, IsStepOf, entries_noted};
+ghost use Rattle.rb_auditor.specs.Replays.{RecordsEntry, seen_at};
 
-use crate::AuditFault;
-use crate::sends::Sends;
-use rb_money::Config;
-use rb_site::{Entry, ErasedEntry, History, Message, Site};
-use std::alloc::{AllocError, Global};
+use crate::notes::Notes;
+use crate::step::Step;
+use crate::store::Store;
+use rb_site::{Entry, ErasedEntry, Event, Message, Site};
+use std::alloc::AllocError;
 
-/// What each entry of each history sends, one history for each site, if these record them all. They are replayed from
-/// site 0 on. Else `WrongReply`, or `OutOfMemory`.
-pub fn replay_all(
-    alloc: Global,
-    config: &Config,
-    histories: &[History],
-) -> Result<Vec<Sends>, AuditFault>
-    requires { length histories.now ≡ config.now.sites }
-    ensures replays { IfOk result (λ _. IsTaking (first_progress config.now (lists_of histories.now))) }
-    ensures sends { IfOk result (λ sends. AreSends config.now (lists_of histories.now) sends.items) }
-    ensures wrong { IfErr result (IsWrongFound config.now (lists_of histories.now)) }
-{
-    let sites = config.sites();
-    let mut sends = Vec::new(alloc);
-    if sends.reserve(sites as usize).is_err() {
-        return Err(AuditFault::OutOfMemory);
-    }
-    for site in 0..sites {
-        match replay(alloc, config, site, histories[site as usize].as_slice()) {
-            Ok(posted) => sends.push_reserved(posted),
-            Err(fault) => return Err(fault),
-        }
-    }
-    Ok(sends)
-}
-
-/// What each entry of a history sends, if the site of this number records them all. Else `WrongReply`, or
-/// `OutOfMemory`.
-fn replay(alloc: Global, config: &Config, me: u8, history: &[Entry]) -> Result<Sends, AuditFault>
-    requires me { me < config.now.sites }
-    requires configured { IsConfigured config.now }
-    ensures replays { IfOk result (λ sends. IsReplay config.now me history.now) }
-    ensures sends { IfOk result (λ sends. sends ≡ sends_by config.now (first_site me) history.now) }
-    ensures wrong { IfErr result (λ fault. IsWrongIn config.now me history.now fault) }
-{
-    let mut site = match Site::open_keeping(alloc, config, me) {
-        Ok(site) => site,
-        Err(_) => return Err(AuditFault::OutOfMemory),
-    };
-    let sends = note_all(alloc, config, &mut site, history);
-    site.end();
-    sends
-}
-
-/// What each entry sends, if the site records them all.
-fn note_all(
-    alloc: Global,
-    config: &Config,
+/// Takes the next entry of the site's history. `Err` means out of memory, and takes nothing.
+pub fn take_entry(
     site: &mut Site<ErasedEntry>,
-    history: &[Entry],
-) -> Result<Sends, AuditFault>
-    requires site { site.old ≡ first_seen config.now site.old.me }
-    requires configured { IsConfigured config.now }
-    ensures replays { IfOk result (λ sends. IsReplay config.now site.old.me history.now) }
-    ensures sends { IfOk result (λ sends. sends ≡ sends_by config.now (first_site site.old.me) history.now) }
-    ensures wrong { IfErr result (λ fault. IsWrongIn config.now site.old.me history.now fault) }
+    notes: &mut Notes,
+    entry: &Entry,
+    store: &mut Store,
+) -> Result<(), AllocError>
+    requires { AreNotes site.old.settings site.old.me site.old notes.old store.old.messages.items }
+    ensures more { IsMore store.old.messages.items store.new.messages.items }
+    ensures notes { AreNotes site.old.settings site.old.me site.new notes.new store.new.messages.items }
+    ensures ok { OnOk result (entries_noted notes.new ≡ entries_noted notes.old ++ entry.now ∷ []) }
+    ensures err { OnErr result (entries_noted notes.new ≡ entries_noted notes.old) }
 {
-    let me = site.me();
-    let mut messages = Vec::new(alloc);
-    let mut ends = Vec::new(alloc);
-    if ends.reserve(history.len() + 1).is_err() {
-        return Err(AuditFault::OutOfMemory);
+    notes.reserve()?;
+    if !notes.are_whole() {
+        notes.add(entry, None);
+        return Ok(());
     }
-    ends.push_reserved(0);
-    for (k, entry) in history.iter().enumerate() {
-        let Ok(noted) = note(site, entry, &mut messages) else {
-            return Err(AuditFault::OutOfMemory);
-        };
-        if !noted {
-            return Err(AuditFault::WrongReply {
-                site: me,
-                event: k as u32 + 1,
-            });
-        }
-        ends.push_reserved(messages.len() as u32);
-    }
-    Ok(Sends::new(messages, ends))
+    let step = step_of(site, entry, store)?;
+    notes.add(entry, step);
+    Ok(())
 }
 
-/// Whether the site records the entry. What it sends goes to the end of the messages.
+/// What the entry does with messages, if the site records it. Those that it sends come to the end of the store. `Err`
+/// means out of memory: the site is then as before.
+fn step_of(
+    site: &mut Site<ErasedEntry>,
+    entry: &Entry,
+    store: &mut Store,
+) -> Result<Option<Step>, AllocError>
+    requires { IsReplayed site.old }
+    ensures more { IsMore store.old.messages.items store.new.messages.items }
+    ensures step { IfOk result (λ step. IsStepOf site.old site.new entry.now store.new.messages.items step) }
+    ensures err { OnErr result (site.new ≡ site.old) }
+    ensures same { (site.new.settings ≡ site.old.settings) × (site.new.me ≡ site.old.me) }
+{
+    let place = place_of(&entry.event, store)?;
+    let first = store.next()?;
+    if !note(site, entry, &mut store.messages)? {
+        return Ok(None);
+    }
+    store.list(first);
+    let count = store.messages.len() - first as usize;
+    Ok(Some(match place {
+        Some(at) => Step::Receives { at },
+        None if count == 0 => Step::Alone,
+        None => Step::Sends {
+            count: count as u8,
+            at: first,
+        },
+    }))
+}
+
+/// The place of the message that the event receives, if it is a receipt. `Err` means out of memory.
+fn place_of(event: &Event, store: &mut Store) -> Result<Option<u32>, AllocError>
+    ensures more { IsMore store.old.messages.items store.new.messages.items }
+    ensures place { IfOk result (IsPlaced store.new.messages.items event.now) }
+{
+    match event {
+        Event::Receive(message) => Ok(Some(store.place(message)?)),
+        _ => Ok(None),
+    }
+}
+
+/// Whether the site records the entry. What it sends goes to the end of the messages. `Err` means out of memory: the
+/// site and the messages are then as before.
 fn note(
     site: &mut Site<ErasedEntry>,
     entry: &Entry,
     messages: &mut Vec<Message>,
 ) -> Result<bool, AllocError>
     requires { IsReplayed site.old }
-    ensures { IfOk result (λ noted. MatchBool noted
+    ensures noted { IfOk result (λ noted. MatchBool noted
         (RecordsEntry site.old site.new entry.now messages.old.items messages.new.items)
         (¬ IsReplayed (seen_at site.old.settings site.old.me (site.old.entries ++ entry.now ∷ [])))) }
+    ensures more { IsMore messages.old.items messages.new.items }
+    ensures err { OnErr result (site.new ≡ site.old) }
+    ensures same { (site.new.settings ≡ site.old.settings) × (site.new.me ≡ site.old.me) }
 {
     if site.is_full() {
         return Ok(false);

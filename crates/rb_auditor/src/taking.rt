@@ -1,14 +1,14 @@
 //! Entries of histories, taken one after another.
-ghost use Rattle.std.specs.Prelude.{◌≡◌, ◌+◌, ◌<◌, ◌↔◌, IsTrue, IfOk, OnErr, MatchBool, length, map};
-ghost use Rattle.rb_auditor.specs.Findings.{lists_of};
-ghost use Rattle.rb_site.specs.Histories.{IsFrom};
-ghost use Rattle.rb_auditor.specs.Progress.{AreSends, IsDone, IsLeft, IsTaking, Rests, Took, first_progress};
+ghost use Rattle.std.specs.Prelude.{◌≡◌, ◌+◌, ◌<◌, ◌↔◌, IsTrue, IfOk, OnErr, MatchBool, length, map, option_map};
+ghost use Rattle.rb_auditor.specs.Kept.{AreJudged, AreWhole, IsTakenAs, HasPlaces, histories_in};
+ghost use Rattle.rb_auditor.specs.Progress.{IsDone, IsLeft, IsTaking, Rests, Took, first_progress};
 
 use crate::Certificate;
-use crate::sends::Sends;
+use crate::notes::Notes;
 use crate::sent::Sent;
+use crate::step::Step;
 use rb_money::Config;
-use rb_site::{Event, History};
+use rb_site::Message;
 use std::alloc::{AllocError, Global};
 use std::marker::Model;
 
@@ -17,9 +17,9 @@ use std::marker::Model;
 #[derive(Drop)]
 pub struct Taking<'a> {
     config: &'a Config,
-    histories: &'a [History],
-    // What each entry of each history sends.
-    sends: &'a [Sends],
+    notes: &'a [Notes],
+    // Those that the steps of the notes speak of.
+    messages: &'a [Message],
     order: Vec<u8>,
     // How many entries of each history were taken.
     taken: Vec<usize>,
@@ -29,14 +29,14 @@ pub struct Taking<'a> {
 
 impl<'a> Model for Taking<'a> {
     ghost use Rattle.rb_money.specs.Settings.{IsConfigured};
-    ghost use Rattle.rb_auditor.specs.Findings.{lists_of};
-    ghost use Rattle.rb_auditor.specs.Progress.{AreSends, IsTaking, Progress};
+    ghost use Rattle.rb_auditor.specs.Kept.{AreJudged, AreWhole, histories_in};
+    ghost use Rattle.rb_auditor.specs.Progress.{IsTaking, Progress};
 
     ghost Value = { Progress };
 
     ghost view = { λ t. record {
       settings = t.config.now;
-      histories = lists_of t.histories.now;
+      histories = histories_in t.notes.now;
       order = t.order.items;
       taken = t.taken.items;
       messages = t.sent;
@@ -44,35 +44,35 @@ impl<'a> Model for Taking<'a> {
 
     ghost invariant = { λ t. IsTaking (record {
       settings = t.config.now;
-      histories = lists_of t.histories.now;
+      histories = histories_in t.notes.now;
       order = t.order.items;
       taken = t.taken.items;
       messages = t.sent;
     })
-        × AreSends t.config.now (lists_of t.histories.now) t.sends.now
+        × AreJudged t.config.now t.notes.now t.messages.now
+        × AreWhole t.notes.now
         × IsConfigured t.config.now };
 }
 
 impl<'a> Taking<'a> {
-    /// Histories, one for each site, which their sites record, and what each of their entries sends. No entry is
-    /// taken yet.
+    /// What is kept of histories, one for each site, all of whose entries their sites record. No entry is taken yet.
     pub fn open(
         alloc: Global,
         config: &'a Config,
-        histories: &'a [History],
-        sends: &'a [Sends],
+        notes: &'a [Notes],
+        messages: &'a [Message],
     ) -> Result<Taking<'a>, AllocError>
-        requires replayed { IsTaking (first_progress config.now (lists_of histories.now)) }
-        requires sends { AreSends config.now (lists_of histories.now) sends.now }
-        ensures { IfOk result (λ taking. taking ≡ first_progress config.now (lists_of histories.now)) }
+        requires judged { AreJudged config.now notes.now messages.now }
+        requires whole { AreWhole notes.now }
+        ensures { IfOk result (λ taking. taking ≡ first_progress config.now (histories_in notes.now)) }
     {
         let sent = Sent::new(alloc, config.sites())?;
         let mut taken = Vec::new(alloc);
-        taken.resize(histories.len(), 0)?;
+        taken.resize(notes.len(), 0)?;
         Ok(Taking {
             config,
-            histories,
-            sends,
+            notes,
+            messages,
             order: Vec::new(alloc),
             taken,
             sent,
@@ -89,15 +89,14 @@ impl<'a> Taking<'a> {
         ensures err { OnErr result (self.new ≡ self.old) }
     {
         let taken = self.taken[site];
-        let Some(entry) = self.histories[site].get(taken) else {
+        let Some(step) = self.notes[site].steps.get(taken) else {
             return Ok(false);
         };
-        if !may_come(&self.sent, &entry.event) {
+        let Some(posted) = moved(&self.sent, self.messages, *step) else {
             return Ok(false);
-        }
+        };
         self.order.reserve(1)?;
-        let sends = self.sends;
-        self.sent.add_all(sends[site].after(taken))?;
+        self.sent.add_all(posted)?;
         self.taken[site] = taken + 1;
         self.order.push_reserved(site as u8);
         Ok(true)
@@ -108,7 +107,7 @@ impl<'a> Taking<'a> {
         ensures sites { result ≡ length self.now.histories }
         ensures taking { IsTaking self.now }
     {
-        self.histories.len()
+        self.notes.len()
     }
 
     /// Whether all entries were taken. Those that were are in an order that certifies them.
@@ -116,8 +115,8 @@ impl<'a> Taking<'a> {
         ensures done { MatchBool result (IsDone self.now) (IsLeft self.now) }
         ensures taking { IsTaking self.now }
     {
-        for site in 0..self.histories.len() {
-            if self.taken[site] < self.histories[site].len() {
+        for site in 0..self.notes.len() {
+            if self.taken[site] < self.notes[site].steps.len() {
                 return false;
             }
         }
@@ -141,8 +140,8 @@ impl<'a> Taking<'a> {
     {
         let Taking {
             config: _,
-            histories: _,
-            sends: _,
+            notes: _,
+            messages: _,
             order,
             taken: _,
             sent: _,
@@ -151,12 +150,23 @@ impl<'a> Taking<'a> {
     }
 }
 
-/// Whether the event is no receipt, or that of a message that was sent.
-fn may_come(sent: &Sent<'_>, event: &Event) -> bool
-    ensures { IsTrue result ↔ IsFrom sent.now event.now }
+/// What an entry sends, by its step, where it isn't the receipt of a message that wasn't sent.
+fn moved<'a>(sent: &Sent<'_>, messages: &'a [Message], step: Step) -> Option<&'a [Message]>
+    requires { HasPlaces messages.now step }
+    ensures { IsTakenAs sent.now messages.entry.now step (option_map (λ posted. posted.now) result) }
 {
-    match event {
-        Event::Receive(message) => sent.has(message),
-        _ => true,
+    match step {
+        Step::Alone => Some(&[]),
+        Step::Receives { at } => {
+            if sent.has(&messages[at as usize]) {
+                Some(&[])
+            } else {
+                None
+            }
+        }
+        Step::Sends { count, at } => {
+            let first = at as usize;
+            Some(&messages[first..first + count as usize])
+        }
     }
 }

@@ -3,9 +3,7 @@ use Rattle.std.proofs.Common.{◌≡◌, ◌<◌, ◌≤◌, ◌+◌, ◌⊎◌,
 use Rattle.std.proofs.Common.{Ok, Err, refl, sym, ap, ◌∙◌, rules, subst, append-nil, append_assoc}
 use Rattle.std.specs.Prelude.{IfSome}
 use Rattle.std.specs.Io.KnownBytes.{IsAtEnd}
-use Rattle.rb_money.specs.Settings.{Settings}
-use Rattle.rb_site.specs.declared.entry.Entry.{Entry}
-use Rattle.rb_auditor.specs.Findings.{lists_of}
+use Rattle.rb_auditor.specs.Audits.{Audited}
 use Rattle.rb_lines.specs.Buffers.{Reads}
 use Rattle.rb_lines.specs.Lines.{lines_of, is_long, line_len}
 use Rattle.rb_lines.specs.declared.limits.TheConstants.{LINE_LIMIT}
@@ -31,11 +29,11 @@ FollowsKnown None now c p e = Unit {0}
 FollowsKnown (Some all) None c p e = ⊥
 FollowsKnown (Some all) (Some rest) c p e = Follows all c p rest e
 
-at_first : (c : Collected) (ls : List (List ℕ)) → c.config ≡ None → c.number ≡ 1 → input_from 1 ls ≡ input_rest c ls
+at_first : (c : Collected) (ls : List (List ℕ)) → c.auditor ≡ None → c.number ≡ 1 → input_from 1 ls ≡ input_rest c ls
 at_first c ls none one = rw (none, one) refl
 
 -- at first no line was taken
-pub known_start : (a : Option (List ℕ)) (c : Collected) (p : List ℕ) (e : Bool) → (c.config ≡ None) × (c.number ≡ 1) → p ≡ [] → e ≡ false
+pub known_start : (a : Option (List ℕ)) (c : Collected) (p : List ℕ) (e : Bool) → (c.auditor ≡ None) × (c.number ≡ 1) → p ≡ [] → e ≡ false
     → FollowsKnown a a c p e
 known_start None c p e first none going = tt
 known_start (Some all) c p e first none going = record {
@@ -84,10 +82,10 @@ known_end (Some all) None c p e f none end = absurd f
 known_end (Some all) (Some x) c p e f none end =
     (input_is f.done [] _ c f.input (walk.at_end all f.done p x e f.walks none end ∙ sym (append-nil f.done)), ap Some end)
 
-long_of : (m : Option Settings) (hs : List (List Entry)) (n : ℕ) (l : List ℕ) (ls : List (List ℕ)) → is_long l ≡ true
-    → input_rest_from m hs n (l ∷ ls) ≡ Err (LongLine n)
-long_of None hs n l ls h = rw h refl
-long_of (Some m) hs n l ls h = rw h refl
+long_of : (m : Option Audited) (n : ℕ) (l : List ℕ) (ls : List (List ℕ)) → is_long l ≡ true
+    → input_rest_from m n (l ∷ ls) ≡ Err (LongLine n)
+long_of None n l ls h = rw h refl
+long_of (Some m) n l ls h = rw h refl
 
 -- the next line is too long
 pub known_long : (a b : Option (List ℕ)) (c : Collected) (p : List ℕ) (e : Bool) → FollowsKnown a b c p e → LINE_LIMIT < line_len p
@@ -98,13 +96,13 @@ known_long (Some all) (Some x) c p e f h =
     let (l, more, first, longer) = long_line p x LINE_LIMIT h in
     let is : is_long l ≡ true = search rules in (
       input_is f.done (l ∷ more) _ c f.input (f.walks.lines ∙ ap (λ y. f.done ++ y) first)
-          ∙ long_of c.config (lists_of c.histories.items) c.number l more is,
+          ∙ long_of c.auditor c.number l more is,
       refl,
     )
 
-unfinished : (m : Option Settings) (hs : List (List Entry)) (n : ℕ) → IsUnfinishedInput (input_rest_from m hs n [])
-unfinished None hs n = tt
-unfinished (Some m) hs n = tt
+unfinished : (m : Option Audited) (n : ℕ) → IsUnfinishedInput (input_rest_from m n [])
+unfinished None n = tt
+unfinished (Some m) n = tt
 
 -- no more is read
 pub known_stop : (a b : Option (List ℕ)) (c : Collected) (p : List ℕ) (e : Bool) → FollowsKnown a b c p e → e ≡ false
@@ -120,7 +118,7 @@ known_stop (Some all) (Some x) c p e f going none = (
     unfinished =
         subst IsUnfinishedInput
         (sym (input_is f.done [] _ c f.input (walk.at_rest all f.done p x e f.walks going none ∙ sym (append-nil f.done))))
-        (unfinished c.config (lists_of c.histories.items) c.number);
+        (unfinished c.auditor c.number);
   },
   refl,
 )

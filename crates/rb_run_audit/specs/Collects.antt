@@ -1,24 +1,22 @@
 -- How far the lines of an audit were collected.
 use Rattle.std.specs.Prelude.{◌≡◌, ℕ, ◌+◌, List, ◌∷◌, Option, Some, None, Result, Err, length}
-use Rattle.rb_money.specs.Settings.{Settings}
-use Rattle.rb_site.specs.declared.entry.Entry.{Entry}
-use Rattle.rb_auditor.specs.Findings.{lists_of}
+use Rattle.rb_auditor.specs.Audits.{Audited}
 use Rattle.rb_lines.specs.declared.fault.StreamFault.{StreamFault}
 use Rattle.rb_lines.specs.declared.fault.StreamFault.TheVariants.{NoConfig, BadConfig, BadLine, LongLine, Read, Write, OutOfMemory}
 use Rattle.rb_run_audit.specs.declared.collected.Collected.{Collected}
 use Rattle.rb_run_audit.specs.Inputs.{Input, input_after, input_from}
 
 -- what the lines to come make of the input: before the configuration and after it
-abbrev pub input_rest_from : Option Settings → List (List Entry) → ℕ → List (List ℕ) → Result Input StreamFault
-input_rest_from None hs n ls = input_from n ls
-input_rest_from (Some s) hs n ls = input_after s hs n ls
+abbrev pub input_rest_from : Option Audited → ℕ → List (List ℕ) → Result Input StreamFault
+input_rest_from None n ls = input_from n ls
+input_rest_from (Some a) n ls = input_after a.settings a.histories n ls
 
 abbrev pub input_rest : Collected → List (List ℕ) → Result Input StreamFault
-input_rest c ls = input_rest_from c.config (lists_of c.histories.items) c.number ls
+input_rest c ls = input_rest_from c.auditor c.number ls
 
 -- there is one history for each site of the configuration
 abbrev pub HasEachSite : Collected → Type 0
-HasEachSite c = (s : Settings) → c.config ≡ Some s → length c.histories.items ≡ s.sites
+HasEachSite c = (a : Audited) → c.auditor ≡ Some a → length a.histories ≡ a.settings.sites
 
 -- one line was taken
 pub record Takes (old new : Collected) (l : List ℕ) : Type 0 where

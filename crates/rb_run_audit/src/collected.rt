@@ -1,27 +1,26 @@
 //! The lines of an audit, one at a time.
-ghost use Rattle.std.specs.Prelude.{◌≡◌, ◌^◌, ◌<◌, ◌≤◌, ◌⊎◌, [], None, Some, length, replicate, IfOk, MatchResult};
+ghost use Rattle.std.specs.Prelude.{◌≡◌, ◌^◌, ◌<◌, ◌≤◌, ◌⊎◌, ℕ, [], ◌∷◌, None, Some, length, replicate, MatchResult};
 ghost use Rattle.rb_money.specs.Settings.{Settings};
-ghost use Rattle.rb_auditor.specs.Findings.{lists_of};
+ghost use Rattle.rb_auditor.specs.Audits.{Audited, HasMore};
 ghost use Rattle.rb_commands.specs.Configurations.{config_on};
+ghost use Rattle.rb_site.specs.declared.entry.Entry.{Entry as TheEntry};
 ghost use Rattle.rb_history.specs.Entries.{entry_on};
 ghost use Rattle.rb_commands.specs.declared.fault.LineFault.TheVariants.{Bad};
 ghost use Rattle.rb_lines.specs.declared.limits.TheConstants.{LINE_LIMIT};
 ghost use Rattle.rb_run_audit.specs.Collects.{InputEndsAt, HasEachSite, Takes};
-ghost use Rattle.rb_run_audit.specs.Inputs.{with_entry};
 
+use rb_auditor::Auditor;
 use rb_commands::{LineFault, read_config};
 use rb_history::read_line;
 use rb_lines::{StreamFault, is_blank, text_on};
 use rb_money::Config;
-use rb_site::{Entry, History};
-use std::alloc::{AllocError, Global};
+use rb_site::Entry;
+use std::alloc::Global;
 
-/// What was collected of an audit's lines: the configuration once there is one, then each site's history, and the
-/// number of the next line, from 1.
-#[derive(Drop)]
+/// What was collected of an audit's lines: once there is a configuration its auditor, which has read each entry so far,
+/// and the number of the next line, from 1. It can't be dropped: it ends, or gives its auditor.
 pub struct Collected {
-    pub config: Option<Config>,
-    pub histories: Vec<History>,
+    pub auditor: Option<Auditor>,
     pub number: u64,
 }
 
@@ -51,37 +50,24 @@ fn entry_of(alloc: Global, config: &Config, line: &[u8]) -> Result<(u8, Entry), 
     read_line(alloc, config, text)
 }
 
-/// As many histories without entries as there are sites. `Err` means out of memory.
-fn none_recorded(alloc: Global, sites: u8) -> Result<Vec<History>, AllocError>
-    ensures { IfOk result (λ histories. lists_of histories.items ≡ replicate sites []) }
-{
-    let mut histories = Vec::new(alloc);
-    histories.reserve(sites as usize)?;
-    for _site in 0..sites {
-        histories.push_reserved(Vec::new(alloc));
-    }
-    Ok(histories)
-}
-
 impl Collected {
     /// Before the first line.
-    pub fn new(alloc: Global) -> Collected
-        ensures config { result.config ≡ None }
+    pub fn new() -> Collected
+        ensures auditor { result.auditor ≡ None }
         ensures number { result.number ≡ 1 }
     {
         Collected {
-            config: None,
-            histories: Vec::new(alloc),
+            auditor: None,
             number: 1,
         }
     }
 
-    /// Takes the line of the configuration: the histories of its sites come next.
+    /// Takes the line of the configuration: the entries of its sites come next.
     fn take_config(&mut self, alloc: Global, number: u64, line: &[u8]) -> Result<(), StreamFault>
         ensures number { self.new.number ≡ self.old.number }
         ensures taken { MatchResult result
-            (λ _. (s : Settings) × (config_on line.now ≡ Some s) × (self.new.config ≡ Some s)
-            × (lists_of self.new.histories.items ≡ replicate s.sites []))
+            (λ _. (s : Settings) × (config_on line.now ≡ Some s) × (a : Audited) × (self.new.auditor ≡ Some a)
+            × (a.settings ≡ s) × (a.histories ≡ replicate s.sites []))
             (λ fault. (fault ≡ StreamFault.OutOfMemory)
             ⊎ ((fault ≡ StreamFault.BadConfig number) × (config_on line.now ≡ None))) }
     {
@@ -90,23 +76,10 @@ impl Collected {
             Err(LineFault::Bad) => return Err(StreamFault::BadConfig { line: number }),
             Err(LineFault::OutOfMemory) => return Err(StreamFault::OutOfMemory),
         };
-        self.histories = none_recorded(alloc, config.sites())?;
-        self.config = Some(config);
-        Ok(())
-    }
-
-    /// Takes the line of an entry: it comes to the end of its site's history.
-    fn take_entry(&mut self, site: u8, entry: Entry) -> Result<(), StreamFault>
-        requires { site < length self.old.histories.items }
-        ensures config { self.new.config ≡ self.old.config }
-        ensures number { self.new.number ≡ self.old.number }
-        ensures noted { MatchResult result
-            (λ _. lists_of self.new.histories.items ≡ with_entry site entry (lists_of self.old.histories.items))
-            (λ fault. fault ≡ StreamFault.OutOfMemory) }
-    {
-        let history = &mut self.histories[site as usize];
-        history.reserve(1)?;
-        history.push_reserved(entry);
+        let auditor = Auditor::open(alloc, config)?;
+        if let Some(before) = self.auditor.replace(auditor) {
+            before.end();
+        }
         Ok(())
     }
 
@@ -124,13 +97,45 @@ impl Collected {
         if is_blank(line) {
             return Ok(());
         }
-        let Some(config) = &self.config else {
+        let Some(auditor) = &mut self.auditor else {
             return self.take_config(alloc, number, line);
         };
-        match entry_of(alloc, config, line) {
-            Ok((site, entry)) => self.take_entry(site, entry),
-            Err(LineFault::Bad) => Err(StreamFault::BadLine { line: number }),
-            Err(LineFault::OutOfMemory) => Err(StreamFault::OutOfMemory),
+        take_entry(alloc, auditor, number, line)
+    }
+
+    /// The auditor, if there is a configuration.
+    pub fn into_auditor(self) -> Option<Auditor>
+        ensures { result ≡ self.auditor }
+    {
+        let Collected { auditor, number: _ } = self;
+        auditor
+    }
+
+    /// Ends what was collected.
+    pub fn end(self) {
+        if let Some(auditor) = self.into_auditor() {
+            auditor.end();
         }
+    }
+}
+
+/// Takes the line of an entry: the auditor reads it.
+fn take_entry(
+    alloc: Global,
+    auditor: &mut Auditor,
+    number: u64,
+    line: &[u8],
+) -> Result<(), StreamFault>
+    requires { length auditor.old.histories ≡ auditor.old.settings.sites }
+    ensures { MatchResult result
+        (λ _. (x : ℕ × TheEntry) × (entry_on auditor.old.settings line.now ≡ Some x)
+        × HasMore auditor.old auditor.new x.0 (x.1 ∷ []))
+        (λ fault. (fault ≡ StreamFault.OutOfMemory)
+        ⊎ ((fault ≡ StreamFault.BadLine number) × (entry_on auditor.old.settings line.now ≡ None))) }
+{
+    match entry_of(alloc, auditor.config(), line) {
+        Ok((site, entry)) => Ok(auditor.take(site, &entry)?),
+        Err(LineFault::Bad) => Err(StreamFault::BadLine { line: number }),
+        Err(LineFault::OutOfMemory) => Err(StreamFault::OutOfMemory),
     }
 }

@@ -20,7 +20,7 @@ fn collect<S: Source, W: Sink>(
 ) -> Result<(), StreamFault>
     requires unread { S.calls reader.old ≡ 0 }
     requires fresh { W.failed writer.old ≡ false }
-    requires first { (collected.old.config ≡ None) × (collected.old.number ≡ 1) }
+    requires first { (collected.old.auditor ≡ None) × (collected.old.number ≡ 1) }
     ensures written { Appends (W.contents writer.old) (W.contents writer.new) [] }
     ensures fresh { W.failed writer.new ≡ false }
     ensures each { OnOk result (HasEachSite collected.new) }
@@ -70,12 +70,15 @@ pub fn run_audit<S: Source, W: Sink>(
     // There are up to `MOST_READS` reads, whatever is answered.
     ensures calls { S.calls reader.new ≤ S.calls reader.old + MOST_READS }
 {
-    let mut collected = Collected::new(alloc);
-    collect(alloc, reader, writer, &mut collected)?;
-    let Some(config) = &collected.config else {
+    let mut collected = Collected::new();
+    if let Err(fault) = collect(alloc, reader, writer, &mut collected) {
+        collected.end();
+        return Err(fault);
+    }
+    let Some(auditor) = collected.into_auditor() else {
         return Err(StreamFault::NoConfig);
     };
-    let (found, line) = answer(alloc, config, collected.histories.as_slice())?;
+    let (found, line) = answer(alloc, auditor)?;
     write_all(writer, line.as_slice())?;
     Ok(found)
 }

@@ -3,11 +3,12 @@ use Rattle.std.proofs.Common.{◌∙◌, refl, sym}
 use Rattle.rb_auditor.proofs.Replaying
 use Rattle.rb_auditor.proofs.replay.note.Goals as goal
 
-pub returns-then-is_full : goal.returns-then-is_full
-returns-then-is_full c = Replaying.full_is_wrong c.args.site.now c.args.entry.now c.requires (sym c.is_full.ensures ∙ c.if-is_full.true)
+pub returns-then-is_full-clause-noted : goal.returns-then-is_full-clause-noted
+returns-then-is_full-clause-noted c =
+    Replaying.full_is_wrong c.args.site.now c.args.entry.now c.requires (sym c.is_full.ensures ∙ c.if-is_full.true)
 
-pub returns : goal.returns
-returns c = Replaying.noted_or_not c.same.result c.args.site.now c.«record».new.self c.args.entry.now.event c.args.entry.now
+pub returns-clause-noted : goal.returns-clause-noted
+returns-clause-noted c = Replaying.noted_or_not c.same.result c.args.site.now c.«record».new.self c.args.entry.now.event c.args.entry.now
     c.in_ok-reply.reply c.args.messages.now.items c.«record».new.sent.items
     c.requires (sym c.is_full.ensures ∙ c.if-is_full.false) (c.in_ok-reply.ensures.ok).0 (c.in_ok-reply.ensures.ok).1 c.same.ensures
     refl (c.in_ok-reply.ensures.ok).2

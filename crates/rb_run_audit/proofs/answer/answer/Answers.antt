@@ -1,6 +1,6 @@
 use Rattle.std.proofs.Common.{inl, inr, ap, subst, ◌∙◌}
 use Rattle.rb_history.specs.Verdicts.{order_json, stuck_json, verdict_line}
-use Rattle.rb_auditor.specs.Findings.{IsFound, Refutes, lists_of}
+use Rattle.rb_auditor.specs.Findings.{IsFound, Refutes}
 use Rattle.rb_run_audit.proofs.answer.answer.Goals as goal
 
 pub returns-in_ok-order_line-in-Ok : goal.returns-in_ok-order_line-in-Ok
@@ -13,10 +13,10 @@ returns-in_ok-order_line-in-Ok c = record {
 pub returns-in_ok-wrong_reply_line-in-Err-WrongReply : goal.returns-in_ok-wrong_reply_line-in-Err-WrongReply
 returns-in_ok-wrong_reply_line-in-Err-WrongReply c =
     let found =
-    subst (IsFound c.args.config.now (lists_of c.args.histories.now)) c.in-Err-WrongReply.field-0-is
+    subst (IsFound c.args.auditor.settings c.args.auditor.histories) c.in-Err-WrongReply.field-0-is
     c.in-Err-WrongReply.ensures.found in
     let refuted =
-    subst (Refutes c.args.config.now (lists_of c.args.histories.now)) c.in-Err-WrongReply.field-0-is
+    subst (Refutes c.args.auditor.settings c.args.auditor.histories) c.in-Err-WrongReply.field-0-is
     c.in-Err-WrongReply.ensures.refuted in (
       refuted,
       inl (record {
@@ -29,9 +29,9 @@ returns-in_ok-wrong_reply_line-in-Err-WrongReply c =
 
 pub returns-in_ok-stuck_line-in-Err-Stuck : goal.returns-in_ok-stuck_line-in-Err-Stuck
 returns-in_ok-stuck_line-in-Err-Stuck c =
-    let found = subst (IsFound c.args.config.now (lists_of c.args.histories.now)) c.in-Err-Stuck.field-0-is c.in-Err-Stuck.ensures.found in
+    let found = subst (IsFound c.args.auditor.settings c.args.auditor.histories) c.in-Err-Stuck.field-0-is c.in-Err-Stuck.ensures.found in
     let refuted =
-    subst (Refutes c.args.config.now (lists_of c.args.histories.now)) c.in-Err-Stuck.field-0-is c.in-Err-Stuck.ensures.refuted in (
+    subst (Refutes c.args.auditor.settings c.args.auditor.histories) c.in-Err-Stuck.field-0-is c.in-Err-Stuck.ensures.refuted in (
       refuted,
       inr (record {
         next = c.in-Err-Stuck.next.items;

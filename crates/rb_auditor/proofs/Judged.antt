@@ -1,0 +1,198 @@
+-- Histories of which it is known what each entry does with messages.
+use Rattle.std.proofs.Common.{◌≡◌, ℕ, zero, suc, ◌+◌, ◌-◌, ◌<◌, ◌≤◌, List, [], ◌∷◌, length, take, get_or, refl}
+use Rattle.std.proofs.Common.{ap, sym, subst, ◌∙◌, inl, inr}
+use Rattle.std.proofs.Common.{arith, drop, Some, None}
+use Rattle.std.specs.Prelude.{slice_get, option_map}
+use Rattle.std.proofs.lemmas.List.{length-map, length-take-le, take_all}
+use Rattle.std.proofs.lemmas.Option.{slice_get-map, slice_get_read, slice_get_within}
+use Rattle.rb_money.specs.declared.limits.TheConstants.{MOST_HISTORY}
+use Rattle.rb_money.specs.Settings.{IsConfigured, Settings}
+use Rattle.rb_site.specs.declared.entry.Entry.{Entry}
+use Rattle.rb_site.specs.declared.event.Event.{Event}
+use Rattle.rb_site.specs.declared.event.Event.TheVariants.{Receive}
+use Rattle.rb_site.specs.declared.message.Message.{Message}
+use Rattle.rb_site.specs.Events.{sent_at}
+use Rattle.rb_site.specs.Histories.{IsAmong, IsFrom}
+use Rattle.rb_site.proofs.Public.Lists.{map_back}
+use Rattle.rb_site.proofs.Public.Places.{same_number}
+use Rattle.rb_auditor.specs.declared.notes.Notes.{Notes}
+use Rattle.rb_auditor.specs.declared.step.Step.{Step}
+use Rattle.rb_auditor.specs.declared.step.Step.TheVariants.{Alone, Receives, Sends}
+use Rattle.rb_auditor.specs.Findings.{IsFirstWrong, IsReplay}
+use Rattle.rb_auditor.specs.Kept.{AreJudged, HaveSteps, AreWhole, IsJudged, IsTakenAs, IsNoReceipt, IsStep}
+use Rattle.rb_auditor.specs.Kept.{HasPlaces, entries_noted, histories_in}
+use Rattle.rb_auditor.specs.Progress.{IsTaking, Progress, Rests, first_progress, site_after}
+use Rattle.rb_auditor.proofs.Lists
+use Rattle.rb_auditor.proofs.Resting
+use Rattle.rb_auditor.proofs.Takings
+
+-- ---- whole histories
+
+-- where each entry has a step, the site records all
+pub replays : (s : Settings) (i : ℕ) (n : Notes) (ms : List Message) → IsJudged s i n ms → length n.steps.items ≡ length (entries_noted n)
+    → IsReplay s i (entries_noted n)
+replays s i n ms j whole = subst (IsReplay s i) (take_all (length n.steps.items) (entries_noted n) (omega arith)) j.replays
+
+-- the notes of a history
+notes_of : (ns : List Notes) (i : ℕ) (h : List Entry) → slice_get (histories_in ns) i ≡ Some h
+    → (n : Notes) × (slice_get ns i ≡ Some n) × (entries_noted n ≡ h)
+notes_of ns i h at = let m = map_back entries_noted ns i h at in (m.0, m.1, sym m.2)
+
+-- before any entry is taken all is as a world could have it
+pub first_taken : (s : Settings) (ns : List Notes) (ms : List Message) → AreJudged s ns ms → AreWhole ns
+    → IsTaking (first_progress s (histories_in ns))
+first_taken s ns ms all whole =
+    Takings.first_taken s (histories_in ns) (length-map ns entries_noted ∙ all.notes) (λ i h at.
+    (let n = notes_of ns i h at in subst (IsReplay s i) n.2 (replays s i n.0 ms (all.each i n.0 n.1) (whole i n.0 n.1))))
+
+-- ---- the first entry that isn't recorded
+
+-- the entries of the histories below n all have a step
+abbrev pub WholeBelow : List Notes → ℕ → Type 0
+WholeBelow ns n = (i : ℕ) (m : Notes) → i < n → slice_get ns i ≡ Some m → length m.steps.items ≡ length (entries_noted m)
+
+-- one history more
+pub whole_more : (ns : List Notes) (k : ℕ) (n : Notes) → WholeBelow ns k → slice_get ns k ≡ Some n
+    → length n.steps.items ≡ length (entries_noted n) → WholeBelow ns (k + 1)
+whole_more ns k n old at whole i m less there = elim (same_number k i) [
+  | inl e ↦ (let same : n ≡ m = Lists.same_item (slice_get ns i) n m (ap (slice_get ns) e ∙ at) there in
+      subst (λ (z : Notes). length z.steps.items ≡ length (entries_noted z)) same whole)
+  | inr ne ↦ old i m (let q : i < k + 1 = less in omega (arith, ne)) there
+]
+
+-- where an entry has no step, and all have one below, it is the first that its site doesn't record
+pub wrong_found : (s : Settings) (ns : List Notes) (ms : List Message) (k : ℕ) (n : Notes) → AreJudged s ns ms → WholeBelow ns k
+    → slice_get ns k ≡ Some n → ¬ (length n.steps.items ≡ length (entries_noted n))
+    → IsFirstWrong s (histories_in ns) k (length n.steps.items + 1)
+wrong_found s ns ms k n all below at not = record {
+  below = λ i h less there.
+      (let m = notes_of ns i h there in
+      subst (IsReplay s i) m.2 (replays s i m.0 ms (all.each i m.0 m.1) (below i m.0 less m.1)));
+  history = entries_noted n;
+  there = slice_get-map entries_noted ns k ∙ ap (option_map entries_noted) at;
+  before = subst (λ l. IsReplay s k (take l (entries_noted n))) (let q : length n.steps.items ≡ length n.steps.items + 1 - 1 =
+      omega arith in q)
+      judged.replays;
+  wrong = judged.wrong (less (length n.steps.items) (length (entries_noted n)) judged.within not);
+}
+  where
+    judged : IsJudged s k n ms
+    judged = all.each k n at
+
+    less : (a b : ℕ) → a ≤ b → ¬ (a ≡ b) → a < b
+    less a b le ne = omega (arith, ne)
+
+-- what is read at a place of the notes
+pub notes_at : (s : Settings) (ns : List Notes) (ms : List Message) (k : ℕ) (n : Notes) → AreJudged s ns ms → k < s.sites
+    → n ≡ get_or ns k n → slice_get ns k ≡ Some n
+notes_at s ns ms k n all less is =
+    let many : length ns ≡ s.sites = all.notes in slice_get_read ns (length ns) k n refl (omega arith) is
+
+-- there are no more steps than a history may have entries
+pub steps_few : (s : Settings) (i : ℕ) (n : Notes) (ms : List Message) → IsConfigured s → IsJudged s i n ms
+    → length n.steps.items ≤ MOST_HISTORY
+steps_few s i n ms c j =
+    let taken : length (take (length n.steps.items) (entries_noted n)) ≡ length n.steps.items =
+    length-take-le (length n.steps.items) (entries_noted n) j.within in
+    let room : length (take (length n.steps.items) (entries_noted n)) ≤ s.limits.history = j.replays.room in
+    let most : s.limits.history ≤ MOST_HISTORY = c.history.1 in
+    omega arith
+
+-- ---- the next entry, as the code reads it
+
+-- what the code reads of a site: how many entries were taken, and the notes of the history
+pub record IsReadAt (p : Progress) (ms : List Message) (i t : ℕ) (n : Notes) : Type 0 where
+  pub there : slice_get p.histories i ≡ Some (entries_noted n)
+  pub at : slice_get p.taken i ≡ Some t
+  pub steps : HaveSteps p.settings i (entries_noted n) ms n.steps.items
+  pub whole : length n.steps.items ≡ length (entries_noted n)
+
+-- the code's value is p, which its client sees as q
+pub read : (p q : Progress) (ns : List Notes) (ms : List Message) (i t : ℕ) (n : Notes) → p ≡ q → p.histories ≡ histories_in ns
+    → IsTaking p → AreJudged p.settings ns ms → AreWhole ns → i < length q.histories → t ≡ get_or p.taken i t → n ≡ get_or ns i n
+    → IsReadAt p ms i t n
+read p q ns ms i t n same is v all whole less e f =
+    let seen : length q.histories ≡ length p.histories = ap (λ (r : Progress). length r.histories) (sym same) in
+    let many : length p.histories ≡ length ns = ap length is ∙ length-map ns entries_noted in
+    let here : slice_get ns i ≡ Some n = slice_get_read ns (length ns) i n refl (omega arith) f in
+    let counts : length p.taken ≡ length p.histories = v.counts in
+    record {
+      there = ap (λ hs. slice_get hs i) is ∙ slice_get-map entries_noted ns i ∙ ap (option_map entries_noted) here;
+      at = slice_get_read p.taken (length p.taken) i t refl (omega arith) e;
+      steps = (all.each i n here).steps;
+      whole = whole i n here;
+    }
+
+-- the same, where the place is one of the notes
+pub read_here : (p : Progress) (ns : List Notes) (ms : List Message) (i t : ℕ) (n : Notes) → p.histories ≡ histories_in ns
+    → IsTaking p → AreJudged p.settings ns ms → AreWhole ns → i < length ns → t ≡ get_or p.taken i t → n ≡ get_or ns i n
+    → IsReadAt p ms i t n
+read_here p ns ms i t n is v all whole less e f =
+    let many : length p.histories ≡ length ns = ap length is ∙ length-map ns entries_noted in
+    read p p ns ms i t n refl is v all whole (omega arith) e f
+
+-- a site rests whose entries were all taken
+pub rests_past : (p : Progress) (ms : List Message) (i t : ℕ) (n : Notes) → IsReadAt p ms i t n → length n.steps.items ≤ t → Rests p i
+rests_past p ms i t n r past =
+    Resting.rests_past p i t (entries_noted n) r.there r.at (let whole : length n.steps.items ≡ length (entries_noted n) = r.whole
+    in omega arith)
+
+-- the item at a place
+pub item : {A : Type 0} (xs : List A) (k : ℕ) → k < length xs → (x : A) × (slice_get xs k ≡ Some x)
+item [] k less = absurd (omega arith)
+item (x ∷ xs) zero less = (x, refl)
+item (x ∷ xs) (suc k) less = item xs k (omega arith)
+
+-- the next entry and its step
+pub record IsNextStep (p : Progress) (ms : List Message) (i t : ℕ) (n : Notes) (step : Step) : Type 0 where
+  pub entry : Entry
+  pub next : slice_get (entries_noted n) t ≡ Some entry
+  pub says : IsStep ms entry.event (sent_at p.settings (site_after p.settings i (take t (entries_noted n))) entry.event) step
+
+-- each step has an entry
+pub next_step : (p : Progress) (ms : List Message) (i t : ℕ) (n : Notes) (step : Step) → IsReadAt p ms i t n
+    → slice_get n.steps.items t ≡ Some step → IsNextStep p ms i t n step
+next_step p ms i t n step r at =
+    let less : t < length n.steps.items = slice_get_within n.steps.items t step at in
+    let whole : length n.steps.items ≡ length (entries_noted n) = r.whole in
+    let x = item (entries_noted n) t (omega arith) in
+    record { entry = x.0; next = x.1; says = r.steps t x.0 step x.1 at }
+
+-- the places of a step are among the messages
+pub step_within : (ms : List Message) (e : Event) (sent : List Message) (step : Step) → IsStep ms e sent step → HasPlaces ms step
+step_within ms e sent Alone h = tt
+step_within ms e sent (Receives at) ((m, is, there), none) = slice_get_within ms at m there
+step_within ms e sent (Sends count at) (own, fits, is) = fits
+
+-- an event that is no receipt may always come
+own_comes : (before : List Message) (e : Event) → IsNoReceipt e → IsFrom before e
+own_comes before (Receive m) h = absurd h
+own_comes before _ h = tt
+
+received : (before : List Message) (e : Event) (m : Message) → e ≡ Receive m → IsAmong m before → IsFrom before e
+received before e m is among = subst (IsFrom before) (sym is) among
+
+-- where the step says nothing that is sent, the entry can't come
+pub held : (before ms : List Message) (e : Event) (sent : List Message) (step : Step) → IsStep ms e sent step
+    → IsTakenAs before ms step None
+    → ¬ IsFrom before e
+held before ms e sent Alone h k come = cc
+held before ms e sent (Receives at) ((m, is, there), none) (n, here, not) come =
+    not (subst (λ z. IsAmong z before) (Lists.same_item (slice_get ms at) m n there here) (the (subst (IsFrom before) is come)))
+  where
+    the : IsFrom before (Receive m) → IsAmong m before
+    the h = h
+held before ms e sent (Sends count at) h k come = cc
+
+-- where it says what is sent, the entry may come, and sends that
+pub comes : (before ms : List Message) (e : Event) (sent : List Message) (step : Step) (posted : List Message) → IsStep ms e sent step
+    → IsTakenAs before ms step (Some posted) → IsFrom before e × (posted ≡ sent)
+comes before ms e sent Alone posted (own, none) k = (own_comes before e own, (let q : posted ≡ [] = cc in q) ∙ sym none)
+comes before ms e sent (Receives at) posted ((m, is, there), none) (n, here, among, nothing) = (
+  received before e m is (subst (λ z. IsAmong z before) (Lists.same_item (slice_get ms at) n m here there) among),
+  nothing ∙ sym none,
+)
+comes before ms e sent (Sends count at) posted (own, fits, is) k = (own_comes before e own, same ∙ sym is)
+  where
+    same : posted ≡ take count (drop at ms)
+    same = cc

@@ -1,0 +1,375 @@
+-- What is kept of histories, as entries are read.
+use Rattle.std.proofs.Common.{◌≡◌, ℕ, ◌+◌, ◌<◌, ◌≤◌, List, [], ◌∷◌, ◌++◌, length, take, refl, ap, sym, subst, ◌∙◌, inl, inr, arith}
+use Rattle.std.proofs.Common.{Bool, IsTrue, true, false, Option, Some, None, length-append}
+use Rattle.std.proofs.Common.{zero, suc, get_or, Result, Ok, Err}
+use Rattle.std.specs.Prelude.{slice_get, slice_set, map, replicate, option_map, OnOk, OnErr}
+use Rattle.std.specs.List.{range_with_len}
+use Rattle.std.specs.declared.alloc.AllocError.{AllocError}
+use Rattle.std.proofs.lemmas.Option.{slice_get-map, slice_get_read, slice_get_within}
+use Rattle.std.proofs.lemmas.List.FromFn.{length-range_with_len}
+use Rattle.std.proofs.lemmas.List.{length-map, length-set, map-set, take-append-le, take_all}
+use Rattle.rb_money.specs.Settings.{Settings}
+use Rattle.rb_site.specs.declared.entry.Entry.{Entry}
+use Rattle.rb_site.specs.declared.message.Message.{Message}
+use Rattle.rb_site.specs.Events.{sent_at}
+use Rattle.rb_site.specs.Seen.{IsReplayed, SeenSite, first_seen, state_of}
+use Rattle.rb_site.proofs.Public.Places
+use Rattle.rb_site.proofs.Public.Places.{same_number}
+use Rattle.rb_auditor.specs.declared.notes.Notes.{Notes}
+use Rattle.rb_auditor.specs.declared.step.Step.{Step}
+use Rattle.rb_auditor.specs.Findings.{IsReplay}
+use Rattle.rb_auditor.specs.Audits.{Audited, HasMore}
+use Rattle.rb_auditor.specs.Kept.{HaveNoEntries, AreAllNotes, AreJudged, AreNotes, HaveSteps, IsJudged, IsMore, IsStep, IsStepOf}
+use Rattle.rb_auditor.specs.Kept.{entries_noted, histories_in, one_step_more}
+use Rattle.rb_auditor.specs.Replays.{seen_at}
+use Rattle.rb_auditor.proofs.Lists
+use Rattle.rb_auditor.proofs.Steps
+
+-- ---- more messages
+
+-- what is kept of a history stays with more messages behind those that it speaks of
+pub judged_more : (s : Settings) (i : ℕ) (n : Notes) (ms all : List Message) → IsMore ms all → IsJudged s i n ms → IsJudged s i n all
+judged_more s i n ms all m j = record {
+  within = j.within;
+  replays = j.replays;
+  wrong = j.wrong;
+  steps = subst (λ xs. HaveSteps s i (entries_noted n) xs n.steps.items) (sym m.is)
+      (Steps.steps_more s i (entries_noted n) ms m.more n.steps.items j.steps);
+}
+
+-- the same with the site
+pub notes_more : (s : Settings) (i : ℕ) (x : SeenSite) (n : Notes) (ms all : List Message) → IsMore ms all → AreNotes s i x n ms
+    → AreNotes s i x n all
+notes_more s i x n ms all m a = record {
+  settings = a.settings;
+  me = a.me;
+  entries = a.entries;
+  judged = judged_more s i n ms all m
+      a.judged;
+}
+
+-- the entries and steps of one history
+abbrev Judged : Settings → ℕ → List Entry → List Step → List Message → Type 0
+Judged s i h steps ms =
+    (length steps ≤ length h) × IsReplay s i (take (length steps) h)
+    × (length steps < length h → ¬ IsReplay s i (take (length steps + 1) h)) × HaveSteps s i h ms steps
+
+-- where nothing is added, what is kept stays
+pub unchanged : (s : Settings) (i : ℕ) (x later : SeenSite) (old new : Notes) (ms all : List Message) → IsMore ms all → later ≡ x
+    → new.entries.items ≡ old.entries.items → new.steps.items ≡ old.steps.items → AreNotes s i x old ms → AreNotes s i later new all
+unchanged s i x later old new ms all m same entries steps a =
+    let P : SeenSite → List Entry → List Step → Type 0 =
+    λ z h ts. (z.settings ≡ s) × (z.me ≡ i) × (length ts ≡ length h → z.entries ≡ h) × Judged s i h ts all in
+    let b : IsJudged s i old all = judged_more s i old ms all m a.judged in
+    let here : P x (entries_noted old) old.steps.items = (a.settings, a.me, a.entries, (b.within, b.replays, b.wrong, b.steps)) in
+    let e : entries_noted new ≡ entries_noted old = ap (map (λ z. z.value)) entries in
+    let there : P later (entries_noted new) new.steps.items =
+    subst (λ z. P z (entries_noted new) new.steps.items) (sym same)
+    (subst (λ h. P x h new.steps.items) (sym e) (subst (P x (entries_noted old)) (sym steps) here)) in
+    record {
+      settings = there.0;
+      me = there.1;
+      entries = there.2;
+      judged = record { within = there.3.0; replays = there.3.1; wrong = there.3.2; steps = there.3.3 };
+    }
+
+-- ---- one entry more
+
+judged_as : (s : Settings) (i : ℕ) (n : Notes) (ms : List Message) (h : List Entry) (steps : List Step) → entries_noted n ≡ h
+    → n.steps.items ≡ steps → Judged s i h steps ms → IsJudged s i n ms
+judged_as s i n ms h steps e f j =
+    let P : List Entry → List Step → Type 0 = λ g ts. Judged s i g ts ms in
+    let all : Judged s i (entries_noted n) n.steps.items ms = subst (λ g. P g n.steps.items) (sym e) (subst (P h) (sym f) j) in
+    record { within = all.0; replays = all.1; wrong = all.2; steps = all.3 }
+
+-- an entry comes behind one that the site doesn't record
+pub past_wrong : (s : Settings) (i : ℕ) (x : SeenSite) (old new : Notes) (ms : List Message) (y : Entry) → AreNotes s i x old ms
+    → length old.steps.items < length (entries_noted old) → entries_noted new ≡ entries_noted old ++ y ∷ []
+    → new.steps.items ≡ old.steps.items
+    → AreNotes s i x new ms
+past_wrong s i x old new ms y a less grown same = record {
+  settings = a.settings;
+  me = a.me;
+  entries = λ e. (let shorter : length new.steps.items ≡ length old.steps.items = ap length same in absurd (omega (arith, longer)));
+  judged = judged_as s i new ms (h ++ y ∷ []) steps grown same (
+    omega (arith, size),
+    subst (IsReplay s i) (sym (take-append-le (length steps) h (y ∷ []) (omega arith))) a.judged.replays,
+    λ _. subst (λ g. ¬ IsReplay s i g) (sym (take-append-le (length steps + 1) h (y ∷ []) (omega arith))) (a.judged.wrong less),
+    Steps.steps_longer s i h (y ∷ []) ms steps (omega arith) a.judged.steps,
+  );
+}
+  where
+    h : List Entry
+    h = entries_noted old
+
+    steps : List Step
+    steps = old.steps.items
+
+    size : length (h ++ y ∷ []) ≡ length h + 1
+    size = length-append h (y ∷ [])
+
+    longer : length (entries_noted new) ≡ length (entries_noted old) + 1
+    longer = ap length grown ∙ length-append (entries_noted old) (y ∷ [])
+
+-- what is false isn't true
+pub not_true : (b : Bool) → b ≡ false → IsTrue b → ⊥
+not_true true e h = cc
+not_true false e h = cc
+
+-- an entry comes behind others, of which not all have a step
+pub past_wrong_new : (s : Settings) (i : ℕ) (x : SeenSite) (old new : Notes) (ms : List Message) (y : Entry) → AreNotes s i x old ms
+    → ¬ (length old.steps.items ≡ length (entries_noted old)) → entries_noted new ≡ entries_noted old ++ y ∷ []
+    → new.steps.items ≡ old.steps.items → AreNotes s i x new ms
+past_wrong_new s i x old new ms y a not grown same =
+    past_wrong s i x old new ms y a (less (length old.steps.items) (length (entries_noted old)) a.judged.within not) grown same
+  where
+    less : (m n : ℕ) → m ≤ n → ¬ (m ≡ n) → m < n
+    less m n le ne = omega (arith, ne)
+
+whole_taken : (h : List Entry) (n : ℕ) → n ≡ length h → take n h ≡ h
+whole_taken h n e = take_all n h (omega arith)
+
+-- an entry that the site doesn't record is the first
+pub first_wrong : (s : Settings) (i : ℕ) (x later : SeenSite) (old new : Notes) (ms : List Message) (y : Entry) → AreNotes s i x old ms
+    → length old.steps.items ≡ length (entries_noted old) → ¬ IsReplayed (seen_at x.settings x.me (x.entries ++ y ∷ []))
+    → later.settings ≡ x.settings → later.me ≡ x.me
+    → entries_noted new ≡ entries_noted old ++ y ∷ [] → new.steps.items ≡ old.steps.items → AreNotes s i later new ms
+first_wrong s i x later old new ms y a whole not e f grown same = record {
+  settings = e ∙ a.settings;
+  me = f ∙ a.me;
+  entries = λ q. (let shorter : length new.steps.items ≡ length old.steps.items = ap length same in absurd (omega (arith, longer)));
+  judged = judged_as s i new ms (h ++ y ∷ []) steps grown same (
+    omega (arith, size),
+    subst (IsReplay s i) (sym (take-append-le (length steps) h (y ∷ []) (omega arith))) a.judged.replays,
+    λ _. subst (λ g. ¬ IsReplay s i g) (sym (whole_taken (h ++ y ∷ []) (length steps + 1) (omega (arith, size)))) here,
+    Steps.steps_longer s i h (y ∷ []) ms steps (omega arith) a.judged.steps,
+  );
+}
+  where
+    h : List Entry
+    h = entries_noted old
+
+    steps : List Step
+    steps = old.steps.items
+
+    size : length (h ++ y ∷ []) ≡ length h + 1
+    size = length-append h (y ∷ [])
+
+    longer : length (entries_noted new) ≡ length (entries_noted old) + 1
+    longer = ap length grown ∙ length-append (entries_noted old) (y ∷ [])
+
+    here : ¬ IsReplay s i (h ++ y ∷ [])
+    here r = not (subst (λ t. IsReplay t x.me (x.entries ++ y ∷ [])) (sym a.settings)
+        (subst (λ k. IsReplay s k (x.entries ++ y ∷ [])) (sym a.me)
+        (subst (λ g. IsReplay s i (g ++ y ∷ [])) (sym (a.entries whole)) r)))
+
+-- the site records one entry more
+pub one_recorded : (s : Settings) (i : ℕ) (x later : SeenSite) (old new : Notes) (ms : List Message) (y : Entry) (step : Step)
+    → AreNotes s i x old ms → length old.steps.items ≡ length (entries_noted old) → later ≡ record x { entries = x.entries ++ y ∷ [] }
+    → IsReplayed later → IsStep ms y.event (sent_at x.settings (state_of x) y.event) step
+    → entries_noted new ≡ entries_noted old ++ y ∷ [] → new.steps.items ≡ old.steps.items ++ step ∷ [] → AreNotes s i later new ms
+one_recorded s i x later old new ms y step a whole is replayed new_step grown more = record {
+  settings = ap (λ (z : SeenSite). z.settings) is ∙ a.settings;
+  me = ap (λ (z : SeenSite). z.me) is ∙ a.me;
+  entries = λ _. ap (λ (z : SeenSite). z.entries) is ∙ ap (λ g. g ++ y ∷ []) (a.entries whole) ∙ sym grown;
+  judged = judged_as s i new ms (h ++ y ∷ []) (steps ++ step ∷ []) grown more (
+    omega (arith, size, count),
+    subst (IsReplay s i) (sym (whole_taken (h ++ y ∷ []) (length (steps ++ step ∷ [])) (omega (arith, size, count)))) here,
+    λ less. absurd (omega (arith, size, count)),
+    Steps.steps_next s i h ms steps y step whole a.judged.steps
+        (subst (λ (z : SeenSite). IsStep ms y.event (sent_at z.settings (state_of z) y.event) step) now new_step),
+  );
+}
+  where
+    h : List Entry
+    h = entries_noted old
+
+    steps : List Step
+    steps = old.steps.items
+
+    size : length (h ++ y ∷ []) ≡ length h + 1
+    size = length-append h (y ∷ [])
+
+    count : length (steps ++ step ∷ []) ≡ length steps + 1
+    count = length-append steps (step ∷ [])
+
+    now : x ≡ seen_at s i h
+    now = ap (λ t. record x { settings = t }) a.settings ∙ ap (λ k. record x { settings = s; me = k }) a.me
+        ∙ ap (seen_at s i) (a.entries whole)
+
+    here : IsReplay s i (h ++ y ∷ [])
+    here = subst IsReplayed (is ∙ ap (λ (z : SeenSite). record z { entries = z.entries ++ y ∷ [] }) now) replayed
+
+-- one entry more, by its step if the site records it
+pub one_more : (s : Settings) (i : ℕ) (x later : SeenSite) (old new : Notes) (ms : List Message) (y : Entry) (o : Option Step)
+    → AreNotes s i x old ms → length old.steps.items ≡ length (entries_noted old) → IsStepOf x later y ms o
+    → later.settings ≡ x.settings → later.me ≡ x.me
+    → entries_noted new ≡ entries_noted old ++ y ∷ [] → new.steps.items ≡ one_step_more old.steps.items o → AreNotes s i later new ms
+one_more s i x later old new ms y None a whole h e f grown same = first_wrong s i x later old new ms y a whole h e f grown same
+one_more s i x later old new ms y (Some step) a whole h e f grown more =
+    one_recorded s i x later old new ms y step a whole h.0 h.1 h.2 grown more
+
+-- ---- all sites
+
+-- what is read at a place
+read_at : {A : Type 0} (xs : List A) (i n : ℕ) (x : A) → length xs ≡ n → i < n → x ≡ get_or xs i x → slice_get xs i ≡ Some x
+read_at xs i n x e less is = slice_get_read xs (length xs) i x refl (omega arith) is
+
+-- the site and the notes that are read at a place belong together
+pub at_place : (s : Settings) (xs : List SeenSite) (ns : List Notes) (ms : List Message) (i : ℕ) (x : SeenSite) (n : Notes)
+    → AreAllNotes s xs ns ms → i < s.sites → x ≡ get_or xs i x → n ≡ get_or ns i n → AreNotes x.settings x.me x n ms
+at_place s xs ns ms i x n all less e f =
+    let a : AreNotes s i x n ms = all.each i x n (read_at xs i s.sites x all.sites less e) (read_at ns i s.sites n all.notes less f) in
+    subst (λ t. AreNotes t x.me x n ms) (sym a.settings) (subst (λ k. AreNotes s k x n ms) (sym a.me) a)
+
+-- the site and the notes at a place go on
+pub set_place : (s : Settings) (xs : List SeenSite) (ns : List Notes) (ms later : List Message) (i : ℕ) (x y : SeenSite) (n m : Notes)
+    → AreAllNotes s xs ns ms → IsMore ms later → i < s.sites → x ≡ get_or xs i x → n ≡ get_or ns i n
+    → AreNotes x.settings x.me y m later → AreAllNotes s (slice_set xs i y) (slice_set ns i m) later
+set_place s xs ns ms later i x y n m all more less e f new = record {
+  sites = length-set xs i y ∙ all.sites;
+  notes = length-set ns i m ∙ all.notes;
+  each = each;
+}
+  where
+    here : slice_get xs i ≡ Some x
+    here = read_at xs i s.sites x all.sites less e
+
+    there : slice_get ns i ≡ Some n
+    there = read_at ns i s.sites n all.notes less f
+
+    old : AreNotes s i x n ms
+    old = all.each i x n here there
+
+    now : AreNotes s i y m later
+    now = subst (λ t. AreNotes t i y m later) old.settings (subst (λ k. AreNotes x.settings k y m later) old.me new)
+
+    each : (j : ℕ) (u : SeenSite) (w : Notes) → slice_get (slice_set xs i y) j ≡ Some u → slice_get (slice_set ns i m) j ≡ Some w
+        → AreNotes s j u w later
+    each j u w at is = elim (same_number i j) [
+      | inl q ↦
+          let a : y ≡ u = Lists.same_item (slice_get (slice_set xs i y) i) y u (Places.get_set_same xs i x y here)
+          (ap (slice_get (slice_set xs i y)) (sym q) ∙ at) in
+          let b : m ≡ w = Lists.same_item (slice_get (slice_set ns i m) i) m w (Places.get_set_same ns i n m there)
+          (ap (slice_get (slice_set ns i m)) (sym q) ∙ is) in
+          subst (λ k. AreNotes s k u w later) (sym q) (subst (λ z. AreNotes s i z w later) a (subst (λ z. AreNotes s i y z later) b now))
+      | inr ne ↦ notes_more s j u w ms later more (all.each j u w (sym (Places.get_set_other xs i j y ne) ∙ at)
+          (sym (Places.get_set_other ns i j m ne) ∙ is))
+    ]
+
+-- the history at a place
+history_at : (ns : List Notes) (i : ℕ) (n : Notes) → slice_get ns i ≡ Some n → slice_get (histories_in ns) i ≡ Some (entries_noted n)
+history_at ns i n at = slice_get-map entries_noted ns i ∙ ap (option_map entries_noted) at
+
+-- to set what is there changes nothing
+pub set_same : {A : Type 0} (xs : List A) (i : ℕ) (x : A) → slice_get xs i ≡ Some x → slice_set xs i x ≡ xs
+set_same [] i x h = cc
+set_same (y ∷ xs) zero x h = let e : y ≡ x = cc in ap (λ z. z ∷ xs) (sym e)
+set_same (y ∷ xs) (suc i) x h = ap (λ zs. y ∷ zs) (set_same xs i x h)
+
+-- the histories go on where the notes at a place do
+pub histories_set : (ns : List Notes) (i : ℕ) (m : Notes) (h : List Entry) → entries_noted m ≡ h
+    → histories_in (slice_set ns i m) ≡ slice_set (histories_in ns) i h
+histories_set ns i m h e = map-set entries_noted ns i m ∙ ap (slice_set (histories_in ns) i) e
+
+-- what a client sees with more entries at a place
+pub has_more : (old : Audited) (s : Settings) (ns : List Notes) (i : ℕ) (n m : Notes) (xs : List Entry)
+    → record { settings = s; histories = histories_in ns } ≡ old → length ns ≡ s.sites → i < s.sites → n ≡ get_or ns i n
+    → entries_noted m ≡ entries_noted n ++ xs → HasMore old (record { settings = s; histories = histories_in (slice_set ns i m) }) i xs
+has_more old s ns i n m xs seen count less f grown = subst P seen (record {
+  history = entries_noted n;
+  there = history_at ns i n there;
+  is = ap (λ hs. record { settings = s; histories = hs }) (histories_set ns i m (entries_noted n ++ xs) grown);
+})
+  where
+    P : Audited → Type 0
+    P o = HasMore o (record { settings = s; histories = histories_in (slice_set ns i m) }) i xs
+
+    there : slice_get ns i ≡ Some n
+    there = read_at ns i s.sites n count less f
+
+-- a client sees nothing where no entry is added
+pub has_same : (old : Audited) (s : Settings) (ns : List Notes) (i : ℕ) (n m : Notes)
+    → record { settings = s; histories = histories_in ns } ≡ old → length ns ≡ s.sites → i < s.sites → n ≡ get_or ns i n
+    → entries_noted m ≡ entries_noted n → record { settings = s; histories = histories_in (slice_set ns i m) } ≡ old
+has_same old s ns i n m seen count less f same =
+    ap as_seen (histories_set ns i m (entries_noted n) same ∙ set_same (histories_in ns) i (entries_noted n) (history_at ns i n
+    there)) ∙ seen
+  where
+    as_seen : List (List Entry) → Audited
+    as_seen hs = record { settings = s; histories = hs }
+
+    there : slice_get ns i ≡ Some n
+    there = read_at ns i s.sites n count less f
+
+-- what follows where it went well
+pub on_ok : {A B : Type 0} (r : Result Unit AllocError) → OnOk r A → (A → B) → OnOk r B
+on_ok (Ok u) a f = f a
+on_ok (Err e) a f = tt
+
+-- and where it did not
+pub on_err : {A B : Type 0} (r : Result Unit AllocError) → OnErr r A → (A → B) → OnErr r B
+on_err (Ok u) a f = tt
+on_err (Err e) a f = f a
+
+-- the site of a number before any entry
+first_at : (s : Settings) (a n i : ℕ) (x : SeenSite) → slice_get (map (first_seen s) (range_with_len a n)) i ≡ Some x
+    → x ≡ first_seen s (a + i)
+first_at s a zero i x h = cc
+first_at s a (suc n) zero x h =
+    let e : first_seen s a ≡ x = cc in sym e ∙ ap (first_seen s) (let q : a ≡ a + 0 = omega arith in q)
+first_at s a (suc n) (suc i) x h =
+    first_at s (a + 1) n i x h ∙ ap (first_seen s) (let q : a + 1 + i ≡ a + suc i = omega arith in q)
+
+-- before any entry
+pub none_read : (s : Settings) (xs : List SeenSite) (ns : List Notes) (ms : List Message)
+    → xs ≡ map (first_seen s) (range_with_len 0 s.sites)
+    → length ns ≡ s.sites → HaveNoEntries ns → AreAllNotes s xs ns ms
+none_read s xs ns ms is count none = record {
+  sites = ap length is ∙ length-map (range_with_len 0 s.sites) (first_seen s) ∙ length-range_with_len 0 s.sites;
+  notes = count;
+  each = λ i x n at there. notes_of i x n (ap (λ z. slice_get z i) (sym is) ∙ at) (none i n there)
+      (let less : i < length ns = slice_get_within ns i n there in omega arith);
+}
+  where
+    notes_of : (i : ℕ) (x : SeenSite) (n : Notes) → slice_get (map (first_seen s) (range_with_len 0 s.sites)) i ≡ Some x
+        → (n.entries.items ≡ []) × (n.steps.items ≡ []) → i < s.sites → AreNotes s i x n ms
+    notes_of i x n at empty less =
+        let e : x ≡ first_seen s i =
+        first_at s 0 s.sites i x at ∙ ap (first_seen s) (let q : 0 + i ≡ i = omega arith in q) in
+        let f : entries_noted n ≡ [] = ap (map (λ z. z.value)) empty.0 in
+        record {
+          settings = ap (λ (z : SeenSite). z.settings) e;
+          me = ap (λ (z : SeenSite). z.me) e;
+          entries = λ _. ap (λ (z : SeenSite). z.entries) e ∙ sym f;
+          judged = judged_as s i n ms [] [] f empty.1 (
+            omega arith,
+            record { within = less; replays = tt; room = omega arith },
+            λ q. absurd (omega arith),
+            λ k y st p q. cc,
+          );
+        }
+
+-- histories of no entries
+pub no_histories : (ns : List Notes) (n : ℕ) → length ns ≡ n → HaveNoEntries ns → histories_in ns ≡ replicate n []
+no_histories [] zero e none = refl
+no_histories [] (suc n) e none = absurd (omega arith)
+no_histories (m ∷ ns) zero e none = absurd (omega arith)
+no_histories (m ∷ ns) (suc n) e none =
+    ap (λ h. h ∷ histories_in ns) (ap (map (λ z. z.value)) (none 0 m refl).0)
+    ∙ ap (λ hs. [] ∷ hs) (no_histories ns n (omega arith) (λ i. none (suc i)))
+
+-- what is kept of each history, without the sites
+pub judged_all : (s : Settings) (xs : List SeenSite) (ns : List Notes) (ms : List Message) → AreAllNotes s xs ns ms → AreJudged s ns ms
+judged_all s xs ns ms all = record {
+  notes = all.notes;
+  each = λ i n at. (let less : i < length ns = slice_get_within ns i n at in
+      let many : length ns ≡ s.sites = all.notes in
+      let sites : length xs ≡ s.sites = all.sites in
+      let x = site_at xs i (omega arith) in (all.each i x.0 n x.1 at).judged);
+}
+  where
+    site_at : (ys : List SeenSite) (i : ℕ) → i < length ys → (x : SeenSite) × (slice_get ys i ≡ Some x)
+    site_at [] i less = absurd (omega arith)
+    site_at (y ∷ ys) zero less = (y, refl)
+    site_at (y ∷ ys) (suc i) less = site_at ys i (omega arith)

@@ -1,0 +1,172 @@
+-- What entries do with messages.
+use Rattle.std.proofs.Common.{◌≡◌, ℕ, zero, suc, ◌+◌, ◌-◌, ◌<◌, ◌≤◌, ◌==◌, Bool, true, false, cond, not, ◌&&◌, nat_le, List, [], ◌∷◌, ◌++◌}
+use Rattle.std.proofs.Common.{length, take, drop, refl, ap, sym, subst, ◌∙◌, ◌⊎◌, inl, inr, arith}
+use Rattle.std.proofs.Common.{Option, Some, None, length-append, length-drop}
+use Rattle.std.specs.Prelude.{slice_get}
+use Rattle.std.proofs.Math.Seq.{drop-append_seam}
+use Rattle.std.proofs.lemmas.List.{drop-append-le, take-append-le, take_all}
+use Rattle.std.proofs.lemmas.Option.{slice_get_within}
+use Rattle.rb_money.specs.Refusals.{unless}
+use Rattle.rb_money.specs.Settings.{Settings}
+use Rattle.rb_money.specs.declared.refusal.Refusal.{Refusal}
+use Rattle.rb_money.specs.declared.refusal.Refusal.TheVariants.{BadMessage, Conflict, InboxFull}
+use Rattle.rb_shadow.specs.Operations.{find_in, is_eligible, same_shadow}
+use Rattle.rb_shadow.specs.Sound.{fault_of}
+use Rattle.rb_shadow.specs.declared.shadow.Shadow.{Shadow}
+use Rattle.rb_token.specs.Token.{refusal_of_token}
+use Rattle.rb_site.specs.declared.entry.Entry.{Entry}
+use Rattle.rb_site.specs.declared.event.Event.{Event}
+use Rattle.rb_site.specs.declared.event.Event.TheVariants.{Receive}
+use Rattle.rb_site.specs.declared.message.Message.{Message}
+use Rattle.rb_site.specs.declared.message.Message.TheVariants.{Shadow as ShadowMessage, Token as TokenOnItsWay}
+use Rattle.rb_site.specs.declared.reply.Reply.TheVariants.{Already, Stale}
+use Rattle.rb_site.specs.Events.{ModelSite, Outcome, Refuses, Answers, Holds, Takes, is_full, outcome_of, sent_at, sent_by, unless_known}
+use Rattle.rb_site.proofs.Public.Lists.{get_front}
+use Rattle.rb_site.proofs.Public.Outcomes
+use Rattle.rb_scratch.specs.declared.request.TheConstants.{MOST_REQUESTS}
+use Rattle.rb_auditor.specs.declared.step.Step.{Step}
+use Rattle.rb_auditor.specs.declared.step.Step.TheVariants.{Alone, Receives, Sends}
+use Rattle.rb_auditor.specs.Kept.{HaveSteps, IsPlaced, IsStep}
+use Rattle.rb_auditor.specs.Progress.{site_after}
+
+-- ---- receipts send nothing
+
+abbrev Quiet : Outcome → Type 0
+Quiet o = sent_by o ≡ []
+
+quiet_test : (b : Bool) (o p : Outcome) → Quiet o → Quiet p → Quiet (cond b o p)
+quiet_test true o p h k = h
+quiet_test false o p h k = k
+
+quiet_first : {E : Type 0} (refused : E → Refusal) (o : Option E) (next : Outcome) → Quiet next →
+    Quiet (unless (λ why. Refuses (refused why)) o next)
+quiet_first refused (Some why) next h = refl
+quiet_first refused None next h = h
+
+quiet_known : (v : Shadow) (o : Option Shadow) (next : Outcome) → Quiet next → Quiet (unless_known v o next)
+quiet_known v None next h = h
+quiet_known v (Some u) next h = quiet_test (same_shadow u v) (Answers (Already v.name)) (Refuses Conflict) refl refl
+
+quiet_receipt : (s : Settings) (t : ModelSite) (m : Message) → Quiet (outcome_of s t (Receive m))
+unfolding outcome_of
+quiet_receipt s t (ShadowMessage v) =
+    quiet_first BadMessage (fault_of s v) _ (quiet_known v (find_in t.ops v.name) _
+    (quiet_test (v.home == t.me) (Refuses Conflict) _ refl (quiet_known v (find_in t.held v.name) _
+    (quiet_test (nat_le s.limits.inbox (length t.held) && not (is_eligible t.ops v)) (Refuses InboxFull) (Holds v) refl refl))))
+quiet_receipt s t (TokenOnItsWay m) = quiet_first (λ why. why) (refusal_of_token s.limits t.me m) _
+    (quiet_test (nat_le m.epoch t.token.epoch) (Answers (Stale m.epoch)) (Takes m) refl refl)
+
+-- a receipt sends nothing
+pub receipt_sends_nothing : (s : Settings) (t : ModelSite) (e : Event) (m : Message) → e ≡ Receive m → sent_at s t e ≡ []
+receipt_sends_nothing s t e m is = ap (sent_at s t) is ∙ by (is_full s t)
+  where
+    by : (b : Bool) → cond b [] (sent_by (outcome_of s t (Receive m))) ≡ []
+    by true = refl
+    by false = quiet_receipt s t m
+
+-- ---- one list
+
+-- the items before what is added
+pub get_before : {A : Type 0} (xs ys : List A) (k : ℕ) → k < length xs → slice_get (xs ++ ys) k ≡ slice_get xs k
+get_before [] ys k less = absurd (omega arith)
+get_before (x ∷ xs) ys zero less = refl
+get_before (x ∷ xs) ys (suc k) less = get_before xs ys k (omega arith)
+
+-- an item of a list with one more is one of those before, or the one more
+pub before_or_last : {A : Type 0} (xs : List A) (x y : A) (k : ℕ) → slice_get (xs ++ x ∷ []) k ≡ Some y
+    → (slice_get xs k ≡ Some y) ⊎ ((k ≡ length xs) × (y ≡ x))
+before_or_last [] x y zero h = inr (refl, let e : x ≡ y = cc in sym e)
+before_or_last [] x y (suc k) h = cc
+before_or_last (z ∷ xs) x y zero h = inl h
+before_or_last (z ∷ xs) x y (suc k) h = elim (before_or_last xs x y k h) [ inl g ↦ inl g | inr (e, same) ↦ inr (ap suc e, same) ]
+
+-- a part of a list is the same part of a longer one
+part_more : {A : Type 0} (ms more : List A) (at count : ℕ) → at + count ≤ length ms
+    → take count (drop at ms) ≡ take count (drop at (ms ++ more))
+part_more ms more at count fits =
+    let left : length (drop at ms) ≡ length ms - at = length-drop at ms in
+    sym (ap (take count) (drop-append-le at ms more (omega arith)) ∙ take-append-le count (drop at ms) more (omega arith))
+
+-- ---- steps
+
+-- a step stays with more messages behind those that it speaks of
+pub step_more : (ms more : List Message) (e : Event) (sent : List Message) (step : Step) → IsStep ms e sent step
+    → IsStep (ms ++ more) e sent step
+step_more ms more e sent Alone h = h
+step_more ms more e sent (Receives at) ((m, is, there), none) = ((m, is, get_front ms more at m there), none)
+step_more ms more e sent (Sends count at) (own, fits, is) =
+    let longer : length (ms ++ more) ≡ length ms + length more = length-append ms more in
+    (own, omega arith, is ∙ part_more ms more at count fits)
+
+-- the steps of a history stay
+pub steps_more : (s : Settings) (i : ℕ) (h : List Entry) (ms more : List Message) (steps : List Step) → HaveSteps s i h ms steps
+    → HaveSteps s i h (ms ++ more) steps
+steps_more s i h ms more steps all k x step at is = step_more ms more x.event _ step (all k x step at is)
+
+-- entries without steps may come behind those that have one
+pub steps_longer : (s : Settings) (i : ℕ) (h rest : List Entry) (ms : List Message) (steps : List Step) → length steps ≤ length h
+    → HaveSteps s i h ms steps → HaveSteps s i (h ++ rest) ms steps
+steps_longer s i h rest ms steps fits all k x step at is =
+    let less : k < length steps = slice_get_within steps k step is in
+    let same : take k (h ++ rest) ≡ take k h = take-append-le k h rest (omega arith) in
+    subst (λ f. IsStep ms x.event (sent_at s (site_after s i f) x.event) step) (sym same)
+    (all k x step (sym (get_before h rest k (omega arith)) ∙ at) is)
+
+-- one entry more with its step
+pub steps_next : (s : Settings) (i : ℕ) (h : List Entry) (ms : List Message) (steps : List Step) (x : Entry) (step : Step)
+    → length steps ≡ length h → HaveSteps s i h ms steps → IsStep ms x.event (sent_at s (site_after s i h) x.event) step
+    → HaveSteps s i (h ++ x ∷ []) ms (steps ++ step ∷ [])
+steps_next s i h ms steps x step many all new k y st at is = elim (before_or_last steps step st k is) [
+  | inl g ↦ steps_longer s i h (x ∷ []) ms steps (omega arith) all k y st at g
+  | inr (e, same) ↦ elim (before_or_last h x y k at) [
+    | inl g ↦ (let less : k < length h = slice_get_within h k y g in absurd (omega arith))
+    | inr (f, is_x) ↦
+        let front : take k (h ++ x ∷ []) ≡ h = take-append-le k h (x ∷ []) (omega arith) ∙ take_all k h (omega arith) in
+        subst (λ g. IsStep ms y.event (sent_at s (site_after s i g) y.event) st) (sym front)
+        (subst (λ (z : Entry). IsStep ms z.event (sent_at s (site_after s i h) z.event) st) (sym is_x)
+        (subst (IsStep ms x.event (sent_at s (site_after s i h) x.event)) (sym same) new))
+  ]
+]
+
+-- ---- the step of an entry
+
+-- one entry sends at most as many messages as a batch may have requests
+pub few_more : (s : Settings) (t : ModelSite) (e : Event) (before after : List Message) → after ≡ before ++ sent_at s t e
+    → length after ≤ length before + MOST_REQUESTS
+few_more s t e before after grown =
+    let few : length (sent_at s t e) ≤ MOST_REQUESTS = Outcomes.sent_few s t e in
+    let longer : length after ≡ length before + length (sent_at s t e) = ap length grown ∙ length-append before (sent_at s t e) in
+    omega arith
+
+-- where the messages that are sent are behind the others
+sent_behind : (before sent : List Message) (count : ℕ) → count ≡ length sent → sent ≡ take count (drop (length before) (before ++ sent))
+sent_behind before sent count e = sym (ap (take count) (drop-append_seam before sent) ∙ take_all count sent (omega arith))
+
+-- the step of a receipt
+pub receives : (s : Settings) (t : ModelSite) (before after : List Message) (e : Event) (at : ℕ) → after ≡ before ++ sent_at s t e
+    → IsPlaced before e (Some at) → IsStep after e (sent_at s t e) (Receives at)
+receives s t before after e at grown (m, is, there) =
+    ((m, is, ap (λ ms. slice_get ms at) grown ∙ get_front before (sent_at s t e) at m there), receipt_sends_nothing s t e m is)
+
+none_sent : (before sent after : List Message) → after ≡ before ++ sent → length after ≡ length before → sent ≡ []
+none_sent before [] after grown e = refl
+none_sent before (m ∷ sent) after grown e =
+    let longer : length after ≡ length before + length (m ∷ sent) = ap length grown ∙ length-append before (m ∷ sent) in
+    absurd (omega arith)
+
+-- the step of an entry that sends nothing and is no receipt
+pub alone : (before after sent : List Message) (e : Event) → after ≡ before ++ sent → IsPlaced before e None → length after ≡ length before
+    → IsStep after e sent Alone
+alone before after sent e grown own same = (own, none_sent before sent after grown same)
+
+-- the step of an entry that sends
+pub sends : (before after sent : List Message) (e : Event) (first count : ℕ) → after ≡ before ++ sent → IsPlaced before e None
+    → first ≡ length before → first + count ≡ length after → IsStep after e sent (Sends count first)
+sends before after sent e first count grown own at many =
+    let longer : length after ≡ length before + length sent = ap length grown ∙ length-append before sent in (
+      own,
+      omega arith,
+      sent_behind before sent count (omega arith)
+          ∙ ap (λ ms. take count (drop (length before) ms)) (sym grown)
+          ∙ ap (λ k. take count (drop k after)) (sym at),
+    )

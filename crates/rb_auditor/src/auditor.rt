@@ -1,0 +1,131 @@
+//! An auditor, which reads histories entry by entry.
+ghost use Rattle.std.specs.Prelude.{◌≡◌, ◌<◌, ◌↔◌, ◌∷◌, [], IsTrue, IfOk, IfErr, OnOk, OnErr, length, replicate};
+ghost use Rattle.rb_auditor.specs.Audits.{HasMore};
+ghost use Rattle.rb_auditor.specs.Certificates.{Certifies};
+ghost use Rattle.rb_auditor.specs.Findings.{IsFound, Refutes};
+
+use crate::auditing::find;
+use crate::checking::follow_all;
+use crate::notes::{Notes, no_notes};
+use crate::replay::take_entry;
+use crate::sites::{end_all, open_sites};
+use crate::store::Store;
+use crate::{AuditFault, Certificate};
+use rb_money::Config;
+use rb_site::{Entry, ErasedEntry, Site};
+use std::alloc::{AllocError, Global};
+use std::marker::Model;
+
+/// Histories that are read entry by entry, those of the sites in any order. Each entry is replayed by its site as it is
+/// read. Clients see the configuration and each site's entries. It can't be dropped: it finishes, checks or ends.
+pub struct Auditor {
+    alloc: Global,
+    config: Config,
+    sites: Vec<Site<ErasedEntry>>,
+    notes: Vec<Notes>,
+    store: Store,
+}
+
+impl Model for Auditor {
+    ghost use Rattle.rb_auditor.specs.Audits.{Audited};
+    ghost use Rattle.rb_auditor.specs.Kept.{AreAllNotes, histories_in};
+
+    ghost Value = { Audited };
+
+    ghost view = { λ a. record { settings = a.config; histories = histories_in a.notes.items } };
+
+    ghost invariant = { λ a. AreAllNotes a.config a.sites.items a.notes.items a.store.messages.items };
+}
+
+impl Auditor {
+    /// Before any entry. `Err` means out of memory.
+    pub fn open(alloc: Global, config: Config) -> Result<Auditor, AllocError>
+        ensures settings { IfOk result (λ auditor. auditor.settings ≡ config) }
+        ensures none { IfOk result (λ auditor. auditor.histories ≡ replicate config.sites []) }
+    {
+        let store = Store::new(alloc)?;
+        let notes = no_notes(alloc, config.sites())?;
+        let sites = open_sites(alloc, &config)?;
+        Ok(Auditor {
+            alloc,
+            config,
+            sites,
+            notes,
+            store,
+        })
+    }
+
+    /// The configuration.
+    pub fn config(&self) -> &Config
+        ensures same { result.now ≡ self.now.settings }
+        ensures each { length self.now.histories ≡ self.now.settings.sites }
+    {
+        &self.config
+    }
+
+    /// Takes the next entry of a site's history. `Err` means out of memory, and takes nothing.
+    pub fn take(&mut self, site: u8, entry: &Entry) -> Result<(), AllocError>
+        requires { site < length self.old.histories }
+        ensures ok { OnOk result (HasMore self.old self.new site (entry.now ∷ [])) }
+        ensures err { OnErr result (self.new ≡ self.old) }
+    {
+        let replayed = &mut self.sites[site as usize];
+        let notes = &mut self.notes[site as usize];
+        take_entry(replayed, notes, entry, &mut self.store)
+    }
+
+    /// An order in which a world could have recorded the histories. Entries are taken in rounds from site 0, from each
+    /// site as many as possible; where a site doesn't record an entry, or no entry can be taken any more, no world has
+    /// the histories.
+    ///
+    /// Errors: `WrongReply` or `Stuck` where no world has them, `OutOfMemory` where there was no memory to find out.
+    pub fn finish(self) -> Result<Certificate, AuditFault>
+        ensures certified { IfOk result (Certifies self.settings self.histories) }
+        ensures found { IfErr result (IsFound self.settings self.histories) }
+        ensures refuted { IfErr result (Refutes self.settings self.histories) }
+    {
+        let Auditor {
+            alloc,
+            config,
+            sites,
+            notes,
+            store,
+        } = self;
+        end_all(sites);
+        find(alloc, &config, notes.as_slice(), store.messages.as_slice())
+    }
+
+    /// Whether a world could have recorded the histories in this order. `Err` means out of memory.
+    pub fn check(self, certificate: &Certificate) -> Result<bool, AllocError>
+        ensures { IfOk result (λ yes. IsTrue yes ↔ Certifies self.settings self.histories certificate.now) }
+    {
+        let Auditor {
+            alloc,
+            config,
+            sites,
+            notes,
+            store,
+        } = self;
+        end_all(sites);
+        let messages = store.messages.as_slice();
+        follow_all(
+            alloc,
+            &config,
+            notes.as_slice(),
+            messages,
+            certificate.as_slice(),
+        )
+    }
+
+    /// Ends the auditor.
+    pub fn end(self) {
+        let Auditor {
+            alloc: _,
+            config: _,
+            sites,
+            notes: _,
+            store: _,
+        } = self;
+        end_all(sites);
+    }
+}

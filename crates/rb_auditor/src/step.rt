@@ -1,0 +1,13 @@
+//! What an entry does with messages.
+
+/// What an entry of a history does with messages, each of which is kept in one list for all histories. Places are
+/// counted from 0.
+#[derive(Clone, Copy, Debug, PartialEq, Eq)]
+pub enum Step {
+    /// It neither receives nor sends one.
+    Alone,
+    /// It receives the message at this place.
+    Receives { at: u32 },
+    /// It sends this many messages, 1 to `MOST_REQUESTS`, the first of which is at this place.
+    Sends { count: u8, at: u32 },
+}
