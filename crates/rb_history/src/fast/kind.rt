@@ -4,6 +4,7 @@ ghost use Rattle.rb_history.specs.Fits.{IsKind};
 ghost use Rattle.rb_history.specs.Beginnings.{behind_quote};
 ghost use Rattle.serde_json.specs.Written.{members_text};
 ghost use Rattle.rb_shadow.specs.Labels.{label_of, word_of};
+ghost use Rattle.rb_shadow.specs.declared.label.Label.TheVariants.{Cancel, Transfer};
 ghost use Rattle.rb_history.specs.Entries.{last_members};
 
 use crate::fast::account::parse_account_between;
@@ -20,25 +21,41 @@ pub fn parse_label(text: &str) -> Option<(Label, &str)>
     Some((label, parse_prefix(rest, "\"")?))
 }
 
+/// A cancellation, of its target, and the end of the object.
+#[inline(always)]
+#[tactic(auto, unfolding(json::specs::Print::escape_byte))]
+fn parse_target<'a>(config: &Config, text: &'a str) -> Option<(Kind, &'a str)>
+    ensures kind { IfSome result (λ p. IsKind config.now p.0 × (label_of p.0 ≡ Cancel)) }
+    ensures text { IfSome result (λ p. text.now ≡ members_text true (last_members config.now p.0) ++ p.1.now) }
+{
+    let (target, rest) = parse_name_between(text, ",\"target\":\"", "}")?;
+    Some((Kind::Cancel { target }, rest))
+}
+
+/// A transfer, of the account to which it goes, and the end of the object.
+#[inline(always)]
+#[tactic(auto, unfolding(json::specs::Print::escape_byte))]
+fn parse_receiver<'a>(config: &Config, text: &'a str) -> Option<(Kind, &'a str)>
+    ensures kind { IfSome result (λ p. IsKind config.now p.0 × (label_of p.0 ≡ Transfer)) }
+    ensures text { IfSome result (λ p. text.now ≡ members_text true (last_members config.now p.0) ++ p.1.now) }
+{
+    let (to, rest) = parse_account_between(config, text, ",\"to\":\"", "}")?;
+    Some((Kind::Transfer { to }, rest))
+}
+
 /// The kind of this label, with the target of a cancellation or the account to which a transfer goes, and the end of
 /// the object.
-#[tactic(auto, unfolding(json::specs::Print::escape_byte))]
 pub fn parse_kind<'a>(config: &Config, label: Label, text: &'a str) -> Option<(Kind, &'a str)>
     ensures kind { IfSome result (λ p. IsKind config.now p.0 × (label_of p.0 ≡ label)) }
     ensures text { IfSome result (λ p. text.now ≡ members_text true (last_members config.now p.0) ++ p.1.now) }
 {
-    match label {
-        Label::Deposit => Some((Kind::Deposit, parse_prefix(text, "}")?)),
-        Label::Withdraw => Some((Kind::Withdraw, parse_prefix(text, "}")?)),
-        Label::Declined => Some((Kind::Declined, parse_prefix(text, "}")?)),
-        Label::Interest => Some((Kind::Interest, parse_prefix(text, "}")?)),
-        Label::Cancel => {
-            let (target, rest) = parse_name_between(text, ",\"target\":\"", "}")?;
-            Some((Kind::Cancel { target }, rest))
-        }
-        Label::Transfer => {
-            let (to, rest) = parse_account_between(config, text, ",\"to\":\"", "}")?;
-            Some((Kind::Transfer { to }, rest))
-        }
-    }
+    let kind = match label {
+        Label::Deposit => Kind::Deposit,
+        Label::Withdraw => Kind::Withdraw,
+        Label::Declined => Kind::Declined,
+        Label::Interest => Kind::Interest,
+        Label::Cancel => return parse_target(config, text),
+        Label::Transfer => return parse_receiver(config, text),
+    };
+    Some((kind, parse_prefix(text, "}")?))
 }
