@@ -1,0 +1,44 @@
+-- What is read of a list's items, one by one.
+use Rattle.std.proofs.Common.{◌≡◌, ◌+◌, ℕ, List, [], ◌∷◌, ◌++◌, drop, suc, Option, Some, None, refl, sym, ap, ◌∙◌, add-one, append_assoc}
+use Rattle.std.specs.Prelude.{option_and_then, option_map}
+use Rattle.serde_json.specs.Data.{Data, Items, item}
+use Rattle.serde_json.specs.View.{items_view, view}
+use Rattle.serde_json.specs.declared.value.Value.{Value}
+use Rattle.rb_commands.proofs.Public.Reading.{with_front}
+
+-- a list is read by reading its first item, and then those behind it
+abbrev pub ReadsEach : {A : Type 0} → (Data → Option A) → (Items → Option (List A)) → Type 0
+ReadsEach of_one of_all = (d : Data) (ds : Items) → of_all (item d ds) ≡ option_and_then
+    (λ x. option_map (λ later. x ∷ later) (of_all ds)) (of_one d)
+
+-- before the first
+pub none_yet : {A : Type 0} (o : Option (List A)) → with_front [] o ≡ o
+none_yet None = refl
+none_yet (Some later) = refl
+
+-- one item more is read
+pub one_more_read : {A : Type 0} (of_one : Data → Option A) (of_all : Items → Option (List A)) (front : List A) (x : A)
+    (values : List Value) (i : ℕ) (v : Value) (whole : Option (List A)) → ReadsEach of_one of_all
+    → drop i values ≡ v ∷ drop (i + 1) values → of_one (view v) ≡ Some x → with_front front (of_all (items_view (drop i values))) ≡ whole
+    → with_front (front ++ x ∷ []) (of_all (items_view (drop (i + 1) values))) ≡ whole
+one_more_read of_one of_all front x values i v whole each here is so = by (of_all behind)
+    (ap (λ o. with_front front (option_and_then (λ y. option_map (λ later. y ∷ later) (of_all behind)) o)) (sym is)
+    ∙ ap (with_front front) (sym (each (view v) behind))
+    ∙ ap (λ vs. with_front front (of_all (items_view vs))) (sym here) ∙ so)
+  where
+    behind : Items
+    behind = items_view (drop (i + 1) values)
+
+    by : (o : Option (List _)) → with_front front (option_map (λ later. x ∷ later) o) ≡ whole → with_front (front ++ x ∷ []) o ≡ whole
+    by None e = e
+    by (Some later) e = ap Some (append_assoc front (x ∷ []) later) ∙ e
+
+-- where an item isn't read, the list isn't
+pub none_read : {A : Type 0} (of_one : Data → Option A) (of_all : Items → Option (List A)) (front : List A)
+    (values : List Value) (i : ℕ) (v : Value) (whole : Option (List A)) → ReadsEach of_one of_all
+    → drop i values ≡ v ∷ drop (i + 1) values → of_one (view v) ≡ None → with_front front (of_all (items_view (drop i values))) ≡ whole
+    → whole ≡ None
+none_read of_one of_all front values i v whole each here is so =
+    let behind = items_view (drop (i + 1) values) in
+    sym so ∙ ap (λ vs. with_front front (of_all (items_view vs))) here ∙ ap (with_front front) (each (view v) behind)
+    ∙ ap (λ o. with_front front (option_and_then (λ y. option_map (λ later. y ∷ later) (of_all behind)) o)) is
