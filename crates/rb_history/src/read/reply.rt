@@ -23,25 +23,24 @@ fn simple(value: &Value) -> Option<Reply>
     ensures { result ≡ simple_of (view value.now) }
 {
     if let Some(made) = value.get("held") {
-        return Some(Reply::Held(name(made)?));
+        return name(made).map(Reply::Held);
     }
     if let Some(made) = value.get("already") {
-        return Some(Reply::Already(name(made)?));
+        return name(made).map(Reply::Already);
     }
     if let Some(epoch) = value.get("taken") {
-        return Some(Reply::Taken(word(epoch)?));
+        return word(epoch).map(Reply::Taken);
     }
     if let Some(epoch) = value.get("stale") {
-        return Some(Reply::Stale(word(epoch)?));
+        return word(epoch).map(Reply::Stale);
     }
     if let Some(made) = value.get("applied") {
-        return Some(Reply::Applied(name(made)?));
+        return name(made).map(Reply::Applied);
     }
     if let Some(epoch) = value.get("passed") {
-        return Some(Reply::Passed(word(epoch)?));
+        return word(epoch).map(Reply::Passed);
     }
-    let cents = long(value.get("balance")?)?;
-    Some(Reply::Balance(cents))
+    long(value.get("balance")?).map(Reply::Balance)
 }
 
 /// The names of a list, in its order.
@@ -121,8 +120,7 @@ fn refused(value: &Value, number: &Value) -> Option<Reply>
         (number_below (2 ^ 8) (view number.now))) }
 {
     let number = byte(number)?;
-    let refusal = refusal(value, number)?;
-    Some(Reply::Refused(refusal))
+    refusal(value, number).map(Reply::Refused)
 }
 
 /// The reply that an object is.
