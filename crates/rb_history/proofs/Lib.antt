@@ -30,6 +30,7 @@ mod OneLine
 mod MadeFit
 mod SentFits
 mod EventLine
+mod Behind
 mod ItemsRead
 mod ListBounds
 mod StatementsFit

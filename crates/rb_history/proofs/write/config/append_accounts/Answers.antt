@@ -4,6 +4,7 @@ use Rattle.rb_history.specs.ConfigLines.{accounts_of, start_json}
 use Rattle.rb_commands.proofs.Public.Appended.{front_of_front, front_of_sum, then}
 use Rattle.rb_commands.proofs.Public.Listed.{rest_text, whole_text, item_written, items_written}
 use Rattle.rb_history.proofs.Starts.{drop_accounts, few_accounts}
+use Rattle.rb_history.proofs.Behind.{failed_behind}
 use Rattle.rb_history.proofs.write.config.append_accounts.Goals as goal
 
 pub loop-place-preserved : goal.loop-place-preserved
@@ -36,3 +37,7 @@ returns c =
     then c.append.result old out c.append.new.out.items list (codes "]") _
     (items_written start_json out c.loop-place.comma.now (old ++ list) accounts c.loop-place.place
     (omega arith) c.loop-place.invariant.written) c.append.ensures (whole_text (map start_json accounts))
+
+pub returns-in_err-append_start : goal.returns-in_err-append_start
+returns-in_err-append_start c = failed_behind c.from_residual.result c.args.out.now.items c.loop-place.out.items
+    c.append_start.new.out.items _ c.from_residual.ensures.0 c.loop-place.invariant.front c.in_err-append_start.ensures

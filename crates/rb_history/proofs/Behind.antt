@@ -1,0 +1,12 @@
+-- What a failed call leaves in place, after others wrote.
+use Rattle.std.proofs.Common.{◌≡◌, ℕ, List, length, take}
+use Rattle.std.specs.Prelude.{Result, Ok, Err}
+use Rattle.std.specs.Result.{IsErr}
+use Rattle.rb_commands.specs.Adds.{Adds}
+use Rattle.rb_commands.proofs.Public.Appended.{front_of_front}
+
+-- what was there first is there after a call that failed
+pub failed_behind : {A E : Type 0} (r : Result A E) (old mid new t : List ℕ) → IsErr r → take (length old) mid ≡ old
+    → take (length mid) new ≡ mid → Adds r old new t
+failed_behind (Ok x) old mid new t is e h = absurd (cc)
+failed_behind (Err x) old mid new t is e h = front_of_front old mid new e h
