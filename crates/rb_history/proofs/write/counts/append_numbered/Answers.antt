@@ -4,6 +4,7 @@ use Rattle.rb_commands.proofs.Public.Appended.{front_of_front, front_of_sum, the
 use Rattle.rb_commands.proofs.Public.Listed.{rest_text, whole_text}
 use Rattle.rb_history.specs.Counts.{numbered_from, numbered_json}
 use Rattle.rb_history.proofs.Numbered.{numbered_end, one_written}
+use Rattle.rb_history.proofs.Behind.{failed_behind}
 use Rattle.rb_history.proofs.write.counts.append_numbered.Goals as goal
 
 pub loop-site-preserved : goal.loop-site-preserved
@@ -33,3 +34,7 @@ returns c =
     let all = sym (append-nil out) ∙ none ∙ c.loop-site.invariant.written ∙ append_assoc old front list in
     then c.append-2.result old out c.append-2.new.out.items (front ++ list) (codes "]") _ all c.append-2.ensures
     (append_assoc front list (codes "]") ∙ ap (λ l. front ++ l) (whole_text values))
+
+pub returns-in_err-next : goal.returns-in_err-next
+returns-in_err-next c = failed_behind c.from_residual-in_err-next.result c.args.out.now.items c.loop-site.out.items
+    c.append_some.new.out.items _ c.from_residual-in_err-next.ensures.0 c.loop-site.invariant.front c.in_err-next.ensures.added

@@ -3,6 +3,7 @@ use Rattle.json.specs.Print.{escape_byte}
 use Rattle.rb_history.specs.Entries.{request_json}
 use Rattle.rb_commands.proofs.Public.Appended.{front_of_front, front_of_sum}
 use Rattle.rb_commands.proofs.Public.Listed.{item_written, list_between}
+use Rattle.rb_history.proofs.Behind.{failed_behind}
 use Rattle.rb_history.proofs.write.event.append_requests.Goals as goal
 
 pub loop-request-preserved : goal.loop-request-preserved
@@ -24,3 +25,8 @@ unfolding escape_byte
 returns c = list_between (request_json c.args.config.now) c.append-2.result c.args.out.now.items c.loop-request.out.items
     c.append-2.new.out.items c.loop-request.comma.now (codes "{\"batch\":[") (codes "}") c.args.requests.now c.loop-request.request-index
     (omega arith) c.loop-request.invariant.written c.append-2.ensures
+
+pub returns-in_err-append_listed : goal.returns-in_err-append_listed
+returns-in_err-append_listed c = failed_behind c.from_residual-in_err-append_listed.result c.args.out.now.items c.loop-request.out.items
+    c.append_listed.new.out.items _ c.from_residual-in_err-append_listed.ensures.0 c.loop-request.invariant.front
+    c.in_err-append_listed.ensures

@@ -4,6 +4,7 @@ use Rattle.std.specs.Prelude.{map}
 use Rattle.rb_commands.specs.Values.{number_json}
 use Rattle.rb_commands.proofs.Public.Appended.{front_of_front, front_of_sum, then}
 use Rattle.rb_commands.proofs.Public.Listed.{rest_text, whole_text, item_written, items_written}
+use Rattle.rb_history.proofs.Behind.{failed_behind}
 use Rattle.rb_history.proofs.write.number.append_numbers.Goals as goal
 
 pub loop-number-preserved : goal.loop-number-preserved
@@ -36,3 +37,8 @@ returns g c =
     ∙ append_assoc old front list in
     then c.append-2.result old out c.append-2.new.out.items (front ++ list) (codes "]") _ all c.append-2.ensures
     (append_assoc front list (codes "]") ∙ ap (λ l. front ++ l) (whole_text values))
+
+pub returns-in_err-append_number : goal.returns-in_err-append_number
+returns-in_err-append_number g c = failed_behind c.from_residual-in_err-append_number.result c.args.out.now.items
+    c.loop-number.out.items c.append_number.new.out.items _ c.from_residual-in_err-append_number.ensures.0 c.loop-number.invariant.front
+    c.in_err-append_number.ensures
