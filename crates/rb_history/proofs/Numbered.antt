@@ -115,11 +115,6 @@ none_behind counts least site n low near none =
     ∙ ap (drop (site + 1 - least)) none ∙ drop-replicate (site + 1 - least) (MOST_SITES - least) 0
     ∙ ap (λ k. replicate k 0) rest
 
--- before the first
-pub with_none : (o : Option (List ℕ)) → with_front [] o ≡ o
-with_none None = refl
-with_none (Some later) = refl
-
 -- all are read
 pub all_read : (counts : List ℕ) (least : ℕ) → drop least counts ≡ replicate (MOST_SITES - least) 0
     → take least counts ++ replicate (MOST_SITES - least) 0 ≡ counts

@@ -3,7 +3,8 @@ use Rattle.std.proofs.lemmas.List.{drop_all}
 use Rattle.serde_json.specs.View.{items_view}
 use Rattle.rb_commands.proofs.Public.Reading.{with_front}
 use Rattle.rb_history.specs.Counts.{numbered_in}
-use Rattle.rb_history.proofs.Numbered.{all_read, none_behind, value_read, with_none}
+use Rattle.rb_history.proofs.ItemsRead.{none_yet}
+use Rattle.rb_history.proofs.Numbered.{all_read, none_behind, value_read}
 use Rattle.rb_history.proofs.read.counts.numbered_counts.Goals as goal
 
 pub loop-item-init : goal.loop-item-init
@@ -11,7 +12,7 @@ loop-item-init c = record {
   few = omega arith;
   sites = search rules;
   none = search rules;
-  read = with_none (numbered_in 0 (items_view c.args.items.now));
+  read = none_yet (numbered_in 0 (items_view c.args.items.now));
 }
 
 pub loop-item-preserved : goal.loop-item-preserved
