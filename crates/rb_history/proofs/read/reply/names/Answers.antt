@@ -22,8 +22,8 @@ returns-in_default-name c =
     (drop-cons items i c.item-item.result (omega arith) ∙ ap (λ v. v ∷ drop (suc i) items) (sym c.item-item.is)) in
     let found : as_array (view c.args.value.now) ≡ Some (items_view items) = search rules in
     ap (option_and_then names_in) found
-    ∙ none_read _ names_in c.loop-item.names.items items i c.item-item.result _ (λ d ds. refl) here (sym c.name.ensures ∙ c.in_default-name.is)
-    c.loop-item.invariant
+    ∙ none_read _ names_in c.loop-item.names.items items i c.item-item.result _ (λ d ds. refl) here
+    (sym c.name.ensures ∙ c.in_default-name.is) c.loop-item.invariant
 
 pub loop-item-preserved : goal.loop-item-preserved
 loop-item-preserved c =

@@ -2,7 +2,7 @@ use Rattle.std.proofs.Common.{◌≡◌, ◌++◌, codes, ap, sym, ◌∙◌, ap
 use Rattle.json.specs.Print.{quoted}
 use Rattle.serde_json.specs.Written.{compact_text}
 use Rattle.rb_history.specs.Entries.{account_json}
-use Rattle.rb_commands.proofs.Public.Appended.{both, then}
+use Rattle.rb_commands.proofs.Public.Appended.{both, failed, then}
 use Rattle.rb_history.proofs.write.account.append_account.Goals as goal
 
 pub returns : goal.returns
@@ -18,3 +18,8 @@ returns c =
     c.in_ok-append_three.ensures in
     then c.append-2.result old c.append_three.new.out.items c.append-2.new.out.items (front ++ quotes) back _ two c.append-2.ensures
     (append_assoc front quotes back ∙ ap (λ l. front ++ (l ++ back)) shown)
+
+pub returns-in_err-append_three : goal.returns-in_err-append_three
+returns-in_err-append_three c = failed c.from_residual-in_err-append_three.result c.args.out.now.items c.append.new.out.items
+    c.append_three.new.out.items _ _ c.from_residual-in_err-append_three.ensures.0 c.in_ok-append.ensures
+    c.in_err-append_three.ensures

@@ -4,7 +4,7 @@ use Rattle.std.proofs.lemmas.Option.{slice_get-get_or}
 use Rattle.json.specs.Print.{quoted}
 use Rattle.serde_json.specs.Written.{compact_text}
 use Rattle.rb_history.specs.Entries.{account_json}
-use Rattle.rb_commands.proofs.Public.Appended.{both, then}
+use Rattle.rb_commands.proofs.Public.Appended.{both, failed, then}
 use Rattle.rb_history.proofs.write.config.append_start.Goals as goal
 
 start_text : (comma account n : List ℕ)
@@ -32,3 +32,8 @@ returns c =
     (decimal start ++ codes "]") _ two c.append_number.ensures
     (start_text comma account (decimal start) ∙ ap (λ l. comma ++ (codes "[" ++ (l ++ (codes "," ++ (decimal start ++ codes "]"))))) named
     ∙ ap (λ n. comma ++ (codes "[" ++ (quoted (get_or s.names place []) ++ (codes "," ++ (decimal n ++ codes "]"))))) begun)
+
+pub returns-in_err-append_account : goal.returns-in_err-append_account
+returns-in_err-append_account c = failed c.from_residual-in_err-append_account.result c.args.out.now.items c.append.new.out.items
+    c.append_account.new.out.items _ _ c.from_residual-in_err-append_account.ensures.0 c.in_ok-append.ensures
+    c.in_err-append_account.ensures

@@ -1,7 +1,7 @@
 use Rattle.std.proofs.Common.{◌≡◌, ◌++◌, List, ℕ, [], codes, decimal, ap, ◌∙◌, append_assoc, append-nil}
 use Rattle.serde_json.specs.Written.{compact_text}
 use Rattle.rb_history.specs.Entries.{account_json, deps_json}
-use Rattle.rb_commands.proofs.Public.Appended.{both, then}
+use Rattle.rb_commands.proofs.Public.Appended.{both, failed, then}
 use Rattle.rb_history.proofs.write.shadow.append_front.Goals as goal
 
 front_text : (account amount deps : List ℕ)
@@ -26,3 +26,8 @@ returns c =
     (first ++ second) deps _ two c.append_deps.ensures (front_text account (decimal made.amount) deps
     ∙ ap (λ v. codes "{\"shadow\":{\"account\":" ++
     (account ++ (codes ",\"amount\":" ++ (decimal made.amount ++ (codes ",\"deps\":" ++ told v))))) c.version.ensures.same)
+
+pub returns-in_err-append_number : goal.returns-in_err-append_number
+returns-in_err-append_number c = failed c.from_residual-in_err-append_number.result c.args.out.now.items c.append_account.new.out.items
+    c.append_number.new.out.items _ _ c.from_residual-in_err-append_number.ensures.0 c.in_ok-append_account.ensures
+    c.in_err-append_number.ensures
