@@ -11,11 +11,6 @@ abbrev pub ReadsEach : {A : Type 0} → (Data → Option A) → (Items → Optio
 ReadsEach of_one of_all = (d : Data) (ds : Items) → of_all (item d ds) ≡ option_and_then
     (λ x. option_map (λ later. x ∷ later) (of_all ds)) (of_one d)
 
--- before the first
-pub none_yet : {A : Type 0} (o : Option (List A)) → with_front [] o ≡ o
-none_yet None = refl
-none_yet (Some later) = refl
-
 -- one item more is read
 pub one_more_read : {A : Type 0} (of_one : Data → Option A) (of_all : Items → Option (List A)) (front : List A) (x : A)
     (values : List Value) (i : ℕ) (v : Value) (whole : Option (List A)) → ReadsEach of_one of_all

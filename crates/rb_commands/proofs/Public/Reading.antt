@@ -1,5 +1,6 @@
 -- What is read is what was written.
-use Rattle.std.proofs.Common.{ℕ, List, ◌++◌, Option, ◌≡◌, [], Some, None, IfSome, refl, sym, ap, ◌∙◌, ◌≤◌, append-nil}
+use Rattle.std.proofs.Common.{ℕ, List, ◌++◌, Option, ◌≡◌, [], ◌∷◌, Some, None, IfSome, refl, sym, ap, ◌∙◌, ◌≤◌, append-nil}
+use Rattle.std.proofs.Common.{append_assoc}
 use Rattle.std.specs.Prelude.{option_map, option_and_then}
 use Rattle.serde_json.specs.Data.{Data}
 use Rattle.rb_shadow.proofs.Public.NameOf.{value_is, candidate_is}
@@ -18,6 +19,31 @@ use Rattle.serde_json.proofs.Texts.{print-outline}
 -- what is read so far, and then what is still to be read
 abbrev pub with_front : {A : Type 0} → List A → Option (List A) → Option (List A)
 with_front front o = option_map (λ later. front ++ later) o
+
+-- where nothing is read so far, all is still to be read
+pub nothing_read : {A : Type 0} (left : Option (List A)) → with_front [] left ≡ left
+nothing_read None = refl
+nothing_read (Some later) = refl
+
+-- what is read with one more before what is still to be read
+abbrev one_before : {A : Type 0} → Option A → Option (List A) → Option (List A)
+one_before one left = option_and_then (λ x. option_map (λ later. x ∷ later) left) one
+
+front_more : {A : Type 0} (done : List A) (x : A) (left : Option (List A)) → with_front (done ++ (x ∷ [])) left
+    ≡ with_front done (one_before (Some x) left)
+front_more done x None = refl
+front_more done x (Some later) = ap Some (append_assoc done (x ∷ []) later)
+
+-- one more that is read is then at the end of what is read so far
+pub next_read : {A : Type 0} (done new : List A) (x : A) (one : Option A) (left whole : Option (List A)) → new ≡ done ++ (x ∷ [])
+    → one ≡ Some x → with_front done (one_before one left) ≡ whole → with_front new left ≡ whole
+next_read done new x one left whole e is h =
+    ap (λ l. with_front l left) e ∙ front_more done x left ∙ ap (λ o. with_front done (one_before o left)) (sym is) ∙ h
+
+-- where one is none, nothing is read
+pub none_read : {A : Type 0} (done : List A) (one : Option A) (left whole : Option (List A)) → one ≡ None
+    → with_front done (one_before one left) ≡ whole → whole ≡ None
+none_read done one left whole is h = sym h ∙ ap (λ o. with_front done (one_before o left)) is
 
 -- an operation's name is read from its own text
 pub back : (x : OpName) → IsName x → name_of (name_text x) ≡ Some x

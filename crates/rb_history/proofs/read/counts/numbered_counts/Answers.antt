@@ -1,9 +1,8 @@
 use Rattle.std.proofs.Common.{◌≡◌, ◌+◌, ◌∷◌, Some, drop, suc, take, ap, sym, ◌∙◌, add-one, arith, drop-cons, rules}
 use Rattle.std.proofs.lemmas.List.{drop_all}
 use Rattle.serde_json.specs.View.{items_view}
-use Rattle.rb_commands.proofs.Public.Reading.{with_front}
+use Rattle.rb_commands.proofs.Public.Reading.{nothing_read, with_front}
 use Rattle.rb_history.specs.Counts.{numbered_in}
-use Rattle.rb_history.proofs.ItemsRead.{none_yet}
 use Rattle.rb_history.proofs.Numbered.{all_read, none_behind, value_read}
 use Rattle.rb_history.proofs.read.counts.numbered_counts.Goals as goal
 
@@ -12,7 +11,7 @@ loop-item-init c = record {
   few = omega arith;
   sites = search rules;
   none = search rules;
-  read = none_yet (numbered_in 0 (items_view c.args.items.now));
+  read = nothing_read (numbered_in 0 (items_view c.args.items.now));
 }
 
 pub loop-item-preserved : goal.loop-item-preserved

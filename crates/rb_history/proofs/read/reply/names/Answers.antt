@@ -3,16 +3,16 @@ use Rattle.std.proofs.lemmas.List.{drop_all}
 use Rattle.std.specs.Prelude.{option_and_then}
 use Rattle.serde_json.specs.Find.{as_array}
 use Rattle.serde_json.specs.View.{items_view, view}
-use Rattle.rb_commands.proofs.Public.Reading.{with_front}
+use Rattle.rb_commands.proofs.Public.Reading.{nothing_read, with_front}
 use Rattle.rb_history.specs.RepliesRead.{names_in}
-use Rattle.rb_history.proofs.ItemsRead.{none_read, none_yet, one_more_read}
+use Rattle.rb_history.proofs.ItemsRead.{none_read, one_more_read}
 use Rattle.rb_history.proofs.read.reply.names.Goals as goal
 
 pub loop-item-init : goal.loop-item-init
 loop-item-init c =
     let whole = names_in (items_view c.deref-item-items.result.now) in
     let none : c.new-names.result.items ≡ [] = search rules in
-    ap (λ front. with_front front whole) none ∙ none_yet whole
+    ap (λ front. with_front front whole) none ∙ nothing_read whole
 
 pub returns-in_default-name : goal.returns-in_default-name
 returns-in_default-name c =
