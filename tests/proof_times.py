@@ -7,8 +7,8 @@ It reads the times at which `rt check --jobs 1` wrote what it keeps in crates/CR
 the last check that proved the crate from nothing with one job (remove crates/CRATE/out before it). Another check of
 the same crate in between, or other work on the machine, makes the numbers wrong: they are seconds by the clock.
 
-With --size it says how many 1,000,000 bytes were kept for each, in place of seconds. That follows the time, some
-1,000,000 bytes a second, and is the same on each machine and whatever else runs there.
+With --size it says how many 1,000,000 bytes were kept for each, in place of seconds. That is the same on each machine,
+whatever else runs there, and follows the time but for what is searched: a search leaves little behind.
 """
 import os
 import re
