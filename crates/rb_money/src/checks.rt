@@ -9,8 +9,8 @@ use crate::accounts::LONGEST_NAME;
 use crate::cents::MOST_CENTS;
 use crate::fault::ConfigFault;
 use crate::limits::{Limits, MOST_ACCOUNTS, MOST_SITES};
-use indexmap::IndexSet;
 use std::alloc::Global;
+use std::collections::HashSet;
 
 fn is_name_byte(byte: u8) -> bool
     ensures { result ≡ is_name_byte byte }
@@ -60,7 +60,7 @@ fn is_repeated(before: &[(String, u64)], name: &str, is_new: bool) -> bool
 fn count_distinct(alloc: Global, accounts: &[(String, u64)]) -> usize
     ensures { AreNewUpTo result accounts.now }
 {
-    let Ok(mut seen) = IndexSet::with_capacity(alloc, accounts.len()) else {
+    let Ok(mut seen) = HashSet::with_capacity(alloc, accounts.len()) else {
         return 0;
     };
     for (i, account) in accounts.iter().enumerate() {

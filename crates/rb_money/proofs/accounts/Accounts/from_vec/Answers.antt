@@ -1,12 +1,18 @@
-use Rattle.std.proofs.Common.{◌≡◌}
-use Rattle.std.specs.Vec.Iter.{into_iter_items}
-use Rattle.rb_money.proofs.Entries.{names_listed, starts_listed}
-use Rattle.rb_money.proofs.Filled.{filling, fresh_if_proper}
+use Rattle.std.proofs.Common.{◌∙◌, List, ℕ, ap, subst}
+use Rattle.std.specs.Prelude.{map}
+use Rattle.rb_money.specs.Faults.{account_of}
+use Rattle.rb_money.specs.Settings.{AccountList}
+use Rattle.rb_money.proofs.Named.{Entries, names_listed, names_of, starts_listed}
+use Rattle.rb_money.proofs.Places.{HasPlaces}
 use Rattle.rb_money.proofs.accounts.Accounts.from_vec.Goals as goal
 
-pub loop-name-init : goal.loop-name-init
-loop-name-init c =
-    let items : into_iter_items c.into_iter-name-iterator.result ≡ c.args.accounts.items =
-    c.into_iter-name-iterator.ensures.into_iter_gives.0 in
-    rw items (filling _ c.args.accounts.items _ c.in_ok-list.ensures.names c.in_ok-list.ensures.starts (names_listed c.args.accounts.items)
-    (starts_listed c.args.accounts.items) (fresh_if_proper _ 0 c.args.accounts.items c.requires.proper) c.requires.few)
+pub invariant_of-result : goal.invariant_of-result
+invariant_of-result c =
+    let Finds : Entries → Type 0 = λ es. HasPlaces c.in_ok-places.places (names_of es) in
+    (c.requires.few, subst Finds c.as_slice.ensures.value c.in_ok-places.ensures)
+
+pub returns : goal.returns
+returns c =
+    let es = c.args.accounts.items in
+    let With : List (List ℕ) → List ℕ → AccountList = λ ns ss. record { names = ns; starts = ss } in
+    ap (λ ns. With ns (map (λ e. e.1) es)) (names_listed es) ∙ ap (With (map (λ a. a.0) (map account_of es))) (starts_listed es)

@@ -3,7 +3,7 @@ use Rattle.std.specs.Arc.{arc_value}
 use Rattle.std.specs.Prelude.{map}
 use Rattle.rb_money.specs.Faults.{account_of, config_fault}
 use Rattle.rb_money.specs.Settings.{AccountList, IsConfigured, version_of}
-use Rattle.rb_money.proofs.Entries.{Entries}
+use Rattle.rb_money.proofs.Named.{Entries}
 use Rattle.rb_money.proofs.Faults.{configured}
 use Rattle.rb_money.proofs.config.Config.new.Goals as goal
 
