@@ -7,7 +7,7 @@ use rb_lines::WriteFailed;
 use std::alloc::AllocError;
 
 /// Why a text isn't written whole.
-#[derive(Clone, Copy, Debug, PartialEq, Eq)]
+#[derive(Clone, Copy)]
 pub enum Unwritten {
     Write,
     OutOfMemory,

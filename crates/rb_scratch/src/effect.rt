@@ -5,7 +5,7 @@ use rb_shadow::{Colour, Kind};
 
 /// What a generator decided on a request: the account, the amount in cents, the kind and the
 /// colour of the operation that it would make.
-#[derive(Clone, Copy, Debug, PartialEq, Eq)]
+#[derive(Clone, Copy)]
 pub struct Effect {
     pub account: Place,
     pub amount: u64,

@@ -6,7 +6,7 @@ use rb_statements::Statement;
 use std::alloc::{AllocError, Global};
 
 /// A reply, and the same once more where it holds memory and the history keeps replies.
-#[derive(Debug, Drop)]
+#[derive(Drop)]
 pub struct Answer {
     pub reply: Reply,
     pub noted: Option<Reply>,
