@@ -5,7 +5,7 @@ use Rattle.std.specs.Prelude.{slice_get, nat_lt, Option, option_map, option_and_
 use Rattle.std.specs.Prelude.{unwrap_or}
 use Rattle.std.proofs.lemmas.Bool.Decides.{nat_tests}
 use Rattle.std.proofs.lemmas.List.{length-map}
-use Rattle.std.proofs.lemmas.Option.{slice_get-map}
+use Rattle.std.proofs.lemmas.Option.{slice_get-map, slice_get_past}
 use Rattle.rb_money.specs.Settings.{Settings}
 use Rattle.rb_shadow.specs.declared.shadow.Shadow.{Shadow}
 use Rattle.rb_shadow.specs.declared.op_name.OpName.{OpName}
@@ -133,3 +133,16 @@ counted_or us x p n {o} e counted is =
     let many : option_map (λ (u : Shadow). cancel_count us u.name) (operation_at us p) ≡ Some (cancel_count us t.name) =
     ap (option_map (λ (u : Shadow). cancel_count us u.name)) there in
     ap Some (is ∙ ap (λ o. unwrap_or o 0) (counted ∙ many)) ∙ sym many
+
+-- how often the operation at a position is cancelled
+pub count_there : (us : List Shadow) (cs : List Cancels) (p i : ℕ) (c : Cancels) → cs ≡ all_cancels us → 1 ≤ p → p - 1 ≡ i →
+    slice_get cs i ≡ Some c → Some c.count ≡ option_map (λ u. cancel_count us u.name) (operation_at us p)
+count_there us cs p i c are some is read =
+    let (u, there, same) = cancels_at us cs p i c are some is read in
+    ap (λ (c : Cancels). Some c.count) same ∙ sym (ap (option_map (λ (u : Shadow). cancel_count us u.name)) there)
+
+-- there is no operation where no number is kept
+pub nothing_there : (us : List Shadow) (cs : List Cancels) (p i : ℕ) → cs ≡ all_cancels us → 1 ≤ p → p - 1 ≡ i →
+    length cs ≤ i → operation_at us p ≡ None
+nothing_there us cs p i are some is past = ap (λ b. cond b None (slice_get us (p - 1))) (Tests.positive p some)
+    ∙ slice_get_past us (p - 1) (omega (arith, is, past, all_counts us cs are))

@@ -1,7 +1,8 @@
 -- A ledger and its log as of a position, from one position to the next.
-use Rattle.std.proofs.Common.{◌≡◌, ℕ, ◌+◌, ◌<◌, List, [], ◌∷◌, ◌++◌, length, length-take-le, take, drop, ap, sym, ◌∙◌, subst, arith, Some}
+use Rattle.std.proofs.Common.{◌≡◌, ℕ, ◌+◌, ◌-◌, ◌<◌, List, [], ◌∷◌, ◌++◌, length, length-take-le, take, drop}
+use Rattle.std.proofs.Common.{ap, sym, ◌∙◌, subst, arith, Some}
 use Rattle.std.specs.Prelude.{slice_get}
-use Rattle.std.proofs.lemmas.List.{take-append-drop}
+use Rattle.std.proofs.lemmas.List.{take-append-drop, take_all}
 use Rattle.std.proofs.lemmas.Option.{slice_get_within}
 use Rattle.rb_money.specs.Settings.{Settings}
 use Rattle.rb_shadow.specs.declared.shadow.Shadow.{Shadow}
@@ -9,6 +10,7 @@ use Rattle.rb_undo.specs.declared.parts.UndoParts.{UndoParts}
 use Rattle.rb_undo.specs.Log.{Log}
 use Rattle.rb_ledger.specs.declared.marks.Links.{Links}
 use Rattle.rb_ledger.specs.declared.index.Index.{Index}
+use Rattle.rb_ledger.specs.Book.{Book}
 use Rattle.rb_ledger.specs.Valid.{IsValid, parts_of}
 use Rattle.rb_ledger.specs.Records.{records_of}
 use Rattle.rb_ledger.specs.Index.{IsIndex, IsLinked, AreLinks}
@@ -80,3 +82,34 @@ forth s us n m ls x y l k u r at next there is pushed less index =
           ∙ sym (Records.records_of-push s (take n us) u) ∙ ap (records_of s) (sym more);
       room = omega (arith, at.room, next, less);
     })
+
+-- a whole ledger and its log, as of the last position
+pub whole : (s : Settings) (us : List Shadow) (n : ℕ) (ls : List Links) (x : Index) (l : Log) (b : Book) (k : ℕ) → IsIndex s us x →
+    AreLinks s us ls → record { settings = s; entries = us; room = k } ≡ b → l.parts ≡ records_of b.settings b.entries →
+    n ≡ length b.entries → IsAt s us n ls x l
+whole s us n ls x l b k index links seen records at_end =
+    let all : n ≡ length us = at_end ∙ sym (ap (λ (b : Book). length b.entries) seen) in
+    let same : take n us ≡ us = take_all n us (omega (arith, all)) in record {
+      valid = index.clocked.valid;
+      within = omega (arith, all);
+      links = links;
+      index = subst (λ vs. IsIndex s vs x) (sym same) index;
+      records = records ∙ sym (ap (λ (b : Book). records_of b.settings b.entries) seen) ∙ ap (records_of s) (sym same);
+      room = omega (arith, all);
+    }
+
+-- the index as of the last position
+pub last_index : (s : Settings) (us : List Shadow) (n : ℕ) (ls : List Links) (x : Index) (l : Log) → IsAt s us n ls x l → n ≡ length us →
+    IsIndex s us x
+last_index s us n ls x l at all = subst (λ vs. IsIndex s vs x) (take_all n us (omega (arith, all))) at.index
+
+-- a log of records
+abbrev pub log : List UndoParts → ℕ → Log
+log ps n = record { parts = ps; room = n }
+
+-- the log as of the last position
+pub last_log : (s : Settings) (us : List Shadow) (n m : ℕ) (ls : List Links) (x : Index) (l : Log) → IsAt s us n ls x l → n ≡ length us →
+    m ≡ length us → l ≡ record { parts = records_of s us; room = l.room - (m - n) }
+last_log s us n m ls x l at all count =
+    let room : l.room ≡ l.room - (m - n) = omega (arith, all, count) in
+    ap (λ ps. log ps l.room) (at.records ∙ ap (records_of s) (take_all n us (omega (arith, all)))) ∙ ap (log (records_of s us)) room

@@ -20,8 +20,9 @@ read_item xs i j m x count near at read = ap (slice_get xs) (sym at) ∙ slice_g
 pub shorter : {X : Type 0} (xs ys : List X) (m n : ℕ) → length xs ≡ n + 1 → m ≡ length xs → ys ≡ take (m - 1) xs → ys ≡ take n xs
 shorter xs ys m n long count is = is ∙ ap (λ k. take k xs) (let z : m - 1 ≡ n = omega (arith, long, count) in z)
 
--- what `get` and `copied` give of a row
-pub copied_get : (xs : List ℕ) (i : ℕ) (r : Option (Bor ℕ)) (o : Option ℕ) → IsGetResult xs i i r → o ≡ option_copied r → o ≡ slice_get xs i
+-- what `get` and `copied` give of a list
+pub copied_get : {X : Type 0} (xs : List X) (i : ℕ) (r : Option (Bor X)) (o : Option X) → IsGetResult xs i i r → o ≡ option_copied r →
+    o ≡ slice_get xs i
 copied_get xs i None o looked is = is ∙ sym (slice_get_past xs i looked.3)
 copied_get xs i (Some b) o looked is = is ∙ sym (slice_get_read xs (length xs) i b.now refl looked.3.0 looked.1)
 

@@ -1,10 +1,11 @@
 -- What is read to make the record of an operation, where all the operations are there and not only those before it.
 use Rattle.std.proofs.Common.{◌≡◌, ℕ, ◌+◌, ◌-◌, ◌<◌, List, [], ◌∷◌, ◌++◌, get_or, take, drop, refl, ap, sym, ◌∙◌, subst}
 use Rattle.std.proofs.Common.{arith, inr, Some, None, length}
-use Rattle.std.proofs.Common.{length-take-le}
-use Rattle.std.specs.Prelude.{Option, IfSome}
+use Rattle.std.proofs.Common.{cond, length-take-le}
+use Rattle.std.specs.Prelude.{Option, IfSome, slice_get}
 use Rattle.std.proofs.lemmas.List.{take-append-drop, take_more}
 use Rattle.std.proofs.lemmas.Option.{slice_get_within}
+use Rattle.rb_money.proofs.Public.Tests
 use Rattle.rb_money.specs.Settings.{Settings}
 use Rattle.rb_money.specs.declared.place.Place.{Place}
 use Rattle.rb_shadow.specs.declared.op_name.OpName.{OpName}
@@ -76,3 +77,10 @@ one_record_more s us xs k d ps qs p same there is so_far added =
     records_of-pushed s s (take k us) (take (k + 1) us) u ps qs p so_far
     (is ∙ ap (λ j. parts_of s (take j us) (get_or xs k d)) here ∙ ap (λ ys. parts_of s (take k us) (get_or ys k d)) same)
     (take_more us k d there) refl added
+
+-- the entry after the first ones
+pub entry_next : (us xs : List Shadow) (k : ℕ) (d : Shadow) → xs ≡ us → k < length xs → Some (get_or xs k d) ≡ operation_at us (k + 1)
+entry_next us xs k d same near =
+    let here : k + 1 - 1 ≡ k = omega arith in
+    ap (λ ys. Some (get_or ys k d)) same ∙ sym (ap (λ b. cond b None (slice_get us (k + 1 - 1))) (Tests.positive (k + 1) (omega arith))
+    ∙ ap (slice_get us) here ∙ Others.item us k d (omega (arith, near, ap length same)))

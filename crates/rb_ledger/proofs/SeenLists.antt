@@ -1,6 +1,6 @@
 -- What a ledger's parts are for the list that its clients see.
 use Rattle.std.proofs.Common.{◌≡◌, ℕ, List}
-use Rattle.std.proofs.Common.{subst}
+use Rattle.std.proofs.Common.{subst, ap, ◌∙◌}
 use Rattle.rb_money.specs.Settings.{Settings}
 use Rattle.rb_shadow.specs.declared.shadow.Shadow.{Shadow}
 use Rattle.rb_ledger.specs.declared.marks.Links.{Links}
@@ -17,3 +17,12 @@ seen us n x b index e = subst (λ (b : Book). IsIndex b.settings b.entries x) e 
 pub links_seen : (s : Settings) (us : List Shadow) (n : ℕ) (ls : List Links) (b : Book) → AreLinks s us ls →
     record { settings = s; entries = us; room = n } ≡ b → AreLinks b.settings b.entries ls
 links_seen s us n ls b links e = subst (λ (b : Book). AreLinks b.settings b.entries ls) e links
+
+-- a book of its parts
+abbrev pub book : Settings → List Shadow → ℕ → Book
+book s us n = record { settings = s; entries = us; room = n }
+
+-- the same book, of equal parts
+pub same_book : (s t : Settings) (us vs : List Shadow) (m n : ℕ) (b : Book) → book s us m ≡ b → t ≡ s → vs ≡ us → n ≡ m → book t vs n ≡ b
+same_book s t us vs m n b seen settings entries room = ap (λ r. book r vs n) settings ∙ ap (λ ws. book s ws n) entries
+    ∙ ap (book s us) room ∙ seen

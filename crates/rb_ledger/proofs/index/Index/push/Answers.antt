@@ -69,3 +69,13 @@ returns-clause-index c =
     ∙ ap (λ (p : UndoParts). set c.args.self.now.rows.rows (row_of c.args.shadow.now.name)
     (get_or c.args.self.now.rows.rows (row_of c.args.shadow.now.name) [] ++ p.position ∷ [])) c.requires.parts
     )
+
+pub push_reserved-requires : goal.push_reserved-requires
+push_reserved-requires c = omega (
+  arith,
+  c.cancel_one_more.ensures.len,
+  c.cancel_one_more.ensures.capacity,
+  c.requires.cancels,
+  CancelReads.all_counts _ _ c.requires.index.cancels,
+  c.args.self.now.cancels.ok.0,
+)

@@ -1,6 +1,9 @@
-use Rattle.std.proofs.Common.{length, ap, arith}
+use Rattle.std.proofs.Common.{length, ap, arith, refl}
 use Rattle.rb_ledger.proofs.HeadReads
 use Rattle.rb_ledger.proofs.SeenLists
+use Rattle.std.proofs.lemmas.Option.{slice_get_read}
+use Rattle.rb_ledger.proofs.ReadItems
+use Rattle.rb_ledger.proofs.Public.OnAccount
 use Rattle.rb_ledger.proofs.ledger.Ledger.last_on.Goals as goal
 
 pub returns-in-None-clause-last : goal.returns-in-None-clause-last
@@ -12,3 +15,17 @@ returns-in-None-clause-last c =
       c.from.ensures,
       c.in-None.ensures.lookup.3,
     ))
+
+pub returns-in-Some-clause-last : goal.returns-in-Some-clause-last
+returns-in-Some-clause-last c =
+    let index = SeenLists.seen _ _ _ _ c.self.invariant.index c.self.view_is in
+    HeadReads.head_last _ _ _ c.args.place _ index.heads
+    (ReadItems.read_at _ _ _ _ _ c.deref.ensures.value c.from.ensures (slice_get_read _ _ _ _ refl c.in-Some.ensures.lookup.3.0
+    c.in-Some.ensures.lookup.1))
+
+pub returns-in-Some-clause-within : goal.returns-in-Some-clause-within
+returns-in-Some-clause-within c =
+    let index = SeenLists.seen _ _ _ _ c.self.invariant.index c.self.view_is in
+    OnAccount.on_within _ c.args.place _ (HeadReads.head_last _ _ _ c.args.place _ index.heads
+    (ReadItems.read_at _ _ _ _ _ c.deref.ensures.value c.from.ensures (slice_get_read _ _ _ _ refl c.in-Some.ensures.lookup.3.0
+    c.in-Some.ensures.lookup.1))).on

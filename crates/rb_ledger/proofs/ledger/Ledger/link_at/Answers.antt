@@ -8,20 +8,20 @@ use Rattle.rb_ledger.proofs.ledger.Ledger.link_at.Goals as goal
 
 pub index-requires : goal.index-requires
 index-requires c =
-    let count : vec_len c.self.inside.links ≡ length c.self.inside.links.items = omega arith in
+    let count : vec_len c.self.inside.links ≡ length c.self.inside.links.items = c.self.inside.links.ok.0 in
     let links = SeenLists.links_seen _ _ _ _ _ c.self.invariant.links c.self.view_is in
     omega (arith, c.requires.some, OnAccount.on_within _ c.args.place c.args.position c.requires.on, count, links.count)
 
 pub returns-then-eq : goal.returns-then-eq
 returns-then-eq c =
     let links = SeenLists.links_seen _ _ _ _ _ c.self.invariant.links c.self.view_is in
-    let count : vec_len c.self.inside.links ≡ length c.self.inside.links.items = omega arith in
+    let count : vec_len c.self.inside.links ≡ length c.self.inside.links.items = c.self.inside.links.ok.0 in
     (LinkReads.link_read _ _ _ c.args.place c.args.position _ _ links c.requires.on c.requires.some count
     c.index.ensures).0 (Tests.number_sound _ _ (sym c.eq.ensures ∙ c.if-eq.true))
 
 pub returns-else-eq : goal.returns-else-eq
 returns-else-eq c =
     let links = SeenLists.links_seen _ _ _ _ _ c.self.invariant.links c.self.view_is in
-    let count : vec_len c.self.inside.links ≡ length c.self.inside.links.items = omega arith in
+    let count : vec_len c.self.inside.links ≡ length c.self.inside.links.items = c.self.inside.links.ok.0 in
     (LinkReads.link_read _ _ _ c.args.place c.args.position _ _ links c.requires.on c.requires.some count
     c.index.ensures).1 (ReadItems.apart_from _ _ (sym c.eq.ensures ∙ c.if-eq.false))

@@ -1,9 +1,11 @@
-use Rattle.std.proofs.Common.{◌≡◌, ◌+◌, ◌-◌, ◌<◌, ◌++◌, ◌∷◌, [], vec_len, length, take, subst, sym, ap, ◌∙◌, refl, arith}
+use Rattle.std.proofs.Common.{◌≡◌, ◌+◌, ◌-◌, ◌<◌, ◌++◌, ◌∷◌, [], vec_len, length, take, subst, sym, ap, ◌∙◌, refl, arith, length-take-le}
 use Rattle.rb_ledger.specs.Valid.{parts_of}
 use Rattle.rb_ledger.specs.Index.{IsIndex, IsLinked}
 use Rattle.rb_ledger.specs.Rewinding.{Rewinding}
 use Rattle.rb_ledger.proofs.ReadItems
 use Rattle.rb_ledger.proofs.Cursors
+use Rattle.rb_ledger.specs.Records.{records_of}
+use Rattle.rb_ledger.proofs.SeenLists
 use Rattle.rb_ledger.proofs.rewound.Rewound.back.Goals as goal
 
 pub pop-requires-in-Some : goal.pop-requires-in-Some
@@ -11,7 +13,7 @@ pop-requires-in-Some c =
     let here : c.self.inside.at ≡ c.args.self.now.at = ap (λ (w : Rewinding). w.at) c.self.view_is in
     let next : c.self.inside.at ≡ c.self.inside.at - 1 + 1 = omega (arith, c.requires, here) in
     let latest = Cursors.latest _ _ _ (c.self.inside.at - 1) _ _ _ _ c.in-Some.undo c.self.invariant.at next c.in-Some.ensures.0 in
-    let many : vec_len c.self.inside.links ≡ length c.self.inside.links.items = omega arith in
+    let many : vec_len c.self.inside.links ≡ length c.self.inside.links.items = c.self.inside.links.ok.0 in
     let near : c.self.inside.at - 1 < vec_len c.self.inside.links = omega (
       arith,
       many,
@@ -51,3 +53,50 @@ pub unreachable-requires : goal.unreachable-requires
 unreachable-requires c =
     let here : c.self.inside.at ≡ c.args.self.now.at = ap (λ (w : Rewinding). w.at) c.self.view_is in
     Cursors.some_records _ _ _ _ _ _ c.self.invariant.at (omega (arith, c.requires, here)) c.in-None.ensures.0
+
+pub overflow_sub-self : goal.overflow_sub-self
+overflow_sub-self c =
+    let here : c.self.inside.at ≡ c.args.self.now.at = ap (λ (w : Rewinding). w.at) c.self.view_is in
+    omega (arith, c.requires, here)
+
+pub returns-clause-ledger : goal.returns-clause-ledger
+returns-clause-ledger c = SeenLists.same_book c.self.inside.index.config _ _ _ _ _ _ (ap (λ (w : Rewinding). w.ledger) c.self.view_is)
+    c.pop-in-Some.ensures.index.config refl (ap (λ n. n - vec_len c.self.inside.entries) c.pop-in-Some.ensures.limit)
+
+pub returns-clause-log : goal.returns-clause-log
+returns-clause-log c =
+    let here : c.self.inside.at ≡ c.args.self.now.at = ap (λ (w : Rewinding). w.at) c.self.view_is in
+    let len = vec_len c.self.inside.entries in
+    let same : c.pop.new.self.room - (len - (c.self.inside.at - 1)) ≡ c.self.inside.log.room - (len - c.self.inside.at) = omega (
+      arith,
+      c.requires,
+      here,
+      c.in-Some.ensures.1,
+      c.self.invariant.at.within,
+      c.self.inside.entries.ok.0,
+    ) in
+    ap (λ s. Cursors.log (records_of s c.self.inside.entries.items) (c.pop.new.self.room - (len - (c.self.inside.at - 1))))
+    c.pop-in-Some.ensures.index.config
+    ∙ ap (Cursors.log (records_of c.self.inside.index.config c.self.inside.entries.items)) same
+    ∙ ap (λ (w : Rewinding). w.log) c.self.view_is
+
+pub returns-clause-at : goal.returns-clause-at
+returns-clause-at c =
+    let here : c.self.inside.at ≡ c.args.self.now.at = ap (λ (w : Rewinding). w.at) c.self.view_is in
+    omega (arith, c.requires, here)
+
+pub slice_bounds-before-end : goal.slice_bounds-before-end
+slice_bounds-before-end c = sym (length-take-le (c.self.inside.at - 1) c.deref.result.now
+    (omega (arith, c.self.invariant.at.within, ap length c.deref.ensures.value)))
+
+pub index-requires : goal.index-requires
+index-requires c =
+    let here : c.self.inside.at ≡ c.args.self.now.at = ap (λ (w : Rewinding). w.at) c.self.view_is in
+    omega (
+      arith,
+      c.requires,
+      here,
+      c.self.invariant.at.within,
+      c.self.invariant.at.links.count,
+      c.self.inside.links.ok.0,
+    )

@@ -1,14 +1,17 @@
-use Rattle.std.proofs.Common.{◌≡◌, ◌<◌, ◌++◌, ◌∷◌, [], vec_len, length, take, subst, sym, ap, ◌∙◌, refl, arith}
+use Rattle.std.proofs.Common.{◌≡◌, ◌<◌, ◌++◌, ◌∷◌, [], vec_len, length, take, subst, sym, ap, ◌∙◌, refl, arith, length-take-le, ◌+◌, ◌-◌}
 use Rattle.rb_ledger.specs.Valid.{IsValid, parts_of}
 use Rattle.rb_ledger.specs.Index.{IsIndex, IsLinked}
 use Rattle.rb_ledger.specs.Rewinding.{Rewinding}
 use Rattle.rb_ledger.proofs.ReadItems
 use Rattle.rb_ledger.proofs.Cursors
+use Rattle.rb_ledger.specs.Records.{records_of}
+use Rattle.rb_ledger.proofs.Lengths
+use Rattle.rb_ledger.proofs.SeenLists
 use Rattle.rb_ledger.proofs.rewound.Rewound.forth.Goals as goal
 
 pub parts-parts-requires-clause-longer : goal.parts-parts-requires-clause-longer
 parts-parts-requires-clause-longer c =
-    let count : vec_len c.self.inside.entries ≡ length c.self.inside.entries.items = omega arith in
+    let count : vec_len c.self.inside.entries ≡ length c.self.inside.entries.items = c.self.inside.entries.ok.0 in
     let here : c.self.inside.at ≡ c.args.self.now.at = ap (λ (w : Rewinding). w.at) c.self.view_is in
     let all : length c.self.inside.entries.items ≡ length c.args.self.now.ledger.entries =
     ap (λ (w : Rewinding). length w.ledger.entries) c.self.view_is in
@@ -20,7 +23,7 @@ parts-parts-requires-clause-longer c =
 
 pub push-requires-clause-longer : goal.push-requires-clause-longer
 push-requires-clause-longer c =
-    let count : vec_len c.self.inside.entries ≡ length c.self.inside.entries.items = omega arith in
+    let count : vec_len c.self.inside.entries ≡ length c.self.inside.entries.items = c.self.inside.entries.ok.0 in
     let here : c.self.inside.at ≡ c.args.self.now.at = ap (λ (w : Rewinding). w.at) c.self.view_is in
     let all : length c.self.inside.entries.items ≡ length c.args.self.now.ledger.entries =
     ap (λ (w : Rewinding). length w.ledger.entries) c.self.view_is in
@@ -32,14 +35,14 @@ push-requires-clause-longer c =
 
 pub push-requires-clause-links : goal.push-requires-clause-links
 push-requires-clause-links c =
-    let count : vec_len c.self.inside.entries ≡ length c.self.inside.entries.items = omega arith in
+    let count : vec_len c.self.inside.entries ≡ length c.self.inside.entries.items = c.self.inside.entries.ok.0 in
     let here : c.self.inside.at ≡ c.args.self.now.at = ap (λ (w : Rewinding). w.at) c.self.view_is in
     let all : length c.self.inside.entries.items ≡ length c.args.self.now.ledger.entries =
     ap (λ (w : Rewinding). length w.ledger.entries) c.self.view_is in
     let near : c.self.inside.at < vec_len c.self.inside.entries = omega (arith, c.requires, here, all, count) in
     let there = ReadItems.read_item c.self.inside.entries.items c.self.inside.at c.self.inside.at _ c.index.result.now count near refl
     c.index.ensures in
-    let many : vec_len c.self.inside.links ≡ length c.self.inside.links.items = omega arith in
+    let many : vec_len c.self.inside.links ≡ length c.self.inside.links.items = c.self.inside.links.ok.0 in
     let close : c.self.inside.at < vec_len c.self.inside.links = omega (arith, many, count, near, c.self.invariant.at.links.count) in
     let link = Cursors.linked _ _ _ _ _ c.index-2.result.now c.self.invariant.at.links there
     (ReadItems.read_item _ _ _ _ _ many close refl c.index-2.ensures) in
@@ -48,7 +51,7 @@ push-requires-clause-links c =
 
 pub invariant_of-self : goal.invariant_of-self
 invariant_of-self c =
-    let count : vec_len c.self.inside.entries ≡ length c.self.inside.entries.items = omega arith in
+    let count : vec_len c.self.inside.entries ≡ length c.self.inside.entries.items = c.self.inside.entries.ok.0 in
     let here : c.self.inside.at ≡ c.args.self.now.at = ap (λ (w : Rewinding). w.at) c.self.view_is in
     let all : length c.self.inside.entries.items ≡ length c.args.self.now.ledger.entries =
     ap (λ (w : Rewinding). length w.ledger.entries) c.self.view_is in
@@ -70,3 +73,97 @@ invariant_of-self c =
         links = omega (arith, c.push.ensures.limit, room.links);
       };
     }
+
+pub parts-parts-requires-clause-index : goal.parts-parts-requires-clause-index
+parts-parts-requires-clause-index c = subst (λ us. IsIndex c.self.inside.index.config (take c.self.inside.at us)
+    c.self.inside.index) (sym c.deref.ensures.value) c.self.invariant.at.index
+
+pub push_reserved-requires : goal.push_reserved-requires
+push_reserved-requires c =
+    let here : c.self.inside.at ≡ c.args.self.now.at = ap (λ (w : Rewinding). w.at) c.self.view_is in
+    let all : length c.self.inside.entries.items ≡ length c.args.self.now.ledger.entries =
+    ap (λ (w : Rewinding). length w.ledger.entries) c.self.view_is in
+    omega (arith, c.requires, here, all, c.self.invariant.at.room)
+
+pub push-requires-clause-cancels : goal.push-requires-clause-cancels
+push-requires-clause-cancels c =
+    let here : c.self.inside.at ≡ c.args.self.now.at = ap (λ (w : Rewinding). w.at) c.self.view_is in
+    let all : length c.self.inside.entries.items ≡ length c.args.self.now.ledger.entries =
+    ap (λ (w : Rewinding). length w.ledger.entries) c.self.view_is in
+    let small = length-take-le c.self.inside.at c.deref.result.now
+    (omega (arith, c.self.invariant.at.within, ap length c.deref.ensures.value)) in
+    let room = c.self.invariant.room in
+    omega (arith, small, c.requires, here, all, c.self.inside.entries.ok.0, room.within, room.cancels)
+
+pub index-requires : goal.index-requires
+index-requires c =
+    let here : c.self.inside.at ≡ c.args.self.now.at = ap (λ (w : Rewinding). w.at) c.self.view_is in
+    let all : length c.self.inside.entries.items ≡ length c.args.self.now.ledger.entries =
+    ap (λ (w : Rewinding). length w.ledger.entries) c.self.view_is in
+    omega (arith, c.requires, here, all, c.self.inside.entries.ok.0)
+
+pub slice_bounds-before-end : goal.slice_bounds-before-end
+slice_bounds-before-end c = sym (length-take-le c.self.inside.at c.deref.result.now
+    (omega (arith, c.self.invariant.at.within, ap length c.deref.ensures.value)))
+
+pub index-requires-2 : goal.index-requires-2
+index-requires-2 c =
+    let here : c.self.inside.at ≡ c.args.self.now.at = ap (λ (w : Rewinding). w.at) c.self.view_is in
+    let all : length c.self.inside.entries.items ≡ length c.args.self.now.ledger.entries =
+    ap (λ (w : Rewinding). length w.ledger.entries) c.self.view_is in
+    omega (arith, c.requires, here, all, c.self.invariant.at.links.count, c.self.inside.links.ok.0)
+
+pub push-requires-clause-index : goal.push-requires-clause-index
+push-requires-clause-index c = subst (λ us. IsIndex c.self.inside.index.config (take c.self.inside.at us) c.self.inside.index)
+    (sym c.deref.ensures.value) c.self.invariant.at.index
+
+pub push-requires-clause-parts : goal.push-requires-clause-parts
+push-requires-clause-parts c = c.parts-parts.ensures
+
+pub push-requires-clause-rows : goal.push-requires-clause-rows
+push-requires-clause-rows c =
+    let here : c.self.inside.at ≡ c.args.self.now.at = ap (λ (w : Rewinding). w.at) c.self.view_is in
+    let all : length c.self.inside.entries.items ≡ length c.args.self.now.ledger.entries =
+    ap (λ (w : Rewinding). length w.ledger.entries) c.self.view_is in
+    let small = length-take-le c.self.inside.at c.deref.result.now
+    (omega (arith, c.self.invariant.at.within, ap length c.deref.ensures.value)) in
+    omega (arith, small, c.requires, here, all, c.self.inside.entries.ok.0, c.self.invariant.room.within)
+
+pub overflow_add-self : goal.overflow_add-self
+overflow_add-self c =
+    let here : c.self.inside.at ≡ c.args.self.now.at = ap (λ (w : Rewinding). w.at) c.self.view_is in
+    let all : length c.self.inside.entries.items ≡ length c.args.self.now.ledger.entries =
+    ap (λ (w : Rewinding). length w.ledger.entries) c.self.view_is in
+    omega (
+      arith,
+      c.requires,
+      here,
+      all,
+      Lengths.valid_length _ _ c.self.invariant.at.index.clocked.configured c.self.invariant.at.valid,
+    )
+
+pub returns-clause-ledger : goal.returns-clause-ledger
+returns-clause-ledger c = SeenLists.same_book c.self.inside.index.config _ _ _ _ _ _ (ap (λ (w : Rewinding). w.ledger) c.self.view_is)
+    c.push.ensures.index.config refl (ap (λ n. n - vec_len c.self.inside.entries) c.push.ensures.limit)
+
+pub returns-clause-log : goal.returns-clause-log
+returns-clause-log c =
+    let here : c.self.inside.at ≡ c.args.self.now.at = ap (λ (w : Rewinding). w.at) c.self.view_is in
+    let all : length c.self.inside.entries.items ≡ length c.args.self.now.ledger.entries =
+    ap (λ (w : Rewinding). length w.ledger.entries) c.self.view_is in
+    let len = vec_len c.self.inside.entries in
+    let same : c.push_reserved.new.self.room - (len - (c.self.inside.at + 1)) ≡ c.self.inside.log.room - (len - c.self.inside.at) = omega (
+      arith,
+      c.requires,
+      here,
+      all,
+      c.self.inside.entries.ok.0,
+      c.push_reserved.ensures.room,
+    ) in
+    ap (λ s. Cursors.log (records_of s c.self.inside.entries.items) (c.push_reserved.new.self.room - (len - (c.self.inside.at + 1))))
+    c.push.ensures.index.config
+    ∙ ap (Cursors.log (records_of c.self.inside.index.config c.self.inside.entries.items)) same
+    ∙ ap (λ (w : Rewinding). w.log) c.self.view_is
+
+pub returns-clause-at : goal.returns-clause-at
+returns-clause-at c = ap (λ n. n + 1) (ap (λ (w : Rewinding). w.at) c.self.view_is)

@@ -1,0 +1,24 @@
+use Rattle.std.proofs.Common.{◌≡◌, length, vec_len, ap, ◌∙◌, arith}
+use Rattle.rb_ledger.specs.Rewinding.{Rewinding}
+use Rattle.rb_ledger.proofs.Cursors
+use Rattle.rb_ledger.proofs.rewound.Rewound.into_parts.Goals as goal
+
+pub invariant_of-result : goal.invariant_of-result
+invariant_of-result c =
+    let here : c.self.inside.at ≡ c.args.self.at = ap (λ (w : Rewinding). w.at) c.self.view_is in
+    let all : length c.self.inside.entries.items ≡ length c.args.self.ledger.entries =
+    ap (λ (w : Rewinding). length w.ledger.entries) c.self.view_is in
+    record {
+      index = Cursors.last_index _ _ _ _ _ _ c.self.invariant.at (omega (arith, c.requires, here, all));
+      links = c.self.invariant.at.links;
+      room = c.self.invariant.room;
+    }
+
+pub returns-clause-log : goal.returns-clause-log
+returns-clause-log c =
+    let here : c.self.inside.at ≡ c.args.self.at = ap (λ (w : Rewinding). w.at) c.self.view_is in
+    let all : length c.self.inside.entries.items ≡ length c.args.self.ledger.entries =
+    ap (λ (w : Rewinding). length w.ledger.entries) c.self.view_is in
+    let count : vec_len c.self.inside.entries ≡ length c.self.inside.entries.items = c.self.inside.entries.ok.0 in
+    Cursors.last_log _ _ _ _ _ _ _ c.self.invariant.at (omega (arith, c.requires, here, all)) count
+    ∙ ap (λ (w : Rewinding). w.log) c.self.view_is
