@@ -156,7 +156,6 @@ fn number_after(count: u32, limit: u32) -> Result<u32, Refusal>
 }
 
 /// The next name of the colour at site `me`.
-#[tactic(auto, using(crate::proofs::Counts::counts_blue, crate::proofs::Counts::counts_red))]
 fn name_after(ledger: &Ledger, me: u8, colour: Colour) -> Result<OpName, Refusal>
     requires { me < MOST_SITES }
     ensures { MatchResult result
