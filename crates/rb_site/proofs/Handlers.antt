@@ -1,17 +1,22 @@
 -- What each handler of a site does is what the event comes to.
 use Rattle.std.proofs.Common.{◌≡◌, ℕ, ◌≤◌, Bool, true, false, cond, not, ◌&&◌, ◌⊎◌, inl, inr, List, [], ◌∷◌, ◌++◌, length, refl, ap, sym}
-use Rattle.std.proofs.Common.{subst, ◌∙◌, arith, Option, Some, None, append-nil}
-use Rattle.std.specs.Prelude.{nat_le}
+use Rattle.std.proofs.Common.{subst, ◌∙◌, arith, Option, Some, None, append-nil, Result, Ok, Err, IfOk, take}
+use Rattle.std.specs.Prelude.{nat_le, nat_lt, ◌==◌}
+use Rattle.std.proofs.lemmas.Bool.{eq-eqb, ne_eqb}
 use Rattle.std.proofs.lemmas.Bool.Decides.{nat_tests}
-use Rattle.rb_money.specs.Refusals.{unless}
-use Rattle.rb_money.specs.Settings.{Settings}
+use Rattle.rb_money.specs.Amounts.{cents}
+use Rattle.rb_money.specs.Refusals.{and_then, unless}
+use Rattle.rb_money.specs.Settings.{Settings, is_account}
+use Rattle.rb_money.specs.declared.place.Place.{Place}
 use Rattle.rb_money.specs.declared.limits.TheConstants.{MOST_SITES}
 use Rattle.rb_money.specs.declared.refusal.Refusal.{Refusal}
 use Rattle.rb_money.specs.declared.refusal.Refusal.TheVariants.{BadMessage, NotHeld, NotReady, InboxFull, Conflict, OutOfMemory}
+use Rattle.rb_money.specs.declared.refusal.Refusal.TheVariants.{PositionBeyond, UnknownAccount}
 use Rattle.rb_shadow.proofs.Public.Eligible
 use Rattle.rb_shadow.proofs.Public.SameShadows
-use Rattle.rb_shadow.specs.Operations.{Among, find_in, is_eligible, names_of_clock, red_count, same_shadow, clock_of}
-use Rattle.rb_shadow.specs.Sound.{IsSound}
+use Rattle.rb_shadow.specs.Labels.{label_of}
+use Rattle.rb_shadow.specs.Operations.{Among, bal, find_in, is_eligible, names_of_clock, red_count, same_shadow, clock_of}
+use Rattle.rb_shadow.specs.Sound.{IsSound, fault_of}
 use Rattle.rb_shadow.specs.declared.op_name.OpName.{OpName}
 use Rattle.rb_shadow.specs.declared.deps.Deps.{Deps}
 use Rattle.rb_shadow.specs.declared.shadow.Shadow.{Shadow}
@@ -21,18 +26,22 @@ use Rattle.rb_ledger.specs.Valid.{IsValid}
 use Rattle.rb_inbox.proofs.Public.Holding.{held_cases, kept_among}
 use Rattle.rb_shadow.proofs.Public.Lookups
 use Rattle.rb_inbox.specs.Held.{Holding, IsInConflict, IsReady, IsTooMany, IsWelcome, with_held, without}
+use Rattle.rb_scratch.specs.Requests.{made_of}
+use Rattle.rb_scratch.specs.declared.request.Request.{Request}
+use Rattle.rb_statements.specs.Statements.{balance_as_of}
 use Rattle.rb_token.specs.Seen.{SeenToken}
 use Rattle.rb_token.specs.Token.{Token, pass_message, passed_token, refusal_of_pass}
 use Rattle.rb_token.specs.declared.message.TokenMessage.{TokenMessage}
 use Rattle.rb_site.specs.declared.answer.Answer.{Answer}
 use Rattle.rb_site.specs.declared.reply.Reply.{Reply}
 use Rattle.rb_site.specs.Notes.{IsNoted, is_plain}
-use Rattle.rb_site.specs.declared.reply.Reply.TheVariants.{Held, Already, Applied, Passed, Refused}
-use Rattle.rb_site.specs.declared.event.Event.TheVariants.{Apply, Pass}
+use Rattle.rb_site.specs.declared.reply.Reply.TheVariants.{Held, Already, Applied, Balance as BalanceIs, Made, Passed, Refused}
+use Rattle.rb_site.specs.declared.event.Event.{Event}
+use Rattle.rb_site.specs.declared.event.Event.TheVariants.{Apply, AsOf, Pass, Receive, Submit}
 use Rattle.rb_site.specs.declared.message.Message.{Message}
-use Rattle.rb_site.specs.declared.message.Message.TheVariants.{Token as TokenOnItsWay}
-use Rattle.rb_site.specs.Events.{ModelSite, Outcome, Refuses, Drops, Answers, Holds, Passes, outcome_of, outcome_of_check, outcome_of_new}
-use Rattle.rb_site.specs.Events.{reply_of, unless_known}
+use Rattle.rb_site.specs.declared.message.Message.TheVariants.{Shadow as ShadowMessage, Token as TokenOnItsWay}
+use Rattle.rb_site.specs.Events.{ModelSite, Outcome, Refuses, Drops, Answers, Holds, Makes, Passes, outcome_of, outcome_of_check}
+use Rattle.rb_site.specs.Events.{outcome_of_new, reply_of, unless_known}
 use Rattle.rb_site.specs.States.{Follows, IsTied, Says, SiteState}
 
 -- what follows an outcome follows an equal one
@@ -73,6 +82,22 @@ pub follows_plain : (keeps : Bool) (old now : SiteState) (before : List Message)
     Follows keeps old now before before o a
 follows_plain keeps old now before o a h = follows_silent keeps old now before o a (follows_less keeps old now [] [] o a h)
 
+-- what a handler answers to an event is answered to an equal one, for any history
+pub handled : {E : Type 0} (keeps : Bool) (old now : SiteState) (before after : List Message) (d e : Event) (r : Result Answer E) → d ≡ e →
+    IfOk r (Follows true old now before after (outcome_of old.settings old.site e))
+    → IfOk r (Follows keeps old now before after (outcome_of old.settings old.site d))
+handled keeps old now before after d e (Ok a) same h = follows_less keeps old now before after _ a
+    (follows_as true old now before after _ _ a (ap (outcome_of old.settings old.site) same) h)
+handled keeps old now before after d e (Err why) same h = tt
+
+-- the same where nothing is sent
+pub handled_silent : {E : Type 0} (keeps : Bool) (old now : SiteState) (before : List Message) (d e : Event) (r : Result Answer E) → d ≡ e →
+    IfOk r (AnswersAlone old now (outcome_of old.settings old.site e))
+    → IfOk r (Follows keeps old now before before (outcome_of old.settings old.site d))
+handled_silent keeps old now before d e (Ok a) same h = follows_plain keeps old now before _ a
+    (answers_as old now _ _ a (ap (outcome_of old.settings old.site) same) h)
+handled_silent keeps old now before d e (Err why) same h = tt
+
 -- a state by its parts
 abbrev pub state_as : Settings → ℕ → List Shadow → List Shadow → Token → SiteState
 state_as s me ops held token = record { settings = s; site = record { me = me; ops = ops; held = held; token = token; history = [] } }
@@ -97,7 +122,110 @@ passes s me ops held token later to reds m before after a allowed count sent pas
     ∙ ap Passes (ap (pass_message token to) (sym count) ∙ sym sent) in
     follows_as true _ _ before after _ _ a comes (ap (state_as s me ops held) passed, is, posted)
 
+-- with another view of the token, a site is still tied to the rest
+pub tied_passed : (s : Settings) (inbox : Holding) (old later : SeenToken) (token : Token) → later ≡ record old { token = token } →
+    IsTied s inbox old → IsTied s inbox later
+tied_passed s inbox old later token passed tied =
+    let P : SeenToken → Type 0 = λ t. IsTied s inbox t in
+    subst P (sym passed) (record {
+      me = tied.me;
+      sites = tied.sites;
+      limits = tied.limits;
+      limit = tied.limit;
+      sound = tied.sound;
+    })
+
+-- a pass that is refused: nothing changes
+pub refuses_pass : (z : SiteState) (to : ℕ) (why : Refusal) (before : List Message) (a : Answer) →
+    refusal_of_pass z.settings.sites z.settings.limits z.site.me z.site.token to ≡ Some why → Says true a (Refused why)
+    → Follows true z z before before (outcome_of z.settings z.site (Pass to)) a
+unfolding outcome_of
+refuses_pass z to why before a refused is = follows_as true z z before before _ (Refuses why) a
+    (ap (λ r. unless Refuses r (Passes (pass_message z.site.token to (red_count z.site.ops)))) refused) (refl, is, sym (append-nil before))
+
+-- ---- a request is made
+
+-- what a request comes to, by what it makes
+submit_comes : (s : Settings) (t : ModelSite) (r : Request) (q : Result Shadow Refusal) → made_of s t.me t.ops t.token r ≡ q →
+    outcome_of s t (Submit r) ≡ and_then Refuses q Makes
+unfolding outcome_of
+submit_comes s t r q made = ap (λ o. and_then Refuses o Makes) made
+
+-- what was made is made in the state, where it has the same settings, site and list
+pub made_here : (z : SiteState) (now : Settings) (here : ℕ) (them : List Shadow) (r : Request) (q : Result Shadow Refusal)
+    → now ≡ z.settings → here ≡ z.site.me → them ≡ z.site.ops → q ≡ made_of now here them z.site.token r
+    → made_of z.settings z.site.me z.site.ops z.site.token r ≡ q
+made_here z now here them r q same at list made =
+    ap (λ us. made_of z.settings z.site.me us z.site.token r) (sym list)
+    ∙ ap (λ i. made_of z.settings i them z.site.token r) (sym at)
+    ∙ ap (λ s. made_of s here them z.site.token r) (sym same)
+    ∙ sym made
+
+-- a request that can't be made: it is refused, and nothing changes
+pub refuses_request : (z : SiteState) (r : Request) (why : Refusal) (before : List Message) (a : Answer) →
+    made_of z.settings z.site.me z.site.ops z.site.token r ≡ Err why → Says true a (Refused why)
+    → Follows true z z before before (outcome_of z.settings z.site (Submit r)) a
+refuses_request z r why before a refused is =
+    follows_as true z z before before _ _ a (submit_comes z.settings z.site r (Err why) refused) (refl, is, sym (append-nil before))
+
+-- a request that is made: its operation is applied, named and sent
+pub makes_request : (s : Settings) (me : ℕ) (ops held : List Shadow) (token : Token) (r : Request) (v : Shadow)
+    (before after : List Message) (a : Answer) → made_of s me ops token r ≡ Ok v → Says true a (Made v.name (label_of v.kind))
+    → after ≡ before ++ ShadowMessage v ∷ [] → Follows true (state_as s me ops held token) (state_as s me (ops ++ v ∷ []) held token)
+    before after (outcome_of s (site_as me ops held token) (Submit r)) a
+makes_request s me ops held token r v before after a made is posted =
+    follows_as true _ _ before after _ _ a (submit_comes s (site_as me ops held token) r (Ok v) made) (refl, is, posted)
+
+-- ---- an account's balance at a position
+
+-- what it comes to, by the balance or why there is none
+as_of_comes : (s : Settings) (t : ModelSite) (a : Place) (n : ℕ) (q : Result ℕ Refusal) → q ≡ balance_as_of s t.ops a n →
+    outcome_of s t (AsOf a n) ≡ and_then Refuses q (λ k. Answers (BalanceIs k))
+unfolding outcome_of
+as_of_comes s t a n q is = by (is_account s a) (nat_lt (length t.ops) n) (cents (bal s (take n t.ops) a))
+    ∙ ap (λ o. and_then Refuses o (λ k. Answers (BalanceIs k))) (sym is)
+  where
+    by : (b c : Bool) (k : ℕ) → cond (not b) (Refuses UnknownAccount) (cond c (Refuses PositionBeyond) (Answers (BalanceIs k)))
+        ≡ and_then Refuses (cond (not b) (Err UnknownAccount) (cond c (Err PositionBeyond) (Ok k))) (λ i. Answers (BalanceIs i))
+    by false c k = refl
+    by true true k = refl
+    by true false k = refl
+
+-- the balance is answered
+pub tells_as_of : (z : SiteState) (a : Place) (n k : ℕ) (told : Answer) → Ok k ≡ balance_as_of z.settings z.site.ops a n →
+    Says true told (BalanceIs k) → AnswersAlone z z (outcome_of z.settings z.site (AsOf a n)) told
+tells_as_of z a n k told known is = answers_as z z _ _ told (as_of_comes z.settings z.site a n (Ok k) known) (refl, is, refl)
+
+-- where there is none, it is refused
+pub refuses_as_of : (z : SiteState) (a : Place) (n : ℕ) (why : Refusal) (told : Answer)
+    → Err why ≡ balance_as_of z.settings z.site.ops a n → Says true told (Refused why)
+    → AnswersAlone z z (outcome_of z.settings z.site (AsOf a n)) told
+refuses_as_of z a n why told none is = answers_as z z _ _ told (as_of_comes z.settings z.site a n (Err why) none) (refl, is, refl)
+
 -- ---- a held shadow is applied, or is let go
+
+-- what a name comes to, by what is held under it
+named_comes : (s : Settings) (t : ModelSite) (x : OpName) (o : Option Shadow) → find_in t.held x ≡ o → outcome_of s t (Apply x)
+    ≡ unless (λ v. cond (not (is_eligible t.ops v)) (Refuses NotReady) (outcome_of_check v (refusal_of_sound s t.ops v))) o
+    (Refuses NotHeld)
+unfolding outcome_of
+named_comes s t x o found = ap (λ q. unless (λ v. cond (not (is_eligible t.ops v)) (Refuses NotReady)
+    (outcome_of_check v (refusal_of_sound s t.ops v))) q (Refuses NotHeld)) found
+
+-- a name that no held shadow has is refused
+pub not_held : (z : SiteState) (x : OpName) (a : Answer) → find_in z.site.held x ≡ None → Says true a (Refused NotHeld) →
+    AnswersAlone z z (outcome_of z.settings z.site (Apply x)) a
+not_held z x a none is = answers_as z z _ _ a (named_comes z.settings z.site x None none) (refl, is, refl)
+
+-- a held shadow whose past isn't applied stays held
+pub not_ready : (z : SiteState) (x : OpName) (v : Shadow) (a : Answer) → find_in z.site.held x ≡ Some v → is_eligible z.site.ops v ≡ false
+    → Says true a (Refused NotReady) → AnswersAlone z z (outcome_of z.settings z.site (Apply x)) a
+not_ready z x v a found waits is = answers_as z z _ _ a (named_comes z.settings z.site x (Some v) found
+    ∙ ap (λ b. cond (not b) (Refuses NotReady) (outcome_of_check v (refusal_of_sound z.settings z.site.ops v))) waits) (refl, is, refl)
+
+-- what is tied to the rest is so under equal settings
+pub tied_as : (s now : Settings) (inbox : Holding) (token : SeenToken) → now ≡ s → IsTied s inbox token → IsTied now inbox token
+tied_as s now inbox token same = let P : Settings → Type 0 = λ z. IsTied z inbox token in subst P (sym same)
 
 -- a sound shadow is refused for the list alone
 pub refusal-sound : (s : Settings) (us : List Shadow) (v : Shadow) → IsSound s v → refusal_of s us v ≡ refusal_of_sound s us v
@@ -172,6 +300,53 @@ tied_without s now inbox later token x same taken tied =
       limit = tied.limit;
       sound = λ v h. tied.sound v (kept_among _ inbox.held v h);
     }))
+
+-- so is an equal inbox
+pub tied_at : (s : Settings) (inbox later : Holding) (token : SeenToken) → later ≡ inbox → IsTied s inbox token → IsTied s later token
+tied_at s inbox later token same = let P : Holding → Type 0 = λ b. IsTied s b token in subst P (sym same)
+
+-- ---- a shadow is received
+
+-- what a received shadow comes to, by its fault, what is applied under its name, and whether it is this site's own
+received_comes : (s : Settings) (t : ModelSite) (v : Shadow) (f : Option ℕ) (u : Option Shadow) (b : Bool) → fault_of s v ≡ f
+    → find_in t.ops v.name ≡ u → (v.home == t.me) ≡ b → outcome_of s t (Receive (ShadowMessage v))
+    ≡ unless (λ why. Refuses (BadMessage why)) f (unless_known v u (cond b (Refuses Conflict) (outcome_of_new s t v)))
+unfolding outcome_of
+received_comes s t v f u b fault found own =
+    ap (λ o. unless (λ why. Refuses (BadMessage why)) o
+    (unless_known v (find_in t.ops v.name) (cond (v.home == t.me) (Refuses Conflict) (outcome_of_new s t v)))) fault
+    ∙ ap (λ o. unless (λ why. Refuses (BadMessage why)) f
+    (unless_known v o (cond (v.home == t.me) (Refuses Conflict) (outcome_of_new s t v)))) found
+    ∙ ap (λ c. unless (λ why. Refuses (BadMessage why)) f (unless_known v u (cond c (Refuses Conflict) (outcome_of_new s t v)))) own
+
+-- a shadow at fault is refused
+pub refuses_unsound : (z : SiteState) (v : Shadow) (why : ℕ) (a : Answer) → fault_of z.settings v ≡ Some why →
+    Says true a (Refused (BadMessage why)) → AnswersAlone z z (outcome_of z.settings z.site (Receive (ShadowMessage v))) a
+refuses_unsound z v why a fault is =
+    answers_as z z _ _ a (received_comes z.settings z.site v (Some why) _ _ fault refl refl) (refl, is, refl)
+
+-- a sound shadow whose name is applied here is answered by the one applied
+pub knows : (z : SiteState) (v u : Shadow) (a : Answer) → fault_of z.settings v ≡ None → find_in z.site.ops v.name ≡ Some u →
+    Says true a (cond (same_shadow u v) (Already v.name) (Refused Conflict))
+    → AnswersAlone z z (outcome_of z.settings z.site (Receive (ShadowMessage v))) a
+knows z v u a sound found is =
+    answers_as z z _ _ a (received_comes z.settings z.site v None (Some u) _ sound found refl) (by (same_shadow u v) is)
+  where
+    by : (b : Bool) → Says true a (cond b (Already v.name) (Refused Conflict))
+        → AnswersAlone z z (cond b (Answers (Already v.name)) (Refuses Conflict)) a
+    by true told = (refl, told, refl)
+    by false told = (refl, told, refl)
+
+-- a sound shadow of this site's own that isn't applied here is refused
+pub refuses_own : (z : SiteState) (v : Shadow) (a : Answer) → fault_of z.settings v ≡ None → find_in z.site.ops v.name ≡ None →
+    v.home ≡ z.site.me → Says true a (Refused Conflict) → AnswersAlone z z (outcome_of z.settings z.site (Receive (ShadowMessage v))) a
+refuses_own z v a sound none own is =
+    answers_as z z _ _ a (received_comes z.settings z.site v None None true sound none (eq-eqb v.home z.site.me own)) (refl, is, refl)
+
+-- another sound shadow that isn't applied here is a new one
+pub new_received : (s : Settings) (t : ModelSite) (v : Shadow) → fault_of s v ≡ None → find_in t.ops v.name ≡ None →
+    (v.home ≡ t.me → ⊥) → outcome_of s t (Receive (ShadowMessage v)) ≡ outcome_of_new s t v
+new_received s t v sound none other = received_comes s t v None None false sound none (ne_eqb v.home t.me other)
 
 -- ---- a shadow is held
 

@@ -1,8 +1,8 @@
 -- There is memory for a report.
 use Rattle.std.proofs.Common.{◌≡◌, ◌∙◌, ℕ, ◌+◌, ◌<◌, ◌≤◌, Bool, true, false, cond, not, List, [], ◌∷◌, ◌++◌, length, ap, arith, refl, sym}
-use Rattle.std.proofs.Common.{subst, take, get_or, length-append}
+use Rattle.std.proofs.Common.{subst, take, get_or, append_assoc, length-append}
 use Rattle.std.specs.Prelude.{zero, suc, Some, map, option_map, slice_get}
-use Rattle.std.proofs.lemmas.List.{length-map, take_more}
+use Rattle.std.proofs.lemmas.List.{length-map, map-append, take_all, take_more}
 use Rattle.std.proofs.lemmas.List.Sums.{length-filter, count_by-le-length}
 use Rattle.rb_scratch.specs.declared.request.TheConstants.{MOST_REQUESTS}
 use Rattle.rb_money.specs.Settings.{Settings}
@@ -115,3 +115,35 @@ pub more_counts : (f : Shadow → ℕ) (us : List Shadow) (k n : ℕ) → option
 more_counts f [] k n h = cc
 more_counts f (u ∷ us) zero n h = let same : f u ≡ n = cc in ap (λ m. m ∷ []) (sym same)
 more_counts f (u ∷ us) (suc k) n h = ap (λ ns. f u ∷ ns) (more_counts f us k n h)
+
+-- ---- a list that is filled place by place
+
+-- there is spare capacity for one more
+pub room_left : (len room k n total : ℕ) → len ≡ k → k < n → n ≡ total → total ≤ room → len < room
+room_left len room k n total at there same enough = omega arith
+
+-- no place that is reached is beyond the list
+pub not_beyond : (k n total : ℕ) → k < n → n ≡ total → total ≤ k → ⊥
+not_beyond k n total there same beyond = omega arith
+
+-- where it ends
+pub at_end : (k n total : ℕ) → k ≤ n → n ≤ k → n ≡ total → k ≡ total
+at_end k n total within end same = omega arith
+
+-- at its end it is whole
+pub whole : {A : Type 0} (xs : List A) (k n : ℕ) → n ≡ length xs → n ≤ k → take k xs ≡ xs
+whole xs k n same end = take_all k xs (omega arith)
+
+-- with one element more, one more is mapped
+mapped_more : {A B : Type 0} (f : A → B) (xs : List A) (k : ℕ) (d : A) → k < length xs →
+    map f (take k xs) ++ f (get_or xs k d) ∷ [] ≡ map f (take (k + 1) xs)
+mapped_more f xs k d there = sym (ap (map f) (take_more xs k d there) ∙ map-append f (take k xs) (get_or xs k d ∷ []))
+
+-- what is pushed behind others, one more each time
+pub pushed_behind : {A B : Type 0} (f : A → B) (xs : List A) (k : ℕ) (d : A) (front old new : List B) → k < length xs →
+    old ≡ front ++ map f (take k xs) → new ≡ old ++ f (get_or xs k d) ∷ [] → new ≡ front ++ map f (take (k + 1) xs)
+pushed_behind f xs k d front old new there so_far pushed =
+    pushed
+    ∙ ap (λ bs. bs ++ f (get_or xs k d) ∷ []) so_far
+    ∙ append_assoc front (map f (take k xs)) (f (get_or xs k d) ∷ [])
+    ∙ ap (λ bs. front ++ bs) (mapped_more f xs k d there)

@@ -1,16 +1,47 @@
 -- A step of the code is a step of the model.
-use Rattle.std.proofs.Common.{◌≡◌, ◌∙◌, ◌+◌, ◌≤◌, [], ◌∷◌, ◌++◌, length, ap, subst, sym}
+use Rattle.std.proofs.Common.{◌≡◌, ◌∙◌, ◌+◌, ◌≤◌, Bool, true, List, [], ◌∷◌, ◌++◌, length, ap, arith, refl, subst, sym}
 use Rattle.std.specs.Prelude.{map}
 use Rattle.std.proofs.lemmas.List.{map-append}
+use Rattle.std.proofs.lemmas.Result.{IfOk-from_err}
 use Rattle.rb_scratch.specs.declared.request.TheConstants.{MOST_REQUESTS}
 use Rattle.rb_site.specs.Events.{is_full, outcome_of, reply_to, sent_at}
 use Rattle.rb_site.specs.Seen.{SeenSite, entry, next_site, state_of}
-use Rattle.rb_site.specs.States.{IsStanding}
+use Rattle.rb_site.specs.declared.answer.Answer.{Answer}
+use Rattle.rb_site.specs.declared.entry.Entry.{Entry}
+use Rattle.rb_site.specs.declared.reply.Reply.{Reply}
+use Rattle.rb_site.specs.Notes.{IsNoted}
+use Rattle.rb_site.specs.Reports.{IsEnough, RoomFor}
+use Rattle.rb_site.specs.States.{IsStanding, Says, SiteState}
 use Rattle.rb_site.proofs.site.Site.record.Given.{Over}
 use Rattle.rb_site.proofs.site.Site.record.Goals as goal
 use Rattle.rb_site.proofs.Reports.{still_enough}
 use Rattle.rb_site.proofs.States.{IsStep, is_step, me_kept, noted_in, seen_as, seen_now}
 use Rattle.rb_site.proofs.Public.Outcomes.{sends_few}
+use Rattle.rb_site.proofs.Errors.{on_err}
+
+-- a site is what its history leads to with the same entries, wherever they are kept
+stands_as : {E : Type 0} (f : E → Entry) (old new : List E) (now : SiteState) → new ≡ old
+    → IsStanding (seen_as now.settings now.site.me (map f old)) now → IsStanding (seen_as now.settings now.site.me (map f new)) now
+stands_as {E} f old new now same =
+    let P : List E → Type 0 = λ xs. IsStanding (seen_as now.settings now.site.me (map f xs)) now in subst P (sym same)
+
+-- clients see the same site, wherever its entries are kept
+seen_same : {E : Type 0} (f : E → Entry) (old new : List E) (now : SiteState) (x : SeenSite) → new ≡ old
+    → seen_as now.settings now.site.me (map f old) ≡ x → seen_as now.settings now.site.me (map f new) ≡ x
+seen_same f old new now x same is = ap (λ xs. seen_as now.settings now.site.me (map f xs)) same ∙ is
+
+-- enough memory still is after more was taken
+enough_more : (old new : RoomFor) (now : SiteState) → old.entries ≤ new.entries → new.accounts ≡ old.accounts → IsEnough old now
+    → IsEnough new now
+enough_more old new now more same enough = record {
+  accounts = subst (λ n. length now.settings.starts ≤ n) (sym same) enough.accounts;
+  entries = let few : length now.site.ops ≤ old.entries = enough.entries in omega arith;
+}
+
+-- what is noted of the answer's reply, where it says another that is equal
+noted_as : (keeps now : Bool) (a : Answer) (told : Reply) → Says keeps a told → keeps ≡ now → IsNoted now a.reply a.noted
+noted_as keeps now a told says same =
+    subst (λ k. IsNoted k a.reply a.noted) same (subst (λ r. IsNoted keeps r a.noted) (sym says.0) says.1)
 
 the_step : (g : Over) (c : goal.After-push_reserved g) → IsStep (seen_as c.self.inside.state.settings c.self.inside.state.site.me
     (map g.E.KeepsEntry.entry c.self.inside.history.items)) c.act.new.self c.args.sent.now.items c.act.new.sent.items c.args.event.now
@@ -58,3 +89,85 @@ returns-clause-ok g c = (
   (the_step g c).reply ∙ ap (λ (x : SeenSite). reply_to x.settings (state_of x) c.args.event.now) c.self.view_is,
   (the_step g c).sent ∙ ap (λ (x : SeenSite). c.args.sent.now.items ++ sent_at x.settings (state_of x) c.args.event.now) c.self.view_is,
 )
+
+pub invariant_of-self : goal.invariant_of-self
+invariant_of-self g c = (
+  stands_as g.E.KeepsEntry.entry c.self.inside.history.items c.reserve.new.self.items c.self.inside.state c.in_err-reserve.ensures.items
+      c.self.invariant.0,
+  c.self.invariant.1,
+)
+
+pub returns-in_err-reserve-clause-ok : goal.returns-in_err-reserve-clause-ok
+returns-in_err-reserve-clause-ok g c = IfOk-from_err c.from_residual.result _ c.from_residual.ensures.0
+
+pub returns-in_err-reserve-clause-err : goal.returns-in_err-reserve-clause-err
+returns-in_err-reserve-clause-err g c = on_err c.from_residual.result _ (
+  seen_same g.E.KeepsEntry.entry c.self.inside.history.items c.reserve.new.self.items c.self.inside.state c.args.self.now
+      c.in_err-reserve.ensures.items c.self.view_is,
+  refl,
+)
+
+pub invariant_of-self-in_err-grow : goal.invariant_of-self-in_err-grow
+invariant_of-self-in_err-grow g c = (
+  stands_as g.E.KeepsEntry.entry c.self.inside.history.items c.reserve.new.self.items c.self.inside.state c.in_ok-reserve.ensures.items
+      c.self.invariant.0,
+  λ keeps. enough_more c.self.inside.room c.grow.new.self c.self.inside.state c.grow.ensures.kept c.grow.ensures.accounts
+      (c.self.invariant.1 keeps),
+)
+
+pub returns-in_err-grow-clause-ok : goal.returns-in_err-grow-clause-ok
+returns-in_err-grow-clause-ok g c = IfOk-from_err c.from_residual-in_err-grow.result _ c.from_residual-in_err-grow.ensures.0
+
+pub returns-in_err-grow-clause-err : goal.returns-in_err-grow-clause-err
+returns-in_err-grow-clause-err g c = on_err c.from_residual-in_err-grow.result _ (
+  seen_same g.E.KeepsEntry.entry c.self.inside.history.items c.reserve.new.self.items c.self.inside.state c.args.self.now
+      c.in_ok-reserve.ensures.items c.self.view_is,
+  refl,
+)
+
+pub invariant_of-self-in_err-kept : goal.invariant_of-self-in_err-kept
+invariant_of-self-in_err-kept g c = (
+  stands_as g.E.KeepsEntry.entry c.self.inside.history.items c.reserve.new.self.items c.self.inside.state c.in_ok-reserve.ensures.items
+      c.self.invariant.0,
+  λ keeps. enough_more c.self.inside.room c.grow.new.self c.self.inside.state c.grow.ensures.kept c.grow.ensures.accounts
+      (c.self.invariant.1 keeps),
+)
+
+pub returns-in_err-kept-clause-ok : goal.returns-in_err-kept-clause-ok
+returns-in_err-kept-clause-ok g c = IfOk-from_err c.from_residual-in_err-kept.result _ c.from_residual-in_err-kept.ensures.0
+
+pub returns-in_err-kept-clause-err : goal.returns-in_err-kept-clause-err
+returns-in_err-kept-clause-err g c = on_err c.from_residual-in_err-kept.result _ (
+  seen_same g.E.KeepsEntry.entry c.self.inside.history.items c.reserve.new.self.items c.self.inside.state c.args.self.now
+      c.in_ok-reserve.ensures.items c.self.view_is,
+  refl,
+)
+
+pub invariant_of-self-in_err-answer : goal.invariant_of-self-in_err-answer
+invariant_of-self-in_err-answer g c =
+    let P : SiteState → Type 0 = λ z. IsStanding (seen_as z.settings z.site.me (map g.E.KeepsEntry.entry c.reserve.new.self.items)) z
+    × (g.E.KeepsEntry.KEEPS ≡ true → IsEnough c.grow.new.self z) in
+    subst P (sym c.in_err-answer.ensures.err.0) (
+      stands_as g.E.KeepsEntry.entry c.self.inside.history.items c.reserve.new.self.items c.self.inside.state
+          c.in_ok-reserve.ensures.items c.self.invariant.0,
+      λ keeps. enough_more c.self.inside.room c.grow.new.self c.self.inside.state c.grow.ensures.kept c.grow.ensures.accounts
+          (c.self.invariant.1 keeps),
+    )
+
+pub returns-in_err-answer-clause-ok : goal.returns-in_err-answer-clause-ok
+returns-in_err-answer-clause-ok g c = IfOk-from_err c.from_residual-in_err-answer.result _ c.from_residual-in_err-answer.ensures.0
+
+pub returns-in_err-answer-clause-err : goal.returns-in_err-answer-clause-err
+returns-in_err-answer-clause-err g c = on_err c.from_residual-in_err-answer.result _ (
+  ap (λ (z : SiteState). seen_as z.settings z.site.me (map g.E.KeepsEntry.entry c.reserve.new.self.items)) c.in_err-answer.ensures.err.0
+      ∙ seen_same g.E.KeepsEntry.entry c.self.inside.history.items c.reserve.new.self.items c.self.inside.state c.args.self.now
+      c.in_ok-reserve.ensures.items c.self.view_is,
+  c.in_err-answer.ensures.err.1,
+)
+
+pub note-requires : goal.note-requires
+note-requires g c =
+    noted_as c.KEEPS-2.result g.E.KeepsEntry.KEEPS c.in_ok-answer.answer _ c.in_ok-answer.ensures.ok.1 c.KEEPS-2.ensures
+
+pub push_reserved-requires : goal.push_reserved-requires
+push_reserved-requires g c = omega (arith, c.in_ok-reserve.ensures.ok, c.in_ok-reserve.ensures.len)

@@ -4,6 +4,7 @@ use Rattle.rb_money.specs.declared.refusal.Refusal.TheVariants.{HistoryFull}
 use Rattle.rb_site.specs.declared.reply.Reply.TheVariants.{Refused}
 use Rattle.rb_site.specs.Events.{is_full, outcome_of, reply_of, sent_by}
 use Rattle.rb_site.specs.Seen.{state_of, stepped}
+use Rattle.rb_site.proofs.Errors.{on_err}
 use Rattle.rb_site.proofs.site.Site.step_onto.Goals as goal
 
 pub returns-then-is_full-clause-ok : goal.returns-then-is_full-clause-ok
@@ -15,3 +16,15 @@ returns-then-is_full-clause-ok g c =
       sym (append-nil c.args.sent.now.items) ∙ sym (ap (λ b. c.args.sent.now.items
           ++ cond b [] (sent_by (outcome_of c.args.self.now.settings (state_of c.args.self.now) c.args.event.now))) full),
     )
+
+pub record-requires : goal.record-requires
+record-requires g c = sym c.if-is_full.ensures
+
+pub returns-clause-ok : goal.returns-clause-ok
+returns-clause-ok g c = c.record.ensures.ok
+
+pub returns-clause-err : goal.returns-clause-err
+returns-clause-err g c = c.record.ensures.err
+
+pub returns-clause-has_room : goal.returns-clause-has_room
+returns-clause-has_room g c = on_err c.record.result _ (sym c.if-is_full.ensures)

@@ -2,10 +2,12 @@
 use Rattle.std.proofs.Common.{◌∙◌, Some, sym, ap, subst}
 use Rattle.rb_money.specs.Settings.{Settings}
 use Rattle.rb_inbox.specs.Held.{Holding}
+use Rattle.rb_shadow.specs.Operations.{find_in, is_eligible}
 use Rattle.rb_site.specs.declared.event.Event.TheVariants.{Apply}
 use Rattle.rb_site.specs.Events.{outcome_of}
 use Rattle.rb_site.specs.States.{SeenLedger, SiteState}
-use Rattle.rb_site.proofs.Handlers.{AnswersAlone, applies, drops, held_sound, not_memory, refusal_is, state_as, tied_without, waits}
+use Rattle.rb_site.proofs.Handlers.{AnswersAlone, applies, drops, held_sound, not_held, not_memory, not_ready, refusal_is, state_as}
+use Rattle.rb_site.proofs.Handlers.{tied_as, tied_without, waits}
 use Rattle.rb_site.proofs.state.State.apply.Goals as goal
 
 pub invariant_of-self : goal.invariant_of-self
@@ -76,3 +78,29 @@ returns-in_default-why-clause-ok c =
     (sym c.in-Some.ensures))
     (refusal_is c.in-Err.why _ c.in-Err.ensures.refused.1 c.in_default-why.not-OutOfMemory) c.in_default-why.not-NotReady
     (ap (λ (b : Holding). b.held) c.remove-in_default-why.ensures) c.plain-in_default-why.ensures))
+
+pub returns-in_default-clause-ok : goal.returns-in_default-clause-ok
+returns-in_default-clause-ok c =
+    not_held c.args.self.now c.args.name c.plain.result
+    (ap (λ (z : SiteState). find_in z.site.held c.args.name) (sym c.self.view_is) ∙ sym c.in_default.ensures) c.plain.ensures
+
+pub returns-then-not-is_eligible-clause-ok : goal.returns-then-not-is_eligible-clause-ok
+returns-then-not-is_eligible-clause-ok c =
+    not_ready c.args.self.now c.args.name c.in-Some.held.now c.plain-then-not-is_eligible.result
+    (ap (λ (z : SiteState). find_in z.site.held c.args.name) (sym c.self.view_is) ∙ sym c.in-Some.ensures)
+    (ap (λ (z : SiteState). is_eligible z.site.ops c.in-Some.held.now) (sym c.self.view_is) ∙ sym c.is_eligible.ensures
+    ∙ c.if-not-is_eligible.true)
+    c.plain-then-not-is_eligible.ensures
+
+pub invariant_of-self-in-OutOfMemory : goal.invariant_of-self-in-OutOfMemory
+invariant_of-self-in-OutOfMemory c = tied_as c.self.inside.journal.settings c.apply.new.self.settings c.self.inside.inbox
+    c.self.inside.token (ap (λ (b : SeenLedger). b.settings) c.in-Err.ensures.refused.0) c.self.invariant
+
+pub invariant_of-self-in-NotReady : goal.invariant_of-self-in-NotReady
+invariant_of-self-in-NotReady c = tied_as c.self.inside.journal.settings c.apply.new.self.settings c.self.inside.inbox
+    c.self.inside.token (ap (λ (b : SeenLedger). b.settings) c.in-Err.ensures.refused.0) c.self.invariant
+
+pub returns-in-OutOfMemory-clause-err : goal.returns-in-OutOfMemory-clause-err
+returns-in-OutOfMemory-clause-err c =
+    ap (λ (b : SeenLedger). state_as b.settings c.self.inside.token.me b.ops c.self.inside.inbox.held c.self.inside.token.token)
+    c.in-Err.ensures.refused.0 ∙ c.self.view_is

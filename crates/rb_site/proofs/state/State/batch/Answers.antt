@@ -1,12 +1,12 @@
 -- A batch is made or refused as the model says.
-use Rattle.std.proofs.Common.{◌≡◌, ◌∙◌, List, ap, subst, sym, true, false, Ok, Err}
+use Rattle.std.proofs.Common.{◌≡◌, ◌∙◌, ◌<◌, List, ap, subst, sym, true, false, Ok, Err}
 use Rattle.rb_scratch.specs.Batches.{batch_of}
 use Rattle.rb_site.specs.declared.event.Event.TheVariants.{Batch}
 use Rattle.rb_site.specs.declared.message.Message.{Message}
 use Rattle.rb_site.specs.Events.{outcome_of}
 use Rattle.rb_site.specs.States.{Follows, SeenLedger, SiteState}
 use Rattle.rb_site.proofs.Batches.{is_of_size, makes_batch, refused_batch, refuses_batch, refuses_size}
-use Rattle.rb_site.proofs.Handlers.{follows_plain, state_as}
+use Rattle.rb_site.proofs.Handlers.{follows_plain, state_as, tied_as}
 use Rattle.rb_site.proofs.state.State.batch.Goals as goal
 
 -- a refusal sends nothing, for any history
@@ -71,3 +71,28 @@ returns-clause-ok c =
     c.plain-2.result
     (refuses_batch c.self.inside.journal.settings c.self.inside.token.me c.self.inside.journal.ops c.self.inside.inbox.held
     c.self.inside.token.token c.args.requests.now c.in-Err.why c.plain-2.result size refused c.plain-2.ensures))))
+
+pub batch-requires-clause-site : goal.batch-requires-clause-site
+batch-requires-clause-site c =
+    subst (λ me. me < c.self.inside.journal.settings.sites) (sym c.view-token.ensures.me) c.self.invariant.me
+
+pub invariant_of-self : goal.invariant_of-self
+invariant_of-self c =
+    let (vs, grown, says, posted, runs) = c.in-Ok.ensures.made in
+    tied_as c.self.inside.journal.settings c.batch.new.self.settings c.self.inside.inbox c.self.inside.token
+    (ap (λ (b : SeenLedger). b.settings) grown) c.self.invariant
+
+pub invariant_of-self-in-OutOfMemory : goal.invariant_of-self-in-OutOfMemory
+invariant_of-self-in-OutOfMemory c = tied_as c.self.inside.journal.settings c.batch.new.self.settings c.self.inside.inbox
+    c.self.inside.token (ap (λ (b : SeenLedger). b.settings) c.in-Err.ensures.refused.0) c.self.invariant
+
+pub returns-in-OutOfMemory-clause-err : goal.returns-in-OutOfMemory-clause-err
+returns-in-OutOfMemory-clause-err c = (
+  ap (λ (b : SeenLedger). state_as b.settings c.self.inside.token.me b.ops c.self.inside.inbox.held c.self.inside.token.token)
+      c.in-Err.ensures.refused.0 ∙ c.self.view_is,
+  c.in-Err.ensures.refused.1,
+)
+
+pub invariant_of-self-2 : goal.invariant_of-self-2
+invariant_of-self-2 c = tied_as c.self.inside.journal.settings c.batch.new.self.settings c.self.inside.inbox c.self.inside.token
+    (ap (λ (b : SeenLedger). b.settings) c.in-Err.ensures.refused.0) c.self.invariant

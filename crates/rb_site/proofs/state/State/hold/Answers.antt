@@ -7,7 +7,7 @@ use Rattle.rb_inbox.specs.Held.{Holding}
 use Rattle.rb_shadow.specs.Sound.{IsSound}
 use Rattle.rb_site.specs.Events.{outcome_of_new}
 use Rattle.rb_site.specs.States.{SiteState}
-use Rattle.rb_site.proofs.Handlers.{AnswersAlone, already, holds, refused_put, state_as, tied_with}
+use Rattle.rb_site.proofs.Handlers.{AnswersAlone, already, holds, refused_put, state_as, tied_at, tied_with}
 use Rattle.rb_site.proofs.state.State.hold.Goals as goal
 
 pub put-requires : goal.put-requires
@@ -63,3 +63,20 @@ returns-clause-ok c =
     c.self.invariant.limit
     c.in-Err.ensures.refusals (λ e. c.put.ensures.conflict (c.in-Err.is ∙ ap Err e)) (λ e. c.put.ensures.full (c.in-Err.is
     ∙ ap Err e)) c.in_default.not-OutOfMemory c.in-Err.ensures.err c.plain-2.ensures)
+
+pub invariant_of-self-in-Ok-Already : goal.invariant_of-self-in-Ok-Already
+invariant_of-self-in-Ok-Already c = tied_at c.self.inside.journal.settings c.self.inside.inbox c.put.new.self c.self.inside.token
+    (c.put.ensures.unchanged (c.in-Ok-Already.is ∙ ap Ok c.in-Ok-Already.field-0-is)) c.self.invariant
+
+pub invariant_of-self-in-OutOfMemory : goal.invariant_of-self-in-OutOfMemory
+invariant_of-self-in-OutOfMemory c = tied_at c.self.inside.journal.settings c.self.inside.inbox c.put.new.self c.self.inside.token
+    c.in-Err.ensures.err c.self.invariant
+
+pub returns-in-OutOfMemory-clause-err : goal.returns-in-OutOfMemory-clause-err
+returns-in-OutOfMemory-clause-err c =
+    ap (λ (b : Holding). state_as c.self.inside.journal.settings c.self.inside.token.me c.self.inside.journal.ops b.held
+    c.self.inside.token.token) c.in-Err.ensures.err ∙ c.self.view_is
+
+pub invariant_of-self-2 : goal.invariant_of-self-2
+invariant_of-self-2 c = tied_at c.self.inside.journal.settings c.self.inside.inbox c.put.new.self c.self.inside.token
+    c.in-Err.ensures.err c.self.invariant

@@ -1,5 +1,5 @@
 -- The token goes as the model says.
-use Rattle.std.proofs.Common.{◌∙◌, ◌++◌, ◌∷◌, [], true, sym, ap, subst, refl}
+use Rattle.std.proofs.Common.{◌≡◌, ◌∙◌, ◌++◌, ◌∷◌, [], Some, true, sym, ap, arith, subst, refl}
 use Rattle.rb_shadow.specs.Operations.{clock_of}
 use Rattle.rb_shadow.specs.declared.deps.Deps.{Deps}
 use Rattle.rb_token.specs.Seen.{SeenToken}
@@ -8,7 +8,8 @@ use Rattle.rb_site.specs.declared.event.Event.TheVariants.{Pass}
 use Rattle.rb_site.specs.declared.message.Message.TheVariants.{Token as TokenOnItsWay}
 use Rattle.rb_site.specs.Events.{outcome_of}
 use Rattle.rb_site.specs.States.{Follows, SiteState}
-use Rattle.rb_site.proofs.Handlers.{passes, state_as}
+use Rattle.rb_site.proofs.Errors.{on_err}
+use Rattle.rb_site.proofs.Handlers.{passes, refuses_pass, state_as, tied_passed}
 use Rattle.rb_site.proofs.state.State.pass.Goals as goal
 
 pub returns-clause-ok : goal.returns-clause-ok
@@ -38,3 +39,29 @@ returns-clause-ok c =
     (c.in-Ok.ensures.sent ∙ ap (λ (seen : SeenToken). pass_message seen.token c.args.to c.clock.result.now.red) c.copy-passed.ensures)
     refl c.plain-2.ensures
     (c.push_reserved.ensures.items ∙ ap (λ ms. ms ++ TokenOnItsWay c.in-Ok.message ∷ []) c.in_ok-reserve.ensures.items)))
+
+pub returns-in-Err-clause-ok : goal.returns-in-Err-clause-ok
+returns-in-Err-clause-ok c =
+    let P : SiteState → Type 0 = λ z. refusal_of_pass z.settings.sites z.settings.limits z.site.me z.site.token c.args.to
+    ≡ Some c.in-Err.why in
+    refuses_pass c.args.self.now c.args.to c.in-Err.why c.args.sent.now.items c.plain.result
+    (subst P c.self.view_is
+    (ap (λ n. refusal_of_pass n c.self.inside.journal.settings.limits c.self.inside.token.me c.self.inside.token.token c.args.to)
+    (sym c.self.invariant.sites)
+    ∙ ap (λ l. refusal_of_pass c.self.inside.token.sites l c.self.inside.token.me c.self.inside.token.token c.args.to)
+    (sym c.self.invariant.limits)
+    ∙ ap (λ (seen : SeenToken). refusal_of_pass seen.sites seen.limits seen.me seen.token c.args.to) (sym c.copy-passed.ensures)
+    ∙ c.in-Err.ensures.reason))
+    c.plain.ensures
+
+pub returns-in_err-reserve-clause-err : goal.returns-in_err-reserve-clause-err
+returns-in_err-reserve-clause-err c = on_err c.from_residual.result _ (refl, c.in_err-reserve.ensures.items)
+
+pub push_reserved-requires : goal.push_reserved-requires
+push_reserved-requires c = omega (arith, c.in_ok-reserve.ensures.ok, c.in_ok-reserve.ensures.len)
+
+pub invariant_of-self : goal.invariant_of-self
+invariant_of-self c = tied_passed c.self.inside.journal.settings c.self.inside.inbox c.self.inside.token c.pass.new.self
+    (passed_token c.self.inside.token.token c.in-Ok.message)
+    (c.in-Ok.ensures.passed ∙ ap (λ (seen : SeenToken). record seen { token = passed_token seen.token c.in-Ok.message })
+    c.copy-passed.ensures) c.self.invariant
