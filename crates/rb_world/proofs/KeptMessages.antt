@@ -1,13 +1,15 @@
 -- The messages that are kept at places.
 use Rattle.std.proofs.Common.{◌≡◌, ◌≢◌, ◌∙◌, ℕ, zero, suc, ◌+◌, ◌-◌, ◌==◌, Bool, true, false, cond, List, [], ◌∷◌, ◌++◌}
 use Rattle.std.proofs.Common.{length, map, Option, Some, None}
-use Rattle.std.proofs.Common.{ap, append_assoc, arith, inl, inr, refl, subst, sym}
+use Rattle.std.proofs.Common.{◌<◌, ◌≤◌, ◌^◌, get_or, ap, append_assoc, arith, inl, inr, refl, subst, sym}
 use Rattle.std.proofs.lemmas.Bool.Decides.{nat_tests}
 use Rattle.std.proofs.lemmas.Option.{slice_get-map}
 use Rattle.std.specs.Prelude.{◌⊎◌, option_map, option_and_then, slice_get, slice_set}
 use Rattle.std.proofs.lemmas.List.{append-nil, length-append, length-map, map-set}
 use Rattle.std.proofs.lemmas.List.FromFn.{map-range_with_len_more}
 use Rattle.rb_money.specs.Settings.{Settings}
+use Rattle.rb_money.specs.declared.limits.TheConstants.{MOST_OPERATIONS}
+use Rattle.rb_scratch.specs.declared.request.TheConstants.{MOST_REQUESTS}
 use Rattle.rb_shadow.specs.declared.shadow.Shadow.{Shadow}
 use Rattle.rb_ledger.specs.Valid.{operation_at}
 use Rattle.rb_token.specs.declared.message.TokenMessage.{TokenMessage}
@@ -240,6 +242,57 @@ pub noted_more : (i n k : ℕ) (old noted now : List Kept) → noted ≡ old ++ 
 noted_more i n k old noted now so_far is =
     is ∙ ap (λ ps. ps ++ Operation i (n + k + 1) ∷ []) so_far ∙ append_assoc old (places_from i n k) (Operation i (n + k + 1) ∷ [])
     ∙ ap (λ ps. old ++ ps) (sym (places_more i n k))
+
+-- what is kept at an operation's place is what the site there applied at its position, if there is such a site
+pub operation_kept : (xs : List SeenSite) (tokens : List TokenMessage) (i n : ℕ) (o : Option SeenSite) → slice_get xs i ≡ o →
+    kept_at (map state_of xs) tokens (Operation i n)
+    ≡ option_and_then (λ (t : ModelSite). option_map ShadowMessage (operation_at t.ops n)) (option_map state_of o)
+operation_kept xs tokens i n o at =
+    ap (option_and_then (λ (t : ModelSite). option_map ShadowMessage (operation_at t.ops n)))
+    (slice_get-map state_of xs i ∙ ap (option_map state_of) at)
+
+-- ---- what is noted of what was posted
+
+-- where nothing is read at the front of a list, it is empty
+pub nothing_posted : (xs ms : List Message) → xs ≡ ms → length xs ≤ 0 → ms ≡ []
+nothing_posted [] ms same none = sym same
+nothing_posted (x ∷ xs) ms same none = absurd (omega arith)
+
+-- the place and the list of a token message that was posted
+pub token_posted : (i n k : ℕ) (xs ms : List Message) (first : Message) (m : TokenMessage) → xs ≡ ms → 0 < length xs
+    → first ≡ get_or xs 0 first → first ≡ TokenOnItsWay m → (places_of i n k ms ≡ TokenAt k ∷ []) × (token_of ms ≡ m ∷ [])
+token_posted i n k [] ms first m same some read is = absurd (omega arith)
+token_posted i n k (x ∷ xs) ms first m same some read is =
+    let front : x ∷ xs ≡ TokenOnItsWay m ∷ xs = ap (λ y. y ∷ xs) (sym read ∙ is) in
+    (ap (places_of i n k) (sym same ∙ front), ap token_of (sym same ∙ front))
+
+-- the places and the list of operations that were posted
+pub operations_posted : (i n k : ℕ) (xs ms : List Message) (first : Message) (v : Shadow) → xs ≡ ms → 0 < length xs
+    → first ≡ get_or xs 0 first → first ≡ ShadowMessage v → (places_of i n k ms ≡ places_from i n (length ms)) × (token_of ms ≡ [])
+operations_posted i n k [] ms first v same some read is = absurd (omega arith)
+operations_posted i n k (x ∷ xs) ms first v same some read is =
+    let front : x ∷ xs ≡ ShadowMessage v ∷ xs = ap (λ y. y ∷ xs) (sym read ∙ is) in (
+      ap (places_of i n k) (sym same ∙ front) ∙ ap (λ ys. places_from i n (length ys)) (sym (sym same ∙ front)),
+      ap token_of (sym same ∙ front),
+    )
+
+-- ---- memory
+
+-- one more fits where there is spare capacity for one
+pub one_fits : (n room : ℕ) → n + 1 ≤ room → n < room
+one_fits n room h = omega arith
+
+-- one more fits where the operations of a batch do
+pub one_of_batch : (n room : ℕ) → n + MOST_REQUESTS ≤ room → n < room
+one_of_batch n room h = omega arith
+
+-- no more than the largest number of 32 bits
+pub within_word : (n : ℕ) → n ≤ 4294967295 → n < 2 ^ 32
+within_word n h = omega arith
+
+-- the operations of a batch fit behind those of a site
+pub batch_fits : (n : ℕ) → n ≤ MOST_OPERATIONS → n + MOST_REQUESTS < 2 ^ 32
+batch_fits n h = omega arith
 
 -- ---- the message of a number
 

@@ -1,12 +1,16 @@
 -- The code's step is the model's.
 use Rattle.std.proofs.Common.{◌≡◌, ℕ, ◌+◌, ◌<◌, All, length, take, get_or, Bool, true, false, cond, not, ◌&&◌, List, [], ◌∷◌, ◌++◌, refl}
-use Rattle.std.proofs.Common.{ap, sym, subst, ◌∙◌, Option, Some, None}
+use Rattle.std.proofs.Common.{◌≤◌, Bor, IfOk, IfSome, IsErr, OnErr, OnOk, arith, ap, is_err, sym, subst, ◌∙◌}
+use Rattle.std.proofs.Common.{Option, Some, None, Result, Ok, Err}
+use Rattle.std.specs.declared.alloc.AllocError.{AllocError}
 use Rattle.std.specs.Prelude.{map, option_map, IsSomeAnd, slice_get, slice_set, is_some}
 use Rattle.std.proofs.lemmas.List.Elements.{All-cons, All-nil, All-set}
 use Rattle.std.proofs.lemmas.List.{map-set, take_more}
-use Rattle.std.proofs.lemmas.Option.{slice_get-map, slice_get_within, get_or_from_slice_get}
+use Rattle.std.proofs.lemmas.Option.{slice_get-map, slice_get_past, slice_get_read, slice_get_within, get_or_from_slice_get}
+use Rattle.std.specs.Slice.{IsGetResult}
 use Rattle.rb_money.specs.Settings.{Settings}
-use Rattle.rb_money.specs.declared.refusal.Refusal.TheVariants.{HistoryFull}
+use Rattle.rb_money.specs.declared.limits.TheConstants.{MOST_SITES}
+use Rattle.rb_money.specs.declared.refusal.Refusal.TheVariants.{HistoryFull, NoMessage, NoSite}
 use Rattle.rb_site.specs.declared.event.Event.{Event}
 use Rattle.rb_site.specs.declared.event.Event.TheVariants.{Receive}
 use Rattle.rb_site.specs.declared.message.Message.{Message}
@@ -22,7 +26,7 @@ use Rattle.rb_site.specs.Worlds.{reply_in, world_after, world_at}
 use Rattle.rb_site.proofs.Public.Runs
 use Rattle.rb_site.proofs.Public.Seen
 use Rattle.rb_world.specs.Brought.{brought_by}
-use Rattle.rb_world.specs.Laws.{IsRunOf, SeenWorld, next_replies, next_reply, next_world, next_worlds}
+use Rattle.rb_world.specs.Laws.{IsRunOf, SeenWorld, next_replies, next_reply, next_world, next_worlds, opened}
 
 -- ---- an event and the site that it is for
 
@@ -100,6 +104,69 @@ full_at w ev e i full place arrived is filled = by (slice_get w.world.sites i) r
     by None q h = absurd h
     by (Some t) q h = full_step w ev e t arrived (ap (slice_get w.world.sites) (sym place) ∙ q) (h ∙ filled)
 
+-- where there is no site of its number, an event is refused, and nothing happens
+pub no_site : (w : SeenWorld) (ev : WorldEvent) (i : ℕ) → i ≡ site_of ev → None ≡ slice_get w.world.sites i
+    → (Refused NoSite ≡ next_reply w ev) × (w ≡ next_world w ev)
+no_site w (At j e) i place none =
+    let at : slice_get w.world.sites j ≡ None = ap (slice_get w.world.sites) (sym place) ∙ sym none in (
+      sym (ap (λ o. reply_at w.settings o (Some e)) at),
+      still w (At j e) (ap (is_recorded_at w.settings) at),
+    )
+no_site w (Deliver j k) i place none =
+    let m : Option Message = message_at w.world.messages k in
+    let at : slice_get w.world.sites j ≡ None = ap (slice_get w.world.sites) (sym place) ∙ sym none in (
+      sym (ap (λ o. reply_at w.settings o (option_map Receive m)) at),
+      still w (Deliver j k) (ap (λ o. is_recorded_at w.settings o && is_some m) at),
+    )
+
+and_false : (b : Bool) → (b && false) ≡ false
+and_false true = refl
+and_false false = refl
+
+-- where there is no message of its number, a delivery is refused, and nothing happens
+pub no_message : (w : SeenWorld) (i k : ℕ) (t : ModelSite) → Some t ≡ slice_get w.world.sites i → None ≡ message_at w.world.messages k
+    → (Refused NoMessage ≡ next_reply w (Deliver i k)) × (w ≡ next_world w (Deliver i k))
+no_message w i k t at none =
+    let m : Option Message = message_at w.world.messages k in (
+      ap (λ o. reply_at w.settings (Some t) (option_map Receive o)) none ∙ ap (λ o. reply_at w.settings o (option_map Receive m)) at,
+      still w (Deliver i k) (ap (λ o. is_recorded_at w.settings o && is_some m) (sym at)
+          ∙ ap (λ o. is_recorded_at w.settings (Some t) && is_some o) (sym none) ∙ and_false (not (is_full w.settings t))),
+    )
+
+-- at a site that is there, and whose history isn't full, an event that arrives is recorded
+pub recorded_at : (w : SeenWorld) (ev : WorldEvent) (e : Event) (i : ℕ) (full : Bool) → i ≡ site_of ev
+    → arrival w.world.messages ev ≡ Some e → IsSomeAnd (slice_get w.world.sites i) (λ t. is_full w.settings t ≡ full) → full ≡ false
+    → is_recorded w.settings w.world ev ≡ true
+recorded_at w ev e i full place arrived is free = by (slice_get w.world.sites i) refl is
+  where
+    by : (o : Option ModelSite) → slice_get w.world.sites i ≡ o → IsSomeAnd o (λ t. is_full w.settings t ≡ full)
+        → is_recorded w.settings w.world ev ≡ true
+    by None q h = absurd h
+    by (Some t) q h =
+        (arrives w.settings w.world ev e t arrived (ap (slice_get w.world.sites) (sym place) ∙ q)).recorded ∙ ap not (h ∙ free)
+
+-- what follows from what holds at an error holds there too
+pub at_error : {A : Type 0} (r : Result A AllocError) (P Q : Type 0) → (P → Q) → OnErr r P → OnErr r Q
+at_error (Ok a) P Q h p = tt
+at_error (Err why) P Q h p = h p
+
+-- what holds, holds at an error
+pub on_error : {A : Type 0} (r : Result A AllocError) (P : Type 0) → P → OnErr r P
+on_error (Ok a) P p = tt
+on_error (Err why) P p = p
+
+-- an error is no answer
+pub not_ok : {A : Type 0} (r : Result A AllocError) (P : A → Type 0) → IsErr r → IfOk r P
+not_ok (Ok a) P h = cc
+not_ok (Err why) P h = tt
+
+-- what an answer says of an event, it says of the same event
+pub said_of : (r : Result Reply AllocError) (old new : SeenWorld) (d e : WorldEvent) → d ≡ e
+    → IfOk r (λ (reply : Reply). (reply ≡ next_reply old d) × (new ≡ next_world old d))
+    → IfOk r (λ (reply : Reply). (reply ≡ next_reply old e) × (new ≡ next_world old e))
+said_of r old new d e same h =
+    let P : WorldEvent → Type 0 = λ x. IfOk r (λ (reply : Reply). (reply ≡ next_reply old x) × (new ≡ next_world old x)) in subst P same h
+
 -- ---- a step that a site records
 
 -- what is known where a site takes an event: its place, the event that arrives there, and that its history isn't full
@@ -110,7 +177,7 @@ pub record IsTaken (config : Settings) (xs : List SeenSite) (messages : List Mes
     pub settings : x.settings ≡ config
     pub room : is_full config (state_of x) ≡ false
 
-abbrev sites_and : List ModelSite → List Message → World
+abbrev pub sites_and : List ModelSite → List Message → World
 sites_and ts ms = record { sites = ts; messages = ms }
 
 -- a world by what its sites show
@@ -169,6 +236,15 @@ next_run w ev run command = by (is_recorded w.settings w.world ev) refl
       is = Runs.unrecorded w.settings w.world ev q ∙ run.is;
     }
 
+-- before any event the world is the run of no events
+pub first_run : (s : Settings) (sites : ℕ) → sites ≡ s.sites → 2 ≤ sites → sites ≤ MOST_SITES → IsRunOf (opened s)
+first_run s sites same some few = record {
+  some_sites = subst (λ n. 2 ≤ n) same some;
+  few_sites = subst (λ n. n ≤ MOST_SITES) same few;
+  own = tt;
+  is = refl;
+}
+
 -- every site keeps the configuration
 abbrev pub AreOf : Settings → List SeenSite → Type 0
 AreOf s xs = All (λ (y : SeenSite). y.settings ≡ s) xs
@@ -199,6 +275,47 @@ taken_at s xs ms ev e i x place arrived room all same = by (slice_get xs i) refl
           settings = ap (λ (z : SeenSite). z.settings) same ∙ all i x (slice_get_within xs i y q);
           room = let P : SeenSite → Type 0 = λ z. is_full s (state_of z) ≡ false in subst P (sym here) h;
         }
+
+-- a place that has a site is below their number
+pub site_there : (s : Settings) (xs : List SeenSite) (i : ℕ) → IsSomeAnd (slice_get (map state_of xs) i) (λ t. is_full s t ≡ false)
+    → i < length xs
+site_there s xs i h = by (slice_get xs i) refl (let P : Option ModelSite → Type 0 = λ o. IsSomeAnd o (λ t. is_full s t ≡ false) in
+    subst P (slice_get-map state_of xs i) h)
+  where
+    by : (o : Option SeenSite) → slice_get xs i ≡ o → IsSomeAnd (option_map state_of o) (λ t. is_full s t ≡ false) → i < length xs
+    by None q k = absurd k
+    by (Some x) q k = slice_get_within xs i x q
+
+-- ---- a site that is read
+
+-- what `get` gives of the sites is the state of the site of that number, if there is one
+pub got : (xs : List SeenSite) (i : ℕ) (r : Option (Bor SeenSite)) → IsGetResult xs i i r
+    → option_map (λ (b : Bor SeenSite). state_of b.now) r ≡ slice_get (map state_of xs) i
+got xs i None looked = sym (slice_get-map state_of xs i ∙ ap (option_map state_of) (slice_get_past xs i looked.3))
+got xs i (Some b) looked =
+    sym (slice_get-map state_of xs i ∙ ap (option_map state_of) (slice_get_read xs (length xs) i b.now refl looked.3.0 looked.1))
+
+-- where every site has the configuration, what `get` gives of them has it
+pub got_settings : (s t : Settings) (xs : List SeenSite) (i : ℕ) (r : Option (Bor SeenSite)) → IsGetResult xs i i r → AreOf s xs → s ≡ t
+    → IfSome r (λ (b : Bor SeenSite). b.now.settings ≡ t)
+got_settings s t xs i None looked all same = tt
+got_settings s t xs i (Some b) looked all same = ap (λ (x : SeenSite). x.settings) looked.1 ∙ all i b.now looked.3.0 ∙ same
+
+-- ---- memory for a list
+
+-- where memory for many was taken behind an empty list, it has capacity for them
+pub reserved : {A : Type 0} (r : Result A AllocError) (len more many room : ℕ) → is_err r ≡ false → OnOk r (len + more ≤ room)
+    → len ≡ 0 → more ≡ many → many ≤ room
+reserved (Ok a) len more many room e h none same = omega arith
+reserved (Err why) len more many room e h none same = cc
+
+-- as many as memory was taken for have capacity
+pub few_enough : (len more many count room : ℕ) → len + more ≤ room → count ≡ many → more ≡ many → count ≤ room
+few_enough len more many count room h a b = omega arith
+
+-- behind fewer than there is capacity for, one more fits
+pub fits_behind : (n k many room : ℕ) → n ≡ k → k < many → many ≤ room → n < room
+fits_behind n k many room same below enough = omega arith
 
 -- ---- a run so far
 

@@ -1,12 +1,13 @@
 -- What an event of the world comes to, case by case.
 use Rattle.std.proofs.Common.{◌≡◌, ◌≢◌, ℕ, ◌+◌, ◌<◌, ◌≤◌, Bool, true, false, cond, not, ◌&&◌, ◌||◌, List, [], ◌∷◌, ◌++◌, length, refl, ap}
-use Rattle.std.proofs.Common.{sym, ◌∙◌, arith, ◌⊎◌, inl, inr, subst, Option, Some, None, Result, Ok, Err, append_assoc}
+use Rattle.std.proofs.Common.{sym, ◌∙◌, ◌⊎◌, inl, inr, subst, Option, Some, None, Result, Ok, Err, append_assoc}
 use Rattle.std.specs.Prelude.{option_map, slice_get, slice_set, map, nat_lt, nat_le, ◌==◌, max, take}
 use Rattle.std.proofs.lemmas.List.{append-nil}
-use Rattle.std.proofs.lemmas.Bool.Decides.{nat_tests}
+use Rattle.std.proofs.lemmas.Bool.{false≢true}
 use Rattle.rb_site.proofs.Public.Places.{get_set_other, get_set_same, same_number, set_set}
 use Rattle.rb_site.proofs.Public.Recorded.{own_from, placed}
 use Rattle.rb_site.proofs.Public.Runs.{noted}
+use Rattle.rb_money.proofs.Public.Tests
 use Rattle.rb_money.specs.Refusals.{and_then, unless}
 use Rattle.rb_money.specs.Settings.{Settings, is_account}
 use Rattle.rb_money.specs.declared.refusal.Refusal.{Refusal}
@@ -150,7 +151,7 @@ comes_shadow s ms t v sent =
     let r : MayHold ms t v = record {
       sent = sent;
       fresh = Lookups.unnamed t.ops v.name a;
-      foreign = grind (arith, nat_tests);
+      foreign = λ e. false≢true (sym b ∙ Tests.equal v.home t.me e);
       free = Lookups.unnamed t.held v.name c;
     } in r)))))
 
@@ -163,7 +164,7 @@ comes_token s ms t m sent =
   where
     at : (b : Bool) → nat_le m.epoch t.token.epoch ≡ b → (m.to == t.me) ≡ true → Comes s ms t (cond b (Answers (Stale m.epoch)) (Takes m))
     at true e h = tt
-    at false e h = record { sent = sent; mine = grind (arith, nat_tests); later = grind (arith, nat_tests) }
+    at false e h = record { sent = sent; mine = Tests.number_sound m.to t.me h; later = Tests.above m.epoch t.token.epoch e }
 
 comes_apply : (s : Settings) (ms : List Message) (t : ModelSite) (o : Option Shadow) → ((v : Shadow) → o ≡ Some v → Among v t.held)
     → Comes s ms t (unless (λ v. cond (not (is_eligible t.ops v)) (Refuses NotReady) (outcome_of_check v (refusal_of_sound s t.ops v))) o
@@ -184,10 +185,10 @@ comes_pass s ms t to =
     let d : (nat_le s.sites to ≡ false) × ((to == t.me) ≡ false) = Members.or-false _ _ a.0 in
     record {
       held = not_true _ c.0;
-      to_other = let k = d.1 in grind (arith, nat_tests);
-      to_site = let k = d.0 in grind (arith, nat_tests);
+      to_other = λ h. false≢true (sym d.1 ∙ Tests.equal to t.me h);
+      to_site = Tests.above s.sites to d.0;
       epoch = refl;
-      within = let k = b.0 in grind (arith, nat_tests);
+      within = Tests.at_most s.limits.epoch (t.token.epoch + 1) b.0;
       red = refl;
     })
 
