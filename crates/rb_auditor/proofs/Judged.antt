@@ -1,10 +1,10 @@
 -- Histories of which it is known what each entry does with messages.
-use Rattle.std.proofs.Common.{◌≡◌, ℕ, zero, suc, ◌+◌, ◌-◌, ◌<◌, ◌≤◌, List, [], ◌∷◌, length, take, get_or, refl}
+use Rattle.std.proofs.Common.{◌≡◌, ℕ, ◌+◌, ◌-◌, ◌<◌, ◌≤◌, List, [], length, take, get_or, refl}
 use Rattle.std.proofs.Common.{ap, sym, subst, ◌∙◌, inl, inr}
 use Rattle.std.proofs.Common.{arith, drop, Some, None}
-use Rattle.std.specs.Prelude.{slice_get, option_map}
+use Rattle.std.specs.Prelude.{slice_get}
 use Rattle.std.proofs.lemmas.List.{length-map, length-take-le, take_all}
-use Rattle.std.proofs.lemmas.Option.{slice_get-map, slice_get_read, slice_get_within}
+use Rattle.std.proofs.lemmas.Option.{slice_get_read, slice_get_within}
 use Rattle.rb_money.specs.declared.limits.TheConstants.{MOST_HISTORY}
 use Rattle.rb_money.specs.Settings.{IsConfigured, Settings}
 use Rattle.rb_site.specs.declared.entry.Entry.{Entry}
@@ -13,7 +13,7 @@ use Rattle.rb_site.specs.declared.event.Event.TheVariants.{Receive}
 use Rattle.rb_site.specs.declared.message.Message.{Message}
 use Rattle.rb_site.specs.Events.{sent_at}
 use Rattle.rb_site.specs.Histories.{IsAmong, IsFrom}
-use Rattle.rb_site.proofs.Public.Lists.{map_back}
+use Rattle.rb_site.proofs.Public.Lists.{map_at, map_back}
 use Rattle.rb_site.proofs.Public.Places.{same_number}
 use Rattle.rb_auditor.specs.declared.notes.Notes.{Notes}
 use Rattle.rb_auditor.specs.declared.step.Step.{Step}
@@ -69,24 +69,15 @@ wrong_found s ns ms k n all below at not = record {
       (let m = notes_of ns i h there in
       subst (IsReplay s i) m.2 (replays s i m.0 ms (all.each i m.0 m.1) (below i m.0 less m.1)));
   history = entries_noted n;
-  there = slice_get-map entries_noted ns k ∙ ap (option_map entries_noted) at;
+  there = map_at entries_noted ns k n at;
   before = subst (λ l. IsReplay s k (take l (entries_noted n))) (let q : length n.steps.items ≡ length n.steps.items + 1 - 1 =
       omega arith in q)
       judged.replays;
-  wrong = judged.wrong (less (length n.steps.items) (length (entries_noted n)) judged.within not);
+  wrong = judged.wrong (let within : length n.steps.items ≤ length (entries_noted n) = judged.within in omega (arith, not));
 }
   where
     judged : IsJudged s k n ms
     judged = all.each k n at
-
-    less : (a b : ℕ) → a ≤ b → ¬ (a ≡ b) → a < b
-    less a b le ne = omega (arith, ne)
-
--- what is read at a place of the notes
-pub notes_at : (s : Settings) (ns : List Notes) (ms : List Message) (k : ℕ) (n : Notes) → AreJudged s ns ms → k < s.sites
-    → n ≡ get_or ns k n → slice_get ns k ≡ Some n
-notes_at s ns ms k n all less is =
-    let many : length ns ≡ s.sites = all.notes in slice_get_read ns (length ns) k n refl (omega arith) is
 
 -- there are no more steps than a history may have entries
 pub steps_few : (s : Settings) (i : ℕ) (n : Notes) (ms : List Message) → IsConfigured s → IsJudged s i n ms
@@ -117,11 +108,23 @@ read p q ns ms i t n same is v all whole less e f =
     let here : slice_get ns i ≡ Some n = slice_get_read ns (length ns) i n refl (omega arith) f in
     let counts : length p.taken ≡ length p.histories = v.counts in
     record {
-      there = ap (λ hs. slice_get hs i) is ∙ slice_get-map entries_noted ns i ∙ ap (option_map entries_noted) here;
+      there = ap (λ hs. slice_get hs i) is ∙ map_at entries_noted ns i n here;
       at = slice_get_read p.taken (length p.taken) i t refl (omega arith) e;
       steps = (all.each i n here).steps;
       whole = whole i n here;
     }
+
+-- a place of the histories that a client sees is one of the notes
+pub has_notes : (p q : Progress) (ns : List Notes) (i : ℕ) → p ≡ q → p.histories ≡ histories_in ns → i < length q.histories
+    → i < length ns
+has_notes p q ns i same is less =
+    subst (λ n. i < n) (ap (λ (r : Progress). length r.histories) (sym same) ∙ ap length is ∙ length-map ns entries_noted) less
+
+-- and there it is known how many entries were taken
+pub has_taken : (p : Progress) (ns : List Notes) (i len : ℕ) → IsTaking p → p.histories ≡ histories_in ns → len ≡ length p.taken
+    → i < length ns → i < len
+has_taken p ns i len v is e less =
+    subst (λ n. i < n) (sym (length-map ns entries_noted) ∙ ap length (sym is) ∙ sym v.counts ∙ sym e) less
 
 -- the same, where the place is one of the notes
 pub read_here : (p : Progress) (ns : List Notes) (ms : List Message) (i t : ℕ) (n : Notes) → p.histories ≡ histories_in ns
@@ -137,12 +140,6 @@ rests_past p ms i t n r past =
     Resting.rests_past p i t (entries_noted n) r.there r.at (let whole : length n.steps.items ≡ length (entries_noted n) = r.whole
     in omega arith)
 
--- the item at a place
-pub item : {A : Type 0} (xs : List A) (k : ℕ) → k < length xs → (x : A) × (slice_get xs k ≡ Some x)
-item [] k less = absurd (omega arith)
-item (x ∷ xs) zero less = (x, refl)
-item (x ∷ xs) (suc k) less = item xs k (omega arith)
-
 -- the next entry and its step
 pub record IsNextStep (p : Progress) (ms : List Message) (i t : ℕ) (n : Notes) (step : Step) : Type 0 where
   pub entry : Entry
@@ -155,7 +152,7 @@ pub next_step : (p : Progress) (ms : List Message) (i t : ℕ) (n : Notes) (step
 next_step p ms i t n step r at =
     let less : t < length n.steps.items = slice_get_within n.steps.items t step at in
     let whole : length n.steps.items ≡ length (entries_noted n) = r.whole in
-    let x = item (entries_noted n) t (omega arith) in
+    let x = Lists.item_at (entries_noted n) t (omega arith) in
     record { entry = x.0; next = x.1; says = r.steps t x.0 step x.1 at }
 
 -- the places of a step are among the messages

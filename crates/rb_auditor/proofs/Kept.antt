@@ -1,18 +1,18 @@
 -- What is kept of histories, as entries are read.
 use Rattle.std.proofs.Common.{◌≡◌, ℕ, ◌+◌, ◌<◌, ◌≤◌, List, [], ◌∷◌, ◌++◌, length, take, refl, ap, sym, subst, ◌∙◌, inl, inr, arith}
-use Rattle.std.proofs.Common.{Bool, IsTrue, true, false, Option, Some, None, length-append}
-use Rattle.std.proofs.Common.{zero, suc, get_or, Result, Ok, Err}
-use Rattle.std.specs.Prelude.{slice_get, slice_set, map, replicate, option_map, OnOk, OnErr}
+use Rattle.std.proofs.Common.{Option, Some, None, length-append}
+use Rattle.std.proofs.Common.{zero, suc, get_or, append_assoc, append-nil}
+use Rattle.std.specs.Prelude.{slice_get, slice_set, map, replicate}
 use Rattle.std.specs.List.{range_with_len}
-use Rattle.std.specs.declared.alloc.AllocError.{AllocError}
-use Rattle.std.proofs.lemmas.Option.{slice_get-map, slice_get_read, slice_get_within}
-use Rattle.std.proofs.lemmas.List.FromFn.{length-range_with_len}
-use Rattle.std.proofs.lemmas.List.{length-map, length-set, map-set, take-append-le, take_all}
+use Rattle.std.proofs.lemmas.Option.{get_or_from_slice_get, slice_get_read, slice_get_within}
+use Rattle.std.proofs.lemmas.List.FromFn.{get_or-map-range_with_len, length-map-range_with_len}
+use Rattle.std.proofs.lemmas.List.{length-set, map-set, take-append-le, take_all}
 use Rattle.rb_money.specs.Settings.{Settings}
 use Rattle.rb_site.specs.declared.entry.Entry.{Entry}
 use Rattle.rb_site.specs.declared.message.Message.{Message}
 use Rattle.rb_site.specs.Events.{sent_at}
 use Rattle.rb_site.specs.Seen.{IsReplayed, SeenSite, first_seen, state_of}
+use Rattle.rb_site.proofs.Public.Lists.{map_at}
 use Rattle.rb_site.proofs.Public.Places
 use Rattle.rb_site.proofs.Public.Places.{same_number}
 use Rattle.rb_auditor.specs.declared.notes.Notes.{Notes}
@@ -48,6 +48,15 @@ notes_more s i x n ms all m a = record {
       a.judged;
 }
 
+-- the same messages are no fewer
+pub no_more : (ms later : List Message) → later ≡ ms → IsMore ms later
+no_more ms later e = record { more = []; is = e ∙ sym (append-nil ms) }
+
+-- messages behind others that have more than these
+pub more_still : (ms mid all later : List Message) → IsMore ms mid → IsMore mid all → later ≡ all → IsMore ms later
+more_still ms mid all later m n e =
+    record { more = m.more ++ n.more; is = e ∙ n.is ∙ ap (λ xs. xs ++ n.more) m.is ∙ append_assoc ms m.more n.more }
+
 -- the entries and steps of one history
 abbrev Judged : Settings → ℕ → List Entry → List Step → List Message → Type 0
 Judged s i h steps ms =
@@ -82,81 +91,55 @@ judged_as s i n ms h steps e f j =
     let all : Judged s i (entries_noted n) n.steps.items ms = subst (λ g. P g n.steps.items) (sym e) (subst (P h) (sym f) j) in
     record { within = all.0; replays = all.1; wrong = all.2; steps = all.3 }
 
--- an entry comes behind one that the site doesn't record
-pub past_wrong : (s : Settings) (i : ℕ) (x : SeenSite) (old new : Notes) (ms : List Message) (y : Entry) → AreNotes s i x old ms
-    → length old.steps.items < length (entries_noted old) → entries_noted new ≡ entries_noted old ++ y ∷ []
-    → new.steps.items ≡ old.steps.items
-    → AreNotes s i x new ms
-past_wrong s i x old new ms y a less grown same = record {
-  settings = a.settings;
-  me = a.me;
+-- an entry comes that has no step: with it, the entries up to the first without one don't replay
+without_step : (s : Settings) (i : ℕ) (later : SeenSite) (old new : Notes) (ms : List Message) (y : Entry) → later.settings ≡ s
+    → later.me ≡ i → IsJudged s i old ms → ¬ IsReplay s i (take (length old.steps.items + 1) (entries_noted old ++ y ∷ []))
+    → entries_noted new ≡ entries_noted old ++ y ∷ [] → new.steps.items ≡ old.steps.items → AreNotes s i later new ms
+without_step s i later old new ms y settings me j wrong grown same = record {
+  settings = settings;
+  me = me;
   entries = λ e. (let shorter : length new.steps.items ≡ length old.steps.items = ap length same in absurd (omega (arith, longer)));
-  judged = judged_as s i new ms (h ++ y ∷ []) steps grown same (
+  judged = judged_as s i new ms (h ++ y ∷ []) old.steps.items grown same (
     omega (arith, size),
-    subst (IsReplay s i) (sym (take-append-le (length steps) h (y ∷ []) (omega arith))) a.judged.replays,
-    λ _. subst (λ g. ¬ IsReplay s i g) (sym (take-append-le (length steps + 1) h (y ∷ []) (omega arith))) (a.judged.wrong less),
-    Steps.steps_longer s i h (y ∷ []) ms steps (omega arith) a.judged.steps,
+    subst (IsReplay s i) (sym (take-append-le (length old.steps.items) h (y ∷ []) (omega arith))) j.replays,
+    λ _. wrong,
+    Steps.steps_longer s i h (y ∷ []) ms old.steps.items (omega arith) j.steps,
   );
 }
   where
     h : List Entry
     h = entries_noted old
 
-    steps : List Step
-    steps = old.steps.items
-
     size : length (h ++ y ∷ []) ≡ length h + 1
     size = length-append h (y ∷ [])
 
-    longer : length (entries_noted new) ≡ length (entries_noted old) + 1
-    longer = ap length grown ∙ length-append (entries_noted old) (y ∷ [])
-
--- what is false isn't true
-pub not_true : (b : Bool) → b ≡ false → IsTrue b → ⊥
-not_true true e h = cc
-not_true false e h = cc
+    longer : length (entries_noted new) ≡ length h + 1
+    longer = ap length grown ∙ size
 
 -- an entry comes behind others, of which not all have a step
-pub past_wrong_new : (s : Settings) (i : ℕ) (x : SeenSite) (old new : Notes) (ms : List Message) (y : Entry) → AreNotes s i x old ms
+pub past_wrong : (s : Settings) (i : ℕ) (x : SeenSite) (old new : Notes) (ms : List Message) (y : Entry) → AreNotes s i x old ms
     → ¬ (length old.steps.items ≡ length (entries_noted old)) → entries_noted new ≡ entries_noted old ++ y ∷ []
     → new.steps.items ≡ old.steps.items → AreNotes s i x new ms
-past_wrong_new s i x old new ms y a not grown same =
-    past_wrong s i x old new ms y a (less (length old.steps.items) (length (entries_noted old)) a.judged.within not) grown same
-  where
-    less : (m n : ℕ) → m ≤ n → ¬ (m ≡ n) → m < n
-    less m n le ne = omega (arith, ne)
-
-whole_taken : (h : List Entry) (n : ℕ) → n ≡ length h → take n h ≡ h
-whole_taken h n e = take_all n h (omega arith)
+past_wrong s i x old new ms y a not grown same =
+    let within : length old.steps.items ≤ length (entries_noted old) = a.judged.within in
+    let less : length old.steps.items < length (entries_noted old) = omega (arith, not) in
+    without_step s i x old new ms y a.settings a.me a.judged (subst (λ g. ¬ IsReplay s i g)
+    (sym (take-append-le (length old.steps.items + 1) (entries_noted old) (y ∷ []) (omega arith))) (a.judged.wrong less)) grown same
 
 -- an entry that the site doesn't record is the first
-pub first_wrong : (s : Settings) (i : ℕ) (x later : SeenSite) (old new : Notes) (ms : List Message) (y : Entry) → AreNotes s i x old ms
+first_wrong : (s : Settings) (i : ℕ) (x later : SeenSite) (old new : Notes) (ms : List Message) (y : Entry) → AreNotes s i x old ms
     → length old.steps.items ≡ length (entries_noted old) → ¬ IsReplayed (seen_at x.settings x.me (x.entries ++ y ∷ []))
     → later.settings ≡ x.settings → later.me ≡ x.me
     → entries_noted new ≡ entries_noted old ++ y ∷ [] → new.steps.items ≡ old.steps.items → AreNotes s i later new ms
-first_wrong s i x later old new ms y a whole not e f grown same = record {
-  settings = e ∙ a.settings;
-  me = f ∙ a.me;
-  entries = λ q. (let shorter : length new.steps.items ≡ length old.steps.items = ap length same in absurd (omega (arith, longer)));
-  judged = judged_as s i new ms (h ++ y ∷ []) steps grown same (
-    omega (arith, size),
-    subst (IsReplay s i) (sym (take-append-le (length steps) h (y ∷ []) (omega arith))) a.judged.replays,
-    λ _. subst (λ g. ¬ IsReplay s i g) (sym (whole_taken (h ++ y ∷ []) (length steps + 1) (omega (arith, size)))) here,
-    Steps.steps_longer s i h (y ∷ []) ms steps (omega arith) a.judged.steps,
-  );
-}
+first_wrong s i x later old new ms y a whole not e f grown same =
+    without_step s i later old new ms y (e ∙ a.settings) (f ∙ a.me) a.judged
+    (subst (λ g. ¬ IsReplay s i g) (sym (take_all (length old.steps.items + 1) (h ++ y ∷ []) (omega (arith, size)))) here) grown same
   where
     h : List Entry
     h = entries_noted old
 
-    steps : List Step
-    steps = old.steps.items
-
     size : length (h ++ y ∷ []) ≡ length h + 1
     size = length-append h (y ∷ [])
-
-    longer : length (entries_noted new) ≡ length (entries_noted old) + 1
-    longer = ap length grown ∙ length-append (entries_noted old) (y ∷ [])
 
     here : ¬ IsReplay s i (h ++ y ∷ [])
     here r = not (subst (λ t. IsReplay t x.me (x.entries ++ y ∷ [])) (sym a.settings)
@@ -164,7 +147,7 @@ first_wrong s i x later old new ms y a whole not e f grown same = record {
         (subst (λ g. IsReplay s i (g ++ y ∷ [])) (sym (a.entries whole)) r)))
 
 -- the site records one entry more
-pub one_recorded : (s : Settings) (i : ℕ) (x later : SeenSite) (old new : Notes) (ms : List Message) (y : Entry) (step : Step)
+one_recorded : (s : Settings) (i : ℕ) (x later : SeenSite) (old new : Notes) (ms : List Message) (y : Entry) (step : Step)
     → AreNotes s i x old ms → length old.steps.items ≡ length (entries_noted old) → later ≡ record x { entries = x.entries ++ y ∷ [] }
     → IsReplayed later → IsStep ms y.event (sent_at x.settings (state_of x) y.event) step
     → entries_noted new ≡ entries_noted old ++ y ∷ [] → new.steps.items ≡ old.steps.items ++ step ∷ [] → AreNotes s i later new ms
@@ -174,7 +157,7 @@ one_recorded s i x later old new ms y step a whole is replayed new_step grown mo
   entries = λ _. ap (λ (z : SeenSite). z.entries) is ∙ ap (λ g. g ++ y ∷ []) (a.entries whole) ∙ sym grown;
   judged = judged_as s i new ms (h ++ y ∷ []) (steps ++ step ∷ []) grown more (
     omega (arith, size, count),
-    subst (IsReplay s i) (sym (whole_taken (h ++ y ∷ []) (length (steps ++ step ∷ [])) (omega (arith, size, count)))) here,
+    subst (IsReplay s i) (sym (take_all (length (steps ++ step ∷ [])) (h ++ y ∷ []) (omega (arith, size, count)))) here,
     λ less. absurd (omega (arith, size, count)),
     Steps.steps_next s i h ms steps y step whole a.judged.steps
         (subst (λ (z : SeenSite). IsStep ms y.event (sent_at z.settings (state_of z) y.event) step) now new_step),
@@ -209,17 +192,20 @@ one_more s i x later old new ms y None a whole h e f grown same = first_wrong s 
 one_more s i x later old new ms y (Some step) a whole h e f grown more =
     one_recorded s i x later old new ms y step a whole h.0 h.1 h.2 grown more
 
--- ---- all sites
+-- a site that records all its entries is replayed
+pub replayed_now : (x : SeenSite) (n : Notes) (ms : List Message) → AreNotes x.settings x.me x n ms
+    → length n.steps.items ≡ length (entries_noted n) → IsReplayed x
+replayed_now x n ms a whole = subst (IsReplay x.settings x.me)
+    (take_all (length n.steps.items) (entries_noted n) (omega arith) ∙ sym (a.entries whole)) a.judged.replays
 
--- what is read at a place
-read_at : {A : Type 0} (xs : List A) (i n : ℕ) (x : A) → length xs ≡ n → i < n → x ≡ get_or xs i x → slice_get xs i ≡ Some x
-read_at xs i n x e less is = slice_get_read xs (length xs) i x refl (omega arith) is
+-- ---- all sites
 
 -- the site and the notes that are read at a place belong together
 pub at_place : (s : Settings) (xs : List SeenSite) (ns : List Notes) (ms : List Message) (i : ℕ) (x : SeenSite) (n : Notes)
     → AreAllNotes s xs ns ms → i < s.sites → x ≡ get_or xs i x → n ≡ get_or ns i n → AreNotes x.settings x.me x n ms
 at_place s xs ns ms i x n all less e f =
-    let a : AreNotes s i x n ms = all.each i x n (read_at xs i s.sites x all.sites less e) (read_at ns i s.sites n all.notes less f) in
+    let a : AreNotes s i x n ms =
+    all.each i x n (slice_get_read xs s.sites i x (sym all.sites) less e) (slice_get_read ns s.sites i n (sym all.notes) less f) in
     subst (λ t. AreNotes t x.me x n ms) (sym a.settings) (subst (λ k. AreNotes s k x n ms) (sym a.me) a)
 
 -- the site and the notes at a place go on
@@ -233,10 +219,10 @@ set_place s xs ns ms later i x y n m all more less e f new = record {
 }
   where
     here : slice_get xs i ≡ Some x
-    here = read_at xs i s.sites x all.sites less e
+    here = slice_get_read xs s.sites i x (sym all.sites) less e
 
     there : slice_get ns i ≡ Some n
-    there = read_at ns i s.sites n all.notes less f
+    there = slice_get_read ns s.sites i n (sym all.notes) less f
 
     old : AreNotes s i x n ms
     old = all.each i x n here there
@@ -257,10 +243,6 @@ set_place s xs ns ms later i x y n m all more less e f new = record {
           (sym (Places.get_set_other ns i j m ne) ∙ is))
     ]
 
--- the history at a place
-history_at : (ns : List Notes) (i : ℕ) (n : Notes) → slice_get ns i ≡ Some n → slice_get (histories_in ns) i ≡ Some (entries_noted n)
-history_at ns i n at = slice_get-map entries_noted ns i ∙ ap (option_map entries_noted) at
-
 -- to set what is there changes nothing
 pub set_same : {A : Type 0} (xs : List A) (i : ℕ) (x : A) → slice_get xs i ≡ Some x → slice_set xs i x ≡ xs
 set_same [] i x h = cc
@@ -278,7 +260,7 @@ pub has_more : (old : Audited) (s : Settings) (ns : List Notes) (i : ℕ) (n m :
     → entries_noted m ≡ entries_noted n ++ xs → HasMore old (record { settings = s; histories = histories_in (slice_set ns i m) }) i xs
 has_more old s ns i n m xs seen count less f grown = subst P seen (record {
   history = entries_noted n;
-  there = history_at ns i n there;
+  there = map_at entries_noted ns i n there;
   is = ap (λ hs. record { settings = s; histories = hs }) (histories_set ns i m (entries_noted n ++ xs) grown);
 })
   where
@@ -286,47 +268,28 @@ has_more old s ns i n m xs seen count less f grown = subst P seen (record {
     P o = HasMore o (record { settings = s; histories = histories_in (slice_set ns i m) }) i xs
 
     there : slice_get ns i ≡ Some n
-    there = read_at ns i s.sites n count less f
+    there = slice_get_read ns s.sites i n (sym count) less f
 
 -- a client sees nothing where no entry is added
 pub has_same : (old : Audited) (s : Settings) (ns : List Notes) (i : ℕ) (n m : Notes)
     → record { settings = s; histories = histories_in ns } ≡ old → length ns ≡ s.sites → i < s.sites → n ≡ get_or ns i n
     → entries_noted m ≡ entries_noted n → record { settings = s; histories = histories_in (slice_set ns i m) } ≡ old
 has_same old s ns i n m seen count less f same =
-    ap as_seen (histories_set ns i m (entries_noted n) same ∙ set_same (histories_in ns) i (entries_noted n) (history_at ns i n
+    ap as_seen (histories_set ns i m (entries_noted n) same ∙ set_same (histories_in ns) i (entries_noted n) (map_at entries_noted ns i n
     there)) ∙ seen
   where
     as_seen : List (List Entry) → Audited
     as_seen hs = record { settings = s; histories = hs }
 
     there : slice_get ns i ≡ Some n
-    there = read_at ns i s.sites n count less f
-
--- what follows where it went well
-pub on_ok : {A B : Type 0} (r : Result Unit AllocError) → OnOk r A → (A → B) → OnOk r B
-on_ok (Ok u) a f = f a
-on_ok (Err e) a f = tt
-
--- and where it did not
-pub on_err : {A B : Type 0} (r : Result Unit AllocError) → OnErr r A → (A → B) → OnErr r B
-on_err (Ok u) a f = tt
-on_err (Err e) a f = f a
-
--- the site of a number before any entry
-first_at : (s : Settings) (a n i : ℕ) (x : SeenSite) → slice_get (map (first_seen s) (range_with_len a n)) i ≡ Some x
-    → x ≡ first_seen s (a + i)
-first_at s a zero i x h = cc
-first_at s a (suc n) zero x h =
-    let e : first_seen s a ≡ x = cc in sym e ∙ ap (first_seen s) (let q : a ≡ a + 0 = omega arith in q)
-first_at s a (suc n) (suc i) x h =
-    first_at s (a + 1) n i x h ∙ ap (first_seen s) (let q : a + 1 + i ≡ a + suc i = omega arith in q)
+    there = slice_get_read ns s.sites i n (sym count) less f
 
 -- before any entry
 pub none_read : (s : Settings) (xs : List SeenSite) (ns : List Notes) (ms : List Message)
     → xs ≡ map (first_seen s) (range_with_len 0 s.sites)
     → length ns ≡ s.sites → HaveNoEntries ns → AreAllNotes s xs ns ms
 none_read s xs ns ms is count none = record {
-  sites = ap length is ∙ length-map (range_with_len 0 s.sites) (first_seen s) ∙ length-range_with_len 0 s.sites;
+  sites = ap length is ∙ length-map-range_with_len (first_seen s) 0 s.sites;
   notes = count;
   each = λ i x n at there. notes_of i x n (ap (λ z. slice_get z i) (sym is) ∙ at) (none i n there)
       (let less : i < length ns = slice_get_within ns i n there in omega arith);
@@ -336,7 +299,8 @@ none_read s xs ns ms is count none = record {
         → (n.entries.items ≡ []) × (n.steps.items ≡ []) → i < s.sites → AreNotes s i x n ms
     notes_of i x n at empty less =
         let e : x ≡ first_seen s i =
-        first_at s 0 s.sites i x at ∙ ap (first_seen s) (let q : 0 + i ≡ i = omega arith in q) in
+        sym (get_or_from_slice_get (map (first_seen s) (range_with_len 0 s.sites)) i x x at)
+        ∙ get_or-map-range_with_len (first_seen s) 0 s.sites i i x less (omega arith) in
         let f : entries_noted n ≡ [] = ap (map (λ z. z.value)) empty.0 in
         record {
           settings = ap (λ (z : SeenSite). z.settings) e;
@@ -349,6 +313,14 @@ none_read s xs ns ms is count none = record {
             λ k y st p q. cc,
           );
         }
+
+-- what is kept of one history more without entries
+pub no_entries_more : (ns : List Notes) (n : Notes) → HaveNoEntries ns → n.entries.items ≡ [] → n.steps.items ≡ []
+    → HaveNoEntries (ns ++ n ∷ [])
+no_entries_more ns n none entries steps i m at = elim (Lists.before_or_last ns n m i at) [
+  | inl before ↦ none i m before
+  | inr (_, same) ↦ (ap (λ (z : Notes). z.entries.items) same ∙ entries, ap (λ (z : Notes). z.steps.items) same ∙ steps)
+]
 
 -- histories of no entries
 pub no_histories : (ns : List Notes) (n : ℕ) → length ns ≡ n → HaveNoEntries ns → histories_in ns ≡ replicate n []
@@ -366,10 +338,5 @@ judged_all s xs ns ms all = record {
   each = λ i n at. (let less : i < length ns = slice_get_within ns i n at in
       let many : length ns ≡ s.sites = all.notes in
       let sites : length xs ≡ s.sites = all.sites in
-      let x = site_at xs i (omega arith) in (all.each i x.0 n x.1 at).judged);
+      let x = Lists.item_at xs i (omega arith) in (all.each i x.0 n x.1 at).judged);
 }
-  where
-    site_at : (ys : List SeenSite) (i : ℕ) → i < length ys → (x : SeenSite) × (slice_get ys i ≡ Some x)
-    site_at [] i less = absurd (omega arith)
-    site_at (y ∷ ys) zero less = (y, refl)
-    site_at (y ∷ ys) (suc i) less = site_at ys i (omega arith)

@@ -1,3 +1,4 @@
+mod Results
 mod Lengths
 mod Lists
 mod Replaying

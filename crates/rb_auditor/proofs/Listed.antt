@@ -1,16 +1,15 @@
 -- Where messages are listed.
-use Rattle.std.proofs.Common.{◌≡◌, ℕ, zero, suc, ◌+◌, ◌<◌, List, [], ◌∷◌, ◌++◌, length, take, refl, ap, sym, subst, ◌∙◌, ◌⊎◌, inl, inr}
-use Rattle.std.proofs.Common.{arith, length-append, Some, IsTrue, Bool, true, false, append_assoc, Vec, get_or}
+use Rattle.std.proofs.Common.{◌≡◌, ℕ, ◌+◌, ◌<◌, ◌≤◌, List, [], ◌∷◌, ◌++◌, length, take, refl, ap, sym, subst, ◌∙◌, inl, inr}
+use Rattle.std.proofs.Common.{arith, length-append, Some, append_assoc, Vec, get_or}
 use Rattle.std.specs.Borrow.{Bor}
 use Rattle.std.specs.Prelude.{map, slice_get, slice_set}
-use Rattle.std.specs.Option.{option_map}
-use Rattle.std.proofs.lemmas.List.{length-take-le, take_more}
-use Rattle.std.proofs.lemmas.Option.{slice_get-map, slice_get_read}
+use Rattle.std.proofs.lemmas.List.{length-map, length-take-le, map-append, take_more}
+use Rattle.std.proofs.lemmas.Option.{slice_get_read}
 use Rattle.rb_auditor.specs.Findings.{lists_of}
 use Rattle.rb_site.specs.declared.message.Message.{Message}
 use Rattle.rb_site.proofs.Public.Places
 use Rattle.rb_site.proofs.Public.Places.{same_number}
-use Rattle.rb_site.proofs.Public.Lists.{get_front}
+use Rattle.rb_site.proofs.Public.Lists.{get_front, map_at}
 use Rattle.rb_auditor.specs.Sent.{AreListed, IsListed, row_of_message, slot_of}
 use Rattle.rb_auditor.proofs.Lists
 
@@ -18,19 +17,34 @@ use Rattle.rb_auditor.proofs.Lists
 abbrev pub read : List (Bor Message) → List Message
 read ms = map (λ m. m.now) ms
 
+-- the next of the messages that are added is read behind the others
+pub read_next : (new old first : List (Bor Message)) (b : Bor Message) (posted : List Message) (k : ℕ) (d : Message) → k < length posted
+    → new ≡ old ++ b ∷ [] → b.now ≡ get_or posted k d → read old ≡ read first ++ take k posted
+    → read new ≡ read first ++ take (k + 1) posted
+read_next new old first b posted k d less is item so_far =
+    ap read is
+    ∙ map-append (λ (m : Bor Message). m.now) old (b ∷ [])
+    ∙ ap (λ ms. ms ++ b.now ∷ []) so_far
+    ∙ append_assoc (read first) (take k posted) (b.now ∷ [])
+    ∙ ap (λ m. read first ++ (take k posted ++ m ∷ [])) item
+    ∙ ap (λ ms. read first ++ ms) (sym (take_more posted k d less))
+
+-- while not all are added, there is spare capacity for one more
+pub room_left : (now first : List (Bor Message)) (posted : List Message) (k len old room : ℕ) → k < length posted → len ≡ length now
+    → old ≡ length first → read now ≡ read first ++ take k posted → old + length posted ≤ room → len < room
+room_left now first posted k len old room less size begun so_far fits =
+    let read_now : length (read now) ≡ length now = length-map now (λ (m : Bor Message). m.now) in
+    let read_first : length (read first) ≡ length first = length-map first (λ (m : Bor Message). m.now) in
+    let taken : length (take k posted) ≡ k = length-take-le k posted (omega arith) in
+    let sum : length (read now) ≡ length (read first) + length (take k posted) =
+    ap length so_far ∙ length-append (read first) (take k posted) in
+    omega arith
+
 -- a row of the rows
 pub row_at : {X Z : Type 0} (rows : List (Vec X Z)) (r : ℕ) (v : Vec X Z) → r < length rows → v ≡ get_or rows r v
     → slice_get (lists_of rows) r ≡ Some v.items
 row_at {X} {Z} rows r v less is =
-    slice_get-map (λ (v : Vec X Z). v.items) rows r
-    ∙ ap (option_map (λ (v : Vec X Z). v.items)) (slice_get_read rows (length rows) r v refl less is)
-
--- an item that is added at the end is found at the number of those before
-pub get_end : {A : Type 0} (xs : List A) (k : ℕ) (x : A) → length xs ≡ k → slice_get (xs ++ x ∷ []) k ≡ Some x
-get_end [] zero x e = refl
-get_end [] (suc k) x e = cc
-get_end (z ∷ xs) zero x e = absurd (omega arith)
-get_end (z ∷ xs) (suc k) x e = get_end xs k x (omega arith)
+    map_at (λ (v : Vec X Z). v.items) rows r v (slice_get_read rows (length rows) r v refl less is)
 
 -- a row that grows at its end
 pub kept_in_row : (rows : List (List ℕ)) (others : List ℕ) (r : ℕ) (row more : List ℕ) → slice_get rows r ≡ Some row
@@ -55,7 +69,7 @@ listed_in_row rows others row position m at e =
     inl (
       row ++ position ∷ [],
       Places.get_set_same rows (row_of_message m) row (row ++ position ∷ []) at,
-      get_end row (slot_of m) position e,
+      ap (slice_get (row ++ position ∷ [])) (sym e) ∙ Lists.get_after row [] position,
     )
 
 -- a list of others that grows at its end
@@ -67,28 +81,17 @@ kept_apart rows others more j m (inr (k, at)) = inr (k, get_front others more k 
 -- a message is listed once its position is added to the others
 pub listed_apart : (rows : List (List ℕ)) (others : List ℕ) (position : ℕ) (m : Message)
     → IsListed rows (others ++ position ∷ []) position m
-listed_apart rows others position m = inr (length others, get_end others (length others) position refl)
+listed_apart rows others position m = inr (length others, Lists.get_after others [] position)
 
 -- one message more
 pub listed_more : (rows new_rows : List (List ℕ)) (others new_others : List ℕ) (ms : List Message) (n : Message) (position : ℕ)
     → position ≡ length ms → ((j : ℕ) (m : Message) → IsListed rows others j m → IsListed new_rows new_others j m)
     → IsListed new_rows new_others position n → AreListed rows others ms → AreListed new_rows new_others (ms ++ n ∷ [])
-listed_more rows new_rows others new_others ms n position is kept here all j m at = elim (at_end ms j at) [
+listed_more rows new_rows others new_others ms n position is kept here all j m at = elim (Lists.before_or_last ms n m j at) [
   | inl h ↦ kept j m (all j m h)
   | inr (e, same) ↦ subst (λ k. IsListed new_rows new_others k m) (is ∙ sym e)
       (subst (IsListed new_rows new_others position) (sym same) here)
 ]
-  where
-    at_end : (xs : List Message) (i : ℕ) → slice_get (xs ++ n ∷ []) i ≡ Some m → (slice_get xs i ≡ Some m) ⊎ ((i ≡ length xs) × (m ≡ n))
-    at_end [] zero h = inr (refl, let e : n ≡ m = cc in sym e)
-    at_end [] (suc i) h = cc
-    at_end (x ∷ xs) zero h = inl h
-    at_end (x ∷ xs) (suc i) h = elim (at_end xs i h) [ inl k ↦ inl k | inr (e, same) ↦ inr (ap suc e, same) ]
-
--- what is false isn't true
-pub not_false : (b : Bool) → b ≡ false → IsTrue b → ⊥
-not_false true e h = cc
-not_false false e h = cc
 
 -- the next of the messages that are added
 pub listed_next : (rows new_rows : List (List ℕ)) (others new_others : List ℕ) (old posted : List Message) (k : ℕ) (d : Message)

@@ -1,8 +1,9 @@
 -- Histories and how many entries of each were taken, place by place.
 use Rattle.std.proofs.Common.{◌≡◌, ℕ, zero, suc, ◌+◌, ◌<◌, ◌≤◌, List, [], ◌∷◌, ◌++◌, length, take, drop, refl, ap, sym, ◌∙◌, arith}
-use Rattle.std.proofs.Common.{Option, Some}
+use Rattle.std.proofs.Common.{Option, Some, ◌⊎◌, inl, inr}
 use Rattle.std.specs.Prelude.{map, replicate, slice_get, slice_set}
 use Rattle.std.specs.List.{range_with_len}
+use Rattle.std.proofs.lemmas.List.{length-take-le}
 use Rattle.rb_money.specs.Settings.{Settings}
 use Rattle.rb_site.specs.declared.entry.Entry.{Entry}
 use Rattle.rb_site.specs.Events.{ModelSite, first_site}
@@ -56,10 +57,31 @@ get_zero (suc n) (suc i) k h = get_zero n i k h
 pub same_item : {A : Type 0} (o : Option A) (x y : A) → o ≡ Some x → o ≡ Some y → x ≡ y
 same_item o x y p q = cc
 
+-- there is an item at each place
+pub item_at : {A : Type 0} (xs : List A) (k : ℕ) → k < length xs → (x : A) × (slice_get xs k ≡ Some x)
+item_at [] k less = absurd (omega arith)
+item_at (x ∷ xs) zero less = (x, refl)
+item_at (x ∷ xs) (suc k) less = item_at xs k (omega arith)
+
 -- the item after a prefix
-pub get_after : {A : Type 0} (xs ys : List A) (x : A) → slice_get ((xs ++ x ∷ []) ++ ys) (length xs) ≡ Some x
+pub get_after : {A : Type 0} (xs ys : List A) (x : A) → slice_get (xs ++ x ∷ ys) (length xs) ≡ Some x
 get_after [] ys x = refl
 get_after (z ∷ xs) ys x = get_after xs ys x
+
+-- an item of a list with one more is one of those before, or the one more
+pub before_or_last : {A : Type 0} (xs : List A) (x y : A) (k : ℕ) → slice_get (xs ++ x ∷ []) k ≡ Some y
+    → (slice_get xs k ≡ Some y) ⊎ ((k ≡ length xs) × (y ≡ x))
+before_or_last [] x y zero h = inr (refl, let e : x ≡ y = cc in sym e)
+before_or_last [] x y (suc k) h = cc
+before_or_last (z ∷ xs) x y zero h = inl h
+before_or_last (z ∷ xs) x y (suc k) h = elim (before_or_last xs x y k h) [ inl g ↦ inl g | inr (e, same) ↦ inr (ap suc e, same) ]
+
+-- a shorter prefix isn't the whole list
+pub not_whole : {A : Type 0} (k : ℕ) (xs : List A) → k < length xs → take k xs ≡ xs → ⊥
+not_whole k xs less e =
+    let shorter : length (take k xs) ≡ k = length-take-le k xs (omega arith) in
+    let same : length (take k xs) ≡ length xs = ap length e in
+    omega arith
 
 -- ---- sites
 
@@ -174,13 +196,8 @@ next_numbers [] [] n all = refl
 next_numbers [] (k ∷ ks) n all = absurd (omega arith)
 next_numbers (h ∷ hs) [] n all = absurd (omega arith)
 next_numbers (h ∷ hs) (k ∷ ks) n all =
-    ap (λ m. (m + 1) ∷ map (λ (k : ℕ). k + 1) ks) (sym (length_front k h (all 0 k h refl refl)))
+    ap (λ m. (m + 1) ∷ map (λ (k : ℕ). k + 1) ks) (sym (length-take-le k h (all 0 k h refl refl)))
     ∙ ap (λ ms. (length (take k h) + 1) ∷ ms) (next_numbers hs ks (omega arith) (λ i. all (suc i)))
-  where
-    length_front : (k : ℕ) (h : List Entry) → k ≤ length h → length (take k h) ≡ k
-    length_front zero h p = refl
-    length_front (suc k) [] p = absurd (omega arith)
-    length_front (suc k) (x ∷ h) p = let q : length (take k h) ≡ k = length_front k h (omega arith) in omega arith
 
 -- one entry fewer is left
 pub left_less : (hs : List (List Entry)) (ks : List ℕ) (i k : ℕ) (h : List Entry) → slice_get hs i ≡ Some h → slice_get ks i ≡ Some k

@@ -1,12 +1,10 @@
 -- Histories that are read one after another.
 use Rattle.std.proofs.Common.{◌≡◌, ℕ, zero, suc, ◌+◌, ◌<◌, ◌≤◌, List, [], ◌∷◌, ◌++◌, length, refl, ap, sym, ◌∙◌, arith, Some, append_assoc}
 use Rattle.std.specs.Prelude.{replicate, slice_get, slice_set}
-use Rattle.std.proofs.lemmas.List.{append-nil, length-set}
-use Rattle.std.proofs.lemmas.Option.{slice_get_within}
+use Rattle.std.proofs.lemmas.List.{append-nil}
 use Rattle.rb_site.specs.declared.entry.Entry.{Entry}
 use Rattle.rb_site.proofs.Public.Places
 use Rattle.rb_auditor.specs.Audits.{Audited, HasMore}
-use Rattle.rb_auditor.proofs.Judged
 use Rattle.rb_auditor.proofs.Kept
 use Rattle.rb_auditor.proofs.Lists
 
@@ -15,7 +13,7 @@ use Rattle.rb_auditor.proofs.Lists
 -- before its first entry nothing is added
 pub none_more : (a : Audited) (i : ℕ) → i < length a.histories → HasMore a a i []
 none_more a i less =
-    let h = Judged.item a.histories i less in
+    let h = Lists.item_at a.histories i less in
     record {
       history = h.0;
       there = h.1;
@@ -39,14 +37,6 @@ more_next a b c i xs x m n = record {
     same : n.history ≡ m.history ++ xs
     same = Lists.same_item (slice_get b.histories i) n.history (m.history ++ xs) n.there
         (ap (λ (o : Audited). slice_get o.histories i) m.is ∙ Places.get_set_same a.histories i m.history (m.history ++ xs) m.there)
-
--- there are as many histories, of the same configuration
-pub more_within : (a b : Audited) (i : ℕ) (xs : List Entry) → HasMore a b i xs → i < length b.histories
-more_within a b i xs m =
-    let n : length b.histories ≡ length a.histories =
-    ap (λ (o : Audited). length o.histories) m.is ∙ length-set a.histories i (m.history ++ xs) in
-    let less : i < length a.histories = slice_get_within a.histories i m.history m.there in
-    omega arith
 
 -- ---- all histories
 

@@ -3,7 +3,6 @@ use Rattle.std.proofs.Common.{◌≡◌, ℕ, ◌+◌, ◌<◌, List, [], ◌∷
 use Rattle.std.proofs.Common.{None, false}
 use Rattle.std.specs.Prelude.{slice_get, slice_set}
 use Rattle.std.specs.Option.{option_map}
-use Rattle.std.specs.List.{range_with_len}
 use Rattle.std.proofs.lemmas.Bool.Decides.{nat_tests}
 use Rattle.std.proofs.lemmas.Option.{slice_get-map, slice_get_within}
 use Rattle.rb_money.specs.Settings.{Settings}
@@ -22,7 +21,7 @@ use Rattle.rb_site.proofs.Public.Runs.{IsRunOfItsHistory}
 use Rattle.rb_site.proofs.Public.Seen
 use Rattle.rb_site.proofs.Public.Stuck
 use Rattle.std.proofs.lemmas.List.{length-map}
-use Rattle.std.proofs.lemmas.List.FromFn.{length-range_with_len}
+use Rattle.std.proofs.lemmas.List.FromFn.{length-map-range_with_len}
 use Rattle.rb_auditor.specs.Certificates.{Certifies}
 use Rattle.rb_auditor.specs.Findings.{IsFirstWrong, IsReplay, IsStuckAt}
 use Rattle.rb_auditor.specs.Progress.{site_after}
@@ -91,8 +90,8 @@ run_at s (e ∷ es) w own all =
 first_all : (s : Settings) → AllAtTheirs s (first_world s)
 first_all s i t at =
     let is : t ≡ first_site i = Stuck.first_sites 0 s.sites i t at ∙ ap first_site (let q : 0 + i ≡ i = omega arith in q) in
-    let less : i < s.sites = subst (λ n. i < n) (length-map (range_with_len 0 s.sites) first_site
-    ∙ length-range_with_len 0 s.sites) (slice_get_within (first_world s).sites i t at) in
+    let less : i < s.sites = subst (λ n. i < n) (length-map-range_with_len first_site 0 s.sites)
+    (slice_get_within (first_world s).sites i t at) in
     subst (IsAtItsHistory s i) (sym is) (record {
       run = refl;
       stands = refl;
@@ -129,5 +128,4 @@ one_for_each s hs order c =
     ap length (sym c.gives)
     ∙ length-map (world_of_run s c.events).sites (history_of s)
     ∙ Runs.same_sites s c.events (first_world s)
-    ∙ length-map (range_with_len 0 s.sites) first_site
-    ∙ length-range_with_len 0 s.sites
+    ∙ length-map-range_with_len first_site 0 s.sites

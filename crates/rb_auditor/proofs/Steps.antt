@@ -1,6 +1,6 @@
 -- What entries do with messages.
 use Rattle.std.proofs.Common.{◌≡◌, ℕ, zero, suc, ◌+◌, ◌-◌, ◌<◌, ◌≤◌, ◌==◌, Bool, true, false, cond, not, ◌&&◌, nat_le, List, [], ◌∷◌, ◌++◌}
-use Rattle.std.proofs.Common.{length, take, drop, refl, ap, sym, subst, ◌∙◌, ◌⊎◌, inl, inr, arith}
+use Rattle.std.proofs.Common.{length, take, drop, refl, ap, sym, subst, ◌∙◌, inl, inr, arith}
 use Rattle.std.proofs.Common.{Option, Some, None, length-append, length-drop}
 use Rattle.std.specs.Prelude.{slice_get}
 use Rattle.std.proofs.Math.Seq.{drop-append_seam}
@@ -28,6 +28,7 @@ use Rattle.rb_auditor.specs.declared.step.Step.{Step}
 use Rattle.rb_auditor.specs.declared.step.Step.TheVariants.{Alone, Receives, Sends}
 use Rattle.rb_auditor.specs.Kept.{HaveSteps, IsPlaced, IsStep}
 use Rattle.rb_auditor.specs.Progress.{site_after}
+use Rattle.rb_auditor.proofs.Lists.{before_or_last}
 
 -- ---- receipts send nothing
 
@@ -71,14 +72,6 @@ pub get_before : {A : Type 0} (xs ys : List A) (k : ℕ) → k < length xs → s
 get_before [] ys k less = absurd (omega arith)
 get_before (x ∷ xs) ys zero less = refl
 get_before (x ∷ xs) ys (suc k) less = get_before xs ys k (omega arith)
-
--- an item of a list with one more is one of those before, or the one more
-pub before_or_last : {A : Type 0} (xs : List A) (x y : A) (k : ℕ) → slice_get (xs ++ x ∷ []) k ≡ Some y
-    → (slice_get xs k ≡ Some y) ⊎ ((k ≡ length xs) × (y ≡ x))
-before_or_last [] x y zero h = inr (refl, let e : x ≡ y = cc in sym e)
-before_or_last [] x y (suc k) h = cc
-before_or_last (z ∷ xs) x y zero h = inl h
-before_or_last (z ∷ xs) x y (suc k) h = elim (before_or_last xs x y k h) [ inl g ↦ inl g | inr (e, same) ↦ inr (ap suc e, same) ]
 
 -- a part of a list is the same part of a longer one
 part_more : {A : Type 0} (ms more : List A) (at count : ℕ) → at + count ≤ length ms
@@ -148,25 +141,36 @@ pub receives : (s : Settings) (t : ModelSite) (before after : List Message) (e :
 receives s t before after e at grown (m, is, there) =
     ((m, is, ap (λ ms. slice_get ms at) grown ∙ get_front before (sent_at s t e) at m there), receipt_sends_nothing s t e m is)
 
-none_sent : (before sent after : List Message) → after ≡ before ++ sent → length after ≡ length before → sent ≡ []
-none_sent before [] after grown e = refl
-none_sent before (m ∷ sent) after grown e =
-    let longer : length after ≡ length before + length (m ∷ sent) = ap length grown ∙ length-append before (m ∷ sent) in
-    absurd (omega arith)
+-- how many messages there are once some are sent
+count_sent : (before sent after : List Message) (first all : ℕ) → after ≡ before ++ sent → first ≡ length before → all ≡ length after
+    → all ≡ first + length sent
+count_sent before sent after first all grown at many =
+    many ∙ ap length grown ∙ length-append before sent ∙ ap (λ n. n + length sent) (sym at)
+
+-- there are no fewer than before
+pub no_fewer : (before sent after : List Message) (first all : ℕ) → after ≡ before ++ sent → first ≡ length before → all ≡ length after
+    → first ≤ all
+no_fewer before sent after first all grown at many =
+    let sum : all ≡ first + length sent = count_sent before sent after first all grown at many in omega arith
+
+none_sent : (sent : List Message) (first all : ℕ) → all ≡ first + length sent → all - first ≡ 0 → sent ≡ []
+none_sent [] first all sum none = refl
+none_sent (m ∷ sent) first all sum none = absurd (omega arith)
 
 -- the step of an entry that sends nothing and is no receipt
-pub alone : (before after sent : List Message) (e : Event) → after ≡ before ++ sent → IsPlaced before e None → length after ≡ length before
-    → IsStep after e sent Alone
-alone before after sent e grown own same = (own, none_sent before sent after grown same)
+pub alone : (before sent after : List Message) (e : Event) (first all : ℕ) → after ≡ before ++ sent → IsPlaced before e None
+    → first ≡ length before → all ≡ length after → all - first ≡ 0 → IsStep after e sent Alone
+alone before sent after e first all grown own at many none =
+    (own, none_sent sent first all (count_sent before sent after first all grown at many) none)
 
 -- the step of an entry that sends
-pub sends : (before after sent : List Message) (e : Event) (first count : ℕ) → after ≡ before ++ sent → IsPlaced before e None
-    → first ≡ length before → first + count ≡ length after → IsStep after e sent (Sends count first)
-sends before after sent e first count grown own at many =
-    let longer : length after ≡ length before + length sent = ap length grown ∙ length-append before sent in (
+pub sends : (before sent after : List Message) (e : Event) (first all : ℕ) → after ≡ before ++ sent → IsPlaced before e None
+    → first ≡ length before → all ≡ length after → IsStep after e sent (Sends (all - first) first)
+sends before sent after e first all grown own at many =
+    let sum : all ≡ first + length sent = count_sent before sent after first all grown at many in (
       own,
       omega arith,
-      sent_behind before sent count (omega arith)
-          ∙ ap (λ ms. take count (drop (length before) ms)) (sym grown)
-          ∙ ap (λ k. take count (drop k after)) (sym at),
+      sent_behind before sent (all - first) (omega arith)
+          ∙ ap (λ ms. take (all - first) (drop (length before) ms)) (sym grown)
+          ∙ ap (λ k. take (all - first) (drop k after)) (sym at),
     )

@@ -3,7 +3,7 @@ use Rattle.std.proofs.Common.{◌≡◌, ℕ, ◌+◌, ◌<◌, ◌≤◌, List,
 use Rattle.std.proofs.Common.{Some, Bool, true, false, MatchBool}
 use Rattle.std.specs.Prelude.{map, slice_get, slice_set}
 use Rattle.std.specs.List.{range_with_len}
-use Rattle.std.proofs.lemmas.List.{length-replicate, length-set, length-take-le, take-append-drop, take_all}
+use Rattle.std.proofs.lemmas.List.{length-replicate, length-set, take-append-drop, take_all}
 use Rattle.std.proofs.lemmas.Option.{slice_get_within}
 use Rattle.rb_money.specs.Settings.{Settings}
 use Rattle.rb_site.specs.declared.entry.Entry.{Entry}
@@ -62,6 +62,22 @@ first_as s hs order taken ms e f g v =
     let P : List ℕ → List Message → Type 0 =
     λ o m. IsTaking (record { settings = s; histories = hs; order = o; taken = taken; messages = m }) in
     subst (λ o. P o ms) (sym e) (subst (P []) (sym f) (subst IsTaking (sym g) v))
+
+-- the same order and the same messages are those of the same progress
+pub same_as : (p q : Progress) (order : List ℕ) (ms : List Message) → p ≡ q → order ≡ p.order → ms ≡ p.messages
+    → record p { order = order; messages = ms } ≡ q
+same_as p q order ms same e f =
+    ap (λ o. record p { order = o; messages = ms }) e ∙ ap (λ n. record p { messages = n }) f ∙ same
+
+-- all is still as a world could have it
+pub still_taking : (p : Progress) (order : List ℕ) (ms : List Message) → IsTaking p → order ≡ p.order → ms ≡ p.messages
+    → IsTaking (record p { order = order; messages = ms })
+still_taking p order ms v e f = subst IsTaking (sym (same_as p p order ms refl e f)) v
+
+-- before any entry is taken no progress is another
+pub first_by_itself : (p : Progress) (s : Settings) (hs : List (List Entry)) → p ≡ first_progress s hs
+    → p ≡ first_progress p.settings p.histories
+first_by_itself p s hs e = e ∙ sym (ap (λ (r : Progress). first_progress r.settings r.histories) e)
 
 -- ---- one entry more
 
@@ -196,7 +212,7 @@ stuck p g rests left = record {
     site = left.site;
     history = left.history;
     at = left.there;
-    left = λ e. not_whole left.taken left.history left.less (Lists.same_item (slice_get (fronts_of p.histories p.taken) left.site)
+    left = λ e. Lists.not_whole left.taken left.history left.less (Lists.same_item (slice_get (fronts_of p.histories p.taken) left.site)
         (take left.taken left.history) left.history (Lists.get_front p.histories p.taken left.site left.taken left.history left.there
         left.at) e);
   };
@@ -204,10 +220,6 @@ stuck p g rests left = record {
   where
     s : Settings
     s = p.settings
-
-    not_whole : (k : ℕ) (h : List Entry) → k < length h → take k h ≡ h → ⊥
-    not_whole k h less e = let shorter : length (take k h) ≡ k = length-take-le k h (omega arith) in let q : length (take k h) ≡ length h =
-        ap length e in absurd (omega arith)
 
     unsent : (m : Message) → ¬ IsAmong m p.messages → IsUnsent s (fronts_of p.histories p.taken) m
     unsent m not j f at among =
@@ -241,6 +253,10 @@ took_further p q i t = record {
       (Lists.left_less p.histories p.taken i t.taken t.history t.next.there t.next.at
       (Lists.split_at t.history t.taken t.entry t.next.next).within);
 }
+
+-- and its site is at the end of the order
+pub took_order : (p q : Progress) (i : ℕ) → Took p q i → q.order ≡ p.order ++ i ∷ []
+took_order p q i t = ap (λ (r : Progress). r.order) t.is
 
 -- what is further than q is further than p, where q is further than p or the same
 pub further_more : (b : Bool) (p q r : Progress) → MatchBool b (IsFurther p q) (q ≡ p) → IsFurther q r → IsFurther p r

@@ -2,7 +2,7 @@
 
 /// What an entry of a history does with messages, each of which is kept in one list for all histories. Places are
 /// counted from 0.
-#[derive(Clone, Copy, Debug, PartialEq, Eq)]
+#[derive(Clone, Copy)]
 pub enum Step {
     /// It neither receives nor sends one.
     Alone,

@@ -7,17 +7,37 @@ use Rattle.rb_auditor.proofs.Refuting
 use Rattle.rb_auditor.proofs.Takings
 use Rattle.rb_auditor.proofs.auditing.find.Goals as goal
 
-pub returns-in-Some-clause-refuted : goal.returns-in-Some-clause-refuted
-returns-in-Some-clause-refuted c = Refuting.wrong_is_final c.args.config.now (histories_in c.args.notes.now) c.in-Some.site c.in-Some.event
-    c.in-Some.ensures.some
+pub first_wrong-requires : goal.first_wrong-requires
+first_wrong-requires c = (c.args.messages.now, c.requires)
 
-pub returns-then-is_done-clause-certified : goal.returns-then-is_done-clause-certified
-returns-then-is_done-clause-certified c =
-    Takings.certified_as c.take_all.new.taking c.args.config.now (histories_in c.args.notes.now) c.close.result
-    ((c.in-Ok-take_all.ensures.same).0 ∙ ap (λ (p : Progress). p.settings) c.in-Ok.ensures)
-    ((c.in-Ok-take_all.ensures.same).1 ∙ ap (λ (p : Progress). p.histories) c.in-Ok.ensures)
-    c.close.ensures.order
-    (Takings.all_certified c.take_all.new.taking c.is_done.ensures.taking c.if-is_done.ensures.done)
+pub returns-in-Some : goal.returns-in-Some
+returns-in-Some c = record {
+  certified = tt;
+  found = c.in-Some.ensures.some;
+  refuted = Refuting.wrong_is_final c.args.config.now (histories_in c.args.notes.now) c.in-Some.site c.in-Some.event
+      c.in-Some.ensures.some;
+}
+
+pub open-requires-clause-judged : goal.open-requires-clause-judged
+open-requires-clause-judged c = c.requires
+
+pub returns-in_default-open : goal.returns-in_default-open
+returns-in_default-open c = record { certified = tt; found = tt; refuted = tt }
+
+pub returns-in_default-take_all : goal.returns-in_default-take_all
+returns-in_default-take_all c = record { certified = tt; found = tt; refuted = tt }
+
+pub returns-then-is_done : goal.returns-then-is_done
+returns-then-is_done c = record {
+  certified =
+      Takings.certified_as c.take_all.new.taking c.args.config.now (histories_in c.args.notes.now) c.close.result
+      ((c.in-Ok-take_all.ensures.same).0 ∙ ap (λ (p : Progress). p.settings) c.in-Ok.ensures)
+      ((c.in-Ok-take_all.ensures.same).1 ∙ ap (λ (p : Progress). p.histories) c.in-Ok.ensures)
+      c.close.ensures.order
+      (Takings.all_certified c.take_all.new.taking c.is_done.ensures.taking c.if-is_done.ensures.done);
+  found = tt;
+  refuted = tt;
+}
 
 stuck_at : (c : goal.After-drop-taking-inside-in-Ok-next-5)
     → IsStuckAt c.args.config.now (histories_in c.args.notes.now) c.in-Ok-next.next.items
@@ -28,9 +48,12 @@ stuck_at c =
     c.in-Ok-next.ensures
     c.is_done.ensures.taking c.in-Ok-take_all.ensures.rest c.if-is_done.ensures.done
 
-pub returns-in-Ok-next-clause-found : goal.returns-in-Ok-next-clause-found
-returns-in-Ok-next-clause-found c = stuck_at c
+pub returns-in-Ok-next : goal.returns-in-Ok-next
+returns-in-Ok-next c = record {
+  certified = tt;
+  found = stuck_at c;
+  refuted = Refuting.stuck_is_final c.args.config.now (histories_in c.args.notes.now) c.in-Ok-next.next.items (stuck_at c);
+}
 
-pub returns-in-Ok-next-clause-refuted : goal.returns-in-Ok-next-clause-refuted
-returns-in-Ok-next-clause-refuted c =
-    Refuting.stuck_is_final c.args.config.now (histories_in c.args.notes.now) c.in-Ok-next.next.items (stuck_at c)
+pub returns : goal.returns
+returns c = record { certified = tt; found = tt; refuted = tt }

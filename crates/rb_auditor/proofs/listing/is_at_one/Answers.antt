@@ -1,5 +1,6 @@
 -- Each position is looked at.
 use Rattle.std.proofs.Common.{◌≡◌, ◌∙◌, ◌<◌, IsTrue, ap, sym, subst, arith, slice_get, get_or, length, inl, inr}
+use Rattle.std.proofs.lemmas.Bool.{false≢true}
 use Rattle.std.proofs.lemmas.Option.{get_or_from_slice_get, slice_get_within}
 use Rattle.rb_site.proofs.Public.Places.{same_number}
 use Rattle.rb_site.proofs.Public.Recorded
@@ -17,7 +18,7 @@ loop-position-preserved c = λ k position less at known. elim (same_number c.loo
       let here : get_or c.args.positions.now c.loop-position.position-index 0 ≡ position =
       get_or_from_slice_get c.args.positions.now c.loop-position.position-index position 0
       (ap (slice_get c.args.positions.now) (sym e) ∙ at) in
-      Listed.not_false c.is_at.result c.if-is_at.false (c.is_at.ensures.1 (ap (slice_get (Listed.read c.args.messages.now)) here ∙ known))
+      false≢true (sym c.if-is_at.false ∙ c.is_at.ensures.1 (ap (slice_get (Listed.read c.args.messages.now)) here ∙ known))
   | inr ne ↦ c.loop-position.invariant k position (omega arith) at known
 ]
 

@@ -1,6 +1,9 @@
 -- An entry that the site doesn't record is wrong.
-use Rattle.std.proofs.Common.{◌∙◌, refl, sym}
+use Rattle.std.proofs.Common.{◌∙◌, ap, refl, sym}
+use Rattle.rb_site.specs.Seen.{SeenSite}
+use Rattle.rb_auditor.proofs.Kept.{no_more}
 use Rattle.rb_auditor.proofs.Replaying
+use Rattle.rb_auditor.proofs.Results.{no_value, still}
 use Rattle.rb_auditor.proofs.replay.note.Goals as goal
 
 pub returns-then-is_full-clause-noted : goal.returns-then-is_full-clause-noted
@@ -12,3 +15,17 @@ returns-clause-noted c = Replaying.noted_or_not c.same.result c.args.site.now c.
     c.in_ok-reply.reply c.args.messages.now.items c.«record».new.sent.items
     c.requires (sym c.is_full.ensures ∙ c.if-is_full.false) (c.in_ok-reply.ensures.ok).0 (c.in_ok-reply.ensures.ok).1 c.same.ensures
     refl (c.in_ok-reply.ensures.ok).2
+
+pub record-requires : goal.record-requires
+record-requires c = sym c.is_full.ensures ∙ c.if-is_full.false
+
+pub returns-in_err-reply : goal.returns-in_err-reply
+returns-in_err-reply c = record {
+  noted = no_value c.from_residual.result _ c.from_residual.ensures.0;
+  more = no_more c.args.messages.now.items c.«record».new.sent.items (c.in_err-reply.ensures.err).1;
+  err = still c.from_residual.result _ (c.in_err-reply.ensures.err).0;
+  same = (
+    ap (λ (x : SeenSite). x.settings) (c.in_err-reply.ensures.err).0,
+    ap (λ (x : SeenSite). x.me) (c.in_err-reply.ensures.err).0,
+  );
+}

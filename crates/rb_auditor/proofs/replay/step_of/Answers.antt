@@ -1,9 +1,12 @@
 -- The step of an entry that the site records.
-use Rattle.std.proofs.Common.{◌≡◌, ◌∙◌, ◌+◌, ◌≤◌, ap, subst, length, arith}
+use Rattle.std.proofs.Common.{◌≡◌, ◌∙◌, ◌+◌, ◌≤◌, ap, refl, subst, length, arith}
 use Rattle.rb_scratch.specs.declared.request.TheConstants.{MOST_REQUESTS}
+use Rattle.rb_site.specs.Events.{sent_at}
 use Rattle.rb_site.specs.Seen.{state_of}
 use Rattle.rb_auditor.specs.Kept.{IsPlaced}
 use Rattle.rb_auditor.specs.Replays.{RecordsEntry}
+use Rattle.rb_auditor.proofs.Kept.{more_still}
+use Rattle.rb_auditor.proofs.Results.{no_value, still}
 use Rattle.rb_auditor.proofs.Steps
 use Rattle.rb_auditor.proofs.replay.step_of.Goals as goal
 
@@ -29,14 +32,107 @@ overflow_cast-result c =
     c.len.ensures ∙ c.list.new.self.messages.ok.0 ∙ ap length c.list.ensures in
     omega (arith, c.in_ok-first.ensures.0, c.in_ok-first.ensures.1)
 
-pub returns-in-Some-clause-step : goal.returns-in-Some-clause-step
-returns-in-Some-clause-step c =
+pub overflow_sub-count : goal.overflow_sub-count
+overflow_sub-count c =
     let noted : RecordsEntry c.args.site.now c.note.new.site c.args.entry.now c.place_of.new.store.messages.items
     c.note.new.messages.items =
-    rw c.if-not-branch.false at c.in_ok-note.ensures.noted in (
-      noted.is,
-      noted.replays,
-      Steps.receives c.args.site.now.settings (state_of c.args.site.now) c.place_of.new.store.messages.items
-          c.list.new.self.messages.items c.args.entry.now.event c.in-Some.at (c.list.ensures ∙ noted.sends)
-          (subst (IsPlaced c.place_of.new.store.messages.items c.args.entry.now.event) c.in-Some.is c.in_ok-place.ensures.place),
-    )
+    rw c.if-not-branch.false at c.in_ok-note.ensures.noted in
+    Steps.no_fewer c.place_of.new.store.messages.items (sent_at c.args.site.now.settings (state_of c.args.site.now) c.args.entry.now.event)
+    c.list.new.self.messages.items c.in_ok-first.first c.len.result (c.list.ensures ∙ noted.sends) c.in_ok-first.ensures.0
+    (c.len.ensures ∙ c.list.new.self.messages.ok.0)
+
+pub note-requires : goal.note-requires
+note-requires c = c.requires
+
+pub returns-in_err-place : goal.returns-in_err-place
+returns-in_err-place c = record {
+  more = c.in_err-place.ensures.more;
+  step = no_value c.from_residual.result _ c.from_residual.ensures.0;
+  err = still c.from_residual.result _ refl;
+  same = (refl, refl);
+}
+
+pub returns-in_err-first : goal.returns-in_err-first
+returns-in_err-first c = record {
+  more = c.in_ok-place.ensures.more;
+  step = no_value c.from_residual-in_err-first.result _ c.from_residual-in_err-first.ensures.0;
+  err = still c.from_residual-in_err-first.result _ refl;
+  same = (refl, refl);
+}
+
+pub returns-in_err-note : goal.returns-in_err-note
+returns-in_err-note c = record {
+  more = more_still c.args.store.now.messages.items c.place_of.new.store.messages.items c.note.new.messages.items
+      c.note.new.messages.items c.in_ok-place.ensures.more c.in_err-note.ensures.more refl;
+  step = no_value c.from_residual-in_err-note.result _ c.from_residual-in_err-note.ensures.0;
+  err = still c.from_residual-in_err-note.result _ c.in_err-note.ensures.err;
+  same = c.in_err-note.ensures.same;
+}
+
+pub returns-then-not-branch : goal.returns-then-not-branch
+returns-then-not-branch c = record {
+  more = more_still c.args.store.now.messages.items c.place_of.new.store.messages.items c.note.new.messages.items
+      c.note.new.messages.items c.in_ok-place.ensures.more c.in_ok-note.ensures.more refl;
+  step = rw c.if-not-branch.true at c.in_ok-note.ensures.noted;
+  err = tt;
+  same = c.in_ok-note.ensures.same;
+}
+
+pub returns-in-Some : goal.returns-in-Some
+returns-in-Some c =
+    let noted : RecordsEntry c.args.site.now c.note.new.site c.args.entry.now c.place_of.new.store.messages.items
+    c.note.new.messages.items =
+    rw c.if-not-branch.false at c.in_ok-note.ensures.noted in
+    record {
+      more = more_still c.args.store.now.messages.items c.place_of.new.store.messages.items c.note.new.messages.items
+          c.list.new.self.messages.items c.in_ok-place.ensures.more c.in_ok-note.ensures.more c.list.ensures;
+      step = (
+        noted.is,
+        noted.replays,
+        Steps.receives c.args.site.now.settings (state_of c.args.site.now) c.place_of.new.store.messages.items
+            c.list.new.self.messages.items c.args.entry.now.event c.in-Some.at (c.list.ensures ∙ noted.sends)
+            (subst (IsPlaced c.place_of.new.store.messages.items c.args.entry.now.event) c.in-Some.is c.in_ok-place.ensures.place),
+      );
+      err = tt;
+      same = c.in_ok-note.ensures.same;
+    }
+
+pub returns-in-None : goal.returns-in-None
+returns-in-None c =
+    let noted : RecordsEntry c.args.site.now c.note.new.site c.args.entry.now c.place_of.new.store.messages.items
+    c.note.new.messages.items =
+    rw c.if-not-branch.false at c.in_ok-note.ensures.noted in
+    record {
+      more = more_still c.args.store.now.messages.items c.place_of.new.store.messages.items c.note.new.messages.items
+          c.list.new.self.messages.items c.in_ok-place.ensures.more c.in_ok-note.ensures.more c.list.ensures;
+      step = (
+        noted.is,
+        noted.replays,
+        Steps.alone c.place_of.new.store.messages.items (sent_at c.args.site.now.settings (state_of c.args.site.now) c.args.entry.now.event)
+            c.list.new.self.messages.items c.args.entry.now.event c.in_ok-first.first c.len.result (c.list.ensures ∙ noted.sends)
+            (subst (IsPlaced c.place_of.new.store.messages.items c.args.entry.now.event) c.in-None.is c.in_ok-place.ensures.place)
+            c.in_ok-first.ensures.0 (c.len.ensures ∙ c.list.new.self.messages.ok.0) c.if-count-eq0.true,
+      );
+      err = tt;
+      same = c.in_ok-note.ensures.same;
+    }
+
+pub returns-in-None-2 : goal.returns-in-None-2
+returns-in-None-2 c =
+    let noted : RecordsEntry c.args.site.now c.note.new.site c.args.entry.now c.place_of.new.store.messages.items
+    c.note.new.messages.items =
+    rw c.if-not-branch.false at c.in_ok-note.ensures.noted in
+    record {
+      more = more_still c.args.store.now.messages.items c.place_of.new.store.messages.items c.note.new.messages.items
+          c.list.new.self.messages.items c.in_ok-place.ensures.more c.in_ok-note.ensures.more c.list.ensures;
+      step = (
+        noted.is,
+        noted.replays,
+        Steps.sends c.place_of.new.store.messages.items (sent_at c.args.site.now.settings (state_of c.args.site.now) c.args.entry.now.event)
+            c.list.new.self.messages.items c.args.entry.now.event c.in_ok-first.first c.len.result (c.list.ensures ∙ noted.sends)
+            (subst (IsPlaced c.place_of.new.store.messages.items c.args.entry.now.event) c.in-None.is c.in_ok-place.ensures.place)
+            c.in_ok-first.ensures.0 (c.len.ensures ∙ c.list.new.self.messages.ok.0),
+      );
+      err = tt;
+      same = c.in_ok-note.ensures.same;
+    }

@@ -1,21 +1,14 @@
 -- One history more was read.
-use Rattle.std.proofs.Common.{◌≡◌, ◌∙◌, ◌<◌, [], Some, false, ap, sym, subst, length, arith, Result, Ok, Err}
+use Rattle.std.proofs.Common.{◌≡◌, ◌∙◌, ◌<◌, [], Some, ap, sym, subst, length, arith}
 use Rattle.std.specs.Prelude.{replicate, slice_get}
-use Rattle.std.specs.Result.{is_err}
-use Rattle.std.specs.declared.alloc.AllocError.{AllocError}
-use Rattle.std.specs.Prelude.{OnOk}
 use Rattle.rb_auditor.specs.Audits.{HasMore}
 use Rattle.rb_auditor.specs.Findings.{lists_of}
 use Rattle.rb_auditor.proofs.Listed
 use Rattle.rb_auditor.proofs.Lengths.{length_lists}
 use Rattle.rb_auditor.proofs.Read
 use Rattle.rb_auditor.proofs.Read.{filled}
+use Rattle.rb_auditor.proofs.Results.{went_well}
 use Rattle.rb_auditor.proofs.whole.read_all.Goals as goal
-
--- what holds where it went well
-went_well : {A : Type 0} (r : Result Unit AllocError) → is_err r ≡ false → OnOk r A → A
-went_well (Ok u) e a = a
-went_well (Err x) e a = cc
 
 pub loop-site-init : goal.loop-site-init
 loop-site-init c =

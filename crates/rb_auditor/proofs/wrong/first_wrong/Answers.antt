@@ -1,12 +1,12 @@
 -- The first site that doesn't record an entry.
 use Rattle.std.proofs.Common.{◌≡◌, ◌∙◌, ◌+◌, ◌<◌, ◌≤◌, Some, length, subst, sym, arith}
 use Rattle.std.specs.Prelude.{slice_get}
-use Rattle.std.proofs.lemmas.Option.{slice_get_within}
+use Rattle.std.proofs.lemmas.Bool.{false≢true}
+use Rattle.std.proofs.lemmas.Option.{slice_get_read, slice_get_within}
 use Rattle.rb_money.specs.declared.limits.TheConstants.{MOST_HISTORY}
 use Rattle.rb_auditor.specs.Findings.{IsFirstWrong}
 use Rattle.rb_auditor.specs.Kept.{histories_in}
 use Rattle.rb_auditor.proofs.Judged
-use Rattle.rb_auditor.proofs.Kept.{not_true}
 use Rattle.rb_auditor.proofs.wrong.first_wrong.Goals as goal
 
 pub loop-site-init : goal.loop-site-init
@@ -17,7 +17,7 @@ few : (c : goal.After-len) → c.len.result ≤ MOST_HISTORY
 few c =
     let less : c.loop-site.site < c.args.config.now.sites = omega (arith, c.sites-site-end.ensures.same, c.loop-site-test.true) in
     let at : slice_get c.args.notes.now c.loop-site.site ≡ Some c.index-notes-site.result =
-    Judged.notes_at c.args.config.now c.args.notes.now c.requires.0 c.loop-site.site c.index-notes-site.result c.requires.1 less
+    slice_get_read c.args.notes.now c.args.config.now.sites c.loop-site.site c.index-notes-site.result (sym c.requires.1.notes) less
     c.index-notes-site.is in
     let most : length c.index-notes-site.result.steps.items ≤ MOST_HISTORY =
     Judged.steps_few c.args.config.now c.loop-site.site c.index-notes-site.result c.requires.0 c.sites-site-end.ensures.configured
@@ -35,18 +35,18 @@ pub returns-then-not-are_whole-clause-some : goal.returns-then-not-are_whole-cla
 returns-then-not-are_whole-clause-some c =
     let less : c.loop-site.site < c.args.config.now.sites = omega (arith, c.sites-site-end.ensures.same, c.loop-site-test.true) in
     let at : slice_get c.args.notes.now c.loop-site.site ≡ Some c.index-notes-site.result =
-    Judged.notes_at c.args.config.now c.args.notes.now c.requires.0 c.loop-site.site c.index-notes-site.result c.requires.1 less
+    slice_get_read c.args.notes.now c.args.config.now.sites c.loop-site.site c.index-notes-site.result (sym c.requires.1.notes) less
     c.index-notes-site.is in
     let size : c.len.result ≡ length c.index-notes-site.result.steps.items = c.len.ensures ∙ c.index-notes-site.result.steps.ok.0 in
     subst (λ k. IsFirstWrong c.args.config.now (histories_in c.args.notes.now) c.loop-site.site (k + 1)) (sym size)
     (Judged.wrong_found c.args.config.now c.args.notes.now c.requires.0 c.loop-site.site c.index-notes-site.result c.requires.1
-    c.loop-site.invariant at (λ whole. not_true c.are_whole.result c.if-not-are_whole.true (c.are_whole.ensures.1 whole)))
+    c.loop-site.invariant at (λ whole. false≢true (sym c.if-not-are_whole.true ∙ c.are_whole.ensures.1 whole)))
 
 pub loop-site-preserved : goal.loop-site-preserved
 loop-site-preserved c =
     let less : c.loop-site.site < c.args.config.now.sites = omega (arith, c.sites-site-end.ensures.same, c.loop-site-test.true) in
     Judged.whole_more c.args.notes.now c.loop-site.site c.index-notes-site.result c.loop-site.invariant
-    (Judged.notes_at c.args.config.now c.args.notes.now c.requires.0 c.loop-site.site c.index-notes-site.result c.requires.1 less
+    (slice_get_read c.args.notes.now c.args.config.now.sites c.loop-site.site c.index-notes-site.result (sym c.requires.1.notes) less
     c.index-notes-site.is) (c.are_whole.ensures.0 c.if-not-are_whole.false)
 
 pub returns-clause-none : goal.returns-clause-none

@@ -4,6 +4,7 @@ use Rattle.rb_auditor.specs.Audits.{Audited}
 use Rattle.rb_auditor.specs.Kept.{entries_noted}
 use Rattle.std.proofs.lemmas.List.{length-map}
 use Rattle.rb_auditor.proofs.Kept
+use Rattle.rb_auditor.proofs.Results.{on_err, on_ok}
 use Rattle.rb_auditor.proofs.auditor.Auditor.take.Goals as goal
 
 -- the site is one of the configuration
@@ -33,11 +34,11 @@ invariant_of-self c =
     c.index_mut-notes.ensures.value c.take_entry.ensures.notes
 
 pub returns-clause-ok : goal.returns-clause-ok
-returns-clause-ok c = Kept.on_ok c.take_entry.result c.take_entry.ensures.ok (λ grown.
+returns-clause-ok c = on_ok c.take_entry.result c.take_entry.ensures.ok (λ grown.
     Kept.has_more c.args.self.now c.self.inside.config c.self.inside.notes.items c.args.site c.index_mut-notes.result.now
     c.take_entry.new.notes _ c.self.view_is c.self.invariant.notes (inside c) c.index_mut-notes.ensures.value grown)
 
 pub returns-clause-err : goal.returns-clause-err
-returns-clause-err c = Kept.on_err c.take_entry.result c.take_entry.ensures.err (λ same.
+returns-clause-err c = on_err c.take_entry.result c.take_entry.ensures.err (λ same.
     Kept.has_same c.args.self.now c.self.inside.config c.self.inside.notes.items c.args.site c.index_mut-notes.result.now
     c.take_entry.new.notes c.self.view_is c.self.invariant.notes (inside c) c.index_mut-notes.ensures.value same)

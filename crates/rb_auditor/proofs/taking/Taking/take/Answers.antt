@@ -1,5 +1,6 @@
 -- The next entry is taken.
 use Rattle.std.proofs.Common.{◌≡◌, ◌∙◌, ℕ, ◌+◌, ◌<◌, ◌≤◌, ◌++◌, ◌∷◌, [], List, Some, ap, sym, subst, refl, length, get_or, take}
+use Rattle.std.proofs.Common.{arith, vec_len}
 use Rattle.std.specs.Prelude.{slice_get, slice_set}
 use Rattle.std.proofs.lemmas.Option.{slice_get_read}
 use Rattle.rb_site.specs.declared.message.Message.{Message}
@@ -11,6 +12,7 @@ use Rattle.rb_auditor.specs.Progress.{Progress, Rests, Took, site_after}
 use Rattle.rb_auditor.proofs.Judged
 use Rattle.rb_auditor.proofs.Judged.{IsNextStep, IsReadAt}
 use Rattle.rb_auditor.proofs.Resting
+use Rattle.rb_auditor.proofs.Results.{no_value, still}
 use Rattle.rb_auditor.proofs.Takings
 use Rattle.rb_auditor.proofs.taking.Taking.take.Goals as goal
 
@@ -127,3 +129,50 @@ invariant_of-self-2 c = (
 
 pub returns-clause-ok : goal.returns-clause-ok
 returns-clause-ok c = let P : Progress → Type 0 = λ p. Took p (new_progress c) c.args.site in subst P c.self.view_is (took c)
+
+pub index-taken-requires : goal.index-taken-requires
+index-taken-requires c =
+    Judged.has_taken _ c.self.inside.notes.now c.args.site (vec_len c.self.inside.taken) c.self.invariant.0 refl c.self.inside.taken.ok.0
+    (Judged.has_notes _ c.args.self.now c.self.inside.notes.now c.args.site c.self.view_is refl c.requires)
+
+pub bounds-self-inside-site : goal.bounds-self-inside-site
+bounds-self-inside-site c = Judged.has_notes _ c.args.self.now c.self.inside.notes.now c.args.site c.self.view_is refl c.requires
+
+pub invariant_of-self : goal.invariant_of-self
+invariant_of-self c = (
+  Takings.still_taking _ c.reserve.new.self.items c.self.inside.sent c.self.invariant.0 c.in_err-reserve.ensures.items refl,
+  c.self.invariant.1,
+  c.self.invariant.2,
+  c.self.invariant.3,
+)
+
+pub returns-in_err-reserve : goal.returns-in_err-reserve
+returns-in_err-reserve c = record {
+  ok = no_value c.from_residual.result _ c.from_residual.ensures.0;
+  err = still c.from_residual.result _ (Takings.same_as _ c.args.self.now c.reserve.new.self.items c.self.inside.sent c.self.view_is
+      c.in_err-reserve.ensures.items refl);
+}
+
+pub invariant_of-self-in_err-add_all : goal.invariant_of-self-in_err-add_all
+invariant_of-self-in_err-add_all c = (
+  Takings.still_taking _ c.reserve.new.self.items c.add_all.new.self c.self.invariant.0 c.in_ok-reserve.ensures.items
+      c.in_err-add_all.ensures.err,
+  c.self.invariant.1,
+  c.self.invariant.2,
+  c.self.invariant.3,
+)
+
+pub returns-in_err-add_all : goal.returns-in_err-add_all
+returns-in_err-add_all c = record {
+  ok = no_value c.from_residual-in_err-add_all.result _ c.from_residual-in_err-add_all.ensures.0;
+  err = still c.from_residual-in_err-add_all.result _ (Takings.same_as _ c.args.self.now c.reserve.new.self.items c.add_all.new.self
+      c.self.view_is c.in_ok-reserve.ensures.items c.in_err-add_all.ensures.err);
+}
+
+pub index_mut-requires : goal.index_mut-requires
+index_mut-requires c =
+    Judged.has_taken _ c.self.inside.notes.now c.args.site (vec_len c.self.inside.taken) c.self.invariant.0 refl c.self.inside.taken.ok.0
+    (Judged.has_notes _ c.args.self.now c.self.inside.notes.now c.args.site c.self.view_is refl c.requires)
+
+pub push_reserved-requires : goal.push_reserved-requires
+push_reserved-requires c = omega (arith, c.in_ok-reserve.ensures.ok)

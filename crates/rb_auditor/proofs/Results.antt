@@ -1,0 +1,40 @@
+-- What follows from how a call went.
+use Rattle.std.proofs.Common.{◌≡◌, false, Option, Some, None, Result, Ok, Err}
+use Rattle.std.specs.Prelude.{IfNone, IfOk, IfSome, IsErr, OnErr, OnOk, is_some}
+use Rattle.std.specs.Result.{is_err}
+use Rattle.std.specs.declared.alloc.AllocError.{AllocError}
+
+-- what holds where it went well
+pub went_well : {A : Type 0} (r : Result Unit AllocError) → is_err r ≡ false → OnOk r A → A
+went_well (Ok u) e a = a
+went_well (Err x) e a = cc
+
+-- what follows where it went well
+pub on_ok : {A B : Type 0} (r : Result Unit AllocError) → OnOk r A → (A → B) → OnOk r B
+on_ok (Ok u) a f = f a
+on_ok (Err e) a f = tt
+
+-- and where it did not
+pub on_err : {A B : Type 0} (r : Result Unit AllocError) → OnErr r A → (A → B) → OnErr r B
+on_err (Ok u) a f = tt
+on_err (Err e) a f = f a
+
+-- where it failed nothing is said of what it gave
+pub no_value : {A E : Type 0} (r : Result A E) (P : A → Type 0) → IsErr r → IfOk r P
+no_value (Ok x) P e = cc
+no_value (Err y) P e = tt
+
+-- what holds anyway holds where it failed
+pub still : {A E : Type 0} (r : Result A E) (P : Type 0) → P → OnErr r P
+still (Ok x) P h = tt
+still (Err y) P h = h
+
+-- nothing is said where nothing was found
+pub none_found : {A : Type 0} (o : Option A) (P : A → Type 0) → o ≡ None → IfSome o P
+none_found None P e = tt
+none_found (Some x) P e = cc
+
+-- what is said where there is nothing
+pub where_none : {A : Type 0} {P : Type 0} (o : Option A) → is_some o ≡ false → IfNone o P → P
+where_none None e h = h
+where_none (Some x) e h = cc
