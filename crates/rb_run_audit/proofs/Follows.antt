@@ -1,6 +1,6 @@
 -- The state of an audit between two lines, for a source whose bytes are known.
-use Rattle.std.proofs.Common.{◌≡◌, ◌<◌, ◌≤◌, ◌+◌, ◌⊎◌, ℕ, Bool, true, false, List, [], ◌∷◌, ◌++◌, length, take, drop, Option, Some, None}
-use Rattle.std.proofs.Common.{Ok, Err, refl, sym, ap, ◌∙◌, rules, subst, append-nil, append_assoc}
+use Rattle.std.proofs.Common.{◌≡◌, ◌≢◌, ◌<◌, ◌≤◌, ◌+◌, ◌⊎◌, ℕ, Bool, true, false, List, [], ◌∷◌, ◌++◌, length, take, drop, Option}
+use Rattle.std.proofs.Common.{Some, None, Ok, Err, refl, sym, ap, ◌∙◌, rules, subst, append-nil, append_assoc}
 use Rattle.std.specs.Prelude.{IfSome}
 use Rattle.std.specs.Io.KnownBytes.{IsAtEnd}
 use Rattle.rb_auditor.specs.Audits.{Audited}
@@ -9,6 +9,8 @@ use Rattle.rb_lines.specs.Lines.{lines_of, is_long, line_len}
 use Rattle.rb_lines.specs.declared.limits.TheConstants.{LINE_LIMIT}
 use Rattle.rb_lines.specs.declared.fault.StreamFault.{StreamFault}
 use Rattle.rb_lines.specs.declared.fault.StreamFault.TheVariants.{NoConfig, BadConfig, BadLine, LongLine, Read, Write, OutOfMemory}
+use Rattle.rb_lines.specs.declared.no_line.NoLine.{NoLine}
+use Rattle.rb_lines.specs.declared.no_line.NoLine.TheVariants.{TooLong, OutOfMemory as NoMemory, Read as NotRead, Write as NotWritten}
 use Rattle.rb_lines.proofs.Public.LongLines.{long_line}
 use Rattle.rb_lines.proofs.Public.Walks.{Walks, line_at_front}
 use Rattle.rb_lines.proofs.Public.Walks as walk
@@ -88,7 +90,7 @@ long_of None n l ls h = rw h refl
 long_of (Some m) n l ls h = rw h refl
 
 -- the next line is too long
-pub known_long : (a b : Option (List ℕ)) (c : Collected) (p : List ℕ) (e : Bool) → FollowsKnown a b c p e → LINE_LIMIT < line_len p
+known_long : (a b : Option (List ℕ)) (c : Collected) (p : List ℕ) (e : Bool) → FollowsKnown a b c p e → LINE_LIMIT < line_len p
     → IfSome a (λ input. CollectsAs (Err (LongLine c.number)) c input b)
 known_long None b c p e f h = tt
 known_long (Some all) None c p e f h = absurd f
@@ -105,7 +107,7 @@ unfinished None n = tt
 unfinished (Some m) n = tt
 
 -- no more is read
-pub known_stop : (a b : Option (List ℕ)) (c : Collected) (p : List ℕ) (e : Bool) → FollowsKnown a b c p e → e ≡ false
+known_stop : (a b : Option (List ℕ)) (c : Collected) (p : List ℕ) (e : Bool) → FollowsKnown a b c p e → e ≡ false
     → line_len p ≡ length p → IfSome a (λ input. CollectsAs (Err Read) c input b)
 known_stop None b c p e f going none = tt
 known_stop (Some all) None c p e f going none = absurd f
@@ -123,6 +125,53 @@ known_stop (Some all) (Some x) c p e f going none = (
   refl,
 )
 
+-- there was no memory
+known_out_of_memory : (a b : Option (List ℕ)) (c : Collected) → IfSome a (λ input. CollectsAs (Err OutOfMemory) c input b)
+known_out_of_memory None b c = tt
+known_out_of_memory (Some all) b c = refl
+
+-- why there is no next line, as the fault of the line of this number
+abbrev pub told : NoLine → ℕ → StreamFault
+told TooLong n = LongLine n
+told NotRead n = Read
+told NotWritten n = Write
+told NoMemory n = OutOfMemory
+
+-- it is what a function gives that gives this for each reason
+pub told_as : (why : NoLine) (n : ℕ) (f : StreamFault) → (why ≡ TooLong → f ≡ LongLine n) → (why ≡ NotRead → f ≡ Read)
+    → (why ≡ NotWritten → f ≡ Write) → (why ≡ NoMemory → f ≡ OutOfMemory) → f ≡ told why n
+told_as TooLong n f long read write memory = long refl
+told_as NotRead n f long read write memory = read refl
+told_as NotWritten n f long read write memory = write refl
+told_as NoMemory n f long read write memory = memory refl
+
+-- the reason of `Read`
+pub why_read : (why : NoLine) (n : ℕ) → told why n ≡ Read → why ≡ NotRead
+why_read TooLong n e = cc
+why_read NotRead n e = refl
+why_read NotWritten n e = cc
+why_read NoMemory n e = cc
+
+-- the reason of `Write`
+pub why_write : (why : NoLine) (n : ℕ) → told why n ≡ Write → why ≡ NotWritten
+why_write TooLong n e = cc
+why_write NotRead n e = cc
+why_write NotWritten n e = refl
+why_write NoMemory n e = cc
+
+-- there is no next line, and no write failed
+pub known_none : {X : Type 0} (a b b' : Option (List ℕ)) (c : Collected) (p p' : List ℕ) (e e' : Bool) (why : NoLine)
+    → FollowsKnown a b c p e → (why ≢ NoMemory → Reads p p' b b') → (e' ≡ false → e ≡ false) → (why ≡ TooLong → LINE_LIMIT < line_len p')
+    → (why ≡ NotRead → (e' ≡ false) × (line_len p' ≡ length p') × X) → why ≢ NotWritten
+    → IfSome a (λ input. CollectsAs (Err (told why c.number)) c input b')
+known_none a b b' c p p' e e' TooLong f kept was long read not =
+    known_long a b' c p' e' (known_read a b b' c p p' e e' f (kept (λ q. cc)) was) (long refl)
+known_none a b b' c p p' e e' NotRead f kept was long read not =
+    let (going, none, x) = read refl in
+    known_stop a b' c p' e' (known_read a b b' c p p' e e' f (kept (λ q. cc)) was) going none
+known_none a b b' c p p' e e' NotWritten f kept was long read not = absurd (not refl)
+known_none a b b' c p p' e e' NoMemory f kept was long read not = known_out_of_memory a b' c
+
 at_fault : (all : List ℕ) (b : Option (List ℕ)) (c : Collected) (l : List ℕ) (more : List (List ℕ)) (f : StreamFault)
     → input_of (lines_of all) ≡ input_rest c (l ∷ more) → InputEndsAt c l f → AuditEndsAs (Err f) all b []
 at_fault all b c l more (BadConfig n) e h = (e ∙ h more, refl)
@@ -132,6 +181,14 @@ at_fault all b c l more NoConfig e h = absurd h
 at_fault all b c l more (LongLine n) e h = absurd h
 at_fault all b c l more Read e h = absurd h
 at_fault all b c l more Write e h = absurd h
+
+-- no line ends the input by a failed read
+pub not_read : (c : Collected) (l : List ℕ) (f : StreamFault) → InputEndsAt c l f → f ≢ Read
+not_read c l f h e = subst (InputEndsAt c l) e h
+
+-- and none by a failed write
+pub not_write : (c : Collected) (l : List ℕ) (f : StreamFault) → InputEndsAt c l f → f ≢ Write
+not_write c l f h e = subst (InputEndsAt c l) e h
 
 -- the line at the front ends the audit
 pub known_fault : (a b : Option (List ℕ)) (c c' : Collected) (p : List ℕ) (e : Bool) (n : ℕ) (f : StreamFault) → FollowsKnown a b c p e
@@ -144,8 +201,3 @@ known_fault (Some all) (Some x) c c' p e n f k len fits at_front end h =
     let (more, first) = line_at_front p x e n len fits at_front end in
     at_fault all (Some x) c (take n p) more f (input_is k.done (take n p ∷ more) _ c k.input (k.walks.lines ∙ ap (λ y. k.done ++ y) first))
     h
-
--- there was no memory
-pub known_out_of_memory : (a b : Option (List ℕ)) (c : Collected) → IfSome a (λ input. CollectsAs (Err OutOfMemory) c input b)
-known_out_of_memory None b c = tt
-known_out_of_memory (Some all) b c = refl

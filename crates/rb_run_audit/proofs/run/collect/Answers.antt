@@ -1,9 +1,19 @@
-use Rattle.std.proofs.Common.{arith, rules, ◌≡◌, ◌+◌, Err, ap, length, length-drop}
+use Rattle.std.proofs.Common.{arith, ◌≡◌, ◌≢◌, ◌∙◌, ◌+◌, ◌*◌, ◌<◌, ◌≤◌, ◌⊎◌, [], Err, None, ap, length, subst, sym, take, true}
+use Rattle.std.specs.Prelude.{IfSome, OnOk}
+use Rattle.std.specs.Io.KnownBytes.{IsAtEnd}
 use Rattle.std.proofs.KnownBytes.{Appends-nil}
 use Rattle.std.proofs.lemmas.Bool.{false_from_ne_true}
-use Rattle.rb_run_audit.proofs.Follows.{known_end, known_fault, known_line, known_long, known_out_of_memory, known_read, known_start}
-use Rattle.rb_run_audit.proofs.Follows.{known_stop}
-use Rattle.rb_run_audit.proofs.Buffered.{nothing_sent}
+use Rattle.std.proofs.lemmas.Result.{err_from_is_err_and}
+use Rattle.rb_lines.specs.Buffers.{Counts, IsNextLine, IsWholeLine, left}
+use Rattle.rb_lines.specs.declared.fault.StreamFault.TheVariants.{Read as Unread, Write as Unwritten}
+use Rattle.rb_lines.specs.declared.limits.TheConstants.{LINE_LIMIT, MOST_READS, READ_SIZE}
+use Rattle.rb_lines.specs.declared.no_line.NoLine.TheVariants.{Write}
+use Rattle.rb_run_audit.specs.Collects.{HasEachSite, InputEndsAt, Takes}
+use Rattle.rb_run_audit.specs.Run.{CollectsAs}
+use Rattle.rb_run_audit.proofs.Follows.{FollowsKnown, known_end, known_fault, known_line, known_none, known_read, known_start, not_read}
+use Rattle.rb_run_audit.proofs.Follows.{not_write, told, told_as, why_read, why_write}
+use Rattle.rb_run_audit.proofs.Buffered.{no_write, nothing_sent}
+use Rattle.rb_run_audit.proofs.Counted.{few_calls, less_left, next_number, ok_is_no_err, once_taken, same_reason, short_line}
 use Rattle.rb_run_audit.proofs.run.collect.Goals as goal
 
 pub lines-init : goal.lines-init
@@ -15,85 +25,157 @@ lines-init g c = record {
   number = rw c.requires.first.1 (omega (arith, ap length c.new-buffers.ensures.pending, c.new-buffers.ensures.reads));
   each = λ s e. absurd (cc (e, c.requires.first.0));
   written = Appends-nil _;
-  input = known_start _ _ _ _ c.requires.first c.new-buffers.ensures.pending c.new-buffers.ensures.going;
+  input = known_start (g.S.Source.remaining c.args.reader.now) c.args.collected.now c.new-buffers.result.pending
+      c.new-buffers.result.ended c.requires.first c.new-buffers.ensures.pending c.new-buffers.ensures.going;
 }
 
 pub lines-preserved : goal.lines-preserved
 lines-preserved g c =
-    let old = c.lines.invariant in
     let next = c.in-Ok-Some.ensures in
-    let at_front = rw c.in-Ok-Some.field-0-is at next.line in
-    let sent = nothing_sent _ (g.W.Sink.contents c.lines.writer) _ _ _ old.written old.buffered next.sent in
-    let now = known_read _ _ _ _ _ _ _ _ old.input next.kept next.was_going in
-    let took = rw c.as_slice.ensures at c.in_ok-take_line.ensures in
-    let rest = length-drop (c.in-Ok-Some.n + 1) c.next_line.new.self.pending in
+    let at_front : IsWholeLine c.next_line.new.self c.in-Ok-Some.n =
+    subst (IsNextLine c.next_line.new.self) c.in-Ok-Some.field-0-is next.line in
+    let sent = nothing_sent (g.W.Sink.contents c.args.writer.now) (g.W.Sink.contents c.lines.writer)
+    (g.W.Sink.contents c.next_line.new.writer) c.lines.buffers.buffered.items c.next_line.new.self.buffered.items
+    c.lines.invariant.written c.lines.invariant.buffered next.sent in
+    let now = known_read (g.S.Source.remaining c.args.reader.now) (g.S.Source.remaining c.lines.reader)
+    (g.S.Source.remaining c.next_line.new.reader) c.lines.collected c.lines.buffers.pending c.next_line.new.self.pending
+    c.lines.buffers.ended c.next_line.new.self.ended c.lines.invariant.input next.kept next.was_going in
+    let took : Takes c.lines.collected c.take_line.new.self (take c.in-Ok-Some.n c.next_line.new.self.pending) =
+    subst (λ p. Takes c.lines.collected c.take_line.new.self (take c.in-Ok-Some.n p)) c.as_slice.ensures c.in_ok-take_line.ensures in
     record {
-      counted = rw c.skip_line.ensures next.counted;
-      fresh = false_from_ne_true _ (λ t. cc (next.write.1 t));
-      end = rw c.skip_line.ensures next.end;
-      buffered = rw c.skip_line.ensures sent.1;
-      number = rw c.skip_line.ensures (omega (arith, rest, took.number, next.left, at_front.3, old.number));
+      counted = once_taken (λ b. Counts (g.S.Source.calls c.next_line.new.reader) b.reads) c.next_line.new.self c.skip_line.new.self
+          c.in-Ok-Some.n c.skip_line.ensures next.counted;
+      fresh = false_from_ne_true (g.W.Sink.failed c.next_line.new.writer) (λ t. ok_is_no_err _ _ (next.write.1 t));
+      end = once_taken (λ b. b.ended ≡ true → IsAtEnd (g.S.Source.remaining c.next_line.new.reader)) c.next_line.new.self
+          c.skip_line.new.self c.in-Ok-Some.n c.skip_line.ensures next.end;
+      buffered = once_taken (λ b. b.buffered.items ≡ []) c.next_line.new.self c.skip_line.new.self c.in-Ok-Some.n c.skip_line.ensures
+          sent.1;
+      number = once_taken (λ b. c.take_line.new.self.number + left b ≤ READ_SIZE * MOST_READS + 1) c.next_line.new.self
+          c.skip_line.new.self c.in-Ok-Some.n c.skip_line.ensures
+          (next_number c.lines.buffers c.next_line.new.self c.in-Ok-Some.n c.lines.collected.number c.take_line.new.self.number
+          (READ_SIZE * MOST_READS + 1) at_front next.left took.number c.lines.invariant.number);
       each = took.each;
       written = sent.0;
-      input = rw c.skip_line.ensures (known_line _ _ _ _ _ _ c.in-Ok-Some.n now at_front.0 at_front.2 at_front.3 next.end took);
+      input = once_taken (λ b. FollowsKnown (g.S.Source.remaining c.args.reader.now) (g.S.Source.remaining c.next_line.new.reader)
+          c.take_line.new.self b.pending b.ended) c.next_line.new.self c.skip_line.new.self c.in-Ok-Some.n c.skip_line.ensures
+          (known_line (g.S.Source.remaining c.args.reader.now)
+          (g.S.Source.remaining c.next_line.new.reader) c.lines.collected c.take_line.new.self c.next_line.new.self.pending
+          c.next_line.new.self.ended c.in-Ok-Some.n now at_front.0 at_front.2 at_front.3 next.end took);
     }
 
-pub returns-in-Ok-None-clause-written : goal.returns-in-Ok-None-clause-written
-returns-in-Ok-None-clause-written g c =
-    (nothing_sent _
-    (g.W.Sink.contents c.lines.writer) _ _ _ c.lines.invariant.written c.lines.invariant.buffered c.in-Ok-None.ensures.sent).0
+pub next_line-requires : goal.next_line-requires
+next_line-requires g c = record {
+  counted = c.lines.invariant.counted;
+  end = c.lines.invariant.end;
+  fresh = c.lines.invariant.fresh;
+}
 
-pub returns-in-Ok-None-clause-input : goal.returns-in-Ok-None-clause-input
-returns-in-Ok-None-clause-input g c =
+pub returns-in-Ok-None : goal.returns-in-Ok-None
+returns-in-Ok-None g c =
     let next = c.in-Ok-None.ensures in
-    let end = rw c.in-Ok-None.field-0-is at next.line in
-    known_end _ _ _ _ _ (known_read _ _ _ _ _ _ _ _ c.lines.invariant.input next.kept next.was_going) end.0 (next.end end.1)
+    let end : IsNextLine c.next_line.new.self None =
+    subst (IsNextLine c.next_line.new.self) c.in-Ok-None.field-0-is next.line in
+    let now = known_read (g.S.Source.remaining c.args.reader.now) (g.S.Source.remaining c.lines.reader)
+    (g.S.Source.remaining c.next_line.new.reader) c.lines.collected c.lines.buffers.pending c.next_line.new.self.pending
+    c.lines.buffers.ended c.next_line.new.self.ended c.lines.invariant.input next.kept next.was_going in
+    record {
+      written = (nothing_sent (g.W.Sink.contents c.args.writer.now) (g.W.Sink.contents c.lines.writer)
+          (g.W.Sink.contents c.next_line.new.writer) c.lines.buffers.buffered.items c.next_line.new.self.buffered.items
+          c.lines.invariant.written c.lines.invariant.buffered next.sent).0;
+      fresh = false_from_ne_true (g.W.Sink.failed c.next_line.new.writer) (λ t. ok_is_no_err _ _ (next.write.1 t));
+      each = c.lines.invariant.each;
+      input = known_end (g.S.Source.remaining c.args.reader.now) (g.S.Source.remaining c.next_line.new.reader) c.lines.collected
+          c.next_line.new.self.pending c.next_line.new.self.ended now end.0 (next.end end.1);
+      read = λ e. absurd {A = (g.S.Source.failed c.next_line.new.reader ≡ true) ⊎ (g.S.Source.calls c.next_line.new.reader ≡ MOST_READS)}
+          (ok_is_no_err _ _ e);
+      write = λ e. ok_is_no_err _ _ e;
+      calls = few_calls (g.S.Source.calls c.next_line.new.reader) c.next_line.new.self.reads (g.S.Source.calls c.args.reader.now)
+          next.counted;
+    }
 
-pub returns-in-Err-TooLong-clause-written : goal.returns-in-Err-TooLong-clause-written
-returns-in-Err-TooLong-clause-written g c =
-    (nothing_sent _ (g.W.Sink.contents c.lines.writer) _ _ _ c.lines.invariant.written c.lines.invariant.buffered
-    (c.in-Err-TooLong.ensures.sent (λ e. cc (e, c.in-Err-TooLong.field-0-is)))).0
+pub returns-in-Err : goal.returns-in-Err
+returns-in-Err g c =
+    let next = c.in-Err.ensures in
+    let not_written : c.in-Err.why ≢ Write =
+    no_write c.in-Err.why c.lines.buffers.buffered.items c.lines.invariant.buffered (λ e. next.nothing (ap Err e)) in
+    let is : c.fault_of.result ≡ told c.in-Err.why c.lines.collected.number =
+    told_as c.in-Err.why c.lines.collected.number c.fault_of.result c.fault_of.ensures.long c.fault_of.ensures.read
+    c.fault_of.ensures.write c.fault_of.ensures.memory in
+    record {
+      written = (nothing_sent (g.W.Sink.contents c.args.writer.now) (g.W.Sink.contents c.lines.writer)
+          (g.W.Sink.contents c.next_line.new.writer) c.lines.buffers.buffered.items c.next_line.new.self.buffered.items
+          c.lines.invariant.written c.lines.invariant.buffered (next.sent not_written)).0;
+      fresh = false_from_ne_true (g.W.Sink.failed c.next_line.new.writer) (λ t.
+          not_written (same_reason c.in-Err.why Write (next.write.1 t)));
+      each = tt;
+      input = subst (λ f. IfSome (g.S.Source.remaining c.args.reader.now) (λ input. CollectsAs (Err f) c.lines.collected input
+          (g.S.Source.remaining c.next_line.new.reader))) (sym is)
+          (known_none (g.S.Source.remaining c.args.reader.now) (g.S.Source.remaining c.lines.reader)
+          (g.S.Source.remaining c.next_line.new.reader) c.lines.collected c.lines.buffers.pending c.next_line.new.self.pending
+          c.lines.buffers.ended c.next_line.new.self.ended c.in-Err.why c.lines.invariant.input next.kept next.was_going
+          (λ e. next.long (ap Err e)) (λ e. next.read (ap Err e)) not_written);
+      read = λ e. (next.read (ap Err (why_read c.in-Err.why c.lines.collected.number
+          (sym is ∙ same_reason c.fault_of.result Unread e)))).2;
+      write = λ e. not_written (why_write c.in-Err.why c.lines.collected.number
+          (sym is ∙ same_reason c.fault_of.result Unwritten e));
+      calls = few_calls (g.S.Source.calls c.next_line.new.reader) c.next_line.new.self.reads (g.S.Source.calls c.args.reader.now)
+          next.counted;
+    }
 
-pub returns-in-Err-TooLong-clause-input : goal.returns-in-Err-TooLong-clause-input
-returns-in-Err-TooLong-clause-input g c =
-    let next = c.in-Err-TooLong.ensures in
-    known_long _ _ _ _ _
-    (known_read _ _ _ _ _ _ _ _ c.lines.invariant.input (next.kept (λ e. cc (e, c.in-Err-TooLong.field-0-is))) next.was_going)
-    (next.long (ap Err c.in-Err-TooLong.field-0-is))
+pub take_line-requires : goal.take_line-requires
+take_line-requires g c =
+    let at_front : IsWholeLine c.next_line.new.self c.in-Ok-Some.n =
+    subst (IsNextLine c.next_line.new.self) c.in-Ok-Some.field-0-is c.in-Ok-Some.ensures.line in
+    record {
+      short = subst (λ p. length (take c.in-Ok-Some.n p) ≤ LINE_LIMIT) (sym c.as_slice.ensures)
+          (short_line c.next_line.new.self c.in-Ok-Some.n at_front);
+      number = omega (arith, c.lines.invariant.number);
+      each = c.lines.invariant.each;
+    }
 
-pub returns-in-Err-Read-clause-written : goal.returns-in-Err-Read-clause-written
-returns-in-Err-Read-clause-written g c =
-    (nothing_sent _ (g.W.Sink.contents c.lines.writer) _ _ _ c.lines.invariant.written c.lines.invariant.buffered
-    (c.in-Err-Read.ensures.sent (λ e. cc (e, c.in-Err-Read.field-0-is)))).0
-
-pub returns-in-Err-Read-clause-input : goal.returns-in-Err-Read-clause-input
-returns-in-Err-Read-clause-input g c =
-    let next = c.in-Err-Read.ensures in
-    let stop = next.read (ap Err c.in-Err-Read.field-0-is) in
-    known_stop _ _ _ _ _
-    (known_read _ _ _ _ _ _ _ _ c.lines.invariant.input (next.kept (λ e. cc (e, c.in-Err-Read.field-0-is))) next.was_going) stop.0
-    stop.1
-
-pub returns-in-Err-OutOfMemory-clause-written : goal.returns-in-Err-OutOfMemory-clause-written
-returns-in-Err-OutOfMemory-clause-written g c =
-    (nothing_sent _ (g.W.Sink.contents c.lines.writer) _ _ _ c.lines.invariant.written c.lines.invariant.buffered
-    (c.in-Err-OutOfMemory.ensures.sent (λ e. cc (e, c.in-Err-OutOfMemory.field-0-is)))).0
-
-pub returns-in-Err-OutOfMemory-clause-input : goal.returns-in-Err-OutOfMemory-clause-input
-returns-in-Err-OutOfMemory-clause-input g c =
-    known_out_of_memory (g.S.Source.remaining c.args.reader.now) (g.S.Source.remaining c.next_line.new.reader) c.lines.collected
-
-pub returns-in_err-take_line-clause-written : goal.returns-in_err-take_line-clause-written
-returns-in_err-take_line-clause-written g c =
-    (nothing_sent _
-    (g.W.Sink.contents c.lines.writer) _ _ _ c.lines.invariant.written c.lines.invariant.buffered c.in-Ok-Some.ensures.sent).0
-
-pub returns-in_err-take_line-clause-input : goal.returns-in_err-take_line-clause-input
-returns-in_err-take_line-clause-input g c =
+pub returns-in_err-take_line : goal.returns-in_err-take_line
+returns-in_err-take_line g c =
     let next = c.in-Ok-Some.ensures in
-    let at_front = rw c.in-Ok-Some.field-0-is at next.line in
-    let now = known_read _ _ _ _ _ _ _ _ c.lines.invariant.input next.kept next.was_going in
-    let ended = rw c.as_slice.ensures at c.in_err-take_line.ensures in
-    let passed : c.from_residual.result ≡ Err c.in_err-take_line.field-0.0 = search rules in
-    rw passed (known_fault _ _ c.lines.collected c.take_line.new.self _ _ c.in-Ok-Some.n _ now at_front.0 at_front.2 at_front.3 next.end
-    ended)
+    let at_front : IsWholeLine c.next_line.new.self c.in-Ok-Some.n =
+    subst (IsNextLine c.next_line.new.self) c.in-Ok-Some.field-0-is next.line in
+    let now = known_read (g.S.Source.remaining c.args.reader.now) (g.S.Source.remaining c.lines.reader)
+    (g.S.Source.remaining c.next_line.new.reader) c.lines.collected c.lines.buffers.pending c.next_line.new.self.pending
+    c.lines.buffers.ended c.next_line.new.self.ended c.lines.invariant.input next.kept next.was_going in
+    let ended : InputEndsAt c.lines.collected (take c.in-Ok-Some.n c.next_line.new.self.pending) c.in_err-take_line.field-0.0 =
+    subst (λ p. InputEndsAt c.lines.collected (take c.in-Ok-Some.n p) c.in_err-take_line.field-0.0) c.as_slice.ensures
+    c.in_err-take_line.ensures in
+    let given = err_from_is_err_and c.from_residual.result c.from_residual.ensures.1 in
+    let passed : c.from_residual.result ≡ Err c.in_err-take_line.field-0.0 = given.1 ∙ ap Err given.2 in
+    record {
+      written = (nothing_sent (g.W.Sink.contents c.args.writer.now) (g.W.Sink.contents c.lines.writer)
+          (g.W.Sink.contents c.next_line.new.writer) c.lines.buffers.buffered.items c.next_line.new.self.buffered.items
+          c.lines.invariant.written c.lines.invariant.buffered next.sent).0;
+      fresh = false_from_ne_true (g.W.Sink.failed c.next_line.new.writer) (λ t. ok_is_no_err _ _ (next.write.1 t));
+      each = subst (λ r. OnOk r (HasEachSite c.take_line.new.self)) (sym passed) tt;
+      input = subst (λ r. IfSome (g.S.Source.remaining c.args.reader.now) (λ input. CollectsAs r c.take_line.new.self input
+          (g.S.Source.remaining c.next_line.new.reader))) (sym passed)
+          (known_fault (g.S.Source.remaining c.args.reader.now) (g.S.Source.remaining c.next_line.new.reader)
+          c.lines.collected c.take_line.new.self c.next_line.new.self.pending c.next_line.new.self.ended c.in-Ok-Some.n
+          c.in_err-take_line.field-0.0 now at_front.0 at_front.2 at_front.3 next.end ended);
+      read = λ e. absurd {A = (g.S.Source.failed c.next_line.new.reader ≡ true) ⊎ (g.S.Source.calls c.next_line.new.reader ≡ MOST_READS)}
+          (not_read c.lines.collected (take c.in-Ok-Some.n c.next_line.new.self.pending) c.in_err-take_line.field-0.0 ended
+          (same_reason c.in_err-take_line.field-0.0 Unread (sym passed ∙ e)));
+      write = λ e. not_write c.lines.collected (take c.in-Ok-Some.n c.next_line.new.self.pending) c.in_err-take_line.field-0.0 ended
+          (same_reason c.in_err-take_line.field-0.0 Unwritten (sym passed ∙ e));
+      calls = few_calls (g.S.Source.calls c.next_line.new.reader) c.next_line.new.self.reads (g.S.Source.calls c.args.reader.now)
+          next.counted;
+    }
+
+pub skip_line-requires : goal.skip_line-requires
+skip_line-requires g c =
+    let at_front : IsWholeLine c.next_line.new.self c.in-Ok-Some.n =
+    subst (IsNextLine c.next_line.new.self) c.in-Ok-Some.field-0-is c.in-Ok-Some.ensures.line in
+    at_front.2
+
+pub lines-smaller : goal.lines-smaller
+lines-smaller g c =
+    let next = c.in-Ok-Some.ensures in
+    let at_front : IsWholeLine c.next_line.new.self c.in-Ok-Some.n =
+    subst (IsNextLine c.next_line.new.self) c.in-Ok-Some.field-0-is next.line in
+    once_taken (λ b. left b < left c.lines.buffers) c.next_line.new.self c.skip_line.new.self c.in-Ok-Some.n c.skip_line.ensures
+    (less_left c.lines.buffers c.next_line.new.self c.in-Ok-Some.n at_front next.left)
