@@ -3,7 +3,6 @@ use Rattle.std.proofs.Common.{◌≡◌, ℕ, ◌+◌, ◌-◌, ◌<◌, false, 
 use Rattle.std.proofs.Common.{length-append, refl, sym, ap, subst, ◌∙◌, append_assoc, append-nil}
 use Rattle.std.proofs.lemmas.Bool.Decides.{nat_tests}
 use Rattle.std.specs.Prelude.{map, nat_le, Result, Ok, Err, MatchResult}
-use Rattle.std.specs.Result.{IsErr}
 use Rattle.std.proofs.lemmas.Grind.{flat_map-append}
 use Rattle.rb_money.specs.Settings.{Settings}
 use Rattle.json.specs.Print.{escape_byte}
@@ -137,11 +136,6 @@ closed (Ok y) old new a b c k l h front kept end = record {
   entries_are = h.entries_are;
 }
 closed (Err y) old new a b c k l h front kept end = (front_of_front a b c front end, kept)
-
--- a failed call, where both buffers begin with what they had
-pub stopped : {A E P Q : Type 0} (r : Result A E) (ok : A → Type 0) → IsErr r → P → Q → MatchResult r ok (λ _. P × Q)
-stopped (Ok x) ok is p q = absurd (cc)
-stopped (Err x) ok is p q = (p, q)
 
 -- ---- an answer
 

@@ -1,5 +1,7 @@
 mod Applied
+mod Failed
 mod JournalLines
 mod Ready
 mod Recorded
 mod Replayed
+mod Spelled

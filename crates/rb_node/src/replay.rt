@@ -69,7 +69,7 @@ impl Node {
         ensures refusals { IfErr result IsEntryFault }
     {
         let entry = self.entry_of(line)?;
-        self.replay_entry(entry)
+        self.replay_entry(&entry)
     }
 
     /// The same, of a line that is exactly what `answer` adds to the entries: any other spelling of it is `BadLine`.
@@ -88,8 +88,24 @@ impl Node {
         ensures refusals { IfErr result IsEntryFault }
     {
         let entry = self.entry_of(line)?;
+        self.replay_spelled(line, &entry)
+    }
+
+    /// The entry on a line, where the line is exactly what is written for it: any other is `BadLine`.
+    fn replay_spelled(&mut self, line: &[u8], entry: &Entry) -> Result<(), NodeFault>
+        ensures replayed { OnOk result ((line.now
+            ≡ compact_text (entry_json self.old.site.settings self.old.site.me entry.now))
+            × IsReplayedAs self.old.site self.new entry.now) }
+        ensures bad { result ≡ Err NodeFault.BadLine → (line.now ≢ compact_text (entry_json self.old.site.settings
+            self.old.site.me entry.now)) × (self.new ≡ self.old) }
+        ensures wrong { result ≡ Err NodeFault.WrongReply
+            → (line.now ≡ compact_text (entry_json self.old.site.settings self.old.site.me entry.now))
+            × ((is_full self.old.site.settings (state_of self.old.site) ≡ true)
+            ⊎ (entry.now.reply ≢ reply_to self.old.site.settings (state_of self.old.site) entry.now.event)) }
+        ensures refusals { IfErr result IsEntryFault }
+    {
         self.written.clear();
-        append_line(&mut self.written, &self.config, self.site.me(), &entry)?;
+        append_line(&mut self.written, &self.config, self.site.me(), entry)?;
         if self.written.as_slice() != line {
             return Err(NodeFault::BadLine);
         }
@@ -97,20 +113,22 @@ impl Node {
     }
 
     /// An entry of this site is its next one, where the site gives the reply that it has.
-    fn replay_entry(&mut self, entry: Entry) -> Result<(), NodeFault>
-        ensures replayed { OnOk result (IsReplayedAs self.old.site self.new entry) }
+    fn replay_entry(&mut self, entry: &Entry) -> Result<(), NodeFault>
+        ensures replayed { OnOk result (IsReplayedAs self.old.site self.new entry.now) }
         ensures wrong { result ≡ Err NodeFault.WrongReply
             → (is_full self.old.site.settings (state_of self.old.site) ≡ true)
-            ⊎ (entry.reply ≢ reply_to self.old.site.settings (state_of self.old.site) entry.event) }
+            ⊎ (entry.now.reply ≢ reply_to self.old.site.settings (state_of self.old.site) entry.now.event) }
         ensures refusals { IfErr result (λ why. (why ≡ NodeFault.WrongReply) ⊎ (why ≡ NodeFault.OutOfMemory)) }
     {
-        let Entry { event, reply } = entry;
         self.sent.clear();
         if self.site.is_full() {
             return Err(NodeFault::WrongReply);
         }
-        let given = self.site.record(&event, &mut self.sent)?;
-        if !given.same(&reply) {
+        let same = self
+            .site
+            .record(&entry.event, &mut self.sent)?
+            .same(&entry.reply);
+        if !same {
             return Err(NodeFault::WrongReply);
         }
         Ok(())

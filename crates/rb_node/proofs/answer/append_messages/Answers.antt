@@ -1,10 +1,14 @@
-use Rattle.std.proofs.Common.{◌++◌, codes, [], add-one, drop-cons, arith, rules}
+use Rattle.std.proofs.Common.{◌++◌, codes, [], add-one, drop-cons, arith, refl, rules}
 use Rattle.std.specs.Prelude.{map}
 use Rattle.rb_site.specs.declared.event.Event.TheVariants.{Receive}
 use Rattle.rb_history.specs.Entries.{event_json}
 use Rattle.rb_commands.proofs.Public.Appended.{front_of_front, front_of_sum, then}
 use Rattle.rb_commands.proofs.Public.Listed.{item_written, items_written, rest_text, whole_text}
+use Rattle.rb_node.proofs.Failed.{kept, stayed}
 use Rattle.rb_node.proofs.answer.append_messages.Goals as goal
+
+pub loop-message-init : goal.loop-message-init
+loop-message-init c = record { utf8 = search rules; front = stayed c.args.out.now.items; written = refl }
 
 pub loop-message-preserved : goal.loop-message-preserved
 loop-message-preserved c =
@@ -30,3 +34,8 @@ returns c =
     (items_written (λ m. event_json c.args.config.now (Receive m)) out c.loop-message.comma.now (old ++ list) messages
     c.loop-message.message-index (omega arith) c.loop-message.invariant.written) c.append.ensures
     (whole_text (map (λ m. event_json c.args.config.now (Receive m)) messages))
+
+pub returns-in_err-append_message : goal.returns-in_err-append_message
+returns-in_err-append_message c = kept c.from_residual.result _ c.from_residual.ensures.0
+    (front_of_front c.args.out.now.items c.loop-message.out.items c.append_message.new.out.items c.loop-message.invariant.front
+    c.in_err-append_message.ensures)

@@ -1,7 +1,16 @@
 use Rattle.std.proofs.Common.{rules}
 use Rattle.rb_commands.proofs.Public.Appended.{front_of_front, front_of_sum}
 use Rattle.rb_node.proofs.Applied.{applies_more, applies_none, closed, spare_falls}
+use Rattle.rb_node.proofs.Failed.{kept, stayed}
 use Rattle.rb_node.proofs.node.Node.apply_ready.Goals as goal
+
+pub loop-name-init : goal.loop-name-init
+loop-name-init c = record {
+  utf8 = search rules;
+  text_front = stayed c.args.text.now.items;
+  entries_front = stayed c.args.entries.now.items;
+  goes_on = λ new text entries rest. rest;
+}
 
 pub loop-name-preserved : goal.loop-name-preserved
 loop-name-preserved c =
@@ -21,6 +30,16 @@ loop-name-preserved c =
 pub loop-name-smaller : goal.loop-name-smaller
 loop-name-smaller c = spare_falls c.loop-name.self.site c.apply_one.new.self.site _ _ c.loop-name.entries.items
     c.apply_one.new.entries.items c.in-Some.ensures.free c.in_ok-apply_one.ensures.step
+
+pub returns-in_err-apply_one : goal.returns-in_err-apply_one
+returns-in_err-apply_one c =
+    let l = c.loop-name in
+    let new = c.apply_one.new in
+    let failed = c.in_err-apply_one.ensures in
+    kept c.from_residual.result _ c.from_residual.ensures.0 (
+      front_of_front c.args.text.now.items l.text.items new.text.items l.invariant.text_front failed.0,
+      front_of_front c.args.entries.now.items l.entries.items new.entries.items l.invariant.entries_front failed.1,
+    )
 
 pub returns : goal.returns
 returns c =

@@ -1,7 +1,14 @@
-use Rattle.std.proofs.Common.{rules}
+use Rattle.std.proofs.Common.{◌≡◌, ap, ◌∙◌}
+use Rattle.rb_shadow.specs.Operations.{clock_of}
+use Rattle.rb_site.specs.Seen.{SeenSite, state_of}
+use Rattle.rb_node.specs.Answers.{SeenNode}
 use Rattle.rb_node.proofs.Ready.{none_ready}
 use Rattle.rb_node.proofs.node.Node.ready.Goals as goal
 
 pub returns-clause-none : goal.returns-clause-none
-returns-clause-none c = none_ready c.ready.result c.args.self.now.site c.inbox.result.now.held c.clock.result.now (search rules)
-    (search rules) c.ready.ensures.none
+returns-clause-none c =
+    let site = c.args.self.now.site in
+    let seen : c.self.inside.site ≡ site = ap (λ (v : SeenNode). v.site) c.self.view_is in
+    none_ready c.ready.result site c.inbox.result.now.held c.clock.result.now
+    (c.inbox.ensures.held ∙ ap (λ (y : SeenSite). (state_of y).held) seen)
+    (c.clock.ensures ∙ ap clock_of (c.ledger.ensures.entries ∙ ap (λ (y : SeenSite). (state_of y).ops) seen)) c.ready.ensures.none

@@ -3,6 +3,7 @@ use Rattle.rb_site.specs.Events.{reply_to, sent_at}
 use Rattle.rb_site.specs.Seen.{SeenSite, entry, next_site, state_of}
 use Rattle.rb_history.specs.Entries.{entry_json}
 use Rattle.rb_node.specs.Answers.{SeenNode, line_of}
+use Rattle.rb_node.proofs.Failed.{kept, stayed}
 use Rattle.rb_node.proofs.Recorded.{me-next, recorded}
 use Rattle.rb_node.proofs.node.Node.record.Goals as goal
 
@@ -27,3 +28,14 @@ returns c =
             ∙ ap (λ (v : SeenNode). v.sent ++ sent_at v.site.settings (state_of v.site) event) c.self.view_is,
       );
     }
+
+pub returns-in_err-reply : goal.returns-in_err-reply
+returns-in_err-reply c = record {
+  recorded = kept c.from_residual.result _ c.from_residual.ensures.0 (stayed c.args.entries.now.items);
+}
+
+pub returns-in_err-append_entry : goal.returns-in_err-append_entry
+returns-in_err-append_entry c = record {
+  recorded = kept c.from_residual-in_err-append_entry.result _ c.from_residual-in_err-append_entry.ensures.0
+      c.in_err-append_entry.ensures;
+}
