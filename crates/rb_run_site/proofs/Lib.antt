@@ -4,6 +4,7 @@ mod Causes
 mod Configured
 mod EntryLines
 mod Going
+mod Stopped
 mod Opened
 mod Buffered
 mod Prefixes

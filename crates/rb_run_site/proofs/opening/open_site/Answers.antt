@@ -1,4 +1,4 @@
-use Rattle.std.proofs.Common.{◌≡◌, ap, sym, subst, take, Err, rules}
+use Rattle.std.proofs.Common.{arith, ◌≡◌, ◌<◌, ◌+◌, ◌^◌, ap, sym, subst, drop, length, length-drop, take, Err, rules}
 use Rattle.std.specs.Prelude.{IfErr}
 use Rattle.rb_node.specs.Answers.{SeenNode}
 use Rattle.rb_run_site.specs.Openings.{EndsNode, IsOpeningCause, OpensSite}
@@ -22,6 +22,14 @@ returns-in-Ok-clause-opened g c =
       rw c.skip_line.ensures (behind _ _ c.in_ok-n.number p c.first_line.new.buffers.ended n c.in_ok-n.ensures.input line.0 line.2 line.3
           c.in_ok-n.ensures.end),
     )
+
+pub returns-in-Ok-clause-number : goal.returns-in-Ok-clause-number
+returns-in-Ok-clause-number g c =
+    let p = c.first_line.new.buffers.pending in
+    let n = c.in_ok-n.n in
+    let below : c.in_ok-n.number + 1 + length (drop (n + 1) p) < 2 ^ 63 =
+    omega (arith, c.in_ok-n.ensures.number.1, length-drop (n + 1) p) in
+    rw c.skip_line.ensures below
 
 pub returns-in_err-node-clause-cause : goal.returns-in_err-node-clause-cause
 returns-in_err-node-clause-cause g c =

@@ -1,15 +1,19 @@
 -- The file is opened, and then the site goes on.
-use Rattle.std.proofs.Common.{rules, arith, ◌≡◌, ◌<◌, ◌∙◌, ⊎_elim, inl, inr, Err, ap, sym}
+use Rattle.std.proofs.Common.{rules, arith, ◌≡◌, ◌<◌, ◌∙◌, ⊎_elim, inl, inr, Err, ap, subst, sym}
 use Rattle.rb_journal.specs.Journal.{IsLeftAs}
 use Rattle.rb_journal.specs.Lines.{recovered}
 use Rattle.rb_serve.specs.Ends.{IsFull}
 use Rattle.rb_serve.specs.Run.{served_input}
 use Rattle.rb_serve.specs.declared.fault.ServeFault.TheVariants.{Journal as JournalStopped}
+use Rattle.rb_serve.specs.Faults.{fault_of_host}
+use Rattle.rb_run_site.specs.Ends.{AnswersAll}
 use Rattle.rb_run_site.specs.Faults.{fault_of_serve}
 use Rattle.rb_run_site.specs.Journals.{SiteAnswers, journal_of}
-use Rattle.rb_run_site.specs.declared.fault.SiteFault.TheVariants.{Journal as DiskFailed}
+use Rattle.rb_run_site.specs.declared.fault.SiteFault.TheVariants.{Journal as DiskFailed, Read as NotRead}
+use Rattle.rb_run_site.specs.Openings.{IsToBegin}
 use Rattle.rb_run_site.specs.Runs.{IsLeftOrAnswered}
 use Rattle.rb_run_site.proofs.Going.{from_same, only_journal}
+use Rattle.rb_run_site.proofs.Stopped.{never_read, not_begun, only_disk, stopped}
 use Rattle.rb_journal.proofs.Public.Moments.{runs_on, weaker}
 use Rattle.rb_run_site.proofs.run.run_opened.Goals as goal
 
@@ -63,3 +67,54 @@ returns-in-Err-ended-clause-journal g c = λ failed.
     ⊎_elim (λ (more : host.faults mid < host.faults new). inl (omega (arith, more, c.in-Ok.ensures.later)))
     (λ (full : IsFull SiteAnswers input x (journal_of x)). inr full)
     (c.in-Err-ended.ensures.journal (ap Err is))
+
+pub go_on-ended-requires-clause-begins : goal.go_on-ended-requires-clause-begins
+go_on-ended-requires-clause-begins g c =
+    subst (λ ls. IsToBegin ls c.args.opened.machine.node.site c.args.opened.first.items) (sym c.in-Ok.ensures.lines) c.requires.begins
+
+pub returns-in-Err-ended-clause-ended : goal.returns-in-Err-ended-clause-ended
+returns-in-Err-ended-clause-ended g c =
+    let host = g.H.Host in
+    let new = c.go_on-ended.new.journal.host in
+    let opened = c.args.opened in
+    let input = served_input c.args.buffers.now.pending (g.S.Source.remaining c.args.reader.now) in
+    let fault = c.in-Err-ended.fault in
+    stopped (AnswersAll opened.machine.node.site opened.sends.items c.args.number input (g.S.Source.remaining c.go_on-ended.new.reader)
+    (host.output c.args.host) (recovered (host.content new)) (host.output new)) fault c.from.result c.from.ensures
+    (rw c.in-Ok.ensures.output at c.in-Err-ended.ensures.text)
+
+pub returns-in-Err-clause-ended : goal.returns-in-Err-clause-ended
+returns-in-Err-clause-ended g c =
+    let host = g.H.Host in
+    let new = c.in-Err.host in
+    let opened = c.args.opened in
+    let left = g.S.Source.remaining c.args.reader.now in
+    let is : c.from-in-Err-2.result ≡ fault_of_serve (fault_of_host c.in-Err.error) =
+    c.from-in-Err-2.ensures ∙ ap fault_of_serve c.from-in-Err.ensures in
+    not_begun (AnswersAll opened.machine.node.site opened.sends.items c.args.number (served_input c.args.buffers.now.pending left) left
+    (host.output c.args.host) (recovered (host.content new)) (host.output new)) c.in-Err.error c.from-in-Err-2.result is
+
+pub returns-in-Err-clause-any_moment : goal.returns-in-Err-clause-any_moment
+returns-in-Err-clause-any_moment g c =
+    let host = g.H.Host in
+    let was = c.args.host in
+    let lines = recovered c.args.bytes.now in
+    let opened = c.args.opened in
+    let input = served_input c.args.buffers.now.pending (g.S.Source.remaining c.args.reader.now) in
+    weaker host.moment host.left_since was c.in-Err.host (IsLeftAs lines (host.output was))
+    (IsLeftOrAnswered lines opened.machine.node.site opened.sends.items input (host.output was)) c.in-Err.ensures.any_moment_err
+    (λ f d at. inl at)
+
+pub returns-in-Err-clause-read : goal.returns-in-Err-clause-read
+returns-in-Err-clause-read g c = λ failed.
+    let is : c.from-in-Err-2.result ≡ fault_of_serve (fault_of_host c.in-Err.error) =
+    c.from-in-Err-2.ensures ∙ ap fault_of_serve c.from-in-Err.ensures in
+    let passed : c.from-in-Err-2.result ≡ NotRead = cc failed in
+    absurd (never_read c.in-Err.error (sym is ∙ passed))
+
+pub returns-in-Err-clause-journal : goal.returns-in-Err-clause-journal
+returns-in-Err-clause-journal g c = λ failed.
+    let is : c.from-in-Err-2.result ≡ fault_of_serve (fault_of_host c.in-Err.error) =
+    c.from-in-Err-2.ensures ∙ ap fault_of_serve c.from-in-Err.ensures in
+    let passed : c.from-in-Err-2.result ≡ DiskFailed = cc failed in
+    inl (c.in-Err.ensures.failed (only_disk c.in-Err.error (sym is ∙ passed) c.in-Err.ensures.full))

@@ -1,5 +1,5 @@
 -- A site is opened, and then it goes on.
-use Rattle.std.proofs.Common.{◌≡◌, ◌<◌, ⊎_elim, inl, inr}
+use Rattle.std.proofs.Common.{◌≡◌, ◌<◌, ◌∙◌, ⊎_elim, ap, inl, inr, sym}
 use Rattle.rb_journal.specs.Lines.{recovered}
 use Rattle.rb_serve.specs.Ends.{IsFull}
 use Rattle.rb_serve.specs.Run.{served_input}
@@ -9,7 +9,7 @@ use Rattle.rb_run_site.specs.Runs.{IsLeftOrAnswered, IsSiteRun}
 use Rattle.rb_run_site.specs.Steps.{IsRunOfSteps}
 use Rattle.rb_run_site.proofs.Behind.{ends_behind, full_behind, ran, run_behind}
 use Rattle.rb_run_site.proofs.Stepped.{stepped_run}
-use Rattle.rb_journal.proofs.Public.Moments.{weaker}
+use Rattle.rb_journal.proofs.Public.Moments.{started, weaker}
 use Rattle.rb_run_site.proofs.run.run_site.Goals as goal
 
 pub returns-in-Ok-clause-ended : goal.returns-in-Ok-clause-ended
@@ -84,3 +84,21 @@ returns-in-Ok-clause-journal g c = λ failed.
     (full_behind c.args.me c.args.resend c.in-Ok.number (g.S.Source.remaining c.args.reader.now) left c.args.bytes.now is.0
     mid.buffers.pending x c.in-Ok.opened.first.items c.in-Ok.opened.sends.items is.1 is.2 full))
     (c.run_opened.ensures.journal failed)
+
+pub returns-clause-any_moment : goal.returns-clause-any_moment
+returns-clause-any_moment g c =
+    let host = g.H.Host in
+    let was = c.args.host in
+    let input = g.S.Source.remaining c.args.reader.now in
+    started host.moment host.left_since was (IsSiteRun c.args.me c.args.resend input (recovered c.args.bytes.now) (host.output was))
+    (λ f d left. let now = g.met.H.Host.only_now was f d left in
+    inl (ap recovered (c.requires.durable f now.0 ∙ sym c.requires.bytes), now.1))
+
+pub returns-clause-steps : goal.returns-clause-steps
+returns-clause-steps g c =
+    let host = g.H.Host in
+    let was = c.args.host in
+    let input = g.S.Source.remaining c.args.reader.now in
+    started host.moment host.left_since was (IsRunOfSteps c.args.me c.args.resend input (recovered c.args.bytes.now) (host.output was))
+    (λ f d left. let now = g.met.H.Host.only_now was f d left in
+    inl (ap recovered (c.requires.durable f now.0 ∙ sym c.requires.bytes), now.1))
