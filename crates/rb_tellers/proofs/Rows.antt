@@ -1,7 +1,8 @@
 -- Facts of each place of a list.
 use Rattle.std.proofs.Common.{◌≡◌, ℕ, zero, suc, ◌+◌, ◌<◌, List, [], ◌∷◌, ◌++◌, Some, Ok, Result, map, length, sym, ap, ◌∙◌, subst}
-use Rattle.std.proofs.Common.{get_or, ◌%◌}
+use Rattle.std.proofs.Common.{get_or, ◌%◌, append_assoc, append-nil}
 use Rattle.std.specs.Prelude.{slice_get}
+use Rattle.std.proofs.lemmas.List.{length-map, nil_from_length}
 use Rattle.std.proofs.lemmas.Option.{slice_get_within, get_or_from_slice_get}
 use Rattle.rb_site.proofs.Public.Lists.{map_at}
 use Rattle.rb_tellers.specs.declared.server_of.ServerOf.{ServerOf}
@@ -23,6 +24,10 @@ ended {C} {F} cs rs t c is at =
     let here = subst P is (map_at Ok cs t c at) in
     (slice_get_within rs t (Ok c) here, get_or_from_slice_get rs t (Ok c) (Ok c) here)
 
+-- where all ended well
+pub as_many : {C F : Type 0} (cs : List C) (rs : List (Result C F)) → map Ok cs ≡ rs → length cs ≡ length rs
+as_many {C} {F} cs rs is = sym (length-map {B = Result C F} cs Ok) ∙ ap length is
+
 -- what the thread of the teller t promises
 abbrev pub teller_at : ℕ → ℕ → ℕ → TellerOf
 teller_at seed sites t = record { first = seed + t; site = t % sites; sites = sites }
@@ -39,3 +44,12 @@ promise_push {X} {Y} at xs xs' x f t now len all here i h found =
     let P : ℕ → X → Type 0 = λ n y. f y ≡ at n in
     let Q : List X → Type 0 = λ l. slice_get l i ≡ Some h in
     row_push P xs x all (here ∙ ap at (sym len)) i h (subst Q now found)
+
+-- two lists that are a third one, after the first element of the second goes to the end of the first
+pub moved : {X : Type 0} (xs xs' ys ys' all : List X) (x : X) → xs' ≡ xs ++ x ∷ [] → ys ≡ x ∷ ys' → xs ++ ys ≡ all → xs' ++ ys' ≡ all
+moved xs xs' ys ys' all x one more is =
+    ap (λ l. l ++ ys') one ∙ (append_assoc xs (x ∷ []) ys' ∙ (ap (λ l. xs ++ l) (sym more) ∙ is))
+
+-- once the second has no element
+pub all_moved : {X : Type 0} (xs ys all : List X) → length ys ≡ 0 → xs ++ ys ≡ all → xs ≡ all
+all_moved xs ys all none is = sym (append-nil xs) ∙ (ap (λ l. xs ++ l) (sym (nil_from_length ys none)) ∙ is)

@@ -1,0 +1,36 @@
+-- The seats of the results move to their list, one after the other.
+use Rattle.std.proofs.Common.{Ok, map, ap, length, [], ◌∷◌, ◌∙◌, arith}
+use Rattle.std.proofs.lemmas.List.{map-append}
+use Rattle.std.proofs.lemmas.Result.{IfOk-from_err}
+use Rattle.std.specs.Vec.Iter.{into_iter_items}
+use Rattle.rb_tellers.proofs.Rows.{all_moved, moved}
+use Rattle.rb_tellers.proofs.joining.all_ok.Goals as goal
+
+pub returns-in_err-seats : goal.returns-in_err-seats
+returns-in_err-seats g c = IfOk-from_err c.from_residual.result _ c.from_residual.ensures.0
+
+pub push_reserved-requires : goal.push_reserved-requires
+push_reserved-requires g c =
+    omega (arith, c.loop-outcome.invariant.3, c.loop-outcome.invariant.4, ap length c.in-Some.ensures.steps.0)
+
+pub loop-outcome-preserved : goal.loop-outcome-preserved
+loop-outcome-preserved g c = (
+  tt,
+  tt,
+  moved (map Ok c.loop-outcome.seats.items) _ (into_iter_items c.loop-outcome.outcome-iterator) _ _ (Ok c.in-Ok.seat)
+      (ap (map Ok) c.push_reserved.ensures.items ∙ map-append Ok c.loop-outcome.seats.items (c.in-Ok.seat ∷ []))
+      (c.in-Some.ensures.steps.0 ∙ ap (λ r. r ∷ into_iter_items c.next.new.self) c.in-Ok.is) c.loop-outcome.invariant.2,
+  omega (arith, c.loop-outcome.invariant.3, c.push_reserved.ensures.capacity),
+  omega (arith, c.loop-outcome.invariant.4, c.push_reserved.ensures.len, ap length c.in-Some.ensures.steps.0),
+)
+
+pub returns : goal.returns
+returns g c =
+    all_moved (map Ok c.loop-outcome.seats.items) (into_iter_items c.loop-outcome.outcome-iterator) _
+    (omega (arith, c.in-None.ensures.steps.0)) c.loop-outcome.invariant.2
+
+pub returns-in-Err-OutOfMemory : goal.returns-in-Err-OutOfMemory
+returns-in-Err-OutOfMemory g c = tt
+
+pub returns-in-Err-HistoryFull : goal.returns-in-Err-HistoryFull
+returns-in-Err-HistoryFull g c = tt
