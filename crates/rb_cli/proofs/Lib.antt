@@ -1,1 +1,2 @@
+mod Added
 mod Given

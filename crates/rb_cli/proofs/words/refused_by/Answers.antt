@@ -27,3 +27,25 @@ returns-in_err-try_get_matches_from_mut-clause-kinds c =
     (of_first _ _ c.in_err-try_get_matches_from_mut.field-0.0
     (subst (λ (a : App). HasKind (fault_of a (map (λ word. word.now) c.args.words.now)) c.in_err-try_get_matches_from_mut.field-0.0)
     c.requires has))
+
+-- of the second kinds, where the first are none
+of_second : (ks next : Kinds) (e : Error) → ks ≡ [] → HasKind next e → HasKind (or_else ks next) e
+of_second [] next e none has = has
+of_second (k ∷ ks) next e none has = cc none
+
+pub returns-in_err-try_get_matches_from_mut-clause-err : goal.returns-in_err-try_get_matches_from_mut-clause-err
+returns-in_err-try_get_matches_from_mut-clause-err c = c.from_residual.ensures.0
+
+pub returns-in_err-error-clause-err : goal.returns-in_err-error-clause-err
+returns-in_err-error-clause-err c = c.from_residual-in_err-error.ensures.0
+
+pub returns-in_err-error-clause-kinds : goal.returns-in_err-error-clause-kinds
+returns-in_err-error-clause-kinds c =
+    let read = err_from_is_err_and c.from_residual-in_err-error.result c.from_residual-in_err-error.ensures.1 in
+    rw read.1 (inl read.2)
+
+pub returns-clause-kinds : goal.returns-clause-kinds
+returns-clause-kinds c =
+    let none = c.in_ok-try_get_matches_from_mut.ensures.kinds (ap is_simple_and_free c.requires ∙ is_known) in
+    of_second _ _ c.in_ok-error.field-0
+    (subst (λ (a : App). fault_of a (map (λ word. word.now) c.args.words.now) ≡ []) c.requires none) (inr (inl c.in_ok-error.ensures.kind))
