@@ -37,3 +37,8 @@ pub failed : {A E : Type 0} (r : Result A E) (old mid new a t : List ℕ) → Is
     Adds r old new t
 failed (Ok x) old mid new a t is e h = absurd (cc)
 failed (Err x) old mid new a t is e h = front_stays old mid new a e h
+
+-- a failed call that left what was there before
+pub failed_first : {A E : Type 0} (r : Result A E) (old new t : List ℕ) → IsErr r → take (length old) new ≡ old → Adds r old new t
+failed_first (Ok x) old new t is h = absurd (cc)
+failed_first (Err x) old new t is h = h

@@ -1,10 +1,22 @@
-use Rattle.std.proofs.Common.{codes, add-one, drop-cons, arith, rules}
+use Rattle.std.proofs.Common.{◌++◌, [], ap, codes, refl, add-one, drop-cons, arith, rules}
 use Rattle.json.specs.Print.{escape_byte}
 use Rattle.rb_shadow.specs.declared.op_name.OpName.TheVariants.{Blue}
 use Rattle.rb_commands.specs.Values.{name_json}
-use Rattle.rb_commands.proofs.Public.Appended.{front_of_front, front_of_sum}
-use Rattle.rb_commands.proofs.Public.Listed.{item_written, list_between}
+use Rattle.rb_commands.proofs.Public.Appended.{failed_first, front_of_front, front_of_sum}
+use Rattle.rb_commands.proofs.Public.Listed.{item_written, list_between, rest_text}
+use Rattle.std.specs.Prelude.{map}
 use Rattle.rb_commands.proofs.write.reply.append_names.Goals as goal
+
+pub loop-name-init : goal.loop-name-init
+loop-name-init c = record {
+  utf8 = ([], (refl, refl));
+  front = front_of_sum c.args.out.now.items c.append.new.out.items _ c.in_ok-append.ensures;
+  written = ap (λ l. l ++ rest_text [] (map name_json c.args.names.now)) c.in_ok-append.ensures;
+}
+
+pub returns-in_err-append : goal.returns-in_err-append
+returns-in_err-append c =
+    failed_first c.from_residual.result c.args.out.now.items c.append.new.out.items _ c.from_residual.ensures.0 c.in_err-append.ensures
 
 pub loop-name-preserved : goal.loop-name-preserved
 loop-name-preserved c =
@@ -25,3 +37,10 @@ unfolding escape_byte
 returns c = list_between name_json c.append-2.result c.args.out.now.items c.loop-name.out.items c.append-2.new.out.items
     c.loop-name.comma.now (codes "{\"names\":[") (codes "}") c.args.names.now c.loop-name.name-index (omega arith)
     c.loop-name.invariant.written c.append-2.ensures
+
+pub returns-in_err-append_listed : goal.returns-in_err-append_listed
+returns-in_err-append_listed c =
+    let old = c.args.out.now.items in
+    let new = c.append_listed.new.out.items in
+    failed_first c.from_residual-in_err-append_listed.result old new _ c.from_residual-in_err-append_listed.ensures.0
+    (front_of_front old c.loop-name.out.items new c.loop-name.invariant.front c.in_err-append_listed.ensures)

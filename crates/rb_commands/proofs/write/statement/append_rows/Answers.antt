@@ -1,9 +1,13 @@
-use Rattle.std.proofs.Common.{◌++◌, codes, [], add-one, drop-cons, arith, rules}
+use Rattle.std.proofs.Common.{◌++◌, codes, [], add-one, drop-cons, arith, refl, rules}
+use Rattle.std.proofs.Math.Seq.{take-length}
 use Rattle.std.specs.Prelude.{map}
 use Rattle.rb_commands.specs.Statements.{row_json}
-use Rattle.rb_commands.proofs.Public.Appended.{front_of_front, front_of_sum, then}
+use Rattle.rb_commands.proofs.Public.Appended.{failed_first, front_of_front, front_of_sum, then}
 use Rattle.rb_commands.proofs.Public.Listed.{rest_text, whole_text, item_written, items_written}
 use Rattle.rb_commands.proofs.write.statement.append_rows.Goals as goal
+
+pub loop-row-init : goal.loop-row-init
+loop-row-init c = record { utf8 = ([], (refl, refl)); front = take-length c.args.out.now.items; written = refl }
 
 pub loop-row-preserved : goal.loop-row-preserved
 loop-row-preserved c =
@@ -27,3 +31,10 @@ returns c =
     let total = old ++ list in
     let all = items_written row_json out c.loop-row.comma.now total rows c.loop-row.row-index (omega arith) c.loop-row.invariant.written in
     then c.append.result old out c.append.new.out.items list (codes "]") _ all c.append.ensures (whole_text (map row_json rows))
+
+pub returns-in_err-append_row : goal.returns-in_err-append_row
+returns-in_err-append_row c =
+    let old = c.args.out.now.items in
+    let new = c.append_row.new.out.items in
+    failed_first c.from_residual.result old new _ c.from_residual.ensures.0
+    (front_of_front old c.loop-row.out.items new c.loop-row.invariant.front c.in_err-append_row.ensures)
