@@ -192,15 +192,15 @@ as_of_comes s t a n q is = by (is_account s a) (nat_lt (length t.ops) n) (cents 
     by true false k = refl
 
 -- the balance is answered
-pub tells_as_of : (z : SiteState) (a : Place) (n k : ℕ) (told : Answer) → Ok k ≡ balance_as_of z.settings z.site.ops a n →
-    Says true told (BalanceIs k) → AnswersAlone z z (outcome_of z.settings z.site (AsOf a n)) told
-tells_as_of z a n k told known is = answers_as z z _ _ told (as_of_comes z.settings z.site a n (Ok k) known) (refl, is, refl)
+pub answers_as_of : (z : SiteState) (a : Place) (n k : ℕ) (given : Answer) → Ok k ≡ balance_as_of z.settings z.site.ops a n →
+    Says true given (BalanceIs k) → AnswersAlone z z (outcome_of z.settings z.site (AsOf a n)) given
+answers_as_of z a n k given known is = answers_as z z _ _ given (as_of_comes z.settings z.site a n (Ok k) known) (refl, is, refl)
 
 -- where there is none, it is refused
-pub refuses_as_of : (z : SiteState) (a : Place) (n : ℕ) (why : Refusal) (told : Answer)
-    → Err why ≡ balance_as_of z.settings z.site.ops a n → Says true told (Refused why)
-    → AnswersAlone z z (outcome_of z.settings z.site (AsOf a n)) told
-refuses_as_of z a n why told none is = answers_as z z _ _ told (as_of_comes z.settings z.site a n (Err why) none) (refl, is, refl)
+pub refuses_as_of : (z : SiteState) (a : Place) (n : ℕ) (why : Refusal) (given : Answer)
+    → Err why ≡ balance_as_of z.settings z.site.ops a n → Says true given (Refused why)
+    → AnswersAlone z z (outcome_of z.settings z.site (AsOf a n)) given
+refuses_as_of z a n why given none is = answers_as z z _ _ given (as_of_comes z.settings z.site a n (Err why) none) (refl, is, refl)
 
 -- ---- a held shadow is applied, or is let go
 
@@ -334,8 +334,8 @@ knows z v u a sound found is =
   where
     by : (b : Bool) → Says true a (cond b (Already v.name) (Refused Conflict))
         → AnswersAlone z z (cond b (Answers (Already v.name)) (Refuses Conflict)) a
-    by true told = (refl, told, refl)
-    by false told = (refl, told, refl)
+    by true is = (refl, is, refl)
+    by false is = (refl, is, refl)
 
 -- a sound shadow of this site's own that isn't applied here is refused
 pub refuses_own : (z : SiteState) (v : Shadow) (a : Answer) → fault_of z.settings v ≡ None → find_in z.site.ops v.name ≡ None →

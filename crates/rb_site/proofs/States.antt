@@ -33,7 +33,7 @@ pub is_step : (keeps : Bool) (x : SeenSite) (old now : SiteState) (before after 
 is_step keeps x old now before after e a free standing follows =
     record {
       seen = ap (noted_in x e) noted_reply ∙ sym (ap (λ b. cond b x (stepped x e)) free);
-      reply = follows.1.0 ∙ told;
+      reply = follows.1.0 ∙ given;
       sent = follows.2 ∙ ap (λ q. before ++ sent_by q) same ∙ sym (ap (λ b. before ++ cond b [] (sent_by o)) free);
       standing = subst (λ r. IsStanding (noted_in x e r) now) (sym noted_reply) (record {
         kept = Seen.replayed-stepped x e (room_left x standing.kept free) standing.kept;
@@ -60,15 +60,15 @@ is_step keeps x old now before after e a free standing follows =
     same : outcome_of old.settings old.site e ≡ o
     same = ap (λ z. outcome_of z old.site e) standing.settings ∙ ap (λ u. outcome_of s u e) standing.site ∙ same_outcome s t [] e
 
-    told : reply_of old.settings old.site.ops (outcome_of old.settings old.site e) ≡ reply_to s t e
-    told =
+    given : reply_of old.settings old.site.ops (outcome_of old.settings old.site e) ≡ reply_to s t e
+    given =
         ap (reply_of old.settings old.site.ops) same
         ∙ ap (λ z. reply_of z old.site.ops o) standing.settings
         ∙ ap (λ (u : ModelSite). reply_of s u.ops o) standing.site
         ∙ sym (ap (λ b. cond b (Refused HistoryFull) (reply_of s t.ops o)) free)
 
     noted_reply : a.reply ≡ reply_to s t e
-    noted_reply = follows.1.0 ∙ told
+    noted_reply = follows.1.0 ∙ given
 
 -- a site as clients see it, by its parts
 abbrev pub seen_as : Settings → ℕ → List Entry → SeenSite

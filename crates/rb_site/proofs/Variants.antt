@@ -9,16 +9,16 @@ use denote.Enum.Declared.{Record, values_one, left_or, right_or}
 use denote.Enum.Compared.{Each, by}
 
 -- the test is true just of equal values
-abbrev pub Tells : {A : Type 0} → (A → A → Bool) → Type 0
-Tells {A} test = (x y : A) → Decides (test x y) (x ≡ y)
+abbrev pub IsEquality : {A : Type 0} → (A → A → Bool) → Type 0
+IsEquality {A} test = (x y : A) → Decides (test x y) (x ≡ y)
 
 -- each variant's test is true just of equal fields
-abbrev pub TellEach : (Fss : List (List Field)) → Each Bool Fss → Type 0
-TellEach [] each = Unit {0}
-TellEach (Fs ∷ Fss) each = Tells each.0 × TellEach Fss each.1
+abbrev pub AreEqualities : (Fss : List (List Field)) → Each Bool Fss → Type 0
+AreEqualities [] each = Unit {0}
+AreEqualities (Fs ∷ Fss) each = IsEquality each.0 × AreEqualities Fss each.1
 
 -- the same for the choices of the enum
-sides : (Fss : List (List Field)) (each : Each Bool Fss) → TellEach Fss each → Tells (by false false Fss each)
+sides : (Fss : List (List Field)) (each : Each Bool Fss) → AreEqualities Fss each → IsEquality (by false false Fss each)
 sides [] each all c d = absurd c
 sides (Fs ∷ Fss) each all (inl x) (inl y) = (λ e. ap inl ((all.0 x y).0 e), λ e. (all.0 x y).1 (ap (left_or x) e))
 sides (Fs ∷ Fss) each all (inl x) (inr y) = (λ e. absurd (false≢true e), λ e. cc)
@@ -28,27 +28,27 @@ sides (Fs ∷ Fss) each all (inr x) (inr y) =
     (λ e. ap inr (rest.0 e), λ e. rest.1 (ap (right_or x) e))
 
 -- where each variant's test is true just of equal fields, the enum's is true just of equal values
-pub enum_tells : (N : Record) (each : Each Bool N.parts) → TellEach N.parts each →
-    Tells (λ (x y : N.D). by false false N.parts each (N.as_values x) (N.as_values y))
-enum_tells N each all x y =
+pub enum_equality : (N : Record) (each : Each Bool N.parts) → AreEqualities N.parts each →
+    IsEquality (λ (x y : N.D). by false false N.parts each (N.as_values x) (N.as_values y))
+enum_equality N each all x y =
     let one = sides N.parts each all (N.as_values x) (N.as_values y) in
     (λ e. values_one N x y (one.0 e), λ e. one.1 (ap N.as_values e))
 
 -- a variant of no fields
-pub none : Tells (λ (x y : Values []). true)
+pub none : IsEquality (λ (x y : Values []). true)
 none x y = (λ e. refl, λ e. refl)
 
 -- a variant of one field
-pub one : {A : Type 0} (test : A → A → Bool) → Tells test → Tells (λ (x y : A × Unit {0}). test x.0 y.0)
-one test tells x y = (λ e i. ((tells x.0 y.0).0 e i, tt), λ e. (tells x.0 y.0).1 (ap (λ z. z.0) e))
+pub one : {A : Type 0} (test : A → A → Bool) → IsEquality test → IsEquality (λ (x y : A × Unit {0}). test x.0 y.0)
+one test same x y = (λ e i. ((same x.0 y.0).0 e i, tt), λ e. (same x.0 y.0).1 (ap (λ z. z.0) e))
 
 -- a variant of one number
-pub number : Tells (λ (x y : ℕ × Unit {0}). x.0 == y.0)
+pub number : IsEquality (λ (x y : ℕ × Unit {0}). x.0 == y.0)
 number = one ◌==◌ unsigned_Decides
 
 -- a variant of two fields
-pub two : {A B : Type 0} (first : A → A → Bool) (second : B → B → Bool) → Tells first → Tells second →
-    Tells (λ (x y : A × (B × Unit {0})). first x.0 y.0 && second x.1.0 y.1.0)
+pub two : {A B : Type 0} (first : A → A → Bool) (second : B → B → Bool) → IsEquality first → IsEquality second →
+    IsEquality (λ (x y : A × (B × Unit {0})). first x.0 y.0 && second x.1.0 y.1.0)
 two first second f g x y = (
   λ e i. (
     (f x.0 y.0).0 (and_parts (first x.0 y.0) (second x.1.0 y.1.0) e).0 i,

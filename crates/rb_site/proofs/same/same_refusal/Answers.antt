@@ -5,14 +5,14 @@ use Rattle.rb_money.specs.contracts.refusal.Cause.{enum as cause_enum}
 use Rattle.rb_money.specs.contracts.refusal.CausePartialEq.TheImpl.{ghosts as cause_ghosts}
 use Rattle.rb_money.specs.contracts.refusal.Refusal.{enum}
 use Rattle.rb_money.specs.contracts.refusal.RefusalPartialEq.TheImpl.{ghosts}
-use Rattle.rb_site.proofs.Variants.{Tells, enum_tells, none, number, two}
+use Rattle.rb_site.proofs.Variants.{IsEquality, enum_equality, none, number, two}
 use Rattle.rb_site.proofs.same.same_refusal.Goals as goal
 
-cause_tells : Tells cause_ghosts.eq
-cause_tells = enum_tells cause_enum _ (none, (number, tt))
+cause_equality : IsEquality cause_ghosts.eq
+cause_equality = enum_equality cause_enum _ (none, (number, tt))
 
-tells : Tells ghosts.eq
-tells = enum_tells enum _ (
+equality : IsEquality ghosts.eq
+equality = enum_equality enum _ (
   none,
   (
     none,
@@ -39,7 +39,7 @@ tells = enum_tells enum _ (
                         (
                           none,
                           (
-                            two ◌==◌ cause_ghosts.eq unsigned_Decides cause_tells,
+                            two ◌==◌ cause_ghosts.eq unsigned_Decides cause_equality,
                             (none, (none, (none, (number, (none, (none, (none, (none, (none, (none, (none, tt))))))))))),
                           ),
                         ),
@@ -59,4 +59,4 @@ tells = enum_tells enum _ (
 pub returns : goal.returns
 returns c =
     let h : c.eq.result ≡ ghosts.eq c.args.first.now c.args.second.now = c.eq.ensures in
-    (λ e. (tells c.args.first.now c.args.second.now).0 (sym h ∙ e), λ e. h ∙ (tells c.args.first.now c.args.second.now).1 e)
+    (λ e. (equality c.args.first.now c.args.second.now).0 (sym h ∙ e), λ e. h ∙ (equality c.args.first.now c.args.second.now).1 e)

@@ -15,8 +15,8 @@ use Rattle.rb_site.proofs.site.Site.close.Goals as goal
 settings : (c : goal.After-close-entries) → c.self.inside.state.settings ≡ c.args.self.settings
 settings c = (c.self.invariant.0).settings ∙ ap (λ (x : SeenSite). x.settings) c.self.view_is
 
-stands : (c : goal.After-close-entries) → c.self.inside.state.site ≡ without_history (state_of c.args.self)
-stands c = (c.self.invariant.0).site ∙ ap (λ (x : SeenSite). without_history (state_of x)) c.self.view_is
+site_is : (c : goal.After-close-entries) → c.self.inside.state.site ≡ without_history (state_of c.args.self)
+site_is c = (c.self.invariant.0).site ∙ ap (λ (x : SeenSite). without_history (state_of x)) c.self.view_is
 
 map-id : (xs : List Entry) → map (λ x. x) xs ≡ xs
 map-id [] = refl
@@ -33,14 +33,14 @@ returns c =
       balances =
           c.filled-balances.ensures.balances
           ∙ ap (λ s. balances_of s c.ledger.result.now.entries) (c.ledger.ensures.settings ∙ settings c)
-          ∙ ap (balances_of c.args.self.settings) (c.ledger.ensures.entries ∙ ap (λ (t : ModelSite). t.ops) (stands c));
-      entries = c.close-entries.ensures.entries ∙ ap (λ (t : ModelSite). t.ops) (stands c);
-      counts = c.filled-balances.ensures.counts ∙ ap counts_of (c.ledger.ensures.entries ∙ ap (λ (t : ModelSite). t.ops) (stands c));
-      clock = c.close-entries.ensures.clock ∙ ap (λ (t : ModelSite). clock_of t.ops) (stands c);
-      token_me = c.close-entries.ensures.me ∙ ap (λ (t : ModelSite). t.me) (stands c);
+          ∙ ap (balances_of c.args.self.settings) (c.ledger.ensures.entries ∙ ap (λ (t : ModelSite). t.ops) (site_is c));
+      entries = c.close-entries.ensures.entries ∙ ap (λ (t : ModelSite). t.ops) (site_is c);
+      counts = c.filled-balances.ensures.counts ∙ ap counts_of (c.ledger.ensures.entries ∙ ap (λ (t : ModelSite). t.ops) (site_is c));
+      clock = c.close-entries.ensures.clock ∙ ap (λ (t : ModelSite). clock_of t.ops) (site_is c);
+      token_me = c.close-entries.ensures.me ∙ ap (λ (t : ModelSite). t.me) (site_is c);
       token_sites = c.close-entries.ensures.sites ∙ ap (λ (s : Settings). s.sites) (settings c);
       token_limits = c.close-entries.ensures.limits ∙ ap (λ (s : Settings). s.limits) (settings c);
-      token = c.close-entries.ensures.token ∙ ap (λ (t : ModelSite). t.token) (stands c);
+      token = c.close-entries.ensures.token ∙ ap (λ (t : ModelSite). t.token) (site_is c);
       waiting = c.waiting-waiting.ensures;
       history = history c;
     }

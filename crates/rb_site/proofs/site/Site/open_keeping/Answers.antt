@@ -19,9 +19,9 @@ opened f xs s me now none same at =
     ∙ ap (λ t. seen_as s t.me []) at
 
 -- its history replays, and its state is what the run of that leads to
-stands : (s : Settings) (me : ℕ) (now : SiteState) → me < s.sites → now.settings ≡ s → now.site ≡ first_site me →
+as_opened : (s : Settings) (me : ℕ) (now : SiteState) → me < s.sites → now.settings ≡ s → now.site ≡ first_site me →
     IsStanding (first_seen s me) now
-stands s me now within same at = record {
+as_opened s me now within same at = record {
   kept = record { within = within; replays = tt; room = omega arith };
   settings = same;
   site = at;
@@ -43,7 +43,7 @@ invariant_of-result g c = (
   let P : SeenSite → Type 0 = λ x. IsStanding x c.in_ok-state.state in
       subst P (sym (opened g.E.KeepsEntry.entry c.new.result.items c.args.config.now c.args.me c.in_ok-state.state c.new.ensures.items
       c.in_ok-state.ensures.0 c.in_ok-state.ensures.1))
-      (stands c.args.config.now c.args.me c.in_ok-state.state c.requires c.in_ok-state.ensures.0 c.in_ok-state.ensures.1),
+      (as_opened c.args.config.now c.args.me c.in_ok-state.state c.requires c.in_ok-state.ensures.0 c.in_ok-state.ensures.1),
   λ keeps. enough c.in_ok-room.room c.args.config.now c.args.me c.in_ok-state.state
       (subst (λ n. n ≤ c.in_ok-room.room.accounts) (c.len.ensures.starts ∙ ap length c.accounts.ensures.starts)
       (c.in_ok-room.ensures (c.KEEPS.ensures ∙ keeps)))

@@ -39,8 +39,8 @@ enough_more old new now more same enough = record {
 }
 
 -- what is noted of the answer's reply, where it says another that is equal
-noted_as : (keeps now : Bool) (a : Answer) (told : Reply) → Says keeps a told → keeps ≡ now → IsNoted now a.reply a.noted
-noted_as keeps now a told says same =
+noted_as : (keeps now : Bool) (a : Answer) (reply : Reply) → Says keeps a reply → keeps ≡ now → IsNoted now a.reply a.noted
+noted_as keeps now a reply says same =
     subst (λ k. IsNoted k a.reply a.noted) same (subst (λ r. IsNoted keeps r a.noted) (sym says.0) says.1)
 
 the_step : (g : Over) (c : goal.After-push_reserved g) → IsStep (seen_as c.self.inside.state.settings c.self.inside.state.site.me

@@ -2,11 +2,11 @@
 use Rattle.std.proofs.Common.{◌∙◌, ap}
 use Rattle.rb_statements.specs.Statements.{balance_as_of}
 use Rattle.rb_site.specs.States.{SiteState}
-use Rattle.rb_site.proofs.Handlers.{refuses_as_of, tells_as_of}
+use Rattle.rb_site.proofs.Handlers.{refuses_as_of, answers_as_of}
 use Rattle.rb_site.proofs.state.State.as_of.Goals as goal
 
 pub returns-in-Ok : goal.returns-in-Ok
-returns-in-Ok c = tells_as_of c.args.self.now c.args.place c.args.position c.in-Ok.cents c.plain.result
+returns-in-Ok c = answers_as_of c.args.self.now c.args.place c.args.position c.in-Ok.cents c.plain.result
     (c.in-Ok.ensures ∙ ap (λ (z : SiteState). balance_as_of z.settings z.site.ops c.args.place c.args.position) c.self.view_is)
     c.plain.ensures
 
