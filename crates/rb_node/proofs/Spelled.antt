@@ -48,14 +48,16 @@ memory_fault (Err x) h = inr h
 
 -- ---- lines
 
--- lists that a comparison found equal, and lists that it found to differ
+-- a negated test that is false passed
 passed : (b : Bool) → false ≡ not b → b ≡ true
 passed true h = cc
 passed false h = absurd (cc)
 
+-- texts that a comparison found to be equal are
 pub same_bytes : (xs ys : List ℕ) → false ≡ not (pointwise eqb xs ys) → xs ≡ ys
 same_bytes xs ys h = (bytes_decides xs ys).0 (passed (pointwise eqb xs ys) h)
 
+-- texts that it found to differ do
 pub other_bytes : (xs ys : List ℕ) → true ≡ not (pointwise eqb xs ys) → xs ≢ ys
 other_bytes xs ys h = λ e. let same : not (pointwise eqb xs ys) ≡ false = ap not ((bytes_decides xs ys).1 e) in cc
 
@@ -71,8 +73,9 @@ written_for inside old config me x empty out seen settings number none added =
 -- a line that is the entry's is read as the entry
 pub back : (s : Settings) (me : ℕ) (x : Entry) (line : List ℕ) → entry_on s line ≡ Some (me, x)
     → line ≡ compact_text (entry_json s me x) → IsReadBack s me x
-back s me x line on told = ap (entry_on s) (sym told) ∙ on
+back s me x line on spelled = ap (entry_on s) (sym spelled) ∙ on
 
+-- two values that are there are equal where their options are
 some_is : {A : Type 0} (x y : A) → Some x ≡ Some y → x ≡ y
 some_is x y e = cc
 
@@ -83,8 +86,8 @@ one_entry o me x y e f = ap (λ (q : ℕ × Entry). q.1) (some_is _ _ (sym f ∙
 -- a line that isn't the entry's which it is read as is no entry's
 pub no_other : (s : Settings) (me : ℕ) (x : Entry) (line : List ℕ) → entry_on s line ≡ Some (me, x)
     → line ≢ compact_text (entry_json s me x) → (y : Entry) → entry_on s line ≡ Some (me, y) → line ≢ compact_text (entry_json s me y)
-no_other s me x line on other y read = λ told.
-    other (told ∙ ap (λ z. compact_text (entry_json s me z)) (one_entry (entry_on s line) me x y on read))
+no_other s me x line on other y read = λ spelled.
+    other (spelled ∙ ap (λ z. compact_text (entry_json s me z)) (one_entry (entry_on s line) me x y on read))
 
 -- ---- replays
 

@@ -11,7 +11,7 @@ use Rattle.rb_lines.specs.declared.no_line.NoLine.TheVariants.{Write}
 use Rattle.rb_run_audit.specs.Collects.{HasEachSite, InputEndsAt, Takes}
 use Rattle.rb_run_audit.specs.Run.{CollectsAs}
 use Rattle.rb_run_audit.proofs.Follows.{FollowsKnown, known_end, known_fault, known_line, known_none, known_read, known_start, not_read}
-use Rattle.rb_run_audit.proofs.Follows.{not_write, told, told_as, why_read, why_write}
+use Rattle.rb_run_audit.proofs.Follows.{not_write, reported, reported_as, why_read, why_write}
 use Rattle.rb_run_audit.proofs.Buffered.{no_write, nothing_sent}
 use Rattle.rb_run_audit.proofs.Counted.{few_calls, less_left, next_number, ok_is_no_err, once_taken, same_reason, short_line}
 use Rattle.rb_run_audit.proofs.run.collect.Goals as goal
@@ -98,8 +98,8 @@ returns-in-Err g c =
     let next = c.in-Err.ensures in
     let not_written : c.in-Err.why ≢ Write =
     no_write c.in-Err.why c.lines.buffers.buffered.items c.lines.invariant.buffered (λ e. next.nothing (ap Err e)) in
-    let is : c.fault_of.result ≡ told c.in-Err.why c.lines.collected.number =
-    told_as c.in-Err.why c.lines.collected.number c.fault_of.result c.fault_of.ensures.long c.fault_of.ensures.read
+    let is : c.fault_of.result ≡ reported c.in-Err.why c.lines.collected.number =
+    reported_as c.in-Err.why c.lines.collected.number c.fault_of.result c.fault_of.ensures.long c.fault_of.ensures.read
     c.fault_of.ensures.write c.fault_of.ensures.memory in
     record {
       written = (nothing_sent (g.W.Sink.contents c.args.writer.now) (g.W.Sink.contents c.lines.writer)

@@ -27,7 +27,7 @@ returns-then-ne c =
     record {
       replayed = tt;
       bad = λ e. (
-        λ told. other_bytes c.as_slice.result.now c.args.line.now c.if-ne.ensures (c.as_slice.ensures.value ∙ written ∙ sym told),
+        λ spelled. other_bytes c.as_slice.result.now c.args.line.now c.if-ne.ensures (c.as_slice.ensures.value ∙ written ∙ sym spelled),
         c.self.view_is,
       );
       wrong = other_fault _ BadLine WrongReply refl refl;
@@ -41,12 +41,12 @@ returns c =
     let seen : c.self.inside.site ≡ old = ap (λ (v : SeenNode). v.site) c.self.view_is in
     let written = written_for c.self.inside.site old c.self.inside.config c.me.result x c.clear.new.self.items
     c.append_line.new.out.items seen c.self.invariant c.me.ensures.same c.clear.ensures.items c.in_ok-append_line.ensures.ok in
-    let told : c.args.line.now ≡ compact_text (entry_json old.settings old.me x) =
+    let spelled : c.args.line.now ≡ compact_text (entry_json old.settings old.me x) =
     sym (same_bytes c.as_slice.result.now c.args.line.now c.if-ne.ensures) ∙ c.as_slice.ensures.value ∙ written in
     let replay = c.replay_entry in
     record {
-      replayed = beside replay.result c.self.inside.site old replay.new.self x seen told replay.ensures.replayed;
+      replayed = beside replay.result c.self.inside.site old replay.new.self x seen spelled replay.ensures.replayed;
       bad = λ e. absurd (not_bad replay.result replay.ensures.refusals e);
-      wrong = λ e. (told, subst (λ (y : SeenSite). IsWrong y x) seen (replay.ensures.wrong e));
+      wrong = λ e. (spelled, subst (λ (y : SeenSite). IsWrong y x) seen (replay.ensures.wrong e));
       refusals = entry_fault replay.result replay.ensures.refusals;
     }

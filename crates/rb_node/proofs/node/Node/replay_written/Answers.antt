@@ -11,7 +11,7 @@ returns-in_err-entry c =
     let ended = ended_by c.from_residual.result why c.from_residual.ensures.1 in
     record {
       replayed = no_value c.from_residual.result _ c.from_residual.ensures.0;
-      bad = λ e. (λ x on told. known.0 (err_is c.from_residual.result why BadLine ended e) x on, refl);
+      bad = λ e. (λ x on spelled. known.0 (err_is c.from_residual.result why BadLine ended e) x on, refl);
       wrong = λ e. absurd (known.2 (err_is c.from_residual.result why WrongReply ended e));
       refusals = fault_of c.from_residual.result why c.from_residual.ensures.1 known.1;
     }
