@@ -45,11 +45,10 @@ impl Deps {
 fn are_within(entries: &[u32], sites: u8, limit: u32) -> bool
     ensures { result ≡ are_entries sites limit entries.now }
 {
+    let mut fits = true;
     for (site, n) in entries.iter().enumerate() {
         let most = if site < usize::from(sites) { limit } else { 0 };
-        if *n > most {
-            return false;
-        }
+        fits &= *n <= most;
     }
-    true
+    fits
 }

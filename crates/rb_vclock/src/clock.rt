@@ -105,14 +105,15 @@ fn has_entry(name: OpName) -> bool
     }
 }
 
+/// Each pair is looked at, as several pairs are compared at once.
+#[inline(always)]
 fn are_at_least(entries: &[u32], others: &[u32]) -> bool
     requires { length others.now ≡ length entries.now }
     ensures { IsTrue result ↔ ((i : ℕ) → slice_index others.now i ≤ slice_index entries.now i) }
 {
+    let mut fits = true;
     for (entry, other) in entries.iter().zip(others) {
-        if entry < other {
-            return false;
-        }
+        fits &= *entry >= *other;
     }
-    true
+    fits
 }
