@@ -5,7 +5,7 @@ use Rattle.std.specs.Prelude.{nat_lt, Option, Some, None, filter, insert, remove
 use Rattle.std.specs.List.Sorted.{IsPartitionedBy, IsPartitionPoint}
 use Rattle.std.proofs.lemmas.Bool.Decides.{nat_tests}
 use Rattle.std.proofs.lemmas.List.{drop_all, drop_more}
-use Rattle.rb_shadow.specs.Operations.{Among, find_in, same_name}
+use Rattle.rb_shadow.specs.Operations.{Among, find_in, number_of, row_of, same_name}
 use Rattle.rb_shadow.specs.declared.op_name.OpName.{OpName}
 use Rattle.rb_shadow.specs.declared.op_name.OpName.TheVariants.{Blue, Red}
 use Rattle.rb_shadow.specs.declared.shadow.Shadow.{Shadow}
@@ -217,6 +217,40 @@ parted (u ∷ us) x h zero (suc j) d up l e = before-trans u.name (get_or us j d
 parted (u ∷ us) x h (suc i) zero d up l e = absurd (omega arith)
 parted (u ∷ us) x h (suc i) (suc j) d up l e = parted us x h.1 i j d (omega arith) (omega arith) e
 
+-- in one row the order of the names is that of their numbers
+pub by_number : (x y : OpName) → row_of x ≡ row_of y → comes_before x y ≡ nat_lt (number_of x) (number_of y)
+by_number (Blue i m) (Blue j n) e = grind (arith, nat_tests)
+by_number (Blue i m) (Red n) e = absurd (omega arith)
+by_number (Red m) (Blue j n) e = absurd (omega arith)
+by_number (Red m) (Red n) e = refl
+
+-- the operations are in the row of the name
+abbrev pub AreInRow : List Shadow → OpName → Type 0
+AreInRow us x = (u : Shadow) → Among u us → row_of u.name ≡ row_of x
+
+-- what is read from the list is in the row, so its name comes before the other where its number does
+pub read-number : (us : List Shadow) (x : OpName) (i : ℕ) (d : Shadow) → AreInRow us x → i < length us →
+    comes_before (get_or us i d).name x ≡ nat_lt (number_of (get_or us i d).name) (number_of x)
+read-number [] x i d row l = absurd (omega arith)
+read-number (u ∷ us) x zero d row l = by_number u.name x (row u (inl refl))
+read-number (u ∷ us) x (suc i) d row l = read-number us x i d (λ w a. row w (inr a)) (omega arith)
+
+-- a row is parted by a number
+pub parted-number : (us : List Shadow) (x : OpName) → IsInOrder us → AreInRow us x →
+    IsPartitionedBy (λ (u : Shadow). nat_lt (number_of u.name) (number_of x)) us
+parted-number us x h row i j d up l e =
+    sym (read-number us x i d row (omega arith)) ∙ parted us x h i j d up l (read-number us x j d row l ∙ e)
+
+-- where the first of a row has no smaller number, none is before the name
+pub none-before : (us : List Shadow) (x : OpName) (n : ℕ) (d : Shadow) → AreInRow us x → 0 < length us →
+    n ≡ number_of (get_or us 0 d).name → number_of x ≤ n → 0 ≡ held_before us x
+none-before [] x n d row l e h = absurd (omega arith)
+none-before (u ∷ us) x n d row l e h =
+    ap (λ b. cond b (suc (held_before us x)) 0) (sym (by_number u.name x (row u (inl refl)) ∙ at))
+  where
+    at : nat_lt (number_of u.name) (number_of x) ≡ false
+    at = grind (arith, nat_tests)
+
 -- where the last of them is before the name, all are
 pub all-before : (us : List Shadow) (x : OpName) (i : ℕ) (d : Shadow) → IsInOrder us → suc i ≡ length us →
     comes_before (get_or us i d).name x ≡ true → length us ≡ held_before us x
@@ -242,6 +276,15 @@ point-index (u ∷ us) x (suc i) l h =
       λ k d low high. h.1 (suc k) d (omega arith) (omega arith),
     ))
     ∙ ap (λ b. cond b (suc (held_before us x)) 0) (sym (h.0 0 u (omega arith) (omega arith)))
+
+-- the point where a row is parted by a number is the place of its name
+pub point-number : (us : List Shadow) (x : OpName) (i : ℕ) → AreInRow us x → i ≤ length us
+    → IsPartitionPoint (λ (u : Shadow). nat_lt (number_of u.name) (number_of x) ≡ true)
+    (λ (u : Shadow). nat_lt (number_of u.name) (number_of x) ≡ false) us i → i ≡ held_before us x
+point-number us x i row l h = point-index us x i l (
+  λ k d low high. read-number us x k d row (omega arith) ∙ h.0 k d low high,
+  λ k d low high. read-number us x k d row (omega arith) ∙ h.1 k d low high,
+)
 
 -- ---- what is held, by its name
 

@@ -6,8 +6,7 @@ ghost use Rattle.std.specs.Option.{option_copied};
 ghost use Rattle.rb_shadow.specs.Operations.{Among, find_in, is_blue_of, is_red, row_of};
 ghost use Rattle.rb_shadow.specs.declared.shadow.Shadow.{Shadow};
 ghost use Rattle.rb_inbox.specs.Held.{HoldsReady, HoldsWaiting, IsInConflict, IsInOrder, IsNumbered, IsReady};
-ghost use Rattle.rb_inbox.specs.Held.{IsTooMany, IsWelcome, comes_before, held_before, index_in_row, with_held};
-ghost use Rattle.rb_inbox.specs.Held.{without};
+ghost use Rattle.rb_inbox.specs.Held.{IsTooMany, IsWelcome, held_before, index_in_row, with_held, without};
 ghost use Rattle.rb_inbox.specs.Rows.{IsHeldRow};
 
 use crate::PutAnswer;
@@ -234,6 +233,7 @@ impl Inbox {
         ensures held { result.now ≡ filter (λ u. row_of u.name == index) self.now.held }
         ensures in_order { IsInOrder result.now }
         ensures numbered { (u : Shadow) → Among u result.now → IsNumbered u }
+        ensures placed { (u : Shadow) → Among u result.now → row_of u.name ≡ index }
     {
         match self.rows.get(index) {
             Some(row) => row.as_slice(),
@@ -272,32 +272,23 @@ fn ready_in(row: &[Shadow], clock: &Clock) -> Option<OpName>
     None
 }
 
-/// The index of the shadow of the name, or the one at which it would be put. Both ends are looked at first, since it is
-/// mostly there.
+/// The index, in its row, of the shadow of the name, or the one at which it would be put. Both ends are looked at first,
+/// since it is mostly there.
 fn index_of(shadows: &[Shadow], name: OpName) -> usize
-    requires { IsInOrder shadows.now }
+    requires order { IsInOrder shadows.now }
+    requires placed { (u : Shadow) → Among u shadows.now → row_of u.name ≡ row_of name }
     ensures index { result ≡ held_before shadows.now name }
     ensures bound { result ≤ length shadows.now }
 {
     let Some(last) = shadows.last() else {
         return 0;
     };
-    if comes_before(last.name, name) {
+    let number = name.number();
+    if last.name.number() < number {
         return shadows.len();
     }
-    if !comes_before(shadows[0].name, name) {
+    if number <= shadows[0].name.number() {
         return 0;
     }
-    shadows.partition_point(|held| comes_before(held.name, name))
-}
-
-fn comes_before(first: OpName, second: OpName) -> bool
-    ensures { result ≡ comes_before first second }
-{
-    match (first, second) {
-        (OpName::Blue { site: i, n: m }, OpName::Blue { site: j, n }) => i < j || (i == j && m < n),
-        (OpName::Blue { .. }, OpName::Red { .. }) => true,
-        (OpName::Red { .. }, OpName::Blue { .. }) => false,
-        (OpName::Red { n: m }, OpName::Red { n }) => m < n,
-    }
+    shadows.partition_point(|held| held.name.number() < number)
 }

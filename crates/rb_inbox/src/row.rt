@@ -49,6 +49,10 @@ impl Row {
         ensures ok { OnOk result (self.new ≡ insert self.old index shadow) }
         ensures err { OnErr result (self.new ≡ self.old) }
     {
+        if self.free + index == self.slots.len() {
+            self.slots.push(shadow)?;
+            return Ok(());
+        }
         if index == 0 {
             return self.insert_first(shadow);
         }
@@ -93,7 +97,9 @@ impl Row {
     {
         let count = self.slots.len() - self.free;
         if self.free > 2 * count {
-            self.slots.rotate_left(self.free);
+            if count > 0 {
+                self.slots.rotate_left(self.free);
+            }
             self.slots.truncate(count);
             self.free = 0;
         }

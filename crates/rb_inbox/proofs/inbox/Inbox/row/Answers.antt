@@ -33,3 +33,7 @@ returns-in-None-clause-held c =
     sym (get_or_past c.self.inside.rows.items c.args.index [] past)
     ∙ row_is c.self.inside.rows.items c.args.index c.self.invariant.each
     ∙ ap (λ (b : Holding). filter (is_of c.args.index) b.held) c.self.view_is
+
+pub returns-in-Some-clause-placed : goal.returns-in-Some-clause-placed
+returns-in-Some-clause-placed c = λ u a. (row_at c.self.inside.rows.items c.args.index c.self.invariant.each).placed u
+    (subst (Among u) (there c) a)
