@@ -1,9 +1,11 @@
 //! What changes a ledger.
 ghost use Rattle.std.specs.Prelude.{◌≡◌, ◌≤◌, ◌<◌, ◌+◌, length, Some, None, List, [], ◌∷◌, ◌++◌, ◌⊎◌, OnOk, OnErr};
-ghost use Rattle.std.specs.Prelude.{IfOk, IfErr};
+ghost use Rattle.std.specs.Prelude.{IfOk, IfErr, true};
+ghost use Rattle.rb_shadow.specs.Operations.{is_eligible};
+ghost use Rattle.rb_shadow.specs.Sound.{IsSound};
 ghost use Rattle.rb_shadow.specs.declared.shadow.Shadow.{Shadow as TheShadow};
 ghost use Rattle.rb_ledger.specs.Valid.{IsValid, parts_of};
-ghost use Rattle.rb_ledger.specs.Checks.{refusal_of};
+ghost use Rattle.rb_ledger.specs.Checks.{refusal_of, refusal_of_sound};
 
 use crate::Ledger;
 use rb_money::Refusal;
@@ -45,13 +47,55 @@ impl Ledger {
         ensures room { OnOk result (0 < self.old.room → self.new.room + 1 ≡ self.old.room) }
         ensures err { OnErr result ((self.new ≡ self.old) × (self.old.room ≡ 0)) }
     {
-        self.make_room()?;
         let parts = self.index.parts(&self.entries, &shadow);
-        let links = self.links_of(&shadow, &parts);
-        self.index.push(&self.entries, &shadow, &parts, &links);
-        self.links.push_reserved(links);
-        self.entries.push_reserved(shadow);
+        self.append(&shadow)?;
         Ok(Undo::new(parts))
+    }
+
+    /// Adds a shadow that is to stay at the end, as `apply` does, but without a record to undo it. It is sound by
+    /// itself, and all that its home had applied was applied here. The refusal is that of `check`, or else
+    /// `OutOfMemory`.
+    pub fn apply_ready(&mut self, shadow: &Shadow) -> Result<(), Refusal>
+        requires sound { IsSound self.old.settings shadow.now }
+        requires eligible { is_eligible self.old.entries shadow.now ≡ true }
+        ensures applied { OnOk result (self.new.entries ≡ self.old.entries ++ shadow.now ∷ []) }
+        ensures taken { OnOk result (refusal_of_sound self.old.settings self.old.entries shadow.now ≡ None) }
+        ensures settings { self.new.settings ≡ self.old.settings }
+        ensures room { OnOk result (0 < self.old.room → self.new.room + 1 ≡ self.old.room) }
+
+        ensures refused { OnErr result (self.new ≡ self.old) }
+        ensures reason { IfErr result (λ why.
+            (refusal_of_sound self.old.settings self.old.entries shadow.now ≡ Some why)
+            ⊎ ((why ≡ Refusal.OutOfMemory) × (refusal_of_sound self.old.settings self.old.entries shadow.now ≡ None)
+            × (self.old.room ≡ 0))) }
+    {
+        // For a fact alone: the operations are a valid list.
+        let _config = self.config();
+        if let Some(refusal) = self.refusal_of_ready(shadow) {
+            return Err(refusal);
+        }
+        match self.append(shadow) {
+            Ok(()) => Ok(()),
+            Err(AllocError) => Err(Refusal::OutOfMemory),
+        }
+    }
+
+    /// Adds a shadow that keeps the list valid, and is to stay, at the end, without checking that again: as
+    /// `apply_valid` does, but without a record to undo it. An error means out of memory.
+    pub fn append(&mut self, shadow: &Shadow) -> Result<(), AllocError>
+        requires { IsValid self.old.settings (self.old.entries ++ shadow.now ∷ []) }
+        ensures applied { OnOk result (self.new.entries ≡ self.old.entries ++ shadow.now ∷ []) }
+        ensures settings { self.new.settings ≡ self.old.settings }
+        ensures room { OnOk result (0 < self.old.room → self.new.room + 1 ≡ self.old.room) }
+        ensures err { OnErr result ((self.new ≡ self.old) × (self.old.room ≡ 0)) }
+    {
+        self.make_room()?;
+        let parts = self.index.parts(&self.entries, shadow);
+        let links = self.links_of(shadow, &parts);
+        self.index.push(&self.entries, shadow, &parts, &links);
+        self.links.push_reserved(links);
+        self.entries.push_reserved(*shadow);
+        Ok(())
     }
 
     /// Takes the last entry out again. The record is that of this entry.
@@ -91,6 +135,7 @@ impl Ledger {
     }
 
     /// Takes memory for one more entry where there is no spare capacity. `Err` means out of memory.
+    #[inline(always)]
     fn make_room(&mut self) -> Result<(), AllocError>
         ensures settings { self.new.settings ≡ self.old.settings }
         ensures entries { self.new.entries ≡ self.old.entries }
@@ -106,6 +151,7 @@ impl Ledger {
     }
 
     /// Takes memory for `limit` entries in all. `Err` means out of memory.
+    #[cold]
     fn grow(&mut self, limit: usize) -> Result<(), AllocError>
         requires { length self.old.entries + self.old.room ≤ limit }
         ensures settings { self.new.settings ≡ self.old.settings }

@@ -118,6 +118,7 @@ impl Index {
     }
 
     /// What is kept to undo a shadow that may follow, as the next operation after those before.
+    #[inline(always)]
     pub fn parts(&self, before: &[Shadow], shadow: &Shadow) -> UndoParts
         requires index { IsIndex self.now.config before.now self.now }
         requires longer { IsValid self.now.config (before.now ++ shadow.now ∷ []) }
@@ -140,6 +141,7 @@ impl Index {
 
     /// Takes in an operation after those before, in spare capacity. The parts are what is kept to undo it,
     /// the links its links.
+    #[inline(always)]
     pub fn push(&mut self, before: &[Shadow], shadow: &Shadow, parts: &UndoParts, links: &Links)
         requires index { IsIndex self.old.config before.now self.old }
         requires longer { IsValid self.old.config (before.now ++ shadow.now ∷ []) }

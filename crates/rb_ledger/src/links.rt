@@ -71,6 +71,7 @@ impl Ledger {
     }
 
     /// The links of a shadow as the next entry, with what is kept to undo it.
+    #[inline(always)]
     pub(crate) fn links_of(&self, shadow: &Shadow, parts: &UndoParts) -> Links
         requires configured { IsConfigured self.now.settings }
         requires valid { IsValid self.now.settings (self.now.entries ++ shadow.now ∷ []) }

@@ -5,8 +5,7 @@ use Rattle.rb_ledger.specs.Index.{IsIndex, IsLinked}
 use Rattle.rb_ledger.proofs.ChainFacts
 use Rattle.rb_ledger.proofs.Indexed
 use Rattle.rb_ledger.specs.Valid.{IsValid, parts_of}
-use Rattle.std.proofs.lemmas.Result.{IfOk-from_err}
-use Rattle.rb_ledger.proofs.ledger.Ledger.apply_valid.Goals as goal
+use Rattle.rb_ledger.proofs.ledger.Ledger.append.Goals as goal
 
 pub links_of-links-requires-clause-configured : goal.links_of-links-requires-clause-configured
 links_of-links-requires-clause-configured c = subst (λ (b : Book). IsConfigured b.settings) c.self.view_is
@@ -14,15 +13,15 @@ links_of-links-requires-clause-configured c = subst (λ (b : Book). IsConfigured
 
 pub invariant_of-self : goal.invariant_of-self
 invariant_of-self c =
-    let links = subst (λ (b : Book). IsLinked b.settings b.entries c.args.shadow c.links_of-links.result) (sym c.self.view_is)
+    let links = subst (λ (b : Book). IsLinked b.settings b.entries c.args.shadow.now c.links_of-links.result) (sym c.self.view_is)
     c.links_of-links.ensures in
     let free : c.self.inside.index.rows.limit - vec_len c.self.inside.entries ≡ c.make_room.new.self.room =
     ap (λ (b : Book). b.room) c.self.view_is in
     let room = c.self.invariant.room in
     record {
-      index = subst (λ us. IsIndex c.push.new.self.config us c.push.new.self) (ap (λ us. us ++ c.args.shadow ∷ []) c.deref-2.ensures.value
+      index = subst (λ us. IsIndex c.push.new.self.config us c.push.new.self) (ap (λ us. us ++ c.args.shadow.now ∷ []) c.deref-2.ensures.value
           ∙ sym c.push_reserved-2.ensures.items) (Indexed.own _ _ _ c.push.ensures.index);
-      links = ChainFacts.links_moved _ _ _ _ _ _ (ChainFacts.links_push _ _ c.args.shadow _ _ c.self.invariant.links links)
+      links = ChainFacts.links_moved _ _ _ _ _ _ (ChainFacts.links_push _ _ c.args.shadow.now _ _ c.self.invariant.links links)
           c.push.ensures.index.config c.push_reserved-2.ensures.items c.push_reserved.ensures.items;
       room = record {
         within = omega (arith, c.push_reserved-2.ensures.len, c.push.ensures.limit, free, c.in_ok-make_room.ensures.ok);
@@ -36,14 +35,14 @@ pub parts-parts-requires-clause-longer : goal.parts-parts-requires-clause-longer
 parts-parts-requires-clause-longer c =
     let settings = ap (λ (b : Book). b.settings) c.self.view_is ∙ c.in_ok-make_room.ensures.settings in
     let entries = c.deref.ensures.value ∙ ap (λ (b : Book). b.entries) c.self.view_is ∙ c.in_ok-make_room.ensures.entries in
-    subst (λ s. IsValid s (c.deref.result.now ++ c.args.shadow ∷ [])) (sym settings)
-    (subst (λ us. IsValid c.args.self.now.settings (us ++ c.args.shadow ∷ [])) (sym entries) c.requires)
+    subst (λ s. IsValid s (c.deref.result.now ++ c.args.shadow.now ∷ [])) (sym settings)
+    (subst (λ us. IsValid c.args.self.now.settings (us ++ c.args.shadow.now ∷ [])) (sym entries) c.requires)
 
 pub push-requires-clause-links : goal.push-requires-clause-links
 push-requires-clause-links c =
-    let links = subst (λ (b : Book). IsLinked b.settings b.entries c.args.shadow c.links_of-links.result) (sym c.self.view_is)
+    let links = subst (λ (b : Book). IsLinked b.settings b.entries c.args.shadow.now c.links_of-links.result) (sym c.self.view_is)
     c.links_of-links.ensures in
-    subst (λ us. IsLinked c.self.inside.index.config us c.args.shadow c.links_of-links.result) (sym c.deref-2.ensures.value) links
+    subst (λ us. IsLinked c.self.inside.index.config us c.args.shadow.now c.links_of-links.result) (sym c.deref-2.ensures.value) links
 
 pub push-requires-clause-rows : goal.push-requires-clause-rows
 push-requires-clause-rows c =
@@ -54,25 +53,19 @@ push-requires-clause-rows c =
 pub returns-clause-settings : goal.returns-clause-settings
 returns-clause-settings c = c.push.ensures.index.config ∙ ap (λ (b : Book). b.settings) c.self.view_is ∙ c.in_ok-make_room.ensures.settings
 
-pub returns-in_err-make_room-clause-applied : goal.returns-in_err-make_room-clause-applied
-returns-in_err-make_room-clause-applied c = IfOk-from_err c.from_residual.result _ c.from_residual.ensures.0
-
-pub returns-in_err-make_room-clause-room : goal.returns-in_err-make_room-clause-room
-returns-in_err-make_room-clause-room c = IfOk-from_err c.from_residual.result _ c.from_residual.ensures.0
-
 pub parts-parts-requires-clause-index : goal.parts-parts-requires-clause-index
 parts-parts-requires-clause-index c = subst (λ us. IsIndex c.self.inside.index.config us c.self.inside.index) (sym c.deref.ensures.value)
     c.self.invariant.index
 
 pub links_of-links-requires-clause-valid : goal.links_of-links-requires-clause-valid
 links_of-links-requires-clause-valid c =
-    subst (λ s. IsValid s (c.make_room.new.self.entries ++ c.args.shadow ∷ [])) (sym c.in_ok-make_room.ensures.settings)
-    (subst (λ us. IsValid c.args.self.now.settings (us ++ c.args.shadow ∷ [])) (sym c.in_ok-make_room.ensures.entries) c.requires)
+    subst (λ s. IsValid s (c.make_room.new.self.entries ++ c.args.shadow.now ∷ [])) (sym c.in_ok-make_room.ensures.settings)
+    (subst (λ us. IsValid c.args.self.now.settings (us ++ c.args.shadow.now ∷ [])) (sym c.in_ok-make_room.ensures.entries) c.requires)
 
 pub links_of-links-requires-clause-parts : goal.links_of-links-requires-clause-parts
 links_of-links-requires-clause-parts c =
-    c.parts-parts.ensures ∙ ap (λ us. parts_of c.self.inside.index.config us c.args.shadow) c.deref.ensures.value
-    ∙ ap (λ (b : Book). parts_of b.settings b.entries c.args.shadow) c.self.view_is
+    c.parts-parts.ensures ∙ ap (λ us. parts_of c.self.inside.index.config us c.args.shadow.now) c.deref.ensures.value
+    ∙ ap (λ (b : Book). parts_of b.settings b.entries c.args.shadow.now) c.self.view_is
 
 pub push-requires-clause-index : goal.push-requires-clause-index
 push-requires-clause-index c = subst (λ us. IsIndex c.self.inside.index.config us c.self.inside.index) (sym c.deref-2.ensures.value)
@@ -82,12 +75,12 @@ pub push-requires-clause-longer : goal.push-requires-clause-longer
 push-requires-clause-longer c =
     let settings = ap (λ (b : Book). b.settings) c.self.view_is ∙ c.in_ok-make_room.ensures.settings in
     let entries = c.deref-2.ensures.value ∙ ap (λ (b : Book). b.entries) c.self.view_is ∙ c.in_ok-make_room.ensures.entries in
-    subst (λ s. IsValid s (c.deref-2.result.now ++ c.args.shadow ∷ [])) (sym settings)
-    (subst (λ us. IsValid c.args.self.now.settings (us ++ c.args.shadow ∷ [])) (sym entries) c.requires)
+    subst (λ s. IsValid s (c.deref-2.result.now ++ c.args.shadow.now ∷ [])) (sym settings)
+    (subst (λ us. IsValid c.args.self.now.settings (us ++ c.args.shadow.now ∷ [])) (sym entries) c.requires)
 
 pub push-requires-clause-parts : goal.push-requires-clause-parts
 push-requires-clause-parts c = c.parts-parts.ensures
-    ∙ ap (λ us. parts_of c.self.inside.index.config us c.args.shadow) (c.deref.ensures.value ∙ sym c.deref-2.ensures.value)
+    ∙ ap (λ us. parts_of c.self.inside.index.config us c.args.shadow.now) (c.deref.ensures.value ∙ sym c.deref-2.ensures.value)
 
 pub push_reserved-requires : goal.push_reserved-requires
 push_reserved-requires c =
@@ -110,14 +103,9 @@ push_reserved-requires-2 c =
     omega (arith, free, c.in_ok-make_room.ensures.ok, c.self.invariant.room.entries)
 
 pub returns-clause-applied : goal.returns-clause-applied
-returns-clause-applied c = (
-  c.push_reserved-2.ensures.items
-      ∙ ap (λ us. us ++ c.args.shadow ∷ []) (ap (λ (b : Book). b.entries) c.self.view_is ∙ c.in_ok-make_room.ensures.entries),
-  c.new.ensures ∙ c.parts-parts.ensures ∙ ap (λ us. parts_of c.self.inside.index.config us c.args.shadow) c.deref.ensures.value
-      ∙ ap (λ (b : Book). parts_of b.settings b.entries c.args.shadow) c.self.view_is
-      ∙ ap (λ s. parts_of s c.make_room.new.self.entries c.args.shadow) c.in_ok-make_room.ensures.settings
-      ∙ ap (λ us. parts_of c.args.self.now.settings us c.args.shadow) c.in_ok-make_room.ensures.entries,
-)
+returns-clause-applied c =
+    c.push_reserved-2.ensures.items
+    ∙ ap (λ us. us ++ c.args.shadow.now ∷ []) (ap (λ (b : Book). b.entries) c.self.view_is ∙ c.in_ok-make_room.ensures.entries)
 
 pub returns-clause-room : goal.returns-clause-room
 returns-clause-room c = λ some.
