@@ -30,12 +30,14 @@ kind_tested (Cancel x) (Cancel y) = name_tested x y
 kind_tested (Transfer a) (Transfer b) = refl
 kind_tested _ _ = refl
 
--- two ways to put seven tests together
-other_way : (a b c d e f g : Bool) → (a && (b && ((c && d) && (e && (f && g))))) ≡ (a && b && c && d && e && f && g)
+-- two ways to put seven tests together, in two orders
+other_way : (a b c d e f g : Bool) → (a && (b && (e && ((c && d) && (f && g))))) ≡ (a && b && c && d && e && f && g)
 other_way false b c d e f g = refl
 other_way true false c d e f g = refl
-other_way true true false d e f g = refl
-other_way true true true false e f g = refl
+other_way true true false d false f g = refl
+other_way true true false d true f g = refl
+other_way true true true false false f g = refl
+other_way true true true false true f g = refl
 other_way true true true true false f g = refl
 other_way true true true true true false g = refl
 other_way true true true true true true g = refl

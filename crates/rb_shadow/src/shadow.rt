@@ -12,9 +12,9 @@ pub struct Shadow {
     pub name: OpName,
     /// The number of the site that made it, from 0.
     pub home: u8,
+    pub account: Place,
     /// What its home had applied when it was made.
     pub deps: Deps,
-    pub account: Place,
     /// In cents. A cancellation has its target's.
     pub amount: u64,
     pub kind: Kind,
