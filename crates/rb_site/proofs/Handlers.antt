@@ -1,6 +1,6 @@
 -- What each handler of a site does is what the event comes to.
 use Rattle.std.proofs.Common.{◌≡◌, ℕ, ◌≤◌, Bool, true, false, cond, not, ◌&&◌, ◌⊎◌, inl, inr, List, [], ◌∷◌, ◌++◌, length, refl, ap, sym}
-use Rattle.std.proofs.Common.{subst, ◌∙◌, arith, Option, Some, None, append-nil, Result, Ok, Err, IfOk, take}
+use Rattle.std.proofs.Common.{subst, ◌∙◌, arith, Option, Some, None, append-nil, Result, Ok, Err, OnOk, take}
 use Rattle.std.specs.Prelude.{nat_le, nat_lt, ◌==◌}
 use Rattle.std.proofs.lemmas.Bool.{eq-eqb, ne_eqb}
 use Rattle.std.proofs.lemmas.Bool.Decides.{nat_tests}
@@ -42,7 +42,7 @@ use Rattle.rb_site.specs.declared.message.Message.{Message}
 use Rattle.rb_site.specs.declared.message.Message.TheVariants.{Shadow as ShadowMessage, Token as TokenOnItsWay}
 use Rattle.rb_site.specs.Events.{ModelSite, Outcome, Refuses, Drops, Answers, Holds, Makes, Passes, outcome_of, outcome_of_check}
 use Rattle.rb_site.specs.Events.{outcome_of_new, reply_of, unless_known}
-use Rattle.rb_site.specs.States.{Follows, IsTied, Says, SiteState}
+use Rattle.rb_site.specs.States.{Follows, IsTied, Says, SiteState, noting, plain}
 
 -- what follows an outcome follows an equal one
 pub follows_as : (keeps : Bool) (old now : SiteState) (before after : List Message) (o p : Outcome) (a : Answer) → o ≡ p →
@@ -82,21 +82,31 @@ pub follows_plain : (keeps : Bool) (old now : SiteState) (before : List Message)
     Follows keeps old now before before o a
 follows_plain keeps old now before o a h = follows_silent keeps old now before o a (follows_less keeps old now [] [] o a h)
 
--- what a handler answers to an event is answered to an equal one, for any history
-pub handled : {E : Type 0} (keeps : Bool) (old now : SiteState) (before after : List Message) (d e : Event) (r : Result Answer E) → d ≡ e →
-    IfOk r (Follows true old now before after (outcome_of old.settings old.site e))
-    → IfOk r (Follows keeps old now before after (outcome_of old.settings old.site d))
-handled keeps old now before after d e (Ok a) same h = follows_less keeps old now before after _ a
-    (follows_as true old now before after _ _ a (ap (outcome_of old.settings old.site) same) h)
-handled keeps old now before after d e (Err why) same h = tt
+-- what follows with an answer follows with an equal one
+pub follows_with : (keeps : Bool) (old now : SiteState) (before after : List Message) (o : Outcome) (a b : Answer) → a ≡ b →
+    Follows keeps old now before after o b → Follows keeps old now before after o a
+follows_with keeps old now before after o a b e h = let P : Answer → Type 0 = λ x. Follows keeps old now before after o x in
+    subst P (sym e) h
+
+-- what a handler answers to an event is answered to an equal one, for any history, where nothing is noted
+pub handled : {A E : Type 0} (keeps : Bool) (old now : SiteState) (before after : List Message) (d e : Event) (r : Result A E)
+    (reply : Reply) (noted : Option Reply) → d ≡ e → noted ≡ None →
+    OnOk r (Follows true old now before after (outcome_of old.settings old.site e) (plain reply))
+    → OnOk r (Follows keeps old now before after (outcome_of old.settings old.site d) (noting reply noted))
+handled keeps old now before after d e (Ok a) reply noted same none h =
+    follows_with keeps old now before after _ _ (plain reply) (ap (noting reply) none) (follows_less keeps old now before after _ (plain reply)
+    (follows_as true old now before after _ _ (plain reply) (ap (outcome_of old.settings old.site) same) h))
+handled keeps old now before after d e (Err why) reply noted same none h = tt
 
 -- the same where nothing is sent
-pub handled_silent : {E : Type 0} (keeps : Bool) (old now : SiteState) (before : List Message) (d e : Event) (r : Result Answer E) → d ≡ e →
-    IfOk r (AnswersAlone old now (outcome_of old.settings old.site e))
-    → IfOk r (Follows keeps old now before before (outcome_of old.settings old.site d))
-handled_silent keeps old now before d e (Ok a) same h = follows_plain keeps old now before _ a
-    (answers_as old now _ _ a (ap (outcome_of old.settings old.site) same) h)
-handled_silent keeps old now before d e (Err why) same h = tt
+pub handled_silent : {A E : Type 0} (keeps : Bool) (old now : SiteState) (before : List Message) (d e : Event) (r : Result A E)
+    (reply : Reply) (noted : Option Reply) → d ≡ e → noted ≡ None →
+    OnOk r (AnswersAlone old now (outcome_of old.settings old.site e) (plain reply))
+    → OnOk r (Follows keeps old now before before (outcome_of old.settings old.site d) (noting reply noted))
+handled_silent keeps old now before d e (Ok a) reply noted same none h =
+    follows_with keeps old now before before _ _ (plain reply) (ap (noting reply) none) (follows_plain keeps old now before _ (plain reply)
+    (answers_as old now _ _ (plain reply) (ap (outcome_of old.settings old.site) same) h))
+handled_silent keeps old now before d e (Err why) reply noted same none h = tt
 
 -- a state by its parts
 abbrev pub state_as : Settings → ℕ → List Shadow → List Shadow → Token → SiteState

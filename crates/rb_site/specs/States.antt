@@ -1,5 +1,5 @@
 -- The state of a site between two events.
-use Rattle.std.specs.Prelude.{◌≡◌, ◌<◌, Bool, List, [], ◌++◌}
+use Rattle.std.specs.Prelude.{◌≡◌, ◌<◌, Bool, List, [], ◌++◌, Option, None}
 use Rattle.rb_money.specs.Settings.{Settings}
 use Rattle.rb_inbox.specs.Held.{Holding}
 use Rattle.rb_shadow.specs.declared.shadow.Shadow.{Shadow}
@@ -34,6 +34,14 @@ pub record IsTied (s : Settings) (inbox : Holding) (token : SeenToken) : Type 0 
   pub limits : token.limits ≡ s.limits
   pub limit : inbox.limit ≡ s.limits.inbox
   pub sound : (v : Shadow) → Among v inbox.held → IsSound s v
+
+-- the answer of a reply and of what is noted of it
+abbrev pub noting : Reply → Option Reply → Answer
+noting reply noted = record { reply = reply; noted = noted }
+
+-- the answer of a reply of which nothing is noted
+abbrev pub plain : Reply → Answer
+plain reply = noting reply None
 
 -- the answer has this reply, and what is noted of it for a history that keeps replies or doesn't
 abbrev pub Says : Bool → Answer → Reply → Type 0

@@ -1,13 +1,13 @@
 //! The state of a site between two events.
-ghost use Rattle.std.specs.Prelude.{◌≡◌, ◌<◌, ◌&&◌, [], true, nat_le, if◌then◌else◌, IfOk, OnErr};
+ghost use Rattle.std.specs.Prelude.{◌≡◌, ◌<◌, ◌&&◌, [], true, nat_le, if◌then◌else◌, IfOk, None, OnErr, OnOk};
 ghost use Rattle.rb_shadow.specs.Operations.{clock_of, same_shadow};
 ghost use Rattle.rb_ledger.specs.Records.{records_of};
 ghost use Rattle.rb_shadow.specs.Sound.{IsSound};
 ghost use Rattle.rb_scratch.specs.declared.request.TheConstants.{MOST_REQUESTS};
 ghost use Rattle.rb_site.specs.Events.{first_site, outcome_of, outcome_of_new};
-ghost use Rattle.rb_site.specs.States.{Follows, Says};
+ghost use Rattle.rb_site.specs.States.{Follows, Says, noting, plain};
 
-use crate::answer::Answer;
+use crate::answer::{Answer, give};
 use crate::journal::Journal;
 use crate::{Event, Message, Reply};
 use rb_inbox::{Inbox, PutAnswer};
@@ -129,51 +129,59 @@ impl State {
 
     #[inline(always)]
     #[tactic(auto, unfolding(crate::specs::Events::outcome_of))]
-    /// One event, for a history that keeps replies or doesn't. What it sends goes to the end of the messages
-    /// sent. After running out of memory the state and the messages are as before.
+    /// One event, for a history that keeps replies or doesn't. The answer goes to the two places, and what the event
+    /// sends to the end of the messages sent. After running out of memory the state and the messages are as before.
     pub fn act(
         &mut self,
         event: &Event,
         keeps: bool,
         sent: &mut Vec<Message>,
-    ) -> Result<Answer, AllocError>
-        ensures ok { IfOk result (Follows keeps self.old self.new sent.old.items sent.new.items
-            (outcome_of self.old.settings self.old.site event.now)) }
+        reply: &mut Reply,
+        noted: &mut Option<Reply>,
+    ) -> Result<(), AllocError>
+        requires { noted.old ≡ None }
+        ensures ok { OnOk result (Follows keeps self.old self.new sent.old.items sent.new.items
+            (outcome_of self.old.settings self.old.site event.now) (noting reply.new noted.new)) }
         ensures err { OnErr result ((self.new ≡ self.old) × (sent.new.items ≡ sent.old.items)) }
     {
         match event {
-            Event::Submit(request) => self.submit(request, sent),
-            Event::Batch(requests) => self.batch(requests, keeps, sent),
-            Event::Receive(Message::Shadow(shadow)) => self.receive(shadow),
-            Event::Receive(Message::Token(message)) => Ok(self.accept(*message)),
-            Event::Apply(name) => self.apply(*name),
-            Event::Pass(to) => self.pass(*to, sent),
-            Event::Balance(place) => Ok(self.balance(*place)),
-            Event::AsOf(place, position) => Ok(self.as_of(*place, *position)),
-            Event::Statement(place) => self.statement(*place, keeps),
+            Event::Submit(request) => self.submit(request, sent, reply),
+            Event::Batch(requests) => self.batch(requests, keeps, sent, reply, noted),
+            Event::Receive(Message::Shadow(shadow)) => self.receive(shadow, reply),
+            Event::Receive(Message::Token(message)) => Ok(self.accept(message, reply)),
+            Event::Apply(name) => self.apply(name, reply),
+            Event::Pass(to) => self.pass(*to, sent, reply),
+            Event::Balance(place) => Ok(self.balance(*place, reply)),
+            Event::AsOf(place, position) => Ok(self.as_of(*place, *position, reply)),
+            Event::Statement(place) => self.statement(*place, keeps, reply, noted),
         }
     }
 
     #[tactic(auto, unfolding(crate::specs::Events::outcome_of))]
     /// A request is decided here, and its shadow is applied here and sent.
-    fn submit(&mut self, request: &Request, sent: &mut Vec<Message>) -> Result<Answer, AllocError>
-        ensures ok { IfOk result (Follows true self.old self.new sent.old.items sent.new.items
-            (outcome_of self.old.settings self.old.site (Event.Submit request.now))) }
+    fn submit(
+        &mut self,
+        request: &Request,
+        sent: &mut Vec<Message>,
+        reply: &mut Reply,
+    ) -> Result<(), AllocError>
+        ensures ok { OnOk result (Follows true self.old self.new sent.old.items sent.new.items
+            (outcome_of self.old.settings self.old.site (Event.Submit request.now)) (plain reply.new)) }
         ensures err { OnErr result ((self.new ≡ self.old) × (sent.new.items ≡ sent.old.items)) }
     {
         let shadow = match generate(self.journal.ledger(), &self.token.view(), request) {
             Ok(shadow) => shadow,
-            Err(why) => return Ok(Answer::plain(Reply::Refused(why))),
+            Err(why) => return Ok(give(reply, Reply::Refused(why))),
         };
         sent.reserve(1)?;
         self.journal.append(shadow)?;
         sent.push_reserved(Message::Shadow(shadow));
-        Ok(Answer::plain(Reply::Made {
-            name: shadow.name,
-            kind: shadow.kind.label(),
-        }))
+        let name = shadow.name;
+        let kind = shadow.kind.label();
+        Ok(give(reply, Reply::Made { name, kind }))
     }
 
+    #[inline(never)]
     /// The requests of a batch are decided here one after another, and their shadows are applied
     /// here and sent: all of them or none.
     fn batch(
@@ -181,162 +189,180 @@ impl State {
         requests: &List<Request>,
         keeps: bool,
         sent: &mut Vec<Message>,
-    ) -> Result<Answer, AllocError>
-        ensures ok { IfOk result (Follows keeps self.old self.new sent.old.items sent.new.items
-            (outcome_of self.old.settings self.old.site (Event.Batch requests.now))) }
+        reply: &mut Reply,
+        noted: &mut Option<Reply>,
+    ) -> Result<(), AllocError>
+        requires { noted.old ≡ None }
+        ensures ok { OnOk result (Follows keeps self.old self.new sent.old.items sent.new.items
+            (outcome_of self.old.settings self.old.site (Event.Batch requests.now)) (noting reply.new noted.new)) }
         ensures err { OnErr result ((self.new ≡ self.old) × (sent.new.items ≡ sent.old.items)) }
     {
         let asked = requests.as_slice();
         if !is_batch(asked.len()) {
-            return Ok(Answer::plain(Reply::Refused(Refusal::BadBatch)));
+            return Ok(give(reply, Reply::Refused(Refusal::BadBatch)));
         }
         let token = self.token.view();
         let why = match self.journal.batch(self.alloc, token, asked, keeps, sent) {
-            Ok(answer) => return Ok(answer),
+            Ok(made) => return Ok(made.put(reply, noted)),
             Err(why) => why,
         };
         if let Refusal::OutOfMemory = why {
             return Err(AllocError);
         }
-        Ok(Answer::plain(Reply::Refused(why)))
+        Ok(give(reply, Reply::Refused(why)))
     }
 
     #[inline(always)]
     #[tactic(auto, unfolding(crate::specs::Events::outcome_of))]
     /// A shadow from another site is held until it is applied.
-    fn receive(&mut self, shadow: &Shadow) -> Result<Answer, AllocError>
-        ensures ok { IfOk result (Follows true self.old self.new [] []
-            (outcome_of self.old.settings self.old.site (Event.Receive (Message.Shadow shadow.now)))) }
+    fn receive(&mut self, shadow: &Shadow, reply: &mut Reply) -> Result<(), AllocError>
+        ensures ok { OnOk result (Follows true self.old self.new [] []
+            (outcome_of self.old.settings self.old.site (Event.Receive (Message.Shadow shadow.now))) (plain reply.new)) }
         ensures err { OnErr result (self.new ≡ self.old) }
     {
         if let Err(why) = shadow.sound(self.journal.config()) {
-            return Ok(Answer::plain(Reply::Refused(why)));
+            return Ok(give(reply, Reply::Refused(why)));
         }
         if let Some(applied) = self.journal.applied(&shadow.name) {
-            return Ok(again(shadow, applied));
+            return Ok(again(shadow, applied, reply));
         }
         if shadow.home == self.token.view().me {
-            return Ok(Answer::plain(Reply::Refused(Refusal::Conflict)));
+            return Ok(give(reply, Reply::Refused(Refusal::Conflict)));
         }
-        self.hold(*shadow)
+        self.hold(shadow, reply)
     }
 
     /// A sound shadow that isn't applied here is held until it is.
-    fn hold(&mut self, shadow: Shadow) -> Result<Answer, AllocError>
-        requires { IsSound self.old.settings shadow }
-        ensures ok { IfOk result (Follows true self.old self.new [] []
-            (outcome_of_new self.old.settings self.old.site shadow)) }
+    fn hold(&mut self, shadow: &Shadow, reply: &mut Reply) -> Result<(), AllocError>
+        requires { IsSound self.old.settings shadow.now }
+        ensures ok { OnOk result (Follows true self.old self.new [] []
+            (outcome_of_new self.old.settings self.old.site shadow.now) (plain reply.new)) }
         ensures err { OnErr result (self.new ≡ self.old) }
     {
         // For a fact alone: the operations are a valid list, of at most `MOST_SITES` sites.
         let _sites = self.journal.config().sites();
-        let why = match self.inbox.put(shadow, self.journal.clock()) {
-            Ok(PutAnswer::Held) => return Ok(Answer::plain(Reply::Held(shadow.name))),
-            Ok(PutAnswer::Already) => return Ok(Answer::plain(Reply::Already(shadow.name))),
+        let why = match self.inbox.put(*shadow, self.journal.clock()) {
+            Ok(PutAnswer::Held) => return Ok(give(reply, Reply::Held(shadow.name))),
+            Ok(PutAnswer::Already) => return Ok(give(reply, Reply::Already(shadow.name))),
             Err(why) => why,
         };
         if let Refusal::OutOfMemory = why {
             return Err(AllocError);
         }
-        Ok(Answer::plain(Reply::Refused(why)))
+        Ok(give(reply, Reply::Refused(why)))
     }
 
+    #[inline(never)]
     #[tactic(auto, unfolding(crate::specs::Events::outcome_of))]
     /// A token message makes this site the holder, unless its epoch was seen.
-    fn accept(&mut self, message: TokenMessage) -> Answer
+    fn accept(&mut self, message: &TokenMessage, reply: &mut Reply)
         ensures { Follows true self.old self.new [] [] (outcome_of self.old.settings self.old.site
-            (Event.Receive (Message.Token message))) result }
+            (Event.Receive (Message.Token message.now))) (plain reply.new) }
     {
-        match self.token.accept(message) {
-            Ok(Accepted::Taken) => Answer::plain(Reply::Taken(message.epoch)),
-            Ok(Accepted::Stale) => Answer::plain(Reply::Stale(message.epoch)),
-            Err(why) => Answer::plain(Reply::Refused(why)),
+        match self.token.accept(*message) {
+            Ok(Accepted::Taken) => give(reply, Reply::Taken(message.epoch)),
+            Ok(Accepted::Stale) => give(reply, Reply::Stale(message.epoch)),
+            Err(why) => give(reply, Reply::Refused(why)),
         }
     }
 
     #[tactic(auto, unfolding(crate::specs::Events::outcome_of))]
     /// A held shadow whose past is applied is applied too, or is let go where it can't be.
-    fn apply(&mut self, name: OpName) -> Result<Answer, AllocError>
-        ensures ok { IfOk result (Follows true self.old self.new [] []
-            (outcome_of self.old.settings self.old.site (Event.Apply name))) }
+    fn apply(&mut self, name: &OpName, reply: &mut Reply) -> Result<(), AllocError>
+        ensures ok { OnOk result (Follows true self.old self.new [] []
+            (outcome_of self.old.settings self.old.site (Event.Apply name.now)) (plain reply.new)) }
         ensures err { OnErr result (self.new ≡ self.old) }
     {
-        let Some(held) = self.inbox.held(&name) else {
-            return Ok(Answer::plain(Reply::Refused(Refusal::NotHeld)));
+        let Some(held) = self.inbox.held(name) else {
+            return Ok(give(reply, Reply::Refused(Refusal::NotHeld)));
         };
-        let shadow = *held;
-        if !self.journal.is_eligible(&shadow) {
-            return Ok(Answer::plain(Reply::Refused(Refusal::NotReady)));
+        if !self.journal.is_eligible(held) {
+            return Ok(give(reply, Reply::Refused(Refusal::NotReady)));
         }
-        let why = match self.journal.apply(shadow) {
+        let name = held.name;
+        let why = match self.journal.apply(*held) {
             Ok(()) => {
-                self.inbox.remove(&shadow.name);
-                return Ok(Answer::plain(Reply::Applied(shadow.name)));
+                self.inbox.remove(&name);
+                return Ok(give(reply, Reply::Applied(name)));
             }
             Err(why) => why,
         };
         match why {
             Refusal::OutOfMemory => Err(AllocError),
-            Refusal::NotReady => Ok(Answer::plain(Reply::Refused(Refusal::NotReady))),
+            Refusal::NotReady => Ok(give(reply, Reply::Refused(Refusal::NotReady))),
             why => {
-                self.inbox.remove(&shadow.name);
-                Ok(Answer::plain(Reply::Refused(why)))
+                self.inbox.remove(&name);
+                Ok(give(reply, Reply::Refused(why)))
             }
         }
     }
 
+    #[inline(never)]
     #[tactic(auto, unfolding(crate::specs::Events::outcome_of))]
     /// The token goes to another site.
-    fn pass(&mut self, to: u8, sent: &mut Vec<Message>) -> Result<Answer, AllocError>
-        ensures ok { IfOk result (Follows true self.old self.new sent.old.items sent.new.items
-            (outcome_of self.old.settings self.old.site (Event.Pass to))) }
+    fn pass(&mut self, to: u8, sent: &mut Vec<Message>, reply: &mut Reply) -> Result<(), AllocError>
+        ensures ok { OnOk result (Follows true self.old self.new sent.old.items sent.new.items
+            (outcome_of self.old.settings self.old.site (Event.Pass to)) (plain reply.new)) }
         ensures err { OnErr result ((self.new ≡ self.old) × (sent.new.items ≡ sent.old.items)) }
     {
         let mut passed = self.token.copy();
         let message = match passed.pass(to, self.journal.clock()) {
             Ok(message) => message,
-            Err(why) => return Ok(Answer::plain(Reply::Refused(why))),
+            Err(why) => return Ok(give(reply, Reply::Refused(why))),
         };
         sent.reserve(1)?;
         sent.push_reserved(Message::Token(message));
         self.token = passed;
-        Ok(Answer::plain(Reply::Passed(message.epoch)))
+        Ok(give(reply, Reply::Passed(message.epoch)))
     }
 
+    #[inline(always)]
     #[tactic(auto, unfolding(crate::specs::Events::outcome_of))]
     /// An account's balance.
-    fn balance(&self, place: Place) -> Answer
+    fn balance(&self, place: Place, reply: &mut Reply)
         ensures { Follows true self.now self.now [] [] (outcome_of self.now.settings self.now.site
-            (Event.Balance place)) result }
+            (Event.Balance place)) (plain reply.new) }
     {
         match self.journal.ledger().balance(place) {
-            Some(cents) => Answer::plain(Reply::Balance(cents)),
-            None => Answer::plain(Reply::Refused(Refusal::UnknownAccount)),
+            Some(cents) => give(reply, Reply::Balance(cents)),
+            None => give(reply, Reply::Refused(Refusal::UnknownAccount)),
         }
     }
 
+    #[inline(never)]
     #[tactic(auto, unfolding(crate::specs::Events::outcome_of))]
     /// An account's balance, in cents, after the first `position` operations of the ledger.
-    fn as_of(&self, place: Place, position: u32) -> Answer
+    fn as_of(&self, place: Place, position: u32, reply: &mut Reply)
         ensures { Follows true self.now self.now [] [] (outcome_of self.now.settings self.now.site
-            (Event.AsOf place position)) result }
+            (Event.AsOf place position)) (plain reply.new) }
     {
         match self.journal.as_of(place, position) {
-            Ok(cents) => Answer::plain(Reply::Balance(cents)),
-            Err(why) => Answer::plain(Reply::Refused(why)),
+            Ok(cents) => give(reply, Reply::Balance(cents)),
+            Err(why) => give(reply, Reply::Refused(why)),
         }
     }
 
+    #[inline(never)]
     #[tactic(auto, unfolding(crate::specs::Events::outcome_of))]
     /// An account's statement, for a history that keeps it or doesn't.
-    fn statement(&self, place: Place, keeps: bool) -> Result<Answer, AllocError>
-        ensures { IfOk result (Follows keeps self.now self.now [] []
-            (outcome_of self.now.settings self.now.site (Event.Statement place))) }
+    fn statement(
+        &self,
+        place: Place,
+        keeps: bool,
+        reply: &mut Reply,
+        noted: &mut Option<Reply>,
+    ) -> Result<(), AllocError>
+        requires { noted.old ≡ None }
+        ensures { OnOk result (Follows keeps self.now self.now [] []
+            (outcome_of self.now.settings self.now.site (Event.Statement place)) (noting reply.new noted.new)) }
     {
         match statement(self.alloc, self.journal.ledger(), place) {
-            Ok(shown) => Answer::shown(self.alloc, shown, keeps),
+            Ok(shown) => {
+                let shown = Answer::shown(self.alloc, shown, keeps)?;
+                Ok(shown.put(reply, noted))
+            }
             Err(Refusal::OutOfMemory) => Err(AllocError),
-            Err(why) => Ok(Answer::plain(Reply::Refused(why))),
+            Err(why) => Ok(give(reply, Reply::Refused(why))),
         }
     }
 }
@@ -349,13 +375,13 @@ fn is_batch(requests: usize) -> bool
 }
 
 /// A shadow whose name is known: the same comes again, or it is a conflict.
-fn again(shadow: &Shadow, known: &Shadow) -> Answer
-    ensures { Says true result (if same_shadow known.now shadow.now then Reply.Already shadow.now.name
+fn again(shadow: &Shadow, known: &Shadow, reply: &mut Reply)
+    ensures { Says true (plain reply.new) (if same_shadow known.now shadow.now then Reply.Already shadow.now.name
         else Reply.Refused Refusal.Conflict) }
 {
     if known.same(shadow) {
-        Answer::plain(Reply::Already(shadow.name))
+        give(reply, Reply::Already(shadow.name));
     } else {
-        Answer::plain(Reply::Refused(Refusal::Conflict))
+        give(reply, Reply::Refused(Refusal::Conflict));
     }
 }

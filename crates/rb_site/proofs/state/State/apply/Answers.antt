@@ -5,7 +5,7 @@ use Rattle.rb_inbox.specs.Held.{Holding}
 use Rattle.rb_shadow.specs.Operations.{find_in, is_eligible}
 use Rattle.rb_site.specs.declared.event.Event.TheVariants.{Apply}
 use Rattle.rb_site.specs.Events.{outcome_of}
-use Rattle.rb_site.specs.States.{SeenLedger, SiteState}
+use Rattle.rb_site.specs.States.{SeenLedger, SiteState, plain}
 use Rattle.rb_site.proofs.Handlers.{AnswersAlone, applies, drops, held_sound, not_held, not_memory, not_ready, refusal_is, state_as}
 use Rattle.rb_site.proofs.Handlers.{tied_as, tied_without, waits}
 use Rattle.rb_site.proofs.state.State.apply.Goals as goal
@@ -19,20 +19,20 @@ pub returns-in-Ok-clause-ok : goal.returns-in-Ok-clause-ok
 returns-in-Ok-clause-ok c =
     let now : SiteState = state_as c.apply.new.self.settings c.self.inside.token.me c.apply.new.self.ops c.remove.new.self.held
     c.self.inside.token.token in
-    let P : SiteState → Type 0 = λ z. AnswersAlone z now (outcome_of z.settings z.site (Apply c.args.name)) c.plain-in-Ok.result in
+    let P : SiteState → Type 0 = λ z. AnswersAlone z now (outcome_of z.settings z.site (Apply c.args.name.now)) (plain c.give-in-Ok.new.place) in
     subst P c.self.view_is
     (let old : SiteState = state_as c.self.inside.journal.settings c.self.inside.token.me c.self.inside.journal.ops c.self.inside.inbox.held
     c.self.inside.token.token in
     let Q : Settings → Type 0 = λ s. AnswersAlone old (state_as s c.self.inside.token.me c.apply.new.self.ops c.remove.new.self.held
-    c.self.inside.token.token) (outcome_of old.settings old.site (Apply c.args.name)) c.plain-in-Ok.result in
+    c.self.inside.token.token) (outcome_of old.settings old.site (Apply c.args.name.now)) (plain c.give-in-Ok.new.place) in
     subst Q (sym (ap (λ (b : SeenLedger). b.settings) c.in-Ok.ensures.applied))
     (applies c.self.inside.journal.settings c.self.inside.token.me c.self.inside.journal.ops c.self.inside.inbox.held c.apply.new.self.ops
-    c.remove.new.self.held c.self.inside.token.token c.args.name c.in-Some.held.now c.plain-in-Ok.result
+    c.remove.new.self.held c.self.inside.token.token c.args.name.now c.in-Some.held.now (plain c.give-in-Ok.new.place)
     (sym c.in-Some.ensures) (sym c.is_eligible.ensures ∙ c.if-not-is_eligible.false)
-    (held_sound c.self.inside.journal.settings c.self.inside.inbox.held c.args.name c.in-Some.held.now c.self.invariant.sound
+    (held_sound c.self.inside.journal.settings c.self.inside.inbox.held c.args.name.now c.in-Some.held.now c.self.invariant.sound
     (sym c.in-Some.ensures))
     c.in-Ok.ensures.taken (ap (λ (b : SeenLedger). b.ops) c.in-Ok.ensures.applied) (ap (λ (b : Holding). b.held) c.remove.ensures)
-    c.plain-in-Ok.ensures))
+    c.give-in-Ok.ensures))
 
 pub invariant_of-self-in_default-why : goal.invariant_of-self-in_default-why
 invariant_of-self-in_default-why c = tied_without c.self.inside.journal.settings c.apply.new.self.settings c.self.inside.inbox
@@ -43,54 +43,54 @@ pub returns-in-NotReady-clause-ok : goal.returns-in-NotReady-clause-ok
 returns-in-NotReady-clause-ok c =
     let now : SiteState = state_as c.apply.new.self.settings c.self.inside.token.me c.apply.new.self.ops c.self.inside.inbox.held
     c.self.inside.token.token in
-    let P : SiteState → Type 0 = λ z. AnswersAlone z now (outcome_of z.settings z.site (Apply c.args.name)) c.plain-in-NotReady.result in
+    let P : SiteState → Type 0 = λ z. AnswersAlone z now (outcome_of z.settings z.site (Apply c.args.name.now)) (plain c.give-in-NotReady.new.place) in
     subst P c.self.view_is
     (let old : SiteState = state_as c.self.inside.journal.settings c.self.inside.token.me c.self.inside.journal.ops c.self.inside.inbox.held
     c.self.inside.token.token in
     let Q : SeenLedger → Type 0 = λ b. AnswersAlone old (state_as b.settings c.self.inside.token.me b.ops c.self.inside.inbox.held
-    c.self.inside.token.token) (outcome_of old.settings old.site (Apply c.args.name)) c.plain-in-NotReady.result in
+    c.self.inside.token.token) (outcome_of old.settings old.site (Apply c.args.name.now)) (plain c.give-in-NotReady.new.place) in
     subst Q (sym c.in-Err.ensures.refused.0)
     (waits c.self.inside.journal.settings c.self.inside.token.me c.self.inside.journal.ops c.self.inside.inbox.held
-    c.self.inside.token.token c.args.name c.in-Some.held.now c.plain-in-NotReady.result
+    c.self.inside.token.token c.args.name.now c.in-Some.held.now (plain c.give-in-NotReady.new.place)
     (sym c.in-Some.ensures) (sym c.is_eligible.ensures ∙ c.if-not-is_eligible.false)
-    (held_sound c.self.inside.journal.settings c.self.inside.inbox.held c.args.name c.in-Some.held.now c.self.invariant.sound
+    (held_sound c.self.inside.journal.settings c.self.inside.inbox.held c.args.name.now c.in-Some.held.now c.self.invariant.sound
     (sym c.in-Some.ensures))
     (refusal_is c.in-Err.why _ c.in-Err.ensures.refused.1 (not_memory c.in-Err.why c.in-NotReady.is)
-    ∙ ap Some c.in-NotReady.is) c.plain-in-NotReady.ensures))
+    ∙ ap Some c.in-NotReady.is) c.give-in-NotReady.ensures))
 
 pub returns-in_default-why-clause-ok : goal.returns-in_default-why-clause-ok
 returns-in_default-why-clause-ok c =
     let now : SiteState = state_as c.apply.new.self.settings c.self.inside.token.me c.apply.new.self.ops
     c.remove-in_default-why.new.self.held c.self.inside.token.token in
-    let P : SiteState → Type 0 = λ z. AnswersAlone z now (outcome_of z.settings z.site (Apply c.args.name)) c.plain-in_default-why.result in
+    let P : SiteState → Type 0 = λ z. AnswersAlone z now (outcome_of z.settings z.site (Apply c.args.name.now)) (plain c.give-in_default-why.new.place) in
     subst P c.self.view_is
     (let old : SiteState = state_as c.self.inside.journal.settings c.self.inside.token.me c.self.inside.journal.ops c.self.inside.inbox.held
     c.self.inside.token.token in
     let Q : SeenLedger → Type 0 = λ b. AnswersAlone old (state_as b.settings c.self.inside.token.me b.ops
-    c.remove-in_default-why.new.self.held c.self.inside.token.token) (outcome_of old.settings old.site (Apply c.args.name))
-    c.plain-in_default-why.result in
+    c.remove-in_default-why.new.self.held c.self.inside.token.token) (outcome_of old.settings old.site (Apply c.args.name.now))
+    (plain c.give-in_default-why.new.place) in
     subst Q (sym c.in-Err.ensures.refused.0)
     (drops c.self.inside.journal.settings c.self.inside.token.me c.self.inside.journal.ops c.self.inside.inbox.held
-    c.remove-in_default-why.new.self.held c.self.inside.token.token c.args.name c.in-Some.held.now c.in-Err.why
-    c.plain-in_default-why.result
+    c.remove-in_default-why.new.self.held c.self.inside.token.token c.args.name.now c.in-Some.held.now c.in-Err.why
+    (plain c.give-in_default-why.new.place)
     (sym c.in-Some.ensures) (sym c.is_eligible.ensures ∙ c.if-not-is_eligible.false)
-    (held_sound c.self.inside.journal.settings c.self.inside.inbox.held c.args.name c.in-Some.held.now c.self.invariant.sound
+    (held_sound c.self.inside.journal.settings c.self.inside.inbox.held c.args.name.now c.in-Some.held.now c.self.invariant.sound
     (sym c.in-Some.ensures))
     (refusal_is c.in-Err.why _ c.in-Err.ensures.refused.1 c.in_default-why.not-OutOfMemory) c.in_default-why.not-NotReady
-    (ap (λ (b : Holding). b.held) c.remove-in_default-why.ensures) c.plain-in_default-why.ensures))
+    (ap (λ (b : Holding). b.held) c.remove-in_default-why.ensures) c.give-in_default-why.ensures))
 
 pub returns-in_default-clause-ok : goal.returns-in_default-clause-ok
 returns-in_default-clause-ok c =
-    not_held c.args.self.now c.args.name c.plain.result
-    (ap (λ (z : SiteState). find_in z.site.held c.args.name) (sym c.self.view_is) ∙ sym c.in_default.ensures) c.plain.ensures
+    not_held c.args.self.now c.args.name.now (plain c.give.new.place)
+    (ap (λ (z : SiteState). find_in z.site.held c.args.name.now) (sym c.self.view_is) ∙ sym c.in_default.ensures) c.give.ensures
 
 pub returns-then-not-is_eligible-clause-ok : goal.returns-then-not-is_eligible-clause-ok
 returns-then-not-is_eligible-clause-ok c =
-    not_ready c.args.self.now c.args.name c.in-Some.held.now c.plain-then-not-is_eligible.result
-    (ap (λ (z : SiteState). find_in z.site.held c.args.name) (sym c.self.view_is) ∙ sym c.in-Some.ensures)
+    not_ready c.args.self.now c.args.name.now c.in-Some.held.now (plain c.give-then-not-is_eligible.new.place)
+    (ap (λ (z : SiteState). find_in z.site.held c.args.name.now) (sym c.self.view_is) ∙ sym c.in-Some.ensures)
     (ap (λ (z : SiteState). is_eligible z.site.ops c.in-Some.held.now) (sym c.self.view_is) ∙ sym c.is_eligible.ensures
     ∙ c.if-not-is_eligible.true)
-    c.plain-then-not-is_eligible.ensures
+    c.give-then-not-is_eligible.ensures
 
 pub invariant_of-self-in-OutOfMemory : goal.invariant_of-self-in-OutOfMemory
 invariant_of-self-in-OutOfMemory c = tied_as c.self.inside.journal.settings c.apply.new.self.settings c.self.inside.inbox

@@ -7,7 +7,7 @@ use Rattle.rb_site.specs.declared.event.Event.TheVariants.{Submit}
 use Rattle.rb_site.specs.declared.message.Message.TheVariants.{Shadow as ShadowMessage}
 use Rattle.rb_site.specs.declared.reply.Reply.TheVariants.{Made}
 use Rattle.rb_site.specs.Events.{outcome_of}
-use Rattle.rb_site.specs.States.{Follows, Says, SeenLedger, SiteState}
+use Rattle.rb_site.specs.States.{Follows, Says, SeenLedger, SiteState, plain}
 use Rattle.rb_site.proofs.Errors.{on_err}
 use Rattle.rb_site.proofs.Handlers.{made_here, makes_request, refuses_request, state_as, tied_as}
 use Rattle.rb_site.proofs.state.State.submit.Goals as goal
@@ -25,11 +25,11 @@ returns-in-Err-clause-ok c =
     let old : SiteState = state_as c.self.inside.journal.settings c.self.inside.token.me c.self.inside.journal.ops c.self.inside.inbox.held
     c.self.inside.token.token in
     let P : SiteState → Type 0 = λ z. made_of z.settings z.site.me z.site.ops z.site.token c.args.request.now ≡ Err c.in-Err.why in
-    refuses_request c.args.self.now c.args.request.now c.in-Err.why c.args.sent.now.items c.plain.result
+    refuses_request c.args.self.now c.args.request.now c.in-Err.why c.args.sent.now.items (plain c.give.new.place)
     (subst P c.self.view_is (made_here old c.ledger.result.now.settings c.view.result.me c.ledger.result.now.entries c.args.request.now
     (Err c.in-Err.why) c.ledger.ensures.settings c.view.ensures.me c.ledger.ensures.entries
     (c.in-Err.ensures.made c.self.inside.token.token c.view.ensures.shows)))
-    c.plain.ensures
+    c.give.ensures
 
 pub returns-in_err-reserve-clause-err : goal.returns-in_err-reserve-clause-err
 returns-in_err-reserve-clause-err c = on_err c.from_residual.result _ (refl, c.in_err-reserve.ensures.items)
@@ -61,18 +61,18 @@ pub returns-clause-ok : goal.returns-clause-ok
 returns-clause-ok c =
     let P : SiteState → Type 0 = λ z. Follows true z (state_as c.append.new.self.settings c.self.inside.token.me c.append.new.self.ops
     c.self.inside.inbox.held c.self.inside.token.token) c.args.sent.now.items c.push_reserved.new.self.items
-    (outcome_of z.settings z.site (Submit c.args.request.now)) c.plain-2.result in
+    (outcome_of z.settings z.site (Submit c.args.request.now)) (plain c.give-2.new.place) in
     let old : SiteState = state_as c.self.inside.journal.settings c.self.inside.token.me c.self.inside.journal.ops c.self.inside.inbox.held
     c.self.inside.token.token in
     let Q : SeenLedger → Type 0 = λ b. Follows true old (state_as b.settings c.self.inside.token.me b.ops c.self.inside.inbox.held
     c.self.inside.token.token) c.args.sent.now.items c.push_reserved.new.self.items
-    (outcome_of old.settings old.site (Submit c.args.request.now)) c.plain-2.result in
+    (outcome_of old.settings old.site (Submit c.args.request.now)) (plain c.give-2.new.place) in
     subst P c.self.view_is
     (subst Q (sym c.in_ok-append.ensures.ok)
     (makes_request c.self.inside.journal.settings c.self.inside.token.me c.self.inside.journal.ops c.self.inside.inbox.held
-    c.self.inside.token.token c.args.request.now c.in-Ok.shadow c.args.sent.now.items c.push_reserved.new.self.items c.plain-2.result
+    c.self.inside.token.token c.args.request.now c.in-Ok.shadow c.args.sent.now.items c.push_reserved.new.self.items (plain c.give-2.new.place)
     (made_here old c.ledger.result.now.settings c.view.result.me c.ledger.result.now.entries c.args.request.now
     (Ok c.in-Ok.shadow) c.ledger.ensures.settings c.view.ensures.me c.ledger.ensures.entries
     (c.in-Ok.ensures.made c.self.inside.token.token c.view.ensures.shows))
-    (subst (λ l. Says true c.plain-2.result (Made c.in-Ok.shadow.name l)) c.label.ensures c.plain-2.ensures)
+    (subst (λ l. Says true (plain c.give-2.new.place) (Made c.in-Ok.shadow.name l)) c.label-kind.ensures c.give-2.ensures)
     (c.push_reserved.ensures.items ∙ ap (λ ms. ms ++ ShadowMessage c.in-Ok.shadow ∷ []) c.in_ok-reserve.ensures.items)))

@@ -2,7 +2,6 @@
 use Rattle.std.proofs.Common.{◌≡◌, ◌∙◌, ◌+◌, ◌≤◌, Bool, true, List, [], ◌∷◌, ◌++◌, length, ap, arith, refl, subst, sym}
 use Rattle.std.specs.Prelude.{map}
 use Rattle.std.proofs.lemmas.List.{map-append}
-use Rattle.std.proofs.lemmas.Result.{IfOk-from_err}
 use Rattle.rb_scratch.specs.declared.request.TheConstants.{MOST_REQUESTS}
 use Rattle.rb_site.specs.Events.{is_full, outcome_of, reply_to, sent_at}
 use Rattle.rb_site.specs.Seen.{SeenSite, entry, next_site, state_of}
@@ -11,9 +10,9 @@ use Rattle.rb_site.specs.declared.entry.Entry.{Entry}
 use Rattle.rb_site.specs.declared.reply.Reply.{Reply}
 use Rattle.rb_site.specs.Notes.{IsNoted}
 use Rattle.rb_site.specs.Reports.{IsEnough, RoomFor}
-use Rattle.rb_site.specs.States.{IsStanding, Says, SiteState}
-use Rattle.rb_site.proofs.site.Site.record.Given.{Over}
-use Rattle.rb_site.proofs.site.Site.record.Goals as goal
+use Rattle.rb_site.specs.States.{IsStanding, Says, SiteState, noting}
+use Rattle.rb_site.proofs.site.Site.answer.Given.{Over}
+use Rattle.rb_site.proofs.site.Site.answer.Goals as goal
 use Rattle.rb_site.proofs.Reports.{still_enough}
 use Rattle.rb_site.proofs.States.{IsStep, is_step, me_kept, noted_in, seen_as, seen_now}
 use Rattle.rb_site.proofs.Public.Outcomes.{sends_few}
@@ -45,28 +44,28 @@ noted_as keeps now a reply says same =
 
 the_step : (g : Over) (c : goal.After-push_reserved g) → IsStep (seen_as c.self.inside.state.settings c.self.inside.state.site.me
     (map g.E.KeepsEntry.entry c.self.inside.history.items)) c.act.new.self c.args.sent.now.items c.act.new.sent.items c.args.event.now
-    c.in_ok-answer.answer
+    (noting c.act.new.reply c.act.new.noted)
 the_step g c =
     is_step c.KEEPS-2.result _ c.self.inside.state c.act.new.self c.args.sent.now.items c.act.new.sent.items c.args.event.now
-    c.in_ok-answer.answer
+    (noting c.act.new.reply c.act.new.noted)
     (ap (λ (x : SeenSite). is_full x.settings (state_of x)) c.self.view_is ∙ c.requires)
-    c.self.invariant.0 c.in_ok-answer.ensures.ok
+    c.self.invariant.0 c.in_ok-act.ensures.ok
 
 the_pushed : (g : Over) (c : goal.After-push_reserved g) → seen_as c.act.new.self.settings c.act.new.self.site.me
     (map g.E.KeepsEntry.entry c.push_reserved.new.self.items) ≡ noted_in
     (seen_as c.self.inside.state.settings c.self.inside.state.site.me (map g.E.KeepsEntry.entry c.self.inside.history.items))
     c.args.event.now
-    c.in_ok-answer.answer.reply
+    c.act.new.reply
 the_pushed g c =
-    seen_now _ c.act.new.self c.args.sent.now.items c.act.new.sent.items c.args.event.now c.in_ok-answer.answer
+    seen_now _ c.act.new.self c.args.sent.now.items c.act.new.sent.items c.args.event.now (noting c.act.new.reply c.act.new.noted)
     (map g.E.KeepsEntry.entry c.push_reserved.new.self.items) (the_step g c)
-    (me_kept c.KEEPS-2.result c.self.inside.state c.act.new.self c.args.sent.now.items c.act.new.sent.items _ c.in_ok-answer.answer
-    c.in_ok-answer.ensures.ok)
+    (me_kept c.KEEPS-2.result c.self.inside.state c.act.new.self c.args.sent.now.items c.act.new.sent.items _ (noting c.act.new.reply c.act.new.noted)
+    c.in_ok-act.ensures.ok)
     (ap (map g.E.KeepsEntry.entry) c.push_reserved.ensures.items
     ∙ map-append g.E.KeepsEntry.entry c.reserve.new.self.items _
     ∙ ap (λ x. map g.E.KeepsEntry.entry c.reserve.new.self.items ++ x ∷ []) c.note.ensures
-    ∙ ap (λ e. map g.E.KeepsEntry.entry c.reserve.new.self.items ++ entry e c.in_ok-answer.answer.reply ∷ []) c.in_ok-kept.ensures
-    ∙ ap (λ xs. map g.E.KeepsEntry.entry xs ++ entry c.args.event.now c.in_ok-answer.answer.reply ∷ []) c.in_ok-reserve.ensures.items)
+    ∙ ap (λ e. map g.E.KeepsEntry.entry c.reserve.new.self.items ++ entry e c.act.new.reply ∷ []) c.in_ok-kept.ensures
+    ∙ ap (λ xs. map g.E.KeepsEntry.entry xs ++ entry c.args.event.now c.act.new.reply ∷ []) c.in_ok-reserve.ensures.items)
 
 the_view : (g : Over) (c : goal.After-push_reserved g) → seen_as c.act.new.self.settings c.act.new.self.site.me
     (map g.E.KeepsEntry.entry c.push_reserved.new.self.items) ≡ next_site c.args.self.now c.args.event.now
@@ -76,7 +75,7 @@ pub invariant_of-self-2 : goal.invariant_of-self-2
 invariant_of-self-2 g c = (
   let P : SeenSite → Type 0 = λ x. IsStanding x c.act.new.self in subst P (sym (the_pushed g c)) (the_step g c).standing,
   λ kept. still_enough c.grow.new.self c.KEEPS-2.result c.self.inside.state c.act.new.self c.args.sent.now.items c.act.new.sent.items
-      (outcome_of c.self.inside.state.settings c.self.inside.state.site c.args.event.now) c.in_ok-answer.answer c.in_ok-answer.ensures.ok
+      (outcome_of c.self.inside.state.settings c.self.inside.state.site c.args.event.now) (noting c.act.new.reply c.act.new.noted) c.in_ok-act.ensures.ok
       (sends_few c.self.inside.state.settings c.self.inside.state.site c.args.event.now)
       (subst (λ n. length c.self.inside.state.settings.starts ≤ n) (sym c.grow.ensures.accounts) (c.self.invariant.1 kept).accounts)
       (subst (λ n. n + MOST_REQUESTS ≤ c.grow.new.self.entries) (c.len.ensures.same
@@ -97,9 +96,6 @@ invariant_of-self g c = (
   c.self.invariant.1,
 )
 
-pub returns-in_err-reserve-clause-ok : goal.returns-in_err-reserve-clause-ok
-returns-in_err-reserve-clause-ok g c = IfOk-from_err c.from_residual.result _ c.from_residual.ensures.0
-
 pub returns-in_err-reserve-clause-err : goal.returns-in_err-reserve-clause-err
 returns-in_err-reserve-clause-err g c = on_err c.from_residual.result _ (
   seen_same g.E.KeepsEntry.entry c.self.inside.history.items c.reserve.new.self.items c.self.inside.state c.args.self.now
@@ -114,9 +110,6 @@ invariant_of-self-in_err-grow g c = (
   λ keeps. enough_more c.self.inside.room c.grow.new.self c.self.inside.state c.grow.ensures.kept c.grow.ensures.accounts
       (c.self.invariant.1 keeps),
 )
-
-pub returns-in_err-grow-clause-ok : goal.returns-in_err-grow-clause-ok
-returns-in_err-grow-clause-ok g c = IfOk-from_err c.from_residual-in_err-grow.result _ c.from_residual-in_err-grow.ensures.0
 
 pub returns-in_err-grow-clause-err : goal.returns-in_err-grow-clause-err
 returns-in_err-grow-clause-err g c = on_err c.from_residual-in_err-grow.result _ (
@@ -133,9 +126,6 @@ invariant_of-self-in_err-kept g c = (
       (c.self.invariant.1 keeps),
 )
 
-pub returns-in_err-kept-clause-ok : goal.returns-in_err-kept-clause-ok
-returns-in_err-kept-clause-ok g c = IfOk-from_err c.from_residual-in_err-kept.result _ c.from_residual-in_err-kept.ensures.0
-
 pub returns-in_err-kept-clause-err : goal.returns-in_err-kept-clause-err
 returns-in_err-kept-clause-err g c = on_err c.from_residual-in_err-kept.result _ (
   seen_same g.E.KeepsEntry.entry c.self.inside.history.items c.reserve.new.self.items c.self.inside.state c.args.self.now
@@ -143,31 +133,28 @@ returns-in_err-kept-clause-err g c = on_err c.from_residual-in_err-kept.result _
   refl,
 )
 
-pub invariant_of-self-in_err-answer : goal.invariant_of-self-in_err-answer
-invariant_of-self-in_err-answer g c =
+pub invariant_of-self-in_err-act : goal.invariant_of-self-in_err-act
+invariant_of-self-in_err-act g c =
     let P : SiteState → Type 0 = λ z. IsStanding (seen_as z.settings z.site.me (map g.E.KeepsEntry.entry c.reserve.new.self.items)) z
     × (g.E.KeepsEntry.KEEPS ≡ true → IsEnough c.grow.new.self z) in
-    subst P (sym c.in_err-answer.ensures.err.0) (
+    subst P (sym c.in_err-act.ensures.err.0) (
       stands_as g.E.KeepsEntry.entry c.self.inside.history.items c.reserve.new.self.items c.self.inside.state
           c.in_ok-reserve.ensures.items c.self.invariant.0,
       λ keeps. enough_more c.self.inside.room c.grow.new.self c.self.inside.state c.grow.ensures.kept c.grow.ensures.accounts
           (c.self.invariant.1 keeps),
     )
 
-pub returns-in_err-answer-clause-ok : goal.returns-in_err-answer-clause-ok
-returns-in_err-answer-clause-ok g c = IfOk-from_err c.from_residual-in_err-answer.result _ c.from_residual-in_err-answer.ensures.0
-
-pub returns-in_err-answer-clause-err : goal.returns-in_err-answer-clause-err
-returns-in_err-answer-clause-err g c = on_err c.from_residual-in_err-answer.result _ (
-  ap (λ (z : SiteState). seen_as z.settings z.site.me (map g.E.KeepsEntry.entry c.reserve.new.self.items)) c.in_err-answer.ensures.err.0
+pub returns-in_err-act-clause-err : goal.returns-in_err-act-clause-err
+returns-in_err-act-clause-err g c = on_err c.from_residual-in_err-act.result _ (
+  ap (λ (z : SiteState). seen_as z.settings z.site.me (map g.E.KeepsEntry.entry c.reserve.new.self.items)) c.in_err-act.ensures.err.0
       ∙ seen_same g.E.KeepsEntry.entry c.self.inside.history.items c.reserve.new.self.items c.self.inside.state c.args.self.now
       c.in_ok-reserve.ensures.items c.self.view_is,
-  c.in_err-answer.ensures.err.1,
+  c.in_err-act.ensures.err.1,
 )
 
 pub note-requires : goal.note-requires
 note-requires g c =
-    noted_as c.KEEPS-2.result g.E.KeepsEntry.KEEPS c.in_ok-answer.answer _ c.in_ok-answer.ensures.ok.1 c.KEEPS-2.ensures
+    noted_as c.KEEPS-2.result g.E.KeepsEntry.KEEPS (noting c.act.new.reply c.act.new.noted) _ c.in_ok-act.ensures.ok.1 c.KEEPS-2.ensures
 
 pub push_reserved-requires : goal.push_reserved-requires
 push_reserved-requires g c = omega (arith, c.in_ok-reserve.ensures.ok, c.in_ok-reserve.ensures.len)
