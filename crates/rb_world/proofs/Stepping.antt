@@ -133,6 +133,17 @@ no_message w i k t at none =
           ∙ ap (λ o. is_recorded_at w.settings (Some t) && is_some o) (sym none) ∙ and_false (not (is_full w.settings t))),
     )
 
+-- the same at a site that is there by what is known of it
+pub no_message_there : (w : SeenWorld) (i k : ℕ) (P : ModelSite → Type 0) → IsSomeAnd (slice_get w.world.sites i) P
+    → None ≡ message_at w.world.messages k
+    → (Refused NoMessage ≡ next_reply w (Deliver i k)) × (w ≡ next_world w (Deliver i k))
+no_message_there w i k P there none = by (slice_get w.world.sites i) refl there
+  where
+    by : (o : Option ModelSite) → slice_get w.world.sites i ≡ o → IsSomeAnd o P
+        → (Refused NoMessage ≡ next_reply w (Deliver i k)) × (w ≡ next_world w (Deliver i k))
+    by None q h = absurd h
+    by (Some t) q h = no_message w i k t (sym q) none
+
 -- at a site that is there, and whose history isn't full, an event that arrives is recorded
 pub recorded_at : (w : SeenWorld) (ev : WorldEvent) (e : Event) (i : ℕ) (full : Bool) → i ≡ site_of ev
     → arrival w.world.messages ev ≡ Some e → IsSomeAnd (slice_get w.world.sites i) (λ t. is_full w.settings t ≡ full) → full ≡ false
@@ -155,17 +166,12 @@ pub on_error : {A : Type 0} (r : Result A AllocError) (P : Type 0) → P → OnE
 on_error (Ok a) P p = tt
 on_error (Err why) P p = p
 
--- an error is no answer
-pub not_ok : {A : Type 0} (r : Result A AllocError) (P : A → Type 0) → IsErr r → IfOk r P
-not_ok (Ok a) P h = cc
-not_ok (Err why) P h = tt
-
 -- what an answer says of an event, it says of the same event
-pub said_of : (r : Result Reply AllocError) (old new : SeenWorld) (d e : WorldEvent) → d ≡ e
-    → IfOk r (λ (reply : Reply). (reply ≡ next_reply old d) × (new ≡ next_world old d))
-    → IfOk r (λ (reply : Reply). (reply ≡ next_reply old e) × (new ≡ next_world old e))
-said_of r old new d e same h =
-    let P : WorldEvent → Type 0 = λ x. IfOk r (λ (reply : Reply). (reply ≡ next_reply old x) × (new ≡ next_world old x)) in subst P same h
+pub said_of : {A : Type 0} (r : Result A AllocError) (reply : Reply) (old new : SeenWorld) (d e : WorldEvent) → d ≡ e
+    → OnOk r ((reply ≡ next_reply old d) × (new ≡ next_world old d))
+    → OnOk r ((reply ≡ next_reply old e) × (new ≡ next_world old e))
+said_of r reply old new d e same h =
+    let P : WorldEvent → Type 0 = λ x. OnOk r ((reply ≡ next_reply old x) × (new ≡ next_world old x)) in subst P same h
 
 -- ---- a step that a site records
 

@@ -1,12 +1,15 @@
 //! Where the messages that were sent are kept.
-ghost use Rattle.std.specs.Prelude.{◌≡◌, ◌+◌, ◌<◌, ◌≤◌, ◌^◌, ◌++◌, ◌∷◌, [], length, map};
-ghost use Rattle.std.specs.Prelude.{true, false, OnOk, OnErr, vec_capacity};
+ghost use Rattle.std.specs.Prelude.{◌≡◌, ◌+◌, ◌<◌, ◌≤◌, ◌^◌, ◌++◌, ◌∷◌, [], List, length, map};
+ghost use Rattle.std.specs.Prelude.{true, false, IfSome, OnOk, OnErr, Some, vec_capacity};
 ghost use Rattle.rb_site.specs.Seen.{SeenSite, state_of};
 ghost use Rattle.rb_scratch.specs.declared.request.TheConstants.{MOST_REQUESTS};
+ghost use Rattle.rb_site.specs.declared.message.Message.{Message as TheMessage};
+ghost use Rattle.rb_token.specs.declared.message.TokenMessage.{TokenMessage as TheTokenMessage};
 ghost use Rattle.rb_world.specs.Sent.{CanNote, kept_at, places_from, places_of, token_of};
 ghost use Rattle.rb_world.specs.declared.sent.Kept.TheVariants.{Token as TokenAt};
 
 use rb_scratch::MOST_REQUESTS;
+use rb_shadow::Shadow;
 use rb_site::{KeepsEntry, Message, Site};
 use rb_token::TokenMessage;
 use std::alloc::{AllocError, Global};
@@ -140,6 +143,18 @@ impl Sent {
         }
         self.posted.clear();
         self.ready = false;
+    }
+}
+
+/// The operation that is kept at a place, if it is one.
+#[inline(always)]
+pub fn kept_operation<E: KeepsEntry>(sites: &[Site<E>], kept: Kept) -> Option<&Shadow>
+    ensures { IfSome result (λ shadow. (tokens : List TheTokenMessage) → kept_at (map state_of sites.now) tokens kept
+        ≡ Some (TheMessage.Shadow shadow.now)) }
+{
+    match kept {
+        Kept::Operation { site, position } => sites.get(site as usize)?.ledger().entry(position),
+        Kept::Token { .. } => None,
     }
 }
 

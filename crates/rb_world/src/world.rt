@@ -1,18 +1,21 @@
 //! The sites of a bank, together.
-ghost use Rattle.std.specs.Prelude.{◌≡◌, ◌+◌, ◌≤◌, ◌++◌, Some, IsSomeAnd, IfSome, IfOk, IfErr, OnErr, All, is_some};
+ghost use Rattle.std.specs.Prelude.{◌≡◌, ◌+◌, ◌≤◌, ◌++◌, Some, IsSomeAnd, IfSome, IfOk, IfErr, OnErr, OnOk, All, is_some};
 ghost use Rattle.std.specs.Prelude.{length, true, false, map, option_map, slice_get, take, vec_len, vec_capacity};
 ghost use Rattle.std.specs.List.{range_with_len};
 ghost use Rattle.rb_site.specs.Events.{first_site, is_full};
 ghost use Rattle.rb_site.specs.Reports.{AreReports};
 ghost use Rattle.rb_site.specs.Seen.{state_of};
 ghost use Rattle.rb_site.specs.Histories.{site_of};
+ghost use Rattle.rb_site.specs.declared.message.Message.{Message as TheMessage};
+ghost use Rattle.rb_site.specs.declared.world_event.WorldEvent.{WorldEvent as TheEvent};
 ghost use Rattle.rb_site.specs.Worlds.{IsCommand, arrival, is_recorded, message_at};
 ghost use Rattle.rb_world.specs.Brought.{brought_by};
 ghost use Rattle.rb_world.specs.Laws.{Holds, IsRunOf, next_replies, next_reply, next_world, next_worlds, opened};
 
-use crate::sent::{Sent, kept_message};
+use crate::sent::{Sent, kept_message, kept_operation};
 use crate::{KeepsEvent, Stopped};
 use rb_money::{Config, Refusal};
+use rb_shadow::Shadow;
 use rb_site::{Entry, Event, KeepsEntry, Message, Reply, Site, SiteReport, WorldEvent};
 use std::alloc::{AllocError, Global};
 use std::marker::Model;
@@ -152,17 +155,64 @@ impl<E: KeepsEntry, R: KeepsEvent> World<E, R> {
         ensures err { OnErr result (self.new ≡ self.old) }
         ensures recordable { OnErr result (is_recorded self.old.settings self.old.world event.now ≡ true) }
     {
+        let mut reply = Reply::Refused(Refusal::NoSite);
+        self.answer(event, &mut reply)?;
+        Ok(reply)
+    }
+
+    /// The same as `step`, but that the reply is put in the place of another. After an `Err` that place may have any
+    /// reply.
+    #[inline(always)]
+    pub fn answer(&mut self, event: &WorldEvent, reply: &mut Reply) -> Result<(), AllocError>
+        requires { IsCommand event.now }
+        ensures ok { OnOk result ((reply.new ≡ next_reply self.old event.now)
+            × (self.new ≡ next_world self.old event.now)) }
+        ensures err { OnErr result (self.new ≡ self.old) }
+        ensures recordable { OnErr result (is_recorded self.old.settings self.old.world event.now ≡ true) }
+    {
         let number = event.site();
         let Some(site) = self.site(number) else {
-            return Ok(Reply::Refused(Refusal::NoSite));
+            *reply = Reply::Refused(Refusal::NoSite);
+            return Ok(());
         };
         let full = site.is_full();
         match event {
-            WorldEvent::At(_, event) => self.take(number, full, event, None),
-            WorldEvent::Deliver(_, sent) => match self.message(*sent) {
-                Some(message) => self.take(number, full, &Event::Receive(message), Some(*sent)),
-                None => Ok(Reply::Refused(Refusal::NoMessage)),
+            WorldEvent::At(_, event) => self.take(number, full, event, None, reply),
+            WorldEvent::Deliver(_, sent) => match self.operation(*sent) {
+                Some(operation) => {
+                    let arrived = Event::Receive(Message::Shadow(*operation));
+                    self.take(number, full, &arrived, Some(*sent), reply)
+                }
+                None => self.deliver(number, full, *sent, reply),
             },
+        }
+    }
+
+    /// A site takes the message of a number, if there is one, unless its history is full.
+    #[inline(never)]
+    fn deliver(
+        &mut self,
+        site: u8,
+        full: bool,
+        number: u32,
+        reply: &mut Reply,
+    ) -> Result<(), AllocError>
+        requires full { IsSomeAnd (slice_get self.old.world.sites site)
+            (λ site. is_full self.old.settings site ≡ full) }
+        ensures ok { OnOk result ((reply.new ≡ next_reply self.old (TheEvent.Deliver site number))
+            × (self.new ≡ next_world self.old (TheEvent.Deliver site number))) }
+        ensures err { OnErr result (self.new ≡ self.old) }
+        ensures recordable { OnErr result (is_recorded self.old.settings self.old.world (TheEvent.Deliver site number)
+            ≡ true) }
+    {
+        match self.message(number) {
+            Some(message) => {
+                self.take(site, full, &Event::Receive(message), Some(number), reply)
+            }
+            None => {
+                *reply = Reply::Refused(Refusal::NoMessage);
+                Ok(())
+            }
         }
     }
 
@@ -175,42 +225,50 @@ impl<E: KeepsEntry, R: KeepsEvent> World<E, R> {
         full: bool,
         arrived: &Event,
         delivered: Option<u32>,
-    ) -> Result<Reply, AllocError>
+        reply: &mut Reply,
+    ) -> Result<(), AllocError>
         requires command { IsCommand (brought_by site arrived.now delivered) }
         requires full { IsSomeAnd (slice_get self.old.world.sites site)
             (λ site. is_full self.old.settings site ≡ full) }
         requires arrived { arrival self.old.world.messages (brought_by site arrived.now delivered) ≡ Some arrived.now }
-        ensures ok { IfOk result (λ reply. (reply ≡ next_reply self.old (brought_by site arrived.now delivered))
+        ensures ok { OnOk result ((reply.new ≡ next_reply self.old (brought_by site arrived.now delivered))
             × (self.new ≡ next_world self.old (brought_by site arrived.now delivered))) }
         ensures err { OnErr result (self.new ≡ self.old) }
         ensures recordable { OnErr result (full ≡ false) }
     {
         if full {
-            return Ok(Reply::Refused(Refusal::HistoryFull));
+            *reply = Reply::Refused(Refusal::HistoryFull);
+            return Ok(());
         }
         let noted = R::note(self.alloc, site, arrived, delivered)?;
-        self.record(site, arrived, noted)
+        self.record(site, arrived, noted, reply)
     }
 
     /// A site takes an event for which its history has spare capacity.
     #[inline(always)]
-    fn record(&mut self, site: u8, arrived: &Event, noted: R) -> Result<Reply, AllocError>
+    fn record(
+        &mut self,
+        site: u8,
+        arrived: &Event,
+        noted: R,
+        reply: &mut Reply,
+    ) -> Result<(), AllocError>
         requires command { IsCommand (R.noted noted) }
         requires site { site ≡ site_of (R.noted noted) }
         requires arrived { arrival self.old.world.messages (R.noted noted) ≡ Some arrived.now }
         requires room { IsSomeAnd (slice_get self.old.world.sites site) (λ site. is_full self.old.settings site
             ≡ false) }
-        ensures ok { IfOk result (λ reply. (reply ≡ next_reply self.old (R.noted noted))
+        ensures ok { OnOk result ((reply.new ≡ next_reply self.old (R.noted noted))
             × (self.new ≡ next_world self.old (R.noted noted))) }
         ensures err { OnErr result (self.new ≡ self.old) }
     {
         self.recorded.reserve(1)?;
         self.sent.make_ready()?;
         let applied = self.sites[site as usize].ledger().len();
-        let reply = self.sites[site as usize].record(arrived, &mut self.sent.posted)?;
+        self.sites[site as usize].answer(arrived, &mut self.sent.posted, reply)?;
         self.sent.note(site, applied);
         self.recorded.push_reserved(noted);
-        Ok(reply)
+        Ok(())
     }
 
     /// The configuration.
@@ -250,6 +308,19 @@ impl<E: KeepsEntry, R: KeepsEvent> World<E, R> {
             Some(kept) => kept_message(self.sites.as_slice(), self.sent.tokens.as_slice(), *kept),
             None => None,
         }
+    }
+
+    /// The operation that the message of a number sent, where it is kept in a ledger.
+    #[inline(always)]
+    fn operation(&self, number: u32) -> Option<&Shadow>
+        ensures { IfSome result (λ shadow. message_at self.now.world.messages number
+            ≡ Some (TheMessage.Shadow shadow.now)) }
+    {
+        if number == 0 {
+            return None;
+        }
+        let kept = self.sent.places.get(number as usize - 1)?;
+        kept_operation(self.sites.as_slice(), *kept)
     }
 
     /// Ends the world.
