@@ -12,7 +12,8 @@ ghost use Rattle.rb_run_script.specs.Session.{AnswersCommand, first_session};
 
 use rb_commands::{LineFault, append_reply, parse_command, read_any_command, read_config};
 use rb_lines::{Responder, StreamFault, is_blank, text_on};
-use rb_site::WorldEvent;
+use rb_money::Refusal;
+use rb_site::{Reply, WorldEvent};
 use rb_world::LeanWorld;
 use std::alloc::Global;
 
@@ -54,9 +55,10 @@ fn take_command(
         × (buffered.new.items ≡ buffered.old.items ++ line (next_reply world.old command.now)))
         (λ why. (why ≡ OutOfMemory) × (buffered.new.items ≡ buffered.old.items)) }
 {
-    let Ok(reply) = world.step(command) else {
+    let mut reply = Reply::Refused(Refusal::NoSite);
+    if world.answer(command, &mut reply).is_err() {
         return Err(LineFault::OutOfMemory);
-    };
+    }
     match append_reply(buffered, &reply) {
         Ok(()) => Ok(()),
         Err(_) => Err(LineFault::OutOfMemory),
