@@ -12,6 +12,7 @@ use rb_kit::List;
 use rb_money::Config;
 use std::alloc::Global;
 
+#[inline(always)]
 fn parse_batch<'a>(alloc: Global, config: &Config, text: &'a str) -> Option<(SiteCommand, &'a str)>
     ensures { IfSome result (λ p. Spells config.now p.0 text.now p.1.now) }
 {
@@ -84,6 +85,7 @@ fn parse_submission<'a>(config: &Config, text: &'a str) -> Option<(SiteCommand, 
 }
 
 /// Any. Where the first byte of a key is that of two, the one that comes more often is tried first.
+#[inline(always)]
 pub fn parse_event<'a>(
     alloc: Global,
     config: &Config,

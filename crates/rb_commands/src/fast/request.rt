@@ -55,6 +55,7 @@ fn parse_transfer<'a>(config: &Config, text: &'a str) -> Option<(Request, &'a st
 }
 
 /// A request.
+#[inline(always)]
 pub fn parse_request<'a>(config: &Config, text: &'a str) -> Option<(Request, &'a str)>
     ensures { IfSome result (λ p. SpellsRequest config.now p.0 text.now p.1.now) }
 {
@@ -69,6 +70,7 @@ pub fn parse_request<'a>(config: &Config, text: &'a str) -> Option<(Request, &'a
 }
 
 /// The requests of a batch, behind its bracket: at least one.
+#[inline(never)]
 pub fn parse_requests<'a>(
     alloc: Global,
     config: &Config,
