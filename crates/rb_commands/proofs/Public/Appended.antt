@@ -42,3 +42,7 @@ failed (Err x) old mid new a t is e h = front_stays old mid new a e h
 pub failed_first : {A E : Type 0} (r : Result A E) (old new t : List ℕ) → IsErr r → take (length old) new ≡ old → Adds r old new t
 failed_first (Ok x) old new t is h = absurd (cc)
 failed_first (Err x) old new t is h = h
+
+-- a text behind two others is behind both
+pub before_end : (a b c d : List ℕ) → a ++ (b ++ (c ++ d)) ≡ (a ++ (b ++ c)) ++ d
+before_end a b c d = simp append_assoc

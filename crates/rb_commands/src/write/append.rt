@@ -1,9 +1,10 @@
 //! Pieces of a line, added at the end of bytes. After an `Err`, which means out of memory, a prefix of a piece may
 //! have been added.
-ghost use Rattle.std.specs.Prelude.{◌++◌, decimal};
+ghost use Rattle.std.specs.Prelude.{◌≤◌, ◌++◌, codes, decimal, length};
 ghost use Rattle.json.specs.Print.{quoted};
 ghost use Rattle.rb_shadow.specs.NameText.{name_text};
 ghost use Rattle.rb_commands.specs.Adds.{Adds};
+ghost use Rattle.rb_commands.specs.declared.write.append.TheConstants.{SHORT};
 
 use crate::write::piece::Piece;
 use itoa::Buffer;
@@ -47,6 +48,46 @@ pub fn append_number(out: &mut Vec<u8>, front: &str, n: u64, back: &str) -> Resu
     let mut piece = Piece::new();
     piece.text(back);
     piece.number(n);
+    piece.text(front);
+    piece.append_to(out)
+}
+
+/// A number between two short texts, as a line.
+#[inline(always)]
+#[tactic(auto, using(crate::proofs::Public::Appended::before_end))]
+pub(crate) fn append_number_line(
+    out: &mut Vec<u8>,
+    front: &str,
+    n: u64,
+    back: &str,
+) -> Result<(), AllocError>
+    requires front { length front.now ≤ SHORT }
+    requires back { length back.now ≤ SHORT }
+    ensures { Adds result out.old.items out.new.items ((front.now ++ (decimal n ++ back.now)) ++ codes "\n") }
+{
+    let mut piece = Piece::new();
+    piece.text("\n");
+    piece.text(back);
+    piece.number(n);
+    piece.text(front);
+    piece.append_to(out)
+}
+
+/// An operation's name in quotes, behind a short text and before a brace, as a line.
+#[inline(always)]
+#[tactic(auto, using(crate::proofs::Public::Appended::before_end))]
+pub(crate) fn append_named_line(
+    out: &mut Vec<u8>,
+    front: &str,
+    name: OpName,
+) -> Result<(), AllocError>
+    requires { length front.now ≤ SHORT }
+    ensures { Adds result out.old.items out.new.items
+        ((front.now ++ (quoted (name_text name) ++ codes "}")) ++ codes "\n") }
+{
+    let mut piece = Piece::new();
+    piece.text("}\n");
+    piece.name(name);
     piece.text(front);
     piece.append_to(out)
 }

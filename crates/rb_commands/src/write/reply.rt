@@ -3,22 +3,24 @@ ghost use Rattle.std.specs.Prelude.{◌≡◌, ◌++◌, codes, IfOk, OnOk, OnEr
 ghost use Rattle.serde_json.specs.Written.{compact_text};
 ghost use Rattle.rb_commands.specs.Adds.{Adds};
 ghost use Rattle.rb_commands.specs.Replies.{line, reply_json, made_json};
+ghost use Rattle.rb_commands.specs.Statements.{statement_json};
 ghost use Rattle.rb_commands.specs.Values.{name_json, list_json, one_json};
 
-use crate::write::append::{append, append_named, append_number};
+use crate::write::append::{append, append_named, append_named_line, append_number_line};
 use crate::write::piece::Piece;
 use crate::write::refusal::append_refusal;
 use crate::write::statement::append_statement;
 use rb_shadow::{Label, OpName};
 use rb_site::Reply;
+use rb_statements::Statement;
 use std::alloc::{AllocError, Global};
 
-/// An operation that was made: its kind and its name.
+/// The line of an operation that was made: its kind and its name.
 fn append_made(out: &mut Vec<u8>, name: OpName, kind: Label) -> Result<(), AllocError>
-    ensures { Adds result out.old.items out.new.items (compact_text (made_json name kind)) }
+    ensures { Adds result out.old.items out.new.items (compact_text (made_json name kind) ++ codes "\n") }
 {
     let mut piece = Piece::new();
-    piece.text("}");
+    piece.text("}\n");
     piece.name(name);
     piece.text("\",\"name\":");
     piece.text(kind.word());
@@ -47,31 +49,39 @@ pub fn append_names(out: &mut Vec<u8>, names: &[OpName]) -> Result<(), AllocErro
     append(out, "]}")
 }
 
-/// The JSON object of a reply, on one line.
-#[tactic(auto, unfolding(json::specs::Print::escape_byte))]
-pub fn append_value(out: &mut Vec<u8>, reply: &Reply) -> Result<(), AllocError>
-    ensures { Adds result out.old.items out.new.items (compact_text (reply_json reply.now)) }
+fn append_names_line(out: &mut Vec<u8>, names: &[OpName]) -> Result<(), AllocError>
+    ensures { Adds result out.old.items out.new.items
+        (compact_text (one_json (codes "names") (list_json name_json names.now)) ++ codes "\n") }
 {
-    match reply {
-        Reply::Made { name, kind } => append_made(out, *name, *kind),
-        Reply::Names(names) => append_names(out, names.as_slice()),
-        Reply::Held(name) => append_named(out, "{\"held\":", *name, "}"),
-        Reply::Already(name) => append_named(out, "{\"already\":", *name, "}"),
-        Reply::Taken(epoch) => append_number(out, "{\"taken\":", *epoch as u64, "}"),
-        Reply::Stale(epoch) => append_number(out, "{\"stale\":", *epoch as u64, "}"),
-        Reply::Applied(name) => append_named(out, "{\"applied\":", *name, "}"),
-        Reply::Passed(epoch) => append_number(out, "{\"passed\":", *epoch as u64, "}"),
-        Reply::Balance(cents) => append_number(out, "{\"balance\":", *cents, "}"),
-        Reply::Statement(shown) => append_statement(out, shown),
-        Reply::Refused(refusal) => append_refusal(out, *refusal),
-    }
+    append_names(out, names)?;
+    append(out, "\n")
 }
 
+fn append_statement_line(out: &mut Vec<u8>, shown: &Statement) -> Result<(), AllocError>
+    ensures { Adds result out.old.items out.new.items (compact_text (statement_json shown.now) ++ codes "\n") }
+{
+    append_statement(out, shown)?;
+    append(out, "\n")
+}
+
+#[inline(always)]
+#[tactic(auto, unfolding(json::specs::Print::escape_byte))]
 fn append_line(out: &mut Vec<u8>, reply: &Reply) -> Result<(), AllocError>
     ensures { Adds result out.old.items out.new.items (line reply.now) }
 {
-    append_value(out, reply)?;
-    append(out, "\n")
+    match reply {
+        Reply::Made { name, kind } => append_made(out, *name, *kind),
+        Reply::Names(names) => append_names_line(out, names.as_slice()),
+        Reply::Held(name) => append_named_line(out, "{\"held\":", *name),
+        Reply::Already(name) => append_named_line(out, "{\"already\":", *name),
+        Reply::Taken(epoch) => append_number_line(out, "{\"taken\":", *epoch as u64, "}"),
+        Reply::Stale(epoch) => append_number_line(out, "{\"stale\":", *epoch as u64, "}"),
+        Reply::Applied(name) => append_named_line(out, "{\"applied\":", *name),
+        Reply::Passed(epoch) => append_number_line(out, "{\"passed\":", *epoch as u64, "}"),
+        Reply::Balance(cents) => append_number_line(out, "{\"balance\":", *cents, "}"),
+        Reply::Statement(shown) => append_statement_line(out, shown),
+        Reply::Refused(refusal) => append_refusal(out, *refusal),
+    }
 }
 
 /// Adds the line of a reply, with its line feed. An `Err` means out of memory, and adds nothing.
@@ -87,6 +97,15 @@ pub fn append_reply(out: &mut Vec<u8>, reply: &Reply) -> Result<(), AllocError>
             Err(refused)
         }
     }
+}
+
+/// The JSON object of a reply: its line without the line feed.
+pub fn append_value(out: &mut Vec<u8>, reply: &Reply) -> Result<(), AllocError>
+    ensures { Adds result out.old.items out.new.items (compact_text (reply_json reply.now)) }
+{
+    append_reply(out, reply)?;
+    out.truncate(out.len() - 1);
+    Ok(())
 }
 
 /// The line of a reply, with its line feed. An `Err` means out of memory.

@@ -11,9 +11,9 @@ made_with label name = codes "{\"kind\":" ++ (label ++ (codes ",\"name\":" ++ (n
 
 -- the same, piece by piece
 abbrev made_by : List ℕ → List ℕ → List ℕ
-made_by label name = codes "{\"kind\":\"" ++ (label ++ (codes "\",\"name\":" ++ (name ++ codes "}")))
+made_by label name = codes "{\"kind\":\"" ++ (label ++ (codes "\",\"name\":" ++ (name ++ codes "}\n")))
 
-made_text : (label name : List ℕ) → made_by label name ≡ made_with (codes "\"" ++ (label ++ codes "\"")) name
+made_text : (label name : List ℕ) → made_by label name ≡ made_with (codes "\"" ++ (label ++ codes "\"")) name ++ codes "\n"
 made_text label name = simp append_assoc
 
 pub returns : goal.returns
@@ -30,5 +30,5 @@ returns c =
       c.text.ensures,
       c.new-piece.ensures,
     ) refl in
-    let same = built ∙ made_text label name ∙ ap (λ l. made_with l name) (sym (quoted_label c.args.kind)) in
+    let same = built ∙ made_text label name ∙ ap (λ l. made_with l name ++ codes "\n") (sym (quoted_label c.args.kind)) in
     rw same at c.append_to.ensures
