@@ -9,7 +9,7 @@ use Rattle.rb_money.proofs.accounts.Accounts.from_vec.Goals as goal
 pub invariant_of-result : goal.invariant_of-result
 invariant_of-result c =
     let Finds : Entries → Type 0 = λ es. HasPlaces c.in_ok-places.places (names_of es) in
-    (c.requires.few, subst Finds c.as_slice.ensures.value c.in_ok-places.ensures)
+    (c.requires.few, subst Finds c.as_slice.ensures.value c.in_ok-places.ensures, c.in_ok-short.ensures)
 
 pub returns : goal.returns
 returns c =
