@@ -14,7 +14,7 @@ ghost use Rattle.rb_history.specs.OneLine.{ConfigsAreLines, EntriesAreLines};
 ghost use Rattle.rb_history.specs.Sites.{HeldNamesFitLines, ReadEventsFit, RepliesFitLines};
 
 pub use rb_commands::{LineFault, read_command, read_config, write_reply};
-pub use read::entry::read_line;
+pub use read::entry::{read_entry, read_line};
 pub use read::event::read_event;
 pub use write::config::write_config;
 pub use write::entry::{append_line, write_line};

@@ -1,6 +1,6 @@
 //! How many of each site's blue operations a home had applied, in either version of the format, in one pass. `None`
 //! says nothing of a text.
-ghost use Rattle.std.specs.Prelude.{◌≡◌, ◌<◌, ◌≤◌, ◌^◌, ◌++◌, IfSome};
+ghost use Rattle.std.specs.Prelude.{◌≡◌, ◌<◌, ◌≤◌, ◌^◌, ◌++◌, IfSome, length};
 ghost use Rattle.serde_json.specs.Written.{compact_text};
 ghost use Rattle.rb_money.specs.declared.limits.TheConstants.{MOST_SITES};
 ghost use Rattle.rb_commands.specs.Values.{number_json};
@@ -12,20 +12,21 @@ use crate::read::counts::widened;
 use rb_commands::fast::scan::{parse_byte, parse_prefix, parse_word};
 use rb_money::{MOST_SITES, MOST_SITES_OF_VERSION_1};
 
-/// A count for each site that version 1 may have, and the closing bracket.
-fn parse_first(text: &str) -> Option<([u32; MOST_SITES_OF_VERSION_1], &str)>
-    ensures { IfSome result (λ p. BeginsWithEach number_json (λ n. n < 2 ^ 32) p.0 text.now p.1.now) }
+/// A count for each of these places, and what follows the closing bracket.
+#[inline(never)]
+fn parse_first<'a>(text: &'a str, counts: &mut [u32]) -> Option<&'a str>
+    requires { 0 < length counts.old }
+    ensures { IfSome result (λ rest. BeginsWithEach number_json (λ n. n < 2 ^ 32) counts.new text.now rest.now) }
 {
-    let mut counts = [0; MOST_SITES_OF_VERSION_1];
-    let mut left = text;
-    let mut comma = "";
-    for site in 0..MOST_SITES_OF_VERSION_1 {
-        let (count, rest) = parse_word(parse_prefix(left, comma)?)?;
+    let (first, mut left) = parse_word(text)?;
+    counts[0] = first;
+    for site in 1..counts.len() {
+        let (count, rest) = parse_word(parse_prefix(left, ",")?)?;
         counts[site] = count;
         left = rest;
-        comma = ",";
     }
-    Some((counts, parse_prefix(left, "]")?))
+    let rest = parse_prefix(left, "]")?;
+    Some(rest)
 }
 
 /// The number of a site, at least this, and its count, above 0.
@@ -44,17 +45,17 @@ fn parse_numbered_one(text: &str, least: usize) -> Option<(usize, u32, &str)>
     }
 }
 
-/// The counts above 0, each behind its site's number, and the closing bracket.
-fn parse_numbered(text: &str) -> Option<([u32; MOST_SITES], &str)>
-    ensures { IfSome result (λ p. BeginsWithNumbered p.0 text.now p.1.now) }
+/// The counts above 0, each behind its site's number, and what follows the closing bracket.
+fn parse_numbered<'a>(text: &'a str, counts: &mut [u32; MOST_SITES]) -> Option<&'a str>
+    ensures { IfSome result (λ rest. BeginsWithNumbered counts.new text.now rest.now) }
 {
-    let mut counts = [0; MOST_SITES];
+    *counts = [0; MOST_SITES];
     let mut least = 0;
     let mut left = text;
     let mut comma = "";
     'sites: loop {
         if let Some(rest) = parse_prefix(left, "]") {
-            return Some((counts, rest));
+            return Some(rest);
         }
         let (site, count, rest) = parse_numbered_one(parse_prefix(left, comma)?, least)?;
         counts[site] = count;
@@ -64,15 +65,22 @@ fn parse_numbered(text: &str) -> Option<([u32; MOST_SITES], &str)>
     }
 }
 
-/// The counts of all sites, as this version of the format has them.
+/// The counts of all sites, as this version of the format has them, in their place, and what follows them.
+#[inline(always)]
 #[tactic(auto, unfolding(crate::specs::Counts::blue_json))]
-pub fn parse_counts(version: u8, text: &str) -> Option<([u32; MOST_SITES], &str)>
-    ensures { IfSome result (λ p. BeginsWithCounts version p.0 text.now p.1.now) }
+pub fn parse_counts<'a>(
+    version: u8,
+    text: &'a str,
+    counts: &mut [u32; MOST_SITES],
+) -> Option<&'a str>
+    ensures { IfSome result (λ rest. BeginsWithCounts version counts.new text.now rest.now) }
 {
     let list = parse_prefix(text, "[")?;
     if version == 1 {
-        let (first, rest) = parse_first(list)?;
-        return Some((widened(&first), rest));
+        let mut first = [0; MOST_SITES_OF_VERSION_1];
+        let rest = parse_first(list, &mut first)?;
+        *counts = widened(&first);
+        return Some(rest);
     }
-    parse_numbered(list)
+    parse_numbered(list, counts)
 }

@@ -11,19 +11,19 @@ use rb_money::Config;
 use rb_site::Reply;
 use std::alloc::Global;
 
-/// The number of the site and its reply, with which an entry's line ends.
-pub fn parse_entry_end(alloc: Global, config: &Config, text: &str) -> Option<(u8, Reply)>
-    ensures site { IfSome result (λ p. p.0 < config.now.sites) }
-    ensures value { IfSome result (λ p. IsReply p.1
-        × (text.now ≡ codes ",\"reply\":" ++ (compact_text (reply_json p.1)
-        ++ (codes ",\"site\":" ++ (decimal p.0 ++ codes "}"))))) }
+/// The number of the site, and its reply in its place, with which an entry's line ends. The reply may be any where
+/// there is none.
+#[inline(always)]
+pub fn parse_entry_end(alloc: Global, config: &Config, text: &str, reply: &mut Reply) -> Option<u8>
+    ensures site { IfSome result (λ site. site < config.now.sites) }
+    ensures value { IfSome result (λ site. IsReply reply.new
+        × (text.now ≡ codes ",\"reply\":" ++ (compact_text (reply_json reply.new)
+        ++ (codes ",\"site\":" ++ (decimal site ++ codes "}"))))) }
 {
-    let Some((reply, rest)) = parse_reply(alloc, parse_prefix(text, ",\"reply\":")?) else {
-        return None;
-    };
+    let rest = parse_reply(alloc, parse_prefix(text, ",\"reply\":")?, reply)?;
     let (site, rest) = parse_byte_between(rest, ",\"site\":", "}")?;
-    if rest != "" || config.sites() <= site {
+    if !rest.is_empty() || config.sites() <= site {
         return None;
     }
-    Some((site, reply))
+    Some(site)
 }

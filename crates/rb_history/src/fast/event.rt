@@ -69,11 +69,13 @@ fn parse_request<'a>(config: &Config, text: &'a str) -> Option<(Request, &'a str
     }
 }
 
-fn parse_submit<'a>(config: &Config, text: &'a str) -> Option<(Event, &'a str)>
-    ensures { IfSome result (λ p. BeginsWithEvent config.now p.0 text.now p.1.now) }
+#[inline(always)]
+fn parse_submit<'a>(config: &Config, text: &'a str, event: &mut Event) -> Option<&'a str>
+    ensures { IfSome result (λ rest. BeginsWithEvent config.now event.new text.now rest.now) }
 {
     let (request, rest) = parse_request(config, text)?;
-    Some((Event::Submit(request), rest))
+    *event = Event::Submit(request);
+    Some(rest)
 }
 
 /// The requests of a list, and its closing bracket.
@@ -119,11 +121,13 @@ fn parse_token<'a>(config: &Config, text: &'a str) -> Option<(Event, &'a str)>
     Some((Event::Receive(Message::Token(token)), rest))
 }
 
-fn parse_apply<'a>(config: &Config, text: &'a str) -> Option<(Event, &'a str)>
-    ensures { IfSome result (λ p. BeginsWithEvent config.now p.0 text.now p.1.now) }
+#[inline(always)]
+fn parse_apply<'a>(config: &Config, text: &'a str, event: &mut Event) -> Option<&'a str>
+    ensures { IfSome result (λ rest. BeginsWithEvent config.now event.new text.now rest.now) }
 {
     let (name, rest) = parse_name_between(text, "{\"apply\":\"", "}")?;
-    Some((Event::Apply(name), rest))
+    *event = Event::Apply(name);
+    Some(rest)
 }
 
 fn parse_pass<'a>(config: &Config, text: &'a str) -> Option<(Event, &'a str)>
@@ -133,11 +137,13 @@ fn parse_pass<'a>(config: &Config, text: &'a str) -> Option<(Event, &'a str)>
     Some((Event::Pass(to), rest))
 }
 
-fn parse_balance<'a>(config: &Config, text: &'a str) -> Option<(Event, &'a str)>
-    ensures { IfSome result (λ p. BeginsWithEvent config.now p.0 text.now p.1.now) }
+#[inline(always)]
+fn parse_balance<'a>(config: &Config, text: &'a str, event: &mut Event) -> Option<&'a str>
+    ensures { IfSome result (λ rest. BeginsWithEvent config.now event.new text.now rest.now) }
 {
     let (account, rest) = parse_account_between(config, text, "{\"balance\":\"", "}")?;
-    Some((Event::Balance(account), rest))
+    *event = Event::Balance(account);
+    Some(rest)
 }
 
 fn parse_as_of<'a>(config: &Config, text: &'a str) -> Option<(Event, &'a str)>
@@ -157,23 +163,51 @@ fn parse_statement<'a>(config: &Config, text: &'a str) -> Option<(Event, &'a str
     Some((Event::Statement(account), rest))
 }
 
-/// An event, as the first letters of its key say.
-pub fn parse_event<'a>(alloc: Global, config: &Config, text: &'a str) -> Option<(Event, &'a str)>
+/// An event that comes seldom, as the first letters of its key say.
+fn parse_rare<'a>(alloc: Global, config: &Config, text: &'a str) -> Option<(Event, &'a str)>
     ensures { IfSome result (λ p. BeginsWithEvent config.now p.0 text.now p.1.now) }
 {
     let key = text.as_bytes();
-    match (key.get(2), key.get(3)) {
-        (Some(b's'), Some(b'h')) => parse_received(config, text),
-        (Some(b's'), _) => parse_statement(config, text),
-        (Some(b'a'), Some(b'p')) => parse_apply(config, text),
-        (Some(b'a'), _) => parse_as_of(config, text),
-        (Some(b'b'), _) => match key.get(4) {
-            Some(b'l') => parse_balance(config, text),
-            _ => parse_batch(alloc, config, text),
-        },
-        (Some(b'p'), _) => parse_pass(config, text),
-        (Some(b't'), Some(b'o')) => parse_token(config, text),
-        _ => parse_submit(config, text),
+    match key.get(2) {
+        Some(b's') => parse_statement(config, text),
+        Some(b'a') => parse_as_of(config, text),
+        Some(b'b') => parse_batch(alloc, config, text),
+        Some(b'p') => parse_pass(config, text),
+        _ => parse_token(config, text),
+    }
+}
+
+/// An event that comes seldom, in its place, and what follows it.
+#[inline(never)]
+fn put_rare<'a>(alloc: Global, config: &Config, text: &'a str, event: &mut Event) -> Option<&'a str>
+    ensures { IfSome result (λ rest. BeginsWithEvent config.now event.new text.now rest.now) }
+{
+    let Some((found, rest)) = parse_rare(alloc, config, text) else {
+        return None;
+    };
+    *event = found;
+    Some(rest)
+}
+
+/// An event, as the first letters of its key say, in its place, and what follows it. It may be any where there is none.
+pub fn parse_event<'a>(
+    alloc: Global,
+    config: &Config,
+    text: &'a str,
+    event: &mut Event,
+) -> Option<&'a str>
+    ensures { IfSome result (λ rest. BeginsWithEvent config.now event.new text.now rest.now) }
+{
+    let key = text.as_bytes();
+    match (key.get(2), key.get(4)) {
+        (Some(b's'), Some(b'a')) => parse_received(config, text, event),
+        (Some(b'a'), Some(b'p')) => parse_apply(config, text, event),
+        (Some(b'b'), Some(b'l')) => parse_balance(config, text, event),
+        (Some(b't'), Some(b'a')) => parse_submit(config, text, event),
+        (Some(b'd'), _) | (Some(b'w'), _) | (Some(b'i'), _) | (Some(b'c'), _) => {
+            parse_submit(config, text, event)
+        }
+        _ => put_rare(alloc, config, text, event),
     }
 }
 
@@ -183,9 +217,8 @@ pub fn parse_event_line(alloc: Global, config: &Config, line: &str) -> Option<Ev
 {
     // For a fact alone: its settings are those of a configuration.
     let _sites = config.sites();
-    let Some((event, rest)) = parse_event(alloc, config, line) else {
-        return None;
-    };
+    let mut event = Event::Pass(0);
+    let rest = parse_event(alloc, config, line, &mut event)?;
     if rest != "" {
         return None;
     }

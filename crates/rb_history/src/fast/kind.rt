@@ -13,12 +13,36 @@ use rb_commands::fast::scan::parse_prefix;
 use rb_money::Config;
 use rb_shadow::{Kind, Label};
 
+/// A kind's word and its second quote.
+#[inline(always)]
+#[tactic(auto, unfolding(json::specs::Print::escape_byte))]
+fn quoted_word(label: Label) -> &'static str
+    ensures { result.now ≡ behind_quote (word_of label) }
+{
+    match label {
+        Label::Deposit => "deposit\"",
+        Label::Withdraw => "withdraw\"",
+        Label::Declined => "declined\"",
+        Label::Interest => "interest\"",
+        Label::Cancel => "cancel\"",
+        Label::Transfer => "transfer\"",
+    }
+}
+
 /// A kind's word, behind its first quote.
+#[inline(always)]
 pub fn parse_label(text: &str) -> Option<(Label, &str)>
     ensures { IfSome result (λ p. text.now ≡ behind_quote (word_of p.0) ++ p.1.now) }
 {
-    let (label, rest) = Label::strip_word(text)?;
-    Some((label, parse_prefix(rest, "\"")?))
+    let label = match (text.as_bytes().first(), text.as_bytes().get(2)) {
+        (Some(b'd'), Some(b'p')) => Label::Deposit,
+        (Some(b'd'), _) => Label::Declined,
+        (Some(b'w'), _) => Label::Withdraw,
+        (Some(b'i'), _) => Label::Interest,
+        (Some(b't'), _) => Label::Transfer,
+        _ => Label::Cancel,
+    };
+    Some((label, parse_prefix(text, quoted_word(label))?))
 }
 
 /// A cancellation, of its target, and the end of the object.

@@ -16,12 +16,14 @@ use rb_site::Reply;
 use std::alloc::Global;
 
 /// An operation that was made.
-fn parse_made(text: &str) -> Option<(Reply, &str)>
-    ensures { IfSome result (λ p. BeginsWithReply p.0 text.now p.1.now) }
+#[inline(always)]
+fn parse_made<'a>(text: &'a str, reply: &mut Reply) -> Option<&'a str>
+    ensures { IfSome result (λ rest. BeginsWithReply reply.new text.now rest.now) }
 {
     let (kind, rest) = parse_label(parse_prefix(text, "{\"kind\":\"")?)?;
     let (name, rest) = parse_name_between(rest, ",\"name\":\"", "}")?;
-    Some((Reply::Made { name, kind }, rest))
+    *reply = Reply::Made { name, kind };
+    Some(rest)
 }
 
 /// The names of a list, and its closing bracket.
@@ -53,11 +55,13 @@ fn parse_names<'a>(alloc: Global, text: &'a str) -> Option<(Reply, &'a str)>
     Some((Reply::Names(List::new(names)), parse_prefix(rest, "}")?))
 }
 
-fn parse_held(text: &str) -> Option<(Reply, &str)>
-    ensures { IfSome result (λ p. BeginsWithReply p.0 text.now p.1.now) }
+#[inline(always)]
+fn parse_held<'a>(text: &'a str, reply: &mut Reply) -> Option<&'a str>
+    ensures { IfSome result (λ rest. BeginsWithReply reply.new text.now rest.now) }
 {
     let (name, rest) = parse_name_between(text, "{\"held\":\"", "}")?;
-    Some((Reply::Held(name), rest))
+    *reply = Reply::Held(name);
+    Some(rest)
 }
 
 fn parse_already(text: &str) -> Option<(Reply, &str)>
@@ -67,11 +71,13 @@ fn parse_already(text: &str) -> Option<(Reply, &str)>
     Some((Reply::Already(name), rest))
 }
 
-fn parse_applied(text: &str) -> Option<(Reply, &str)>
-    ensures { IfSome result (λ p. BeginsWithReply p.0 text.now p.1.now) }
+#[inline(always)]
+fn parse_applied<'a>(text: &'a str, reply: &mut Reply) -> Option<&'a str>
+    ensures { IfSome result (λ rest. BeginsWithReply reply.new text.now rest.now) }
 {
     let (name, rest) = parse_name_between(text, "{\"applied\":\"", "}")?;
-    Some((Reply::Applied(name), rest))
+    *reply = Reply::Applied(name);
+    Some(rest)
 }
 
 fn parse_taken(text: &str) -> Option<(Reply, &str)>
@@ -96,26 +102,25 @@ fn parse_passed(text: &str) -> Option<(Reply, &str)>
 }
 
 /// A balance, in cents.
-fn parse_balance(text: &str) -> Option<(Reply, &str)>
-    ensures { IfSome result (λ p. BeginsWithReply p.0 text.now p.1.now) }
+#[inline(always)]
+fn parse_balance<'a>(text: &'a str, reply: &mut Reply) -> Option<&'a str>
+    ensures { IfSome result (λ rest. BeginsWithReply reply.new text.now rest.now) }
 {
     let (cents, rest) = parse_long_between(text, "{\"balance\":", "}")?;
-    Some((Reply::Balance(cents), rest))
+    *reply = Reply::Balance(cents);
+    Some(rest)
 }
 
-/// A reply, as the first letters of its first key say.
-pub fn parse_reply<'a>(alloc: Global, text: &'a str) -> Option<(Reply, &'a str)>
+/// A reply that comes seldom, as the first letters of its first key say.
+fn parse_rare<'a>(alloc: Global, text: &'a str) -> Option<(Reply, &'a str)>
     ensures { IfSome result (λ p. BeginsWithReply p.0 text.now p.1.now) }
 {
     match (text.as_bytes().get(2), text.as_bytes().get(3)) {
-        (Some(b'k'), _) => parse_made(text),
-        (Some(b'h'), _) => parse_held(text),
-        (Some(b'a'), Some(b'p')) => parse_applied(text),
         (Some(b'a'), _) => parse_already(text),
         (Some(b'r'), _) => parse_refused(text),
-        (Some(b'b'), _) => match parse_balance(text) {
-            Some(told) => Some(told),
-            None => parse_statement(alloc, text),
+        (Some(b'b'), Some(b'a')) => match parse_statement(alloc, text) {
+            Some(shown) => Some(shown),
+            None => parse_batch(text),
         },
         (Some(b't'), _) => parse_taken(text),
         (Some(b's'), _) => parse_stale(text),
@@ -124,5 +129,35 @@ pub fn parse_reply<'a>(alloc: Global, text: &'a str) -> Option<(Reply, &'a str)>
         (Some(b'n'), Some(b'a')) => parse_names(alloc, text),
         (Some(b'n'), _) => parse_behind(text),
         _ => parse_batch(text),
+    }
+}
+
+/// A reply that comes seldom, in its place, and what follows it.
+#[inline(never)]
+fn put_rare<'a>(alloc: Global, text: &'a str, reply: &mut Reply) -> Option<&'a str>
+    ensures { IfSome result (λ rest. BeginsWithReply reply.new text.now rest.now) }
+{
+    let Some((found, rest)) = parse_rare(alloc, text) else {
+        return None;
+    };
+    *reply = found;
+    Some(rest)
+}
+
+/// A reply, as the first letters of its first key say, in its place, and what follows it. It may be any where there is
+/// none.
+#[inline(always)]
+pub fn parse_reply<'a>(alloc: Global, text: &'a str, reply: &mut Reply) -> Option<&'a str>
+    ensures { IfSome result (λ rest. BeginsWithReply reply.new text.now rest.now) }
+{
+    match (text.as_bytes().get(2), text.as_bytes().get(3)) {
+        (Some(b'k'), _) => parse_made(text, reply),
+        (Some(b'h'), _) => parse_held(text, reply),
+        (Some(b'a'), Some(b'p')) => parse_applied(text, reply),
+        (Some(b'b'), _) => match parse_balance(text, reply) {
+            Some(rest) => Some(rest),
+            None => put_rare(alloc, text, reply),
+        },
+        _ => put_rare(alloc, text, reply),
     }
 }

@@ -8,31 +8,34 @@ use crate::fast::kind::{parse_kind, parse_label};
 use crate::fast::name::parse_op_name;
 use crate::fast::number::{parse_byte_between, parse_long_between, parse_word_between};
 use rb_commands::fast::scan::parse_prefix;
-use rb_money::Config;
+use rb_money::{Config, MOST_SITES};
 use rb_shadow::{Deps, Shadow};
 use rb_site::{Event, Message};
 
-/// What a home had applied.
-fn parse_deps<'a>(config: &Config, text: &'a str) -> Option<(Deps, &'a str)>
-    ensures { IfSome result (λ p. BeginsWithDeps config.now.version p.0 text.now p.1.now) }
+/// What a home had applied, in its place, and what follows it.
+#[inline(always)]
+fn parse_deps<'a>(config: &Config, text: &'a str, deps: &mut Deps) -> Option<&'a str>
+    ensures { IfSome result (λ rest. BeginsWithDeps config.now.version deps.new text.now rest.now) }
 {
-    let Some(counts) = parse_counts(config.version(), parse_prefix(text, "[")?) else {
-        return None;
-    };
-    let (blue, rest) = counts;
+    let list = parse_prefix(text, "[")?;
+    let rest = parse_counts(config.version(), list, &mut deps.blue)?;
     let (red, rest) = parse_word_between(rest, ",", "]")?;
-    Some((Deps { blue, red }, rest))
+    deps.red = red;
+    Some(rest)
 }
 
-/// A shadow that comes, as the one member of an object.
-pub fn parse_received<'a>(config: &Config, text: &'a str) -> Option<(Event, &'a str)>
-    ensures { IfSome result (λ p. BeginsWithEvent config.now p.0 text.now p.1.now) }
+/// A shadow that comes, as the one member of an object. It may be any event where there is none.
+#[inline(never)]
+pub fn parse_received<'a>(config: &Config, text: &'a str, event: &mut Event) -> Option<&'a str>
+    ensures { IfSome result (λ rest. BeginsWithEvent config.now event.new text.now rest.now) }
 {
     let (account, rest) = parse_account_between(config, text, "{\"shadow\":{\"account\":\"", ",")?;
     let (amount, rest) = parse_long_between(rest, "\"amount\":", ",\"deps\":")?;
-    let Some((deps, rest)) = parse_deps(config, rest) else {
-        return None;
+    let mut deps = Deps {
+        blue: [0; MOST_SITES],
+        red: 0,
     };
+    let rest = parse_deps(config, rest, &mut deps)?;
     let (home, rest) = parse_byte_between(rest, ",\"home\":", ",\"kind\":\"")?;
     let (label, rest) = parse_label(rest)?;
     let (name, rest) = parse_op_name(parse_prefix(rest, ",\"name\":\"")?)?;
@@ -46,5 +49,6 @@ pub fn parse_received<'a>(config: &Config, text: &'a str) -> Option<(Event, &'a 
         amount,
         kind,
     };
-    Some((Event::Receive(Message::Shadow(shadow)), rest))
+    *event = Event::Receive(Message::Shadow(shadow));
+    Some(rest)
 }

@@ -1,5 +1,6 @@
 //! Lines of histories, read.
-ghost use Rattle.std.specs.Prelude.{◌≡◌, ◌<◌, codes, IfOk};
+ghost use Rattle.std.specs.Prelude.{◌≡◌, ◌<◌, codes, IfOk, IfSome, MatchResult, None, Some};
+ghost use Rattle.rb_commands.specs.declared.fault.LineFault.TheVariants.{Bad};
 ghost use Rattle.serde_json.specs.View.{view};
 ghost use Rattle.rb_history.specs.Entries.{entry_of_line, entry_of_object};
 ghost use Rattle.rb_commands.specs.Lines.{Gives};
@@ -70,27 +71,83 @@ fn entry(alloc: Global, config: &Config, value: &Value) -> Result<(u8, Entry), L
     Ok((site, Entry { event, reply }))
 }
 
-/// The entry that a history's line is, with the number of its site: `Bad` where it is none, `OutOfMemory`
-/// where there was no memory to read it.
-///
-/// An account that the configuration doesn't have is read as `Place::NOWHERE`. The reply may be one that no
-/// site gives, and `why` and the number that stopped a batch may be any byte; but a line that reports running out of
-/// memory is bad, as is one of a site that the configuration doesn't have.
-pub fn read_line(alloc: Global, config: &Config, line: &str) -> Result<(u8, Entry), LineFault>
-    ensures read { Gives result (entry_of_line config.now line.now) }
-    ensures site { IfOk result (λ x. x.0 < config.now.sites) }
+/// The entry of a line as it is written, in its place, and the number of its site. The entry may be any where there is
+/// none.
+#[inline(always)]
+fn parse_entry(alloc: Global, config: &Config, line: &str, entry: &mut Entry) -> Option<u8>
+    ensures { IfSome result (λ site. (entry_of_line config.now line.now ≡ Some (site, entry.new))
+        × (site < config.now.sites)) }
 {
     // For a fact alone: its settings are those of a configuration.
     let _sites = config.sites();
-    if let Some(text) = parse_prefix(line, "{\"event\":") {
-        if let Some((event, rest)) = parse_event(alloc, config, text) {
-            if let Some((site, reply)) = parse_entry_end(alloc, config, rest) {
-                return Ok((site, Entry { event, reply }));
-            }
-        }
-    }
+    let text = parse_prefix(line, "{\"event\":")?;
+    let rest = parse_event(alloc, config, text, &mut entry.event)?;
+    let site = parse_entry_end(alloc, config, rest, &mut entry.reply)?;
+    Some(site)
+}
+
+/// The entry that a line of any spelling is, with the number of its site.
+#[inline(never)]
+fn read_spelled(alloc: Global, config: &Config, line: &str) -> Result<(u8, Entry), LineFault>
+    ensures read { Gives result (entry_of_line config.now line.now) }
+    ensures site { IfOk result (λ x. x.0 < config.now.sites) }
+{
     match read_value(alloc, line) {
         Ok(value) => entry(alloc, config, &value),
         Err(fault) => Err(fault),
     }
+}
+
+/// The entry that a line of any spelling is, in its place, and the number of its site.
+#[cold]
+#[inline(never)]
+fn put_spelled(
+    alloc: Global,
+    config: &Config,
+    line: &str,
+    entry: &mut Entry,
+) -> Result<u8, LineFault>
+    ensures { MatchResult result
+        (λ site. (entry_of_line config.now line.now ≡ Some (site, entry.new)) × (site < config.now.sites))
+        (λ why. why ≡ Bad → entry_of_line config.now line.now ≡ None) }
+{
+    let (site, read) = read_spelled(alloc, config, line)?;
+    *entry = read;
+    Ok(site)
+}
+
+/// Reads the entry that a history's line is into its place, and returns the number of its site: `Bad` where it is none,
+/// `OutOfMemory` where there was no memory to read it. The entry may be any then.
+///
+/// An account that the configuration doesn't have is read as `Place::NOWHERE`. The reply may be one that no
+/// site gives, and `why` and the number that stopped a batch may be any byte; but a line that reports running out of
+/// memory is bad, as is one of a site that the configuration doesn't have.
+pub fn read_entry(
+    alloc: Global,
+    config: &Config,
+    line: &str,
+    entry: &mut Entry,
+) -> Result<u8, LineFault>
+    ensures { MatchResult result
+        (λ site. (entry_of_line config.now line.now ≡ Some (site, entry.new)) × (site < config.now.sites))
+        (λ why. why ≡ Bad → entry_of_line config.now line.now ≡ None) }
+{
+    match parse_entry(alloc, config, line, entry) {
+        Some(site) => Ok(site),
+        None => put_spelled(alloc, config, line, entry),
+    }
+}
+
+/// The entry that a history's line is, as `read_entry` reads it, with the number of its site: `Bad` where it is none,
+/// `OutOfMemory` where there was no memory to read it.
+pub fn read_line(alloc: Global, config: &Config, line: &str) -> Result<(u8, Entry), LineFault>
+    ensures read { Gives result (entry_of_line config.now line.now) }
+    ensures site { IfOk result (λ x. x.0 < config.now.sites) }
+{
+    let mut entry = Entry {
+        event: Event::Pass(0),
+        reply: Reply::Taken(0),
+    };
+    let site = read_entry(alloc, config, line, &mut entry)?;
+    Ok((site, entry))
 }

@@ -9,15 +9,15 @@ use Rattle.rb_history.proofs.fast.counts.parse_counts.Goals as goal
 
 pub returns-then-version-eq1 : goal.returns-then-version-eq1
 returns-then-version-eq1 c =
-    let first = c.in_ok-first.first in
+    let first = c.parse_first.new.counts in
     let few : length first ≡ MOST_SITES_OF_VERSION_1 = search rules in
     let text = c.args.text.now in
-    let rest = c.in_ok-first.rest.now in
+    let rest = c.in_ok-rest.rest.now in
     let one : c.args.version ≡ 1 = search rules in
-    let read = c.in_ok-list.ensures ∙ ap (λ l. codes "[" ++ l) c.in_ok-first.ensures.1 in
+    let read = c.in_ok-list.ensures ∙ ap (λ l. codes "[" ++ l) c.in_ok-rest.ensures.1 in
     let told : BeginsWithCounts 1 (widened first) text rest = record {
       sites = widened_length first few;
-      fit = widened_fits first c.in_ok-first.ensures.0;
+      fit = widened_fits first c.in_ok-rest.ensures.0;
       further = λ version. widened_further first few;
       told = read ∙ ap (λ blue. compact_text blue ++ rest) (sym (widened_json first few));
     } in
@@ -41,5 +41,5 @@ numbered version ns text list rest other e n = record {
 }
 
 pub returns : goal.returns
-returns c = if_some c.parse_numbered.result (λ p n. numbered c.args.version p.0 c.args.text.now c.in_ok-list.list.now p.1.now
-    c.if-version-eq1.false c.in_ok-list.ensures n) c.parse_numbered.ensures
+returns c = if_some c.parse_numbered.result (λ rest n. numbered c.args.version c.parse_numbered.new.counts c.args.text.now
+    c.in_ok-list.list.now rest.now c.if-version-eq1.false c.in_ok-list.ensures n) c.parse_numbered.ensures

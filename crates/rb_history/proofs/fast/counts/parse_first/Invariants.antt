@@ -1,5 +1,4 @@
-use Rattle.std.proofs.Common.{◌≡◌, ◌<◌, ◌^◌, length, take}
-use Rattle.rb_money.specs.declared.limits.TheConstants.{MOST_SITES_OF_VERSION_1}
+use Rattle.std.proofs.Common.{◌≡◌, ◌<◌, ◌^◌, codes, length, take}
 use denote.Text.{Utf8}
 use denote.Shadow.{shadow}
 use Rattle.rb_commands.specs.Values.{number_json}
@@ -10,8 +9,7 @@ use Rattle.rb_history.proofs.fast.counts.parse_first.Given as goal
 abbrev pub invariant-loop-site : goal.invariant-loop-site
 invariant-loop-site l = record {
   left : shadow (Utf8 l.left);
-  comma : shadow (Utf8 l.comma);
-  sites : length l.counts ≡ MOST_SITES_OF_VERSION_1;
+  sites : length l.counts ≡ l.site-end;
   fit : Each (λ n. n < 2 ^ 32) (take l.site l.counts);
-  read : BeginsWith number_json l.text l.left l.comma (take l.site l.counts);
+  read : BeginsWith number_json l.text l.left (codes ",") (take l.site l.counts);
 }

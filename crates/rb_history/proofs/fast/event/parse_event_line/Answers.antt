@@ -7,8 +7,8 @@ use Rattle.rb_history.proofs.fast.event.parse_event_line.Goals as goal
 pub returns : goal.returns
 returns c =
     let s = c.args.config.now in
-    let event = c.in-Some.event in
+    let event = c.parse_event.new.event in
     let text = compact_text (event_json s event) in
-    let last : c.in-Some.rest.now ≡ [] = search rules in
-    let line = c.in-Some.ensures.1 ∙ ap (λ l. text ++ l) last ∙ append-nil text in
-    ap (event_of_line s) line ∙ event_line s c.sites-sites.ensures.configured event c.in-Some.ensures.0
+    let last : c.in_ok-rest.rest.now ≡ [] = search rules in
+    let line = c.in_ok-rest.ensures.1 ∙ ap (λ l. text ++ l) last ∙ append-nil text in
+    ap (event_of_line s) line ∙ event_line s c.sites-sites.ensures.configured event c.in_ok-rest.ensures.0

@@ -25,21 +25,21 @@ unfolding escape_byte
 returns c =
     let account = account_behind_quote c.args.config.now c.in_ok-account.account in
     let amount = decimal c.in_ok-amount.amount in
-    let deps = compact_text (deps_json c.args.config.now.version c.in-Some.deps) in
+    let deps = compact_text (deps_json c.args.config.now.version c.parse_deps.new.deps) in
     let home = decimal c.in_ok-home.home in
     let label = behind_quote (word_of c.in_ok-label.label) in
     let name = behind_quote (name_text c.in_ok-name.name) in
     let last = members_text true (last_members c.args.config.now c.in_ok-kind.kind) in
-    let rest = c.in_ok-rest.rest.now in
+    let rest = c.in_ok-rest-2.rest.now in
     let read =
     c.in_ok-account.ensures.1 ∙ ap (λ l. (codes "{\"shadow\":{\"account\":\"" ++ (account ++ codes ",")) ++ l)
     (c.in_ok-amount.ensures.1 ∙ ap (λ l. (codes "\"amount\":" ++ (amount ++ codes ",\"deps\":")) ++ l)
-    (c.in-Some.ensures.told ∙ ap (λ l. deps ++ l)
+    (c.in_ok-rest.ensures.told ∙ ap (λ l. deps ++ l)
     (c.in_ok-home.ensures.1 ∙ ap (λ l. (codes ",\"home\":" ++ (home ++ codes ",\"kind\":\"")) ++ l)
     (c.in_ok-label.ensures ∙ ap (λ l. label ++ l)
     (c.in_ok-parse_prefix.ensures ∙ ap (λ l. codes ",\"name\":\"" ++ l)
     (c.in_ok-name.ensures.1 ∙ ap (λ l. name ++ l)
-    (c.in_ok-kind.ensures.text ∙ ap (λ l. last ++ l) c.in_ok-rest.ensures))))))) in
+    (c.in_ok-kind.ensures.text ∙ ap (λ l. last ++ l) c.in_ok-rest-2.ensures))))))) in
     let whole = λ (kind : List ℕ). (codes
     "{\"shadow\":" ++ ((codes "{\"account\":\"" ++
     (account ++ (codes ",\"amount\":" ++
@@ -50,10 +50,10 @@ returns c =
       record {
         name = c.in_ok-name.ensures.0;
         home = c.in_ok-home.ensures.0;
-        sites = c.in-Some.ensures.sites;
-        blue = c.in-Some.ensures.blue;
-        further = c.in-Some.ensures.further;
-        red = c.in-Some.ensures.red;
+        sites = c.in_ok-rest.ensures.sites;
+        blue = c.in_ok-rest.ensures.blue;
+        further = c.in_ok-rest.ensures.further;
+        red = c.in_ok-rest.ensures.red;
         account = c.in_ok-account.ensures.0;
         amount = c.in_ok-amount.ensures.0;
         kind = c.in_ok-kind.ensures.kind.0;
