@@ -11,10 +11,10 @@ ghost use Rattle.rb_run_audit.specs.Collects.{InputEndsAt, HasEachSite, Takes};
 
 use rb_auditor::Auditor;
 use rb_commands::{LineFault, read_config};
-use rb_history::read_line;
+use rb_history::read_entry;
 use rb_lines::{StreamFault, is_blank, text_on};
 use rb_money::Config;
-use rb_site::Entry;
+use rb_site::{Entry, Event, Reply};
 use std::alloc::Global;
 
 /// What was collected of an audit's lines: once there is a configuration its auditor, which has read each entry so far,
@@ -37,17 +37,18 @@ fn config_of(alloc: Global, line: &[u8]) -> Result<Config, LineFault>
     read_config(alloc, text)
 }
 
-/// The entry on a line, and its site.
+/// The entry on a line, in its place, and its site. It may be any where there is none.
+#[inline(always)]
 #[tactic(auto, unfolding(rb_history::specs::Entries::entry_on))]
-fn entry_of(alloc: Global, config: &Config, line: &[u8]) -> Result<(u8, Entry), LineFault>
+fn entry_of(alloc: Global, config: &Config, line: &[u8], entry: &mut Entry) -> Result<u8, LineFault>
     ensures { MatchResult result
-        (λ x. (entry_on config.now line.now ≡ Some x) × (x.0 < config.now.sites))
+        (λ site. (entry_on config.now line.now ≡ Some (site, entry.new)) × (site < config.now.sites))
         (λ why. why ≡ Bad → entry_on config.now line.now ≡ None) }
 {
     let Some(text) = text_on(line) else {
         return Err(LineFault::Bad);
     };
-    read_line(alloc, config, text)
+    read_entry(alloc, config, text, entry)
 }
 
 impl Collected {
@@ -133,8 +134,12 @@ fn take_entry(
         (λ fault. (fault ≡ StreamFault.OutOfMemory)
         ⊎ ((fault ≡ StreamFault.BadLine number) × (entry_on auditor.old.settings line.now ≡ None))) }
 {
-    match entry_of(alloc, auditor.config(), line) {
-        Ok((site, entry)) => Ok(auditor.take(site, &entry)?),
+    let mut entry = Entry {
+        event: Event::Pass(0),
+        reply: Reply::Taken(0),
+    };
+    match entry_of(alloc, auditor.config(), line, &mut entry) {
+        Ok(site) => Ok(auditor.take(site, &entry)?),
         Err(LineFault::Bad) => Err(StreamFault::BadLine { line: number }),
         Err(LineFault::OutOfMemory) => Err(StreamFault::OutOfMemory),
     }
