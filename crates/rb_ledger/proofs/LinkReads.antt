@@ -1,11 +1,10 @@
 -- What is read of an account's links, and whether an operation is on an account.
 use Rattle.std.proofs.Common.{◌≡◌, ℕ, ◌+◌, ◌-◌, ◌<◌, ◌≤◌, Bool, true, false, ◌||◌, List, ◌∷◌, length, take, drop}
-use Rattle.std.proofs.Common.{get_or, refl, ap, sym, ◌∙◌, subst, arith, inr, Some, None}
+use Rattle.std.proofs.Common.{refl, ap, sym, ◌∙◌, subst, arith, inr, Some, None}
 use Rattle.std.specs.Prelude.{pos, slice_get, slice_index, ◌==◌}
 use Rattle.std.specs.Prelude.{option_to_list}
 use Rattle.std.proofs.lemmas.Int.{ints}
 use Rattle.std.proofs.lemmas.List.{take-append-drop}
-use Rattle.std.proofs.lemmas.Option.{slice_get_read}
 use Rattle.std.specs.List.{list_any}
 use Rattle.rb_money.specs.Settings.{Settings, IsConfigured}
 use Rattle.rb_money.specs.declared.place.Place.{Place}
@@ -27,14 +26,13 @@ use Rattle.rb_ledger.proofs.Public.OnAccount
 use Rattle.rb_ledger.proofs.FoundNames.{entry_there}
 
 -- the link there, read from the list of links alone
-pub link_read : (s : Settings) (us : List Shadow) (ls : List Links) (a : Place) (p m : ℕ) (l : Links) → AreLinks s us ls → IsOn us a p →
-    0 < p → m ≡ length ls → l ≡ get_or ls (p - 1) l
+pub link_read : (s : Settings) (us : List Shadow) (ls : List Links) (a : Place) (p : ℕ) (l : Links) → AreLinks s us ls → IsOn us a p →
+    0 < p → slice_get ls (p - 1) ≡ Some l
     → (l.account.0 ≡ a.0 → IsLink s (take (p - 1) us) (take p us) a l.own)
     × ((l.account.0 ≡ a.0 → ⊥) → IsLink s (take (p - 1) us) (take p us) a l.other)
-link_read s us ls a p m l are on some count beside =
+link_read s us ls a p l are on some beside =
     let (u, there, own) = OnAccount.on_entry us a p on some in
-    ChainFacts.link_on s us ls a p u l are on some there
-    (slice_get_read ls m (p - 1) l count (omega (arith, OnAccount.on_within us a p on, some, count, are.count)) beside)
+    ChainFacts.link_on s us ls a p u l are on some there beside
 
 -- the link there, by the list up to the entry before it
 pub linked_there : (s : Settings) (us : List Shadow) (a : Place) (p : ℕ) (l : Link) → 0 < p → IsLink s (take (p - 1) us) (take p us) a l →

@@ -93,7 +93,7 @@ impl Ledger {
         let parts = self.index.parts(&self.entries, shadow);
         let links = self.links_of(shadow, &parts);
         self.index.push(&self.entries, shadow, &parts, &links);
-        self.links.push_reserved(links);
+        self.links.push(&links);
         self.entries.push_reserved(*shadow);
         Ok(())
     }
@@ -107,7 +107,7 @@ impl Ledger {
         ensures room { self.new.room ≡ self.old.room + 1 }
     {
         let parts = undo.spend();
-        let links = self.links[parts.position as usize - 1];
+        let links = self.links.at(parts.position as usize - 1);
         self.links.pop();
         self.entries.pop();
         self.index.pop(&self.entries, parts, &links);
@@ -161,7 +161,7 @@ impl Ledger {
     {
         let additional = limit - self.entries.len();
         self.entries.reserve_exact(additional)?;
-        self.links.reserve_exact(additional)?;
+        self.links.reserve(limit)?;
         self.index.cancels.reserve_exact(additional)?;
         self.index.rows.reserve(limit)
     }

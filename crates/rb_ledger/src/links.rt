@@ -62,7 +62,7 @@ impl Ledger {
         ensures { IsLink self.now.settings (take (position - 1) self.now.entries) (take position self.now.entries) place
             result }
     {
-        let links = self.links[position as usize - 1];
+        let links = self.links.at(position as usize - 1);
         if links.account == place {
             links.own
         } else {

@@ -1,9 +1,11 @@
-use Rattle.std.proofs.Common.{◌≡◌, ◌-◌, vec_len, ◌++◌, ◌∷◌, [], subst, sym, ap, ◌∙◌, arith}
+use Rattle.std.proofs.Common.{◌≡◌, ◌-◌, length, vec_len, ◌++◌, ◌∷◌, [], subst, sym, ap, ◌∙◌, arith}
+use Rattle.std.proofs.lemmas.List.{length_push}
 use Rattle.rb_money.specs.Settings.{IsConfigured}
 use Rattle.rb_ledger.specs.Book.{Book}
 use Rattle.rb_ledger.specs.Index.{IsIndex, IsLinked}
 use Rattle.rb_ledger.proofs.ChainFacts
 use Rattle.rb_ledger.proofs.Indexed
+use Rattle.rb_ledger.proofs.Lengths
 use Rattle.rb_ledger.specs.Valid.{IsValid, parts_of}
 use Rattle.rb_ledger.proofs.ledger.Ledger.append.Goals as goal
 
@@ -20,14 +22,14 @@ invariant_of-self c =
     let room = c.self.invariant.room in
     record {
       index = subst (λ us. IsIndex c.push.new.self.config us c.push.new.self) (ap (λ us. us ++ c.args.shadow.now ∷ []) c.deref-2.ensures.value
-          ∙ sym c.push_reserved-2.ensures.items) (Indexed.own _ _ _ c.push.ensures.index);
+          ∙ sym c.push_reserved.ensures.items) (Indexed.own _ _ _ c.push.ensures.index);
       links = ChainFacts.links_moved _ _ _ _ _ _ (ChainFacts.links_push _ _ c.args.shadow.now _ _ c.self.invariant.links links)
-          c.push.ensures.index.config c.push_reserved-2.ensures.items c.push_reserved.ensures.items;
+          c.push.ensures.index.config c.push_reserved.ensures.items c.push-2.ensures.items;
       room = record {
-        within = omega (arith, c.push_reserved-2.ensures.len, c.push.ensures.limit, free, c.in_ok-make_room.ensures.ok);
-        entries = omega (arith, c.push_reserved-2.ensures.capacity, c.push.ensures.limit, room.entries);
+        within = omega (arith, c.push_reserved.ensures.len, c.push.ensures.limit, free, c.in_ok-make_room.ensures.ok);
+        entries = omega (arith, c.push_reserved.ensures.capacity, c.push.ensures.limit, room.entries);
         cancels = omega (arith, c.push.ensures.capacity, c.push.ensures.limit, room.cancels);
-        links = omega (arith, c.push_reserved.ensures.capacity, c.push.ensures.limit, room.links);
+        links = omega (arith, c.push-2.ensures.limit, c.push.ensures.limit, room.links);
       };
     }
 
@@ -82,8 +84,8 @@ pub push-requires-clause-parts : goal.push-requires-clause-parts
 push-requires-clause-parts c = c.parts-parts.ensures
     ∙ ap (λ us. parts_of c.self.inside.index.config us c.args.shadow.now) (c.deref.ensures.value ∙ sym c.deref-2.ensures.value)
 
-pub push_reserved-requires : goal.push_reserved-requires
-push_reserved-requires c =
+pub push-requires-2-clause-room : goal.push-requires-2-clause-room
+push-requires-2-clause-room c =
     let free : c.self.inside.index.rows.limit - vec_len c.self.inside.entries ≡ c.make_room.new.self.room =
     ap (λ (b : Book). b.room) c.self.view_is in
     omega (
@@ -92,19 +94,30 @@ push_reserved-requires c =
       c.in_ok-make_room.ensures.ok,
       c.self.invariant.room.links,
       c.self.invariant.links.count,
-      c.self.inside.links.ok.0,
       c.self.inside.entries.ok.0,
     )
 
-pub push_reserved-requires-2 : goal.push_reserved-requires-2
-push_reserved-requires-2 c =
+pub push-requires-2-clause-few : goal.push-requires-2-clause-few
+push-requires-2-clause-few c =
+    omega (
+      arith,
+      c.self.invariant.links.count,
+      ap (λ (b : Book). length b.entries) c.self.view_is,
+      ap length c.in_ok-make_room.ensures.entries,
+      length_push c.args.self.now.entries c.args.shadow.now,
+      Lengths.valid_length _ _ (subst IsConfigured c.in_ok-make_room.ensures.settings
+          (subst (λ (b : Book). IsConfigured b.settings) c.self.view_is c.self.invariant.index.clocked.configured)) c.requires,
+    )
+
+pub push_reserved-requires : goal.push_reserved-requires
+push_reserved-requires c =
     let free : c.self.inside.index.rows.limit - vec_len c.self.inside.entries ≡ c.make_room.new.self.room =
     ap (λ (b : Book). b.room) c.self.view_is in
     omega (arith, free, c.in_ok-make_room.ensures.ok, c.self.invariant.room.entries)
 
 pub returns-clause-applied : goal.returns-clause-applied
 returns-clause-applied c =
-    c.push_reserved-2.ensures.items
+    c.push_reserved.ensures.items
     ∙ ap (λ us. us ++ c.args.shadow.now ∷ []) (ap (λ (b : Book). b.entries) c.self.view_is ∙ c.in_ok-make_room.ensures.entries)
 
 pub returns-clause-room : goal.returns-clause-room
@@ -117,5 +130,5 @@ returns-clause-room c = λ some.
       ap (λ (b : Book). b.room) (c.in_ok-make_room.ensures.room some),
       c.in_ok-make_room.ensures.ok,
       c.push.ensures.limit,
-      c.push_reserved-2.ensures.len,
+      c.push_reserved.ensures.len,
     )

@@ -1,4 +1,4 @@
-use Rattle.std.proofs.Common.{◌≡◌, length, vec_len, sym, ◌∙◌, arith}
+use Rattle.std.proofs.Common.{sym, ◌∙◌, arith}
 use Rattle.rb_money.proofs.Public.Tests
 use Rattle.rb_ledger.proofs.LinkReads
 use Rattle.rb_ledger.proofs.ReadItems
@@ -6,22 +6,19 @@ use Rattle.rb_ledger.proofs.SeenLists
 use Rattle.rb_ledger.proofs.Public.OnAccount
 use Rattle.rb_ledger.proofs.ledger.Ledger.link_at.Goals as goal
 
-pub index-requires : goal.index-requires
-index-requires c =
-    let count : vec_len c.self.inside.links ≡ length c.self.inside.links.items = c.self.inside.links.ok.0 in
+pub at-links-requires : goal.at-links-requires
+at-links-requires c =
     let links = SeenLists.links_seen _ _ _ _ _ c.self.invariant.links c.self.view_is in
-    omega (arith, c.requires.some, OnAccount.on_within _ c.args.place c.args.position c.requires.on, count, links.count)
+    omega (arith, c.requires.some, OnAccount.on_within _ c.args.place c.args.position c.requires.on, links.count)
 
 pub returns-then-eq : goal.returns-then-eq
 returns-then-eq c =
     let links = SeenLists.links_seen _ _ _ _ _ c.self.invariant.links c.self.view_is in
-    let count : vec_len c.self.inside.links ≡ length c.self.inside.links.items = c.self.inside.links.ok.0 in
-    (LinkReads.link_read _ _ _ c.args.place c.args.position _ _ links c.requires.on c.requires.some count
-    c.index.ensures).0 (Tests.number_sound _ _ (sym c.eq.ensures ∙ c.if-eq.true))
+    (LinkReads.link_read _ _ _ c.args.place c.args.position _ links c.requires.on c.requires.some
+    c.at-links.ensures).0 (Tests.number_sound _ _ (sym c.eq.ensures ∙ c.if-eq.true))
 
 pub returns-else-eq : goal.returns-else-eq
 returns-else-eq c =
     let links = SeenLists.links_seen _ _ _ _ _ c.self.invariant.links c.self.view_is in
-    let count : vec_len c.self.inside.links ≡ length c.self.inside.links.items = c.self.inside.links.ok.0 in
-    (LinkReads.link_read _ _ _ c.args.place c.args.position _ _ links c.requires.on c.requires.some count
-    c.index.ensures).1 (ReadItems.apart_from _ _ (sym c.eq.ensures ∙ c.if-eq.false))
+    (LinkReads.link_read _ _ _ c.args.place c.args.position _ links c.requires.on c.requires.some
+    c.at-links.ensures).1 (ReadItems.apart_from _ _ (sym c.eq.ensures ∙ c.if-eq.false))

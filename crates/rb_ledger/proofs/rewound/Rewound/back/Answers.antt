@@ -1,8 +1,7 @@
-use Rattle.std.proofs.Common.{◌≡◌, ◌+◌, ◌-◌, ◌<◌, ◌++◌, ◌∷◌, [], vec_len, length, take, subst, sym, ap, ◌∙◌, refl, arith, length-take-le}
+use Rattle.std.proofs.Common.{◌≡◌, ◌+◌, ◌-◌, ◌++◌, ◌∷◌, [], vec_len, length, take, subst, sym, ap, ◌∙◌, refl, arith, length-take-le}
 use Rattle.rb_ledger.specs.Valid.{parts_of}
 use Rattle.rb_ledger.specs.Index.{IsIndex, IsLinked}
 use Rattle.rb_ledger.specs.Rewinding.{Rewinding}
-use Rattle.rb_ledger.proofs.ReadItems
 use Rattle.rb_ledger.proofs.Cursors
 use Rattle.rb_ledger.specs.Records.{records_of}
 use Rattle.rb_ledger.proofs.SeenLists
@@ -13,22 +12,14 @@ pop-requires-in-Some c =
     let here : c.self.inside.at ≡ c.args.self.now.at = ap (λ (w : Rewinding). w.at) c.self.view_is in
     let next : c.self.inside.at ≡ c.self.inside.at - 1 + 1 = omega (arith, c.requires, here) in
     let latest = Cursors.latest _ _ _ (c.self.inside.at - 1) _ _ _ _ c.in-Some.undo c.self.invariant.at next c.in-Some.ensures.0 in
-    let many : vec_len c.self.inside.links ≡ length c.self.inside.links.items = c.self.inside.links.ok.0 in
-    let near : c.self.inside.at - 1 < vec_len c.self.inside.links = omega (
-      arith,
-      many,
-      c.self.invariant.at.links.count,
-      c.self.invariant.at.within,
-      next,
-    ) in
-    let link = Cursors.linked _ _ _ _ latest.last c.index.result.now c.self.invariant.at.links latest.there
-    (ReadItems.read_item _ _ _ _ _ many near refl c.index.ensures) in (
+    let link = Cursors.linked _ _ _ _ latest.last c.at-links.result c.self.invariant.at.links latest.there
+    c.at-links.ensures in (
       latest.last,
       subst (λ us. IsIndex c.self.inside.index.config (take (c.self.inside.at - 1) us ++ latest.last
           ∷ []) c.self.inside.index) (sym c.deref.ensures.value) latest.index,
       c.spend.ensures ∙ latest.parts ∙ ap (λ us. parts_of c.self.inside.index.config (take (c.self.inside.at - 1) us) latest.last)
           (sym c.deref.ensures.value),
-      subst (λ us. IsLinked c.self.inside.index.config (take (c.self.inside.at - 1) us) latest.last c.index.result.now)
+      subst (λ us. IsLinked c.self.inside.index.config (take (c.self.inside.at - 1) us) latest.last c.at-links.result)
           (sym c.deref.ensures.value) link,
     )
 
@@ -89,8 +80,8 @@ pub slice_bounds-before-end : goal.slice_bounds-before-end
 slice_bounds-before-end c = sym (length-take-le (c.self.inside.at - 1) c.deref.result.now
     (omega (arith, c.self.invariant.at.within, ap length c.deref.ensures.value)))
 
-pub index-requires : goal.index-requires
-index-requires c =
+pub at-links-requires : goal.at-links-requires
+at-links-requires c =
     let here : c.self.inside.at ≡ c.args.self.now.at = ap (λ (w : Rewinding). w.at) c.self.view_is in
     omega (
       arith,
@@ -98,5 +89,4 @@ index-requires c =
       here,
       c.self.invariant.at.within,
       c.self.invariant.at.links.count,
-      c.self.inside.links.ok.0,
     )

@@ -42,11 +42,8 @@ push-requires-clause-links c =
     let near : c.self.inside.at < vec_len c.self.inside.entries = omega (arith, c.requires, here, all, count) in
     let there = ReadItems.read_item c.self.inside.entries.items c.self.inside.at c.self.inside.at _ c.index.result.now count near refl
     c.index.ensures in
-    let many : vec_len c.self.inside.links ≡ length c.self.inside.links.items = c.self.inside.links.ok.0 in
-    let close : c.self.inside.at < vec_len c.self.inside.links = omega (arith, many, count, near, c.self.invariant.at.links.count) in
-    let link = Cursors.linked _ _ _ _ _ c.index-2.result.now c.self.invariant.at.links there
-    (ReadItems.read_item _ _ _ _ _ many close refl c.index-2.ensures) in
-    subst (λ us. IsLinked c.self.inside.index.config (take c.self.inside.at us) c.index.result.now c.index-2.result.now)
+    let link = Cursors.linked _ _ _ _ _ c.at-links.result c.self.invariant.at.links there c.at-links.ensures in
+    subst (λ us. IsLinked c.self.inside.index.config (take c.self.inside.at us) c.index.result.now c.at-links.result)
     (sym c.deref.ensures.value) link
 
 pub invariant_of-self : goal.invariant_of-self
@@ -106,12 +103,12 @@ pub slice_bounds-before-end : goal.slice_bounds-before-end
 slice_bounds-before-end c = sym (length-take-le c.self.inside.at c.deref.result.now
     (omega (arith, c.self.invariant.at.within, ap length c.deref.ensures.value)))
 
-pub index-requires-2 : goal.index-requires-2
-index-requires-2 c =
+pub at-links-requires : goal.at-links-requires
+at-links-requires c =
     let here : c.self.inside.at ≡ c.args.self.now.at = ap (λ (w : Rewinding). w.at) c.self.view_is in
     let all : length c.self.inside.entries.items ≡ length c.args.self.now.ledger.entries =
     ap (λ (w : Rewinding). length w.ledger.entries) c.self.view_is in
-    omega (arith, c.requires, here, all, c.self.invariant.at.links.count, c.self.inside.links.ok.0)
+    omega (arith, c.requires, here, all, c.self.invariant.at.links.count, c.self.inside.entries.ok.0)
 
 pub push-requires-clause-index : goal.push-requires-clause-index
 push-requires-clause-index c = subst (λ us. IsIndex c.self.inside.index.config (take c.self.inside.at us) c.self.inside.index)

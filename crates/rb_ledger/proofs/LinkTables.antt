@@ -1,0 +1,182 @@
+-- What lists of links are after a change.
+use Rattle.std.proofs.Common.{◌≡◌, ◌⊎◌, ℕ, zero, suc, ◌+◌, ◌-◌, ◌<◌, ◌≤◌, List, [], ◌∷◌, ◌++◌, length, map, take, get_or}
+use Rattle.std.proofs.Common.{refl, ap, sym, ◌∙◌, subst, arith, inl, inr, Some}
+use Rattle.std.specs.Prelude.{Option, option_to_list}
+use Rattle.std.proofs.lemmas.List.{get_or_push, get_or_append_left, length_push, length-map, map_push}
+use Rattle.std.proofs.Math.Seq.{take-append_seam}
+use Rattle.rb_ledger.specs.declared.marks.Link.{Link}
+use Rattle.rb_ledger.specs.declared.marks.Links.{Links}
+use Rattle.rb_ledger.specs.declared.link_list.OwnLink.{OwnLink}
+use Rattle.rb_ledger.specs.LinkLists.{AreNumbered, LinkTable, both_links, no_link, second_link}
+
+-- no number is above the last one
+pub none_above : (k n : ℕ) (os : List OwnLink) → AreNumbered k os n → k ≤ n
+unfolding AreNumbered
+none_above k n [] are = omega (arith, are)
+none_above k n (o ∷ os) (inl (none, are)) = none_above k n os are
+none_above k n (o ∷ os) (inr (one, are)) = omega (arith, none_above (k + 1) n os are)
+
+-- there are no more numbers than operations
+pub few_numbers : (k n : ℕ) (os : List OwnLink) → AreNumbered k os n → n ≤ k + length os
+unfolding AreNumbered
+few_numbers k n [] are = omega (arith, are)
+few_numbers k n (o ∷ os) (inl (none, are)) = omega (arith, few_numbers k n os are)
+few_numbers k n (o ∷ os) (inr (one, are)) = omega (arith, few_numbers (k + 1) n os are)
+
+-- one more operation without a second link
+pub one_without : (k n : ℕ) (os : List OwnLink) (o : OwnLink) → AreNumbered k os n → o.second ≡ 0 → AreNumbered k (os ++ o ∷ []) n
+unfolding AreNumbered
+one_without k n [] o are none = inl (none, are)
+one_without k n (p ∷ os) o (inl (is, are)) none = inl (is, one_without k n os o are none)
+one_without k n (p ∷ os) o (inr (is, are)) none = inr (is, one_without (k + 1) n os o are none)
+
+-- one more operation with a second link
+pub one_with : (k n : ℕ) (os : List OwnLink) (o : OwnLink) → AreNumbered k os n → o.second ≡ n + 1 → AreNumbered k (os ++ o ∷ []) (n + 1)
+unfolding AreNumbered
+one_with k n [] o are one = inr (one ∙ ap (λ i. i + 1) (sym are), ap (λ i. i + 1) are)
+one_with k n (p ∷ os) o (inl (is, are)) one = inl (is, one_with k n os o are one)
+one_with k n (p ∷ os) o (inr (is, are)) one = inr (is, one_with (k + 1) n os o are one)
+
+-- without the last operation the numbers end before its own, or where they did
+pub all_but_last : (k n : ℕ) (os : List OwnLink) (o : OwnLink) → AreNumbered k (os ++ o ∷ []) n →
+    ((o.second ≡ 0) × AreNumbered k os n) ⊎ ((m : ℕ) × (o.second ≡ m + 1) × (n ≡ m + 1) × AreNumbered k os m)
+unfolding AreNumbered
+all_but_last k n [] o (inl (none, are)) = inl (none, are)
+all_but_last k n [] o (inr (one, are)) = inr (k, one, sym are, refl)
+all_but_last k n (p ∷ os) o (inl (is, are)) = after (all_but_last k n os o are)
+  where
+    after : ((o.second ≡ 0) × AreNumbered k os n) ⊎ ((m : ℕ) × (o.second ≡ m + 1) × (n ≡ m + 1) × AreNumbered k os m) →
+        ((o.second ≡ 0) × AreNumbered k (p ∷ os) n) ⊎ ((m : ℕ) × (o.second ≡ m + 1) × (n ≡ m + 1) × AreNumbered k (p ∷ os) m)
+    after (inl (none, rest)) = inl (none, inl (is, rest))
+    after (inr (m, one, last, rest)) = inr (m, one, last, inl (is, rest))
+all_but_last k n (p ∷ os) o (inr (is, are)) = after (all_but_last (k + 1) n os o are)
+  where
+    after : ((o.second ≡ 0) × AreNumbered (k + 1) os n) ⊎ ((m : ℕ) × (o.second ≡ m + 1) × (n ≡ m + 1) × AreNumbered (k + 1) os m) →
+        ((o.second ≡ 0) × AreNumbered k (p ∷ os) n) ⊎ ((m : ℕ) × (o.second ≡ m + 1) × (n ≡ m + 1) × AreNumbered k (p ∷ os) m)
+    after (inl (none, rest)) = inl (none, inr (is, rest))
+    after (inr (m, one, last, rest)) = inr (m, one, last, inr (is, rest))
+
+-- a number that isn't above the list's length has the same link where the list is one longer
+pub second_before : (ls : List Link) (l : Link) (n : ℕ) → n ≤ length ls → second_link (ls ++ l ∷ []) n ≡ second_link ls n
+second_before ls l zero few = refl
+second_before ls l (suc i) few = get_or_append_left ls (l ∷ []) no_link i (omega (arith, few))
+
+-- the last number's link
+pub second_last : (ls : List Link) (l : Link) (n : ℕ) → n ≡ length ls + 1 → second_link (ls ++ l ∷ []) n ≡ l
+second_last ls l zero is = absurd (omega (arith, is))
+second_last ls l (suc i) is = get_or_push ls l no_link i (omega (arith, is))
+
+-- one more link on a second account changes no links of operations that are there
+pub same_links : (k : ℕ) (os : List OwnLink) (ls : List Link) (l : Link) → AreNumbered k os (length ls) →
+    map (both_links (ls ++ l ∷ [])) os ≡ map (both_links ls) os
+unfolding AreNumbered
+same_links k [] ls l are = refl
+same_links k (o ∷ os) ls l (inl (none, are)) =
+    ap (λ x. record { own = o.own; account = o.account; other = x } ∷ map (both_links (ls ++ l ∷ [])) os)
+    (second_before ls l o.second (omega (arith, none)))
+    ∙ ap (λ xs. both_links ls o ∷ xs) (same_links k os ls l are)
+same_links k (o ∷ os) ls l (inr (one, are)) =
+    ap (λ x. record { own = o.own; account = o.account; other = x } ∷ map (both_links (ls ++ l ∷ [])) os)
+    (second_before ls l o.second (omega (arith, one, none_above (k + 1) (length ls) os are)))
+    ∙ ap (λ xs. both_links ls o ∷ xs) (same_links (k + 1) os ls l are)
+
+-- the links of an operation more that is on one account
+pub pushed_one : (os ps : List OwnLink) (ls : List Link) (o : OwnLink) (l : Links) → ps ≡ os ++ o ∷ [] → both_links ls o ≡ l →
+    map (both_links ls) ps ≡ map (both_links ls) os ++ l ∷ []
+pushed_one os ps ls o l pushed both = ap (map (both_links ls)) pushed ∙ map_push (both_links ls) os o
+    ∙ ap (λ x. map (both_links ls) os ++ x ∷ []) both
+
+-- the links of an operation more that is on two accounts
+pub pushed_two : (os ps : List OwnLink) (ls ms : List Link) (o : OwnLink) (x : Link) (l : Links) → AreNumbered 0 os (length ls) →
+    ps ≡ os ++ o ∷ [] → ms ≡ ls ++ x ∷ [] → both_links ms o ≡ l → map (both_links ms) ps ≡ map (both_links ls) os ++ l ∷ []
+pushed_two os ps ls ms o x l are pushed longer both = pushed_one os ps ms o l pushed both
+    ∙ ap (λ xs. xs ++ l ∷ []) (ap (λ ns. map (both_links ns) os) longer ∙ same_links 0 os ls x are)
+
+-- without the last operation, which is on one account
+pub popped_one : (os ps : List OwnLink) (n : ℕ) (o : OwnLink) → AreNumbered 0 os n → os ≡ ps ++ o ∷ [] → o.second ≡ 0 → AreNumbered 0 ps n
+popped_one os ps n o are is none = after (all_but_last 0 n ps o (subst (λ qs. AreNumbered 0 qs n) is are))
+  where
+    after : ((o.second ≡ 0) × AreNumbered 0 ps n) ⊎ ((m : ℕ) × (o.second ≡ m + 1) × (n ≡ m + 1) × AreNumbered 0 ps m) → AreNumbered 0 ps n
+    after (inl (_, rest)) = rest
+    after (inr (m, one, last, rest)) = absurd (omega (arith, one, none))
+
+-- the last operation, which is on two accounts, has the last number
+pub last_number : (os ps : List OwnLink) (n : ℕ) (o : OwnLink) → AreNumbered 0 os n → os ≡ ps ++ o ∷ [] → 0 < o.second →
+    (m : ℕ) × (n ≡ m + 1) × AreNumbered 0 ps m
+last_number os ps n o are is some = after (all_but_last 0 n ps o (subst (λ qs. AreNumbered 0 qs n) is are))
+  where
+    after : ((o.second ≡ 0) × AreNumbered 0 ps n) ⊎ ((m : ℕ) × (o.second ≡ m + 1) × (n ≡ m + 1) × AreNumbered 0 ps m) →
+        (m : ℕ) × (n ≡ m + 1) × AreNumbered 0 ps m
+    after (inl (none, rest)) = absurd (omega (arith, none, some))
+    after (inr (m, one, last, rest)) = (m, last, rest)
+
+-- what a pop leaves of a list that isn't empty, and what it takes
+pub popped : (ls ms : List Link) (n : ℕ) (r : Option Link) → n ≡ length ls → 0 < length ls → ls ≡ ms ++ option_to_list r →
+    ((d : Link) → 0 < n → r ≡ Some (get_or ls (n - 1) d)) → (x : Link) × (ls ≡ ms ++ x ∷ [])
+popped ls ms n r count some items value = (
+  get_or ls (n - 1) no_link,
+  items ∙ ap (λ o. ms ++ option_to_list o) (value no_link (omega (arith, count, some))),
+)
+
+-- without the last operation, which is on two accounts
+pub popped_two : (os ps : List OwnLink) (ls ms : List Link) (o : OwnLink) (n : ℕ) (r : Option Link) → AreNumbered 0 os (length ls) →
+    os ≡ ps ++ o ∷ [] → 0 < o.second → n ≡ length ls → ls ≡ ms ++ option_to_list r →
+    ((d : Link) → 0 < n → r ≡ Some (get_or ls (n - 1) d)) → (x : Link) × (ls ≡ ms ++ x ∷ []) × AreNumbered 0 ps (length ms)
+popped_two os ps ls ms o n r are is some count items value =
+    let (m, last, rest) = last_number os ps (length ls) o are is some in
+    let (x, left) = popped ls ms n r count (omega (arith, last)) items value in
+    let same : m ≡ length ms = omega (arith, last, ap length left, length_push ms x) in
+    (x, left, subst (AreNumbered 0 ps) same rest)
+
+-- the links but for those of the last operation
+pub front_links : (os ps : List OwnLink) (ls : List Link) (o : OwnLink) → os ≡ ps ++ o ∷ [] →
+    take (length (map (both_links ls) os) - 1) (map (both_links ls) os) ≡ map (both_links ls) ps
+front_links os ps ls o is =
+    let xs = map (both_links ls) ps in
+    let all : map (both_links ls) os ≡ xs ++ both_links ls o ∷ [] = pushed_one ps os ls o (both_links ls o) is refl in
+    ap (λ ys. take (length ys - 1) ys) all
+    ∙ ap (λ n. take n (xs ++ both_links ls o ∷ [])) (omega (arith, length_push xs (both_links ls o)))
+    ∙ take-append_seam xs (both_links ls o ∷ [])
+
+-- the links that are seen after a pop
+pub seen_popped : (os ps : List OwnLink) (ls ms : List Link) (o : OwnLink) (n k : ℕ) (r : Option Link) (t : LinkTable) →
+    AreNumbered 0 os (length ls) → record { items = map (both_links ls) os; limit = k } ≡ t → os ≡ ps ++ o ∷ [] → 0 < o.second →
+    n ≡ length ls → ls ≡ ms ++ option_to_list r → ((d : Link) → 0 < n → r ≡ Some (get_or ls (n - 1) d)) →
+    map (both_links ms) ps ≡ take (length t.items - 1) t.items
+seen_popped os ps ls ms o n k r t are view is some count items value =
+    let (x, left, rest) = popped_two os ps ls ms o n r are is some count items value in
+    sym (same_links 0 ps ms x rest) ∙ ap (λ xs. map (both_links xs) ps) (sym left) ∙ sym (front_links os ps ls o is)
+    ∙ ap (λ (s : LinkTable). take (length s.items - 1) s.items) view
+
+-- no operations have no numbers
+pub none_numbered : (os : List OwnLink) (ls : List Link) → os ≡ [] → ls ≡ [] → AreNumbered 0 os (length ls)
+unfolding AreNumbered
+none_numbered os ls empty none = subst (λ qs. AreNumbered 0 qs (length ls)) (sym empty) (sym (ap length none))
+
+-- one more operation on one account
+pub pushed_without : (os ps : List OwnLink) (n : ℕ) (o : OwnLink) → AreNumbered 0 os n → ps ≡ os ++ o ∷ [] → o.second ≡ 0 → AreNumbered 0 ps n
+pushed_without os ps n o are pushed none = subst (λ qs. AreNumbered 0 qs n) (sym pushed) (one_without 0 n os o are none)
+
+-- one more operation on two accounts
+pub pushed_with : (os ps : List OwnLink) (ls ms : List Link) (o : OwnLink) (l : Link) → AreNumbered 0 os (length ls) → ps ≡ os ++ o ∷ [] →
+    ms ≡ ls ++ l ∷ [] → o.second ≡ length ls + 1 → AreNumbered 0 ps (length ms)
+pushed_with os ps ls ms o l are pushed longer one = subst (λ qs. AreNumbered 0 qs (length ms)) (sym pushed)
+    (subst (AreNumbered 0 (os ++ o ∷ [])) (let e : length ls + 1 ≡ length ms = omega (arith, ap length longer, length_push ls l) in e)
+    (one_with 0 (length ls) os o are one))
+
+-- there are no more links on second accounts than operations that are seen
+pub few_seen : (os : List OwnLink) (ls : List Link) (k : ℕ) (t : LinkTable) → AreNumbered 0 os (length ls) →
+    record { items = map (both_links ls) os; limit = k } ≡ t → length ls ≤ length t.items
+few_seen os ls k t are view = omega (
+  arith,
+  few_numbers 0 (length ls) os are,
+  length-map os (both_links ls),
+  ap (λ (s : LinkTable). length s.items) view,
+)
+
+-- both links of one more operation on two accounts
+pub both_pushed : (ls ms : List Link) (l : Links) (n : ℕ) → ms ≡ ls ++ l.other ∷ [] → n ≡ length ls + 1 →
+    both_links ms (record { own = l.own; account = l.account; second = n }) ≡ l
+both_pushed ls ms l n longer is =
+    ap (λ xs. record { own = l.own; account = l.account; other = second_link xs n }) longer
+    ∙ ap (λ x. record { own = l.own; account = l.account; other = x }) (second_last ls l.other n is)
