@@ -1,10 +1,11 @@
 //! A site's ledger.
 ghost use Rattle.std.specs.Prelude.{◌≡◌, ◌<◌, ◌≤◌, ◌++◌, ◌∷◌, ◌⊎◌, [], List, length, map, Some, None, Ok, Err, IfOk};
-ghost use Rattle.std.specs.Prelude.{IfErr, OnOk, OnErr, option_copied};
+ghost use Rattle.std.specs.Prelude.{IfErr, OnOk, OnErr, option_copied, true};
 ghost use Rattle.rb_ledger.specs.Checks.{refusal_of};
 ghost use Rattle.rb_ledger.specs.Records.{records_of};
 ghost use Rattle.rb_ledger.specs.Valid.{IsValid};
 ghost use Rattle.rb_shadow.specs.Operations.{clock_of, find_in, is_eligible};
+ghost use Rattle.rb_shadow.specs.Sound.{IsSound};
 ghost use Rattle.rb_shadow.specs.declared.shadow.Shadow.{Shadow as TheShadow};
 ghost use Rattle.rb_scratch.specs.Batches.{batch_of, names_of_all};
 ghost use Rattle.rb_statements.specs.Statements.{balance_as_of};
@@ -97,32 +98,27 @@ impl Journal {
         self.ledger.records(alloc)
     }
 
-    /// Applies a shadow. After a refusal, which is that of `Ledger::check`, or else out of memory, all is as before.
-    pub fn apply(&mut self, shadow: Shadow) -> Result<(), Refusal>
-        ensures applied { OnOk result (self.new ≡ record self.old { ops = self.old.ops ++ shadow ∷ [] }) }
-        ensures taken { OnOk result (refusal_of self.old.settings self.old.ops shadow ≡ None) }
+    /// Applies a sound shadow whose past was applied. After a refusal, which is that of `Ledger::check`, or else out of
+    /// memory, all is as before.
+    pub fn apply(&mut self, shadow: &Shadow) -> Result<(), Refusal>
+        requires sound { IsSound self.old.settings shadow.now }
+        requires eligible { is_eligible self.old.ops shadow.now ≡ true }
+        ensures applied { OnOk result (self.new ≡ record self.old { ops = self.old.ops ++ shadow.now ∷ [] }) }
+        ensures taken { OnOk result (refusal_of self.old.settings self.old.ops shadow.now ≡ None) }
         ensures refused { IfErr result (λ why. (self.new ≡ self.old)
-            × ((refusal_of self.old.settings self.old.ops shadow ≡ Some why)
-            ⊎ ((why ≡ Refusal.OutOfMemory) × (refusal_of self.old.settings self.old.ops shadow ≡ None)))) }
+            × ((refusal_of self.old.settings self.old.ops shadow.now ≡ Some why)
+            ⊎ ((why ≡ Refusal.OutOfMemory) × (refusal_of self.old.settings self.old.ops shadow.now ≡ None)))) }
     {
-        match self.ledger.apply(shadow) {
-            Ok(undo) => {
-                undo.seal();
-                Ok(())
-            }
-            Err((_, why)) => Err(why),
-        }
+        self.ledger.apply_ready(shadow)
     }
 
     /// Applies a shadow that may follow the operations. An `Err` means out of memory, and all is as before.
-    pub fn append(&mut self, shadow: Shadow) -> Result<(), AllocError>
-        requires { IsValid self.old.settings (self.old.ops ++ shadow ∷ []) }
-        ensures ok { OnOk result (self.new ≡ record self.old { ops = self.old.ops ++ shadow ∷ [] }) }
+    pub fn append(&mut self, shadow: &Shadow) -> Result<(), AllocError>
+        requires { IsValid self.old.settings (self.old.ops ++ shadow.now ∷ []) }
+        ensures ok { OnOk result (self.new ≡ record self.old { ops = self.old.ops ++ shadow.now ∷ [] }) }
         ensures err { OnErr result (self.new ≡ self.old) }
     {
-        let undo = self.ledger.apply_valid(shadow)?;
-        undo.seal();
-        Ok(())
+        self.ledger.append(shadow)
     }
 
     /// Makes the requests of a batch at the site of the token's view, each after those before it: all of

@@ -174,7 +174,7 @@ impl State {
             Err(why) => return Ok(give(reply, Reply::Refused(why))),
         };
         sent.reserve(1)?;
-        self.journal.append(shadow)?;
+        self.journal.append(&shadow)?;
         sent.push_reserved(Message::Shadow(shadow));
         let name = shadow.name;
         let kind = shadow.kind.label();
@@ -280,7 +280,7 @@ impl State {
             return Ok(give(reply, Reply::Refused(Refusal::NotReady)));
         }
         let name = held.name;
-        let why = match self.journal.apply(*held) {
+        let why = match self.journal.apply(held) {
             Ok(()) => {
                 self.inbox.remove(&name);
                 return Ok(give(reply, Reply::Applied(name)));

@@ -104,3 +104,10 @@ pub returns-in-OutOfMemory-clause-err : goal.returns-in-OutOfMemory-clause-err
 returns-in-OutOfMemory-clause-err c =
     ap (λ (b : SeenLedger). state_as b.settings c.self.inside.token.me b.ops c.self.inside.inbox.held c.self.inside.token.token)
     c.in-Err.ensures.refused.0 ∙ c.self.view_is
+
+pub apply-requires-clause-sound : goal.apply-requires-clause-sound
+apply-requires-clause-sound c = held_sound c.self.inside.journal.settings c.self.inside.inbox.held c.args.name.now c.in-Some.held.now
+    c.self.invariant.sound (sym c.in-Some.ensures)
+
+pub apply-requires-clause-eligible : goal.apply-requires-clause-eligible
+apply-requires-clause-eligible c = sym c.is_eligible.ensures ∙ c.if-not-is_eligible.false
