@@ -1,6 +1,6 @@
 //! The receiving ends of links.
-ghost use Rattle.std.specs.Prelude.{◌≡◌, ◌+◌, ◌<◌, ◌≤◌, ◌++◌, ◌∷◌, [], List, IfOk, MatchBool, OnErr, Some, length, slice_get};
-ghost use Rattle.std.specs.Prelude.{vec_capacity, vec_len};
+ghost use Rattle.std.specs.Prelude.{◌≡◌, ◌+◌, ◌<◌, ◌≤◌, ◌++◌, ◌∷◌, [], List, IfOk, MatchBool, OnErr};
+ghost use Rattle.std.specs.Prelude.{Some, length, slice_get, vec_capacity, vec_len};
 ghost use Rattle.rb_branch.specs.declared.inlet.TheConstants.{MOST_TAKEN};
 ghost use Rattle.std.specs.List.{remove};
 ghost use Rattle.rb_site.specs.declared.message.Message.{Message as MessageOf};

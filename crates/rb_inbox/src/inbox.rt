@@ -272,8 +272,8 @@ fn ready_in(row: &[Shadow], clock: &Clock) -> Option<OpName>
     None
 }
 
-/// The index, in its row, of the shadow of the name, or the one at which it would be put. Both ends are looked at first,
-/// since it is mostly there.
+/// The index, in its row, of the shadow of the name, or the one at which it would be put. Both ends are looked at
+/// first, since it is mostly there.
 fn index_of(shadows: &[Shadow], name: OpName) -> usize
     requires order { IsInOrder shadows.now }
     requires placed { (u : Shadow) → Among u shadows.now → row_of u.name ≡ row_of name }

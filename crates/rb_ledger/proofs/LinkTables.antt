@@ -154,7 +154,8 @@ unfolding AreNumbered
 none_numbered os ls empty none = subst (λ qs. AreNumbered 0 qs (length ls)) (sym empty) (sym (ap length none))
 
 -- one more operation on one account
-pub pushed_without : (os ps : List OwnLink) (n : ℕ) (o : OwnLink) → AreNumbered 0 os n → ps ≡ os ++ o ∷ [] → o.second ≡ 0 → AreNumbered 0 ps n
+pub pushed_without : (os ps : List OwnLink) (n : ℕ) (o : OwnLink) → AreNumbered 0 os n → ps ≡ os ++ o ∷ [] → o.second ≡ 0 →
+    AreNumbered 0 ps n
 pushed_without os ps n o are pushed none = subst (λ qs. AreNumbered 0 qs n) (sym pushed) (one_without 0 n os o are none)
 
 -- one more operation on two accounts

@@ -25,4 +25,5 @@ both_links ls o = record { own = o.own; account = o.account; other = second_link
 -- the operations with a link on a second account are numbered in their order, from the first number plus 1 to the last
 unfoldable pub AreNumbered : ℕ → List OwnLink → ℕ → Type 0
 AreNumbered first [] last = first ≡ last
-AreNumbered first (o ∷ os) last = ((o.second ≡ 0) × AreNumbered first os last) ⊎ ((o.second ≡ first + 1) × AreNumbered (first + 1) os last)
+AreNumbered first (o ∷ os) last = ((o.second ≡ 0) × AreNumbered first os last) ⊎
+    ((o.second ≡ first + 1) × AreNumbered (first + 1) os last)

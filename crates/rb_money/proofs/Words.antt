@@ -76,5 +76,6 @@ none_taken (suc n) [] e = refl
 none_taken (suc n) (x ∷ xs) e = absurd (cc)
 
 -- what is put behind nothing
-pub all_filled : {X : Type 0} (P : X → Type 0) (old rest new : List X) (n : ℕ) → old ≡ [] → new ≡ take n old ++ rest → All P rest → All P new
+pub all_filled : {X : Type 0} (P : X → Type 0) (old rest new : List X) (n : ℕ) → old ≡ [] → new ≡ take n old ++ rest → All P rest →
+    All P new
 all_filled P old rest new n e f h = subst (All P) (sym (f ∙ ap (λ l. l ++ rest) (none_taken n old e))) h

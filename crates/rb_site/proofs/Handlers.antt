@@ -94,7 +94,8 @@ pub handled : {A E : Type 0} (keeps : Bool) (old now : SiteState) (before after 
     OnOk r (Follows true old now before after (outcome_of old.settings old.site e) (plain reply))
     → OnOk r (Follows keeps old now before after (outcome_of old.settings old.site d) (noting reply noted))
 handled keeps old now before after d e (Ok a) reply noted same none h =
-    follows_with keeps old now before after _ _ (plain reply) (ap (noting reply) none) (follows_less keeps old now before after _ (plain reply)
+    follows_with keeps old now before after _ _ (plain reply) (ap (noting reply) none) (follows_less keeps old now before after _
+    (plain reply)
     (follows_as true old now before after _ _ (plain reply) (ap (outcome_of old.settings old.site) same) h))
 handled keeps old now before after d e (Err why) reply noted same none h = tt
 

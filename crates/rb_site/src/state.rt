@@ -217,7 +217,8 @@ impl State {
     /// A shadow from another site is held until it is applied.
     fn receive(&mut self, shadow: &Shadow, reply: &mut Reply) -> Result<(), AllocError>
         ensures ok { OnOk result (Follows true self.old self.new [] []
-            (outcome_of self.old.settings self.old.site (Event.Receive (Message.Shadow shadow.now))) (plain reply.new)) }
+            (outcome_of self.old.settings self.old.site (Event.Receive (Message.Shadow shadow.now)))
+            (plain reply.new)) }
         ensures err { OnErr result (self.new ≡ self.old) }
     {
         if let Err(why) = shadow.sound(self.journal.config()) {

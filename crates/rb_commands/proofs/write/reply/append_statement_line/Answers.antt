@@ -8,5 +8,6 @@ pub returns : goal.returns
 returns c =
     let mid = c.append_statement.new.out.items in
     let value = compact_text (statement_json c.args.shown.now) in
-    then c.append.result c.args.out.now.items mid c.append.new.out.items value (codes "\n") _ c.in_ok-append_statement.ensures c.append.ensures
+    then c.append.result c.args.out.now.items mid c.append.new.out.items value
+    (codes "\n") _ c.in_ok-append_statement.ensures c.append.ensures
     refl

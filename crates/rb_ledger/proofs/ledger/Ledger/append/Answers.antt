@@ -21,7 +21,8 @@ invariant_of-self c =
     ap (λ (b : Book). b.room) c.self.view_is in
     let room = c.self.invariant.room in
     record {
-      index = subst (λ us. IsIndex c.push.new.self.config us c.push.new.self) (ap (λ us. us ++ c.args.shadow.now ∷ []) c.deref-2.ensures.value
+      index = subst (λ us. IsIndex c.push.new.self.config us c.push.new.self) (ap
+          (λ us. us ++ c.args.shadow.now ∷ []) c.deref-2.ensures.value
           ∙ sym c.push_reserved.ensures.items) (Indexed.own _ _ _ c.push.ensures.index);
       links = ChainFacts.links_moved _ _ _ _ _ _ (ChainFacts.links_push _ _ c.args.shadow.now _ _ c.self.invariant.links links)
           c.push.ensures.index.config c.push_reserved.ensures.items c.push-2.ensures.items;

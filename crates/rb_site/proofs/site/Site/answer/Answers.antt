@@ -59,7 +59,8 @@ the_pushed : (g : Over) (c : goal.After-push_reserved g) → seen_as c.act.new.s
 the_pushed g c =
     seen_now _ c.act.new.self c.args.sent.now.items c.act.new.sent.items c.args.event.now (noting c.act.new.reply c.act.new.noted)
     (map g.E.KeepsEntry.entry c.push_reserved.new.self.items) (the_step g c)
-    (me_kept c.KEEPS-2.result c.self.inside.state c.act.new.self c.args.sent.now.items c.act.new.sent.items _ (noting c.act.new.reply c.act.new.noted)
+    (me_kept c.KEEPS-2.result c.self.inside.state c.act.new.self c.args.sent.now.items c.act.new.sent.items _
+    (noting c.act.new.reply c.act.new.noted)
     c.in_ok-act.ensures.ok)
     (ap (map g.E.KeepsEntry.entry) c.push_reserved.ensures.items
     ∙ map-append g.E.KeepsEntry.entry c.reserve.new.self.items _
@@ -75,7 +76,8 @@ pub invariant_of-self-2 : goal.invariant_of-self-2
 invariant_of-self-2 g c = (
   let P : SeenSite → Type 0 = λ x. IsStanding x c.act.new.self in subst P (sym (the_pushed g c)) (the_step g c).standing,
   λ kept. still_enough c.grow.new.self c.KEEPS-2.result c.self.inside.state c.act.new.self c.args.sent.now.items c.act.new.sent.items
-      (outcome_of c.self.inside.state.settings c.self.inside.state.site c.args.event.now) (noting c.act.new.reply c.act.new.noted) c.in_ok-act.ensures.ok
+      (outcome_of c.self.inside.state.settings c.self.inside.state.site c.args.event.now)
+      (noting c.act.new.reply c.act.new.noted) c.in_ok-act.ensures.ok
       (sends_few c.self.inside.state.settings c.self.inside.state.site c.args.event.now)
       (subst (λ n. length c.self.inside.state.settings.starts ≤ n) (sym c.grow.ensures.accounts) (c.self.invariant.1 kept).accounts)
       (subst (λ n. n + MOST_REQUESTS ≤ c.grow.new.self.entries) (c.len.ensures.same

@@ -19,7 +19,8 @@ pub returns-in-Ok-clause-ok : goal.returns-in-Ok-clause-ok
 returns-in-Ok-clause-ok c =
     let now : SiteState = state_as c.apply.new.self.settings c.self.inside.token.me c.apply.new.self.ops c.remove.new.self.held
     c.self.inside.token.token in
-    let P : SiteState → Type 0 = λ z. AnswersAlone z now (outcome_of z.settings z.site (Apply c.args.name.now)) (plain c.give-in-Ok.new.place) in
+    let P : SiteState → Type 0 = λ z. AnswersAlone z now (outcome_of z.settings z.site (Apply c.args.name.now))
+    (plain c.give-in-Ok.new.place) in
     subst P c.self.view_is
     (let old : SiteState = state_as c.self.inside.journal.settings c.self.inside.token.me c.self.inside.journal.ops c.self.inside.inbox.held
     c.self.inside.token.token in
@@ -43,7 +44,8 @@ pub returns-in-NotReady-clause-ok : goal.returns-in-NotReady-clause-ok
 returns-in-NotReady-clause-ok c =
     let now : SiteState = state_as c.apply.new.self.settings c.self.inside.token.me c.apply.new.self.ops c.self.inside.inbox.held
     c.self.inside.token.token in
-    let P : SiteState → Type 0 = λ z. AnswersAlone z now (outcome_of z.settings z.site (Apply c.args.name.now)) (plain c.give-in-NotReady.new.place) in
+    let P : SiteState → Type 0 = λ z. AnswersAlone z now (outcome_of z.settings z.site (Apply c.args.name.now))
+    (plain c.give-in-NotReady.new.place) in
     subst P c.self.view_is
     (let old : SiteState = state_as c.self.inside.journal.settings c.self.inside.token.me c.self.inside.journal.ops c.self.inside.inbox.held
     c.self.inside.token.token in
@@ -62,7 +64,8 @@ pub returns-in_default-why-clause-ok : goal.returns-in_default-why-clause-ok
 returns-in_default-why-clause-ok c =
     let now : SiteState = state_as c.apply.new.self.settings c.self.inside.token.me c.apply.new.self.ops
     c.remove-in_default-why.new.self.held c.self.inside.token.token in
-    let P : SiteState → Type 0 = λ z. AnswersAlone z now (outcome_of z.settings z.site (Apply c.args.name.now)) (plain c.give-in_default-why.new.place) in
+    let P : SiteState → Type 0 = λ z. AnswersAlone z now (outcome_of z.settings z.site (Apply c.args.name.now))
+    (plain c.give-in_default-why.new.place) in
     subst P c.self.view_is
     (let old : SiteState = state_as c.self.inside.journal.settings c.self.inside.token.me c.self.inside.journal.ops c.self.inside.inbox.held
     c.self.inside.token.token in

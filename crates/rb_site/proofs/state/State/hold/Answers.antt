@@ -38,7 +38,8 @@ pub returns-in-Ok-Already-clause-ok : goal.returns-in-Ok-Already-clause-ok
 returns-in-Ok-Already-clause-ok c =
     let now : SiteState = state_as c.self.inside.journal.settings c.self.inside.token.me c.self.inside.journal.ops c.put.new.self.held
     c.self.inside.token.token in
-    let P : SiteState → Type 0 = λ z. AnswersAlone z now (outcome_of_new z.settings z.site c.args.shadow.now) (plain c.give-in-Ok-Already.new.place) in
+    let P : SiteState → Type 0 = λ z. AnswersAlone z now (outcome_of_new z.settings z.site c.args.shadow.now)
+    (plain c.give-in-Ok-Already.new.place) in
     subst P c.self.view_is
     (let old : SiteState = state_as c.self.inside.journal.settings c.self.inside.token.me c.self.inside.journal.ops c.self.inside.inbox.held
     c.self.inside.token.token in
@@ -59,7 +60,8 @@ returns-clause-ok c =
     let P : SiteState → Type 0 = λ z. AnswersAlone z now (outcome_of_new z.settings z.site c.args.shadow.now) (plain c.give-2.new.place) in
     subst P c.self.view_is
     (refused_put c.self.inside.journal.settings c.self.inside.token.me c.self.inside.journal.ops c.self.inside.inbox c.put.new.self
-    c.self.inside.token.token c.clock.result.now c.args.shadow.now c.in-Err.why (plain c.give-2.new.place) few c.config.ensures.valid c.clock.ensures
+    c.self.inside.token.token c.clock.result.now c.args.shadow.now c.in-Err.why
+    (plain c.give-2.new.place) few c.config.ensures.valid c.clock.ensures
     c.self.invariant.limit
     c.in-Err.ensures.refusals (λ e. c.put.ensures.conflict (c.in-Err.is ∙ ap Err e)) (λ e. c.put.ensures.full (c.in-Err.is
     ∙ ap Err e)) c.in_default.not-OutOfMemory c.in-Err.ensures.err c.give-2.ensures)

@@ -70,7 +70,8 @@ returns-clause-ok c =
     subst P c.self.view_is
     (subst Q (sym c.in_ok-append.ensures.ok)
     (makes_request c.self.inside.journal.settings c.self.inside.token.me c.self.inside.journal.ops c.self.inside.inbox.held
-    c.self.inside.token.token c.args.request.now c.in-Ok.shadow c.args.sent.now.items c.push_reserved.new.self.items (plain c.give-2.new.place)
+    c.self.inside.token.token c.args.request.now c.in-Ok.shadow c.args.sent.now.items c.push_reserved.new.self.items
+    (plain c.give-2.new.place)
     (made_here old c.ledger.result.now.settings c.view.result.me c.ledger.result.now.entries c.args.request.now
     (Ok c.in-Ok.shadow) c.ledger.ensures.settings c.view.ensures.me c.ledger.ensures.entries
     (c.in-Ok.ensures.made c.self.inside.token.token c.view.ensures.shows))

@@ -45,7 +45,8 @@ delivery g c = ap (λ i. Deliver i c.in-Deliver.sent) (c.site-number.ensures ∙
 
 pub returns-in-At-clause-ok : goal.returns-in-At-clause-ok
 returns-in-At-clause-ok g c =
-    said_of c.take.result c.take.new.reply c.args.self.now c.take.new.self _ _ (at_site g (goal.at.returns-in-At-clause-ok g c).In-At) c.take.ensures.ok
+    said_of c.take.result c.take.new.reply c.args.self.now c.take.new.self _ _ (at_site g
+    (goal.at.returns-in-At-clause-ok g c).In-At) c.take.ensures.ok
 
 pub returns-in-At-clause-recordable : goal.returns-in-At-clause-recordable
 returns-in-At-clause-recordable g c =
@@ -62,7 +63,8 @@ returns-in-Some-operation-clause-ok g c =
 pub returns-in-Some-operation-clause-recordable : goal.returns-in-Some-operation-clause-recordable
 returns-in-Some-operation-clause-recordable g c =
     at_error c.take-in-Some-operation.result _ _
-    (recorded_at c.args.self.now c.args.event.now (Receive (ShadowMessage c.in-Some-operation.operation.now)) c.site-number.result c.is_full-full.result
+    (recorded_at c.args.self.now c.args.event.now (Receive (ShadowMessage c.in-Some-operation.operation.now)) c.site-number.result
+    c.is_full-full.result
     c.site-number.ensures
     (ap (arrival c.args.self.now.world.messages) c.in-Deliver.is ∙ ap (option_map Receive) c.in-Some-operation.ensures)
     (the_full g (goal.at.returns-in-Some-operation-clause-recordable g c).After-is_full-full)) c.take-in-Some-operation.ensures.recordable

@@ -30,7 +30,8 @@ record-requires-clause-room g c =
     subst P c.if-full.false c.requires.full
 
 pub returns-clause-ok : goal.returns-clause-ok
-returns-clause-ok g c = said_of c.record.result c.record.new.reply c.args.self.now c.record.new.self _ _ c.in_ok-noted.ensures c.record.ensures.ok
+returns-clause-ok g c = said_of c.record.result c.record.new.reply c.args.self.now c.record.new.self _ _ c.in_ok-noted.ensures
+    c.record.ensures.ok
 
 pub returns-clause-recordable : goal.returns-clause-recordable
 returns-clause-recordable g c = at_error c.record.result _ _ (λ _. c.if-full.false) c.record.ensures.err
