@@ -10,9 +10,7 @@ use Rattle.rb_site.specs.declared.event.Event.TheVariants as ev
 use Rattle.rb_site.specs.declared.message.Message.{Message}
 use Rattle.rb_branch.specs.declared.receipt.Receipt.{Receipt}
 use Rattle.rb_branch.specs.Seats.{HasOneMore, HasServed, IsApply, IsOneOf, IsServed, WasReceived, NoneLost, SeenSeat, Any}
-use Rattle.rb_branch.specs.Seats.{Records, is_full_inbox}
-use Rattle.rb_branch.proofs.Recorded.{records_one}
-use Rattle.rb_site.specs.Seen.{SeenSite}
+use Rattle.rb_branch.specs.Seats.{is_full_inbox}
 
 abbrev Refuses : Message → Receipt → Type 0
 Refuses m r = (r.event ≡ ev.Receive m) × (is_full_inbox r.reply ≡ true)
@@ -83,23 +81,11 @@ lost_more a b c xs ys h k = record {
     onward m (inl l) = later m (k.kept m l)
     onward m (inr r) = inr (some_left (Takes m) xs ys r)
 
--- this message and maybe others are behind those that were there
-abbrev pub HasMore : List Message → Message → List Message → Type 0
-HasMore a m b = (ms : List Message) × (b ≡ a ++ m ∷ ms)
-
--- the message alone
-pub has_one : (a : List Message) (m : Message) → HasMore a m (a ++ m ∷ [])
-has_one a m = ([], refl)
-
--- and then one more
-pub more_still : (a b c : List Message) (m x : Message) → HasMore a m b → c ≡ b ++ x ∷ [] → HasMore a m c
-more_still a b c m x h is = (h.0 ++ x ∷ [], is ∙ ap (λ l. l ++ x ∷ []) h.1 ∙ append_assoc a (m ∷ h.0) (x ∷ []))
-
--- messages that are kept behind the others
-lost_taken : (a b : List Message) (ms : List Message) → b ≡ a ++ ms → NoneLost a b []
-lost_taken a b ms is =
+-- a message that is kept behind the others
+lost_taken : (a b : List Message) (m : Message) → b ≡ a ++ m ∷ [] → NoneLost a b []
+lost_taken a b m is =
     let P : List Message → Type 0 = λ l. NoneLost a l [] in
-    subst P (sym is) (record { kept = λ x h. inl (some_left (λ k. x ≡ k) a ms h); refused = λ x h. absurd h })
+    subst P (sym is) (record { kept = λ x h. inl (some_left (λ k. x ≡ k) a (m ∷ []) h); refused = λ x h. absurd h })
 
 -- a kept message that is refused and stays
 lost_refused : (kept : List Message) (k : ℕ) (m : Message) (r : Receipt) → slice_get kept k ≡ Some m → r.event ≡ ev.Receive m
@@ -171,8 +157,8 @@ serves_same a b c k l m h seat inlet =
 
 -- and then what was taken from a link, if anything was
 pub serves_taken : (a b : SeenSeat) (k l m : List Message) (t : Bool) → Serves a b k l
-    → MatchBool t ((x : Message) × (ms : List Message) × (m ≡ l ++ x ∷ ms)) (m ≡ l) → Serves a b k m
-serves_taken a b k l m true h taken = serves_more a b b k l m h (0, none_more b l m (lost_taken l m (taken.0 ∷ taken.1) taken.2))
+    → MatchBool t ((x : Message) × (m ≡ l ++ x ∷ [])) (m ≡ l) → Serves a b k m
+serves_taken a b k l m true h taken = serves_more a b b k l m h (0, none_more b l m (lost_taken l m taken.0 taken.1))
 serves_taken a b k l m false h taken = serves_same a b b k l m h refl taken
 
 -- the receipt of an application
@@ -210,11 +196,6 @@ served_message b c old new m n h lost = record {
   count_is = refl;
   none_lost = lost;
 }
-
--- a message that came is one receipt more
-pub records_message : (x y : SeenSite) (m : Message) (a b : SeenSeat) (n : ℕ) (posted : List Message)
-    → Records x y (ev.Receive m) a b n posted → HasOneMore a b (λ e. e ≡ ev.Receive m) n
-records_message x y m a b n posted h = records_one x y (ev.Receive m) a b n posted (λ e. e ≡ ev.Receive m) h refl
 
 -- a kept message is received, and stays
 pub served_refused : (b c : SeenSeat) (kept : List Message) (k n : ℕ) (m : Message) → slice_get kept k ≡ Some m

@@ -1,7 +1,5 @@
 //! The receiving ends of links.
-ghost use Rattle.std.specs.Prelude.{◌≡◌, ◌+◌, ◌<◌, ◌≤◌, ◌++◌, ◌∷◌, [], List, IfOk, MatchBool, OnErr};
-ghost use Rattle.std.specs.Prelude.{Some, length, slice_get, vec_capacity, vec_len};
-ghost use Rattle.rb_branch.specs.declared.inlet.TheConstants.{MOST_TAKEN};
+ghost use Rattle.std.specs.Prelude.{◌≡◌, ◌<◌, ◌++◌, ◌∷◌, [], IfOk, MatchBool, OnErr, Some, length, slice_get};
 ghost use Rattle.std.specs.List.{remove};
 ghost use Rattle.rb_site.specs.declared.message.Message.{Message as MessageOf};
 
@@ -10,9 +8,6 @@ use rb_site::Message;
 use std::alloc::{AllocError, Global};
 use std::marker::Model;
 use std::sync::Wait;
-
-/// How many messages are taken from a link at once at most, and received under one lock.
-pub(crate) const MOST_TAKEN: usize = 8;
 
 /// The receiving end of a site's link. It keeps what was taken from the link and not yet received, as its
 /// site's inbox was full. Clients see what it keeps, in the order in which it was taken.
@@ -55,20 +50,18 @@ impl Inlet {
         self.kept.as_slice()
     }
 
-    /// Takes the next message from the link, once there is one, and what else it has by then, `MOST_TAKEN` in all
-    /// at most, and keeps them behind the others, in order. `false` once the link is closed. After an `Err`, out
-    /// of memory, nothing was taken.
+    /// Takes the next message from the link, once there is one, and keeps it behind the others. `false` once
+    /// the link is closed. After an `Err`, out of memory, nothing was taken.
     pub(crate) fn take<W: Wait>(&mut self, rt: &W) -> Result<bool, AllocError>
         ensures ok { IfOk result
-            (λ b. MatchBool b ((m : MessageOf) × (ms : List MessageOf) × (self.new ≡ self.old ++ m ∷ ms))
-            (self.new ≡ self.old)) }
+            (λ b. MatchBool b ((m : MessageOf) × (self.new ≡ self.old ++ m ∷ [])) (self.new ≡ self.old)) }
         ensures err { OnErr result (self.new ≡ self.old) }
     {
-        self.kept.reserve(MOST_TAKEN)?;
+        self.kept.reserve(1)?;
         let Some(message) = self.next(rt) else {
             return Ok(false);
         };
-        keep_all(rt, &self.link, &mut self.kept, message);
+        self.kept.push_reserved(message);
         Ok(true)
     }
 
@@ -86,20 +79,5 @@ impl Inlet {
         ensures { self.new ≡ remove self.old index }
     {
         self.kept.remove(index);
-    }
-}
-
-/// Keeps this message behind the others, and then what else the link has, `MOST_TAKEN` in all at most.
-#[tactic(auto, using(crate::proofs::Served::has_one, crate::proofs::Served::more_still))]
-fn keep_all<W: Wait>(rt: &W, link: &Receiver<Message>, kept: &mut Vec<Message>, first: Message)
-    requires { vec_len kept.old + MOST_TAKEN ≤ vec_capacity kept.old }
-    ensures { (ms : List MessageOf) × (kept.new.items ≡ kept.old.items ++ first ∷ ms) }
-{
-    kept.push_reserved(first);
-    for _taken in 1..MOST_TAKEN {
-        let Ok(message) = link.try_recv(rt) else {
-            return;
-        };
-        kept.push_reserved(message);
     }
 }

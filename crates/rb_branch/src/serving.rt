@@ -1,5 +1,5 @@
 //! The serving of a site: what comes by its link is received, and what is ready is applied.
-ghost use Rattle.std.specs.Prelude.{ℕ, IfOk, OnErr};
+ghost use Rattle.std.specs.Prelude.{◌<◌, ◌+◌, ◌^◌, ℕ, IfOk, OnErr, length};
 ghost use Rattle.rb_branch.specs.Seats.{HasServed};
 
 use crate::{Branch, CallFault, Entries, Gate, Inlet, Seat};
@@ -7,10 +7,9 @@ use std::sync::Wait;
 use std::sync::ledger::Ledger;
 
 impl<E: Entries, R: Ledger, G: Gate + Drop> Branch<E, R, G> {
-    /// Receives what the inlet keeps and then what comes by its link until it closes, and applies what is ready,
-    /// by turns under one lock each: a few messages, and then a few of what is ready. Ok is how many receipts the
-    /// seat has more. What the site refuses as its inbox is full is kept in the inlet, and all that is kept is
-    /// received again after each turn with an application. After an `Err`
+    /// Receives what the inlet keeps and then what comes by its link until it closes, and after each message
+    /// applies what is ready. Ok is how many receipts the seat has more. What the site refuses as its inbox is
+    /// full is kept in the inlet, and all that is kept is received again after each application. After an `Err`
     /// the seat has the receipts of the events before, the inlet keeps what was taken and not received, and
     /// `serve` may be called again.
     ///
@@ -49,8 +48,9 @@ impl<E: Entries, R: Ledger, G: Gate + Drop> Branch<E, R, G> {
         Ok(())
     }
 
-    /// A turn from this index of what is kept on. Takes the next messages where nothing more is to be done before:
-    /// the index to receive from next. `None` once the link is closed.
+    /// Receives what is kept from this index on. Then applies what is ready or, where nothing is, takes the next
+    /// message: the index to receive from next, which after an application is that of all. `None` once the link
+    /// is closed.
     fn serve_once<W: Wait>(
         &self,
         rt: &W,
@@ -60,9 +60,9 @@ impl<E: Entries, R: Ledger, G: Gate + Drop> Branch<E, R, G> {
     ) -> Result<Option<usize>, CallFault>
         ensures { (n : ℕ) × HasServed seat.old seat.new inlet.old inlet.new n }
     {
-        let next = self.serve_kept(rt, seat, inlet, first)?;
-        if next.is_some() {
-            return Ok(next);
+        self.receive_from(rt, seat, inlet, first)?;
+        if self.apply_ready(rt, seat)?.is_some() {
+            return Ok(Some(0));
         }
         let kept = inlet.kept().len();
         let taken = inlet.take(rt)?;
@@ -70,5 +70,45 @@ impl<E: Entries, R: Ledger, G: Gate + Drop> Branch<E, R, G> {
             return Ok(None);
         }
         Ok(Some(kept))
+    }
+
+    /// Receives each kept message once, from this index on.
+    fn receive_from<W: Wait>(
+        &self,
+        rt: &W,
+        seat: &mut Seat<E, R>,
+        inlet: &mut Inlet,
+        first: usize,
+    ) -> Result<(), CallFault>
+        ensures { (n : ℕ) × HasServed seat.old seat.new inlet.old inlet.new n }
+    {
+        let mut index = first;
+        while index < inlet.kept().len() {
+            index = self.receive_at(rt, seat, inlet, index)?;
+        }
+        Ok(())
+    }
+
+    /// Receives the kept message at this index. It stays where the inbox is full, and goes otherwise: the index
+    /// of the next.
+    fn receive_at<W: Wait>(
+        &self,
+        rt: &W,
+        seat: &mut Seat<E, R>,
+        inlet: &mut Inlet,
+        index: usize,
+    ) -> Result<usize, CallFault>
+        requires within { index < length inlet.old }
+        requires fits { index + 1 < 2 ^ 64 }
+        ensures served { (n : ℕ) × HasServed seat.old seat.new inlet.old inlet.new n }
+        ensures fewer { IfOk result (λ next. length inlet.new + index < length inlet.old + next) }
+    {
+        let message = inlet.message(index);
+        let _number = self.receive(rt, seat, message)?;
+        if seat.found_full() {
+            return Ok(index + 1);
+        }
+        inlet.let_go(index);
+        Ok(index)
     }
 }

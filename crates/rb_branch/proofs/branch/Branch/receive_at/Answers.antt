@@ -1,0 +1,23 @@
+use Rattle.std.proofs.Common.{arith, refl}
+use Rattle.std.proofs.lemmas.List.Edits.{length-remove}
+use Rattle.rb_branch.proofs.Served.{served_received, served_refused, serves_none, serves_same}
+use Rattle.rb_branch.proofs.branch.Branch.receive_at.Goals as goal
+
+pub returns-in_err-_number-clause-served : goal.returns-in_err-_number-clause-served
+returns-in_err-_number-clause-served g c = serves_same _ _ _ _ _ _ (serves_none _ _) c.in_err-_number.ensures.err refl
+
+pub returns-then-found_full-clause-served : goal.returns-then-found_full-clause-served
+returns-then-found_full-clause-served g c =
+    (1, served_refused _ _ _ c.args.index _ c.message-message.result c.message-message.ensures c.in_ok-_number.ensures.ok)
+
+pub returns-clause-served : goal.returns-clause-served
+returns-clause-served g c = (
+  1,
+  served_received _ _ _ _ c.args.index _ c.message-message.result c.found_full.result c.message-message.ensures
+      c.in_ok-_number.ensures.ok c.found_full.ensures c.if-found_full.false c.let_go.ensures,
+)
+
+pub returns-clause-fewer : goal.returns-clause-fewer
+returns-clause-fewer g c =
+    let less = length-remove c.args.inlet.now c.args.index c.requires.within in
+    rw c.let_go.ensures (omega (arith, less))

@@ -1,0 +1,9 @@
+use Rattle.std.proofs.Common.{◌-◌, length}
+use Rattle.rb_branch.proofs.Served.{Serves}
+use Rattle.rb_branch.proofs.branch.Branch.receive_from.Given as goal
+
+abbrev pub invariant-loop-index : goal.invariant-loop-index
+invariant-loop-index g l = Serves l.initial.seat l.seat l.initial.inlet l.inlet
+
+abbrev pub decreases-loop-index : goal.decreases-loop-index
+decreases-loop-index g l = length l.inlet - l.index
