@@ -14,6 +14,7 @@ ghost use Rattle.rb_world.specs.Laws.{Holds, IsRunOf, next_replies, next_reply, 
 
 use crate::sent::{Sent, kept_message, kept_operation};
 use crate::{KeepsEvent, Stopped};
+use rb_kit::reserve_one;
 use rb_money::{Config, Refusal};
 use rb_shadow::Shadow;
 use rb_site::{Entry, Event, KeepsEntry, Message, Reply, Site, SiteReport, WorldEvent};
@@ -262,7 +263,7 @@ impl<E: KeepsEntry, R: KeepsEvent> World<E, R> {
             × (self.new ≡ next_world self.old (R.noted noted))) }
         ensures err { OnErr result (self.new ≡ self.old) }
     {
-        self.recorded.reserve(1)?;
+        reserve_one(&mut self.recorded)?;
         self.sent.make_ready()?;
         let applied = self.sites[site as usize].ledger().len();
         self.sites[site as usize].answer(arrived, &mut self.sent.posted, reply)?;

@@ -63,10 +63,10 @@ the_pushed g c =
     (noting c.act.new.reply c.act.new.noted)
     c.in_ok-act.ensures.ok)
     (ap (map g.E.KeepsEntry.entry) c.push_reserved.ensures.items
-    ∙ map-append g.E.KeepsEntry.entry c.reserve.new.self.items _
-    ∙ ap (λ x. map g.E.KeepsEntry.entry c.reserve.new.self.items ++ x ∷ []) c.note.ensures
-    ∙ ap (λ e. map g.E.KeepsEntry.entry c.reserve.new.self.items ++ entry e c.act.new.reply ∷ []) c.in_ok-kept.ensures
-    ∙ ap (λ xs. map g.E.KeepsEntry.entry xs ++ entry c.args.event.now c.act.new.reply ∷ []) c.in_ok-reserve.ensures.items)
+    ∙ map-append g.E.KeepsEntry.entry c.reserve_one.new.list.items _
+    ∙ ap (λ x. map g.E.KeepsEntry.entry c.reserve_one.new.list.items ++ x ∷ []) c.note.ensures
+    ∙ ap (λ e. map g.E.KeepsEntry.entry c.reserve_one.new.list.items ++ entry e c.act.new.reply ∷ []) c.in_ok-kept.ensures
+    ∙ ap (λ xs. map g.E.KeepsEntry.entry xs ++ entry c.args.event.now c.act.new.reply ∷ []) c.in_ok-reserve_one.ensures.items)
 
 the_view : (g : Over) (c : goal.After-push_reserved g) → seen_as c.act.new.self.settings c.act.new.self.site.me
     (map g.E.KeepsEntry.entry c.push_reserved.new.self.items) ≡ next_site c.args.self.now c.args.event.now
@@ -93,21 +93,21 @@ returns-clause-ok g c = (
 
 pub invariant_of-self : goal.invariant_of-self
 invariant_of-self g c = (
-  stands_as g.E.KeepsEntry.entry c.self.inside.history.items c.reserve.new.self.items c.self.inside.state c.in_err-reserve.ensures.items
+  stands_as g.E.KeepsEntry.entry c.self.inside.history.items c.reserve_one.new.list.items c.self.inside.state c.in_err-reserve_one.ensures.items
       c.self.invariant.0,
   c.self.invariant.1,
 )
 
-pub returns-in_err-reserve-clause-err : goal.returns-in_err-reserve-clause-err
-returns-in_err-reserve-clause-err g c = on_err c.from_residual.result _ (
-  seen_same g.E.KeepsEntry.entry c.self.inside.history.items c.reserve.new.self.items c.self.inside.state c.args.self.now
-      c.in_err-reserve.ensures.items c.self.view_is,
+pub returns-in_err-reserve_one-clause-err : goal.returns-in_err-reserve_one-clause-err
+returns-in_err-reserve_one-clause-err g c = on_err c.from_residual.result _ (
+  seen_same g.E.KeepsEntry.entry c.self.inside.history.items c.reserve_one.new.list.items c.self.inside.state c.args.self.now
+      c.in_err-reserve_one.ensures.items c.self.view_is,
   refl,
 )
 
 pub invariant_of-self-in_err-grow : goal.invariant_of-self-in_err-grow
 invariant_of-self-in_err-grow g c = (
-  stands_as g.E.KeepsEntry.entry c.self.inside.history.items c.reserve.new.self.items c.self.inside.state c.in_ok-reserve.ensures.items
+  stands_as g.E.KeepsEntry.entry c.self.inside.history.items c.reserve_one.new.list.items c.self.inside.state c.in_ok-reserve_one.ensures.items
       c.self.invariant.0,
   λ keeps. enough_more c.self.inside.room c.grow.new.self c.self.inside.state c.grow.ensures.kept c.grow.ensures.accounts
       (c.self.invariant.1 keeps),
@@ -115,14 +115,14 @@ invariant_of-self-in_err-grow g c = (
 
 pub returns-in_err-grow-clause-err : goal.returns-in_err-grow-clause-err
 returns-in_err-grow-clause-err g c = on_err c.from_residual-in_err-grow.result _ (
-  seen_same g.E.KeepsEntry.entry c.self.inside.history.items c.reserve.new.self.items c.self.inside.state c.args.self.now
-      c.in_ok-reserve.ensures.items c.self.view_is,
+  seen_same g.E.KeepsEntry.entry c.self.inside.history.items c.reserve_one.new.list.items c.self.inside.state c.args.self.now
+      c.in_ok-reserve_one.ensures.items c.self.view_is,
   refl,
 )
 
 pub invariant_of-self-in_err-kept : goal.invariant_of-self-in_err-kept
 invariant_of-self-in_err-kept g c = (
-  stands_as g.E.KeepsEntry.entry c.self.inside.history.items c.reserve.new.self.items c.self.inside.state c.in_ok-reserve.ensures.items
+  stands_as g.E.KeepsEntry.entry c.self.inside.history.items c.reserve_one.new.list.items c.self.inside.state c.in_ok-reserve_one.ensures.items
       c.self.invariant.0,
   λ keeps. enough_more c.self.inside.room c.grow.new.self c.self.inside.state c.grow.ensures.kept c.grow.ensures.accounts
       (c.self.invariant.1 keeps),
@@ -130,27 +130,27 @@ invariant_of-self-in_err-kept g c = (
 
 pub returns-in_err-kept-clause-err : goal.returns-in_err-kept-clause-err
 returns-in_err-kept-clause-err g c = on_err c.from_residual-in_err-kept.result _ (
-  seen_same g.E.KeepsEntry.entry c.self.inside.history.items c.reserve.new.self.items c.self.inside.state c.args.self.now
-      c.in_ok-reserve.ensures.items c.self.view_is,
+  seen_same g.E.KeepsEntry.entry c.self.inside.history.items c.reserve_one.new.list.items c.self.inside.state c.args.self.now
+      c.in_ok-reserve_one.ensures.items c.self.view_is,
   refl,
 )
 
 pub invariant_of-self-in_err-act : goal.invariant_of-self-in_err-act
 invariant_of-self-in_err-act g c =
-    let P : SiteState → Type 0 = λ z. IsStanding (seen_as z.settings z.site.me (map g.E.KeepsEntry.entry c.reserve.new.self.items)) z
+    let P : SiteState → Type 0 = λ z. IsStanding (seen_as z.settings z.site.me (map g.E.KeepsEntry.entry c.reserve_one.new.list.items)) z
     × (g.E.KeepsEntry.KEEPS ≡ true → IsEnough c.grow.new.self z) in
     subst P (sym c.in_err-act.ensures.err.0) (
-      stands_as g.E.KeepsEntry.entry c.self.inside.history.items c.reserve.new.self.items c.self.inside.state
-          c.in_ok-reserve.ensures.items c.self.invariant.0,
+      stands_as g.E.KeepsEntry.entry c.self.inside.history.items c.reserve_one.new.list.items c.self.inside.state
+          c.in_ok-reserve_one.ensures.items c.self.invariant.0,
       λ keeps. enough_more c.self.inside.room c.grow.new.self c.self.inside.state c.grow.ensures.kept c.grow.ensures.accounts
           (c.self.invariant.1 keeps),
     )
 
 pub returns-in_err-act-clause-err : goal.returns-in_err-act-clause-err
 returns-in_err-act-clause-err g c = on_err c.from_residual-in_err-act.result _ (
-  ap (λ (z : SiteState). seen_as z.settings z.site.me (map g.E.KeepsEntry.entry c.reserve.new.self.items)) c.in_err-act.ensures.err.0
-      ∙ seen_same g.E.KeepsEntry.entry c.self.inside.history.items c.reserve.new.self.items c.self.inside.state c.args.self.now
-      c.in_ok-reserve.ensures.items c.self.view_is,
+  ap (λ (z : SiteState). seen_as z.settings z.site.me (map g.E.KeepsEntry.entry c.reserve_one.new.list.items)) c.in_err-act.ensures.err.0
+      ∙ seen_same g.E.KeepsEntry.entry c.self.inside.history.items c.reserve_one.new.list.items c.self.inside.state c.args.self.now
+      c.in_ok-reserve_one.ensures.items c.self.view_is,
   c.in_err-act.ensures.err.1,
 )
 
@@ -159,4 +159,4 @@ note-requires g c =
     noted_as c.KEEPS-2.result g.E.KeepsEntry.KEEPS (noting c.act.new.reply c.act.new.noted) _ c.in_ok-act.ensures.ok.1 c.KEEPS-2.ensures
 
 pub push_reserved-requires : goal.push_reserved-requires
-push_reserved-requires g c = omega (arith, c.in_ok-reserve.ensures.ok, c.in_ok-reserve.ensures.len)
+push_reserved-requires g c = omega (arith, c.in_ok-reserve_one.ensures.ok, c.in_ok-reserve_one.ensures.len)

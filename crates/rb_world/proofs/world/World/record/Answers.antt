@@ -92,8 +92,8 @@ the_step g c =
     ∙ ap (shown_world c.self.inside.config (slice_set c.self.inside.sites.items (site_of (g.R.KeepsEvent.noted c.args.noted))
     (next_site x c.args.arrived.now)) now)
     (ap (map g.R.KeepsEvent.noted) c.push_reserved.ensures.items
-    ∙ map-append g.R.KeepsEvent.noted c.reserve.new.self.items _
-    ∙ ap (λ es. map g.R.KeepsEvent.noted es ++ g.R.KeepsEvent.noted c.args.noted ∷ []) c.in_ok-reserve.ensures.items)
+    ∙ map-append g.R.KeepsEvent.noted c.reserve_one.new.list.items _
+    ∙ ap (λ es. map g.R.KeepsEvent.noted es ++ g.R.KeepsEvent.noted c.args.noted ∷ []) c.in_ok-reserve_one.ensures.items)
     ∙ (taken_step _ _ _ (map g.R.KeepsEvent.noted c.self.inside.recorded.items) (g.R.KeepsEvent.noted c.args.noted) c.args.arrived.now
     x (taken g c)).1
 
@@ -163,7 +163,7 @@ note-requires-clause-ready g c =
     let h = c.in_ok-make_ready.ensures.ok in record { places = h.places; tokens = h.tokens; numbered = h.numbered }
 
 pub push_reserved-requires : goal.push_reserved-requires
-push_reserved-requires g c = one_fits _ _ c.in_ok-reserve.ensures.ok
+push_reserved-requires g c = one_fits _ _ c.in_ok-reserve_one.ensures.ok
 
 -- ---- what an error leaves
 
@@ -190,7 +190,7 @@ pub invariant_of-self : goal.invariant_of-self
 invariant_of-self g c = (
   (let P : List WorldEvent → Type 0 = λ es. IsRunOf (shown c.self.inside.config c.self.inside.sites.items
       c.self.inside.sent.tokens.items c.self.inside.sent.places.items es) in
-      subst P (sym (ap (map g.R.KeepsEvent.noted) c.in_err-reserve.ensures.items)) c.self.invariant.0),
+      subst P (sym (ap (map g.R.KeepsEvent.noted) c.in_err-reserve_one.ensures.items)) c.self.invariant.0),
   c.self.invariant.1,
   c.self.invariant.2,
   c.self.invariant.3,
@@ -202,7 +202,7 @@ invariant_of-self g c = (
 pub invariant_of-self-in_err-make_ready : goal.invariant_of-self-in_err-make_ready
 invariant_of-self-in_err-make_ready g c = (
   subst IsRunOf (sym (same_parts _ _ _ _ _ _ _ _ _ refl c.make_ready.ensures.tokens c.make_ready.ensures.places
-      (ap (map g.R.KeepsEvent.noted) c.in_ok-reserve.ensures.items)))
+      (ap (map g.R.KeepsEvent.noted) c.in_ok-reserve_one.ensures.items)))
       c.self.invariant.0,
   c.self.invariant.1,
   same_kept _ _ _ _ _ _ refl c.make_ready.ensures.tokens c.make_ready.ensures.places c.self.invariant.2,
@@ -224,7 +224,7 @@ pub invariant_of-self-in_err-answer : goal.invariant_of-self-in_err-answer
 invariant_of-self-in_err-answer g c =
     let back = sites_back g c in (
       subst IsRunOf (sym (same_parts _ _ _ _ _ _ _ _ _ back c.make_ready.ensures.tokens c.make_ready.ensures.places
-          (ap (map g.R.KeepsEvent.noted) c.in_ok-reserve.ensures.items)))
+          (ap (map g.R.KeepsEvent.noted) c.in_ok-reserve_one.ensures.items)))
           c.self.invariant.0,
       subst (AreOf c.self.inside.config) (sym back) c.self.invariant.1,
       same_kept _ _ _ _ _ _ back c.make_ready.ensures.tokens c.make_ready.ensures.places c.self.invariant.2,
@@ -236,18 +236,18 @@ invariant_of-self-in_err-answer g c =
 
 -- ---- after an error the world is as before
 
-pub returns-in_err-reserve-clause-err : goal.returns-in_err-reserve-clause-err
-returns-in_err-reserve-clause-err g c =
+pub returns-in_err-reserve_one-clause-err : goal.returns-in_err-reserve_one-clause-err
+returns-in_err-reserve_one-clause-err g c =
     on_error c.from_residual.result _
     (ap (shown c.self.inside.config c.self.inside.sites.items c.self.inside.sent.tokens.items c.self.inside.sent.places.items)
-    (ap (map g.R.KeepsEvent.noted) c.in_err-reserve.ensures.items)
+    (ap (map g.R.KeepsEvent.noted) c.in_err-reserve_one.ensures.items)
     ∙ c.self.view_is)
 
 pub returns-in_err-make_ready-clause-err : goal.returns-in_err-make_ready-clause-err
 returns-in_err-make_ready-clause-err g c =
     on_error c.from_residual-in_err-make_ready.result _
     (same_parts c.self.inside.config _ _ _ _ _ _ _ _ refl c.make_ready.ensures.tokens c.make_ready.ensures.places
-    (ap (map g.R.KeepsEvent.noted) c.in_ok-reserve.ensures.items)
+    (ap (map g.R.KeepsEvent.noted) c.in_ok-reserve_one.ensures.items)
     ∙ c.self.view_is)
 
 pub returns-in_err-answer-clause-err : goal.returns-in_err-answer-clause-err
@@ -256,5 +256,5 @@ returns-in_err-answer-clause-err g c =
     (same_parts c.self.inside.config _ _ _ _ _ _ _ _
     (sites_back g (goal.at.returns-in_err-answer-clause-err g c).After-drop-noted-in_err-answer)
     c.make_ready.ensures.tokens c.make_ready.ensures.places
-    (ap (map g.R.KeepsEvent.noted) c.in_ok-reserve.ensures.items)
+    (ap (map g.R.KeepsEvent.noted) c.in_ok-reserve_one.ensures.items)
     ∙ c.self.view_is)
