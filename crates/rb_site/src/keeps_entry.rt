@@ -73,10 +73,12 @@ impl KeepsEntry for ErasedEntry {
 
     const KEEPS: bool = false;
 
+    #[inline(always)]
     fn keep(_alloc: Global, event: &Event) -> Result<Erased<Event>, AllocError> {
         Ok(Erased::of(event))
     }
 
+    #[inline(always)]
     fn note(event: Erased<Event>, reply: &Reply, _noted: Option<Reply>) -> ErasedEntry {
         ErasedEntry {
             event,

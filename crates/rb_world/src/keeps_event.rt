@@ -53,6 +53,7 @@ pub struct ErasedEvent {
 impl KeepsEvent for ErasedEvent {
     ghost noted = { λ e. brought_by e.site.value e.arrived.value e.delivered.value };
 
+    #[inline(always)]
     fn note(
         _alloc: Global,
         site: u8,
