@@ -68,6 +68,7 @@ fn parse_site_last(alloc: Global, config: &Config, text: &str) -> Option<(SiteCo
 }
 
 /// The command of a line in the usual spelling, and its site. `None` says nothing of the line: it may have another.
+#[inline(always)]
 pub fn parse_command(alloc: Global, config: &Config, line: &str) -> Option<(SiteCommand, u8)>
     ensures { IfSome result (λ p. command_at config.now line.now ≡ Some (with_site p.1 p.0)) }
 {

@@ -15,6 +15,7 @@ use serde_json::Value;
 use std::alloc::Global;
 
 /// The place of an account's name.
+#[inline(always)]
 pub fn place(config: &Config, name: &str) -> Place
     ensures { result ≡ account_place config.now name.now }
 {
