@@ -2,6 +2,7 @@
 //! Tests: rb_tests_runs, scripts.rt.
 #![tactic(auto)]
 
+mod command;
 mod run;
 mod session;
 
