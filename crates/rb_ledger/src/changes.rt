@@ -1,6 +1,7 @@
 //! What changes a ledger.
 ghost use Rattle.std.specs.Prelude.{◌≡◌, ◌≤◌, ◌<◌, ◌+◌, length, Some, None, List, [], ◌∷◌, ◌++◌, ◌⊎◌, OnOk, OnErr};
 ghost use Rattle.std.specs.Prelude.{IfOk, IfErr, true};
+ghost use Rattle.rb_money.specs.declared.limits.TheConstants.{MOST_OPERATIONS};
 ghost use Rattle.rb_shadow.specs.Operations.{is_eligible};
 ghost use Rattle.rb_shadow.specs.Sound.{IsSound};
 ghost use Rattle.rb_shadow.specs.declared.shadow.Shadow.{Shadow as TheShadow};
@@ -12,6 +13,12 @@ use rb_money::Refusal;
 use rb_shadow::Shadow;
 use rb_undo::Undo;
 use std::alloc::AllocError;
+
+/// From this number of entries on the lists grow to `MANY_ENTRIES` at once.
+const FEW_ENTRIES: usize = 64;
+
+/// For this number of entries even the list of the smallest items, positions of 4 bytes, takes 128 kilobytes.
+const MANY_ENTRIES: usize = 32_768;
 
 impl Ledger {
     /// Adds a shadow at the end, and gives the record to undo that. A shadow that is refused comes
@@ -123,13 +130,13 @@ impl Ledger {
         ensures short { OnErr result (self.old.room < additional) }
         ensures err { OnErr result (self.new ≡ self.old) }
     {
-        let count = self.entries.len();
+        let count = self.len() as usize;
         let limit = self.index.rows.limit();
         if additional <= limit - count {
             return Ok(());
         }
         match count.checked_add(additional) {
-            Some(needed) => self.grow(needed.max(limit.saturating_add(limit))),
+            Some(needed) => self.grow(needed.max(next_limit(count))),
             None => Err(AllocError),
         }
     }
@@ -143,11 +150,11 @@ impl Ledger {
         ensures room { 0 < self.old.room → self.new ≡ self.old }
         ensures err { OnErr result ((self.new ≡ self.old) × (self.old.room ≡ 0)) }
     {
-        let count = self.entries.len();
+        let count = self.len() as usize;
         if count < self.index.rows.limit() {
             return Ok(());
         }
-        self.grow(count * 2 + 8)
+        self.grow(next_limit(count))
     }
 
     /// Takes memory for `limit` entries in all. `Err` means out of memory.
@@ -164,5 +171,18 @@ impl Ledger {
         self.links.reserve(limit)?;
         self.index.cancels.reserve_exact(additional)?;
         self.index.rows.reserve(limit)
+    }
+}
+
+/// For how many entries in all memory is taken where that for `count` is used up. From a few on it is for as many as
+/// make each list a mapping of its own at once, which grows without a copy and of which only what is used takes memory.
+fn next_limit(count: usize) -> usize
+    requires { count ≤ MOST_OPERATIONS }
+    ensures more { count < result }
+{
+    if count < FEW_ENTRIES {
+        count * 2 + 8
+    } else {
+        MANY_ENTRIES.max(count * 2)
     }
 }
