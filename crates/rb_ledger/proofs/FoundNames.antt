@@ -1,20 +1,24 @@
 -- What is at a position, and under a name that was found.
 use Rattle.std.proofs.Common.{◌≡◌, ℕ, zero, suc, ◌-◌, ◌<◌, ◌≤◌, true, false, cond, List, [], ◌∷◌, length}
 use Rattle.std.proofs.Common.{get_or, refl, ap, sym, ◌∙◌, arith, ◌⊎◌, inl, inr, Some, None}
-use Rattle.std.specs.Prelude.{slice_get, ◌==◌, Option, option_map, option_and_then}
+use Rattle.std.specs.Prelude.{slice_get, ◌==◌, Option, option_map, option_and_then, unwrap_or}
 use Rattle.std.proofs.lemmas.Bool.Decides.{nat_tests}
 use Rattle.std.proofs.lemmas.Option.{slice_get_within, get_or_from_slice_get}
 use Rattle.rb_money.specs.declared.place.Place.{Place}
 use Rattle.rb_shadow.specs.declared.shadow.Shadow.{Shadow}
 use Rattle.rb_shadow.specs.declared.op_name.OpName.{OpName}
 use Rattle.rb_shadow.specs.Operations.{names, find_in, Among}
-use Rattle.rb_shadow.specs.Operations.{kind_in, receiver_of}
+use Rattle.rb_shadow.specs.Operations.{kind_in, receiver_of, target_of, other_of}
+use Rattle.rb_shadow.specs.declared.kind.Kind.{Kind}
+use Rattle.rb_shadow.specs.declared.kind.Kind.TheVariants.{Deposit, Withdraw, Declined, Interest, Cancel, Transfer}
 use Rattle.rb_shadow.proofs.Public.Members
 use Rattle.rb_money.proofs.Public.Tests.{at_most, equal, number_sound}
 use Rattle.rb_money.proofs.Public.Tests
-use Rattle.rb_ledger.specs.Valid.{operation_at, find_position, position_from}
+use Rattle.rb_ledger.specs.Valid.{operation_at, find_position, position_from, position_of}
 use Rattle.rb_ledger.specs.Valid.{HasTarget}
 use Rattle.rb_ledger.proofs.CancelFacts
+use Rattle.rb_ledger.proofs.Overdraws
+use Rattle.rb_ledger.proofs.Public.Pushes.{other_by}
 use Rattle.rb_shadow.proofs.Public.Lookups
 
 -- what a list has at an index is one of its operations
@@ -90,3 +94,54 @@ other_near us x p m e count =
 pub other_unfound : (us : List Shadow) (x : OpName) → None ≡ find_position us x → None ≡ option_and_then receiver_of (kind_in us x)
 other_unfound us x e = sym (ap (option_and_then receiver_of) (Lookups.kind_found us x
     ∙ ap (option_map (λ (v : Shadow). v.kind)) (sym (found_nothing us x e))))
+
+-- a name of which there is no position was not found
+unfound_at : (us : List Shadow) (x : OpName) → 0 ≡ position_from 1 us x → None ≡ find_position us x
+unfound_at us x e = at (Members.bool_cases (names us x))
+  where
+    at : (names us x ≡ true) ⊎ (names us x ≡ false) → None ≡ find_position us x
+    at (inl d) = let (q, t, there, named, stood, found) = CancelFacts.found_at 1 us x d in absurd (omega (arith, e, stood))
+    at (inr d) = sym (ap (λ b. cond b (Some (position_from 1 us x)) None) d)
+
+-- a name of which there is a position was found there
+found_by : (us : List Shadow) (x : OpName) (p : ℕ) → p ≡ position_from 1 us x → 0 < p → Some p ≡ find_position us x
+found_by us x p e some = at (Members.bool_cases (names us x))
+  where
+    at : (names us x ≡ true) ⊎ (names us x ≡ false) → Some p ≡ find_position us x
+    at (inl d) = ap Some e ∙ sym (ap (λ b. cond b (Some (position_from 1 us x)) None) d)
+    at (inr d) =
+        let none : find_position us x ≡ None = ap (λ b. cond b (Some (position_from 1 us x)) None) d in
+        absurd (omega (arith, e, some, sym (Overdraws.position_or_none us x) ∙ ap (λ o. unwrap_or o 0) none))
+
+-- what is cancelled by an operation whose target has a position
+pub target_at : (us : List Shadow) (o : Option OpName) (p : ℕ) → p ≡ position_of us o → 0 < p →
+    (x : OpName) × (o ≡ Some x) × (Some p ≡ find_position us x)
+target_at us None p e some = absurd (omega (arith, e, some))
+target_at us (Some x) p e some = (x, refl, found_by us x p e some)
+
+-- an operation whose target has no position has none
+pub no_target : (us : List Shadow) (h : Shadow) (o : Option OpName) → HasTarget us h o → 0 ≡ position_of us o → None ≡ o
+no_target us h None right e = refl
+no_target us h (Some x) (t, there, named, right) e =
+    let (q, u, beside, same, stood, found) = CancelFacts.found_at 1 us x (ap (names us) (sym named) ∙ Members.named us t there) in
+    absurd (omega (arith, e, stood))
+
+-- the second account of an operation whose target has no position is its own receiver
+pub other_alone : (us : List Shadow) (k : Kind) → 0 ≡ position_of us (target_of k) → receiver_of k ≡ other_of us k
+other_alone us (Cancel x) e = other_unfound us x (unfound_at us x e)
+other_alone us (Transfer to) e = refl
+other_alone us Deposit e = refl
+other_alone us Withdraw e = refl
+other_alone us Declined e = refl
+other_alone us Interest e = refl
+
+-- the second account of an operation whose target has a position is the target's receiver
+pub other_there : (us : List Shadow) (k : Kind) (p i : ℕ) (d : Shadow) (r : Option Place) → p ≡ position_of us (target_of k) → 0 < p →
+    i ≡ p - 1 → r ≡ receiver_of (get_or us i d).kind → r ≡ other_of us k
+other_there us k p i d r e some near is =
+    let (x, cancels, found) = target_at us (target_of k) p e some in
+    other_found us x p d r found (is ∙ ap (λ j. receiver_of (get_or us j d).kind) near) ∙ ap (other_by us k) (sym cancels)
+
+-- a target's position is within the list
+pub target_near : (us : List Shadow) (o : Option OpName) (p m : ℕ) → p ≡ position_of us o → 0 < p → m ≡ length us → p - 1 < m
+target_near us o p m e some count = let (x, is, found) = target_at us o p e some in (other_near us x p m found count).1

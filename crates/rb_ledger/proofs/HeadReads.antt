@@ -1,9 +1,8 @@
 -- What is read of the accounts' heads.
 use Rattle.std.proofs.Common.{◌≡◌, ℕ, zero, suc, ◌<◌, ◌≤◌, List, [], ◌∷◌, ◌++◌, length}
-use Rattle.std.proofs.Common.{get_or, refl, ap, sym, ◌∙◌, arith, inl, Some, None}
+use Rattle.std.proofs.Common.{get_or, refl, ap, ◌∙◌, arith, inl, Some, None}
 use Rattle.std.specs.Prelude.{slice_get, Option, option_map}
 use Rattle.std.specs.Prelude.{unwrap_or}
-use Rattle.std.proofs.lemmas.Option.{get_or_from_slice_get}
 use Rattle.rb_money.specs.Settings.{Settings, IsConfigured}
 use Rattle.rb_money.specs.Amounts.{cents}
 use Rattle.rb_money.specs.declared.place.Place.{Place}
@@ -13,18 +12,14 @@ use Rattle.rb_shadow.specs.declared.deps.Deps.{Deps}
 use Rattle.rb_shadow.specs.Operations.{bal}
 use Rattle.rb_shadow.specs.Operations.{other_of}
 use Rattle.rb_ledger.specs.declared.marks.Head.{Head}
-use Rattle.std.proofs.lemmas.List.{get_or-set_other}
-use Rattle.rb_money.specs.declared.limits.TheConstants.{MOST_OPERATIONS, MOST_BALANCE}
-use Rattle.rb_ledger.proofs.Overdraws
+use Rattle.rb_money.specs.declared.limits.TheConstants.{MOST_BALANCE}
 use Rattle.rb_ledger.specs.Valid.{IsValid}
 use Rattle.rb_ledger.specs.Book.{IsClocked}
-use Rattle.rb_ledger.specs.Index.{AreHeads, no_head, heads_at}
+use Rattle.rb_ledger.specs.Index.{AreHeads, no_head}
 use Rattle.rb_ledger.specs.OnAccount.{IsLast}
 use Rattle.rb_ledger.proofs.Public.Legal
-use Rattle.rb_ledger.proofs.Lengths
 use Rattle.rb_ledger.proofs.Others
 use Rattle.rb_ledger.proofs.Indexed
-use Rattle.rb_ledger.proofs.ChainFacts
 
 -- an account's head is there
 pub own_near : (s : Settings) (us : List Shadow) (hs : List Head) (i m n : ℕ) → AreHeads s us hs → m ≡ length hs → i < length s.starts →
@@ -48,61 +43,6 @@ last_absent s us hs a valid are past = record {
 pub head_small : (s : Settings) (us : List Shadow) (c : Deps) (hs : List Head) (a : Place) (h : Head) → IsClocked s us c → AreHeads s us hs
     → slice_get hs a.0 ≡ Some h → h.balance ≤ MOST_BALANCE
 head_small s us c hs a h kept are read = Indexed.bal_small s us a h.balance kept.configured kept.valid (are.each a h read).balance
-
--- no account has many entries, also where one of them was counted on
-pub heads_few : (s : Settings) (us : List Shadow) (c : Deps) (hs : List Head) (i : ℕ) → IsClocked s us c → AreHeads s us hs →
-    (get_or hs i no_head).count ≤ MOST_OPERATIONS
-heads_few s us c hs i kept are = at (slice_get hs i) refl
-  where
-    none : {X : Type 0} (xs : List X) (i : ℕ) (d : X) → slice_get xs i ≡ None → get_or xs i d ≡ d
-    none [] i d e = refl
-    none (x ∷ xs) zero d e = cc
-    none (x ∷ xs) (suc i) d e = none xs i d e
-
-    at : (o : Option Head) → slice_get hs i ≡ o → (get_or hs i no_head).count ≤ MOST_OPERATIONS
-    at None e = omega (arith, ap (λ (h : Head). h.count) (none hs i no_head e))
-    at (Some h) e =
-        omega (
-          arith,
-          ap (λ (h : Head). h.count) (get_or_from_slice_get hs i h no_head e),
-          (are.each (record { 0 = i }) h e).count,
-          ChainFacts.count_few [] us (record { 0 = i }),
-          Lengths.clocked_length s us c kept,
-        )
-
--- the same of the second account, once the own one was changed
-pub other_few : (s : Settings) (us : List Shadow) (c : Deps) (hs : List Head) (h : Shadow) (f : Head → Head) → IsConfigured s →
-    IsClocked s us c → AreHeads s us hs → IsValid s (us ++ h ∷ []) → (get_or (heads_at h.account.0 f hs)
-    (unwrap_or (other_of us h.kind) NOWHERE).0 no_head).count ≤ MOST_OPERATIONS
-other_few s us c hs h f configured kept are longer = at (other_of us h.kind) refl
-  where
-    may : Legal.MayFollow s us h
-    may = Legal.IsValid-last s us h longer
-
-    at : (o : Option Place) → other_of us h.kind ≡ o → (get_or (heads_at h.account.0 f hs) (unwrap_or o NOWHERE).0 no_head).count
-        ≤ MOST_OPERATIONS
-    at None is =
-        let apart : h.account.0 ≡ NOWHERE.0 → ⊥ = (λ e. omega (
-          arith,
-          e,
-          Overdraws.sound_account s h may.sound,
-          configured.starts_of_all,
-          configured.few_accounts,
-        )) in
-        omega (
-          arith,
-          ap (λ (h : Head). h.count) (get_or-set_other hs h.account.0 NOWHERE.0 (f (get_or hs h.account.0 no_head)) no_head
-              (λ e. apart (sym e))),
-          heads_few s us c hs NOWHERE.0 kept are,
-        )
-    at (Some b) is =
-        let (near, apart) = Others.other_apart s us h b kept.valid may is in
-        omega (
-          arith,
-          ap (λ (h : Head). h.count) (get_or-set_other hs h.account.0 b.0 (f (get_or hs h.account.0 no_head)) no_head
-              (λ e. apart (sym e))),
-          heads_few s us c hs b.0 kept are,
-        )
 
 -- the balance that a head holds, and the balance of none
 pub head_balance : (s : Settings) (us : List Shadow) (hs : List Head) (a : Place) (n : ℕ) → AreHeads s us hs → a.0 < length s.starts →

@@ -1,5 +1,5 @@
 -- What is read of an account's links, and whether an operation is on an account.
-use Rattle.std.proofs.Common.{◌≡◌, ℕ, ◌+◌, ◌-◌, ◌<◌, ◌≤◌, Bool, true, false, ◌||◌, List, ◌∷◌, length, take, drop}
+use Rattle.std.proofs.Common.{◌≡◌, ℕ, ◌+◌, ◌-◌, ◌<◌, ◌≤◌, Bool, true, false, cond, ◌||◌, List, ◌∷◌, length, take, drop}
 use Rattle.std.proofs.Common.{refl, ap, sym, ◌∙◌, subst, arith, inr, Some, None}
 use Rattle.std.specs.Prelude.{pos, slice_get, slice_index, ◌==◌}
 use Rattle.std.specs.Prelude.{option_to_list}
@@ -14,10 +14,12 @@ use Rattle.rb_shadow.specs.Operations.{other_of, is_on}
 use Rattle.rb_ledger.specs.declared.marks.Link.{Link}
 use Rattle.rb_ledger.specs.declared.marks.Links.{Links}
 use Rattle.rb_money.specs.declared.limits.TheConstants.{MOST_BALANCE}
-use Rattle.rb_money.proofs.Public.Tests.{number_sound}
+use Rattle.rb_money.proofs.Public.Tests.{equal, number_sound}
 use Rattle.rb_ledger.specs.Valid.{IsValid, operation_at}
 use Rattle.rb_ledger.specs.Index.{AreLinks, IsLink}
+use Rattle.rb_ledger.specs.LinkLists.{link_at_place}
 use Rattle.rb_ledger.specs.OnAccount.{IsOn}
+use Rattle.rb_shadow.proofs.Public.Members
 use Rattle.rb_ledger.proofs.Public.Legal
 use Rattle.rb_ledger.proofs.Others
 use Rattle.rb_ledger.proofs.Indexed
@@ -33,6 +35,21 @@ pub link_read : (s : Settings) (us : List Shadow) (ls : List Links) (a : Place) 
 link_read s us ls a p l are on some beside =
     let (u, there, own) = OnAccount.on_entry us a p on some in
     ChainFacts.link_on s us ls a p u l are on some there beside
+
+-- the same of the link that the list of links gives
+pub link_there : (s : Settings) (us : List Shadow) (ls : List Links) (a : Place) (p : ℕ) (l : Links) (k : Link) → AreLinks s us ls →
+    IsOn us a p → 0 < p → slice_get ls (p - 1) ≡ Some l → k ≡ link_at_place l a → IsLink s (take (p - 1) us) (take p us) a k
+link_there s us ls a p l k are on some beside is = subst (IsLink s (take (p - 1) us) (take p us) a) (sym is)
+    (at (l.account.0 == a.0) (number_sound l.account.0 a.0) (λ e same. Members.true≢false (sym (equal l.account.0 a.0 same) ∙ e)))
+  where
+    both : (l.account.0 ≡ a.0 → IsLink s (take (p - 1) us) (take p us) a l.own)
+        × ((l.account.0 ≡ a.0 → ⊥) → IsLink s (take (p - 1) us) (take p us) a l.other)
+    both = link_read s us ls a p l are on some beside
+
+    at : (b : Bool) → (b ≡ true → l.account.0 ≡ a.0) → (b ≡ false → l.account.0 ≡ a.0 → ⊥) →
+        IsLink s (take (p - 1) us) (take p us) a (cond b l.own l.other)
+    at true own other = both.0 (own refl)
+    at false own other = both.1 (other refl)
 
 -- the link there, by the list up to the entry before it
 pub linked_there : (s : Settings) (us : List Shadow) (a : Place) (p : ℕ) (l : Link) → 0 < p → IsLink s (take (p - 1) us) (take p us) a l →

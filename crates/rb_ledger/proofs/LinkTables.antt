@@ -1,8 +1,9 @@
 -- What lists of links are after a change.
 use Rattle.std.proofs.Common.{◌≡◌, ◌⊎◌, ℕ, zero, suc, ◌+◌, ◌-◌, ◌<◌, ◌≤◌, List, [], ◌∷◌, ◌++◌, length, map, take, get_or}
 use Rattle.std.proofs.Common.{refl, ap, sym, ◌∙◌, subst, arith, inl, inr, Some}
-use Rattle.std.specs.Prelude.{Option, option_to_list}
+use Rattle.std.specs.Prelude.{Option, option_map, option_to_list, slice_get}
 use Rattle.std.proofs.lemmas.List.{get_or_push, get_or_append_left, length_push, length-map, map_push}
+use Rattle.std.proofs.lemmas.Option.{slice_get-map}
 use Rattle.std.proofs.Math.Seq.{take-append_seam}
 use Rattle.rb_ledger.specs.declared.marks.Link.{Link}
 use Rattle.rb_ledger.specs.declared.marks.Links.{Links}
@@ -181,3 +182,16 @@ pub both_pushed : (ls ms : List Link) (l : Links) (n : ℕ) → ms ≡ ls ++ l.o
 both_pushed ls ms l n longer is =
     ap (λ xs. record { own = l.own; account = l.account; other = second_link xs n }) longer
     ∙ ap (λ x. record { own = l.own; account = l.account; other = x }) (second_last ls l.other n is)
+
+-- both links of the operation at an index
+pub link_seen : (ls : List Link) (os : List OwnLink) (i : ℕ) (o : OwnLink) (n : ℕ) (t : LinkTable) →
+    record { items = map (both_links ls) os; limit = n } ≡ t → i < length t.items → o ≡ get_or os i o → slice_get t.items i ≡ Some (both_links ls o)
+link_seen ls os i o n t seen near is =
+    let low : i < length os = omega (arith, near, ap (λ (t : LinkTable). length t.items) seen, length-map os (both_links ls)) in
+    ap (λ (t : LinkTable). slice_get t.items i) (sym seen) ∙ slice_get-map (both_links ls) os i
+    ∙ ap (option_map (both_links ls)) (item os i low ∙ ap Some (sym is))
+  where
+    item : (xs : List OwnLink) (j : ℕ) → j < length xs → slice_get xs j ≡ Some (get_or xs j o)
+    item [] j h = absurd (omega arith)
+    item (x ∷ xs) zero h = refl
+    item (x ∷ xs) (suc j) h = item xs j (omega arith)

@@ -1,6 +1,6 @@
 -- What one more operation moves, and the balances with it.
 use Rattle.std.proofs.Common.{◌≡◌, ℕ, ◌+◌, ◌-◌, ◌≤◌, false, List, [], ◌∷◌, ◌++◌}
-use Rattle.std.proofs.Common.{sym, arith, Some, None}
+use Rattle.std.proofs.Common.{ap, sym, ◌∙◌, subst, cond, true, arith, Some, None}
 use Rattle.std.specs.Prelude.{pos, neg_ℤ, ◌+ℤ◌}
 use Rattle.std.proofs.lemmas.Int.{ints}
 use Rattle.rb_money.specs.Settings.{Settings}
@@ -12,7 +12,7 @@ use Rattle.rb_shadow.specs.Operations.{other_of}
 use Rattle.rb_ledger.proofs.Public.Pushes
 use Rattle.rb_ledger.specs.Valid.{IsValid}
 use Rattle.rb_ledger.specs.Valid.{HasTarget}
-use Rattle.rb_ledger.specs.Changes.{change, change_by}
+use Rattle.rb_ledger.specs.Changes.{change, change_by, given_back}
 use Rattle.rb_ledger.proofs.Public.Legal
 use Rattle.rb_ledger.proofs.Others
 
@@ -46,13 +46,18 @@ pub moved_plain : (us : List Shadow) (h : Shadow) (added taken : ℕ) → pos ad
     None ≡ target_of h.kind → pos added ≡ pos taken +ℤ change us h h.account
 moved_plain us h added taken sums none = omega (arith, ints, sums, Pushes.change_plain us h (sym none))
 
+-- with a target that is cancelled already nothing is moved
+pub moved_none : (us : List Shadow) (h : Shadow) (x : OpName) → target_of h.kind ≡ Some x → is_cancelled us x ≡ true →
+    pos 0 ≡ pos 0 +ℤ change us h h.account
+moved_none us h x is cancelled =
+    let none : change us h h.account ≡ pos 0 = ap (λ o. change_by us h o h.account) is
+    ∙ ap (λ b. cond b (pos 0) (given_back (find_in us x) h.account)) cancelled in
+    omega (arith, ints, none)
+
 -- what it moves with a target that isn't cancelled yet: what the target moved, the other way
-pub moved_back : (us : List Shadow) (h t : Shadow) (x : OpName) (added taken : ℕ) → IsUnique us → HasTarget us h (Some x) →
-    Some t ≡ find_in us x → false ≡ is_cancelled us x → pos added ≡ pos taken +ℤ moved t.kind h.amount
-    → pos taken ≡ pos added +ℤ change_by us h (Some x) h.account
-moved_back us h t x added taken unique target found free sums = omega (
-  arith,
-  ints,
-  sums,
-  Pushes.change_back us h t x unique target (sym found) (sym free),
-)
+pub moved_back : (us : List Shadow) (h t : Shadow) (x : OpName) (added taken : ℕ) → IsUnique us → HasTarget us h (target_of h.kind) →
+    target_of h.kind ≡ Some x → Some t ≡ find_in us x → false ≡ is_cancelled us x → pos added ≡ pos taken +ℤ moved t.kind h.amount
+    → pos taken ≡ pos added +ℤ change us h h.account
+moved_back us h t x added taken unique target is found free sums =
+    let same : change us h h.account ≡ change_by us h (Some x) h.account = ap (λ o. change_by us h o h.account) is in
+    omega (arith, ints, sums, same, Pushes.change_back us h t x unique (subst (HasTarget us h) is target) (sym found) (sym free))

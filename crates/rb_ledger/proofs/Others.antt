@@ -17,9 +17,10 @@ use Rattle.rb_shadow.specs.Sound.{IsSound, is_misdirected}
 use Rattle.rb_shadow.proofs.Public.Members
 use Rattle.rb_shadow.proofs.Public.SoundFacts
 use Rattle.rb_ledger.specs.declared.marks.Head.{Head}
+use Rattle.rb_ledger.specs.declared.blocks.Blocks.{Blocks}
 use Rattle.rb_ledger.specs.declared.marks.Links.{Links}
 use Rattle.rb_ledger.specs.Valid.{IsValid, HasTarget}
-use Rattle.rb_ledger.specs.Index.{IsLinked, AreHeads, no_head, head_more, head_less, heads_at}
+use Rattle.rb_ledger.specs.Index.{IsLinked, AreHeads, no_head, head_at, heads_at}
 use Rattle.rb_ledger.specs.OnAccount.{IsLast}
 use Rattle.rb_ledger.proofs.IndexLists
 use Rattle.rb_ledger.proofs.Public.Pushes
@@ -190,18 +191,22 @@ both_lengths hs i j f g = length-set (heads_at i f hs) j (g (get_or (heads_at i 
     ∙ length-set hs i (f (get_or hs i no_head))
 
 -- with one more operation
-pub heads_push : (s : Settings) (us : List Shadow) (h : Shadow) (hs : List Head) (l : Links) → IsConfigured s → IsValid s us →
-    IsValid s (us ++ h ∷ []) → AreHeads s us hs → IsLinked s us h l
-    → AreHeads s (us ++ h ∷ []) (heads_at (unwrap_or (other_of us h.kind) NOWHERE).0 (head_more (length us
-    + 1) l.other.balance) (heads_at h.account.0 (head_more (length us + 1) l.own.balance) hs))
-heads_push s us h hs l configured valid longer are linked =
-    ChainFacts.heads_push s us h hs _ longer are (both_lengths hs h.account.0 (unwrap_or (other_of us h.kind) NOWHERE).0
-    (head_more (length us + 1) l.own.balance) (head_more (length us + 1) l.other.balance))
-    (λ a new e. at a new (changed s us h hs (head_more (length us + 1) l.own.balance) (head_more (length us
-    + 1) l.other.balance) configured valid (Legal.IsValid-last s us h longer) are.count a new e))
+pub heads_push : (s : Settings) (us : List Shadow) (h : Shadow) (hs : List Head) (l : Links) (b c : Blocks) → IsConfigured s →
+    IsValid s us → IsValid s (us ++ h ∷ []) → AreHeads s us hs → IsLinked s us h l
+    → AreHeads s (us ++ h ∷ []) (heads_at (unwrap_or (other_of us h.kind) NOWHERE).0 (head_at (length us
+    + 1) c l.other.balance) (heads_at h.account.0 (head_at (length us + 1) b l.own.balance) hs))
+heads_push s us h hs l b c configured valid longer are linked =
+    ChainFacts.heads_push s us h hs _ longer are (both_lengths hs h.account.0 (unwrap_or (other_of us h.kind) NOWHERE).0 own_more
+    other_more)
+    (λ a new e. at a new (changed s us h hs own_more other_more configured valid (Legal.IsValid-last s us h longer) are.count a new e))
   where
-    at : (a : Place) (new : Head) → IsChanged us h hs (head_more (length us + 1) l.own.balance) (head_more (length us
-        + 1) l.other.balance) a new → ChainFacts.IsCounted s us h hs a new
+    own_more : Head → Head
+    own_more = head_at (length us + 1) b l.own.balance
+
+    other_more : Head → Head
+    other_more = head_at (length us + 1) c l.other.balance
+
+    at : (a : Place) (new : Head) → IsChanged us h hs own_more other_more a new → ChainFacts.IsCounted s us h hs a new
     at a new (inr off) = inr off
     at a new (inl (on, (old, read, inl (own, is)))) =
         inl (
@@ -210,7 +215,6 @@ heads_push s us h hs l configured valid longer are linked =
             old,
             read,
             ap (λ (k : Head). k.last) (sym is),
-            ap (λ (k : Head). k.count) (sym is),
             ap (λ (k : Head). pos k.balance) (sym is) ∙ linked.own.balance ∙ ap (bal s (us ++ h ∷ [])) own,
           ),
         )
@@ -221,27 +225,26 @@ heads_push s us h hs l configured valid longer are linked =
             old,
             read,
             ap (λ (k : Head). k.last) (sym is),
-            ap (λ (k : Head). k.count) (sym is),
             ap (λ (k : Head). pos k.balance) (sym is) ∙ (linked.other a other).balance,
           ),
         )
 
 -- without the last operation
-pub heads_front : (s : Settings) (us : List Shadow) (h : Shadow) (hs : List Head) (l : Links) → IsConfigured s → IsValid s us →
-    IsValid s (us ++ h ∷ []) → AreHeads s (us ++ h ∷ []) hs → IsLinked s us h l
+pub heads_front : (s : Settings) (us : List Shadow) (h : Shadow) (hs : List Head) (l : Links) (b c : Blocks) → IsConfigured s →
+    IsValid s us → IsValid s (us ++ h ∷ []) → AreHeads s (us ++ h ∷ []) hs → IsLinked s us h l
     → AreHeads s us (heads_at (unwrap_or (other_of us h.kind) NOWHERE).0
-    (head_less l.other.earlier (unwrap_or (option_map (λ a. cents (bal s us a)) (other_of us h.kind)) 0))
-    (heads_at h.account.0 (head_less l.own.earlier (cents (bal s us h.account))) hs))
-heads_front s us h hs l configured valid longer are linked =
+    (head_at l.other.earlier c (unwrap_or (option_map (λ a. cents (bal s us a)) (other_of us h.kind)) 0))
+    (heads_at h.account.0 (head_at l.own.earlier b (cents (bal s us h.account))) hs))
+heads_front s us h hs l b c configured valid longer are linked =
     ChainFacts.heads_front s us h hs _ longer are (both_lengths hs h.account.0 (unwrap_or (other_of us h.kind) NOWHERE).0 own_less
     other_less)
     (λ a new e. at a new (changed s us h hs own_less other_less configured valid (Legal.IsValid-last s us h longer) are.count a new e))
   where
     own_less : Head → Head
-    own_less = head_less l.own.earlier (cents (bal s us h.account))
+    own_less = head_at l.own.earlier b (cents (bal s us h.account))
 
     other_less : Head → Head
-    other_less = head_less l.other.earlier (unwrap_or (option_map (λ a. cents (bal s us a)) (other_of us h.kind)) 0)
+    other_less = head_at l.other.earlier c (unwrap_or (option_map (λ a. cents (bal s us a)) (other_of us h.kind)) 0)
 
     at : (a : Place) (new : Head) → IsChanged us h hs own_less other_less a new → ChainFacts.IsUncounted s us h hs a new
     at a new (inr off) = inr off
@@ -251,7 +254,6 @@ heads_front s us h hs l configured valid longer are linked =
         old,
         read,
         subst (λ (k : Head). IsLast us a k.last) is (subst (λ (b : Place). IsLast us b l.own.earlier) own linked.own.earlier),
-        ap (λ (k : Head). k.count) (sym is),
         ap (λ (k : Head). pos k.balance) (sym is) ∙ Legal.kept_balance s us h.account _ valid refl ∙ ap (bal s us) own,
       ),
     )
@@ -261,7 +263,6 @@ heads_front s us h hs l configured valid longer are linked =
         old,
         read,
         subst (λ (k : Head). IsLast us a k.last) is (linked.other a other).earlier,
-        ap (λ (k : Head). k.count) (sym is),
         ap (λ (k : Head). pos k.balance) (sym is) ∙ Legal.kept_balance s us a _ valid
             (ap (λ o. unwrap_or (option_map (λ a. cents (bal s us a)) o) 0) other),
       ),

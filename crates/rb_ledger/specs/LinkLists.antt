@@ -1,5 +1,6 @@
 -- What lists of links are.
-use Rattle.std.specs.Prelude.{◌≡◌, ◌⊎◌, ℕ, zero, suc, ◌+◌, List, [], ◌∷◌, slice_index_or}
+use Rattle.std.specs.Prelude.{◌≡◌, ◌⊎◌, ℕ, zero, suc, ◌+◌, ◌==◌, if◌then◌else◌, List, [], ◌∷◌, slice_index_or}
+use Rattle.rb_money.specs.declared.place.Place.{Place}
 use Rattle.rb_ledger.specs.declared.marks.Link.{Link}
 use Rattle.rb_ledger.specs.declared.marks.Links.{Links}
 use Rattle.rb_ledger.specs.declared.link_list.OwnLink.{OwnLink}
@@ -21,6 +22,10 @@ second_link ls (suc i) = slice_index_or ls i no_link
 -- both links of an operation
 abbrev pub both_links : List Link → OwnLink → Links
 both_links ls o = record { own = o.own; account = o.account; other = second_link ls o.second }
+
+-- the link on an account, which is one of the operation's two
+abbrev pub link_at_place : Links → Place → Link
+link_at_place l a = if l.account.0 == a.0 then l.own else l.other
 
 -- the operations with a link on a second account are numbered in their order, from the first number plus 1 to the last
 unfoldable pub AreNumbered : ℕ → List OwnLink → ℕ → Type 0

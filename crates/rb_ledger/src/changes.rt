@@ -89,6 +89,7 @@ impl Ledger {
 
     /// Adds a shadow that keeps the list valid, and is to stay, at the end, without checking that again: as
     /// `apply_valid` does, but without a record to undo it. An error means out of memory.
+    #[inline(always)]
     pub fn append(&mut self, shadow: &Shadow) -> Result<(), AllocError>
         requires { IsValid self.old.settings (self.old.entries ++ shadow.now ∷ []) }
         ensures applied { OnOk result (self.new.entries ≡ self.old.entries ++ shadow.now ∷ []) }

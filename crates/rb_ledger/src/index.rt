@@ -4,10 +4,12 @@ ghost use Rattle.std.specs.Prelude.{slice_index_or, vec_len, vec_capacity};
 ghost use Rattle.rb_money.specs.declared.limits.TheConstants.{MOST_OPERATIONS};
 ghost use Rattle.rb_shadow.specs.declared.shadow.Shadow.{Shadow as TheShadow};
 ghost use Rattle.rb_shadow.specs.Operations.{target_of, is_on, other_of};
+ghost use Rattle.rb_ledger.specs.declared.blocks.Blocks.{Blocks as TheBlocks};
 ghost use Rattle.rb_ledger.specs.Valid.{IsValid, find_position, parts_of, position_of};
 ghost use Rattle.rb_ledger.specs.Index.{AreHeads, IsIndex, changed_at, one_more, one_less, no_cancels, IsLinked};
-ghost use Rattle.rb_ledger.specs.Index.{heads_at, head_more, head_less, no_head};
+ghost use Rattle.rb_ledger.specs.Index.{heads_at, head_at, no_head};
 
+use crate::blocks::Blocks;
 use crate::marks::{Cancels, Head, Links};
 use crate::rows::Rows;
 use rb_money::{Config, Place};
@@ -79,16 +81,7 @@ impl Index {
         requires { IsIndex self.now.config before.now self.now }
         ensures { result ≡ other_of before.now kind }
     {
-        match kind.target() {
-            Some(target) => match self.find(&target) {
-                Some(position) => {
-                    let index = position as usize - 1;
-                    before[index].kind.receiver()
-                }
-                None => None,
-            },
-            None => kind.receiver(),
-        }
+        other_at(before, kind, self.target(kind))
     }
 
     /// Whether a shadow that follows those before is on an account, as its own or its second one.
@@ -124,7 +117,8 @@ impl Index {
         requires longer { IsValid self.now.config (before.now ++ shadow.now ∷ []) }
         ensures { result ≡ parts_of self.now.config before.now shadow.now }
     {
-        let second = self.other(before, shadow.kind);
+        let target = self.target(shadow.kind);
+        let second = other_at(before, shadow.kind, target);
         let other = second.unwrap_or(Place::NOWHERE);
         let balance = self.balance(shadow.account);
         let other_balance = self.balance(other);
@@ -133,7 +127,7 @@ impl Index {
             name: shadow.name,
             place: shadow.account,
             balance,
-            target: self.target(shadow.kind),
+            target,
             other,
             other_balance,
         }
@@ -182,20 +176,33 @@ impl Index {
     }
 }
 
+/// The second account of an operation of the kind after those before, of which it cancels the one at the target. The
+/// target 0 is none.
+#[inline(always)]
+pub fn other_at(before: &[Shadow], kind: Kind, target: u32) -> Option<Place>
+    requires { target ≡ position_of before.now (target_of kind) }
+    ensures { result ≡ other_of before.now kind }
+{
+    match target.checked_sub(1) {
+        Some(index) => before[index as usize].kind.receiver(),
+        None => kind.receiver(),
+    }
+}
+
 /// Counts an entry on an account, with its position and the balance after it. Nothing changes where there
 /// is no such account.
 fn count_on(heads: &mut Vec<Head>, place: Place, position: u32, balance: u64)
-    requires { (slice_index_or heads.old.items place.0 no_head).count ≤ MOST_OPERATIONS }
-    ensures { heads.new.items ≡ heads_at place.0 (head_more position balance) heads.old.items }
+    ensures { (blocks : TheBlocks) × (heads.new.items ≡ heads_at place.0 (head_at position blocks balance)
+        heads.old.items) }
 {
     let index = usize::from(place.0);
     if index >= heads.len() {
         return;
     }
-    let count = heads[index].count + 1;
+    let blocks = heads[index].blocks.longer();
     heads[index] = Head {
         last: position,
-        count,
+        blocks,
         balance,
     };
 }
@@ -203,16 +210,17 @@ fn count_on(heads: &mut Vec<Head>, place: Place, position: u32, balance: u64)
 /// Leaves an account's last entry out again, with the position of the one before it and the balance before
 /// it. Nothing changes where there is no such account.
 fn count_off(heads: &mut Vec<Head>, place: Place, earlier: u32, balance: u64)
-    ensures { heads.new.items ≡ heads_at place.0 (head_less earlier balance) heads.old.items }
+    ensures { (blocks : TheBlocks) × (heads.new.items ≡ heads_at place.0 (head_at earlier blocks balance)
+        heads.old.items) }
 {
     let index = usize::from(place.0);
     if index >= heads.len() {
         return;
     }
-    let count = heads[index].count.saturating_sub(1);
+    let blocks = heads[index].blocks.shorter();
     heads[index] = Head {
         last: earlier,
-        count,
+        blocks,
         balance,
     };
 }
@@ -226,7 +234,7 @@ fn starting_heads(alloc: Global, config: &Config) -> Result<Vec<Head>, AllocErro
         let balance = start(config, Place(place as u16));
         heads.push(Head {
             last: 0,
-            count: 0,
+            blocks: Blocks::NONE,
             balance,
         })?;
     }

@@ -1,8 +1,9 @@
 //! The links of operations, in their order.
 ghost use Rattle.std.specs.Prelude.{◌≡◌, ◌-◌, ◌<◌, ◌≤◌, ◌++◌, ◌∷◌, [], length, take, OnOk};
 ghost use Rattle.std.specs.Prelude.{Some, slice_get, vec_capacity};
+ghost use Rattle.rb_ledger.specs.declared.marks.Links.{Links as TheLinks};
 ghost use Rattle.rb_money.specs.declared.limits.TheConstants.{MOST_OPERATIONS};
-ghost use Rattle.rb_ledger.specs.LinkLists.{second_link};
+ghost use Rattle.rb_ledger.specs.LinkLists.{link_at_place, second_link};
 
 use crate::marks::{Link, Links, NO_LINK};
 use rb_money::Place;
@@ -68,6 +69,19 @@ impl LinkList {
             account: own.account,
             other: linked(&self.second, own.second),
         }
+    }
+
+    /// The link of the operation at an index, from 0, on an account, which is one of its two.
+    #[inline(always)]
+    pub fn on(&self, index: usize, place: Place) -> Link
+        requires { index < length self.now.items }
+        ensures { (l : TheLinks) × (slice_get self.now.items index ≡ Some l) × (result ≡ link_at_place l place) }
+    {
+        let own = self.own[index];
+        if own.account == place {
+            return own.own;
+        }
+        linked(&self.second, own.second)
     }
 
     /// Adds the links of one more operation, in spare capacity.

@@ -62,12 +62,7 @@ impl Ledger {
         ensures { IsLink self.now.settings (take (position - 1) self.now.entries) (take position self.now.entries) place
             result }
     {
-        let links = self.links.at(position as usize - 1);
-        if links.account == place {
-            links.own
-        } else {
-            links.other
-        }
+        self.links.on(position as usize - 1, place)
     }
 
     /// The links of a shadow as the next entry, with what is kept to undo it.
@@ -78,7 +73,7 @@ impl Ledger {
         requires parts { parts.now ≡ parts_of self.now.settings self.now.entries shadow.now }
         ensures { IsLinked self.now.settings self.now.entries shadow.now result }
     {
-        let (added, taken) = self.moved_by(shadow);
+        let (added, taken) = self.moved_by(shadow, parts.target);
         let own_balance = parts.balance + added - taken;
         let own = self.link(parts.place, own_balance);
         if parts.other == Place::NOWHERE {
@@ -112,12 +107,13 @@ impl Ledger {
         }
     }
 
-    /// What the next entry on the account jumps back to.
+    /// What the next entry on the account jumps back to: over the last two blocks, if it joins them, and otherwise to
+    /// the entry before it. So every entry is reached in few jumps.
     fn jump(&self, head: Head, place: Place) -> u32
         requires { IsOn self.now.entries place head.last }
         ensures { IsOn self.now.entries place result }
     {
-        if !joins(head.count) {
+        if !head.blocks.is_pair() {
             return head.last;
         }
         self.jump_from(self.jump_from(head.last, place), place)
@@ -133,22 +129,4 @@ impl Ledger {
         }
         self.link_at(position, place).jump
     }
-}
-
-/// Whether `count` entries on an account end in two blocks of one size, where the blocks are of 1, 3, 7
-/// and so on entries, the largest first, and only the last two may be of one size. The next entry then jumps
-/// back over both, and otherwise to the entry before it: so every entry is reached in few jumps.
-fn joins(count: u32) -> bool {
-    let mut rest = count;
-    let mut block = u32::MAX.checked_shr(count.leading_zeros()).unwrap_or(0);
-    while block > 0 {
-        if block <= rest {
-            rest -= block;
-            if rest == block {
-                return true;
-            }
-        }
-        block /= 2;
-    }
-    false
 }

@@ -27,12 +27,15 @@ returns c =
     let balance : c.balance-balance.result ≡ cents (bal c.args.self.now.config before h.account) =
     HeadReads.head_balance _ _ _ h.account _ c.requires.index.heads near c.balance-balance.ensures in
     let other : c.unwrap_or-other.result ≡ unwrap_or (other_of before h.kind) NOWHERE =
-    c.unwrap_or-other.ensures ∙ ap (λ o. unwrap_or o NOWHERE) c.other-second.ensures in
+    c.unwrap_or-other.ensures ∙ ap (λ o. unwrap_or o NOWHERE) c.other_at-second.ensures in
     let other_balance : c.balance-other_balance.result ≡ unwrap_or (option_map (λ a. cents (bal c.args.self.now.config before a))
     (other_of before h.kind)) 0 =
     HeadReads.other_balance _ _ _ _ h _ c.requires.index.clocked.configured c.requires.index.clocked c.requires.index.heads
     c.requires.longer
     (c.balance-other_balance.ensures ∙ ap (λ (a : Place). (get_or c.args.self.now.heads.items a.0 no_head).balance) other) in
-    let target : c.target.result ≡ position_of before (target_of h.kind) =
-    c.target.ensures before c.requires.index in
+    let target : c.target-target.result ≡ position_of before (target_of h.kind) =
+    c.target-target.ensures before c.requires.index in
     cc
+
+pub other_at-second-requires : goal.other_at-second-requires
+other_at-second-requires c = c.target-target.ensures c.args.before.now c.requires.index

@@ -1,10 +1,8 @@
-use Rattle.std.proofs.Common.{◌+◌, ◌++◌, ◌∷◌, [], List, length, get_or, set, ap, ◌∙◌, refl, arith}
-use Rattle.rb_ledger.specs.declared.marks.Head.{Head}
+use Rattle.std.proofs.Common.{◌++◌, ◌∷◌, [], get_or, set, ap, ◌∙◌, refl, arith}
 use Rattle.rb_shadow.specs.Operations.{row_of}
-use Rattle.rb_ledger.specs.Index.{changed_at, one_more, no_cancels, no_head, heads_at, head_more}
+use Rattle.rb_ledger.specs.Index.{changed_at, one_more, no_cancels, heads_at, head_at}
 use Rattle.rb_undo.specs.declared.parts.UndoParts.{UndoParts}
 use Rattle.rb_ledger.proofs.CancelReads
-use Rattle.rb_ledger.proofs.HeadReads
 use Rattle.rb_ledger.proofs.Indexed
 use Rattle.rb_ledger.proofs.Public.Legal
 use Rattle.rb_ledger.proofs.LedgerClocks
@@ -16,21 +14,6 @@ cancel_one_more-requires-clause-within c = CancelReads.target_near _ _ _ c.args.
 
 pub cancel_one_more-requires-clause-fits : goal.cancel_one_more-requires-clause-fits
 cancel_one_more-requires-clause-fits c = λ i. CancelReads.counts_few _ _ _ i c.requires.index
-
-pub count_on-requires : goal.count_on-requires
-count_on-requires c = HeadReads.heads_few _ _ _ _ c.args.parts.now.place.0 c.requires.index.clocked c.requires.index.heads
-
-pub count_on-requires-2 : goal.count_on-requires-2
-count_on-requires-2 c =
-    let few =
-    HeadReads.other_few _ _ _ c.args.self.now.heads.items c.args.shadow.now (head_more (length c.args.before.now
-    + 1) c.args.links.now.own.balance) c.requires.index.clocked.configured c.requires.index.clocked c.requires.index.heads
-    c.requires.longer in
-    let same =
-    ap (λ (hs : List Head). (get_or hs c.args.parts.now.other.0 no_head).count) c.count_on.ensures
-    ∙ ap (λ (p : UndoParts). (get_or (heads_at p.place.0 (head_more p.position c.args.links.now.own.balance) c.args.self.now.heads.items)
-    p.other.0 no_head).count) c.requires.parts in
-    omega (arith, same, few)
 
 pub push-requires-clause-within : goal.push-requires-clause-within
 push-requires-clause-within c = omega (
@@ -52,16 +35,17 @@ advance-requires-clause-entry c = LedgerClocks.may_entry _ _ _ c.args.shadow.now
 
 pub returns-clause-index : goal.returns-clause-index
 returns-clause-index c =
-    Indexed.indexed_push _ c.args.before.now c.args.self.now _ c.args.shadow.now c.args.links.now c.requires.index c.requires.longer
-    c.requires.links
+    Indexed.indexed_push _ c.args.before.now c.args.self.now _ c.args.shadow.now c.args.links.now c.count_on.ensures.0 c.count_on-2.ensures.0
+    c.requires.index c.requires.longer c.requires.links
     refl c.advance.ensures.entries
     (c.push_reserved.ensures.items ∙ ap (λ xs. xs ++ no_cancels ∷ []) (c.cancel_one_more.ensures.items
     ∙ ap (λ (p : UndoParts). changed_at p.target (one_more p.position) c.args.self.now.cancels.items) c.requires.parts))
     (
-    c.count_on-2.ensures ∙ ap (heads_at c.args.parts.now.other.0 (head_more c.args.parts.now.position c.args.links.now.other.balance))
-    c.count_on.ensures
-    ∙ ap (λ (p : UndoParts). heads_at p.other.0 (head_more p.position c.args.links.now.other.balance)
-    (heads_at p.place.0 (head_more p.position c.args.links.now.own.balance) c.args.self.now.heads.items)) c.requires.parts
+    c.count_on-2.ensures.1 ∙ ap (heads_at c.args.parts.now.other.0 (head_at c.args.parts.now.position c.count_on-2.ensures.0
+    c.args.links.now.other.balance)) c.count_on.ensures.1
+    ∙ ap (λ (p : UndoParts). heads_at p.other.0 (head_at p.position c.count_on-2.ensures.0 c.args.links.now.other.balance)
+    (heads_at p.place.0 (head_at p.position c.count_on.ensures.0 c.args.links.now.own.balance) c.args.self.now.heads.items))
+    c.requires.parts
     )
     (
     c.push.ensures.rows ∙ ap (λ k. set c.args.self.now.rows.rows k (get_or c.args.self.now.rows.rows k [] ++ c.args.parts.now.position

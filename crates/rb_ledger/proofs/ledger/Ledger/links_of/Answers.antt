@@ -149,3 +149,6 @@ returns c =
             jump = c.link-other.ensures.jump;
           });
     }
+
+pub moved_by-added-requires-clause-at : goal.moved_by-added-requires-clause-at
+moved_by-added-requires-clause-at c = ap (λ (p : UndoParts). p.target) c.requires.parts

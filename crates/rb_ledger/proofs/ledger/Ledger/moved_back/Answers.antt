@@ -1,11 +1,27 @@
+use Rattle.std.proofs.Common.{sym, ◌∙◌}
+use Rattle.rb_shadow.specs.Operations.{target_of}
 use Rattle.rb_ledger.proofs.FoundNames
 use Rattle.rb_ledger.proofs.OneMore
 use Rattle.rb_ledger.proofs.ledger.Ledger.moved_back.Goals as goal
 
 pub unreachable-requires : goal.unreachable-requires
-unreachable-requires c = FoundNames.target_found c.args.self.now.entries c.args.shadow.now c.args.target.now c.requires.target
-    c.in_default.ensures
+unreachable-requires c =
+    let us = c.args.self.now.entries in
+    let (x, is, at) = FoundNames.target_at us (target_of c.args.shadow.now.kind) c.args.target c.requires.at c.requires.some in
+    let (t, there, named, found) = FoundNames.found_there us x c.args.target at in
+    let none = c.in_default.ensures ∙ there in
+    cc
+
+pub returns-then-is_cancelled-clause-sums : goal.returns-then-is_cancelled-clause-sums
+returns-then-is_cancelled-clause-sums c =
+    let us = c.args.self.now.entries in
+    let (x, is, at) = FoundNames.target_at us (target_of c.args.shadow.now.kind) c.args.target c.requires.at c.requires.some in
+    OneMore.moved_none us c.args.shadow.now x is (sym (c.is_cancelled.ensures x at) ∙ c.if-is_cancelled.true)
 
 pub returns-clause-sums : goal.returns-clause-sums
-returns-clause-sums c = OneMore.moved_back c.args.self.now.entries c.args.shadow.now _ c.args.target.now _ _ c.requires.valid.unique
-    c.requires.target c.in-Some.ensures c.if-is_cancelled.ensures c.moved-added.ensures.sums
+returns-clause-sums c =
+    let us = c.args.self.now.entries in
+    let (x, is, at) = FoundNames.target_at us (target_of c.args.shadow.now.kind) c.args.target c.requires.at c.requires.some in
+    let (t, there, named, found) = FoundNames.found_there us x c.args.target at in
+    OneMore.moved_back us c.args.shadow.now _ x _ _ c.requires.valid.unique c.requires.target is
+    (c.in-Some.ensures ∙ there ∙ sym found) (sym c.if-is_cancelled.false ∙ c.is_cancelled.ensures x at) c.moved-added.ensures.sums

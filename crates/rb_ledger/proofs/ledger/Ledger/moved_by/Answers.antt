@@ -1,5 +1,16 @@
+use Rattle.std.proofs.Common.{sym, ◌∙◌}
+use Rattle.rb_shadow.specs.Operations.{target_of}
+use Rattle.rb_ledger.proofs.FoundNames
 use Rattle.rb_ledger.proofs.OneMore
+use Rattle.rb_ledger.proofs.ReadItems
 use Rattle.rb_ledger.proofs.ledger.Ledger.moved_by.Goals as goal
 
-pub returns-in-None-clause-sums : goal.returns-in-None-clause-sums
-returns-in-None-clause-sums c = OneMore.moved_plain c.args.self.now.entries c.args.shadow.now _ _ c.moved.ensures.sums c.in-None.ensures
+pub returns-then-target-eq0-clause-sums : goal.returns-then-target-eq0-clause-sums
+returns-then-target-eq0-clause-sums c =
+    let us = c.args.self.now.entries in
+    let h = c.args.shadow.now in
+    OneMore.moved_plain us h _ _ c.moved.ensures.sums (FoundNames.no_target us h (target_of h.kind) c.requires.target
+    (sym c.if-target-eq0.true ∙ c.requires.at))
+
+pub moved_back-requires-clause-some : goal.moved_back-requires-clause-some
+moved_back-requires-clause-some c = ReadItems.positive _ c.if-target-eq0.false
