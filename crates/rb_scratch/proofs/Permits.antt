@@ -1,14 +1,14 @@
 -- When a red operation is allowed.
-use Rattle.std.proofs.Common.{◌≡◌, Bool, true, false, cond, ◌&&◌, List, refl, ap, sym, ◌∙◌, Some, None, Result, Ok, Err}
+use Rattle.std.proofs.Common.{◌≡◌, Bool, true, false, cond, ◌&&◌, List, refl, ap, sym, ◌∙◌, Some, None, Ok, Err}
 use Rattle.rb_money.specs.Settings.{Settings}
 use Rattle.rb_money.specs.Refusals.{unless}
 use Rattle.rb_money.specs.declared.refusal.Refusal.{Refusal}
 use Rattle.rb_money.specs.declared.refusal.Refusal.TheVariants.{WouldOverdraw}
 use Rattle.rb_shadow.specs.declared.deps.Deps.{Deps}
-use Rattle.std.specs.Prelude.{MatchResult, is_some}
+use Rattle.std.specs.Prelude.{is_some}
 use Rattle.rb_shadow.specs.declared.shadow.Shadow.{Shadow}
 use Rattle.rb_shadow.specs.Operations.{clock_of, target_of}
-use Rattle.rb_ledger.specs.Checks.{overdraws, refusal_of}
+use Rattle.rb_ledger.specs.Checks.{overdraws}
 use Rattle.rb_token.specs.Token.{Token, refusal_of_red}
 use Rattle.rb_scratch.specs.Requests.{allowed_red}
 use Rattle.rb_scratch.proofs.Counts
@@ -31,39 +31,24 @@ pub red_plain : (s : Settings) (us : List Shadow) (token : Token) (v : Shadow) (
 red_plain s us token v c is e plain = past_token s us token v c is e ∙
     ap (λ b. cond (b && overdraws s us v) (Err WouldOverdraw) (Ok v)) plain
 
--- what the ledger would refuse for want of money alone
+-- nor does one that leaves enough money
 pub red_covered : (s : Settings) (us : List Shadow) (token : Token) (v : Shadow) (c : Deps) → c ≡ clock_of us →
-    refusal_of_red token c.red ≡ None
-    → refusal_of s us v ≡ cond (overdraws s us v) (Some WouldOverdraw) None → refusal_of s us v ≡ None → allowed_red s us token v ≡ Ok v
-red_covered s us token v c is e money none = past_token s us token v c is e
-    ∙ at (overdraws s us v) (sym money ∙ none) (is_some (target_of v.kind))
+    refusal_of_red token c.red ≡ None → overdraws s us v ≡ false → allowed_red s us token v ≡ Ok v
+red_covered s us token v c is e covered = past_token s us token v c is e ∙ at (is_some (target_of v.kind)) (overdraws s us v) covered
   where
-    at : (b : Bool) → cond b (Some WouldOverdraw) None ≡ None → (k : Bool) → cond (k && b) (Err WouldOverdraw) (Ok v) ≡ Ok v
-    at true h k = cc
-    at false h true = refl
-    at false h false = refl
+    at : (k b : Bool) → b ≡ false → cond (k && b) (Err WouldOverdraw) (Ok v) ≡ Ok v
+    at true true q = cc
+    at true false q = refl
+    at false b q = refl
 
 -- a cancellation that would overdraw is refused
-pub red_overdraws : (s : Settings) (us : List Shadow) (token : Token) (v : Shadow) (c : Deps) (why : Refusal) → c ≡ clock_of us →
-    refusal_of_red token c.red ≡ None → is_some (target_of v.kind) ≡ true
-    → refusal_of s us v ≡ cond (overdraws s us v) (Some WouldOverdraw) None → refusal_of s us v ≡ Some why →
-    allowed_red s us token v ≡ Err why
-red_overdraws s us token v c why is e cancel money some = past_token s us token v c is e
-    ∙ at (is_some (target_of v.kind)) (overdraws s us v) cancel (sym money ∙ some)
+pub red_overdraws : (s : Settings) (us : List Shadow) (token : Token) (v : Shadow) (c : Deps) → c ≡ clock_of us →
+    refusal_of_red token c.red ≡ None → is_some (target_of v.kind) ≡ true → overdraws s us v ≡ true →
+    allowed_red s us token v ≡ Err WouldOverdraw
+red_overdraws s us token v c is e cancel over = past_token s us token v c is e
+    ∙ at (is_some (target_of v.kind)) (overdraws s us v) cancel over
   where
-    refused : Refusal → Result Shadow Refusal
-    refused w = Err w
-
-    at : (k b : Bool) → k ≡ true → cond b (Some WouldOverdraw) None ≡ Some why → cond (k && b) (Err WouldOverdraw) (Ok v) ≡ Err why
-    at true true q h = let same : WouldOverdraw ≡ why = cc in ap refused same
+    at : (k b : Bool) → k ≡ true → b ≡ true → cond (k && b) (Err WouldOverdraw) (Ok v) ≡ Err WouldOverdraw
+    at true true q h = refl
     at true false q h = cc
     at false b q h = cc
-
--- the ledger's check decides on a cancellation
-pub red_cancellation : (s : Settings) (us : List Shadow) (token : Token) (v : Shadow) (c : Deps) (r : Result (Unit {0}) Refusal) →
-    c ≡ clock_of us → refusal_of_red token c.red ≡ None → is_some (target_of v.kind) ≡ true
-    → refusal_of s us v ≡ cond (overdraws s us v) (Some WouldOverdraw) None →
-    MatchResult r (λ _. refusal_of s us v ≡ None) (λ why. refusal_of s us v ≡ Some why)
-    → MatchResult r (λ _. allowed_red s us token v ≡ Ok v) (λ why. allowed_red s us token v ≡ Err why)
-red_cancellation s us token v c (Ok x) is e cancel money none = red_covered s us token v c is e money none
-red_cancellation s us token v c (Err why) is e cancel money some = red_overdraws s us token v c why is e cancel money some

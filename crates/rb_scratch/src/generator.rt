@@ -165,7 +165,7 @@ fn name_after(ledger: &Ledger, me: u8, colour: Colour) -> Result<OpName, Refusal
         (next_name me ledger.now.entries colour) < number_of (next_name me ledger.now.entries colour))) }
 {
     let limits = ledger.config().limits();
-    let counts = ledger.clock().deps();
+    let counts = ledger.clock().entries();
     match colour {
         Colour::Blue => {
             let n = number_after(counts.blue[me as usize], limits.blue)?;
@@ -190,7 +190,10 @@ fn operation(ledger: &Ledger, me: u8, effect: Effect) -> Result<Shadow, Refusal>
         (operation_of me ledger.now.entries (plan_of_effect effect)).name
         < number_of (operation_of me ledger.now.entries (plan_of_effect effect)).name)) }
 {
-    let name = name_after(ledger, me, effect.colour)?;
+    let name = match name_after(ledger, me, effect.colour) {
+        Ok(name) => name,
+        Err(why) => return Err(why),
+    };
     Ok(Shadow {
         name,
         home: me,
@@ -203,6 +206,7 @@ fn operation(ledger: &Ledger, me: u8, effect: Effect) -> Result<Shadow, Refusal>
 
 /// Whether the site may make the red operation: it needs the token and all red operations before
 /// it, and a cancellation needs the money that it takes back.
+#[inline(always)]
 fn permit_red(ledger: &Ledger, token: &TokenView, shadow: &Shadow) -> Result<(), Refusal>
     requires { refusal_of ledger.now.settings ledger.now.entries shadow.now
         ≡ (if overdraws ledger.now.settings ledger.now.entries shadow.now then Some Refusal.WouldOverdraw else None) }
@@ -213,10 +217,13 @@ fn permit_red(ledger: &Ledger, token: &TokenView, shadow: &Shadow) -> Result<(),
     if let Err(why) = token.may_red(ledger.clock()) {
         return Err(why);
     }
-    match shadow.kind.target() {
-        Some(_) => ledger.check(shadow),
-        None => Ok(()),
+    if shadow.kind.target().is_none() {
+        return Ok(());
     }
+    if ledger.would_overdraw(shadow) {
+        return Err(Refusal::WouldOverdraw);
+    }
+    Ok(())
 }
 
 /// What an effect that was decided on a request makes at the token's site. Nothing changes. It may be
@@ -247,13 +254,12 @@ pub(crate) fn carry_out(
         Ok(shadow) => shadow,
         Err(why) => return Err(why),
     };
-    match effect.colour {
-        Colour::Blue => Ok(shadow),
-        Colour::Red => match permit_red(ledger, token, &shadow) {
-            Ok(()) => Ok(shadow),
-            Err(why) => Err(why),
-        },
+    if let Colour::Red = effect.colour {
+        if let Err(why) = permit_red(ledger, token, &shadow) {
+            return Err(why);
+        }
     }
+    Ok(shadow)
 }
 
 /// What the request makes at the token's site, whose ledger this is: the operation that every site
@@ -265,6 +271,7 @@ pub(crate) fn carry_out(
 /// The refusals, of which the first that holds is answered: `UnknownAccount`; `BadAmount` or
 /// `BadRate`; `SameAccount`; `UnknownOperation`, `NotCancellable`, `AlreadyCancelled`; `DeltaTooLarge`;
 /// `NumbersExhausted`; for a red operation `NeedToken`, `RedBehind`; for a red cancellation `WouldOverdraw`.
+#[inline(always)]
 pub fn generate(ledger: &Ledger, token: &TokenView, request: &Request) -> Result<Shadow, Refusal>
     requires { token.now.me < ledger.now.settings.sites }
     ensures made { (known : Token) → Shows token.now known →
@@ -274,8 +281,9 @@ pub fn generate(ledger: &Ledger, token: &TokenView, request: &Request) -> Result
         request.now) }
     ensures original { IfOk result (λ made. DoesOriginal ledger.now.settings ledger.now.entries request.now made) }
 {
-    match decide(ledger, request) {
-        Ok(effect) => carry_out(ledger, token, effect),
-        Err(why) => Err(why),
-    }
+    let effect = match decide(ledger, request) {
+        Ok(effect) => effect,
+        Err(why) => return Err(why),
+    };
+    carry_out(ledger, token, effect)
 }

@@ -36,6 +36,13 @@ impl Clock {
         }
     }
 
+    /// The entries.
+    pub fn entries(&self) -> &Deps
+        ensures { result.now ≡ self.now }
+    {
+        &self.entries
+    }
+
     /// The entries, as a shadow made now would carry them.
     pub fn deps(&self) -> Deps
         ensures { result ≡ self.now }

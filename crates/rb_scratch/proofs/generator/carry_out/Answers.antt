@@ -1,9 +1,11 @@
 -- What was decided is carried out as the model says.
-use Rattle.std.proofs.Common.{◌≡◌, ◌≤◌, ap, sym, subst, ◌∙◌, Result, Err, ℕ}
+use Rattle.std.proofs.Common.{◌≡◌, ◌≤◌, refl, ap, sym, subst, ◌∙◌, Result, Err, ℕ}
 use Rattle.rb_money.specs.Settings.{Settings}
 use Rattle.rb_money.specs.declared.limits.TheConstants.{MOST_SITES}
 use Rattle.rb_money.specs.declared.refusal.Refusal.{Refusal}
 use Rattle.rb_shadow.specs.declared.shadow.Shadow.{Shadow}
+use Rattle.rb_shadow.specs.declared.colour.Colour.{Colour}
+use Rattle.rb_shadow.specs.declared.colour.Colour.TheVariants.{Blue as BlueColour, Red as RedColour}
 use Rattle.rb_scratch.specs.Effects.{plan_of_effect}
 use Rattle.rb_scratch.proofs.Generated
 use Rattle.rb_scratch.proofs.Public.Tokens
@@ -17,6 +19,10 @@ few_sites s t n is same few = subst (λ (u : Settings). u.sites ≤ MOST_SITES) 
 abbrev refused : Refusal → Result Shadow Refusal
 refused why = Err why
 
+blue : (k : Colour) → (k ≡ RedColour → ⊥) → k ≡ BlueColour
+blue BlueColour other = refl
+blue RedColour other = absurd (other refl)
+
 pub returns-in-Err-clause-made : goal.returns-in-Err-clause-made
 returns-in-Err-clause-made c = λ known shows. ap refused c.in-Err.ensures.0
     ∙ sym (Generated.exhausted _ _ _ known _ _ (c.requires.plan).1 c.in-Err.ensures.1)
@@ -29,28 +35,28 @@ permit_red-requires c =
     (few_sites _ _ _ c.config.ensures.same c.sites-sites.ensures.same c.sites-sites.ensures.few) c.requires.site c.config.ensures.valid
     (c.requires.plan).1 c.in-Ok.ensures.0 c.in-Ok.ensures.1
 
-pub returns-in-Blue-clause-made : goal.returns-in-Blue-clause-made
-returns-in-Blue-clause-made c = λ known shows. sym (Generated.blue_made _ _ _ known _ _ _ (c.requires.plan).1 c.in-Ok.ensures.0
-    c.in-Ok.ensures.1 (sym c.requires.colour ∙ c.in-Blue.is)) ∙ Generated.planned _ _ _ known _ _ (c.requires.plan).1
+pub returns-in_default-clause-made : goal.returns-in_default-clause-made
+returns-in_default-clause-made c = λ known shows. sym (Generated.blue_made _ _ _ known _ _ _ (c.requires.plan).1 c.in-Ok.ensures.0
+    c.in-Ok.ensures.1 (sym c.requires.colour ∙ blue _ c.in_default.not-Red)) ∙ Generated.planned _ _ _ known _ _ (c.requires.plan).1
 
-pub returns-in-Blue-clause-valid : goal.returns-in-Blue-clause-valid
-returns-in-Blue-clause-valid c =
+pub returns-in_default-clause-valid : goal.returns-in_default-clause-valid
+returns-in_default-clause-valid c =
     Makes.made_is_valid _ _ _ (Tokens.seen c.args.token.now) (c.requires.plan).0 _
     (few_sites _ _ _ c.config.ensures.same c.sites-sites.ensures.same c.sites-sites.ensures.few) c.requires.site c.config.ensures.valid
-    (Generated.blue_made _ _ _ _ _ _ _ (c.requires.plan).1 c.in-Ok.ensures.0 c.in-Ok.ensures.1 (sym c.requires.colour ∙ c.in-Blue.is))
+    (Generated.blue_made _ _ _ _ _ _ _ (c.requires.plan).1 c.in-Ok.ensures.0 c.in-Ok.ensures.1 (sym c.requires.colour ∙ blue _ c.in_default.not-Red))
 
-pub returns-in-Ok-permit_red-clause-made : goal.returns-in-Ok-permit_red-clause-made
-returns-in-Ok-permit_red-clause-made c =
+pub returns-in_default-permit_red-clause-made : goal.returns-in_default-permit_red-clause-made
+returns-in_default-permit_red-clause-made c =
     λ known shows. sym (Generated.red_made _ _ _ known _ _ _ (c.requires.plan).1 c.in-Ok.ensures.0 c.in-Ok.ensures.1 (sym c.requires.colour
-    ∙ c.in-Red.is) ∙ c.in-Ok-permit_red.ensures known shows) ∙ Generated.planned _ _ _ known _ _ (c.requires.plan).1
+    ∙ c.in-Red.is) ∙ c.in_default-permit_red.ensures known shows) ∙ Generated.planned _ _ _ known _ _ (c.requires.plan).1
 
-pub returns-in-Ok-permit_red-clause-valid : goal.returns-in-Ok-permit_red-clause-valid
-returns-in-Ok-permit_red-clause-valid c =
+pub returns-in_default-permit_red-clause-valid : goal.returns-in_default-permit_red-clause-valid
+returns-in_default-permit_red-clause-valid c =
     Makes.made_is_valid _ _ _ (Tokens.seen c.args.token.now) (c.requires.plan).0 _
     (few_sites _ _ _ c.config.ensures.same c.sites-sites.ensures.same c.sites-sites.ensures.few) c.requires.site c.config.ensures.valid
     (
     Generated.red_made _ _ _ _ _ _ _ (c.requires.plan).1 c.in-Ok.ensures.0 c.in-Ok.ensures.1 (sym c.requires.colour ∙ c.in-Red.is)
-    ∙ c.in-Ok-permit_red.ensures (Tokens.seen c.args.token.now) (Tokens.seen_shows c.args.token.now)
+    ∙ c.in_default-permit_red.ensures (Tokens.seen c.args.token.now) (Tokens.seen_shows c.args.token.now)
     )
 
 pub returns-in-Err-permit_red-clause-made : goal.returns-in-Err-permit_red-clause-made
@@ -58,16 +64,16 @@ returns-in-Err-permit_red-clause-made c =
     λ known shows. sym (Generated.red_made _ _ _ known _ _ _ (c.requires.plan).1 c.in-Ok.ensures.0 c.in-Ok.ensures.1 (sym c.requires.colour
     ∙ c.in-Red.is) ∙ c.in-Err-permit_red.ensures known shows) ∙ Generated.planned _ _ _ known _ _ (c.requires.plan).1
 
-pub returns-in-Blue-clause-kind : goal.returns-in-Blue-clause-kind
-returns-in-Blue-clause-kind c = Originals.kind_of_plan c.args.token.now.me _ _ _ c.in-Ok.ensures.0
+pub returns-in_default-clause-kind : goal.returns-in_default-clause-kind
+returns-in_default-clause-kind c = Originals.kind_of_plan c.args.token.now.me _ _ _ c.in-Ok.ensures.0
 
-pub returns-in-Ok-permit_red-clause-kind : goal.returns-in-Ok-permit_red-clause-kind
-returns-in-Ok-permit_red-clause-kind c = Originals.kind_of_plan c.args.token.now.me _ _ _ c.in-Ok.ensures.0
+pub returns-in_default-permit_red-clause-kind : goal.returns-in_default-permit_red-clause-kind
+returns-in_default-permit_red-clause-kind c = Originals.kind_of_plan c.args.token.now.me _ _ _ c.in-Ok.ensures.0
 
-pub returns-in-Blue-clause-original : goal.returns-in-Blue-clause-original
-returns-in-Blue-clause-original c = λ request planned. Originals.plan_original _ c.args.token.now.me _ _ _ request c.config.ensures.valid
+pub returns-in_default-clause-original : goal.returns-in_default-clause-original
+returns-in_default-clause-original c = λ request planned. Originals.plan_original _ c.args.token.now.me _ _ _ request c.config.ensures.valid
     c.in-Ok.ensures.0 planned
 
-pub returns-in-Ok-permit_red-clause-original : goal.returns-in-Ok-permit_red-clause-original
-returns-in-Ok-permit_red-clause-original c = λ request planned. Originals.plan_original _ c.args.token.now.me _ _ _ request
+pub returns-in_default-permit_red-clause-original : goal.returns-in_default-permit_red-clause-original
+returns-in_default-permit_red-clause-original c = λ request planned. Originals.plan_original _ c.args.token.now.me _ _ _ request
     c.config.ensures.valid c.in-Ok.ensures.0 planned

@@ -7,17 +7,17 @@ use Rattle.rb_scratch.proofs.generator.generate.Goals as goal
 pub carry_out-requires-clause-plan : goal.carry_out-requires-clause-plan
 carry_out-requires-clause-plan c = (c.args.request.now, c.in-Ok.ensures.plan)
 
-pub returns-in-Ok-clause-made : goal.returns-in-Ok-clause-made
-returns-in-Ok-clause-made c = λ known shows. c.carry_out.ensures.made known shows
+pub returns-clause-made : goal.returns-clause-made
+returns-clause-made c = λ known shows. c.carry_out.ensures.made known shows
     ∙ sym (Generated.planned _ _ _ known _ _ c.in-Ok.ensures.plan)
 
 pub returns-in-Err-clause-made : goal.returns-in-Err-clause-made
 returns-in-Err-clause-made c = λ known shows. sym (Generated.unplanned _ _ _ known _ _ c.in-Err.ensures.plan)
 
-pub returns-in-Ok-clause-kind : goal.returns-in-Ok-clause-kind
-returns-in-Ok-clause-kind c =
+pub returns-clause-kind : goal.returns-clause-kind
+returns-clause-kind c =
     Originals.of_kind c.carry_out.result _ _ c.carry_out.ensures.kind (Originals.granted c.args.ledger.now.settings
     c.args.ledger.now.entries c.args.request.now _ c.in-Ok.ensures.plan)
 
-pub returns-in-Ok-clause-original : goal.returns-in-Ok-clause-original
-returns-in-Ok-clause-original c = Originals.of_request _ _ _ _ c.carry_out.result c.carry_out.ensures.original c.in-Ok.ensures.plan
+pub returns-clause-original : goal.returns-clause-original
+returns-clause-original c = Originals.of_request _ _ _ _ c.carry_out.result c.carry_out.ensures.original c.in-Ok.ensures.plan

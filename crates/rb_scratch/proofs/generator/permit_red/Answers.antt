@@ -1,4 +1,4 @@
-use Rattle.std.proofs.Common.{ap, sym}
+use Rattle.std.proofs.Common.{ap, sym, ◌∙◌}
 use Rattle.std.specs.Prelude.{is_some}
 use Rattle.rb_scratch.proofs.Permits
 use Rattle.rb_scratch.proofs.generator.permit_red.Goals as goal
@@ -6,10 +6,14 @@ use Rattle.rb_scratch.proofs.generator.permit_red.Goals as goal
 pub returns-in-Err : goal.returns-in-Err
 returns-in-Err c = λ known shows. Permits.red_refused _ _ known _ _ _ c.clock.ensures (c.in-Err.ensures known shows)
 
-pub returns-in-Some : goal.returns-in-Some
-returns-in-Some c = λ known shows. Permits.red_cancellation _ _ known _ _ c.check.result c.clock.ensures (c.in_default.ensures known shows)
-    (sym (ap is_some c.in-Some.ensures)) c.requires c.check.ensures.first
+pub returns-then-is_none : goal.returns-then-is_none
+returns-then-is_none c = λ known shows. Permits.red_plain _ _ known _ _ c.clock.ensures (c.in_default.ensures known shows)
+    (sym (ap is_some c.target.ensures) ∙ c.if-is_none.ensures)
 
-pub returns-in-None : goal.returns-in-None
-returns-in-None c = λ known shows. Permits.red_plain _ _ known _ _ c.clock.ensures (c.in_default.ensures known shows)
-    (sym (ap is_some c.in-None.ensures))
+pub returns-then-would_overdraw : goal.returns-then-would_overdraw
+returns-then-would_overdraw c = λ known shows. Permits.red_overdraws _ _ known _ _ c.clock.ensures (c.in_default.ensures known shows)
+    (sym (ap is_some c.target.ensures) ∙ c.if-is_none.ensures) (sym c.would_overdraw.ensures ∙ c.if-would_overdraw.true)
+
+pub returns : goal.returns
+returns c = λ known shows. Permits.red_covered _ _ known _ _ c.clock.ensures (c.in_default.ensures known shows)
+    (sym c.would_overdraw.ensures ∙ c.if-would_overdraw.false)
