@@ -113,6 +113,7 @@ impl Journal {
     }
 
     /// Applies a shadow that may follow the operations. An `Err` means out of memory, and all is as before.
+    #[inline(always)]
     pub fn append(&mut self, shadow: &Shadow) -> Result<(), AllocError>
         requires { IsValid self.old.settings (self.old.ops ++ shadow.now ∷ []) }
         ensures ok { OnOk result (self.new ≡ record self.old { ops = self.old.ops ++ shadow.now ∷ [] }) }
