@@ -1,9 +1,11 @@
 -- Lists behind slots that are free.
-use Rattle.std.proofs.Common.{◌≡◌, ℕ, suc, zero, ◌+◌, ◌-◌, ◌*◌, ◌≤◌, List, [], ◌∷◌, ◌++◌, length, take, drop, replicate, refl, ap, ◌∙◌}
+use Rattle.std.proofs.Common.{◌≡◌, ℕ, suc, zero, ◌+◌, ◌≤◌, List, [], ◌∷◌, ◌++◌, length, drop, set, refl, ap, sym, ◌∙◌}
 use Rattle.std.proofs.Common.{arith}
 use Rattle.std.specs.Prelude.{insert, remove}
-use Rattle.std.proofs.Math.Seq.{drop-append_seam, take-append_seam}
-use Rattle.std.proofs.lemmas.List.{take_all}
+use Rattle.std.specs.List.{slice_range}
+use Rattle.std.proofs.Math.Seq.{drop-append_seam, drop-length}
+use Rattle.std.proofs.lemmas.List.{append-nil}
+use Rattle.std.proofs.lemmas.List.Folds.{drop_split}
 use Rattle.rb_shadow.specs.declared.shadow.Shadow.{Shadow}
 
 -- an insertion behind them is one in the list
@@ -29,20 +31,17 @@ remove_first [] (suc n) (suc k) e = refl
 remove_first (u ∷ us) (suc n) zero e = absurd (omega arith)
 remove_first (u ∷ us) (suc n) (suc k) e = remove_first us n k (omega arith)
 
-drop-copies : (n : ℕ) (v : Shadow) (us : List Shadow) → drop n (replicate (suc n) v ++ us) ≡ v ∷ us
-drop-copies zero v us = refl
-drop-copies (suc n) v us = drop-copies n v us
+-- the shadow in the last free slot comes before those behind the free ones
+pub put_first : (us now : List Shadow) (n k : ℕ) (v : Shadow) → n ≡ k + 1 → n ≤ length us → drop n us ≡ now → drop k (set us k v) ≡ v ∷ now
+put_first [] now n k v e l is = absurd (omega arith)
+put_first (u ∷ us) now n zero v e l is = ap (λ ws. v ∷ ws) (ap (λ j. drop j (u ∷ us)) (sym e) ∙ is)
+put_first (u ∷ us) now zero (suc k) v e l is = absurd (omega arith)
+put_first (u ∷ us) now (suc n) (suc k) v e l is = put_first us now n k v (omega arith) (omega arith) is
 
--- copies of an operation, one more than a list has operations, are added at its end and then turned to its front: the
--- last of them is the operation, behind free slots
-pub front_made : (us more turned : List Shadow) (n m k : ℕ) (v : Shadow) → n ≡ length us → m ≡ n → k ≡ n
-    → more ≡ take (2 * n + 1) us ++ replicate (2 * n + 1 - k) v → turned ≡ drop m more ++ take m more → drop n turned ≡ v ∷ us
-front_made us more turned n m k v count same whole grown round =
-    ap (drop n) (round ∙ ap (λ k. drop k more ++ take k more) (same ∙ count) ∙ ap (λ ws. drop (length us) ws ++ take (length us) ws) all
-    ∙ ap (λ ws. ws ++ take (length us) (us ++ replicate (suc n) v)) (drop-append_seam us (replicate (suc n) v))
-    ∙ ap (λ ws. replicate (suc n) v ++ ws) (take-append_seam us (replicate (suc n) v)))
-    ∙ drop-copies n v us
-  where
-    all : more ≡ us ++ replicate (suc n) v
-    all = grown ∙ ap (λ ws. ws ++ replicate (2 * n + 1 - k) v) (take_all (2 * n + 1) us (omega arith))
-        ∙ ap (λ k. us ++ replicate k v) (let e : 2 * n + 1 - k ≡ suc n = omega arith in e)
+-- the shadows behind the free ones, copied to slots behind all, stand there too
+pub copied_behind : (us more now : List Shadow) (free n m : ℕ) → more ≡ us ++ slice_range us free m → n ≡ length us → m ≡ n → free ≤ n
+    → drop free us ≡ now → drop n more ≡ now
+copied_behind us more now free n m copied same all few is =
+    ap (drop n) copied ∙ ap (λ k. drop k (us ++ slice_range us free m)) same ∙ drop-append_seam us (slice_range us free m)
+    ∙ sym (drop_split us free m (omega arith) ∙ ap (λ ws. slice_range us free m ++ ws) (ap (λ k. drop k us) (all ∙ same) ∙ drop-length us)
+    ∙ append-nil (slice_range us free m)) ∙ is

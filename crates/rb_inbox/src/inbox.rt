@@ -72,15 +72,35 @@ impl Inbox {
             ⊎ (why ≡ Refusal.OutOfMemory)) }
         ensures err { OnErr result (self.new ≡ self.old) }
     {
+        self.put_copy(&shadow, clock)
+    }
+
+    /// The same as `put`, for a shadow that stays where it is.
+    #[inline(always)]
+    pub fn put_copy(&mut self, shadow: &Shadow, clock: &Clock) -> Result<PutAnswer, Refusal>
+        requires { IsNumbered shadow.now }
+        ensures held { result ≡ Ok PutAnswer.Held → self.new
+            ≡ record self.old { held = with_held shadow.now self.old.held } }
+        ensures welcome { result ≡ Ok PutAnswer.Held → IsWelcome self.old clock.now shadow.now }
+        ensures already { result ≡ Ok PutAnswer.Already → find_in self.old.held shadow.now.name ≡ Some shadow.now }
+        ensures unchanged { result ≡ Ok PutAnswer.Already → self.new ≡ self.old }
+
+        ensures conflict { result ≡ Err Refusal.Conflict → IsInConflict self.old shadow.now }
+        ensures full { result ≡ Err Refusal.InboxFull → IsTooMany self.old clock.now shadow.now }
+        ensures memory { result ≡ Err Refusal.OutOfMemory → IsWelcome self.old clock.now shadow.now }
+        ensures refusals { IfErr result (λ why. (why ≡ Refusal.Conflict) ⊎ (why ≡ Refusal.InboxFull)
+            ⊎ (why ≡ Refusal.OutOfMemory)) }
+        ensures err { OnErr result (self.new ≡ self.old) }
+    {
         let (index, held) = self.find(&shadow.name);
         if let Some(held) = held {
-            return if held.same(&shadow) {
+            return if held.same(shadow) {
                 Ok(PutAnswer::Already)
             } else {
                 Err(Refusal::Conflict)
             };
         }
-        if !self.may_hold(&shadow, clock) {
+        if !self.may_hold(shadow, clock) {
             return Err(Refusal::InboxFull);
         }
         match self.hold(shadow, index) {
@@ -90,17 +110,18 @@ impl Inbox {
     }
 
     /// Holds a shadow whose name is held by no other, at the index in its row.
-    fn hold(&mut self, shadow: Shadow, index: usize) -> Result<(), AllocError>
-        requires new { find_in self.old.held shadow.name ≡ None }
-        requires index { index ≡ index_in_row self.old.held shadow.name }
-        requires numbered { IsNumbered shadow }
-        ensures ok { OnOk result (self.new ≡ record self.old { held = with_held shadow self.old.held }) }
+    #[inline(always)]
+    fn hold(&mut self, shadow: &Shadow, index: usize) -> Result<(), AllocError>
+        requires new { find_in self.old.held shadow.now.name ≡ None }
+        requires index { index ≡ index_in_row self.old.held shadow.now.name }
+        requires numbered { IsNumbered shadow.now }
+        ensures ok { OnOk result (self.new ≡ record self.old { held = with_held shadow.now self.old.held }) }
         ensures err { OnErr result (self.new ≡ self.old) }
     {
         // There is no memory for more shadows than a `usize` counts.
         let count = self.count.checked_add(1).ok_or(AllocError)?;
         let row = shadow.name.row();
-        add_rows(&mut self.rows, row + 1, self.alloc)?;
+        add_rows(&mut self.rows, row, self.alloc)?;
         self.rows[row].insert(index, shadow)?;
         self.count = count;
         Ok(())
@@ -138,7 +159,7 @@ impl Inbox {
 
     /// The index of the name in its row, or the one at which it would be put, and the shadow that is held under it.
     #[inline(always)]
-    fn find(&self, name: &OpName) -> (usize, Option<&Shadow>)
+    pub fn find(&self, name: &OpName) -> (usize, Option<&Shadow>)
         ensures index { result.0 ≡ index_in_row self.now.held name.now }
         ensures held { option_copied result.1 ≡ find_in self.now.held name.now }
     {
@@ -193,8 +214,8 @@ impl Inbox {
         }
     }
 
-    /// Lets go the shadow that is held under the name, at its index in its row.
-    fn remove_at(&mut self, name: &OpName, index: usize)
+    /// Lets go the shadow that is held under the name, at its index in its row, as `find` gives it.
+    pub fn remove_at(&mut self, name: &OpName, index: usize)
         requires held { (u : Shadow) × (find_in self.old.held name.now ≡ Some u) }
         requires index { index ≡ index_in_row self.old.held name.now }
         ensures { self.new ≡ record self.old { held = without name.now self.old.held } }
@@ -242,12 +263,13 @@ impl Inbox {
     }
 }
 
-/// Adds empty rows, until there are `count`. `Err` means out of memory.
-fn add_rows(rows: &mut Vec<Row>, count: usize, alloc: Global) -> Result<(), AllocError>
+/// Adds empty rows, until there is one at the index. `Err` means out of memory.
+#[inline(always)]
+fn add_rows(rows: &mut Vec<Row>, index: usize, alloc: Global) -> Result<(), AllocError>
     ensures rows { (k : ℕ) × (rows.new.items ≡ rows.old.items ++ replicate k []) }
-    ensures ok { OnOk result (count ≤ length rows.new.items) }
+    ensures ok { OnOk result (index < length rows.new.items) }
 {
-    while rows.len() < count {
+    while rows.len() <= index {
         rows.push(Row::open(alloc))?;
     }
     Ok(())

@@ -1,5 +1,5 @@
 //! Rows of shadows.
-ghost use Rattle.std.specs.Prelude.{◌≡◌, ◌<◌, ◌≤◌, [], length, insert, remove, OnErr, OnOk};
+ghost use Rattle.std.specs.Prelude.{◌≡◌, ◌<◌, ◌≤◌, ◌++◌, [], length, insert, remove, IfOk, OnErr, OnOk};
 
 use rb_shadow::Shadow;
 use std::alloc::{AllocError, Global};
@@ -44,41 +44,45 @@ impl Row {
     }
 
     /// Puts a shadow in before the one at the index, or at the end. `Err` means out of memory.
-    pub fn insert(&mut self, index: usize, shadow: Shadow) -> Result<(), AllocError>
+    #[inline(always)]
+    pub fn insert(&mut self, index: usize, shadow: &Shadow) -> Result<(), AllocError>
         requires { index ≤ length self.old }
-        ensures ok { OnOk result (self.new ≡ insert self.old index shadow) }
+        ensures ok { OnOk result (self.new ≡ insert self.old index shadow.now) }
         ensures err { OnErr result (self.new ≡ self.old) }
     {
+        if index == 0 && self.free > 0 {
+            self.free -= 1;
+            self.slots[self.free] = *shadow;
+            return Ok(());
+        }
+        self.make_room();
         if self.free + index == self.slots.len() {
-            self.slots.push(shadow)?;
+            self.slots.reserve(1)?;
+            self.slots.push_reserved(*shadow);
             return Ok(());
         }
         if index == 0 {
             return self.insert_first(shadow);
         }
-        self.slots.insert(self.free + index, shadow)?;
+        self.slots.insert(self.free + index, *shadow)?;
         Ok(())
     }
 
-    /// Puts a shadow in before all others. Where no slot is free, as many are made as there are shadows,
-    /// each with a copy of the new one: the last of them is its own.
-    fn insert_first(&mut self, shadow: Shadow) -> Result<(), AllocError>
-        ensures ok { OnOk result (self.new ≡ insert self.old 0 shadow) }
+    /// Puts a shadow in before all others, which are copied to slots behind them: where they were, the slots are free.
+    fn insert_first(&mut self, shadow: &Shadow) -> Result<(), AllocError>
+        requires { 0 < length self.old }
+        ensures ok { OnOk result (self.new ≡ insert self.old 0 shadow.now) }
         ensures err { OnErr result (self.new ≡ self.old) }
     {
-        if self.free > 0 {
-            self.free -= 1;
-            self.slots[self.free] = shadow;
-            return Ok(());
-        }
-        let count = self.slots.len();
-        self.slots.resize(2 * count + 1, shadow)?;
-        self.slots.rotate_right(count + 1);
-        self.free = count;
+        let last = self.slots.len() - 1;
+        self.slots.extend_from_within(self.free..)?;
+        self.slots[last] = *shadow;
+        self.free = last;
         Ok(())
     }
 
-    /// Takes out the shadow at the index.
+    /// Takes out the shadow at the index. The slot of the first is free then.
+    #[inline(always)]
     pub fn remove(&mut self, index: usize)
         requires { index < length self.old }
         ensures { self.new ≡ remove self.old index }
@@ -88,18 +92,16 @@ impl Row {
         } else {
             self.slots.remove(self.free + index);
         }
-        self.shrink();
     }
 
-    /// Gives up the free slots where they are more than twice as many as the shadows.
-    fn shrink(&mut self)
+    /// Gives up the free slots where there is no memory for more slots, and as many are free as not.
+    #[inline(always)]
+    fn make_room(&mut self)
         ensures { self.new ≡ self.old }
     {
         let count = self.slots.len() - self.free;
-        if self.free > 2 * count {
-            if count > 0 {
-                self.slots.rotate_left(self.free);
-            }
+        if self.slots.len() == self.slots.capacity() && count <= self.free {
+            self.slots.rotate_left(self.free);
             self.slots.truncate(count);
             self.free = 0;
         }

@@ -30,10 +30,10 @@ insert-requires c =
     let same = unchanged c.self.inside.limit _ _ c.args.self.now (grown_holds c.self.inside.rows.items rows _ c.add_rows.ensures.rows.1)
     c.self.view_is in
     let all = grown c.self.inside.rows.items rows c.self.inside.count _ c.add_rows.ensures.rows.1 c.self.invariant in
-    let index = index_there rows c.self.inside.limit c.args.self.now c.args.shadow.name row c.args.index same c.row-row.ensures all.each
+    let index = index_there rows c.self.inside.limit c.args.self.now c.args.shadow.now.name row c.args.index same c.row-row.ensures all.each
     c.requires.index in
     let long = ap length (row_there rows row c.index_mut.result.now within c.index_mut.ensures.value) in
-    omega (arith, index, long, held_before-bound (get_or rows row []) c.args.shadow.name)
+    omega (arith, index, long, held_before-bound (get_or rows row []) c.args.shadow.now.name)
 
 -- where the row couldn't grow, the rows are as before
 as_before : (c : goal.After-from_residual-in_err-insert) → set c.add_rows.new.rows.items c.row-row.result c.insert.new.self
@@ -56,26 +56,26 @@ returns-in_err-insert-clause-err c =
 with_it : (c : goal.After-self-2-1) → AreCounted (set c.add_rows.new.rows.items c.row-row.result c.insert.new.self) (c.self.inside.count
     + 1)
     × (held_of (set c.add_rows.new.rows.items c.row-row.result c.insert.new.self)
-    ≡ with_held c.args.shadow (held_of c.self.inside.rows.items))
+    ≡ with_held c.args.shadow.now (held_of c.self.inside.rows.items))
 with_it c =
     let rows : List (List Shadow) = c.add_rows.new.rows.items in
     let row = c.row-row.result in
     let within : row < length rows = omega (arith, c.in_ok-add_rows.ensures.ok) in
     let same = grown_holds c.self.inside.rows.items rows _ c.add_rows.ensures.rows.1 in
-    let new : find_in (held_of rows) c.args.shadow.name ≡ None =
-    ap (λ (us : List Shadow). find_in us c.args.shadow.name) same ∙ ap (λ (b : Holding). find_in b.held c.args.shadow.name) c.self.view_is
+    let new : find_in (held_of rows) c.args.shadow.now.name ≡ None =
+    ap (λ (us : List Shadow). find_in us c.args.shadow.now.name) same ∙ ap (λ (b : Holding). find_in b.held c.args.shadow.now.name) c.self.view_is
     ∙ c.requires.new in
     let all = grown c.self.inside.rows.items rows c.self.inside.count _ c.add_rows.ensures.rows.1 c.self.invariant in
-    let index = index_there rows c.self.inside.limit c.args.self.now c.args.shadow.name row c.args.index
+    let index = index_there rows c.self.inside.limit c.args.self.now c.args.shadow.now.name row c.args.index
     (unchanged c.self.inside.limit _ _ c.args.self.now same c.self.view_is) c.row-row.ensures all.each c.requires.index in
-    let put = after_put rows c.self.inside.count c.args.shadow row c.insert.new.self all c.requires.numbered new c.row-row.ensures within
-    (changed_there (λ us index. insert us index c.args.shadow) c.insert.new.self c.index_mut.result.now (get_or rows row []) c.args.index
-    c.args.shadow.name c.in_ok-insert.ensures.ok (row_there rows row c.index_mut.result.now within c.index_mut.ensures.value) index) in
-    (put.0, put.1 ∙ ap (with_held c.args.shadow) same)
+    let put = after_put rows c.self.inside.count c.args.shadow.now row c.insert.new.self all c.requires.numbered new c.row-row.ensures within
+    (changed_there (λ us index. insert us index c.args.shadow.now) c.insert.new.self c.index_mut.result.now (get_or rows row []) c.args.index
+    c.args.shadow.now.name c.in_ok-insert.ensures.ok (row_there rows row c.index_mut.result.now within c.index_mut.ensures.value) index) in
+    (put.0, put.1 ∙ ap (with_held c.args.shadow.now) same)
 
 pub invariant_of-self-2 : goal.invariant_of-self-2
 invariant_of-self-2 c = let next : c.self.inside.count + 1 ≡ c.in_ok-count.count = search rules in subst (AreCounted _) next (with_it c).0
 
 pub returns-clause-ok : goal.returns-clause-ok
-returns-clause-ok c = changed c.self.inside.limit _ (held_of c.self.inside.rows.items) c.args.self.now (with_held c.args.shadow)
+returns-clause-ok c = changed c.self.inside.limit _ (held_of c.self.inside.rows.items) c.args.self.now (with_held c.args.shadow.now)
     (with_it c).1 c.self.view_is

@@ -6,6 +6,6 @@ use Rattle.rb_inbox.proofs.row.Row.insert.Goals as goal
 
 pub returns-clause-ok : goal.returns-clause-ok
 returns-clause-ok c =
-    ap (drop c.self.inside.free) c.in_ok-insert.ensures.items
-    ∙ insert_behind c.self.inside.slots.items c.self.inside.free c.args.index _ c.args.shadow (omega arith) c.self.invariant
-    ∙ ap (λ (us : List Shadow). insert us c.args.index c.args.shadow) c.self.view_is
+    ap (drop c.self-2.inside.free) c.in_ok-insert.ensures.items
+    ∙ insert_behind c.self-2.inside.slots.items c.self-2.inside.free c.args.index _ c.args.shadow.now (omega arith) c.self-2.invariant
+    ∙ ap (λ (us : List Shadow). insert us c.args.index c.args.shadow.now) (c.self-2.view_is ∙ c.make_room.ensures)
