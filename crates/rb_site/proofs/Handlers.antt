@@ -25,7 +25,7 @@ use Rattle.rb_ledger.specs.Checks.{refusal_of, refusal_of_sound}
 use Rattle.rb_ledger.specs.Valid.{IsValid}
 use Rattle.rb_inbox.proofs.Public.Holding.{held_cases, kept_among}
 use Rattle.rb_shadow.proofs.Public.Lookups
-use Rattle.rb_inbox.specs.Held.{Holding, IsInConflict, IsReady, IsTooMany, IsWelcome, with_held, without}
+use Rattle.rb_inbox.specs.Held.{Holding, IsInConflict, IsReady, IsTooMany, IsWelcome, index_in_row, with_held, without}
 use Rattle.rb_scratch.specs.Requests.{made_of}
 use Rattle.rb_scratch.specs.declared.request.Request.{Request}
 use Rattle.rb_statements.specs.Statements.{balance_as_of}
@@ -296,6 +296,19 @@ not_memory why e h = let bad : NotReady ≡ OutOfMemory = sym e ∙ h in cc
 pub held_sound : (s : Settings) (held : List Shadow) (x : OpName) (v : Shadow) → ((u : Shadow) → Among u held → IsSound s u) →
     find_in held x ≡ Some v → IsSound s v
 held_sound s held x v all found = all v (Lookups.found held x v found).0
+
+-- what is found under a name has that name
+named : (held : List Shadow) (x : OpName) (v : Shadow) → find_in held x ≡ Some v → x ≡ v.name
+named held x v found = sym (Lookups.found held x v found).1
+
+-- so it is found under its own
+pub held_named : (held : List Shadow) (x : OpName) (v : Shadow) → find_in held x ≡ Some v → find_in held v.name ≡ Some v
+held_named held x v found = subst (λ y. find_in held y ≡ Some v) (named held x v found) found
+
+-- and at the same index
+pub index_named : (held : List Shadow) (x : OpName) (v : Shadow) (n : ℕ) → find_in held x ≡ Some v → n ≡ index_in_row held x →
+    n ≡ index_in_row held v.name
+index_named held x v n found at = at ∙ ap (index_in_row held) (named held x v found)
 
 -- without one of them, what is held is still tied to the rest
 pub tied_without : (s : Settings) (now : Settings) (inbox later : Holding) (token : SeenToken) (x : OpName) → now ≡ s →

@@ -1,15 +1,16 @@
 //! The state of a site between two events.
-ghost use Rattle.std.specs.Prelude.{◌≡◌, ◌<◌, ◌&&◌, [], true, nat_le, if◌then◌else◌, IfOk, None, OnErr, OnOk};
-ghost use Rattle.rb_shadow.specs.Operations.{clock_of, same_shadow};
+ghost use Rattle.std.specs.Prelude.{◌≡◌, ◌<◌, ◌&&◌, [], true, nat_le, if◌then◌else◌, IfOk, None, OnErr, OnOk, option_copied};
+ghost use Rattle.rb_shadow.specs.Operations.{clock_of, find_in, same_shadow};
 ghost use Rattle.rb_ledger.specs.Records.{records_of};
 ghost use Rattle.rb_shadow.specs.Sound.{IsSound};
 ghost use Rattle.rb_scratch.specs.declared.request.TheConstants.{MOST_REQUESTS};
 ghost use Rattle.rb_site.specs.Events.{first_site, outcome_of, outcome_of_new};
+ghost use Rattle.rb_site.specs.Known.{IsAsKnown};
 ghost use Rattle.rb_site.specs.States.{Follows, Says, noting, plain};
 
 use crate::answer::{Answer, give};
 use crate::journal::Journal;
-use crate::{Event, Message, Reply};
+use crate::{Event, Known, Message, Reply};
 use rb_inbox::{Inbox, PutAnswer};
 use rb_kit::List;
 use rb_ledger::Ledger;
@@ -83,6 +84,14 @@ impl State {
         self.journal.ledger()
     }
 
+    /// The operation of the name that the site applied, or `None`.
+    #[inline(always)]
+    pub fn applied(&self, name: &OpName) -> Option<&Shadow>
+        ensures { option_copied result ≡ find_in self.now.site.ops name.now }
+    {
+        self.journal.applied(name)
+    }
+
     /// The undo records, made anew: the k-th is that of the first k operations. `Err` means out of memory.
     pub fn log(&self) -> Result<UndoLog, AllocError>
         ensures { IfOk result (λ log. log.parts ≡ records_of self.now.settings self.now.site.ops) }
@@ -134,12 +143,14 @@ impl State {
     pub fn act(
         &mut self,
         event: &Event,
+        known: Known,
         keeps: bool,
         sent: &mut Vec<Message>,
         reply: &mut Reply,
         noted: &mut Option<Reply>,
     ) -> Result<(), AllocError>
-        requires { noted.old ≡ None }
+        requires noted { noted.old ≡ None }
+        requires known { IsAsKnown self.old.settings self.old.site.ops known event.now }
         ensures ok { OnOk result (Follows keeps self.old self.new sent.old.items sent.new.items
             (outcome_of self.old.settings self.old.site event.now) (noting reply.new noted.new)) }
         ensures err { OnErr result ((self.new ≡ self.old) × (sent.new.items ≡ sent.old.items)) }
@@ -147,7 +158,7 @@ impl State {
         match event {
             Event::Submit(request) => self.submit(request, sent, reply),
             Event::Batch(requests) => self.batch(requests, keeps, sent, reply, noted),
-            Event::Receive(Message::Shadow(shadow)) => self.receive(shadow, reply),
+            Event::Receive(Message::Shadow(shadow)) => self.receive(shadow, known, reply),
             Event::Receive(Message::Token(message)) => Ok(self.accept(message, reply)),
             Event::Apply(name) => self.apply(name, reply),
             Event::Pass(to) => self.pass(*to, sent, reply),
@@ -215,7 +226,29 @@ impl State {
     #[inline(always)]
     #[tactic(auto, unfolding(crate::specs::Events::outcome_of))]
     /// A shadow from another site is held until it is applied.
-    fn receive(&mut self, shadow: &Shadow, reply: &mut Reply) -> Result<(), AllocError>
+    fn receive(
+        &mut self,
+        shadow: &Shadow,
+        known: Known,
+        reply: &mut Reply,
+    ) -> Result<(), AllocError>
+        requires { IsAsKnown self.old.settings self.old.site.ops known (Event.Receive (Message.Shadow shadow.now)) }
+        ensures ok { OnOk result (Follows true self.old self.new [] []
+            (outcome_of self.old.settings self.old.site (Event.Receive (Message.Shadow shadow.now)))
+            (plain reply.new)) }
+        ensures err { OnErr result (self.new ≡ self.old) }
+    {
+        match known {
+            Known::Nothing => self.receive_any(shadow, reply),
+            Known::Applied => Ok(give(reply, Reply::Already(shadow.name))),
+            Known::New => self.receive_new(shadow, reply),
+        }
+    }
+
+    #[inline(never)]
+    #[tactic(auto, unfolding(crate::specs::Events::outcome_of))]
+    /// A shadow from another site, of which nothing is known, is held until it is applied.
+    fn receive_any(&mut self, shadow: &Shadow, reply: &mut Reply) -> Result<(), AllocError>
         ensures ok { OnOk result (Follows true self.old self.new [] []
             (outcome_of self.old.settings self.old.site (Event.Receive (Message.Shadow shadow.now)))
             (plain reply.new)) }
@@ -227,12 +260,26 @@ impl State {
         if let Some(applied) = self.journal.applied(&shadow.name) {
             return Ok(again(shadow, applied, reply));
         }
+        self.receive_new(shadow, reply)
+    }
+
+    #[tactic(auto, unfolding(crate::specs::Events::outcome_of))]
+    /// A sound shadow, of a name that isn't applied here, is held until it is.
+    fn receive_new(&mut self, shadow: &Shadow, reply: &mut Reply) -> Result<(), AllocError>
+        requires sound { IsSound self.old.settings shadow.now }
+        requires new { find_in self.old.site.ops shadow.now.name ≡ None }
+        ensures ok { OnOk result (Follows true self.old self.new [] []
+            (outcome_of self.old.settings self.old.site (Event.Receive (Message.Shadow shadow.now)))
+            (plain reply.new)) }
+        ensures err { OnErr result (self.new ≡ self.old) }
+    {
         if shadow.home == self.token.view().me {
             return Ok(give(reply, Reply::Refused(Refusal::Conflict)));
         }
         self.hold(shadow, reply)
     }
 
+    #[inline(always)]
     /// A sound shadow that isn't applied here is held until it is.
     fn hold(&mut self, shadow: &Shadow, reply: &mut Reply) -> Result<(), AllocError>
         requires { IsSound self.old.settings shadow.now }
@@ -242,7 +289,7 @@ impl State {
     {
         // For a fact alone: the operations are a valid list, of at most `MOST_SITES` sites.
         let _sites = self.journal.config().sites();
-        let why = match self.inbox.put(*shadow, self.journal.clock()) {
+        let why = match self.inbox.put_copy(shadow, self.journal.clock()) {
             Ok(PutAnswer::Held) => return Ok(give(reply, Reply::Held(shadow.name))),
             Ok(PutAnswer::Already) => return Ok(give(reply, Reply::Already(shadow.name))),
             Err(why) => why,
@@ -274,7 +321,8 @@ impl State {
             (outcome_of self.old.settings self.old.site (Event.Apply name.now)) (plain reply.new)) }
         ensures err { OnErr result (self.new ≡ self.old) }
     {
-        let Some(held) = self.inbox.held(name) else {
+        let (index, held) = self.inbox.find(name);
+        let Some(held) = held else {
             return Ok(give(reply, Reply::Refused(Refusal::NotHeld)));
         };
         if !self.journal.is_eligible(held) {
@@ -283,7 +331,7 @@ impl State {
         let name = held.name;
         let why = match self.journal.apply(held) {
             Ok(()) => {
-                self.inbox.remove(&name);
+                self.inbox.remove_at(&name, index);
                 return Ok(give(reply, Reply::Applied(name)));
             }
             Err(why) => why,
@@ -292,7 +340,7 @@ impl State {
             Refusal::OutOfMemory => Err(AllocError),
             Refusal::NotReady => Ok(give(reply, Reply::Refused(Refusal::NotReady))),
             why => {
-                self.inbox.remove(&name);
+                self.inbox.remove_at(&name, index);
                 Ok(give(reply, Reply::Refused(why)))
             }
         }

@@ -1,6 +1,6 @@
 -- The code's step is the model's.
 use Rattle.std.proofs.Common.{◌≡◌, ℕ, ◌+◌, ◌<◌, All, length, take, get_or, Bool, true, false, cond, not, ◌&&◌, List, [], ◌∷◌, ◌++◌, refl}
-use Rattle.std.proofs.Common.{◌≤◌, Bor, IfOk, IfSome, IsErr, OnErr, OnOk, arith, ap, is_err, sym, subst, ◌∙◌}
+use Rattle.std.proofs.Common.{◌≤◌, Bor, IfSome, OnErr, OnOk, arith, ap, is_err, sym, subst, ◌∙◌}
 use Rattle.std.proofs.Common.{Option, Some, None, Result, Ok, Err}
 use Rattle.std.specs.declared.alloc.AllocError.{AllocError}
 use Rattle.std.specs.Prelude.{map, option_map, IsSomeAnd, slice_get, slice_set, is_some}
@@ -11,6 +11,9 @@ use Rattle.std.specs.Slice.{IsGetResult}
 use Rattle.rb_money.specs.Settings.{Settings}
 use Rattle.rb_money.specs.declared.limits.TheConstants.{MOST_SITES}
 use Rattle.rb_money.specs.declared.refusal.Refusal.TheVariants.{HistoryFull, NoMessage, NoSite}
+use Rattle.std.specs.Option.{option_copied}
+use Rattle.rb_shadow.specs.Operations.{find_in}
+use Rattle.rb_shadow.specs.declared.shadow.Shadow.{Shadow}
 use Rattle.rb_site.specs.declared.event.Event.{Event}
 use Rattle.rb_site.specs.declared.event.Event.TheVariants.{Receive}
 use Rattle.rb_site.specs.declared.message.Message.{Message}
@@ -18,6 +21,8 @@ use Rattle.rb_site.specs.declared.reply.Reply.{Reply}
 use Rattle.rb_site.specs.declared.reply.Reply.TheVariants.{Refused}
 use Rattle.rb_site.specs.declared.world_event.WorldEvent.{WorldEvent}
 use Rattle.rb_site.specs.declared.world_event.WorldEvent.TheVariants.{At, Deliver}
+use Rattle.rb_site.specs.Known.{IsAsKnown}
+use Rattle.rb_site.specs.declared.known.Known.{Known}
 use Rattle.rb_site.specs.Events.{ModelSite, after_event, is_full, outcome_of, reply_of, reply_to, sent_at}
 use Rattle.rb_site.specs.Histories.{site_of}
 use Rattle.rb_site.specs.Seen.{SeenSite, next_site, state_of}
@@ -25,7 +30,7 @@ use Rattle.rb_site.specs.Worlds.{AreOwn, IsCommand, World, arrival, first_world,
 use Rattle.rb_site.specs.Worlds.{reply_in, world_after, world_at}
 use Rattle.rb_site.proofs.Public.Runs
 use Rattle.rb_site.proofs.Public.Seen
-use Rattle.rb_world.specs.Brought.{brought_by}
+use Rattle.rb_world.specs.Brought.{IsOwnOperation, brought_by}
 use Rattle.rb_world.specs.Laws.{IsRunOf, SeenWorld, next_replies, next_reply, next_world, next_worlds, opened}
 
 -- ---- an event and the site that it is for
@@ -281,6 +286,26 @@ taken_at s xs ms ev e i x place arrived room all same = by (slice_get xs i) refl
           settings = ap (λ (z : SeenSite). z.settings) same ∙ all i x (slice_get_within xs i y q);
           room = let P : SeenSite → Type 0 = λ z. is_full s (state_of z) ≡ false in subst P (sym here) h;
         }
+
+-- what is known of an event at the site at a place
+pub known_at : (s : Settings) (xs : List SeenSite) (i : ℕ) (known : Known) (e : Event) (x : SeenSite) → x.settings ≡ s
+    → slice_get xs i ≡ Some x → IsSomeAnd (slice_get (map state_of xs) i) (λ t. IsAsKnown s t.ops known e)
+    → IsAsKnown x.settings (state_of x).ops known e
+known_at s xs i known e x same at there =
+    let P : Option ModelSite → Type 0 = λ o. IsSomeAnd o (λ t. IsAsKnown s t.ops known e) in
+    let Q : Settings → Type 0 = λ z. IsAsKnown z (state_of x).ops known e in
+    subst Q (sym same) (subst P (slice_get-map state_of xs i ∙ ap (option_map state_of) at) there)
+
+-- where a site applied the name of an operation of the world, it applied the operation
+pub applied_itself : (s : Settings) (w : World) (i : ℕ) (t : ModelSite) (v : Shadow) (o : Option (Bor Shadow)) → IsOwnOperation s w v →
+    slice_get w.sites i ≡ Some t → option_copied o ≡ find_in t.ops v.name → is_some o ≡ true → find_in t.ops v.name ≡ Some v
+applied_itself s w i t v None own at found some = cc
+applied_itself s w i t v (Some b) own at found some = sym found ∙ ap Some (own.applied i t at b.now (sym found))
+
+-- where nothing was found, there is nothing
+pub not_applied : (o : Option (Bor Shadow)) (q : Option Shadow) → option_copied o ≡ q → is_some o ≡ false → q ≡ None
+not_applied None q found none = sym found
+not_applied (Some b) q found none = cc
 
 -- a place that has a site is below their number
 pub site_there : (s : Settings) (xs : List SeenSite) (i : ℕ) → IsSomeAnd (slice_get (map state_of xs) i) (λ t. is_full s t ≡ false)

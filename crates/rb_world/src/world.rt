@@ -9,7 +9,8 @@ ghost use Rattle.rb_site.specs.Histories.{site_of};
 ghost use Rattle.rb_site.specs.declared.message.Message.{Message as TheMessage};
 ghost use Rattle.rb_site.specs.declared.world_event.WorldEvent.{WorldEvent as TheEvent};
 ghost use Rattle.rb_site.specs.Worlds.{IsCommand, arrival, is_recorded, message_at};
-ghost use Rattle.rb_world.specs.Brought.{brought_by};
+ghost use Rattle.rb_site.specs.Known.{IsAsKnown};
+ghost use Rattle.rb_world.specs.Brought.{IsOwnOperation, brought_by};
 ghost use Rattle.rb_world.specs.Laws.{Holds, IsRunOf, next_replies, next_reply, next_world, next_worlds, opened};
 
 use crate::sent::{Sent, kept_message, kept_operation};
@@ -17,7 +18,7 @@ use crate::{KeepsEvent, Stopped};
 use rb_kit::reserve_one;
 use rb_money::{Config, Refusal};
 use rb_shadow::Shadow;
-use rb_site::{Entry, Event, KeepsEntry, Message, Reply, Site, SiteReport, WorldEvent};
+use rb_site::{Entry, Event, KeepsEntry, Known, Message, Reply, Site, SiteReport, WorldEvent};
 use std::alloc::{AllocError, Global};
 use std::marker::Model;
 
@@ -178,11 +179,25 @@ impl<E: KeepsEntry, R: KeepsEvent> World<E, R> {
         };
         let full = site.is_full();
         match event {
-            WorldEvent::At(_, event) => self.take(number, full, event, None, reply),
+            WorldEvent::At(_, event) => {
+                self.take(number, full, event, Known::Nothing, None, reply)
+            }
             WorldEvent::Deliver(_, sent) => match self.operation(*sent) {
                 Some(operation) => {
+                    // A copy is made in each of the two cases, since one of them doesn't read it.
+                    if site.applied(&operation.name).is_some() {
+                        let arrived = Event::Receive(Message::Shadow(*operation));
+                        return self.take(
+                            number,
+                            full,
+                            &arrived,
+                            Known::Applied,
+                            Some(*sent),
+                            reply,
+                        );
+                    }
                     let arrived = Event::Receive(Message::Shadow(*operation));
-                    self.take(number, full, &arrived, Some(*sent), reply)
+                    self.take(number, full, &arrived, Known::New, Some(*sent), reply)
                 }
                 None => self.deliver(number, full, *sent, reply),
             },
@@ -208,7 +223,14 @@ impl<E: KeepsEntry, R: KeepsEvent> World<E, R> {
     {
         match self.message(number) {
             Some(message) => {
-                self.take(site, full, &Event::Receive(message), Some(number), reply)
+                self.take(
+                    site,
+                    full,
+                    &Event::Receive(message),
+                    Known::Nothing,
+                    Some(number),
+                    reply,
+                )
             }
             None => {
                 *reply = Reply::Refused(Refusal::NoMessage);
@@ -225,6 +247,7 @@ impl<E: KeepsEntry, R: KeepsEvent> World<E, R> {
         site: u8,
         full: bool,
         arrived: &Event,
+        known: Known,
         delivered: Option<u32>,
         reply: &mut Reply,
     ) -> Result<(), AllocError>
@@ -232,6 +255,8 @@ impl<E: KeepsEntry, R: KeepsEvent> World<E, R> {
         requires full { IsSomeAnd (slice_get self.old.world.sites site)
             (λ site. is_full self.old.settings site ≡ full) }
         requires arrived { arrival self.old.world.messages (brought_by site arrived.now delivered) ≡ Some arrived.now }
+        requires known { IsSomeAnd (slice_get self.old.world.sites site)
+            (λ site. IsAsKnown self.old.settings site.ops known arrived.now) }
         ensures ok { OnOk result ((reply.new ≡ next_reply self.old (brought_by site arrived.now delivered))
             × (self.new ≡ next_world self.old (brought_by site arrived.now delivered))) }
         ensures err { OnErr result (self.new ≡ self.old) }
@@ -242,7 +267,7 @@ impl<E: KeepsEntry, R: KeepsEvent> World<E, R> {
             return Ok(());
         }
         let noted = R::note(self.alloc, site, arrived, delivered)?;
-        self.record(site, arrived, noted, reply)
+        self.record(site, arrived, known, noted, reply)
     }
 
     /// A site takes an event for which its history has spare capacity.
@@ -251,12 +276,15 @@ impl<E: KeepsEntry, R: KeepsEvent> World<E, R> {
         &mut self,
         site: u8,
         arrived: &Event,
+        known: Known,
         noted: R,
         reply: &mut Reply,
     ) -> Result<(), AllocError>
         requires command { IsCommand (R.noted noted) }
         requires site { site ≡ site_of (R.noted noted) }
         requires arrived { arrival self.old.world.messages (R.noted noted) ≡ Some arrived.now }
+        requires known { IsSomeAnd (slice_get self.old.world.sites site)
+            (λ site. IsAsKnown self.old.settings site.ops known arrived.now) }
         requires room { IsSomeAnd (slice_get self.old.world.sites site) (λ site. is_full self.old.settings site
             ≡ false) }
         ensures ok { OnOk result ((reply.new ≡ next_reply self.old (R.noted noted))
@@ -266,7 +294,7 @@ impl<E: KeepsEntry, R: KeepsEvent> World<E, R> {
         reserve_one(&mut self.recorded)?;
         self.sent.make_ready()?;
         let applied = self.sites[site as usize].ledger().len();
-        self.sites[site as usize].answer(arrived, &mut self.sent.posted, reply)?;
+        self.sites[site as usize].answer_known(arrived, known, &mut self.sent.posted, reply)?;
         self.sent.note(site, applied);
         self.recorded.push_reserved(noted);
         Ok(())
@@ -314,8 +342,9 @@ impl<E: KeepsEntry, R: KeepsEvent> World<E, R> {
     /// The operation that the message of a number sent, where it is kept in a ledger.
     #[inline(always)]
     fn operation(&self, number: u32) -> Option<&Shadow>
-        ensures { IfSome result (λ shadow. message_at self.now.world.messages number
+        ensures sent { IfSome result (λ shadow. message_at self.now.world.messages number
             ≡ Some (TheMessage.Shadow shadow.now)) }
+        ensures own { IfSome result (λ shadow. IsOwnOperation self.now.settings self.now.world shadow.now) }
     {
         if number == 0 {
             return None;

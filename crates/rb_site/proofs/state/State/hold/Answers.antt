@@ -10,14 +10,14 @@ use Rattle.rb_site.specs.States.{SiteState, plain}
 use Rattle.rb_site.proofs.Handlers.{AnswersAlone, already, holds, refused_put, state_as, tied_at, tied_with}
 use Rattle.rb_site.proofs.state.State.hold.Goals as goal
 
-pub put-requires : goal.put-requires
-put-requires c = let P : SiteState → Type 0 = λ z. IsSound z.settings c.args.shadow.now in
+pub put_copy-requires : goal.put_copy-requires
+put_copy-requires c = let P : SiteState → Type 0 = λ z. IsSound z.settings c.args.shadow.now in
     sound_numbered c.self.inside.journal.settings c.args.shadow.now (subst P (sym c.self.view_is) c.requires)
 
 pub invariant_of-self : goal.invariant_of-self
 invariant_of-self c =
-    tied_with c.self.inside.journal.settings c.self.inside.inbox c.put.new.self c.self.inside.token c.args.shadow.now
-    (c.put.ensures.held (c.in-Ok-Held.is ∙ ap Ok c.in-Ok-Held.field-0-is)) (let P : SiteState →
+    tied_with c.self.inside.journal.settings c.self.inside.inbox c.put_copy.new.self c.self.inside.token c.args.shadow.now
+    (c.put_copy.ensures.held (c.in-Ok-Held.is ∙ ap Ok c.in-Ok-Held.field-0-is)) (let P : SiteState →
     Type 0 = λ z. IsSound z.settings c.args.shadow.now in subst P (sym c.self.view_is) c.requires) c.self.invariant
 
 pub returns-in-Ok-Held-clause-ok : goal.returns-in-Ok-Held-clause-ok
@@ -25,18 +25,18 @@ returns-in-Ok-Held-clause-ok c =
     let few : c.self.inside.journal.settings.sites ≤ MOST_SITES = subst (λ n. n ≤ MOST_SITES) (c.sites-sites.ensures.same
     ∙ ap (λ (z : Settings). z.sites) c.config.ensures.same) c.sites-sites.ensures.few in
     let P : SiteState → Type 0 = λ z. AnswersAlone z (state_as c.self.inside.journal.settings c.self.inside.token.me
-    c.self.inside.journal.ops c.put.new.self.held c.self.inside.token.token) (outcome_of_new z.settings z.site c.args.shadow.now)
+    c.self.inside.journal.ops c.put_copy.new.self.held c.self.inside.token.token) (outcome_of_new z.settings z.site c.args.shadow.now)
     (plain c.give.new.place) in
     subst P c.self.view_is
-    (holds c.self.inside.journal.settings c.self.inside.token.me c.self.inside.journal.ops c.self.inside.inbox c.put.new.self
+    (holds c.self.inside.journal.settings c.self.inside.token.me c.self.inside.journal.ops c.self.inside.inbox c.put_copy.new.self
     c.self.inside.token.token c.clock.result.now c.args.shadow.now (plain c.give.new.place) few c.config.ensures.valid c.clock.ensures
     c.self.invariant.limit
-    (c.put.ensures.welcome (c.in-Ok-Held.is ∙ ap Ok c.in-Ok-Held.field-0-is)) (c.put.ensures.held (c.in-Ok-Held.is
+    (c.put_copy.ensures.welcome (c.in-Ok-Held.is ∙ ap Ok c.in-Ok-Held.field-0-is)) (c.put_copy.ensures.held (c.in-Ok-Held.is
     ∙ ap Ok c.in-Ok-Held.field-0-is)) c.give.ensures)
 
 pub returns-in-Ok-Already-clause-ok : goal.returns-in-Ok-Already-clause-ok
 returns-in-Ok-Already-clause-ok c =
-    let now : SiteState = state_as c.self.inside.journal.settings c.self.inside.token.me c.self.inside.journal.ops c.put.new.self.held
+    let now : SiteState = state_as c.self.inside.journal.settings c.self.inside.token.me c.self.inside.journal.ops c.put_copy.new.self.held
     c.self.inside.token.token in
     let P : SiteState → Type 0 = λ z. AnswersAlone z now (outcome_of_new z.settings z.site c.args.shadow.now)
     (plain c.give-in-Ok-Already.new.place) in
@@ -46,32 +46,32 @@ returns-in-Ok-Already-clause-ok c =
     let Q : Holding → Type 0 = λ b. AnswersAlone old (state_as c.self.inside.journal.settings c.self.inside.token.me
     c.self.inside.journal.ops b.held c.self.inside.token.token) (outcome_of_new old.settings old.site c.args.shadow.now)
     (plain c.give-in-Ok-Already.new.place) in
-    subst Q (sym (c.put.ensures.unchanged (c.in-Ok-Already.is ∙ ap Ok c.in-Ok-Already.field-0-is)))
+    subst Q (sym (c.put_copy.ensures.unchanged (c.in-Ok-Already.is ∙ ap Ok c.in-Ok-Already.field-0-is)))
     (already c.self.inside.journal.settings c.self.inside.token.me c.self.inside.journal.ops c.self.inside.inbox.held
-    c.self.inside.token.token c.args.shadow.now (plain c.give-in-Ok-Already.new.place) (c.put.ensures.already (c.in-Ok-Already.is
+    c.self.inside.token.token c.args.shadow.now (plain c.give-in-Ok-Already.new.place) (c.put_copy.ensures.already (c.in-Ok-Already.is
     ∙ ap Ok c.in-Ok-Already.field-0-is)) c.give-in-Ok-Already.ensures))
 
 pub returns-clause-ok : goal.returns-clause-ok
 returns-clause-ok c =
     let few : c.self.inside.journal.settings.sites ≤ MOST_SITES = subst (λ n. n ≤ MOST_SITES) (c.sites-sites.ensures.same
     ∙ ap (λ (z : Settings). z.sites) c.config.ensures.same) c.sites-sites.ensures.few in
-    let now : SiteState = state_as c.self.inside.journal.settings c.self.inside.token.me c.self.inside.journal.ops c.put.new.self.held
+    let now : SiteState = state_as c.self.inside.journal.settings c.self.inside.token.me c.self.inside.journal.ops c.put_copy.new.self.held
     c.self.inside.token.token in
     let P : SiteState → Type 0 = λ z. AnswersAlone z now (outcome_of_new z.settings z.site c.args.shadow.now) (plain c.give-2.new.place) in
     subst P c.self.view_is
-    (refused_put c.self.inside.journal.settings c.self.inside.token.me c.self.inside.journal.ops c.self.inside.inbox c.put.new.self
+    (refused_put c.self.inside.journal.settings c.self.inside.token.me c.self.inside.journal.ops c.self.inside.inbox c.put_copy.new.self
     c.self.inside.token.token c.clock.result.now c.args.shadow.now c.in-Err.why
     (plain c.give-2.new.place) few c.config.ensures.valid c.clock.ensures
     c.self.invariant.limit
-    c.in-Err.ensures.refusals (λ e. c.put.ensures.conflict (c.in-Err.is ∙ ap Err e)) (λ e. c.put.ensures.full (c.in-Err.is
+    c.in-Err.ensures.refusals (λ e. c.put_copy.ensures.conflict (c.in-Err.is ∙ ap Err e)) (λ e. c.put_copy.ensures.full (c.in-Err.is
     ∙ ap Err e)) c.in_default.not-OutOfMemory c.in-Err.ensures.err c.give-2.ensures)
 
 pub invariant_of-self-in-Ok-Already : goal.invariant_of-self-in-Ok-Already
-invariant_of-self-in-Ok-Already c = tied_at c.self.inside.journal.settings c.self.inside.inbox c.put.new.self c.self.inside.token
-    (c.put.ensures.unchanged (c.in-Ok-Already.is ∙ ap Ok c.in-Ok-Already.field-0-is)) c.self.invariant
+invariant_of-self-in-Ok-Already c = tied_at c.self.inside.journal.settings c.self.inside.inbox c.put_copy.new.self c.self.inside.token
+    (c.put_copy.ensures.unchanged (c.in-Ok-Already.is ∙ ap Ok c.in-Ok-Already.field-0-is)) c.self.invariant
 
 pub invariant_of-self-in-OutOfMemory : goal.invariant_of-self-in-OutOfMemory
-invariant_of-self-in-OutOfMemory c = tied_at c.self.inside.journal.settings c.self.inside.inbox c.put.new.self c.self.inside.token
+invariant_of-self-in-OutOfMemory c = tied_at c.self.inside.journal.settings c.self.inside.inbox c.put_copy.new.self c.self.inside.token
     c.in-Err.ensures.err c.self.invariant
 
 pub returns-in-OutOfMemory-clause-err : goal.returns-in-OutOfMemory-clause-err
@@ -80,5 +80,5 @@ returns-in-OutOfMemory-clause-err c =
     c.self.inside.token.token) c.in-Err.ensures.err ∙ c.self.view_is
 
 pub invariant_of-self-2 : goal.invariant_of-self-2
-invariant_of-self-2 c = tied_at c.self.inside.journal.settings c.self.inside.inbox c.put.new.self c.self.inside.token
+invariant_of-self-2 c = tied_at c.self.inside.journal.settings c.self.inside.inbox c.put_copy.new.self c.self.inside.token
     c.in-Err.ensures.err c.self.invariant

@@ -5,6 +5,7 @@ use Rattle.std.proofs.lemmas.Option.{get_or_from_slice_get}
 use Rattle.rb_money.specs.Settings.{Settings}
 use Rattle.rb_scratch.specs.declared.request.TheConstants.{MOST_REQUESTS}
 use Rattle.std.specs.Prelude.{Some, IsSomeAnd, false, map, slice_get, slice_set}
+use Rattle.rb_site.specs.Known.{IsAsKnown}
 use Rattle.rb_site.specs.Events.{is_full, sent_at}
 use Rattle.rb_site.specs.Seen.{SeenSite, next_site, state_of}
 use Rattle.rb_site.specs.Histories.{site_of}
@@ -18,9 +19,9 @@ use Rattle.rb_world.specs.declared.sent.Kept.{Kept}
 use Rattle.rb_site.proofs.Public.Outcomes.{sent_few}
 use Rattle.rb_world.proofs.KeptMessages.{batch_fits, one_fits, step_kept}
 use Rattle.rb_world.proofs.Stepping.{IsTaken, AreOf, next_run, on_error, settings_kept, shown_world, site_there}
-use Rattle.rb_world.proofs.Stepping.{taken_at, taken_step}
+use Rattle.rb_world.proofs.Stepping.{known_at, taken_at, taken_step}
 use Rattle.rb_world.proofs.world.World.record.Given.{Over}
-use Rattle.rb_world.proofs.world.World.record.Goals.{After-drop-noted-in_err-answer, After-index_mut, After-push_reserved, After-self}
+use Rattle.rb_world.proofs.world.World.record.Goals.{After-drop-noted-in_err-answer_known, After-index_mut, After-push_reserved, After-self}
 use Rattle.rb_world.proofs.world.World.record.Goals as goal
 
 -- the messages that were sent before
@@ -50,10 +51,10 @@ taken g c = taken_here g (goal.at.After-push_reserved g c).After-index_mut
 
 -- what was sent, and what is sent now, is kept
 kept : (g : Over) (c : goal.After-push_reserved g) →
-    (kept_messages (map state_of (slice_set c.self.inside.sites.items c.args.site c.answer.new.self)) c.note.new.self.tokens.items
+    (kept_messages (map state_of (slice_set c.self.inside.sites.items c.args.site c.answer_known.new.self)) c.note.new.self.tokens.items
     c.note.new.self.places.items
     ≡ the_messages g c ++ sent_at c.index_mut.result.now.settings (state_of c.index_mut.result.now) c.args.arrived.now)
-    × AreKept (map state_of (slice_set c.self.inside.sites.items c.args.site c.answer.new.self)) c.note.new.self.tokens.items
+    × AreKept (map state_of (slice_set c.self.inside.sites.items c.args.site c.answer_known.new.self)) c.note.new.self.tokens.items
     c.note.new.self.places.items
 kept g c =
     let x : SeenSite = c.index_mut.result.now in
@@ -61,34 +62,34 @@ kept g c =
     ap (slice_get c.self.inside.sites.items) c.requires.site ∙ (taken g c).at in
     let free : is_full x.settings (state_of x) ≡ false = ap (λ z. is_full z (state_of x)) (taken g c).settings ∙ (taken g c).room in
     step_kept c.self.inside.sites.items c.self.inside.sent.tokens.items c.self.inside.sent.places.items c.args.site c.len-applied.result
-    x c.answer.new.self c.args.arrived.now c.note.new.self.tokens.items c.note.new.self.places.items c.answer.new.sent.items at free
+    x c.answer_known.new.self c.args.arrived.now c.note.new.self.tokens.items c.note.new.self.places.items c.answer_known.new.sent.items at free
     (c.len-applied.ensures.same ∙ ap length c.ledger.ensures.entries
     ∙ ap (λ (y : SeenSite). length (state_of y).ops) (c.index.ensures
     ∙ get_or_from_slice_get c.self.inside.sites.items c.args.site x c.index.result.now at))
-    c.self.invariant.2 (c.in_ok-answer.ensures.ok).0
-    ((c.in_ok-answer.ensures.ok).2 ∙ ap (λ ms. ms ++ sent_at x.settings (state_of x) c.args.arrived.now)
+    c.self.invariant.2 (c.in_ok-answer_known.ensures.ok).0
+    ((c.in_ok-answer_known.ensures.ok).2 ∙ ap (λ ms. ms ++ sent_at x.settings (state_of x) c.args.arrived.now)
     (c.make_ready.ensures.posted ∙ c.self.invariant.3))
-    (c.note.ensures.tokens ∙ ap (λ ms. ms ++ token_of c.answer.new.sent.items) c.make_ready.ensures.tokens)
+    (c.note.ensures.tokens ∙ ap (λ ms. ms ++ token_of c.answer_known.new.sent.items) c.make_ready.ensures.tokens)
     (c.note.ensures.places
-    ∙ ap (λ ps. ps ++ places_of c.args.site c.len-applied.result (length c.make_ready.new.self.tokens.items) c.answer.new.sent.items)
+    ∙ ap (λ ps. ps ++ places_of c.args.site c.len-applied.result (length c.make_ready.new.self.tokens.items) c.answer_known.new.sent.items)
     c.make_ready.ensures.places
-    ∙ ap (λ ms. c.self.inside.sent.places.items ++ places_of c.args.site c.len-applied.result (length ms) c.answer.new.sent.items)
+    ∙ ap (λ ms. c.self.inside.sent.places.items ++ places_of c.args.site c.len-applied.result (length ms) c.answer_known.new.sent.items)
     c.make_ready.ensures.tokens)
 
 the_step : (g : Over) (c : goal.After-push_reserved g) → shown_world c.self.inside.config
-    (slice_set c.self.inside.sites.items c.args.site c.answer.new.self)
-    (kept_messages (map state_of (slice_set c.self.inside.sites.items c.args.site c.answer.new.self)) c.note.new.self.tokens.items
+    (slice_set c.self.inside.sites.items c.args.site c.answer_known.new.self)
+    (kept_messages (map state_of (slice_set c.self.inside.sites.items c.args.site c.answer_known.new.self)) c.note.new.self.tokens.items
     c.note.new.self.places.items) (map g.R.KeepsEvent.noted c.push_reserved.new.self.items)
     ≡ next_world (the_world g c) (g.R.KeepsEvent.noted c.args.noted)
 the_step g c =
     let x : SeenSite = c.index_mut.result.now in
     let now : List Message = the_messages g c ++ sent_at x.settings (state_of x) c.args.arrived.now in
-    ap (λ ms. shown_world c.self.inside.config (slice_set c.self.inside.sites.items c.args.site c.answer.new.self) ms
+    ap (λ ms. shown_world c.self.inside.config (slice_set c.self.inside.sites.items c.args.site c.answer_known.new.self) ms
     (map g.R.KeepsEvent.noted c.push_reserved.new.self.items)) (kept g c).0
-    ∙ ap (λ i. shown_world c.self.inside.config (slice_set c.self.inside.sites.items i c.answer.new.self) now
+    ∙ ap (λ i. shown_world c.self.inside.config (slice_set c.self.inside.sites.items i c.answer_known.new.self) now
     (map g.R.KeepsEvent.noted c.push_reserved.new.self.items)) c.requires.site
     ∙ ap (λ y. shown_world c.self.inside.config (slice_set c.self.inside.sites.items (site_of (g.R.KeepsEvent.noted c.args.noted)) y) now
-    (map g.R.KeepsEvent.noted c.push_reserved.new.self.items)) (c.in_ok-answer.ensures.ok).0
+    (map g.R.KeepsEvent.noted c.push_reserved.new.self.items)) (c.in_ok-answer_known.ensures.ok).0
     ∙ ap (shown_world c.self.inside.config (slice_set c.self.inside.sites.items (site_of (g.R.KeepsEvent.noted c.args.noted))
     (next_site x c.args.arrived.now)) now)
     (ap (map g.R.KeepsEvent.noted) c.push_reserved.ensures.items
@@ -102,28 +103,28 @@ note-requires-clause-few g c =
     let x : SeenSite = c.index_mut.result.now in
     let none : c.make_ready.new.self.posted.items ≡ [] = c.make_ready.ensures.posted ∙ c.self.invariant.3 in
     let P : List Message → Type 0 = λ ms. length ms ≤ MOST_REQUESTS in
-    subst P (sym ((c.in_ok-answer.ensures.ok).2 ∙ ap (λ ms. ms ++ sent_at x.settings (state_of x) c.args.arrived.now) none))
+    subst P (sym ((c.in_ok-answer_known.ensures.ok).2 ∙ ap (λ ms. ms ++ sent_at x.settings (state_of x) c.args.arrived.now) none))
     (sent_few x.settings (state_of x) c.args.arrived.now)
 
 pub invariant_of-self-2 : goal.invariant_of-self-2
 invariant_of-self-2 g c = (
   subst IsRunOf (sym (the_step g c)) (next_run (the_world g c) (g.R.KeepsEvent.noted c.args.noted) c.self.invariant.0 c.requires.command),
   (let P : SeenSite → Type 0 = λ x. AreOf c.self.inside.config (slice_set c.self.inside.sites.items c.args.site x) in
-      subst P (sym (c.in_ok-answer.ensures.ok).0) (settings_kept c.self.inside.config c.self.inside.sites.items c.args.site
+      subst P (sym (c.in_ok-answer_known.ensures.ok).0) (settings_kept c.self.inside.config c.self.inside.sites.items c.args.site
       c.index_mut.result.now c.args.arrived.now (taken g c).settings c.self.invariant.1)),
   (kept g c).1,
   c.note.ensures.posted,
   c.note.ensures.ready,
   c.self.invariant.5,
   (let room : length c.self.inside.sites.items ≤ vec_capacity c.self.inside.reports = c.self.invariant.6 in
-      let same : length (slice_set c.self.inside.sites.items c.args.site c.answer.new.self) ≡ length c.self.inside.sites.items =
-      length-set c.self.inside.sites.items c.args.site c.answer.new.self in
+      let same : length (slice_set c.self.inside.sites.items c.args.site c.answer_known.new.self) ≡ length c.self.inside.sites.items =
+      length-set c.self.inside.sites.items c.args.site c.answer_known.new.self in
       omega arith),
 )
 
 pub returns-clause-ok : goal.returns-clause-ok
 returns-clause-ok g c = (
-  (c.in_ok-answer.ensures.ok).1 ∙ (taken_step _ _ _ (map g.R.KeepsEvent.noted c.self.inside.recorded.items)
+  (c.in_ok-answer_known.ensures.ok).1 ∙ (taken_step _ _ _ (map g.R.KeepsEvent.noted c.self.inside.recorded.items)
       (g.R.KeepsEvent.noted c.args.noted) c.args.arrived.now c.index_mut.result.now (taken g c)).0
       ∙ ap (λ w. next_reply w (g.R.KeepsEvent.noted c.args.noted)) c.self.view_is,
   the_step g c ∙ ap (λ w. next_world w (g.R.KeepsEvent.noted c.args.noted)) c.self.view_is,
@@ -144,11 +145,19 @@ index-requires g c = there g (goal.at.index-requires g c).After-self
 pub index_mut-requires : goal.index_mut-requires
 index_mut-requires g c = there g (goal.at.index_mut-requires g c).After-self
 
-pub answer-requires : goal.answer-requires
-answer-requires g c =
+pub answer_known-requires-clause-room : goal.answer_known-requires-clause-room
+answer_known-requires-clause-room g c =
     let x : SeenSite = c.index_mut.result.now in
-    let here = taken_here g (goal.at.answer-requires g c).After-index_mut in
+    let here = taken_here g (goal.at.answer_known-requires-clause-room g c).After-index_mut in
     ap (λ z. is_full z (state_of x)) here.settings ∙ here.room
+
+pub answer_known-requires-clause-known : goal.answer_known-requires-clause-known
+answer_known-requires-clause-known g c =
+    let here = taken_here g (goal.at.answer_known-requires-clause-known g c).After-index_mut in
+    let P : SeenWorld → Type 0 = λ w. IsSomeAnd (slice_get w.world.sites c.args.site) (λ t. IsAsKnown w.settings t.ops c.args.known
+    c.args.arrived.now) in
+    known_at c.self.inside.config c.self.inside.sites.items c.args.site c.args.known c.args.arrived.now c.index_mut.result.now
+    here.settings (ap (slice_get c.self.inside.sites.items) c.requires.site ∙ here.at) (subst P (sym c.self.view_is) c.requires.known)
 
 -- ---- memory
 
@@ -213,22 +222,22 @@ invariant_of-self-in_err-make_ready g c = (
 )
 
 -- at an error the site is as it was
-sites_back : (g : Over) (c : goal.After-drop-noted-in_err-answer g) →
-    slice_set c.self.inside.sites.items c.args.site c.answer.new.self ≡ c.self.inside.sites.items
+sites_back : (g : Over) (c : goal.After-drop-noted-in_err-answer_known g) →
+    slice_set c.self.inside.sites.items c.args.site c.answer_known.new.self ≡ c.self.inside.sites.items
 sites_back g c =
     let xs : List SeenSite = c.self.inside.sites.items in
     let x : SeenSite = c.index_mut.result.now in
-    ap (slice_set xs c.args.site) ((c.in_err-answer.ensures.err).0 ∙ c.index_mut.ensures.value) ∙ set-get_or xs c.args.site x
+    ap (slice_set xs c.args.site) ((c.in_err-answer_known.ensures.err).0 ∙ c.index_mut.ensures.value) ∙ set-get_or xs c.args.site x
 
-pub invariant_of-self-in_err-answer : goal.invariant_of-self-in_err-answer
-invariant_of-self-in_err-answer g c =
+pub invariant_of-self-in_err-answer_known : goal.invariant_of-self-in_err-answer_known
+invariant_of-self-in_err-answer_known g c =
     let back = sites_back g c in (
       subst IsRunOf (sym (same_parts _ _ _ _ _ _ _ _ _ back c.make_ready.ensures.tokens c.make_ready.ensures.places
           (ap (map g.R.KeepsEvent.noted) c.in_ok-reserve_one.ensures.items)))
           c.self.invariant.0,
       subst (AreOf c.self.inside.config) (sym back) c.self.invariant.1,
       same_kept _ _ _ _ _ _ back c.make_ready.ensures.tokens c.make_ready.ensures.places c.self.invariant.2,
-      (c.in_err-answer.ensures.err).1 ∙ c.make_ready.ensures.posted ∙ c.self.invariant.3,
+      (c.in_err-answer_known.ensures.err).1 ∙ c.make_ready.ensures.posted ∙ c.self.invariant.3,
       (λ known. let h = c.make_ready.ensures.ready known in record { places = h.places; tokens = h.tokens; numbered = h.numbered }),
       c.self.invariant.5,
       (let P : List SeenSite → Type 0 = λ xs. length xs ≤ vec_capacity c.self.inside.reports in subst P (sym back) c.self.invariant.6),
@@ -250,11 +259,11 @@ returns-in_err-make_ready-clause-err g c =
     (ap (map g.R.KeepsEvent.noted) c.in_ok-reserve_one.ensures.items)
     ∙ c.self.view_is)
 
-pub returns-in_err-answer-clause-err : goal.returns-in_err-answer-clause-err
-returns-in_err-answer-clause-err g c =
-    on_error c.from_residual-in_err-answer.result _
+pub returns-in_err-answer_known-clause-err : goal.returns-in_err-answer_known-clause-err
+returns-in_err-answer_known-clause-err g c =
+    on_error c.from_residual-in_err-answer_known.result _
     (same_parts c.self.inside.config _ _ _ _ _ _ _ _
-    (sites_back g (goal.at.returns-in_err-answer-clause-err g c).After-drop-noted-in_err-answer)
+    (sites_back g (goal.at.returns-in_err-answer_known-clause-err g c).After-drop-noted-in_err-answer_known)
     c.make_ready.ensures.tokens c.make_ready.ensures.places
     (ap (map g.R.KeepsEvent.noted) c.in_ok-reserve_one.ensures.items)
     ∙ c.self.view_is)
