@@ -7,6 +7,10 @@ use rb_kit::Erased;
 use rb_site::Entry;
 use std::alloc::{AllocError, Global};
 
+/// Memory for this number of steps is taken at first: 128 kilobytes, a mapping of its own, which grows without a copy
+/// and of which only what is used takes memory.
+const FIRST_STEPS: usize = 16_500;
+
 /// The entries of a site's history, of which no memory is kept but what each that the site records does with messages.
 #[derive(Drop)]
 pub struct Notes {
@@ -16,15 +20,17 @@ pub struct Notes {
 }
 
 impl Notes {
-    /// Those of no entry.
-    pub fn new(alloc: Global) -> Notes
-        ensures entries { result.entries.items ≡ [] }
-        ensures steps { result.steps.items ≡ [] }
+    /// Those of no entry. `Err` means out of memory.
+    pub fn new(alloc: Global) -> Result<Notes, AllocError>
+        ensures entries { IfOk result (λ notes. notes.entries.items ≡ []) }
+        ensures steps { IfOk result (λ notes. notes.steps.items ≡ []) }
     {
-        Notes {
+        let mut steps = Vec::new(alloc);
+        steps.reserve(FIRST_STEPS)?;
+        Ok(Notes {
             entries: Vec::new(alloc),
-            steps: Vec::new(alloc),
-        }
+            steps,
+        })
     }
 
     /// Whether the site records all entries.
@@ -66,7 +72,8 @@ pub fn no_notes(alloc: Global, sites: u8) -> Result<Vec<Notes>, AllocError>
     let mut notes = Vec::new(alloc);
     notes.reserve(sites as usize)?;
     for _site in 0..sites {
-        notes.push_reserved(Notes::new(alloc));
+        let none = Notes::new(alloc)?;
+        notes.push_reserved(none);
     }
     Ok(notes)
 }

@@ -9,6 +9,10 @@ use rb_scratch::MOST_REQUESTS;
 use rb_site::Message;
 use std::alloc::{AllocError, Global};
 
+/// Memory for this number of messages is taken at first: 128 kilobytes, a mapping of its own, which grows without a copy
+/// and of which only what is used takes memory.
+const FIRST_MESSAGES: usize = 1200;
+
 /// The messages that the entries read so far sent or received, so that a receipt needn't keep the one that was sent.
 #[derive(Drop)]
 pub struct Store {
@@ -27,10 +31,9 @@ impl Store {
         for _ in 0..MOST_SITES + 2 {
             rows.push(Vec::new(alloc))?;
         }
-        Ok(Store {
-            messages: Vec::new(alloc),
-            rows,
-        })
+        let mut messages = Vec::new(alloc);
+        messages.reserve(FIRST_MESSAGES)?;
+        Ok(Store { messages, rows })
     }
 
     /// The place of the next message. `Err` means that the places of those of one more entry might not fit a `u32`.

@@ -15,13 +15,16 @@ loop-site-init c = (
   omega (arith, c.in_ok-reserve.ensures.ok),
 )
 
+pub returns-in_err-none : goal.returns-in_err-none
+returns-in_err-none c = no_value c.from_residual-in_err-none.result _ c.from_residual-in_err-none.ensures.0
+
 pub push_reserved-requires : goal.push_reserved-requires
 push_reserved-requires c = omega (arith, c.loop-site.invariant.1, c.loop-site.invariant.2)
 
 pub loop-site-preserved : goal.loop-site-preserved
 loop-site-preserved c = (
-  subst HaveNoEntries (sym c.push_reserved.ensures.items) (Kept.no_entries_more c.loop-site.notes.items c.new.result
-      c.loop-site.invariant.0 c.new.ensures.entries c.new.ensures.steps),
+  subst HaveNoEntries (sym c.push_reserved.ensures.items) (Kept.no_entries_more c.loop-site.notes.items c.in_ok-none.none
+      c.loop-site.invariant.0 c.in_ok-none.ensures.entries c.in_ok-none.ensures.steps),
   c.push_reserved.ensures.len ∙ ap (λ n. n + 1) c.loop-site.invariant.1,
   subst (λ n. c.args.sites ≤ n) (sym c.push_reserved.ensures.capacity) c.loop-site.invariant.2,
 )
