@@ -23,6 +23,10 @@ pub enum Kept {
     Token { place: u32 },
 }
 
+/// Memory for this number of messages is taken at first: 128 kilobytes, a mapping of its own, which grows without a copy
+/// and of which only what is used takes memory.
+const FIRST_PLACES: usize = 16_500;
+
 /// The messages that were sent, in order, by where each is kept.
 #[derive(Drop)]
 pub struct Sent {
@@ -79,7 +83,7 @@ impl Sent {
         if self.tokens.len() > u32::MAX as usize {
             return Err(AllocError);
         }
-        self.places.reserve(MOST_REQUESTS)?;
+        self.places.reserve(more_places(self.places.capacity()))?;
         self.tokens.reserve(1)?;
         self.ready = true;
         Ok(())
@@ -173,5 +177,16 @@ pub fn kept_message<E: KeepsEntry>(
             Some(Message::Shadow(*shadow))
         }
         Kept::Token { place } => Some(Message::Token(*tokens.get(place as usize)?)),
+    }
+}
+
+/// For how many more messages memory is taken, where there is memory for this many in all.
+fn more_places(capacity: usize) -> usize
+    ensures { MOST_REQUESTS ≤ result }
+{
+    if capacity == 0 {
+        FIRST_PLACES
+    } else {
+        MOST_REQUESTS
     }
 }
