@@ -12,7 +12,7 @@ loop-position-init c =
     let last = c.last_on-position.ensures.last in
     record {
       on = last.on;
-      rows = Steps.rows_start _ _ _ _ _ last c.new-rows.ensures.items;
+      rows = Steps.rows_start _ _ _ _ _ last c.in_ok-rows.ensures.items;
       sum = c.requires.sum ∙ Steps.bal_start _ _ _ _ c.config-valid.ensures.valid last;
       bounded = omega (arith, c.requires.bounded, c.last_on-position.ensures.within);
     }
