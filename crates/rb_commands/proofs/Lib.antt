@@ -10,3 +10,5 @@ mod Blanks
 mod Batches
 mod Versions
 mod Configured
+mod Digits
+mod Put

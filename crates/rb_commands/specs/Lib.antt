@@ -1,5 +1,6 @@
 pub mod Values
 pub mod Statements
+pub mod Placed
 pub mod Replies
 pub mod Lines
 pub mod Requests

@@ -1,5 +1,5 @@
 -- The line of a reply: a JSON object with no space, its keys in byte order, and a line feed.
-use Rattle.std.specs.Prelude.{ℕ, List, ◌++◌, codes}
+use Rattle.std.specs.Prelude.{ℕ, List, ◌++◌, codes, ⊤}
 use Rattle.serde_json.specs.Data.{Data, string, object, member, no_members}
 use Rattle.serde_json.specs.Written.{compact_text}
 use Rattle.rb_money.specs.Refusals.{number_of_refusal}
@@ -68,3 +68,9 @@ reply_json (Refused why) = refusal_json why
 -- the line of a reply
 abbrev pub line : Reply → List ℕ
 line r = compact_text (reply_json r) ++ codes "\n"
+
+-- a reply whose line is short: neither names nor a statement
+abbrev pub HasShortLine : Reply → Type 0
+HasShortLine (Names _) = ⊥
+HasShortLine (Statement _) = ⊥
+HasShortLine _ = ⊤

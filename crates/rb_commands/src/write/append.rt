@@ -1,12 +1,12 @@
 //! Pieces of a line, added at the end of bytes. After an `Err`, which means out of memory, a prefix of a piece may
 //! have been added.
-ghost use Rattle.std.specs.Prelude.{◌≤◌, ◌++◌, codes, decimal, length};
+ghost use Rattle.std.specs.Prelude.{◌≡◌, ◌+◌, ◌++◌, decimal, length, take, OnOk, OnErr};
 ghost use Rattle.json.specs.Print.{quoted};
 ghost use Rattle.rb_shadow.specs.NameText.{name_text};
 ghost use Rattle.rb_commands.specs.Adds.{Adds};
-ghost use Rattle.rb_commands.specs.declared.write.append.TheConstants.{SHORT};
 
-use crate::write::piece::Piece;
+use crate::write::line::{LINE, SHORT};
+use crate::write::put::{put_name, put_number, put_text};
 use itoa::Buffer;
 use rb_shadow::OpName;
 use std::alloc::AllocError;
@@ -34,8 +34,15 @@ pub fn append_three(
     append(out, third)
 }
 
-/// The longest text that is put into one piece with what it is beside. A longer one is added by itself.
-const SHORT: usize = 40;
+/// Makes space behind what is there, by as many bytes as are given. What they are doesn't matter.
+#[inline(always)]
+pub(crate) fn make_space(out: &mut Vec<u8>, blank: &[u8]) -> Result<(), AllocError>
+    ensures ok { OnOk result ((take (length out.old.items) out.new.items ≡ out.old.items)
+        × (length out.new.items ≡ length out.old.items + length blank.now)) }
+    ensures err { OnErr result (out.new.items ≡ out.old.items) }
+{
+    out.extend_from_slice(blank)
+}
 
 /// A number between two texts.
 #[inline(always)]
@@ -45,60 +52,25 @@ pub fn append_number(out: &mut Vec<u8>, front: &str, n: u64, back: &str) -> Resu
     if front.len() > SHORT || back.len() > SHORT {
         return append_three(out, front, Buffer::new().format(n), back);
     }
-    let mut piece = Piece::new();
-    piece.text(back);
-    piece.number(n);
-    piece.text(front);
-    piece.append_to(out)
-}
-
-/// A number between two short texts, as a line.
-#[inline(always)]
-#[tactic(auto, using(crate::proofs::Public::Appended::before_end))]
-pub(crate) fn append_number_line(
-    out: &mut Vec<u8>,
-    front: &str,
-    n: u64,
-    back: &str,
-) -> Result<(), AllocError>
-    requires front { length front.now ≤ SHORT }
-    requires back { length back.now ≤ SHORT }
-    ensures { Adds result out.old.items out.new.items ((front.now ++ (decimal n ++ back.now)) ++ codes "\n") }
-{
-    let mut piece = Piece::new();
-    piece.text("\n");
-    piece.text(back);
-    piece.number(n);
-    piece.text(front);
-    piece.append_to(out)
-}
-
-/// An operation's name in quotes, behind a short text and before a brace, as a line.
-#[inline(always)]
-#[tactic(auto, using(crate::proofs::Public::Appended::before_end))]
-pub(crate) fn append_named_line(
-    out: &mut Vec<u8>,
-    front: &str,
-    name: OpName,
-) -> Result<(), AllocError>
-    requires { length front.now ≤ SHORT }
-    ensures { Adds result out.old.items out.new.items
-        ((front.now ++ (quoted (name_text name) ++ codes "}")) ++ codes "\n") }
-{
-    let mut piece = Piece::new();
-    piece.text("}\n");
-    piece.name(name);
-    piece.text(front);
-    piece.append_to(out)
+    let at = out.len();
+    make_space(out, &[0; LINE])?;
+    let space = out.as_mut_slice();
+    let at = put_text(space, at, front);
+    let at = put_number(space, at, n);
+    let at = put_text(space, at, back);
+    out.truncate(at);
+    Ok(())
 }
 
 /// An operation's name in quotes.
 fn append_name(out: &mut Vec<u8>, name: OpName) -> Result<(), AllocError>
     ensures { Adds result out.old.items out.new.items (quoted (name_text name)) }
 {
-    let mut piece = Piece::new();
-    piece.name(name);
-    piece.append_to(out)
+    let at = out.len();
+    make_space(out, &[0; LINE])?;
+    let at = put_name(out.as_mut_slice(), at, name);
+    out.truncate(at);
+    Ok(())
 }
 
 /// An operation's name in quotes, between two texts.
@@ -116,9 +88,12 @@ pub fn append_named(
         append_name(out, name)?;
         return append(out, back);
     }
-    let mut piece = Piece::new();
-    piece.text(back);
-    piece.name(name);
-    piece.text(front);
-    piece.append_to(out)
+    let at = out.len();
+    make_space(out, &[0; LINE])?;
+    let space = out.as_mut_slice();
+    let at = put_text(space, at, front);
+    let at = put_name(space, at, name);
+    let at = put_text(space, at, back);
+    out.truncate(at);
+    Ok(())
 }

@@ -1,7 +1,8 @@
 //! What is written at the end of bytes.
 
 pub mod append;
-mod piece;
+mod line;
+mod put;
 mod refusal;
 pub(crate) mod reply;
 mod statement;

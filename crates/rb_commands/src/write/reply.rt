@@ -1,32 +1,21 @@
 //! Lines of replies.
-ghost use Rattle.std.specs.Prelude.{◌≡◌, ◌++◌, codes, IfOk, OnOk, OnErr, string_bytes};
+ghost use Rattle.std.specs.Prelude.{◌≡◌, ◌≤◌, ◌+◌, ◌++◌, codes, length, take, IfOk, IsOk, OnOk, OnErr, string_bytes};
 ghost use Rattle.serde_json.specs.Written.{compact_text};
 ghost use Rattle.rb_commands.specs.Adds.{Adds};
-ghost use Rattle.rb_commands.specs.Replies.{line, reply_json, made_json};
+ghost use Rattle.rb_commands.specs.Placed.{Placed};
+ghost use Rattle.rb_commands.specs.Replies.{HasShortLine, line, reply_json};
+ghost use Rattle.rb_commands.specs.declared.write.line.TheConstants.{LINE};
 ghost use Rattle.rb_commands.specs.Statements.{statement_json};
 ghost use Rattle.rb_commands.specs.Values.{name_json, list_json, one_json};
 
-use crate::write::append::{append, append_named, append_named_line, append_number_line};
-use crate::write::piece::Piece;
-use crate::write::refusal::append_refusal;
+use crate::write::append::{append, append_named, make_space};
+use crate::write::line::{LINE, put_made, put_named_line, put_number_line};
+use crate::write::refusal::put_refusal;
 use crate::write::statement::append_statement;
-use rb_shadow::{Label, OpName};
+use rb_shadow::OpName;
 use rb_site::Reply;
 use rb_statements::Statement;
 use std::alloc::{AllocError, Global};
-
-/// The line of an operation that was made: its kind and its name.
-fn append_made(out: &mut Vec<u8>, name: OpName, kind: Label) -> Result<(), AllocError>
-    ensures { Adds result out.old.items out.new.items (compact_text (made_json name kind) ++ codes "\n") }
-{
-    let mut piece = Piece::new();
-    piece.text("}\n");
-    piece.name(name);
-    piece.text("\",\"name\":");
-    piece.text(kind.word());
-    piece.text("{\"kind\":\"");
-    piece.append_to(out)
-}
 
 /// A name, behind a text.
 fn append_listed(out: &mut Vec<u8>, comma: &str, name: OpName) -> Result<(), AllocError>
@@ -49,39 +38,81 @@ pub fn append_names(out: &mut Vec<u8>, names: &[OpName]) -> Result<(), AllocErro
     append(out, "]}")
 }
 
+/// Ends a line that was added behind the first `before` bytes. Where there was no memory, it is cut off.
+fn end_line(
+    out: &mut Vec<u8>,
+    before: usize,
+    added: Result<(), AllocError>,
+) -> Result<(), AllocError>
+    requires { before ≤ length out.old.items }
+    ensures ok { OnOk result (IsOk added × (out.new.items ≡ out.old.items ++ codes "\n")) }
+    ensures err { OnErr result (out.new.items ≡ take before out.old.items) }
+{
+    if added.is_ok() && append(out, "\n").is_ok() {
+        return Ok(());
+    }
+    out.truncate(before);
+    Err(AllocError)
+}
+
+/// The line of a list of names. An `Err` adds nothing.
+#[inline(never)]
 fn append_names_line(out: &mut Vec<u8>, names: &[OpName]) -> Result<(), AllocError>
-    ensures { Adds result out.old.items out.new.items
-        (compact_text (one_json (codes "names") (list_json name_json names.now)) ++ codes "\n") }
+    ensures ok { OnOk result (out.new.items
+        ≡ out.old.items ++ (compact_text (one_json (codes "names") (list_json name_json names.now)) ++ codes "\n")) }
+    ensures err { OnErr result (out.new.items ≡ out.old.items) }
 {
-    append_names(out, names)?;
-    append(out, "\n")
+    let before = out.len();
+    let added = append_names(out, names);
+    end_line(out, before, added)
 }
 
+/// The line of a statement. An `Err` adds nothing.
+#[inline(never)]
 fn append_statement_line(out: &mut Vec<u8>, shown: &Statement) -> Result<(), AllocError>
-    ensures { Adds result out.old.items out.new.items (compact_text (statement_json shown.now) ++ codes "\n") }
+    ensures ok { OnOk result (out.new.items
+        ≡ out.old.items ++ (compact_text (statement_json shown.now) ++ codes "\n")) }
+    ensures err { OnErr result (out.new.items ≡ out.old.items) }
 {
-    append_statement(out, shown)?;
-    append(out, "\n")
+    let before = out.len();
+    let added = append_statement(out, shown);
+    end_line(out, before, added)
 }
 
+/// Puts a reply's line, which is a short one.
 #[inline(always)]
 #[tactic(auto, unfolding(json::specs::Print::escape_byte))]
-fn append_line(out: &mut Vec<u8>, reply: &Reply) -> Result<(), AllocError>
-    ensures { Adds result out.old.items out.new.items (line reply.now) }
+fn put_line(space: &mut [u8], at: usize, reply: &Reply) -> usize
+    requires short { HasShortLine reply.now }
+    requires space { at + LINE ≤ length space.old }
+    ensures { Placed space.old space.new at (line reply.now) result }
 {
     match reply {
-        Reply::Made { name, kind } => append_made(out, *name, *kind),
-        Reply::Names(names) => append_names_line(out, names.as_slice()),
-        Reply::Held(name) => append_named_line(out, "{\"held\":", *name),
-        Reply::Already(name) => append_named_line(out, "{\"already\":", *name),
-        Reply::Taken(epoch) => append_number_line(out, "{\"taken\":", *epoch as u64, "}"),
-        Reply::Stale(epoch) => append_number_line(out, "{\"stale\":", *epoch as u64, "}"),
-        Reply::Applied(name) => append_named_line(out, "{\"applied\":", *name),
-        Reply::Passed(epoch) => append_number_line(out, "{\"passed\":", *epoch as u64, "}"),
-        Reply::Balance(cents) => append_number_line(out, "{\"balance\":", *cents, "}"),
-        Reply::Statement(shown) => append_statement_line(out, shown),
-        Reply::Refused(refusal) => append_refusal(out, *refusal),
+        Reply::Made { name, kind } => put_made(space, at, *name, *kind),
+        Reply::Held(name) => put_named_line(space, at, "{\"held\":", *name),
+        Reply::Already(name) => put_named_line(space, at, "{\"already\":", *name),
+        Reply::Taken(epoch) => put_number_line(space, at, "{\"taken\":", *epoch as u64, "}"),
+        Reply::Stale(epoch) => put_number_line(space, at, "{\"stale\":", *epoch as u64, "}"),
+        Reply::Applied(name) => put_named_line(space, at, "{\"applied\":", *name),
+        Reply::Passed(epoch) => put_number_line(space, at, "{\"passed\":", *epoch as u64, "}"),
+        Reply::Balance(cents) => put_number_line(space, at, "{\"balance\":", *cents, "}"),
+        Reply::Refused(refusal) => put_refusal(space, at, refusal),
+        Reply::Names(_) | Reply::Statement(_) => unreachable!(),
     }
+}
+
+/// Adds a reply's line, which is a short one.
+#[inline(always)]
+fn append_short(out: &mut Vec<u8>, reply: &Reply) -> Result<(), AllocError>
+    requires { HasShortLine reply.now }
+    ensures ok { OnOk result (out.new.items ≡ out.old.items ++ line reply.now) }
+    ensures err { OnErr result (out.new.items ≡ out.old.items) }
+{
+    let at = out.len();
+    make_space(out, &[0; LINE])?;
+    let end = put_line(out.as_mut_slice(), at, reply);
+    out.truncate(end);
+    Ok(())
 }
 
 /// Adds the line of a reply, with its line feed. An `Err` means out of memory, and adds nothing.
@@ -89,13 +120,10 @@ pub fn append_reply(out: &mut Vec<u8>, reply: &Reply) -> Result<(), AllocError>
     ensures ok { OnOk result (out.new.items ≡ out.old.items ++ line reply.now) }
     ensures err { OnErr result (out.new.items ≡ out.old.items) }
 {
-    let before = out.len();
-    match append_line(out, reply) {
-        Ok(()) => Ok(()),
-        Err(refused) => {
-            out.truncate(before);
-            Err(refused)
-        }
+    match reply {
+        Reply::Names(names) => append_names_line(out, names.as_slice()),
+        Reply::Statement(shown) => append_statement_line(out, shown),
+        _ => append_short(out, reply),
     }
 }
 

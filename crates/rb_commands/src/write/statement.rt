@@ -1,5 +1,5 @@
 //! Statements, as they are written.
-ghost use Rattle.std.specs.Prelude.{◌≡◌, ◌≤◌, ◌++◌, [], codes, decimal, false, length, map};
+ghost use Rattle.std.specs.Prelude.{◌≡◌, ◌≤◌, ◌+◌, ◌++◌, [], cond, codes, decimal, false, length, map};
 ghost use Rattle.std.specs.Fmt.{signed_decimal};
 ghost use Rattle.serde_json.specs.Written.{compact_text, items_text};
 ghost use Rattle.serde_json.specs.View.{items_of};
@@ -7,72 +7,94 @@ ghost use Rattle.json.specs.Print.{quoted, token_text};
 ghost use Rattle.json.specs.Token.{boolean};
 ghost use Rattle.rb_shadow.specs.NameText.{name_text};
 ghost use Rattle.rb_commands.specs.Adds.{Adds};
+ghost use Rattle.rb_commands.specs.Placed.{Placed};
 ghost use Rattle.rb_commands.specs.Statements.{row_json, statement_json};
+ghost use Rattle.rb_commands.specs.declared.write.statement.TheConstants.{ROW};
 ghost use Rattle.rb_shadow.specs.Labels.{word_of};
 
-use crate::write::append::{append, append_number};
-use crate::write::piece::Piece;
+use crate::write::append::{append, append_number, make_space};
+use crate::write::put::{put_if, put_integer, put_name, put_number, put_small, put_text, put_word};
 use rb_statements::{Row, Statement};
 use std::alloc::AllocError;
 
-/// Whether a row is cancelled, between commas.
+/// The most bytes of a row and the comma before it.
+const ROW: usize = 96;
+
+/// Puts whether a row is cancelled, between commas.
 #[inline(always)]
-fn cancelled_word(cancelled: bool) -> &'static str
-    ensures word { result.now ≡ codes "," ++ (token_text (boolean cancelled) ++ codes ",") }
-    ensures short { length result.now ≤ 7 }
+fn put_cancelled(space: &mut [u8], at: usize, cancelled: bool) -> usize
+    requires { at + 7 ≤ length space.old }
+    ensures text { Placed space.old space.new at (codes "," ++ (token_text (boolean cancelled) ++ codes ",")) result }
+    ensures short { result ≤ at + 7 }
 {
-    if cancelled { ",true," } else { ",false," }
+    if cancelled {
+        put_text(space, at, ",true,")
+    } else {
+        put_text(space, at, ",false,")
+    }
 }
 
-/// What a row moved, whether it is cancelled, and the balance after it.
+/// Puts the first parts of a row: its position, name and kind.
 #[inline(always)]
-fn put_row_back(piece: &mut Piece, row: Row)
-    requires { length piece.old ≡ 0 }
-    ensures text { piece.new ≡ signed_decimal row.moved ++ (codes "," ++ (token_text (boolean row.cancelled)
-        ++ (codes "," ++ (decimal row.balance ++ codes "]")))) }
-    ensures short { length piece.new ≤ 49 }
+fn put_row_front(space: &mut [u8], at: usize, row: &Row) -> usize
+    requires { at + 41 ≤ length space.old }
+    ensures text { Placed space.old space.new at (codes "[" ++ (decimal row.now.position ++ (codes ","
+        ++ (quoted (name_text row.now.name) ++ (codes ",\"" ++ (word_of row.now.kind ++ codes "\",")))))) result }
+    ensures short { result ≤ at + 41 }
 {
-    piece.text("]");
-    piece.number(row.balance);
-    piece.text(cancelled_word(row.cancelled));
-    piece.integer(row.moved);
+    let at = put_text(space, at, "[");
+    let at = put_small(space, at, row.position);
+    let at = put_text(space, at, ",");
+    let at = put_name(space, at, row.name);
+    let at = put_text(space, at, ",\"");
+    let at = put_word(space, at, row.kind);
+    put_text(space, at, "\",")
 }
 
-/// The first parts of a row: its position, name and kind.
+/// Puts what a row moved, whether it is cancelled, and the balance after it.
 #[inline(always)]
-fn put_row_front(piece: &mut Piece, row: Row)
-    requires { length piece.old ≤ 49 }
-    ensures { piece.new ≡ codes "[" ++ (decimal row.position ++ (codes "," ++ (quoted (name_text row.name)
-        ++ (codes ",\"" ++ (word_of row.kind ++ (codes "\"," ++ piece.old)))))) }
+fn put_row_back(space: &mut [u8], at: usize, row: &Row) -> usize
+    requires { at + 49 ≤ length space.old }
+    ensures { Placed space.old space.new at (signed_decimal row.now.moved ++ ((codes "," ++ (token_text
+        (boolean row.now.cancelled) ++ codes ",")) ++ (decimal row.now.balance ++ codes "]"))) result }
 {
-    piece.text("\",");
-    piece.text(row.kind.word());
-    piece.text(",\"");
-    piece.name(row.name);
-    piece.text(",");
-    piece.number(row.position as u64);
-    piece.text("[");
+    let at = put_integer(space, at, row.moved);
+    let at = put_cancelled(space, at, row.cancelled);
+    let at = put_number(space, at, row.balance);
+    put_text(space, at, "]")
 }
 
-/// A row, behind a text.
-fn append_row(out: &mut Vec<u8>, comma: &str, row: Row) -> Result<(), AllocError>
-    ensures { Adds result out.old.items out.new.items (comma.now ++ compact_text (row_json row)) }
+/// Puts a row, behind a comma where it is wanted.
+#[inline(always)]
+fn put_row(space: &mut [u8], at: usize, comma: bool, row: &Row) -> usize
+    requires { at + ROW ≤ length space.old }
+    ensures { Placed space.old space.new at (cond comma (codes ",") [] ++ compact_text (row_json row.now)) result }
 {
-    append(out, comma)?;
-    let mut piece = Piece::new();
-    put_row_back(&mut piece, row);
-    put_row_front(&mut piece, row);
-    piece.append_to(out)
+    let at = put_if(space, at, b',', comma);
+    let at = put_row_front(space, at, row);
+    put_row_back(space, at, row)
+}
+
+/// A row, behind a comma where it is wanted.
+#[inline(always)]
+fn append_row(out: &mut Vec<u8>, comma: bool, row: &Row) -> Result<(), AllocError>
+    ensures { Adds result out.old.items out.new.items (cond comma (codes ",") [] ++ compact_text (row_json row.now)) }
+{
+    let at = out.len();
+    make_space(out, &[0; ROW])?;
+    let end = put_row(out.as_mut_slice(), at, comma, row);
+    out.truncate(end);
+    Ok(())
 }
 
 /// The rows of a list, with its closing bracket.
 fn append_rows(out: &mut Vec<u8>, rows: &[Row]) -> Result<(), AllocError>
     ensures { Adds result out.old.items out.new.items (items_text false (items_of (map row_json rows.now))) }
 {
-    let mut comma = "";
+    let mut comma = false;
     for row in rows {
-        append_row(out, comma, *row)?;
-        comma = ",";
+        append_row(out, comma, row)?;
+        comma = true;
     }
     append(out, "]")
 }

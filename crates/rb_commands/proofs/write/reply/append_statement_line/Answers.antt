@@ -1,13 +1,11 @@
-use Rattle.std.proofs.Common.{codes, refl}
 use Rattle.serde_json.specs.Written.{compact_text}
 use Rattle.rb_commands.specs.Statements.{statement_json}
-use Rattle.rb_commands.proofs.Public.Appended.{then}
+use Rattle.rb_commands.proofs.Public.Appended.{ended}
 use Rattle.rb_commands.proofs.write.reply.append_statement_line.Goals as goal
 
-pub returns : goal.returns
-returns c =
-    let mid = c.append_statement.new.out.items in
-    let value = compact_text (statement_json c.args.shown.now) in
-    then c.append.result c.args.out.now.items mid c.append.new.out.items value
-    (codes "\n") _ c.in_ok-append_statement.ensures c.append.ensures
-    refl
+pub returns-clause-ok : goal.returns-clause-ok
+returns-clause-ok c =
+    let text = compact_text (statement_json c.args.shown.now) in
+    let mid = c.append_statement-added.new.out.items in
+    ended c.append_statement-added.result c.end_line.result c.args.out.now.items mid c.end_line.new.out.items text
+    c.append_statement-added.ensures c.end_line.ensures.ok

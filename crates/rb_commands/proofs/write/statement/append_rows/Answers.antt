@@ -1,4 +1,4 @@
-use Rattle.std.proofs.Common.{◌++◌, codes, [], add-one, drop-cons, arith, refl, rules}
+use Rattle.std.proofs.Common.{◌++◌, codes, cond, [], add-one, drop-cons, arith, refl}
 use Rattle.std.proofs.Math.Seq.{take-length}
 use Rattle.std.specs.Prelude.{map}
 use Rattle.rb_commands.specs.Statements.{row_json}
@@ -7,7 +7,7 @@ use Rattle.rb_commands.proofs.Public.Listed.{rest_text, whole_text, item_written
 use Rattle.rb_commands.proofs.write.statement.append_rows.Goals as goal
 
 pub loop-row-init : goal.loop-row-init
-loop-row-init c = record { utf8 = ([], (refl, refl)); front = take-length c.args.out.now.items; written = refl }
+loop-row-init c = record { front = take-length c.args.out.now.items; written = refl }
 
 pub loop-row-preserved : goal.loop-row-preserved
 loop-row-preserved c =
@@ -16,9 +16,8 @@ loop-row-preserved c =
     let rows = c.args.rows.now in
     let i = c.loop-row.row-index in
     record {
-      utf8 = search rules;
       front = front_of_front c.args.out.now.items out new c.loop-row.invariant.front (front_of_sum out new _ c.in_ok-append_row.ensures);
-      written = item_written row_json out new c.loop-row.comma.now _ rows i _ (rw add-one (drop-cons rows i _ (omega arith)))
+      written = item_written row_json out new (cond c.loop-row.comma (codes ",") []) _ rows i _ (rw add-one (drop-cons rows i _ (omega arith)))
           c.in_ok-append_row.ensures c.loop-row.invariant.written;
     }
 
@@ -29,7 +28,7 @@ returns c =
     let rows = c.args.rows.now in
     let list = rest_text [] (map row_json rows) in
     let total = old ++ list in
-    let all = items_written row_json out c.loop-row.comma.now total rows c.loop-row.row-index (omega arith) c.loop-row.invariant.written in
+    let all = items_written row_json out (cond c.loop-row.comma (codes ",") []) total rows c.loop-row.row-index (omega arith) c.loop-row.invariant.written in
     then c.append.result old out c.append.new.out.items list (codes "]") _ all c.append.ensures (whole_text (map row_json rows))
 
 pub returns-in_err-append_row : goal.returns-in_err-append_row

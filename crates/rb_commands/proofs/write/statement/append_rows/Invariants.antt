@@ -1,15 +1,12 @@
-use Rattle.std.proofs.Common.{◌≡◌, ◌++◌, length, take, drop, []}
+use Rattle.std.proofs.Common.{◌≡◌, ◌++◌, cond, codes, length, take, drop, []}
 use Rattle.std.specs.Prelude.{map}
-use denote.Text.{Utf8}
-use denote.Shadow.{shadow}
 use Rattle.rb_commands.specs.Statements.{row_json}
 use Rattle.rb_commands.proofs.Public.Listed.{rest_text}
 use Rattle.rb_commands.proofs.write.statement.append_rows.Given as goal
 
 abbrev pub invariant-loop-row : goal.invariant-loop-row
 invariant-loop-row l = record {
-  utf8 : shadow (Utf8 l.comma);
   front : take (length l.fn.out.items) l.out.items ≡ l.fn.out.items;
-  written : l.out.items ++ rest_text l.comma (map row_json (drop l.row-index l.rows)) ≡ l.fn.out.items
-      ++ rest_text [] (map row_json l.rows);
+  written : l.out.items ++ rest_text (cond l.comma (codes ",") []) (map row_json (drop l.row-index l.rows))
+      ≡ l.fn.out.items ++ rest_text [] (map row_json l.rows);
 }
