@@ -64,6 +64,7 @@ impl Index {
     }
 
     /// The position of what an operation of the kind cancels, or 0.
+    #[inline(always)]
     pub fn target(&self, kind: Kind) -> u32
         ensures { (us : List TheShadow) → IsIndex self.now.config us self.now →
             result ≡ position_of us (target_of kind) }
