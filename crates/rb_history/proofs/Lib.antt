@@ -36,3 +36,5 @@ mod ListBounds
 mod StatementsFit
 mod CausesFit
 mod AnswersFit
+mod Receipts
+mod Migrations

@@ -6,6 +6,8 @@ pub mod RepliesRead
 pub mod Entries
 pub mod Fits
 pub mod Beginnings
+pub mod Receipts
+pub mod Migrated
 pub mod Verdicts
 pub mod OneLine
 pub mod Messages

@@ -19,6 +19,7 @@ pub use read::event::read_event;
 pub use write::config::write_config;
 pub use write::entry::{append_line, write_line};
 pub use write::event::append_event;
+pub use write::migrated::append_migrated;
 pub use write::verdict::{order_line, stuck_line, wrong_reply_line};
 
 /// The line that is written for a configuration is read as the configuration.

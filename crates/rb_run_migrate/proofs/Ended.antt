@@ -3,10 +3,8 @@ use Rattle.std.proofs.Common.{◌≡◌, ◌≤◌, ℕ, List, ◌++◌, codes, 
 use Rattle.std.proofs.lemmas.List.{take-append-le, take_at}
 use Rattle.serde_json.specs.Written.{compact_text}
 use Rattle.rb_money.specs.Settings.{Settings, in_version_2}
-use Rattle.rb_site.specs.declared.entry.Entry.{Entry}
 use Rattle.rb_history.specs.ConfigLines.{config_json}
-use Rattle.rb_history.specs.Entries.{entry_json}
-use Rattle.rb_run_migrate.specs.Migration.{migrated_config_line, migrated_entry_line}
+use Rattle.rb_run_migrate.specs.Migration.{migrated_config_line}
 
 -- a prefix of what begins with a list is one of the list
 pub cut_back : (old new after : List ℕ) (before : ℕ) → before ≤ length old → take (length old) new ≡ old → after ≡ take before new
@@ -25,12 +23,4 @@ pub config_ended : (s t : Settings) (old mid new line : List ℕ) → t ≡ in_v
 config_ended s t old mid new line second is added ended =
     let text = compact_text (config_json (in_version_2 s)) in
     ended ∙ ap (λ l. l ++ codes "\n") (added ∙ ap (λ l. old ++ l) (is ∙ ap (λ (k : Settings). compact_text (config_json k)) second))
-    ∙ append_assoc old text (codes "\n")
-
--- an entry's line in version 2, once its line feed was added
-pub entry_ended : (s t : Settings) (site : ℕ) (x : Entry) (old mid new : List ℕ) → t ≡ in_version_2 s
-    → mid ≡ old ++ compact_text (entry_json t site x) → new ≡ mid ++ codes "\n" → new ≡ old ++ migrated_entry_line s (site, x)
-entry_ended s t site x old mid new second added ended =
-    let text = compact_text (entry_json (in_version_2 s) site x) in
-    ended ∙ ap (λ l. l ++ codes "\n") (added ∙ ap (λ (k : Settings). old ++ compact_text (entry_json k site x)) second)
     ∙ append_assoc old text (codes "\n")

@@ -9,9 +9,7 @@ ghost use Rattle.rb_run_migrate.specs.Session.{first_migration};
 
 use crate::versions::Versions;
 use rb_commands::{LineFault, read_config};
-use rb_history::read_entry;
 use rb_lines::{Responder, StreamFault, is_blank, text_on};
-use rb_site::{Entry, Event, Reply};
 use std::alloc::Global;
 
 /// The state of a migration: the configuration once there is one, the number of the next line, from 1, and the lines
@@ -61,15 +59,7 @@ fn answer_entry(
     let Some(text) = text_on(line) else {
         return Err(LineFault::Bad);
     };
-    let mut entry = Entry {
-        event: Event::Pass(0),
-        reply: Reply::Taken(0),
-    };
-    let site = read_entry(alloc, versions.read(), text, &mut entry)?;
-    match versions.append_entry(buffered, site, &entry) {
-        Ok(()) => Ok(()),
-        Err(_) => Err(LineFault::OutOfMemory),
-    }
+    versions.append_entry(alloc, text, buffered)
 }
 
 impl Session {

@@ -1,11 +1,14 @@
 //! A configuration as its line has it, and in version 2 of the format.
-ghost use Rattle.std.specs.Prelude.{◌≡◌, ◌≤◌, ◌++◌, codes, length, take, IfOk, OnErr, OnOk};
+ghost use Rattle.std.specs.Prelude.{◌≡◌, ◌≤◌, ◌++◌, ℕ, None, Some, codes, length, take, IfOk, MatchResult, OnErr, OnOk};
+ghost use Rattle.rb_site.specs.declared.entry.Entry.{Entry};
+ghost use Rattle.rb_commands.specs.declared.fault.LineFault.TheVariants.{Bad};
+ghost use Rattle.rb_history.specs.Entries.{entry_of_line};
 ghost use Rattle.rb_run_migrate.specs.Migration.{migrated_config_line, migrated_entry_line};
 
+use rb_commands::LineFault;
 use rb_commands::write::append::append;
-use rb_history::{append_line, write_config};
+use rb_history::{append_migrated, write_config};
 use rb_money::Config;
-use rb_site::Entry;
 use std::alloc::{AllocError, Global};
 use std::marker::Model;
 
@@ -54,13 +57,6 @@ impl Versions {
         Ok(Versions { read, written })
     }
 
-    /// The configuration that lines are read under.
-    pub fn read(&self) -> &Config
-        ensures { result.now ≡ self.now }
-    {
-        &self.read
-    }
-
     /// Adds the line of the configuration in version 2. An `Err` means out of memory, and adds nothing.
     #[tactic(auto, using(crate::proofs::Ended::config_ended, crate::proofs::Ended::taken_back))]
     pub fn append_config(&self, alloc: Global, out: &mut Vec<u8>) -> Result<(), AllocError>
@@ -80,15 +76,25 @@ impl Versions {
         Ok(())
     }
 
-    /// Adds the line of a site's entry in version 2. An `Err` means out of memory, and adds nothing.
-    #[tactic(auto, using(crate::proofs::Ended::entry_ended, crate::proofs::Ended::taken_back))]
-    pub fn append_entry(&self, out: &mut Vec<u8>, site: u8, entry: &Entry) -> Result<(), AllocError>
-        ensures ok { OnOk result (out.new.items ≡ out.old.items ++ migrated_entry_line self.now (site, entry.now)) }
+    /// Adds the line in version 2 of the entry that a line is. An `Err` adds nothing.
+    #[inline(always)]
+    pub fn append_entry(
+        &self,
+        alloc: Global,
+        line: &str,
+        out: &mut Vec<u8>,
+    ) -> Result<(), LineFault>
+        ensures answered { MatchResult result
+            (λ _. (x : ℕ × Entry) × (entry_of_line self.now line.now ≡ Some x)
+            × (out.new.items ≡ out.old.items ++ migrated_entry_line self.now x))
+            (λ why. why ≡ Bad → entry_of_line self.now line.now ≡ None) }
         ensures err { OnErr result (out.new.items ≡ out.old.items) }
     {
         let before = out.len();
-        append_line(out, &self.written, site, entry)?;
-        end_line(out, before)?;
-        Ok(())
+        append_migrated(alloc, &self.read, &self.written, line, out)?;
+        match end_line(out, before) {
+            Ok(()) => Ok(()),
+            Err(_) => Err(LineFault::OutOfMemory),
+        }
     }
 }

@@ -1,6 +1,8 @@
 //! Shadows of a history's line, in one pass. `None` says nothing of a text.
-ghost use Rattle.std.specs.Prelude.{IfSome};
-ghost use Rattle.rb_history.specs.Beginnings.{BeginsWithDeps, BeginsWithEvent};
+ghost use Rattle.std.specs.Prelude.{◌≡◌, ◌<◌, ◌^◌, ◌++◌, IfSome};
+ghost use Rattle.rb_history.specs.Fits.{IsKnown};
+ghost use Rattle.rb_history.specs.Beginnings.{BeginsWithEvent};
+ghost use Rattle.rb_history.specs.Receipts.{BeginsWithBack, shadow_front};
 
 use crate::fast::account::parse_account_between;
 use crate::fast::counts::parse_counts;
@@ -8,20 +10,48 @@ use crate::fast::kind::{parse_kind, parse_label};
 use crate::fast::name::parse_op_name;
 use crate::fast::number::{parse_byte_between, parse_long_between, parse_word_between};
 use rb_commands::fast::scan::parse_prefix;
-use rb_money::{Config, MOST_SITES};
-use rb_shadow::{Deps, Shadow};
+use rb_money::{Config, MOST_SITES, Place};
+use rb_shadow::{Deps, Kind, OpName, Shadow};
 use rb_site::{Event, Message};
 
-/// What a home had applied, in its place, and what follows it.
+/// What a shadow's object has behind its counts of blue operations.
+#[derive(Clone, Copy, Drop)]
+pub struct Back {
+    pub red: u32,
+    pub home: u8,
+    pub name: OpName,
+    pub kind: Kind,
+}
+
+/// The account and the amount of a shadow that comes, and what follows the bracket before its counts.
 #[inline(always)]
-fn parse_deps<'a>(config: &Config, text: &'a str, deps: &mut Deps) -> Option<&'a str>
-    ensures { IfSome result (λ rest. BeginsWithDeps config.now.version deps.new text.now rest.now) }
+pub fn parse_front<'a>(config: &Config, text: &'a str) -> Option<(Place, u64, &'a str)>
+    ensures { IfSome result (λ p. IsKnown config.now p.0 × (p.1 < 2 ^ 64)
+        × (text.now ≡ shadow_front config.now p.0 p.1 ++ p.2.now)) }
 {
-    let list = parse_prefix(text, "[")?;
-    let rest = parse_counts(config.version(), list, &mut deps.blue)?;
-    let (red, rest) = parse_word_between(rest, ",", "]")?;
-    deps.red = red;
-    Some(rest)
+    let (account, rest) = parse_account_between(config, text, "{\"shadow\":{\"account\":\"", ",")?;
+    let (amount, rest) = parse_long_between(rest, "\"amount\":", ",\"deps\":[")?;
+    Some((account, amount, rest))
+}
+
+/// What a shadow that comes has behind its counts, and the end of its event.
+#[inline(always)]
+pub fn parse_back<'a>(config: &Config, text: &'a str) -> Option<(Back, &'a str)>
+    ensures { IfSome result (λ p. BeginsWithBack config.now p.0 text.now p.1.now) }
+{
+    let (red, rest) = parse_word_between(text, ",", "]")?;
+    let (home, rest) = parse_byte_between(rest, ",\"home\":", ",\"kind\":\"")?;
+    let (label, rest) = parse_label(rest)?;
+    let (name, rest) = parse_op_name(parse_prefix(rest, ",\"name\":\"")?)?;
+    let (kind, rest) = parse_kind(config, label, rest)?;
+    let rest = parse_prefix(rest, "}")?;
+    let back = Back {
+        red,
+        home,
+        name,
+        kind,
+    };
+    Some((back, rest))
 }
 
 /// A shadow that comes, as the one member of an object. It may be any event where there is none.
@@ -29,25 +59,20 @@ fn parse_deps<'a>(config: &Config, text: &'a str, deps: &mut Deps) -> Option<&'a
 pub fn parse_received<'a>(config: &Config, text: &'a str, event: &mut Event) -> Option<&'a str>
     ensures { IfSome result (λ rest. BeginsWithEvent config.now event.new text.now rest.now) }
 {
-    let (account, rest) = parse_account_between(config, text, "{\"shadow\":{\"account\":\"", ",")?;
-    let (amount, rest) = parse_long_between(rest, "\"amount\":", ",\"deps\":")?;
-    let mut deps = Deps {
-        blue: [0; MOST_SITES],
-        red: 0,
-    };
-    let rest = parse_deps(config, rest, &mut deps)?;
-    let (home, rest) = parse_byte_between(rest, ",\"home\":", ",\"kind\":\"")?;
-    let (label, rest) = parse_label(rest)?;
-    let (name, rest) = parse_op_name(parse_prefix(rest, ",\"name\":\"")?)?;
-    let (kind, rest) = parse_kind(config, label, rest)?;
-    let rest = parse_prefix(rest, "}")?;
+    let (account, amount, rest) = parse_front(config, text)?;
+    let mut blue = [0; MOST_SITES];
+    let rest = parse_counts(config.version(), rest, &mut blue)?;
+    let (back, rest) = parse_back(config, rest)?;
     let shadow = Shadow {
-        name,
-        home,
-        deps,
+        name: back.name,
+        home: back.home,
+        deps: Deps {
+            blue,
+            red: back.red,
+        },
         account,
         amount,
-        kind,
+        kind: back.kind,
     };
     *event = Event::Receive(Message::Shadow(shadow));
     Some(rest)

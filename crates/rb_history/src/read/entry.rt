@@ -2,7 +2,8 @@
 ghost use Rattle.std.specs.Prelude.{◌≡◌, ◌<◌, codes, IfOk, IfSome, MatchResult, None, Some};
 ghost use Rattle.rb_commands.specs.declared.fault.LineFault.TheVariants.{Bad};
 ghost use Rattle.serde_json.specs.View.{view};
-ghost use Rattle.rb_history.specs.Entries.{entry_of_line, entry_of_object};
+ghost use Rattle.serde_json.specs.Written.{compact_text};
+ghost use Rattle.rb_history.specs.Entries.{entry_json, entry_of_line, entry_of_object};
 ghost use Rattle.rb_commands.specs.Lines.{Gives};
 ghost use Rattle.rb_history.specs.Recorded.{event_at};
 ghost use Rattle.rb_history.specs.RepliesRead.{reply_told};
@@ -74,9 +75,10 @@ fn entry(alloc: Global, config: &Config, value: &Value) -> Result<(u8, Entry), L
 /// The entry of a line as it is written, in its place, and the number of its site. The entry may be any where there is
 /// none.
 #[inline(always)]
-fn parse_entry(alloc: Global, config: &Config, line: &str, entry: &mut Entry) -> Option<u8>
-    ensures { IfSome result (λ site. (entry_of_line config.now line.now ≡ Some (site, entry.new))
+pub fn parse_entry(alloc: Global, config: &Config, line: &str, entry: &mut Entry) -> Option<u8>
+    ensures read { IfSome result (λ site. (entry_of_line config.now line.now ≡ Some (site, entry.new))
         × (site < config.now.sites)) }
+    ensures told { IfSome result (λ site. line.now ≡ compact_text (entry_json config.now site entry.new)) }
 {
     // For a fact alone: its settings are those of a configuration.
     let _sites = config.sites();

@@ -6,6 +6,7 @@ pub mod counts;
 pub mod entry;
 pub mod event;
 pub mod kind;
+pub mod migrated;
 pub mod number;
 pub mod shadow;
 pub mod verdict;

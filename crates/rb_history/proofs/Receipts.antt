@@ -1,0 +1,98 @@
+-- A shadow that comes, cut at its counts.
+use Rattle.std.proofs.Common.{◌≡◌, ℕ, ◌<◌, ◌≤◌, ◌+◌, ◌-◌, ◌^◌, List, ◌++◌, length, take, true, codes, decimal, ap, sym, ◌∙◌}
+use Rattle.std.proofs.Common.{append_assoc, length-append, arith}
+use Rattle.std.proofs.lemmas.List.{take_at}
+use Rattle.json.specs.Print.{escape_byte}
+use Rattle.serde_json.specs.Written.{compact_text, members_text}
+use Rattle.rb_money.specs.Settings.{Settings}
+use Rattle.rb_money.specs.declared.place.Place.{Place}
+use Rattle.rb_shadow.specs.NameText.{name_text}
+use Rattle.rb_shadow.specs.Labels.{label_of, word_of}
+use Rattle.rb_shadow.specs.declared.shadow.Shadow.{Shadow}
+use Rattle.rb_site.specs.declared.event.Event.TheVariants.{Receive}
+use Rattle.rb_site.specs.declared.message.Message.TheVariants.{Shadow as ShadowMessage}
+use Rattle.rb_site.specs.declared.reply.Reply.{Reply}
+use Rattle.rb_commands.specs.Replies.{reply_json}
+use Rattle.rb_history.specs.Counts.{blue_json}
+use Rattle.rb_history.specs.Entries.{entry_json, event_json, last_members}
+use Rattle.rb_history.specs.Beginnings.{account_behind_quote, behind_quote, BeginsWithCounts}
+use Rattle.rb_history.specs.Fits.{IsKnown, IsShadow}
+use Rattle.rb_history.specs.Receipts.{BeginsWithBack, shadow_back, shadow_front}
+use Rattle.rb_history.specs.declared.fast.shadow.Back.{Back}
+
+-- the shadow of its parts
+abbrev pub shadow_of : Place → ℕ → List ℕ → Back → Shadow
+shadow_of account amount blue b =
+    record { name = b.name; home = b.home; deps = record { blue = blue; red = b.red }; account = account; amount = amount; kind = b.kind }
+
+parts_text : (account amount blue red home kind name last rest : List ℕ)
+    → (codes "{\"shadow\":{\"account\":\"" ++ (account ++ (codes ",\"amount\":" ++ (amount ++ codes ",\"deps\":[")))) ++
+    (blue ++ ((codes "," ++ (red ++ (codes "],\"home\":" ++ (home ++ (codes ",\"kind\":\"" ++
+    (kind ++ (codes ",\"name\":\"" ++ (name ++ (last ++ codes "}"))))))))) ++ rest))
+    ≡ (codes "{\"shadow\":" ++ ((codes
+    "{\"account\":\"" ++ (account ++ (codes
+    ",\"amount\":" ++ (amount ++ (codes
+    ",\"deps\":" ++ ((codes "[" ++ (blue ++ (codes "," ++ (red ++ codes "]")))) ++ (codes
+    ",\"home\":" ++ (home ++ (codes ",\"kind\":\"" ++ (kind ++ (codes ",\"name\":\"" ++ (name ++ last)))))))))))) ++ codes
+    "}")) ++ rest
+parts_text account amount blue red home kind name last rest = simp append_assoc
+
+-- its parts are the text of its event
+pub event_parts : (s : Settings) (account : Place) (amount : ℕ) (blue : List ℕ) (b : Back) (rest : List ℕ)
+    → shadow_front s account amount ++ (compact_text (blue_json s.version blue) ++ (shadow_back s b ++ rest))
+    ≡ compact_text (event_json s (Receive (ShadowMessage (shadow_of account amount blue b)))) ++ rest
+unfolding escape_byte
+event_parts s account amount blue b rest =
+    parts_text (account_behind_quote s account) (decimal amount) (compact_text (blue_json s.version blue)) (decimal b.red) (decimal b.home)
+    (behind_quote (word_of (label_of b.kind))) (behind_quote (name_text b.name)) (members_text true (last_members s b.kind)) rest
+
+-- parts that fit are a shadow that does
+pub shadow_fits : (s : Settings) (account : Place) (amount : ℕ) (blue list behind rest : List ℕ) (b : Back) → IsKnown s account
+    → amount < 2 ^ 64 → BeginsWithCounts s.version blue list behind → BeginsWithBack s b behind rest
+    → IsShadow s (shadow_of account amount blue b)
+shadow_fits s account amount blue list behind rest b known fits counts back = record {
+  name = back.name;
+  home = back.home;
+  sites = counts.sites;
+  blue = counts.fit;
+  further = counts.further;
+  red = back.red;
+  account = known;
+  amount = fits;
+  kind = back.kind;
+}
+
+-- the text of its event, read part by part
+pub event_told : (s : Settings) (account : Place) (amount : ℕ) (blue text list behind rest : List ℕ) (b : Back)
+    → text ≡ shadow_front s account amount ++ list → BeginsWithCounts s.version blue list behind → BeginsWithBack s b behind rest
+    → text ≡ compact_text (event_json s (Receive (ShadowMessage (shadow_of account amount blue b)))) ++ rest
+event_told s account amount blue text list behind rest b e counts back =
+    e ∙ ap (λ l. shadow_front s account amount ++ l) (counts.told ∙ ap (λ l. compact_text (blue_json s.version blue) ++ l) back.told)
+    ∙ event_parts s account amount blue b rest
+
+-- the text of an entry behind its event
+abbrev pub end_text : Reply → ℕ → List ℕ
+end_text reply site = codes ",\"reply\":" ++ (compact_text (reply_json reply) ++ (codes ",\"site\":" ++ (decimal site ++ codes "}")))
+
+-- the line of its receipt, cut at its counts
+pub receipt_told : (s : Settings) (account : Place) (amount : ℕ) (blue : List ℕ) (b : Back) (reply : Reply) (site : ℕ)
+    → compact_text (entry_json s site (record { event = Receive (ShadowMessage (shadow_of account amount blue b)); reply = reply }))
+    ≡ (codes "{\"event\":" ++ shadow_front s account amount)
+    ++ (compact_text (blue_json s.version blue) ++ (shadow_back s b ++ end_text reply site))
+unfolding escape_byte
+receipt_told s account amount blue b reply site =
+    let behind = compact_text (blue_json s.version blue) ++ (shadow_back s b ++ end_text reply site) in
+    ap (λ l. codes "{\"event\":" ++ l) (sym (event_parts s account amount blue b (end_text reply site)))
+    ∙ sym (append_assoc (codes "{\"event\":") (shadow_front s account amount) behind)
+
+-- what is before a text's end
+pub before_end : (l a b : List ℕ) → l ≡ a ++ b → take (length l - length b) l ≡ a
+before_end l a b e =
+    let long : length l ≡ length a + length b = ap length e ∙ length-append a b in
+    let many : length a ≡ length l - length b = omega arith in
+    ap (take (length l - length b)) e ∙ take_at a b (length l - length b) many
+
+pub end_within : (l a b : List ℕ) → l ≡ a ++ b → length b ≤ length l
+end_within l a b e =
+    let long : length l ≡ length a + length b = ap length e ∙ length-append a b in
+    omega arith
