@@ -18,6 +18,22 @@ three n h k = omega (arith, longer n (omega arith) (omega arith), two (n / 10) (
 pub four : (n : ℕ) → 1000 ≤ n → n < 10000 → length (decimal n) ≡ 4
 four n h k = omega (arith, longer n (omega arith) (omega arith), three (n / 10) (omega arith) (omega arith))
 
+-- four more than without the last four
+pub longer_by_four : (n : ℕ) → 10000 ≤ n → n < 2 ^ 64 → length (decimal n) ≡ length (decimal (n / 10000)) + 4
+longer_by_four n h k =
+    let same : n / 10 / 10 / 10 / 10 ≡ n / 10000 = omega arith in
+    omega (
+      arith,
+      longer n (omega arith) k,
+      longer (n / 10) (omega arith) (omega arith),
+      longer (n / 10 / 10) (omega arith) (omega arith),
+      longer (n / 10 / 10 / 10) (omega arith) (omega arith),
+      ap (λ m. length (decimal m)) same,
+    )
+
+-- the lengths of the numbers of a few digits
+pub ruleset few = (one, two, three, four)
+
 pub within_20 : (n : ℕ) → n < 2 ^ 64 → length (decimal n) ≤ 20
 within_20 n h = length-decimal-le 20 n (omega arith) (omega arith) h
 

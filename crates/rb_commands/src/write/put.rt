@@ -63,22 +63,40 @@ fn put_digit(space: &mut [u8], at: usize, n: u64) -> usize
     at + 1
 }
 
+/// How many digits a number below 10,000 has.
+#[inline(always)]
+#[tactic(auto, using(crate::proofs::Digits::few))]
+fn few_digits(n: u64) -> usize
+    requires { n < 10_000 }
+    ensures { result ≡ length (decimal n) }
+{
+    if n < 10 {
+        1
+    } else if n < 100 {
+        2
+    } else if n < 1_000 {
+        3
+    } else {
+        4
+    }
+}
+
 /// How many digits a number has.
 fn digit_count(n: u64) -> usize
     ensures { result ≡ length (decimal n) }
 {
     let mut left = n;
-    let mut count = 1;
-    while left >= 10 {
-        left /= 10;
-        count += 1;
+    let mut count = 0;
+    while left >= 10_000 {
+        left /= 10_000;
+        count += 4;
     }
-    count
+    count + few_digits(left)
 }
 
 /// Puts the digits of a number. Most have few, for which no loop counts them.
 #[inline(always)]
-#[tactic(auto, using(crate::proofs::Digits::one, crate::proofs::Digits::two, crate::proofs::Digits::three, crate::proofs::Digits::four))]
+#[tactic(auto, using(crate::proofs::Digits::few))]
 fn put_unsigned(space: &mut [u8], at: usize, n: u64) -> usize
     requires { at + length (decimal n) ≤ length space.old }
     ensures { Placed space.old space.new at (decimal n) result }

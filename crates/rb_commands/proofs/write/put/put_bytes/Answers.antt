@@ -1,4 +1,5 @@
-use Rattle.std.proofs.Common.{◌≡◌, ◌+◌, ◌<◌, ◌++◌, ◌∷◌, [], ℕ, List, get_or, take, length, ap, sym, ◌∙◌, append_assoc, append-nil, arith, add-zero, refl}
+use Rattle.std.proofs.Common.{◌≡◌, ◌+◌, ◌<◌, ◌++◌, ◌∷◌, [], ℕ, List, get_or, take, length, ap, sym, ◌∙◌, append_assoc}
+use Rattle.std.proofs.Common.{append-nil, arith, add-zero, refl}
 use Rattle.std.proofs.lemmas.List.{take_more}
 use Rattle.std.proofs.lemmas.Grind.{take-set_at}
 use Rattle.std.proofs.Math.ListN.{set}
@@ -17,7 +18,9 @@ pub loop-i-init : goal.loop-i-init
 loop-i-init c = ap (λ n. take n c.args.space.now) (add-zero c.args.at) ∙ sym (append-nil (take c.args.at c.args.space.now))
 
 pub loop-i-preserved : goal.loop-i-preserved
-loop-i-preserved c = one_more c.loop-i.space (take c.args.at c.args.space.now) c.args.bytes.now c.args.at c.loop-i.i (omega arith) (omega arith) c.loop-i.invariant
+loop-i-preserved c =
+    one_more c.loop-i.space (take c.args.at c.args.space.now) c.args.bytes.now c.args.at c.loop-i.i (omega arith) (omega arith)
+    c.loop-i.invariant
 
 pub returns : goal.returns
 returns c =

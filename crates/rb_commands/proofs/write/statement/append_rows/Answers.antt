@@ -15,9 +15,10 @@ loop-row-preserved c =
     let new = c.append_row.new.out.items in
     let rows = c.args.rows.now in
     let i = c.loop-row.row-index in
+    let comma = cond c.loop-row.comma (codes ",") [] in
     record {
       front = front_of_front c.args.out.now.items out new c.loop-row.invariant.front (front_of_sum out new _ c.in_ok-append_row.ensures);
-      written = item_written row_json out new (cond c.loop-row.comma (codes ",") []) _ rows i _ (rw add-one (drop-cons rows i _ (omega arith)))
+      written = item_written row_json out new comma _ rows i _ (rw add-one (drop-cons rows i _ (omega arith)))
           c.in_ok-append_row.ensures c.loop-row.invariant.written;
     }
 
@@ -28,7 +29,8 @@ returns c =
     let rows = c.args.rows.now in
     let list = rest_text [] (map row_json rows) in
     let total = old ++ list in
-    let all = items_written row_json out (cond c.loop-row.comma (codes ",") []) total rows c.loop-row.row-index (omega arith) c.loop-row.invariant.written in
+    let comma = cond c.loop-row.comma (codes ",") [] in
+    let all = items_written row_json out comma total rows c.loop-row.row-index (omega arith) c.loop-row.invariant.written in
     then c.append.result old out c.append.new.out.items list (codes "]") _ all c.append.ensures (whole_text (map row_json rows))
 
 pub returns-in_err-append_row : goal.returns-in_err-append_row
