@@ -22,7 +22,8 @@ shadow_back s b = codes
     "," ++ (decimal b.red ++ (codes
     "],\"home\":" ++ (decimal b.home ++ (codes
     ",\"kind\":\"" ++ (behind_quote (word_of (label_of b.kind)) ++ (codes
-    ",\"name\":\"" ++ (behind_quote (name_text b.name) ++ (members_text true (last_members s b.kind) ++ codes "}"))))))))
+    ",\"name\":\"" ++ (behind_quote (name_text b.name)
+    ++ (members_text true (last_members s b.kind) ++ codes "}"))))))))
 
 -- what fits there, and the rest
 pub record BeginsWithBack (s : Settings) (b : Back) (text rest : List ℕ) : Type 0 where

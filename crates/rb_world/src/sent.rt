@@ -23,8 +23,8 @@ pub enum Kept {
     Token { place: u32 },
 }
 
-/// Memory for this number of messages is taken at first: 128 kilobytes, a mapping of its own, which grows without a copy
-/// and of which only what is used takes memory.
+/// Memory for this number of messages is taken at first: 128 kilobytes, a mapping of its own, which grows without a
+/// copy and of which only what is used takes memory.
 const FIRST_PLACES: usize = 16_500;
 
 /// The messages that were sent, in order, by where each is kept.

@@ -16,5 +16,6 @@ returns c =
     let o = c.index.result.now in (
       _,
       LinkTables.link_seen _ _ c.args.index o _ _ c.self.view_is c.requires c.index.ensures,
-      c.linked.ensures ∙ ap (λ ls. second_link ls o.second) c.deref.ensures.value ∙ sym (ap (λ b. cond b o.own (second_link c.self.inside.second.items o.second)) (sym c.eq.ensures ∙ c.if-eq.false)),
+      c.linked.ensures ∙ ap (λ ls. second_link ls o.second) c.deref.ensures.value
+          ∙ sym (ap (λ b. cond b o.own (second_link c.self.inside.second.items o.second)) (sym c.eq.ensures ∙ c.if-eq.false)),
     )

@@ -95,7 +95,8 @@ returns-clause-ok g c = (
 
 pub invariant_of-self : goal.invariant_of-self
 invariant_of-self g c = (
-  stands_as g.E.KeepsEntry.entry c.self.inside.history.items c.reserve_one.new.list.items c.self.inside.state c.in_err-reserve_one.ensures.items
+  stands_as g.E.KeepsEntry.entry c.self.inside.history.items c.reserve_one.new.list.items c.self.inside.state
+      c.in_err-reserve_one.ensures.items
       c.self.invariant.0,
   c.self.invariant.1,
 )
@@ -109,7 +110,8 @@ returns-in_err-reserve_one-clause-err g c = on_err c.from_residual.result _ (
 
 pub invariant_of-self-in_err-grow : goal.invariant_of-self-in_err-grow
 invariant_of-self-in_err-grow g c = (
-  stands_as g.E.KeepsEntry.entry c.self.inside.history.items c.reserve_one.new.list.items c.self.inside.state c.in_ok-reserve_one.ensures.items
+  stands_as g.E.KeepsEntry.entry c.self.inside.history.items c.reserve_one.new.list.items c.self.inside.state
+      c.in_ok-reserve_one.ensures.items
       c.self.invariant.0,
   λ keeps. enough_more c.self.inside.room c.grow.new.self c.self.inside.state c.grow.ensures.kept c.grow.ensures.accounts
       (c.self.invariant.1 keeps),
@@ -124,7 +126,8 @@ returns-in_err-grow-clause-err g c = on_err c.from_residual-in_err-grow.result _
 
 pub invariant_of-self-in_err-kept : goal.invariant_of-self-in_err-kept
 invariant_of-self-in_err-kept g c = (
-  stands_as g.E.KeepsEntry.entry c.self.inside.history.items c.reserve_one.new.list.items c.self.inside.state c.in_ok-reserve_one.ensures.items
+  stands_as g.E.KeepsEntry.entry c.self.inside.history.items c.reserve_one.new.list.items c.self.inside.state
+      c.in_ok-reserve_one.ensures.items
       c.self.invariant.0,
   λ keeps. enough_more c.self.inside.room c.grow.new.self c.self.inside.state c.grow.ensures.kept c.grow.ensures.accounts
       (c.self.invariant.1 keeps),

@@ -7,7 +7,8 @@ use Rattle.rb_shadow.specs.Operations.{find_in, is_eligible}
 use Rattle.rb_site.specs.declared.event.Event.TheVariants.{Apply}
 use Rattle.rb_site.specs.Events.{outcome_of}
 use Rattle.rb_site.specs.States.{SeenLedger, SiteState, plain}
-use Rattle.rb_site.proofs.Handlers.{AnswersAlone, applies, drops, held_named, held_sound, index_named, not_held, not_memory, not_ready, refusal_is, state_as}
+use Rattle.rb_site.proofs.Handlers.{AnswersAlone, applies, drops, held_named, held_sound, index_named, not_held}
+use Rattle.rb_site.proofs.Handlers.{not_memory, not_ready, refusal_is, state_as}
 use Rattle.rb_site.proofs.Handlers.{tied_as, tied_without, waits}
 use Rattle.rb_site.proofs.state.State.apply.Goals as goal
 
@@ -92,7 +93,8 @@ returns-in_default-clause-ok c =
 pub returns-then-not-is_eligible-clause-ok : goal.returns-then-not-is_eligible-clause-ok
 returns-then-not-is_eligible-clause-ok c =
     not_ready c.args.self.now c.args.name.now c.in-Some.held.now (plain c.give-then-not-is_eligible.new.place)
-    (ap (λ (z : SiteState). find_in z.site.held c.args.name.now) (sym c.self.view_is) ∙ sym c.find-index.ensures.held ∙ ap option_copied c.in-Some.is)
+    (ap (λ (z : SiteState). find_in z.site.held c.args.name.now) (sym c.self.view_is) ∙ sym c.find-index.ensures.held
+    ∙ ap option_copied c.in-Some.is)
     (ap (λ (z : SiteState). is_eligible z.site.ops c.in-Some.held.now) (sym c.self.view_is) ∙ sym c.is_eligible.ensures
     ∙ c.if-not-is_eligible.true)
     c.give-then-not-is_eligible.ensures
@@ -130,6 +132,11 @@ remove_at-requires-clause-index c = index_named c.self.inside.inbox.held c.args.
 
 pub remove_at-requires-in_default-why : goal.remove_at-requires-in_default-why
 remove_at-requires-in_default-why c = record {
-  held = (c.in-Some.held.now, held_named c.self.inside.inbox.held c.args.name.now c.in-Some.held.now (sym c.find-index.ensures.held ∙ ap option_copied c.in-Some.is));
-  index = index_named c.self.inside.inbox.held c.args.name.now c.in-Some.held.now _ (sym c.find-index.ensures.held ∙ ap option_copied c.in-Some.is) c.find-index.ensures.index;
+  held = (
+    c.in-Some.held.now,
+    held_named c.self.inside.inbox.held c.args.name.now c.in-Some.held.now (sym c.find-index.ensures.held
+        ∙ ap option_copied c.in-Some.is),
+  );
+  index = index_named c.self.inside.inbox.held c.args.name.now c.in-Some.held.now _ (sym c.find-index.ensures.held
+      ∙ ap option_copied c.in-Some.is) c.find-index.ensures.index;
 }

@@ -23,10 +23,12 @@ returns-in-Applied-clause-ok c =
 
 pub receive_new-requires-clause-sound : goal.receive_new-requires-clause-sound
 receive_new-requires-clause-sound c =
-    let P : Known → Type 0 = λ k. IsAsKnown c.args.self.now.settings c.args.self.now.site.ops k (Receive (ShadowMessage c.args.shadow.now)) in
+    let P : Known → Type 0 = λ k. IsAsKnown c.args.self.now.settings c.args.self.now.site.ops k (Receive
+    (ShadowMessage c.args.shadow.now)) in
     (subst P c.in-New.is c.requires).0
 
 pub receive_new-requires-clause-new : goal.receive_new-requires-clause-new
 receive_new-requires-clause-new c =
-    let P : Known → Type 0 = λ k. IsAsKnown c.args.self.now.settings c.args.self.now.site.ops k (Receive (ShadowMessage c.args.shadow.now)) in
+    let P : Known → Type 0 = λ k. IsAsKnown c.args.self.now.settings c.args.self.now.site.ops k (Receive
+    (ShadowMessage c.args.shadow.now)) in
     (subst P c.in-New.is c.requires).1

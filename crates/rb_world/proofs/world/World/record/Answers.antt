@@ -62,7 +62,8 @@ kept g c =
     ap (slice_get c.self.inside.sites.items) c.requires.site ∙ (taken g c).at in
     let free : is_full x.settings (state_of x) ≡ false = ap (λ z. is_full z (state_of x)) (taken g c).settings ∙ (taken g c).room in
     step_kept c.self.inside.sites.items c.self.inside.sent.tokens.items c.self.inside.sent.places.items c.args.site c.len-applied.result
-    x c.answer_known.new.self c.args.arrived.now c.note.new.self.tokens.items c.note.new.self.places.items c.answer_known.new.sent.items at free
+    x c.answer_known.new.self c.args.arrived.now c.note.new.self.tokens.items c.note.new.self.places.items c.answer_known.new.sent.items
+    at free
     (c.len-applied.ensures.same ∙ ap length c.ledger.ensures.entries
     ∙ ap (λ (y : SeenSite). length (state_of y).ops) (c.index.ensures
     ∙ get_or_from_slice_get c.self.inside.sites.items c.args.site x c.index.result.now at))
