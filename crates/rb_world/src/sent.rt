@@ -133,12 +133,12 @@ impl Sent {
     fn note_operations(&mut self, site: u8, before: u32)
         requires few { length self.old.posted.items ≤ MOST_REQUESTS }
         requires fits { before + MOST_REQUESTS < 2 ^ 32 }
-        requires places { length self.old.places.items + MOST_REQUESTS ≤ vec_capacity self.old.places }
+        requires ready { CanNote self.old }
         ensures places { self.new.places.items ≡ self.old.places.items ++ places_from site before
             (length self.old.posted.items) }
         ensures tokens { self.new.tokens.items ≡ self.old.tokens.items }
         ensures posted { self.new.posted.items ≡ [] }
-        ensures not_ready { self.new.ready ≡ false }
+        ensures ready { self.new.ready ≡ true → CanNote self.new }
     {
         for k in 0..self.posted.len() {
             let position = before + k as u32 + 1;
@@ -146,7 +146,7 @@ impl Sent {
                 .push_reserved(Kept::Operation { site, position });
         }
         self.posted.clear();
-        self.ready = false;
+        self.ready = MOST_REQUESTS <= self.places.capacity() - self.places.len();
     }
 }
 

@@ -34,9 +34,6 @@ note_token-requires-clause-places c = one_of_batch _ _ c.requires.ready.places
 pub note_token-requires-clause-tokens : goal.note_token-requires-clause-tokens
 note_token-requires-clause-tokens c = one_fits _ _ c.requires.ready.tokens
 
-pub note_operations-requires-clause-places : goal.note_operations-requires-clause-places
-note_operations-requires-clause-places c = c.requires.ready.places
-
 -- a token message was posted
 token : (c : goal.After-note_token) →
     (places_of c.args.site c.args.before (length c.args.self.now.tokens.items) c.args.self.now.posted.items
@@ -63,9 +60,6 @@ operations c =
     let read = c.in-Some.ensures.lookup in
     operations_posted c.args.site c.args.before (length c.args.self.now.tokens.items) _ _ c.in-Some.first.now c.in-Shadow.field-0
     c.deref.ensures.value read.3.0 read.1 c.in-Shadow.is
-
-pub returns-in-Shadow-clause-ready : goal.returns-in-Shadow-clause-ready
-returns-in-Shadow-clause-ready c = λ e. absurd (false≢true (sym c.note_operations.ensures.not_ready ∙ e))
 
 pub returns-in-Shadow-clause-places : goal.returns-in-Shadow-clause-places
 returns-in-Shadow-clause-places c =
