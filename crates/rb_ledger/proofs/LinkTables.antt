@@ -186,7 +186,7 @@ both_pushed ls ms l n longer is =
 -- both links of the operation at an index
 pub link_seen : (ls : List Link) (os : List OwnLink) (i : ℕ) (o : OwnLink) (n : ℕ) (t : LinkTable) →
     record { items = map (both_links ls) os; limit = n } ≡ t → i < length t.items → o ≡ get_or os i o
-        → slice_get t.items i ≡ Some (both_links ls o)
+    → slice_get t.items i ≡ Some (both_links ls o)
 link_seen ls os i o n t seen near is =
     let low : i < length os = omega (arith, near, ap (λ (t : LinkTable). length t.items) seen, length-map os (both_links ls)) in
     ap (λ (t : LinkTable). slice_get t.items i) (sym seen) ∙ slice_get-map (both_links ls) os i

@@ -7,7 +7,7 @@ pub bounds-before-index : goal.bounds-before-index
 bounds-before-index c =
     let (some, is) = c.in-Some.ensures in
     subst (λ i. i < length c.args.before.now) (sym is) (FoundNames.target_near c.args.before.now
-        (target_of c.args.kind) c.args.target _ c.requires some refl)
+    (target_of c.args.kind) c.args.target _ c.requires some refl)
 
 pub returns-in-Some : goal.returns-in-Some
 returns-in-Some c =

@@ -44,7 +44,7 @@ returns-in_default-clause-valid c =
     Makes.made_is_valid _ _ _ (Tokens.seen c.args.token.now) (c.requires.plan).0 _
     (few_sites _ _ _ c.config.ensures.same c.sites-sites.ensures.same c.sites-sites.ensures.few) c.requires.site c.config.ensures.valid
     (Generated.blue_made _ _ _ _ _ _ _ (c.requires.plan).1 c.in-Ok.ensures.0 c.in-Ok.ensures.1 (sym c.requires.colour
-        ∙ blue _ c.in_default.not-Red))
+    ∙ blue _ c.in_default.not-Red))
 
 pub returns-in_default-permit_red-clause-made : goal.returns-in_default-permit_red-clause-made
 returns-in_default-permit_red-clause-made c =

@@ -64,15 +64,15 @@ with_it c =
     let same = grown_holds c.self.inside.rows.items rows _ c.add_rows.ensures.rows.1 in
     let new : find_in (held_of rows) c.args.shadow.now.name ≡ None =
     ap (λ (us : List Shadow). find_in us c.args.shadow.now.name) same
-        ∙ ap (λ (b : Holding). find_in b.held c.args.shadow.now.name) c.self.view_is
+    ∙ ap (λ (b : Holding). find_in b.held c.args.shadow.now.name) c.self.view_is
     ∙ c.requires.new in
     let all = grown c.self.inside.rows.items rows c.self.inside.count _ c.add_rows.ensures.rows.1 c.self.invariant in
     let index = index_there rows c.self.inside.limit c.args.self.now c.args.shadow.now.name row c.args.index
     (unchanged c.self.inside.limit _ _ c.args.self.now same c.self.view_is) c.row-row.ensures all.each c.requires.index in
     let put = after_put rows c.self.inside.count c.args.shadow.now row c.insert.new.self all c.requires.numbered new c.row-row.ensures
-        within
+    within
     (changed_there (λ us index. insert us index c.args.shadow.now) c.insert.new.self c.index_mut.result.now
-        (get_or rows row []) c.args.index
+    (get_or rows row []) c.args.index
     c.args.shadow.now.name c.in_ok-insert.ensures.ok (row_there rows row c.index_mut.result.now within c.index_mut.ensures.value) index) in
     (put.0, put.1 ∙ ap (with_held c.args.shadow.now) same)
 

@@ -77,7 +77,7 @@ returns-clause-index c =
     let target : c.args.parts.target ≡ position_of c.args.before.now (target_of last.kind) = ap (λ (p : UndoParts). p.target) is in
     let row : c.row.result ≡ row_of last.name = c.row.ensures ∙ ap (λ (p : UndoParts). row_of p.name) is in
     Indexed.indexed_front _ c.args.before.now c.args.self.now _ last c.args.links.now c.count_off.ensures.0 c.count_off-2.ensures.0 index
-        linked
+    linked
     refl (c.retreat.ensures.entries ∙ ap (λ (p : UndoParts). lowered c.args.self.now.clock p.name) is)
     (c.cancel_one_less.ensures.items ∙ ap (changed_at c.args.parts.target one_less) c.truncate.ensures.items
     ∙ ap (λ n. changed_at n one_less (take (length c.args.before.now) c.args.self.now.cancels.items)) target)

@@ -36,7 +36,7 @@ advance-requires-clause-entry c = LedgerClocks.may_entry _ _ _ c.args.shadow.now
 pub returns-clause-index : goal.returns-clause-index
 returns-clause-index c =
     Indexed.indexed_push _ c.args.before.now c.args.self.now _ c.args.shadow.now c.args.links.now c.count_on.ensures.0
-        c.count_on-2.ensures.0
+    c.count_on-2.ensures.0
     c.requires.index c.requires.longer c.requires.links
     refl c.advance.ensures.entries
     (c.push_reserved.ensures.items ∙ ap (λ xs. xs ++ no_cancels ∷ []) (c.cancel_one_more.ensures.items
