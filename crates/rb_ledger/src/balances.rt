@@ -43,7 +43,7 @@ impl Ledger {
         ensures most { IfSome result (λ n. n ≤ℤ pos MOST_CENTS) }
     {
         let entry = self.entry(position)?;
-        if !self.index.is_on(&self.entries, entry, place) {
+        if !self.index.is_on(&self.entries.all(), &entry, place) {
             return Some(0);
         }
         let link = self.link_at(position, place);

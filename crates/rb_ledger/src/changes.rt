@@ -54,7 +54,7 @@ impl Ledger {
         ensures room { OnOk result (0 < self.old.room → self.new.room + 1 ≡ self.old.room) }
         ensures err { OnErr result ((self.new ≡ self.old) × (self.old.room ≡ 0)) }
     {
-        let parts = self.index.parts(&self.entries, &shadow);
+        let parts = self.index.parts(&self.entries.all(), &shadow);
         self.append(&shadow)?;
         Ok(Undo::new(parts))
     }
@@ -98,11 +98,11 @@ impl Ledger {
         ensures err { OnErr result ((self.new ≡ self.old) × (self.old.room ≡ 0)) }
     {
         self.make_room()?;
-        let parts = self.index.parts(&self.entries, shadow);
+        let parts = self.index.parts(&self.entries.all(), shadow);
         let links = self.links_of(shadow, &parts);
-        self.index.push(&self.entries, shadow, &parts, &links);
+        self.index.push(&self.entries.all(), shadow, &parts, &links);
         self.links.push(&links);
-        self.entries.push_reserved(*shadow);
+        self.entries.push(shadow);
         Ok(())
     }
 
@@ -118,7 +118,7 @@ impl Ledger {
         let links = self.links.at(parts.position as usize - 1);
         self.links.pop();
         self.entries.pop();
-        self.index.pop(&self.entries, parts, &links);
+        self.index.pop(&self.entries.all(), parts, &links);
     }
 
     /// Reserves capacity for `additional` more operations. It takes no memory where there is enough.
@@ -168,7 +168,7 @@ impl Ledger {
         ensures err { OnErr result (self.new ≡ self.old) }
     {
         let additional = limit - self.entries.len();
-        self.entries.reserve_exact(additional)?;
+        self.entries.reserve(limit)?;
         self.links.reserve(limit)?;
         self.index.cancels.reserve_exact(additional)?;
         self.index.rows.reserve(limit)

@@ -11,6 +11,7 @@ ghost use Rattle.rb_ledger.specs.Index.{heads_at, head_at, no_head};
 
 use crate::blocks::Blocks;
 use crate::marks::{Cancels, Head, Links};
+use crate::operation_list::Prefix;
 use crate::rows::Rows;
 use rb_money::{Config, Place};
 use rb_shadow::{Kind, OpName, Shadow};
@@ -78,7 +79,7 @@ impl Index {
     /// The second account of an operation of the kind after those before: that of a transfer, or of the
     /// transfer that it cancels.
     #[inline(always)]
-    pub fn other(&self, before: &[Shadow], kind: Kind) -> Option<Place>
+    pub fn other(&self, before: &Prefix<'_>, kind: Kind) -> Option<Place>
         requires { IsIndex self.now.config before.now self.now }
         ensures { result ≡ other_of before.now kind }
     {
@@ -87,7 +88,7 @@ impl Index {
 
     /// Whether a shadow that follows those before is on an account, as its own or its second one.
     #[inline(always)]
-    pub fn is_on(&self, before: &[Shadow], shadow: &Shadow, place: Place) -> bool
+    pub fn is_on(&self, before: &Prefix<'_>, shadow: &Shadow, place: Place) -> bool
         requires { IsIndex self.now.config before.now self.now }
         ensures { result ≡ is_on before.now shadow.now place }
     {
@@ -113,7 +114,7 @@ impl Index {
 
     /// What is kept to undo a shadow that may follow, as the next operation after those before.
     #[inline(always)]
-    pub fn parts(&self, before: &[Shadow], shadow: &Shadow) -> UndoParts
+    pub fn parts(&self, before: &Prefix<'_>, shadow: &Shadow) -> UndoParts
         requires index { IsIndex self.now.config before.now self.now }
         requires longer { IsValid self.now.config (before.now ++ shadow.now ∷ []) }
         ensures { result ≡ parts_of self.now.config before.now shadow.now }
@@ -137,7 +138,7 @@ impl Index {
     /// Takes in an operation after those before, in spare capacity. The parts are what is kept to undo it,
     /// the links its links.
     #[inline(always)]
-    pub fn push(&mut self, before: &[Shadow], shadow: &Shadow, parts: &UndoParts, links: &Links)
+    pub fn push(&mut self, before: &Prefix<'_>, shadow: &Shadow, parts: &UndoParts, links: &Links)
         requires index { IsIndex self.old.config before.now self.old }
         requires longer { IsValid self.old.config (before.now ++ shadow.now ∷ []) }
         requires parts { parts.now ≡ parts_of self.old.config before.now shadow.now }
@@ -159,7 +160,7 @@ impl Index {
 
     /// Lets the operation after those before out again: the last one, of which the parts were kept. The
     /// links are its links.
-    pub fn pop(&mut self, before: &[Shadow], parts: UndoParts, links: &Links)
+    pub fn pop(&mut self, before: &Prefix<'_>, parts: UndoParts, links: &Links)
         requires { (last : TheShadow) × IsIndex self.old.config (before.now ++ last ∷ []) self.old
             × (parts ≡ parts_of self.old.config before.now last) × IsLinked self.old.config before.now last links.now }
         ensures index { IsIndex self.old.config before.now self.new }
@@ -180,12 +181,12 @@ impl Index {
 /// The second account of an operation of the kind after those before, of which it cancels the one at the target. The
 /// target 0 is none.
 #[inline(always)]
-pub fn other_at(before: &[Shadow], kind: Kind, target: u32) -> Option<Place>
+pub fn other_at(before: &Prefix<'_>, kind: Kind, target: u32) -> Option<Place>
     requires { target ≡ position_of before.now (target_of kind) }
     ensures { result ≡ other_of before.now kind }
 {
     match target.checked_sub(1) {
-        Some(index) => before[index as usize].kind.receiver(),
+        Some(index) => before.receiver(index as usize),
         None => kind.receiver(),
     }
 }

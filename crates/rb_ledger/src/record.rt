@@ -19,7 +19,7 @@ impl Ledger {
         ensures { result ≡ record_at self.now.settings self.now.entries position }
     {
         let entry = self.entry(position)?;
-        Some(self.record_of(position, entry))
+        Some(self.record_of(position, &entry))
     }
 
     /// The records to undo all operations, in order. `Err` means out of memory.
@@ -33,8 +33,9 @@ impl Ledger {
             log.close();
             return Err(AllocError);
         }
-        for (k, entry) in self.entries.iter().enumerate() {
-            let parts = self.record_of(k as u32 + 1, entry);
+        for k in 0..self.entries.len() {
+            let entry = self.entries.get(k).unwrap();
+            let parts = self.record_of(k as u32 + 1, &entry);
             log.push_reserved(Undo::new(parts));
         }
         Ok(log)
@@ -45,7 +46,7 @@ impl Ledger {
         requires { Some entry.now ≡ operation_at self.now.entries position }
         ensures { result ≡ parts_of self.now.settings (take (position - 1) self.now.entries) entry.now }
     {
-        let second = self.index.other(&self.entries, entry.kind);
+        let second = self.index.other(&self.entries.all(), entry.kind);
         let balance = self.balance_before(position, entry.account);
         let other_balance = self.second_before(position, second);
         UndoParts {

@@ -1,5 +1,5 @@
 -- Elements of a prefix of a list.
-use Rattle.std.proofs.Common.{◌≡◌, ℕ, suc, ◌+◌, ◌<◌, ◌≤◌, List, [], ◌∷◌, ◌++◌, length, take, ap, ◌∙◌, add-one, zero, refl, arith, Some}
+use Rattle.std.proofs.Common.{◌≡◌, ℕ, suc, ◌+◌, ◌<◌, ◌≤◌, List, [], ◌∷◌, ◌++◌, length, take, drop, ap, ◌∙◌, add-one, zero, refl, arith, Some}
 use Rattle.std.specs.Prelude.{slice_get}
 use Rattle.std.proofs.lemmas.Option.{slice_get_within, get_or_from_slice_get}
 use Rattle.std.proofs.Math.Seq.{take-suc}
@@ -9,6 +9,12 @@ use Rattle.rb_shadow.specs.declared.shadow.Shadow.{Shadow}
 pub one_more : (us : List Shadow) (i : ℕ) (u : Shadow) → slice_get us i ≡ Some u → take (i + 1) us ≡ take i us ++ u ∷ []
 one_more us i u e = let near : i < length us = slice_get_within us i u e in
     rw add-one (take-suc us i u near ∙ ap (λ (w : Shadow). take i us ++ w ∷ []) (get_or_from_slice_get us i u u e))
+
+-- an item behind the first ones is one of the list
+pub get_dropped : {X : Type 0} (n : ℕ) (xs : List X) (i : ℕ) → slice_get (drop n xs) i ≡ slice_get xs (n + i)
+get_dropped zero xs i = ap (slice_get xs) (let e : i ≡ 0 + i = omega arith in e)
+get_dropped (suc n) [] i = refl
+get_dropped (suc n) (x ∷ xs) i = get_dropped n xs i ∙ ap (slice_get (x ∷ xs)) (let e : suc (n + i) ≡ suc n + i = omega arith in e)
 
 -- an item of a prefix is that of the list
 pub get_taken : {X : Type 0} (n : ℕ) (xs : List X) (i : ℕ) → i < n → slice_get (take n xs) i ≡ slice_get xs i

@@ -1,10 +1,11 @@
 use Rattle.std.proofs.Common.{◌≡◌, ◌<◌, ◌∙◌, length, sym, subst, refl, arith}
 use Rattle.rb_shadow.specs.Operations.{target_of}
 use Rattle.rb_ledger.proofs.FoundNames
+use Rattle.rb_ledger.proofs.Public.OnAccount
 use Rattle.rb_ledger.proofs.index.other_at.Goals as goal
 
-pub bounds-before-index : goal.bounds-before-index
-bounds-before-index c =
+pub receiver-requires : goal.receiver-requires
+receiver-requires c =
     let (some, is) = c.in-Some.ensures in
     subst (λ i. i < length c.args.before.now) (sym is) (FoundNames.target_near c.args.before.now
     (target_of c.args.kind) c.args.target _ c.requires some refl)
@@ -12,7 +13,10 @@ bounds-before-index c =
 pub returns-in-Some : goal.returns-in-Some
 returns-in-Some c =
     let (some, is) = c.in-Some.ensures in
-    FoundNames.other_there c.args.before.now c.args.kind c.args.target c.in-Some.index _ _ c.requires some is c.receiver.ensures
+    let near : c.in-Some.index < length c.args.before.now = subst (λ i. i < length c.args.before.now) (sym is)
+    (FoundNames.target_near c.args.before.now (target_of c.args.kind) c.args.target _ c.requires some refl) in
+    let (d, there) = OnAccount.element c.args.before.now c.in-Some.index near in
+    FoundNames.other_there c.args.before.now c.args.kind c.args.target c.in-Some.index d _ c.requires some is (c.receiver.ensures d)
 
 pub returns-in-None : goal.returns-in-None
 returns-in-None c =

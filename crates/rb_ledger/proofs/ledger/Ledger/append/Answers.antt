@@ -1,12 +1,15 @@
 use Rattle.std.proofs.Common.{◌≡◌, ◌-◌, length, vec_len, ◌++◌, ◌∷◌, [], subst, sym, ap, ◌∙◌, arith}
 use Rattle.std.proofs.lemmas.List.{length_push}
-use Rattle.rb_money.specs.Settings.{IsConfigured}
+use Rattle.rb_money.specs.Settings.{IsConfigured, Settings}
 use Rattle.rb_ledger.specs.Book.{Book}
 use Rattle.rb_ledger.specs.Index.{IsIndex, IsLinked}
 use Rattle.rb_ledger.proofs.ChainFacts
 use Rattle.rb_ledger.proofs.Indexed
 use Rattle.rb_ledger.proofs.Lengths
 use Rattle.rb_ledger.specs.Valid.{IsValid, parts_of}
+use Rattle.rb_ledger.specs.OperationLists.{IsOfSites}
+use Rattle.rb_ledger.proofs.Public.Legal
+use Rattle.rb_ledger.proofs.OperationTables
 use Rattle.rb_ledger.proofs.ledger.Ledger.append.Goals as goal
 
 pub links_of-links-requires-clause-configured : goal.links_of-links-requires-clause-configured
@@ -17,18 +20,20 @@ pub invariant_of-self : goal.invariant_of-self
 invariant_of-self c =
     let links = subst (λ (b : Book). IsLinked b.settings b.entries c.args.shadow.now c.links_of-links.result) (sym c.self.view_is)
     c.links_of-links.ensures in
-    let free : c.self.inside.index.rows.limit - vec_len c.self.inside.entries ≡ c.make_room.new.self.room =
+    let free : c.self.inside.index.rows.limit - length c.self.inside.entries.items ≡ c.make_room.new.self.room =
     ap (λ (b : Book). b.room) c.self.view_is in
+    let longer = ap length c.push-3.ensures.items ∙ length_push c.self.inside.entries.items c.args.shadow.now in
     let room = c.self.invariant.room in
     record {
       index = subst (λ us. IsIndex c.push.new.self.config us c.push.new.self) (ap
-          (λ us. us ++ c.args.shadow.now ∷ []) c.deref-2.ensures.value
-          ∙ sym c.push_reserved.ensures.items) (Indexed.own _ _ _ c.push.ensures.index);
+          (λ us. us ++ c.args.shadow.now ∷ []) c.all-2.ensures
+          ∙ sym c.push-3.ensures.items) (Indexed.own _ _ _ c.push.ensures.index);
       links = ChainFacts.links_moved _ _ _ _ _ _ (ChainFacts.links_push _ _ c.args.shadow.now _ _ c.self.invariant.links links)
-          c.push.ensures.index.config c.push_reserved.ensures.items c.push-2.ensures.items;
+          c.push.ensures.index.config c.push-3.ensures.items c.push-2.ensures.items;
+      sites = c.push-3.ensures.sites ∙ c.self.invariant.sites ∙ sym (ap (λ (s : Settings). s.sites) c.push.ensures.index.config);
       room = record {
-        within = omega (arith, c.push_reserved.ensures.len, c.push.ensures.limit, free, c.in_ok-make_room.ensures.ok);
-        entries = omega (arith, c.push_reserved.ensures.capacity, c.push.ensures.limit, room.entries);
+        within = omega (arith, longer, c.push.ensures.limit, free, c.in_ok-make_room.ensures.ok);
+        entries = omega (arith, c.push-3.ensures.limit, c.push.ensures.limit, room.entries);
         cancels = omega (arith, c.push.ensures.capacity, c.push.ensures.limit, room.cancels);
         links = omega (arith, c.push-2.ensures.limit, c.push.ensures.limit, room.links);
       };
@@ -37,27 +42,27 @@ invariant_of-self c =
 pub parts-parts-requires-clause-longer : goal.parts-parts-requires-clause-longer
 parts-parts-requires-clause-longer c =
     let settings = ap (λ (b : Book). b.settings) c.self.view_is ∙ c.in_ok-make_room.ensures.settings in
-    let entries = c.deref.ensures.value ∙ ap (λ (b : Book). b.entries) c.self.view_is ∙ c.in_ok-make_room.ensures.entries in
-    subst (λ s. IsValid s (c.deref.result.now ++ c.args.shadow.now ∷ [])) (sym settings)
+    let entries = c.all.ensures ∙ ap (λ (b : Book). b.entries) c.self.view_is ∙ c.in_ok-make_room.ensures.entries in
+    subst (λ s. IsValid s (c.all.result ++ c.args.shadow.now ∷ [])) (sym settings)
     (subst (λ us. IsValid c.args.self.now.settings (us ++ c.args.shadow.now ∷ [])) (sym entries) c.requires)
 
 pub push-requires-clause-links : goal.push-requires-clause-links
 push-requires-clause-links c =
     let links = subst (λ (b : Book). IsLinked b.settings b.entries c.args.shadow.now c.links_of-links.result) (sym c.self.view_is)
     c.links_of-links.ensures in
-    subst (λ us. IsLinked c.self.inside.index.config us c.args.shadow.now c.links_of-links.result) (sym c.deref-2.ensures.value) links
+    subst (λ us. IsLinked c.self.inside.index.config us c.args.shadow.now c.links_of-links.result) (sym c.all-2.ensures) links
 
 pub push-requires-clause-rows : goal.push-requires-clause-rows
 push-requires-clause-rows c =
-    let free : c.self.inside.index.rows.limit - vec_len c.self.inside.entries ≡ c.make_room.new.self.room =
+    let free : c.self.inside.index.rows.limit - length c.self.inside.entries.items ≡ c.make_room.new.self.room =
     ap (λ (b : Book). b.room) c.self.view_is in
-    omega (arith, c.deref-2.ensures.len, free, c.in_ok-make_room.ensures.ok)
+    omega (arith, ap length c.all-2.ensures, free, c.in_ok-make_room.ensures.ok)
 
 pub returns-clause-settings : goal.returns-clause-settings
 returns-clause-settings c = c.push.ensures.index.config ∙ ap (λ (b : Book). b.settings) c.self.view_is ∙ c.in_ok-make_room.ensures.settings
 
 pub parts-parts-requires-clause-index : goal.parts-parts-requires-clause-index
-parts-parts-requires-clause-index c = subst (λ us. IsIndex c.self.inside.index.config us c.self.inside.index) (sym c.deref.ensures.value)
+parts-parts-requires-clause-index c = subst (λ us. IsIndex c.self.inside.index.config us c.self.inside.index) (sym c.all.ensures)
     c.self.invariant.index
 
 pub links_of-links-requires-clause-valid : goal.links_of-links-requires-clause-valid
@@ -67,27 +72,27 @@ links_of-links-requires-clause-valid c =
 
 pub links_of-links-requires-clause-parts : goal.links_of-links-requires-clause-parts
 links_of-links-requires-clause-parts c =
-    c.parts-parts.ensures ∙ ap (λ us. parts_of c.self.inside.index.config us c.args.shadow.now) c.deref.ensures.value
+    c.parts-parts.ensures ∙ ap (λ us. parts_of c.self.inside.index.config us c.args.shadow.now) c.all.ensures
     ∙ ap (λ (b : Book). parts_of b.settings b.entries c.args.shadow.now) c.self.view_is
 
 pub push-requires-clause-index : goal.push-requires-clause-index
-push-requires-clause-index c = subst (λ us. IsIndex c.self.inside.index.config us c.self.inside.index) (sym c.deref-2.ensures.value)
+push-requires-clause-index c = subst (λ us. IsIndex c.self.inside.index.config us c.self.inside.index) (sym c.all-2.ensures)
     c.self.invariant.index
 
 pub push-requires-clause-longer : goal.push-requires-clause-longer
 push-requires-clause-longer c =
     let settings = ap (λ (b : Book). b.settings) c.self.view_is ∙ c.in_ok-make_room.ensures.settings in
-    let entries = c.deref-2.ensures.value ∙ ap (λ (b : Book). b.entries) c.self.view_is ∙ c.in_ok-make_room.ensures.entries in
-    subst (λ s. IsValid s (c.deref-2.result.now ++ c.args.shadow.now ∷ [])) (sym settings)
+    let entries = c.all-2.ensures ∙ ap (λ (b : Book). b.entries) c.self.view_is ∙ c.in_ok-make_room.ensures.entries in
+    subst (λ s. IsValid s (c.all-2.result ++ c.args.shadow.now ∷ [])) (sym settings)
     (subst (λ us. IsValid c.args.self.now.settings (us ++ c.args.shadow.now ∷ [])) (sym entries) c.requires)
 
 pub push-requires-clause-parts : goal.push-requires-clause-parts
 push-requires-clause-parts c = c.parts-parts.ensures
-    ∙ ap (λ us. parts_of c.self.inside.index.config us c.args.shadow.now) (c.deref.ensures.value ∙ sym c.deref-2.ensures.value)
+    ∙ ap (λ us. parts_of c.self.inside.index.config us c.args.shadow.now) (c.all.ensures ∙ sym c.all-2.ensures)
 
 pub push-requires-2-clause-room : goal.push-requires-2-clause-room
 push-requires-2-clause-room c =
-    let free : c.self.inside.index.rows.limit - vec_len c.self.inside.entries ≡ c.make_room.new.self.room =
+    let free : c.self.inside.index.rows.limit - length c.self.inside.entries.items ≡ c.make_room.new.self.room =
     ap (λ (b : Book). b.room) c.self.view_is in
     omega (
       arith,
@@ -95,7 +100,6 @@ push-requires-2-clause-room c =
       c.in_ok-make_room.ensures.ok,
       c.self.invariant.room.links,
       c.self.invariant.links.count,
-      c.self.inside.entries.ok.0,
     )
 
 pub push-requires-2-clause-few : goal.push-requires-2-clause-few
@@ -110,20 +114,28 @@ push-requires-2-clause-few c =
           (subst (λ (b : Book). IsConfigured b.settings) c.self.view_is c.self.invariant.index.clocked.configured)) c.requires,
     )
 
-pub push_reserved-requires : goal.push_reserved-requires
-push_reserved-requires c =
-    let free : c.self.inside.index.rows.limit - vec_len c.self.inside.entries ≡ c.make_room.new.self.room =
+pub push-requires-3-clause-sites : goal.push-requires-3-clause-sites
+push-requires-3-clause-sites c =
+    let v = c.args.shadow.now in
+    let settings = ap (λ (b : Book). b.settings) c.self.view_is ∙ c.in_ok-make_room.ensures.settings in
+    let sound = (Legal.IsValid-last _ _ v c.requires).sound in
+    subst (λ n. IsOfSites n v.deps) (sym (c.self.invariant.sites ∙ ap (λ (s : Settings). s.sites) settings))
+    (OperationTables.of_sites c.args.self.now.settings v sound)
+
+pub push-requires-3-clause-room : goal.push-requires-3-clause-room
+push-requires-3-clause-room c =
+    let free : c.self.inside.index.rows.limit - length c.self.inside.entries.items ≡ c.make_room.new.self.room =
     ap (λ (b : Book). b.room) c.self.view_is in
     omega (arith, free, c.in_ok-make_room.ensures.ok, c.self.invariant.room.entries)
 
 pub returns-clause-applied : goal.returns-clause-applied
 returns-clause-applied c =
-    c.push_reserved.ensures.items
+    c.push-3.ensures.items
     ∙ ap (λ us. us ++ c.args.shadow.now ∷ []) (ap (λ (b : Book). b.entries) c.self.view_is ∙ c.in_ok-make_room.ensures.entries)
 
 pub returns-clause-room : goal.returns-clause-room
 returns-clause-room c = λ some.
-    let free : c.self.inside.index.rows.limit - vec_len c.self.inside.entries ≡ c.make_room.new.self.room =
+    let free : c.self.inside.index.rows.limit - length c.self.inside.entries.items ≡ c.make_room.new.self.room =
     ap (λ (b : Book). b.room) c.self.view_is in
     omega (
       arith,
@@ -131,5 +143,6 @@ returns-clause-room c = λ some.
       ap (λ (b : Book). b.room) (c.in_ok-make_room.ensures.room some),
       c.in_ok-make_room.ensures.ok,
       c.push.ensures.limit,
-      c.push_reserved.ensures.len,
+      ap length c.push-3.ensures.items,
+      length_push c.self.inside.entries.items c.args.shadow.now,
     )

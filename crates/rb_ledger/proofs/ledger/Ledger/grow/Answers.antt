@@ -38,83 +38,87 @@ pub invariant_of-self : goal.invariant_of-self
 invariant_of-self c =
     let room = c.self.invariant.room in
     record {
-      index = same_index _ _ _ _ c.self.inside.index c.self.invariant.index c.reserve_exact.ensures.items refl refl refl refl refl;
-      links = ChainFacts.links_moved _ _ _ _ _ _ c.self.invariant.links refl c.reserve_exact.ensures.items refl;
+      index = same_index _ _ _ _ c.self.inside.index c.self.invariant.index c.reserve.ensures.items refl refl refl refl refl;
+      links = ChainFacts.links_moved _ _ _ _ _ _ c.self.invariant.links refl c.reserve.ensures.items refl;
+      sites = c.reserve.ensures.sites ∙ c.self.invariant.sites;
       room = record {
-        within = omega (arith, c.reserve_exact.ensures.len, room.within);
-        entries = omega (arith, c.reserve_exact.ensures.capacity, room.entries);
+        within = omega (arith, ap length c.reserve.ensures.items, room.within);
+        entries = omega (arith, c.reserve.ensures.grows, room.entries);
         cancels = room.cancels;
         links = room.links;
       };
     }
 
-pub returns-in_err-reserve_exact-clause-ok : goal.returns-in_err-reserve_exact-clause-ok
-returns-in_err-reserve_exact-clause-ok c = IfOk-from_err c.from_residual.result _ c.from_residual.ensures.0
-
-pub invariant_of-self-in_err-reserve : goal.invariant_of-self-in_err-reserve
-invariant_of-self-in_err-reserve c =
-    let room = c.self.invariant.room in
-    record {
-      index = same_index _ _ _ _ c.self.inside.index c.self.invariant.index c.reserve_exact.ensures.items refl refl refl refl refl;
-      links = ChainFacts.links_moved _ _ _ _ _ _ c.self.invariant.links refl c.reserve_exact.ensures.items c.reserve.ensures.items;
-      room = record {
-        within = omega (arith, c.reserve_exact.ensures.len, room.within);
-        entries = omega (arith, c.reserve_exact.ensures.capacity, room.entries);
-        cancels = room.cancels;
-        links = omega (arith, c.reserve.ensures.grows, room.links);
-      };
-    }
-
 pub returns-in_err-reserve-clause-ok : goal.returns-in_err-reserve-clause-ok
-returns-in_err-reserve-clause-ok c = IfOk-from_err c.from_residual-in_err-reserve.result _ c.from_residual-in_err-reserve.ensures.0
+returns-in_err-reserve-clause-ok c = IfOk-from_err c.from_residual.result _ c.from_residual.ensures.0
 
-pub invariant_of-self-in_err-reserve_exact-2 : goal.invariant_of-self-in_err-reserve_exact-2
-invariant_of-self-in_err-reserve_exact-2 c =
+pub invariant_of-self-in_err-reserve-2 : goal.invariant_of-self-in_err-reserve-2
+invariant_of-self-in_err-reserve-2 c =
     let room = c.self.invariant.room in
     record {
-      index = same_index _ _ _ c.self.inside.index _ c.self.invariant.index c.reserve_exact.ensures.items refl refl
-          c.reserve_exact-2.ensures.items refl refl;
-      links = ChainFacts.links_moved _ _ _ _ _ _ c.self.invariant.links refl c.reserve_exact.ensures.items c.reserve.ensures.items;
+      index = same_index _ _ _ _ c.self.inside.index c.self.invariant.index c.reserve.ensures.items refl refl refl refl refl;
+      links = ChainFacts.links_moved _ _ _ _ _ _ c.self.invariant.links refl c.reserve.ensures.items c.reserve-2.ensures.items;
+      sites = c.reserve.ensures.sites ∙ c.self.invariant.sites;
       room = record {
-        within = omega (arith, c.reserve_exact.ensures.len, room.within);
-        entries = omega (arith, c.reserve_exact.ensures.capacity, room.entries);
-        cancels = omega (arith, c.reserve_exact-2.ensures.capacity, room.cancels);
-        links = omega (arith, c.reserve.ensures.grows, room.links);
+        within = omega (arith, ap length c.reserve.ensures.items, room.within);
+        entries = omega (arith, c.reserve.ensures.grows, room.entries);
+        cancels = room.cancels;
+        links = omega (arith, c.reserve-2.ensures.grows, room.links);
       };
     }
 
-pub returns-in_err-reserve_exact-2-clause-ok : goal.returns-in_err-reserve_exact-2-clause-ok
-returns-in_err-reserve_exact-2-clause-ok c =
-    IfOk-from_err c.from_residual-in_err-reserve_exact-2.result _ c.from_residual-in_err-reserve_exact-2.ensures.0
+pub returns-in_err-reserve-2-clause-ok : goal.returns-in_err-reserve-2-clause-ok
+returns-in_err-reserve-2-clause-ok c = IfOk-from_err c.from_residual-in_err-reserve-2.result _ c.from_residual-in_err-reserve-2.ensures.0
+
+pub invariant_of-self-in_err-reserve_exact : goal.invariant_of-self-in_err-reserve_exact
+invariant_of-self-in_err-reserve_exact c =
+    let room = c.self.invariant.room in
+    record {
+      index = same_index _ _ _ c.self.inside.index _ c.self.invariant.index c.reserve.ensures.items refl refl
+          c.reserve_exact.ensures.items refl refl;
+      links = ChainFacts.links_moved _ _ _ _ _ _ c.self.invariant.links refl c.reserve.ensures.items c.reserve-2.ensures.items;
+      sites = c.reserve.ensures.sites ∙ c.self.invariant.sites;
+      room = record {
+        within = omega (arith, ap length c.reserve.ensures.items, room.within);
+        entries = omega (arith, c.reserve.ensures.grows, room.entries);
+        cancels = omega (arith, c.reserve_exact.ensures.capacity, room.cancels);
+        links = omega (arith, c.reserve-2.ensures.grows, room.links);
+      };
+    }
+
+pub returns-in_err-reserve_exact-clause-ok : goal.returns-in_err-reserve_exact-clause-ok
+returns-in_err-reserve_exact-clause-ok c =
+    IfOk-from_err c.from_residual-in_err-reserve_exact.result _ c.from_residual-in_err-reserve_exact.ensures.0
 
 pub invariant_of-self-2 : goal.invariant_of-self-2
 invariant_of-self-2 c =
     let index = c.self.invariant.index in
     let room = c.self.invariant.room in
-    let counted : vec_len c.self.inside.index.cancels ≡ vec_len c.self.inside.entries =
+    let counted : vec_len c.self.inside.index.cancels ≡ length c.self.inside.entries.items =
     omega (arith, CancelReads.all_counts _ _ index.cancels) in
+    let same = ap length c.reserve.ensures.items in
     let small : c.len.result ≤ c.args.limit =
     omega (arith, c.len.ensures, c.requires, ap (λ (b : Book). length b.entries) c.self.view_is) in
     record {
-      index = same_index _ _ _ c.self.inside.index _ index c.reserve_exact.ensures.items refl refl c.reserve_exact-2.ensures.items refl
-          c.reserve-2.ensures.rows;
-      links = ChainFacts.links_moved _ _ _ _ _ _ c.self.invariant.links refl c.reserve_exact.ensures.items c.reserve.ensures.items;
+      index = same_index _ _ _ c.self.inside.index _ index c.reserve.ensures.items refl refl c.reserve_exact.ensures.items refl
+          c.reserve-3.ensures.rows;
+      links = ChainFacts.links_moved _ _ _ _ _ _ c.self.invariant.links refl c.reserve.ensures.items c.reserve-2.ensures.items;
+      sites = c.reserve.ensures.sites ∙ c.self.invariant.sites;
       room = record {
-        within = at_least c.reserve-2.result _ _ _ _ c.reserve-2.ensures.ok c.reserve-2.ensures.err
-            (omega (arith, small, c.len.ensures, c.reserve_exact.ensures.len)) (omega (arith, c.reserve_exact.ensures.len, room.within));
-        entries = at_most c.reserve-2.result _ _ _ _ c.reserve-2.ensures.ok c.reserve-2.ensures.err
-            (omega (arith, small, c.len.ensures, c.reserve_exact.ensures.len, c.in_ok-reserve_exact.ensures.ok))
-            (omega (arith, c.reserve_exact.ensures.capacity, room.entries));
-        cancels = at_most c.reserve-2.result _ _ _ _ c.reserve-2.ensures.ok c.reserve-2.ensures.err
-            (omega (arith, small, c.len.ensures, counted, c.reserve_exact-2.ensures.len, c.in_ok-reserve_exact-2.ensures.ok))
-            (omega (arith, c.reserve_exact-2.ensures.capacity, room.cancels));
-        links = at_most c.reserve-2.result _ _ _ _ c.reserve-2.ensures.ok c.reserve-2.ensures.err
-            (omega (arith, c.in_ok-reserve.ensures.ok)) (omega (arith, c.reserve.ensures.grows, room.links));
+        within = at_least c.reserve-3.result _ _ _ _ c.reserve-3.ensures.ok c.reserve-3.ensures.err
+            (omega (arith, small, c.len.ensures, same)) (omega (arith, same, room.within));
+        entries = at_most c.reserve-3.result _ _ _ _ c.reserve-3.ensures.ok c.reserve-3.ensures.err
+            (omega (arith, c.in_ok-reserve.ensures.ok)) (omega (arith, c.reserve.ensures.grows, room.entries));
+        cancels = at_most c.reserve-3.result _ _ _ _ c.reserve-3.ensures.ok c.reserve-3.ensures.err
+            (omega (arith, small, c.len.ensures, counted, c.reserve_exact.ensures.len, c.in_ok-reserve_exact.ensures.ok))
+            (omega (arith, c.reserve_exact.ensures.capacity, room.cancels));
+        links = at_most c.reserve-3.result _ _ _ _ c.reserve-3.ensures.ok c.reserve-3.ensures.err
+            (omega (arith, c.in_ok-reserve-2.ensures.ok)) (omega (arith, c.reserve-2.ensures.grows, room.links));
       };
     }
 
 pub returns-clause-err : goal.returns-clause-err
-returns-clause-err c = on_err_weaker c.reserve-2.result
-    (λ e. SeenLists.same_book _ _ _ _ _ _ _ c.self.view_is refl c.reserve_exact.ensures.items
-    (ap (λ n. n - vec_len c.reserve_exact.new.self) e ∙ ap (λ n. c.self.inside.index.rows.limit - n) c.reserve_exact.ensures.len))
-    c.reserve-2.ensures.err
+returns-clause-err c = on_err_weaker c.reserve-3.result
+    (λ e. SeenLists.same_book _ _ _ _ _ _ _ c.self.view_is refl c.reserve.ensures.items
+    (ap (λ n. n - length c.reserve.new.self.items) e ∙ ap (λ us. c.self.inside.index.rows.limit - length us) c.reserve.ensures.items))
+    c.reserve-3.ensures.err

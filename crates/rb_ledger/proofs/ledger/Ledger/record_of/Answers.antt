@@ -12,7 +12,7 @@ use Rattle.rb_ledger.proofs.ledger.Ledger.record_of.Goals as goal
 pub second_before-other_balance-requires-clause-on : goal.second_before-other_balance-requires-clause-on
 second_before-other_balance-requires-clause-on c =
     let index = SeenLists.seen _ _ _ _ c.self.invariant.index c.self.view_is in
-    let here = c.deref.ensures.value ∙ ap (λ (b : Book). b.entries) c.self.view_is in
+    let here = c.all.ensures ∙ ap (λ (b : Book). b.entries) c.self.view_is in
     RecordReads.second_on _ c.args.position c.args.entry.now _ c.requires
     (RecordReads.second_before _ _ _ c.args.position _ _ index.clocked.valid c.requires here c.other-second.ensures)
 
@@ -23,7 +23,7 @@ returns c =
     let index = SeenLists.seen _ _ _ _ c.self.invariant.index c.self.view_is in
     let here = ap (λ (b : Book). b.entries) c.self.view_is in
     let second : c.other-second.result ≡ other_of before h.kind =
-    RecordReads.second_before _ _ _ c.args.position h _ index.clocked.valid c.requires (c.deref.ensures.value ∙ here)
+    RecordReads.second_before _ _ _ c.args.position h _ index.clocked.valid c.requires (c.all.ensures ∙ here)
     c.other-second.ensures in
     let position : c.args.position ≡ length before + 1 = RecordReads.entry_after _ c.args.position h c.requires in
     let target : c.target.result ≡ position_of before (target_of h.kind) =

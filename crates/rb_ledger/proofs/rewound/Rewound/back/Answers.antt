@@ -1,4 +1,5 @@
 use Rattle.std.proofs.Common.{◌≡◌, ◌+◌, ◌-◌, ◌++◌, ◌∷◌, [], vec_len, length, take, subst, sym, ap, ◌∙◌, refl, arith, length-take-le}
+use Rattle.rb_money.specs.Settings.{Settings}
 use Rattle.rb_ledger.specs.Valid.{parts_of}
 use Rattle.rb_ledger.specs.Index.{IsIndex, IsLinked}
 use Rattle.rb_ledger.specs.Rewinding.{Rewinding}
@@ -15,12 +16,12 @@ pop-requires-in-Some c =
     let link = Cursors.linked _ _ _ _ latest.last c.at-links.result c.self.invariant.at.links latest.there
     c.at-links.ensures in (
       latest.last,
-      subst (λ us. IsIndex c.self.inside.index.config (take (c.self.inside.at - 1) us ++ latest.last
-          ∷ []) c.self.inside.index) (sym c.deref.ensures.value) latest.index,
-      c.spend.ensures ∙ latest.parts ∙ ap (λ us. parts_of c.self.inside.index.config (take (c.self.inside.at - 1) us) latest.last)
-          (sym c.deref.ensures.value),
-      subst (λ us. IsLinked c.self.inside.index.config (take (c.self.inside.at - 1) us) latest.last c.at-links.result)
-          (sym c.deref.ensures.value) link,
+      subst (λ us. IsIndex c.self.inside.index.config (us ++ latest.last
+          ∷ []) c.self.inside.index) (sym c.first-before.ensures) latest.index,
+      c.spend.ensures ∙ latest.parts ∙ ap (λ us. parts_of c.self.inside.index.config us latest.last)
+          (sym c.first-before.ensures),
+      subst (λ us. IsLinked c.self.inside.index.config us latest.last c.at-links.result)
+          (sym c.first-before.ensures) link,
     )
 
 pub invariant_of-self : goal.invariant_of-self
@@ -30,8 +31,9 @@ invariant_of-self c =
     let room = c.self.invariant.room in
     record {
       at = Cursors.back _ _ _ _ _ _ _ _ _ c.in-Some.undo c.self.invariant.at next c.in-Some.ensures.0 c.in-Some.ensures.1
-          (subst (λ us. IsIndex c.self.inside.index.config (take (c.self.inside.at - 1) us) c.pop-in-Some.new.self) c.deref.ensures.value
+          (subst (λ us. IsIndex c.self.inside.index.config us c.pop-in-Some.new.self) c.first-before.ensures
           c.pop-in-Some.ensures.index);
+      sites = c.self.invariant.sites ∙ sym (ap (λ (s : Settings). s.sites) c.pop-in-Some.ensures.index.config);
       room = record {
         within = omega (arith, c.pop-in-Some.ensures.limit, room.within);
         entries = omega (arith, c.pop-in-Some.ensures.limit, room.entries);
@@ -52,19 +54,18 @@ overflow_sub-self c =
 
 pub returns-clause-ledger : goal.returns-clause-ledger
 returns-clause-ledger c = SeenLists.same_book c.self.inside.index.config _ _ _ _ _ _ (ap (λ (w : Rewinding). w.ledger) c.self.view_is)
-    c.pop-in-Some.ensures.index.config refl (ap (λ n. n - vec_len c.self.inside.entries) c.pop-in-Some.ensures.limit)
+    c.pop-in-Some.ensures.index.config refl (ap (λ n. n - length c.self.inside.entries.items) c.pop-in-Some.ensures.limit)
 
 pub returns-clause-log : goal.returns-clause-log
 returns-clause-log c =
     let here : c.self.inside.at ≡ c.args.self.now.at = ap (λ (w : Rewinding). w.at) c.self.view_is in
-    let len = vec_len c.self.inside.entries in
+    let len = length c.self.inside.entries.items in
     let same : c.pop.new.self.room - (len - (c.self.inside.at - 1)) ≡ c.self.inside.log.room - (len - c.self.inside.at) = omega (
       arith,
       c.requires,
       here,
       c.in-Some.ensures.1,
       c.self.invariant.at.within,
-      c.self.inside.entries.ok.0,
     ) in
     ap (λ s. Cursors.log (records_of s c.self.inside.entries.items) (c.pop.new.self.room - (len - (c.self.inside.at - 1))))
     c.pop-in-Some.ensures.index.config
@@ -75,10 +76,6 @@ pub returns-clause-at : goal.returns-clause-at
 returns-clause-at c =
     let here : c.self.inside.at ≡ c.args.self.now.at = ap (λ (w : Rewinding). w.at) c.self.view_is in
     omega (arith, c.requires, here)
-
-pub slice_bounds-before-end : goal.slice_bounds-before-end
-slice_bounds-before-end c = sym (length-take-le (c.self.inside.at - 1) c.deref.result.now
-    (omega (arith, c.self.invariant.at.within, ap length c.deref.ensures.value)))
 
 pub at-links-requires : goal.at-links-requires
 at-links-requires c =

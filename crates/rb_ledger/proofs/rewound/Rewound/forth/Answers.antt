@@ -1,4 +1,5 @@
 use Rattle.std.proofs.Common.{◌≡◌, ◌<◌, ◌++◌, ◌∷◌, [], vec_len, length, take, subst, sym, ap, ◌∙◌, refl, arith, length-take-le, ◌+◌, ◌-◌}
+use Rattle.rb_money.specs.Settings.{Settings}
 use Rattle.rb_ledger.specs.Valid.{IsValid, parts_of}
 use Rattle.rb_ledger.specs.Index.{IsIndex, IsLinked}
 use Rattle.rb_ledger.specs.Rewinding.{Rewinding}
@@ -11,58 +12,47 @@ use Rattle.rb_ledger.proofs.rewound.Rewound.forth.Goals as goal
 
 pub parts-parts-requires-clause-longer : goal.parts-parts-requires-clause-longer
 parts-parts-requires-clause-longer c =
-    let count : vec_len c.self.inside.entries ≡ length c.self.inside.entries.items = c.self.inside.entries.ok.0 in
     let here : c.self.inside.at ≡ c.args.self.now.at = ap (λ (w : Rewinding). w.at) c.self.view_is in
     let all : length c.self.inside.entries.items ≡ length c.args.self.now.ledger.entries =
     ap (λ (w : Rewinding). length w.ledger.entries) c.self.view_is in
-    let near : c.self.inside.at < vec_len c.self.inside.entries = omega (arith, c.requires, here, all, count) in
-    let there = ReadItems.read_item c.self.inside.entries.items c.self.inside.at c.self.inside.at _ c.index.result.now count near refl
-    c.index.ensures in
-    subst (λ us. IsValid c.self.inside.index.config (take c.self.inside.at us ++ c.index.result.now
-    ∷ [])) (sym c.deref.ensures.value) (Cursors.next _ _ _ _ c.self.invariant.at.valid there)
+    let there = sym c.get.ensures ∙ c.unwrap-shadow.ensures in
+    subst (λ us. IsValid c.self.inside.index.config (us ++ c.unwrap-shadow.result
+    ∷ [])) (sym c.first-before.ensures) (Cursors.next _ _ _ _ c.self.invariant.at.valid there)
 
 pub push-requires-clause-longer : goal.push-requires-clause-longer
 push-requires-clause-longer c =
-    let count : vec_len c.self.inside.entries ≡ length c.self.inside.entries.items = c.self.inside.entries.ok.0 in
     let here : c.self.inside.at ≡ c.args.self.now.at = ap (λ (w : Rewinding). w.at) c.self.view_is in
     let all : length c.self.inside.entries.items ≡ length c.args.self.now.ledger.entries =
     ap (λ (w : Rewinding). length w.ledger.entries) c.self.view_is in
-    let near : c.self.inside.at < vec_len c.self.inside.entries = omega (arith, c.requires, here, all, count) in
-    let there = ReadItems.read_item c.self.inside.entries.items c.self.inside.at c.self.inside.at _ c.index.result.now count near refl
-    c.index.ensures in
-    subst (λ us. IsValid c.self.inside.index.config (take c.self.inside.at us ++ c.index.result.now
-    ∷ [])) (sym c.deref.ensures.value) (Cursors.next _ _ _ _ c.self.invariant.at.valid there)
+    let there = sym c.get.ensures ∙ c.unwrap-shadow.ensures in
+    subst (λ us. IsValid c.self.inside.index.config (us ++ c.unwrap-shadow.result
+    ∷ [])) (sym c.first-before.ensures) (Cursors.next _ _ _ _ c.self.invariant.at.valid there)
 
 pub push-requires-clause-links : goal.push-requires-clause-links
 push-requires-clause-links c =
-    let count : vec_len c.self.inside.entries ≡ length c.self.inside.entries.items = c.self.inside.entries.ok.0 in
     let here : c.self.inside.at ≡ c.args.self.now.at = ap (λ (w : Rewinding). w.at) c.self.view_is in
     let all : length c.self.inside.entries.items ≡ length c.args.self.now.ledger.entries =
     ap (λ (w : Rewinding). length w.ledger.entries) c.self.view_is in
-    let near : c.self.inside.at < vec_len c.self.inside.entries = omega (arith, c.requires, here, all, count) in
-    let there = ReadItems.read_item c.self.inside.entries.items c.self.inside.at c.self.inside.at _ c.index.result.now count near refl
-    c.index.ensures in
+    let there = sym c.get.ensures ∙ c.unwrap-shadow.ensures in
     let link = Cursors.linked _ _ _ _ _ c.at-links.result c.self.invariant.at.links there c.at-links.ensures in
-    subst (λ us. IsLinked c.self.inside.index.config (take c.self.inside.at us) c.index.result.now c.at-links.result)
-    (sym c.deref.ensures.value) link
+    subst (λ us. IsLinked c.self.inside.index.config us c.unwrap-shadow.result c.at-links.result)
+    (sym c.first-before.ensures) link
 
 pub invariant_of-self : goal.invariant_of-self
 invariant_of-self c =
-    let count : vec_len c.self.inside.entries ≡ length c.self.inside.entries.items = c.self.inside.entries.ok.0 in
     let here : c.self.inside.at ≡ c.args.self.now.at = ap (λ (w : Rewinding). w.at) c.self.view_is in
     let all : length c.self.inside.entries.items ≡ length c.args.self.now.ledger.entries =
     ap (λ (w : Rewinding). length w.ledger.entries) c.self.view_is in
-    let near : c.self.inside.at < vec_len c.self.inside.entries = omega (arith, c.requires, here, all, count) in
-    let there = ReadItems.read_item c.self.inside.entries.items c.self.inside.at c.self.inside.at _ c.index.result.now count near refl
-    c.index.ensures in
+    let there = sym c.get.ensures ∙ c.unwrap-shadow.ensures in
     let room = c.self.invariant.room in
     record {
       at = Cursors.forth _ _ _ _ _ _ _ _ _ _ c.new.result c.self.invariant.at refl there
-          (c.new.ensures ∙ c.parts-parts.ensures ∙ ap (λ us. parts_of c.self.inside.index.config (take c.self.inside.at us)
-          c.index.result.now) c.deref.ensures.value)
+          (c.new.ensures ∙ c.parts-parts.ensures ∙ ap (λ us. parts_of c.self.inside.index.config us
+          c.unwrap-shadow.result) c.first-before.ensures)
           c.push_reserved.ensures.parts c.push_reserved.ensures.room
-          (subst (λ us. IsIndex c.self.inside.index.config (take c.self.inside.at us ++ c.index.result.now
-          ∷ []) c.push.new.self) c.deref.ensures.value c.push.ensures.index);
+          (subst (λ us. IsIndex c.self.inside.index.config (us ++ c.unwrap-shadow.result
+          ∷ []) c.push.new.self) c.first-before.ensures c.push.ensures.index);
+      sites = c.self.invariant.sites ∙ sym (ap (λ (s : Settings). s.sites) c.push.ensures.index.config);
       room = record {
         within = omega (arith, c.push.ensures.limit, room.within);
         entries = omega (arith, c.push.ensures.limit, room.entries);
@@ -72,8 +62,8 @@ invariant_of-self c =
     }
 
 pub parts-parts-requires-clause-index : goal.parts-parts-requires-clause-index
-parts-parts-requires-clause-index c = subst (λ us. IsIndex c.self.inside.index.config (take c.self.inside.at us)
-    c.self.inside.index) (sym c.deref.ensures.value) c.self.invariant.at.index
+parts-parts-requires-clause-index c = subst (λ us. IsIndex c.self.inside.index.config us
+    c.self.inside.index) (sym c.first-before.ensures) c.self.invariant.at.index
 
 pub push_reserved-requires : goal.push_reserved-requires
 push_reserved-requires c =
@@ -87,32 +77,21 @@ push-requires-clause-cancels c =
     let here : c.self.inside.at ≡ c.args.self.now.at = ap (λ (w : Rewinding). w.at) c.self.view_is in
     let all : length c.self.inside.entries.items ≡ length c.args.self.now.ledger.entries =
     ap (λ (w : Rewinding). length w.ledger.entries) c.self.view_is in
-    let small = length-take-le c.self.inside.at c.deref.result.now
-    (omega (arith, c.self.invariant.at.within, ap length c.deref.ensures.value)) in
+    let small = ap length c.first-before.ensures ∙ length-take-le c.self.inside.at c.self.inside.entries.items
+    (omega (arith, c.self.invariant.at.within)) in
     let room = c.self.invariant.room in
-    omega (arith, small, c.requires, here, all, c.self.inside.entries.ok.0, room.within, room.cancels)
-
-pub index-requires : goal.index-requires
-index-requires c =
-    let here : c.self.inside.at ≡ c.args.self.now.at = ap (λ (w : Rewinding). w.at) c.self.view_is in
-    let all : length c.self.inside.entries.items ≡ length c.args.self.now.ledger.entries =
-    ap (λ (w : Rewinding). length w.ledger.entries) c.self.view_is in
-    omega (arith, c.requires, here, all, c.self.inside.entries.ok.0)
-
-pub slice_bounds-before-end : goal.slice_bounds-before-end
-slice_bounds-before-end c = sym (length-take-le c.self.inside.at c.deref.result.now
-    (omega (arith, c.self.invariant.at.within, ap length c.deref.ensures.value)))
+    omega (arith, small, c.requires, here, all, room.within, room.cancels)
 
 pub at-links-requires : goal.at-links-requires
 at-links-requires c =
     let here : c.self.inside.at ≡ c.args.self.now.at = ap (λ (w : Rewinding). w.at) c.self.view_is in
     let all : length c.self.inside.entries.items ≡ length c.args.self.now.ledger.entries =
     ap (λ (w : Rewinding). length w.ledger.entries) c.self.view_is in
-    omega (arith, c.requires, here, all, c.self.invariant.at.links.count, c.self.inside.entries.ok.0)
+    omega (arith, c.requires, here, all, c.self.invariant.at.links.count)
 
 pub push-requires-clause-index : goal.push-requires-clause-index
-push-requires-clause-index c = subst (λ us. IsIndex c.self.inside.index.config (take c.self.inside.at us) c.self.inside.index)
-    (sym c.deref.ensures.value) c.self.invariant.at.index
+push-requires-clause-index c = subst (λ us. IsIndex c.self.inside.index.config us c.self.inside.index)
+    (sym c.first-before.ensures) c.self.invariant.at.index
 
 pub push-requires-clause-parts : goal.push-requires-clause-parts
 push-requires-clause-parts c = c.parts-parts.ensures
@@ -122,9 +101,9 @@ push-requires-clause-rows c =
     let here : c.self.inside.at ≡ c.args.self.now.at = ap (λ (w : Rewinding). w.at) c.self.view_is in
     let all : length c.self.inside.entries.items ≡ length c.args.self.now.ledger.entries =
     ap (λ (w : Rewinding). length w.ledger.entries) c.self.view_is in
-    let small = length-take-le c.self.inside.at c.deref.result.now
-    (omega (arith, c.self.invariant.at.within, ap length c.deref.ensures.value)) in
-    omega (arith, small, c.requires, here, all, c.self.inside.entries.ok.0, c.self.invariant.room.within)
+    let small = ap length c.first-before.ensures ∙ length-take-le c.self.inside.at c.self.inside.entries.items
+    (omega (arith, c.self.invariant.at.within)) in
+    omega (arith, small, c.requires, here, all, c.self.invariant.room.within)
 
 pub overflow_add-self : goal.overflow_add-self
 overflow_add-self c =
@@ -141,20 +120,19 @@ overflow_add-self c =
 
 pub returns-clause-ledger : goal.returns-clause-ledger
 returns-clause-ledger c = SeenLists.same_book c.self.inside.index.config _ _ _ _ _ _ (ap (λ (w : Rewinding). w.ledger) c.self.view_is)
-    c.push.ensures.index.config refl (ap (λ n. n - vec_len c.self.inside.entries) c.push.ensures.limit)
+    c.push.ensures.index.config refl (ap (λ n. n - length c.self.inside.entries.items) c.push.ensures.limit)
 
 pub returns-clause-log : goal.returns-clause-log
 returns-clause-log c =
     let here : c.self.inside.at ≡ c.args.self.now.at = ap (λ (w : Rewinding). w.at) c.self.view_is in
     let all : length c.self.inside.entries.items ≡ length c.args.self.now.ledger.entries =
     ap (λ (w : Rewinding). length w.ledger.entries) c.self.view_is in
-    let len = vec_len c.self.inside.entries in
+    let len = length c.self.inside.entries.items in
     let same : c.push_reserved.new.self.room - (len - (c.self.inside.at + 1)) ≡ c.self.inside.log.room - (len - c.self.inside.at) = omega (
       arith,
       c.requires,
       here,
       all,
-      c.self.inside.entries.ok.0,
       c.push_reserved.ensures.room,
     ) in
     ap (λ s. Cursors.log (records_of s c.self.inside.entries.items) (c.push_reserved.new.self.room - (len - (c.self.inside.at + 1))))

@@ -1,4 +1,4 @@
-use Rattle.std.proofs.Common.{◌≡◌, length, vec_len, ap, ◌∙◌, arith}
+use Rattle.std.proofs.Common.{◌≡◌, length, refl, ap, ◌∙◌, arith}
 use Rattle.rb_ledger.specs.Rewinding.{Rewinding}
 use Rattle.rb_ledger.proofs.Cursors
 use Rattle.rb_ledger.proofs.rewound.Rewound.into_parts.Goals as goal
@@ -11,6 +11,7 @@ invariant_of-result c =
     record {
       index = Cursors.last_index _ _ _ _ _ _ c.self.invariant.at (omega (arith, c.requires, here, all));
       links = c.self.invariant.at.links;
+      sites = c.self.invariant.sites;
       room = c.self.invariant.room;
     }
 
@@ -19,6 +20,5 @@ returns-clause-log c =
     let here : c.self.inside.at ≡ c.args.self.at = ap (λ (w : Rewinding). w.at) c.self.view_is in
     let all : length c.self.inside.entries.items ≡ length c.args.self.ledger.entries =
     ap (λ (w : Rewinding). length w.ledger.entries) c.self.view_is in
-    let count : vec_len c.self.inside.entries ≡ length c.self.inside.entries.items = c.self.inside.entries.ok.0 in
-    Cursors.last_log _ _ _ _ _ _ _ c.self.invariant.at (omega (arith, c.requires, here, all)) count
+    Cursors.last_log _ _ _ _ _ _ _ c.self.invariant.at (omega (arith, c.requires, here, all)) refl
     ∙ ap (λ (w : Rewinding). w.log) c.self.view_is

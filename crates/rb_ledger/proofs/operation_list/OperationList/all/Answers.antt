@@ -1,0 +1,23 @@
+use Rattle.std.proofs.Common.{ap, sym, ◌∙◌, arith, length}
+use Rattle.std.proofs.lemmas.List.{take_all}
+use Rattle.rb_ledger.specs.OperationLists.{OperationTable}
+use Rattle.rb_ledger.proofs.OperationTables
+use Rattle.rb_ledger.proofs.operation_list.OperationList.all.Goals as goal
+
+pub invariant_of-result : goal.invariant_of-result
+invariant_of-result c = omega (
+  arith,
+  c.len.ensures,
+  c.self.inside.bodies.ok.0,
+  OperationTables.as_many c.self.inside.sites c.self.inside.bodies.items c.self.inside.counts.items,
+  ap (λ (t : OperationTable). length t.items) c.self.view_is,
+)
+
+pub returns : goal.returns
+returns c = take_all c.len.result c.args.self.now.items (omega (
+  arith,
+  c.len.ensures,
+  c.self.inside.bodies.ok.0,
+  OperationTables.as_many c.self.inside.sites c.self.inside.bodies.items c.self.inside.counts.items,
+  ap (λ (t : OperationTable). length t.items) c.self.view_is,
+))

@@ -1,0 +1,13 @@
+use Rattle.std.proofs.Common.{ap, arith, length}
+use Rattle.rb_ledger.specs.OperationLists.{OperationTable}
+use Rattle.rb_ledger.proofs.OperationTables
+use Rattle.rb_ledger.proofs.operation_list.OperationList.len.Goals as goal
+
+pub returns : goal.returns
+returns c = omega (
+  arith,
+  c.len.ensures,
+  c.self.inside.bodies.ok.0,
+  OperationTables.as_many c.self.inside.sites c.self.inside.bodies.items c.self.inside.counts.items,
+  ap (λ (t : OperationTable). length t.items) c.self.view_is,
+)

@@ -1,0 +1,26 @@
+use Rattle.std.proofs.Common.{ap, ◌∙◌, ◌<◌, arith, get_or, length}
+use Rattle.rb_shadow.specs.Operations.{receiver_of}
+use Rattle.rb_ledger.specs.OperationLists.{OperationTable}
+use Rattle.rb_ledger.proofs.OperationTables
+use Rattle.rb_ledger.proofs.operation_list.OperationList.receiver.Goals as goal
+
+pub index-requires : goal.index-requires
+index-requires c = omega (
+  arith,
+  c.requires,
+  c.self.inside.bodies.ok.0,
+  OperationTables.as_many c.self.inside.sites c.self.inside.bodies.items c.self.inside.counts.items,
+  ap (λ (t : OperationTable). length t.items) c.self.view_is,
+)
+
+pub returns : goal.returns
+returns c = λ d.
+    let near : c.args.index < length c.self.inside.bodies.items = omega (
+      arith,
+      c.requires,
+      OperationTables.as_many c.self.inside.sites c.self.inside.bodies.items c.self.inside.counts.items,
+      ap (λ (t : OperationTable). length t.items) c.self.view_is,
+    ) in
+    c.receiver.ensures
+    ∙ ap receiver_of (OperationTables.kind_at c.self.inside.sites _ c.self.inside.counts.items _ _ d near c.index.ensures
+    ∙ ap (λ (t : OperationTable). (get_or t.items c.args.index d).kind) c.self.view_is)
