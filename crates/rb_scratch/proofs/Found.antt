@@ -1,8 +1,8 @@
 -- What is found by its name.
 use Rattle.rb_money.specs.Refusals.{unless}
-use Rattle.std.proofs.Common.{◌≡◌, ℕ, Bool, true, false, cond, not, List, refl, ap, sym, ◌∙◌, Option, Some, None, Result, Ok, Err, Bor}
+use Rattle.std.proofs.Common.{◌≡◌, ℕ, Bool, true, false, cond, not, List, refl, ap, sym, ◌∙◌, Option, Some, None, Result, Ok, Err}
 use Rattle.std.proofs.Common.{rules}
-use Rattle.std.specs.Prelude.{option_map, option_and_then, IsSome, option_copied}
+use Rattle.std.specs.Prelude.{option_map, option_and_then, IsSome}
 use Rattle.rb_shadow.specs.declared.shadow.Shadow.{Shadow}
 use Rattle.rb_shadow.specs.declared.op_name.OpName.{OpName}
 use Rattle.rb_shadow.specs.Operations.{names, find_in, kind_in, may_be_cancelled, is_cancelled}
@@ -55,18 +55,18 @@ pub record IsFound (us : List Shadow) (x : OpName) (p : ℕ) (t : Shadow) : Type
   pub found : find_in us x ≡ Some t
 
 -- what was read at that position is that operation
-pub is_found : (us : List Shadow) (x : OpName) (p : ℕ) (r : Option (Bor Shadow)) (b : Bor Shadow) → find_position us x ≡ Some p →
-    option_copied r ≡ operation_at us p → r ≡ Some b → IsFound us x p b.now
-is_found us x p r b at copied some =
-    let e : operation_at us p ≡ Some b.now = sym copied ∙ ap option_copied some in
+pub is_found : (us : List Shadow) (x : OpName) (p : ℕ) (r : Option Shadow) (t : Shadow) → find_position us x ≡ Some p →
+    r ≡ operation_at us p → r ≡ Some t → IsFound us x p t
+is_found us x p r t at read some =
+    let e : operation_at us p ≡ Some t = sym read ∙ some in
     record { entry = e; found = sym (at_position us x p at) ∙ e }
 
 -- what is found is there to be read
-pub readable : (us : List Shadow) (x : OpName) (p : ℕ) (r : Option (Bor Shadow)) → find_position us x ≡ Some p →
-    option_copied r ≡ operation_at us p → IsSome r
-readable us x p r at copied = let (t, found) = found_there us x p at in some r t (copied ∙ at_position us x p at ∙ found)
+pub readable : (us : List Shadow) (x : OpName) (p : ℕ) (r : Option Shadow) → find_position us x ≡ Some p →
+    r ≡ operation_at us p → IsSome r
+readable us x p r at read = let (t, found) = found_there us x p at in some r t (read ∙ at_position us x p at ∙ found)
   where
-    some : (r : Option (Bor Shadow)) (t : Shadow) → option_copied r ≡ Some t → IsSome r
+    some : (r : Option Shadow) (t : Shadow) → r ≡ Some t → IsSome r
     some None t h = cc
     some (Some b) t h = search rules
 

@@ -57,9 +57,7 @@ fn last_entries(alloc: Global, ledger: &Ledger, undos: &Records) -> Result<Vec<S
         return Ok(Vec::new(alloc));
     }
     let entries = ledger.entries();
-    let first = entries.len() - count;
-    let shadows = entries[first..].to_vec(alloc)?;
-    Ok(shadows)
+    entries.copy_from(alloc, entries.len() - count)
 }
 
 /// Runs a request on a ledger, at the site of the token's view, unless there are too many records.

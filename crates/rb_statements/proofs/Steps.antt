@@ -1,8 +1,7 @@
 -- The rows of a statement, from one operation on the account back to the one before.
 use Rattle.std.proofs.Common.{◌≡◌, ℕ, ◌+◌, ◌-◌, ◌<◌, ◌≤◌, Bool, true, false, cond, List, [], ◌∷◌, ◌++◌, length, take, drop, reverse, refl}
 use Rattle.std.proofs.Common.{ap, sym, ◌∙◌, subst, arith, append_assoc}
-use Rattle.std.specs.Borrow.{Bor}
-use Rattle.std.specs.Prelude.{ℤ, pos, neg_ℤ, ◌+ℤ◌, ◌≤ℤ◌, ◌==◌, slice_get, Option, Some, None, option_map, option_copied, option_and_then}
+use Rattle.std.specs.Prelude.{ℤ, pos, neg_ℤ, ◌+ℤ◌, ◌≤ℤ◌, ◌==◌, slice_get, Option, Some, None, option_map, option_and_then}
 use Rattle.std.specs.Prelude.{is_some, IsSome}
 use Rattle.std.proofs.lemmas.Int.{ints}
 use Rattle.std.proofs.lemmas.Bool.Decides.{nat_tests}
@@ -35,8 +34,7 @@ entry_there : (us : List Shadow) (a : Place) (p : ℕ) → IsOn us a p → 0 < p
 entry_there us a p on some = let (u, there, own) = OnAccount.on_entry us a p on some in (u, entry_here us p some ∙ there)
 
 -- at a position on the account an operation is read
-pub has_entry : (us : List Shadow) (a : Place) (p : ℕ) (o : Option (Bor Shadow)) → IsOn us a p → 0 < p → option_copied o ≡ operation_at us p
-    → IsSome o
+pub has_entry : (us : List Shadow) (a : Place) (p : ℕ) (o : Option Shadow) → IsOn us a p → 0 < p → o ≡ operation_at us p → IsSome o
 has_entry us a p None on some e = let (u, there) = entry_there us a p on some in let same : None ≡ Some u = e ∙ there in cc
 has_entry us a p (Some x) on some e = refl
 
@@ -53,13 +51,13 @@ has_moved s us a p None on some e = let same : None ≡ Some (bal s (take p us) 
 has_moved s us a p (Some z) on some e = refl
 
 -- the operation that is found there
-pub found_there : (us : List Shadow) (a : Place) (p : ℕ) (o : Option (Bor Shadow)) (x : Bor Shadow) → IsOn us a p → 0 < p →
-    option_copied o ≡ operation_at us p → o ≡ Some x → (slice_get us (p - 1) ≡ Some x.now) × (is_on (take (p - 1) us) x.now a ≡ true)
+pub found_there : (us : List Shadow) (a : Place) (p : ℕ) (o : Option Shadow) (x : Shadow) → IsOn us a p → 0 < p →
+    o ≡ operation_at us p → o ≡ Some x → (slice_get us (p - 1) ≡ Some x) × (is_on (take (p - 1) us) x a ≡ true)
 found_there us a p o x on some e is =
     let (u, there, own) = OnAccount.on_entry us a p on some in
-    let found : slice_get us (p - 1) ≡ Some x.now = sym (entry_here us p some) ∙ sym e ∙ ap option_copied is in
-    let both : Some x.now ≡ Some u = sym found ∙ there in
-    let same : x.now ≡ u = cc in
+    let found : slice_get us (p - 1) ≡ Some x = sym (entry_here us p some) ∙ sym e ∙ is in
+    let both : Some x ≡ Some u = sym found ∙ there in
+    let same : x ≡ u = cc in
     (found, ap (λ (v : Shadow). is_on (take (p - 1) us) v a) same ∙ own)
 
 -- what it moved

@@ -17,7 +17,7 @@ unwrap-found-requires c = Found.readable c.args.ledger.now.entries c.args.target
 pub returns-then-not-may_be_cancelled-clause-reason : goal.returns-then-not-may_be_cancelled-clause-reason
 unfolding plan_of
 returns-then-not-may_be_cancelled-clause-reason c =
-    let is : IsFound c.args.ledger.now.entries c.args.target c.in-Some.position c.unwrap-found.result.now =
+    let is : IsFound c.args.ledger.now.entries c.args.target c.in-Some.position c.unwrap-found.result =
     Found.is_found _ _ _ c.entry.result c.unwrap-found.result (sym c.find.ensures ∙ c.in-Some.is) c.entry.ensures c.unwrap-found.ensures
     in
     Found.uncancellable c.args.ledger.now.entries c.args.target _ is.found (sym c.may_be_cancelled.ensures ∙ c.if-not-may_be_cancelled.true)
@@ -25,7 +25,7 @@ returns-then-not-may_be_cancelled-clause-reason c =
 pub returns-in-Some-first_cancel-clause-reason : goal.returns-in-Some-first_cancel-clause-reason
 unfolding plan_of
 returns-in-Some-first_cancel-clause-reason c =
-    let is : IsFound c.args.ledger.now.entries c.args.target c.in-Some.position c.unwrap-found.result.now =
+    let is : IsFound c.args.ledger.now.entries c.args.target c.in-Some.position c.unwrap-found.result =
     Found.is_found _ _ _ c.entry.result c.unwrap-found.result (sym c.find.ensures ∙ c.in-Some.is) c.entry.ensures c.unwrap-found.ensures
     in
     Found.cancelled_at c.args.ledger.now.entries c.args.target _ _ _ _ is (sym c.may_be_cancelled.ensures
@@ -34,7 +34,7 @@ returns-in-Some-first_cancel-clause-reason c =
 pub returns-clause-planned : goal.returns-clause-planned
 unfolding plan_of
 returns-clause-planned c =
-    let is : IsFound c.args.ledger.now.entries c.args.target c.in-Some.position c.unwrap-found.result.now =
+    let is : IsFound c.args.ledger.now.entries c.args.target c.in-Some.position c.unwrap-found.result =
     Found.is_found _ _ _ c.entry.result c.unwrap-found.result (sym c.find.ensures ∙ c.in-Some.is) c.entry.ensures c.unwrap-found.ensures
     in
     Found.planned_to_cancel c.args.ledger.now.entries c.args.target _ _ _ is (sym c.may_be_cancelled.ensures
@@ -42,7 +42,7 @@ returns-clause-planned c =
 
 pub returns-clause-colour : goal.returns-clause-colour
 returns-clause-colour c =
-    let is : IsFound c.args.ledger.now.entries c.args.target c.in-Some.position c.unwrap-found.result.now =
+    let is : IsFound c.args.ledger.now.entries c.args.target c.in-Some.position c.unwrap-found.result =
     Found.is_found _ _ _ c.entry.result c.unwrap-found.result (sym c.find.ensures ∙ c.in-Some.is) c.entry.ensures c.unwrap-found.ensures
     in
     c.colour.ensures ∙ ap (colour_of (Cancel c.args.target)) (sym (Found.kind_is _ _ _ _ is))

@@ -17,7 +17,7 @@ returns-clause-row c =
     in
     let moved = to_z-of_z w64 c.unwrap-moved.result fits ∙ Steps.moved_there _ _ _ _ _ _ c.requires.on c.requires.some c.moved.ensures.moved
     c.unwrap-moved.ensures in
-    Steps.own_row _ _ _ _ c.unwrap-entry.result.now _ _ c.first_cancel.result _ _ c.requires.some there own c.label.ensures moved
+    Steps.own_row _ _ _ _ c.unwrap-entry.result _ _ c.first_cancel.result _ _ c.requires.some there own c.label.ensures moved
     c.first_cancel.ensures c.is_some.ensures c.requires.sum
 
 pub returns-clause-moved : goal.returns-clause-moved
