@@ -1,6 +1,6 @@
 -- There is memory for a report.
 use Rattle.std.proofs.Common.{◌≡◌, ◌∙◌, ℕ, ◌+◌, ◌<◌, ◌≤◌, Bool, true, false, cond, not, List, [], ◌∷◌, ◌++◌, length, ap, arith, refl, sym}
-use Rattle.std.proofs.Common.{subst, take, get_or, append_assoc, length-append}
+use Rattle.std.proofs.Common.{subst, take, drop, get_or, append_assoc, length-append}
 use Rattle.std.specs.Prelude.{zero, suc, Some, map, option_map, slice_get}
 use Rattle.std.proofs.lemmas.List.{length-map, map-append, take_all, take_more}
 use Rattle.std.proofs.lemmas.List.Sums.{length-filter, count_by-le-length}
@@ -20,6 +20,8 @@ use Rattle.rb_site.specs.Histories.{events_of}
 use Rattle.rb_site.specs.Reports.{IsEnough, RoomFor}
 use Rattle.rb_site.specs.Seen.{SeenSite, next_site, next_sites, state_of}
 use Rattle.rb_site.specs.States.{Follows, IsStanding, SiteState}
+use Rattle.std.proofs.lemmas.Option.{get_or_from_slice_get, slice_get_within}
+use Rattle.rb_ledger.proofs.Public.Fronts
 use Rattle.rb_site.proofs.Public.Runs
 
 -- ---- what is applied grows by what is sent at most
@@ -147,3 +149,12 @@ pushed_behind f xs k d front old new there so_far pushed =
     ∙ ap (λ bs. bs ++ f (get_or xs k d) ∷ []) so_far
     ∙ append_assoc front (map f (take k xs)) (f (get_or xs k d) ∷ [])
     ∙ ap (λ bs. front ++ bs) (mapped_more f xs k d there)
+
+-- the same of what was read at an index behind the first ones
+pub pushed_read : {B : Type 0} (f : Shadow → B) (first : ℕ) (xs : List Shadow) (k : ℕ) (u : Shadow) (front old new : List B) →
+    slice_get xs (first + k) ≡ Some u → old ≡ front ++ map f (take k (drop first xs)) → new ≡ old ++ f u ∷ [] →
+    new ≡ front ++ map f (take (k + 1) (drop first xs))
+pushed_read f first xs k u front old new there so_far added =
+    let here : slice_get (drop first xs) k ≡ Some u = Fronts.get_dropped first xs k ∙ there in
+    pushed_behind f (drop first xs) k u front old new (slice_get_within (drop first xs) k u here) so_far
+    (added ∙ ap (λ v. old ++ f v ∷ []) (sym (get_or_from_slice_get (drop first xs) k u u here)))

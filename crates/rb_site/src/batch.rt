@@ -71,7 +71,7 @@ fn answer_of_last(ledger: &Ledger, count: usize, room: BatchRoom, sent: &mut Vec
 {
     let entries = ledger.entries();
     let first = entries.len() - count;
-    room.filled(&entries[first..], sent)
+    room.filled(entries, first, sent)
 }
 
 /// Makes the requests at the site of the token's view, each after those before it: all of them or none.

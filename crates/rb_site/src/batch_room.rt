@@ -1,5 +1,5 @@
 //! Memory for the answer to a batch.
-ghost use Rattle.std.specs.Prelude.{◌≡◌, ◌+◌, ◌≤◌, ◌++◌, [], IfOk, length, map, vec_len, vec_capacity};
+ghost use Rattle.std.specs.Prelude.{◌≡◌, ◌+◌, ◌≤◌, ◌++◌, [], IfOk, drop, length, map, vec_len, vec_capacity};
 ghost use Rattle.rb_scratch.specs.Batches.{names_of_all};
 ghost use Rattle.rb_site.specs.Rooms.{IsRoomFor};
 ghost use Rattle.rb_site.specs.States.{Says};
@@ -7,7 +7,8 @@ ghost use Rattle.rb_site.specs.States.{Says};
 use crate::answer::Answer;
 use crate::{Message, Reply};
 use rb_kit::List;
-use rb_shadow::{OpName, Shadow};
+use rb_ledger::OperationList;
+use rb_shadow::OpName;
 use std::alloc::{AllocError, Global};
 use std::marker::Model;
 
@@ -60,12 +61,12 @@ impl BatchRoom {
         })
     }
 
-    /// The answer that names the operations, each of which is sent. There is memory for them.
-    pub fn filled(self, made: &[Shadow], sent: &mut Vec<Message>) -> Answer
-        requires few { length made.now ≤ self.most }
-        requires room { vec_len sent.old + length made.now ≤ vec_capacity sent.old }
-        ensures answer { Says self.keeps result (Reply.Names (names_of_all made.now)) }
-        ensures sent { sent.new.items ≡ sent.old.items ++ map Message.Shadow made.now }
+    /// The answer that names the operations from an index on, each of which is sent. There is memory for them.
+    pub fn filled(self, all: &OperationList, first: usize, sent: &mut Vec<Message>) -> Answer
+        requires few { length (drop first all.now.items) ≤ self.most }
+        requires room { vec_len sent.old + length (drop first all.now.items) ≤ vec_capacity sent.old }
+        ensures answer { Says self.keeps result (Reply.Names (names_of_all (drop first all.now.items))) }
+        ensures sent { sent.new.items ≡ sent.old.items ++ map Message.Shadow (drop first all.now.items) }
     {
         let BatchRoom {
             most: _,
@@ -73,37 +74,41 @@ impl BatchRoom {
             names,
             noted,
         } = self;
-        send(sent, made);
+        send(sent, all, first);
         let noted = if keeps {
-            Some(Reply::Names(List::new(with_names(noted, made))))
+            Some(Reply::Names(List::new(with_names(noted, all, first))))
         } else {
             None
         };
         Answer {
-            reply: Reply::Names(List::new(with_names(names, made))),
+            reply: Reply::Names(List::new(with_names(names, all, first))),
             noted,
         }
     }
 }
 
 /// Each operation's name.
-fn with_names(mut names: Vec<OpName>, made: &[Shadow]) -> Vec<OpName>
+fn with_names(mut names: Vec<OpName>, all: &OperationList, first: usize) -> Vec<OpName>
     requires empty { names.items ≡ [] }
-    requires room { length made.now ≤ vec_capacity names }
-    ensures { result.items ≡ names_of_all made.now }
+    requires room { length (drop first all.now.items) ≤ vec_capacity names }
+    ensures { result.items ≡ names_of_all (drop first all.now.items) }
 {
-    for shadow in made {
+    let count = all.len().saturating_sub(first);
+    for k in 0..count {
+        let shadow = all.get(first + k).unwrap();
         names.push_reserved(shadow.name);
     }
     names
 }
 
 /// Adds the message that sends each operation, in spare capacity.
-fn send(sent: &mut Vec<Message>, made: &[Shadow])
-    requires { vec_len sent.old + length made.now ≤ vec_capacity sent.old }
-    ensures { sent.new.items ≡ sent.old.items ++ map Message.Shadow made.now }
+fn send(sent: &mut Vec<Message>, all: &OperationList, first: usize)
+    requires { vec_len sent.old + length (drop first all.now.items) ≤ vec_capacity sent.old }
+    ensures { sent.new.items ≡ sent.old.items ++ map Message.Shadow (drop first all.now.items) }
 {
-    for shadow in made {
-        sent.push_reserved(Message::Shadow(*shadow));
+    let count = all.len().saturating_sub(first);
+    for k in 0..count {
+        let shadow = all.get(first + k).unwrap();
+        sent.push_reserved(Message::Shadow(shadow));
     }
 }

@@ -1,6 +1,6 @@
 //! A site's ledger.
 ghost use Rattle.std.specs.Prelude.{◌≡◌, ◌<◌, ◌≤◌, ◌++◌, ◌∷◌, ◌⊎◌, [], List, length, map, Some, None, Ok, Err, IfOk};
-ghost use Rattle.std.specs.Prelude.{IfErr, OnOk, OnErr, option_copied, true};
+ghost use Rattle.std.specs.Prelude.{IfErr, OnOk, OnErr, true};
 ghost use Rattle.rb_ledger.specs.Checks.{refusal_of};
 ghost use Rattle.rb_ledger.specs.Records.{records_of};
 ghost use Rattle.rb_ledger.specs.Valid.{IsValid};
@@ -17,7 +17,7 @@ ghost use Rattle.rb_site.specs.States.{Says};
 use crate::answer::Answer;
 use crate::batch::run_batch;
 use crate::{Message, Reply};
-use rb_ledger::Ledger;
+use rb_ledger::{Ledger, OperationList};
 use rb_money::{Config, Place, Refusal};
 use rb_scratch::Request;
 use rb_shadow::{OpName, Shadow};
@@ -82,8 +82,9 @@ impl Journal {
     }
 
     /// The applied shadow of a name, or `None`.
-    pub fn applied(&self, name: &OpName) -> Option<&Shadow>
-        ensures { option_copied result ≡ find_in self.now.ops name.now }
+    #[inline(always)]
+    pub fn applied(&self, name: &OpName) -> Option<Shadow>
+        ensures { result ≡ find_in self.now.ops name.now }
     {
         match self.ledger.find(name) {
             Some(position) => self.ledger.entry(position),
@@ -160,7 +161,7 @@ impl Journal {
     }
 
     /// Gives up the ledger for its operations and their clock.
-    pub fn close(self) -> (Vec<Shadow>, Clock)
+    pub fn close(self) -> (OperationList, Clock)
         ensures entries { result.0.items ≡ self.ops }
         ensures clock { result.1 ≡ clock_of self.ops }
     {

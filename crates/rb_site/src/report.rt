@@ -1,7 +1,7 @@
 //! What a site reports as it is closed.
 
 use crate::History;
-use rb_shadow::Shadow;
+use rb_ledger::OperationList;
 use rb_token::TokenState;
 use rb_vclock::Clock;
 
@@ -13,7 +13,7 @@ pub struct SiteReport {
     /// The balance of each account in cents, in the order of the configuration.
     pub balances: Vec<u64>,
     /// The operations that were applied, in their order.
-    pub entries: Vec<Shadow>,
+    pub entries: OperationList,
     /// For each of them, how many operations cancel it.
     pub counts: Vec<u32>,
     /// How many operations of each site, and how many red ones, were applied.

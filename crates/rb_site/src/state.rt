@@ -1,6 +1,5 @@
 //! The state of a site between two events.
 ghost use Rattle.std.specs.Prelude.{◌≡◌, ◌<◌, ◌&&◌, [], true, nat_le, if◌then◌else◌, IfOk, None, OnErr, OnOk};
-ghost use Rattle.std.specs.Prelude.{option_copied};
 ghost use Rattle.rb_shadow.specs.Operations.{clock_of, find_in, same_shadow};
 ghost use Rattle.rb_ledger.specs.Records.{records_of};
 ghost use Rattle.rb_shadow.specs.Sound.{IsSound};
@@ -14,7 +13,7 @@ use crate::journal::Journal;
 use crate::{Event, Known, Message, Reply};
 use rb_inbox::{Inbox, PutAnswer};
 use rb_kit::List;
-use rb_ledger::Ledger;
+use rb_ledger::{Ledger, OperationList};
 use rb_money::{Config, Place, Refusal};
 use rb_scratch::{MOST_REQUESTS, Request, generate};
 use rb_shadow::{OpName, Shadow};
@@ -87,8 +86,8 @@ impl State {
 
     /// The operation of the name that the site applied, or `None`.
     #[inline(always)]
-    pub fn applied(&self, name: &OpName) -> Option<&Shadow>
-        ensures { option_copied result ≡ find_in self.now.site.ops name.now }
+    pub fn applied(&self, name: &OpName) -> Option<Shadow>
+        ensures { result ≡ find_in self.now.site.ops name.now }
     {
         self.journal.applied(name)
     }
@@ -119,7 +118,7 @@ impl State {
     }
 
     /// The operations in order, their clock, and what the site knows of the token.
-    pub fn close(self) -> (Vec<Shadow>, Clock, TokenState)
+    pub fn close(self) -> (OperationList, Clock, TokenState)
         ensures entries { result.0.items ≡ self.site.ops }
         ensures clock { result.1 ≡ clock_of self.site.ops }
         ensures me { result.2.me ≡ self.site.me }
@@ -259,7 +258,7 @@ impl State {
             return Ok(give(reply, Reply::Refused(why)));
         }
         if let Some(applied) = self.journal.applied(&shadow.name) {
-            return Ok(again(shadow, applied, reply));
+            return Ok(again(shadow, &applied, reply));
         }
         self.receive_new(shadow, reply)
     }

@@ -16,7 +16,7 @@ returns-in-Err-clause-ok c =
 
 pub returns-in-Some-clause-ok : goal.returns-in-Some-clause-ok
 returns-in-Some-clause-ok c =
-    knows c.args.self.now c.args.shadow.now c.in-Some.applied.now (plain c.again.new.reply)
+    knows c.args.self.now c.args.shadow.now c.in-Some.applied (plain c.again.new.reply)
     (ap (λ s. fault_of s c.args.shadow.now) (sym (c.config.ensures.same ∙ ap (λ (z : SiteState). z.settings) c.self.view_is))
     ∙ c.in_default.ensures.sound)
     (ap (λ (z : SiteState). find_in z.site.ops c.args.shadow.now.name) (sym c.self.view_is) ∙ sym c.in-Some.ensures)
