@@ -152,9 +152,9 @@ impl Sent {
 
 /// The operation that is kept at a place, if it is one.
 #[inline(always)]
-pub fn kept_operation<E: KeepsEntry>(sites: &[Site<E>], kept: Kept) -> Option<&Shadow>
+pub fn kept_operation<E: KeepsEntry>(sites: &[Site<E>], kept: Kept) -> Option<Shadow>
     ensures { IfSome result (λ shadow. (tokens : List TheTokenMessage) → kept_at (map state_of sites.now) tokens kept
-        ≡ Some (TheMessage.Shadow shadow.now)) }
+        ≡ Some (TheMessage.Shadow shadow)) }
 {
     match kept {
         Kept::Operation { site, position } => sites.get(site as usize)?.ledger().entry(position),
@@ -174,7 +174,7 @@ pub fn kept_message<E: KeepsEntry>(
     match kept {
         Kept::Operation { site, position } => {
             let shadow = sites.get(site as usize)?.ledger().entry(position)?;
-            Some(Message::Shadow(*shadow))
+            Some(Message::Shadow(shadow))
         }
         Kept::Token { place } => Some(Message::Token(*tokens.get(place as usize)?)),
     }

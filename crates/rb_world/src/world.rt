@@ -186,7 +186,7 @@ impl<E: KeepsEntry, R: KeepsEvent> World<E, R> {
                 Some(operation) => {
                     // A copy is made in each of the two cases, since one of them doesn't read it.
                     if site.applied(&operation.name).is_some() {
-                        let arrived = Event::Receive(Message::Shadow(*operation));
+                        let arrived = Event::Receive(Message::Shadow(operation));
                         return self.take(
                             number,
                             full,
@@ -196,7 +196,7 @@ impl<E: KeepsEntry, R: KeepsEvent> World<E, R> {
                             reply,
                         );
                     }
-                    let arrived = Event::Receive(Message::Shadow(*operation));
+                    let arrived = Event::Receive(Message::Shadow(operation));
                     self.take(number, full, &arrived, Known::New, Some(*sent), reply)
                 }
                 None => self.deliver(number, full, *sent, reply),
@@ -341,10 +341,10 @@ impl<E: KeepsEntry, R: KeepsEvent> World<E, R> {
 
     /// The operation that the message of a number sent, where it is kept in a ledger.
     #[inline(always)]
-    fn operation(&self, number: u32) -> Option<&Shadow>
+    fn operation(&self, number: u32) -> Option<Shadow>
         ensures sent { IfSome result (λ shadow. message_at self.now.world.messages number
-            ≡ Some (TheMessage.Shadow shadow.now)) }
-        ensures own { IfSome result (λ shadow. IsOwnOperation self.now.settings self.now.world shadow.now) }
+            ≡ Some (TheMessage.Shadow shadow)) }
+        ensures own { IfSome result (λ shadow. IsOwnOperation self.now.settings self.now.world shadow) }
     {
         if number == 0 {
             return None;

@@ -59,7 +59,7 @@ take-requires-clause-known g c = the_known g (goal.at.take-requires-clause-known
 
 pub take-requires-then-is_some-clause-known : goal.take-requires-then-is_some-clause-known
 take-requires-then-is_some-clause-known g c =
-    let v = c.in-Some-operation.operation.now in
+    let v = c.in-Some-operation.operation in
     the_known g (goal.at.take-requires-then-is_some-clause-known g c).After-is_full-full Applied (Receive (ShadowMessage v)) (
       c.in-Some-operation.ensures.own.sound,
       applied_itself c.args.self.now.settings c.args.self.now.world c.site-number.result (state_of c.in-Some.site.now) v c.applied.result
@@ -68,7 +68,7 @@ take-requires-then-is_some-clause-known g c =
 
 pub take-requires-in-Some-operation-clause-known : goal.take-requires-in-Some-operation-clause-known
 take-requires-in-Some-operation-clause-known g c =
-    let v = c.in-Some-operation.operation.now in
+    let v = c.in-Some-operation.operation in
     the_known g (goal.at.take-requires-in-Some-operation-clause-known g c).After-is_full-full New (Receive (ShadowMessage v)) (
       c.in-Some-operation.ensures.own.sound,
       not_applied c.applied.result _ c.applied.ensures (sym c.is_some.ensures ∙ c.if-is_some.false),
@@ -101,7 +101,7 @@ returns-then-is_some-clause-ok g c =
 pub returns-then-is_some-clause-recordable : goal.returns-then-is_some-clause-recordable
 returns-then-is_some-clause-recordable g c =
     at_error c.take-then-is_some.result _ _
-    (recorded_at c.args.self.now c.args.event.now (Receive (ShadowMessage c.in-Some-operation.operation.now)) c.site-number.result
+    (recorded_at c.args.self.now c.args.event.now (Receive (ShadowMessage c.in-Some-operation.operation)) c.site-number.result
     c.is_full-full.result
     c.site-number.ensures
     (ap (arrival c.args.self.now.world.messages) c.in-Deliver.is ∙ ap (option_map Receive) c.in-Some-operation.ensures.sent)
@@ -115,7 +115,7 @@ returns-else-is_some-clause-ok g c =
 pub returns-else-is_some-clause-recordable : goal.returns-else-is_some-clause-recordable
 returns-else-is_some-clause-recordable g c =
     at_error c.take-in-Some-operation.result _ _
-    (recorded_at c.args.self.now c.args.event.now (Receive (ShadowMessage c.in-Some-operation.operation.now)) c.site-number.result
+    (recorded_at c.args.self.now c.args.event.now (Receive (ShadowMessage c.in-Some-operation.operation)) c.site-number.result
     c.is_full-full.result
     c.site-number.ensures
     (ap (arrival c.args.self.now.world.messages) c.in-Deliver.is ∙ ap (option_map Receive) c.in-Some-operation.ensures.sent)

@@ -16,7 +16,7 @@ use Rattle.rb_world.proofs.world.World.operation.Goals as goal
 
 -- what it gives is the message
 the_message : (g : Over) (c : goal.After-kept_operation g) → IfSome c.kept_operation.result (λ shadow. message_at
-    c.args.self.now.world.messages c.args.number ≡ Some (ShadowMessage shadow.now))
+    c.args.self.now.world.messages c.args.number ≡ Some (ShadowMessage shadow))
 the_message g c =
     let at : slice_get c.self.inside.sent.places.items (c.args.number - 1) ≡ Some c.in_ok-kept.kept.now =
     ap (λ ps. slice_get ps (c.args.number - 1)) (sym c.deref.ensures.value)
@@ -36,4 +36,4 @@ returns-clause-sent g c = the_message g (goal.at.returns-clause-sent g c).After-
 pub returns-clause-own : goal.returns-clause-own
 returns-clause-own g c =
     IfSome_then c.kept_operation.result (the_message g (goal.at.returns-clause-own g c).After-kept_operation) (λ shadow is.
-    Headline.own_of_run c.args.self.now c.args.number shadow.now (subst IsRunOf c.self.view_is c.self.invariant.0) is)
+    Headline.own_of_run c.args.self.now c.args.number shadow (subst IsRunOf c.self.view_is c.self.invariant.0) is)
