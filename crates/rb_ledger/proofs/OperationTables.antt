@@ -1,8 +1,9 @@
 -- What lists of operations are after a change.
 use Rattle.std.proofs.Common.{◌≡◌, ℕ, zero, suc, ◌+◌, ◌-◌, ◌*◌, ◌<◌, ◌≤◌, List, [], ◌∷◌, ◌++◌, length, map, take, drop, get_or}
 use Rattle.std.proofs.Common.{refl, ap, sym, ◌∙◌, subst, arith, Some, None, Result, Ok, Err, true, false}
-use Rattle.std.proofs.Common.{length-take-le, mul-le-mul_right}
+use Rattle.std.proofs.Common.{append_assoc, length-append, length-take-le, mul-le-mul_right}
 use Rattle.std.specs.Prelude.{Bool, not, IsOk, is_err, is_some, option_to_list, if◌then◌else◌, Option, option_map, slice_get, slice_index, replicate, ◌==◌, nat_le}
+use Rattle.std.specs.Prelude.{◌&&◌}
 use Rattle.std.proofs.lemmas.Bool.{and_parts}
 use Rattle.std.proofs.lemmas.Bool.Decides.{nat_tests}
 use Rattle.std.proofs.lemmas.List.{drop-append-le, drop-drop, length-drop, length_push, take-append-drop, take-append-le, take-take}
@@ -46,6 +47,26 @@ one_at w bs ns i b there = kept_at w bs ns i ∙ ap (option_map (λ b. with_coun
 -- a clock of its red entry and those of the sites
 abbrev clock : ℕ → List ℕ → Deps
 clock n ks = record { blue = padded ks; red = n }
+
+-- the clock of a small bank
+pub few_clock : (ns : List ℕ) → length ns ≡ 4 →
+    clock (get_or ns 0 0) (get_or ns 1 0 ∷ get_or ns 2 0 ∷ get_or ns 3 0 ∷ []) ≡ clock_of_counts (length ns - 1) ns
+few_clock (r ∷ a ∷ b ∷ c ∷ []) four = refl
+few_clock [] four = absurd (omega (arith, four))
+few_clock (r ∷ []) four = absurd (omega (arith, four))
+few_clock (r ∷ a ∷ []) four = absurd (omega (arith, four))
+few_clock (r ∷ a ∷ b ∷ []) four = absurd (omega (arith, four))
+few_clock (r ∷ a ∷ b ∷ c ∷ d ∷ ns) four = absurd (omega (arith, four))
+
+-- what is kept of the clock of a small bank, behind what was kept
+pub few_pushed : (os bs : List ℕ) (r w : ℕ) → w ≡ 3 → 3 ≤ length bs →
+    os ++ r ∷ [] ++ get_or bs 0 0 ∷ [] ++ get_or bs 1 0 ∷ [] ++ get_or bs 2 0 ∷ [] ≡ os ++ r ∷ take w bs
+few_pushed os (x ∷ y ∷ z ∷ bs) r w few long =
+    append_assoc (os ++ r ∷ [] ++ x ∷ []) (y ∷ []) (z ∷ []) ∙ append_assoc (os ++ r ∷ []) (x ∷ []) (y ∷ z ∷ [])
+    ∙ append_assoc os (r ∷ []) (x ∷ y ∷ z ∷ []) ∙ ap (λ k. os ++ r ∷ take k (x ∷ y ∷ z ∷ bs)) (sym few)
+few_pushed os [] r w few long = absurd (omega (arith, long))
+few_pushed os (x ∷ []) r w few long = absurd (omega (arith, long))
+few_pushed os (x ∷ y ∷ []) r w few long = absurd (omega (arith, long))
 
 -- a clock by what is kept of it alone
 pub cut_clock : (w m : ℕ) (ns : List ℕ) → m ≡ w + 1 → w + 1 ≤ length ns →
@@ -92,6 +113,20 @@ kept_whole w v b of is =
     ap (λ b. with_counts w b (v.deps.red ∷ take w v.deps.blue)) (sym is)
     ∙ ap (λ ns. with_clock c (record { blue = ns; red = v.deps.red })) (ap padded (take-take w w v.deps.blue (omega arith)) ∙ of)
 
+-- with one more operation as much is kept of the clocks as there are operations
+pub counted_more : (w : ℕ) (bs cs : List Body) (ns ms ks : List ℕ) (b : Body) (r : ℕ) → cs ≡ bs ++ b ∷ [] → ms ≡ ns ++ r ∷ take w ks →
+    w ≤ length ks → length ns ≡ length bs * (w + 1) → length ms ≡ length cs * (w + 1)
+counted_more w bs cs ns ms ks b r more longer full count =
+    omega (
+      arith,
+      ap length longer,
+      length-append ns (r ∷ take w ks),
+      length-take-le w ks full,
+      count,
+      ap (λ xs. length xs * (w + 1)) more,
+      ap (λ n. n * (w + 1)) (length_push bs b),
+    )
+
 -- without the last operation
 pub popped : (w : ℕ) (bs cs : List Body) (ns ms : List ℕ) (b : Body) → bs ≡ cs ++ b ∷ [] → length ns ≡ length bs * (w + 1) →
     ms ≡ take (length ns - (w + 1)) ns → operations_of w cs ms ≡ take (length (operations_of w bs ns) - 1) (operations_of w bs ns)
@@ -136,12 +171,29 @@ pub whole_clock : (w : ℕ) (d : Deps) → IsOfSites w d → length d.blue ≡ M
 whole_clock w d (limit, are) full = ap (λ n. take w d.blue ++ replicate (n - length (take w d.blue)) 0) (sym full)
     ∙ entries_back w limit d.blue are
 
+-- what is 0 past some sites is 0 past more
+pub wider : (k m limit : ℕ) (ns : List ℕ) → k ≤ m → are_entries k limit ns ≡ true → are_entries m limit ns ≡ true
+wider k m limit [] more h = refl
+wider k m limit (n ∷ ns) more h =
+    let p = and_parts (if k == 0 then n == 0 else nat_le n limit) (are_entries (k - 1) limit ns) h in
+    both _ _ (at k m more p.0) (wider (k - 1) (m - 1) limit ns (omega (arith, more)) p.1)
+  where
+    both : (a b : Bool) → a ≡ true → b ≡ true → (a && b) ≡ true
+    both true b p q = q
+    both false b p q = cc
+
+    at : (k m : ℕ) → k ≤ m → (if k == 0 then n == 0 else nat_le n limit) ≡ true → (if m == 0 then n == 0 else nat_le n limit) ≡ true
+    at zero zero more q = q
+    at zero (suc m) more q = grind (arith, nat_tests)
+    at (suc k) zero more q = absurd (omega (arith, more))
+    at (suc k) (suc m) more q = grind (arith, nat_tests)
+
 -- a sound operation's clock has no entries but those of the sites
-pub of_sites : (s : Settings) (v : Shadow) → IsSound s v → IsOfSites s.sites v.deps
-of_sites s v sound =
+pub of_sites : (s : Settings) (v : Shadow) (w : ℕ) → IsSound s v → s.sites ≤ w → IsOfSites w v.deps
+of_sites s v w sound more =
     let facts = SoundFacts.sound_facts s v sound in
     let clock = and_parts (are_entries s.sites s.limits.blue v.deps.blue) (nat_le v.deps.red s.limits.red) (passed _ facts.clock) in
-    (s.limits.blue, clock.0)
+    (s.limits.blue, wider s.sites w s.limits.blue v.deps.blue more clock.0)
   where
     passed : (b : Bool) → not b ≡ false → b ≡ true
     passed true h = refl

@@ -1,10 +1,11 @@
 //! The operations of a ledger, in their order.
 ghost use Rattle.std.specs.Prelude.{◌≡◌, ◌↔◌, ◌-◌, ◌+◌, ◌<◌, ◌≤◌, ◌++◌, ◌∷◌, [], length, take, drop, OnOk, IfOk, IfSome};
-ghost use Rattle.std.specs.Prelude.{IsTrue, slice_get, slice_index_or};
+ghost use Rattle.std.specs.Prelude.{IsTrue, slice_get, slice_index_or, vec_len, vec_capacity};
 ghost use Rattle.rb_money.specs.declared.limits.TheConstants.{MOST_OPERATIONS};
 ghost use Rattle.rb_money.specs.declared.limits.TheConstants.{MOST_SITES};
 ghost use Rattle.rb_shadow.specs.declared.shadow.Shadow.{Shadow as TheShadow};
 ghost use Rattle.rb_shadow.specs.Operations.{receiver_of};
+ghost use Rattle.rb_ledger.specs.declared.operation_list.TheConstants.{FEW_SITES};
 ghost use Rattle.rb_ledger.specs.OperationLists.{IsOfSites, clock_of_counts, with_counts};
 
 use rb_money::{MOST_SITES, Place};
@@ -22,12 +23,15 @@ pub struct Body {
     pub amount: u64,
 }
 
+/// Of each clock the entries of this many sites are kept at least, so that those of a small bank are copied at once.
+const FEW_SITES: usize = 3;
+
 /// Operations in their order, in less memory than a list of shadows: of each clock it keeps the red entry and those of
 /// the bank's sites, as all others are 0.
 #[derive(Drop)]
 pub struct OperationList {
     bodies: Vec<Body>,
-    /// What is kept of the clocks, one after another: the red entry, and then those of the sites.
+    /// What is kept of the clocks, one after another: the red entry, and then those of the first sites.
     counts: Vec<u32>,
     sites: usize,
     limit: usize,
@@ -36,6 +40,7 @@ pub struct OperationList {
 impl Model for OperationList {
     ghost use Rattle.std.specs.Prelude.{length, ◌≡◌, ◌≤◌, ◌+◌, ◌*◌, vec_capacity};
     ghost use Rattle.rb_money.specs.declared.limits.TheConstants.{MOST_SITES};
+    ghost use Rattle.rb_ledger.specs.declared.operation_list.TheConstants.{FEW_SITES};
     ghost use Rattle.rb_ledger.specs.OperationLists.{OperationTable, operations_of};
 
     ghost Value = { OperationTable };
@@ -47,7 +52,8 @@ impl Model for OperationList {
     } };
 
     ghost invariant = { λ l. record {
-      sites : l.sites ≤ MOST_SITES;
+      least : FEW_SITES ≤ l.sites;
+      most : l.sites ≤ MOST_SITES;
       counts : length l.counts.items ≡ length l.bodies.items * (l.sites + 1);
       bodies_fit : l.limit ≤ vec_capacity l.bodies;
       counts_fit : l.limit * (l.sites + 1) ≤ vec_capacity l.counts;
@@ -59,13 +65,13 @@ impl OperationList {
     pub(crate) fn new(alloc: Global, sites: u8) -> OperationList
         requires { sites ≤ MOST_SITES }
         ensures items { result.items ≡ [] }
-        ensures sites { result.sites ≡ sites }
+        ensures sites { sites ≤ result.sites }
         ensures limit { result.limit ≡ 0 }
     {
         OperationList {
             bodies: Vec::new(alloc),
             counts: Vec::new(alloc),
-            sites: usize::from(sites),
+            sites: usize::from(sites).max(FEW_SITES),
             limit: 0,
         }
     }
@@ -159,11 +165,12 @@ impl OperationList {
             account: shadow.account,
             amount: shadow.amount,
         });
-        let counts = first_counts(&shadow.deps.blue, self.sites);
-        self.counts.push_reserved(shadow.deps.red);
-        if self.counts.extend_from_slice(counts).is_err() {
-            unreachable!()
-        }
+        push_counts(
+            &mut self.counts,
+            shadow.deps.red,
+            &shadow.deps.blue,
+            self.sites,
+        );
     }
 
     /// Takes the last operation out again.
@@ -199,22 +206,66 @@ impl OperationList {
     }
 }
 
-/// The entries of the first sites, of those of all that there may be.
+/// Adds what is kept of a clock, in spare capacity: its red entry, and the entries of the first sites.
 #[inline(always)]
-fn first_counts(entries: &[u32], sites: usize) -> &[u32]
-    requires all { length entries.now ≡ MOST_SITES }
-    requires within { sites ≤ MOST_SITES }
-    ensures first { result.now ≡ take sites entries.now }
-    ensures all { length entries.now ≡ MOST_SITES }
+fn push_counts(counts: &mut Vec<u32>, red: u32, blue: &[u32], sites: usize)
+    requires all { length blue.now ≡ MOST_SITES }
+    requires least { FEW_SITES ≤ sites }
+    requires most { sites ≤ MOST_SITES }
+    requires room { vec_len counts.old + sites + 1 ≤ vec_capacity counts.old }
+    ensures items { counts.new.items ≡ counts.old.items ++ red ∷ take sites blue.now }
+    ensures capacity { vec_capacity counts.old ≤ vec_capacity counts.new }
+    ensures all { length blue.now ≡ MOST_SITES }
 {
-    &entries[..sites]
+    if sites > FEW_SITES {
+        return push_many(counts, red, blue, sites);
+    }
+    counts.push_reserved(red);
+    counts.push_reserved(blue[0]);
+    counts.push_reserved(blue[1]);
+    counts.push_reserved(blue[2]);
+}
+
+/// The same of any number of sites.
+#[inline(never)]
+fn push_many(counts: &mut Vec<u32>, red: u32, blue: &[u32], sites: usize)
+    requires all { length blue.now ≡ MOST_SITES }
+    requires most { sites ≤ MOST_SITES }
+    requires room { vec_len counts.old + sites + 1 ≤ vec_capacity counts.old }
+    ensures items { counts.new.items ≡ counts.old.items ++ red ∷ take sites blue.now }
+    ensures capacity { vec_capacity counts.old ≤ vec_capacity counts.new }
+{
+    counts.push_reserved(red);
+    if counts.extend_from_slice(&blue[..sites]).is_err() {
+        unreachable!()
+    }
 }
 
 /// The clock of what is kept of it.
 #[inline(always)]
 fn clock(counts: &[u32]) -> Deps
+    requires least { FEW_SITES + 1 ≤ length counts.now }
+    requires most { length counts.now ≤ MOST_SITES + 1 }
+    ensures { result ≡ clock_of_counts (length counts.now - 1) counts.now }
+{
+    if counts.len() > FEW_SITES + 1 {
+        return clock_of_many(counts);
+    }
+    let mut blue = [0; MOST_SITES];
+    blue[0] = counts[1];
+    blue[1] = counts[2];
+    blue[2] = counts[3];
+    Deps {
+        blue,
+        red: counts[0],
+    }
+}
+
+/// The same of any number of sites.
+#[inline(never)]
+fn clock_of_many(counts: &[u32]) -> Deps
     requires some { 0 < length counts.now }
-    requires few { length counts.now ≤ MOST_SITES + 1 }
+    requires most { length counts.now ≤ MOST_SITES + 1 }
     ensures { result ≡ clock_of_counts (length counts.now - 1) counts.now }
 {
     let mut blue = [0; MOST_SITES];

@@ -1,4 +1,4 @@
-use Rattle.std.proofs.Common.{◌≡◌, ◌-◌, length, vec_len, ◌++◌, ◌∷◌, [], subst, sym, ap, ◌∙◌, arith}
+use Rattle.std.proofs.Common.{◌≡◌, ◌≤◌, ◌-◌, length, vec_len, ◌++◌, ◌∷◌, [], subst, sym, ap, ◌∙◌, arith}
 use Rattle.std.proofs.lemmas.List.{length_push}
 use Rattle.rb_money.specs.Settings.{IsConfigured, Settings}
 use Rattle.rb_ledger.specs.Book.{Book}
@@ -7,7 +7,6 @@ use Rattle.rb_ledger.proofs.ChainFacts
 use Rattle.rb_ledger.proofs.Indexed
 use Rattle.rb_ledger.proofs.Lengths
 use Rattle.rb_ledger.specs.Valid.{IsValid, parts_of}
-use Rattle.rb_ledger.specs.OperationLists.{IsOfSites}
 use Rattle.rb_ledger.proofs.Public.Legal
 use Rattle.rb_ledger.proofs.OperationTables
 use Rattle.rb_ledger.proofs.ledger.Ledger.append.Goals as goal
@@ -30,7 +29,7 @@ invariant_of-self c =
           ∙ sym c.push-3.ensures.items) (Indexed.own _ _ _ c.push.ensures.index);
       links = ChainFacts.links_moved _ _ _ _ _ _ (ChainFacts.links_push _ _ c.args.shadow.now _ _ c.self.invariant.links links)
           c.push.ensures.index.config c.push-3.ensures.items c.push-2.ensures.items;
-      sites = c.push-3.ensures.sites ∙ c.self.invariant.sites ∙ sym (ap (λ (s : Settings). s.sites) c.push.ensures.index.config);
+      sites = omega (arith, c.push-3.ensures.sites, c.self.invariant.sites, ap (λ (s : Settings). s.sites) c.push.ensures.index.config);
       room = record {
         within = omega (arith, longer, c.push.ensures.limit, free, c.in_ok-make_room.ensures.ok);
         entries = omega (arith, c.push-3.ensures.limit, c.push.ensures.limit, room.entries);
@@ -119,8 +118,8 @@ push-requires-3-clause-sites c =
     let v = c.args.shadow.now in
     let settings = ap (λ (b : Book). b.settings) c.self.view_is ∙ c.in_ok-make_room.ensures.settings in
     let sound = (Legal.IsValid-last _ _ v c.requires).sound in
-    subst (λ n. IsOfSites n v.deps) (sym (c.self.invariant.sites ∙ ap (λ (s : Settings). s.sites) settings))
-    (OperationTables.of_sites c.args.self.now.settings v sound)
+    OperationTables.of_sites c.args.self.now.settings v _ sound (subst (λ (s : Settings). s.sites ≤ c.self.inside.entries.sites) settings
+    c.self.invariant.sites)
 
 pub push-requires-3-clause-room : goal.push-requires-3-clause-room
 push-requires-3-clause-room c =

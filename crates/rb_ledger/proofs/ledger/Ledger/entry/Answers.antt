@@ -1,8 +1,7 @@
-use Rattle.std.proofs.Common.{◌≡◌, ◌-◌, None, cond, refl, ap, sym, ◌∙◌}
+use Rattle.std.proofs.Common.{◌-◌, None, cond, ap, sym, ◌∙◌}
 use Rattle.std.specs.Prelude.{slice_get}
 use Rattle.rb_money.proofs.Public.Tests
 use Rattle.rb_ledger.specs.Book.{Book}
-use Rattle.rb_ledger.proofs.ReadItems
 use Rattle.rb_ledger.proofs.ledger.Ledger.entry.Goals as goal
 
 pub returns : goal.returns

@@ -40,7 +40,7 @@ invariant_of-self c =
     record {
       index = same_index _ _ _ _ c.self.inside.index c.self.invariant.index c.reserve.ensures.items refl refl refl refl refl;
       links = ChainFacts.links_moved _ _ _ _ _ _ c.self.invariant.links refl c.reserve.ensures.items refl;
-      sites = c.reserve.ensures.sites ∙ c.self.invariant.sites;
+      sites = omega (arith, c.reserve.ensures.sites, c.self.invariant.sites);
       room = record {
         within = omega (arith, ap length c.reserve.ensures.items, room.within);
         entries = omega (arith, c.reserve.ensures.grows, room.entries);
@@ -58,7 +58,7 @@ invariant_of-self-in_err-reserve-2 c =
     record {
       index = same_index _ _ _ _ c.self.inside.index c.self.invariant.index c.reserve.ensures.items refl refl refl refl refl;
       links = ChainFacts.links_moved _ _ _ _ _ _ c.self.invariant.links refl c.reserve.ensures.items c.reserve-2.ensures.items;
-      sites = c.reserve.ensures.sites ∙ c.self.invariant.sites;
+      sites = omega (arith, c.reserve.ensures.sites, c.self.invariant.sites);
       room = record {
         within = omega (arith, ap length c.reserve.ensures.items, room.within);
         entries = omega (arith, c.reserve.ensures.grows, room.entries);
@@ -77,7 +77,7 @@ invariant_of-self-in_err-reserve_exact c =
       index = same_index _ _ _ c.self.inside.index _ c.self.invariant.index c.reserve.ensures.items refl refl
           c.reserve_exact.ensures.items refl refl;
       links = ChainFacts.links_moved _ _ _ _ _ _ c.self.invariant.links refl c.reserve.ensures.items c.reserve-2.ensures.items;
-      sites = c.reserve.ensures.sites ∙ c.self.invariant.sites;
+      sites = omega (arith, c.reserve.ensures.sites, c.self.invariant.sites);
       room = record {
         within = omega (arith, ap length c.reserve.ensures.items, room.within);
         entries = omega (arith, c.reserve.ensures.grows, room.entries);
@@ -103,7 +103,7 @@ invariant_of-self-2 c =
       index = same_index _ _ _ c.self.inside.index _ index c.reserve.ensures.items refl refl c.reserve_exact.ensures.items refl
           c.reserve-3.ensures.rows;
       links = ChainFacts.links_moved _ _ _ _ _ _ c.self.invariant.links refl c.reserve.ensures.items c.reserve-2.ensures.items;
-      sites = c.reserve.ensures.sites ∙ c.self.invariant.sites;
+      sites = omega (arith, c.reserve.ensures.sites, c.self.invariant.sites);
       room = record {
         within = at_least c.reserve-3.result _ _ _ _ c.reserve-3.ensures.ok c.reserve-3.ensures.err
             (omega (arith, small, c.len.ensures, same)) (omega (arith, same, room.within));

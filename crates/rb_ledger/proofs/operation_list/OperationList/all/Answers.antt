@@ -1,4 +1,4 @@
-use Rattle.std.proofs.Common.{ap, sym, ◌∙◌, arith, length}
+use Rattle.std.proofs.Common.{ap, arith, length}
 use Rattle.std.proofs.lemmas.List.{take_all}
 use Rattle.rb_ledger.specs.OperationLists.{OperationTable}
 use Rattle.rb_ledger.proofs.OperationTables

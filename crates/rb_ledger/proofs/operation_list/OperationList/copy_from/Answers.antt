@@ -1,6 +1,5 @@
 use Rattle.std.proofs.Common.{◌++◌, ◌∷◌, [], drop, sym, ap, ◌∙◌}
 use Rattle.rb_ledger.proofs.Public.Fronts
-use Rattle.rb_ledger.proofs.OperationTables
 use Rattle.rb_ledger.proofs.operation_list.OperationList.copy_from.Goals as goal
 
 pub loop-k-preserved : goal.loop-k-preserved

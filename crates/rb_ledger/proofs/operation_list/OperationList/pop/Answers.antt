@@ -1,5 +1,4 @@
-use Rattle.std.proofs.Common.{◌≡◌, ◌-◌, ◌+◌, ◌++◌, ◌∷◌, [], ap, sym, ◌∙◌, arith, length, take}
-use Rattle.rb_ledger.specs.declared.operation_list.Body.{Body}
+use Rattle.std.proofs.Common.{◌-◌, ◌+◌, ap, sym, ◌∙◌, length, take}
 use Rattle.rb_ledger.specs.OperationLists.{OperationTable}
 use Rattle.rb_ledger.proofs.OperationTables
 use Rattle.rb_ledger.proofs.operation_list.OperationList.pop.Goals as goal

@@ -1,4 +1,4 @@
-use Rattle.std.proofs.Common.{◌≡◌, ◌+◌, ◌*◌, ◌≤◌, ◌++◌, ◌∷◌, [], ap, sym, ◌∙◌, arith, length, take, refl, cond, rules, subst, append_assoc}
+use Rattle.std.proofs.Common.{length-append, length-take-le, ◌≡◌, ◌+◌, ◌*◌, ◌≤◌, ◌++◌, ◌∷◌, [], ap, sym, ◌∙◌, arith, length, take, refl, cond, rules, subst, append_assoc}
 use Rattle.std.proofs.lemmas.List.{length-take}
 use Rattle.rb_ledger.specs.declared.operation_list.Body.{Body}
 use Rattle.rb_ledger.specs.OperationLists.{IsOfSites, OperationTable, operations_of}
@@ -16,8 +16,8 @@ push_reserved-requires c = omega (
   ap (λ (t : OperationTable). t.limit) c.self.view_is,
 )
 
-pub push_reserved-requires-2 : goal.push_reserved-requires-2
-push_reserved-requires-2 c =
+pub push_counts-requires-clause-room : goal.push_counts-requires-clause-room
+push_counts-requires-clause-room c =
     let w = c.self.inside.sites in
     let room = OperationTables.room_more w (length c.self.inside.bodies.items) c.self.inside.limit (omega (
       arith,
@@ -28,27 +28,17 @@ push_reserved-requires-2 c =
     )) in
     omega (arith, room, c.self.invariant.counts, c.self.invariant.counts_fit, c.self.inside.counts.ok.0)
 
-pub unreachable-requires : goal.unreachable-requires
-unreachable-requires c =
+pub invariant_of-self : goal.invariant_of-self
+invariant_of-self c =
     let w = c.self.inside.sites in
-    let room = OperationTables.room_more w (length c.self.inside.bodies.items) c.self.inside.limit (omega (
-      arith,
-      c.requires.room,
-      OperationTables.as_many c.self.inside.sites c.self.inside.bodies.items c.self.inside.counts.items,
-      ap (λ (t : OperationTable). length t.items) c.self.view_is,
-      ap (λ (t : OperationTable). t.limit) c.self.view_is,
-    )) in
-    OperationTables.no_err _ (c.extend_from_slice.ensures.succeeds (omega (
-      arith,
-      room,
-      c.self.invariant.counts,
-      c.self.invariant.counts_fit,
-      c.self.inside.counts.ok.0,
-      c.push_reserved-2.ensures.len,
-      c.push_reserved-2.ensures.capacity,
-      ap length c.first_counts-counts.ensures.first,
-      length-take w c.args.shadow.now.deps.blue,
-    ))) (sym c.is_err.ensures.value ∙ c.if-is_err.true)
+    record {
+      least = c.self.invariant.least;
+      most = c.self.invariant.most;
+      counts = OperationTables.counted_more w _ _ _ _ c.args.shadow.now.deps.blue _ _ c.push_reserved.ensures.items c.push_counts.ensures.items
+          (omega (arith, c.push_counts.ensures.all, c.self.invariant.most)) c.self.invariant.counts;
+      bodies_fit = omega (arith, c.push_reserved.ensures.capacity, c.self.invariant.bodies_fit);
+      counts_fit = omega (arith, c.push_counts.ensures.capacity, c.self.invariant.counts_fit);
+    }
 
 pub returns-clause-items : goal.returns-clause-items
 returns-clause-items c =
@@ -58,16 +48,9 @@ returns-clause-items c =
     let bs = c.self.inside.bodies.items in
     let ns = c.self.inside.counts.items in
     let sites = subst (λ n. IsOfSites n v.deps) (sym (ap (λ (t : OperationTable). t.sites) c.self.view_is)) c.requires.sites in
-    let whole = OperationTables.whole_clock w v.deps sites c.first_counts-counts.ensures.all in
-    let ms = c.push_reserved-2.new.self.items in
-    let counts : c.extend_from_slice.new.self.items ≡ ns ++ v.deps.red ∷ take w v.deps.blue =
-    c.extend_from_slice.ensures.items
-    ∙ ap (λ b. cond b (ms ++ c.first_counts-counts.result.now) ms) c.if-is_err.ensures.negation
-    ∙ ap (λ xs. ms ++ xs) c.first_counts-counts.ensures.first
-    ∙ ap (λ xs. xs ++ take w v.deps.blue) c.push_reserved-2.ensures.items
-    ∙ append_assoc ns (v.deps.red ∷ []) (take w v.deps.blue) in
-    ap (λ xs. operations_of w xs c.extend_from_slice.new.self.items) c.push_reserved.ensures.items
-    ∙ ap (operations_of w (bs ++ body ∷ [])) counts
+    let whole = OperationTables.whole_clock w v.deps sites c.push_counts.ensures.all in
+    ap (λ xs. operations_of w xs c.push_counts.new.counts.items) c.push_reserved.ensures.items
+    ∙ ap (operations_of w (bs ++ body ∷ [])) c.push_counts.ensures.items
     ∙ OperationTables.pushed w bs ns (v.deps.red ∷ take w v.deps.blue) body c.self.invariant.counts
     ∙ ap (λ u. operations_of w bs ns ++ u ∷ []) (OperationTables.kept_whole w v body whole refl)
     ∙ ap (λ (t : OperationTable). t.items ++ v ∷ []) c.self.view_is

@@ -1,4 +1,4 @@
-use Rattle.std.proofs.Common.{◌≡◌, ◌+◌, ◌-◌, ◌++◌, ◌∷◌, [], vec_len, length, take, subst, sym, ap, ◌∙◌, refl, arith, length-take-le}
+use Rattle.std.proofs.Common.{◌≡◌, ◌+◌, ◌-◌, ◌++◌, ◌∷◌, [], length, subst, sym, ap, ◌∙◌, refl, arith}
 use Rattle.rb_money.specs.Settings.{Settings}
 use Rattle.rb_ledger.specs.Valid.{parts_of}
 use Rattle.rb_ledger.specs.Index.{IsIndex, IsLinked}
@@ -33,7 +33,7 @@ invariant_of-self c =
       at = Cursors.back _ _ _ _ _ _ _ _ _ c.in-Some.undo c.self.invariant.at next c.in-Some.ensures.0 c.in-Some.ensures.1
           (subst (λ us. IsIndex c.self.inside.index.config us c.pop-in-Some.new.self) c.first-before.ensures
           c.pop-in-Some.ensures.index);
-      sites = c.self.invariant.sites ∙ sym (ap (λ (s : Settings). s.sites) c.pop-in-Some.ensures.index.config);
+      sites = omega (arith, c.self.invariant.sites, ap (λ (s : Settings). s.sites) c.pop-in-Some.ensures.index.config);
       room = record {
         within = omega (arith, c.pop-in-Some.ensures.limit, room.within);
         entries = omega (arith, c.pop-in-Some.ensures.limit, room.entries);

@@ -1,9 +1,8 @@
-use Rattle.std.proofs.Common.{◌≡◌, ◌<◌, ◌++◌, ◌∷◌, [], vec_len, length, take, subst, sym, ap, ◌∙◌, refl, arith, length-take-le, ◌+◌, ◌-◌}
+use Rattle.std.proofs.Common.{◌≡◌, ◌++◌, ◌∷◌, [], length, subst, sym, ap, ◌∙◌, refl, arith, length-take-le, ◌+◌, ◌-◌}
 use Rattle.rb_money.specs.Settings.{Settings}
 use Rattle.rb_ledger.specs.Valid.{IsValid, parts_of}
 use Rattle.rb_ledger.specs.Index.{IsIndex, IsLinked}
 use Rattle.rb_ledger.specs.Rewinding.{Rewinding}
-use Rattle.rb_ledger.proofs.ReadItems
 use Rattle.rb_ledger.proofs.Cursors
 use Rattle.rb_ledger.specs.Records.{records_of}
 use Rattle.rb_ledger.proofs.Lengths
@@ -52,7 +51,7 @@ invariant_of-self c =
           c.push_reserved.ensures.parts c.push_reserved.ensures.room
           (subst (λ us. IsIndex c.self.inside.index.config (us ++ c.unwrap-shadow.result
           ∷ []) c.push.new.self) c.first-before.ensures c.push.ensures.index);
-      sites = c.self.invariant.sites ∙ sym (ap (λ (s : Settings). s.sites) c.push.ensures.index.config);
+      sites = omega (arith, c.self.invariant.sites, ap (λ (s : Settings). s.sites) c.push.ensures.index.config);
       room = record {
         within = omega (arith, c.push.ensures.limit, room.within);
         entries = omega (arith, c.push.ensures.limit, room.entries);
