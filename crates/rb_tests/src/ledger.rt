@@ -92,7 +92,8 @@ fn goes_and_comes_back(rt: &impl Abort, alloc: Global, run: &Run) -> Result<bool
     let ledger = ledger_after(alloc, &ACCOUNTS, run.0)?;
     balances_are(rt, &ledger, &run.1);
     moved_are(rt, &ledger, &run.2);
-    there_and_back(alloc, ledger.config(), ledger.entries())
+    let applied = ledger.entries().copy_from(alloc, 0)?;
+    there_and_back(alloc, ledger.config(), applied.as_slice())
 }
 
 #[test]

@@ -237,7 +237,8 @@ fn reserved(rt: HostRuntime) -> Result<(), Fail> {
     let alloc = rt.alloc();
     let script = row_named("two_cancels_of_one_withdrawal")?.script;
     let reports = twice!(reports_of(alloc, script));
-    let applied = &reports.get(0).ok_or("no report")?.entries;
+    let entries = &reports.get(0).ok_or("no report")?.entries;
+    let applied = twice!(entries.copy_from(alloc, 0));
     let [withdrawal, cancel, again] = applied.as_slice() else {
         return Err(Fail::from("not three operations"));
     };

@@ -178,8 +178,10 @@ pub fn same_answers(ledger: &Ledger, other: &Ledger) -> bool {
     for position in 0..ledger.len() + 2 {
         same = same && same_at(ledger, other, position);
     }
-    for shadow in ledger.entries() {
-        same = same && ledger.find(&shadow.name) == other.find(&shadow.name);
+    for position in 1..=ledger.len() {
+        if let Some(shadow) = ledger.entry(position) {
+            same = same && ledger.find(&shadow.name) == other.find(&shadow.name);
+        }
     }
     same
 }
@@ -302,7 +304,8 @@ fn tail_back(rt: HostRuntime) -> Result<(), Fail> {
     ] {
         let script = row_named(name)?.script;
         let reports = reports_of(alloc, script)?;
-        let applied = &reports.get(0).ok_or("no report")?.entries;
+        let entries = &reports.get(0).ok_or("no report")?.entries;
+        let applied = entries.copy_from(alloc, 0)?;
         let config = config_of(alloc, script)?;
         holds(
             &rt,
