@@ -95,16 +95,19 @@ impl OperationList {
     pub fn get(&self, index: usize) -> Option<Shadow>
         ensures { result ≡ slice_get self.now.items index }
     {
-        let body = *self.bodies.get(index)?;
+        Some(self.at(index)?.shadow())
+    }
+
+    /// The same, as it is kept.
+    #[inline(always)]
+    pub(crate) fn at(&self, index: usize) -> Option<OperationRef<'_>>
+        ensures { result ≡ slice_get self.now.items index }
+    {
+        let body = self.bodies.get(index)?;
         let first = index * (self.sites + 1);
-        let deps = clock(&self.counts[first..first + self.sites + 1]);
-        Some(Shadow {
-            name: body.name,
-            home: body.home,
-            account: body.account,
-            deps,
-            amount: body.amount,
-            kind: body.kind,
+        Some(OperationRef {
+            body,
+            counts: &self.counts[first..first + self.sites + 1],
         })
     }
 
@@ -273,6 +276,57 @@ fn clock_of_many(counts: &[u32]) -> Deps
     Deps {
         blue,
         red: counts[0],
+    }
+}
+
+/// An operation as a list keeps it. Clients see the operation.
+#[derive(Drop)]
+pub struct OperationRef<'a> {
+    body: &'a Body,
+    /// The red entry of its clock, and then those of the first sites.
+    counts: &'a [u32],
+}
+
+impl<'a> Model for OperationRef<'a> {
+    ghost use Rattle.std.specs.Prelude.{length, ◌-◌, ◌+◌, ◌≤◌};
+    ghost use Rattle.rb_money.specs.declared.limits.TheConstants.{MOST_SITES};
+    ghost use Rattle.rb_shadow.specs.declared.shadow.Shadow.{Shadow};
+    ghost use Rattle.rb_ledger.specs.declared.operation_list.TheConstants.{FEW_SITES};
+    ghost use Rattle.rb_ledger.specs.OperationLists.{with_counts};
+
+    ghost Value = { Shadow };
+
+    ghost view = { λ k. with_counts (length k.counts.now - 1) k.body.now k.counts.now };
+
+    ghost invariant = { λ k. record {
+      least : FEW_SITES + 1 ≤ length k.counts.now;
+      most : length k.counts.now ≤ MOST_SITES + 1;
+    } };
+}
+
+impl<'a> OperationRef<'a> {
+    /// Its name.
+    #[inline(always)]
+    pub fn name(&self) -> OpName
+        ensures { result ≡ self.now.name }
+    {
+        self.body.name
+    }
+
+    /// The operation.
+    #[inline(always)]
+    pub fn shadow(&self) -> Shadow
+        ensures { result ≡ self.now }
+    {
+        let body = self.body;
+        Shadow {
+            name: body.name,
+            home: body.home,
+            account: body.account,
+            deps: clock(self.counts),
+            amount: body.amount,
+            kind: body.kind,
+        }
     }
 }
 

@@ -8,8 +8,8 @@ ghost use Rattle.rb_token.specs.declared.message.TokenMessage.{TokenMessage as T
 ghost use Rattle.rb_world.specs.Sent.{CanNote, kept_at, places_from, places_of, token_of};
 ghost use Rattle.rb_world.specs.declared.sent.Kept.TheVariants.{Token as TokenAt};
 
+use rb_ledger::OperationRef;
 use rb_scratch::MOST_REQUESTS;
-use rb_shadow::Shadow;
 use rb_site::{KeepsEntry, Message, Site};
 use rb_token::TokenMessage;
 use std::alloc::{AllocError, Global};
@@ -152,12 +152,15 @@ impl Sent {
 
 /// The operation that is kept at a place, if it is one.
 #[inline(always)]
-pub fn kept_operation<E: KeepsEntry>(sites: &[Site<E>], kept: Kept) -> Option<Shadow>
+pub fn kept_operation<E: KeepsEntry>(sites: &[Site<E>], kept: Kept) -> Option<OperationRef<'_>>
     ensures { IfSome result (λ shadow. (tokens : List TheTokenMessage) → kept_at (map state_of sites.now) tokens kept
         ≡ Some (TheMessage.Shadow shadow)) }
 {
     match kept {
-        Kept::Operation { site, position } => sites.get(site as usize)?.ledger().entry(position),
+        Kept::Operation { site, position } => sites
+            .get(site as usize)?
+            .ledger()
+            .operation(position),
         Kept::Token { .. } => None,
     }
 }

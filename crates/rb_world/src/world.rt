@@ -16,8 +16,8 @@ ghost use Rattle.rb_world.specs.Laws.{Holds, IsRunOf, next_replies, next_reply, 
 use crate::sent::{Sent, kept_message, kept_operation};
 use crate::{KeepsEvent, Stopped};
 use rb_kit::reserve_one;
+use rb_ledger::OperationRef;
 use rb_money::{Config, Refusal};
-use rb_shadow::Shadow;
 use rb_site::{Entry, Event, KeepsEntry, Known, Message, Reply, Site, SiteReport, WorldEvent};
 use std::alloc::{AllocError, Global};
 use std::marker::Model;
@@ -185,8 +185,8 @@ impl<E: KeepsEntry, R: KeepsEvent> World<E, R> {
             WorldEvent::Deliver(_, sent) => match self.operation(*sent) {
                 Some(operation) => {
                     // A copy is made in each of the two cases, since one of them doesn't read it.
-                    if site.applied(&operation.name).is_some() {
-                        let arrived = Event::Receive(Message::Shadow(operation));
+                    if site.applied(&operation.name()).is_some() {
+                        let arrived = Event::Receive(Message::Shadow(operation.shadow()));
                         return self.take(
                             number,
                             full,
@@ -196,7 +196,7 @@ impl<E: KeepsEntry, R: KeepsEvent> World<E, R> {
                             reply,
                         );
                     }
-                    let arrived = Event::Receive(Message::Shadow(operation));
+                    let arrived = Event::Receive(Message::Shadow(operation.shadow()));
                     self.take(number, full, &arrived, Known::New, Some(*sent), reply)
                 }
                 None => self.deliver(number, full, *sent, reply),
@@ -341,7 +341,7 @@ impl<E: KeepsEntry, R: KeepsEvent> World<E, R> {
 
     /// The operation that the message of a number sent, where it is kept in a ledger.
     #[inline(always)]
-    fn operation(&self, number: u32) -> Option<Shadow>
+    fn operation(&self, number: u32) -> Option<OperationRef<'_>>
         ensures sent { IfSome result (λ shadow. message_at self.now.world.messages number
             ≡ Some (TheMessage.Shadow shadow)) }
         ensures own { IfSome result (λ shadow. IsOwnOperation self.now.settings self.now.world shadow) }

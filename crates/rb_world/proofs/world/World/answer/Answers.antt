@@ -1,6 +1,8 @@
 -- An event is taken where its site is there and it arrives; else nothing happens.
-use Rattle.std.proofs.Common.{◌≡◌, ◌∙◌, Option, ap, subst, sym}
+use Rattle.std.proofs.Common.{◌≡◌, ◌∙◌, Option, Some, ap, subst, sym}
 use Rattle.std.specs.Prelude.{IsSomeAnd, option_map, slice_get}
+use Rattle.rb_shadow.specs.declared.shadow.Shadow.{Shadow}
+use Rattle.rb_shadow.specs.Operations.{find_in}
 use Rattle.rb_site.specs.Known.{IsAsKnown}
 use Rattle.rb_site.specs.declared.event.Event.{Event}
 use Rattle.rb_site.specs.declared.event.Event.TheVariants.{Receive}
@@ -39,12 +41,19 @@ take-requires-in-Some-operation-clause-full g c =
 
 pub take-requires-in-Some-operation-clause-arrived : goal.take-requires-in-Some-operation-clause-arrived
 take-requires-in-Some-operation-clause-arrived g c = ap (option_map Receive) c.in-Some-operation.ensures.sent
+    ∙ ap (λ v. Some (Receive (ShadowMessage v))) (sym c.shadow-in-Some-operation.ensures)
 
 pub take-requires-then-is_some-clause-full : goal.take-requires-then-is_some-clause-full
 take-requires-then-is_some-clause-full g c = the_full g (goal.at.take-requires-then-is_some-clause-full g c).After-is_full-full
 
 pub take-requires-then-is_some-clause-arrived : goal.take-requires-then-is_some-clause-arrived
 take-requires-then-is_some-clause-arrived g c = ap (option_map Receive) c.in-Some-operation.ensures.sent
+    ∙ ap (λ v. Some (Receive (ShadowMessage v))) (sym c.shadow.ensures)
+
+-- what is known of an operation's arrival, at the site
+abbrev Knows : (g : Over) (c : goal.After-is_full-full g) → Known → Shadow → Type 0
+Knows g c known v = IsSomeAnd (slice_get c.args.self.now.world.sites c.site-number.result)
+    (λ t. IsAsKnown c.args.self.now.settings t.ops known (Receive (ShadowMessage v)))
 
 -- what is known of an event, at the site
 the_known : (g : Over) (c : goal.After-is_full-full g) (known : Known) (e : Event) →
@@ -60,19 +69,24 @@ take-requires-clause-known g c = the_known g (goal.at.take-requires-clause-known
 pub take-requires-then-is_some-clause-known : goal.take-requires-then-is_some-clause-known
 take-requires-then-is_some-clause-known g c =
     let v = c.in-Some-operation.operation in
-    the_known g (goal.at.take-requires-then-is_some-clause-known g c).After-is_full-full Applied (Receive (ShadowMessage v)) (
+    let here = (goal.at.take-requires-then-is_some-clause-known g c).After-is_full-full in
+    let t = state_of c.in-Some.site.now in
+    let found = c.applied.ensures ∙ ap (find_in t.ops) c.name.ensures in
+    subst (Knows g here Applied) (sym c.shadow.ensures) (the_known g here Applied (Receive (ShadowMessage v)) (
       c.in-Some-operation.ensures.own.sound,
-      applied_itself c.args.self.now.settings c.args.self.now.world c.site-number.result (state_of c.in-Some.site.now) v c.applied.result
-          c.in-Some-operation.ensures.own (sym c.in-Some.ensures.state) c.applied.ensures (sym c.is_some.ensures ∙ c.if-is_some.true),
-    )
+      applied_itself c.args.self.now.settings c.args.self.now.world c.site-number.result t v c.applied.result
+          c.in-Some-operation.ensures.own (sym c.in-Some.ensures.state) found (sym c.is_some.ensures ∙ c.if-is_some.true),
+    ))
 
 pub take-requires-in-Some-operation-clause-known : goal.take-requires-in-Some-operation-clause-known
 take-requires-in-Some-operation-clause-known g c =
     let v = c.in-Some-operation.operation in
-    the_known g (goal.at.take-requires-in-Some-operation-clause-known g c).After-is_full-full New (Receive (ShadowMessage v)) (
+    let here = (goal.at.take-requires-in-Some-operation-clause-known g c).After-is_full-full in
+    let found = c.applied.ensures ∙ ap (find_in (state_of c.in-Some.site.now).ops) c.name.ensures in
+    subst (Knows g here New) (sym c.shadow-in-Some-operation.ensures) (the_known g here New (Receive (ShadowMessage v)) (
       c.in-Some-operation.ensures.own.sound,
-      not_applied c.applied.result _ c.applied.ensures (sym c.is_some.ensures ∙ c.if-is_some.false),
-    )
+      not_applied c.applied.result _ found (sym c.is_some.ensures ∙ c.if-is_some.false),
+    ))
 
 -- the event by its parts
 at_site : (g : Over) (c : goal.In-At g) → At c.site-number.result c.in-At.event ≡ c.args.event.now

@@ -5,7 +5,7 @@ use Rattle.std.proofs.lemmas.Option.{slice_get_read, slice_get_within}
 use Rattle.rb_ledger.specs.OperationLists.{OperationTable, clock_of_counts, with_clock}
 use Rattle.rb_ledger.proofs.ReadItems
 use Rattle.rb_ledger.proofs.OperationTables
-use Rattle.rb_ledger.proofs.operation_list.OperationList.get.Goals as goal
+use Rattle.rb_ledger.proofs.operation_list.OperationList.at.Goals as goal
 
 pub returns-in_err-body : goal.returns-in_err-body
 returns-in_err-body c =
@@ -22,14 +22,13 @@ returns c =
     let w = c.self.inside.sites in
     let ns = c.self.inside.counts.items in
     let k = c.args.index * (w + 1) in
-    let body = c.in_ok-body.field-0.now in
+    let body = c.in_ok-body.body.now in
     let there : slice_get c.self.inside.bodies.items c.args.index ≡ Some body = ReadItems.read_at _ _ _ _ _ c.deref.ensures.value refl
     (slice_get_read _ _ _ _ refl c.in_ok-body.ensures.lookup.3.0 c.in_ok-body.ensures.lookup.1) in
     let room = OperationTables.room_more w c.args.index (length c.self.inside.bodies.items) (slice_get_within _ _ _ there) in
     let m = k + w + 1 - k in
     let many : w + 1 ≤ length (drop k ns) = omega (arith, room, length-drop k ns, c.self.invariant.counts) in
-    ap (λ d. Some (with_clock body d)) (c.clock-deps.ensures
-    ∙ ap (λ xs. clock_of_counts (length (take m (drop k xs)) - 1) (take m (drop k xs))) c.deref-2.ensures.value
+    ap (λ d. Some (with_clock body d)) (ap (λ xs. clock_of_counts (length (take m (drop k xs)) - 1) (take m (drop k xs))) c.deref-2.ensures.value
     ∙ OperationTables.cut_clock w m (drop k ns) (omega arith) many)
     ∙ sym (OperationTables.one_at w _ ns c.args.index body there)
     ∙ ap (λ (t : OperationTable). slice_get t.items c.args.index) c.self.view_is
