@@ -1,5 +1,5 @@
 -- A command in the usual spelling is the compact text of its object, and so is read as the command.
-use Rattle.std.proofs.Common.{◌≡◌, ◌<◌, ◌≤◌, ◌^◌, ℕ, List, ◌++◌, Some, codes, decimal, refl, ap, ◌∙◌, arith}
+use Rattle.std.proofs.Common.{◌≡◌, ◌<◌, ◌≤◌, ◌^◌, ℕ, List, ◌++◌, Option, None, Some, codes, decimal, refl, sym, ap, ◌∙◌, arith}
 use Rattle.std.specs.Prelude.{option_and_then}
 use Rattle.json.specs.Print.{escape_byte, quoted}
 use Rattle.json.specs.Tree.{HasNumbers}
@@ -12,7 +12,7 @@ use Rattle.serde_json.proofs.Numbers.{number_of-decimal}
 use Rattle.rb_money.specs.Settings.{Settings}
 use Rattle.rb_site.specs.declared.world_event.WorldEvent.{WorldEvent}
 use Rattle.rb_commands.specs.Commands.{command_at, command_of, sited_json}
-use Rattle.rb_commands.specs.Spelled.{Spells, with_site}
+use Rattle.rb_commands.specs.Spelled.{EndsLine, IsLineOf, Spells, with_site}
 use Rattle.rb_commands.specs.Values.{number_json}
 use Rattle.rb_commands.specs.declared.site_command.SiteCommand.{SiteCommand}
 use Rattle.rb_commands.proofs.Sited.{site_after, site_before}
@@ -61,3 +61,10 @@ first_line s command site text rest t h e =
       (is.numbers, tt),
     ) (omega arith)
     (rw (number_of-decimal site k, is.same) refl) (site_after s command t.key t.value site h t.is)
+
+-- where the site is first or last
+pub any_line : (s : Settings) (first : Option ℕ) (command : SiteCommand) (site : ℕ) (text rest : List ℕ) → Spells s command text rest
+    → site < 2 ^ 8 → EndsLine first site rest → IsLineOf s first text command site
+any_line s None command site text rest t h e = last_line s command site text rest t h e
+any_line s (Some first) command site text rest t h e =
+    rw (e.0) (first_line s command first text rest t (omega (arith, h, e.0)) e.1)

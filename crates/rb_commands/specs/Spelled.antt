@@ -1,5 +1,5 @@
 -- Commands as programs spell them: with no space.
-use Rattle.std.specs.Prelude.{◌≡◌, ℕ, ◌≤◌, List, ◌++◌, Some, codes, false, map}
+use Rattle.std.specs.Prelude.{◌≡◌, ℕ, ◌≤◌, List, ◌++◌, Option, None, Some, codes, decimal, false, map}
 use Rattle.json.specs.Print.{quoted}
 use Rattle.json.specs.Tree.{HasNumbers, ItemsHaveNumbers}
 use Rattle.json.specs.Tree as tree
@@ -13,7 +13,7 @@ use Rattle.rb_site.specs.declared.event.Event.TheVariants.{Submit as ToSubmit, B
 use Rattle.rb_site.specs.declared.event.Event.TheVariants.{Balance as OfBalance, AsOf as OfPosition, Statement as OfStatement}
 use Rattle.rb_site.specs.declared.world_event.WorldEvent.{WorldEvent}
 use Rattle.rb_site.specs.declared.world_event.WorldEvent.TheVariants.{At, Deliver as ToDeliver}
-use Rattle.rb_commands.specs.Commands.{command_for}
+use Rattle.rb_commands.specs.Commands.{command_at, command_for}
 use Rattle.rb_commands.specs.Requests.{request_alone}
 use Rattle.rb_commands.specs.Values.{one_json}
 use Rattle.rb_commands.specs.declared.site_command.SiteCommand.{SiteCommand}
@@ -67,3 +67,17 @@ pub record SpellsRequests (s : Settings) (rs : List Request) (text rest : List �
   pub numbers : ItemsHaveNumbers (items_outline (items_of list))
   pub shallow : tree.items_depth (items_outline (items_of list)) ≤ 2
   pub same : of_items (items_outline (items_of list)) ≡ Some (items_of list)
+
+-- what follows an object's first quote: this text from a key on, with a site's member before it where there is a site
+abbrev pub behind_site : Option ℕ → List ℕ → List ℕ
+behind_site None text = text
+behind_site (Some site) text = codes "site\":" ++ (decimal site ++ (codes ",\"" ++ text))
+
+-- what follows a command's member to the end of the line: the site's member, or where a site came first, the end alone
+abbrev pub EndsLine : Option ℕ → ℕ → List ℕ → Type 0
+EndsLine None site rest = rest ≡ codes ",\"site\":" ++ (decimal site ++ codes "}")
+EndsLine (Some first) site rest = (site ≡ first) × (rest ≡ codes "}")
+
+-- the line with this text from its command's key on, and a site before it where there is one, is the command for the site
+abbrev pub IsLineOf : Settings → Option ℕ → List ℕ → SiteCommand → ℕ → Type 0
+IsLineOf s first text command site = command_at s (codes "{\"" ++ behind_site first text) ≡ Some (with_site site command)

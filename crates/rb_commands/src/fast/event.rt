@@ -2,7 +2,7 @@
 ghost use Rattle.std.specs.Prelude.{IfSome};
 ghost use Rattle.rb_commands.specs.Spelled.{Spells};
 
-use crate::fast::request::{parse_request, parse_requests};
+use crate::fast::request::parse_requests;
 use crate::fast::scan::{
     narrow, parse_byte, parse_name, parse_pair, parse_prefix, parse_string, parse_word,
 };
@@ -13,7 +13,11 @@ use rb_money::Config;
 use std::alloc::Global;
 
 #[inline(always)]
-fn parse_batch<'a>(alloc: Global, config: &Config, text: &'a str) -> Option<(SiteCommand, &'a str)>
+pub fn parse_batch<'a>(
+    alloc: Global,
+    config: &Config,
+    text: &'a str,
+) -> Option<(SiteCommand, &'a str)>
     ensures { IfSome result (λ p. Spells config.now p.0 text.now p.1.now) }
 {
     let list = parse_prefix(text, "batch\":[")?;
@@ -22,7 +26,7 @@ fn parse_batch<'a>(alloc: Global, config: &Config, text: &'a str) -> Option<(Sit
 }
 
 #[inline(always)]
-fn parse_apply<'a>(config: &Config, text: &'a str) -> Option<(SiteCommand, &'a str)>
+pub fn parse_apply<'a>(config: &Config, text: &'a str) -> Option<(SiteCommand, &'a str)>
     ensures { IfSome result (λ p. Spells config.now p.0 text.now p.1.now) }
 {
     let (name, rest) = parse_name(parse_prefix(text, "apply\":\"")?)?;
@@ -30,7 +34,7 @@ fn parse_apply<'a>(config: &Config, text: &'a str) -> Option<(SiteCommand, &'a s
 }
 
 #[inline(always)]
-fn parse_pass<'a>(config: &Config, text: &'a str) -> Option<(SiteCommand, &'a str)>
+pub fn parse_pass<'a>(config: &Config, text: &'a str) -> Option<(SiteCommand, &'a str)>
     ensures { IfSome result (λ p. Spells config.now p.0 text.now p.1.now) }
 {
     let (to, rest) = parse_byte(parse_prefix(text, "pass\":")?)?;
@@ -38,7 +42,7 @@ fn parse_pass<'a>(config: &Config, text: &'a str) -> Option<(SiteCommand, &'a st
 }
 
 #[inline(always)]
-fn parse_balance<'a>(config: &Config, text: &'a str) -> Option<(SiteCommand, &'a str)>
+pub fn parse_balance<'a>(config: &Config, text: &'a str) -> Option<(SiteCommand, &'a str)>
     ensures { IfSome result (λ p. Spells config.now p.0 text.now p.1.now) }
 {
     let (name, rest) = parse_string(parse_prefix(text, "balance\":\"")?)?;
@@ -47,7 +51,7 @@ fn parse_balance<'a>(config: &Config, text: &'a str) -> Option<(SiteCommand, &'a
 }
 
 #[inline(always)]
-fn parse_as_of<'a>(config: &Config, text: &'a str) -> Option<(SiteCommand, &'a str)>
+pub fn parse_as_of<'a>(config: &Config, text: &'a str) -> Option<(SiteCommand, &'a str)>
     ensures { IfSome result (λ p. Spells config.now p.0 text.now p.1.now) }
 {
     let (name, n, rest) = parse_pair(parse_prefix(text, "asof\":[\"")?)?;
@@ -57,7 +61,7 @@ fn parse_as_of<'a>(config: &Config, text: &'a str) -> Option<(SiteCommand, &'a s
 }
 
 #[inline(always)]
-fn parse_statement<'a>(config: &Config, text: &'a str) -> Option<(SiteCommand, &'a str)>
+pub fn parse_statement<'a>(config: &Config, text: &'a str) -> Option<(SiteCommand, &'a str)>
     ensures { IfSome result (λ p. Spells config.now p.0 text.now p.1.now) }
 {
     let (name, rest) = parse_string(parse_prefix(text, "statement\":\"")?)?;
@@ -66,48 +70,9 @@ fn parse_statement<'a>(config: &Config, text: &'a str) -> Option<(SiteCommand, &
 }
 
 #[inline(always)]
-fn parse_delivery<'a>(config: &Config, text: &'a str) -> Option<(SiteCommand, &'a str)>
+pub fn parse_delivery<'a>(config: &Config, text: &'a str) -> Option<(SiteCommand, &'a str)>
     ensures { IfSome result (λ p. Spells config.now p.0 text.now p.1.now) }
 {
     let (message, rest) = parse_word(parse_prefix(text, "deliver\":")?)?;
     Some((SiteCommand::Deliver(message), rest))
-}
-
-/// A request.
-#[inline(always)]
-fn parse_submission<'a>(config: &Config, text: &'a str) -> Option<(SiteCommand, &'a str)>
-    ensures { IfSome result (λ p. Spells config.now p.0 text.now p.1.now) }
-{
-    match parse_request(config, text) {
-        Some((request, rest)) => Some((SiteCommand::Submit(request), rest)),
-        None => None,
-    }
-}
-
-/// Any. Where the first byte of a key is that of two, the one that comes more often is tried first.
-#[inline(always)]
-pub fn parse_event<'a>(
-    alloc: Global,
-    config: &Config,
-    text: &'a str,
-) -> Option<(SiteCommand, &'a str)>
-    ensures { IfSome result (λ p. Spells config.now p.0 text.now p.1.now) }
-{
-    match text.as_bytes().first() {
-        Some(b'a') => match parse_apply(config, text) {
-            Some(apply) => Some(apply),
-            None => parse_as_of(config, text),
-        },
-        Some(b'b') => match parse_balance(config, text) {
-            Some(balance) => Some(balance),
-            None => parse_batch(alloc, config, text),
-        },
-        Some(b'd') => match parse_submission(config, text) {
-            Some(deposit) => Some(deposit),
-            None => parse_delivery(config, text),
-        },
-        Some(b'p') => parse_pass(config, text),
-        Some(b's') => parse_statement(config, text),
-        _ => parse_submission(config, text),
-    }
 }

@@ -9,7 +9,7 @@ use rb_scratch::Request;
 use std::alloc::Global;
 
 #[inline(always)]
-fn parse_deposit<'a>(config: &Config, text: &'a str) -> Option<(Request, &'a str)>
+pub fn parse_deposit<'a>(config: &Config, text: &'a str) -> Option<(Request, &'a str)>
     ensures { IfSome result (λ p. SpellsRequest config.now p.0 text.now p.1.now) }
 {
     let (name, amount, rest) = parse_pair(parse_prefix(text, "deposit\":[\"")?)?;
@@ -18,7 +18,7 @@ fn parse_deposit<'a>(config: &Config, text: &'a str) -> Option<(Request, &'a str
 }
 
 #[inline(always)]
-fn parse_withdrawal<'a>(config: &Config, text: &'a str) -> Option<(Request, &'a str)>
+pub fn parse_withdrawal<'a>(config: &Config, text: &'a str) -> Option<(Request, &'a str)>
     ensures { IfSome result (λ p. SpellsRequest config.now p.0 text.now p.1.now) }
 {
     let (name, amount, rest) = parse_pair(parse_prefix(text, "withdraw\":[\"")?)?;
@@ -27,7 +27,7 @@ fn parse_withdrawal<'a>(config: &Config, text: &'a str) -> Option<(Request, &'a 
 }
 
 #[inline(always)]
-fn parse_interest<'a>(config: &Config, text: &'a str) -> Option<(Request, &'a str)>
+pub fn parse_interest<'a>(config: &Config, text: &'a str) -> Option<(Request, &'a str)>
     ensures { IfSome result (λ p. SpellsRequest config.now p.0 text.now p.1.now) }
 {
     let (name, n, rest) = parse_pair(parse_prefix(text, "interest\":[\"")?)?;
@@ -37,7 +37,7 @@ fn parse_interest<'a>(config: &Config, text: &'a str) -> Option<(Request, &'a st
 }
 
 #[inline(always)]
-fn parse_cancellation<'a>(config: &Config, text: &'a str) -> Option<(Request, &'a str)>
+pub fn parse_cancellation<'a>(config: &Config, text: &'a str) -> Option<(Request, &'a str)>
     ensures { IfSome result (λ p. SpellsRequest config.now p.0 text.now p.1.now) }
 {
     let (target, rest) = parse_name(parse_prefix(text, "cancel\":\"")?)?;
@@ -45,7 +45,7 @@ fn parse_cancellation<'a>(config: &Config, text: &'a str) -> Option<(Request, &'
 }
 
 #[inline(always)]
-fn parse_transfer<'a>(config: &Config, text: &'a str) -> Option<(Request, &'a str)>
+pub fn parse_transfer<'a>(config: &Config, text: &'a str) -> Option<(Request, &'a str)>
     ensures { IfSome result (λ p. SpellsRequest config.now p.0 text.now p.1.now) }
 {
     let (from, to, amount, rest) = parse_three(parse_prefix(text, "transfer\":[\"")?)?;
@@ -54,9 +54,8 @@ fn parse_transfer<'a>(config: &Config, text: &'a str) -> Option<(Request, &'a st
     Some((Request::Transfer { from, to, amount }, rest))
 }
 
-/// A request.
-#[inline(always)]
-pub fn parse_request<'a>(config: &Config, text: &'a str) -> Option<(Request, &'a str)>
+/// A request. It is inlined where it is called, as that is one place.
+fn parse_request<'a>(config: &Config, text: &'a str) -> Option<(Request, &'a str)>
     ensures { IfSome result (λ p. SpellsRequest config.now p.0 text.now p.1.now) }
 {
     match text.as_bytes().first() {
@@ -70,7 +69,6 @@ pub fn parse_request<'a>(config: &Config, text: &'a str) -> Option<(Request, &'a
 }
 
 /// The requests of a batch, behind its bracket: at least one.
-#[inline(never)]
 pub fn parse_requests<'a>(
     alloc: Global,
     config: &Config,
