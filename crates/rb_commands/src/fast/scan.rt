@@ -86,8 +86,11 @@ pub(crate) fn parse_digits(text: &[u8]) -> Option<(u64, usize)>
         return None;
     }
     let mut n = (text[0] - b'0') as u64;
+    if n == 0 {
+        return Some((0, 1));
+    }
     let mut len = 1;
-    'digits: while len < text.len() && 0 < n && n < MOST {
+    'digits: while len < text.len() && n < MOST {
         let digit = text[len];
         if digit < b'0' || b'9' < digit {
             break 'digits;

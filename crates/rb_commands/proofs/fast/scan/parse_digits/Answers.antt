@@ -1,10 +1,11 @@
-use Rattle.std.proofs.Common.{arith}
+use Rattle.std.proofs.Common.{◌≡◌, ◌-◌, ap, ◌∙◌, arith, decimal, get_or}
 use Rattle.rb_commands.proofs.Scanned.{one_digit, digit_more}
 use Rattle.rb_commands.proofs.fast.scan.parse_digits.Goals as goal
 
 pub digits-init : goal.digits-init
 digits-init c = record {
   within = omega arith;
+  some = omega arith;
   small = omega arith;
   read = one_digit c.args.text.now (omega arith) (omega arith) (omega arith);
 }
@@ -12,7 +13,14 @@ digits-init c = record {
 pub digits-preserved : goal.digits-preserved
 digits-preserved c = record {
   within = omega arith;
+  some = omega arith;
   small = omega arith;
   read = digit_more c.args.text.now c.digits.len c.digits.n (omega arith) (omega arith) (omega arith) (omega arith) (omega arith)
       c.digits.invariant.read;
 }
+
+pub returns-then-n-eq0 : goal.returns-then-n-eq0
+returns-then-n-eq0 c =
+    let text = c.args.text.now in
+    let zero : get_or text 0 0 - 48 ≡ 0 = omega arith in
+    (omega arith, omega arith, one_digit text (omega arith) (omega arith) (omega arith) ∙ ap decimal zero)
