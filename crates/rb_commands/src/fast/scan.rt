@@ -91,11 +91,11 @@ pub(crate) fn parse_digits(text: &[u8]) -> Option<(u64, usize)>
     }
     let mut len = 1;
     'digits: while len < text.len() && n < MOST {
-        let digit = text[len];
-        if digit < b'0' || b'9' < digit {
+        let digit = text[len].wrapping_sub(b'0');
+        if 9 < digit {
             break 'digits;
         }
-        n = n * 10 + (digit - b'0') as u64;
+        n = n * 10 + digit as u64;
         len += 1;
     }
     Some((n, len))
