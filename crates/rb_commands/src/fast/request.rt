@@ -68,6 +68,9 @@ fn parse_request<'a>(config: &Config, text: &'a str) -> Option<(Request, &'a str
     }
 }
 
+/// How many requests a batch's list has places for at first.
+const FIRST_PLACES: usize = 4;
+
 /// The requests of a batch, behind its bracket: at least one.
 pub fn parse_requests<'a>(
     alloc: Global,
@@ -76,7 +79,7 @@ pub fn parse_requests<'a>(
 ) -> Option<(Vec<Request>, &'a str)>
     ensures { IfSome result (λ p. SpellsRequests config.now p.0.items text.now p.1.now) }
 {
-    let mut requests = Vec::new(alloc);
+    let mut requests = Vec::with_capacity(alloc, FIRST_PLACES).ok()?;
     let mut left = text;
     'items: loop {
         let (request, rest) = parse_request(config, parse_prefix(left, "{\"")?)?;
