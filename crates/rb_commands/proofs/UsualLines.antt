@@ -1,5 +1,5 @@
 -- A command in the usual spelling is the compact text of its object, and so is read as the command.
-use Rattle.std.proofs.Common.{◌≡◌, ◌<◌, ◌≤◌, ◌^◌, ℕ, List, ◌++◌, Option, None, Some, codes, decimal, refl, sym, ap, ◌∙◌, arith}
+use Rattle.std.proofs.Common.{◌≡◌, ◌<◌, ◌≤◌, ◌^◌, ℕ, List, ◌++◌, Option, None, Some, codes, decimal, refl, ap, ◌∙◌, arith}
 use Rattle.std.specs.Prelude.{option_and_then}
 use Rattle.json.specs.Print.{escape_byte, quoted}
 use Rattle.json.specs.Tree.{HasNumbers}

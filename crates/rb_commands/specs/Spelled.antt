@@ -73,11 +73,11 @@ abbrev pub behind_site : Option ℕ → List ℕ → List ℕ
 behind_site None text = text
 behind_site (Some site) text = codes "site\":" ++ (decimal site ++ (codes ",\"" ++ text))
 
--- what follows a command's member to the end of the line: the site's member, or where a site came first, the end alone
+-- what follows a command's member on its line: the site's member, or where a site came first, the end alone
 abbrev pub EndsLine : Option ℕ → ℕ → List ℕ → Type 0
 EndsLine None site rest = rest ≡ codes ",\"site\":" ++ (decimal site ++ codes "}")
 EndsLine (Some first) site rest = (site ≡ first) × (rest ≡ codes "}")
 
--- the line with this text from its command's key on, and a site before it where there is one, is the command for the site
+-- the line with this text from its command's key on, behind a site where there is one, is the command for the site
 abbrev pub IsLineOf : Settings → Option ℕ → List ℕ → SiteCommand → ℕ → Type 0
 IsLineOf s first text command site = command_at s (codes "{\"" ++ behind_site first text) ≡ Some (with_site site command)

@@ -1,7 +1,8 @@
 //! Lines of commands as programs spell them: the site first or last. `None` says nothing of a line.
 ghost use Rattle.std.specs.Prelude.{◌≡◌, ◌++◌, Some, IfSome, codes, decimal};
 ghost use Rattle.rb_commands.specs.Commands.{command_at};
-ghost use Rattle.rb_commands.specs.Spelled.{EndsLine, IsLineOf, Spells, SpellsRequest, behind_site, with_site};
+ghost use Rattle.rb_commands.specs.Spelled.{EndsLine, IsLineOf, Spells, SpellsRequest, behind_site};
+ghost use Rattle.rb_commands.specs.Spelled.{with_site};
 
 use crate::fast::blanks::without_blanks;
 use crate::fast::event::{
