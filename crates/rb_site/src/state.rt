@@ -8,7 +8,7 @@ ghost use Rattle.rb_site.specs.Events.{first_site, outcome_of, outcome_of_new};
 ghost use Rattle.rb_site.specs.Known.{IsAsKnown};
 ghost use Rattle.rb_site.specs.States.{Follows, Says, noting, plain};
 
-use crate::answer::{Answer, give};
+use crate::answer::give;
 use crate::journal::Journal;
 use crate::{Event, Known, Message, Reply};
 use rb_inbox::{Inbox, PutAnswer};
@@ -405,14 +405,17 @@ impl State {
         ensures { OnOk result (Follows keeps self.now self.now [] []
             (outcome_of self.now.settings self.now.site (Event.Statement place)) (noting reply.new noted.new)) }
     {
-        match statement(self.alloc, self.journal.ledger(), place) {
-            Ok(shown) => {
-                let shown = Answer::shown(self.alloc, shown, keeps)?;
-                Ok(shown.put(reply, noted))
-            }
-            Err(Refusal::OutOfMemory) => Err(AllocError),
-            Err(why) => Ok(give(reply, Reply::Refused(why))),
+        let shown = match statement(self.alloc, self.journal.ledger(), place) {
+            Ok(shown) => shown,
+            Err(Refusal::OutOfMemory) => return Err(AllocError),
+            Err(why) => return Ok(give(reply, Reply::Refused(why))),
+        };
+        if keeps {
+            let copy = shown.try_copy(self.alloc)?;
+            *noted = Some(Reply::Statement(copy));
         }
+        *reply = Reply::Statement(shown);
+        Ok(())
     }
 }
 
