@@ -39,7 +39,7 @@ fn undo_all(ledger: &mut Ledger, undos: Records)
     ensures room { ledger.new.room ≡ ledger.old.room + length undos.parts }
 {
     let mut undos = undos;
-    'undos: while let Some(undo) = undos.pop() {
+    'undos: while let Some(undo) = undos.pop(ledger) {
         ledger.undo(undo);
     }
     undos.close();
@@ -175,7 +175,7 @@ impl<'a> Scratch<'a> {
                 });
             }
         };
-        match undos.append_to(log) {
+        match undos.append_to(ledger, log) {
             Ok(_) => Ok(shadows),
             Err(undos) => Err(Scratch {
                 ledger,
