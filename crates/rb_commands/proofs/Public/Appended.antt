@@ -43,13 +43,13 @@ pub failed_first : {A E : Type 0} (r : Result A E) (old new t : List ℕ) → Is
 failed_first (Ok x) old new t is h = absurd (cc)
 failed_first (Err x) old new t is h = h
 
--- what was added is a line, where its end was added too
-pub ended : {A X E F : Type 0} (r : Result A E) (q : Result X F) (old mid new text : List ℕ) → Adds r old mid text
-    → OnOk q (IsOk r × (new ≡ mid ++ codes "\n")) → OnOk q (new ≡ old ++ (text ++ codes "\n"))
-ended (Ok x) (Ok y) old mid new text a e = e.1 ∙ ap (λ l. l ++ codes "\n") a ∙ append_assoc old text (codes "\n")
-ended (Err x) (Ok y) old mid new text a e = absurd (cc)
-ended (Ok x) (Err y) old mid new text a e = e
-ended (Err x) (Err y) old mid new text a e = e
+-- what was added is there, where all of it was kept
+pub kept : {A X E F : Type 0} (r : Result A E) (q : Result X F) (old mid new text : List ℕ) → Adds r old mid text
+    → OnOk q (IsOk r × (new ≡ mid)) → OnOk q (new ≡ old ++ text)
+kept (Ok x) (Ok y) old mid new text a e = e.1 ∙ a
+kept (Err x) (Ok y) old mid new text a e = absurd (cc)
+kept (Ok x) (Err y) old mid new text a e = e
+kept (Err x) (Err y) old mid new text a e = e
 
 -- a text behind two others is behind both
 pub before_end : (a b c d : List ℕ) → a ++ (b ++ (c ++ d)) ≡ (a ++ (b ++ c)) ++ d

@@ -1,5 +1,6 @@
 //! Lines of replies.
-ghost use Rattle.std.specs.Prelude.{◌≡◌, ◌≤◌, ◌+◌, ◌++◌, codes, length, take, IfOk, IsOk, OnOk, OnErr, string_bytes};
+ghost use Rattle.std.specs.Prelude.{◌≡◌, ◌≤◌, ◌+◌, ◌++◌, [], codes, cond, length, take, IfOk, IsOk, OnOk, OnErr};
+ghost use Rattle.std.specs.Prelude.{string_bytes};
 ghost use Rattle.serde_json.specs.Written.{compact_text};
 ghost use Rattle.rb_commands.specs.Adds.{Adds};
 ghost use Rattle.rb_commands.specs.Placed.{Placed};
@@ -8,8 +9,9 @@ ghost use Rattle.rb_commands.specs.declared.write.line.TheConstants.{LINE};
 ghost use Rattle.rb_commands.specs.Statements.{statement_json};
 ghost use Rattle.rb_commands.specs.Values.{name_json, list_json, one_json};
 
-use crate::write::append::{append, append_named, make_space};
+use crate::write::append::{append, make_space};
 use crate::write::line::{LINE, put_made, put_named_line, put_number_line};
+use crate::write::put::{put_if, put_name};
 use crate::write::refusal::put_refusal;
 use crate::write::statement::append_statement;
 use rb_shadow::OpName;
@@ -17,38 +19,49 @@ use rb_site::Reply;
 use rb_statements::Statement;
 use std::alloc::{AllocError, Global};
 
-/// A name, behind a text.
-fn append_listed(out: &mut Vec<u8>, comma: &str, name: OpName) -> Result<(), AllocError>
-    ensures { Adds result out.old.items out.new.items (comma.now ++ compact_text (name_json name)) }
+/// The most bytes of a name in quotes and the comma before it.
+const LISTED: usize = 18;
+
+/// A name, behind a comma where it is wanted.
+#[inline(always)]
+fn append_listed(out: &mut Vec<u8>, comma: bool, name: OpName) -> Result<(), AllocError>
+    ensures { Adds result out.old.items out.new.items (cond comma (codes ",") [] ++ compact_text (name_json name)) }
 {
-    append_named(out, comma, name, "")
+    let at = out.len();
+    make_space(out, &[0; LISTED])?;
+    let space = out.as_mut_slice();
+    let at = put_if(space, at, b',', comma);
+    let at = put_name(space, at, name);
+    out.truncate(at);
+    Ok(())
 }
 
-/// A list of names, as the one member of an object.
-pub fn append_names(out: &mut Vec<u8>, names: &[OpName]) -> Result<(), AllocError>
+/// A list of names, as the one member of an object on a line.
+fn append_names(out: &mut Vec<u8>, names: &[OpName]) -> Result<(), AllocError>
     ensures { Adds result out.old.items out.new.items
-        (compact_text (one_json (codes "names") (list_json name_json names.now))) }
+        (compact_text (one_json (codes "names") (list_json name_json names.now)) ++ codes "\n") }
 {
     append(out, "{\"names\":[")?;
-    let mut comma = "";
+    let mut comma = false;
     for name in names {
         append_listed(out, comma, *name)?;
-        comma = ",";
+        comma = true;
     }
-    append(out, "]}")
+    append(out, "]}\n")
 }
 
-/// Ends a line that was added behind the first `before` bytes. Where there was no memory, it is cut off.
-fn end_line(
+/// Cuts off what was added behind the first `before` bytes, where there was no memory for all of it.
+#[inline(always)]
+fn keep_if_added(
     out: &mut Vec<u8>,
     before: usize,
     added: Result<(), AllocError>,
 ) -> Result<(), AllocError>
     requires { before ≤ length out.old.items }
-    ensures ok { OnOk result (IsOk added × (out.new.items ≡ out.old.items ++ codes "\n")) }
+    ensures ok { OnOk result (IsOk added × (out.new.items ≡ out.old.items)) }
     ensures err { OnErr result (out.new.items ≡ take before out.old.items) }
 {
-    if added.is_ok() && append(out, "\n").is_ok() {
+    if added.is_ok() {
         return Ok(());
     }
     out.truncate(before);
@@ -64,7 +77,7 @@ fn append_names_line(out: &mut Vec<u8>, names: &[OpName]) -> Result<(), AllocErr
 {
     let before = out.len();
     let added = append_names(out, names);
-    end_line(out, before, added)
+    keep_if_added(out, before, added)
 }
 
 /// The line of a statement. An `Err` adds nothing.
@@ -76,7 +89,7 @@ fn append_statement_line(out: &mut Vec<u8>, shown: &Statement) -> Result<(), All
 {
     let before = out.len();
     let added = append_statement(out, shown);
-    end_line(out, before, added)
+    keep_if_added(out, before, added)
 }
 
 /// Puts a reply's line, which is a short one.

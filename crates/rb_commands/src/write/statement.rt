@@ -12,7 +12,7 @@ ghost use Rattle.rb_commands.specs.Statements.{row_json, statement_json};
 ghost use Rattle.rb_commands.specs.declared.write.statement.TheConstants.{ROW};
 ghost use Rattle.rb_shadow.specs.Labels.{word_of};
 
-use crate::write::append::{append, append_number, make_space};
+use crate::write::append::{append_number, make_space};
 use crate::write::put::{put_if, put_integer, put_name, put_number, put_small, put_text, put_word};
 use rb_statements::{Row, Statement};
 use std::alloc::AllocError;
@@ -87,23 +87,23 @@ fn append_row(out: &mut Vec<u8>, comma: bool, row: &Row) -> Result<(), AllocErro
     Ok(())
 }
 
-/// The rows of a list, with its closing bracket.
-fn append_rows(out: &mut Vec<u8>, rows: &[Row]) -> Result<(), AllocError>
-    ensures { Adds result out.old.items out.new.items (items_text false (items_of (map row_json rows.now))) }
+/// The rows of a list, with its closing bracket, and the rest of a line: the start.
+fn append_rows(out: &mut Vec<u8>, rows: &[Row], start: u64) -> Result<(), AllocError>
+    ensures { Adds result out.old.items out.new.items (items_text false (items_of (map row_json rows.now))
+        ++ (codes ",\"start\":" ++ (decimal start ++ codes "}\n"))) }
 {
     let mut comma = false;
     for row in rows {
         append_row(out, comma, row)?;
         comma = true;
     }
-    append(out, "]")
+    append_number(out, "],\"start\":", start, "}\n")
 }
 
-/// The object of a statement.
+/// The object of a statement, as a line.
 pub fn append_statement(out: &mut Vec<u8>, shown: &Statement) -> Result<(), AllocError>
-    ensures { Adds result out.old.items out.new.items (compact_text (statement_json shown.now)) }
+    ensures { Adds result out.old.items out.new.items (compact_text (statement_json shown.now) ++ codes "\n") }
 {
     append_number(out, "{\"balance\":", shown.balance, ",\"rows\":[")?;
-    append_rows(out, shown.rows.as_slice())?;
-    append_number(out, ",\"start\":", shown.start, "}")
+    append_rows(out, shown.rows.as_slice(), shown.start)
 }

@@ -1,4 +1,4 @@
-use Rattle.std.proofs.Common.{◌++◌, codes, cond, [], add-one, drop-cons, arith, refl}
+use Rattle.std.proofs.Common.{◌++◌, ◌∙◌, codes, cond, decimal, [], add-one, ap, append_assoc, drop-cons, arith, refl, sym}
 use Rattle.std.proofs.Math.Seq.{take-length}
 use Rattle.std.specs.Prelude.{map}
 use Rattle.rb_commands.specs.Statements.{row_json}
@@ -28,10 +28,12 @@ returns c =
     let out = c.loop-row.out.items in
     let rows = c.args.rows.now in
     let list = rest_text [] (map row_json rows) in
+    let back = codes ",\"start\":" ++ (decimal c.args.start ++ codes "}\n") in
     let total = old ++ list in
     let comma = cond c.loop-row.comma (codes ",") [] in
     let all = items_written row_json out comma total rows c.loop-row.row-index (omega arith) c.loop-row.invariant.written in
-    then c.append.result old out c.append.new.out.items list (codes "]") _ all c.append.ensures (whole_text (map row_json rows))
+    then c.append_number.result old out c.append_number.new.out.items list (codes "]" ++ back) _ all c.append_number.ensures
+    (sym (append_assoc list (codes "]") back) ∙ ap (λ l. l ++ back) (whole_text (map row_json rows)))
 
 pub returns-in_err-append_row : goal.returns-in_err-append_row
 returns-in_err-append_row c =
