@@ -75,14 +75,17 @@ fn answer_of_last(ledger: &Ledger, count: usize, room: BatchRoom, sent: &mut Vec
 }
 
 /// Makes the requests at the site of the token's view, each after those before it: all of them or none.
-/// The answer names the operations, and their messages are put at the end of what was sent.
+/// The answer names the operations, where the reply before has names in their memory, and their messages are put at the
+/// end of what was sent.
 ///
-/// Refuses, and changes nothing: with `BatchRefused` by the first request at fault, or with `OutOfMemory`.
+/// Refuses, and changes nothing but that reply: with `BatchRefused` by the first request at fault, or with
+/// `OutOfMemory`.
 pub fn run_batch(
     alloc: Global,
     ledger: &mut Ledger,
     token: TokenView,
     requests: &[Request],
+    before: &mut Reply,
     keeps: bool,
     sent: &mut Vec<Message>,
 ) -> Result<Answer, Refusal>
@@ -103,7 +106,7 @@ pub fn run_batch(
         scratch.abort();
         return Err(why);
     }
-    let room = match BatchRoom::open(alloc, requests.len(), keeps, sent) {
+    let room = match BatchRoom::open(alloc, before, requests.len(), keeps, sent) {
         Ok(room) => room,
         Err(_) => {
             scratch.abort();

@@ -8,9 +8,11 @@ use crate::answer::Answer;
 use crate::{Message, Reply};
 use rb_kit::List;
 use rb_ledger::OperationList;
+use rb_money::Refusal;
 use rb_shadow::OpName;
 use std::alloc::{AllocError, Global};
 use std::marker::Model;
+use std::mem;
 
 /// Memory for the answer to a batch: for the names, and for the same in a history that keeps replies.
 /// Clients see for how many operations it is enough, and whether the history keeps replies.
@@ -35,9 +37,11 @@ impl Model for BatchRoom {
 }
 
 impl BatchRoom {
-    /// Memory for up to `most` operations, and for as many messages after those sent. `Err` means out of memory.
+    /// Memory for up to `most` operations, and for as many messages after those sent. Where the reply before has names,
+    /// theirs is used. `Err` means out of memory.
     pub fn open(
         alloc: Global,
+        before: &mut Reply,
         most: usize,
         keeps: bool,
         sent: &mut Vec<Message>,
@@ -46,7 +50,7 @@ impl BatchRoom {
             × (vec_len sent.new + most ≤ vec_capacity sent.new)) }
         ensures sent { sent.new.items ≡ sent.old.items }
     {
-        let mut names = Vec::new(alloc);
+        let mut names = spare_names(alloc, before);
         names.reserve(most)?;
         let mut noted = Vec::new(alloc);
         if keeps {
@@ -84,6 +88,21 @@ impl BatchRoom {
             reply: Reply::Names(List::new(with_names(names, all, first))),
             noted,
         }
+    }
+}
+
+/// An empty list of names, in the memory of those that the reply has, if it has any. The reply is then another.
+#[inline(always)]
+fn spare_names(alloc: Global, before: &mut Reply) -> Vec<OpName>
+    ensures { result.items ≡ [] }
+{
+    match mem::replace(before, Reply::Refused(Refusal::BadBatch)) {
+        Reply::Names(names) => {
+            let mut names = names.into_vec();
+            names.clear();
+            names
+        }
+        _ => Vec::new(alloc),
     }
 }
 

@@ -124,16 +124,17 @@ impl Journal {
     }
 
     /// Makes the requests of a batch at the site of the token's view, each after those before it: all of
-    /// them or none. The answer names the operations, and their messages are put at the end of what was
-    /// sent.
+    /// them or none. The answer names the operations, where the reply before has names in their memory, and their
+    /// messages are put at the end of what was sent.
     ///
-    /// Refuses, and changes nothing: with `BatchRefused` by the first request at fault, or with
+    /// Refuses, and changes nothing but that reply: with `BatchRefused` by the first request at fault, or with
     /// `OutOfMemory`.
     pub fn batch(
         &mut self,
         alloc: Global,
         token: TokenView,
         requests: &[Request],
+        before: &mut Reply,
         keeps: bool,
         sent: &mut Vec<Message>,
     ) -> Result<Answer, Refusal>
@@ -149,7 +150,15 @@ impl Journal {
             × ((why ≡ Refusal.OutOfMemory) ⊎ ((known : Token) → Shows token known →
             batch_of self.old.settings token.me self.old.ops known 0 requests.now ≡ Err why))) }
     {
-        run_batch(alloc, &mut self.ledger, token, requests, keeps, sent)
+        run_batch(
+            alloc,
+            &mut self.ledger,
+            token,
+            requests,
+            before,
+            keeps,
+            sent,
+        )
     }
 
     /// The balance of an account after the first `position` operations, in cents, or why there is none.

@@ -213,7 +213,10 @@ impl State {
             return Ok(give(reply, Reply::Refused(Refusal::BadBatch)));
         }
         let token = self.token.view();
-        let why = match self.journal.batch(self.alloc, token, asked, keeps, sent) {
+        let made = self
+            .journal
+            .batch(self.alloc, token, asked, reply, keeps, sent);
+        let why = match made {
             Ok(made) => return Ok(made.put(reply, noted)),
             Err(why) => why,
         };

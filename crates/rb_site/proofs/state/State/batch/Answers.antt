@@ -32,19 +32,19 @@ returns-in-Ok-clause-ok c =
     ∙ ap (batch_of c.self.inside.journal.settings c.view-token.result.me c.self.inside.journal.ops c.self.inside.token.token 0)
     (sym c.as_slice-asked.ensures)
     ∙ runs c.self.inside.token.token c.view-token.ensures.shows in
-    let P : SiteState → Type 0 = λ z. Follows c.args.keeps z (state_as c.batch.new.self.settings c.self.inside.token.me c.batch.new.self.ops
-    c.self.inside.inbox.held c.self.inside.token.token) c.args.sent.now.items c.batch.new.sent.items
+    let P : SiteState → Type 0 = λ z. Follows c.args.keeps z (state_as c.batch-made.new.self.settings c.self.inside.token.me c.batch-made.new.self.ops
+    c.self.inside.inbox.held c.self.inside.token.token) c.args.sent.now.items c.batch-made.new.sent.items
     (outcome_of z.settings z.site (Batch c.args.requests.now)) c.in-Ok.made in
-    follows_with c.args.keeps c.args.self.now _ c.args.sent.now.items c.batch.new.sent.items _ _ c.in-Ok.made c.put.ensures
+    follows_with c.args.keeps c.args.self.now _ c.args.sent.now.items c.batch-made.new.sent.items _ _ c.in-Ok.made c.put.ensures
     (subst P c.self.view_is
     (let old : SiteState = state_as c.self.inside.journal.settings c.self.inside.token.me c.self.inside.journal.ops c.self.inside.inbox.held
     c.self.inside.token.token in
     let Q : SeenLedger → Type 0 = λ b. Follows c.args.keeps old (state_as b.settings c.self.inside.token.me b.ops c.self.inside.inbox.held
-    c.self.inside.token.token) c.args.sent.now.items c.batch.new.sent.items
+    c.self.inside.token.token) c.args.sent.now.items c.batch-made.new.sent.items
     (outcome_of old.settings old.site (Batch c.args.requests.now)) c.in-Ok.made in
     subst Q (sym grown)
     (makes_batch c.args.keeps c.self.inside.journal.settings c.self.inside.token.me c.self.inside.journal.ops c.self.inside.inbox.held
-    c.self.inside.token.token c.args.requests.now vs c.args.sent.now.items c.batch.new.sent.items c.in-Ok.made size made says posted)))
+    c.self.inside.token.token c.args.requests.now vs c.args.sent.now.items c.batch-made.new.sent.items c.in-Ok.made size made says posted)))
 
 pub returns-clause-ok : goal.returns-clause-ok
 returns-clause-ok c =
@@ -60,14 +60,14 @@ returns-clause-ok c =
     c.view-token.ensures.shows in
     let now : SeenLedger → SiteState = λ b. state_as b.settings c.self.inside.token.me b.ops c.self.inside.inbox.held
     c.self.inside.token.token in
-    let P : SiteState → Type 0 = λ z. Follows c.args.keeps z (now c.batch.new.self) c.args.sent.now.items c.batch.new.sent.items
+    let P : SiteState → Type 0 = λ z. Follows c.args.keeps z (now c.batch-made.new.self) c.args.sent.now.items c.batch-made.new.sent.items
     (outcome_of z.settings z.site (Batch c.args.requests.now)) (plain c.give-2.new.place) in
     let old : SiteState = now c.self.inside.journal in
-    let Q : SeenLedger → Type 0 = λ b. Follows c.args.keeps old (now b) c.args.sent.now.items c.batch.new.sent.items
+    let Q : SeenLedger → Type 0 = λ b. Follows c.args.keeps old (now b) c.args.sent.now.items c.batch-made.new.sent.items
     (outcome_of old.settings old.site (Batch c.args.requests.now)) (plain c.give-2.new.place) in
     let R : List Message → Type 0 = λ ms. Follows c.args.keeps old old c.args.sent.now.items ms
     (outcome_of old.settings old.site (Batch c.args.requests.now)) (plain c.give-2.new.place) in
-    follows_with c.args.keeps c.args.self.now _ c.args.sent.now.items c.batch.new.sent.items _ _ (plain c.give-2.new.place)
+    follows_with c.args.keeps c.args.self.now _ c.args.sent.now.items c.batch-made.new.sent.items _ _ (plain c.give-2.new.place)
     (ap (noting c.give-2.new.place) c.requires)
     (subst P c.self.view_is
     (subst Q (sym c.in-Err.ensures.refused.0)
@@ -77,18 +77,18 @@ returns-clause-ok c =
     (refuses_batch c.self.inside.journal.settings c.self.inside.token.me c.self.inside.journal.ops c.self.inside.inbox.held
     c.self.inside.token.token c.args.requests.now c.in-Err.why (plain c.give-2.new.place) size refused c.give-2.ensures)))))
 
-pub batch-requires-clause-site : goal.batch-requires-clause-site
-batch-requires-clause-site c =
+pub batch-made-requires-clause-site : goal.batch-made-requires-clause-site
+batch-made-requires-clause-site c =
     subst (λ me. me < c.self.inside.journal.settings.sites) (sym c.view-token.ensures.me) c.self.invariant.me
 
 pub invariant_of-self : goal.invariant_of-self
 invariant_of-self c =
     let (vs, grown, says, posted, runs) = c.in-Ok.ensures.made in
-    tied_as c.self.inside.journal.settings c.batch.new.self.settings c.self.inside.inbox c.self.inside.token
+    tied_as c.self.inside.journal.settings c.batch-made.new.self.settings c.self.inside.inbox c.self.inside.token
     (ap (λ (b : SeenLedger). b.settings) grown) c.self.invariant
 
 pub invariant_of-self-in-OutOfMemory : goal.invariant_of-self-in-OutOfMemory
-invariant_of-self-in-OutOfMemory c = tied_as c.self.inside.journal.settings c.batch.new.self.settings c.self.inside.inbox
+invariant_of-self-in-OutOfMemory c = tied_as c.self.inside.journal.settings c.batch-made.new.self.settings c.self.inside.inbox
     c.self.inside.token (ap (λ (b : SeenLedger). b.settings) c.in-Err.ensures.refused.0) c.self.invariant
 
 pub returns-in-OutOfMemory-clause-err : goal.returns-in-OutOfMemory-clause-err
@@ -99,5 +99,5 @@ returns-in-OutOfMemory-clause-err c = (
 )
 
 pub invariant_of-self-2 : goal.invariant_of-self-2
-invariant_of-self-2 c = tied_as c.self.inside.journal.settings c.batch.new.self.settings c.self.inside.inbox c.self.inside.token
+invariant_of-self-2 c = tied_as c.self.inside.journal.settings c.batch-made.new.self.settings c.self.inside.inbox c.self.inside.token
     (ap (λ (b : SeenLedger). b.settings) c.in-Err.ensures.refused.0) c.self.invariant
