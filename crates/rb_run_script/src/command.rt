@@ -1,163 +1,51 @@
-//! The commands of a script, given to its world. Each frequent kind has a function of its own, into which all that the
-//! world does for this kind is inlined, so that its kind is looked at once.
+//! The commands of a script, given to its world. All that the world does for a frequent kind is inlined where that kind
+//! is found, so that it is looked at once.
 ghost use Rattle.std.specs.Prelude.{◌≡◌, ◌++◌, MatchResult, OnErr};
-ghost use Rattle.rb_site.specs.Worlds.{IsCommand};
-ghost use Rattle.rb_world.specs.Laws.{next_reply, next_world};
-ghost use Rattle.rb_commands.specs.declared.fault.LineFault.TheVariants.{Bad, OutOfMemory};
-ghost use Rattle.rb_commands.specs.declared.site_command.SiteCommand.TheVariants.{Submit, Apply, Balance, AsOf};
-ghost use Rattle.rb_commands.specs.declared.site_command.SiteCommand.TheVariants.{Statement, Deliver};
+ghost use Rattle.rb_site.specs.Worlds.{IsOwn};
+ghost use Rattle.rb_site.specs.declared.world_event.WorldEvent.TheVariants.{At};
+ghost use Rattle.rb_commands.specs.declared.fault.LineFault.TheVariants.{Bad};
 ghost use Rattle.rb_commands.specs.Commands.{command_at};
 ghost use Rattle.rb_commands.specs.Spelled.{with_site};
 ghost use Rattle.rb_run_script.specs.Script.{command_on};
 ghost use Rattle.rb_run_script.specs.Session.{AnswersCommand, TakesCommand};
 
-use rb_commands::{LineFault, SiteCommand, append_reply, parse_command, read_any_command};
+use crate::asked_world::AskedWorld;
+use rb_commands::{LineFault, SiteCommand, parse_command, read_any_command};
 use rb_lines::text_on;
-use rb_money::{Place, Refusal};
-use rb_scratch::Request;
-use rb_shadow::OpName;
-use rb_site::{Event, Reply, WorldEvent};
-use rb_world::LeanWorld;
+use rb_site::{Event, WorldEvent};
 use std::alloc::Global;
 
-/// Gives the world a command, and buffers the line of its reply. An `Err` means out of memory, and buffers nothing.
+/// An event of a site's own.
 #[inline(always)]
-fn take_command(
-    world: &mut LeanWorld,
-    command: &WorldEvent,
-    buffered: &mut Vec<u8>,
-) -> Result<(), LineFault>
-    requires { IsCommand command.now }
-    ensures { TakesCommand result command.now world.old world.new buffered.old.items buffered.new.items }
-{
-    let mut reply = Reply::Refused(Refusal::NoSite);
-    if world.answer(command, &mut reply).is_err() {
-        return Err(LineFault::OutOfMemory);
-    }
-    match append_reply(buffered, &reply) {
-        Ok(()) => Ok(()),
-        Err(_) => Err(LineFault::OutOfMemory),
-    }
-}
-
-/// A request.
-#[inline(always)]
-fn take_request(
-    world: &mut LeanWorld,
+fn take_event(
+    world: &mut AskedWorld,
     site: u8,
-    request: Request,
+    event: Event,
     buffered: &mut Vec<u8>,
 ) -> Result<(), LineFault>
-    ensures { TakesCommand result (with_site site (Submit request)) world.old world.new buffered.old.items
-        buffered.new.items }
+    requires { IsOwn event }
+    ensures { TakesCommand result (At site event) world.old world.new buffered.old.items buffered.new.items }
 {
-    take_command(
-        world,
-        &WorldEvent::At(site, Event::Submit(request)),
-        buffered,
-    )
+    world.take(&WorldEvent::At(site, event), buffered)
 }
 
-/// The application of what is held.
-#[inline(always)]
-fn take_application(
-    world: &mut LeanWorld,
-    site: u8,
-    name: OpName,
-    buffered: &mut Vec<u8>,
-) -> Result<(), LineFault>
-    ensures { TakesCommand result (with_site site (Apply name)) world.old world.new buffered.old.items
-        buffered.new.items }
-{
-    take_command(world, &WorldEvent::At(site, Event::Apply(name)), buffered)
-}
-
-/// The delivery of a message.
-#[inline(always)]
-fn take_delivery(
-    world: &mut LeanWorld,
-    site: u8,
-    number: u32,
-    buffered: &mut Vec<u8>,
-) -> Result<(), LineFault>
-    ensures { TakesCommand result (with_site site (Deliver number)) world.old world.new buffered.old.items
-        buffered.new.items }
-{
-    take_command(world, &WorldEvent::Deliver(site, number), buffered)
-}
-
-/// A balance.
-#[inline(always)]
-fn take_balance(
-    world: &mut LeanWorld,
-    site: u8,
-    place: Place,
-    buffered: &mut Vec<u8>,
-) -> Result<(), LineFault>
-    ensures { TakesCommand result (with_site site (Balance place)) world.old world.new buffered.old.items
-        buffered.new.items }
-{
-    take_command(
-        world,
-        &WorldEvent::At(site, Event::Balance(place)),
-        buffered,
-    )
-}
-
-/// A balance as of a position.
-#[inline(always)]
-fn take_as_of(
-    world: &mut LeanWorld,
-    site: u8,
-    place: Place,
-    position: u32,
-    buffered: &mut Vec<u8>,
-) -> Result<(), LineFault>
-    ensures { TakesCommand result (with_site site (AsOf place position)) world.old world.new buffered.old.items
-        buffered.new.items }
-{
-    take_command(
-        world,
-        &WorldEvent::At(site, Event::AsOf(place, position)),
-        buffered,
-    )
-}
-
-/// A statement.
-#[inline(always)]
-fn take_statement(
-    world: &mut LeanWorld,
-    site: u8,
-    place: Place,
-    buffered: &mut Vec<u8>,
-) -> Result<(), LineFault>
-    ensures { TakesCommand result (with_site site (Statement place)) world.old world.new buffered.old.items
-        buffered.new.items }
-{
-    take_command(
-        world,
-        &WorldEvent::At(site, Event::Statement(place)),
-        buffered,
-    )
-}
-
-/// Any other command: a batch, or the token's passing.
+/// The passing of the token, or any command.
 #[inline(never)]
-fn take_other(
-    world: &mut LeanWorld,
+fn take_rest(
+    world: &mut AskedWorld,
     site: u8,
     command: SiteCommand,
     buffered: &mut Vec<u8>,
 ) -> Result<(), LineFault>
     ensures { TakesCommand result (with_site site command) world.old world.new buffered.old.items buffered.new.items }
 {
-    take_command(world, &command.at(site), buffered)
+    world.take(&command.at(site), buffered)
 }
 
-/// Gives the world a command for a site.
-#[inline(always)]
-fn take_parsed(
-    world: &mut LeanWorld,
+/// A seldom command: a batch, or the token's passing.
+#[inline(never)]
+fn take_other(
+    world: &mut AskedWorld,
     site: u8,
     command: SiteCommand,
     buffered: &mut Vec<u8>,
@@ -165,12 +53,30 @@ fn take_parsed(
     ensures { TakesCommand result (with_site site command) world.old world.new buffered.old.items buffered.new.items }
 {
     match command {
-        SiteCommand::Submit(request) => take_request(world, site, request, buffered),
-        SiteCommand::Apply(name) => take_application(world, site, name, buffered),
-        SiteCommand::Deliver(number) => take_delivery(world, site, number, buffered),
-        SiteCommand::Balance(place) => take_balance(world, site, place, buffered),
-        SiteCommand::AsOf(place, position) => take_as_of(world, site, place, position, buffered),
-        SiteCommand::Statement(place) => take_statement(world, site, place, buffered),
+        SiteCommand::Batch(requests) => take_event(world, site, Event::Batch(requests), buffered),
+        other => take_rest(world, site, other, buffered),
+    }
+}
+
+/// Gives the world a command for a site.
+#[inline(always)]
+fn take_parsed(
+    world: &mut AskedWorld,
+    site: u8,
+    command: SiteCommand,
+    buffered: &mut Vec<u8>,
+) -> Result<(), LineFault>
+    ensures { TakesCommand result (with_site site command) world.old world.new buffered.old.items buffered.new.items }
+{
+    match command {
+        SiteCommand::Submit(request) => take_event(world, site, Event::Submit(request), buffered),
+        SiteCommand::Apply(name) => take_event(world, site, Event::Apply(name), buffered),
+        SiteCommand::Deliver(number) => world.take(&WorldEvent::Deliver(site, number), buffered),
+        SiteCommand::Balance(place) => take_event(world, site, Event::Balance(place), buffered),
+        SiteCommand::AsOf(place, position) => {
+            take_event(world, site, Event::AsOf(place, position), buffered)
+        }
+        SiteCommand::Statement(place) => take_event(world, site, Event::Statement(place), buffered),
         other => take_other(world, site, other, buffered),
     }
 }
@@ -179,7 +85,7 @@ fn take_parsed(
 #[inline(never)]
 fn answer_any_command(
     alloc: Global,
-    world: &mut LeanWorld,
+    world: &mut AskedWorld,
     text: &str,
     buffered: &mut Vec<u8>,
 ) -> Result<(), LineFault>
@@ -190,7 +96,7 @@ fn answer_any_command(
     ensures err { OnErr result (buffered.new.items ≡ buffered.old.items) }
 {
     let command = read_any_command(alloc, world.config(), text)?;
-    take_command(world, &command, buffered)
+    world.take(&command, buffered)
 }
 
 /// Gives the world the command on a line, and buffers its reply. An `Err` buffers nothing, and ends the script. In the
@@ -199,7 +105,7 @@ fn answer_any_command(
 #[tactic(auto, unfolding(crate::specs::Script::command_on))]
 pub fn answer_command(
     alloc: Global,
-    world: &mut LeanWorld,
+    world: &mut AskedWorld,
     line: &[u8],
     buffered: &mut Vec<u8>,
 ) -> Result<(), LineFault>

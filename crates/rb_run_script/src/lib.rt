@@ -2,6 +2,7 @@
 //! Tests: rb_tests_runs, scripts.rt.
 #![tactic(auto)]
 
+mod asked_world;
 mod command;
 mod run;
 mod session;

@@ -6,6 +6,7 @@ ghost use Rattle.rb_commands.specs.declared.fault.LineFault.TheVariants.{Bad};
 ghost use Rattle.rb_commands.specs.Configurations.{config_on};
 ghost use Rattle.rb_run_script.specs.Session.{first_session};
 
+use crate::asked_world::AskedWorld;
 use crate::command::answer_command;
 use rb_commands::{LineFault, read_config};
 use rb_lines::{Responder, StreamFault, is_blank, text_on};
@@ -15,7 +16,7 @@ use std::alloc::Global;
 /// The state of a script: the world once there is a configuration, the number of the next line, from 1, and the number
 /// of replies so far.
 pub struct Session {
-    pub world: Option<LeanWorld>,
+    pub world: Option<AskedWorld>,
     pub number: u64,
     pub count: u64,
 }
@@ -50,7 +51,7 @@ impl Session {
     }
 
     /// The script goes on with this world. The one before it is ended.
-    fn start(&mut self, world: LeanWorld)
+    fn start(&mut self, world: AskedWorld)
         ensures { self.new ≡ record self.old { world = Some world } }
     {
         if let Some(before) = self.world.replace(world) {
@@ -67,7 +68,7 @@ impl Session {
             (λ why. why ≡ Bad → config_on line.now ≡ None) }
     {
         let world = open_world(alloc, line)?;
-        self.start(world);
+        self.start(AskedWorld::new(world));
         Ok(())
     }
 
