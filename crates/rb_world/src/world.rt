@@ -182,31 +182,45 @@ impl<E: KeepsEntry, R: KeepsEvent> World<E, R> {
             WorldEvent::At(_, event) => {
                 self.take(number, full, event, Known::Nothing, None, reply)
             }
-            WorldEvent::Deliver(_, sent) => match self.operation(*sent) {
-                Some(operation) => {
-                    // A copy is made in each of the two cases, since one of them doesn't read it.
-                    if site.applied(&operation.name()).is_some() {
-                        let arrived = Event::Receive(Message::Shadow(operation.shadow()));
-                        return self.take(
-                            number,
-                            full,
-                            &arrived,
-                            Known::Applied,
-                            Some(*sent),
-                            reply,
-                        );
-                    }
-                    let arrived = Event::Receive(Message::Shadow(operation.shadow()));
-                    self.take(number, full, &arrived, Known::New, Some(*sent), reply)
-                }
-                None => self.deliver(number, full, *sent, reply),
-            },
+            WorldEvent::Deliver(_, sent) => self.deliver(number, full, *sent, reply),
         }
     }
 
     /// A site takes the message of a number, if there is one, unless its history is full.
-    #[inline(never)]
+    #[inline(always)]
     fn deliver(
+        &mut self,
+        site: u8,
+        full: bool,
+        number: u32,
+        reply: &mut Reply,
+    ) -> Result<(), AllocError>
+        requires full { IsSomeAnd (slice_get self.old.world.sites site)
+            (λ site. is_full self.old.settings site ≡ full) }
+        ensures ok { OnOk result ((reply.new ≡ next_reply self.old (TheEvent.Deliver site number))
+            × (self.new ≡ next_world self.old (TheEvent.Deliver site number))) }
+        ensures err { OnErr result (self.new ≡ self.old) }
+        ensures recordable { OnErr result (is_recorded self.old.settings self.old.world (TheEvent.Deliver site number)
+            ≡ true) }
+    {
+        let Some(operation) = self.operation(number) else {
+            return self.deliver_any(site, full, number, reply);
+        };
+        let Some(here) = self.site(site) else {
+            unreachable!()
+        };
+        // A copy is made in each of the two cases, since one of them doesn't read it.
+        if here.applied(&operation.name()).is_some() {
+            let arrived = Event::Receive(Message::Shadow(operation.shadow()));
+            return self.take(site, full, &arrived, Known::Applied, Some(number), reply);
+        }
+        let arrived = Event::Receive(Message::Shadow(operation.shadow()));
+        self.take(site, full, &arrived, Known::New, Some(number), reply)
+    }
+
+    /// A site takes the message of a number, if there is one, whatever it is, unless its history is full.
+    #[inline(never)]
+    fn deliver_any(
         &mut self,
         site: u8,
         full: bool,

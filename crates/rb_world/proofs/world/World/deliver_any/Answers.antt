@@ -4,7 +4,7 @@ use Rattle.std.specs.Prelude.{option_map}
 use Rattle.rb_site.specs.declared.event.Event.TheVariants.{Receive}
 use Rattle.rb_site.specs.declared.world_event.WorldEvent.TheVariants.{Deliver}
 use Rattle.rb_world.proofs.Stepping.{at_error, no_message_there, recorded_at}
-use Rattle.rb_world.proofs.world.World.deliver.Goals as goal
+use Rattle.rb_world.proofs.world.World.deliver_any.Goals as goal
 
 pub take-requires-clause-arrived : goal.take-requires-clause-arrived
 take-requires-clause-arrived g c = ap (option_map Receive) (sym c.in-Some.ensures.same)
