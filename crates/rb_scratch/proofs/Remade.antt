@@ -14,6 +14,11 @@ use Rattle.rb_ledger.specs.Valid.{parts_of}
 use Rattle.rb_ledger.proofs.Public.Fronts.{get_taken}
 use Rattle.rb_ledger.proofs.Public.Records
 use Rattle.rb_scratch.specs.Tried.{IsOfTheLast, IsTried}
+use Rattle.rb_scratch.specs.declared.records.Slot.{Slot}
+
+-- the parts of the record that a slot is for
+abbrev pub parts_in : Slot → UndoParts
+parts_in slot = slot.parts.value
 
 -- an item behind a list
 get_behind : {X : Type 0} (xs ys : List X) (n i : ℕ) → n ≡ length xs + i → slice_get (xs ++ ys) n ≡ slice_get ys i
