@@ -16,6 +16,7 @@ ghost use Rattle.rb_site.specs.declared.event.Event.TheVariants.{Apply};
 
 use crate::given::Given;
 use crate::{Books, CallFault, Entries, MOST_RECEIPTS, Receipt};
+use rb_kit::reserve_one;
 use rb_money::Refusal;
 use rb_shadow::OpName;
 use rb_site::{Event, Posted, Reply, Site, SiteReport};
@@ -113,7 +114,7 @@ fn note(
     if site.me() != me || site.is_full() || receipts.len() >= MOST_RECEIPTS {
         return Err(CallFault::HistoryFull);
     }
-    receipts.reserve(1)?;
+    reserve_one(receipts)?;
     let (reply, posted) = site.step(&event)?;
     // For a fact alone: the history replays.
     let _replays = site.history();

@@ -3,7 +3,7 @@ ghost use Rattle.std.specs.Prelude.{◌≡◌, ◌<◌, ◌++◌, ◌∷◌, [],
 ghost use Rattle.std.specs.List.{remove};
 ghost use Rattle.rb_site.specs.declared.message.Message.{Message as MessageOf};
 
-use crossbeam_channel::Receiver;
+use crate::link::LinkReceiver;
 use rb_site::Message;
 use std::alloc::{AllocError, Global};
 use std::marker::Model;
@@ -13,7 +13,7 @@ use std::sync::Wait;
 /// site's inbox was full. Clients see what it keeps, in the order in which it was taken.
 #[derive(Drop)]
 pub struct Inlet {
-    link: Receiver<Message>,
+    link: LinkReceiver,
     kept: Vec<Message>,
 }
 
@@ -28,7 +28,7 @@ impl Model for Inlet {
 
 impl Inlet {
     /// The end of this link, which keeps nothing.
-    pub(crate) fn new(alloc: Global, link: Receiver<Message>) -> Inlet
+    pub(crate) fn new(alloc: Global, link: LinkReceiver) -> Inlet
         ensures { result ≡ [] }
     {
         Inlet {
@@ -40,7 +40,7 @@ impl Inlet {
     /// The next message of the link, once there is one, which isn't kept. `None` once every outbox is dropped
     /// and nothing is left in the link.
     pub fn next<W: Wait>(&self, rt: &W) -> Option<Message> {
-        self.link.recv(rt).ok()
+        self.link.next(rt)
     }
 
     /// What it keeps.
