@@ -1,7 +1,8 @@
 //! The closed sites of a branch, and the seats that are given back to them.
-ghost use Rattle.std.specs.Prelude.{◌≡◌, ◌≢◌, ◌+◌, ◌^◌, ◌<◌, ◌≤◌, ℕ, All, IfOk, IfErr, OnOk, IsTrue, Err, length};
+ghost use Rattle.std.specs.Prelude.{◌≡◌, ◌≢◌, ◌+◌, ◌^◌, ◌<◌, ◌≤◌, ℕ, All, IfOk, IfErr, OnOk, IsTrue, Err, Result, length, slice_index_or};
 ghost use Rattle.std.specs.Prelude.{vec_len};
-ghost use Rattle.rb_branch.specs.Gathered.{AllGathered, Explains, IsClosedReport, IsFirst, IsGathered, entries_in};
+ghost use Rattle.rb_branch.specs.Gathered.{AllGathered, Explains, IsClosedReport, IsFirst, IsGathered, LooksSo, entries_in};
+ghost use Rattle.rb_branch.specs.declared.gather_fault.GatherFault.{GatherFault as FaultOf};
 ghost use Rattle.rb_branch.specs.Gathered.{receipts_at, receipts_in};
 ghost use Rattle.rb_branch.specs.declared.gather_fault.GatherFault.TheVariants.{Missing, Mixed};
 ghost use Rattle.rb_branch.specs.declared.limits.TheConstants.{MOST_SEATS};
@@ -12,9 +13,11 @@ use crate::given::Given;
 use crate::merge::merges;
 use crate::{Books, Entries, GatherFault, Seat};
 use rb_site::SiteReport;
-use std::alloc::Global;
+use std::alloc::{AllocError, Global};
 use std::marker::Model;
 use std::sync::ledger::{Ledger, Share};
+use std::thread;
+use std::thread::Threads;
 
 /// The reports of a branch's sites, once they are closed, and its books. Clients see the reports, one for each
 /// site, and how many seats were given.
@@ -84,6 +87,50 @@ impl<E: Entries, R: Ledger> Closed<E, R> {
         ensures first { IfErr result (IsFirst self.reports seats.items) }
         ensures every { vec_len seats ≡ self.seats → (site : ℕ) → result ≢ Err (Missing site) }
     {
+        let alloc = self.alloc;
+        let Ok((reports, given, missing)) = self.take_in(seats) else {
+            return Err(GatherFault::OutOfMemory);
+        };
+        if let Err(fault) = look_at_all(alloc, reports.as_slice(), given.as_slice(), missing) {
+            return Err(fault);
+        }
+        Ok(reports)
+    }
+
+    /// The same, with each site looked at in a thread of its own.
+    pub fn settle_by<W: Threads + Sync>(
+        self,
+        rt: &W,
+        seats: Vec<Seat<E, R>>,
+    ) -> Result<Vec<SiteReport>, GatherFault>
+        ensures ok { IfOk result (λ reports. (reports.items ≡ self.reports) × AllGathered reports.items seats.items) }
+        ensures err { IfErr result (Explains self.reports seats.items) }
+        ensures first { IfErr result (IsFirst self.reports seats.items) }
+        ensures every { vec_len seats ≡ self.seats → (site : ℕ) → result ≢ Err (Missing site) }
+    {
+        let alloc = self.alloc;
+        let Ok((reports, given, missing)) = self.take_in(seats) else {
+            return Err(GatherFault::OutOfMemory);
+        };
+        match look_at_each(rt, alloc, reports.as_slice(), given.as_slice(), missing) {
+            Ok(()) => Ok(reports),
+            Err(fault) => Err(fault),
+        }
+    }
+
+    /// Takes the seats back: the reports, what the seats gave, and whether there are fewer receipts than entries. Where
+    /// every seat is given back, there are as many. `Err` means out of memory.
+    fn take_in(
+        self,
+        seats: Vec<Seat<E, R>>,
+    ) -> Result<(Vec<SiteReport>, Vec<Given>, bool), AllocError>
+        ensures reports { IfOk result (λ r. r.0.items ≡ self.reports) }
+        ensures given { IfOk result (λ r. r.1.items ≡ seats.items) }
+        ensures fits { IfOk result (λ r. receipts_in r.1.items < 2 ^ 64) }
+        ensures few { IfOk result (λ r. vec_len r.1 < 2 ^ 16) }
+        ensures missing { IfOk result (λ r. IsTrue r.2 → receipts_in r.1.items < entries_in r.0.items) }
+        ensures every { IfOk result (λ r. vec_len seats ≡ self.seats → entries_in r.0.items ≤ receipts_in r.1.items) }
+    {
         let Closed {
             alloc,
             books,
@@ -91,17 +138,12 @@ impl<E: Entries, R: Ledger> Closed<E, R> {
             mut share,
         } = self;
         let (mut entries, mut receipts, rest) = books.apart();
-        let Ok((given, mut mine)) = take_back(alloc, seats, rest) else {
-            return Err(GatherFault::OutOfMemory);
-        };
+        let (given, mut mine) = take_back(alloc, seats, rest)?;
         entries.audit(&mut share);
         receipts.audit(&mut mine);
         let total = count_entries(reports.as_slice());
         let missing = count_receipts(given.as_slice()) < total;
-        if let Err(fault) = look_at_all(alloc, reports.as_slice(), given.as_slice(), missing) {
-            return Err(fault);
-        }
-        Ok(reports)
+        Ok((reports, given, missing))
     }
 }
 
@@ -122,6 +164,54 @@ fn look_at_all(
     for k in 0..reports.len() {
         let report = &reports[k];
         if let Err(fault) = look_at(alloc, report, k, seats, missing) {
+            return Err(fault);
+        }
+    }
+    Ok(())
+}
+
+/// Looks at all sites, each in a thread of its own. `missing` says that there are fewer receipts than entries.
+fn look_at_each<W: Threads + Sync>(
+    rt: &W,
+    alloc: Global,
+    reports: &[SiteReport],
+    seats: &[Given],
+    missing: bool,
+) -> Result<(), GatherFault>
+    requires fits { receipts_in seats.now < 2 ^ 64 }
+    requires few { length seats.now < 2 ^ 16 }
+    requires missing { IsTrue missing → receipts_in seats.now < entries_in reports.now }
+    ensures ok { OnOk result (AllGathered reports.now seats.now) }
+    ensures err { IfErr result (Explains reports.now seats.now) }
+    ensures first { IfErr result (IsFirst reports.now seats.now) }
+{
+    let look = |k: usize| -> Result<(), GatherFault>
+        requires { (k < length reports.now) × (receipts_in seats.now < 2 ^ 64) × (length seats.now < 2 ^ 16) }
+        ensures { LooksSo reports.entry.now seats.entry.now missing k result }
+    { look_at(alloc, &reports[k], k, seats, missing) };
+    let Ok(found) = thread::map_indices(rt, alloc, reports.len(), &look) else {
+        return Err(GatherFault::OutOfMemory);
+    };
+    first_fault(reports, seats, missing, found.as_slice())
+}
+
+/// The first fault that was found, if any.
+fn first_fault(
+    reports: &[SiteReport],
+    seats: &[Given],
+    missing: bool,
+    found: &[Result<(), GatherFault>],
+) -> Result<(), GatherFault>
+    requires len { length found.now ≡ length reports.now }
+    requires missing { IsTrue missing → receipts_in seats.now < entries_in reports.now }
+    requires each { (k : ℕ) (d : Result (Unit {0}) FaultOf) → k < length reports.now
+        → LooksSo reports.now seats.now missing k (slice_index_or found.now k d) }
+    ensures ok { OnOk result (AllGathered reports.now seats.now) }
+    ensures err { IfErr result (Explains reports.now seats.now) }
+    ensures first { IfErr result (IsFirst reports.now seats.now) }
+{
+    for k in 0..found.len() {
+        if let Err(fault) = found[k] {
             return Err(fault);
         }
     }
