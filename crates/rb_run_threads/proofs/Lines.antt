@@ -2,7 +2,7 @@
 use Rattle.std.proofs.Common.{◌≡◌, ℕ, ◌+◌, ◌<◌, List, [], ◌∷◌, ◌++◌, length, get_or, map, take, drop, Option, sym, subst, ap, ◌∙◌}
 use Rattle.std.proofs.Common.{append-nil, append_assoc, add-zero, zero-add, arith}
 use Rattle.std.proofs.lemmas.Grind.{flat_map-append}
-use Rattle.std.proofs.lemmas.List.{length-map, length-take-le, map-append, take-append-drop, take_more}
+use Rattle.std.proofs.lemmas.List.{drop_more, length-drop, length-map, length-take-le, map-append, take-append-drop, take_more}
 use Rattle.rb_lines.specs.Buffers.{Sends}
 use Rattle.rb_lines.specs.Writes.{AppendsFront}
 use Rattle.rb_money.specs.Settings.{Settings}
@@ -103,3 +103,11 @@ histories_stop w0 w w' s rs i r buffered now below is before front =
     subst (λ t. AppendsFront w0 w' (buffered ++ t)) (sym (report_rest s rs i r below is))
     (sends_front w0 w w' buffered (histories_text s 0 (map history_of (take i rs))) now (history_text s i (history_of r)) (after s rs i)
     before front)
+
+-- the next of what is left is the report at the number of those before
+pub next_left : (rs rest rest' : List SiteReport) (i : ℕ) (r : SiteReport) → rest ≡ drop i rs → rest ≡ r ∷ rest'
+    → (i < length rs) × (r ≡ get_or rs i r) × (rest' ≡ drop (i + 1) rs)
+next_left rs rest rest' i r left step =
+    let below : i < length rs = omega (arith, length-drop i rs, ap length left, ap length step) in
+    let more = drop_more rs i r below in
+    (below, cc (left, step, more), cc (left, step, more))

@@ -47,7 +47,7 @@ pub fn run_threads<G: Gate + Drop + Sync, K: Sink, W: Threads + Wait + Sync>(
         Err(TellersFault::OutOfMemory) => return Err(ThreadsFault::OutOfMemory),
         Err(TellersFault::Gather) => return Err(ThreadsFault::Gather),
     };
-    match write_text(alloc, writer, &config, reports.as_slice()) {
+    match write_text(alloc, writer, &config, reports) {
         Ok(()) => Ok(()),
         Err(Unwritten::Write) => Err(ThreadsFault::Write),
         Err(Unwritten::OutOfMemory) => Err(ThreadsFault::OutOfMemory),

@@ -1,5 +1,5 @@
 //! Histories as text: the lines that an audit reads.
-ghost use Rattle.std.specs.Prelude.{◌≡◌, ◌↔◌, ◌++◌, ◌≤◌, List, [], Err, false, true, length, map, IfOk, OnOk};
+ghost use Rattle.std.specs.Prelude.{◌≡◌, ◌↔◌, ◌++◌, ◌≤◌, List, [], Err, false, true, map, vec_len, IfOk, OnOk};
 ghost use Rattle.rb_money.specs.declared.limits.TheConstants.{MOST_SITES};
 ghost use Rattle.rb_site.specs.declared.report.SiteReport.{SiteReport};
 ghost use Rattle.rb_run_threads.specs.Texts.{config_line, entry_line, histories_text, history_text, text_of};
@@ -79,23 +79,25 @@ fn write_history<W: Sink>(
     Ok(())
 }
 
-/// Writes the lines of the histories of sites, the first of which is site 0. The last may still be buffered.
+/// Writes the lines of the histories of sites, the first of which is site 0, and lets each history go once its lines
+/// are written. The last may still be buffered.
 fn write_histories<W: Sink>(
     writer: &mut W,
     buffered: &mut Vec<u8>,
     config: &Config,
-    reports: &[SiteReport],
+    reports: Vec<SiteReport>,
 ) -> Result<(), Unwritten>
     requires fresh { W.failed writer.old ≡ false }
-    requires few { length reports.now ≤ MOST_SITES }
+    requires few { vec_len reports ≤ MOST_SITES }
     ensures written { Writes result (W.contents writer.old) (W.contents writer.new)
-        (buffered.old.items ++ histories_text config.now 0 (map (λ (r : SiteReport). r.history.items) reports.now))
+        (buffered.old.items ++ histories_text config.now 0 (map (λ (r : SiteReport). r.history.items) reports.items))
         buffered.new.items }
     ensures write { (result ≡ Err Write) ↔ (W.failed writer.new ≡ true) }
 {
-    for site in 0..reports.len() {
-        let history = reports[site].history.as_slice();
-        write_history(writer, buffered, config, site as u8, history)?;
+    let mut site: u8 = 0;
+    for report in reports {
+        write_history(writer, buffered, config, site, report.history.as_slice())?;
+        site += 1;
     }
     Ok(())
 }
@@ -105,12 +107,12 @@ pub fn write_text<W: Sink>(
     alloc: Global,
     writer: &mut W,
     config: &Config,
-    reports: &[SiteReport],
+    reports: Vec<SiteReport>,
 ) -> Result<(), Unwritten>
     requires fresh { W.failed writer.old ≡ false }
-    requires few { length reports.now ≤ MOST_SITES }
+    requires few { vec_len reports ≤ MOST_SITES }
     ensures written { Writes result (W.contents writer.old) (W.contents writer.new)
-        (text_of config.now (map (λ (r : SiteReport). r.history.items) reports.now)) [] }
+        (text_of config.now (map (λ (r : SiteReport). r.history.items) reports.items)) [] }
     ensures write { (result ≡ Err Write) ↔ (W.failed writer.new ≡ true) }
 {
     let mut buffered = Vec::new(alloc);

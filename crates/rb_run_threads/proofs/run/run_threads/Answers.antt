@@ -9,7 +9,7 @@ returns-in-Ok-write_text-clause-written g c =
     let all : length reports.items ≡ copy.sites = omega (arith, reports.ok.0, c.in-Ok.ensures.all) in
     let are = gathered copy c.args.tellers c.args.seed reports.items all c.in-Ok.ensures.closed c.in-Ok.ensures.tellers in
     whole_run _ _ copy c.args.sites c.args.tellers c.args.seed _ (c.in_ok-copy.ensures.same ∙ c.in_ok-config.ensures) are
-    (rw (c.as_slice.ensures.value, sym c.in_ok-copy.ensures.same) at c.in-Ok-write_text.ensures.written)
+    (rw (sym c.in_ok-copy.ensures.same) at c.in-Ok-write_text.ensures.written)
 
 pub returns-in-Err-Write-clause-written : goal.returns-in-Err-Write-clause-written
 returns-in-Err-Write-clause-written g c =
@@ -18,7 +18,7 @@ returns-in-Err-Write-clause-written g c =
     let all : length reports.items ≡ copy.sites = omega (arith, reports.ok.0, c.in-Ok.ensures.all) in
     let are = gathered copy c.args.tellers c.args.seed reports.items all c.in-Ok.ensures.closed c.in-Ok.ensures.tellers in
     part_of_run _ _ copy c.args.sites c.args.tellers c.args.seed _ (c.in_ok-copy.ensures.same ∙ c.in_ok-config.ensures) are
-    (rw (c.as_slice.ensures.value, sym c.in_ok-copy.ensures.same) at c.in-Err-Write.ensures.written)
+    (rw (sym c.in_ok-copy.ensures.same) at c.in-Err-Write.ensures.written)
 
 pub returns-clause-written : goal.returns-clause-written
 returns-clause-written g c =
@@ -28,5 +28,5 @@ returns-clause-written g c =
     let are = gathered copy c.args.tellers c.args.seed reports.items all c.in-Ok.ensures.closed c.in-Ok.ensures.tellers in
     let part =
     part_of_run _ _ copy c.args.sites c.args.tellers c.args.seed _ (c.in_ok-copy.ensures.same ∙ c.in_ok-config.ensures) are
-    (rw (c.as_slice.ensures.value, sym c.in_ok-copy.ensures.same) at c.in-Err-OutOfMemory-write_text.ensures.written) in
+    (rw (sym c.in_ok-copy.ensures.same) at c.in-Err-OutOfMemory-write_text.ensures.written) in
     (part.0, part.1, inr part.2)

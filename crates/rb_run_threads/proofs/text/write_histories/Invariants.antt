@@ -1,14 +1,19 @@
--- So far the lines of the histories before went out or are buffered.
-use Rattle.std.proofs.Common.{◌≡◌, ◌++◌, take, map, false}
+-- So far the lines of the histories before went out or are buffered, and the reports from here on are left.
+use Rattle.std.proofs.Common.{◌≡◌, ◌≤◌, ◌++◌, drop, take, map, false, vec_len}
+use Rattle.std.specs.Vec.Iter.{into_iter_items}
 use Rattle.rb_lines.specs.Buffers.{Sends}
 use Rattle.rb_site.specs.declared.report.SiteReport.{SiteReport}
 use Rattle.rb_run_threads.specs.Texts.{histories_text}
 use Rattle.rb_run_threads.proofs.text.write_histories.Given as goal
 
-abbrev pub invariant-loop-site : goal.invariant-loop-site
-invariant-loop-site g l = record {
+abbrev pub invariant-loop-report : goal.invariant-loop-report
+invariant-loop-report g l = record {
+  next : (goal.iterator-loop-report g).can_next l.report-iterator;
+  finite : (goal.iterator-loop-report g).is_finite l.report-iterator;
+  left : into_iter_items l.report-iterator ≡ drop l.site l.fn.reports.items;
+  within : l.site ≤ vec_len l.fn.reports;
   fresh : g.W.Sink.failed l.writer ≡ false;
   sent : Sends (g.W.Sink.contents l.fn.writer) (g.W.Sink.contents l.writer)
       (l.fn.buffered.items ++ histories_text l.config 0 (map (λ (r : SiteReport). r.history.items)
-      (take l.site l.reports))) l.buffered.items;
+      (take l.site l.fn.reports.items))) l.buffered.items;
 }
