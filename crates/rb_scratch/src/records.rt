@@ -7,6 +7,7 @@ use crate::request::MOST_REQUESTS;
 use rb_kit::Erased;
 use rb_ledger::Ledger;
 use rb_undo::{Undo, UndoLog, UndoParts};
+use std::array;
 use std::marker::Model;
 
 /// A record, which isn't kept: it is made anew from the ledger, by its entry's position there.
@@ -63,24 +64,7 @@ impl Records {
         ensures { result.parts ≡ [] }
     {
         Records {
-            slots: [
-                Slot::blank(),
-                Slot::blank(),
-                Slot::blank(),
-                Slot::blank(),
-                Slot::blank(),
-                Slot::blank(),
-                Slot::blank(),
-                Slot::blank(),
-                Slot::blank(),
-                Slot::blank(),
-                Slot::blank(),
-                Slot::blank(),
-                Slot::blank(),
-                Slot::blank(),
-                Slot::blank(),
-                Slot::blank(),
-            ],
+            slots: array::from_fn(|_| Slot::blank()),
             len: 0,
         }
     }
