@@ -155,7 +155,7 @@ zeros k limit (n ∷ ns) none h =
     at zero e q = grind (arith, nat_tests)
     at (suc k) e q = absurd (omega arith)
 
--- the entries of a clock for so many sites are those of the sites and zeros
+-- the entries of a clock for this number of sites are those of the sites and zeros
 entries_back : (k limit : ℕ) (ns : List ℕ) → are_entries k limit ns ≡ true → take k ns ++ replicate (length ns - length (take k ns)) 0 ≡ ns
 entries_back zero limit ns h = ap (λ n. replicate n 0) (let all : length ns - 0 ≡ length ns = omega arith in all) ∙ zeros 0 limit ns refl h
 entries_back (suc k) limit [] h = refl
@@ -166,7 +166,7 @@ entries_back (suc k) limit (n ∷ ns) h =
     ap (λ m. n ∷ (take k ns ++ replicate m 0)) less
     ∙ ap (λ ms. n ∷ ms) (entries_back k limit ns (subst (λ j. are_entries j limit ns ≡ true) back p.1))
 
--- a clock of so many sites is its first entries and zeros
+-- a clock for this number of sites is its first entries and zeros
 pub whole_clock : (w : ℕ) (d : Deps) → IsOfSites w d → length d.blue ≡ MOST_SITES → padded (take w d.blue) ≡ d.blue
 whole_clock w d (limit, are) full = ap (λ n. take w d.blue ++ replicate (n - length (take w d.blue)) 0) (sym full)
     ∙ entries_back w limit d.blue are

@@ -22,10 +22,10 @@ loop-k-preserved c = (
   pushed_read ShadowMessage c.args.first c.args.all.now.items c.loop-k.k c.unwrap-shadow.result c.args.sent.now.items c.loop-k.sent.items
       c.push_reserved.new.self.items (sym c.get.ensures ∙ c.unwrap-shadow.ensures) c.loop-k.invariant.0 c.push_reserved.ensures.items,
   (let e : vec_len c.push_reserved.new.self ≡ vec_len c.args.sent.now + (c.loop-k.k + 1) = omega (
-        arith,
-        c.push_reserved.ensures.len,
-        c.loop-k.invariant.1,
-      ) in e),
+    arith,
+    c.push_reserved.ensures.len,
+    c.loop-k.invariant.1,
+  ) in e),
   (let P : ℕ → Type 0 = λ n. vec_len c.args.sent.now + length (drop c.args.first c.args.all.now.items) ≤ n in
       subst P (sym c.push_reserved.ensures.capacity) c.loop-k.invariant.2),
 )
