@@ -16,7 +16,7 @@ use Rattle.rb_shadow.specs.declared.deps.Deps.{Deps}
 use Rattle.rb_shadow.specs.declared.shadow.Shadow.{Shadow}
 use Rattle.rb_shadow.specs.Sound.{IsSound, are_entries}
 use Rattle.rb_shadow.proofs.Public.SoundFacts
-use Rattle.rb_ledger.specs.declared.operation_list.Body.{Body}
+use Rattle.rb_ledger.specs.declared.body.Body.{Body}
 use Rattle.rb_ledger.specs.OperationLists.{OperationTable, IsOfSites, clock_of_counts, operations_of, padded, with_clock, with_counts}
 
 -- there are as many operations as bodies

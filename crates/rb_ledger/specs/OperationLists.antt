@@ -4,7 +4,7 @@ use Rattle.rb_money.specs.declared.limits.TheConstants.{MOST_SITES}
 use Rattle.rb_shadow.specs.declared.deps.Deps.{Deps}
 use Rattle.rb_shadow.specs.declared.shadow.Shadow.{Shadow}
 use Rattle.rb_shadow.specs.Sound.{are_entries}
-use Rattle.rb_ledger.specs.declared.operation_list.Body.{Body}
+use Rattle.rb_ledger.specs.declared.body.Body.{Body}
 
 -- the operations, the number of the bank's sites, and for how many operations there is memory
 pub record OperationTable : Type 0 where

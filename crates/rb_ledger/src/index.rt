@@ -11,7 +11,7 @@ ghost use Rattle.rb_ledger.specs.Index.{heads_at, head_at, no_head};
 
 use crate::blocks::Blocks;
 use crate::marks::{Cancels, Head, Links};
-use crate::operation_list::Prefix;
+use crate::prefix::Prefix;
 use crate::rows::Rows;
 use rb_money::{Config, Place};
 use rb_shadow::{Kind, OpName, Shadow};

@@ -1,6 +1,6 @@
 use Rattle.std.proofs.Common.{length-append, length-take-le, ◌≡◌, ◌+◌, ◌*◌, ◌≤◌, ◌++◌, ◌∷◌, [], ap, sym, ◌∙◌, arith, length, take, refl, cond, rules, subst, append_assoc}
 use Rattle.std.proofs.lemmas.List.{length-take}
-use Rattle.rb_ledger.specs.declared.operation_list.Body.{Body}
+use Rattle.rb_ledger.specs.declared.body.Body.{Body}
 use Rattle.rb_ledger.specs.OperationLists.{IsOfSites, OperationTable, operations_of}
 use Rattle.rb_ledger.proofs.OperationTables
 use Rattle.rb_ledger.proofs.operation_list.OperationList.push.Goals as goal

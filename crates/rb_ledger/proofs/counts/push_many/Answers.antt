@@ -1,7 +1,7 @@
 use Rattle.std.proofs.Common.{◌∙◌, ◌++◌, ◌∷◌, [], append_assoc, ap, arith, cond, sym, take}
 use Rattle.std.proofs.lemmas.List.{length-take}
 use Rattle.rb_ledger.proofs.OperationTables
-use Rattle.rb_ledger.proofs.operation_list.push_many.Goals as goal
+use Rattle.rb_ledger.proofs.counts.push_many.Goals as goal
 
 pub unreachable-requires : goal.unreachable-requires
 unreachable-requires c =

@@ -1,6 +1,6 @@
 use Rattle.std.proofs.Common.{◌∙◌, ◌++◌, ◌∷◌, [], ap, arith, get_or}
 use Rattle.rb_ledger.proofs.OperationTables
-use Rattle.rb_ledger.proofs.operation_list.push_counts.Goals as goal
+use Rattle.rb_ledger.proofs.counts.push_counts.Goals as goal
 
 pub returns-clause-items : goal.returns-clause-items
 returns-clause-items c =
