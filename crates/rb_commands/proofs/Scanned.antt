@@ -2,7 +2,7 @@
 use Rattle.std.proofs.Common.{◌≡◌, ◌<◌, ◌≤◌, ◌+◌, ◌-◌, ◌*◌, ◌/◌, ◌%◌, ◌^◌, decimal, ℕ, List, [], ◌∷◌, ◌++◌, length, take, get_or, sym, ap}
 use Rattle.std.proofs.Common.{◌∙◌, arith, drop, subst}
 use Rattle.std.proofs.Math.Seq.{take-add}
-use Rattle.std.specs.Int.{to_le_bytes, w64}
+use Rattle.std.specs.Int.{to_le_bytes, w32, w64}
 use Rattle.std.specs.Str.{IsUtf8, IsCharBoundary}
 use Rattle.std.proofs.lemmas.Str.{IsCharBoundary-from_take, IsCharBoundary-after_ascii}
 use Rattle.std.proofs.lemmas.List.{take_more}
@@ -22,6 +22,13 @@ pub same_eight_more : (text front : List ℕ) (i x y : ℕ) → to_le_bytes w64 
 same_eight_more text front i x y here there same e =
     let alike = sym here ∙ ap (to_le_bytes w64) same ∙ there in
     take-add i 8 text ∙ (λ j. e j ++ alike j) ∙ sym (take-add i 8 front)
+
+-- four bytes more of two texts that begin alike
+pub same_four_more : (text front : List ℕ) (i x y : ℕ) → to_le_bytes w32 x ≡ take 4 (drop i text) →
+    to_le_bytes w32 y ≡ take 4 (drop i front) → x ≡ y → take i text ≡ take i front → take (i + 4) text ≡ take (i + 4) front
+same_four_more text front i x y here there same e =
+    let alike = sym here ∙ ap (to_le_bytes w32) same ∙ there in
+    take-add i 4 text ∙ (λ j. e j ++ alike j) ∙ sym (take-add i 4 front)
 
 -- a plain byte more
 pub one_more : (text : List ℕ) (i : ℕ) → i < length text → escape (take i text) ≡ take i text → (get_or text i 0 ≡ 34 → ⊥) →

@@ -2,7 +2,7 @@
 //! of a text.
 ghost use Rattle.std.specs.Prelude.{◌≡◌, ◌<◌, ◌≤◌, ◌+◌, ◌^◌, ◌++◌, IfSome, IsTrue, codes, decimal, length};
 ghost use Rattle.std.specs.Prelude.{drop, slice_index, take};
-ghost use Rattle.std.specs.Int.{to_le_bytes, w64};
+ghost use Rattle.std.specs.Int.{to_le_bytes, w32, w64};
 ghost use Rattle.json.specs.Print.{escape};
 ghost use Rattle.rb_shadow.specs.NameText.{IsName, name_text};
 
@@ -26,7 +26,17 @@ fn word_at(bytes: &[u8], at: usize) -> u64
     ])
 }
 
-/// How many bytes of the front the text has too, eight at once while eight are left. `None` where they differ.
+/// The four bytes from this place on as a number, the lowest first.
+#[inline(always)]
+fn half_word_at(bytes: &[u8], at: usize) -> u32
+    requires { at + 4 ≤ length bytes.now }
+    ensures { to_le_bytes w32 result ≡ take 4 (drop at bytes.now) }
+{
+    u32::from_le_bytes([bytes[at], bytes[at + 1], bytes[at + 2], bytes[at + 3]])
+}
+
+/// How many bytes of the front the text has too, eight at once while eight are left, and then four. `None` where they
+/// differ.
 #[inline(always)]
 fn same_words(text: &[u8], front: &[u8]) -> Option<usize>
     requires { length front.now ≤ length text.now }
@@ -38,6 +48,12 @@ fn same_words(text: &[u8], front: &[u8]) -> Option<usize>
             return None;
         }
         len += 8;
+    }
+    if front.len() - len >= 4 {
+        if half_word_at(text, len) != half_word_at(front, len) {
+            return None;
+        }
+        len += 4;
     }
     Some(len)
 }

@@ -1,5 +1,5 @@
 use Rattle.std.proofs.Common.{arith}
-use Rattle.rb_commands.proofs.Scanned.{same_eight_more}
+use Rattle.rb_commands.proofs.Scanned.{same_eight_more, same_four_more}
 use Rattle.rb_commands.proofs.fast.scan.same_words.Goals as goal
 
 pub loop-len-preserved : goal.loop-len-preserved
@@ -9,3 +9,11 @@ loop-len-preserved c =
       within = omega arith;
       same = same_eight_more c.args.text.now c.args.front.now c.loop-len.len _ _ here there c.if-word_at.false c.loop-len.invariant.same;
     }
+
+pub returns-else-half_word_at : goal.returns-else-half_word_at
+returns-else-half_word_at c =
+    let here = c.half_word_at.ensures in
+    let there = c.half_word_at-then-front-len-ge4.ensures in (
+      omega arith,
+      same_four_more c.args.text.now c.args.front.now c.loop-len.len _ _ here there c.if-half_word_at.false c.loop-len.invariant.same,
+    )
