@@ -152,10 +152,25 @@ fn finds(rt: &impl Abort, ledger: &Ledger) {
     equal(rt, entries, (ledger.entry(2), None, 1));
 }
 
+/// What the ledger lends of the three operations: how many there are, and the name and the whole of the third.
+fn lends(rt: &impl Abort, ledger: &Ledger) {
+    let entries = ledger.entries();
+    equal(rt, (entries.len(), entries.is_empty()), (3, false));
+    holds(rt, "no fourth", ledger.operation(4).is_none());
+    match ledger.operation(3) {
+        Some(third) => {
+            let lent = (third.name(), Some(third.shadow()));
+            equal(rt, lent, (OTHER_1, ledger.entry(3)));
+        }
+        None => holds(rt, "third", false),
+    }
+}
+
 #[test]
 fn looks_up(rt: HostRuntime) -> Result<(), Fail> {
     let ledger = ledger_after(rt.alloc(), &ACCOUNTS, &WITHDRAWAL)?;
     finds(&rt, &ledger);
+    lends(&rt, &ledger);
     Ok(())
 }
 
