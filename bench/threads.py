@@ -1,7 +1,8 @@
 #!/usr/bin/env python3
-"""Measures `rbbank threads`, and beside it the very same events in one thread, as a script. Prints a table, a line for each number of sites and of tellers.
+"""Measures `rbbank threads`, and beside it the very same events in one thread, as a script. Prints a table, a line for
+each number of sites and of tellers. With `--other` it compares runs of a second program in place of that.
 
-README.md tells what each number is.
+README.md says what each number is.
 """
 import argparse
 import json
@@ -14,6 +15,8 @@ sys.dont_write_bytecode = True
 import run
 
 HEAD = ["Sites", "Tellers", "Events", "Threads, events a second", "One thread, events a second", "Ratio"]
+BESIDE = ["Sites", "Tellers", "Processor time, ms", "The other's", "Ratio"]
+BESIDE += ["From start to end, ms", "The other's", "Ratio"]
 
 
 def written(value):
@@ -72,22 +75,51 @@ def row(program, sites, tellers, given):
     if answered != replies:
         sys.exit(f"{' '.join(words)}: the script of its events is answered otherwise")
     events = replies.count(b"\n")
-    return [sites, tellers, f"{events:,}", f"{events / threads:,.0f}", f"{events / alone:,.0f}", f"{alone / threads:.2f}"]
+    rates = [f"{events / taken:,.0f}" for taken in (threads, alone)]
+    return [sites, tellers, f"{events:,}", *rates, f"{alone / threads:.2f}"]
+
+
+def spent(words):
+    """What a run took: seconds of processor time, user and system, and seconds by the clock."""
+    began = time.perf_counter()
+    with subprocess.Popen(words, stdout=subprocess.DEVNULL) as started:
+        _, status, used = os.wait4(started.pid, 0)
+        started.returncode = os.waitstatus_to_exitcode(status)
+    if status != 0:
+        sys.exit(f"{' '.join(words)}: status {started.returncode}")
+    return used.ru_utime + used.ru_stime, time.perf_counter() - began
+
+
+def beside(programs, sites, tellers, given):
+    """The numbers of one line that compares two programs: the least of interleaved runs."""
+    options = ["threads", "--sites", str(sites), "--tellers", str(tellers), "--seed", str(given.seed)]
+    rounds = [[spent([program, *options]) for program in programs] for _ in range(given.runs)]
+    numbers = []
+    for measure in (0, 1):
+        own, other = (min(taken[at][measure] for taken in rounds) for at in (0, 1))
+        numbers += [f"{own * 1000:.1f}", f"{other * 1000:.1f}", f"{own / other:.2f}"]
+    return [sites, tellers, *numbers]
 
 
 def main():
     words = argparse.ArgumentParser(description=__doc__)
     words.add_argument("program", nargs="?", help="a built rbbank; without it, `make build` makes it")
+    words.add_argument("--other", help="a second program, to compare the processor time of runs")
     words.add_argument("--sites", default="2,4,8")
     words.add_argument("--tellers", default="1,8,64")
-    words.add_argument("--runs", type=int, default=5, help="runs, of which the best is told")
+    words.add_argument("--runs", type=int, default=5, help="runs, of which the best counts")
     words.add_argument("--seed", type=int, default=1)
     given = words.parse_args()
     program = os.path.abspath(given.program) if given.program else run.built()
-    print("|", " | ".join(HEAD), "|\n|" + "---|" * len(HEAD))
+    head = BESIDE if given.other else HEAD
+    print("|", " | ".join(head), "|\n|" + "---|" * len(head))
     for sites in map(int, given.sites.split(",")):
         for tellers in map(int, given.tellers.split(",")):
-            print("|", " | ".join(map(str, row(program, sites, tellers, given))), "|", flush=True)
+            if given.other:
+                numbers = beside([program, os.path.abspath(given.other)], sites, tellers, given)
+            else:
+                numbers = row(program, sites, tellers, given)
+            print("|", " | ".join(map(str, numbers)), "|", flush=True)
 
 
 if __name__ == "__main__":

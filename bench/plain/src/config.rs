@@ -58,8 +58,8 @@ impl<'a> Scan<'a> {
     }
 }
 
-/// Writes a configuration with all its keys, in version 2 of the lines.
-pub fn write_config(out: &mut Out, bank: &Bank) {
+/// Writes a configuration with all its keys, in a version of the lines.
+pub fn write_config(out: &mut Out, bank: &Bank, version: u8) {
     out.bytes(b"{\"accounts\":[");
     let starts = bank.accounts.names().iter().zip(bank.accounts.starts());
     for (at, (name, start)) in starts.enumerate() {
@@ -85,6 +85,8 @@ pub fn write_config(out: &mut Out, bank: &Bank) {
         piece.number(limits.red.into());
         piece.text(b",\"sites\":");
         piece.number(bank.sites.into());
-        piece.text(b",\"version\":2}\n");
+        piece.text(b",\"version\":");
+        piece.number(version.into());
+        piece.text(b"}\n");
     });
 }

@@ -46,6 +46,11 @@ impl Inbox {
         }
     }
 
+    /// The places among all operations of the first of each row.
+    pub fn fronts(&self) -> impl Iterator<Item = u32> {
+        self.rows.iter().filter_map(VecDeque::front).map(|held| held.op)
+    }
+
     /// The place among all operations of what is held at a place of a row.
     pub fn get(&self, row: usize, at: usize) -> u32 {
         self.rows[row][at].op

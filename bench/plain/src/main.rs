@@ -1,10 +1,11 @@
-//! A replicated bank in plain Rust: it answers the words `script`, `audit` and `migrate` as rbbank does.
+//! A replicated bank in plain Rust: it answers the words `script`, `audit`, `migrate` and `threads` as rbbank does.
 
 mod audit;
 mod bank;
 mod config;
 mod entry;
 mod event;
+mod history;
 mod inbox;
 mod json;
 mod ledger;
@@ -15,6 +16,7 @@ mod reply;
 mod scan;
 mod script;
 mod site;
+mod threads;
 mod write;
 
 use audit::Audit;
@@ -24,6 +26,7 @@ use script::Script;
 use std::fs::File;
 use std::os::fd::AsFd;
 use std::process::ExitCode;
+use threads::run_threads;
 use write::Out;
 
 /// The status where histories are no world's.
@@ -37,8 +40,19 @@ fn file(of: impl AsFd) -> std::io::Result<File> {
     of.as_fd().try_clone_to_owned().map(File::from)
 }
 
-/// Does what a word asks for, and gives the status. `None` means that there is no such word.
-fn answer(word: &str) -> Option<Result<u8, Fault>> {
+/// The numbers of sites and tellers, and the seed, of the options of a run of tellers.
+fn threads_options(words: &[&str]) -> Option<(u8, u8, u32)> {
+    let number = |name: &str| {
+        let at = words.iter().position(|word| *word == name)?;
+        words.get(at + 1)?.parse::<u32>().ok()
+    };
+    let (sites, tellers) = (number("--sites")?, number("--tellers")?);
+    let is_within = words.len() == 6 && (2..=16).contains(&sites) && (1..=64).contains(&tellers);
+    is_within.then_some((sites as u8, tellers as u8, number("--seed")?))
+}
+
+/// Does what the words ask for, and gives the status. `None` means that they are wrong.
+fn answer(words: &[&str]) -> Option<Result<u8, Fault>> {
     let Ok(input) = file(std::io::stdin()) else {
         return Some(Err(Fault::Read));
     };
@@ -46,10 +60,14 @@ fn answer(word: &str) -> Option<Result<u8, Fault>> {
         return Some(Err(Fault::Write));
     };
     let mut out = Out::new(Some(output));
-    Some(match word {
-        "script" => run::<Script>(input, &mut out).map(|_| 0),
-        "migrate" => run::<Migration>(input, &mut out).map(|_| 0),
-        "audit" => run::<Audit>(input, &mut out).and_then(|audit| finish(&audit, &mut out)),
+    Some(match words {
+        ["script"] => run::<Script>(input, &mut out).map(|_| 0),
+        ["migrate"] => run::<Migration>(input, &mut out).map(|_| 0),
+        ["audit"] => run::<Audit>(input, &mut out).and_then(|audit| finish(&audit, &mut out)),
+        ["threads", options @ ..] => {
+            let (sites, tellers, seed) = threads_options(options)?;
+            run_threads(sites, tellers, seed, &mut out)
+        }
         _ => return None,
     })
 }
@@ -66,18 +84,17 @@ fn finish(audit: &Audit, out: &mut Out) -> Result<u8, Fault> {
 
 fn main() -> ExitCode {
     let words: Vec<_> = std::env::args_os().skip(1).collect();
-    let word = match &words[..] {
-        [word] => word.to_str().unwrap_or(""),
-        _ => "",
-    };
-    match answer(word) {
+    let words: Vec<_> = words.iter().map(|word| word.to_str().unwrap_or("")).collect();
+    match answer(&words) {
         Some(Ok(status)) => ExitCode::from(status),
         Some(Err(fault)) => {
             eprintln!("rbbank: {}", fault.message());
             ExitCode::from(fault.status())
         }
         None => {
-            eprintln!("usage: plain-bank script|audit|migrate < FILE");
+            eprintln!(
+                "usage: plain-bank script|audit|migrate < FILE, or plain-bank threads --sites K --tellers T --seed S"
+            );
             ExitCode::from(WRONG_WORDS)
         }
     }

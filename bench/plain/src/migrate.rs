@@ -5,8 +5,11 @@ use crate::config::write_config;
 use crate::event::{Event, Parts};
 use crate::lines::Session;
 use crate::scan::Scan;
-use crate::write::{Out, Piece};
+use crate::write::Out;
 use std::ops::Range;
+
+/// The version of the lines that histories are rewritten in.
+const NEWEST_VERSION: u8 = 2;
 
 pub struct Migration {
     bank: Bank,
@@ -15,7 +18,7 @@ pub struct Migration {
 
 impl Session for Migration {
     fn open(bank: Bank, out: &mut Out) -> Migration {
-        write_config(out, &bank);
+        write_config(out, &bank, NEWEST_VERSION);
         Migration { bank, parts: Parts::new() }
     }
 
@@ -33,7 +36,8 @@ impl Session for Migration {
         }
         if clock_at > 0 {
             copy.until(&self.parts.shadow.clock_at, out);
-            out.piece(|piece| self.write_clock(piece));
+            let clock = &self.parts.shadow.clock;
+            out.piece(|piece| piece.clock(clock[0], &clock[1..]));
         }
         for unknown in self.parts.unknown.iter().filter(|unknown| unknown.end < clock_at) {
             copy.until(unknown, out);
@@ -56,28 +60,5 @@ impl Copy<'_> {
         let all = self.text.len();
         out.bytes(&self.text[self.from..all - part.end]);
         self.from = all - part.start;
-    }
-}
-
-impl Migration {
-    /// The counts above 0 of blue operations, each behind its site's number, and the count of red ones.
-    fn write_clock(&self, piece: &mut Piece) {
-        let (red, blues) = (self.parts.shadow.clock[0], &self.parts.shadow.clock[1..]);
-        piece.text(b"[[");
-        let mut is_first = true;
-        for (site, count) in blues.iter().enumerate().filter(|(_, count)| **count > 0) {
-            if !is_first {
-                piece.text(b",");
-            }
-            is_first = false;
-            piece.text(b"[");
-            piece.number(site as u64);
-            piece.text(b",");
-            piece.number(u64::from(*count));
-            piece.text(b"]");
-        }
-        piece.text(b"],");
-        piece.number(u64::from(red));
-        piece.text(b"]");
     }
 }

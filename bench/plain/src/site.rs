@@ -284,6 +284,12 @@ impl Site {
         Ok(Reply::Applied(name))
     }
 
+    /// A held operation whose past was applied, if there is one.
+    pub fn ready(&self, ops: &Ops) -> Option<Name> {
+        let place = self.inbox.fronts().find(|place| self.ledger.covers(ops.clock(*place)))?;
+        Some(ops.get(place).name())
+    }
+
     /// Receives a token.
     pub fn receive_token(&mut self, bank: &Bank, token: TokenMessage) -> Result<Reply, Refusal> {
         if token.to != self.me {

@@ -155,6 +155,13 @@ impl Piece<'_> {
         }
     }
 
+    /// Bytes of any number that a piece may have.
+    pub fn slice(&mut self, bytes: &[u8]) {
+        let (next, spare) = std::mem::take(&mut self.spare).split_at_mut(bytes.len());
+        next.copy_from_slice(bytes);
+        self.spare = spare;
+    }
+
     #[inline(always)]
     pub fn number(&mut self, number: u64) {
         if number < 10 {
@@ -178,6 +185,27 @@ impl Piece<'_> {
         }
     }
 
+    /// A clock in version 2: the counts above 0 of blue operations, each behind its site's number, and the count of red
+    /// ones.
+    pub fn clock(&mut self, red: u32, blues: &[u32]) {
+        self.text(b"[[");
+        let mut is_first = true;
+        for (site, count) in blues.iter().enumerate().filter(|(_, count)| **count > 0) {
+            if !is_first {
+                self.text(b",");
+            }
+            is_first = false;
+            self.text(b"[");
+            self.number(site as u64);
+            self.text(b",");
+            self.number(u64::from(*count));
+            self.text(b"]");
+        }
+        self.text(b"],");
+        self.number(u64::from(red));
+        self.text(b"]");
+    }
+
     fn integer(&mut self, number: i64) {
         if number < 0 {
             self.text(b"-");
@@ -187,7 +215,7 @@ impl Piece<'_> {
 
     /// An operation's name with its quotes.
     #[inline(always)]
-    fn name(&mut self, name: Name) {
+    pub fn name(&mut self, name: Name) {
         if name.row == 0 {
             self.text(b"\"R");
         } else {
@@ -200,7 +228,7 @@ impl Piece<'_> {
     }
 
     /// A kind's word.
-    fn kind(&mut self, kind: Kind) {
+    pub fn kind(&mut self, kind: Kind) {
         match kind {
             Kind::Deposit => self.text(b"deposit"),
             Kind::Withdraw => self.text(b"withdraw"),
