@@ -187,6 +187,7 @@ impl Piece<'_> {
 
     /// A clock in version 2: the counts above 0 of blue operations, each behind its site's number, and the count of red
     /// ones.
+    #[inline(always)]
     pub fn clock(&mut self, red: u32, blues: &[u32]) {
         self.text(b"[[");
         let mut is_first = true;
