@@ -141,6 +141,9 @@ impl Inbox {
         ensures some { IfSome result (HoldsReady self.now clock.now) }
         ensures none { IfNone result ((shadow : Shadow) → Among shadow self.now.held → ¬ IsReady clock.now shadow) }
     {
+        if self.len() == 0 {
+            return None;
+        }
         for row in &self.rows {
             let name = ready_in(row.as_slice(), clock);
             if name.is_some() {
