@@ -7,11 +7,11 @@ use rb_site::{Event, Reply};
 pub struct Receipt {
     /// The position of its entry in the site's history, from 1.
     pub number: u32,
+    /// How many sendings failed: each message that went with it counts once for each link that refused it, as
+    /// its inlet was dropped, or that wasn't there.
+    pub unsent: u32,
     /// What happened.
     pub event: Event,
     /// What the site answered.
     pub reply: Reply,
-    /// How many sendings failed: each message that went with it counts once for each link that refused it, as
-    /// its inlet was dropped, or that wasn't there.
-    pub unsent: u32,
 }
