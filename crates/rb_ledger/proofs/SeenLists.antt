@@ -5,8 +5,10 @@ use Rattle.rb_money.specs.Settings.{Settings}
 use Rattle.rb_shadow.specs.declared.shadow.Shadow.{Shadow}
 use Rattle.rb_ledger.specs.declared.marks.Links.{Links}
 use Rattle.rb_ledger.specs.declared.index.Index.{Index}
+use Rattle.rb_ledger.specs.declared.checkpoints.Checkpoints.{Checkpoints}
 use Rattle.rb_ledger.specs.Book.{Book}
 use Rattle.rb_ledger.specs.Index.{AreLinks, IsIndex}
+use Rattle.rb_ledger.specs.Checkpoints.{AreCheckpoints}
 
 -- the index of the list that is seen
 pub seen : (us : List Shadow) (n : ℕ) (x : Index) (b : Book) → IsIndex x.config us x →
@@ -17,6 +19,11 @@ seen us n x b index e = subst (λ (b : Book). IsIndex b.settings b.entries x) e 
 pub links_seen : (s : Settings) (us : List Shadow) (n : ℕ) (ls : List Links) (b : Book) → AreLinks s us ls →
     record { settings = s; entries = us; room = n } ≡ b → AreLinks b.settings b.entries ls
 links_seen s us n ls b links e = subst (λ (b : Book). AreLinks b.settings b.entries ls) e links
+
+-- the checkpoints of the list that is seen
+pub checkpoints_seen : (s : Settings) (us : List Shadow) (n : ℕ) (c : Checkpoints) (b : Book) → AreCheckpoints s us c →
+    record { settings = s; entries = us; room = n } ≡ b → AreCheckpoints b.settings b.entries c
+checkpoints_seen s us n c b are e = subst (λ (b : Book). AreCheckpoints b.settings b.entries c) e are
 
 -- a book of its parts
 abbrev pub book : Settings → List Shadow → ℕ → Book

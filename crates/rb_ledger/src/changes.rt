@@ -103,6 +103,7 @@ impl Ledger {
         self.index.push(&self.entries.all(), shadow, &parts, &links);
         self.links.push(&links);
         self.entries.push(shadow);
+        self.checkpoints.push(parts.position, &self.index.heads);
         Ok(())
     }
 
@@ -115,10 +116,12 @@ impl Ledger {
         ensures room { self.new.room ≡ self.old.room + 1 }
     {
         let parts = undo.spend();
-        let links = self.links.at(parts.position as usize - 1);
+        let position = parts.position;
+        let links = self.links.at(position as usize - 1);
         self.links.pop();
         self.entries.pop();
         self.index.pop(&self.entries.all(), parts, &links);
+        self.checkpoints.pop(position);
     }
 
     /// Reserves capacity for `additional` more operations. It takes no memory where there is enough.
@@ -171,6 +174,7 @@ impl Ledger {
         self.entries.reserve(limit)?;
         self.links.reserve(limit)?;
         self.index.cancels.reserve_exact(additional)?;
+        self.checkpoints.reserve(limit)?;
         self.index.rows.reserve(limit)
     }
 }

@@ -2,7 +2,7 @@
 ghost use Rattle.std.specs.Prelude.{◌≡◌, ◌≤◌, ◌<◌, ◌-◌, length, take, Some, [], ◌∷◌, ◌++◌};
 ghost use Rattle.rb_money.specs.Settings.{IsConfigured};
 ghost use Rattle.rb_ledger.specs.Valid.{IsValid, parts_of};
-ghost use Rattle.rb_ledger.specs.OnAccount.{IsOn, IsLast};
+ghost use Rattle.rb_ledger.specs.OnAccount.{IsOn, IsLast, IsNoneAfter};
 ghost use Rattle.rb_ledger.specs.Index.{IsLink, IsLinked};
 
 use crate::Ledger;
@@ -39,10 +39,11 @@ impl Ledger {
     pub(crate) fn last_within(&self, limit: u32, last: u32, place: Place) -> u32
         requires within { limit ≤ length self.now.entries }
         requires last { IsLast self.now.entries place last }
+        requires account { place.0 < length self.now.settings.starts }
         ensures last { IsLast (take limit self.now.entries) place result }
         ensures on { IsOn self.now.entries place result }
     {
-        let mut at = last;
+        let mut at = self.last_from(limit, last, place);
         while at > limit {
             let link = self.link_at(at, place);
             at = if link.jump > limit {
@@ -52,6 +53,21 @@ impl Ledger {
             };
         }
         at
+    }
+
+    /// The position of an entry on the account, or 0, behind which none of the first ones is on it: the last one as of
+    /// the next checkpoint, if there is one, and otherwise the last of all, which is given.
+    #[inline(always)]
+    fn last_from(&self, limit: u32, last: u32, place: Place) -> u32
+        requires last { IsLast self.now.entries place last }
+        requires account { place.0 < length self.now.settings.starts }
+        ensures on { IsOn self.now.entries place result }
+        ensures after { IsNoneAfter (take limit self.now.entries) place result }
+    {
+        match self.checkpoints.last_from(limit, place) {
+            Some(last) => last,
+            None => last,
+        }
     }
 
     /// The link, on an account, of the entry at the position, which is on it.

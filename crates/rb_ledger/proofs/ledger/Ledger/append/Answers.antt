@@ -1,9 +1,11 @@
-use Rattle.std.proofs.Common.{◌≡◌, ◌≤◌, ◌-◌, length, vec_len, ◌++◌, ◌∷◌, [], subst, sym, ap, ◌∙◌, arith}
+use Rattle.std.proofs.Common.{refl, ◌+◌, ◌≡◌, ◌≤◌, ◌-◌, length, ◌++◌, ◌∷◌, [], subst, sym, ap, ◌∙◌, arith}
 use Rattle.std.proofs.lemmas.List.{length_push}
 use Rattle.rb_money.specs.Settings.{IsConfigured, Settings}
 use Rattle.rb_ledger.specs.Book.{Book}
-use Rattle.rb_ledger.specs.Index.{IsIndex, IsLinked}
+use Rattle.rb_undo.specs.declared.parts.UndoParts.{UndoParts}
+use Rattle.rb_ledger.specs.Index.{IsIndex, IsLinked, AreHeads}
 use Rattle.rb_ledger.proofs.ChainFacts
+use Rattle.rb_ledger.proofs.CheckpointFacts
 use Rattle.rb_ledger.proofs.Indexed
 use Rattle.rb_ledger.proofs.Lengths
 use Rattle.rb_ledger.specs.Valid.{IsValid, parts_of}
@@ -23,18 +25,28 @@ invariant_of-self c =
     ap (λ (b : Book). b.room) c.self.view_is in
     let longer = ap length c.push-3.ensures.items ∙ length_push c.self.inside.entries.items c.args.shadow.now in
     let room = c.self.invariant.room in
+    let pushed = subst (λ us. IsIndex c.self.inside.index.config (us ++ c.args.shadow.now ∷ []) c.push.new.self) c.all-2.ensures
+    c.push.ensures.index in
+    let heads = subst (AreHeads c.self.inside.index.config (c.self.inside.entries.items ++ c.args.shadow.now ∷ []))
+    (sym c.deref.ensures.value) pushed.heads in
+    let count : c.parts-parts.result.position ≡ length c.self.inside.entries.items + 1 =
+    omega (arith, ap (λ (p : UndoParts). p.position) c.parts-parts.ensures, ap length c.all.ensures) in
     record {
       index = subst (λ us. IsIndex c.push.new.self.config us c.push.new.self) (ap
           (λ us. us ++ c.args.shadow.now ∷ []) c.all-2.ensures
           ∙ sym c.push-3.ensures.items) (Indexed.own _ _ _ c.push.ensures.index);
       links = ChainFacts.links_moved _ _ _ _ _ _ (ChainFacts.links_push _ _ c.args.shadow.now _ _ c.self.invariant.links links)
           c.push.ensures.index.config c.push-3.ensures.items c.push-2.ensures.items;
+      checkpoints = CheckpointFacts.moved _ _ _ _ _ _ (c.push-4.ensures.checkpoints _ _ c.args.shadow.now
+          c.self.invariant.index.clocked.configured c.self.invariant.checkpoints heads count) c.push.ensures.index.config
+          c.push-3.ensures.items refl refl refl;
       sites = omega (arith, c.push-3.ensures.sites, c.self.invariant.sites, ap (λ (s : Settings). s.sites) c.push.ensures.index.config);
       room = record {
         within = omega (arith, longer, c.push.ensures.limit, free, c.in_ok-make_room.ensures.ok);
         entries = omega (arith, c.push-3.ensures.limit, c.push.ensures.limit, room.entries);
         cancels = omega (arith, c.push.ensures.capacity, c.push.ensures.limit, room.cancels);
         links = omega (arith, c.push-2.ensures.limit, c.push.ensures.limit, room.links);
+        checkpoints = omega (arith, c.push-4.ensures.capacity, c.push.ensures.limit, room.checkpoints);
       };
     }
 
@@ -126,6 +138,44 @@ push-requires-3-clause-room c =
     let free : c.self.inside.index.rows.limit - length c.self.inside.entries.items ≡ c.make_room.new.self.room =
     ap (λ (b : Book). b.room) c.self.view_is in
     omega (arith, free, c.in_ok-make_room.ensures.ok, c.self.invariant.room.entries)
+
+pub push-requires-4-clause-there : goal.push-requires-4-clause-there
+push-requires-4-clause-there c = (c.self.inside.index.config, c.self.inside.entries.items, c.self.invariant.checkpoints)
+
+pub push-requires-4-clause-accounts : goal.push-requires-4-clause-accounts
+push-requires-4-clause-accounts c =
+    omega (arith, ap length c.deref.ensures.value, c.push.ensures.index.heads.count, c.self.invariant.checkpoints.accounts)
+
+pub push-requires-4-clause-few : goal.push-requires-4-clause-few
+push-requires-4-clause-few c =
+    let configured = c.self.invariant.index.clocked.configured in
+    omega (arith, configured.few_accounts, configured.starts_of_all, c.self.invariant.checkpoints.accounts)
+
+pub push-requires-4-clause-count : goal.push-requires-4-clause-count
+push-requires-4-clause-count c =
+    omega (
+      arith,
+      ap (λ (p : UndoParts). p.position) c.parts-parts.ensures,
+      ap length c.all.ensures,
+      ap (λ (b : Book). length b.entries) c.self.view_is,
+      ap length c.in_ok-make_room.ensures.entries,
+      length_push c.args.self.now.entries c.args.shadow.now,
+      Lengths.valid_length _ _ (subst IsConfigured c.in_ok-make_room.ensures.settings
+          (subst (λ (b : Book). IsConfigured b.settings) c.self.view_is c.self.invariant.index.clocked.configured)) c.requires,
+    )
+
+pub push-requires-4-clause-room : goal.push-requires-4-clause-room
+push-requires-4-clause-room c =
+    let free : c.self.inside.index.rows.limit - length c.self.inside.entries.items ≡ c.make_room.new.self.room =
+    ap (λ (b : Book). b.room) c.self.view_is in
+    omega (
+      arith,
+      ap (λ (p : UndoParts). p.position) c.parts-parts.ensures,
+      ap length c.all.ensures,
+      free,
+      c.in_ok-make_room.ensures.ok,
+      c.self.invariant.room.checkpoints,
+    )
 
 pub returns-clause-applied : goal.returns-clause-applied
 returns-clause-applied c =

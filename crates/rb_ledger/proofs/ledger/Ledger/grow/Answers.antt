@@ -8,6 +8,7 @@ use Rattle.rb_ledger.specs.Index.{AreHeads, AreIndexRows, IsIndex}
 use Rattle.rb_ledger.specs.declared.index.Index.{Index}
 use Rattle.rb_ledger.proofs.CancelReads
 use Rattle.rb_ledger.proofs.ChainFacts
+use Rattle.rb_ledger.proofs.CheckpointFacts
 use Rattle.rb_ledger.proofs.SeenLists
 use Rattle.rb_ledger.proofs.ledger.Ledger.grow.Goals as goal
 
@@ -40,12 +41,14 @@ invariant_of-self c =
     record {
       index = same_index _ _ _ _ c.self.inside.index c.self.invariant.index c.reserve.ensures.items refl refl refl refl refl;
       links = ChainFacts.links_moved _ _ _ _ _ _ c.self.invariant.links refl c.reserve.ensures.items refl;
+      checkpoints = CheckpointFacts.moved _ _ _ _ _ _ c.self.invariant.checkpoints refl c.reserve.ensures.items refl refl refl;
       sites = omega (arith, c.reserve.ensures.sites, c.self.invariant.sites);
       room = record {
         within = omega (arith, ap length c.reserve.ensures.items, room.within);
         entries = omega (arith, c.reserve.ensures.grows, room.entries);
         cancels = room.cancels;
         links = room.links;
+        checkpoints = room.checkpoints;
       };
     }
 
@@ -58,12 +61,14 @@ invariant_of-self-in_err-reserve-2 c =
     record {
       index = same_index _ _ _ _ c.self.inside.index c.self.invariant.index c.reserve.ensures.items refl refl refl refl refl;
       links = ChainFacts.links_moved _ _ _ _ _ _ c.self.invariant.links refl c.reserve.ensures.items c.reserve-2.ensures.items;
+      checkpoints = CheckpointFacts.moved _ _ _ _ _ _ c.self.invariant.checkpoints refl c.reserve.ensures.items refl refl refl;
       sites = omega (arith, c.reserve.ensures.sites, c.self.invariant.sites);
       room = record {
         within = omega (arith, ap length c.reserve.ensures.items, room.within);
         entries = omega (arith, c.reserve.ensures.grows, room.entries);
         cancels = room.cancels;
         links = omega (arith, c.reserve-2.ensures.grows, room.links);
+        checkpoints = room.checkpoints;
       };
     }
 
@@ -77,18 +82,42 @@ invariant_of-self-in_err-reserve_exact c =
       index = same_index _ _ _ c.self.inside.index _ c.self.invariant.index c.reserve.ensures.items refl refl
           c.reserve_exact.ensures.items refl refl;
       links = ChainFacts.links_moved _ _ _ _ _ _ c.self.invariant.links refl c.reserve.ensures.items c.reserve-2.ensures.items;
+      checkpoints = CheckpointFacts.moved _ _ _ _ _ _ c.self.invariant.checkpoints refl c.reserve.ensures.items refl refl refl;
       sites = omega (arith, c.reserve.ensures.sites, c.self.invariant.sites);
       room = record {
         within = omega (arith, ap length c.reserve.ensures.items, room.within);
         entries = omega (arith, c.reserve.ensures.grows, room.entries);
         cancels = omega (arith, c.reserve_exact.ensures.capacity, room.cancels);
         links = omega (arith, c.reserve-2.ensures.grows, room.links);
+        checkpoints = room.checkpoints;
       };
     }
 
 pub returns-in_err-reserve_exact-clause-ok : goal.returns-in_err-reserve_exact-clause-ok
 returns-in_err-reserve_exact-clause-ok c =
     IfOk-from_err c.from_residual-in_err-reserve_exact.result _ c.from_residual-in_err-reserve_exact.ensures.0
+
+pub invariant_of-self-in_err-reserve-3 : goal.invariant_of-self-in_err-reserve-3
+invariant_of-self-in_err-reserve-3 c =
+    let room = c.self.invariant.room in
+    record {
+      index = same_index _ _ _ c.self.inside.index _ c.self.invariant.index c.reserve.ensures.items refl refl
+          c.reserve_exact.ensures.items refl refl;
+      links = ChainFacts.links_moved _ _ _ _ _ _ c.self.invariant.links refl c.reserve.ensures.items c.reserve-2.ensures.items;
+      checkpoints = CheckpointFacts.moved _ _ _ _ _ _ c.self.invariant.checkpoints refl c.reserve.ensures.items c.reserve-3.ensures.lasts
+          c.reserve-3.ensures.accounts c.reserve-3.ensures.due;
+      sites = omega (arith, c.reserve.ensures.sites, c.self.invariant.sites);
+      room = record {
+        within = omega (arith, ap length c.reserve.ensures.items, room.within);
+        entries = omega (arith, c.reserve.ensures.grows, room.entries);
+        cancels = omega (arith, c.reserve_exact.ensures.capacity, room.cancels);
+        links = omega (arith, c.reserve-2.ensures.grows, room.links);
+        checkpoints = omega (arith, c.reserve-3.ensures.grows, room.checkpoints);
+      };
+    }
+
+pub returns-in_err-reserve-3-clause-ok : goal.returns-in_err-reserve-3-clause-ok
+returns-in_err-reserve-3-clause-ok c = IfOk-from_err c.from_residual-in_err-reserve-3.result _ c.from_residual-in_err-reserve-3.ensures.0
 
 pub invariant_of-self-2 : goal.invariant_of-self-2
 invariant_of-self-2 c =
@@ -101,24 +130,28 @@ invariant_of-self-2 c =
     omega (arith, c.len.ensures, c.requires, ap (λ (b : Book). length b.entries) c.self.view_is) in
     record {
       index = same_index _ _ _ c.self.inside.index _ index c.reserve.ensures.items refl refl c.reserve_exact.ensures.items refl
-          c.reserve-3.ensures.rows;
+          c.reserve-4.ensures.rows;
       links = ChainFacts.links_moved _ _ _ _ _ _ c.self.invariant.links refl c.reserve.ensures.items c.reserve-2.ensures.items;
+      checkpoints = CheckpointFacts.moved _ _ _ _ _ _ c.self.invariant.checkpoints refl c.reserve.ensures.items c.reserve-3.ensures.lasts
+          c.reserve-3.ensures.accounts c.reserve-3.ensures.due;
       sites = omega (arith, c.reserve.ensures.sites, c.self.invariant.sites);
       room = record {
-        within = at_least c.reserve-3.result _ _ _ _ c.reserve-3.ensures.ok c.reserve-3.ensures.err
+        within = at_least c.reserve-4.result _ _ _ _ c.reserve-4.ensures.ok c.reserve-4.ensures.err
             (omega (arith, small, c.len.ensures, same)) (omega (arith, same, room.within));
-        entries = at_most c.reserve-3.result _ _ _ _ c.reserve-3.ensures.ok c.reserve-3.ensures.err
+        entries = at_most c.reserve-4.result _ _ _ _ c.reserve-4.ensures.ok c.reserve-4.ensures.err
             (omega (arith, c.in_ok-reserve.ensures.ok)) (omega (arith, c.reserve.ensures.grows, room.entries));
-        cancels = at_most c.reserve-3.result _ _ _ _ c.reserve-3.ensures.ok c.reserve-3.ensures.err
+        cancels = at_most c.reserve-4.result _ _ _ _ c.reserve-4.ensures.ok c.reserve-4.ensures.err
             (omega (arith, small, c.len.ensures, counted, c.reserve_exact.ensures.len, c.in_ok-reserve_exact.ensures.ok))
             (omega (arith, c.reserve_exact.ensures.capacity, room.cancels));
-        links = at_most c.reserve-3.result _ _ _ _ c.reserve-3.ensures.ok c.reserve-3.ensures.err
+        links = at_most c.reserve-4.result _ _ _ _ c.reserve-4.ensures.ok c.reserve-4.ensures.err
             (omega (arith, c.in_ok-reserve-2.ensures.ok)) (omega (arith, c.reserve-2.ensures.grows, room.links));
+        checkpoints = at_most c.reserve-4.result _ _ _ _ c.reserve-4.ensures.ok c.reserve-4.ensures.err
+            (omega (arith, c.in_ok-reserve-3.ensures.ok)) (omega (arith, c.reserve-3.ensures.grows, room.checkpoints));
       };
     }
 
 pub returns-clause-err : goal.returns-clause-err
-returns-clause-err c = on_err_weaker c.reserve-3.result
+returns-clause-err c = on_err_weaker c.reserve-4.result
     (λ e. SeenLists.same_book _ _ _ _ _ _ _ c.self.view_is refl c.reserve.ensures.items
     (ap (λ n. n - length c.reserve.new.self.items) e ∙ ap (λ us. c.self.inside.index.rows.limit - length us) c.reserve.ensures.items))
-    c.reserve-3.ensures.err
+    c.reserve-4.ensures.err

@@ -3,6 +3,7 @@ use Rattle.rb_money.specs.Settings.{Settings}
 use Rattle.rb_ledger.specs.Valid.{parts_of}
 use Rattle.rb_ledger.specs.Index.{IsIndex, IsLinked}
 use Rattle.rb_ledger.specs.Rewinding.{Rewinding}
+use Rattle.rb_ledger.proofs.CheckpointFacts
 use Rattle.rb_ledger.proofs.Cursors
 use Rattle.rb_ledger.specs.Records.{records_of}
 use Rattle.rb_ledger.proofs.SeenLists
@@ -33,12 +34,14 @@ invariant_of-self c =
       at = Cursors.back _ _ _ _ _ _ _ _ _ c.in-Some.undo c.self.invariant.at next c.in-Some.ensures.0 c.in-Some.ensures.1
           (subst (λ us. IsIndex c.self.inside.index.config us c.pop-in-Some.new.self) c.first-before.ensures
           c.pop-in-Some.ensures.index);
+      checkpoints = CheckpointFacts.moved _ _ _ _ _ _ c.self.invariant.checkpoints c.pop-in-Some.ensures.index.config refl refl refl refl;
       sites = omega (arith, c.self.invariant.sites, ap (λ (s : Settings). s.sites) c.pop-in-Some.ensures.index.config);
       room = record {
         within = omega (arith, c.pop-in-Some.ensures.limit, room.within);
         entries = omega (arith, c.pop-in-Some.ensures.limit, room.entries);
         cancels = omega (arith, c.pop-in-Some.ensures.limit, c.pop-in-Some.ensures.capacity, room.cancels);
         links = omega (arith, c.pop-in-Some.ensures.limit, room.links);
+        checkpoints = omega (arith, c.pop-in-Some.ensures.limit, room.checkpoints);
       };
     }
 

@@ -3,6 +3,7 @@ use Rattle.rb_money.specs.Settings.{Settings}
 use Rattle.rb_ledger.specs.Valid.{IsValid, parts_of}
 use Rattle.rb_ledger.specs.Index.{IsIndex, IsLinked}
 use Rattle.rb_ledger.specs.Rewinding.{Rewinding}
+use Rattle.rb_ledger.proofs.CheckpointFacts
 use Rattle.rb_ledger.proofs.Cursors
 use Rattle.rb_ledger.specs.Records.{records_of}
 use Rattle.rb_ledger.proofs.Lengths
@@ -51,12 +52,14 @@ invariant_of-self c =
           c.push_reserved.ensures.parts c.push_reserved.ensures.room
           (subst (λ us. IsIndex c.self.inside.index.config (us ++ c.unwrap-shadow.result
           ∷ []) c.push.new.self) c.first-before.ensures c.push.ensures.index);
+      checkpoints = CheckpointFacts.moved _ _ _ _ _ _ c.self.invariant.checkpoints c.push.ensures.index.config refl refl refl refl;
       sites = omega (arith, c.self.invariant.sites, ap (λ (s : Settings). s.sites) c.push.ensures.index.config);
       room = record {
         within = omega (arith, c.push.ensures.limit, room.within);
         entries = omega (arith, c.push.ensures.limit, room.entries);
         cancels = omega (arith, c.push.ensures.limit, c.push.ensures.capacity, room.cancels);
         links = omega (arith, c.push.ensures.limit, room.links);
+        checkpoints = omega (arith, c.push.ensures.limit, room.checkpoints);
       };
     }
 
