@@ -17,7 +17,7 @@ use std::alloc::AllocError;
 /// From this number of entries on the lists grow to `MANY_ENTRIES` at once.
 const FEW_ENTRIES: usize = 64;
 
-/// For this number of entries even the list of the smallest items, positions of 4 bytes, takes 128 kilobytes.
+/// For this number of entries even the list of the smallest items of each, positions of 4 bytes, takes 128 kilobytes.
 const MANY_ENTRIES: usize = 32_768;
 
 impl Ledger {
@@ -180,7 +180,8 @@ impl Ledger {
 }
 
 /// For how many entries in all memory is taken where that for `count` is used up. From a few on it is for as many as
-/// make each list a mapping of its own at once, which grows without a copy and of which only what is used takes memory.
+/// make each list a mapping of its own at once, which grows without a copy and of which only what is used takes memory;
+/// the checkpoints, a byte an entry, become one later.
 fn next_limit(count: usize) -> usize
     requires { count ≤ MOST_OPERATIONS }
     ensures more { count < result }

@@ -12,12 +12,13 @@ use crate::marks::Head;
 use rb_money::Place;
 use std::alloc::{AllocError, Global};
 
-/// For so many operations there is one entry of 4 bytes. So checkpoints take a byte an operation, however many accounts
-/// there are, and from a checkpoint it is some two operations of an account back to any position before it.
+/// For so many operations there is one entry, of 4 bytes. So checkpoints take a byte an operation, however many
+/// accounts there are, and an account has on average so many operations from one checkpoint to the next.
 pub const OPERATIONS_PER_ENTRY: u32 = 4;
 
 /// Checkpoints of a list of operations: a row after each stride, which is `OPERATIONS_PER_ENTRY` operations for each
-/// account. They belong to the whole list, and change only at its end.
+/// account. A search back along an account begins at the next one. They belong to the whole list, also where the index
+/// is as of a position before its end.
 #[derive(Drop)]
 pub struct Checkpoints {
     /// The rows, one after another: for each account the position of the last operation on it, or 0.

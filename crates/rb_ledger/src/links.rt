@@ -55,8 +55,8 @@ impl Ledger {
         at
     }
 
-    /// The position of an entry on the account, or 0, behind which none of the first ones is on it: the last one as of
-    /// the next checkpoint, if there is one, and otherwise the last of all, which is given.
+    /// The position of an entry on the account, or 0, after which none of the first entries is on it: that of the last
+    /// one as of the next checkpoint, if there is one, and else of the last of all, which is given.
     #[inline(always)]
     fn last_from(&self, limit: u32, last: u32, place: Place) -> u32
         requires last { IsLast self.now.entries place last }
