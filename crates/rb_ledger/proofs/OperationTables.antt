@@ -1,48 +1,119 @@
 -- What lists of operations are after a change.
-use Rattle.std.proofs.Common.{◌≡◌, ℕ, zero, suc, ◌+◌, ◌-◌, ◌*◌, ◌<◌, ◌≤◌, List, [], ◌∷◌, ◌++◌, length, map, take, drop, get_or}
-use Rattle.std.proofs.Common.{refl, ap, sym, ◌∙◌, subst, arith, Some, None, Result, Ok, Err, true, false}
-use Rattle.std.proofs.Common.{append_assoc, length-append, length-take-le, mul-le-mul_right}
-use Rattle.std.specs.Prelude.{Bool, not, IsOk, is_err, is_some, option_to_list, if◌then◌else◌, Option, option_map, slice_get, slice_index, replicate, ◌==◌, nat_le}
-use Rattle.std.specs.Prelude.{◌&&◌}
+use Rattle.std.proofs.Common.{◌≡◌, ℕ, zero, suc, ◌+◌, ◌-◌, ◌*◌, ◌<◌, ◌≤◌, List, [], ◌∷◌, ◌++◌, length, take, drop, get_or}
+use Rattle.std.proofs.Common.{refl, ap, sym, ◌∙◌, subst, arith, inl, inr, Some, None, Result, Ok, Err, true, false}
+use Rattle.std.proofs.Common.{append_assoc, length-take-le, mul-le-mul_right}
+use Rattle.std.specs.Prelude.{Bool, not, IsOk, is_err, is_some, option_to_list, if◌then◌else◌, Option, option_map, slice_get, slice_index, slice_set, replicate, ◌==◌, nat_le}
+use Rattle.std.specs.Prelude.{◌&&◌, ◌⊎◌, unwrap_or}
 use Rattle.std.proofs.lemmas.Bool.{and_parts}
 use Rattle.std.proofs.lemmas.Bool.Decides.{nat_tests}
-use Rattle.std.proofs.lemmas.List.{drop-append-le, drop-drop, length-drop, length_push, take-append-drop, take-append-le, take-take}
-use Rattle.std.proofs.lemmas.Option.{slice_get_past}
-use Rattle.std.proofs.Math.Seq.{take-append_seam}
+use Rattle.std.proofs.lemmas.List.{drop-append-le, length-drop, length-map, length_push, map_push, take-append-drop, take-append-le, take-take, take_all, set-get_or}
+use Rattle.std.proofs.lemmas.Option.{slice_get_past, slice_get-map}
+use Rattle.std.proofs.Math.Seq.{drop-append_seam, take-append_seam}
 use Rattle.std.specs.declared.alloc.AllocError.{AllocError}
 use Rattle.rb_money.specs.Settings.{Settings}
 use Rattle.rb_money.specs.declared.limits.TheConstants.{MOST_SITES}
 use Rattle.rb_shadow.specs.declared.deps.Deps.{Deps}
+use Rattle.rb_shadow.specs.declared.op_name.OpName.{OpName}
+use Rattle.rb_shadow.specs.declared.op_name.OpName.TheVariants.{Blue, Red}
 use Rattle.rb_shadow.specs.declared.shadow.Shadow.{Shadow}
+use Rattle.rb_shadow.specs.Operations.{entry_of, number_of, row_of}
 use Rattle.rb_shadow.specs.Sound.{IsSound, are_entries}
 use Rattle.rb_shadow.proofs.Public.SoundFacts
 use Rattle.rb_ledger.specs.declared.body.Body.{Body}
-use Rattle.rb_ledger.specs.OperationLists.{OperationTable, IsOfSites, clock_of_counts, operations_of, padded, with_clock, with_counts}
+use Rattle.rb_vclock.specs.Clocks.{lowered}
+use Rattle.rb_ledger.specs.declared.kept_kind.KeptKind.{KeptKind}
+use Rattle.rb_ledger.specs.OperationLists.{AreInOrder, IsOfSites, clock_count, clock_of_counts, kind_of, operations_of, padded}
+use Rattle.rb_ledger.specs.OperationLists.{with_clock, with_counts}
 
 -- there are as many operations as bodies
 pub as_many : (w : ℕ) (bs : List Body) (ns : List ℕ) → length (operations_of w bs ns) ≡ length bs
-as_many w [] ns = refl
-as_many w (b ∷ bs) ns = omega (arith, as_many w bs (drop (w + 1) ns))
-
--- the operation at an index, by what is kept of it
-pub kept_at : (w : ℕ) (bs : List Body) (ns : List ℕ) (i : ℕ) →
-    slice_get (operations_of w bs ns) i ≡ option_map (λ b. with_counts w b (drop (i * (w + 1)) ns)) (slice_get bs i)
-kept_at w [] ns i = refl
-kept_at w (b ∷ bs) ns zero = ap (λ k. Some (with_counts w b (drop k ns))) (let none : 0 ≡ 0 * (w + 1) = omega arith in none)
-kept_at w (b ∷ bs) ns (suc i) =
-    let past : w + 1 + i * (w + 1) ≡ suc i * (w + 1) = omega arith in
-    kept_at w bs (drop (w + 1) ns) i
-    ∙ ap (λ ms. option_map (λ c. with_counts w c ms) (slice_get bs i)) (drop-drop (i * (w + 1)) (w + 1) ns
-    ∙ ap (λ k. drop k ns) past)
+as_many w bs ns = length-map bs (λ (b : Body). with_counts w b (drop (b.clock * (w + 1)) ns))
 
 -- past the bodies there is no operation
 pub none_at : (w : ℕ) (bs : List Body) (ns : List ℕ) (i : ℕ) → length bs ≤ i → slice_get (operations_of w bs ns) i ≡ None
-none_at w bs ns i past = kept_at w bs ns i ∙ ap (option_map (λ b. with_counts w b (drop (i * (w + 1)) ns))) (slice_get_past bs i past)
+none_at w bs ns i past = slice_get_past (operations_of w bs ns) i (omega (arith, past, as_many w bs ns))
 
 -- an operation is there where its body is
 pub one_at : (w : ℕ) (bs : List Body) (ns : List ℕ) (i : ℕ) (b : Body) → slice_get bs i ≡ Some b →
-    slice_get (operations_of w bs ns) i ≡ Some (with_counts w b (drop (i * (w + 1)) ns))
-one_at w bs ns i b there = kept_at w bs ns i ∙ ap (option_map (λ b. with_counts w b (drop (i * (w + 1)) ns))) there
+    slice_get (operations_of w bs ns) i ≡ Some (with_counts w b (drop (b.clock * (w + 1)) ns))
+one_at w bs ns i b there =
+    slice_get-map (λ (b : Body). with_counts w b (drop (b.clock * (w + 1)) ns)) bs i
+    ∙ ap (option_map (λ (b : Body). with_counts w b (drop (b.clock * (w + 1)) ns))) there
+
+-- ---- the numbers of the clocks
+
+-- for no operations no clocks are kept
+pub none_in_order : (bs : List Body) → bs ≡ [] → AreInOrder 0 bs
+unfolding AreInOrder
+none_in_order [] none = tt
+none_in_order (b ∷ bs) none = cc
+
+-- no fewer clocks are kept for more operations
+pub none_above : (k : ℕ) (bs : List Body) → AreInOrder k bs → k ≤ clock_count k bs
+unfolding AreInOrder
+none_above k [] are = omega arith
+none_above k (b ∷ bs) (inl next, are) = omega (arith, next, none_above (b.clock + 1) bs are)
+none_above k (b ∷ bs) (inr same, are) = omega (arith, same, none_above (b.clock + 1) bs are)
+
+-- there are at most as many clocks as operations
+pub few_clocks : (k : ℕ) (bs : List Body) → AreInOrder k bs → clock_count k bs ≤ k + length bs
+unfolding AreInOrder
+few_clocks k [] are = omega arith
+few_clocks k (b ∷ bs) (inl next, are) = omega (arith, next, few_clocks (b.clock + 1) bs are)
+few_clocks k (b ∷ bs) (inr same, are) = omega (arith, same, few_clocks (b.clock + 1) bs are)
+
+-- an operation's clock is one of those
+pub clock_near : (k : ℕ) (bs : List Body) (i : ℕ) (b : Body) → AreInOrder k bs → slice_get bs i ≡ Some b → b.clock + 1 ≤ clock_count k bs
+unfolding AreInOrder
+clock_near k [] i b are there = cc
+clock_near k (c ∷ bs) zero b (step, are) there =
+    let here : c.clock ≡ b.clock = ap (λ (o : Option Body). unwrap_or (option_map (λ (b : Body). b.clock) o) 0) there in
+    omega (arith, here, none_above (c.clock + 1) bs are)
+clock_near k (c ∷ bs) (suc i) b (step, are) there = clock_near (c.clock + 1) bs i b are there
+
+-- so all of it is kept
+pub clock_room : (w : ℕ) (bs : List Body) (ns : List ℕ) (i : ℕ) (b : Body) → AreInOrder 0 bs → length ns ≡ clock_count 0 bs * (w + 1) →
+    slice_get bs i ≡ Some b → b.clock * (w + 1) + (w + 1) ≤ length ns
+clock_room w bs ns i b are count there = omega (arith, count, mul-le-mul_right (w + 1) (clock_near 0 bs i b are there))
+
+-- with one more operation there is one clock more than its number
+pub count_more : (k : ℕ) (bs : List Body) (b : Body) → clock_count k (bs ++ b ∷ []) ≡ b.clock + 1
+count_more k [] b = refl
+count_more k (c ∷ bs) b = count_more (c.clock + 1) bs b
+
+-- there is one clock more than the last operation's number
+pub count_last : (k : ℕ) (bs : List Body) (b : Body) → slice_get bs (length bs - 1) ≡ Some b → clock_count k bs ≡ b.clock + 1
+count_last k [] b there = cc
+count_last k (c ∷ []) b there = ap (λ (o : Option Body). unwrap_or (option_map (λ (b : Body). b.clock + 1) o) 0) there
+count_last k (c ∷ d ∷ bs) b there =
+    let one : suc (suc (length bs)) - 1 ≡ suc (suc (length bs) - 1) = omega arith in
+    count_last (c.clock + 1) (d ∷ bs) b (ap (slice_get (c ∷ d ∷ bs)) (sym one) ∙ there)
+
+-- the next clock's number, or the one before
+pub at_most : (m n : ℕ) → (m ≡ n) ⊎ (m + 1 ≡ n) → m ≤ n
+at_most m n (inl next) = omega (arith, next)
+at_most m n (inr same) = omega (arith, same)
+
+-- one more operation, with the next clock or the last one
+pub order_more : (k : ℕ) (bs : List Body) (b : Body) → AreInOrder k bs → (b.clock ≡ clock_count k bs) ⊎ (b.clock + 1 ≡ clock_count k bs) →
+    AreInOrder k (bs ++ b ∷ [])
+unfolding AreInOrder
+order_more k [] b are step = (step, tt)
+order_more k (c ∷ bs) b (first, are) step = (first, order_more (c.clock + 1) bs b are step)
+
+-- the same of a list that is one longer
+pub order_pushed : (bs cs : List Body) (b : Body) → cs ≡ bs ++ b ∷ [] → AreInOrder 0 bs →
+    (b.clock ≡ clock_count 0 bs) ⊎ (b.clock + 1 ≡ clock_count 0 bs) → AreInOrder 0 cs
+order_pushed bs cs b is are step = subst (AreInOrder 0) (sym is) (order_more 0 bs b are step)
+
+-- without the last operation
+pub order_front : (k : ℕ) (bs : List Body) (b : Body) → AreInOrder k (bs ++ b ∷ []) →
+    AreInOrder k bs × ((b.clock ≡ clock_count k bs) ⊎ (b.clock + 1 ≡ clock_count k bs))
+unfolding AreInOrder
+order_front k [] b (step, are) = (tt, step)
+order_front k (c ∷ bs) b (first, are) = let (rest, step) = order_front (c.clock + 1) bs b are in ((first, rest), step)
+
+-- ---- clocks
 
 -- a clock of its red entry and those of the sites
 abbrev clock : ℕ → List ℕ → Deps
@@ -82,65 +153,68 @@ cut_clock w (suc m) (n ∷ ns) is many =
 
 -- the kind of the operation at an index
 pub kind_at : (w : ℕ) (bs : List Body) (ns : List ℕ) (i : ℕ) (b : Body) (d : Shadow) → i < length bs → b ≡ get_or bs i b →
-    b.kind ≡ (get_or (operations_of w bs ns) i d).kind
+    kind_of b.kind ≡ (get_or (operations_of w bs ns) i d).kind
 kind_at w [] ns i b d near is = absurd (omega (arith, near))
-kind_at w (c ∷ bs) ns zero b d near is = ap (λ (x : Body). x.kind) is
-kind_at w (c ∷ bs) ns (suc i) b d near is = kind_at w bs (drop (w + 1) ns) i b d (omega (arith, near)) is
+kind_at w (c ∷ bs) ns zero b d near is = ap (λ (x : Body). kind_of x.kind) is
+kind_at w (c ∷ bs) ns (suc i) b d near is = kind_at w bs ns i b d (omega (arith, near)) is
 
 -- more behind what is kept of an operation's clock changes nothing
 same_counts : (w : ℕ) (b : Body) (ns ms : List ℕ) → w + 1 ≤ length ns → with_counts w b (ns ++ ms) ≡ with_counts w b ns
 same_counts w b [] ms many = absurd (omega (arith, many))
 same_counts w b (n ∷ ns) ms many =
-    ap (λ ks. with_clock b (record { blue = padded ks; red = n })) (take-append-le w ns ms (omega (arith, many)))
+    ap (λ ks. with_clock b (lowered (record { blue = padded ks; red = n }) b.name)) (take-append-le w ns ms (omega (arith, many)))
+
+-- nor does more behind all clocks
+pub same_operations : (w k : ℕ) (bs : List Body) (ns ms : List ℕ) → AreInOrder k bs → clock_count k bs * (w + 1) ≤ length ns →
+    operations_of w bs (ns ++ ms) ≡ operations_of w bs ns
+unfolding AreInOrder
+same_operations w k [] ns ms are many = refl
+same_operations w k (b ∷ bs) ns ms (step, are) many =
+    let at = b.clock * (w + 1) in
+    let below : (b.clock + 1) * (w + 1) ≤ clock_count (b.clock + 1) bs * (w + 1) = mul-le-mul_right (w + 1) (none_above (b.clock + 1) bs are) in
+    let here : at + (w + 1) ≤ length ns = omega (arith, below, many) in
+    ap (λ ks. with_counts w b ks ∷ operations_of w bs (ns ++ ms)) (drop-append-le at ns ms (omega (arith, here)))
+    ∙ ap (λ u. u ∷ operations_of w bs (ns ++ ms)) (same_counts w b (drop at ns) ms (omega (arith, here, length-drop at ns)))
+    ∙ ap (λ us. with_counts w b (drop at ns) ∷ us) (same_operations w (b.clock + 1) bs ns ms are many)
 
 -- one more operation
-pub pushed : (w : ℕ) (bs : List Body) (ns ms : List ℕ) (b : Body) → length ns ≡ length bs * (w + 1) →
-    operations_of w (bs ++ b ∷ []) (ns ++ ms) ≡ operations_of w bs ns ++ with_counts w b ms ∷ []
-pushed w [] [] ms b count = refl
-pushed w [] (n ∷ ns) ms b count = absurd (omega (arith, count))
-pushed w (c ∷ bs) ns ms b count =
-    let many : w + 1 ≤ length ns = omega (arith, count) in
-    ap (λ u. u ∷ operations_of w (bs ++ b ∷ []) (drop (w + 1) (ns ++ ms))) (same_counts w c ns ms many)
-    ∙ ap (λ ks. with_counts w c ns ∷ operations_of w (bs ++ b ∷ []) ks) (drop-append-le (w + 1) ns ms many)
-    ∙ ap (λ us. with_counts w c ns ∷ us) (pushed w bs (drop (w + 1) ns) ms b (omega (arith, count, length-drop (w + 1) ns)))
+pub pushed : (w : ℕ) (bs : List Body) (ns ms : List ℕ) (b : Body) → AreInOrder 0 bs → length ns ≡ clock_count 0 bs * (w + 1) →
+    operations_of w (bs ++ b ∷ []) (ns ++ ms) ≡ operations_of w bs ns ++ with_counts w b (drop (b.clock * (w + 1)) (ns ++ ms)) ∷ []
+pushed w bs ns ms b are count =
+    map_push (λ (b : Body). with_counts w b (drop (b.clock * (w + 1)) (ns ++ ms))) bs b
+    ∙ ap (λ us. us ++ with_counts w b (drop (b.clock * (w + 1)) (ns ++ ms)) ∷ []) (same_operations w 0 bs ns ms are (omega (arith, count)))
 
--- the red entry and the first entries of a clock that has no others are all of it
-pub kept_whole : (w : ℕ) (v : Shadow) (b : Body) → padded (take w v.deps.blue) ≡ v.deps.blue →
-    record { name = v.name; kind = v.kind; home = v.home; account = v.account; amount = v.amount } ≡ b
-    → with_counts w b (v.deps.red ∷ take w v.deps.blue) ≡ v
-kept_whole w v b of is =
-    let c : Body = record { name = v.name; kind = v.kind; home = v.home; account = v.account; amount = v.amount } in
-    ap (λ b. with_counts w b (v.deps.red ∷ take w v.deps.blue)) (sym is)
-    ∙ ap (λ ns. with_clock c (record { blue = ns; red = v.deps.red })) (ap padded (take-take w w v.deps.blue (omega arith)) ∙ of)
+-- the clocks' numbers without the last operation's
+pub popped_order : (bs cs : List Body) (b : Body) → bs ≡ cs ++ b ∷ [] → AreInOrder 0 bs → AreInOrder 0 cs
+popped_order bs cs b is are = (order_front 0 cs b (subst (AreInOrder 0) is are)).0
 
--- with one more operation as much is kept of the clocks as there are operations
-pub counted_more : (w : ℕ) (bs cs : List Body) (ns ms ks : List ℕ) (b : Body) (r : ℕ) → cs ≡ bs ++ b ∷ [] → ms ≡ ns ++ r ∷ take w ks →
-    w ≤ length ks → length ns ≡ length bs * (w + 1) → length ms ≡ length cs * (w + 1)
-counted_more w bs cs ns ms ks b r more longer full count =
-    omega (
-      arith,
-      ap length longer,
-      length-append ns (r ∷ take w ks),
-      length-take-le w ks full,
-      count,
-      ap (λ xs. length xs * (w + 1)) more,
-      ap (λ n. n * (w + 1)) (length_push bs b),
-    )
+-- as many clocks are there as are kept without the last operation
+pub popped_room : (w : ℕ) (bs cs : List Body) (ns : List ℕ) (b : Body) → bs ≡ cs ++ b ∷ [] → AreInOrder 0 bs →
+    length ns ≡ clock_count 0 bs * (w + 1) → clock_count 0 cs * (w + 1) ≤ length ns
+popped_room w bs cs ns b is are count =
+    let fewer : clock_count 0 cs ≤ clock_count 0 bs = less (order_front 0 cs b (subst (AreInOrder 0) is are)).1 in
+    omega (arith, count, mul-le-mul_right (w + 1) fewer)
+  where
+    less : (b.clock ≡ clock_count 0 cs) ⊎ (b.clock + 1 ≡ clock_count 0 cs) → clock_count 0 cs ≤ clock_count 0 bs
+    less (inl next) = omega (arith, next, ap (clock_count 0) is, count_more 0 cs b)
+    less (inr same) = omega (arith, same, ap (clock_count 0) is, count_more 0 cs b)
 
 -- without the last operation
-pub popped : (w : ℕ) (bs cs : List Body) (ns ms : List ℕ) (b : Body) → bs ≡ cs ++ b ∷ [] → length ns ≡ length bs * (w + 1) →
-    ms ≡ take (length ns - (w + 1)) ns → operations_of w cs ms ≡ take (length (operations_of w bs ns) - 1) (operations_of w bs ns)
-popped w bs cs ns ms b is count cut =
-    let k = length ns - (w + 1) in
-    let far : length ns ≡ length cs * (w + 1) + (w + 1) = omega (arith, count, ap (λ xs. length xs * (w + 1)) is, ap (λ n. n * (w + 1)) (length_push cs b)) in
-    let us = operations_of w cs ms in
-    let last = with_counts w b (drop k ns) in
-    let counted : length ms ≡ length cs * (w + 1) = omega (arith, far, ap length cut, length-take-le k ns (omega arith)) in
+pub popped : (w : ℕ) (bs cs : List Body) (ns ms : List ℕ) (b : Body) → bs ≡ cs ++ b ∷ [] → AreInOrder 0 bs →
+    length ns ≡ clock_count 0 bs * (w + 1) → ms ≡ take (clock_count 0 cs * (w + 1)) ns →
+    operations_of w cs ms ≡ take (length (operations_of w bs ns) - 1) (operations_of w bs ns)
+popped w bs cs ns ms b is are count cut =
+    let k = clock_count 0 cs * (w + 1) in
+    let us = operations_of w cs ns in
+    let last = with_counts w b (drop (b.clock * (w + 1)) ns) in
+    let front = popped_order bs cs b is are in
+    let counted : length ms ≡ k = ap length cut ∙ length-take-le k ns (popped_room w bs cs ns b is are count) in
+    let kept : operations_of w cs ms ≡ us =
+    sym (same_operations w 0 cs ms (drop k ns) front (omega (arith, counted)))
+    ∙ ap (operations_of w cs) (ap (λ xs. xs ++ drop k ns) cut ∙ take-append-drop k ns) in
     let whole : operations_of w bs ns ≡ us ++ last ∷ [] =
-    ap (λ xs. operations_of w xs ns) is
-    ∙ ap (operations_of w (cs ++ b ∷ [])) (sym (take-append-drop k ns) ∙ ap (λ xs. xs ++ drop k ns) (sym cut))
-    ∙ pushed w cs ms (drop k ns) b counted in
-    sym (ap (λ xs. take (length xs - 1) xs) whole
+    ap (λ xs. operations_of w xs ns) is ∙ map_push (λ (b : Body). with_counts w b (drop (b.clock * (w + 1)) ns)) cs b in
+    kept ∙ sym (ap (λ xs. take (length xs - 1) xs) whole
     ∙ ap (λ n. take n (us ++ last ∷ [])) (omega (arith, length_push us last))
     ∙ take-append_seam us (last ∷ []))
 
@@ -170,6 +244,89 @@ entries_back (suc k) limit (n ∷ ns) h =
 pub whole_clock : (w : ℕ) (d : Deps) → IsOfSites w d → length d.blue ≡ MOST_SITES → padded (take w d.blue) ≡ d.blue
 whole_clock w d (limit, are) full = ap (λ n. take w d.blue ++ replicate (n - length (take w d.blue)) 0) (sym full)
     ∙ entries_back w limit d.blue are
+
+-- lists that are the same but for one item, with the same behind them
+set_append : (xs ys zs : List ℕ) (o n : ℕ) → slice_set xs o n ≡ slice_set ys o n → slice_set (xs ++ zs) o n ≡ slice_set (ys ++ zs) o n
+set_append [] [] zs o n same = refl
+set_append [] (y ∷ ys) zs zero n same = cc
+set_append [] (y ∷ ys) zs (suc o) n same = cc
+set_append (x ∷ xs) [] zs zero n same = cc
+set_append (x ∷ xs) [] zs (suc o) n same = cc
+set_append (x ∷ xs) (y ∷ ys) zs zero n same = ap (λ ks. n ∷ (drop 1 ks ++ zs)) same
+set_append (x ∷ xs) (y ∷ ys) zs (suc o) n same =
+    ap (λ ks. slice_index ks 0 ∷ slice_set (xs ++ zs) o n) same
+    ∙ ap (λ ks. y ∷ ks) (set_append xs ys zs o n (ap (drop 1) same))
+
+-- an operation is what is kept of it
+pub whole_again : (w n : ℕ) (ns : List ℕ) (v : Shadow) (k : KeptKind) → kind_of k ≡ v.kind →
+    lowered (clock_of_counts w (drop (n * (w + 1)) ns)) v.name ≡ v.deps →
+    with_counts w (record { name = v.name; kind = k; clock = n; home = v.home; account = v.account; amount = v.amount }) (drop (n * (w + 1)) ns)
+    ≡ v
+whole_again w n ns v k kind clock =
+    λ j. record { name = v.name; home = v.home; account = v.account; deps = clock j; amount = v.amount; kind = kind j }
+
+-- what is kept of two clocks that are the same but for a name's own entry is of one clock of that name
+same_lowered : (w : ℕ) (ns ms : List ℕ) (x : OpName) → length ns ≡ w + 1 → length ms ≡ w + 1 →
+    ((n : ℕ) → slice_set ns (row_of x) n ≡ slice_set ms (row_of x) n) → lowered (clock_of_counts w ns) x ≡ lowered (clock_of_counts w ms) x
+same_lowered w [] ms x many all same = absurd (omega (arith, many))
+same_lowered w (r ∷ ns) [] x many all same = absurd (omega (arith, all))
+same_lowered w (r ∷ ns) (q ∷ ms) (Red n) many all same = ap (λ ks. record { blue = padded (take w (drop 1 ks)); red = n - 1 }) (same n)
+same_lowered w (r ∷ ns) (q ∷ ms) (Blue i n) many all same =
+    let whole : take w ns ≡ ns = take_all w ns (omega (arith, many)) in
+    let full : take w ms ≡ ms = take_all w ms (omega (arith, all)) in
+    let counted : MOST_SITES - length ns ≡ MOST_SITES - length ms = omega (arith, many, all) in
+    let first : r ≡ q = ap (λ ks. slice_index ks 0) (same (n - 1)) in
+    let behind : slice_set (padded ns) i (n - 1) ≡ slice_set (ns ++ replicate (MOST_SITES - length ms) 0) i (n - 1) =
+    ap (λ k. slice_set (ns ++ replicate k 0) i (n - 1)) counted in
+    let entries : slice_set (padded ns) i (n - 1) ≡ slice_set (padded ms) i (n - 1) =
+    behind ∙ set_append ns ms (replicate (MOST_SITES - length ms) 0) i (n - 1) (ap (drop 1) (same (n - 1))) in
+    let blue : slice_set (padded (take w ns)) i (n - 1) ≡ slice_set (padded (take w ms)) i (n - 1) =
+    ap (λ ks. slice_set (padded ks) i (n - 1)) whole ∙ entries ∙ ap (λ ks. slice_set (padded ks) i (n - 1)) (sym full) in
+    λ j. record { blue = blue j; red = first j }
+
+-- a clock whose own entry is just below the name's number
+own_kept : (d : Deps) (x : OpName) → entry_of d x + 1 ≡ number_of x → lowered d x ≡ d
+own_kept d (Red n) own = ap (λ k. record { blue = d.blue; red = k }) (let is : n - 1 ≡ d.red = omega (arith, own) in is)
+own_kept d (Blue i n) own =
+    let is : n - 1 ≡ slice_index d.blue i = omega (arith, own) in
+    ap (λ k. record { blue = slice_set d.blue i k; red = d.red }) is
+    ∙ ap (λ ks. record { blue = ks; red = d.red }) (set-get_or d.blue i 0)
+
+-- the red entry and the first entries of a clock that has no others are all of it, with the own entry that it has
+pub kept_whole : (w : ℕ) (d : Deps) (x : OpName) → IsOfSites w d → length d.blue ≡ MOST_SITES → entry_of d x + 1 ≡ number_of x →
+    lowered (clock_of_counts w (d.red ∷ take w d.blue)) x ≡ d
+kept_whole w d x sites full own =
+    ap (λ ks. lowered (record { blue = padded ks; red = d.red }) x) (take-take w w d.blue (omega arith))
+    ∙ ap (λ ks. lowered (record { blue = ks; red = d.red }) x) (whole_clock w d sites full)
+    ∙ own_kept d x own
+
+-- a clock is what is kept last, where the two are the same but for the own entry
+pub kept_last : (w n k : ℕ) (ns ks : List ℕ) (d : Deps) (x : OpName) → IsOfSites w d → length d.blue ≡ MOST_SITES → w ≤ MOST_SITES →
+    entry_of d x + 1 ≡ number_of x → length ns ≡ n * (w + 1) → 0 < n → k ≡ length ns - (w + 1) → ks ≡ drop k ns →
+    ((m : ℕ) → slice_set ks (row_of x) m ≡ slice_set (d.red ∷ take (length ks - 1) d.blue) (row_of x) m) →
+    lowered (clock_of_counts w (drop ((n - 1) * (w + 1)) ns)) x ≡ d
+kept_last w zero k ns ks d x sites full few own count some at cut same = absurd (omega (arith, some))
+kept_last w (suc n) k ns ks d x sites full few own count some at cut same =
+    let back : suc n - 1 ≡ n = omega arith in
+    let here : n * (w + 1) ≡ k = omega (arith, count, at) in
+    let long : length ks ≡ w + 1 = omega (arith, ap length cut, length-drop k ns, count, at) in
+    let less : length ks - 1 ≡ w = omega (arith, long) in
+    ap (λ j. lowered (clock_of_counts w (drop (j * (w + 1)) ns)) x) back
+    ∙ ap (λ j. lowered (clock_of_counts w (drop j ns)) x) here
+    ∙ ap (λ js. lowered (clock_of_counts w js) x) (sym cut)
+    ∙ same_lowered w ks (d.red ∷ take w d.blue) x long (omega (arith, length-take-le w d.blue (omega (arith, full, few))))
+    (λ m. same m ∙ ap (λ j. slice_set (d.red ∷ take j d.blue) (row_of x) m) less)
+    ∙ kept_whole w d x sites full own
+
+-- what is kept behind the others
+pub kept_behind : (w n : ℕ) (ns ms : List ℕ) (d : Deps) (x : OpName) → IsOfSites w d → length d.blue ≡ MOST_SITES →
+    entry_of d x + 1 ≡ number_of x → length ns ≡ n * (w + 1) → ms ≡ ns ++ d.red ∷ take w d.blue →
+    lowered (clock_of_counts w (drop (n * (w + 1)) ms)) x ≡ d
+kept_behind w n ns ms d x sites full own count is =
+    ap (λ js. lowered (clock_of_counts w (drop (n * (w + 1)) js)) x) is
+    ∙ ap (λ j. lowered (clock_of_counts w (drop j (ns ++ d.red ∷ take w d.blue))) x) (sym count)
+    ∙ ap (λ js. lowered (clock_of_counts w js) x) (drop-append_seam ns (d.red ∷ take w d.blue))
+    ∙ kept_whole w d x sites full own
 
 -- what is 0 past some sites is 0 past more
 pub wider : (k m limit : ℕ) (ns : List ℕ) → k ≤ m → are_entries k limit ns ≡ true → are_entries m limit ns ≡ true

@@ -1,18 +1,86 @@
 //! What is kept of clocks.
-ghost use Rattle.std.specs.Prelude.{◌≡◌, ◌-◌, ◌+◌, ◌<◌, ◌≤◌, ◌++◌, ◌∷◌, length, take, vec_len, vec_capacity};
+ghost use Rattle.std.specs.Prelude.{◌≡◌, ◌⊎◌, ◌-◌, ◌+◌, ◌*◌, ◌<◌, ◌≤◌, ◌++◌, ◌∷◌, length, take, drop, slice_set, vec_len, vec_capacity};
+ghost use Rattle.std.specs.Prelude.{IsTrue, List, ℕ};
 ghost use Rattle.rb_money.specs.declared.limits.TheConstants.{MOST_SITES};
+ghost use Rattle.rb_shadow.specs.Operations.{entry_of, number_of, row_of};
+ghost use Rattle.rb_vclock.specs.Clocks.{lowered};
 ghost use Rattle.rb_ledger.specs.declared.counts.TheConstants.{FEW_SITES};
-ghost use Rattle.rb_ledger.specs.OperationLists.{clock_of_counts};
+ghost use Rattle.rb_ledger.specs.OperationLists.{clock_of_counts, IsOfSites};
 
 use rb_money::MOST_SITES;
-use rb_shadow::Deps;
+use rb_shadow::{Deps, OpName, Shadow};
 
 /// Of each clock the entries of this many sites are kept at least, so that those of a small bank are copied at once.
 pub const FEW_SITES: usize = 3;
 
+/// The number, from 0, of an operation's clock among those that are kept, of which there were `count`. It is that of
+/// the last one, where the two differ in the operation's own entry alone, which is implied; else the clock is kept
+/// behind the others, in spare capacity.
+#[inline(always)]
+pub fn keep_clock(counts: &mut Vec<u32>, count: usize, shadow: &Shadow, sites: usize) -> usize
+    requires least { FEW_SITES ≤ sites }
+    requires most { sites ≤ MOST_SITES }
+    requires count { length counts.old.items ≡ count * (sites + 1) }
+    requires room { vec_len counts.old + sites + 1 ≤ vec_capacity counts.old }
+    requires sites { IsOfSites sites shadow.now.deps }
+    requires own { entry_of shadow.now.deps shadow.now.name + 1 ≡ number_of shadow.now.name }
+    ensures number { (result ≡ count) ⊎ (result + 1 ≡ count) }
+    ensures count { length counts.new.items ≡ (result + 1) * (sites + 1) }
+    ensures more { (ns : List ℕ) × (counts.new.items ≡ counts.old.items ++ ns) }
+    ensures clock { lowered (clock_of_counts sites (drop (result * (sites + 1)) counts.new.items)) shadow.now.name
+        ≡ shadow.now.deps }
+    ensures capacity { vec_capacity counts.old ≤ vec_capacity counts.new }
+{
+    let deps = &shadow.deps;
+    if count > 0 {
+        let last = &counts[counts.len() - (sites + 1)..];
+        if is_same(last, deps.red, &deps.blue, shadow.name.row()) {
+            return count - 1;
+        }
+    }
+    push_counts(counts, deps.red, &deps.blue, sites);
+    count
+}
+
+/// Whether what is kept is that of a clock, but for the entry of a row. Each entry is looked at, as several are
+/// compared at once.
+#[inline(always)]
+fn is_same(kept: &[u32], red: u32, blue: &[u32], own: usize) -> bool
+    requires all { length blue.now ≡ MOST_SITES }
+    requires least { FEW_SITES + 1 ≤ length kept.now }
+    requires most { length kept.now ≤ MOST_SITES + 1 }
+    ensures same { IsTrue result → (n : ℕ) →
+        slice_set kept.now own n ≡ slice_set (red ∷ take (length kept.now - 1) blue.now) own n }
+    ensures all { length blue.now ≡ MOST_SITES }
+{
+    if kept.len() > FEW_SITES + 1 {
+        return is_same_of_many(kept, red, blue, own);
+    }
+    ((own == 0) | (kept[0] == red))
+        & ((own == 1) | (kept[1] == blue[0]))
+        & ((own == 2) | (kept[2] == blue[1]))
+        & ((own == 3) | (kept[3] == blue[2]))
+}
+
+/// The same of any number of sites.
+#[inline(never)]
+fn is_same_of_many(kept: &[u32], red: u32, blue: &[u32], own: usize) -> bool
+    requires all { length blue.now ≡ MOST_SITES }
+    requires some { 0 < length kept.now }
+    requires most { length kept.now ≤ MOST_SITES + 1 }
+    ensures { IsTrue result → (n : ℕ) →
+        slice_set kept.now own n ≡ slice_set (red ∷ take (length kept.now - 1) blue.now) own n }
+{
+    let mut same = own == 0 || kept[0] == red;
+    for site in 0..kept.len() - 1 {
+        same &= own == site + 1 || kept[site + 1] == blue[site];
+    }
+    same
+}
+
 /// Adds what is kept of a clock, in spare capacity: its red entry, and the entries of the first sites.
 #[inline(always)]
-pub fn push_counts(counts: &mut Vec<u32>, red: u32, blue: &[u32], sites: usize)
+fn push_counts(counts: &mut Vec<u32>, red: u32, blue: &[u32], sites: usize)
     requires all { length blue.now ≡ MOST_SITES }
     requires least { FEW_SITES ≤ sites }
     requires most { sites ≤ MOST_SITES }
@@ -45,9 +113,28 @@ fn push_many(counts: &mut Vec<u32>, red: u32, blue: &[u32], sites: usize)
     }
 }
 
-/// The clock of what is kept of it.
+/// The clock of an operation of a name, of what is kept of it.
 #[inline(always)]
-pub fn clock(counts: &[u32]) -> Deps
+pub fn clock(counts: &[u32], name: OpName) -> Deps
+    requires least { FEW_SITES + 1 ≤ length counts.now }
+    requires most { length counts.now ≤ MOST_SITES + 1 }
+    ensures { result ≡ lowered (clock_of_counts (length counts.now - 1) counts.now) name }
+{
+    let mut deps = kept_clock(counts);
+    match name {
+        OpName::Blue { site, n } => {
+            if usize::from(site) < MOST_SITES {
+                deps.blue[usize::from(site)] = n.saturating_sub(1);
+            }
+        }
+        OpName::Red { n } => deps.red = n.saturating_sub(1),
+    }
+    deps
+}
+
+/// The clock of what is kept of it, its own entry among it.
+#[inline(always)]
+fn kept_clock(counts: &[u32]) -> Deps
     requires least { FEW_SITES + 1 ≤ length counts.now }
     requires most { length counts.now ≤ MOST_SITES + 1 }
     ensures { result ≡ clock_of_counts (length counts.now - 1) counts.now }

@@ -1,14 +1,15 @@
 //! The operations of a ledger, in their order.
-ghost use Rattle.std.specs.Prelude.{◌≡◌, ◌↔◌, ◌-◌, ◌<◌, ◌≤◌, ◌++◌, ◌∷◌, [], length, take, drop, OnOk, IfOk};
+ghost use Rattle.std.specs.Prelude.{◌≡◌, ◌↔◌, ◌-◌, ◌+◌, ◌<◌, ◌≤◌, ◌++◌, ◌∷◌, [], length, take, drop, OnOk, IfOk};
 ghost use Rattle.std.specs.Prelude.{IsTrue, slice_get, slice_index_or};
-ghost use Rattle.rb_money.specs.declared.limits.TheConstants.{MOST_SITES};
+ghost use Rattle.rb_money.specs.declared.limits.TheConstants.{MOST_OPERATIONS, MOST_SITES};
 ghost use Rattle.rb_shadow.specs.declared.shadow.Shadow.{Shadow as TheShadow};
-ghost use Rattle.rb_shadow.specs.Operations.{receiver_of};
-ghost use Rattle.rb_ledger.specs.OperationLists.{IsOfSites};
+ghost use Rattle.rb_shadow.specs.Operations.{entry_of, number_of, receiver_of};
+ghost use Rattle.rb_ledger.specs.OperationLists.{IsOfSites, clock_count};
 
 use crate::OperationRef;
 use crate::body::Body;
-use crate::counts::{FEW_SITES, push_counts};
+use crate::counts::{FEW_SITES, keep_clock};
+use crate::kept_kind::KeptKind;
 use crate::prefix::Prefix;
 use rb_money::Place;
 use rb_shadow::Shadow;
@@ -16,11 +17,13 @@ use std::alloc::{AllocError, Global};
 use std::marker::Model;
 
 /// Operations in their order, in less memory than a list of shadows: of each clock it keeps the red entry and those of
-/// the bank's sites, as all others are 0.
+/// the bank's sites, as all others are 0, and one clock for neighbours whose clocks differ in their own entries alone,
+/// as an operation's own entry is its number less 1.
 #[derive(Drop)]
 pub struct OperationList {
     bodies: Vec<Body>,
-    /// What is kept of the clocks, one after another: the red entry, and then those of the first sites.
+    /// What is kept of the clocks, one after another: the red entry, and then those of the first sites. Operations that
+    /// a site made one after another, without hearing of others, have one clock but for their own entries.
     counts: Vec<u32>,
     sites: usize,
     limit: usize,
@@ -30,7 +33,7 @@ impl Model for OperationList {
     ghost use Rattle.std.specs.Prelude.{length, ◌≡◌, ◌≤◌, ◌+◌, ◌*◌, vec_capacity};
     ghost use Rattle.rb_money.specs.declared.limits.TheConstants.{MOST_SITES};
     ghost use Rattle.rb_ledger.specs.declared.counts.TheConstants.{FEW_SITES};
-    ghost use Rattle.rb_ledger.specs.OperationLists.{OperationTable, operations_of};
+    ghost use Rattle.rb_ledger.specs.OperationLists.{AreInOrder, OperationTable, clock_count, operations_of};
 
     ghost Value = { OperationTable };
 
@@ -43,7 +46,8 @@ impl Model for OperationList {
     ghost invariant = { λ l. record {
       least : FEW_SITES ≤ l.sites;
       most : l.sites ≤ MOST_SITES;
-      counts : length l.counts.items ≡ length l.bodies.items * (l.sites + 1);
+      counts : length l.counts.items ≡ clock_count 0 l.bodies.items * (l.sites + 1);
+      order : AreInOrder 0 l.bodies.items;
       bodies_fit : l.limit ≤ vec_capacity l.bodies;
       counts_fit : l.limit * (l.sites + 1) ≤ vec_capacity l.counts;
     } };
@@ -93,7 +97,7 @@ impl OperationList {
         ensures { result ≡ slice_get self.now.items index }
     {
         let body = self.bodies.get(index)?;
-        let first = index * (self.sites + 1);
+        let first = body.clock as usize * (self.sites + 1);
         Some(OperationRef {
             body,
             counts: &self.counts[first..first + self.sites + 1],
@@ -145,24 +149,23 @@ impl OperationList {
     #[inline(always)]
     pub(crate) fn push(&mut self, shadow: &Shadow)
         requires room { length self.old.items < self.old.limit }
+        requires few { length self.old.items < MOST_OPERATIONS }
         requires sites { IsOfSites self.old.sites shadow.now.deps }
+        requires own { entry_of shadow.now.deps shadow.now.name + 1 ≡ number_of shadow.now.name }
         ensures items { self.new.items ≡ self.old.items ++ shadow.now ∷ [] }
         ensures sites { self.new.sites ≡ self.old.sites }
         ensures limit { self.new.limit ≡ self.old.limit }
     {
+        let count = kept_clocks(&self.bodies);
+        let clock = keep_clock(&mut self.counts, count, shadow, self.sites);
         self.bodies.push_reserved(Body {
             name: shadow.name,
-            kind: shadow.kind,
+            kind: KeptKind::new(shadow.kind),
+            clock: clock as u32,
             home: shadow.home,
             account: shadow.account,
             amount: shadow.amount,
         });
-        push_counts(
-            &mut self.counts,
-            shadow.deps.red,
-            &shadow.deps.blue,
-            self.sites,
-        );
     }
 
     /// Takes the last operation out again.
@@ -172,7 +175,8 @@ impl OperationList {
         ensures limit { self.new.limit ≡ self.old.limit }
     {
         if self.bodies.pop().is_some() {
-            self.counts.truncate(self.counts.len() - (self.sites + 1));
+            self.counts
+                .truncate(kept_clocks(&self.bodies) * (self.sites + 1));
         }
     }
 
@@ -195,5 +199,16 @@ impl OperationList {
             .reserve_exact(counts.saturating_sub(self.counts.len()))?;
         self.limit = limit;
         Ok(())
+    }
+}
+
+/// How many clocks are kept for operations.
+#[inline(always)]
+fn kept_clocks(bodies: &[Body]) -> usize
+    ensures { result ≡ clock_count 0 bodies.now }
+{
+    match bodies.last() {
+        Some(body) => body.clock as usize + 1,
+        None => 0,
     }
 }

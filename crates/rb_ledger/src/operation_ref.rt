@@ -10,7 +10,7 @@ use std::marker::Model;
 #[derive(Drop)]
 pub struct OperationRef<'a> {
     pub(crate) body: &'a Body,
-    /// The red entry of its clock, and then those of the first sites.
+    /// The red entry of its clock, and then those of the first sites, but for its own entry.
     pub(crate) counts: &'a [u32],
 }
 
@@ -50,9 +50,9 @@ impl<'a> OperationRef<'a> {
             name: body.name,
             home: body.home,
             account: body.account,
-            deps: clock(self.counts),
+            deps: clock(self.counts, body.name),
             amount: body.amount,
-            kind: body.kind,
+            kind: body.kind.kind(),
         }
     }
 }

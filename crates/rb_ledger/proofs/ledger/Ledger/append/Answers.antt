@@ -9,6 +9,7 @@ use Rattle.rb_ledger.proofs.CheckpointFacts
 use Rattle.rb_ledger.proofs.Indexed
 use Rattle.rb_ledger.proofs.Lengths
 use Rattle.rb_ledger.specs.Valid.{IsValid, parts_of}
+use Rattle.rb_shadow.proofs.Public.SoundFacts
 use Rattle.rb_ledger.proofs.Public.Legal
 use Rattle.rb_ledger.proofs.OperationTables
 use Rattle.rb_ledger.proofs.ledger.Ledger.append.Goals as goal
@@ -195,3 +196,17 @@ returns-clause-room c = λ some.
       ap length c.push-3.ensures.items,
       length_push c.self.inside.entries.items c.args.shadow.now,
     )
+
+pub push-requires-3-clause-few : goal.push-requires-3-clause-few
+push-requires-3-clause-few c =
+    omega (
+      arith,
+      ap (λ (b : Book). length b.entries) c.self.view_is,
+      ap length c.in_ok-make_room.ensures.entries,
+      length_push c.args.self.now.entries c.args.shadow.now,
+      Lengths.valid_length _ _ (subst IsConfigured c.in_ok-make_room.ensures.settings
+          (subst (λ (b : Book). IsConfigured b.settings) c.self.view_is c.self.invariant.index.clocked.configured)) c.requires,
+    )
+
+pub push-requires-3-clause-own : goal.push-requires-3-clause-own
+push-requires-3-clause-own c = (SoundFacts.is_next _ c.args.shadow.now (Legal.IsValid-last _ _ c.args.shadow.now c.requires).sound).own

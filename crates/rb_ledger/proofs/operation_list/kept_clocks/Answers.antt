@@ -1,0 +1,6 @@
+use Rattle.std.proofs.Common.{sym}
+use Rattle.rb_ledger.proofs.OperationTables
+use Rattle.rb_ledger.proofs.operation_list.kept_clocks.Goals as goal
+
+pub returns-in-Some : goal.returns-in-Some
+returns-in-Some c = sym (OperationTables.count_last 0 c.args.bodies.now c.in-Some.body.now (sym c.in-Some.ensures.value))
