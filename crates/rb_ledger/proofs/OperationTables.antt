@@ -6,23 +6,22 @@ use Rattle.std.specs.Prelude.{Bool, not, IsOk, is_err, is_some, option_to_list, 
 use Rattle.std.specs.Prelude.{◌&&◌, ◌⊎◌, unwrap_or}
 use Rattle.std.proofs.lemmas.Bool.{and_parts}
 use Rattle.std.proofs.lemmas.Bool.Decides.{nat_tests}
-use Rattle.std.proofs.lemmas.List.{drop-append-le, length-drop, length-map, length_push, map_push, take-append-drop, take-append-le, take-take, take_all, set-get_or}
+use Rattle.std.proofs.lemmas.List.{drop-append-le, drop-replicate, length-drop, length-set, length-map, length_push, map_push, take-append-drop, take-append-le, take-take, take_all, set-append_left, set-get_or, set_past}
 use Rattle.std.proofs.lemmas.Option.{slice_get_past, slice_get-map}
 use Rattle.std.proofs.Math.Seq.{drop-append_seam, take-append_seam}
 use Rattle.std.specs.declared.alloc.AllocError.{AllocError}
 use Rattle.rb_money.specs.Settings.{Settings}
 use Rattle.rb_money.specs.declared.limits.TheConstants.{MOST_SITES}
+use Rattle.rb_shadow.specs.declared.colour.Colour.{Colour}
 use Rattle.rb_shadow.specs.declared.deps.Deps.{Deps}
 use Rattle.rb_shadow.specs.declared.op_name.OpName.{OpName}
 use Rattle.rb_shadow.specs.declared.op_name.OpName.TheVariants.{Blue, Red}
 use Rattle.rb_shadow.specs.declared.shadow.Shadow.{Shadow}
-use Rattle.rb_shadow.specs.Operations.{entry_of, number_of, row_of}
-use Rattle.rb_shadow.specs.Sound.{IsSound, are_entries}
+use Rattle.rb_shadow.specs.Operations.{entry_of, number_of, row_of, shown_colour}
+use Rattle.rb_shadow.specs.Sound.{IsSound, are_entries, is_foreign}
 use Rattle.rb_shadow.proofs.Public.SoundFacts
 use Rattle.rb_ledger.specs.declared.body.Body.{Body}
-use Rattle.rb_vclock.specs.Clocks.{lowered}
-use Rattle.rb_ledger.specs.declared.kept_kind.KeptKind.{KeptKind}
-use Rattle.rb_ledger.specs.OperationLists.{AreInOrder, IsOfSites, clock_count, clock_of_counts, kind_of, operations_of, padded}
+use Rattle.rb_ledger.specs.OperationLists.{AreInOrder, IsOfSites, clock_count, clock_of_counts, kept_name, operations_of, padded}
 use Rattle.rb_ledger.specs.OperationLists.{with_clock, with_counts}
 
 -- there are as many operations as bodies
@@ -139,30 +138,90 @@ few_pushed os [] r w few long = absurd (omega (arith, long))
 few_pushed os (x ∷ []) r w few long = absurd (omega (arith, long))
 few_pushed os (x ∷ y ∷ []) r w few long = absurd (omega (arith, long))
 
+-- an item of the first ones
+set_take : (m r n : ℕ) (ns : List ℕ) → slice_set (take m ns) r n ≡ take m (slice_set ns r n)
+set_take zero r n ns = refl
+set_take (suc m) r n [] = refl
+set_take (suc m) zero n (k ∷ ns) = refl
+set_take (suc m) (suc r) n (k ∷ ns) = ap (λ ks. k ∷ ks) (set_take m r n ns)
+
 -- a clock by what is kept of it alone
-pub cut_clock : (w m : ℕ) (ns : List ℕ) → m ≡ w + 1 → w + 1 ≤ length ns →
-    clock_of_counts (length (take m ns) - 1) (take m ns) ≡ clock_of_counts w ns
-cut_clock w m [] is many = absurd (omega (arith, many))
-cut_clock w zero (n ∷ ns) is many = absurd (omega (arith, is))
-cut_clock w (suc m) (n ∷ ns) is many =
-    let same : m ≡ w = omega (arith, is) in
-    let long : suc (length (take m ns)) - 1 ≡ w = omega (arith, is, length-take-le m ns (omega (arith, is, many))) in
-    ap (λ k. clock n (take k (take m ns))) long
-    ∙ ap (λ k. clock n (take w (take k ns))) same
-    ∙ ap (clock n) (take-take w w ns (omega arith))
+cut_clock : (w : ℕ) (ns : List ℕ) → clock_of_counts w (take (suc w) ns) ≡ clock_of_counts w ns
+cut_clock w [] = refl
+cut_clock w (n ∷ ns) = ap (clock n) (take-take w w ns (omega arith))
+
+-- the entries of the first sites, in a list of zeros
+in_zeros : (ms xs : List ℕ) (k : ℕ) → k ≡ length ms → xs ≡ ms → xs ++ drop k (replicate MOST_SITES 0) ≡ padded ms
+in_zeros ms xs k is same = ap (λ ys. ys ++ drop k (replicate MOST_SITES 0)) same
+    ∙ ap (λ ys. ms ++ ys) (drop-replicate k MOST_SITES 0 ∙ ap (λ n. replicate (MOST_SITES - n) 0) is)
+
+-- the entries of the first sites, as they are kept, in a list of zeros
+pub behind_red : (n k : ℕ) (ms xs : List ℕ) → k ≡ suc (length ms) - 1 → xs ≡ take k (drop 1 (n ∷ ms)) → xs ++ drop k (replicate MOST_SITES 0) ≡ padded ms
+behind_red n k ms xs is same = in_zeros ms xs k (omega (arith, is)) (same ∙ take_all k ms (omega (arith, is)))
+
+-- the clock of a large bank whose own entry is the red one
+pub many_red : (ns xs : List ℕ) (own e : ℕ) → 0 < length ns → xs ≡ take (length ns - 1) (drop 1 ns) → own ≡ 0 →
+    record { blue = xs ++ drop (length ns - 1) (replicate MOST_SITES 0); red = e } ≡ clock_of_counts (length ns - 1) (slice_set ns own e)
+many_red [] xs own e some same red = absurd (omega (arith, some))
+many_red (n ∷ ms) xs own e some same red =
+    let k = suc (length ms) - 1 in
+    ap (λ ks. record { blue = ks; red = e }) (behind_red n k ms xs refl same ∙ ap padded (sym (take_all k ms (omega arith))))
+    ∙ ap (λ o. clock_of_counts k (slice_set (n ∷ ms) o e)) (sym red)
+
+-- the clock of a large bank that keeps no own entry
+pub many_past : (ns xs : List ℕ) (own e : ℕ) → 0 < length ns → xs ≡ take (length ns - 1) (drop 1 ns) → length ns ≤ own →
+    record { blue = xs ++ drop (length ns - 1) (replicate MOST_SITES 0); red = get_or ns 0 0 }
+    ≡ clock_of_counts (length ns - 1) (slice_set ns own e)
+many_past [] xs own e some same past = absurd (omega (arith, some))
+many_past (n ∷ ms) xs own e some same past =
+    let k = suc (length ms) - 1 in
+    ap (λ ks. record { blue = ks; red = n }) (behind_red n k ms xs refl same ∙ ap padded (sym (take_all k ms (omega arith))))
+    ∙ ap (clock_of_counts k) (sym (set_past (n ∷ ms) own e past))
+
+-- the clock of a large bank whose own entry is that of a site
+pub many_blue : (ns xs : List ℕ) (own e : ℕ) → 0 < length ns → xs ≡ take (length ns - 1) (drop 1 ns) → 0 < own → own < length ns →
+    record { blue = slice_set (xs ++ drop (length ns - 1) (replicate MOST_SITES 0)) (own - 1) e; red = get_or ns 0 0 }
+    ≡ clock_of_counts (length ns - 1) (slice_set ns own e)
+many_blue [] xs own e some same blue near = absurd (omega (arith, some))
+many_blue (n ∷ ms) xs zero e some same blue near = absurd (omega (arith, blue))
+many_blue (n ∷ ms) xs (suc o) e some same blue near =
+    let k = suc (length ms) - 1 in
+    let before : suc o - 1 ≡ o = omega arith in
+    let long = length-set ms o e in
+    ap (λ ks. record { blue = slice_set ks (suc o - 1) e; red = n }) (behind_red n k ms xs refl same)
+    ∙ ap (λ j. record { blue = slice_set (padded ms) j e; red = n }) before
+    ∙ ap (λ ks. record { blue = ks; red = n }) (set-append_left ms (replicate (MOST_SITES - length ms) 0) o e (omega (arith, near))
+    ∙ ap (λ j. slice_set ms o e ++ replicate (MOST_SITES - j) 0) (sym long)
+    ∙ ap padded (sym (take_all k (slice_set ms o e) (omega (arith, long)))))
+
+-- the same of one whose own entry is known
+pub cut_counts : (w m r n : ℕ) (ns : List ℕ) → m ≡ w + 1 → w + 1 ≤ length ns →
+    clock_of_counts (length (take m ns) - 1) (slice_set (take m ns) r n) ≡ clock_of_counts w (slice_set ns r n)
+cut_counts w m r n ns is many =
+    let one : m ≡ suc w = omega (arith, is) in
+    let long : length (take m ns) - 1 ≡ w = omega (arith, is, length-take-le m ns (omega (arith, is, many))) in
+    ap (λ k. clock_of_counts k (slice_set (take m ns) r n)) long
+    ∙ ap (λ k. clock_of_counts w (slice_set (take k ns) r n)) one
+    ∙ ap (clock_of_counts w) (set_take (suc w) r n ns)
+    ∙ cut_clock w (slice_set ns r n)
 
 -- the kind of the operation at an index
 pub kind_at : (w : ℕ) (bs : List Body) (ns : List ℕ) (i : ℕ) (b : Body) (d : Shadow) → i < length bs → b ≡ get_or bs i b →
-    kind_of b.kind ≡ (get_or (operations_of w bs ns) i d).kind
+    b.kind ≡ (get_or (operations_of w bs ns) i d).kind
 kind_at w [] ns i b d near is = absurd (omega (arith, near))
-kind_at w (c ∷ bs) ns zero b d near is = ap (λ (x : Body). kind_of x.kind) is
+kind_at w (c ∷ bs) ns zero b d near is = ap (λ (x : Body). x.kind) is
 kind_at w (c ∷ bs) ns (suc i) b d near is = kind_at w bs ns i b d (omega (arith, near)) is
 
 -- more behind what is kept of an operation's clock changes nothing
 same_counts : (w : ℕ) (b : Body) (ns ms : List ℕ) → w + 1 ≤ length ns → with_counts w b (ns ++ ms) ≡ with_counts w b ns
-same_counts w b [] ms many = absurd (omega (arith, many))
-same_counts w b (n ∷ ns) ms many =
-    ap (λ ks. with_clock b (lowered (record { blue = padded ks; red = n }) b.name)) (take-append-le w ns ms (omega (arith, many)))
+same_counts w b ns ms many =
+    let r = row_of (kept_name b.colour b.home b.number) in
+    let n = b.number - 1 in
+    ap (with_clock b) (sym (cut_clock w (slice_set (ns ++ ms) r n))
+    ∙ ap (clock_of_counts w) (sym (set_take (suc w) r n (ns ++ ms))
+    ∙ ap (λ ks. slice_set ks r n) (take-append-le (suc w) ns ms (omega (arith, many)))
+    ∙ set_take (suc w) r n ns)
+    ∙ cut_clock w (slice_set ns r n))
 
 -- nor does more behind all clocks
 pub same_operations : (w k : ℕ) (bs : List Body) (ns ms : List ℕ) → AreInOrder k bs → clock_count k bs * (w + 1) ≤ length ns →
@@ -257,75 +316,65 @@ set_append (x ∷ xs) (y ∷ ys) zs (suc o) n same =
     ap (λ ks. slice_index ks 0 ∷ slice_set (xs ++ zs) o n) same
     ∙ ap (λ ks. y ∷ ks) (set_append xs ys zs o n (ap (drop 1) same))
 
+-- a name is what is kept of it, where a blue one's site is the home
+name_again : (x : OpName) (home : ℕ) → is_foreign x home ≡ false → kept_name (shown_colour x) home (number_of x) ≡ x
+name_again (Blue i n) home own = ap (λ k. Blue k n) (let same : home ≡ i = grind (arith, nat_tests) in same)
+name_again (Red n) home own = refl
+
 -- an operation is what is kept of it
-pub whole_again : (w n : ℕ) (ns : List ℕ) (v : Shadow) (k : KeptKind) → kind_of k ≡ v.kind →
-    lowered (clock_of_counts w (drop (n * (w + 1)) ns)) v.name ≡ v.deps →
-    with_counts w (record { name = v.name; kind = k; clock = n; home = v.home; account = v.account; amount = v.amount }) (drop (n * (w + 1)) ns)
-    ≡ v
-whole_again w n ns v k kind clock =
-    λ j. record { name = v.name; home = v.home; account = v.account; deps = clock j; amount = v.amount; kind = kind j }
+pub whole_again : (w n : ℕ) (ns : List ℕ) (v : Shadow) (k : Colour) (m : ℕ) → k ≡ shown_colour v.name → m ≡ number_of v.name →
+    is_foreign v.name v.home ≡ false →
+    clock_of_counts w (slice_set (drop (n * (w + 1)) ns) (row_of v.name) (number_of v.name - 1)) ≡ v.deps →
+    with_counts w (record { colour = k; home = v.home; account = v.account; number = m; kind = v.kind; clock = n; amount = v.amount })
+    (drop (n * (w + 1)) ns) ≡ v
+whole_again w n ns v k m colour number own clock =
+    let name = ap (λ j. kept_name j v.home m) colour ∙ ap (kept_name (shown_colour v.name) v.home) number ∙ name_again v.name v.home own in
+    let same = ap (λ x. clock_of_counts w (slice_set (drop (n * (w + 1)) ns) (row_of x) (m - 1))) name
+    ∙ ap (λ j. clock_of_counts w (slice_set (drop (n * (w + 1)) ns) (row_of v.name) (j - 1))) number ∙ clock in
+    λ j. record { name = name j; home = v.home; account = v.account; deps = same j; amount = v.amount; kind = v.kind }
 
--- what is kept of two clocks that are the same but for a name's own entry is of one clock of that name
-same_lowered : (w : ℕ) (ns ms : List ℕ) (x : OpName) → length ns ≡ w + 1 → length ms ≡ w + 1 →
-    ((n : ℕ) → slice_set ns (row_of x) n ≡ slice_set ms (row_of x) n) → lowered (clock_of_counts w ns) x ≡ lowered (clock_of_counts w ms) x
-same_lowered w [] ms x many all same = absurd (omega (arith, many))
-same_lowered w (r ∷ ns) [] x many all same = absurd (omega (arith, all))
-same_lowered w (r ∷ ns) (q ∷ ms) (Red n) many all same = ap (λ ks. record { blue = padded (take w (drop 1 ks)); red = n - 1 }) (same n)
-same_lowered w (r ∷ ns) (q ∷ ms) (Blue i n) many all same =
-    let whole : take w ns ≡ ns = take_all w ns (omega (arith, many)) in
-    let full : take w ms ≡ ms = take_all w ms (omega (arith, all)) in
-    let counted : MOST_SITES - length ns ≡ MOST_SITES - length ms = omega (arith, many, all) in
-    let first : r ≡ q = ap (λ ks. slice_index ks 0) (same (n - 1)) in
-    let behind : slice_set (padded ns) i (n - 1) ≡ slice_set (ns ++ replicate (MOST_SITES - length ms) 0) i (n - 1) =
-    ap (λ k. slice_set (ns ++ replicate k 0) i (n - 1)) counted in
-    let entries : slice_set (padded ns) i (n - 1) ≡ slice_set (padded ms) i (n - 1) =
-    behind ∙ set_append ns ms (replicate (MOST_SITES - length ms) 0) i (n - 1) (ap (drop 1) (same (n - 1))) in
-    let blue : slice_set (padded (take w ns)) i (n - 1) ≡ slice_set (padded (take w ms)) i (n - 1) =
-    ap (λ ks. slice_set (padded ks) i (n - 1)) whole ∙ entries ∙ ap (λ ks. slice_set (padded ks) i (n - 1)) (sym full) in
-    λ j. record { blue = blue j; red = first j }
+-- a list of the first items with one of them as it is
+set_same : (w i : ℕ) (ns : List ℕ) → slice_set (take w ns) i (slice_index ns i) ≡ take w ns
+set_same w i ns = set_take w i (slice_index ns i) ns ∙ ap (take w) (set-get_or ns i 0)
 
--- a clock whose own entry is just below the name's number
-own_kept : (d : Deps) (x : OpName) → entry_of d x + 1 ≡ number_of x → lowered d x ≡ d
-own_kept d (Red n) own = ap (λ k. record { blue = d.blue; red = k }) (let is : n - 1 ≡ d.red = omega (arith, own) in is)
-own_kept d (Blue i n) own =
+-- what is kept of a clock, with the own entry that it has
+own_kept : (w : ℕ) (d : Deps) (x : OpName) → entry_of d x + 1 ≡ number_of x →
+    slice_set (d.red ∷ take w d.blue) (row_of x) (number_of x - 1) ≡ d.red ∷ take w d.blue
+own_kept w d (Red n) own = ap (λ k. k ∷ take w d.blue) (let is : n - 1 ≡ d.red = omega (arith, own) in is)
+own_kept w d (Blue i n) own =
     let is : n - 1 ≡ slice_index d.blue i = omega (arith, own) in
-    ap (λ k. record { blue = slice_set d.blue i k; red = d.red }) is
-    ∙ ap (λ ks. record { blue = ks; red = d.red }) (set-get_or d.blue i 0)
+    ap (λ k. d.red ∷ slice_set (take w d.blue) i k) is ∙ ap (λ ks. d.red ∷ ks) (set_same w i d.blue)
 
--- the red entry and the first entries of a clock that has no others are all of it, with the own entry that it has
+-- the red entry and the first entries of a clock that has no others are all of it
 pub kept_whole : (w : ℕ) (d : Deps) (x : OpName) → IsOfSites w d → length d.blue ≡ MOST_SITES → entry_of d x + 1 ≡ number_of x →
-    lowered (clock_of_counts w (d.red ∷ take w d.blue)) x ≡ d
+    clock_of_counts w (slice_set (d.red ∷ take w d.blue) (row_of x) (number_of x - 1)) ≡ d
 kept_whole w d x sites full own =
-    ap (λ ks. lowered (record { blue = padded ks; red = d.red }) x) (take-take w w d.blue (omega arith))
-    ∙ ap (λ ks. lowered (record { blue = ks; red = d.red }) x) (whole_clock w d sites full)
-    ∙ own_kept d x own
+    ap (clock_of_counts w) (own_kept w d x own)
+    ∙ ap (λ ks. record { blue = padded ks; red = d.red }) (take-take w w d.blue (omega arith))
+    ∙ ap (λ ks. record { blue = ks; red = d.red }) (whole_clock w d sites full)
 
 -- a clock is what is kept last, where the two are the same but for the own entry
-pub kept_last : (w n k : ℕ) (ns ks : List ℕ) (d : Deps) (x : OpName) → IsOfSites w d → length d.blue ≡ MOST_SITES → w ≤ MOST_SITES →
-    entry_of d x + 1 ≡ number_of x → length ns ≡ n * (w + 1) → 0 < n → k ≡ length ns - (w + 1) → ks ≡ drop k ns →
-    ((m : ℕ) → slice_set ks (row_of x) m ≡ slice_set (d.red ∷ take (length ks - 1) d.blue) (row_of x) m) →
-    lowered (clock_of_counts w (drop ((n - 1) * (w + 1)) ns)) x ≡ d
-kept_last w zero k ns ks d x sites full few own count some at cut same = absurd (omega (arith, some))
-kept_last w (suc n) k ns ks d x sites full few own count some at cut same =
+pub kept_last : (w n : ℕ) (ns : List ℕ) (d : Deps) (x : OpName) → IsOfSites w d → length d.blue ≡ MOST_SITES →
+    entry_of d x + 1 ≡ number_of x → length ns ≡ n * (w + 1) → 0 < n →
+    ((m : ℕ) → slice_set (drop (length ns - (w + 1)) ns) (row_of x) m ≡ slice_set (d.red ∷ take w d.blue) (row_of x) m) →
+    clock_of_counts w (slice_set (drop ((n - 1) * (w + 1)) ns) (row_of x) (number_of x - 1)) ≡ d
+kept_last w zero ns d x sites full own count some same = absurd (omega (arith, some))
+kept_last w (suc n) ns d x sites full own count some same =
     let back : suc n - 1 ≡ n = omega arith in
-    let here : n * (w + 1) ≡ k = omega (arith, count, at) in
-    let long : length ks ≡ w + 1 = omega (arith, ap length cut, length-drop k ns, count, at) in
-    let less : length ks - 1 ≡ w = omega (arith, long) in
-    ap (λ j. lowered (clock_of_counts w (drop (j * (w + 1)) ns)) x) back
-    ∙ ap (λ j. lowered (clock_of_counts w (drop j ns)) x) here
-    ∙ ap (λ js. lowered (clock_of_counts w js) x) (sym cut)
-    ∙ same_lowered w ks (d.red ∷ take w d.blue) x long (omega (arith, length-take-le w d.blue (omega (arith, full, few))))
-    (λ m. same m ∙ ap (λ j. slice_set (d.red ∷ take j d.blue) (row_of x) m) less)
+    let here : n * (w + 1) ≡ length ns - (w + 1) = omega (arith, count) in
+    ap (λ j. clock_of_counts w (slice_set (drop (j * (w + 1)) ns) (row_of x) (number_of x - 1))) back
+    ∙ ap (λ j. clock_of_counts w (slice_set (drop j ns) (row_of x) (number_of x - 1))) here
+    ∙ ap (clock_of_counts w) (same (number_of x - 1))
     ∙ kept_whole w d x sites full own
 
 -- what is kept behind the others
 pub kept_behind : (w n : ℕ) (ns ms : List ℕ) (d : Deps) (x : OpName) → IsOfSites w d → length d.blue ≡ MOST_SITES →
     entry_of d x + 1 ≡ number_of x → length ns ≡ n * (w + 1) → ms ≡ ns ++ d.red ∷ take w d.blue →
-    lowered (clock_of_counts w (drop (n * (w + 1)) ms)) x ≡ d
+    clock_of_counts w (slice_set (drop (n * (w + 1)) ms) (row_of x) (number_of x - 1)) ≡ d
 kept_behind w n ns ms d x sites full own count is =
-    ap (λ js. lowered (clock_of_counts w (drop (n * (w + 1)) js)) x) is
-    ∙ ap (λ j. lowered (clock_of_counts w (drop j (ns ++ d.red ∷ take w d.blue))) x) (sym count)
-    ∙ ap (λ js. lowered (clock_of_counts w js) x) (drop-append_seam ns (d.red ∷ take w d.blue))
+    ap (λ js. clock_of_counts w (slice_set (drop (n * (w + 1)) js) (row_of x) (number_of x - 1))) is
+    ∙ ap (λ j. clock_of_counts w (slice_set (drop j (ns ++ d.red ∷ take w d.blue)) (row_of x) (number_of x - 1))) (sym count)
+    ∙ ap (λ js. clock_of_counts w (slice_set js (row_of x) (number_of x - 1))) (drop-append_seam ns (d.red ∷ take w d.blue))
     ∙ kept_whole w d x sites full own
 
 -- what is 0 past some sites is 0 past more

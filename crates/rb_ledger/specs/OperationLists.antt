@@ -1,19 +1,15 @@
 -- What lists of operations are.
-use Rattle.std.specs.Prelude.{◌≡◌, ◌⊎◌, true, ℕ, ◌+◌, ◌-◌, ◌*◌, List, [], ◌∷◌, ◌++◌, length, map, take, drop, replicate, slice_index}
+use Rattle.std.specs.Prelude.{◌≡◌, ◌⊎◌, true, ℕ, ◌+◌, ◌-◌, ◌*◌, List, [], ◌∷◌, ◌++◌, length, map, take, drop, replicate, slice_index, slice_set}
 use Rattle.rb_money.specs.declared.limits.TheConstants.{MOST_SITES}
 use Rattle.rb_shadow.specs.declared.deps.Deps.{Deps}
 use Rattle.rb_shadow.specs.declared.shadow.Shadow.{Shadow}
 use Rattle.rb_shadow.specs.Sound.{are_entries}
-use Rattle.rb_shadow.specs.declared.kind.Kind.{Kind}
-use Rattle.rb_shadow.specs.declared.kind.Kind.TheVariants.{Deposit, Withdraw, Declined, Interest, Cancel, Transfer}
+use Rattle.rb_shadow.specs.declared.colour.Colour.{Colour}
+use Rattle.rb_shadow.specs.declared.colour.Colour.TheVariants.{Blue as BlueColour, Red as RedColour}
+use Rattle.rb_shadow.specs.declared.op_name.OpName.{OpName}
 use Rattle.rb_shadow.specs.declared.op_name.OpName.TheVariants.{Blue, Red}
-use Rattle.rb_vclock.specs.Clocks.{lowered}
+use Rattle.rb_shadow.specs.Operations.{row_of}
 use Rattle.rb_ledger.specs.declared.body.Body.{Body}
-use Rattle.rb_ledger.specs.declared.kept_kind.KeptKind.{KeptKind}
-use Rattle.rb_ledger.specs.declared.kept_kind.KeptKind.TheVariants.{CancelBlue, CancelRed}
-use Rattle.rb_ledger.specs.declared.kept_kind.KeptKind.TheVariants.{Deposit as KeptDeposit, Withdraw as KeptWithdraw}
-use Rattle.rb_ledger.specs.declared.kept_kind.KeptKind.TheVariants.{Declined as KeptDeclined, Interest as KeptInterest}
-use Rattle.rb_ledger.specs.declared.kept_kind.KeptKind.TheVariants.{Transfer as KeptTransfer}
 
 -- the operations, of how many sites their clocks' entries are kept, at least three, and for how many operations there is
 -- memory
@@ -34,23 +30,25 @@ IsOfSites sites d = (limit : ℕ) × (are_entries sites limit d.blue ≡ true)
 abbrev pub clock_of_counts : ℕ → List ℕ → Deps
 clock_of_counts sites ns = record { blue = padded (take sites (drop 1 ns)); red = slice_index ns 0 }
 
--- the kind of what is kept of it
-abbrev pub kind_of : KeptKind → Kind
-kind_of KeptDeposit = Deposit
-kind_of KeptWithdraw = Withdraw
-kind_of KeptDeclined = Declined
-kind_of KeptInterest = Interest
-kind_of (CancelBlue i n) = Cancel (Blue i n)
-kind_of (CancelRed n) = Cancel (Red n)
-kind_of (KeptTransfer to) = Transfer to
+-- the name of a colour and a number of an operation of this home: a blue one's site is the home
+abbrev pub kept_name : Colour → ℕ → ℕ → OpName
+kept_name BlueColour home n = Blue home n
+kept_name RedColour home n = Red n
 
 -- an operation of what it is without its clock, and its clock
 abbrev pub with_clock : Body → Deps → Shadow
-with_clock b d = record { name = b.name; home = b.home; account = b.account; deps = d; amount = b.amount; kind = kind_of b.kind }
+with_clock b d = record {
+  name = kept_name b.colour b.home b.number;
+  home = b.home;
+  account = b.account;
+  deps = d;
+  amount = b.amount;
+  kind = b.kind;
+}
 
 -- an operation, by what is kept of it: its own entry is its number less 1, whatever is kept there
 abbrev pub with_counts : ℕ → Body → List ℕ → Shadow
-with_counts sites b ns = with_clock b (lowered (clock_of_counts sites ns) b.name)
+with_counts sites b ns = with_clock b (clock_of_counts sites (slice_set ns (row_of (kept_name b.colour b.home b.number)) (b.number - 1)))
 
 -- the operations, by what is kept of them: the clocks stand one after another, and each operation has its clock's number
 abbrev pub operations_of : ℕ → List Body → List ℕ → List Shadow

@@ -1,17 +1,37 @@
 //! What an operation is beside its clock's entries.
+ghost use Rattle.std.specs.Prelude.{◌≡◌};
+ghost use Rattle.rb_ledger.specs.OperationLists.{kept_name};
 
-use crate::kept_kind::KeptKind;
 use rb_money::Place;
-use rb_shadow::OpName;
+use rb_shadow::{Colour, Kind, OpName};
 
-/// An operation without the entries of its clock. The fields lie in this order, which takes 32 bytes.
+/// An operation without the entries of its clock. The fields lie in this order, in 32 bytes: of the name there is no
+/// site, as a blue one's is the home.
 #[derive(Clone, Copy)]
 pub struct Body {
-    pub name: OpName,
-    pub kind: KeptKind,
-    /// The number of its clock, from 0, among those that are kept.
-    pub clock: u32,
+    pub colour: Colour,
     pub home: u8,
     pub account: Place,
+    /// The number in the name.
+    pub number: u32,
+    pub kind: Kind,
+    /// The number of its clock, from 0, among those that are kept.
+    pub clock: u32,
     pub amount: u64,
+}
+
+impl Body {
+    /// The operation's name.
+    #[inline(always)]
+    pub fn name(&self) -> OpName
+        ensures { result ≡ kept_name self.now.colour self.now.home self.now.number }
+    {
+        match self.colour {
+            Colour::Blue => OpName::Blue {
+                site: self.home,
+                n: self.number,
+            },
+            Colour::Red => OpName::Red { n: self.number },
+        }
+    }
 }

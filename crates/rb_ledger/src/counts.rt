@@ -3,7 +3,6 @@ ghost use Rattle.std.specs.Prelude.{◌≡◌, ◌⊎◌, ◌-◌, ◌+◌, ◌*
 ghost use Rattle.std.specs.Prelude.{IsTrue, List, ℕ};
 ghost use Rattle.rb_money.specs.declared.limits.TheConstants.{MOST_SITES};
 ghost use Rattle.rb_shadow.specs.Operations.{entry_of, number_of, row_of};
-ghost use Rattle.rb_vclock.specs.Clocks.{lowered};
 ghost use Rattle.rb_ledger.specs.declared.counts.TheConstants.{FEW_SITES};
 ghost use Rattle.rb_ledger.specs.OperationLists.{clock_of_counts, IsOfSites};
 
@@ -27,42 +26,64 @@ pub fn keep_clock(counts: &mut Vec<u32>, count: usize, shadow: &Shadow, sites: u
     ensures number { (result ≡ count) ⊎ (result + 1 ≡ count) }
     ensures count { length counts.new.items ≡ (result + 1) * (sites + 1) }
     ensures more { (ns : List ℕ) × (counts.new.items ≡ counts.old.items ++ ns) }
-    ensures clock { lowered (clock_of_counts sites (drop (result * (sites + 1)) counts.new.items)) shadow.now.name
-        ≡ shadow.now.deps }
+    ensures clock { clock_of_counts sites (slice_set (drop (result * (sites + 1)) counts.new.items)
+        (row_of shadow.now.name) (number_of shadow.now.name - 1)) ≡ shadow.now.deps }
     ensures capacity { vec_capacity counts.old ≤ vec_capacity counts.new }
 {
-    let deps = &shadow.deps;
-    if count > 0 {
-        let last = &counts[counts.len() - (sites + 1)..];
-        if is_same(last, deps.red, &deps.blue, shadow.name.row()) {
-            return count - 1;
-        }
+    if count > 0 && is_last(counts, &shadow.deps, shadow.name, sites) {
+        return count - 1;
     }
-    push_counts(counts, deps.red, &deps.blue, sites);
+    push_counts(counts, shadow.deps.red, &shadow.deps.blue, sites);
     count
 }
 
-/// Whether what is kept is that of a clock, but for the entry of a row. Each entry is looked at, as several are
-/// compared at once.
+/// Whether a clock is the one that is kept last, but for the entry of a name.
 #[inline(always)]
-fn is_same(kept: &[u32], red: u32, blue: &[u32], own: usize) -> bool
-    requires all { length blue.now ≡ MOST_SITES }
-    requires least { FEW_SITES + 1 ≤ length kept.now }
-    requires most { length kept.now ≤ MOST_SITES + 1 }
-    ensures same { IsTrue result → (n : ℕ) →
-        slice_set kept.now own n ≡ slice_set (red ∷ take (length kept.now - 1) blue.now) own n }
-    ensures all { length blue.now ≡ MOST_SITES }
+fn is_last(counts: &[u32], deps: &Deps, name: OpName, sites: usize) -> bool
+    requires least { FEW_SITES ≤ sites }
+    requires most { sites ≤ MOST_SITES }
+    requires some { sites + 1 ≤ length counts.now }
+    ensures same { IsTrue result → (n : ℕ) → slice_set (drop (length counts.now - (sites + 1)) counts.now) (row_of name) n
+        ≡ slice_set (deps.now.red ∷ take sites deps.now.blue) (row_of name) n }
+    ensures all { length deps.now.blue ≡ MOST_SITES }
 {
-    if kept.len() > FEW_SITES + 1 {
-        return is_same_of_many(kept, red, blue, own);
+    if sites > FEW_SITES {
+        let kept = &counts[counts.len() - (sites + 1)..];
+        return is_same_of_many(kept, deps.red, &deps.blue, name.row());
     }
-    ((own == 0) | (kept[0] == red))
-        & ((own == 1) | (kept[1] == blue[0]))
-        & ((own == 2) | (kept[2] == blue[1]))
-        & ((own == 3) | (kept[3] == blue[2]))
+    is_same(
+        &counts[counts.len() - (FEW_SITES + 1)..],
+        deps.red,
+        &deps.blue,
+        name,
+    )
 }
 
-/// The same of any number of sites.
+/// Whether what is kept for a small bank is that of a clock, but for the entry of a name.
+#[inline(always)]
+fn is_same(kept: &[u32], red: u32, blue: &[u32], name: OpName) -> bool
+    requires all { length blue.now ≡ MOST_SITES }
+    requires few { length kept.now ≡ FEW_SITES + 1 }
+    ensures { IsTrue result → (n : ℕ) →
+        slice_set kept.now (row_of name) n ≡ slice_set (red ∷ take FEW_SITES blue.now) (row_of name) n }
+{
+    match name {
+        OpName::Red { .. } => { (kept[1] == blue[0]) & (kept[2] == blue[1]) & (kept[3] == blue[2]) }
+        OpName::Blue { site: 0, .. } => {
+            (kept[0] == red) & (kept[2] == blue[1]) & (kept[3] == blue[2])
+        }
+        OpName::Blue { site: 1, .. } => {
+            (kept[0] == red) & (kept[1] == blue[0]) & (kept[3] == blue[2])
+        }
+        OpName::Blue { site: 2, .. } => {
+            (kept[0] == red) & (kept[1] == blue[0]) & (kept[2] == blue[1])
+        }
+        OpName::Blue { .. } => false,
+    }
+}
+
+/// The same of any number of sites, but for the entry of a row. Each entry is looked at, as several are compared at
+/// once.
 #[inline(never)]
 fn is_same_of_many(kept: &[u32], red: u32, blue: &[u32], own: usize) -> bool
     requires all { length blue.now ≡ MOST_SITES }
@@ -113,56 +134,43 @@ fn push_many(counts: &mut Vec<u32>, red: u32, blue: &[u32], sites: usize)
     }
 }
 
-/// The clock of an operation of a name, of what is kept of it.
+/// The clock of what is kept of it, but for the entry of a row.
 #[inline(always)]
-pub fn clock(counts: &[u32], name: OpName) -> Deps
+pub fn clock(counts: &[u32], own: usize, entry: u32) -> Deps
     requires least { FEW_SITES + 1 ≤ length counts.now }
     requires most { length counts.now ≤ MOST_SITES + 1 }
-    ensures { result ≡ lowered (clock_of_counts (length counts.now - 1) counts.now) name }
-{
-    let mut deps = kept_clock(counts);
-    match name {
-        OpName::Blue { site, n } => {
-            if usize::from(site) < MOST_SITES {
-                deps.blue[usize::from(site)] = n.saturating_sub(1);
-            }
-        }
-        OpName::Red { n } => deps.red = n.saturating_sub(1),
-    }
-    deps
-}
-
-/// The clock of what is kept of it, its own entry among it.
-#[inline(always)]
-fn kept_clock(counts: &[u32]) -> Deps
-    requires least { FEW_SITES + 1 ≤ length counts.now }
-    requires most { length counts.now ≤ MOST_SITES + 1 }
-    ensures { result ≡ clock_of_counts (length counts.now - 1) counts.now }
+    ensures { result ≡ clock_of_counts (length counts.now - 1) (slice_set counts.now own entry) }
 {
     if counts.len() > FEW_SITES + 1 {
-        return clock_of_many(counts);
+        return clock_of_many(counts, own, entry);
+    }
+    let mut kept = [counts[0], counts[1], counts[2], counts[3]];
+    if own < kept.len() {
+        kept[own] = entry;
     }
     let mut blue = [0; MOST_SITES];
-    blue[0] = counts[1];
-    blue[1] = counts[2];
-    blue[2] = counts[3];
-    Deps {
-        blue,
-        red: counts[0],
-    }
+    blue[0] = kept[1];
+    blue[1] = kept[2];
+    blue[2] = kept[3];
+    Deps { blue, red: kept[0] }
 }
 
 /// The same of any number of sites.
 #[inline(never)]
-fn clock_of_many(counts: &[u32]) -> Deps
+fn clock_of_many(counts: &[u32], own: usize, entry: u32) -> Deps
     requires some { 0 < length counts.now }
     requires most { length counts.now ≤ MOST_SITES + 1 }
-    ensures { result ≡ clock_of_counts (length counts.now - 1) counts.now }
+    ensures { result ≡ clock_of_counts (length counts.now - 1) (slice_set counts.now own entry) }
 {
     let mut blue = [0; MOST_SITES];
     blue[..counts.len() - 1].copy_from_slice(&counts[1..]);
-    Deps {
-        blue,
-        red: counts[0],
+    if own == 0 {
+        return Deps { blue, red: entry };
     }
+    let red = counts[0];
+    if own >= counts.len() {
+        return Deps { blue, red };
+    }
+    blue[own - 1] = entry;
+    Deps { blue, red }
 }

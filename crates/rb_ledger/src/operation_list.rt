@@ -1,15 +1,15 @@
 //! The operations of a ledger, in their order.
 ghost use Rattle.std.specs.Prelude.{◌≡◌, ◌↔◌, ◌-◌, ◌+◌, ◌<◌, ◌≤◌, ◌++◌, ◌∷◌, [], length, take, drop, OnOk, IfOk};
-ghost use Rattle.std.specs.Prelude.{IsTrue, slice_get, slice_index_or};
+ghost use Rattle.std.specs.Prelude.{IsTrue, false, slice_get, slice_index_or};
 ghost use Rattle.rb_money.specs.declared.limits.TheConstants.{MOST_OPERATIONS, MOST_SITES};
 ghost use Rattle.rb_shadow.specs.declared.shadow.Shadow.{Shadow as TheShadow};
 ghost use Rattle.rb_shadow.specs.Operations.{entry_of, number_of, receiver_of};
+ghost use Rattle.rb_shadow.specs.Sound.{is_foreign};
 ghost use Rattle.rb_ledger.specs.OperationLists.{IsOfSites, clock_count};
 
 use crate::OperationRef;
 use crate::body::Body;
 use crate::counts::{FEW_SITES, keep_clock};
-use crate::kept_kind::KeptKind;
 use crate::prefix::Prefix;
 use rb_money::Place;
 use rb_shadow::Shadow;
@@ -151,6 +151,7 @@ impl OperationList {
         requires room { length self.old.items < self.old.limit }
         requires few { length self.old.items < MOST_OPERATIONS }
         requires sites { IsOfSites self.old.sites shadow.now.deps }
+        requires home { is_foreign shadow.now.name shadow.now.home ≡ false }
         requires own { entry_of shadow.now.deps shadow.now.name + 1 ≡ number_of shadow.now.name }
         ensures items { self.new.items ≡ self.old.items ++ shadow.now ∷ [] }
         ensures sites { self.new.sites ≡ self.old.sites }
@@ -159,11 +160,12 @@ impl OperationList {
         let count = kept_clocks(&self.bodies);
         let clock = keep_clock(&mut self.counts, count, shadow, self.sites);
         self.bodies.push_reserved(Body {
-            name: shadow.name,
-            kind: KeptKind::new(shadow.kind),
-            clock: clock as u32,
+            colour: shadow.name.colour(),
             home: shadow.home,
             account: shadow.account,
+            number: shadow.name.number(),
+            kind: shadow.kind,
+            clock: clock as u32,
             amount: shadow.amount,
         });
     }

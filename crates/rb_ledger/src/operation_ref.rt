@@ -37,7 +37,7 @@ impl<'a> OperationRef<'a> {
     pub fn name(&self) -> OpName
         ensures { result ≡ self.now.name }
     {
-        self.body.name
+        self.body.name()
     }
 
     /// The operation.
@@ -46,13 +46,15 @@ impl<'a> OperationRef<'a> {
         ensures { result ≡ self.now }
     {
         let body = self.body;
+        let name = body.name();
+        let entry = body.number.saturating_sub(1);
         Shadow {
-            name: body.name,
+            name,
             home: body.home,
             account: body.account,
-            deps: clock(self.counts, body.name),
+            deps: clock(self.counts, name.row(), entry),
             amount: body.amount,
-            kind: body.kind.kind(),
+            kind: body.kind,
         }
     }
 }

@@ -210,3 +210,6 @@ push-requires-3-clause-few c =
 
 pub push-requires-3-clause-own : goal.push-requires-3-clause-own
 push-requires-3-clause-own c = (SoundFacts.is_next _ c.args.shadow.now (Legal.IsValid-last _ _ c.args.shadow.now c.requires).sound).own
+
+pub push-requires-3-clause-home : goal.push-requires-3-clause-home
+push-requires-3-clause-home c = (SoundFacts.sound_facts _ c.args.shadow.now (Legal.IsValid-last _ _ c.args.shadow.now c.requires).sound).own

@@ -1,9 +1,9 @@
 use Rattle.std.proofs.Common.{◌≡◌, ◌+◌, ◌-◌, ◌*◌, ◌≤◌, ap, sym, ◌∙◌, arith, length, take, drop, refl, Some}
-use Rattle.std.specs.Prelude.{slice_get}
+use Rattle.std.specs.Prelude.{slice_get, slice_set}
 use Rattle.std.proofs.lemmas.List.{length-drop}
 use Rattle.std.proofs.lemmas.Option.{slice_get_read}
-use Rattle.rb_vclock.specs.Clocks.{lowered}
-use Rattle.rb_ledger.specs.OperationLists.{OperationTable, clock_of_counts, with_clock}
+use Rattle.rb_shadow.specs.Operations.{row_of}
+use Rattle.rb_ledger.specs.OperationLists.{OperationTable, clock_of_counts, kept_name, with_clock}
 use Rattle.rb_ledger.proofs.ReadItems
 use Rattle.rb_ledger.proofs.OperationTables
 use Rattle.rb_ledger.proofs.operation_list.OperationList.at.Goals as goal
@@ -40,7 +40,10 @@ returns c =
     let room = OperationTables.clock_room w _ ns c.args.index body c.self.invariant.order c.self.invariant.counts there in
     let m = k + w + 1 - k in
     let many : w + 1 ≤ length (drop k ns) = omega (arith, room, length-drop k ns) in
-    ap (λ d. Some (with_clock body (lowered d body.name))) (ap (λ xs. clock_of_counts (length (take m (drop k xs)) - 1) (take m (drop k xs))) c.deref-2.ensures.value
-    ∙ OperationTables.cut_clock w m (drop k ns) (omega arith) many)
+    let r = row_of (kept_name body.colour body.home body.number) in
+    let n = body.number - 1 in
+    ap (λ d. Some (with_clock body d)) (ap (λ xs. clock_of_counts (length (take m (drop k xs)) - 1) (slice_set (take m (drop k xs)) r n))
+    c.deref-2.ensures.value
+    ∙ OperationTables.cut_counts w m r n (drop k ns) (omega arith) many)
     ∙ sym (OperationTables.one_at w _ ns c.args.index body there)
     ∙ ap (λ (t : OperationTable). slice_get t.items c.args.index) c.self.view_is

@@ -63,7 +63,15 @@ returns-clause-items c =
     let w = c.self.inside.sites in
     let v = c.args.shadow.now in
     let n = c.keep_clock-clock.result in
-    let body : Body = record { name = v.name; kind = c.new.result; clock = n; home = v.home; account = v.account; amount = v.amount } in
+    let body : Body = record {
+      colour = c.colour.result;
+      home = v.home;
+      account = v.account;
+      number = c.number.result;
+      kind = v.kind;
+      clock = n;
+      amount = v.amount;
+    } in
     let bs = c.self.inside.bodies.items in
     let ns = c.self.inside.counts.items in
     let (more, longer) = c.keep_clock-clock.ensures.more in
@@ -71,5 +79,5 @@ returns-clause-items c =
     ∙ ap (operations_of w (bs ++ body ∷ [])) longer
     ∙ OperationTables.pushed w bs ns more body c.self.invariant.order c.self.invariant.counts
     ∙ ap (λ ms. operations_of w bs ns ++ with_counts w body (drop (n * (w + 1)) ms) ∷ []) (sym longer)
-    ∙ ap (λ u. operations_of w bs ns ++ u ∷ []) (OperationTables.whole_again w n _ v c.new.result c.new.ensures c.keep_clock-clock.ensures.clock)
+    ∙ ap (λ u. operations_of w bs ns ++ u ∷ []) (OperationTables.whole_again w n _ v _ _ c.colour.ensures c.number.ensures c.requires.home c.keep_clock-clock.ensures.clock)
     ∙ ap (λ (t : OperationTable). t.items ++ v ∷ []) c.self.view_is
