@@ -48,7 +48,7 @@ none_in_order [] none = tt
 none_in_order (b ∷ bs) none = cc
 
 -- no fewer clocks are kept for more operations
-pub none_above : (k : ℕ) (bs : List Body) → AreInOrder k bs → k ≤ clock_count k bs
+none_above : (k : ℕ) (bs : List Body) → AreInOrder k bs → k ≤ clock_count k bs
 unfolding AreInOrder
 none_above k [] are = omega arith
 none_above k (b ∷ bs) (inl next, are) = omega (arith, next, none_above (b.clock + 1) bs are)
@@ -62,7 +62,7 @@ few_clocks k (b ∷ bs) (inl next, are) = omega (arith, next, few_clocks (b.cloc
 few_clocks k (b ∷ bs) (inr same, are) = omega (arith, same, few_clocks (b.clock + 1) bs are)
 
 -- an operation's clock is one of those
-pub clock_near : (k : ℕ) (bs : List Body) (i : ℕ) (b : Body) → AreInOrder k bs → slice_get bs i ≡ Some b → b.clock + 1 ≤ clock_count k bs
+clock_near : (k : ℕ) (bs : List Body) (i : ℕ) (b : Body) → AreInOrder k bs → slice_get bs i ≡ Some b → b.clock + 1 ≤ clock_count k bs
 unfolding AreInOrder
 clock_near k [] i b are there = cc
 clock_near k (c ∷ bs) zero b (step, are) there =
@@ -94,7 +94,7 @@ at_most m n (inl next) = omega (arith, next)
 at_most m n (inr same) = omega (arith, same)
 
 -- one more operation, with the next clock or the last one
-pub order_more : (k : ℕ) (bs : List Body) (b : Body) → AreInOrder k bs → (b.clock ≡ clock_count k bs) ⊎ (b.clock + 1 ≡ clock_count k bs) →
+order_more : (k : ℕ) (bs : List Body) (b : Body) → AreInOrder k bs → (b.clock ≡ clock_count k bs) ⊎ (b.clock + 1 ≡ clock_count k bs) →
     AreInOrder k (bs ++ b ∷ [])
 unfolding AreInOrder
 order_more k [] b are step = (step, tt)
@@ -106,27 +106,13 @@ pub order_pushed : (bs cs : List Body) (b : Body) → cs ≡ bs ++ b ∷ [] → 
 order_pushed bs cs b is are step = subst (AreInOrder 0) (sym is) (order_more 0 bs b are step)
 
 -- without the last operation
-pub order_front : (k : ℕ) (bs : List Body) (b : Body) → AreInOrder k (bs ++ b ∷ []) →
+order_front : (k : ℕ) (bs : List Body) (b : Body) → AreInOrder k (bs ++ b ∷ []) →
     AreInOrder k bs × ((b.clock ≡ clock_count k bs) ⊎ (b.clock + 1 ≡ clock_count k bs))
 unfolding AreInOrder
 order_front k [] b (step, are) = (tt, step)
 order_front k (c ∷ bs) b (first, are) = let (rest, step) = order_front (c.clock + 1) bs b are in ((first, rest), step)
 
 -- ---- clocks
-
--- a clock of its red entry and those of the sites
-abbrev clock : ℕ → List ℕ → Deps
-clock n ks = record { blue = padded ks; red = n }
-
--- the clock of a small bank
-pub few_clock : (ns : List ℕ) → length ns ≡ 4 →
-    clock (get_or ns 0 0) (get_or ns 1 0 ∷ get_or ns 2 0 ∷ get_or ns 3 0 ∷ []) ≡ clock_of_counts (length ns - 1) ns
-few_clock (r ∷ a ∷ b ∷ c ∷ []) four = refl
-few_clock [] four = absurd (omega (arith, four))
-few_clock (r ∷ []) four = absurd (omega (arith, four))
-few_clock (r ∷ a ∷ []) four = absurd (omega (arith, four))
-few_clock (r ∷ a ∷ b ∷ []) four = absurd (omega (arith, four))
-few_clock (r ∷ a ∷ b ∷ c ∷ d ∷ ns) four = absurd (omega (arith, four))
 
 -- what is kept of the clock of a small bank, behind what was kept
 pub few_pushed : (os bs : List ℕ) (r w : ℕ) → w ≡ 3 → 3 ≤ length bs →
@@ -148,7 +134,7 @@ set_take (suc m) (suc r) n (k ∷ ns) = ap (λ ks. k ∷ ks) (set_take m r n ns)
 -- a clock by what is kept of it alone
 cut_clock : (w : ℕ) (ns : List ℕ) → clock_of_counts w (take (suc w) ns) ≡ clock_of_counts w ns
 cut_clock w [] = refl
-cut_clock w (n ∷ ns) = ap (clock n) (take-take w w ns (omega arith))
+cut_clock w (n ∷ ns) = ap (λ ks. record { blue = padded ks; red = n }) (take-take w w ns (omega arith))
 
 -- the entries of the first sites, in a list of zeros
 in_zeros : (ms xs : List ℕ) (k : ℕ) → k ≡ length ms → xs ≡ ms → xs ++ drop k (replicate MOST_SITES 0) ≡ padded ms
@@ -156,7 +142,7 @@ in_zeros ms xs k is same = ap (λ ys. ys ++ drop k (replicate MOST_SITES 0)) sam
     ∙ ap (λ ys. ms ++ ys) (drop-replicate k MOST_SITES 0 ∙ ap (λ n. replicate (MOST_SITES - n) 0) is)
 
 -- the entries of the first sites, as they are kept, in a list of zeros
-pub behind_red : (n k : ℕ) (ms xs : List ℕ) → k ≡ suc (length ms) - 1 → xs ≡ take k (drop 1 (n ∷ ms)) → xs ++ drop k (replicate MOST_SITES 0) ≡ padded ms
+behind_red : (n k : ℕ) (ms xs : List ℕ) → k ≡ suc (length ms) - 1 → xs ≡ take k (drop 1 (n ∷ ms)) → xs ++ drop k (replicate MOST_SITES 0) ≡ padded ms
 behind_red n k ms xs is same = in_zeros ms xs k (omega (arith, is)) (same ∙ take_all k ms (omega (arith, is)))
 
 -- the clock of a large bank whose own entry is the red one
@@ -224,7 +210,7 @@ same_counts w b ns ms many =
     ∙ cut_clock w (slice_set ns r n))
 
 -- nor does more behind all clocks
-pub same_operations : (w k : ℕ) (bs : List Body) (ns ms : List ℕ) → AreInOrder k bs → clock_count k bs * (w + 1) ≤ length ns →
+same_operations : (w k : ℕ) (bs : List Body) (ns ms : List ℕ) → AreInOrder k bs → clock_count k bs * (w + 1) ≤ length ns →
     operations_of w bs (ns ++ ms) ≡ operations_of w bs ns
 unfolding AreInOrder
 same_operations w k [] ns ms are many = refl
@@ -300,21 +286,9 @@ entries_back (suc k) limit (n ∷ ns) h =
     ∙ ap (λ ms. n ∷ ms) (entries_back k limit ns (subst (λ j. are_entries j limit ns ≡ true) back p.1))
 
 -- a clock for this number of sites is its first entries and zeros
-pub whole_clock : (w : ℕ) (d : Deps) → IsOfSites w d → length d.blue ≡ MOST_SITES → padded (take w d.blue) ≡ d.blue
+whole_clock : (w : ℕ) (d : Deps) → IsOfSites w d → length d.blue ≡ MOST_SITES → padded (take w d.blue) ≡ d.blue
 whole_clock w d (limit, are) full = ap (λ n. take w d.blue ++ replicate (n - length (take w d.blue)) 0) (sym full)
     ∙ entries_back w limit d.blue are
-
--- lists that are the same but for one item, with the same behind them
-set_append : (xs ys zs : List ℕ) (o n : ℕ) → slice_set xs o n ≡ slice_set ys o n → slice_set (xs ++ zs) o n ≡ slice_set (ys ++ zs) o n
-set_append [] [] zs o n same = refl
-set_append [] (y ∷ ys) zs zero n same = cc
-set_append [] (y ∷ ys) zs (suc o) n same = cc
-set_append (x ∷ xs) [] zs zero n same = cc
-set_append (x ∷ xs) [] zs (suc o) n same = cc
-set_append (x ∷ xs) (y ∷ ys) zs zero n same = ap (λ ks. n ∷ (drop 1 ks ++ zs)) same
-set_append (x ∷ xs) (y ∷ ys) zs (suc o) n same =
-    ap (λ ks. slice_index ks 0 ∷ slice_set (xs ++ zs) o n) same
-    ∙ ap (λ ks. y ∷ ks) (set_append xs ys zs o n (ap (drop 1) same))
 
 -- a name is what is kept of it, where a blue one's site is the home
 name_again : (x : OpName) (home : ℕ) → is_foreign x home ≡ false → kept_name (shown_colour x) home (number_of x) ≡ x
@@ -346,7 +320,7 @@ own_kept w d (Blue i n) own =
     ap (λ k. d.red ∷ slice_set (take w d.blue) i k) is ∙ ap (λ ks. d.red ∷ ks) (set_same w i d.blue)
 
 -- the red entry and the first entries of a clock that has no others are all of it
-pub kept_whole : (w : ℕ) (d : Deps) (x : OpName) → IsOfSites w d → length d.blue ≡ MOST_SITES → entry_of d x + 1 ≡ number_of x →
+kept_whole : (w : ℕ) (d : Deps) (x : OpName) → IsOfSites w d → length d.blue ≡ MOST_SITES → entry_of d x + 1 ≡ number_of x →
     clock_of_counts w (slice_set (d.red ∷ take w d.blue) (row_of x) (number_of x - 1)) ≡ d
 kept_whole w d x sites full own =
     ap (clock_of_counts w) (own_kept w d x own)

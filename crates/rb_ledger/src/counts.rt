@@ -49,7 +49,7 @@ fn is_last(counts: &[u32], deps: &Deps, name: OpName, sites: usize) -> bool
 {
     if sites > FEW_SITES {
         let kept = &counts[counts.len() - (sites + 1)..];
-        return is_same_of_many(kept, deps.red, &deps.blue, name.row());
+        return is_same_of_many(kept, deps.red, &deps.blue, name.row() as u32);
     }
     is_same(
         &counts[counts.len() - (FEW_SITES + 1)..],
@@ -85,16 +85,16 @@ fn is_same(kept: &[u32], red: u32, blue: &[u32], name: OpName) -> bool
 /// The same of any number of sites, but for the entry of a row. Each entry is looked at, as several are compared at
 /// once.
 #[inline(never)]
-fn is_same_of_many(kept: &[u32], red: u32, blue: &[u32], own: usize) -> bool
+fn is_same_of_many(kept: &[u32], red: u32, blue: &[u32], own: u32) -> bool
     requires all { length blue.now ≡ MOST_SITES }
     requires some { 0 < length kept.now }
     requires most { length kept.now ≤ MOST_SITES + 1 }
     ensures { IsTrue result → (n : ℕ) →
         slice_set kept.now own n ≡ slice_set (red ∷ take (length kept.now - 1) blue.now) own n }
 {
-    let mut same = own == 0 || kept[0] == red;
+    let mut same = (own == 0) | (kept[0] == red);
     for site in 0..kept.len() - 1 {
-        same &= own == site + 1 || kept[site + 1] == blue[site];
+        same &= (site as u32 + 1 == own) | (kept[site + 1] == blue[site]);
     }
     same
 }
@@ -134,28 +134,37 @@ fn push_many(counts: &mut Vec<u32>, red: u32, blue: &[u32], sites: usize)
     }
 }
 
-/// The clock of what is kept of it, but for the entry of a row.
+/// The clock of the operation of a name, of what is kept of it: its own entry is its number less 1.
 #[inline(always)]
-pub fn clock(counts: &[u32], own: usize, entry: u32) -> Deps
+pub fn clock(counts: &[u32], name: OpName) -> Deps
     requires least { FEW_SITES + 1 ≤ length counts.now }
     requires most { length counts.now ≤ MOST_SITES + 1 }
-    ensures { result ≡ clock_of_counts (length counts.now - 1) (slice_set counts.now own entry) }
+    ensures { result ≡ clock_of_counts (length counts.now - 1) (slice_set counts.now (row_of name) (number_of name - 1)) }
 {
     if counts.len() > FEW_SITES + 1 {
-        return clock_of_many(counts, own, entry);
+        return clock_of_many(counts, name.row(), name.number().saturating_sub(1));
     }
-    let mut kept = [counts[0], counts[1], counts[2], counts[3]];
-    if own < kept.len() {
-        kept[own] = entry;
+    let mut blue = [
+        counts[1], counts[2], counts[3], 0, 0, 0, 0, 0, 0, 0, 0, 0, 0, 0, 0, 0,
+    ];
+    match name {
+        OpName::Red { n } => Deps {
+            blue,
+            red: n.saturating_sub(1),
+        },
+        OpName::Blue { site, n } => {
+            if usize::from(site) < FEW_SITES {
+                blue[usize::from(site)] = n.saturating_sub(1);
+            }
+            Deps {
+                blue,
+                red: counts[0],
+            }
+        }
     }
-    let mut blue = [0; MOST_SITES];
-    blue[0] = kept[1];
-    blue[1] = kept[2];
-    blue[2] = kept[3];
-    Deps { blue, red: kept[0] }
 }
 
-/// The same of any number of sites.
+/// The same of any number of sites, with the entry of a row.
 #[inline(never)]
 fn clock_of_many(counts: &[u32], own: usize, entry: u32) -> Deps
     requires some { 0 < length counts.now }

@@ -47,12 +47,11 @@ impl<'a> OperationRef<'a> {
     {
         let body = self.body;
         let name = body.name();
-        let entry = body.number.saturating_sub(1);
         Shadow {
             name,
             home: body.home,
             account: body.account,
-            deps: clock(self.counts, name.row(), entry),
+            deps: clock(self.counts, name),
             amount: body.amount,
             kind: body.kind,
         }
