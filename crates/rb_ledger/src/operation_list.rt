@@ -55,7 +55,7 @@ impl Model for OperationList {
 
 impl OperationList {
     /// No operations, of a bank of this number of sites, without memory for any.
-    pub(crate) fn new(alloc: Global, sites: u8) -> OperationList
+    pub fn new(alloc: Global, sites: u8) -> OperationList
         requires { sites ≤ MOST_SITES }
         ensures items { result.items ≡ [] }
         ensures sites { sites ≤ result.sites }
@@ -74,6 +74,14 @@ impl OperationList {
         ensures { result ≡ length self.now.items }
     {
         self.bodies.len()
+    }
+
+    /// Of how many sites the entries of each clock are kept.
+    #[inline(always)]
+    pub fn sites(&self) -> usize
+        ensures { result ≡ self.now.sites }
+    {
+        self.sites
     }
 
     /// Whether there are none.
@@ -147,7 +155,7 @@ impl OperationList {
 
     /// Adds one more operation, in spare capacity.
     #[inline(always)]
-    pub(crate) fn push(&mut self, shadow: &Shadow)
+    pub fn push(&mut self, shadow: &Shadow)
         requires room { length self.old.items < self.old.limit }
         requires few { length self.old.items < MOST_OPERATIONS }
         requires sites { IsOfSites self.old.sites shadow.now.deps }
@@ -183,7 +191,7 @@ impl OperationList {
     }
 
     /// Takes memory for at least `limit` operations in all. `Err` means out of memory.
-    pub(crate) fn reserve(&mut self, limit: usize) -> Result<(), AllocError>
+    pub fn reserve(&mut self, limit: usize) -> Result<(), AllocError>
         ensures items { self.new.items ≡ self.old.items }
         ensures sites { self.new.sites ≡ self.old.sites }
         ensures ok { OnOk result (limit ≤ self.new.limit) }
