@@ -1,6 +1,9 @@
 mod Results
 mod Lengths
 mod Lists
+mod Found
+mod Spots
+mod Placed
 mod Replaying
 mod Messages
 mod Runs

@@ -19,6 +19,11 @@ pub on_err : {A B : Type 0} (r : Result Unit AllocError) → OnErr r A → (A �
 on_err (Ok u) a f = tt
 on_err (Err e) a f = f a
 
+-- what follows either way
+pub either_way : {A B C : Type 0} (r : Result Unit AllocError) → OnOk r A → OnErr r B → (A → C) → (B → C) → C
+either_way (Ok u) a b f g = f a
+either_way (Err e) a b f g = g b
+
 -- where it failed nothing is said of what it gave
 pub no_value : {A E : Type 0} (r : Result A E) (P : A → Type 0) → IsErr r → IfOk r P
 no_value (Ok x) P e = cc

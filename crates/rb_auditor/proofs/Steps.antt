@@ -131,6 +131,12 @@ few_more s t e before after grown =
     let longer : length after ≡ length before + length (sent_at s t e) = ap length grown ∙ length-append before (sent_at s t e) in
     omega arith
 
+-- where what is sent comes into an empty list, and then behind the messages before
+pub sent_after : (before room none posted sent after : List Message) → room ≡ before → none ≡ [] → posted ≡ none ++ sent
+    → after ≡ room ++ posted → after ≡ before ++ sent
+sent_after before room none posted sent after same empty sends grown =
+    grown ∙ ap (λ ms. ms ++ posted) same ∙ ap (λ ms. before ++ ms) (sends ∙ ap (λ ms. ms ++ sent) empty)
+
 -- where the messages that are sent are behind the others
 sent_behind : (before sent : List Message) (count : ℕ) → count ≡ length sent → sent ≡ take count (drop (length before) (before ++ sent))
 sent_behind before sent count e = sym (ap (take count) (drop-append_seam before sent) ∙ take_all count sent (omega arith))

@@ -5,13 +5,14 @@ ghost use Rattle.rb_auditor.specs.Findings.{IsFound, Refutes, lists_of};
 ghost use Rattle.rb_auditor.specs.Kept.{AreJudged, histories_in};
 ghost use Rattle.rb_auditor.specs.Progress.{AllRest, IsFurther, Rests};
 
+use crate::message_list::MessageList;
 use crate::notes::Notes;
 use crate::taking::Taking;
 use crate::whole::read_all;
 use crate::wrong::first_wrong;
 use crate::{AuditFault, Certificate};
 use rb_money::Config;
-use rb_site::{History, Message};
+use rb_site::History;
 use std::alloc::{AllocError, Global};
 
 /// An order in which a world could have recorded these histories, one for each site: what an `Auditor` of their entries
@@ -39,9 +40,9 @@ pub fn find(
     alloc: Global,
     config: &Config,
     notes: &[Notes],
-    messages: &[Message],
+    messages: &MessageList,
 ) -> Result<Certificate, AuditFault>
-    requires { AreJudged config.now notes.now messages.now }
+    requires { AreJudged config.now notes.now messages.now.items }
     ensures certified { IfOk result (Certifies config.now (histories_in notes.now)) }
     ensures found { IfErr result (IsFound config.now (histories_in notes.now)) }
     ensures refuted { IfErr result (Refutes config.now (histories_in notes.now)) }

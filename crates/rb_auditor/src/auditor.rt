@@ -43,7 +43,7 @@ impl Auditor {
         ensures settings { IfOk result (λ auditor. auditor.settings ≡ config) }
         ensures none { IfOk result (λ auditor. auditor.histories ≡ replicate config.sites []) }
     {
-        let store = Store::new(alloc)?;
+        let store = Store::new(alloc, config.sites())?;
         let notes = no_notes(alloc, config.sites())?;
         let sites = open_sites(alloc, &config)?;
         Ok(Auditor {
@@ -92,7 +92,7 @@ impl Auditor {
             store,
         } = self;
         end_all(sites);
-        find(alloc, &config, notes.as_slice(), store.messages.as_slice())
+        find(alloc, &config, notes.as_slice(), &store.messages)
     }
 
     /// Whether a world could have recorded the histories in this order. `Err` means out of memory.
@@ -107,12 +107,11 @@ impl Auditor {
             store,
         } = self;
         end_all(sites);
-        let messages = store.messages.as_slice();
         follow_all(
             alloc,
             &config,
             notes.as_slice(),
-            messages,
+            &store.messages,
             certificate.as_slice(),
         )
     }

@@ -6,12 +6,13 @@ ghost use Rattle.rb_auditor.specs.Kept.{AreJudged, histories_in};
 ghost use Rattle.rb_auditor.specs.Progress.{first_progress};
 
 use crate::Certificate;
+use crate::message_list::MessageList;
 use crate::notes::Notes;
 use crate::taking::Taking;
 use crate::whole::read_all;
 use crate::wrong::first_wrong;
 use rb_money::Config;
-use rb_site::{History, Message};
+use rb_site::History;
 use std::alloc::{AllocError, Global};
 
 /// Whether a world could have recorded these histories in this order. `Err` means out of memory.
@@ -34,10 +35,10 @@ pub fn follow_all(
     alloc: Global,
     config: &Config,
     notes: &[Notes],
-    messages: &[Message],
+    messages: &MessageList,
     order: &[u8],
 ) -> Result<bool, AllocError>
-    requires { AreJudged config.now notes.now messages.now }
+    requires { AreJudged config.now notes.now messages.now.items }
     ensures { IfOk result (λ yes. IsTrue yes ↔ Certifies config.now (histories_in notes.now) order.now) }
 {
     if first_wrong(config, notes).is_some() {

@@ -9,13 +9,17 @@ mod certificate;
 mod checking;
 mod listing;
 mod message;
+mod message_list;
 mod notes;
+mod posted;
 mod replay;
 mod sent;
 mod sites;
+mod spot;
 mod step;
 mod store;
 mod taking;
+mod usual;
 mod whole;
 mod wrong;
 

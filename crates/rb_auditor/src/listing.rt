@@ -1,49 +1,42 @@
 //! Where messages are listed, by their numbers.
-ghost use Rattle.std.specs.Prelude.{◌≡◌, ◌↔◌, ℕ, List, Some, IsTrue, OnOk, map, slice_get};
+ghost use Rattle.std.specs.Prelude.{◌≡◌, ℕ, List, Some, IsTrue, OnOk, slice_get};
 ghost use Rattle.rb_site.specs.declared.message.Message.{Message as TheMessage};
 ghost use Rattle.rb_site.specs.Histories.{IsAmong};
 ghost use Rattle.rb_auditor.specs.Findings.{lists_of};
 ghost use Rattle.rb_auditor.specs.Sent.{IsListed, row_of_message, slot_of};
 
 use crate::message::{row, slot};
+use crate::posted::Posted;
 use rb_site::Message;
 use std::alloc::AllocError;
 
-/// Whether the message is at this position.
-pub fn is_at(messages: &[&Message], position: usize, message: &Message) -> bool
-    ensures { IsTrue result ↔ (slice_get (map (λ m. m.now) messages.now) position ≡ Some message.now) }
-{
-    match messages.get(position) {
-        Some(known) => known.same(message),
-        None => false,
-    }
-}
-
-/// Whether the message is at the position that is listed for its number.
-pub fn is_in_row(messages: &[&Message], rows: &[Vec<usize>], message: &Message) -> bool
-    ensures known { IsTrue result → IsAmong message.now (map (λ m. m.now) messages.now) }
+/// Whether the message, which is at a place among all, was sent at the position that is listed for its number.
+pub fn is_in_row(posted: &Posted<'_>, rows: &[Vec<usize>], place: usize, message: &Message) -> bool
+    requires { slice_get posted.now.all place ≡ Some message.now }
+    ensures known { IsTrue result → IsAmong message.now posted.now.items }
     ensures found { (positions : List ℕ) (position : ℕ)
         → slice_get (lists_of rows.now) (row_of_message message.now) ≡ Some positions
         → slice_get positions (slot_of message.now) ≡ Some position
-        → slice_get (map (λ m. m.now) messages.now) position ≡ Some message.now → IsTrue result }
+        → slice_get posted.now.items position ≡ Some message.now → IsTrue result }
 {
     match rows.get(row(message)) {
         Some(positions) => match positions.get(slot(message)) {
-            Some(position) => is_at(messages, *position, message),
+            Some(position) => posted.is_at(*position, place, message),
             None => false,
         },
         None => false,
     }
 }
 
-/// Whether the message is at one of these positions.
-pub fn is_at_one(messages: &[&Message], positions: &[usize], message: &Message) -> bool
-    ensures known { IsTrue result → IsAmong message.now (map (λ m. m.now) messages.now) }
+/// Whether the message, which is at a place among all, was sent at one of these positions.
+pub fn is_at_one(posted: &Posted<'_>, positions: &[usize], place: usize, message: &Message) -> bool
+    requires { slice_get posted.now.all place ≡ Some message.now }
+    ensures known { IsTrue result → IsAmong message.now posted.now.items }
     ensures found { (k position : ℕ) → slice_get positions.now k ≡ Some position
-        → slice_get (map (λ m. m.now) messages.now) position ≡ Some message.now → IsTrue result }
+        → slice_get posted.now.items position ≡ Some message.now → IsTrue result }
 {
     for position in positions {
-        if is_at(messages, *position, message) {
+        if posted.is_at(*position, place, message) {
             return true;
         }
     }

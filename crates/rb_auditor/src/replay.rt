@@ -47,11 +47,11 @@ fn step_of(
     ensures same { (site.new.settings ≡ site.old.settings) × (site.new.me ≡ site.old.me) }
 {
     let place = place_of(&entry.event, store)?;
-    let first = store.next()?;
-    if !note(site, entry, &mut store.messages)? {
+    let first = store.reserve()?;
+    if !note(site, entry, &mut store.posted)? {
         return Ok(None);
     }
-    store.list(first);
+    store.keep_posted();
     let count = store.messages.len() - first as usize;
     Ok(Some(match place {
         Some(at) => Step::Receives { at },
@@ -75,7 +75,7 @@ fn place_of(event: &Event, store: &mut Store) -> Result<Option<u32>, AllocError>
 }
 
 /// Whether the site records the entry. What it sends goes to the end of the messages. `Err` means out of memory: the
-/// site and the messages are then as before.
+/// site is then as before.
 fn note(
     site: &mut Site<ErasedEntry>,
     entry: &Entry,
@@ -85,7 +85,6 @@ fn note(
     ensures noted { IfOk result (λ noted. MatchBool noted
         (RecordsEntry site.old site.new entry.now messages.old.items messages.new.items)
         (¬ IsReplayed (seen_at site.old.settings site.old.me (site.old.entries ++ entry.now ∷ [])))) }
-    ensures more { IsMore messages.old.items messages.new.items }
     ensures err { OnErr result (site.new ≡ site.old) }
     ensures same { (site.new.settings ≡ site.old.settings) × (site.new.me ≡ site.old.me) }
 {

@@ -1,51 +1,62 @@
 //! The messages of all histories.
-ghost use Rattle.std.specs.Prelude.{◌≡◌, ◌<◌, ◌+◌, ◌^◌, [], Some, IfSome, IfOk, OnErr, length, slice_get};
+ghost use Rattle.std.specs.Prelude.{◌≡◌, ◌<◌, ◌≤◌, ◌+◌, ◌^◌, ◌++◌, [], Some, IfSome, IfOk, OnErr, length, slice_get};
+ghost use Rattle.rb_money.specs.declared.limits.TheConstants.{MOST_SITES as THE_MOST_SITES};
 ghost use Rattle.rb_scratch.specs.declared.request.TheConstants.{MOST_REQUESTS};
 ghost use Rattle.rb_auditor.specs.Kept.{IsMore};
 
 use crate::message::{row, slot};
+use crate::message_list::MessageList;
 use rb_money::MOST_SITES;
 use rb_scratch::MOST_REQUESTS;
 use rb_site::Message;
 use std::alloc::{AllocError, Global};
 
-/// Memory for this number of messages is taken at first: 128 kilobytes, a mapping of its own, which grows without a
-/// copy and of which only what is used takes memory.
-const FIRST_MESSAGES: usize = 1200;
+/// Memory for this number of messages is taken at first: 128 kilobytes and more for each part of them, mappings of their
+/// own, which grow without a copy and of which only what is used takes memory.
+const FIRST_MESSAGES: usize = 16_500;
 
 /// The messages that the entries read so far sent or received, so that a receipt needn't keep the one that was sent.
 #[derive(Drop)]
 pub struct Store {
-    pub messages: Vec<Message>,
+    pub messages: MessageList,
+    /// What the last entry sent.
+    pub posted: Vec<Message>,
     // Where messages are listed by their numbers: a row of tokens by epoch, one of red operations by number, and one of
     // each home's blue operations by number. A row has those whose number was the next there.
     rows: Vec<Vec<u32>>,
 }
 
 impl Store {
-    /// Without messages. `Err` means out of memory.
-    pub fn new(alloc: Global) -> Result<Store, AllocError>
+    /// Without messages, of a bank of this number of sites. `Err` means out of memory.
+    pub fn new(alloc: Global, sites: u8) -> Result<Store, AllocError>
+        requires { sites ≤ THE_MOST_SITES }
         ensures { IfOk result (λ store. store.messages.items ≡ []) }
     {
         let mut rows = Vec::new(alloc);
         for _ in 0..MOST_SITES + 2 {
             rows.push(Vec::new(alloc))?;
         }
-        let mut messages = Vec::new(alloc);
+        let mut messages = MessageList::new(alloc, sites);
         messages.reserve(FIRST_MESSAGES)?;
-        Ok(Store { messages, rows })
+        Ok(Store {
+            messages,
+            posted: Vec::new(alloc),
+            rows,
+        })
     }
 
-    /// The place of the next message. `Err` means that the places of those of one more entry might not fit a `u32`.
-    pub fn next(&self) -> Result<u32, AllocError>
-        ensures { IfOk result (λ at. (at ≡ length self.now.messages.items) × (at + MOST_REQUESTS < 2 ^ 32)) }
+    /// Takes memory for the messages of one more entry, and answers the place of the first. `Err` means out of memory,
+    /// or that the places of these might not fit a `u32`.
+    pub fn reserve(&mut self) -> Result<u32, AllocError>
+        ensures items { self.new.messages.items ≡ self.old.messages.items }
+        ensures none { self.new.posted.items ≡ [] }
+        ensures at { IfOk result (λ at. at ≡ length self.old.messages.items) }
+        ensures room { IfOk result (λ at. at + MOST_REQUESTS ≤ self.new.messages.limit) }
+        ensures few { IfOk result (λ _. self.new.messages.limit < 2 ^ 32) }
     {
-        let at = self.messages.len();
-        if at < u32::MAX as usize - MOST_REQUESTS {
-            Ok(at as u32)
-        } else {
-            Err(AllocError)
-        }
+        self.posted.clear();
+        self.messages.reserve(MOST_REQUESTS)?;
+        Ok(self.messages.len() as u32)
     }
 
     /// The place of a message that was received: where it is listed, or at the end, where it is put then. `Err` means
@@ -58,9 +69,8 @@ impl Store {
         if let Some(at) = self.find(message) {
             return Ok(at);
         }
-        let at = self.next()?;
-        self.messages.reserve(1)?;
-        self.messages.push_reserved(*message);
+        let at = self.reserve()?;
+        self.messages.push(message);
         Ok(at)
     }
 
@@ -69,27 +79,38 @@ impl Store {
         ensures { IfSome result (λ at. slice_get self.now.messages.items at ≡ Some message.now) }
     {
         let at = *self.rows.get(row(message))?.get(slot(message))?;
-        if self.messages.get(at as usize)?.same(message) {
+        if self.messages.has_at(at as usize, message) {
             Some(at)
         } else {
             None
         }
     }
 
-    /// Lists the messages from this place on, each whose number is the next of its row. Where there is no memory for
-    /// that, it isn't found.
-    pub fn list(&mut self, first: u32)
-        requires { length self.old.messages.items < 2 ^ 32 }
-        ensures { self.new.messages.items ≡ self.old.messages.items }
+    /// Adds what the last entry sent to the messages, for which there is memory.
+    pub fn keep_posted(&mut self)
+        requires { length self.old.messages.items + length self.old.posted.items ≤ self.old.messages.limit }
+        ensures { self.new.messages.items ≡ self.old.messages.items ++ self.old.posted.items }
     {
-        let all = self.messages.as_slice();
-        for at in first as usize..all.len() {
-            let message = &all[at];
-            if let Some(places) = self.rows.get_mut(row(message)) {
-                if places.len() == slot(message) {
-                    let _unlisted = places.push(at as u32).is_err();
-                }
-            }
+        add_all(&mut self.messages, &mut self.rows, self.posted.as_slice());
+    }
+}
+
+/// Adds messages, for which there is memory, and lists each whose number is the next of its row.
+fn add_all(messages: &mut MessageList, rows: &mut Vec<Vec<u32>>, posted: &[Message])
+    requires { length messages.old.items + length posted.now ≤ messages.old.limit }
+    ensures { messages.new.items ≡ messages.old.items ++ posted.now }
+{
+    for message in posted {
+        list(rows, messages.len() as u32, message);
+        messages.push(message);
+    }
+}
+
+/// Lists the place of a message whose number is the next of its row. Where there is no memory for that, it isn't found.
+fn list(rows: &mut Vec<Vec<u32>>, at: u32, message: &Message) {
+    if let Some(places) = rows.get_mut(row(message)) {
+        if places.len() == slot(message) {
+            let _unlisted = places.push(at).is_err();
         }
     }
 }

@@ -1,14 +1,14 @@
 //! Entries of histories, taken one after another.
-ghost use Rattle.std.specs.Prelude.{◌≡◌, ◌+◌, ◌<◌, ◌↔◌, IsTrue, IfOk, OnErr, MatchBool, length, map, option_map};
+ghost use Rattle.std.specs.Prelude.{◌≡◌, ◌+◌, ◌<◌, ◌≤◌, IfOk, IfSome, OnErr, MatchBool, length, map, option_map, take, drop};
 ghost use Rattle.rb_auditor.specs.Kept.{AreJudged, AreWhole, IsTakenAs, HasPlaces, histories_in};
 ghost use Rattle.rb_auditor.specs.Progress.{IsDone, IsLeft, IsTaking, Rests, Took, first_progress};
 
 use crate::Certificate;
+use crate::message_list::MessageList;
 use crate::notes::Notes;
 use crate::sent::Sent;
 use crate::step::Step;
 use rb_money::Config;
-use rb_site::Message;
 use std::alloc::{AllocError, Global};
 use std::marker::Model;
 
@@ -18,12 +18,10 @@ use std::marker::Model;
 pub struct Taking<'a> {
     config: &'a Config,
     notes: &'a [Notes],
-    // Those that the steps of the notes speak of.
-    messages: &'a [Message],
     order: Vec<u8>,
     // How many entries of each history were taken.
     taken: Vec<usize>,
-    // What these sent.
+    // What these sent, among the messages that the steps of the notes speak of.
     sent: Sent<'a>,
 }
 
@@ -39,7 +37,7 @@ impl<'a> Model for Taking<'a> {
       histories = histories_in t.notes.now;
       order = t.order.items;
       taken = t.taken.items;
-      messages = t.sent;
+      messages = t.sent.items;
     } };
 
     ghost invariant = { λ t. IsTaking (record {
@@ -47,9 +45,9 @@ impl<'a> Model for Taking<'a> {
       histories = histories_in t.notes.now;
       order = t.order.items;
       taken = t.taken.items;
-      messages = t.sent;
+      messages = t.sent.items;
     })
-        × AreJudged t.config.now t.notes.now t.messages.now
+        × AreJudged t.config.now t.notes.now t.sent.all
         × AreWhole t.notes.now
         × IsConfigured t.config.now };
 }
@@ -60,19 +58,18 @@ impl<'a> Taking<'a> {
         alloc: Global,
         config: &'a Config,
         notes: &'a [Notes],
-        messages: &'a [Message],
+        messages: &'a MessageList,
     ) -> Result<Taking<'a>, AllocError>
-        requires judged { AreJudged config.now notes.now messages.now }
+        requires judged { AreJudged config.now notes.now messages.now.items }
         requires whole { AreWhole notes.now }
         ensures { IfOk result (λ taking. taking ≡ first_progress config.now (histories_in notes.now)) }
     {
-        let sent = Sent::new(alloc, config.sites())?;
+        let sent = Sent::new(alloc, config.sites(), messages)?;
         let mut taken = Vec::new(alloc);
         taken.resize(notes.len(), 0)?;
         Ok(Taking {
             config,
             notes,
-            messages,
             order: Vec::new(alloc),
             taken,
             sent,
@@ -92,11 +89,11 @@ impl<'a> Taking<'a> {
         let Some(step) = self.notes[site].steps.get(taken) else {
             return Ok(false);
         };
-        let Some(posted) = moved(&self.sent, self.messages, *step) else {
+        let Some((first, count)) = moved(&self.sent, *step) else {
             return Ok(false);
         };
         self.order.reserve(1)?;
-        self.sent.add_all(posted)?;
+        self.sent.add_all(first, count)?;
         self.taken[site] = taken + 1;
         self.order.push_reserved(site as u8);
         Ok(true)
@@ -141,7 +138,6 @@ impl<'a> Taking<'a> {
         let Taking {
             config: _,
             notes: _,
-            messages: _,
             order,
             taken: _,
             sent: _,
@@ -150,23 +146,23 @@ impl<'a> Taking<'a> {
     }
 }
 
-/// What an entry sends, by its step, where it isn't the receipt of a message that wasn't sent.
-fn moved<'a>(sent: &Sent<'_>, messages: &'a [Message], step: Step) -> Option<&'a [Message]>
-    requires { HasPlaces messages.now step }
-    ensures { IsTakenAs sent.now messages.entry.now step (option_map (λ posted. posted.now) result) }
+/// Where among all messages those begin that an entry sends, by its step, and how many they are, where it isn't the
+/// receipt of a message that wasn't sent.
+fn moved(sent: &Sent<'_>, step: Step) -> Option<(usize, usize)>
+    requires { HasPlaces sent.now.all step }
+    ensures taken { IsTakenAs sent.now.items sent.now.all step
+        (option_map (λ p. take p.1 (drop p.0 sent.now.all)) result) }
+    ensures within { IfSome result (λ p. p.0 + p.1 ≤ length sent.now.all) }
 {
     match step {
-        Step::Alone => Some(&[]),
+        Step::Alone => Some((0, 0)),
         Step::Receives { at } => {
-            if sent.has(&messages[at as usize]) {
-                Some(&[])
+            if sent.has(at as usize) {
+                Some((0, 0))
             } else {
                 None
             }
         }
-        Step::Sends { count, at } => {
-            let first = at as usize;
-            Some(&messages[first..first + count as usize])
-        }
+        Step::Sends { count, at } => Some((at as usize, count as usize)),
     }
 }

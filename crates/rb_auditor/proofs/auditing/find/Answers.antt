@@ -8,7 +8,7 @@ use Rattle.rb_auditor.proofs.Takings
 use Rattle.rb_auditor.proofs.auditing.find.Goals as goal
 
 pub first_wrong-requires : goal.first_wrong-requires
-first_wrong-requires c = (c.args.messages.now, c.requires)
+first_wrong-requires c = (c.args.messages.now.items, c.requires)
 
 pub returns-in-Some : goal.returns-in-Some
 returns-in-Some c = record {

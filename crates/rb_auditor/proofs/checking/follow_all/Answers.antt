@@ -25,7 +25,7 @@ returns-then-is_some c = (
 )
 
 pub first_wrong-requires : goal.first_wrong-requires
-first_wrong-requires c = (c.args.messages.now, c.requires)
+first_wrong-requires c = (c.args.messages.now.items, c.requires)
 
 pub open-requires-clause-judged : goal.open-requires-clause-judged
 open-requires-clause-judged c = c.requires

@@ -4,11 +4,10 @@ use Rattle.std.proofs.lemmas.Bool.{false≢true}
 use Rattle.std.proofs.lemmas.Option.{get_or_from_slice_get, slice_get_within}
 use Rattle.rb_site.proofs.Public.Places.{same_number}
 use Rattle.rb_site.proofs.Public.Recorded
-use Rattle.rb_auditor.proofs.Listed
 use Rattle.rb_auditor.proofs.listing.is_at_one.Goals as goal
 
 pub returns-then-is_at-clause-known : goal.returns-then-is_at-clause-known
-returns-then-is_at-clause-known c = λ yes. Recorded.at_place (Listed.read c.args.messages.now)
+returns-then-is_at-clause-known c = λ yes. Recorded.at_place c.args.posted.now.items
     (get_or c.args.positions.now c.loop-position.position-index 0) c.args.message.now
     (c.is_at.ensures.0 (subst IsTrue (sym c.if-is_at.true) yes))
 
@@ -18,7 +17,7 @@ loop-position-preserved c = λ k position less at known. elim (same_number c.loo
       let here : get_or c.args.positions.now c.loop-position.position-index 0 ≡ position =
       get_or_from_slice_get c.args.positions.now c.loop-position.position-index position 0
       (ap (slice_get c.args.positions.now) (sym e) ∙ at) in
-      false≢true (sym c.if-is_at.false ∙ c.is_at.ensures.1 (ap (slice_get (Listed.read c.args.messages.now)) here ∙ known))
+      false≢true (sym c.if-is_at.false ∙ c.is_at.ensures.1 (ap (slice_get c.args.posted.now.items) here ∙ known))
   | inr ne ↦ c.loop-position.invariant k position (omega arith) at known
 ]
 

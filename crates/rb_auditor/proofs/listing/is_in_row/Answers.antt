@@ -10,7 +10,7 @@ use Rattle.rb_auditor.proofs.Lists
 use Rattle.rb_auditor.proofs.listing.is_in_row.Goals as goal
 
 pub returns-in-Some-get-clause-known : goal.returns-in-Some-get-clause-known
-returns-in-Some-get-clause-known c = λ yes. Recorded.at_place (Listed.read c.args.messages.now) c.in-Some-get.position.now
+returns-in-Some-get-clause-known c = λ yes. Recorded.at_place c.args.posted.now.items c.in-Some-get.position.now
     c.args.message.now
     (c.is_at.ensures.0 yes)
 
@@ -27,7 +27,7 @@ returns-in-Some-get-clause-found c = λ positions position there at known.
     Lists.same_item (slice_get positions (slot_of c.args.message.now)) position c.in-Some-get.position.now at
     (ap (λ ps. slice_get ps (slot_of c.args.message.now)) (row ∙ sym c.deref.ensures.value)
     ∙ ap (slice_get c.deref.result.now) (sym c.slot.ensures) ∙ here) in
-    c.is_at.ensures.1 (ap (slice_get (Listed.read c.args.messages.now)) (sym same) ∙ known)
+    c.is_at.ensures.1 (ap (slice_get c.args.posted.now.items) (sym same) ∙ known)
 
 pub returns-in-None-get-clause-found : goal.returns-in-None-get-clause-found
 returns-in-None-get-clause-found c = λ positions position there at known.

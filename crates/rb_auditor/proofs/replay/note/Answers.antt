@@ -1,7 +1,6 @@
 -- An entry that the site doesn't record is wrong.
 use Rattle.std.proofs.Common.{◌∙◌, ap, refl, sym}
 use Rattle.rb_site.specs.Seen.{SeenSite}
-use Rattle.rb_auditor.proofs.Kept.{no_more}
 use Rattle.rb_auditor.proofs.Replaying
 use Rattle.rb_auditor.proofs.Results.{no_value, still}
 use Rattle.rb_auditor.proofs.replay.note.Goals as goal
@@ -22,7 +21,6 @@ record-requires c = sym c.is_full.ensures ∙ c.if-is_full.false
 pub returns-in_err-reply : goal.returns-in_err-reply
 returns-in_err-reply c = record {
   noted = no_value c.from_residual.result _ c.from_residual.ensures.0;
-  more = no_more c.args.messages.now.items c.«record».new.sent.items (c.in_err-reply.ensures.err).1;
   err = still c.from_residual.result _ (c.in_err-reply.ensures.err).0;
   same = (
     ap (λ (x : SeenSite). x.settings) (c.in_err-reply.ensures.err).0,

@@ -1,45 +1,52 @@
 -- The step of an entry that the site records.
-use Rattle.std.proofs.Common.{◌≡◌, ◌∙◌, ◌+◌, ◌≤◌, ap, refl, subst, length, arith}
-use Rattle.rb_scratch.specs.declared.request.TheConstants.{MOST_REQUESTS}
+use Rattle.std.proofs.Common.{ap, refl, subst, length, arith}
 use Rattle.rb_site.specs.Events.{sent_at}
 use Rattle.rb_site.specs.Seen.{state_of}
 use Rattle.rb_auditor.specs.Kept.{IsPlaced}
 use Rattle.rb_auditor.specs.Replays.{RecordsEntry}
-use Rattle.rb_auditor.proofs.Kept.{more_still}
+use Rattle.rb_auditor.proofs.Kept.{more_still, no_more}
 use Rattle.rb_auditor.proofs.Results.{no_value, still}
 use Rattle.rb_auditor.proofs.Steps
 use Rattle.rb_auditor.proofs.replay.step_of.Goals as goal
 
-pub list-requires : goal.list-requires
-list-requires c =
-    let noted : RecordsEntry c.args.site.now c.note.new.site c.args.entry.now c.place_of.new.store.messages.items
+pub keep_posted-requires : goal.keep_posted-requires
+keep_posted-requires c =
+    let noted : RecordsEntry c.args.site.now c.note.new.site c.args.entry.now c.reserve.new.self.posted.items
     c.note.new.messages.items =
     rw c.if-not-branch.false at c.in_ok-note.ensures.noted in
-    let few : length c.note.new.messages.items ≤ length c.place_of.new.store.messages.items + MOST_REQUESTS =
-    Steps.few_more c.args.site.now.settings (state_of c.args.site.now) c.args.entry.now.event c.place_of.new.store.messages.items
+    let few = Steps.few_more c.args.site.now.settings (state_of c.args.site.now) c.args.entry.now.event c.reserve.new.self.posted.items
     c.note.new.messages.items noted.sends in
-    omega (arith, c.in_ok-first.ensures.0, c.in_ok-first.ensures.1)
+    omega (
+      arith,
+      few,
+      ap length c.in_ok-first.ensures.none,
+      ap length c.in_ok-first.ensures.items,
+      c.in_ok-first.ensures.at,
+      c.in_ok-first.ensures.room,
+    )
 
 pub overflow_cast-result : goal.overflow_cast-result
 overflow_cast-result c =
-    let noted : RecordsEntry c.args.site.now c.note.new.site c.args.entry.now c.place_of.new.store.messages.items
+    let noted : RecordsEntry c.args.site.now c.note.new.site c.args.entry.now c.reserve.new.self.posted.items
     c.note.new.messages.items =
     rw c.if-not-branch.false at c.in_ok-note.ensures.noted in
-    let few : length c.note.new.messages.items ≤ length c.place_of.new.store.messages.items + MOST_REQUESTS =
-    Steps.few_more c.args.site.now.settings (state_of c.args.site.now) c.args.entry.now.event c.place_of.new.store.messages.items
-    c.note.new.messages.items noted.sends in
-    let size : c.len.result ≡ length c.note.new.messages.items =
-    c.len.ensures ∙ c.list.new.self.messages.ok.0 ∙ ap length c.list.ensures in
-    omega (arith, c.in_ok-first.ensures.0, c.in_ok-first.ensures.1)
+    let grown = Steps.sent_after c.place_of.new.store.messages.items c.reserve.new.self.messages.items c.reserve.new.self.posted.items
+    c.note.new.messages.items _ c.keep_posted.new.self.messages.items c.in_ok-first.ensures.items c.in_ok-first.ensures.none noted.sends
+    c.keep_posted.ensures in
+    let few = Steps.few_more c.args.site.now.settings (state_of c.args.site.now) c.args.entry.now.event
+    c.place_of.new.store.messages.items c.keep_posted.new.self.messages.items grown in
+    omega (arith, few, c.len.ensures.same, c.in_ok-first.ensures.at)
 
 pub overflow_sub-count : goal.overflow_sub-count
 overflow_sub-count c =
-    let noted : RecordsEntry c.args.site.now c.note.new.site c.args.entry.now c.place_of.new.store.messages.items
+    let noted : RecordsEntry c.args.site.now c.note.new.site c.args.entry.now c.reserve.new.self.posted.items
     c.note.new.messages.items =
     rw c.if-not-branch.false at c.in_ok-note.ensures.noted in
-    Steps.no_fewer c.place_of.new.store.messages.items (sent_at c.args.site.now.settings (state_of c.args.site.now) c.args.entry.now.event)
-    c.list.new.self.messages.items c.in_ok-first.first c.len.result (c.list.ensures ∙ noted.sends) c.in_ok-first.ensures.0
-    (c.len.ensures ∙ c.list.new.self.messages.ok.0)
+    let grown = Steps.sent_after c.place_of.new.store.messages.items c.reserve.new.self.messages.items c.reserve.new.self.posted.items
+    c.note.new.messages.items _ c.keep_posted.new.self.messages.items c.in_ok-first.ensures.items c.in_ok-first.ensures.none noted.sends
+    c.keep_posted.ensures in
+    Steps.no_fewer c.place_of.new.store.messages.items _ c.keep_posted.new.self.messages.items c.in_ok-first.first c.len.result grown
+    c.in_ok-first.ensures.at c.len.ensures.same
 
 pub note-requires : goal.note-requires
 note-requires c = c.requires
@@ -54,7 +61,8 @@ returns-in_err-place c = record {
 
 pub returns-in_err-first : goal.returns-in_err-first
 returns-in_err-first c = record {
-  more = c.in_ok-place.ensures.more;
+  more = more_still c.args.store.now.messages.items c.place_of.new.store.messages.items c.place_of.new.store.messages.items
+      c.reserve.new.self.messages.items c.in_ok-place.ensures.more (no_more _ _ refl) c.in_err-first.ensures.items;
   step = no_value c.from_residual-in_err-first.result _ c.from_residual-in_err-first.ensures.0;
   err = still c.from_residual-in_err-first.result _ refl;
   same = (refl, refl);
@@ -62,8 +70,8 @@ returns-in_err-first c = record {
 
 pub returns-in_err-note : goal.returns-in_err-note
 returns-in_err-note c = record {
-  more = more_still c.args.store.now.messages.items c.place_of.new.store.messages.items c.note.new.messages.items
-      c.note.new.messages.items c.in_ok-place.ensures.more c.in_err-note.ensures.more refl;
+  more = more_still c.args.store.now.messages.items c.place_of.new.store.messages.items c.place_of.new.store.messages.items
+      c.reserve.new.self.messages.items c.in_ok-place.ensures.more (no_more _ _ refl) c.in_ok-first.ensures.items;
   step = no_value c.from_residual-in_err-note.result _ c.from_residual-in_err-note.ensures.0;
   err = still c.from_residual-in_err-note.result _ c.in_err-note.ensures.err;
   same = c.in_err-note.ensures.same;
@@ -71,8 +79,8 @@ returns-in_err-note c = record {
 
 pub returns-then-not-branch : goal.returns-then-not-branch
 returns-then-not-branch c = record {
-  more = more_still c.args.store.now.messages.items c.place_of.new.store.messages.items c.note.new.messages.items
-      c.note.new.messages.items c.in_ok-place.ensures.more c.in_ok-note.ensures.more refl;
+  more = more_still c.args.store.now.messages.items c.place_of.new.store.messages.items c.place_of.new.store.messages.items
+      c.reserve.new.self.messages.items c.in_ok-place.ensures.more (no_more _ _ refl) c.in_ok-first.ensures.items;
   step = rw c.if-not-branch.true at c.in_ok-note.ensures.noted;
   err = tt;
   same = c.in_ok-note.ensures.same;
@@ -80,17 +88,20 @@ returns-then-not-branch c = record {
 
 pub returns-in-Some : goal.returns-in-Some
 returns-in-Some c =
-    let noted : RecordsEntry c.args.site.now c.note.new.site c.args.entry.now c.place_of.new.store.messages.items
+    let noted : RecordsEntry c.args.site.now c.note.new.site c.args.entry.now c.reserve.new.self.posted.items
     c.note.new.messages.items =
     rw c.if-not-branch.false at c.in_ok-note.ensures.noted in
+    let grown = Steps.sent_after c.place_of.new.store.messages.items c.reserve.new.self.messages.items c.reserve.new.self.posted.items
+    c.note.new.messages.items _ c.keep_posted.new.self.messages.items c.in_ok-first.ensures.items c.in_ok-first.ensures.none noted.sends
+    c.keep_posted.ensures in
     record {
-      more = more_still c.args.store.now.messages.items c.place_of.new.store.messages.items c.note.new.messages.items
-          c.list.new.self.messages.items c.in_ok-place.ensures.more c.in_ok-note.ensures.more c.list.ensures;
+      more = more_still c.args.store.now.messages.items c.place_of.new.store.messages.items _
+          c.keep_posted.new.self.messages.items c.in_ok-place.ensures.more (record { more = _; is = refl }) grown;
       step = (
         noted.is,
         noted.replays,
         Steps.receives c.args.site.now.settings (state_of c.args.site.now) c.place_of.new.store.messages.items
-            c.list.new.self.messages.items c.args.entry.now.event c.in-Some.at (c.list.ensures ∙ noted.sends)
+            c.keep_posted.new.self.messages.items c.args.entry.now.event c.in-Some.at grown
             (subst (IsPlaced c.place_of.new.store.messages.items c.args.entry.now.event) c.in-Some.is c.in_ok-place.ensures.place),
       );
       err = tt;
@@ -99,19 +110,22 @@ returns-in-Some c =
 
 pub returns-in-None : goal.returns-in-None
 returns-in-None c =
-    let noted : RecordsEntry c.args.site.now c.note.new.site c.args.entry.now c.place_of.new.store.messages.items
+    let noted : RecordsEntry c.args.site.now c.note.new.site c.args.entry.now c.reserve.new.self.posted.items
     c.note.new.messages.items =
     rw c.if-not-branch.false at c.in_ok-note.ensures.noted in
+    let grown = Steps.sent_after c.place_of.new.store.messages.items c.reserve.new.self.messages.items c.reserve.new.self.posted.items
+    c.note.new.messages.items _ c.keep_posted.new.self.messages.items c.in_ok-first.ensures.items c.in_ok-first.ensures.none noted.sends
+    c.keep_posted.ensures in
     record {
-      more = more_still c.args.store.now.messages.items c.place_of.new.store.messages.items c.note.new.messages.items
-          c.list.new.self.messages.items c.in_ok-place.ensures.more c.in_ok-note.ensures.more c.list.ensures;
+      more = more_still c.args.store.now.messages.items c.place_of.new.store.messages.items _
+          c.keep_posted.new.self.messages.items c.in_ok-place.ensures.more (record { more = _; is = refl }) grown;
       step = (
         noted.is,
         noted.replays,
         Steps.alone c.place_of.new.store.messages.items (sent_at c.args.site.now.settings (state_of c.args.site.now) c.args.entry.now.event)
-            c.list.new.self.messages.items c.args.entry.now.event c.in_ok-first.first c.len.result (c.list.ensures ∙ noted.sends)
+            c.keep_posted.new.self.messages.items c.args.entry.now.event c.in_ok-first.first c.len.result grown
             (subst (IsPlaced c.place_of.new.store.messages.items c.args.entry.now.event) c.in-None.is c.in_ok-place.ensures.place)
-            c.in_ok-first.ensures.0 (c.len.ensures ∙ c.list.new.self.messages.ok.0) c.if-count-eq0.true,
+            c.in_ok-first.ensures.at c.len.ensures.same c.if-count-eq0.true,
       );
       err = tt;
       same = c.in_ok-note.ensures.same;
@@ -119,19 +133,22 @@ returns-in-None c =
 
 pub returns-in-None-2 : goal.returns-in-None-2
 returns-in-None-2 c =
-    let noted : RecordsEntry c.args.site.now c.note.new.site c.args.entry.now c.place_of.new.store.messages.items
+    let noted : RecordsEntry c.args.site.now c.note.new.site c.args.entry.now c.reserve.new.self.posted.items
     c.note.new.messages.items =
     rw c.if-not-branch.false at c.in_ok-note.ensures.noted in
+    let grown = Steps.sent_after c.place_of.new.store.messages.items c.reserve.new.self.messages.items c.reserve.new.self.posted.items
+    c.note.new.messages.items _ c.keep_posted.new.self.messages.items c.in_ok-first.ensures.items c.in_ok-first.ensures.none noted.sends
+    c.keep_posted.ensures in
     record {
-      more = more_still c.args.store.now.messages.items c.place_of.new.store.messages.items c.note.new.messages.items
-          c.list.new.self.messages.items c.in_ok-place.ensures.more c.in_ok-note.ensures.more c.list.ensures;
+      more = more_still c.args.store.now.messages.items c.place_of.new.store.messages.items _
+          c.keep_posted.new.self.messages.items c.in_ok-place.ensures.more (record { more = _; is = refl }) grown;
       step = (
         noted.is,
         noted.replays,
         Steps.sends c.place_of.new.store.messages.items (sent_at c.args.site.now.settings (state_of c.args.site.now) c.args.entry.now.event)
-            c.list.new.self.messages.items c.args.entry.now.event c.in_ok-first.first c.len.result (c.list.ensures ∙ noted.sends)
+            c.keep_posted.new.self.messages.items c.args.entry.now.event c.in_ok-first.first c.len.result grown
             (subst (IsPlaced c.place_of.new.store.messages.items c.args.entry.now.event) c.in-None.is c.in_ok-place.ensures.place)
-            c.in_ok-first.ensures.0 (c.len.ensures ∙ c.list.new.self.messages.ok.0),
+            c.in_ok-first.ensures.at c.len.ensures.same,
       );
       err = tt;
       same = c.in_ok-note.ensures.same;

@@ -6,7 +6,6 @@ use Rattle.rb_auditor.proofs.auditor.Auditor.check.Goals as goal
 
 pub follow_all-requires : goal.follow_all-requires
 follow_all-requires c =
-    subst (λ ns. AreJudged c.self.inside.config ns c.as_slice-messages.result.now) (sym c.as_slice.ensures.value)
-    (subst (AreJudged c.self.inside.config c.self.inside.notes.items) (sym c.as_slice-messages.ensures.value)
+    subst (λ ns. AreJudged c.self.inside.config ns c.self.inside.store.messages.items) (sym c.as_slice.ensures.value)
     (Kept.judged_all c.self.inside.config c.self.inside.sites.items c.self.inside.notes.items c.self.inside.store.messages.items
-    c.self.invariant))
+    c.self.invariant)

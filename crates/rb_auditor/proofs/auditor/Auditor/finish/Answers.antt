@@ -6,7 +6,6 @@ use Rattle.rb_auditor.proofs.auditor.Auditor.finish.Goals as goal
 
 pub find-requires : goal.find-requires
 find-requires c =
-    subst (λ ns. AreJudged c.self.inside.config ns c.as_slice-2.result.now) (sym c.as_slice.ensures.value)
-    (subst (AreJudged c.self.inside.config c.self.inside.notes.items) (sym c.as_slice-2.ensures.value)
+    subst (λ ns. AreJudged c.self.inside.config ns c.self.inside.store.messages.items) (sym c.as_slice.ensures.value)
     (Kept.judged_all c.self.inside.config c.self.inside.sites.items c.self.inside.notes.items c.self.inside.store.messages.items
-    c.self.invariant))
+    c.self.invariant)

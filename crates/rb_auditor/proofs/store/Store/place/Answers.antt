@@ -1,5 +1,5 @@
 -- Where the message is.
-use Rattle.std.proofs.Common.{◌∙◌, ◌++◌, ◌∷◌, [], ap, arith, refl, slice_get}
+use Rattle.std.proofs.Common.{◌∙◌, ◌++◌, ◌∷◌, [], ap, arith, length, refl, slice_get}
 use Rattle.rb_auditor.proofs.Kept.{no_more}
 use Rattle.rb_auditor.proofs.Lists
 use Rattle.rb_auditor.proofs.Results.{no_value, still}
@@ -14,28 +14,21 @@ returns-in-Some c = record {
 
 pub returns-in_err-at : goal.returns-in_err-at
 returns-in_err-at c = record {
-  more = no_more c.args.self.now.messages.items c.args.self.now.messages.items refl;
+  more = no_more c.args.self.now.messages.items c.reserve.new.self.messages.items c.in_err-at.ensures.items;
   there = no_value c.from_residual.result _ c.from_residual.ensures.0;
-  err = still c.from_residual.result _ refl;
+  err = still c.from_residual.result _ c.in_err-at.ensures.items;
 }
 
-pub returns-in_err-reserve : goal.returns-in_err-reserve
-returns-in_err-reserve c = record {
-  more = no_more c.args.self.now.messages.items c.reserve.new.self.items c.in_err-reserve.ensures.items;
-  there = no_value c.from_residual-in_err-reserve.result _ c.from_residual-in_err-reserve.ensures.0;
-  err = still c.from_residual-in_err-reserve.result _ c.in_err-reserve.ensures.items;
-}
-
-pub push_reserved-requires : goal.push_reserved-requires
-push_reserved-requires c = omega (arith, c.in_ok-reserve.ensures.ok)
+pub push-requires : goal.push-requires
+push-requires c = omega (arith, ap length c.in_ok-at.ensures.items, c.in_ok-at.ensures.at, c.in_ok-at.ensures.room)
 
 pub returns : goal.returns
 returns c =
-    let items = c.push_reserved.ensures.items ∙ ap (λ ms. ms ++ c.args.message.now ∷ []) c.in_ok-reserve.ensures.items in
+    let items = c.push.ensures.items ∙ ap (λ ms. ms ++ c.args.message.now ∷ []) c.in_ok-at.ensures.items in
     record {
       more = record { more = c.args.message.now ∷ []; is = items };
       there = ap (λ ms. slice_get ms c.in_ok-at.at) items
-          ∙ ap (slice_get (c.args.self.now.messages.items ++ c.args.message.now ∷ [])) c.in_ok-at.ensures.0
+          ∙ ap (slice_get (c.args.self.now.messages.items ++ c.args.message.now ∷ [])) c.in_ok-at.ensures.at
           ∙ Lists.get_after c.args.self.now.messages.items [] c.args.message.now;
       err = tt;
     }

@@ -1,9 +1,9 @@
 -- No entry is taken yet.
-use Rattle.std.proofs.Common.{◌≡◌, ◌∙◌, ◌-◌, ℕ, List, [], ◌++◌, length, ap, sym, take, arith}
+use Rattle.std.proofs.Common.{◌≡◌, ◌∙◌, ◌-◌, ℕ, List, [], ◌++◌, length, ap, subst, sym, take, arith}
 use Rattle.std.specs.Prelude.{replicate}
 use Rattle.std.proofs.Math.Seq.{take-nil}
 use Rattle.std.proofs.lemmas.List.{length-map}
-use Rattle.rb_auditor.specs.Kept.{entries_noted, histories_in}
+use Rattle.rb_auditor.specs.Kept.{AreJudged, entries_noted, histories_in}
 use Rattle.rb_auditor.specs.Progress.{Progress, first_progress}
 use Rattle.rb_auditor.proofs.Judged
 use Rattle.rb_auditor.proofs.Takings
@@ -37,10 +37,10 @@ first c = ap as_progress (c.in_ok-resize.ensures.items
 
 pub invariant_of-result : goal.invariant_of-result
 invariant_of-result c = (
-  Takings.first_as c.args.config.now (histories_in c.args.notes.now) c.new-2.result.items c.resize.new.self.items c.in_ok-sent.sent
-      c.new-2.ensures.items c.in_ok-sent.ensures (first c) (Judged.first_taken c.args.config.now c.args.notes.now c.args.messages.now
+  Takings.first_as c.args.config.now (histories_in c.args.notes.now) c.new-2.result.items c.resize.new.self.items c.in_ok-sent.sent.items
+      c.new-2.ensures.items c.in_ok-sent.ensures.1 (first c) (Judged.first_taken c.args.config.now c.args.notes.now c.args.messages.now.items
       c.requires.judged c.requires.whole),
-  c.requires.judged,
+  subst (AreJudged c.args.config.now c.args.notes.now) (sym c.in_ok-sent.ensures.0) c.requires.judged,
   c.requires.whole,
   c.sites.ensures.configured,
 )

@@ -1,0 +1,32 @@
+-- What is at a position is at its place among all.
+use Rattle.std.proofs.Common.{◌∙◌, ap, slice_get, sym}
+use Rattle.std.proofs.lemmas.Bool.{eq-eqb, false≢true}
+use Rattle.rb_auditor.specs.MessageLists.{SentTable}
+use Rattle.rb_auditor.proofs.Placed
+use Rattle.rb_auditor.proofs.posted.Posted.is_at.Goals as goal
+
+pub returns-then-known-place : goal.returns-then-known-place
+returns-then-known-place c =
+    let at = Placed.at_place c.self.inside.all.now.items c.self.inside.places.items c.deref.result.now c.args.self.now c.args.position
+    c.in-Some.known.now c.self.view_is c.self.invariant c.deref.ensures.value c.in-Some.ensures.lookup.3.0 c.in-Some.ensures.lookup.1 in
+    let here = ap (slice_get c.args.self.now.all) c.if-known-place.true ∙ c.requires in (
+      λ yes. at ∙ here,
+      λ there. eq-eqb _ _ c.if-known-place.true,
+    )
+
+pub returns-else-known-place : goal.returns-else-known-place
+returns-else-known-place c =
+    let at = Placed.at_place c.self.inside.all.now.items c.self.inside.places.items c.deref.result.now c.args.self.now c.args.position
+    c.in-Some.known.now c.self.view_is c.self.invariant c.deref.ensures.value c.in-Some.ensures.lookup.3.0 c.in-Some.ensures.lookup.1 in
+    let all = ap (λ (t : SentTable). slice_get t.all c.in-Some.known.now) c.self.view_is in (
+      λ yes. at ∙ sym all ∙ c.has_at.ensures.0 yes,
+      λ there. c.has_at.ensures.1 (all ∙ sym at ∙ there),
+    )
+
+pub returns-in-None : goal.returns-in-None
+returns-in-None c =
+    let none = Placed.past_places c.self.inside.all.now.items c.self.inside.places.items c.deref.result.now c.args.self.now c.args.position
+    c.self.view_is c.self.invariant c.deref.ensures.value c.in-None.ensures.lookup.3 in (
+      λ yes. absurd (false≢true yes),
+      λ there. cc,
+    )

@@ -1,0 +1,176 @@
+//! A list of messages.
+ghost use Rattle.std.specs.Prelude.{◌≡◌, ◌↔◌, ◌<◌, ◌≤◌, ◌+◌, ◌^◌, ◌++◌, ◌∷◌, [], IsTrue, OnOk, length, slice_get};
+ghost use Rattle.rb_money.specs.declared.limits.TheConstants.{MOST_OPERATIONS as THE_MOST_OPERATIONS, MOST_SITES};
+ghost use Rattle.rb_site.specs.declared.message.Message.TheVariants.{Shadow as ShadowMessage};
+ghost use Rattle.rb_auditor.specs.MessageLists.{IsUsual};
+
+use crate::spot::Spot;
+use crate::usual::is_usual;
+use rb_ledger::OperationList;
+use rb_money::MOST_OPERATIONS;
+use rb_shadow::Shadow;
+use rb_site::Message;
+use std::alloc::{AllocError, Global};
+use std::marker::Model;
+
+/// Messages in their order, in less memory than a list of them: of the clock of an operation it keeps the entries of the
+/// bank's sites alone, where all others are 0. Clients see the messages, and for how many there is memory.
+#[derive(Drop)]
+pub struct MessageList {
+    usual: OperationList,
+    // Tokens, and operations with other clocks, which no site of the bank makes.
+    others: Vec<Message>,
+    // One for each message.
+    spots: Vec<Spot>,
+    limit: usize,
+}
+
+impl Model for MessageList {
+    ghost use Rattle.std.specs.Prelude.{length, ◌≤◌, ◌<◌, ◌+◌, ◌^◌, vec_capacity};
+    ghost use Rattle.std.specs.List.{filter_map};
+    ghost use Rattle.rb_auditor.specs.MessageLists.{AreThere, MessageTable, message_at};
+
+    ghost Value = { MessageTable };
+
+    ghost view = { λ l. record {
+      items = filter_map (message_at l.usual.items l.others.items) l.spots.items;
+      usual = length l.usual.items;
+      sites = l.usual.sites;
+      limit = l.limit;
+    } };
+
+    ghost invariant = { λ l. record {
+      each : AreThere (message_at l.usual.items l.others.items) l.spots.items;
+      whole : length l.usual.items + length l.others.items ≤ length l.spots.items;
+      within : length l.spots.items ≤ l.limit;
+      few : l.limit < 2 ^ 32;
+      usual_fit : l.limit ≤ l.usual.limit;
+      others_fit : l.limit ≤ vec_capacity l.others;
+      spots_fit : l.limit ≤ vec_capacity l.spots;
+    } };
+}
+
+impl MessageList {
+    /// No messages, of a bank of this number of sites, without memory for any.
+    pub fn new(alloc: Global, sites: u8) -> MessageList
+        requires { sites ≤ MOST_SITES }
+        ensures { result.items ≡ [] }
+    {
+        MessageList {
+            usual: OperationList::new(alloc, sites),
+            others: Vec::new(alloc),
+            spots: Vec::new(alloc),
+            limit: 0,
+        }
+    }
+
+    /// How many there are.
+    pub fn len(&self) -> usize
+        ensures same { result ≡ length self.now.items }
+        ensures few { result < 2 ^ 32 }
+    {
+        self.spots.len()
+    }
+
+    /// The message at an index, from 0. `None` past the last.
+    #[inline(always)]
+    pub fn get(&self, index: usize) -> Option<Message>
+        ensures { result ≡ slice_get self.now.items index }
+    {
+        match *self.spots.get(index)? {
+            Spot::Usual { at } => Some(Message::Shadow(self.usual.get(at as usize)?)),
+            Spot::Other { at } => Some(*self.others.get(at as usize)?),
+        }
+    }
+
+    /// Whether the message is at an index.
+    pub fn has_at(&self, index: usize, message: &Message) -> bool
+        ensures { IsTrue result ↔ (slice_get self.now.items index ≡ Some message.now) }
+    {
+        match self.get(index) {
+            Some(known) => known.same(message),
+            None => false,
+        }
+    }
+
+    /// Takes memory for this many messages more. `Err` means out of memory, or that there would be 2^32 or more.
+    #[inline(always)]
+    pub fn reserve(&mut self, more: usize) -> Result<(), AllocError>
+        ensures items { self.new.items ≡ self.old.items }
+        ensures room { OnOk result (length self.old.items + more ≤ self.new.limit) }
+        ensures few { OnOk result (self.new.limit < 2 ^ 32) }
+    {
+        let Some(least) = self.spots.len().checked_add(more) else {
+            return Err(AllocError);
+        };
+        if least <= self.limit {
+            return Ok(());
+        }
+        self.grow(least)
+    }
+
+    /// Takes memory for at least this number of messages in all, and for twice as many as before where there may be so
+    /// many.
+    fn grow(&mut self, least: usize) -> Result<(), AllocError>
+        requires { self.old.limit < least }
+        ensures items { self.new.items ≡ self.old.items }
+        ensures room { OnOk result (least ≤ self.new.limit) }
+        ensures few { OnOk result (self.new.limit < 2 ^ 32) }
+    {
+        let most = u32::MAX as usize;
+        if least > most {
+            return Err(AllocError);
+        }
+        let limit = least.max(most.min(self.limit * 2));
+        self.usual.reserve(limit)?;
+        self.others.reserve(limit - self.others.len())?;
+        self.spots.reserve(limit - self.spots.len())?;
+        self.limit = limit;
+        Ok(())
+    }
+
+    /// Adds a message, for which there is memory.
+    pub fn push(&mut self, message: &Message)
+        requires { length self.old.items < self.old.limit }
+        ensures items { self.new.items ≡ self.old.items ++ message.now ∷ [] }
+        ensures limit { self.new.limit ≡ self.old.limit }
+    {
+        match message {
+            Message::Shadow(shadow) if self.takes(shadow) => self.push_usual(shadow),
+            _ => self.push_other(message),
+        }
+    }
+
+    /// Whether the operation may be one of the usual ones.
+    #[inline(always)]
+    fn takes(&self, shadow: &Shadow) -> bool
+        ensures few { IsTrue result → self.now.usual < THE_MOST_OPERATIONS }
+        ensures usual { IsTrue result → IsUsual self.now.sites shadow.now }
+    {
+        self.usual.len() < MOST_OPERATIONS as usize && is_usual(self.usual.sites(), shadow)
+    }
+
+    /// Adds an operation of which little is kept.
+    fn push_usual(&mut self, shadow: &Shadow)
+        requires room { length self.old.items < self.old.limit }
+        requires few { self.old.usual < THE_MOST_OPERATIONS }
+        requires usual { IsUsual self.old.sites shadow.now }
+        ensures items { self.new.items ≡ self.old.items ++ ShadowMessage shadow.now ∷ [] }
+        ensures limit { self.new.limit ≡ self.old.limit }
+    {
+        let at = self.usual.len() as u32;
+        self.usual.push(shadow);
+        self.spots.push_reserved(Spot::Usual { at });
+    }
+
+    /// Adds a message that is kept whole.
+    fn push_other(&mut self, message: &Message)
+        requires { length self.old.items < self.old.limit }
+        ensures items { self.new.items ≡ self.old.items ++ message.now ∷ [] }
+        ensures limit { self.new.limit ≡ self.old.limit }
+    {
+        let at = self.others.len() as u32;
+        self.others.push_reserved(*message);
+        self.spots.push_reserved(Spot::Other { at });
+    }
+}

@@ -1,0 +1,89 @@
+//! The messages that were sent, in order.
+ghost use Rattle.std.specs.Prelude.{◌≡◌, ◌↔◌, ◌<◌, ◌≤◌, ◌+◌, ◌^◌, ◌++◌, [], IsTrue, OnOk, OnErr, Some, length, take, drop, slice_get};
+
+use crate::message_list::MessageList;
+use rb_site::Message;
+use std::alloc::{AllocError, Global};
+use std::marker::Model;
+
+/// The messages that were sent so far, in order. Each is read in the list of all. Clients see both.
+#[derive(Drop)]
+pub struct Posted<'a> {
+    all: &'a MessageList,
+    // Where each is among all.
+    places: Vec<usize>,
+}
+
+impl<'a> Model for Posted<'a> {
+    ghost use Rattle.std.specs.Prelude.{slice_get};
+    ghost use Rattle.std.specs.List.{filter_map};
+    ghost use Rattle.rb_auditor.specs.MessageLists.{AreThere, SentTable};
+
+    ghost Value = { SentTable };
+
+    ghost view = { λ p. record {
+      all = p.all.now.items;
+      items = filter_map (slice_get p.all.now.items) p.places.items;
+    } };
+
+    ghost invariant = { λ p. AreThere (slice_get p.all.now.items) p.places.items };
+}
+
+impl<'a> Posted<'a> {
+    /// Before any of these messages is sent.
+    pub fn new(alloc: Global, all: &'a MessageList) -> Posted<'a>
+        ensures all { result.all ≡ all.now.items }
+        ensures none { result.items ≡ [] }
+    {
+        Posted {
+            all,
+            places: Vec::new(alloc),
+        }
+    }
+
+    /// How many were sent.
+    pub fn len(&self) -> usize
+        ensures same { result ≡ length self.now.items }
+        ensures few { result < 2 ^ 63 }
+        ensures all { length self.now.all < 2 ^ 32 }
+    {
+        // For a fact alone: how many messages there may be.
+        let _all = self.all.len();
+        self.places.len()
+    }
+
+    /// The message at a place among all.
+    #[inline(always)]
+    pub fn message(&self, place: usize) -> Option<Message>
+        ensures { result ≡ slice_get self.now.all place }
+    {
+        self.all.get(place)
+    }
+
+    /// Whether the message, which is at a place among all, is the one that was sent at a position.
+    pub fn is_at(&self, position: usize, place: usize, message: &Message) -> bool
+        requires { slice_get self.now.all place ≡ Some message.now }
+        ensures { IsTrue result ↔ (slice_get self.now.items position ≡ Some message.now) }
+    {
+        match self.places.get(position) {
+            Some(known) => *known == place || self.all.has_at(*known, message),
+            None => false,
+        }
+    }
+
+    /// Adds messages that are among all, from a place on. `Err` means out of memory, and adds none.
+    pub fn add(&mut self, first: usize, count: usize) -> Result<(), AllocError>
+        requires { first + count ≤ length self.old.all }
+        ensures all { self.new.all ≡ self.old.all }
+        ensures ok { OnOk result (self.new.items ≡ self.old.items ++ take count (drop first self.old.all)) }
+        ensures err { OnErr result (self.new.items ≡ self.old.items) }
+    {
+        // For a fact alone: how many messages there are fits a `usize`.
+        let _all = self.all.len();
+        self.places.reserve(count)?;
+        for place in first..first + count {
+            self.places.push_reserved(place);
+        }
+        Ok(())
+    }
+}
