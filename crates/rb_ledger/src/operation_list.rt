@@ -101,7 +101,7 @@ impl OperationList {
 
     /// The same, as it is kept.
     #[inline(always)]
-    pub(crate) fn at(&self, index: usize) -> Option<OperationRef<'_>>
+    pub fn at(&self, index: usize) -> Option<OperationRef<'_>>
         ensures { result ≡ slice_get self.now.items index }
     {
         let body = self.bodies.get(index)?;
