@@ -4,6 +4,7 @@ mod Lists
 mod Found
 mod Spots
 mod Placed
+mod Numbers
 mod Replaying
 mod Messages
 mod Runs

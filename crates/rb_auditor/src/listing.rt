@@ -5,58 +5,62 @@ ghost use Rattle.rb_site.specs.Histories.{IsAmong};
 ghost use Rattle.rb_auditor.specs.Findings.{lists_of};
 ghost use Rattle.rb_auditor.specs.Sent.{IsListed, row_of_message, slot_of};
 
-use crate::message::{row, slot};
 use crate::posted::Posted;
-use rb_site::Message;
 use std::alloc::AllocError;
 
-/// Whether the message, which is at a place among all, was sent at the position that is listed for its number.
-pub fn is_in_row(posted: &Posted<'_>, rows: &[Vec<usize>], place: usize, message: &Message) -> bool
-    requires { slice_get posted.now.all place ≡ Some message.now }
-    ensures known { IsTrue result → IsAmong message.now posted.now.items }
-    ensures found { (positions : List ℕ) (position : ℕ)
-        → slice_get (lists_of rows.now) (row_of_message message.now) ≡ Some positions
-        → slice_get positions (slot_of message.now) ≡ Some position
-        → slice_get posted.now.items position ≡ Some message.now → IsTrue result }
+/// Whether the message at a place among all was sent at the position that is listed in a slot of a row.
+pub fn is_in_row(
+    posted: &Posted<'_>,
+    rows: &[Vec<usize>],
+    row: usize,
+    slot: usize,
+    place: usize,
+) -> bool
+    ensures known { (m : TheMessage) → slice_get posted.now.all place ≡ Some m → IsTrue result
+        → IsAmong m posted.now.items }
+    ensures found { (m : TheMessage) (positions : List ℕ) (position : ℕ) → slice_get posted.now.all place ≡ Some m
+        → slice_get (lists_of rows.now) row ≡ Some positions → slice_get positions slot ≡ Some position
+        → slice_get posted.now.items position ≡ Some m → IsTrue result }
 {
-    match rows.get(row(message)) {
-        Some(positions) => match positions.get(slot(message)) {
-            Some(position) => posted.is_at(*position, place, message),
+    match rows.get(row) {
+        Some(positions) => match positions.get(slot) {
+            Some(position) => posted.is_at(*position, place),
             None => false,
         },
         None => false,
     }
 }
 
-/// Whether the message, which is at a place among all, was sent at one of these positions.
-pub fn is_at_one(posted: &Posted<'_>, positions: &[usize], place: usize, message: &Message) -> bool
-    requires { slice_get posted.now.all place ≡ Some message.now }
-    ensures known { IsTrue result → IsAmong message.now posted.now.items }
-    ensures found { (k position : ℕ) → slice_get positions.now k ≡ Some position
-        → slice_get posted.now.items position ≡ Some message.now → IsTrue result }
+/// Whether the message at a place among all was sent at one of these positions.
+pub fn is_at_one(posted: &Posted<'_>, positions: &[usize], place: usize) -> bool
+    ensures known { (m : TheMessage) → slice_get posted.now.all place ≡ Some m → IsTrue result
+        → IsAmong m posted.now.items }
+    ensures found { (m : TheMessage) (k position : ℕ) → slice_get posted.now.all place ≡ Some m
+        → slice_get positions.now k ≡ Some position → slice_get posted.now.items position ≡ Some m → IsTrue result }
 {
     for position in positions {
-        if posted.is_at(*position, place, message) {
+        if posted.is_at(*position, place) {
             return true;
         }
     }
     false
 }
 
-/// Lists the position of a message: in its row where its number is the next there, and else among the others.
-/// `Err` means out of memory, and lists nothing more.
+/// Lists the position of a message, of this row and slot: in its row where its number is the next there, and else among
+/// the others. `Err` means out of memory, and lists nothing more.
 pub fn list(
     rows: &mut Vec<Vec<usize>>,
     others: &mut Vec<usize>,
     position: usize,
-    message: &Message,
+    row: usize,
+    slot: usize,
 ) -> Result<(), AllocError>
     ensures kept { (j : ℕ) (m : TheMessage) → IsListed (lists_of rows.old.items) others.old.items j m
         → IsListed (lists_of rows.new.items) others.new.items j m }
-    ensures listed { OnOk result (IsListed (lists_of rows.new.items) others.new.items position message.now) }
+    ensures listed { OnOk result ((m : TheMessage) → row_of_message m ≡ row → slot_of m ≡ slot
+        → IsListed (lists_of rows.new.items) others.new.items position m) }
 {
-    let row = row(message);
-    if row < rows.len() && rows[row].len() == slot(message) {
+    if row < rows.len() && rows[row].len() == slot {
         rows[row].push(position)?;
     } else {
         others.push(position)?;

@@ -1,8 +1,9 @@
 //! Where messages are listed: a row and a position in it.
-ghost use Rattle.std.specs.Prelude.{◌≡◌};
-ghost use Rattle.rb_auditor.specs.Sent.{row_of_message, slot_of};
+ghost use Rattle.std.specs.Prelude.{◌≡◌, ◌↔◌, IsTrue};
+ghost use Rattle.rb_site.specs.declared.message.Message.TheVariants.{Shadow as ShadowMessage};
+ghost use Rattle.rb_auditor.specs.Sent.{row_of_message, row_of_name, slot_of, slot_of_name};
 
-use rb_shadow::OpName;
+use rb_shadow::{OpName, Shadow};
 use rb_site::Message;
 
 /// The row of a message: 0 for a token, 1 for a red operation, and 2 more than its home for a blue one.
@@ -11,10 +12,7 @@ pub fn row(message: &Message) -> usize
 {
     match message {
         Message::Token(_) => 0,
-        Message::Shadow(shadow) => match shadow.name {
-            OpName::Red { n: _ } => 1,
-            OpName::Blue { site, n: _ } => site as usize + 2,
-        },
+        Message::Shadow(shadow) => name_row(shadow.name),
     }
 }
 
@@ -24,9 +22,39 @@ pub fn slot(message: &Message) -> usize
 {
     match message {
         Message::Token(token) => token.epoch.saturating_sub(1) as usize,
-        Message::Shadow(shadow) => match shadow.name {
-            OpName::Red { n } => n.saturating_sub(1) as usize,
-            OpName::Blue { site: _, n } => n.saturating_sub(1) as usize,
-        },
+        Message::Shadow(shadow) => name_slot(shadow.name),
+    }
+}
+
+/// The row of the operation of a name.
+#[inline(always)]
+pub fn name_row(name: OpName) -> usize
+    ensures { result ≡ row_of_name name }
+{
+    match name {
+        OpName::Red { n: _ } => 1,
+        OpName::Blue { site, n: _ } => site as usize + 2,
+    }
+}
+
+/// The position of the operation of a name in its row.
+#[inline(always)]
+pub fn name_slot(name: OpName) -> usize
+    ensures { result ≡ slot_of_name name }
+{
+    match name {
+        OpName::Red { n } => n.saturating_sub(1) as usize,
+        OpName::Blue { site: _, n } => n.saturating_sub(1) as usize,
+    }
+}
+
+/// Whether the message is this operation.
+#[inline(always)]
+pub fn is_operation(message: &Message, known: &Shadow) -> bool
+    ensures { IsTrue result ↔ (ShadowMessage known.now ≡ message.now) }
+{
+    match message {
+        Message::Shadow(shadow) => known.same(shadow),
+        Message::Token(_) => false,
     }
 }

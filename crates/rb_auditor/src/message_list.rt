@@ -1,9 +1,12 @@
 //! A list of messages.
-ghost use Rattle.std.specs.Prelude.{◌≡◌, ◌↔◌, ◌<◌, ◌≤◌, ◌+◌, ◌^◌, ◌++◌, ◌∷◌, [], IsTrue, OnOk, length, slice_get};
+ghost use Rattle.std.specs.Prelude.{◌≡◌, ◌↔◌, ◌<◌, ◌≤◌, ◌+◌, ◌^◌, ◌++◌, ◌∷◌, [], IsTrue, OnOk, Some, length, option_map, slice_get};
 ghost use Rattle.rb_money.specs.declared.limits.TheConstants.{MOST_OPERATIONS as THE_MOST_OPERATIONS, MOST_SITES};
+ghost use Rattle.rb_site.specs.declared.message.Message.{Message as TheMessage};
 ghost use Rattle.rb_site.specs.declared.message.Message.TheVariants.{Shadow as ShadowMessage};
 ghost use Rattle.rb_auditor.specs.MessageLists.{IsUsual};
+ghost use Rattle.rb_auditor.specs.Sent.{row_of_message, slot_of};
 
+use crate::message::{is_operation, name_row, name_slot, row, slot};
 use crate::spot::Spot;
 use crate::usual::is_usual;
 use rb_ledger::OperationList;
@@ -83,12 +86,50 @@ impl MessageList {
         }
     }
 
+    /// The row and the slot in which the message at an index is listed. `None` past the last.
+    #[inline(always)]
+    pub fn number(&self, index: usize) -> Option<(usize, usize)>
+        ensures { result ≡ option_map (λ m. (row_of_message m, slot_of m)) (slice_get self.now.items index) }
+    {
+        match *self.spots.get(index)? {
+            Spot::Usual { at } => {
+                let name = self.usual.at(at as usize)?.name();
+                Some((name_row(name), name_slot(name)))
+            }
+            Spot::Other { at } => {
+                let message = self.others.get(at as usize)?;
+                Some((row(message), slot(message)))
+            }
+        }
+    }
+
     /// Whether the message is at an index.
+    #[inline(always)]
     pub fn has_at(&self, index: usize, message: &Message) -> bool
         ensures { IsTrue result ↔ (slice_get self.now.items index ≡ Some message.now) }
     {
-        match self.get(index) {
-            Some(known) => known.same(message),
+        let Some(spot) = self.spots.get(index) else {
+            return false;
+        };
+        match *spot {
+            Spot::Usual { at } => match self.usual.get(at as usize) {
+                Some(known) => is_operation(message, &known),
+                None => false,
+            },
+            Spot::Other { at } => match self.others.get(at as usize) {
+                Some(known) => known.same(message),
+                None => false,
+            },
+        }
+    }
+
+    /// Whether the message at an index is that at another.
+    pub fn are_same(&self, index: usize, other: usize) -> bool
+        ensures { (m : TheMessage) → slice_get self.now.items other ≡ Some m
+            → (IsTrue result ↔ (slice_get self.now.items index ≡ Some m)) }
+    {
+        match self.get(other) {
+            Some(message) => self.has_at(index, &message),
             None => false,
         }
     }

@@ -1,8 +1,10 @@
 //! The messages that were sent, in order.
-ghost use Rattle.std.specs.Prelude.{◌≡◌, ◌↔◌, ◌<◌, ◌≤◌, ◌+◌, ◌^◌, ◌++◌, [], IsTrue, OnOk, OnErr, Some, length, take, drop, slice_get};
+ghost use Rattle.std.specs.Prelude.{◌≡◌, ◌↔◌, ◌<◌, ◌≤◌, ◌+◌, ◌^◌, ◌++◌, [], IsTrue, OnOk, OnErr, Some, length, take, drop, option_map};
+ghost use Rattle.std.specs.Prelude.{slice_get};
+ghost use Rattle.rb_site.specs.declared.message.Message.{Message as TheMessage};
+ghost use Rattle.rb_auditor.specs.Sent.{row_of_message, slot_of};
 
 use crate::message_list::MessageList;
-use rb_site::Message;
 use std::alloc::{AllocError, Global};
 use std::marker::Model;
 
@@ -52,21 +54,21 @@ impl<'a> Posted<'a> {
         self.places.len()
     }
 
-    /// The message at a place among all.
+    /// The row and the slot in which the message at a place among all is listed.
     #[inline(always)]
-    pub fn message(&self, place: usize) -> Option<Message>
-        ensures { result ≡ slice_get self.now.all place }
+    pub fn number(&self, place: usize) -> Option<(usize, usize)>
+        ensures { result ≡ option_map (λ m. (row_of_message m, slot_of m)) (slice_get self.now.all place) }
     {
-        self.all.get(place)
+        self.all.number(place)
     }
 
-    /// Whether the message, which is at a place among all, is the one that was sent at a position.
-    pub fn is_at(&self, position: usize, place: usize, message: &Message) -> bool
-        requires { slice_get self.now.all place ≡ Some message.now }
-        ensures { IsTrue result ↔ (slice_get self.now.items position ≡ Some message.now) }
+    /// Whether the message at a place among all is the one that was sent at a position.
+    pub fn is_at(&self, position: usize, place: usize) -> bool
+        ensures { (m : TheMessage) → slice_get self.now.all place ≡ Some m
+            → (IsTrue result ↔ (slice_get self.now.items position ≡ Some m)) }
     {
         match self.places.get(position) {
-            Some(known) => *known == place || self.all.has_at(*known, message),
+            Some(known) => *known == place || self.all.are_same(*known, place),
             None => false,
         }
     }

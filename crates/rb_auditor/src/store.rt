@@ -47,6 +47,7 @@ impl Store {
 
     /// Takes memory for the messages of one more entry, and answers the place of the first. `Err` means out of memory,
     /// or that the places of these might not fit a `u32`.
+    #[inline(always)]
     pub fn reserve(&mut self) -> Result<u32, AllocError>
         ensures items { self.new.messages.items ≡ self.old.messages.items }
         ensures none { self.new.posted.items ≡ [] }

@@ -6,22 +6,26 @@ use Rattle.rb_site.proofs.Public.Places.{same_number}
 use Rattle.rb_site.proofs.Public.Recorded
 use Rattle.rb_auditor.proofs.listing.is_at_one.Goals as goal
 
+pub loop-position-init : goal.loop-position-init
+loop-position-init c = λ m k position here less at known. absurd (omega arith)
+
 pub returns-then-is_at-clause-known : goal.returns-then-is_at-clause-known
-returns-then-is_at-clause-known c = λ yes. Recorded.at_place c.args.posted.now.items
-    (get_or c.args.positions.now c.loop-position.position-index 0) c.args.message.now
-    (c.is_at.ensures.0 (subst IsTrue (sym c.if-is_at.true) yes))
+returns-then-is_at-clause-known c = λ m here yes. Recorded.at_place c.args.posted.now.items
+    (get_or c.args.positions.now c.loop-position.position-index 0) m
+    ((c.is_at.ensures m here).0 (subst IsTrue (sym c.if-is_at.true) yes))
 
 pub loop-position-preserved : goal.loop-position-preserved
-loop-position-preserved c = λ k position less at known. elim (same_number c.loop-position.position-index k) [
+loop-position-preserved c = λ m k position here less at known. elim (same_number c.loop-position.position-index k) [
   | inl e ↦
-      let here : get_or c.args.positions.now c.loop-position.position-index 0 ≡ position =
+      let there : get_or c.args.positions.now c.loop-position.position-index 0 ≡ position =
       get_or_from_slice_get c.args.positions.now c.loop-position.position-index position 0
       (ap (slice_get c.args.positions.now) (sym e) ∙ at) in
-      false≢true (sym c.if-is_at.false ∙ c.is_at.ensures.1 (ap (slice_get c.args.posted.now.items) here ∙ known))
-  | inr ne ↦ c.loop-position.invariant k position (omega arith) at known
+      false≢true (sym c.if-is_at.false
+      ∙ (c.is_at.ensures m here).1 (ap (slice_get c.args.posted.now.items) there ∙ known))
+  | inr ne ↦ c.loop-position.invariant m k position here (omega arith) at known
 ]
 
 pub returns-clause-found : goal.returns-clause-found
-returns-clause-found c = λ k position at known.
+returns-clause-found c = λ m k position here at known.
     let within : k < length c.args.positions.now = slice_get_within c.args.positions.now k position at in
-    absurd (c.loop-position.invariant k position (omega arith) at known)
+    absurd (c.loop-position.invariant m k position here (omega arith) at known)

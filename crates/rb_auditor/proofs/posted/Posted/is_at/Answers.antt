@@ -6,25 +6,25 @@ use Rattle.rb_auditor.proofs.Placed
 use Rattle.rb_auditor.proofs.posted.Posted.is_at.Goals as goal
 
 pub returns-then-known-place : goal.returns-then-known-place
-returns-then-known-place c =
+returns-then-known-place c = λ m here.
     let at = Placed.at_place c.self.inside.all.now.items c.self.inside.places.items c.deref.result.now c.args.self.now c.args.position
-    c.in-Some.known.now c.self.view_is c.self.invariant c.deref.ensures.value c.in-Some.ensures.lookup.3.0 c.in-Some.ensures.lookup.1 in
-    let here = ap (slice_get c.args.self.now.all) c.if-known-place.true ∙ c.requires in (
-      λ yes. at ∙ here,
+    c.in-Some.known.now c.self.view_is c.self.invariant c.deref.ensures.value c.in-Some.ensures.lookup.3.0 c.in-Some.ensures.lookup.1 in (
+      λ yes. at ∙ ap (slice_get c.args.self.now.all) c.if-known-place.true ∙ here,
       λ there. eq-eqb _ _ c.if-known-place.true,
     )
 
 pub returns-else-known-place : goal.returns-else-known-place
-returns-else-known-place c =
+returns-else-known-place c = λ m here.
     let at = Placed.at_place c.self.inside.all.now.items c.self.inside.places.items c.deref.result.now c.args.self.now c.args.position
     c.in-Some.known.now c.self.view_is c.self.invariant c.deref.ensures.value c.in-Some.ensures.lookup.3.0 c.in-Some.ensures.lookup.1 in
-    let all = ap (λ (t : SentTable). slice_get t.all c.in-Some.known.now) c.self.view_is in (
-      λ yes. at ∙ sym all ∙ c.has_at.ensures.0 yes,
-      λ there. c.has_at.ensures.1 (all ∙ sym at ∙ there),
+    let all = ap (λ (t : SentTable). slice_get t.all c.in-Some.known.now) c.self.view_is in
+    let same = c.are_same.ensures m (ap (λ (t : SentTable). slice_get t.all c.args.place) c.self.view_is ∙ here) in (
+      λ yes. at ∙ sym all ∙ same.0 yes,
+      λ there. same.1 (all ∙ sym at ∙ there),
     )
 
 pub returns-in-None : goal.returns-in-None
-returns-in-None c =
+returns-in-None c = λ m here.
     let none = Placed.past_places c.self.inside.all.now.items c.self.inside.places.items c.deref.result.now c.args.self.now c.args.position
     c.self.view_is c.self.invariant c.deref.ensures.value c.in-None.ensures.lookup.3 in (
       λ yes. absurd (false≢true yes),
