@@ -17,7 +17,7 @@ use rb_ledger::{Ledger, OperationList};
 use rb_money::{Config, Place, Refusal};
 use rb_scratch::{MOST_REQUESTS, Request, generate};
 use rb_shadow::{OpName, Shadow};
-use rb_statements::statement;
+use rb_statements::{empty_statement, statement};
 use rb_token::{Accepted, TokenMessage, TokenState};
 use rb_undo::UndoLog;
 use rb_vclock::Clock;
@@ -396,8 +396,31 @@ impl State {
 
     #[inline(never)]
     #[tactic(auto, unfolding(crate::specs::Events::outcome_of))]
-    /// An account's statement, for a history that keeps it or doesn't.
+    /// An account's statement, for a history that keeps it or doesn't. One without rows that isn't kept takes no memory.
     fn statement(
+        &self,
+        place: Place,
+        keeps: bool,
+        reply: &mut Reply,
+        noted: &mut Option<Reply>,
+    ) -> Result<(), AllocError>
+        requires { noted.old ≡ None }
+        ensures { OnOk result (Follows keeps self.now self.now [] []
+            (outcome_of self.now.settings self.now.site (Event.Statement place)) (noting reply.new noted.new)) }
+    {
+        if keeps {
+            return self.any_statement(place, keeps, reply, noted);
+        }
+        match empty_statement(self.alloc, self.journal.ledger(), place) {
+            Some(shown) => Ok(*reply = Reply::Statement(shown)),
+            None => self.any_statement(place, keeps, reply, noted),
+        }
+    }
+
+    #[inline(never)]
+    #[tactic(auto, unfolding(crate::specs::Events::outcome_of))]
+    /// The same of any account.
+    fn any_statement(
         &self,
         place: Place,
         keeps: bool,

@@ -154,6 +154,10 @@ pub rows_end : (s : Settings) (us : List Shadow) (a : Place) (p : ℕ) (rows : L
     rows_of s us a [] us ≡ rows_of s us a [] (take p us) ++ reverse rows → rows_of s us a [] us ≡ reverse rows
 rows_end s us a p rows low found = found ∙ ap (λ k. rows_of s us a [] (take k us) ++ reverse rows) (let none : p ≡ 0 = omega arith in none)
 
+-- an account on which no operation is has no rows
+pub none_found : (s : Settings) (us : List Shadow) (a : Place) (p : ℕ) → IsLast us a p → p ≤ 0 → [] ≡ rows_of s us a [] us
+none_found s us a p last low = sym (rows_end s us a p [] low (rows_start s us a p [] last refl))
+
 -- from an operation to the one before, with the rows found so far in reverse
 pub rows_back : (s : Settings) (us : List Shadow) (a : Place) (p q : ℕ) (row : Row) (rows now : List Row) → p ≤ length us →
     IsLast (take (p - 1) us) a q → rows_of s us a [] us ≡ rows_of s us a [] (take p us) ++ reverse rows

@@ -9,4 +9,4 @@ mod views;
 
 pub use account::Statement;
 pub use row::Row;
-pub use views::{as_of, balance_at, statement};
+pub use views::{as_of, balance_at, empty_statement, statement};

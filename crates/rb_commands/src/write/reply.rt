@@ -13,7 +13,7 @@ use crate::write::append::{append, make_space};
 use crate::write::line::{LINE, put_made, put_named_line, put_number_line};
 use crate::write::put::{put_if, put_name};
 use crate::write::refusal::put_refusal;
-use crate::write::statement::append_statement;
+use crate::write::statement::{append_empty, append_statement};
 use rb_shadow::OpName;
 use rb_site::Reply;
 use rb_statements::Statement;
@@ -80,9 +80,9 @@ fn append_names_line(out: &mut Vec<u8>, names: &[OpName]) -> Result<(), AllocErr
     keep_if_added(out, before, added)
 }
 
-/// The line of a statement. An `Err` adds nothing.
+/// The line of a statement with rows. An `Err` adds nothing.
 #[inline(never)]
-fn append_statement_line(out: &mut Vec<u8>, shown: &Statement) -> Result<(), AllocError>
+fn append_rows_line(out: &mut Vec<u8>, shown: &Statement) -> Result<(), AllocError>
     ensures ok { OnOk result (out.new.items
         ≡ out.old.items ++ (compact_text (statement_json shown.now) ++ codes "\n")) }
     ensures err { OnErr result (out.new.items ≡ out.old.items) }
@@ -90,6 +90,19 @@ fn append_statement_line(out: &mut Vec<u8>, shown: &Statement) -> Result<(), All
     let before = out.len();
     let added = append_statement(out, shown);
     keep_if_added(out, before, added)
+}
+
+/// The line of a statement. An `Err` adds nothing.
+#[inline(never)]
+fn append_statement_line(out: &mut Vec<u8>, shown: &Statement) -> Result<(), AllocError>
+    ensures ok { OnOk result (out.new.items
+        ≡ out.old.items ++ (compact_text (statement_json shown.now) ++ codes "\n")) }
+    ensures err { OnErr result (out.new.items ≡ out.old.items) }
+{
+    if shown.rows.as_slice().is_empty() {
+        return append_empty(out, shown);
+    }
+    append_rows_line(out, shown)
 }
 
 /// Puts a reply's line, which is a short one.

@@ -1,5 +1,6 @@
 //! Statements, as they are written.
 ghost use Rattle.std.specs.Prelude.{◌≡◌, ◌≤◌, ◌+◌, ◌++◌, [], cond, codes, decimal, false, length, map};
+ghost use Rattle.std.specs.Prelude.{OnErr, OnOk};
 ghost use Rattle.std.specs.Fmt.{signed_decimal};
 ghost use Rattle.serde_json.specs.Written.{compact_text, items_text};
 ghost use Rattle.serde_json.specs.View.{items_of};
@@ -9,7 +10,7 @@ ghost use Rattle.rb_shadow.specs.NameText.{name_text};
 ghost use Rattle.rb_commands.specs.Adds.{Adds};
 ghost use Rattle.rb_commands.specs.Placed.{Placed};
 ghost use Rattle.rb_commands.specs.Statements.{row_json, statement_json};
-ghost use Rattle.rb_commands.specs.declared.write.statement.TheConstants.{ROW};
+ghost use Rattle.rb_commands.specs.declared.write.statement.TheConstants.{EMPTY, ROW};
 ghost use Rattle.rb_shadow.specs.Labels.{word_of};
 
 use crate::write::append::{append_number, make_space};
@@ -98,6 +99,38 @@ fn append_rows(out: &mut Vec<u8>, rows: &[Row], start: u64) -> Result<(), AllocE
         comma = true;
     }
     append_number(out, "],\"start\":", start, "}\n")
+}
+
+/// The most bytes of the line of a statement without rows.
+const EMPTY: usize = 80;
+
+/// Puts the line of a statement without rows.
+#[inline(always)]
+fn put_empty(space: &mut [u8], at: usize, shown: &Statement) -> usize
+    requires empty { shown.now.rows ≡ [] }
+    requires space { at + EMPTY ≤ length space.old }
+    ensures { Placed space.old space.new at (compact_text (statement_json shown.now) ++ codes "\n") result }
+{
+    let at = put_text(space, at, "{\"balance\":");
+    let at = put_number(space, at, shown.balance);
+    let at = put_text(space, at, ",\"rows\":[],\"start\":");
+    let at = put_number(space, at, shown.start);
+    put_text(space, at, "}\n")
+}
+
+/// Adds the line of a statement without rows, in space that is made once. An `Err` adds nothing.
+#[inline(always)]
+pub fn append_empty(out: &mut Vec<u8>, shown: &Statement) -> Result<(), AllocError>
+    requires { shown.now.rows ≡ [] }
+    ensures ok { OnOk result (out.new.items
+        ≡ out.old.items ++ (compact_text (statement_json shown.now) ++ codes "\n")) }
+    ensures err { OnErr result (out.new.items ≡ out.old.items) }
+{
+    let at = out.len();
+    make_space(out, &[0; EMPTY])?;
+    let end = put_empty(out.as_mut_slice(), at, shown);
+    out.truncate(end);
+    Ok(())
 }
 
 /// The object of a statement, as a line.

@@ -2,7 +2,7 @@ use Rattle.std.proofs.Common.{◌++◌, codes}
 use Rattle.serde_json.specs.Written.{compact_text}
 use Rattle.rb_commands.specs.Statements.{statement_json}
 use Rattle.rb_commands.proofs.Public.Appended.{kept}
-use Rattle.rb_commands.proofs.write.reply.append_statement_line.Goals as goal
+use Rattle.rb_commands.proofs.write.reply.append_rows_line.Goals as goal
 
 pub returns-clause-ok : goal.returns-clause-ok
 returns-clause-ok c =
