@@ -1,7 +1,8 @@
 -- There is memory for a report.
 use Rattle.std.proofs.Common.{◌≡◌, ◌∙◌, ℕ, ◌+◌, ◌<◌, ◌≤◌, Bool, true, false, cond, not, List, [], ◌∷◌, ◌++◌, length, ap, arith, refl, sym}
 use Rattle.std.proofs.Common.{subst, take, drop, get_or, append_assoc, length-append}
-use Rattle.std.specs.Prelude.{zero, suc, Some, map, option_map, slice_get}
+use Rattle.std.specs.Prelude.{◌==◌, ◌-◌, zero, suc, None, Some, map, option_map, slice_get}
+use Rattle.std.proofs.lemmas.Bool.Decides.{nat_tests}
 use Rattle.std.proofs.lemmas.List.{length-map, map-append, take_all, take_more}
 use Rattle.std.proofs.lemmas.List.Sums.{length-filter, count_by-le-length}
 use Rattle.rb_scratch.specs.declared.request.TheConstants.{MOST_REQUESTS}
@@ -21,6 +22,7 @@ use Rattle.rb_site.specs.Reports.{IsEnough, RoomFor}
 use Rattle.rb_site.specs.Seen.{SeenSite, next_site, next_sites, state_of}
 use Rattle.rb_site.specs.States.{Follows, IsStanding, SiteState}
 use Rattle.std.proofs.lemmas.Option.{get_or_from_slice_get, slice_get_within}
+use Rattle.rb_ledger.specs.Valid.{operation_at}
 use Rattle.rb_ledger.proofs.Public.Fronts
 use Rattle.rb_site.proofs.Public.Runs
 
@@ -158,3 +160,10 @@ pushed_read f first xs k u front old new there so_far added =
     let here : slice_get (drop first xs) k ≡ Some u = Fronts.get_dropped first xs k ∙ there in
     pushed_behind f (drop first xs) k u front old new (slice_get_within (drop first xs) k u here) so_far
     (added ∙ ap (λ v. old ++ f v ∷ []) (sym (get_or_from_slice_get (drop first xs) k u u here)))
+
+-- the operation at a position, by its index
+pub read_at : (us : List Shadow) (i : ℕ) (u : Shadow) → operation_at us (i + 1) ≡ Some u → slice_get us i ≡ Some u
+read_at us i u e =
+    let test : (i + 1 == 0) ≡ false = grind (arith, nat_tests) in
+    let same : i + 1 - 1 ≡ i = omega arith in
+    ap (slice_get us) (sym same) ∙ ap (λ b. cond b None (slice_get us (i + 1 - 1))) (sym test) ∙ e

@@ -69,9 +69,8 @@ fn answer_of_last(ledger: &Ledger, count: usize, room: BatchRoom, sent: &mut Vec
     ensures sent { (base made : List TheShadow) → ledger.now.entries ≡ base ++ made → length made ≡ count →
         sent.new.items ≡ sent.old.items ++ map Message.Shadow made }
 {
-    let entries = ledger.entries();
-    let first = entries.len() - count;
-    room.filled(entries, first, sent)
+    let first = ledger.len() - count as u32;
+    room.filled(ledger, first, sent)
 }
 
 /// Makes the requests at the site of the token's view, each after those before it: all of them or none.

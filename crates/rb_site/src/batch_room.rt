@@ -7,7 +7,7 @@ ghost use Rattle.rb_site.specs.States.{Says};
 use crate::answer::Answer;
 use crate::{Message, Reply};
 use rb_kit::List;
-use rb_ledger::OperationList;
+use rb_ledger::Ledger;
 use rb_money::Refusal;
 use rb_shadow::OpName;
 use std::alloc::{AllocError, Global};
@@ -66,11 +66,11 @@ impl BatchRoom {
     }
 
     /// The answer that names the operations from an index on, each of which is sent. There is memory for them.
-    pub fn filled(self, all: &OperationList, first: usize, sent: &mut Vec<Message>) -> Answer
-        requires few { length (drop first all.now.items) ≤ self.most }
-        requires room { vec_len sent.old + length (drop first all.now.items) ≤ vec_capacity sent.old }
-        ensures answer { Says self.keeps result (Reply.Names (names_of_all (drop first all.now.items))) }
-        ensures sent { sent.new.items ≡ sent.old.items ++ map Message.Shadow (drop first all.now.items) }
+    pub fn filled(self, ledger: &Ledger, first: u32, sent: &mut Vec<Message>) -> Answer
+        requires few { length (drop first ledger.now.entries) ≤ self.most }
+        requires room { vec_len sent.old + length (drop first ledger.now.entries) ≤ vec_capacity sent.old }
+        ensures answer { Says self.keeps result (Reply.Names (names_of_all (drop first ledger.now.entries))) }
+        ensures sent { sent.new.items ≡ sent.old.items ++ map Message.Shadow (drop first ledger.now.entries) }
     {
         let BatchRoom {
             most: _,
@@ -78,14 +78,14 @@ impl BatchRoom {
             names,
             noted,
         } = self;
-        send(sent, all, first);
+        let names = named_and_sent(names, ledger, first, sent);
         let noted = if keeps {
-            Some(Reply::Names(List::new(with_names(noted, all, first))))
+            Some(Reply::Names(List::new(copied(noted, names.as_slice()))))
         } else {
             None
         };
         Answer {
-            reply: Reply::Names(List::new(with_names(names, all, first))),
+            reply: Reply::Names(List::new(names)),
             noted,
         }
     }
@@ -106,28 +106,36 @@ fn spare_names(alloc: Global, before: &mut Reply) -> Vec<OpName>
     }
 }
 
-/// Each operation's name.
-fn with_names(mut names: Vec<OpName>, all: &OperationList, first: usize) -> Vec<OpName>
+/// Each operation's name, and the message that sends it behind those sent, both in spare capacity.
+fn named_and_sent(
+    mut names: Vec<OpName>,
+    ledger: &Ledger,
+    first: u32,
+    sent: &mut Vec<Message>,
+) -> Vec<OpName>
     requires empty { names.items ≡ [] }
-    requires room { length (drop first all.now.items) ≤ vec_capacity names }
-    ensures { result.items ≡ names_of_all (drop first all.now.items) }
+    requires room { length (drop first ledger.now.entries) ≤ vec_capacity names }
+    requires sent { vec_len sent.old + length (drop first ledger.now.entries) ≤ vec_capacity sent.old }
+    ensures names { result.items ≡ names_of_all (drop first ledger.now.entries) }
+    ensures sent { sent.new.items ≡ sent.old.items ++ map Message.Shadow (drop first ledger.now.entries) }
 {
-    let count = all.len().saturating_sub(first);
+    let count = ledger.len().saturating_sub(first);
     for k in 0..count {
-        let shadow = all.get(first + k).unwrap();
-        names.push_reserved(shadow.name);
+        let operation = ledger.operation(first + k + 1).unwrap();
+        names.push_reserved(operation.name());
+        sent.push_reserved(Message::Shadow(operation.shadow()));
     }
     names
 }
 
-/// Adds the message that sends each operation, in spare capacity.
-fn send(sent: &mut Vec<Message>, all: &OperationList, first: usize)
-    requires { vec_len sent.old + length (drop first all.now.items) ≤ vec_capacity sent.old }
-    ensures { sent.new.items ≡ sent.old.items ++ map Message.Shadow (drop first all.now.items) }
+/// The same names once more, in spare capacity.
+fn copied(mut names: Vec<OpName>, from: &[OpName]) -> Vec<OpName>
+    requires empty { names.items ≡ [] }
+    requires room { length from.now ≤ vec_capacity names }
+    ensures { result.items ≡ from.now }
 {
-    let count = all.len().saturating_sub(first);
-    for k in 0..count {
-        let shadow = all.get(first + k).unwrap();
-        sent.push_reserved(Message::Shadow(shadow));
+    for k in 0..from.len() {
+        names.push_reserved(from[k]);
     }
+    names
 }
