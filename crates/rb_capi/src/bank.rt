@@ -87,7 +87,7 @@ impl Bank {
         let Some(text) = text_on(line) else {
             return Err(LineFault::Bad);
         };
-        match parse_command(alloc, self.world.config(), text) {
+        match parse_command(alloc, self.world.config(), text, &mut Vec::new(alloc)) {
             Some((command, site)) => self.take_command(&command.at(site)),
             None => {
                 let command = read_any_command(alloc, self.world.config(), text)?;

@@ -10,7 +10,7 @@ ghost use Rattle.rb_run_script.specs.Script.{command_on};
 ghost use Rattle.rb_run_script.specs.Session.{AnswersCommand, TakesCommand};
 
 use crate::asked_world::AskedWorld;
-use rb_commands::{LineFault, SiteCommand, parse_command, read_any_command};
+use rb_commands::{LineFault, SiteCommand, read_any_command};
 use rb_lines::text_on;
 use rb_site::{Event, WorldEvent};
 use std::alloc::Global;
@@ -53,7 +53,7 @@ fn take_other(
     ensures { TakesCommand result (with_site site command) world.old world.new buffered.old.items buffered.new.items }
 {
     match command {
-        SiteCommand::Batch(requests) => take_event(world, site, Event::Batch(requests), buffered),
+        SiteCommand::Batch(requests) => world.take_batch(site, requests, buffered),
         other => take_rest(world, site, other, buffered),
     }
 }
@@ -118,7 +118,7 @@ pub fn answer_command(
     let Some(text) = text_on(line) else {
         return Err(LineFault::Bad);
     };
-    match parse_command(alloc, world.config(), text) {
+    match world.parse(alloc, text) {
         Some((command, site)) => take_parsed(world, site, command, buffered),
         None => answer_any_command(alloc, world, text, buffered),
     }

@@ -68,7 +68,7 @@ impl Session {
             (λ why. why ≡ Bad → config_on line.now ≡ None) }
     {
         let world = open_world(alloc, line)?;
-        self.start(AskedWorld::new(world));
+        self.start(AskedWorld::new(alloc, world));
         Ok(())
     }
 

@@ -1,5 +1,5 @@
 //! Requests, from their key on. `None` says nothing of a text.
-ghost use Rattle.std.specs.Prelude.{IfSome};
+ghost use Rattle.std.specs.Prelude.{◌≡◌, [], IfSome};
 ghost use Rattle.rb_commands.specs.Spelled.{SpellsRequest, SpellsRequests};
 
 use crate::fast::scan::{narrow, parse_name, parse_pair, parse_prefix, parse_three};
@@ -7,6 +7,7 @@ use crate::read::request::place;
 use rb_money::Config;
 use rb_scratch::Request;
 use std::alloc::Global;
+use std::mem;
 
 #[inline(always)]
 pub fn parse_deposit<'a>(config: &Config, text: &'a str) -> Option<(Request, &'a str)>
@@ -68,18 +69,26 @@ fn parse_request<'a>(config: &Config, text: &'a str) -> Option<(Request, &'a str
     }
 }
 
-/// How many requests a batch's list has places for at first.
-const FIRST_PLACES: usize = 4;
+/// An empty list of requests, in the memory of a spare one.
+#[inline(always)]
+fn take_spare(alloc: Global, spare: &mut Vec<Request>) -> Vec<Request>
+    ensures { result.items ≡ [] }
+{
+    let mut requests = mem::replace(spare, Vec::new(alloc));
+    requests.clear();
+    requests
+}
 
-/// The requests of a batch, behind its bracket: at least one.
+/// The requests of a batch, behind its bracket: at least one. Their list takes the memory of the spare one.
 pub fn parse_requests<'a>(
     alloc: Global,
     config: &Config,
     text: &'a str,
+    spare: &mut Vec<Request>,
 ) -> Option<(Vec<Request>, &'a str)>
     ensures { IfSome result (λ p. SpellsRequests config.now p.0.items text.now p.1.now) }
 {
-    let mut requests = Vec::with_capacity(alloc, FIRST_PLACES).ok()?;
+    let mut requests = take_spare(alloc, spare);
     let mut left = text;
     'items: loop {
         let (request, rest) = parse_request(config, parse_prefix(left, "{\"")?)?;
