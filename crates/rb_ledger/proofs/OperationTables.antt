@@ -6,7 +6,7 @@ use Rattle.std.specs.Prelude.{Bool, not, IsOk, is_err, is_some, option_to_list, 
 use Rattle.std.specs.Prelude.{◌&&◌, ◌⊎◌, unwrap_or}
 use Rattle.std.proofs.lemmas.Bool.{and_parts}
 use Rattle.std.proofs.lemmas.Bool.Decides.{nat_tests}
-use Rattle.std.proofs.lemmas.List.{drop-append-le, drop-replicate, length-drop, length-set, length-map, length_push, map_push, take-append-drop, take-append-le, take-take, take_all, set-append_left, set-get_or, set_past}
+use Rattle.std.proofs.lemmas.List.{drop-append-le, length-drop, length-set, length-map, length_push, map_push, take-append-drop, take-append-le, take-take, take_all, set-append_left, set-get_or}
 use Rattle.std.proofs.lemmas.Option.{slice_get_past, slice_get-map}
 use Rattle.std.proofs.Math.Seq.{drop-append_seam, take-append_seam}
 use Rattle.std.specs.declared.alloc.AllocError.{AllocError}
@@ -136,51 +136,21 @@ cut_clock : (w : ℕ) (ns : List ℕ) → clock_of_counts w (take (suc w) ns) �
 cut_clock w [] = refl
 cut_clock w (n ∷ ns) = ap (λ ks. record { blue = padded ks; red = n }) (take-take w w ns (omega arith))
 
--- the entries of the first sites, in a list of zeros
-in_zeros : (ms xs : List ℕ) (k : ℕ) → k ≡ length ms → xs ≡ ms → xs ++ drop k (replicate MOST_SITES 0) ≡ padded ms
-in_zeros ms xs k is same = ap (λ ys. ys ++ drop k (replicate MOST_SITES 0)) same
-    ∙ ap (λ ys. ms ++ ys) (drop-replicate k MOST_SITES 0 ∙ ap (λ n. replicate (MOST_SITES - n) 0) is)
-
--- the entries of the first sites, as they are kept, in a list of zeros
-behind_red : (n k : ℕ) (ms xs : List ℕ) → k ≡ suc (length ms) - 1 → xs ≡ take k (drop 1 (n ∷ ms)) → xs ++ drop k (replicate MOST_SITES 0) ≡ padded ms
-behind_red n k ms xs is same = in_zeros ms xs k (omega (arith, is)) (same ∙ take_all k ms (omega (arith, is)))
-
--- the clock of a large bank whose own entry is the red one
-pub many_red : (ns xs : List ℕ) (own e : ℕ) → 0 < length ns → xs ≡ take (length ns - 1) (drop 1 ns) → own ≡ 0 →
-    record { blue = xs ++ drop (length ns - 1) (replicate MOST_SITES 0); red = e } ≡ clock_of_counts (length ns - 1) (slice_set ns own e)
-many_red [] xs own e some same red = absurd (omega (arith, some))
-many_red (n ∷ ms) xs own e some same red =
+-- a clock whose own entry is set, of a name of one of the sites
+pub own_blue : (ns : List ℕ) (d : Deps) (i e : ℕ) → d ≡ clock_of_counts (length ns - 1) ns → i + 1 < length ns →
+    record { blue = slice_set d.blue i e; red = d.red } ≡ clock_of_counts (length ns - 1) (slice_set ns (suc i) e)
+own_blue [] d i e is near = absurd (omega (arith, near))
+own_blue (n ∷ ms) d i e is near =
     let k = suc (length ms) - 1 in
-    ap (λ ks. record { blue = ks; red = e }) (behind_red n k ms xs refl same ∙ ap padded (sym (take_all k ms (omega arith))))
-    ∙ ap (λ o. clock_of_counts k (slice_set (n ∷ ms) o e)) (sym red)
+    let long = length-set ms i e in
+    let whole : take k ms ≡ ms = take_all k ms (omega arith) in
+    ap (λ (c : Deps). record { blue = slice_set c.blue i e; red = c.red }) is
+    ∙ ap (λ ks. record { blue = slice_set (padded ks) i e; red = n }) whole
+    ∙ ap (λ ks. record { blue = ks; red = n }) (set-append_left ms (replicate (MOST_SITES - length ms) 0) i e (omega (arith, near))
+    ∙ ap (λ j. slice_set ms i e ++ replicate (MOST_SITES - j) 0) (sym long)
+    ∙ ap padded (sym (take_all k (slice_set ms i e) (omega (arith, long)))))
 
--- the clock of a large bank that keeps no own entry
-pub many_past : (ns xs : List ℕ) (own e : ℕ) → 0 < length ns → xs ≡ take (length ns - 1) (drop 1 ns) → length ns ≤ own →
-    record { blue = xs ++ drop (length ns - 1) (replicate MOST_SITES 0); red = get_or ns 0 0 }
-    ≡ clock_of_counts (length ns - 1) (slice_set ns own e)
-many_past [] xs own e some same past = absurd (omega (arith, some))
-many_past (n ∷ ms) xs own e some same past =
-    let k = suc (length ms) - 1 in
-    ap (λ ks. record { blue = ks; red = n }) (behind_red n k ms xs refl same ∙ ap padded (sym (take_all k ms (omega arith))))
-    ∙ ap (clock_of_counts k) (sym (set_past (n ∷ ms) own e past))
-
--- the clock of a large bank whose own entry is that of a site
-pub many_blue : (ns xs : List ℕ) (own e : ℕ) → 0 < length ns → xs ≡ take (length ns - 1) (drop 1 ns) → 0 < own → own < length ns →
-    record { blue = slice_set (xs ++ drop (length ns - 1) (replicate MOST_SITES 0)) (own - 1) e; red = get_or ns 0 0 }
-    ≡ clock_of_counts (length ns - 1) (slice_set ns own e)
-many_blue [] xs own e some same blue near = absurd (omega (arith, some))
-many_blue (n ∷ ms) xs zero e some same blue near = absurd (omega (arith, blue))
-many_blue (n ∷ ms) xs (suc o) e some same blue near =
-    let k = suc (length ms) - 1 in
-    let before : suc o - 1 ≡ o = omega arith in
-    let long = length-set ms o e in
-    ap (λ ks. record { blue = slice_set ks (suc o - 1) e; red = n }) (behind_red n k ms xs refl same)
-    ∙ ap (λ j. record { blue = slice_set (padded ms) j e; red = n }) before
-    ∙ ap (λ ks. record { blue = ks; red = n }) (set-append_left ms (replicate (MOST_SITES - length ms) 0) o e (omega (arith, near))
-    ∙ ap (λ j. slice_set ms o e ++ replicate (MOST_SITES - j) 0) (sym long)
-    ∙ ap padded (sym (take_all k (slice_set ms o e) (omega (arith, long)))))
-
--- the same of one whose own entry is known
+-- a clock whose own entry is set, by what is kept of it alone
 pub cut_counts : (w m r n : ℕ) (ns : List ℕ) → m ≡ w + 1 → w + 1 ≤ length ns →
     clock_of_counts (length (take m ns) - 1) (slice_set (take m ns) r n) ≡ clock_of_counts w (slice_set ns r n)
 cut_counts w m r n ns is many =

@@ -141,45 +141,49 @@ pub fn clock(counts: &[u32], name: OpName) -> Deps
     requires most { length counts.now ≤ MOST_SITES + 1 }
     ensures { result ≡ clock_of_counts (length counts.now - 1) (slice_set counts.now (row_of name) (number_of name - 1)) }
 {
-    if counts.len() > FEW_SITES + 1 {
-        return clock_of_many(counts, name.row(), name.number().saturating_sub(1));
-    }
-    let mut blue = [
-        counts[1], counts[2], counts[3], 0, 0, 0, 0, 0, 0, 0, 0, 0, 0, 0, 0, 0,
-    ];
+    let mut deps = kept_clock(counts);
     match name {
-        OpName::Red { n } => Deps {
-            blue,
-            red: n.saturating_sub(1),
-        },
         OpName::Blue { site, n } => {
-            if usize::from(site) < FEW_SITES {
-                blue[usize::from(site)] = n.saturating_sub(1);
-            }
-            Deps {
-                blue,
-                red: counts[0],
+            if usize::from(site) + 1 < counts.len() {
+                deps.blue[usize::from(site)] = n.saturating_sub(1);
             }
         }
+        OpName::Red { n } => deps.red = n.saturating_sub(1),
+    }
+    deps
+}
+
+/// The clock of what is kept, with the own entry that is kept.
+#[inline(always)]
+fn kept_clock(counts: &[u32]) -> Deps
+    requires least { FEW_SITES + 1 ≤ length counts.now }
+    requires most { length counts.now ≤ MOST_SITES + 1 }
+    ensures { result ≡ clock_of_counts (length counts.now - 1) counts.now }
+{
+    if counts.len() > FEW_SITES + 1 {
+        return clock_of_many(counts);
+    }
+    let mut blue = [0; MOST_SITES];
+    blue[0] = counts[1];
+    blue[1] = counts[2];
+    blue[2] = counts[3];
+    Deps {
+        blue,
+        red: counts[0],
     }
 }
 
-/// The same of any number of sites, with the entry of a row.
+/// The same of any number of sites.
 #[inline(never)]
-fn clock_of_many(counts: &[u32], own: usize, entry: u32) -> Deps
+fn clock_of_many(counts: &[u32]) -> Deps
     requires some { 0 < length counts.now }
     requires most { length counts.now ≤ MOST_SITES + 1 }
-    ensures { result ≡ clock_of_counts (length counts.now - 1) (slice_set counts.now own entry) }
+    ensures { result ≡ clock_of_counts (length counts.now - 1) counts.now }
 {
     let mut blue = [0; MOST_SITES];
     blue[..counts.len() - 1].copy_from_slice(&counts[1..]);
-    if own == 0 {
-        return Deps { blue, red: entry };
+    Deps {
+        blue,
+        red: counts[0],
     }
-    let red = counts[0];
-    if own >= counts.len() {
-        return Deps { blue, red };
-    }
-    blue[own - 1] = entry;
-    Deps { blue, red }
 }
