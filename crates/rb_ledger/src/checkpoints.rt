@@ -1,5 +1,5 @@
 //! The last operations on the accounts, as of every so many operations.
-ghost use Rattle.std.specs.Prelude.{◌≡◌, ◌≤◌, ◌<◌, ◌+◌, ◌*◌, length, map, [], ◌∷◌, ◌++◌, List, Some, IfSome, OnOk, ℕ};
+ghost use Rattle.std.specs.Prelude.{◌≡◌, ◌≤◌, ◌<◌, ◌+◌, ◌*◌, length, map, [], ◌∷◌, ◌++◌, List, Some, IfSome, IsNone, OnOk, ℕ};
 ghost use Rattle.std.specs.Prelude.{slice_get, vec_capacity};
 ghost use Rattle.rb_money.specs.Settings.{Settings, IsConfigured};
 ghost use Rattle.rb_money.specs.declared.limits.TheConstants.{MOST_ACCOUNTS, MOST_OPERATIONS};
@@ -47,10 +47,13 @@ impl Checkpoints {
     /// The position of the last operation on an account as of the first checkpoint that is as of `limit` operations or
     /// more. `None` where there is no such checkpoint yet.
     pub fn last_from(&self, limit: u32, place: Place) -> Option<u32>
-        requires { place.0 < self.now.accounts }
-        ensures { IfSome result (λ p. (k : ℕ)
+        requires account { place.0 < self.now.accounts }
+        requires rows { (n : ℕ) × (length self.now.lasts.items ≡ n * self.now.accounts) }
+        ensures first { IfSome result (λ p. (k : ℕ)
             × (limit ≤ OPERATIONS_PER_ENTRY * (k * self.now.accounts + self.now.accounts))
+            × (OPERATIONS_PER_ENTRY * (k * self.now.accounts) ≤ limit)
             × (slice_get self.now.lasts.items (k * self.now.accounts + place.0) ≡ Some p)) }
+        ensures none { IsNone result → OPERATIONS_PER_ENTRY * length self.now.lasts.items ≤ limit }
     {
         let entry = limit.saturating_sub(1) / OPERATIONS_PER_ENTRY;
         let row = entry / self.accounts * self.accounts;
