@@ -79,7 +79,8 @@ impl OperationList {
     /// Of how many sites the entries of each clock are kept.
     #[inline(always)]
     pub fn sites(&self) -> usize
-        ensures { result ≡ self.now.sites }
+        ensures same { result ≡ self.now.sites }
+        ensures most { result ≤ MOST_SITES }
     {
         self.sites
     }
