@@ -5,6 +5,7 @@ mod Found
 mod Spots
 mod Placed
 mod Numbers
+mod Clocks
 mod Replaying
 mod Messages
 mod Runs

@@ -124,6 +124,7 @@ impl MessageList {
     }
 
     /// Whether the message at an index is that at another.
+    #[inline(never)]
     pub fn are_same(&self, index: usize, other: usize) -> bool
         ensures { (m : TheMessage) → slice_get self.now.items other ≡ Some m
             → (IsTrue result ↔ (slice_get self.now.items index ≡ Some m)) }

@@ -63,6 +63,7 @@ impl<'a> Posted<'a> {
     }
 
     /// Whether the message at a place among all is the one that was sent at a position.
+    #[inline(always)]
     pub fn is_at(&self, position: usize, place: usize) -> bool
         ensures { (m : TheMessage) → slice_get self.now.all place ≡ Some m
             → (IsTrue result ↔ (slice_get self.now.items position ≡ Some m)) }

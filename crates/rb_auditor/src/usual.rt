@@ -1,30 +1,47 @@
 //! Operations that are kept in little memory.
-ghost use Rattle.std.specs.Prelude.{◌≡◌, ◌^◌, ◌-◌, IsTrue};
+ghost use Rattle.std.specs.Prelude.{◌≡◌, ◌≤◌, IsTrue, drop, length};
+ghost use Rattle.rb_money.specs.declared.limits.TheConstants.{MOST_SITES as THE_MOST_SITES};
 ghost use Rattle.rb_shadow.specs.Sound.{are_entries};
 ghost use Rattle.rb_auditor.specs.MessageLists.{IsUsual};
 
 use rb_shadow::Shadow;
 
+/// At banks of so many sites the entries of a clock that must be 0 are looked at all at once.
+const FEW_SITES: usize = 3;
+
 /// Whether the operation's clock has entries for the first `sites` sites alone, and counts all operations before it in
 /// the row of its name, as those of sites do.
 #[inline(always)]
 pub fn is_usual(sites: usize, shadow: &Shadow) -> bool
+    requires { sites ≤ THE_MOST_SITES }
     ensures { IsTrue result → IsUsual sites shadow.now }
 {
     let entry = shadow.deps.entry(shadow.name);
-    are_of_sites(&shadow.deps.blue, sites)
+    are_none_from(&shadow.deps.blue, sites)
         && u64::from(entry) + 1 == u64::from(shadow.name.number())
 }
 
-/// Whether all entries but those of the first sites are 0.
+/// Whether all entries from a site on are 0.
 #[inline(always)]
-fn are_of_sites(entries: &[u32], sites: usize) -> bool
-    ensures { result ≡ are_entries sites (2 ^ 32 - 1) entries.now }
+fn are_none_from(entries: &[u32], site: usize) -> bool
+    requires all { length entries.now ≡ THE_MOST_SITES }
+    requires within { site ≤ THE_MOST_SITES }
+    ensures { result ≡ are_entries 0 0 (drop site entries.now) }
 {
-    let mut fits = true;
-    for (site, n) in entries.iter().enumerate() {
-        let most = if site < sites { u32::MAX } else { 0 };
-        fits &= *n <= most;
+    if site == FEW_SITES {
+        return are_none(&entries[FEW_SITES..]);
     }
-    fits
+    are_none(&entries[site..])
+}
+
+/// Whether all entries are 0.
+#[inline(always)]
+fn are_none(entries: &[u32]) -> bool
+    ensures { result ≡ are_entries 0 0 entries.now }
+{
+    let mut none = true;
+    for n in entries {
+        none &= *n == 0;
+    }
+    none
 }
