@@ -5,10 +5,9 @@ use Rattle.std.specs.Prelude.{Option, option_map, option_to_list, slice_get}
 use Rattle.std.proofs.lemmas.List.{get_or_push, get_or_append_left, length_push, length-map, map_push}
 use Rattle.std.proofs.lemmas.Option.{slice_get-map}
 use Rattle.std.proofs.Math.Seq.{take-append_seam}
-use Rattle.rb_ledger.specs.declared.marks.Link.{Link}
 use Rattle.rb_ledger.specs.declared.marks.Links.{Links}
 use Rattle.rb_ledger.specs.declared.link_list.OwnLink.{OwnLink}
-use Rattle.rb_ledger.specs.LinkLists.{AreNumbered, LinkTable, both_links, no_link, second_link}
+use Rattle.rb_ledger.specs.LinkLists.{AreNumbered, LinkTable, both_links, kept_link, own_link, second_balance}
 
 -- no number is above the last one
 pub none_above : (k n : ℕ) (os : List OwnLink) → AreNumbered k os n → k ≤ n
@@ -57,38 +56,42 @@ all_but_last k n (p ∷ os) o (inr (is, are)) = after (all_but_last (k + 1) n os
     after (inl (none, rest)) = inl (none, inr (is, rest))
     after (inr (m, one, last, rest)) = inr (m, one, last, inr (is, rest))
 
--- a number that isn't above the list's length has the same link where the list is one longer
-pub second_before : (ls : List Link) (l : Link) (n : ℕ) → n ≤ length ls → second_link (ls ++ l ∷ []) n ≡ second_link ls n
+-- a number that isn't above the list's length has the same balance where the list is one longer
+pub second_before : (ls : List ℕ) (l n : ℕ) → n ≤ length ls → second_balance (ls ++ l ∷ []) n ≡ second_balance ls n
 second_before ls l zero few = refl
-second_before ls l (suc i) few = get_or_append_left ls (l ∷ []) no_link i (omega (arith, few))
+second_before ls l (suc i) few = get_or_append_left ls (l ∷ []) 0 i (omega (arith, few))
 
--- the last number's link
-pub second_last : (ls : List Link) (l : Link) (n : ℕ) → n ≡ length ls + 1 → second_link (ls ++ l ∷ []) n ≡ l
+-- the last number's balance
+pub second_last : (ls : List ℕ) (l n : ℕ) → n ≡ length ls + 1 → second_balance (ls ++ l ∷ []) n ≡ l
 second_last ls l zero is = absurd (omega (arith, is))
-second_last ls l (suc i) is = get_or_push ls l no_link i (omega (arith, is))
+second_last ls l (suc i) is = get_or_push ls l 0 i (omega (arith, is))
 
--- one more link on a second account changes no links of operations that are there
-pub same_links : (k : ℕ) (os : List OwnLink) (ls : List Link) (l : Link) → AreNumbered k os (length ls) →
+-- both links by the balance on the second account
+abbrev links_by : OwnLink → ℕ → Links
+links_by o n = record { own = own_link o; account = o.account; other = record { balance = n; earlier = o.other_earlier } }
+
+-- one more balance on a second account changes no links of operations that are there
+pub same_links : (k : ℕ) (os : List OwnLink) (ls : List ℕ) (l : ℕ) → AreNumbered k os (length ls) →
     map (both_links (ls ++ l ∷ [])) os ≡ map (both_links ls) os
 unfolding AreNumbered
 same_links k [] ls l are = refl
 same_links k (o ∷ os) ls l (inl (none, are)) =
-    ap (λ x. record { own = o.own; account = o.account; other = x } ∷ map (both_links (ls ++ l ∷ [])) os)
+    ap (λ n. links_by o n ∷ map (both_links (ls ++ l ∷ [])) os)
     (second_before ls l o.second (omega (arith, none)))
     ∙ ap (λ xs. both_links ls o ∷ xs) (same_links k os ls l are)
 same_links k (o ∷ os) ls l (inr (one, are)) =
-    ap (λ x. record { own = o.own; account = o.account; other = x } ∷ map (both_links (ls ++ l ∷ [])) os)
+    ap (λ n. links_by o n ∷ map (both_links (ls ++ l ∷ [])) os)
     (second_before ls l o.second (omega (arith, one, none_above (k + 1) (length ls) os are)))
     ∙ ap (λ xs. both_links ls o ∷ xs) (same_links (k + 1) os ls l are)
 
 -- the links of an operation more that is on one account
-pub pushed_one : (os ps : List OwnLink) (ls : List Link) (o : OwnLink) (l : Links) → ps ≡ os ++ o ∷ [] → both_links ls o ≡ l →
+pub pushed_one : (os ps : List OwnLink) (ls : List ℕ) (o : OwnLink) (l : Links) → ps ≡ os ++ o ∷ [] → both_links ls o ≡ l →
     map (both_links ls) ps ≡ map (both_links ls) os ++ l ∷ []
 pushed_one os ps ls o l pushed both = ap (map (both_links ls)) pushed ∙ map_push (both_links ls) os o
     ∙ ap (λ x. map (both_links ls) os ++ x ∷ []) both
 
 -- the links of an operation more that is on two accounts
-pub pushed_two : (os ps : List OwnLink) (ls ms : List Link) (o : OwnLink) (x : Link) (l : Links) → AreNumbered 0 os (length ls) →
+pub pushed_two : (os ps : List OwnLink) (ls ms : List ℕ) (o : OwnLink) (x : ℕ) (l : Links) → AreNumbered 0 os (length ls) →
     ps ≡ os ++ o ∷ [] → ms ≡ ls ++ x ∷ [] → both_links ms o ≡ l → map (both_links ms) ps ≡ map (both_links ls) os ++ l ∷ []
 pushed_two os ps ls ms o x l are pushed longer both = pushed_one os ps ms o l pushed both
     ∙ ap (λ xs. xs ++ l ∷ []) (ap (λ ns. map (both_links ns) os) longer ∙ same_links 0 os ls x are)
@@ -112,17 +115,17 @@ last_number os ps n o are is some = after (all_but_last 0 n ps o (subst (λ qs. 
     after (inr (m, one, last, rest)) = (m, last, rest)
 
 -- what a pop leaves of a list that isn't empty, and what it takes
-pub popped : (ls ms : List Link) (n : ℕ) (r : Option Link) → n ≡ length ls → 0 < length ls → ls ≡ ms ++ option_to_list r →
-    ((d : Link) → 0 < n → r ≡ Some (get_or ls (n - 1) d)) → (x : Link) × (ls ≡ ms ++ x ∷ [])
+pub popped : (ls ms : List ℕ) (n : ℕ) (r : Option ℕ) → n ≡ length ls → 0 < length ls → ls ≡ ms ++ option_to_list r →
+    ((d : ℕ) → 0 < n → r ≡ Some (get_or ls (n - 1) d)) → (x : ℕ) × (ls ≡ ms ++ x ∷ [])
 popped ls ms n r count some items value = (
-  get_or ls (n - 1) no_link,
-  items ∙ ap (λ o. ms ++ option_to_list o) (value no_link (omega (arith, count, some))),
+  get_or ls (n - 1) 0,
+  items ∙ ap (λ o. ms ++ option_to_list o) (value 0 (omega (arith, count, some))),
 )
 
 -- without the last operation, which is on two accounts
-pub popped_two : (os ps : List OwnLink) (ls ms : List Link) (o : OwnLink) (n : ℕ) (r : Option Link) → AreNumbered 0 os (length ls) →
+pub popped_two : (os ps : List OwnLink) (ls ms : List ℕ) (o : OwnLink) (n : ℕ) (r : Option ℕ) → AreNumbered 0 os (length ls) →
     os ≡ ps ++ o ∷ [] → 0 < o.second → n ≡ length ls → ls ≡ ms ++ option_to_list r →
-    ((d : Link) → 0 < n → r ≡ Some (get_or ls (n - 1) d)) → (x : Link) × (ls ≡ ms ++ x ∷ []) × AreNumbered 0 ps (length ms)
+    ((d : ℕ) → 0 < n → r ≡ Some (get_or ls (n - 1) d)) → (x : ℕ) × (ls ≡ ms ++ x ∷ []) × AreNumbered 0 ps (length ms)
 popped_two os ps ls ms o n r are is some count items value =
     let (m, last, rest) = last_number os ps (length ls) o are is some in
     let (x, left) = popped ls ms n r count (omega (arith, last)) items value in
@@ -130,7 +133,7 @@ popped_two os ps ls ms o n r are is some count items value =
     (x, left, subst (AreNumbered 0 ps) same rest)
 
 -- the links but for those of the last operation
-pub front_links : (os ps : List OwnLink) (ls : List Link) (o : OwnLink) → os ≡ ps ++ o ∷ [] →
+pub front_links : (os ps : List OwnLink) (ls : List ℕ) (o : OwnLink) → os ≡ ps ++ o ∷ [] →
     take (length (map (both_links ls) os) - 1) (map (both_links ls) os) ≡ map (both_links ls) ps
 front_links os ps ls o is =
     let xs = map (both_links ls) ps in
@@ -140,9 +143,9 @@ front_links os ps ls o is =
     ∙ take-append_seam xs (both_links ls o ∷ [])
 
 -- the links that are seen after a pop
-pub seen_popped : (os ps : List OwnLink) (ls ms : List Link) (o : OwnLink) (n k : ℕ) (r : Option Link) (t : LinkTable) →
+pub seen_popped : (os ps : List OwnLink) (ls ms : List ℕ) (o : OwnLink) (n k : ℕ) (r : Option ℕ) (t : LinkTable) →
     AreNumbered 0 os (length ls) → record { items = map (both_links ls) os; limit = k } ≡ t → os ≡ ps ++ o ∷ [] → 0 < o.second →
-    n ≡ length ls → ls ≡ ms ++ option_to_list r → ((d : Link) → 0 < n → r ≡ Some (get_or ls (n - 1) d)) →
+    n ≡ length ls → ls ≡ ms ++ option_to_list r → ((d : ℕ) → 0 < n → r ≡ Some (get_or ls (n - 1) d)) →
     map (both_links ms) ps ≡ take (length t.items - 1) t.items
 seen_popped os ps ls ms o n k r t are view is some count items value =
     let (x, left, rest) = popped_two os ps ls ms o n r are is some count items value in
@@ -150,7 +153,7 @@ seen_popped os ps ls ms o n k r t are view is some count items value =
     ∙ ap (λ (s : LinkTable). take (length s.items - 1) s.items) view
 
 -- no operations have no numbers
-pub none_numbered : (os : List OwnLink) (ls : List Link) → os ≡ [] → ls ≡ [] → AreNumbered 0 os (length ls)
+pub none_numbered : (os : List OwnLink) (ls : List ℕ) → os ≡ [] → ls ≡ [] → AreNumbered 0 os (length ls)
 unfolding AreNumbered
 none_numbered os ls empty none = subst (λ qs. AreNumbered 0 qs (length ls)) (sym empty) (sym (ap length none))
 
@@ -160,14 +163,14 @@ pub pushed_without : (os ps : List OwnLink) (n : ℕ) (o : OwnLink) → AreNumbe
 pushed_without os ps n o are pushed none = subst (λ qs. AreNumbered 0 qs n) (sym pushed) (one_without 0 n os o are none)
 
 -- one more operation on two accounts
-pub pushed_with : (os ps : List OwnLink) (ls ms : List Link) (o : OwnLink) (l : Link) → AreNumbered 0 os (length ls) → ps ≡ os ++ o ∷ [] →
+pub pushed_with : (os ps : List OwnLink) (ls ms : List ℕ) (o : OwnLink) (l : ℕ) → AreNumbered 0 os (length ls) → ps ≡ os ++ o ∷ [] →
     ms ≡ ls ++ l ∷ [] → o.second ≡ length ls + 1 → AreNumbered 0 ps (length ms)
 pushed_with os ps ls ms o l are pushed longer one = subst (λ qs. AreNumbered 0 qs (length ms)) (sym pushed)
     (subst (AreNumbered 0 (os ++ o ∷ [])) (let e : length ls + 1 ≡ length ms = omega (arith, ap length longer, length_push ls l) in e)
     (one_with 0 (length ls) os o are one))
 
--- there are no more links on second accounts than operations that are seen
-pub few_seen : (os : List OwnLink) (ls : List Link) (k : ℕ) (t : LinkTable) → AreNumbered 0 os (length ls) →
+-- there are no more balances on second accounts than operations that are seen
+pub few_seen : (os : List OwnLink) (ls : List ℕ) (k : ℕ) (t : LinkTable) → AreNumbered 0 os (length ls) →
     record { items = map (both_links ls) os; limit = k } ≡ t → length ls ≤ length t.items
 few_seen os ls k t are view = omega (
   arith,
@@ -177,14 +180,13 @@ few_seen os ls k t are view = omega (
 )
 
 -- both links of one more operation on two accounts
-pub both_pushed : (ls ms : List Link) (l : Links) (n : ℕ) → ms ≡ ls ++ l.other ∷ [] → n ≡ length ls + 1 →
-    both_links ms (record { own = l.own; account = l.account; second = n }) ≡ l
-both_pushed ls ms l n longer is =
-    ap (λ xs. record { own = l.own; account = l.account; other = second_link xs n }) longer
-    ∙ ap (λ x. record { own = l.own; account = l.account; other = x }) (second_last ls l.other n is)
+pub both_pushed : (ls ms : List ℕ) (l : Links) (n : ℕ) → ms ≡ ls ++ l.other.balance ∷ [] → n ≡ length ls + 1 →
+    both_links ms (kept_link l n) ≡ l
+both_pushed ls ms l n longer is = ap (λ xs. both_links xs (kept_link l n)) longer
+    ∙ ap (links_by (kept_link l n)) (second_last ls l.other.balance n is)
 
 -- both links of the operation at an index
-pub link_seen : (ls : List Link) (os : List OwnLink) (i : ℕ) (o : OwnLink) (n : ℕ) (t : LinkTable) →
+pub link_seen : (ls : List ℕ) (os : List OwnLink) (i : ℕ) (o : OwnLink) (n : ℕ) (t : LinkTable) →
     record { items = map (both_links ls) os; limit = n } ≡ t → i < length t.items → o ≡ get_or os i o
     → slice_get t.items i ≡ Some (both_links ls o)
 link_seen ls os i o n t seen near is =

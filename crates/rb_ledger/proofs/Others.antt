@@ -3,7 +3,7 @@ use Rattle.rb_ledger.proofs.Public.Pushes.{other_by}
 use Rattle.std.proofs.Common.{◌≡◌, ℕ, zero, suc, ◌+◌, ◌<◌, true, false, ◌||◌, List, [], ◌∷◌, ◌++◌, length, take, drop, get_or, refl, ap}
 use Rattle.std.proofs.Common.{sym, ◌∙◌, subst, arith, ◌⊎◌, inl, inr, Some, None, length-set}
 use Rattle.std.specs.Prelude.{pos, ◌==◌, nat_le, slice_get, Option, option_map, option_and_then, unwrap_or}
-use Rattle.std.proofs.lemmas.List.{take-append-drop, get_or-set_other}
+use Rattle.std.proofs.lemmas.List.{take-append-drop}
 use Rattle.std.proofs.lemmas.Option.{slice_get_within}
 use Rattle.rb_money.specs.Amounts.{cents}
 use Rattle.rb_money.specs.Settings.{Settings, IsConfigured}
@@ -17,10 +17,9 @@ use Rattle.rb_shadow.specs.Sound.{IsSound, is_misdirected}
 use Rattle.rb_shadow.proofs.Public.Members
 use Rattle.rb_shadow.proofs.Public.SoundFacts
 use Rattle.rb_ledger.specs.declared.marks.Head.{Head}
-use Rattle.rb_ledger.specs.declared.blocks.Blocks.{Blocks}
 use Rattle.rb_ledger.specs.declared.marks.Links.{Links}
 use Rattle.rb_ledger.specs.Valid.{IsValid, HasTarget}
-use Rattle.rb_ledger.specs.Index.{IsLinked, AreHeads, no_head, head_at, heads_at}
+use Rattle.rb_ledger.specs.Index.{IsLinked, AreHeads, heads_at}
 use Rattle.rb_ledger.specs.OnAccount.{IsLast}
 use Rattle.rb_ledger.proofs.IndexLists
 use Rattle.rb_ledger.proofs.Public.Pushes
@@ -104,15 +103,14 @@ item [] i d h = absurd (omega arith)
 item (x ∷ xs) zero d h = refl
 item (x ∷ xs) (suc i) d h = item xs i d (omega arith)
 
--- a head after a change on the own account and one on the second
-abbrev pub IsChanged : List Shadow → Shadow → List Head → (Head → Head) → (Head → Head) → Place → Head → Type 0
+-- a head where the own account has another one and the second account has
+abbrev pub IsChanged : List Shadow → Shadow → List Head → Head → Head → Place → Head → Type 0
 IsChanged us h hs f g a new =
-    ((is_on us h a ≡ true) × ((old : Head) × (slice_get hs a.0 ≡ Some old)
-    × (((h.account ≡ a) × (f old ≡ new)) ⊎ ((other_of us h.kind ≡ Some a) × (g old ≡ new)))))
+    ((is_on us h a ≡ true) × (((h.account ≡ a) × (f ≡ new)) ⊎ ((other_of us h.kind ≡ Some a) × (g ≡ new))))
     ⊎ ((is_on us h a ≡ false) × (slice_get hs a.0 ≡ Some new))
 
--- what both changes of heads make of a head: of the own account, of the second one, or of neither
-pub changed : (s : Settings) (us : List Shadow) (h : Shadow) (hs : List Head) (f g : Head → Head) → IsConfigured s → IsValid s us →
+-- what is read where two accounts have other heads: that of the own account, of the second one, or of neither
+pub changed : (s : Settings) (us : List Shadow) (h : Shadow) (hs : List Head) (f g : Head) → IsConfigured s → IsValid s us →
     Legal.MayFollow s us h → length hs ≡ length s.starts
     → (a : Place) (new : Head) → slice_get (heads_at (unwrap_or (other_of us h.kind) NOWHERE).0 g (heads_at h.account.0 f hs)) a.0
     ≡ Some new → IsChanged us h hs f g a new
@@ -120,9 +118,6 @@ changed s us h hs f g configured valid may many a new e = at (other_of us h.kind
   where
     first : List Head
     first = heads_at h.account.0 f hs
-
-    own_near : h.account.0 < length hs
-    own_near = omega (arith, many, Overdraws.sound_account s h may.sound)
 
     -- none of the two is the account
     off : (o : Option Place) → other_of us h.kind ≡ o → (a.0 ≡ (unwrap_or o NOWHERE).0 → ⊥) → (a.0 ≡ h.account.0 → ⊥) → is_on us h a ≡ false
@@ -133,17 +128,9 @@ changed s us h hs f g configured valid may many a new e = at (other_of us h.kind
         neither (inr j) = other (ap (λ o. (unwrap_or o NOWHERE).0) (sym j ∙ is))
 
     on_first : (o : Option Place) → other_of us h.kind ≡ o → (a.0 ≡ (unwrap_or o NOWHERE).0 → ⊥)
-        → ((a.0 ≡ h.account.0) × (f (get_or hs h.account.0 no_head) ≡ new)) ⊎ ((a.0 ≡ h.account.0 → ⊥) × (slice_get hs a.0 ≡ Some new)) →
+        → ((a.0 ≡ h.account.0) × (f ≡ new)) ⊎ ((a.0 ≡ h.account.0 → ⊥) × (slice_get hs a.0 ≡ Some new)) →
         IsChanged us h hs f g a new
-    on_first o is other (inl (own, k)) =
-        inl (
-          OnAccount.on_own us h a (sym own),
-          (
-            get_or hs h.account.0 no_head,
-            ap (slice_get hs) own ∙ item hs h.account.0 no_head own_near,
-            inl (same_place h.account a (sym own), k),
-          ),
-        )
+    on_first o is other (inl (own, k)) = inl (OnAccount.on_own us h a (sym own), inl (same_place h.account a (sym own), k))
     on_first o is other (inr (own, k)) = inr (off o is other own, k)
 
     none_there : (now : List Head) → length now ≡ length hs → slice_get now a.0 ≡ Some new → a.0 ≡ NOWHERE.0 → ⊥
@@ -159,111 +146,86 @@ changed s us h hs f g configured valid may many a new e = at (other_of us h.kind
 
     at : (o : Option Place) → other_of us h.kind ≡ o → slice_get (heads_at (unwrap_or o NOWHERE).0 g first) a.0 ≡ Some new →
         IsChanged us h hs f g a new
-    at o is read = either (IndexLists.get_set first (unwrap_or o NOWHERE).0 (g (get_or first (unwrap_or o NOWHERE).0 no_head)) new a.0 read)
+    at o is read = either (IndexLists.get_set first (unwrap_or o NOWHERE).0 g new a.0 read)
       where
         second : (o : Option Place) → other_of us h.kind ≡ o → slice_get (heads_at (unwrap_or o NOWHERE).0 g first) a.0 ≡ Some new →
-            a.0 ≡ (unwrap_or o NOWHERE).0 → g (get_or first (unwrap_or o NOWHERE).0 no_head) ≡ new → IsChanged us h hs f g a new
+            a.0 ≡ (unwrap_or o NOWHERE).0 → g ≡ new → IsChanged us h hs f g a new
         second None is read other k =
-            absurd (none_there (heads_at NOWHERE.0 g first) (length-set first NOWHERE.0 (g (get_or first NOWHERE.0 no_head))
-            ∙ length-set hs h.account.0 (f (get_or hs h.account.0 no_head))) read other)
+            absurd (none_there (heads_at NOWHERE.0 g first) (length-set first NOWHERE.0 g ∙ length-set hs h.account.0 f) read other)
         second (Some b) is read other k =
-            let (near, apart) = other_apart s us h b valid may is in
             let place : b ≡ a = same_place b a (sym other) in
-            let same : get_or first b.0 no_head ≡ get_or hs b.0 no_head =
-            get_or-set_other hs h.account.0 b.0 (f (get_or hs h.account.0 no_head)) no_head (λ e. apart (sym e)) in
-            inl (
-              OnAccount.on_other us h a (is ∙ ap Some place),
-              (
-                get_or hs b.0 no_head,
-                ap (slice_get hs) other ∙ item hs b.0 no_head (omega (arith, near, many)),
-                inr (is ∙ ap Some place, ap g (sym same) ∙ k),
-              ),
-            )
+            inl (OnAccount.on_other us h a (is ∙ ap Some place), inr (is ∙ ap Some place, k))
 
-        either : ((a.0 ≡ (unwrap_or o NOWHERE).0) × (g (get_or first (unwrap_or o NOWHERE).0 no_head) ≡ new))
+        either : ((a.0 ≡ (unwrap_or o NOWHERE).0) × (g ≡ new))
             ⊎ ((a.0 ≡ (unwrap_or o NOWHERE).0 → ⊥) × (slice_get first a.0 ≡ Some new)) → IsChanged us h hs f g a new
         either (inl (other, k)) = second o is read other k
-        either (inr (other, k)) = on_first o is other (IndexLists.get_set hs h.account.0 (f (get_or hs h.account.0 no_head)) new a.0 k)
+        either (inr (other, k)) = on_first o is other (IndexLists.get_set hs h.account.0 f new a.0 k)
 
 -- changes of two heads keep their number
-pub both_lengths : (hs : List Head) (i j : ℕ) (f g : Head → Head) → length (heads_at j g (heads_at i f hs)) ≡ length hs
-both_lengths hs i j f g = length-set (heads_at i f hs) j (g (get_or (heads_at i f hs) j no_head))
-    ∙ length-set hs i (f (get_or hs i no_head))
+pub both_lengths : (hs : List Head) (i j : ℕ) (f g : Head) → length (heads_at j g (heads_at i f hs)) ≡ length hs
+both_lengths hs i j f g = length-set (heads_at i f hs) j g ∙ length-set hs i f
 
 -- with one more operation
-pub heads_push : (s : Settings) (us : List Shadow) (h : Shadow) (hs : List Head) (l : Links) (b c : Blocks) → IsConfigured s →
+pub heads_push : (s : Settings) (us : List Shadow) (h : Shadow) (hs : List Head) (l : Links) → IsConfigured s →
     IsValid s us → IsValid s (us ++ h ∷ []) → AreHeads s us hs → IsLinked s us h l
-    → AreHeads s (us ++ h ∷ []) (heads_at (unwrap_or (other_of us h.kind) NOWHERE).0 (head_at (length us
-    + 1) c l.other.balance) (heads_at h.account.0 (head_at (length us + 1) b l.own.balance) hs))
-heads_push s us h hs l b c configured valid longer are linked =
+    → AreHeads s (us ++ h ∷ []) (heads_at (unwrap_or (other_of us h.kind) NOWHERE).0 (record {
+      last = length us
+          + 1;
+      balance = l.other.balance;
+    }) (heads_at h.account.0 (record { last = length us + 1; balance = l.own.balance }) hs))
+heads_push s us h hs l configured valid longer are linked =
     ChainFacts.heads_push s us h hs _ longer are (both_lengths hs h.account.0 (unwrap_or (other_of us h.kind) NOWHERE).0 own_more
     other_more)
     (λ a new e. at a new (changed s us h hs own_more other_more configured valid (Legal.IsValid-last s us h longer) are.count a new e))
   where
-    own_more : Head → Head
-    own_more = head_at (length us + 1) b l.own.balance
+    own_more : Head
+    own_more = record { last = length us + 1; balance = l.own.balance }
 
-    other_more : Head → Head
-    other_more = head_at (length us + 1) c l.other.balance
+    other_more : Head
+    other_more = record { last = length us + 1; balance = l.other.balance }
 
     at : (a : Place) (new : Head) → IsChanged us h hs own_more other_more a new → ChainFacts.IsCounted s us h hs a new
     at a new (inr off) = inr off
-    at a new (inl (on, (old, read, inl (own, is)))) =
+    at a new (inl (on, inl (own, is))) =
         inl (
           on,
-          (
-            old,
-            read,
-            ap (λ (k : Head). k.last) (sym is),
-            ap (λ (k : Head). pos k.balance) (sym is) ∙ linked.own.balance ∙ ap (bal s (us ++ h ∷ [])) own,
-          ),
+          ap (λ (k : Head). k.last) (sym is),
+          ap (λ (k : Head). pos k.balance) (sym is) ∙ linked.own.balance ∙ ap (bal s (us ++ h ∷ [])) own,
         )
-    at a new (inl (on, (old, read, inr (other, is)))) =
+    at a new (inl (on, inr (other, is))) =
         inl (
           on,
-          (
-            old,
-            read,
-            ap (λ (k : Head). k.last) (sym is),
-            ap (λ (k : Head). pos k.balance) (sym is) ∙ (linked.other a other).balance,
-          ),
+          ap (λ (k : Head). k.last) (sym is),
+          ap (λ (k : Head). pos k.balance) (sym is) ∙ (linked.other a other).balance,
         )
 
 -- without the last operation
-pub heads_front : (s : Settings) (us : List Shadow) (h : Shadow) (hs : List Head) (l : Links) (b c : Blocks) → IsConfigured s →
+pub heads_front : (s : Settings) (us : List Shadow) (h : Shadow) (hs : List Head) (l : Links) → IsConfigured s →
     IsValid s us → IsValid s (us ++ h ∷ []) → AreHeads s (us ++ h ∷ []) hs → IsLinked s us h l
     → AreHeads s us (heads_at (unwrap_or (other_of us h.kind) NOWHERE).0
-    (head_at l.other.earlier c (unwrap_or (option_map (λ a. cents (bal s us a)) (other_of us h.kind)) 0))
-    (heads_at h.account.0 (head_at l.own.earlier b (cents (bal s us h.account))) hs))
-heads_front s us h hs l b c configured valid longer are linked =
+    (record { last = l.other.earlier; balance = unwrap_or (option_map (λ a. cents (bal s us a)) (other_of us h.kind)) 0 })
+    (heads_at h.account.0 (record { last = l.own.earlier; balance = cents (bal s us h.account) }) hs))
+heads_front s us h hs l configured valid longer are linked =
     ChainFacts.heads_front s us h hs _ longer are (both_lengths hs h.account.0 (unwrap_or (other_of us h.kind) NOWHERE).0 own_less
     other_less)
     (λ a new e. at a new (changed s us h hs own_less other_less configured valid (Legal.IsValid-last s us h longer) are.count a new e))
   where
-    own_less : Head → Head
-    own_less = head_at l.own.earlier b (cents (bal s us h.account))
+    own_less : Head
+    own_less = record { last = l.own.earlier; balance = cents (bal s us h.account) }
 
-    other_less : Head → Head
-    other_less = head_at l.other.earlier c (unwrap_or (option_map (λ a. cents (bal s us a)) (other_of us h.kind)) 0)
+    other_less : Head
+    other_less = record { last = l.other.earlier; balance = unwrap_or (option_map (λ a. cents (bal s us a)) (other_of us h.kind)) 0 }
 
     at : (a : Place) (new : Head) → IsChanged us h hs own_less other_less a new → ChainFacts.IsUncounted s us h hs a new
     at a new (inr off) = inr off
-    at a new (inl (on, (old, read, inl (own, is)))) = inl (
+    at a new (inl (on, inl (own, is))) = inl (
       on,
-      (
-        old,
-        read,
-        subst (λ (k : Head). IsLast us a k.last) is (subst (λ (b : Place). IsLast us b l.own.earlier) own linked.own.earlier),
-        ap (λ (k : Head). pos k.balance) (sym is) ∙ Legal.kept_balance s us h.account _ valid refl ∙ ap (bal s us) own,
-      ),
+      subst (λ (k : Head). IsLast us a k.last) is (subst (λ (b : Place). IsLast us b l.own.earlier) own linked.own.earlier),
+      ap (λ (k : Head). pos k.balance) (sym is) ∙ Legal.kept_balance s us h.account _ valid refl ∙ ap (bal s us) own,
     )
-    at a new (inl (on, (old, read, inr (other, is)))) = inl (
+    at a new (inl (on, inr (other, is))) = inl (
       on,
-      (
-        old,
-        read,
-        subst (λ (k : Head). IsLast us a k.last) is (linked.other a other).earlier,
-        ap (λ (k : Head). pos k.balance) (sym is) ∙ Legal.kept_balance s us a _ valid
-            (ap (λ o. unwrap_or (option_map (λ a. cents (bal s us a)) o) 0) other),
-      ),
+      subst (λ (k : Head). IsLast us a k.last) is (linked.other a other).earlier,
+      ap (λ (k : Head). pos k.balance) (sym is) ∙ Legal.kept_balance s us a _ valid
+          (ap (λ o. unwrap_or (option_map (λ a. cents (bal s us a)) o) 0) other),
     )

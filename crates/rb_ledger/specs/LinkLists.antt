@@ -12,22 +12,40 @@ pub record LinkTable : Type 0 where
 
 -- the link on a second account where there is no second account
 abbrev pub no_link : Link
-no_link = record { balance = 0; earlier = 0; jump = 0 }
+no_link = record { balance = 0; earlier = 0 }
 
--- the link of a number, from 1, of the links on second accounts
-abbrev pub second_link : List Link → ℕ → Link
-second_link ls zero = no_link
-second_link ls (suc i) = slice_index_or ls i no_link
+-- the balance of a number, from 1, of the balances on second accounts
+abbrev pub second_balance : List ℕ → ℕ → ℕ
+second_balance ns zero = 0
+second_balance ns (suc i) = slice_index_or ns i 0
+
+-- the link on the operation's own account
+abbrev pub own_link : OwnLink → Link
+own_link o = record { balance = o.balance; earlier = o.earlier }
+
+-- the link on its second account, by the balances on second accounts
+abbrev pub other_link : List ℕ → OwnLink → Link
+other_link ns o = record { balance = second_balance ns o.second; earlier = o.other_earlier }
 
 -- both links of an operation
-abbrev pub both_links : List Link → OwnLink → Links
-both_links ls o = record { own = o.own; account = o.account; other = second_link ls o.second }
+abbrev pub both_links : List ℕ → OwnLink → Links
+both_links ns o = record { own = own_link o; account = o.account; other = other_link ns o }
+
+-- what is kept of an operation's links, where the balance on the second account has the number
+abbrev pub kept_link : Links → ℕ → OwnLink
+kept_link l n = record {
+  balance = l.own.balance;
+  earlier = l.own.earlier;
+  other_earlier = l.other.earlier;
+  second = n;
+  account = l.account;
+}
 
 -- the link on an account, which is one of the operation's two
 abbrev pub link_at_place : Links → Place → Link
 link_at_place l a = if l.account.0 == a.0 then l.own else l.other
 
--- the operations with a link on a second account are numbered in their order, from the first number plus 1 to the last
+-- the operations with a balance on a second account are numbered in their order, from the first number plus 1 to the last
 unfoldable pub AreNumbered : ℕ → List OwnLink → ℕ → Type 0
 AreNumbered first [] last = first ≡ last
 AreNumbered first (o ∷ os) last = ((o.second ≡ 0) × AreNumbered first os last) ⊎

@@ -4,12 +4,10 @@ ghost use Rattle.std.specs.Prelude.{slice_index_or, vec_len, vec_capacity};
 ghost use Rattle.rb_money.specs.declared.limits.TheConstants.{MOST_OPERATIONS};
 ghost use Rattle.rb_shadow.specs.declared.shadow.Shadow.{Shadow as TheShadow};
 ghost use Rattle.rb_shadow.specs.Operations.{target_of, is_on, other_of};
-ghost use Rattle.rb_ledger.specs.declared.blocks.Blocks.{Blocks as TheBlocks};
 ghost use Rattle.rb_ledger.specs.Valid.{IsValid, find_position, parts_of, position_of};
 ghost use Rattle.rb_ledger.specs.Index.{AreHeads, IsIndex, changed_at, one_more, one_less, no_cancels, IsLinked};
-ghost use Rattle.rb_ledger.specs.Index.{heads_at, head_at, no_head};
+ghost use Rattle.rb_ledger.specs.Index.{heads_at, no_head};
 
-use crate::blocks::Blocks;
 use crate::marks::{Cancels, Head, Links};
 use crate::prefix::Prefix;
 use crate::rows::Rows;
@@ -152,8 +150,8 @@ impl Index {
         let position = parts.position;
         cancel_one_more(&mut self.cancels, parts.target, position);
         self.cancels.push_reserved(Cancels { count: 0, first: 0 });
-        count_on(&mut self.heads, parts.place, position, links.own.balance);
-        count_on(&mut self.heads, parts.other, position, links.other.balance);
+        set_head(&mut self.heads, parts.place, position, links.own.balance);
+        set_head(&mut self.heads, parts.other, position, links.other.balance);
         self.rows.push(shadow.name.row(), position);
         self.clock.advance(&shadow.name);
     }
@@ -173,8 +171,8 @@ impl Index {
         cancel_one_less(&mut self.cancels, parts.target);
         let own = links.own.earlier;
         let other = links.other.earlier;
-        count_off(&mut self.heads, parts.place, own, parts.balance);
-        count_off(&mut self.heads, parts.other, other, parts.other_balance);
+        set_head(&mut self.heads, parts.place, own, parts.balance);
+        set_head(&mut self.heads, parts.other, other, parts.other_balance);
     }
 }
 
@@ -191,40 +189,16 @@ pub fn other_at(before: &Prefix<'_>, kind: Kind, target: u32) -> Option<Place>
     }
 }
 
-/// Counts an entry on an account, with its position and the balance after it. Nothing changes where there
-/// is no such account.
-fn count_on(heads: &mut Vec<Head>, place: Place, position: u32, balance: u64)
-    ensures { (blocks : TheBlocks) × (heads.new.items ≡ heads_at place.0 (head_at position blocks balance)
-        heads.old.items) }
+/// Gives an account another last entry: its position, or 0 for none, and the balance after it. Nothing changes where
+/// there is no such account.
+fn set_head(heads: &mut Vec<Head>, place: Place, last: u32, balance: u64)
+    ensures { heads.new.items ≡ heads_at place.0 (record { last = last; balance = balance }) heads.old.items }
 {
     let index = usize::from(place.0);
     if index >= heads.len() {
         return;
     }
-    let blocks = heads[index].blocks.longer();
-    heads[index] = Head {
-        last: position,
-        blocks,
-        balance,
-    };
-}
-
-/// Leaves an account's last entry out again, with the position of the one before it and the balance before
-/// it. Nothing changes where there is no such account.
-fn count_off(heads: &mut Vec<Head>, place: Place, earlier: u32, balance: u64)
-    ensures { (blocks : TheBlocks) × (heads.new.items ≡ heads_at place.0 (head_at earlier blocks balance)
-        heads.old.items) }
-{
-    let index = usize::from(place.0);
-    if index >= heads.len() {
-        return;
-    }
-    let blocks = heads[index].blocks.shorter();
-    heads[index] = Head {
-        last: earlier,
-        blocks,
-        balance,
-    };
+    heads[index] = Head { last, balance };
 }
 
 /// The heads of accounts without operations.
@@ -234,11 +208,7 @@ fn starting_heads(alloc: Global, config: &Config) -> Result<Vec<Head>, AllocErro
     let mut heads = Vec::new(alloc);
     for place in 0..config.accounts().len() {
         let balance = start(config, Place(place as u16));
-        heads.push(Head {
-            last: 0,
-            blocks: Blocks::NONE,
-            balance,
-        })?;
+        heads.push(Head { last: 0, balance })?;
     }
     Ok(heads)
 }

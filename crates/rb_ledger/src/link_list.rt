@@ -3,30 +3,35 @@ ghost use Rattle.std.specs.Prelude.{◌≡◌, ◌-◌, ◌<◌, ◌≤◌, ◌+
 ghost use Rattle.std.specs.Prelude.{Some, slice_get, vec_capacity};
 ghost use Rattle.rb_ledger.specs.declared.marks.Links.{Links as TheLinks};
 ghost use Rattle.rb_money.specs.declared.limits.TheConstants.{MOST_OPERATIONS};
-ghost use Rattle.rb_ledger.specs.LinkLists.{link_at_place, second_link};
+ghost use Rattle.rb_ledger.specs.LinkLists.{link_at_place, own_link, other_link, kept_link, second_balance};
 
 use crate::marks::{Link, Links, NO_LINK};
 use rb_money::Place;
 use std::alloc::{AllocError, Global};
 use std::marker::Model;
 
-/// The links of operations. An operation on one account takes memory for one link, one on two accounts for two.
+/// The links of operations: 24 bytes for each, and 8 more for one on two accounts.
 #[derive(Drop)]
 pub struct LinkList {
     own: Vec<OwnLink>,
-    /// The links on second accounts.
-    second: Vec<Link>,
+    /// The balances on second accounts, in cents.
+    second: Vec<u64>,
     limit: usize,
 }
 
-/// The link of an operation on its own account.
+/// The links of an operation, but for the balance on its second account: a step along an account reads nothing else.
 #[derive(Clone, Copy)]
 pub struct OwnLink {
-    pub own: Link,
-    /// The operation's own account.
-    pub account: Place,
-    /// The number, from 1, of its link on a second account, or 0.
+    /// The balance of its own account just after it, in cents.
+    pub balance: u64,
+    /// The position of the last operation before it on its own account, or 0.
+    pub earlier: u32,
+    /// The same of its second account, or 0 where there is none.
+    pub other_earlier: u32,
+    /// The number, from 1, of the balance on its second account, or 0.
     pub second: u32,
+    /// Its own account.
+    pub account: Place,
 }
 
 impl Model for LinkList {
@@ -65,9 +70,9 @@ impl LinkList {
     {
         let own = self.own[index];
         Links {
-            own: own.own,
+            own: own.link(),
             account: own.account,
-            other: linked(&self.second, own.second),
+            other: own.other_link(&self.second),
         }
     }
 
@@ -79,9 +84,24 @@ impl LinkList {
     {
         let own = self.own[index];
         if own.account == place {
-            return own.own;
+            return own.link();
         }
-        linked(&self.second, own.second)
+        own.other_link(&self.second)
+    }
+
+    /// The position of the last operation on an account before the one at an index, from 0, or 0. The account is one of
+    /// its two.
+    #[inline(always)]
+    pub fn earlier_on(&self, index: usize, place: Place) -> u32
+        requires { index < length self.now.items }
+        ensures { (l : TheLinks) × (slice_get self.now.items index ≡ Some l)
+            × (result ≡ (link_at_place l place).earlier) }
+    {
+        let own = &self.own[index];
+        if own.account == place {
+            return own.earlier;
+        }
+        own.other_earlier
     }
 
     /// Adds the links of one more operation, in spare capacity.
@@ -92,22 +112,13 @@ impl LinkList {
         ensures items { self.new.items ≡ self.old.items ++ links.now ∷ [] }
         ensures limit { self.new.limit ≡ self.old.limit }
     {
-        let (own, account) = (links.own, links.account);
         if links.other == NO_LINK {
-            self.own.push_reserved(OwnLink {
-                own,
-                account,
-                second: 0,
-            });
+            self.own.push_reserved(OwnLink::new(links, 0));
             return;
         }
-        self.second.push_reserved(links.other);
+        self.second.push_reserved(links.other.balance);
         let second = self.second.len() as u32;
-        self.own.push_reserved(OwnLink {
-            own,
-            account,
-            second,
-        });
+        self.own.push_reserved(OwnLink::new(links, second));
     }
 
     /// Takes the links of the last operation out again.
@@ -140,13 +151,51 @@ impl LinkList {
     }
 }
 
-/// The link of a number, from 1.
+impl OwnLink {
+    /// What is kept of the links, where the balance on the second account has the number.
+    #[inline(always)]
+    fn new(links: &Links, second: u32) -> OwnLink
+        ensures { result ≡ kept_link links.now second }
+    {
+        OwnLink {
+            balance: links.own.balance,
+            earlier: links.own.earlier,
+            other_earlier: links.other.earlier,
+            second,
+            account: links.account,
+        }
+    }
+
+    /// The link on its own account.
+    #[inline(always)]
+    fn link(self) -> Link
+        ensures { result ≡ own_link self }
+    {
+        Link {
+            balance: self.balance,
+            earlier: self.earlier,
+        }
+    }
+
+    /// The link on its second account, by the balances on second accounts.
+    #[inline(always)]
+    fn other_link(self, balances: &[u64]) -> Link
+        ensures { result ≡ other_link balances.now self }
+    {
+        Link {
+            balance: balance(balances, self.second),
+            earlier: self.other_earlier,
+        }
+    }
+}
+
+/// The balance of a number, from 1, or 0.
 #[inline(always)]
-fn linked(links: &[Link], number: u32) -> Link
-    ensures { result ≡ second_link links.now number }
+fn balance(balances: &[u64], number: u32) -> u64
+    ensures { result ≡ second_balance balances.now number }
 {
     match number.checked_sub(1) {
-        Some(index) => links.get(index as usize).copied().unwrap_or(NO_LINK),
-        None => NO_LINK,
+        Some(index) => balances.get(index as usize).copied().unwrap_or(0),
+        None => 0,
     }
 }

@@ -6,7 +6,7 @@ ghost use Rattle.rb_ledger.specs.OnAccount.{IsOn, IsLast, IsNoneAfter};
 ghost use Rattle.rb_ledger.specs.Index.{IsLink, IsLinked};
 
 use crate::Ledger;
-use crate::marks::{Head, Link, Links, NO_LINK};
+use crate::marks::{Link, Links, NO_LINK};
 use rb_money::Place;
 use rb_shadow::Shadow;
 use rb_undo::UndoParts;
@@ -25,13 +25,14 @@ impl Ledger {
 
     /// The position of the last operation on the account before the one at the position, which is on it.
     /// It is 0 where there is none.
+    #[inline(always)]
     pub fn earlier(&self, position: u32, place: Place) -> u32
         requires on { IsOn self.now.entries place position }
         requires some { 0 < position }
         ensures last { IsLast (take (position - 1) self.now.entries) place result }
         ensures before { result < position }
     {
-        self.link_at(position, place).earlier
+        self.links.earlier_on(position as usize - 1, place)
     }
 
     /// The position of the last of the first entries that is on the account, or 0, where the last of all
@@ -45,12 +46,7 @@ impl Ledger {
     {
         let mut at = self.last_from(limit, last, place);
         while at > limit {
-            let link = self.link_at(at, place);
-            at = if link.jump > limit {
-                link.jump
-            } else {
-                link.earlier
-            };
+            at = self.earlier(at, place);
         }
         at
     }
@@ -113,36 +109,11 @@ impl Ledger {
         requires { place.0 < length self.now.settings.starts }
         ensures balance { result.balance ≡ balance }
         ensures earlier { IsLast self.now.entries place result.earlier }
-        ensures jump { IsOn self.now.entries place result.jump }
     {
         let head = self.index.heads[usize::from(place.0)];
         Link {
             balance,
             earlier: head.last,
-            jump: self.jump(head, place),
         }
-    }
-
-    /// What the next entry on the account jumps back to: over the last two blocks, if it joins them, and otherwise to
-    /// the entry before it. So every entry is reached in few jumps.
-    fn jump(&self, head: Head, place: Place) -> u32
-        requires { IsOn self.now.entries place head.last }
-        ensures { IsOn self.now.entries place result }
-    {
-        if !head.blocks.is_pair() {
-            return head.last;
-        }
-        self.jump_from(self.jump_from(head.last, place), place)
-    }
-
-    /// What an entry on the account jumps back to.
-    fn jump_from(&self, position: u32, place: Place) -> u32
-        requires { IsOn self.now.entries place position }
-        ensures { IsOn self.now.entries place result }
-    {
-        if position == 0 {
-            return 0;
-        }
-        self.link_at(position, place).jump
     }
 }

@@ -1,7 +1,6 @@
 use Rattle.std.proofs.Common.{◌≡◌, ℕ, ◌<◌, List, [], ◌∷◌, ◌++◌, ◌⊎◌, inl, inr, length, ap, sym, ◌∙◌, arith, Some}
 use Rattle.std.specs.Prelude.{slice_get, slice_index}
 use Rattle.rb_ledger.specs.declared.marks.Head.{Head}
-use Rattle.rb_ledger.specs.declared.blocks.TheConstants.Blocks.{NONE}
 use Rattle.rb_ledger.proofs.Indexed
 use Rattle.rb_ledger.proofs.IndexLists
 use Rattle.rb_ledger.proofs.index.starting_heads.Goals as goal
@@ -11,11 +10,11 @@ abbrev AreBegun : List ℕ → List Head → Type 0
 AreBegun ns hs = (i : ℕ) (h : Head) → slice_get hs i ≡ Some h → (h.last ≡ 0) × (h.balance ≡ slice_index ns i)
 
 -- one more of them
-begun_push : (ns : List ℕ) (hs ks : List Head) (n : ℕ) → AreBegun ns hs → ks ≡ hs ++ record { last = 0; blocks = NONE; balance = n } ∷ []
+begun_push : (ns : List ℕ) (hs ks : List Head) (n : ℕ) → AreBegun ns hs → ks ≡ hs ++ record { last = 0; balance = n } ∷ []
     → n ≡ slice_index ns (length hs) → AreBegun ns ks
 begun_push ns hs ks n begun is start i h read = at (IndexLists.get_push hs _ h i (ap (λ xs. slice_get xs i) (sym is) ∙ read))
   where
-    at : ((i < length hs) × (slice_get hs i ≡ Some h)) ⊎ ((i ≡ length hs) × (record { last = 0; blocks = NONE; balance = n } ≡ h)) →
+    at : ((i < length hs) × (slice_get hs i ≡ Some h)) ⊎ ((i ≡ length hs) × (record { last = 0; balance = n } ≡ h)) →
         (h.last ≡ 0) × (h.balance ≡ slice_index ns i)
     at (inl (low, there)) = begun i h there
     at (inr (last, same)) = (

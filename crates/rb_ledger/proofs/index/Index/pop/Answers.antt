@@ -6,7 +6,7 @@ use Rattle.rb_undo.specs.declared.parts.UndoParts.{UndoParts}
 use Rattle.rb_vclock.specs.Clocks.{lowered}
 use Rattle.rb_ledger.specs.declared.marks.Cancels.{Cancels}
 use Rattle.rb_ledger.specs.Valid.{position_of}
-use Rattle.rb_ledger.specs.Index.{changed_at, one_less, no_cancels, heads_at, head_at}
+use Rattle.rb_ledger.specs.Index.{changed_at, one_less, no_cancels, heads_at}
 use Rattle.rb_ledger.proofs.CancelReads
 use Rattle.rb_ledger.proofs.CancelFacts
 use Rattle.rb_ledger.proofs.Indexed
@@ -76,16 +76,18 @@ returns-clause-index c =
     let (last, index, is, linked) = c.requires in
     let target : c.args.parts.target ≡ position_of c.args.before.now (target_of last.kind) = ap (λ (p : UndoParts). p.target) is in
     let row : c.row.result ≡ row_of last.name = c.row.ensures ∙ ap (λ (p : UndoParts). row_of p.name) is in
-    Indexed.indexed_front _ c.args.before.now c.args.self.now _ last c.args.links.now c.count_off.ensures.0 c.count_off-2.ensures.0 index
+    Indexed.indexed_front _ c.args.before.now c.args.self.now _ last c.args.links.now index
     linked
     refl (c.retreat.ensures.entries ∙ ap (λ (p : UndoParts). lowered c.args.self.now.clock p.name) is)
     (c.cancel_one_less.ensures.items ∙ ap (changed_at c.args.parts.target one_less) (c.truncate.ensures.items ∙ ap (λ n. take n c.args.self.now.cancels.items) c.len.ensures)
     ∙ ap (λ n. changed_at n one_less (take (length c.args.before.now) c.args.self.now.cancels.items)) target)
     (
-    c.count_off-2.ensures.1 ∙ ap (heads_at c.args.parts.other.0 (head_at c.args.links.now.other.earlier c.count_off-2.ensures.0
-    c.args.parts.other_balance)) c.count_off.ensures.1
-    ∙ ap (λ (p : UndoParts). heads_at p.other.0 (head_at c.args.links.now.other.earlier c.count_off-2.ensures.0 p.other_balance)
-    (heads_at p.place.0 (head_at c.args.links.now.own.earlier c.count_off.ensures.0 p.balance) c.args.self.now.heads.items)) is
+    c.set_head-2.ensures ∙ ap (heads_at c.args.parts.other.0 (record {
+      last = c.args.links.now.other.earlier;
+      balance = c.args.parts.other_balance;
+    })) c.set_head.ensures
+    ∙ ap (λ (p : UndoParts). heads_at p.other.0 (record { last = c.args.links.now.other.earlier; balance = p.other_balance })
+    (heads_at p.place.0 (record { last = c.args.links.now.own.earlier; balance = p.balance }) c.args.self.now.heads.items)) is
     )
     (c.pop.ensures.rows ∙ ap (λ j. set c.args.self.now.rows.rows j (take (length (get_or c.args.self.now.rows.rows j []) - 1)
     (get_or c.args.self.now.rows.rows j []))) row)

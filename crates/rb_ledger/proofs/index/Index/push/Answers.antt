@@ -1,6 +1,6 @@
 use Rattle.std.proofs.Common.{◌++◌, ◌∷◌, [], get_or, set, ap, ◌∙◌, refl, arith}
 use Rattle.rb_shadow.specs.Operations.{row_of}
-use Rattle.rb_ledger.specs.Index.{changed_at, one_more, no_cancels, heads_at, head_at}
+use Rattle.rb_ledger.specs.Index.{changed_at, one_more, no_cancels, heads_at}
 use Rattle.rb_undo.specs.declared.parts.UndoParts.{UndoParts}
 use Rattle.rb_ledger.proofs.CancelReads
 use Rattle.rb_ledger.proofs.Indexed
@@ -35,17 +35,18 @@ advance-requires-clause-entry c = LedgerClocks.may_entry _ _ _ c.args.shadow.now
 
 pub returns-clause-index : goal.returns-clause-index
 returns-clause-index c =
-    Indexed.indexed_push _ c.args.before.now c.args.self.now _ c.args.shadow.now c.args.links.now c.count_on.ensures.0
-    c.count_on-2.ensures.0
+    Indexed.indexed_push _ c.args.before.now c.args.self.now _ c.args.shadow.now c.args.links.now
     c.requires.index c.requires.longer c.requires.links
     refl c.advance.ensures.entries
     (c.push_reserved.ensures.items ∙ ap (λ xs. xs ++ no_cancels ∷ []) (c.cancel_one_more.ensures.items
     ∙ ap (λ (p : UndoParts). changed_at p.target (one_more p.position) c.args.self.now.cancels.items) c.requires.parts))
     (
-    c.count_on-2.ensures.1 ∙ ap (heads_at c.args.parts.now.other.0 (head_at c.args.parts.now.position c.count_on-2.ensures.0
-    c.args.links.now.other.balance)) c.count_on.ensures.1
-    ∙ ap (λ (p : UndoParts). heads_at p.other.0 (head_at p.position c.count_on-2.ensures.0 c.args.links.now.other.balance)
-    (heads_at p.place.0 (head_at p.position c.count_on.ensures.0 c.args.links.now.own.balance) c.args.self.now.heads.items))
+    c.set_head-2.ensures ∙ ap (heads_at c.args.parts.now.other.0 (record {
+      last = c.args.parts.now.position;
+      balance = c.args.links.now.other.balance;
+    })) c.set_head.ensures
+    ∙ ap (λ (p : UndoParts). heads_at p.other.0 (record { last = p.position; balance = c.args.links.now.other.balance })
+    (heads_at p.place.0 (record { last = p.position; balance = c.args.links.now.own.balance }) c.args.self.now.heads.items))
     c.requires.parts
     )
     (

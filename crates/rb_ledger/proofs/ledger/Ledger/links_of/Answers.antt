@@ -72,7 +72,6 @@ returns-then-eq c =
             balance = ap pos c.link-own.ensures.balance ∙ now ∙ ap (bal s (us ++ h
                 ∷ [])) (sym place);
             earlier = c.link-own.ensures.earlier;
-            jump = c.link-own.ensures.jump;
           });
       other = λ b there. absurd (Seconds.no_second _ _ h c.args.parts.now.other b c.requires.configured valid
           c.requires.valid (ap (λ (p : UndoParts). p.other) c.requires.parts) (sym c.eq.ensures ∙ c.if-eq.true) there);
@@ -140,13 +139,11 @@ returns c =
       own = subst (λ a. IsLink s us after a c.link-own.result) place (record {
         balance = ap pos c.link-own.ensures.balance ∙ now ∙ ap (bal s after) (sym place);
         earlier = c.link-own.ensures.earlier;
-        jump = c.link-own.ensures.jump;
       });
       other = λ b second. subst (λ a. IsLink s us after a c.link-other.result)
           (one _ _ (sym there ∙ second)) (record {
             balance = ap pos c.link-other.ensures.balance ∙ other_now;
             earlier = c.link-other.ensures.earlier;
-            jump = c.link-other.ensures.jump;
           });
     }
 

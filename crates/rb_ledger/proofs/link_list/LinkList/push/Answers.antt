@@ -1,11 +1,13 @@
-use Rattle.std.proofs.Common.{ap, ◌∙◌, ◌++◌, ◌∷◌, [], refl, arith}
-use Rattle.rb_ledger.specs.LinkLists.{LinkTable}
+use Rattle.std.proofs.Common.{ap, ◌∙◌, ◌++◌, ◌∷◌, [], arith}
+use Rattle.rb_ledger.specs.declared.link_list.OwnLink.{OwnLink}
+use Rattle.rb_ledger.specs.LinkLists.{LinkTable, both_links}
 use Rattle.rb_ledger.proofs.LinkTables
 use Rattle.rb_ledger.proofs.link_list.LinkList.push.Goals as goal
 
 pub invariant_of-self : goal.invariant_of-self
 invariant_of-self c = record {
-  numbered = LinkTables.pushed_without _ _ _ _ c.self.invariant.numbered c.push_reserved.ensures.items refl;
+  numbered = LinkTables.pushed_without _ _ _ _ c.self.invariant.numbered c.push_reserved.ensures.items
+      (ap (λ (o : OwnLink). o.second) c.new.ensures);
   own = omega (arith, c.self.invariant.own, c.push_reserved.ensures.capacity);
   second = c.self.invariant.second;
 }
@@ -33,7 +35,8 @@ overflow_cast-second c = omega (
 pub invariant_of-self-2 : goal.invariant_of-self-2
 invariant_of-self-2 c = record {
   numbered = LinkTables.pushed_with _ _ _ _ _ _ c.self.invariant.numbered c.push_reserved-3.ensures.items c.push_reserved-2.ensures.items
-      (omega (arith, c.len-second.ensures, c.push_reserved-2.ensures.len, c.self.inside.second.ok.0));
+      (ap (λ (o : OwnLink). o.second) c.new-2.ensures
+      ∙ omega (arith, c.len-second.ensures, c.push_reserved-2.ensures.len, c.self.inside.second.ok.0));
   own = omega (arith, c.self.invariant.own, c.push_reserved-3.ensures.capacity);
   second = omega (arith, c.self.invariant.second, c.push_reserved-2.ensures.capacity);
 }
@@ -41,6 +44,6 @@ invariant_of-self-2 c = record {
 pub returns-clause-items : goal.returns-clause-items
 returns-clause-items c = LinkTables.pushed_two _ _ _ _ _ _ c.args.links.now c.self.invariant.numbered c.push_reserved-3.ensures.items
     c.push_reserved-2.ensures.items
-    (LinkTables.both_pushed _ _ c.args.links.now _ c.push_reserved-2.ensures.items
+    (ap (both_links c.push_reserved-2.new.self.items) c.new-2.ensures ∙ LinkTables.both_pushed _ _ c.args.links.now _ c.push_reserved-2.ensures.items
     (omega (arith, c.len-second.ensures, c.push_reserved-2.ensures.len, c.self.inside.second.ok.0)))
     ∙ ap (λ (t : LinkTable). t.items ++ c.args.links.now ∷ []) c.self.view_is
