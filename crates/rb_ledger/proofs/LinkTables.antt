@@ -1,13 +1,13 @@
 -- What lists of links are after a change.
-use Rattle.std.proofs.Common.{◌≡◌, ◌⊎◌, ℕ, zero, suc, ◌+◌, ◌-◌, ◌<◌, ◌≤◌, List, [], ◌∷◌, ◌++◌, length, map, take, get_or}
+use Rattle.std.proofs.Common.{◌≡◌, ◌⊎◌, ℕ, zero, suc, ◌+◌, ◌-◌, ◌<◌, ◌≤◌, List, [], ◌∷◌, ◌++◌, length, map, take, get_or, set}
 use Rattle.std.proofs.Common.{refl, ap, sym, ◌∙◌, subst, arith, inl, inr, Some}
-use Rattle.std.specs.Prelude.{Option, option_map, option_to_list, slice_get}
-use Rattle.std.proofs.lemmas.List.{get_or_push, get_or_append_left, length_push, length-map, map_push}
+use Rattle.std.specs.Prelude.{Option, option_map, option_to_list, slice_get, Bool, false}
+use Rattle.std.proofs.lemmas.List.{get_or_push, get_or_append_left, length_push, length-map, map_push, map-set, take_at}
 use Rattle.std.proofs.lemmas.Option.{slice_get-map}
-use Rattle.std.proofs.Math.Seq.{take-append_seam}
+use Rattle.std.proofs.Math.Seq.{take-append_seam, map-set_same}
 use Rattle.rb_ledger.specs.declared.marks.Links.{Links}
 use Rattle.rb_ledger.specs.declared.link_list.OwnLink.{OwnLink}
-use Rattle.rb_ledger.specs.LinkLists.{AreNumbered, LinkTable, both_links, kept_link, own_link, second_balance}
+use Rattle.rb_ledger.specs.LinkLists.{AreNumbered, LinkTable, both_links, kept_link, marked_at, marks, own_link, second_balance}
 
 -- no number is above the last one
 pub none_above : (k n : ℕ) (os : List OwnLink) → AreNumbered k os n → k ≤ n
@@ -144,7 +144,7 @@ front_links os ps ls o is =
 
 -- the links that are seen after a pop
 pub seen_popped : (os ps : List OwnLink) (ls ms : List ℕ) (o : OwnLink) (n k : ℕ) (r : Option ℕ) (t : LinkTable) →
-    AreNumbered 0 os (length ls) → record { items = map (both_links ls) os; limit = k } ≡ t → os ≡ ps ++ o ∷ [] → 0 < o.second →
+    AreNumbered 0 os (length ls) → record { items = map (both_links ls) os; cancelled = marks os; limit = k } ≡ t → os ≡ ps ++ o ∷ [] → 0 < o.second →
     n ≡ length ls → ls ≡ ms ++ option_to_list r → ((d : ℕ) → 0 < n → r ≡ Some (get_or ls (n - 1) d)) →
     map (both_links ms) ps ≡ take (length t.items - 1) t.items
 seen_popped os ps ls ms o n k r t are view is some count items value =
@@ -171,7 +171,7 @@ pushed_with os ps ls ms o l are pushed longer one = subst (λ qs. AreNumbered 0 
 
 -- there are no more balances on second accounts than operations that are seen
 pub few_seen : (os : List OwnLink) (ls : List ℕ) (k : ℕ) (t : LinkTable) → AreNumbered 0 os (length ls) →
-    record { items = map (both_links ls) os; limit = k } ≡ t → length ls ≤ length t.items
+    record { items = map (both_links ls) os; cancelled = marks os; limit = k } ≡ t → length ls ≤ length t.items
 few_seen os ls k t are view = omega (
   arith,
   few_numbers 0 (length ls) os are,
@@ -187,7 +187,7 @@ both_pushed ls ms l n longer is = ap (λ xs. both_links xs (kept_link l n)) long
 
 -- both links of the operation at an index
 pub link_seen : (ls : List ℕ) (os : List OwnLink) (i : ℕ) (o : OwnLink) (n : ℕ) (t : LinkTable) →
-    record { items = map (both_links ls) os; limit = n } ≡ t → i < length t.items → o ≡ get_or os i o
+    record { items = map (both_links ls) os; cancelled = marks os; limit = n } ≡ t → i < length t.items → o ≡ get_or os i o
     → slice_get t.items i ≡ Some (both_links ls o)
 link_seen ls os i o n t seen near is =
     let low : i < length os = omega (arith, near, ap (λ (t : LinkTable). length t.items) seen, length-map os (both_links ls)) in
@@ -198,3 +198,70 @@ link_seen ls os i o n t seen near is =
     item [] j h = absurd (omega arith)
     item (x ∷ xs) zero h = refl
     item (x ∷ xs) (suc j) h = item xs j (omega arith)
+
+-- ---- marks
+
+-- another mark of an operation
+abbrev pub marked : Bool → OwnLink → OwnLink
+marked b o = record {
+  balance = o.balance;
+  earlier = o.earlier;
+  other_earlier = o.other_earlier;
+  second = o.second;
+  account = o.account;
+  cancelled = b;
+}
+
+-- another mark changes no numbers
+pub numbered_marked : (k n i : ℕ) (os : List OwnLink) (o : OwnLink) (b : Bool) → AreNumbered k os n → i < length os →
+    o ≡ get_or os i o → AreNumbered k (set os i (marked b o)) n
+unfolding AreNumbered
+numbered_marked k n i [] o b are near is = absurd (omega arith)
+numbered_marked k n zero (p ∷ os) o b (inl (none, are)) near is = inl (ap (λ (o : OwnLink). o.second) is ∙ none, are)
+numbered_marked k n zero (p ∷ os) o b (inr (one, are)) near is = inr (ap (λ (o : OwnLink). o.second) is ∙ one, are)
+numbered_marked k n (suc i) (p ∷ os) o b (inl (none, are)) near is = inl (none, numbered_marked k n i os o b are (omega arith) is)
+numbered_marked k n (suc i) (p ∷ os) o b (inr (one, are)) near is = inr (one, numbered_marked (k + 1) n i os o b are (omega arith) is)
+
+-- and no links
+pub links_marked : (ls : List ℕ) (os : List OwnLink) (i : ℕ) (o : OwnLink) (b : Bool) → o ≡ get_or os i o →
+    map (both_links ls) (set os i (marked b o)) ≡ map (both_links ls) os
+links_marked ls os i o b is = map-set_same (both_links ls) os i (marked b o) o (ap (both_links ls) is)
+
+-- the marks are then others at its position
+pub marks_marked : (os : List OwnLink) (p i : ℕ) (o : OwnLink) (b : Bool) → 0 < p → i ≡ p - 1 →
+    marks (set os i (marked b o)) ≡ marked_at p b (marks os)
+marks_marked os zero i o b some is = absurd (omega arith)
+marks_marked os (suc p) i o b some is = map-set (λ (o : OwnLink). o.cancelled) os i (marked b o)
+    ∙ ap (λ n. set (marks os) n b) (let e : i ≡ p = omega arith in e)
+
+-- the mark that is read
+pub mark_read : (os : List OwnLink) (i : ℕ) (o : OwnLink) → i < length os → o ≡ get_or os i o → o.cancelled ≡ get_or (marks os) i false
+mark_read [] i o near is = absurd (omega arith)
+mark_read (p ∷ os) zero o near is = ap (λ (o : OwnLink). o.cancelled) is
+mark_read (p ∷ os) (suc i) o near is = mark_read os i o (omega arith) is
+
+-- there is none past the end
+pub mark_past : (os : List OwnLink) (i : ℕ) → length os ≤ i → false ≡ get_or (marks os) i false
+mark_past [] i past = refl
+mark_past (p ∷ os) zero past = absurd (omega arith)
+mark_past (p ∷ os) (suc i) past = mark_past os i (omega arith)
+
+-- the marks of an operation more, which isn't cancelled
+pub marks_pushed : (os ps : List OwnLink) (o : OwnLink) → ps ≡ os ++ o ∷ [] → o.cancelled ≡ false → marks ps ≡ marks os ++ false ∷ []
+marks_pushed os ps o pushed free = ap marks pushed ∙ map_push (λ (o : OwnLink). o.cancelled) os o
+    ∙ ap (λ b. marks os ++ b ∷ []) free
+
+-- the marks but for that of the last operation
+pub front_marks : (os ps : List OwnLink) (o : OwnLink) (ls : List ℕ) (k : ℕ) (t : LinkTable) → os ≡ ps ++ o ∷ [] →
+    record { items = map (both_links ls) os; cancelled = marks os; limit = k } ≡ t → marks ps ≡ take (length t.items - 1) t.cancelled
+front_marks os ps o ls k t is view =
+    let all : marks os ≡ marks ps ++ o.cancelled ∷ [] = ap marks is ∙ map_push (λ (o : OwnLink). o.cancelled) ps o in
+    let count : length (marks ps) ≡ length (map (both_links ls) os) - 1 = omega (
+      arith,
+      length-map ps (λ (o : OwnLink). o.cancelled),
+      length-map os (both_links ls),
+      ap length is,
+      length_push ps o,
+    ) in
+    sym (take_at (marks ps) (o.cancelled ∷ []) _ count) ∙ ap (take (length (map (both_links ls) os) - 1)) (sym all)
+    ∙ ap (λ (s : LinkTable). take (length s.items - 1) s.cancelled) view

@@ -1,13 +1,14 @@
 -- What lists of links are.
-use Rattle.std.specs.Prelude.{◌≡◌, ◌⊎◌, ℕ, zero, suc, ◌+◌, ◌==◌, if◌then◌else◌, List, [], ◌∷◌, slice_index_or}
+use Rattle.std.specs.Prelude.{Bool, false, map, slice_set, ◌≡◌, ◌⊎◌, ℕ, zero, suc, ◌+◌, ◌==◌, if◌then◌else◌, List, [], ◌∷◌, slice_index_or}
 use Rattle.rb_money.specs.declared.place.Place.{Place}
 use Rattle.rb_ledger.specs.declared.marks.Link.{Link}
 use Rattle.rb_ledger.specs.declared.marks.Links.{Links}
 use Rattle.rb_ledger.specs.declared.link_list.OwnLink.{OwnLink}
 
--- the links, and for how many there is memory
+-- the links, whether each operation is cancelled, and for how many there is memory
 pub record LinkTable : Type 0 where
   pub items : List Links
+  pub cancelled : List Bool
   pub limit : ℕ
 
 -- the link on a second account where there is no second account
@@ -39,7 +40,17 @@ kept_link l n = record {
   other_earlier = l.other.earlier;
   second = n;
   account = l.account;
+  cancelled = false;
 }
+
+-- whether each operation is cancelled
+abbrev pub marks : List OwnLink → List Bool
+marks os = map (λ (o : OwnLink). o.cancelled) os
+
+-- another mark at a position, counted from 1; none at 0
+abbrev pub marked_at : ℕ → Bool → List Bool → List Bool
+marked_at zero b bs = bs
+marked_at (suc i) b bs = slice_set bs i b
 
 -- the link on an account, which is one of the operation's two
 abbrev pub link_at_place : Links → Place → Link

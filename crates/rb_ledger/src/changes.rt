@@ -101,6 +101,7 @@ impl Ledger {
         let parts = self.index.parts(&self.entries.all(), shadow);
         let links = self.links_of(shadow, &parts);
         self.index.push(&self.entries.all(), shadow, &parts, &links);
+        self.links.mark(parts.target, true);
         self.links.push(&links);
         self.entries.push(shadow);
         self.checkpoints.push(parts.position, &self.index.heads);
@@ -116,11 +117,12 @@ impl Ledger {
         ensures room { self.new.room ≡ self.old.room + 1 }
     {
         let parts = undo.spend();
-        let position = parts.position;
+        let (position, target) = (parts.position, parts.target);
         let links = self.links.at(position as usize - 1);
         self.links.pop();
         self.entries.pop();
         self.index.pop(&self.entries.all(), parts, &links);
+        self.links.mark(target, self.index.is_cancelled(target));
         self.checkpoints.pop(position);
     }
 

@@ -6,7 +6,7 @@ ghost use Rattle.rb_shadow.specs.declared.shadow.Shadow.{Shadow as TheShadow};
 ghost use Rattle.rb_shadow.specs.Operations.{target_of, is_on, other_of};
 ghost use Rattle.rb_ledger.specs.Valid.{IsValid, find_position, parts_of, position_of};
 ghost use Rattle.rb_ledger.specs.Index.{AreHeads, IsIndex, changed_at, one_more, one_less, no_cancels, IsLinked};
-ghost use Rattle.rb_ledger.specs.Index.{heads_at, no_head};
+ghost use Rattle.rb_ledger.specs.Index.{heads_at, no_head, counted_at};
 
 use crate::marks::{Cancels, Head, Links};
 use crate::prefix::Prefix;
@@ -97,6 +97,19 @@ impl Index {
             Some(other) => other == place,
             None => false,
         }
+    }
+
+    /// Whether an operation cancels the one at a position, counted from 1. The position 0 is none.
+    pub fn is_cancelled(&self, position: u32) -> bool
+        ensures { result ≡ counted_at position self.now.cancels.items }
+    {
+        let Some(index) = position.checked_sub(1) else {
+            return false;
+        };
+        if index as usize >= self.cancels.len() {
+            return false;
+        }
+        self.cancels[index as usize].count > 0
     }
 
     /// The running balance of an account, in cents, or 0 where there is no such account.

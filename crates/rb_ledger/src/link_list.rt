@@ -1,9 +1,9 @@
 //! The links of operations, in their order.
 ghost use Rattle.std.specs.Prelude.{◌≡◌, ◌-◌, ◌<◌, ◌≤◌, ◌++◌, ◌∷◌, [], length, take, OnOk};
-ghost use Rattle.std.specs.Prelude.{Some, slice_get, vec_capacity};
+ghost use Rattle.std.specs.Prelude.{Some, false, slice_get, slice_index_or, vec_capacity};
 ghost use Rattle.rb_ledger.specs.declared.marks.Links.{Links as TheLinks};
 ghost use Rattle.rb_money.specs.declared.limits.TheConstants.{MOST_OPERATIONS};
-ghost use Rattle.rb_ledger.specs.LinkLists.{link_at_place, own_link, other_link, kept_link, second_balance};
+ghost use Rattle.rb_ledger.specs.LinkLists.{link_at_place, own_link, other_link, kept_link, second_balance, marked_at};
 
 use crate::marks::{Link, Links, NO_LINK};
 use rb_money::Place;
@@ -19,7 +19,8 @@ pub struct LinkList {
     limit: usize,
 }
 
-/// The links of an operation, but for the balance on its second account: a step along an account reads nothing else.
+/// The links of an operation, but for the balance on its second account, and whether it is cancelled: a row of a
+/// statement and the step to the one before read little else.
 #[derive(Clone, Copy)]
 pub struct OwnLink {
     /// The balance of its own account just after it, in cents.
@@ -32,15 +33,21 @@ pub struct OwnLink {
     pub second: u32,
     /// Its own account.
     pub account: Place,
+    /// Whether an operation of the list cancels it.
+    pub cancelled: bool,
 }
 
 impl Model for LinkList {
     ghost use Rattle.std.specs.Prelude.{map, length, ◌≤◌, vec_capacity};
-    ghost use Rattle.rb_ledger.specs.LinkLists.{LinkTable, AreNumbered, both_links};
+    ghost use Rattle.rb_ledger.specs.LinkLists.{LinkTable, AreNumbered, both_links, marks};
 
     ghost Value = { LinkTable };
 
-    ghost view = { λ l. record { items = map (both_links l.second.items) l.own.items; limit = l.limit } };
+    ghost view = { λ l. record {
+      items = map (both_links l.second.items) l.own.items;
+      cancelled = marks l.own.items;
+      limit = l.limit;
+    } };
 
     ghost invariant = { λ l. record {
       numbered : AreNumbered 0 l.own.items (length l.second.items);
@@ -53,6 +60,7 @@ impl LinkList {
     /// No links, without memory for any.
     pub fn new(alloc: Global) -> LinkList
         ensures items { result.items ≡ [] }
+        ensures cancelled { result.cancelled ≡ [] }
         ensures limit { result.limit ≡ 0 }
     {
         LinkList {
@@ -104,12 +112,39 @@ impl LinkList {
         own.other_earlier
     }
 
-    /// Adds the links of one more operation, in spare capacity.
+    /// Whether the operation at an index, from 0, is cancelled, or `false` where there is none.
+    #[inline(always)]
+    pub fn is_cancelled(&self, index: usize) -> bool
+        ensures { result ≡ slice_index_or self.now.cancelled index false }
+    {
+        if index >= self.own.len() {
+            return false;
+        }
+        self.own[index].cancelled
+    }
+
+    /// Sets whether the operation at a position, from 1, is cancelled. The position 0 is none.
+    #[inline(always)]
+    pub fn mark(&mut self, position: u32, cancelled: bool)
+        requires { position ≤ length self.old.items }
+        ensures items { self.new.items ≡ self.old.items }
+        ensures cancelled { self.new.cancelled ≡ marked_at position cancelled self.old.cancelled }
+        ensures limit { self.new.limit ≡ self.old.limit }
+    {
+        if position == 0 {
+            return;
+        }
+        let old = self.own[position as usize - 1];
+        self.own[position as usize - 1] = OwnLink { cancelled, ..old };
+    }
+
+    /// Adds the links of one more operation, which isn't cancelled, in spare capacity.
     #[inline(always)]
     pub fn push(&mut self, links: &Links)
         requires room { length self.old.items < self.old.limit }
         requires few { length self.old.items < MOST_OPERATIONS }
         ensures items { self.new.items ≡ self.old.items ++ links.now ∷ [] }
+        ensures cancelled { self.new.cancelled ≡ self.old.cancelled ++ false ∷ [] }
         ensures limit { self.new.limit ≡ self.old.limit }
     {
         if links.other == NO_LINK {
@@ -124,6 +159,7 @@ impl LinkList {
     /// Takes the links of the last operation out again.
     pub fn pop(&mut self)
         ensures items { self.new.items ≡ take (length self.old.items - 1) self.old.items }
+        ensures cancelled { self.new.cancelled ≡ take (length self.old.items - 1) self.old.cancelled }
         ensures limit { self.new.limit ≡ self.old.limit }
     {
         if let Some(last) = self.own.pop() {
@@ -136,6 +172,7 @@ impl LinkList {
     /// Takes memory for the links of at least `limit` operations in all. `Err` means out of memory.
     pub fn reserve(&mut self, limit: usize) -> Result<(), AllocError>
         ensures items { self.new.items ≡ self.old.items }
+        ensures cancelled { self.new.cancelled ≡ self.old.cancelled }
         ensures ok { OnOk result (limit ≤ self.new.limit) }
         ensures grows { self.old.limit ≤ self.new.limit }
     {
@@ -163,6 +200,7 @@ impl OwnLink {
             other_earlier: links.other.earlier,
             second,
             account: links.account,
+            cancelled: false,
         }
     }
 

@@ -1,14 +1,18 @@
-use Rattle.std.proofs.Common.{refl, ◌+◌, ◌≡◌, ◌≤◌, ◌-◌, length, ◌++◌, ◌∷◌, [], subst, sym, ap, ◌∙◌, arith}
+use Rattle.std.proofs.Common.{true, false, refl, ◌+◌, ◌≡◌, ◌≤◌, ◌-◌, length, ◌++◌, ◌∷◌, [], subst, sym, ap, ◌∙◌, arith}
 use Rattle.std.proofs.lemmas.List.{length_push}
 use Rattle.rb_money.specs.Settings.{IsConfigured, Settings}
 use Rattle.rb_ledger.specs.Book.{Book}
 use Rattle.rb_undo.specs.declared.parts.UndoParts.{UndoParts}
-use Rattle.rb_ledger.specs.Index.{IsIndex, IsLinked, AreHeads}
+use Rattle.rb_ledger.specs.Index.{IsIndex, IsLinked, AreHeads, all_cancelled}
+use Rattle.rb_ledger.specs.LinkLists.{LinkTable, marked_at}
+use Rattle.rb_shadow.specs.Operations.{target_of}
+use Rattle.rb_ledger.proofs.CancelFacts
+use Rattle.rb_ledger.proofs.CancelMarks
 use Rattle.rb_ledger.proofs.ChainFacts
 use Rattle.rb_ledger.proofs.CheckpointFacts
 use Rattle.rb_ledger.proofs.Indexed
 use Rattle.rb_ledger.proofs.Lengths
-use Rattle.rb_ledger.specs.Valid.{IsValid, parts_of}
+use Rattle.rb_ledger.specs.Valid.{IsValid, parts_of, position_of}
 use Rattle.rb_shadow.proofs.Public.SoundFacts
 use Rattle.rb_ledger.proofs.Public.Legal
 use Rattle.rb_ledger.proofs.OperationTables
@@ -26,6 +30,10 @@ invariant_of-self c =
     ap (λ (b : Book). b.room) c.self.view_is in
     let longer = ap length c.push-3.ensures.items ∙ length_push c.self.inside.entries.items c.args.shadow.now in
     let room = c.self.invariant.room in
+    let target : c.parts-parts.result.target ≡ position_of c.self.inside.entries.items (target_of c.args.shadow.now.kind) =
+    ap (λ (p : UndoParts). p.target) c.parts-parts.ensures ∙ ap (λ us. position_of us (target_of c.args.shadow.now.kind)) c.all.ensures in
+    let longer_valid = subst (λ us. IsValid c.args.self.now.settings (us ++ c.args.shadow.now ∷ []))
+    (sym (ap (λ (b : Book). b.entries) c.self.view_is ∙ c.in_ok-make_room.ensures.entries)) c.requires in
     let pushed = subst (λ us. IsIndex c.self.inside.index.config (us ++ c.args.shadow.now ∷ []) c.push.new.self) c.all-2.ensures
     c.push.ensures.index in
     let heads = subst (AreHeads c.self.inside.index.config (c.self.inside.entries.items ++ c.args.shadow.now ∷ []))
@@ -37,7 +45,12 @@ invariant_of-self c =
           (λ us. us ++ c.args.shadow.now ∷ []) c.all-2.ensures
           ∙ sym c.push-3.ensures.items) (Indexed.own _ _ _ c.push.ensures.index);
       links = ChainFacts.links_moved _ _ _ _ _ _ (ChainFacts.links_push _ _ c.args.shadow.now _ _ c.self.invariant.links links)
-          c.push.ensures.index.config c.push-3.ensures.items c.push-2.ensures.items;
+          c.push.ensures.index.config c.push-3.ensures.items (c.push-2.ensures.items ∙ ap (λ ls. ls ++ c.links_of-links.result ∷ []) c.mark.ensures.items);
+      cancelled = c.push-2.ensures.cancelled ∙ ap (λ bs. bs ++ false ∷ []) (c.mark.ensures.cancelled
+          ∙ ap (marked_at c.parts-parts.result.target true) c.self.invariant.cancelled ∙ ap (λ n. marked_at n true (all_cancelled
+          c.self.inside.entries.items)) target)
+          ∙ sym (CancelMarks.marks_push c.args.self.now.settings _ c.args.shadow.now longer_valid)
+          ∙ ap all_cancelled (sym c.push-3.ensures.items);
       checkpoints = CheckpointFacts.moved _ _ _ _ _ _ (c.push-4.ensures.checkpoints _ _ c.args.shadow.now
           c.self.invariant.index.clocked.configured c.self.invariant.checkpoints heads count) c.push.ensures.index.config
           c.push-3.ensures.items refl refl refl;
@@ -46,7 +59,7 @@ invariant_of-self c =
         within = omega (arith, longer, c.push.ensures.limit, free, c.in_ok-make_room.ensures.ok);
         entries = omega (arith, c.push-3.ensures.limit, c.push.ensures.limit, room.entries);
         cancels = omega (arith, c.push.ensures.capacity, c.push.ensures.limit, room.cancels);
-        links = omega (arith, c.push-2.ensures.limit, c.push.ensures.limit, room.links);
+        links = omega (arith, c.push-2.ensures.limit, c.mark.ensures.limit, c.push.ensures.limit, room.links);
         checkpoints = omega (arith, c.push-4.ensures.capacity, c.push.ensures.limit, room.checkpoints);
       };
     }
@@ -111,6 +124,8 @@ push-requires-2-clause-room c =
       free,
       c.in_ok-make_room.ensures.ok,
       c.self.invariant.room.links,
+      c.mark.ensures.limit,
+      ap length c.mark.ensures.items,
       c.self.invariant.links.count,
     )
 
@@ -119,6 +134,7 @@ push-requires-2-clause-few c =
     omega (
       arith,
       c.self.invariant.links.count,
+      ap length c.mark.ensures.items,
       ap (λ (b : Book). length b.entries) c.self.view_is,
       ap length c.in_ok-make_room.ensures.entries,
       length_push c.args.self.now.entries c.args.shadow.now,
@@ -213,3 +229,17 @@ push-requires-3-clause-own c = (SoundFacts.is_next _ c.args.shadow.now (Legal.Is
 
 pub push-requires-3-clause-home : goal.push-requires-3-clause-home
 push-requires-3-clause-home c = (SoundFacts.sound_facts _ c.args.shadow.now (Legal.IsValid-last _ _ c.args.shadow.now c.requires).sound).own
+
+pub mark-requires : goal.mark-requires
+mark-requires c =
+    let target : c.parts-parts.result.target ≡ position_of c.self.inside.entries.items (target_of c.args.shadow.now.kind) =
+    ap (λ (p : UndoParts). p.target) c.parts-parts.ensures ∙ ap (λ us. position_of us (target_of c.args.shadow.now.kind)) c.all.ensures in
+    let longer_valid = subst (λ us. IsValid c.args.self.now.settings (us ++ c.args.shadow.now ∷ []))
+    (sym (ap (λ (b : Book). b.entries) c.self.view_is ∙ c.in_ok-make_room.ensures.entries)) c.requires in
+    omega (
+      arith,
+      target,
+      c.self.invariant.links.count,
+      CancelFacts.target_within c.self.inside.entries.items c.args.shadow.now
+          (Legal.IsValid-last _ _ c.args.shadow.now longer_valid).target,
+    )

@@ -4,7 +4,7 @@ use Rattle.std.specs.declared.alloc.AllocError.{AllocError}
 use Rattle.rb_money.specs.Settings.{Settings}
 use Rattle.rb_shadow.specs.declared.shadow.Shadow.{Shadow}
 use Rattle.rb_ledger.specs.Book.{Book, IsClocked}
-use Rattle.rb_ledger.specs.Index.{AreHeads, AreIndexRows, IsIndex}
+use Rattle.rb_ledger.specs.Index.{AreHeads, AreIndexRows, IsIndex, all_cancelled}
 use Rattle.rb_ledger.specs.declared.index.Index.{Index}
 use Rattle.rb_ledger.proofs.CancelReads
 use Rattle.rb_ledger.proofs.ChainFacts
@@ -41,6 +41,7 @@ invariant_of-self c =
     record {
       index = same_index _ _ _ _ c.self.inside.index c.self.invariant.index c.reserve.ensures.items refl refl refl refl refl;
       links = ChainFacts.links_moved _ _ _ _ _ _ c.self.invariant.links refl c.reserve.ensures.items refl;
+      cancelled = c.self.invariant.cancelled ∙ ap all_cancelled (sym c.reserve.ensures.items);
       checkpoints = CheckpointFacts.moved _ _ _ _ _ _ c.self.invariant.checkpoints refl c.reserve.ensures.items refl refl refl;
       sites = omega (arith, c.reserve.ensures.sites, c.self.invariant.sites);
       room = record {
@@ -61,6 +62,7 @@ invariant_of-self-in_err-reserve-2 c =
     record {
       index = same_index _ _ _ _ c.self.inside.index c.self.invariant.index c.reserve.ensures.items refl refl refl refl refl;
       links = ChainFacts.links_moved _ _ _ _ _ _ c.self.invariant.links refl c.reserve.ensures.items c.reserve-2.ensures.items;
+      cancelled = c.reserve-2.ensures.cancelled ∙ c.self.invariant.cancelled ∙ ap all_cancelled (sym c.reserve.ensures.items);
       checkpoints = CheckpointFacts.moved _ _ _ _ _ _ c.self.invariant.checkpoints refl c.reserve.ensures.items refl refl refl;
       sites = omega (arith, c.reserve.ensures.sites, c.self.invariant.sites);
       room = record {
@@ -82,6 +84,7 @@ invariant_of-self-in_err-reserve_exact c =
       index = same_index _ _ _ c.self.inside.index _ c.self.invariant.index c.reserve.ensures.items refl refl
           c.reserve_exact.ensures.items refl refl;
       links = ChainFacts.links_moved _ _ _ _ _ _ c.self.invariant.links refl c.reserve.ensures.items c.reserve-2.ensures.items;
+      cancelled = c.reserve-2.ensures.cancelled ∙ c.self.invariant.cancelled ∙ ap all_cancelled (sym c.reserve.ensures.items);
       checkpoints = CheckpointFacts.moved _ _ _ _ _ _ c.self.invariant.checkpoints refl c.reserve.ensures.items refl refl refl;
       sites = omega (arith, c.reserve.ensures.sites, c.self.invariant.sites);
       room = record {
@@ -104,6 +107,7 @@ invariant_of-self-in_err-reserve-3 c =
       index = same_index _ _ _ c.self.inside.index _ c.self.invariant.index c.reserve.ensures.items refl refl
           c.reserve_exact.ensures.items refl refl;
       links = ChainFacts.links_moved _ _ _ _ _ _ c.self.invariant.links refl c.reserve.ensures.items c.reserve-2.ensures.items;
+      cancelled = c.reserve-2.ensures.cancelled ∙ c.self.invariant.cancelled ∙ ap all_cancelled (sym c.reserve.ensures.items);
       checkpoints = CheckpointFacts.moved _ _ _ _ _ _ c.self.invariant.checkpoints refl c.reserve.ensures.items c.reserve-3.ensures.lasts
           c.reserve-3.ensures.accounts c.reserve-3.ensures.due;
       sites = omega (arith, c.reserve.ensures.sites, c.self.invariant.sites);
@@ -132,6 +136,7 @@ invariant_of-self-2 c =
       index = same_index _ _ _ c.self.inside.index _ index c.reserve.ensures.items refl refl c.reserve_exact.ensures.items refl
           c.reserve-4.ensures.rows;
       links = ChainFacts.links_moved _ _ _ _ _ _ c.self.invariant.links refl c.reserve.ensures.items c.reserve-2.ensures.items;
+      cancelled = c.reserve-2.ensures.cancelled ∙ c.self.invariant.cancelled ∙ ap all_cancelled (sym c.reserve.ensures.items);
       checkpoints = CheckpointFacts.moved _ _ _ _ _ _ c.self.invariant.checkpoints refl c.reserve.ensures.items c.reserve-3.ensures.lasts
           c.reserve-3.ensures.accounts c.reserve-3.ensures.due;
       sites = omega (arith, c.reserve.ensures.sites, c.self.invariant.sites);

@@ -16,7 +16,7 @@ pub returns-then-is_cancelled-clause-sums : goal.returns-then-is_cancelled-claus
 returns-then-is_cancelled-clause-sums c =
     let us = c.args.self.now.entries in
     let (x, is, at) = FoundNames.target_at us (target_of c.args.shadow.now.kind) c.args.target c.requires.at c.requires.some in
-    OneMore.moved_none us c.args.shadow.now x is (sym (c.is_cancelled.ensures x at) ∙ c.if-is_cancelled.true)
+    OneMore.moved_none us c.args.shadow.now x is (sym (c.is_cancelled.ensures.found x at) ∙ c.if-is_cancelled.true)
 
 pub returns-clause-sums : goal.returns-clause-sums
 returns-clause-sums c =
@@ -24,4 +24,4 @@ returns-clause-sums c =
     let (x, is, at) = FoundNames.target_at us (target_of c.args.shadow.now.kind) c.args.target c.requires.at c.requires.some in
     let (t, there, named, found) = FoundNames.found_there us x c.args.target at in
     OneMore.moved_back us c.args.shadow.now _ x _ _ c.requires.valid.unique c.requires.target is
-    (c.in-Some.ensures ∙ there ∙ sym found) (sym c.if-is_cancelled.false ∙ c.is_cancelled.ensures x at) c.moved-added.ensures.sums
+    (c.in-Some.ensures ∙ there ∙ sym found) (sym c.if-is_cancelled.false ∙ c.is_cancelled.ensures.found x at) c.moved-added.ensures.sums

@@ -19,6 +19,12 @@ invariant_of-self-else-last-gt0 c = record {
   second = c.self.invariant.second;
 }
 
+pub returns-then-last-gt0-clause-cancelled : goal.returns-then-last-gt0-clause-cancelled
+returns-then-last-gt0-clause-cancelled c = LinkTables.front_marks _ _ _ _ _ _ c.in-Some.ensures.items c.self.view_is
+
+pub returns-else-last-gt0-clause-cancelled : goal.returns-else-last-gt0-clause-cancelled
+returns-else-last-gt0-clause-cancelled c = LinkTables.front_marks _ _ _ _ _ _ c.in-Some.ensures.items c.self.view_is
+
 pub returns-then-last-gt0-clause-items : goal.returns-then-last-gt0-clause-items
 returns-then-last-gt0-clause-items c = LinkTables.seen_popped _ _ _ _ _ _ _ _ _ c.self.invariant.numbered c.self.view_is
     c.in-Some.ensures.items c.if-last-gt0.true c.self.inside.second.ok.0 c.pop-then-last-gt0.ensures.items

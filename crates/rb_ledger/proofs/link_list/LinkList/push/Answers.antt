@@ -1,4 +1,4 @@
-use Rattle.std.proofs.Common.{ap, ◌∙◌, ◌++◌, ◌∷◌, [], arith}
+use Rattle.std.proofs.Common.{false, ap, ◌∙◌, ◌++◌, ◌∷◌, [], arith}
 use Rattle.rb_ledger.specs.declared.link_list.OwnLink.{OwnLink}
 use Rattle.rb_ledger.specs.LinkLists.{LinkTable, both_links}
 use Rattle.rb_ledger.proofs.LinkTables
@@ -11,6 +11,14 @@ invariant_of-self c = record {
   own = omega (arith, c.self.invariant.own, c.push_reserved.ensures.capacity);
   second = c.self.invariant.second;
 }
+
+pub returns-then-eq-clause-cancelled : goal.returns-then-eq-clause-cancelled
+returns-then-eq-clause-cancelled c = LinkTables.marks_pushed _ _ _ c.push_reserved.ensures.items
+    (ap (λ (o : OwnLink). o.cancelled) c.new.ensures) ∙ ap (λ (t : LinkTable). t.cancelled ++ false ∷ []) c.self.view_is
+
+pub returns-clause-cancelled : goal.returns-clause-cancelled
+returns-clause-cancelled c = LinkTables.marks_pushed _ _ _ c.push_reserved-3.ensures.items
+    (ap (λ (o : OwnLink). o.cancelled) c.new-2.ensures) ∙ ap (λ (t : LinkTable). t.cancelled ++ false ∷ []) c.self.view_is
 
 pub push_reserved-requires-2 : goal.push_reserved-requires-2
 push_reserved-requires-2 c = omega (

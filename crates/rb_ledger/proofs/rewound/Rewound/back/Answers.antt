@@ -34,6 +34,7 @@ invariant_of-self c =
       at = Cursors.back _ _ _ _ _ _ _ _ _ c.in-Some.undo c.self.invariant.at next c.in-Some.ensures.0 c.in-Some.ensures.1
           (subst (λ us. IsIndex c.self.inside.index.config us c.pop-in-Some.new.self) c.first-before.ensures
           c.pop-in-Some.ensures.index);
+      cancelled = c.self.invariant.cancelled;
       checkpoints = CheckpointFacts.moved _ _ _ _ _ _ c.self.invariant.checkpoints c.pop-in-Some.ensures.index.config refl refl refl refl;
       sites = omega (arith, c.self.invariant.sites, ap (λ (s : Settings). s.sites) c.pop-in-Some.ensures.index.config);
       room = record {

@@ -52,6 +52,7 @@ invariant_of-self c =
           c.push_reserved.ensures.parts c.push_reserved.ensures.room
           (subst (λ us. IsIndex c.self.inside.index.config (us ++ c.unwrap-shadow.result
           ∷ []) c.push.new.self) c.first-before.ensures c.push.ensures.index);
+      cancelled = c.self.invariant.cancelled;
       checkpoints = CheckpointFacts.moved _ _ _ _ _ _ c.self.invariant.checkpoints c.push.ensures.index.config refl refl refl refl;
       sites = omega (arith, c.self.invariant.sites, ap (λ (s : Settings). s.sites) c.push.ensures.index.config);
       room = record {

@@ -11,6 +11,7 @@ invariant_of-result c =
     record {
       index = Cursors.last_index _ _ _ _ _ _ c.self.invariant.at (omega (arith, c.requires, here, all));
       links = c.self.invariant.at.links;
+      cancelled = c.self.invariant.cancelled;
       checkpoints = c.self.invariant.checkpoints;
       sites = c.self.invariant.sites;
       room = c.self.invariant.room;
