@@ -11,8 +11,8 @@ use Rattle.rb_shadow.specs.declared.op_name.OpName.TheVariants.{Blue, Red}
 use Rattle.rb_shadow.specs.Operations.{row_of}
 use Rattle.rb_ledger.specs.declared.body.Body.{Body}
 
--- the operations, of how many sites their clocks' entries are kept, at least three, and for how many operations there is
--- memory
+-- the operations, of how many sites their clocks' entries are kept, at least three, and for how many operations there
+-- is memory
 pub record OperationTable : Type 0 where
   pub items : List Shadow
   pub sites : ℕ
@@ -50,7 +50,8 @@ with_clock b d = record {
 abbrev pub with_counts : ℕ → Body → List ℕ → Shadow
 with_counts sites b ns = with_clock b (clock_of_counts sites (slice_set ns (row_of (kept_name b.colour b.home b.number)) (b.number - 1)))
 
--- the operations, by what is kept of them: the clocks stand one after another, and each operation has its clock's number
+-- the operations, by what is kept of them: the clocks stand one after another, and each operation has the number of
+-- its clock
 abbrev pub operations_of : ℕ → List Body → List ℕ → List Shadow
 operations_of sites bs ns = map (λ (b : Body). with_counts sites b (drop (b.clock * (sites + 1)) ns)) bs
 

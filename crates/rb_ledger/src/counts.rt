@@ -43,7 +43,8 @@ fn is_last(counts: &[u32], deps: &Deps, name: OpName, sites: usize) -> bool
     requires least { FEW_SITES ≤ sites }
     requires most { sites ≤ MOST_SITES }
     requires some { sites + 1 ≤ length counts.now }
-    ensures same { IsTrue result → (n : ℕ) → slice_set (drop (length counts.now - (sites + 1)) counts.now) (row_of name) n
+    ensures same { IsTrue result → (n : ℕ) →
+        slice_set (drop (length counts.now - (sites + 1)) counts.now) (row_of name) n
         ≡ slice_set (deps.now.red ∷ take sites deps.now.blue) (row_of name) n }
     ensures all { length deps.now.blue ≡ MOST_SITES }
 {
@@ -139,7 +140,8 @@ fn push_many(counts: &mut Vec<u32>, red: u32, blue: &[u32], sites: usize)
 pub fn clock(counts: &[u32], name: OpName) -> Deps
     requires least { FEW_SITES + 1 ≤ length counts.now }
     requires most { length counts.now ≤ MOST_SITES + 1 }
-    ensures { result ≡ clock_of_counts (length counts.now - 1) (slice_set counts.now (row_of name) (number_of name - 1)) }
+    ensures { result ≡ clock_of_counts (length counts.now - 1)
+        (slice_set counts.now (row_of name) (number_of name - 1)) }
 {
     let mut deps = kept_clock(counts);
     match name {
