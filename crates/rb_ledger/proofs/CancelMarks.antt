@@ -1,7 +1,7 @@
 -- Which operations are cancelled, from one list to the next.
 use Rattle.std.proofs.Common.{◌≡◌, ℕ, zero, suc, ◌+◌, ◌-◌, ◌<◌, ◌≤◌, Bool, true, false, cond, List, [], ◌∷◌, ◌++◌, length, take, get_or, set}
 use Rattle.std.proofs.Common.{map, refl, ap, sym, ◌∙◌, arith, ◌⊎◌, inl, inr, Some, None, length-set}
-use Rattle.std.specs.Prelude.{slice_get, nat_lt, Option, option_and_then, is_some}
+use Rattle.std.specs.Prelude.{slice_get, nat_lt, option_and_then, is_some}
 use Rattle.std.proofs.lemmas.Bool.Decides.{nat_tests}
 use Rattle.std.proofs.lemmas.List.{length-map, map_push, map-set, set-set, set-get_or, take_at}
 use Rattle.std.proofs.Math.ListN.{get_or-map}
@@ -23,6 +23,7 @@ use Rattle.rb_ledger.proofs.FoundNames
 abbrev counted : Cancels → Bool
 counted c = nat_lt 0 c.count
 
+-- a number that is above 0, and one that is not, by the test
 is_more : (n : ℕ) → 0 < n → nat_lt 0 n ≡ true
 is_more n h = grind (arith, nat_tests)
 
@@ -37,6 +38,7 @@ by_count us x = at (Members.bool_cases (is_cancelled us x))
     at (inl e) = is_more _ (CancelFacts.counted_some us x e) ∙ sym e
     at (inr e) = is_none _ (CancelFacts.counted_none us x e) ∙ sym e
 
+-- the same of all operations
 by_counts : (us vs : List Shadow) → map counted (map (λ (u : Shadow). cancels_of us u.name) vs)
     ≡ map (λ (u : Shadow). is_cancelled us u.name) vs
 by_counts us [] = refl
@@ -62,6 +64,7 @@ marks_push s us h longer =
     ∙ map_push counted cs no_cancels
     ∙ ap (λ bs. bs ++ false ∷ []) (changed_marks p (length us + 1) (all_cancels us) ∙ ap (marked_at p true) (by_counts us us))
 
+-- a mark changes no length
 marked_length : (n : ℕ) (b : Bool) (bs : List Bool) → length (marked_at n b bs) ≡ length bs
 marked_length zero b bs = refl
 marked_length (suc i) b bs = length-set bs i b
@@ -96,6 +99,7 @@ first_there us x = at (is_cancelled us x)
     at true = refl
     at false = refl
 
+-- the mark of one of them, by its first cancellation
 read_all : (us vs : List Shadow) (i : ℕ) → get_or (map (λ (u : Shadow). is_cancelled us u.name) vs) i false
     ≡ is_some (option_and_then (λ u. first_cancel_in us u.name) (slice_get vs i))
 read_all us [] i = refl

@@ -1,9 +1,7 @@
 -- What is read of the numbers of cancellations.
-use Rattle.std.proofs.Common.{◌≡◌, ℕ, zero, suc, ◌-◌, ◌<◌, ◌≤◌, true, false, cond, List, [], ◌∷◌, ◌++◌, length}
+use Rattle.std.proofs.Common.{◌≡◌, ℕ, zero, suc, ◌-◌, ◌≤◌, true, false, cond, List, [], ◌∷◌, ◌++◌, length}
 use Rattle.std.proofs.Common.{get_or, map, refl, ap, sym, ◌∙◌, arith, ◌⊎◌, inl, inr, Some, None}
-use Rattle.std.specs.Prelude.{slice_get, nat_lt, Option, option_map, option_and_then}
-use Rattle.std.specs.Prelude.{unwrap_or}
-use Rattle.std.proofs.lemmas.Bool.Decides.{nat_tests}
+use Rattle.std.specs.Prelude.{slice_get, Option, option_map, option_and_then}
 use Rattle.std.proofs.lemmas.List.{length-map}
 use Rattle.std.proofs.lemmas.Option.{slice_get-map, slice_get_past}
 use Rattle.rb_money.specs.Settings.{Settings}
@@ -22,7 +20,7 @@ use Rattle.rb_ledger.specs.Index.{IsIndex, all_cancels, cancels_of, no_cancels}
 use Rattle.rb_ledger.proofs.Public.Legal
 use Rattle.rb_ledger.proofs.Lengths
 use Rattle.rb_ledger.proofs.CancelFacts
-use Rattle.rb_ledger.proofs.FoundNames.{found_there, found_none}
+use Rattle.rb_ledger.proofs.FoundNames.{found_none}
 
 -- there is one number of cancellations for each operation
 pub all_counts : (us : List Shadow) (cs : List Cancels) → cs ≡ all_cancels us → length cs ≡ length us
@@ -100,39 +98,10 @@ target_near s us x h n index longer is = omega (
   all_counts us x.cancels.items index.cancels,
 )
 
--- whether what was found is cancelled
-pub cancelled_found : (us : List Shadow) (x : OpName) (p n : ℕ) → Some p ≡ find_position us x →
-    Some n ≡ option_map (λ u. cancel_count us u.name) (operation_at us p) → nat_lt 0 n ≡ is_cancelled us x
-cancelled_found us x p n e counted =
-    let (t, there, named, found) = found_there us x p e in
-    let many : Some n ≡ Some (cancel_count us t.name) = counted ∙ ap (option_map (λ (u : Shadow). cancel_count us u.name)) there in
-    let is : n ≡ cancel_count us x = (let one : n ≡ cancel_count us t.name = cc in one ∙ ap (cancel_count us) named) in
-    at n is (Members.bool_cases (is_cancelled us x))
-  where
-    is_some : (n : ℕ) → 0 < n → nat_lt 0 n ≡ true
-    is_some n h = grind (arith, nat_tests)
-
-    is_none : (n : ℕ) → n ≡ 0 → nat_lt 0 n ≡ false
-    is_none n h = grind (arith, nat_tests)
-
-    at : (n : ℕ) → n ≡ cancel_count us x → (is_cancelled us x ≡ true) ⊎ (is_cancelled us x ≡ false) → nat_lt 0 n ≡ is_cancelled us x
-    at n is (inl d) = is_some n (omega (arith, is, CancelFacts.counted_some us x d)) ∙ sym d
-    at n is (inr d) = is_none n (is ∙ CancelFacts.counted_none us x d) ∙ sym d
-
 -- a name that wasn't found isn't cancelled
 pub uncancelled_unfound : (s : Settings) (us : List Shadow) (x : OpName) → IsValid s us → None ≡ find_position us x →
     false ≡ is_cancelled us x
 uncancelled_unfound s us x valid e = sym (Legal.fresh_uncancelled us x valid.targets (found_none us x e))
-
--- the count at the position that was found, with a default
-pub counted_or : (us : List Shadow) (x : OpName) (p n : ℕ) {o : Option ℕ} → Some p ≡ find_position us x →
-    o ≡ option_map (λ u. cancel_count us u.name) (operation_at us p) → n ≡ unwrap_or o 0 →
-    Some n ≡ option_map (λ u. cancel_count us u.name) (operation_at us p)
-counted_or us x p n {o} e counted is =
-    let (t, there, named, found) = found_there us x p e in
-    let many : option_map (λ (u : Shadow). cancel_count us u.name) (operation_at us p) ≡ Some (cancel_count us t.name) =
-    ap (option_map (λ (u : Shadow). cancel_count us u.name)) there in
-    ap Some (is ∙ ap (λ o. unwrap_or o 0) (counted ∙ many)) ∙ sym many
 
 -- how often the operation at a position is cancelled
 pub count_there : (us : List Shadow) (cs : List Cancels) (p i : ℕ) (c : Cancels) → cs ≡ all_cancels us → 1 ≤ p → p - 1 ≡ i →

@@ -1,4 +1,4 @@
-use Rattle.std.proofs.Common.{◌∙◌, arith, rules, FitsSigned}
+use Rattle.std.proofs.Common.{◌∙◌, refl, arith, rules, FitsSigned}
 use Rattle.std.specs.Int.{w64}
 use Rattle.std.proofs.lemmas.Int.{ints, to_z-of_z}
 use Rattle.rb_statements.proofs.Steps
@@ -17,8 +17,8 @@ returns-clause-row c =
     in
     let moved = to_z-of_z w64 c.unwrap-moved.result fits ∙ Steps.moved_there _ _ _ _ _ _ c.requires.on c.requires.some c.moved.ensures.moved
     c.unwrap-moved.ensures in
-    Steps.own_row _ _ _ _ c.unwrap-entry.result _ _ c.first_cancel.result _ _ c.requires.some there own c.label.ensures moved
-    c.first_cancel.ensures c.is_some.ensures c.requires.sum
+    Steps.own_row _ _ _ _ c.unwrap-entry.result _ _ _ _ _ c.requires.some there own c.label.ensures moved
+    refl c.is_cancelled.ensures.first c.requires.sum
 
 pub returns-clause-moved : goal.returns-clause-moved
 returns-clause-moved c =

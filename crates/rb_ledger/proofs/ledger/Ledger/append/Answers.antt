@@ -4,7 +4,7 @@ use Rattle.rb_money.specs.Settings.{IsConfigured, Settings}
 use Rattle.rb_ledger.specs.Book.{Book}
 use Rattle.rb_undo.specs.declared.parts.UndoParts.{UndoParts}
 use Rattle.rb_ledger.specs.Index.{IsIndex, IsLinked, AreHeads, all_cancelled}
-use Rattle.rb_ledger.specs.LinkLists.{LinkTable, marked_at}
+use Rattle.rb_ledger.specs.LinkLists.{marked_at}
 use Rattle.rb_shadow.specs.Operations.{target_of}
 use Rattle.rb_ledger.proofs.CancelFacts
 use Rattle.rb_ledger.proofs.CancelMarks
