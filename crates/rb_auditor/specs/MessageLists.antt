@@ -1,8 +1,9 @@
 -- What lists of messages are.
-use Rattle.std.specs.Prelude.{◌≡◌, ℕ, ◌+◌, List, Option, Some, map, option_map, slice_get}
+use Rattle.std.specs.Prelude.{◌≡◌, false, ℕ, ◌+◌, List, Option, Some, map, option_map, slice_get}
 use Rattle.std.specs.List.{filter_map}
 use Rattle.rb_shadow.specs.declared.shadow.Shadow.{Shadow}
 use Rattle.rb_shadow.specs.Operations.{entry_of, number_of}
+use Rattle.rb_shadow.specs.Sound.{is_foreign}
 use Rattle.rb_ledger.specs.OperationLists.{IsOfSites}
 use Rattle.rb_site.specs.declared.message.Message.{Message}
 use Rattle.rb_site.specs.declared.message.Message.TheVariants.{Shadow as ShadowMessage}
@@ -22,9 +23,10 @@ pub record SentTable : Type 0 where
   pub all : List Message
   pub items : List Message
 
--- the operation's clock has entries for these sites alone, and its own entry counts all before it
+-- the operation's clock has entries for these sites alone, its own entry counts all before it, and a blue name is its home's
 pub record IsUsual (sites : ℕ) (v : Shadow) : Type 0 where
   pub entries : IsOfSites sites v.deps
+  pub home : is_foreign v.name v.home ≡ false
   pub own : entry_of v.deps v.name + 1 ≡ number_of v.name
 
 -- the message at a spot, among these operations or among these others

@@ -4,20 +4,21 @@ use Rattle.std.proofs.lemmas.Bool.{eqb-true}
 use Rattle.rb_auditor.proofs.Clocks
 use Rattle.rb_auditor.proofs.usual.is_usual.Goals as goal
 
-pub returns-then-are_none_from : goal.returns-then-are_none_from
-returns-then-are_none_from c = λ yes.
+pub returns : goal.returns
+returns c = λ yes.
     let blue = c.args.shadow.now.deps.blue in
     record {
       entries = (
         Clocks.total blue,
-        Clocks.of_sites c.args.sites (Clocks.total blue) blue (omega arith) (sym c.are_none_from.ensures ∙ c.if-are_none_from.true),
+        Clocks.of_sites c.args.sites (Clocks.total blue) blue (omega arith) (sym c.are_none_from.ensures ∙ c.if-not-are_none_from.false),
       );
+      home = sym c.is_of_another.ensures ∙ c.if-is_of_another.false;
       own = omega (
         arith,
         eqb-true _ _ yes,
-        c.entry-entry.ensures,
+        c.entry.ensures,
+        c.from-entry.ensures,
         c.number.ensures,
-        c.from.ensures,
-        c.from-then-are_none_from.ensures,
+        c.from-number.ensures,
       );
     }
