@@ -1,5 +1,6 @@
 //! A list of messages.
-ghost use Rattle.std.specs.Prelude.{◌≡◌, ◌↔◌, ◌<◌, ◌≤◌, ◌+◌, ◌^◌, ◌++◌, ◌∷◌, [], IsTrue, OnOk, Some, length, option_map, slice_get};
+ghost use Rattle.std.specs.Prelude.{◌≡◌, ◌↔◌, ◌<◌, ◌≤◌, ◌+◌, ◌^◌, ◌++◌, ◌∷◌, [], IsTrue, OnOk, Some, length};
+ghost use Rattle.std.specs.Prelude.{option_map, slice_get};
 ghost use Rattle.rb_money.specs.declared.limits.TheConstants.{MOST_OPERATIONS as THE_MOST_OPERATIONS, MOST_SITES};
 ghost use Rattle.rb_site.specs.declared.message.Message.{Message as TheMessage};
 ghost use Rattle.rb_site.specs.declared.message.Message.TheVariants.{Shadow as ShadowMessage};
@@ -16,8 +17,8 @@ use rb_site::Message;
 use std::alloc::{AllocError, Global};
 use std::marker::Model;
 
-/// Messages in their order, in less memory than a list of them: of the clock of an operation it keeps the entries of the
-/// bank's sites alone, where all others are 0. Clients see the messages, and for how many there is memory.
+/// Messages in their order, in less memory than a list of them: of the clock of an operation it keeps the entries of
+/// the bank's sites alone, where all others are 0. Clients see the messages, and for how many there is memory.
 #[derive(Drop)]
 pub struct MessageList {
     usual: OperationList,
@@ -31,19 +32,19 @@ pub struct MessageList {
 impl Model for MessageList {
     ghost use Rattle.std.specs.Prelude.{length, ◌≤◌, ◌<◌, ◌+◌, ◌^◌, vec_capacity};
     ghost use Rattle.std.specs.List.{filter_map};
-    ghost use Rattle.rb_auditor.specs.MessageLists.{AreThere, MessageTable, message_at};
+    ghost use Rattle.rb_auditor.specs.MessageLists.{AreThere, MessageTable, message_at_spot};
 
     ghost Value = { MessageTable };
 
     ghost view = { λ l. record {
-      items = filter_map (message_at l.usual.items l.others.items) l.spots.items;
+      items = filter_map (message_at_spot l.usual.items l.others.items) l.spots.items;
       usual = length l.usual.items;
       sites = l.usual.sites;
       limit = l.limit;
     } };
 
     ghost invariant = { λ l. record {
-      each : AreThere (message_at l.usual.items l.others.items) l.spots.items;
+      each : AreThere (message_at_spot l.usual.items l.others.items) l.spots.items;
       whole : length l.usual.items + length l.others.items ≤ length l.spots.items;
       within : length l.spots.items ≤ l.limit;
       few : l.limit < 2 ^ 32;
@@ -151,8 +152,8 @@ impl MessageList {
         self.grow(least)
     }
 
-    /// Takes memory for at least this number of messages in all, and for twice as many as before where there may be so
-    /// many.
+    /// Takes memory for at least this number of messages in all, and for twice as many as before where that isn't more
+    /// than there may be.
     fn grow(&mut self, least: usize) -> Result<(), AllocError>
         requires { self.old.limit < least }
         ensures items { self.new.items ≡ self.old.items }

@@ -1,5 +1,6 @@
 //! The messages that were sent, in order.
-ghost use Rattle.std.specs.Prelude.{◌≡◌, ◌↔◌, ◌<◌, ◌≤◌, ◌+◌, ◌^◌, ◌++◌, [], IsTrue, OnOk, OnErr, Some, length, take, drop, option_map};
+ghost use Rattle.std.specs.Prelude.{◌≡◌, ◌↔◌, ◌<◌, ◌≤◌, ◌+◌, ◌^◌, ◌++◌, [], IsTrue, OnOk, OnErr, Some};
+ghost use Rattle.std.specs.Prelude.{length, take, drop, option_map};
 ghost use Rattle.std.specs.Prelude.{slice_get};
 ghost use Rattle.rb_site.specs.declared.message.Message.{Message as TheMessage};
 ghost use Rattle.rb_auditor.specs.Sent.{row_of_message, slot_of};

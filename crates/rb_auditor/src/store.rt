@@ -11,8 +11,8 @@ use rb_scratch::MOST_REQUESTS;
 use rb_site::Message;
 use std::alloc::{AllocError, Global};
 
-/// Memory for this number of messages is taken at first: 128 kilobytes and more for each part of them, mappings of their
-/// own, which grow without a copy and of which only what is used takes memory.
+/// Memory for this number of messages is taken at first: 128 kilobytes and more for each part of them, mappings of
+/// their own, which grow without a copy and of which only what is used takes memory.
 const FIRST_MESSAGES: usize = 16_500;
 
 /// The messages that the entries read so far sent or received, so that a receipt needn't keep the one that was sent.

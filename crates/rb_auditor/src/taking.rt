@@ -1,5 +1,6 @@
 //! Entries of histories, taken one after another.
-ghost use Rattle.std.specs.Prelude.{◌≡◌, ◌+◌, ◌<◌, ◌≤◌, IfOk, IfSome, OnErr, MatchBool, length, map, option_map, take, drop};
+ghost use Rattle.std.specs.Prelude.{◌≡◌, ◌+◌, ◌<◌, ◌≤◌, IfOk, IfSome, OnErr, MatchBool, length, map};
+ghost use Rattle.std.specs.Prelude.{option_map, take, drop};
 ghost use Rattle.rb_auditor.specs.Kept.{AreJudged, AreWhole, IsTakenAs, HasPlaces, histories_in};
 ghost use Rattle.rb_auditor.specs.Progress.{IsDone, IsLeft, IsTaking, Rests, Took, first_progress};
 

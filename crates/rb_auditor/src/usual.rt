@@ -6,7 +6,7 @@ ghost use Rattle.rb_auditor.specs.MessageLists.{IsUsual};
 
 use rb_shadow::{OpName, Shadow};
 
-/// At banks of so many sites the entries of a clock that must be 0 are looked at all at once.
+/// At banks of up to this number of sites the entries of a clock that must be 0 are looked at all at once.
 const FEW_SITES: usize = 3;
 
 /// Whether the operation's clock has entries for the first `sites` sites alone, and counts all operations before it in

@@ -1,4 +1,4 @@
--- What checkpoints are: the last operations on the accounts, as of every so many operations.
+-- What checkpoints are: the last operations on the accounts, at regular points of the list.
 use Rattle.std.specs.Prelude.{◌≡◌, ℕ, ◌+◌, ◌*◌, ◌<◌, ◌≤◌, List, length, take, slice_get, Some}
 use Rattle.rb_money.specs.Settings.{Settings}
 use Rattle.rb_money.specs.declared.place.Place.{Place}
@@ -7,7 +7,7 @@ use Rattle.rb_ledger.specs.declared.checkpoints.Checkpoints.{Checkpoints}
 use Rattle.rb_ledger.specs.declared.checkpoints.TheConstants.{OPERATIONS_PER_ENTRY}
 use Rattle.rb_ledger.specs.OnAccount.{IsLast}
 
--- how many operations there are when there are so many entries
+-- how many operations there are when there is this number of entries
 abbrev pub as_of : ℕ → ℕ
 as_of n = OPERATIONS_PER_ENTRY * n
 

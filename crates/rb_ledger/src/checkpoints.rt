@@ -1,5 +1,6 @@
-//! The last operations on the accounts, as of every so many operations.
-ghost use Rattle.std.specs.Prelude.{◌≡◌, ◌≤◌, ◌<◌, ◌+◌, ◌*◌, length, map, [], ◌∷◌, ◌++◌, List, Some, IfSome, IsNone, OnOk, ℕ};
+//! The last operations on the accounts, at regular points of the list.
+ghost use Rattle.std.specs.Prelude.{◌≡◌, ◌≤◌, ◌<◌, ◌+◌, ◌*◌, length, map, [], ◌∷◌, ◌++◌, List, Some, IfSome};
+ghost use Rattle.std.specs.Prelude.{IsNone, OnOk, ℕ};
 ghost use Rattle.std.specs.Prelude.{slice_get, vec_capacity};
 ghost use Rattle.rb_money.specs.Settings.{Settings, IsConfigured};
 ghost use Rattle.rb_money.specs.declared.limits.TheConstants.{MOST_ACCOUNTS, MOST_OPERATIONS};
@@ -12,8 +13,8 @@ use crate::marks::Head;
 use rb_money::Place;
 use std::alloc::{AllocError, Global};
 
-/// For so many operations there is one entry, of 4 bytes. So checkpoints take a byte an operation, however many
-/// accounts there are, and an account has on average so many operations from one checkpoint to the next.
+/// For this number of operations there is one entry, of 4 bytes. So checkpoints take a byte an operation, however many
+/// accounts there are, and an account has on average this number of operations from one checkpoint to the next.
 pub const OPERATIONS_PER_ENTRY: u32 = 4;
 
 /// Checkpoints of a list of operations: a row after each stride, which is `OPERATIONS_PER_ENTRY` operations for each

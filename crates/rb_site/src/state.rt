@@ -394,9 +394,10 @@ impl State {
         }
     }
 
+    /// An account's statement, for a history that keeps it or doesn't. One without rows that isn't kept takes no
+    /// memory.
     #[inline(never)]
     #[tactic(auto, unfolding(crate::specs::Events::outcome_of))]
-    /// An account's statement, for a history that keeps it or doesn't. One without rows that isn't kept takes no memory.
     fn statement(
         &self,
         place: Place,
