@@ -139,6 +139,12 @@ fn finds(rt: &impl Abort, ledger: &Ledger) {
         ledger.count(1),
     ];
     equal(rt, cancelled, [Some(2), None, Some(2)]);
+    let is_cancelled = [
+        ledger.is_cancelled(1),
+        ledger.is_cancelled(2),
+        ledger.is_cancelled(4),
+    ];
+    equal(rt, is_cancelled, [true, false, false]);
     equal(rt, ledger.moved(4, ANN), None);
     equal(rt, ledger.red_row(), [1].as_slice());
     for (site, row) in &ROWS {

@@ -1,11 +1,11 @@
 //! Tests of statements and of balances as of a position. More of them are in tests/cases, scripts.cases.
 ghost use Rattle.std.specs.Prelude.{◌≡◌, []};
 
-use crate::checks::equal;
+use crate::checks::{equal, holds};
 use crate::common::{ANN, BLUE_1, BLUE_2, BLUE_3, BOB, Operation, RED_1, ledger_after, ledger_of};
 use rb_money::{Limits, Place, Refusal};
 use rb_shadow::{Kind, Label, OpName};
-use rb_statements::{Row, Statement, as_of, statement};
+use rb_statements::{Row, Statement, as_of, empty_statement, statement};
 use rb_undo::UndoLog;
 use std::process::Abort;
 use std::test::Fail;
@@ -60,6 +60,22 @@ fn entries_between_one_another(rt: HostRuntime) -> Result<(), Fail> {
     is_of_bob(&rt, &found);
     let unknown = statement(rt.alloc(), &ledger, Place(2));
     equal(&rt, unknown.err(), Some(Refusal::UnknownAccount));
+    Ok(())
+}
+
+#[test]
+fn without_rows(rt: HostRuntime) -> Result<(), Fail> {
+    let none = ledger_of(rt.alloc(), &ACCOUNTS, Limits::largest())?;
+    let found = empty_statement(rt.alloc(), &none, ANN).expect(&rt, "shown");
+    let wanted = (999, 0, 999);
+    equal(
+        &rt,
+        (found.start, found.rows.as_slice().len(), found.balance),
+        wanted,
+    );
+    let some = ledger_after(rt.alloc(), &ACCOUNTS, &MIXED)?;
+    let of_bob = empty_statement(rt.alloc(), &some, BOB);
+    holds(&rt, "bob's has rows", of_bob.is_none());
     Ok(())
 }
 
