@@ -1,14 +1,14 @@
 -- What lists of operations are after a change.
 use Rattle.std.proofs.Common.{◌≡◌, ℕ, zero, suc, ◌+◌, ◌-◌, ◌*◌, ◌<◌, ◌≤◌, List, [], ◌∷◌, ◌++◌, length, take, drop, get_or}
 use Rattle.std.proofs.Common.{refl, ap, sym, ◌∙◌, subst, arith, inl, inr, Some, None, Result, Ok, Err, true, false}
-use Rattle.std.proofs.Common.{append_assoc, length-take-le, mul-le-mul_right}
+use Rattle.std.proofs.Common.{length-take-le}
 use Rattle.std.specs.Prelude.{Bool, not, IsOk, is_err, is_some, option_to_list, if◌then◌else◌, Option, option_map, slice_get, slice_index, slice_set, replicate, ◌==◌, nat_le}
 use Rattle.std.specs.Prelude.{◌&&◌, ◌⊎◌, unwrap_or}
 use Rattle.std.proofs.lemmas.Bool.{and_parts}
 use Rattle.std.proofs.lemmas.Bool.Decides.{nat_tests}
-use Rattle.std.proofs.lemmas.List.{drop-append-le, length-drop, length-set, length-map, length_push, map_push, take-append-drop, take-append-le, take-take, take_all, set-append_left, set-get_or}
+use Rattle.std.proofs.lemmas.List.{get_or_append_left, length-set, length-map, length_push, map_push, take-append-drop, take-take, take_all, set-append_left, set-get_or}
 use Rattle.std.proofs.lemmas.Option.{slice_get_past, slice_get-map}
-use Rattle.std.proofs.Math.Seq.{drop-append_seam, take-append_seam}
+use Rattle.std.proofs.Math.Seq.{get_or-append_seam, take-append_seam}
 use Rattle.std.specs.declared.alloc.AllocError.{AllocError}
 use Rattle.rb_money.specs.Settings.{Settings}
 use Rattle.rb_money.specs.declared.limits.TheConstants.{MOST_SITES}
@@ -25,19 +25,19 @@ use Rattle.rb_ledger.specs.OperationLists.{AreInOrder, IsOfSites, clock_count, c
 use Rattle.rb_ledger.specs.OperationLists.{with_clock, with_counts}
 
 -- there are as many operations as bodies
-pub as_many : (w : ℕ) (bs : List Body) (ns : List ℕ) → length (operations_of w bs ns) ≡ length bs
-as_many w bs ns = length-map bs (λ (b : Body). with_counts w b (drop (b.clock * (w + 1)) ns))
+pub as_many : (w : ℕ) (bs : List Body) (cs : List (List ℕ)) → length (operations_of w bs cs) ≡ length bs
+as_many w bs cs = length-map bs (λ (b : Body). with_counts w b (get_or cs b.clock []))
 
 -- past the bodies there is no operation
-pub none_at : (w : ℕ) (bs : List Body) (ns : List ℕ) (i : ℕ) → length bs ≤ i → slice_get (operations_of w bs ns) i ≡ None
+pub none_at : (w : ℕ) (bs : List Body) (ns : List (List ℕ)) (i : ℕ) → length bs ≤ i → slice_get (operations_of w bs ns) i ≡ None
 none_at w bs ns i past = slice_get_past (operations_of w bs ns) i (omega (arith, past, as_many w bs ns))
 
 -- an operation is there where its body is
-pub one_at : (w : ℕ) (bs : List Body) (ns : List ℕ) (i : ℕ) (b : Body) → slice_get bs i ≡ Some b →
-    slice_get (operations_of w bs ns) i ≡ Some (with_counts w b (drop (b.clock * (w + 1)) ns))
-one_at w bs ns i b there =
-    slice_get-map (λ (b : Body). with_counts w b (drop (b.clock * (w + 1)) ns)) bs i
-    ∙ ap (option_map (λ (b : Body). with_counts w b (drop (b.clock * (w + 1)) ns))) there
+pub one_at : (w : ℕ) (bs : List Body) (cs : List (List ℕ)) (i : ℕ) (b : Body) → slice_get bs i ≡ Some b →
+    slice_get (operations_of w bs cs) i ≡ Some (with_counts w b (get_or cs b.clock []))
+one_at w bs cs i b there =
+    slice_get-map (λ (b : Body). with_counts w b (get_or cs b.clock [])) bs i
+    ∙ ap (option_map (λ (b : Body). with_counts w b (get_or cs b.clock []))) there
 
 -- ---- the numbers of the clocks
 
@@ -62,18 +62,13 @@ few_clocks k (b ∷ bs) (inl next, are) = omega (arith, next, few_clocks (b.cloc
 few_clocks k (b ∷ bs) (inr same, are) = omega (arith, same, few_clocks (b.clock + 1) bs are)
 
 -- an operation's clock is one of those
-clock_near : (k : ℕ) (bs : List Body) (i : ℕ) (b : Body) → AreInOrder k bs → slice_get bs i ≡ Some b → b.clock + 1 ≤ clock_count k bs
+pub clock_near : (k : ℕ) (bs : List Body) (i : ℕ) (b : Body) → AreInOrder k bs → slice_get bs i ≡ Some b → b.clock + 1 ≤ clock_count k bs
 unfolding AreInOrder
 clock_near k [] i b are there = cc
 clock_near k (c ∷ bs) zero b (step, are) there =
     let here : c.clock ≡ b.clock = ap (λ (o : Option Body). unwrap_or (option_map (λ (b : Body). b.clock) o) 0) there in
     omega (arith, here, none_above (c.clock + 1) bs are)
 clock_near k (c ∷ bs) (suc i) b (step, are) there = clock_near (c.clock + 1) bs i b are there
-
--- so all of it is kept
-pub clock_room : (w : ℕ) (bs : List Body) (ns : List ℕ) (i : ℕ) (b : Body) → AreInOrder 0 bs → length ns ≡ clock_count 0 bs * (w + 1) →
-    slice_get bs i ≡ Some b → b.clock * (w + 1) + (w + 1) ≤ length ns
-clock_room w bs ns i b are count there = omega (arith, count, mul-le-mul_right (w + 1) (clock_near 0 bs i b are there))
 
 -- with one more operation there is one clock more than its number
 pub count_more : (k : ℕ) (bs : List Body) (b : Body) → clock_count k (bs ++ b ∷ []) ≡ b.clock + 1
@@ -114,27 +109,12 @@ order_front k (c ∷ bs) b (first, are) = let (rest, step) = order_front (c.cloc
 
 -- ---- clocks
 
--- what is kept of the clock of a small bank, behind what was kept
-pub few_pushed : (os bs : List ℕ) (r w : ℕ) → w ≡ 3 → 3 ≤ length bs →
-    os ++ r ∷ [] ++ get_or bs 0 0 ∷ [] ++ get_or bs 1 0 ∷ [] ++ get_or bs 2 0 ∷ [] ≡ os ++ r ∷ take w bs
-few_pushed os (x ∷ y ∷ z ∷ bs) r w few long =
-    append_assoc (os ++ r ∷ [] ++ x ∷ []) (y ∷ []) (z ∷ []) ∙ append_assoc (os ++ r ∷ []) (x ∷ []) (y ∷ z ∷ [])
-    ∙ append_assoc os (r ∷ []) (x ∷ y ∷ z ∷ []) ∙ ap (λ k. os ++ r ∷ take k (x ∷ y ∷ z ∷ bs)) (sym few)
-few_pushed os [] r w few long = absurd (omega (arith, long))
-few_pushed os (x ∷ []) r w few long = absurd (omega (arith, long))
-few_pushed os (x ∷ y ∷ []) r w few long = absurd (omega (arith, long))
-
 -- an item of the first ones
 set_take : (m r n : ℕ) (ns : List ℕ) → slice_set (take m ns) r n ≡ take m (slice_set ns r n)
 set_take zero r n ns = refl
 set_take (suc m) r n [] = refl
 set_take (suc m) zero n (k ∷ ns) = refl
 set_take (suc m) (suc r) n (k ∷ ns) = ap (λ ks. k ∷ ks) (set_take m r n ns)
-
--- a clock by what is kept of it alone
-cut_clock : (w : ℕ) (ns : List ℕ) → clock_of_counts w (take (suc w) ns) ≡ clock_of_counts w ns
-cut_clock w [] = refl
-cut_clock w (n ∷ ns) = ap (λ ks. record { blue = padded ks; red = n }) (take-take w w ns (omega arith))
 
 -- a clock whose own entry is set, of a name of one of the sites
 pub own_blue : (ns : List ℕ) (d : Deps) (i e : ℕ) → d ≡ clock_of_counts (length ns - 1) ns → i + 1 < length ns →
@@ -150,85 +130,62 @@ own_blue (n ∷ ms) d i e is near =
     ∙ ap (λ j. slice_set ms i e ++ replicate (MOST_SITES - j) 0) (sym long)
     ∙ ap padded (sym (take_all k (slice_set ms i e) (omega (arith, long)))))
 
--- a clock whose own entry is set, by what is kept of it alone
-pub cut_counts : (w m r n : ℕ) (ns : List ℕ) → m ≡ w + 1 → w + 1 ≤ length ns →
-    clock_of_counts (length (take m ns) - 1) (slice_set (take m ns) r n) ≡ clock_of_counts w (slice_set ns r n)
-cut_counts w m r n ns is many =
-    let one : m ≡ suc w = omega (arith, is) in
-    let long : length (take m ns) - 1 ≡ w = omega (arith, is, length-take-le m ns (omega (arith, is, many))) in
-    ap (λ k. clock_of_counts k (slice_set (take m ns) r n)) long
-    ∙ ap (λ k. clock_of_counts w (slice_set (take k ns) r n)) one
-    ∙ ap (clock_of_counts w) (set_take (suc w) r n ns)
-    ∙ cut_clock w (slice_set ns r n)
+-- the same of a red name
+pub own_red : (ns : List ℕ) (d : Deps) (e : ℕ) → d ≡ clock_of_counts (length ns - 1) ns → 0 < length ns →
+    record { blue = d.blue; red = e } ≡ clock_of_counts (length ns - 1) (slice_set ns 0 e)
+own_red [] d e is near = absurd (omega (arith, near))
+own_red (n ∷ ms) d e is near = ap (λ (c : Deps). record { blue = c.blue; red = e }) is
 
 -- the kind of the operation at an index
-pub kind_at : (w : ℕ) (bs : List Body) (ns : List ℕ) (i : ℕ) (b : Body) (d : Shadow) → i < length bs → b ≡ get_or bs i b →
+pub kind_at : (w : ℕ) (bs : List Body) (ns : List (List ℕ)) (i : ℕ) (b : Body) (d : Shadow) → i < length bs → b ≡ get_or bs i b →
     b.kind ≡ (get_or (operations_of w bs ns) i d).kind
 kind_at w [] ns i b d near is = absurd (omega (arith, near))
 kind_at w (c ∷ bs) ns zero b d near is = ap (λ (x : Body). x.kind) is
 kind_at w (c ∷ bs) ns (suc i) b d near is = kind_at w bs ns i b d (omega (arith, near)) is
 
--- more behind what is kept of an operation's clock changes nothing
-same_counts : (w : ℕ) (b : Body) (ns ms : List ℕ) → w + 1 ≤ length ns → with_counts w b (ns ++ ms) ≡ with_counts w b ns
-same_counts w b ns ms many =
-    let r = row_of (kept_name b.colour b.home b.number) in
-    let n = b.number - 1 in
-    ap (with_clock b) (sym (cut_clock w (slice_set (ns ++ ms) r n))
-    ∙ ap (clock_of_counts w) (sym (set_take (suc w) r n (ns ++ ms))
-    ∙ ap (λ ks. slice_set ks r n) (take-append-le (suc w) ns ms (omega (arith, many)))
-    ∙ set_take (suc w) r n ns)
-    ∙ cut_clock w (slice_set ns r n))
-
--- nor does more behind all clocks
-same_operations : (w k : ℕ) (bs : List Body) (ns ms : List ℕ) → AreInOrder k bs → clock_count k bs * (w + 1) ≤ length ns →
-    operations_of w bs (ns ++ ms) ≡ operations_of w bs ns
+-- more clocks behind the others change no operation
+same_operations : (w k : ℕ) (bs : List Body) (cs ds : List (List ℕ)) → AreInOrder k bs → clock_count k bs ≤ length cs →
+    operations_of w bs (cs ++ ds) ≡ operations_of w bs cs
 unfolding AreInOrder
-same_operations w k [] ns ms are many = refl
-same_operations w k (b ∷ bs) ns ms (step, are) many =
-    let at = b.clock * (w + 1) in
-    let below : (b.clock + 1) * (w + 1) ≤ clock_count (b.clock + 1) bs * (w + 1) = mul-le-mul_right (w + 1) (none_above (b.clock + 1) bs are) in
-    let here : at + (w + 1) ≤ length ns = omega (arith, below, many) in
-    ap (λ ks. with_counts w b ks ∷ operations_of w bs (ns ++ ms)) (drop-append-le at ns ms (omega (arith, here)))
-    ∙ ap (λ u. u ∷ operations_of w bs (ns ++ ms)) (same_counts w b (drop at ns) ms (omega (arith, here, length-drop at ns)))
-    ∙ ap (λ us. with_counts w b (drop at ns) ∷ us) (same_operations w (b.clock + 1) bs ns ms are many)
+same_operations w k [] cs ds are many = refl
+same_operations w k (b ∷ bs) cs ds (step, are) many =
+    ap (λ ns. with_counts w b ns ∷ operations_of w bs (cs ++ ds)) (get_or_append_left cs ds [] b.clock (omega (arith, many, none_above (b.clock + 1) bs are)))
+    ∙ ap (λ us. with_counts w b (get_or cs b.clock []) ∷ us) (same_operations w (b.clock + 1) bs cs ds are many)
 
 -- one more operation
-pub pushed : (w : ℕ) (bs : List Body) (ns ms : List ℕ) (b : Body) → AreInOrder 0 bs → length ns ≡ clock_count 0 bs * (w + 1) →
-    operations_of w (bs ++ b ∷ []) (ns ++ ms) ≡ operations_of w bs ns ++ with_counts w b (drop (b.clock * (w + 1)) (ns ++ ms)) ∷ []
-pushed w bs ns ms b are count =
-    map_push (λ (b : Body). with_counts w b (drop (b.clock * (w + 1)) (ns ++ ms))) bs b
-    ∙ ap (λ us. us ++ with_counts w b (drop (b.clock * (w + 1)) (ns ++ ms)) ∷ []) (same_operations w 0 bs ns ms are (omega (arith, count)))
+pub pushed : (w : ℕ) (bs : List Body) (cs ds : List (List ℕ)) (b : Body) → AreInOrder 0 bs → length cs ≡ clock_count 0 bs →
+    operations_of w (bs ++ b ∷ []) (cs ++ ds) ≡ operations_of w bs cs ++ with_counts w b (get_or (cs ++ ds) b.clock []) ∷ []
+pushed w bs cs ds b are count =
+    map_push (λ (b : Body). with_counts w b (get_or (cs ++ ds) b.clock [])) bs b
+    ∙ ap (λ us. us ++ with_counts w b (get_or (cs ++ ds) b.clock []) ∷ []) (same_operations w 0 bs cs ds are (omega (arith, count)))
 
 -- the clocks' numbers without the last operation's
 pub popped_order : (bs cs : List Body) (b : Body) → bs ≡ cs ++ b ∷ [] → AreInOrder 0 bs → AreInOrder 0 cs
 popped_order bs cs b is are = (order_front 0 cs b (subst (AreInOrder 0) is are)).0
 
 -- as many clocks are there as are kept without the last operation
-pub popped_room : (w : ℕ) (bs cs : List Body) (ns : List ℕ) (b : Body) → bs ≡ cs ++ b ∷ [] → AreInOrder 0 bs →
-    length ns ≡ clock_count 0 bs * (w + 1) → clock_count 0 cs * (w + 1) ≤ length ns
-popped_room w bs cs ns b is are count =
-    let fewer : clock_count 0 cs ≤ clock_count 0 bs = less (order_front 0 cs b (subst (AreInOrder 0) is are)).1 in
-    omega (arith, count, mul-le-mul_right (w + 1) fewer)
+pub popped_count : (bs cs : List Body) (b : Body) → bs ≡ cs ++ b ∷ [] → AreInOrder 0 bs → clock_count 0 cs ≤ clock_count 0 bs
+popped_count bs cs b is are = less (order_front 0 cs b (subst (AreInOrder 0) is are)).1
   where
     less : (b.clock ≡ clock_count 0 cs) ⊎ (b.clock + 1 ≡ clock_count 0 cs) → clock_count 0 cs ≤ clock_count 0 bs
     less (inl next) = omega (arith, next, ap (clock_count 0) is, count_more 0 cs b)
     less (inr same) = omega (arith, same, ap (clock_count 0) is, count_more 0 cs b)
 
 -- without the last operation
-pub popped : (w : ℕ) (bs cs : List Body) (ns ms : List ℕ) (b : Body) → bs ≡ cs ++ b ∷ [] → AreInOrder 0 bs →
-    length ns ≡ clock_count 0 bs * (w + 1) → ms ≡ take (clock_count 0 cs * (w + 1)) ns →
+pub popped : (w : ℕ) (bs cs : List Body) (ns ms : List (List ℕ)) (b : Body) → bs ≡ cs ++ b ∷ [] → AreInOrder 0 bs →
+    length ns ≡ clock_count 0 bs → ms ≡ take (clock_count 0 cs) ns →
     operations_of w cs ms ≡ take (length (operations_of w bs ns) - 1) (operations_of w bs ns)
 popped w bs cs ns ms b is are count cut =
-    let k = clock_count 0 cs * (w + 1) in
+    let k = clock_count 0 cs in
     let us = operations_of w cs ns in
-    let last = with_counts w b (drop (b.clock * (w + 1)) ns) in
+    let last = with_counts w b (get_or ns b.clock []) in
     let front = popped_order bs cs b is are in
-    let counted : length ms ≡ k = ap length cut ∙ length-take-le k ns (popped_room w bs cs ns b is are count) in
+    let counted : length ms ≡ k = ap length cut ∙ length-take-le k ns (omega (arith, count, popped_count bs cs b is are)) in
     let kept : operations_of w cs ms ≡ us =
     sym (same_operations w 0 cs ms (drop k ns) front (omega (arith, counted)))
     ∙ ap (operations_of w cs) (ap (λ xs. xs ++ drop k ns) cut ∙ take-append-drop k ns) in
     let whole : operations_of w bs ns ≡ us ++ last ∷ [] =
-    ap (λ xs. operations_of w xs ns) is ∙ map_push (λ (b : Body). with_counts w b (drop (b.clock * (w + 1)) ns)) cs b in
+    ap (λ xs. operations_of w xs ns) is ∙ map_push (λ (b : Body). with_counts w b (get_or ns b.clock [])) cs b in
     kept ∙ sym (ap (λ xs. take (length xs - 1) xs) whole
     ∙ ap (λ n. take n (us ++ last ∷ [])) (omega (arith, length_push us last))
     ∙ take-append_seam us (last ∷ []))
@@ -268,13 +225,12 @@ name_again (Red n) home own = refl
 -- an operation is what is kept of it
 pub whole_again : (w n : ℕ) (ns : List ℕ) (v : Shadow) (k : Colour) (m : ℕ) → k ≡ shown_colour v.name → m ≡ number_of v.name →
     is_foreign v.name v.home ≡ false →
-    clock_of_counts w (slice_set (drop (n * (w + 1)) ns) (row_of v.name) (number_of v.name - 1)) ≡ v.deps →
-    with_counts w (record { colour = k; home = v.home; account = v.account; number = m; kind = v.kind; clock = n; amount = v.amount })
-    (drop (n * (w + 1)) ns) ≡ v
+    clock_of_counts w (slice_set ns (row_of v.name) (number_of v.name - 1)) ≡ v.deps →
+    with_counts w (record { colour = k; home = v.home; account = v.account; number = m; kind = v.kind; clock = n; amount = v.amount }) ns ≡ v
 whole_again w n ns v k m colour number own clock =
     let name = ap (λ j. kept_name j v.home m) colour ∙ ap (kept_name (shown_colour v.name) v.home) number ∙ name_again v.name v.home own in
-    let same = ap (λ x. clock_of_counts w (slice_set (drop (n * (w + 1)) ns) (row_of x) (m - 1))) name
-    ∙ ap (λ j. clock_of_counts w (slice_set (drop (n * (w + 1)) ns) (row_of v.name) (j - 1))) number ∙ clock in
+    let same = ap (λ x. clock_of_counts w (slice_set ns (row_of x) (m - 1))) name
+    ∙ ap (λ j. clock_of_counts w (slice_set ns (row_of v.name) (j - 1))) number ∙ clock in
     λ j. record { name = name j; home = v.home; account = v.account; deps = same j; amount = v.amount; kind = v.kind }
 
 -- a list of the first items with one of them as it is
@@ -297,28 +253,20 @@ kept_whole w d x sites full own =
     ∙ ap (λ ks. record { blue = padded ks; red = d.red }) (take-take w w d.blue (omega arith))
     ∙ ap (λ ks. record { blue = ks; red = d.red }) (whole_clock w d sites full)
 
--- a clock is what is kept last, where the two are the same but for the own entry
-pub kept_last : (w n : ℕ) (ns : List ℕ) (d : Deps) (x : OpName) → IsOfSites w d → length d.blue ≡ MOST_SITES →
-    entry_of d x + 1 ≡ number_of x → length ns ≡ n * (w + 1) → 0 < n →
-    ((m : ℕ) → slice_set (drop (length ns - (w + 1)) ns) (row_of x) m ≡ slice_set (d.red ∷ take w d.blue) (row_of x) m) →
-    clock_of_counts w (slice_set (drop ((n - 1) * (w + 1)) ns) (row_of x) (number_of x - 1)) ≡ d
-kept_last w zero ns d x sites full own count some same = absurd (omega (arith, some))
-kept_last w (suc n) ns d x sites full own count some same =
-    let back : suc n - 1 ≡ n = omega arith in
-    let here : n * (w + 1) ≡ length ns - (w + 1) = omega (arith, count) in
-    ap (λ j. clock_of_counts w (slice_set (drop (j * (w + 1)) ns) (row_of x) (number_of x - 1))) back
-    ∙ ap (λ j. clock_of_counts w (slice_set (drop j ns) (row_of x) (number_of x - 1))) here
-    ∙ ap (clock_of_counts w) (same (number_of x - 1))
-    ∙ kept_whole w d x sites full own
+-- a clock is what is kept of another, where the two are the same but for the own entry
+pub kept_same : (w : ℕ) (ns : List ℕ) (d : Deps) (x : OpName) → IsOfSites w d → length d.blue ≡ MOST_SITES →
+    entry_of d x + 1 ≡ number_of x →
+    ((m : ℕ) → slice_set ns (row_of x) m ≡ slice_set (d.red ∷ take w d.blue) (row_of x) m) →
+    clock_of_counts w (slice_set ns (row_of x) (number_of x - 1)) ≡ d
+kept_same w ns d x sites full own same = ap (clock_of_counts w) (same (number_of x - 1)) ∙ kept_whole w d x sites full own
 
 -- what is kept behind the others
-pub kept_behind : (w n : ℕ) (ns ms : List ℕ) (d : Deps) (x : OpName) → IsOfSites w d → length d.blue ≡ MOST_SITES →
-    entry_of d x + 1 ≡ number_of x → length ns ≡ n * (w + 1) → ms ≡ ns ++ d.red ∷ take w d.blue →
-    clock_of_counts w (slice_set (drop (n * (w + 1)) ms) (row_of x) (number_of x - 1)) ≡ d
-kept_behind w n ns ms d x sites full own count is =
-    ap (λ js. clock_of_counts w (slice_set (drop (n * (w + 1)) js) (row_of x) (number_of x - 1))) is
-    ∙ ap (λ j. clock_of_counts w (slice_set (drop j (ns ++ d.red ∷ take w d.blue)) (row_of x) (number_of x - 1))) (sym count)
-    ∙ ap (λ js. clock_of_counts w (slice_set js (row_of x) (number_of x - 1))) (drop-append_seam ns (d.red ∷ take w d.blue))
+pub kept_behind : (w : ℕ) (cs ds : List (List ℕ)) (d : Deps) (x : OpName) → IsOfSites w d → length d.blue ≡ MOST_SITES →
+    entry_of d x + 1 ≡ number_of x → ds ≡ cs ++ (d.red ∷ take w d.blue) ∷ [] →
+    clock_of_counts w (slice_set (get_or ds (length cs) []) (row_of x) (number_of x - 1)) ≡ d
+kept_behind w cs ds d x sites full own is =
+    ap (λ ns. clock_of_counts w (slice_set ns (row_of x) (number_of x - 1)))
+    (ap (λ es. get_or es (length cs) []) is ∙ get_or-append_seam cs (d.red ∷ take w d.blue) [] [])
     ∙ kept_whole w d x sites full own
 
 -- what is 0 past some sites is 0 past more
@@ -353,12 +301,6 @@ of_sites s v w sound more =
 pub popped_body : (r : Option Body) (bs cs : List Body) → bs ≡ cs ++ option_to_list r → true ≡ is_some r → (b : Body) × (bs ≡ cs ++ b ∷ [])
 popped_body (Some b) bs cs is some = (b, is)
 popped_body None bs cs is some = cc
-
--- where there is memory for one more operation, there is memory for what is kept of its clock
-pub room_more : (w n limit : ℕ) → n < limit → n * (w + 1) + (w + 1) ≤ limit * (w + 1)
-room_more w n limit less =
-    let more = mul-le-mul_right (w + 1) (let e : n + 1 ≤ limit = omega (arith, less) in e) in
-    omega (arith, more)
 
 -- a call that succeeds has no error
 pub no_err : (r : Result (Unit {0}) AllocError) → IsOk r → is_err r ≡ true → ⊥

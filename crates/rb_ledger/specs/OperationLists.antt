@@ -1,5 +1,5 @@
 -- What lists of operations are.
-use Rattle.std.specs.Prelude.{◌≡◌, ◌⊎◌, true, ℕ, ◌+◌, ◌-◌, ◌*◌, List, [], ◌∷◌, ◌++◌, length, map, take, drop, replicate, slice_index, slice_set}
+use Rattle.std.specs.Prelude.{◌≡◌, ◌⊎◌, true, ℕ, ◌+◌, ◌-◌, ◌*◌, List, [], ◌∷◌, ◌++◌, length, map, take, drop, replicate, slice_index, slice_index_or, slice_set}
 use Rattle.rb_money.specs.declared.limits.TheConstants.{MOST_SITES}
 use Rattle.rb_shadow.specs.declared.deps.Deps.{Deps}
 use Rattle.rb_shadow.specs.declared.shadow.Shadow.{Shadow}
@@ -50,10 +50,9 @@ with_clock b d = record {
 abbrev pub with_counts : ℕ → Body → List ℕ → Shadow
 with_counts sites b ns = with_clock b (clock_of_counts sites (slice_set ns (row_of (kept_name b.colour b.home b.number)) (b.number - 1)))
 
--- the operations, by what is kept of them: the clocks stand one after another, and each operation has the number of
--- its clock
-abbrev pub operations_of : ℕ → List Body → List ℕ → List Shadow
-operations_of sites bs ns = map (λ (b : Body). with_counts sites b (drop (b.clock * (sites + 1)) ns)) bs
+-- the operations, by what is kept of them: each has the number of its clock among those that are kept
+abbrev pub operations_of : ℕ → List Body → List (List ℕ) → List Shadow
+operations_of sites bs cs = map (λ (b : Body). with_counts sites b (slice_index_or cs b.clock [])) bs
 
 -- how many clocks are kept for these operations, of which as many as the number are kept for those before
 abbrev pub clock_count : ℕ → List Body → ℕ

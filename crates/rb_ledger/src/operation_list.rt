@@ -9,7 +9,7 @@ ghost use Rattle.rb_ledger.specs.OperationLists.{IsOfSites, clock_count};
 
 use crate::OperationRef;
 use crate::body::Body;
-use crate::counts::{FEW_SITES, keep_clock};
+use crate::clock_list::ClockList;
 use crate::prefix::Prefix;
 use rb_money::Place;
 use rb_shadow::Shadow;
@@ -22,34 +22,29 @@ use std::marker::Model;
 #[derive(Drop)]
 pub struct OperationList {
     bodies: Vec<Body>,
-    /// What is kept of the clocks, one after another: the red entry, and then those of the first sites. Operations that
-    /// a site made one after another, without hearing of others, have one clock but for their own entries.
-    counts: Vec<u32>,
-    sites: usize,
+    /// Operations that a site made one after another, without hearing of others, have one clock but for their own
+    /// entries.
+    clocks: ClockList,
     limit: usize,
 }
 
 impl Model for OperationList {
-    ghost use Rattle.std.specs.Prelude.{length, ◌≡◌, ◌≤◌, ◌+◌, ◌*◌, vec_capacity};
-    ghost use Rattle.rb_money.specs.declared.limits.TheConstants.{MOST_SITES};
-    ghost use Rattle.rb_ledger.specs.declared.counts.TheConstants.{FEW_SITES};
+    ghost use Rattle.std.specs.Prelude.{length, ◌≡◌, ◌≤◌, vec_capacity};
     ghost use Rattle.rb_ledger.specs.OperationLists.{AreInOrder, OperationTable, clock_count, operations_of};
 
     ghost Value = { OperationTable };
 
     ghost view = { λ l. record {
-      items = operations_of l.sites l.bodies.items l.counts.items;
-      sites = l.sites;
+      items = operations_of l.clocks.sites l.bodies.items l.clocks.items;
+      sites = l.clocks.sites;
       limit = l.limit;
     } };
 
     ghost invariant = { λ l. record {
-      least : FEW_SITES ≤ l.sites;
-      most : l.sites ≤ MOST_SITES;
-      counts : length l.counts.items ≡ clock_count 0 l.bodies.items * (l.sites + 1);
+      clocks : length l.clocks.items ≡ clock_count 0 l.bodies.items;
       order : AreInOrder 0 l.bodies.items;
       bodies_fit : l.limit ≤ vec_capacity l.bodies;
-      counts_fit : l.limit * (l.sites + 1) ≤ vec_capacity l.counts;
+      clocks_fit : l.limit ≤ l.clocks.limit;
     } };
 }
 
@@ -63,8 +58,7 @@ impl OperationList {
     {
         OperationList {
             bodies: Vec::new(alloc),
-            counts: Vec::new(alloc),
-            sites: usize::from(sites).max(FEW_SITES),
+            clocks: ClockList::new(alloc, sites),
             limit: 0,
         }
     }
@@ -82,7 +76,7 @@ impl OperationList {
         ensures same { result ≡ self.now.sites }
         ensures most { result ≤ MOST_SITES }
     {
-        self.sites
+        self.clocks.sites()
     }
 
     /// Whether there are none.
@@ -106,10 +100,9 @@ impl OperationList {
         ensures { result ≡ slice_get self.now.items index }
     {
         let body = self.bodies.get(index)?;
-        let first = body.clock as usize * (self.sites + 1);
         Some(OperationRef {
             body,
-            counts: &self.counts[first..first + self.sites + 1],
+            clocks: &self.clocks,
         })
     }
 
@@ -166,8 +159,7 @@ impl OperationList {
         ensures sites { self.new.sites ≡ self.old.sites }
         ensures limit { self.new.limit ≡ self.old.limit }
     {
-        let count = kept_clocks(&self.bodies);
-        let clock = keep_clock(&mut self.counts, count, shadow, self.sites);
+        let clock = self.clocks.keep(shadow);
         self.bodies.push_reserved(Body {
             colour: shadow.name.colour(),
             home: shadow.home,
@@ -186,8 +178,7 @@ impl OperationList {
         ensures limit { self.new.limit ≡ self.old.limit }
     {
         if self.bodies.pop().is_some() {
-            self.counts
-                .truncate(kept_clocks(&self.bodies) * (self.sites + 1));
+            self.clocks.truncate(kept_clocks(&self.bodies));
         }
     }
 
@@ -201,13 +192,9 @@ impl OperationList {
         if limit <= self.limit {
             return Ok(());
         }
-        let Some(counts) = limit.checked_mul(self.sites + 1) else {
-            return Err(AllocError);
-        };
         self.bodies
             .reserve_exact(limit.saturating_sub(self.bodies.len()))?;
-        self.counts
-            .reserve_exact(counts.saturating_sub(self.counts.len()))?;
+        self.clocks.reserve(limit)?;
         self.limit = limit;
         Ok(())
     }

@@ -2,6 +2,7 @@
 ghost use Rattle.std.specs.Prelude.{◌≡◌};
 
 use crate::body::Body;
+use crate::clock_list::ClockList;
 use crate::counts::clock;
 use rb_shadow::{OpName, Shadow};
 use std::marker::Model;
@@ -10,25 +11,20 @@ use std::marker::Model;
 #[derive(Drop)]
 pub struct OperationRef<'a> {
     pub(crate) body: &'a Body,
-    /// The red entry of its clock, and then those of the first sites, but for its own entry.
-    pub(crate) counts: &'a [u32],
+    /// The clocks, of which one is its own, but for its own entry.
+    pub(crate) clocks: &'a ClockList,
 }
 
 impl<'a> Model for OperationRef<'a> {
-    ghost use Rattle.std.specs.Prelude.{length, ◌-◌, ◌+◌, ◌≤◌};
-    ghost use Rattle.rb_money.specs.declared.limits.TheConstants.{MOST_SITES};
+    ghost use Rattle.std.specs.Prelude.{length, ◌<◌, [], slice_index_or};
     ghost use Rattle.rb_shadow.specs.declared.shadow.Shadow.{Shadow};
-    ghost use Rattle.rb_ledger.specs.declared.counts.TheConstants.{FEW_SITES};
     ghost use Rattle.rb_ledger.specs.OperationLists.{with_counts};
 
     ghost Value = { Shadow };
 
-    ghost view = { λ k. with_counts (length k.counts.now - 1) k.body.now k.counts.now };
+    ghost view = { λ k. with_counts k.clocks.now.sites k.body.now (slice_index_or k.clocks.now.items k.body.now.clock []) };
 
-    ghost invariant = { λ k. record {
-      least : FEW_SITES + 1 ≤ length k.counts.now;
-      most : length k.counts.now ≤ MOST_SITES + 1;
-    } };
+    ghost invariant = { λ k. k.body.now.clock < length k.clocks.now.items };
 }
 
 impl<'a> OperationRef<'a> {
@@ -47,11 +43,12 @@ impl<'a> OperationRef<'a> {
     {
         let body = self.body;
         let name = body.name();
+        let kept = self.clocks.at(body.clock as usize);
         Shadow {
             name,
             home: body.home,
             account: body.account,
-            deps: clock(self.counts, name),
+            deps: clock(&kept, name),
             amount: body.amount,
             kind: body.kind,
         }

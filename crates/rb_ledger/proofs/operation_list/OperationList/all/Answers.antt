@@ -9,7 +9,7 @@ invariant_of-result c = omega (
   arith,
   c.len.ensures,
   c.self.inside.bodies.ok.0,
-  OperationTables.as_many c.self.inside.sites c.self.inside.bodies.items c.self.inside.counts.items,
+  OperationTables.as_many c.self.inside.clocks.sites c.self.inside.bodies.items c.self.inside.clocks.items,
   ap (λ (t : OperationTable). length t.items) c.self.view_is,
 )
 
@@ -18,6 +18,6 @@ returns c = take_all c.len.result c.args.self.now.items (omega (
   arith,
   c.len.ensures,
   c.self.inside.bodies.ok.0,
-  OperationTables.as_many c.self.inside.sites c.self.inside.bodies.items c.self.inside.counts.items,
+  OperationTables.as_many c.self.inside.clocks.sites c.self.inside.bodies.items c.self.inside.clocks.items,
   ap (λ (t : OperationTable). length t.items) c.self.view_is,
 ))

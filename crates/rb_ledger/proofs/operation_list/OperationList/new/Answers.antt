@@ -1,15 +1,12 @@
-use Rattle.std.proofs.Common.{◌+◌, ◌*◌, ◌∙◌, ap, arith, length}
+use Rattle.std.proofs.Common.{◌∙◌, ap, arith, length}
 use Rattle.rb_ledger.specs.OperationLists.{clock_count}
 use Rattle.rb_ledger.proofs.OperationTables
 use Rattle.rb_ledger.proofs.operation_list.OperationList.new.Goals as goal
 
 pub invariant_of-result : goal.invariant_of-result
 invariant_of-result c = record {
-  least = omega (arith, c.max.ensures);
-  most = omega (arith, c.max.ensures, c.from.ensures, c.requires);
-  counts = ap length c.new-2.ensures.items
-      ∙ omega (arith, ap (λ bs. clock_count 0 bs * (c.max.result + 1)) c.new.ensures.items);
+  clocks = ap length c.new-2.ensures.items ∙ omega (arith, ap (λ bs. clock_count 0 bs) c.new.ensures.items);
   order = OperationTables.none_in_order c.new.result.items c.new.ensures.items;
   bodies_fit = omega arith;
-  counts_fit = omega arith;
+  clocks_fit = omega arith;
 }

@@ -9,7 +9,7 @@ index-requires c = omega (
   arith,
   c.requires,
   c.self.inside.bodies.ok.0,
-  OperationTables.as_many c.self.inside.sites c.self.inside.bodies.items c.self.inside.counts.items,
+  OperationTables.as_many c.self.inside.clocks.sites c.self.inside.bodies.items c.self.inside.clocks.items,
   ap (λ (t : OperationTable). length t.items) c.self.view_is,
 )
 
@@ -18,9 +18,9 @@ returns c = λ d.
     let near : c.args.index < length c.self.inside.bodies.items = omega (
       arith,
       c.requires,
-      OperationTables.as_many c.self.inside.sites c.self.inside.bodies.items c.self.inside.counts.items,
+      OperationTables.as_many c.self.inside.clocks.sites c.self.inside.bodies.items c.self.inside.clocks.items,
       ap (λ (t : OperationTable). length t.items) c.self.view_is,
     ) in
     c.receiver.ensures
-    ∙ ap receiver_of (OperationTables.kind_at c.self.inside.sites _ c.self.inside.counts.items _ _ d near c.index.ensures
+    ∙ ap receiver_of (OperationTables.kind_at c.self.inside.clocks.sites _ c.self.inside.clocks.items _ _ d near c.index.ensures
     ∙ ap (λ (t : OperationTable). (get_or t.items c.args.index d).kind) c.self.view_is)

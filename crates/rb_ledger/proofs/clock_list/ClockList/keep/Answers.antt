@@ -1,0 +1,69 @@
+use Rattle.std.proofs.Common.{◌≡◌, ◌⊎◌, inl, inr, ◌+◌, ◌-◌, ◌*◌, ◌<◌, ◌≤◌, ◌++◌, ◌∷◌, [], ap, sym, ◌∙◌, arith, append_assoc, cond, drop, get_or, length, length-take-le, mul-le-mul_right, refl, rules, subst, take, suc, true, ℕ, List, Some}
+use Rattle.std.specs.Prelude.{slice_get, slice_set}
+use Rattle.std.proofs.lemmas.List.{length_push, take_all}
+use Rattle.rb_shadow.specs.Operations.{number_of, row_of}
+use Rattle.rb_ledger.specs.ClockLists.{AreBased, AreNear, ClockTable, base_of, clocks_of, steps_of, stepped, sums}
+use Rattle.rb_ledger.specs.OperationLists.{clock_of_counts}
+use Rattle.rb_ledger.proofs.ClockTables
+use Rattle.rb_ledger.proofs.OperationTables
+use Rattle.rb_ledger.proofs.clock_list.ClockList.keep.Goals as goal
+
+pub is_last-requires : goal.is_last-requires
+is_last-requires c =
+    let w = c.self.inside.sites + 1 in
+    let count = ClockTables.clocks_count w c.self.inside.bases.items c.self.inside.starts.items c.self.inside.steps.items in
+    let items = ap (λ (t : ClockTable). length t.items) c.self.view_is in
+    let len : c.len-count.result ≡ length c.args.self.now.items = omega (arith, count, items, c.len-count.ensures, c.self.inside.starts.ok.0) in
+    omega (arith, len, c.if-count-gt0.true)
+
+pub returns-then-is_last-clause-number : goal.returns-then-is_last-clause-number
+returns-then-is_last-clause-number c =
+    let w = c.self.inside.sites + 1 in
+    let count = ClockTables.clocks_count w c.self.inside.bases.items c.self.inside.starts.items c.self.inside.steps.items in
+    let items = ap (λ (t : ClockTable). length t.items) c.self.view_is in
+    let len : c.len-count.result ≡ length c.args.self.now.items = omega (arith, count, items, c.len-count.ensures, c.self.inside.starts.ok.0) in
+    inr (omega (arith, len, c.if-count-gt0.true))
+
+pub returns-then-is_last-clause-count : goal.returns-then-is_last-clause-count
+returns-then-is_last-clause-count c =
+    let w = c.self.inside.sites + 1 in
+    let count = ClockTables.clocks_count w c.self.inside.bases.items c.self.inside.starts.items c.self.inside.steps.items in
+    let items = ap (λ (t : ClockTable). length t.items) c.self.view_is in
+    let len : c.len-count.result ≡ length c.args.self.now.items = omega (arith, count, items, c.len-count.ensures, c.self.inside.starts.ok.0) in
+    omega (arith, len, c.if-count-gt0.true)
+
+pub returns-then-is_last-clause-clock : goal.returns-then-is_last-clause-clock
+returns-then-is_last-clause-clock c =
+    let w = c.self.inside.sites + 1 in
+    let count = ClockTables.clocks_count w c.self.inside.bases.items c.self.inside.starts.items c.self.inside.steps.items in
+    let items = ap (λ (t : ClockTable). length t.items) c.self.view_is in
+    let len : c.len-count.result ≡ length c.args.self.now.items = omega (arith, count, items, c.len-count.ensures, c.self.inside.starts.ok.0) in
+    let v = c.args.shadow.now in
+    OperationTables.kept_same c.args.self.now.sites _ v.deps v.name c.requires.sites c.is_last.ensures.all c.requires.own
+    (λ m. ap (λ k. slice_set (get_or c.args.self.now.items (k - 1) []) (row_of v.name) m) len ∙ c.if-is_last.ensures.same refl m)
+
+pub returns-clause-number : goal.returns-clause-number
+returns-clause-number c =
+    let w = c.self.inside.sites + 1 in
+    let count = ClockTables.clocks_count w c.self.inside.bases.items c.self.inside.starts.items c.self.inside.steps.items in
+    let items = ap (λ (t : ClockTable). length t.items) c.self.view_is in
+    let len : c.len-count.result ≡ length c.args.self.now.items = omega (arith, count, items, c.len-count.ensures, c.self.inside.starts.ok.0) in
+    inl len
+
+pub returns-clause-count : goal.returns-clause-count
+returns-clause-count c =
+    let w = c.self.inside.sites + 1 in
+    let count = ClockTables.clocks_count w c.self.inside.bases.items c.self.inside.starts.items c.self.inside.steps.items in
+    let items = ap (λ (t : ClockTable). length t.items) c.self.view_is in
+    let len : c.len-count.result ≡ length c.args.self.now.items = omega (arith, count, items, c.len-count.ensures, c.self.inside.starts.ok.0) in
+    ap length c.push.ensures.items ∙ length_push c.args.self.now.items _ ∙ ap (λ k. k + 1) (sym len)
+
+pub returns-clause-clock : goal.returns-clause-clock
+returns-clause-clock c =
+    let w = c.self.inside.sites + 1 in
+    let count = ClockTables.clocks_count w c.self.inside.bases.items c.self.inside.starts.items c.self.inside.steps.items in
+    let items = ap (λ (t : ClockTable). length t.items) c.self.view_is in
+    let len : c.len-count.result ≡ length c.args.self.now.items = omega (arith, count, items, c.len-count.ensures, c.self.inside.starts.ok.0) in
+    let v = c.args.shadow.now in
+    ap (λ k. clock_of_counts c.args.self.now.sites (slice_set (get_or c.push.new.self.items k []) (row_of v.name) (number_of v.name - 1))) len
+    ∙ OperationTables.kept_behind c.args.self.now.sites c.args.self.now.items c.push.new.self.items v.deps v.name c.requires.sites c.push.ensures.all c.requires.own c.push.ensures.items

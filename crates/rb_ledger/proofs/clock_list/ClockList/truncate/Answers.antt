@@ -1,0 +1,36 @@
+use Rattle.std.proofs.Common.{◌≡◌, ◌⊎◌, inl, inr, ◌+◌, ◌-◌, ◌*◌, ◌<◌, ◌≤◌, ◌++◌, ◌∷◌, [], ap, sym, ◌∙◌, arith, append_assoc, cond, drop, get_or, length, length-take-le, mul-le-mul_right, refl, rules, subst, take, suc, true, ℕ, List, Some}
+use Rattle.std.specs.Prelude.{slice_get, slice_set}
+use Rattle.std.proofs.lemmas.List.{length_push, take_all}
+use Rattle.rb_shadow.specs.Operations.{number_of, row_of}
+use Rattle.rb_ledger.specs.ClockLists.{AreBased, AreNear, ClockTable, base_of, clocks_of, steps_of, stepped, sums}
+use Rattle.rb_ledger.specs.OperationLists.{clock_of_counts}
+use Rattle.rb_ledger.proofs.ClockTables
+use Rattle.rb_ledger.proofs.OperationTables
+use Rattle.rb_ledger.proofs.clock_list.ClockList.truncate.Goals as goal
+
+pub invariant_of-self : goal.invariant_of-self
+invariant_of-self c =
+    let w = c.self.inside.sites + 1 in
+    let len : c.len.result ≡ length c.truncate.new.self.items = omega (arith, c.len.ensures, c.truncate.new.self.ok.0) in
+    let k = ClockTables.cut w c.args.count (c.len.result * w) c.self.inside.bases.items c.self.inside.starts.items c.self.inside.steps.items
+    c.truncate-3.new.self.items c.truncate.new.self.items c.truncate-2.new.self.items
+    c.self.invariant.based c.self.invariant.steps c.truncate.ensures.items (ap (λ n. n * w) len) c.truncate-3.ensures.items c.truncate-2.ensures.items in
+    record {
+      least = c.self.invariant.least;
+      most = c.self.invariant.most;
+      steps = k.steps;
+      few = k.few;
+      based = k.based;
+      bases_fit = omega (arith, c.self.invariant.bases_fit, c.truncate-3.ensures.capacity);
+      starts_fit = omega (arith, c.self.invariant.starts_fit, c.truncate.ensures.capacity);
+      steps_fit = omega (arith, c.self.invariant.steps_fit, c.truncate-2.ensures.capacity);
+    }
+
+pub returns-clause-items : goal.returns-clause-items
+returns-clause-items c =
+    let w = c.self.inside.sites + 1 in
+    let len : c.len.result ≡ length c.truncate.new.self.items = omega (arith, c.len.ensures, c.truncate.new.self.ok.0) in
+    let k = ClockTables.cut w c.args.count (c.len.result * w) c.self.inside.bases.items c.self.inside.starts.items c.self.inside.steps.items
+    c.truncate-3.new.self.items c.truncate.new.self.items c.truncate-2.new.self.items
+    c.self.invariant.based c.self.invariant.steps c.truncate.ensures.items (ap (λ n. n * w) len) c.truncate-3.ensures.items c.truncate-2.ensures.items in
+    k.clocks ∙ ap (λ (t : ClockTable). take c.args.count t.items) c.self.view_is

@@ -1,0 +1,8 @@
+use Rattle.std.proofs.Common.{◌≡◌, ◌++◌, ◌-◌, take, drop}
+use Rattle.std.specs.Prelude.{replicate}
+use Rattle.rb_money.specs.declared.limits.TheConstants.{MOST_SITES}
+use Rattle.rb_ledger.proofs.counts.clock_of_many.Given as goal
+
+-- the entries so far, and zeros
+abbrev pub invariant-loop-site : goal.invariant-loop-site
+invariant-loop-site l = l.blue ≡ take l.site (drop 1 l.kept) ++ replicate (MOST_SITES - l.site) 0
