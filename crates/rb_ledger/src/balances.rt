@@ -42,7 +42,7 @@ impl Ledger {
         ensures least { IfSome result (λ n. neg_ℤ (pos MOST_CENTS) ≤ℤ n) }
         ensures most { IfSome result (λ n. n ≤ℤ pos MOST_CENTS) }
     {
-        let entry = self.entry(position)?;
+        let entry = self.operation(position)?;
         if !self.index.is_on(&self.entries.all(), &entry, place) {
             return Some(0);
         }

@@ -8,6 +8,7 @@ ghost use Rattle.rb_ledger.specs.Valid.{IsValid, find_position, parts_of, positi
 ghost use Rattle.rb_ledger.specs.Index.{AreHeads, IsIndex, changed_at, one_more, one_less, no_cancels, IsLinked};
 ghost use Rattle.rb_ledger.specs.Index.{heads_at, no_head, counted_at};
 
+use crate::OperationRef;
 use crate::marks::{Cancels, Head, Links};
 use crate::prefix::Prefix;
 use crate::rows::Rows;
@@ -84,16 +85,16 @@ impl Index {
         other_at(before, kind, self.target(kind))
     }
 
-    /// Whether a shadow that follows those before is on an account, as its own or its second one.
+    /// Whether an operation that follows those before is on an account, as its own or its second one.
     #[inline(always)]
-    pub fn is_on(&self, before: &Prefix<'_>, shadow: &Shadow, place: Place) -> bool
+    pub fn is_on(&self, before: &Prefix<'_>, entry: &OperationRef<'_>, place: Place) -> bool
         requires { IsIndex self.now.config before.now self.now }
-        ensures { result ≡ is_on before.now shadow.now place }
+        ensures { result ≡ is_on before.now entry.now place }
     {
-        if shadow.account == place {
+        if entry.account() == place {
             return true;
         }
-        match self.other(before, shadow.kind) {
+        match self.other(before, entry.kind()) {
             Some(other) => other == place,
             None => false,
         }

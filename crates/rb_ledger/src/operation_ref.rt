@@ -4,7 +4,8 @@ ghost use Rattle.std.specs.Prelude.{◌≡◌};
 use crate::body::Body;
 use crate::clock_list::ClockList;
 use crate::counts::clock;
-use rb_shadow::{OpName, Shadow};
+use rb_money::Place;
+use rb_shadow::{Kind, OpName, Shadow};
 use std::marker::Model;
 
 /// An operation as a list keeps it. Clients see the operation.
@@ -34,6 +35,30 @@ impl<'a> OperationRef<'a> {
         ensures { result ≡ self.now.name }
     {
         self.body.name()
+    }
+
+    /// Its account.
+    #[inline(always)]
+    pub fn account(&self) -> Place
+        ensures { result ≡ self.now.account }
+    {
+        self.body.account
+    }
+
+    /// Its amount, in cents.
+    #[inline(always)]
+    pub fn amount(&self) -> u64
+        ensures { result ≡ self.now.amount }
+    {
+        self.body.amount
+    }
+
+    /// Its kind.
+    #[inline(always)]
+    pub fn kind(&self) -> Kind
+        ensures { result ≡ self.now.kind }
+    {
+        self.body.kind
     }
 
     /// The operation.

@@ -1,5 +1,7 @@
-use Rattle.std.proofs.Common.{sym, ◌∙◌}
-use Rattle.rb_shadow.specs.Operations.{target_of}
+use Rattle.std.proofs.Common.{◌≡◌, subst, sym, ◌∙◌}
+use Rattle.std.specs.Prelude.{◌+ℤ◌, pos}
+use Rattle.rb_shadow.specs.declared.kind.Kind.{Kind}
+use Rattle.rb_shadow.specs.Operations.{moved, target_of}
 use Rattle.rb_ledger.proofs.FoundNames
 use Rattle.rb_ledger.proofs.OneMore
 use Rattle.rb_ledger.proofs.ledger.Ledger.moved_back.Goals as goal
@@ -24,4 +26,5 @@ returns-clause-sums c =
     let (x, is, at) = FoundNames.target_at us (target_of c.args.shadow.now.kind) c.args.target c.requires.at c.requires.some in
     let (t, there, named, found) = FoundNames.found_there us x c.args.target at in
     OneMore.moved_back us c.args.shadow.now _ x _ _ c.requires.valid.unique c.requires.target is
-    (c.in-Some.ensures ∙ there ∙ sym found) (sym c.if-is_cancelled.false ∙ c.is_cancelled.ensures.found x at) c.moved-added.ensures.sums
+    (c.in-Some.ensures ∙ there ∙ sym found) (sym c.if-is_cancelled.false ∙ c.is_cancelled.ensures.found x at)
+    (subst (λ (k : Kind). pos c.moved-added.result.0 ≡ pos c.moved-added.result.1 +ℤ moved k c.args.shadow.now.amount) c.kind.ensures c.moved-added.ensures.sums)
