@@ -113,6 +113,13 @@ pub fn push_steps(steps: &mut Vec<u8>, base: &[u32], red: u32, blue: &[u32])
     ensures items { steps.new.items ≡ steps.old.items ++ steps_of base.now (red ∷ blue.now) }
     ensures capacity { vec_capacity steps.old ≤ vec_capacity steps.new }
 {
+    if base.len() == FEW_SITES + 1 {
+        steps.push_reserved(step(base[0], red));
+        steps.push_reserved(step(base[1], blue[0]));
+        steps.push_reserved(step(base[2], blue[1]));
+        steps.push_reserved(step(base[3], blue[2]));
+        return;
+    }
     let mut all = [0; MOST_SITES + 1];
     all[0] = step(base[0], red);
     for site in 0..base.len() - 1 {
