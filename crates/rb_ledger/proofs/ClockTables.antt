@@ -7,7 +7,7 @@ use Rattle.std.proofs.lemmas.Bool.{cases_lt}
 use Rattle.std.proofs.lemmas.List.{drop-append-le, take-append-le, take-take, take-append-drop, length-drop, drop-drop, drop-take, length-append, length-map, length_push, take_all, take_more}
 use Rattle.std.proofs.Math.Seq.{drop-append_seam}
 use Rattle.rb_ledger.specs.declared.counts.TheConstants.{LESS}
-use Rattle.rb_ledger.specs.ClockLists.{AreBased, AreNear, base_of, clocks_of, step_of, stepped, steps_of, sums}
+use Rattle.rb_ledger.specs.ClockLists.{AreBased, AreNear, base_of, clocks_of, kept_step, step_added, steps_of, sums}
 
 -- ---- the counts of a clock
 
@@ -20,7 +20,7 @@ sums_count (b ∷ bs) (s ∷ ss) same = ap suc (sums_count bs ss (omega (arith, 
 
 -- a count is the base's with its step added
 pub sum_at : (bs ss : List ℕ) (i : ℕ) → length bs ≡ length ss → i < length ss → get_or (sums bs ss) i 0
-    ≡ stepped (get_or bs i 0) (get_or ss i 0)
+    ≡ step_added (get_or bs i 0) (get_or ss i 0)
 sum_at [] [] i same near = absurd (omega (arith, near))
 sum_at [] (s ∷ ss) i same near = absurd (omega (arith, same))
 sum_at (b ∷ bs) [] i same near = absurd (omega (arith, same))
@@ -35,13 +35,13 @@ steps_count (b ∷ bs) (n ∷ ns) many = ap suc (steps_count bs ns (omega (arith
 
 -- steps that were found one by one
 pub steps_are : (bs ns ts : List ℕ) → length bs ≤ length ns → length bs ≤ length ts →
-    ((k : ℕ) → k < length bs → get_or ts k 0 ≡ step_of (get_or bs k 0) (get_or ns k 0)) → take (length bs) ts ≡ steps_of bs ns
+    ((k : ℕ) → k < length bs → get_or ts k 0 ≡ kept_step (get_or bs k 0) (get_or ns k 0)) → take (length bs) ts ≡ steps_of bs ns
 steps_are [] ns ts many long each = refl
 steps_are (b ∷ bs) [] ts many long each = absurd (omega (arith, many))
 steps_are (b ∷ bs) (n ∷ ns) [] many long each = absurd (omega (arith, long))
 steps_are (b ∷ bs) (n ∷ ns) (t ∷ ts) many long each =
     let rest = steps_are bs ns ts (omega (arith, many)) (omega (arith, long)) (λ k low. each (suc k) (omega (arith, low))) in
-    ap (λ x. x ∷ take (length bs) ts) (each zero (omega arith)) ∙ ap (λ xs. step_of b n ∷ xs) rest
+    ap (λ x. x ∷ take (length bs) ts) (each zero (omega arith)) ∙ ap (λ xs. kept_step b n ∷ xs) rest
 
 -- where the counts are near a base, the base with the steps added gives them
 pub near_sums : (bs ns : List ℕ) → AreNear bs ns → length bs ≤ length ns → sums bs (steps_of bs ns) ≡ take (length bs) ns

@@ -9,28 +9,28 @@ pub record ClockTable : Type 0 where
   pub limit : ℕ
 
 -- a base's count with a step added, in 32 bits
-abbrev pub stepped : ℕ → ℕ → ℕ
-stepped b s = (b + s) % 4294967296
+abbrev pub step_added : ℕ → ℕ → ℕ
+step_added b s = (b + s) % 4294967296
 
 -- the step from a base's count to a count, of which one byte is kept
-abbrev pub step_of : ℕ → ℕ → ℕ
-step_of b n = ((n + (4294967296 - b)) % 4294967296) % 256
+abbrev pub kept_step : ℕ → ℕ → ℕ
+kept_step b n = ((n + (4294967296 - b)) % 4294967296) % 256
 
 -- the counts of a base with the steps added
 abbrev pub sums : List ℕ → List ℕ → List ℕ
 sums [] ss = []
 sums (b ∷ bs) [] = []
-sums (b ∷ bs) (s ∷ ss) = stepped b s ∷ sums bs ss
+sums (b ∷ bs) (s ∷ ss) = step_added b s ∷ sums bs ss
 
 -- the steps from a base to the first counts, one for each of the base's
 abbrev pub steps_of : List ℕ → List ℕ → List ℕ
 steps_of [] ns = []
 steps_of (b ∷ bs) [] = []
-steps_of (b ∷ bs) (n ∷ ns) = step_of b n ∷ steps_of bs ns
+steps_of (b ∷ bs) (n ∷ ns) = kept_step b n ∷ steps_of bs ns
 
 -- the base with the steps added gives the counts
 abbrev pub AreNear : List ℕ → List ℕ → Type 0
-AreNear bs ns = (k : ℕ) → k < length bs → stepped (slice_index bs k) (step_of (slice_index bs k) (slice_index ns k)) ≡ slice_index ns k
+AreNear bs ns = (k : ℕ) → k < length bs → step_added (slice_index bs k) (kept_step (slice_index bs k) (slice_index ns k)) ≡ slice_index ns k
 
 -- the base that is made for a clock
 abbrev pub base_of : List ℕ → List ℕ

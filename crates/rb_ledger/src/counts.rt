@@ -5,7 +5,7 @@ ghost use Rattle.std.specs.Prelude.{IsTrue, ℕ};
 ghost use Rattle.rb_money.specs.declared.limits.TheConstants.{MOST_SITES};
 ghost use Rattle.rb_shadow.specs.Operations.{number_of, row_of};
 ghost use Rattle.rb_ledger.specs.declared.counts.TheConstants.{FEW_SITES};
-ghost use Rattle.rb_ledger.specs.ClockLists.{AreNear, base_of, step_of, stepped, steps_of};
+ghost use Rattle.rb_ledger.specs.ClockLists.{AreNear, base_of, kept_step, step_added, steps_of};
 ghost use Rattle.rb_ledger.specs.OperationLists.{clock_of_counts};
 
 use crate::kept_clock::KeptClock;
@@ -74,7 +74,7 @@ fn is_same_of_many(kept: &KeptClock<'_>, red: u32, blue: &[u32], own: u32) -> bo
 /// By how much a count is more than a base's, of which one byte is kept.
 #[inline(always)]
 fn step(base: u32, count: u32) -> u8
-    ensures { result ≡ step_of base count }
+    ensures { result ≡ kept_step base count }
 {
     (count.wrapping_sub(base) % 256) as u8
 }
@@ -98,7 +98,7 @@ pub fn fits(base: &[u32], red: u32, blue: &[u32]) -> bool
 /// Whether a count can be kept by a base's.
 #[inline(always)]
 fn is_near(base: u32, count: u32) -> bool
-    ensures { IsTrue result → stepped base (step_of base count) ≡ count }
+    ensures { IsTrue result → step_added base (kept_step base count) ≡ count }
 {
     count.wrapping_sub(base) < 256
 }

@@ -2,7 +2,7 @@ use Rattle.std.proofs.Common.{◌≡◌, ◌⊎◌, inl, inr, ◌+◌, ◌-◌, 
 use Rattle.std.specs.Prelude.{slice_get, slice_set}
 use Rattle.std.proofs.lemmas.List.{length_push, take_all}
 use Rattle.rb_shadow.specs.Operations.{number_of, row_of}
-use Rattle.rb_ledger.specs.ClockLists.{AreBased, AreNear, ClockTable, base_of, clocks_of, steps_of, stepped, sums}
+use Rattle.rb_ledger.specs.ClockLists.{AreBased, AreNear, ClockTable, base_of, clocks_of, steps_of, step_added, sums}
 use Rattle.rb_ledger.specs.OperationLists.{clock_of_counts}
 use Rattle.rb_ledger.proofs.ClockTables
 use Rattle.rb_ledger.proofs.OperationTables
@@ -20,5 +20,5 @@ bounds-self-inside-index-2 c = omega (arith, c.requires.near, ClockTables.sums_c
 pub returns : goal.returns
 returns c =
     let near : c.args.index < length c.self.inside.steps.now = omega (arith, c.requires.near, ClockTables.sums_count _ _ c.self.invariant.base, ap length c.self.view_is) in
-    ap (stepped (get_or c.self.inside.base.now c.args.index 0)) c.from.ensures
+    ap (step_added (get_or c.self.inside.base.now c.args.index 0)) c.from.ensures
     ∙ sym (ClockTables.sum_at c.self.inside.base.now c.self.inside.steps.now c.args.index c.self.invariant.base near) ∙ ap (λ ns. get_or ns c.args.index 0) c.self.view_is
