@@ -1,5 +1,5 @@
 -- What lists of operations are after a change.
-use Rattle.std.proofs.Common.{◌≡◌, ℕ, zero, suc, ◌+◌, ◌-◌, ◌*◌, ◌<◌, ◌≤◌, List, [], ◌∷◌, ◌++◌, length, take, drop, get_or}
+use Rattle.std.proofs.Common.{◌≡◌, ℕ, zero, suc, ◌+◌, ◌-◌, ◌<◌, ◌≤◌, List, [], ◌∷◌, ◌++◌, length, take, drop, get_or}
 use Rattle.std.proofs.Common.{refl, ap, sym, ◌∙◌, subst, arith, inl, inr, Some, None, Result, Ok, Err, true, false}
 use Rattle.std.proofs.Common.{length-take-le}
 use Rattle.std.specs.Prelude.{Bool, not, IsOk, is_err, is_some, option_to_list, if◌then◌else◌, Option, option_map, slice_get, slice_index, slice_set, replicate, ◌==◌, nat_le}
@@ -22,7 +22,7 @@ use Rattle.rb_shadow.specs.Sound.{IsSound, are_entries, is_foreign}
 use Rattle.rb_shadow.proofs.Public.SoundFacts
 use Rattle.rb_ledger.specs.declared.body.Body.{Body}
 use Rattle.rb_ledger.specs.OperationLists.{AreInOrder, IsOfSites, clock_count, clock_of_counts, kept_name, operations_of, padded}
-use Rattle.rb_ledger.specs.OperationLists.{with_clock, with_counts}
+use Rattle.rb_ledger.specs.OperationLists.{with_counts}
 
 -- there are as many operations as bodies
 pub as_many : (w : ℕ) (bs : List Body) (cs : List (List ℕ)) → length (operations_of w bs cs) ≡ length bs

@@ -1,5 +1,5 @@
 -- What lists of clocks are.
-use Rattle.std.specs.Prelude.{◌≡◌, ℕ, ◌+◌, ◌-◌, ◌*◌, ◌%◌, ◌<◌, ◌≤◌, List, [], ◌∷◌, length, map, take, drop, slice_index}
+use Rattle.std.specs.Prelude.{◌≡◌, ℕ, ◌+◌, ◌-◌, ◌%◌, ◌<◌, ◌≤◌, List, [], ◌∷◌, length, map, take, drop, slice_index}
 use Rattle.rb_ledger.specs.declared.counts.TheConstants.{LESS}
 
 -- of each clock the red entry and then those of the sites; of how many sites, and for how many clocks there is memory

@@ -1,11 +1,6 @@
-use Rattle.std.proofs.Common.{◌≡◌, ◌⊎◌, inl, inr, ◌+◌, ◌-◌, ◌*◌, ◌<◌, ◌≤◌, ◌++◌, ◌∷◌, [], ap, sym, ◌∙◌, arith, append_assoc, cond, drop, get_or, length, length-take-le, mul-le-mul_right, refl, rules, subst, take, suc, true, ℕ, List, Some}
-use Rattle.std.specs.Prelude.{slice_get, slice_set}
-use Rattle.std.proofs.lemmas.List.{length_push, take_all}
-use Rattle.rb_shadow.specs.Operations.{number_of, row_of}
-use Rattle.rb_ledger.specs.ClockLists.{AreBased, AreNear, ClockTable, base_of, clocks_of, steps_of, step_added, sums}
-use Rattle.rb_ledger.specs.OperationLists.{clock_of_counts}
+use Rattle.std.proofs.Common.{◌≡◌, ◌-◌, ◌∷◌, ap, ◌∙◌, arith, length, take, suc}
+use Rattle.std.specs.Prelude.{slice_set}
 use Rattle.rb_ledger.proofs.ClockTables
-use Rattle.rb_ledger.proofs.OperationTables
 use Rattle.rb_ledger.proofs.counts.is_same_of_many.Goals as goal
 
 pub returns : goal.returns

@@ -1,9 +1,5 @@
-use Rattle.std.proofs.Common.{◌≡◌, ◌⊎◌, inl, inr, ◌+◌, ◌-◌, ◌*◌, ◌<◌, ◌≤◌, ◌++◌, ◌∷◌, [], ap, sym, ◌∙◌, arith, append_assoc, cond, drop, get_or, length, refl, rules, subst, take, ℕ, List, Some}
-use Rattle.std.specs.Prelude.{slice_get, slice_set}
-use Rattle.rb_shadow.specs.Operations.{number_of, row_of}
-use Rattle.rb_ledger.specs.ClockLists.{AreBased, AreNear, ClockTable, base_of, clocks_of, steps_of, step_added, sums}
+use Rattle.std.proofs.Common.{◌≡◌, ◌+◌, ◌*◌, ap, sym, ◌∙◌, arith, length}
 use Rattle.rb_ledger.proofs.ClockTables
-use Rattle.rb_ledger.proofs.OperationTables
 use Rattle.rb_ledger.proofs.clock_list.ClockList.new.Goals as goal
 
 pub invariant_of-result : goal.invariant_of-result
