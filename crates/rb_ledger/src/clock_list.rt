@@ -75,6 +75,7 @@ impl ClockList {
     #[inline(always)]
     pub fn sites(&self) -> usize
         ensures same { result ≡ self.now.sites }
+        ensures least { FEW_SITES ≤ result }
         ensures most { result ≤ MOST_SITES }
     {
         self.sites
@@ -87,7 +88,17 @@ impl ClockList {
         ensures counts { slice_get self.now.items index ≡ Some result }
         ensures length { length result ≡ self.now.sites + 1 }
     {
-        let width = self.sites + 1;
+        self.at_of(index, self.sites + 1)
+    }
+
+    /// The same, of this number of counts.
+    #[inline(always)]
+    pub fn at_of(&self, index: usize, width: usize) -> KeptClock<'_>
+        requires near { index < length self.now.items }
+        requires width { width ≡ self.now.sites + 1 }
+        ensures counts { slice_get self.now.items index ≡ Some result }
+        ensures length { length result ≡ self.now.sites + 1 }
+    {
         let start = self.starts[index] as usize;
         let first = index * width;
         KeptClock {
@@ -130,7 +141,11 @@ impl ClockList {
             ≡ slice_set (deps.now.red ∷ take self.now.sites deps.now.blue) (row_of name) n }
         ensures all { length deps.now.blue ≡ MOST_SITES }
     {
-        let last = self.at(self.starts.len() - 1);
+        if self.sites > FEW_SITES {
+            let last = self.at(self.starts.len() - 1);
+            return is_same(&last, deps, name);
+        }
+        let last = self.at_of(self.starts.len() - 1, FEW_SITES + 1);
         is_same(&last, deps, name)
     }
 

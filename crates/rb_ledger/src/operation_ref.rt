@@ -3,7 +3,7 @@ ghost use Rattle.std.specs.Prelude.{◌≡◌};
 
 use crate::body::Body;
 use crate::clock_list::ClockList;
-use crate::counts::clock;
+use crate::counts::{FEW_SITES, clock};
 use rb_money::Place;
 use rb_shadow::{Kind, OpName, Shadow};
 use std::marker::Model;
@@ -68,12 +68,17 @@ impl<'a> OperationRef<'a> {
     {
         let body = self.body;
         let name = body.name();
-        let kept = self.clocks.at(body.clock as usize);
+        let index = body.clock as usize;
+        let deps = if self.clocks.sites() > FEW_SITES {
+            clock(&self.clocks.at(index), name)
+        } else {
+            clock(&self.clocks.at_of(index, FEW_SITES + 1), name)
+        };
         Shadow {
             name,
             home: body.home,
             account: body.account,
-            deps: clock(&kept, name),
+            deps,
             amount: body.amount,
             kind: body.kind,
         }
