@@ -1,0 +1,3 @@
+pub mod Public
+mod Prefixes
+mod Noting

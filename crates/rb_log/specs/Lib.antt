@@ -1,0 +1,3 @@
+pub mod Log
+pub mod Rules
+pub use Rattle.logbook.specs.Pages

@@ -1,0 +1,11 @@
+//! Entries of the log.
+use rb_kit::Erased;
+
+/// What a site noted.
+#[derive(Drop)]
+pub struct Noted<T> {
+    /// The site's number.
+    pub site: u8,
+    /// What it noted, in proofs alone.
+    pub entry: Erased<T>,
+}
