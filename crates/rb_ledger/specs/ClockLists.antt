@@ -36,7 +36,7 @@ AreNear bs ns = (k : ℕ) → k < length bs → step_added (slice_index bs k) (k
 abbrev pub base_of : List ℕ → List ℕ
 base_of ns = map (λ n. n - LESS) ns
 
--- the clocks of so many counts, by the bases, by where each one's base begins, and by the steps
+-- the clocks, each of this number of counts, by the bases, by where each one's base begins, and by the steps
 abbrev pub clocks_of : ℕ → List ℕ → List ℕ → List ℕ → List (List ℕ)
 clocks_of w bs [] ss = []
 clocks_of w bs (o ∷ os) ss = sums (take w (drop o bs)) (take w ss) ∷ clocks_of w bs os (drop w ss)
