@@ -1,38 +1,41 @@
 //! Desks, seats, and the one call that makes a receipt.
 ghost use Rattle.std.specs.Prelude.{◌≡◌, ◌<◌, ◌≤◌, ◌++◌, ◌∷◌, [], All, IfNone, IfOk, IfSome, List, OnErr, Err, Ok};
-ghost use Rattle.std.specs.Prelude.{IsTrue, None, false, length};
+ghost use Rattle.std.specs.Prelude.{IsTrue, None, ◌+◌, false, length, vec_capacity, vec_len};
 ghost use Rattle.std.specs.Option.{option_copied};
 ghost use Rattle.rb_site.specs.Events.{first_site, is_full, reply_to, sent_at};
 ghost use Rattle.rb_site.specs.Seen.{Replays, first_seen, state_of, stepped};
-ghost use Rattle.rb_branch.specs.Gathered.{IsClosedReport};
+ghost use Rattle.rb_branch.specs.Gathered.{IsClosedReport, IsReportInLog};
+ghost use Rattle.rb_branch.specs.Receipts.{AreInLog, SeenReceipt, last_reply};
 ghost use Rattle.rb_branch.specs.Seats.{Records, SetsUnsent, CannotRecord, IsReadyAt, IsSiteReply, is_full_inbox};
-ghost use Rattle.rb_branch.specs.Seats.{receipt, receipt_at};
+ghost use Rattle.rb_branch.specs.Seats.{receipt_at};
 ghost use Rattle.rb_branch.specs.declared.call_fault.CallFault.TheVariants.{HistoryFull};
 ghost use Rattle.rb_branch.specs.declared.limits.TheConstants.{MOST_RECEIPTS};
-ghost use Rattle.rb_branch.specs.declared.receipt.Receipt.{Receipt as ReceiptOf};
 ghost use Rattle.rb_shadow.specs.declared.op_name.OpName.{OpName as NameOf};
+ghost use Rattle.rb_site.specs.declared.entry.Entry.{Entry as EntryOf};
 ghost use Rattle.rb_site.specs.declared.message.Message.{Message as MessageOf};
 ghost use Rattle.rb_site.specs.declared.event.Event.TheVariants.{Apply};
 
 use crate::given::Given;
-use crate::{Books, CallFault, Entries, MOST_RECEIPTS, Receipt};
+use crate::{CallFault, Entries, MOST_RECEIPTS, Receipt};
 use rb_kit::reserve_one;
+use rb_log::{Known, Log, Writer};
 use rb_money::Refusal;
 use rb_shadow::OpName;
-use rb_site::{Event, Posted, Reply, Site, SiteReport};
+use rb_site::{Entry, Event, Posted, Reply, Site, SiteReport};
 use std::alloc::{AllocError, Global};
-use std::marker::{Model, PhantomData};
-use std::sync::ledger::{Ledger, Share};
-use std::sync::{Mutex, Wait};
+use std::marker::Model;
+use std::sync::Wait;
+use std::sync::ledger::Share;
 
-/// What lies behind a site's lock: the site, and its share of the entries. Clients see the site. It can't be
-/// dropped.
-pub struct Desk<E: Entries> {
+/// What lies behind a site's lock: the site, its end of the log, and its share of the entries. Clients see the site. It
+/// can't be dropped.
+pub struct Desk<E: Entries, R: Log> {
     site: Site,
+    writer: Writer<Entry, R>,
     share: Share<E>,
 }
 
-impl<E: Entries> Model for Desk<E> {
+impl<E: Entries, R: Log> Model for Desk<E, R> {
     ghost use Rattle.rb_site.specs.Seen.{SeenSite};
     ghost use Rattle.rb_branch.specs.Seats.{IsDesk};
 
@@ -40,27 +43,31 @@ impl<E: Entries> Model for Desk<E> {
 
     ghost view = { λ d. d.site };
 
-    ghost invariant = { λ d. IsDesk E.settings d.site d.share.parts d.share.amount };
+    ghost invariant = { λ d. IsDesk E.settings d.site d.writer d.share.parts d.share.amount };
 }
 
-/// One client at one site: what it was answered, and its share of the receipts. Clients see the site's number
-/// and the receipts.
+/// One client at one site: its receipts with the reply of the last, what it knows of the log, and the entries that it
+/// has in advance. Clients see the site's number and the receipts.
 #[derive(Drop)]
-pub struct Seat<E: Entries, R: Ledger> {
+pub struct Seat<E: Entries, R: Log> {
     site: u8,
-    receipts: Vec<Receipt>,
-    share: Share<R>,
-    of: PhantomData<E>,
+    receipts: Vec<Receipt<R>>,
+    last: Option<Reply>,
+    known: Known<Entry, R>,
+    share: Share<E>,
 }
 
-impl<E: Entries, R: Ledger> Model for Seat<E, R> {
+impl<E: Entries, R: Log> Model for Seat<E, R> {
+    ghost use Rattle.std.specs.Prelude.{◌≡◌};
+    ghost use Rattle.rb_branch.specs.Receipts.{last_reply};
     ghost use Rattle.rb_branch.specs.Seats.{SeenSeat, IsSeat};
 
     ghost Value = { SeenSeat };
 
     ghost view = { λ s. record { site = s.site; receipts = s.receipts.items } };
 
-    ghost invariant = { λ s. IsSeat E.settings s.site s.receipts.items s.share.parts s.share.amount };
+    ghost invariant = { λ s. IsSeat E.settings s.site s.receipts.items s.known s.share.parts s.share.amount
+        × (s.last ≡ last_reply s.receipts.items) };
 }
 
 /// One event at the desk, and its receipt at the end of the seat: its number there, from 1, and what is to be
@@ -68,46 +75,69 @@ impl<E: Entries, R: Ledger> Model for Seat<E, R> {
 ///
 /// `Err` means out of memory, or a full history, a full seat, or a seat of another site; desk and seat are
 /// then as before.
-pub fn record<E: Entries, R: Ledger, W: Wait>(
+pub fn record<E: Entries, R: Log, W: Wait>(
     rt: &W,
-    desk: &mut Desk<E>,
+    desk: &mut Desk<E, R>,
     seat: &mut Seat<E, R>,
-    books: &Mutex<Books<E, R>>,
     event: Event,
 ) -> Result<(u32, Posted), CallFault>
     ensures ok { IfOk result (λ r. Records desk.old desk.new event seat.old seat.new r.0 r.1.items) }
     ensures err { OnErr result ((desk.new ≡ desk.old) × (seat.new ≡ seat.old)) }
     ensures full { result ≡ Err HistoryFull → CannotRecord desk.old seat.old }
 {
-    let Desk { site, share: entry } = desk;
+    let Desk {
+        site,
+        writer,
+        share: entries,
+    } = desk;
     let Seat {
         site: me,
         receipts,
+        last,
+        known,
         share,
-        ..
     } = seat;
-    let posted = note(site, *me, receipts, event)?;
-    books.lock(rt).count(entry, share);
+    let answer = note(site, *me, receipts, &event)?;
+    note_last(rt, writer, site);
+    let written = writer.known();
+    known.learn(&written);
+    let number = site.len();
+    receipts.push_reserved(Receipt::new(*me, number, known));
+    share.transfer(entries, 1);
+    let (reply, posted) = answer;
+    *last = Some(reply);
     Ok((receipts.len() as u32, posted))
 }
 
-/// One event at a site, and its receipt at the end of these, a seat's at the site of this number. Memory
-/// for it is taken before the step. After an `Err` site and receipts are as before.
-fn note(
+/// Notes a site's last entry in the log, where all before it are.
+fn note_last<R: Log, W: Wait>(rt: &W, writer: &mut Writer<Entry, R>, site: &Site)
+    requires { (e : EntryOf) × (site.now.entries ≡ writer.old.entries ++ e ∷ []) }
+    ensures { writer.new ≡ record writer.old { entries = site.now.entries } }
+{
+    match site.history().last() {
+        Some(entry) => writer.note(rt, entry),
+        None => unreachable!(),
+    }
+}
+
+/// One event at a site, for a seat at the site of this number: its reply, and what is to be sent. Memory for one receipt
+/// more is taken before the step. After an `Err` the site is as before.
+fn note<R: Log>(
     site: &mut Site,
     me: u8,
-    receipts: &mut Vec<Receipt>,
-    event: Event,
-) -> Result<Posted, CallFault>
+    receipts: &mut Vec<Receipt<R>>,
+    event: &Event,
+) -> Result<(Reply, Posted), CallFault>
     ensures here { IfOk result (λ _. me ≡ site.old.me) }
     ensures few { IfOk result (λ _. length receipts.old.items < MOST_RECEIPTS) }
-    ensures step { IfOk result (λ _. site.new ≡ stepped site.old event) }
+    ensures step { IfOk result (λ _. site.new ≡ stepped site.old event.now) }
     ensures replays { IfOk result (λ _. Replays site.new.settings (first_site site.new.me) site.new.entries) }
     ensures room { IfOk result (λ _. length site.new.entries ≤ site.new.settings.limits.history) }
-    ensures receipt { IfOk result (λ _. receipts.new.items ≡ receipts.old.items
-        ++ receipt (length site.new.entries) event (reply_to site.old.settings (state_of site.old) event) 0 ∷ []) }
-    ensures posted { IfOk result (λ p. p.items ≡ sent_at site.old.settings (state_of site.old) event) }
-    ensures err { OnErr result ((site.new ≡ site.old) × (receipts.new.items ≡ receipts.old.items)) }
+    ensures reply { IfOk result (λ r. r.0 ≡ reply_to site.old.settings (state_of site.old) event.now) }
+    ensures posted { IfOk result (λ r. r.1.items ≡ sent_at site.old.settings (state_of site.old) event.now) }
+    ensures spare { IfOk result (λ _. vec_len receipts.new < vec_capacity receipts.new) }
+    ensures kept { receipts.new.items ≡ receipts.old.items }
+    ensures err { OnErr result (site.new ≡ site.old) }
     ensures full { result ≡ Err HistoryFull
         → CannotRecord site.old (record { site = me; receipts = receipts.old.items }) }
 {
@@ -115,26 +145,18 @@ fn note(
         return Err(CallFault::HistoryFull);
     }
     reserve_one(receipts)?;
-    let (reply, posted) = site.step(&event)?;
+    let answer = site.step(event)?;
     // For a fact alone: the history replays.
     let _replays = site.history();
-    let number = site.len();
-    receipts.push_reserved(Receipt {
-        number,
-        event,
-        reply,
-        unsent: 0,
-    });
-    Ok(posted)
+    Ok(answer)
 }
 
 /// A held operation whose past the desk's site applied is applied, and its receipt is the last of the seat, as
 /// `record` puts it. `None` comes only where there is none; there is no event then.
-pub fn record_ready<E: Entries, R: Ledger, W: Wait>(
+pub fn record_ready<E: Entries, R: Log, W: Wait>(
     rt: &W,
-    desk: &mut Desk<E>,
+    desk: &mut Desk<E, R>,
     seat: &mut Seat<E, R>,
-    books: &Mutex<Books<E, R>>,
 ) -> Result<Option<u32>, CallFault>
     ensures some { IfOk result
         (λ o. IfSome o (λ n. (x : NameOf) × (posted : List MessageOf) × IsReadyAt desk.old x
@@ -146,7 +168,7 @@ pub fn record_ready<E: Entries, R: Ledger, W: Wait>(
     let Some(name) = desk.ready() else {
         return Ok(None);
     };
-    let (number, _posted) = record(rt, desk, seat, books, Event::Apply(name))?;
+    let (number, _posted) = record(rt, desk, seat, Event::Apply(name))?;
     Ok(Some(number))
 }
 
@@ -160,15 +182,20 @@ fn is_full_inbox(reply: &Reply) -> bool
     }
 }
 
-impl<E: Entries> Desk<E> {
+impl<E: Entries, R: Log> Desk<E, R> {
     /// The desk of a site before any event.
-    pub(crate) fn open(site: Site, share: Share<E>) -> Desk<E>
+    pub(crate) fn open(site: Site, writer: Writer<Entry, R>, share: Share<E>) -> Desk<E, R>
         requires site { site ≡ first_seen E.settings site.me }
         requires within { site.me < E.settings.sites }
+        requires writer { writer ≡ record { site = site.me; entries = [] } }
         requires share { (share.parts ≡ 1) × (share.amount ≡ 0) }
         ensures { result ≡ site }
     {
-        Desk { site, share }
+        Desk {
+            site,
+            writer,
+            share,
+        }
     }
 
     /// The site. Whenever its lock is got it is one of the branch's configuration, and its history replays.
@@ -191,38 +218,52 @@ impl<E: Entries> Desk<E> {
         self.site.inbox().ready(self.site.ledger().clock())
     }
 
-    /// Closes the site, and gives its share back.
-    pub(crate) fn close(self) -> (SiteReport, Share<E>)
+    /// Closes the site, and gives its share back, with what it knows of the log.
+    pub(crate) fn close(self) -> (SiteReport, Share<E>, Known<Entry, R>)
         ensures report { IsClosedReport E.settings result.0 }
         ensures share { (result.1.parts ≡ 1) × (result.1.amount ≡ length result.0.history.items) }
+        ensures noted { IsReportInLog result.2 result.0 }
     {
-        let Desk { site, share } = self;
+        let Desk {
+            site,
+            writer,
+            share,
+        } = self;
         // For facts alone: the history's length is a u32, and the history replays.
         let _len = site.len();
         let _history = site.history();
-        (site.close(), share)
+        (site.close(), share, writer.known())
     }
 
     /// Ends the site.
     pub(crate) fn end(self) {
-        let Desk { site, share } = self;
-        drop(share);
+        let Desk {
+            site,
+            writer: _,
+            share: _,
+        } = self;
         site.end();
     }
 }
 
-impl<E: Entries, R: Ledger> Seat<E, R> {
+impl<E: Entries, R: Log> Seat<E, R> {
     /// A seat at a site, without receipts.
-    pub(crate) fn open(alloc: Global, site: u8, share: Share<R>) -> Seat<E, R>
+    pub(crate) fn open(
+        alloc: Global,
+        site: u8,
+        known: Known<Entry, R>,
+        share: Share<E>,
+    ) -> Seat<E, R>
         requires within { site < E.settings.sites }
-        requires share { (share.parts ≡ 1) × (share.amount ≡ 0) }
+        requires share { (share.parts ≡ 1) × (share.amount ≡ MOST_RECEIPTS) }
         ensures { result ≡ record { site = site; receipts = [] } }
     {
         Seat {
             site,
             receipts: Vec::new(alloc),
+            last: None,
+            known,
             share,
-            of: PhantomData,
         }
     }
 
@@ -235,7 +276,7 @@ impl<E: Entries, R: Ledger> Seat<E, R> {
     }
 
     /// The receipts, in the order of the calls.
-    pub fn receipts(&self) -> &[Receipt]
+    pub fn receipts(&self) -> &[Receipt<R>]
         ensures same { result.now ≡ self.now.receipts }
         ensures few { length self.now.receipts ≤ MOST_RECEIPTS }
         ensures answered { All (IsSiteReply E.settings self.now.site) self.now.receipts }
@@ -244,7 +285,7 @@ impl<E: Entries, R: Ledger> Seat<E, R> {
     }
 
     /// The receipt of this number, from 1, if there is one.
-    pub fn receipt(&self, number: u32) -> Option<&Receipt>
+    pub fn receipt(&self, number: u32) -> Option<&Receipt<R>>
         ensures { option_copied result ≡ receipt_at self.now.receipts number }
     {
         if number == 0 {
@@ -253,13 +294,20 @@ impl<E: Entries, R: Ledger> Seat<E, R> {
         self.receipts.get(number as usize - 1)
     }
 
+    /// The reply of the last receipt, if there is one. Those before are in the site's history.
+    pub fn last_reply(&self) -> Option<&Reply>
+        ensures { option_copied result ≡ last_reply self.now.receipts }
+    {
+        self.last.as_ref()
+    }
+
     /// Whether the last receipt's reply is that the inbox is full.
     pub(crate) fn found_full(&self) -> bool
-        ensures { (before : List ReceiptOf) (last : ReceiptOf) → self.now.receipts ≡ before ++ last ∷ []
+        ensures { (before : List SeenReceipt) (last : SeenReceipt) → self.now.receipts ≡ before ++ last ∷ []
             → result ≡ is_full_inbox last.reply }
     {
-        match self.receipts.last() {
-            Some(receipt) => is_full_inbox(&receipt.reply),
+        match self.last_reply() {
+            Some(reply) => is_full_inbox(reply),
             None => false,
         }
     }
@@ -271,20 +319,22 @@ impl<E: Entries, R: Ledger> Seat<E, R> {
     {
         let last = self.receipts.len() - 1;
         let receipt = &mut self.receipts[last];
-        receipt.unsent = count;
+        receipt.set_unsent(count);
     }
 
-    /// Gives the seat's receipts and its share back.
-    pub(crate) fn give_back(self) -> (Given, Share<R>)
+    /// Gives the seat's receipts and its share back, with what it knows of the log.
+    pub(crate) fn give_back(self) -> (Given<R>, Share<E>, Known<Entry, R>)
         ensures given { result.0 ≡ self }
-        ensures share { (result.1.parts ≡ 1) × (result.1.amount ≡ length self.receipts) }
+        ensures share { (result.1.parts ≡ 1) × (result.1.amount + length self.receipts ≡ MOST_RECEIPTS) }
+        ensures noted { AreInLog self.site result.2 self.receipts }
     {
         let Seat {
             site,
             receipts,
+            last: _,
+            known,
             share,
-            of: _,
         } = self;
-        (Given::new(site, receipts), share)
+        (Given::new(site, receipts), share, known)
     }
 }

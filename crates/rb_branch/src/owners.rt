@@ -5,15 +5,16 @@ ghost use Rattle.rb_branch.specs.Seats.{SeenSeat};
 
 use crate::Receipt;
 use crate::given::Given;
+use rb_log::Log;
 use std::alloc::{AllocError, Global};
 
 /// For each number of the site, from 1 to this count, the seat that has its receipt, counted from 0; the
 /// number of seats where none has. Of two with one number it is the last. `Err` means out of memory.
-pub(crate) fn owners_of(
+pub(crate) fn owners_of<R: Log>(
     alloc: Global,
     site: u8,
     count: usize,
-    seats: &[Given],
+    seats: &[Given<R>],
 ) -> Result<Vec<u16>, AllocError>
     requires { length seats.now < 2 ^ 16 }
     ensures len { IfOk result (λ v. vec_len v ≡ count) }
@@ -27,7 +28,7 @@ pub(crate) fn owners_of(
 }
 
 /// Puts the seat at k into the table at all numbers of its receipts, if it is of this site.
-fn put_seat(owners: &mut Vec<u16>, k: u16, site: u8, seat: &Given)
+fn put_seat<R: Log>(owners: &mut Vec<u16>, k: u16, site: u8, seat: &Given<R>)
     ensures len { vec_len owners.new ≡ vec_len owners.old }
     ensures owned { (seats : List SeenSeat) → slice_get seats k ≡ Some seat.now
         → OwnedWithin k site seats owners.old.items → OwnedWithin (k + 1) site seats owners.new.items }
@@ -39,11 +40,12 @@ fn put_seat(owners: &mut Vec<u16>, k: u16, site: u8, seat: &Given)
 }
 
 /// Puts a seat into the table at the numbers of all these receipts.
-fn put_all(owners: &mut Vec<u16>, k: u16, receipts: &[Receipt])
+fn put_all<R: Log>(owners: &mut Vec<u16>, k: u16, receipts: &[Receipt<R>])
     ensures { PutsAll (length receipts.now) receipts.now k owners.old.items owners.new.items }
 {
     for i in 0..receipts.len() {
-        put(owners, k, receipts[i].number);
+        let number = receipts[i].number();
+        put(owners, k, number);
     }
 }
 

@@ -3,10 +3,10 @@ ghost use Rattle.std.specs.Prelude.{◌<◌, ◌+◌, ◌^◌, ℕ, IfOk, OnErr,
 ghost use Rattle.rb_branch.specs.Seats.{HasServed};
 
 use crate::{Branch, CallFault, Entries, Gate, Inlet, Seat};
+use rb_log::Log;
 use std::sync::Wait;
-use std::sync::ledger::Ledger;
 
-impl<E: Entries, R: Ledger, G: Gate + Drop> Branch<E, R, G> {
+impl<E: Entries, R: Log, G: Gate + Drop> Branch<E, R, G> {
     /// Receives what the inlet keeps and then what comes by its link until it closes, and after each message
     /// applies what is ready. Ok is how many receipts the seat has more. What the site refuses as its inbox is
     /// full is kept in the inlet, and all that is kept is received again after each application. After an `Err`

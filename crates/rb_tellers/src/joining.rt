@@ -6,13 +6,13 @@ ghost use Rattle.rb_tellers.specs.Tellers.{IsServer, IsTeller};
 use crate::TellersFault;
 use crate::crew::{ServerHandle, TellerHandle};
 use rb_branch::{CallFault, Entries, Seat};
+use rb_log::Log;
 use std::alloc::Global;
-use std::sync::ledger::Ledger;
 use std::thread;
 use std::thread::Threads;
 
 /// Waits for all tellers' threads.
-pub(crate) fn join_tellers<E: Entries, R: Ledger, W: Threads>(
+pub(crate) fn join_tellers<E: Entries, R: Log, W: Threads>(
     rt: &W,
     alloc: Global,
     handles: Vec<TellerHandle<E, R>>,
@@ -34,7 +34,7 @@ pub(crate) fn join_tellers<E: Entries, R: Ledger, W: Threads>(
 }
 
 /// Waits for all serving threads.
-pub(crate) fn join_servers<E: Entries, R: Ledger, W: Threads>(
+pub(crate) fn join_servers<E: Entries, R: Log, W: Threads>(
     rt: &W,
     alloc: Global,
     handles: Vec<ServerHandle<E, R>>,
@@ -52,7 +52,7 @@ pub(crate) fn join_servers<E: Entries, R: Ledger, W: Threads>(
 }
 
 /// The seats, where every thread gave one back.
-fn all_ok<E: Entries, R: Ledger>(
+fn all_ok<E: Entries, R: Log>(
     alloc: Global,
     results: Vec<Result<Seat<E, R>, CallFault>>,
 ) -> Result<Vec<Seat<E, R>>, TellersFault>
@@ -70,7 +70,7 @@ fn all_ok<E: Entries, R: Ledger>(
 }
 
 /// All seats, the tellers' first.
-pub(crate) fn together<E: Entries, R: Ledger>(
+pub(crate) fn together<E: Entries, R: Log>(
     mut tellers: Vec<Seat<E, R>>,
     servers: Vec<Seat<E, R>>,
 ) -> Result<Vec<Seat<E, R>>, TellersFault>

@@ -1,29 +1,30 @@
 //! Seats of a branch, in threads and out of them.
-ghost use Rattle.std.specs.Prelude.{◌≡◌};
-ghost use Rattle.rb_branch.specs.declared.limits.TheConstants.{RECEIPT_PARTS};
+ghost use Rattle.std.specs.Prelude.{◌≡◌, ◌+◌};
+ghost use Rattle.rb_branch.specs.declared.limits.TheConstants.{SEAT_PARTS};
 
 use crate::checks::{equal, holds};
 use rb_branch::{
-    Branch, CallFault, Entries, Gate, GatherFault, Inlet, NoGate, Outbox, RECEIPT_PARTS, Seat,
+    Branch, CallFault, Entries, Gate, GatherFault, Inlet, NoGate, Outbox, SEAT_PARTS, Seat,
     SeatFault, links,
 };
+use rb_log::{Log, OpenedLog};
 use rb_money::{Config, Limits, Place};
 use rb_scratch::Request;
-use rb_site::{Reply, SiteReport};
+use rb_site::{Entry, Reply, SiteReport};
 use std::alloc::{AllocError, Global};
 use std::marker::Brand;
 use std::process::Abort;
 use std::rt::Clock;
 use std::sync::Wait;
 use std::sync::atomic::{AtomicBool, Ordering};
-use std::sync::ledger::{Blank, Ledger};
+use std::sync::ledger::Blank;
 use std::test::Fail;
 use std::thread;
 use std::time::Duration;
 
 /// What one thread does at a branch, and the seats that it gives back.
 pub trait Case {
-    fn calls<E: Entries, R: Ledger, G: Gate + Drop, W: Wait + Abort + Print>(
+    fn calls<E: Entries, R: Log, G: Gate + Drop, W: Wait + Abort + Print>(
         &self,
         rt: &W,
         alloc: Global,
@@ -32,7 +33,7 @@ pub trait Case {
 }
 
 /// The branch, gathered with the seats that were given back.
-pub fn gathered_with<E: Entries, R: Ledger, G: Gate + Drop>(
+pub fn gathered_with<E: Entries, R: Log, G: Gate + Drop>(
     alloc: Global,
     branch: Branch<E, R, G>,
     seats: Result<Vec<Seat<E, R>>, Fail>,
@@ -46,21 +47,22 @@ pub fn gathered_with<E: Entries, R: Ledger, G: Gate + Drop>(
     }
 }
 
-fn gathered_over<E: Entries, R: Ledger, G: Gate + Drop, W: Wait + Abort + Print, C: Case>(
+fn gathered_over<E: Entries, R: Log, G: Gate + Drop, W: Wait + Abort + Print, C: Case>(
     rt: &W,
     alloc: Global,
     config: Config,
     gate: G,
     case: &C,
     entries: Blank,
-    receipts: Blank,
+    log: OpenedLog<Entry>,
 ) -> Result<Result<Vec<SiteReport>, GatherFault>, Fail>
     requires config { config ≡ E.settings }
-    requires entries { (entries.name ≡ E.name) × (entries.parts ≡ E.parts) × (entries.parts ≡ config.sites) }
-    requires receipts { (receipts.name ≡ R.name) × (receipts.parts ≡ R.parts) × (receipts.parts ≡ RECEIPT_PARTS) }
+    requires entries { (entries.name ≡ E.name) × (entries.parts ≡ E.parts)
+        × (entries.parts ≡ config.sites + SEAT_PARTS) }
+    requires log { log ≡ R.book }
 {
     let opened: Result<Branch<E, R, G>, AllocError> = Branch::open(
-        alloc, config, gate, entries, receipts,
+        alloc, config, gate, entries, log,
     );
     let Ok(branch) = opened else {
         return Ok(Err(GatherFault::OutOfMemory));
@@ -84,8 +86,8 @@ pub fn gathered<G: Gate + Drop, W: Wait + Abort + Print, C: Case>(
         config,
         gate,
         case,
-        Blank::new(sites),
-        Blank::new(RECEIPT_PARTS),
+        Blank::new(sites + SEAT_PARTS),
+        OpenedLog::new(),
     )
 }
 
@@ -105,7 +107,7 @@ pub fn deposit(amount: u64) -> Request {
 }
 
 /// A deposit of this number of cents at a seat's site. Its receipt's number.
-pub fn deposited<E: Entries, R: Ledger, G: Gate + Drop, W: Wait>(
+pub fn deposited<E: Entries, R: Log, G: Gate + Drop, W: Wait>(
     rt: &W,
     branch: &Branch<E, R, G>,
     seat: &mut Seat<E, R>,
@@ -116,7 +118,7 @@ pub fn deposited<E: Entries, R: Ledger, G: Gate + Drop, W: Wait>(
 }
 
 /// A question at a seat's site for the first account's balance. Its receipt's number.
-pub fn asked<E: Entries, R: Ledger, G: Gate + Drop, W: Wait>(
+pub fn asked<E: Entries, R: Log, G: Gate + Drop, W: Wait>(
     rt: &W,
     branch: &Branch<E, R, G>,
     seat: &mut Seat<E, R>,
@@ -126,19 +128,15 @@ pub fn asked<E: Entries, R: Ledger, G: Gate + Drop, W: Wait>(
 
 /// The first account's balance is the one that is wanted, as a seat's site answers. The number of the receipt that says
 /// so.
-pub fn balance_is<E: Entries, R: Ledger, G: Gate + Drop, W: Wait + Abort>(
+pub fn balance_is<E: Entries, R: Log, G: Gate + Drop, W: Wait + Abort>(
     rt: &W,
     branch: &Branch<E, R, G>,
     seat: &mut Seat<E, R>,
     cents: u64,
 ) -> Result<u32, Fail> {
     let number = asked(rt, branch, seat)?;
-    let receipt = seat.receipt(number).ok_or("no receipt")?;
-    holds(
-        rt,
-        "the balance",
-        receipt.reply.same(&Reply::Balance(cents)),
-    );
+    let reply = seat.last_reply().ok_or("no reply")?;
+    holds(rt, "the balance", reply.same(&Reply::Balance(cents)));
     Ok(number)
 }
 
@@ -169,7 +167,7 @@ pub fn comes_within<C: Clock>(clock: &C, flag: &AtomicBool, looks: u32) -> bool 
 }
 
 /// Serves a site until its link closes. How many receipts the seat has more.
-pub fn served_by<E: Entries, R: Ledger, G: Gate + Drop, W: Wait>(
+pub fn served_by<E: Entries, R: Log, G: Gate + Drop, W: Wait>(
     rt: &W,
     branch: &Branch<E, R, G>,
     seat: &mut Seat<E, R>,
@@ -179,7 +177,7 @@ pub fn served_by<E: Entries, R: Ledger, G: Gate + Drop, W: Wait>(
 }
 
 /// A deposit of 5 cents and then the balance, by a seat that made no call yet: their receipts are read by number.
-fn read_back<E: Entries, R: Ledger, G: Gate + Drop, W: Wait + Abort>(
+fn read_back<E: Entries, R: Log, G: Gate + Drop, W: Wait + Abort>(
     rt: &W,
     branch: &Branch<E, R, G>,
     seat: &mut Seat<E, R>,
@@ -189,7 +187,7 @@ fn read_back<E: Entries, R: Ledger, G: Gate + Drop, W: Wait + Abort>(
     let second = balance_is(rt, branch, seat, 5)?;
     equal(rt, (first, second), (1, 2));
     for (number, wanted) in [(0, None), (1, Some(1)), (2, Some(2)), (3, None)] {
-        let found = seat.receipt(number).map(|receipt| receipt.number);
+        let found = seat.receipt(number).map(|receipt| receipt.number());
         equal(rt, found, wanted);
     }
     Ok(())
@@ -199,7 +197,7 @@ fn read_back<E: Entries, R: Ledger, G: Gate + Drop, W: Wait + Abort>(
 struct OneServed;
 
 impl Case for OneServed {
-    fn calls<E: Entries, R: Ledger, G: Gate + Drop, W: Wait + Abort + Print>(
+    fn calls<E: Entries, R: Log, G: Gate + Drop, W: Wait + Abort + Print>(
         &self,
         rt: &W,
         alloc: Global,
@@ -214,7 +212,11 @@ impl Case for OneServed {
         drop(copy);
         equal(rt, served_by(rt, branch, &mut server, inlet).ok(), Some(2));
         let _number = balance_is(rt, branch, &mut server, 5)?;
-        equal(rt, teller.receipt(1).map(|receipt| receipt.unsent), Some(0));
+        equal(
+            rt,
+            teller.receipt(1).map(|receipt| receipt.unsent()),
+            Some(0),
+        );
         Ok(vec![in alloc; teller, server]?)
     }
 }
@@ -233,7 +235,7 @@ fn served(rt: HostRuntime) -> Result<(), Fail> {
 struct Seats;
 
 impl Case for Seats {
-    fn calls<E: Entries, R: Ledger, G: Gate + Drop, W: Wait + Abort + Print>(
+    fn calls<E: Entries, R: Log, G: Gate + Drop, W: Wait + Abort + Print>(
         &self,
         rt: &W,
         alloc: Global,
@@ -256,7 +258,7 @@ impl Case for Seats {
 struct Full;
 
 impl Case for Full {
-    fn calls<E: Entries, R: Ledger, G: Gate + Drop, W: Wait + Abort + Print>(
+    fn calls<E: Entries, R: Log, G: Gate + Drop, W: Wait + Abort + Print>(
         &self,
         rt: &W,
         alloc: Global,
@@ -277,7 +279,7 @@ impl Case for Full {
 struct OneMissing;
 
 impl Case for OneMissing {
-    fn calls<E: Entries, R: Ledger, G: Gate + Drop, W: Wait + Abort + Print>(
+    fn calls<E: Entries, R: Log, G: Gate + Drop, W: Wait + Abort + Print>(
         &self,
         rt: &W,
         alloc: Global,
@@ -290,7 +292,7 @@ impl Case for OneMissing {
         let number = deposited(rt, branch, &mut first, &outbox, 1)?;
         equal(
             rt,
-            first.receipt(number).map(|receipt| receipt.unsent),
+            first.receipt(number).map(|receipt| receipt.unsent()),
             Some(1),
         );
         let _number = deposited(rt, branch, &mut second, &outbox, 1)?;

@@ -1,20 +1,21 @@
 //! Which calls go on while one is inside a gate.
-ghost use Rattle.std.specs.Prelude.{◌≡◌};
-ghost use Rattle.rb_branch.specs.declared.limits.TheConstants.{RECEIPT_PARTS};
+ghost use Rattle.std.specs.Prelude.{◌≡◌, ◌+◌};
+ghost use Rattle.rb_branch.specs.declared.limits.TheConstants.{SEAT_PARTS};
 
 use crate::branch::{
     asked, comes, comes_within, deposited, gathered_with, some_sites, to_the_second,
 };
 use crate::checks::{equal, holds};
-use rb_branch::{Branch, CallFault, Entries, Gate, GatherFault, Outbox, RECEIPT_PARTS, Seat};
+use rb_branch::{Branch, CallFault, Entries, Gate, GatherFault, Outbox, SEAT_PARTS, Seat};
+use rb_log::{Log, OpenedLog};
 use rb_money::{Config, Limits};
-use rb_site::SiteReport;
+use rb_site::{Entry, SiteReport};
 use std::alloc::Global;
 use std::marker::Brand;
 use std::rt::Clock;
 use std::sync::Wait;
 use std::sync::atomic::{AtomicBool, AtomicU64, Ordering};
-use std::sync::ledger::{Blank, Ledger};
+use std::sync::ledger::Blank;
 use std::test::Fail;
 use std::thread::{Threads, join};
 
@@ -115,7 +116,7 @@ impl<C: Clock> Gate for Holding<'_, C> {
 const DEPOSITS: u64 = 100;
 
 /// Many deposits of one cent each, at a seat's site.
-fn many_deposits<E: Entries, R: Ledger, G: Gate + Drop, W: Wait>(
+fn many_deposits<E: Entries, R: Log, G: Gate + Drop, W: Wait>(
     rt: &W,
     branch: &Branch<E, R, G>,
     seat: &mut Seat<E, R>,
@@ -128,7 +129,7 @@ fn many_deposits<E: Entries, R: Ledger, G: Gate + Drop, W: Wait>(
 }
 
 /// A question at a seat's site, and then deposits.
-fn asked_and_deposited<E: Entries, R: Ledger, G: Gate + Drop, W: Wait>(
+fn asked_and_deposited<E: Entries, R: Log, G: Gate + Drop, W: Wait>(
     rt: &W,
     branch: &Branch<E, R, G>,
     mut seat: Seat<E, R>,
@@ -141,7 +142,7 @@ fn asked_and_deposited<E: Entries, R: Ledger, G: Gate + Drop, W: Wait>(
 
 /// Once a call is held at site 0: a question and an application at site 1, where nothing is ready, and then one more
 /// question at site 0, and deposits.
-fn asked_meanwhile<E: Entries, R: Ledger, G: Gate + Drop, W: Wait + Clock>(
+fn asked_meanwhile<E: Entries, R: Log, G: Gate + Drop, W: Wait + Clock>(
     rt: &W,
     branch: &Branch<E, R, G>,
     mut other: Seat<E, R>,
@@ -165,7 +166,7 @@ fn asked_meanwhile<E: Entries, R: Ledger, G: Gate + Drop, W: Wait + Clock>(
 /// side by side.
 fn in_two_threads<
     E: Entries + Send + Sync,
-    R: Ledger + Send + Sync,
+    R: Log + Send + Sync,
     G: Gate + Drop + Sync,
     W: Threads + Wait + Clock + Sync,
 >(rt: &W, alloc: Global, branch: &Branch<E, R, G>, signs: &Signs) -> Result<Vec<Seat<E, R>>, Fail> {
@@ -184,7 +185,7 @@ fn in_two_threads<
 
 fn threaded_over<
     E: Entries + Send + Sync,
-    R: Ledger + Send + Sync,
+    R: Log + Send + Sync,
     G: Gate + Drop + Sync,
     W: Threads + Wait + Clock + Sync,
 >(
@@ -194,13 +195,14 @@ fn threaded_over<
     gate: G,
     signs: &Signs,
     entries: Blank,
-    receipts: Blank,
+    log: OpenedLog<Entry>,
 ) -> Result<Result<Vec<SiteReport>, GatherFault>, Fail>
     requires config { config ≡ E.settings }
-    requires entries { (entries.name ≡ E.name) × (entries.parts ≡ E.parts) × (entries.parts ≡ config.sites) }
-    requires receipts { (receipts.name ≡ R.name) × (receipts.parts ≡ R.parts) × (receipts.parts ≡ RECEIPT_PARTS) }
+    requires entries { (entries.name ≡ E.name) × (entries.parts ≡ E.parts)
+        × (entries.parts ≡ config.sites + SEAT_PARTS) }
+    requires log { log ≡ R.book }
 {
-    let branch: Branch<E, R, G> = Branch::open(alloc, config, gate, entries, receipts)?;
+    let branch: Branch<E, R, G> = Branch::open(alloc, config, gate, entries, log)?;
     let seats = in_two_threads(rt, alloc, &branch, signs);
     gathered_with(alloc, branch, seats)
 }
@@ -220,8 +222,8 @@ fn threaded<G: Gate + Drop + Sync, W: Threads + Wait + Clock + Sync>(
         config,
         gate,
         signs,
-        Blank::new(sites),
-        Blank::new(RECEIPT_PARTS),
+        Blank::new(sites + SEAT_PARTS),
+        OpenedLog::new(),
     )
 }
 
