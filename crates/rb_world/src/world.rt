@@ -187,7 +187,7 @@ impl<E: KeepsEntry, R: KeepsEvent> World<E, R> {
     }
 
     /// A site takes the message of a number, if there is one, unless its history is full.
-    #[inline(always)]
+    #[inline(never)]
     fn deliver(
         &mut self,
         site: u8,
