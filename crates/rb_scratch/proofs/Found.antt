@@ -8,6 +8,7 @@ use Rattle.rb_shadow.specs.declared.op_name.OpName.{OpName}
 use Rattle.rb_shadow.specs.Operations.{names, find_in, kind_in, may_be_cancelled, is_cancelled}
 use Rattle.rb_shadow.specs.declared.kind.Kind.TheVariants.{Cancel}
 use Rattle.rb_shadow.proofs.Public.Lookups
+use Rattle.rb_money.specs.declared.place.Place.{Place}
 use Rattle.rb_money.specs.declared.refusal.Refusal.{Refusal}
 use Rattle.rb_money.specs.declared.refusal.Refusal.TheVariants.{UnknownOperation, NotCancellable, AlreadyCancelled}
 use Rattle.rb_ledger.specs.Valid.{operation_at, find_position, first_cancel_in, position_from, first_cancel_from}
@@ -91,18 +92,20 @@ cancelled_at us x p t o n is kind e some = past_kind us x t is.found kind
     at true h = let same : first_cancel_from 1 us x ≡ n = cc in ap refused same
     at false h = cc
 
--- what may be cancelled, and is not yet, is planned
-pub planned_to_cancel : (us : List Shadow) (x : OpName) (p : ℕ) (t : Shadow) (o : Option ℕ) → IsFound us x p t →
+-- what may be cancelled, and is not yet, is planned, with its account and its amount
+pub planned_to_cancel : (us : List Shadow) (x : OpName) (p : ℕ) (t : Shadow) (o : Option ℕ) (a : Place) (n : ℕ) → IsFound us x p t →
     may_be_cancelled t.kind ≡ true
     → o ≡ option_and_then (λ (u : Shadow). first_cancel_in us u.name) (operation_at us p) → o ≡ None →
-    plan_of_cancel us x (find_in us x) ≡ Ok (record { account = t.account; amount = t.amount; kind = Cancel x })
-planned_to_cancel us x p t o is kind e none = past_kind us x t is.found kind
+    a ≡ t.account → n ≡ t.amount →
+    plan_of_cancel us x (find_in us x) ≡ Ok (record { account = a; amount = n; kind = Cancel x })
+planned_to_cancel us x p t o a n is kind e none account amount = past_kind us x t is.found kind
     ∙ at (is_cancelled us x) (sym (first_cancel us x p t o is e) ∙ none)
   where
     at : (b : Bool) → cond b (Some (first_cancel_from 1 us x)) None ≡ None →
-        cond b (Err (AlreadyCancelled (first_cancel_from 1 us x))) (Ok (cancelling x t)) ≡ Ok (cancelling x t)
+        cond b (Err (AlreadyCancelled (first_cancel_from 1 us x))) (Ok (cancelling x t))
+        ≡ Ok (record { account = a; amount = n; kind = Cancel x })
     at true h = cc
-    at false h = refl
+    at false h = cc
 
 -- the kind of what is found
 pub kind_is : (us : List Shadow) (x : OpName) (p : ℕ) (t : Shadow) → IsFound us x p t → kind_in us x ≡ Some t.kind

@@ -32,16 +32,17 @@ pub fn cancel_of(ledger: &Ledger, target: OpName) -> Result<CancelPlan, Refusal>
     let Some(position) = ledger.find(&target) else {
         return Err(Refusal::UnknownOperation);
     };
-    let found = ledger.entry(position).unwrap();
-    if !found.kind.may_be_cancelled() {
+    let found = ledger.operation(position).unwrap();
+    let kind = found.kind();
+    if !kind.may_be_cancelled() {
         return Err(Refusal::NotCancellable);
     }
     if let Some(position) = ledger.first_cancel(position) {
         return Err(Refusal::AlreadyCancelled { position });
     }
     Ok(CancelPlan {
-        account: found.account,
-        amount: found.amount,
-        colour: Kind::Cancel { target }.colour(Some(found.kind)),
+        account: found.account(),
+        amount: found.amount(),
+        colour: Kind::Cancel { target }.colour(Some(kind)),
     })
 }
