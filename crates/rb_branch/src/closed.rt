@@ -1,6 +1,6 @@
 //! The closed sites of a branch, and the seats that are given back to them.
-ghost use Rattle.std.specs.Prelude.{◌≡◌, ◌≢◌, ◌+◌, ◌^◌, ◌<◌, ◌≤◌, ℕ, All, IfOk, IfErr, OnOk, IsTrue, Err, Result, length, slice_index_or};
-ghost use Rattle.std.specs.Prelude.{vec_len};
+ghost use Rattle.std.specs.Prelude.{◌≡◌, ◌≢◌, ◌+◌, ◌^◌, ◌<◌, ◌≤◌, ℕ, All, IfOk, IfErr, OnOk, IsTrue, Err, Result};
+ghost use Rattle.std.specs.Prelude.{length, slice_index_or, vec_len};
 ghost use Rattle.rb_branch.specs.Gathered.{AgreesWith, AllAgree, AllGathered, Explains, IsClosedReport, IsFirst};
 ghost use Rattle.rb_branch.specs.Gathered.{IsGathered, IsReportInLog, LooksSo, entries_in};
 ghost use Rattle.rb_branch.specs.declared.gather_fault.GatherFault.{GatherFault as FaultOf};
@@ -21,8 +21,8 @@ use std::sync::ledger::Share;
 use std::thread;
 use std::thread::Threads;
 
-/// The reports of a branch's sites, once they are closed, with what they know of the log, and its books. Clients see the
-/// reports, one for each site, and how many seats were given.
+/// The reports of a branch's sites, once they are closed, with what they know of the log, and its books. Clients see
+/// the reports, one for each site, and how many seats were given.
 #[derive(Drop)]
 pub struct Closed<E: Entries, R: Log> {
     alloc: Global,

@@ -120,8 +120,8 @@ fn note_last<R: Log, W: Wait>(rt: &W, writer: &mut Writer<Entry, R>, site: &Site
     }
 }
 
-/// One event at a site, for a seat at the site of this number: its reply, and what is to be sent. Memory for one receipt
-/// more is taken before the step. After an `Err` the site is as before.
+/// One event at a site, for a seat at the site of this number: its reply, and what is to be sent. Memory for one
+/// receipt more is taken before the step. After an `Err` the site is as before.
 fn note<R: Log>(
     site: &mut Site,
     me: u8,

@@ -7,8 +7,8 @@ use rb_site::Entry;
 use std::marker::Model;
 
 /// What a seat keeps of one event that it made: the number of its entry, and how many sendings failed. What happened
-/// and what was answered lies in the site's history, at the number; proofs alone read it here, from the log. Clients see
-/// all of it.
+/// and what was answered lies in the site's history, at the number; proofs alone read it here, from the log. Clients
+/// see all of it.
 #[derive(Drop)]
 pub struct Receipt<R: Log> {
     number: u32,

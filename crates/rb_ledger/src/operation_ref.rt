@@ -23,7 +23,8 @@ impl<'a> Model for OperationRef<'a> {
 
     ghost Value = { Shadow };
 
-    ghost view = { λ k. with_counts k.clocks.now.sites k.body.now (slice_index_or k.clocks.now.items k.body.now.clock []) };
+    ghost view = { λ k. with_counts k.clocks.now.sites k.body.now
+        (slice_index_or k.clocks.now.items k.body.now.clock []) };
 
     ghost invariant = { λ k. k.body.now.clock < length k.clocks.now.items };
 }

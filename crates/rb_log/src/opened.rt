@@ -21,7 +21,8 @@ impl<T> Model for OpenedLog<T> {
 
     ghost view = { λ o. o.seen.book };
 
-    ghost invariant = { λ o. (o.seen.log ≡ []) × (o.pens.book ≡ o.seen.book) × (o.pens.next ≡ 0) × (o.pens.left ≡ 256) };
+    ghost invariant = { λ o. (o.seen.log ≡ []) × (o.pens.book ≡ o.seen.book)
+        × (o.pens.next ≡ 0) × (o.pens.left ≡ 256) };
 }
 
 impl<T> OpenedLog<T> {

@@ -30,7 +30,8 @@ impl<T, L: Log> Model for Writer<T, L> {
 
     ghost view = { λ w. record { site = w.site; entries = noted_by w.site w.seen.log } };
 
-    ghost invariant = { λ w. (w.count ≡ length (noted_by w.site w.seen.log)) × (w.seen.book ≡ L.book) × (w.word ≡ word_of_site L.book w.site) };
+    ghost invariant = { λ w. (w.count ≡ length (noted_by w.site w.seen.log)) × (w.seen.book ≡ L.book)
+        × (w.word ≡ word_of_site L.book w.site) };
 }
 
 impl<T, L: Log> Writer<T, L> {
@@ -65,7 +66,8 @@ impl<T, L: Log> Writer<T, L> {
     // Adds the entry where the word holds the count.
     fn try_note(&mut self, entry: &T) -> bool
         requires { length self.old.entries < 2 ^ 63 }
-        ensures { MatchBool result (self.new ≡ record self.old { entries = self.old.entries ++ entry.now ∷ [] }) (self.new ≡ self.old) }
+        ensures { MatchBool result (self.new ≡ record self.old { entries = self.old.entries ++ entry.now ∷ [] })
+            (self.new ≡ self.old) }
     {
         let noted = Noted {
             site: self.site,
@@ -90,7 +92,8 @@ impl<T, L: Log> Writer<T, L> {
 
     /// What is known of the log: all that the site noted, at its numbers.
     pub fn known(&self) -> Known<T, L>
-        ensures { (n : ℕ) (e : T) → slice_get self.now.entries n ≡ Some e → noted_at self.now.site (n + 1) result ≡ Some e }
+        ensures { (n : ℕ) (e : T) → slice_get self.now.entries n ≡ Some e
+            → noted_at self.now.site (n + 1) result ≡ Some e }
     {
         Known::of(self.seen.again())
     }

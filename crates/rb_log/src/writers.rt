@@ -22,7 +22,8 @@ impl<T, L: Log> Model for Writers<T, L> {
 
     ghost view = { λ w. w.next };
 
-    ghost invariant = { λ w. (w.seen.log ≡ []) × (w.seen.book ≡ L.book) × (w.pens.book ≡ L.book) × (w.pens.next ≡ w.next) × (w.next + w.pens.left ≡ 256) };
+    ghost invariant = { λ w. (w.seen.log ≡ []) × (w.seen.book ≡ L.book) × (w.pens.book ≡ L.book)
+        × (w.pens.next ≡ w.next) × (w.next + w.pens.left ≡ 256) };
 }
 
 impl<T, L: Log> Writers<T, L> {

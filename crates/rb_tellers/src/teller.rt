@@ -98,7 +98,8 @@ fn cancel_last(account: Place, last: Option<OpName>) -> Request
 
 /// The name of the operation that the last receipt says was made, or else the last name before it.
 fn last_made<E: Entries, R: Log>(seat: &Seat<E, R>, last: Option<OpName>) -> Option<OpName>
-    ensures { (xs : List SeenReceipt) (r : SeenReceipt) → seat.now.receipts ≡ xs ++ r ∷ [] → result ≡ last_after last r.reply }
+    ensures { (xs : List SeenReceipt) (r : SeenReceipt) → seat.now.receipts ≡ xs ++ r ∷ []
+        → result ≡ last_after last r.reply }
 {
     match seat.last_reply() {
         Some(reply) => match reply {
