@@ -1,7 +1,7 @@
 //! What a text begins with as this program spells it, and what follows it: no space, no escape. `None` says nothing
 //! of a text.
 ghost use Rattle.std.specs.Prelude.{◌≡◌, ◌<◌, ◌≤◌, ◌+◌, ◌^◌, ◌++◌, IfSome, IsTrue, codes, decimal, length};
-ghost use Rattle.std.specs.Prelude.{drop, slice_index, take};
+ghost use Rattle.std.specs.Prelude.{MatchOption, drop, slice_index, take};
 ghost use Rattle.std.specs.Int.{to_le_bytes, w32, w64};
 ghost use Rattle.json.specs.Print.{escape};
 ghost use Rattle.rb_shadow.specs.NameText.{IsName, name_text};
@@ -156,18 +156,32 @@ pub fn parse_byte(text: &str) -> Option<(u8, &str)>
     if n < 256 { Some((n as u8, rest)) } else { None }
 }
 
+/// The site of a blue operation's name, or `None` of a red one's, and what follows: the number.
+#[inline(always)]
+fn parse_site(text: &str) -> Option<(Option<u8>, &str)>
+    ensures { IfSome result (λ p. MatchOption p.0 (text.now ≡ codes "R" ++ p.1.now)
+        (λ site. (site < 2 ^ 8) × (text.now ≡ codes "B" ++ (decimal site ++ (codes "." ++ p.1.now))))) }
+{
+    if let Some(number) = parse_prefix(text, "R") {
+        return Some((None, number));
+    }
+    let (site, rest) = parse_byte(parse_prefix(text, "B")?)?;
+    Some((Some(site), parse_prefix(rest, ".")?))
+}
+
 /// The operation's name before a quote, and what follows the quote.
 #[inline(always)]
 pub fn parse_name(text: &str) -> Option<(OpName, &str)>
     ensures { IfSome result (λ p. IsName p.0 × (text.now ≡ name_text p.0 ++ (codes "\"" ++ p.1.now))) }
 {
-    if let Some(number) = parse_prefix(text, "R") {
-        let (n, rest) = parse_word(number)?;
-        return Some((OpName::Red { n }, parse_prefix(rest, "\"")?));
-    }
-    let (site, rest) = parse_byte(parse_prefix(text, "B")?)?;
-    let (n, rest) = parse_word(parse_prefix(rest, ".")?)?;
-    Some((OpName::Blue { site, n }, parse_prefix(rest, "\"")?))
+    let (site, number) = parse_site(text)?;
+    let (n, rest) = parse_word(number)?;
+    let rest = parse_prefix(rest, "\"")?;
+    let name = match site {
+        Some(site) => OpName::Blue { site, n },
+        None => OpName::Red { n },
+    };
+    Some((name, rest))
 }
 
 /// How many bytes come before a quote, where none is part of an escape.
