@@ -285,7 +285,7 @@ fn ready_in(row: &[Shadow], clock: &Clock) -> Option<OpName>
     ensures some { IfSome result (λ name. (u : Shadow) × Among u row.now × (u.name ≡ name) × IsReady clock.now u) }
     ensures none { IfNone result ((u : Shadow) → Among u row.now → ¬ IsReady clock.now u) }
 {
-    let entries = clock.deps();
+    let entries = clock.entries();
     for shadow in row {
         if shadow.name.number() > entries.entry(shadow.name).saturating_add(1) {
             return None;

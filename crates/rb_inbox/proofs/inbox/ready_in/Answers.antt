@@ -15,9 +15,9 @@ returns-then-number-saturating_add-clause-none c = λ u a r.
     c.number.ensures ∙ ap (λ (w : Shadow). number_of w.name) (get_or_default c.args.row.now c.loop-shadow.shadow-index _ u
     c.loop-shadow-test.true) in
     let low : c.entry.result ≡ entry_of c.args.clock.now (get_or c.args.row.now c.loop-shadow.shadow-index u).name =
-    c.entry.ensures ∙ ap (λ (w : Shadow). entry_of c.deps-entries.result w.name)
+    c.entry.ensures ∙ ap (λ (w : Shadow). entry_of c.entries-entries.result.now w.name)
     (get_or_default c.args.row.now c.loop-shadow.shadow-index _ u c.loop-shadow-test.true)
-    ∙ ap (λ (d : Deps). entry_of d (get_or c.args.row.now c.loop-shadow.shadow-index u).name) c.deps-entries.ensures in
+    ∙ ap (λ (d : Deps). entry_of d (get_or c.args.row.now c.loop-shadow.shadow-index u).name) c.entries-entries.ensures in
     none_from c.requires.0 c.args.row.now c.loop-shadow.shadow-index u u c.args.clock.now c.requires.1 (omega arith) (omega arith) a
     (c.loop-shadow.invariant u a r) r
 
