@@ -39,8 +39,11 @@ impl Inlet {
 
     /// The next message of the link, once there is one, which isn't kept. `None` once every outbox is dropped
     /// and nothing is left in the link.
-    pub fn next<W: Wait>(&self, rt: &W) -> Option<Message> {
-        self.link.next(rt)
+    pub fn next<W: Wait>(&mut self, rt: &W) -> Option<Message>
+        ensures { self.new ≡ self.old }
+    {
+        let message = self.link.next(rt)?;
+        Some(*message)
     }
 
     /// What it keeps.
@@ -58,10 +61,10 @@ impl Inlet {
         ensures err { OnErr result (self.new ≡ self.old) }
     {
         self.kept.reserve(1)?;
-        let Some(message) = self.next(rt) else {
+        let Some(message) = self.link.next(rt) else {
             return Ok(false);
         };
-        self.kept.push_reserved(message);
+        self.kept.push_reserved(*message);
         Ok(true)
     }
 

@@ -26,7 +26,7 @@ pub(crate) struct LinkSender {
 /// The receiving end of a link.
 pub(crate) struct LinkReceiver {
     link: Arc<Link>,
-    batch: Mutex<Batch>,
+    batch: Batch,
 }
 
 /// What was taken from a link at once, and how much of it was given.
@@ -46,10 +46,10 @@ pub(crate) fn open_link(alloc: Global) -> Result<(LinkSender, LinkReceiver), All
         sleepers: AtomicUsize::new(0),
     };
     let link = Arc::new(alloc, shared)?;
-    let batch = Mutex::new(Batch {
+    let batch = Batch {
         messages: Vec::new(alloc),
         given: 0,
-    });
+    };
     let sender = LinkSender {
         link: Arc::try_clone(&link)?,
     };
@@ -132,19 +132,18 @@ impl Drop for LinkSender {
 
 impl LinkReceiver {
     /// The next message, once there is one. `None` once all sending ends are dropped and nothing is left.
-    pub(crate) fn next<W: Wait>(&self, rt: &W) -> Option<Message> {
-        let mut guard = self.batch.lock(rt);
-        let batch = &mut *guard;
-        if batch.given >= batch.messages.len() {
-            batch.messages.clear();
-            batch.given = 0;
-            if !self.link.wait_for_all(rt, &mut batch.messages) {
+    pub(crate) fn next<W: Wait>(&mut self, rt: &W) -> Option<&Message> {
+        let Batch { messages, given } = &mut self.batch;
+        if *given >= messages.len() {
+            messages.clear();
+            *given = 0;
+            if !self.link.wait_for_all(rt, messages) {
                 return None;
             }
         }
-        let message = batch.messages.get(batch.given).copied();
-        batch.given = batch.given.saturating_add(1);
-        message
+        let at = *given;
+        *given = at.saturating_add(1);
+        messages.get(at)
     }
 }
 

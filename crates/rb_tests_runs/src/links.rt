@@ -64,7 +64,7 @@ const SENT: [Sent; 5] = [
 ];
 
 /// What a link brings to its end.
-fn brought<W: Wait>(rt: &W, alloc: Global, inlet: &Inlet) -> Result<String, AllocError> {
+fn brought<W: Wait>(rt: &W, alloc: Global, inlet: &mut Inlet) -> Result<String, AllocError> {
     let mut text = String::new(alloc);
     // One more than can come.
     for _ in 0..5 {
@@ -108,7 +108,7 @@ impl Case for Sent {
         for (receipt, unsent) in seat.receipts().iter().zip(self.unsent) {
             equal(rt, receipt.unsent(), unsent);
         }
-        for (inlet, wanted) in inlets.iter().zip(self.brought) {
+        for (inlet, wanted) in inlets.iter_mut().zip(self.brought) {
             equal(rt, brought(rt, alloc, inlet)?.as_str(), wanted);
         }
         Ok(vec![in alloc; seat]?)
@@ -136,7 +136,7 @@ impl Case for Turned {
         alloc: Global,
         branch: &Branch<E, R, G>,
     ) -> Result<Vec<Seat<E, R>>, Fail> {
-        let (outbox, inlet) = to_the_second(alloc)?;
+        let (outbox, mut inlet) = to_the_second(alloc)?;
         let mut teller = branch.seat(rt, 0)?;
         let mut server = branch.seat(rt, 1)?;
         let _first = deposited(rt, branch, &mut teller, &outbox, 1)?;

@@ -96,7 +96,7 @@ fn sent_with(reply: &Reply) -> usize {
 /// Takes in what a link brought, `count` messages but those that it refused. Where it refused any, none is known.
 fn take_in<W: Wait>(
     rt: &W,
-    inlet: &Inlet,
+    inlet: &mut Inlet,
     sent: &mut Vec<Option<Message>>,
     count: usize,
     refused: usize,
@@ -191,7 +191,10 @@ impl<E: Entries, R: Log> Desks<E, R> {
         equal(rt, line.as_str().trim_end(), wanted);
         let count = sent_with(reply);
         let refused = receipt.unsent() as usize;
-        let inlet = self.inlets.get(usize::from(site == 0)).ok_or("no link")?;
+        let inlet = self
+            .inlets
+            .get_mut(usize::from(site == 0))
+            .ok_or("no link")?;
         take_in(rt, inlet, &mut self.sent, count, refused)?;
         Ok(again)
     }
