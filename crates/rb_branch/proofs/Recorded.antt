@@ -167,13 +167,14 @@ records_one x y e a b n posted P h p = record {
 }
 
 -- what an application answers, of the seat alone
-pub applied_or_same : (x y : SeenSite) (a b : SeenSeat) (r : Result (Option ℕ) CallFault)
-    → IfOk r (λ o. IfSome o (λ n. (name : OpName) × (posted : List Message) × IsReadyAt x name × Records x y (Apply name) a b n posted))
+pub applied_or_same : (x y : SeenSite) (a b : SeenSeat) (before posted : List Message) (r : Result (Option ℕ) CallFault)
+    → IfOk r (λ o. IfSome o (λ n. (name : OpName) × (sent : List Message) × IsReadyAt x name × (posted ≡ before ++ sent)
+    × Records x y (Apply name) a b n sent))
     → (r ≡ Ok None → ((name : OpName) → ¬ IsReadyAt x name) × (y ≡ x) × (b ≡ a))
     → IfOk r (λ o. MatchOption o (b ≡ a) (λ n. HasOneMore a b IsApply n))
-applied_or_same x y a b (Ok None) some none = (none refl).2
-applied_or_same x y a b (Ok (Some n)) some none = records_one x y (Apply some.0) a b n some.1 IsApply some.3 tt
-applied_or_same x y a b (Err f) some none = tt
+applied_or_same x y a b before posted (Ok None) some none = (none refl).2
+applied_or_same x y a b before posted (Ok (Some n)) some none = records_one x y (Apply some.0) a b n some.1 IsApply some.4 tt
+applied_or_same x y a b before posted (Err f) some none = tt
 
 -- the receipt more, with another count of messages that were not sent
 pub one_with_unsent : (a b c : SeenSeat) (P : Event → Type 0) (n count : ℕ) → HasOneMore a b P n → SetsUnsent b c count

@@ -81,7 +81,7 @@ impl<E: Entries, R: Log, G: Gate + Drop> Branch<E, R, G> {
         ensures ok { IfOk result (λ n. HasOneMore seat.old seat.new (λ e. e ≡ event) n) }
         ensures err { OnErr result (seat.new ≡ seat.old) }
     {
-        let (number, posted) = self.call(rt, seat, event)?;
+        let (number, posted) = self.call(rt, seat, &event)?;
         let unsent = outbox.post(rt, seat.site(), self.sites(), posted.as_slice());
         seat.set_unsent(unsent);
         Ok(number)
@@ -92,7 +92,7 @@ impl<E: Entries, R: Log, G: Gate + Drop> Branch<E, R, G> {
         ensures ok { IfOk result (λ n. HasOneMore seat.old seat.new (λ e. e ≡ event) n) }
         ensures err { OnErr result (seat.new ≡ seat.old) }
     {
-        let (number, _posted) = self.call(rt, seat, event)?;
+        let (number, _posted) = self.call(rt, seat, &event)?;
         Ok(number)
     }
 

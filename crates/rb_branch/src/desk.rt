@@ -1,6 +1,6 @@
 //! Desks, seats, and the one call that makes a receipt.
-ghost use Rattle.std.specs.Prelude.{◌≡◌, ◌<◌, ◌≤◌, ◌++◌, ◌∷◌, [], All, IfNone, IfOk, IfSome, List, OnErr, Err, Ok};
-ghost use Rattle.std.specs.Prelude.{IsTrue, None, ◌+◌, false, length, vec_capacity, vec_len};
+ghost use Rattle.std.specs.Prelude.{◌≡◌, ◌<◌, ◌≤◌, ◌++◌, ◌∷◌, [], All, IfNone, IfOk, IfSome, List, OnErr, OnOk, Err};
+ghost use Rattle.std.specs.Prelude.{IsTrue, None, Ok, ◌+◌, false, length, vec_capacity, vec_len};
 ghost use Rattle.std.specs.Option.{option_copied};
 ghost use Rattle.rb_site.specs.Events.{first_site, is_full, reply_to, sent_at};
 ghost use Rattle.rb_site.specs.Seen.{Replays, first_seen, state_of, stepped};
@@ -70,19 +70,22 @@ impl<E: Entries, R: Log> Model for Seat<E, R> {
         × (s.last ≡ last_reply s.receipts.items) };
 }
 
-/// One event at the desk, and its receipt at the end of the seat: its number there, from 1, and what is to be
-/// sent. Nothing else makes a receipt. Memory for it is taken before the step.
+/// One event at the desk, and its receipt at the end of the seat: its number there, from 1. What is to be sent goes
+/// to the end of the messages posted. Nothing else makes a receipt. Memory for it is taken before the step.
 ///
-/// `Err` means out of memory, or a full history, a full seat, or a seat of another site; desk and seat are
+/// `Err` means out of memory, or a full history, a full seat, or a seat of another site; desk, seat and messages are
 /// then as before.
 pub fn record<E: Entries, R: Log, W: Wait>(
     rt: &W,
     desk: &mut Desk<E, R>,
     seat: &mut Seat<E, R>,
-    event: Event,
-) -> Result<(u32, Posted), CallFault>
-    ensures ok { IfOk result (λ r. Records desk.old desk.new event seat.old seat.new r.0 r.1.items) }
-    ensures err { OnErr result ((desk.new ≡ desk.old) × (seat.new ≡ seat.old)) }
+    event: &Event,
+    posted: &mut Posted,
+) -> Result<u32, CallFault>
+    ensures ok { IfOk result (λ n. (sent : List MessageOf) × (posted.new.items ≡ posted.old.items ++ sent)
+        × Records desk.old desk.new event.now seat.old seat.new n sent) }
+    ensures err { OnErr result ((desk.new ≡ desk.old) × (seat.new ≡ seat.old)
+        × (posted.new.items ≡ posted.old.items)) }
     ensures full { result ≡ Err HistoryFull → CannotRecord desk.old seat.old }
 {
     let Desk {
@@ -97,16 +100,16 @@ pub fn record<E: Entries, R: Log, W: Wait>(
         known,
         share,
     } = seat;
-    let answer = note(site, *me, receipts, &event)?;
+    let mut reply = Reply::Refused(Refusal::HistoryFull);
+    note(site, *me, receipts, event, posted, &mut reply)?;
     note_last(rt, writer, site);
     let written = writer.known();
     known.learn(&written);
     let number = site.len();
     receipts.push_reserved(Receipt::new(*me, number, known));
     share.transfer(entries, 1);
-    let (reply, posted) = answer;
     *last = Some(reply);
-    Ok((receipts.len() as u32, posted))
+    Ok(receipts.len() as u32)
 }
 
 /// Notes a site's last entry in the log, where all before it are.
@@ -120,24 +123,28 @@ fn note_last<R: Log, W: Wait>(rt: &W, writer: &mut Writer<Entry, R>, site: &Site
     }
 }
 
-/// One event at a site, for a seat at the site of this number: its reply, and what is to be sent. Memory for one
-/// receipt more is taken before the step. After an `Err` the site is as before.
+/// One event at a site, for a seat at the site of this number. Its reply is put in the place of another, and what is
+/// to be sent goes to the end of the messages posted. Memory for one receipt more is taken before the step. After an
+/// `Err` site and messages are as before, and the place may have any reply.
 fn note<R: Log>(
     site: &mut Site,
     me: u8,
     receipts: &mut Vec<Receipt<R>>,
     event: &Event,
-) -> Result<(Reply, Posted), CallFault>
-    ensures here { IfOk result (λ _. me ≡ site.old.me) }
-    ensures few { IfOk result (λ _. length receipts.old.items < MOST_RECEIPTS) }
-    ensures step { IfOk result (λ _. site.new ≡ stepped site.old event.now) }
-    ensures replays { IfOk result (λ _. Replays site.new.settings (first_site site.new.me) site.new.entries) }
-    ensures room { IfOk result (λ _. length site.new.entries ≤ site.new.settings.limits.history) }
-    ensures reply { IfOk result (λ r. r.0 ≡ reply_to site.old.settings (state_of site.old) event.now) }
-    ensures posted { IfOk result (λ r. r.1.items ≡ sent_at site.old.settings (state_of site.old) event.now) }
-    ensures spare { IfOk result (λ _. vec_len receipts.new < vec_capacity receipts.new) }
+    posted: &mut Posted,
+    reply: &mut Reply,
+) -> Result<(), CallFault>
+    ensures here { OnOk result (me ≡ site.old.me) }
+    ensures few { OnOk result (length receipts.old.items < MOST_RECEIPTS) }
+    ensures step { OnOk result (site.new ≡ stepped site.old event.now) }
+    ensures replays { OnOk result (Replays site.new.settings (first_site site.new.me) site.new.entries) }
+    ensures room { OnOk result (length site.new.entries ≤ site.new.settings.limits.history) }
+    ensures reply { OnOk result (reply.new ≡ reply_to site.old.settings (state_of site.old) event.now) }
+    ensures posted { OnOk result (posted.new.items
+        ≡ posted.old.items ++ sent_at site.old.settings (state_of site.old) event.now) }
+    ensures spare { OnOk result (vec_len receipts.new < vec_capacity receipts.new) }
     ensures kept { receipts.new.items ≡ receipts.old.items }
-    ensures err { OnErr result (site.new ≡ site.old) }
+    ensures err { OnErr result ((site.new ≡ site.old) × (posted.new.items ≡ posted.old.items)) }
     ensures full { result ≡ Err HistoryFull
         → CannotRecord site.old (record { site = me; receipts = receipts.old.items }) }
 {
@@ -145,22 +152,25 @@ fn note<R: Log>(
         return Err(CallFault::HistoryFull);
     }
     reserve_one(receipts)?;
-    let answer = site.step(event)?;
+    site.answer(event, posted, reply)?;
     // For a fact alone: the history replays.
     let _replays = site.history();
-    Ok(answer)
+    Ok(())
 }
 
 /// A held operation whose past the desk's site applied is applied, and its receipt is the last of the seat, as
-/// `record` puts it. `None` comes only where there is none; there is no event then.
+/// `record` puts it; what is to be sent goes to the end of the messages posted. `None` comes only where there is no
+/// such operation; there is no event then.
 pub fn record_ready<E: Entries, R: Log, W: Wait>(
     rt: &W,
     desk: &mut Desk<E, R>,
     seat: &mut Seat<E, R>,
+    posted: &mut Posted,
 ) -> Result<Option<u32>, CallFault>
     ensures some { IfOk result
-        (λ o. IfSome o (λ n. (x : NameOf) × (posted : List MessageOf) × IsReadyAt desk.old x
-        × Records desk.old desk.new (Apply x) seat.old seat.new n posted)) }
+        (λ o. IfSome o (λ n. (x : NameOf) × (sent : List MessageOf) × IsReadyAt desk.old x
+        × (posted.new.items ≡ posted.old.items ++ sent)
+        × Records desk.old desk.new (Apply x) seat.old seat.new n sent)) }
     ensures none { result ≡ Ok None
         → ((x : NameOf) → ¬ IsReadyAt desk.old x) × (desk.new ≡ desk.old) × (seat.new ≡ seat.old) }
     ensures err { OnErr result ((desk.new ≡ desk.old) × (seat.new ≡ seat.old)) }
@@ -168,7 +178,7 @@ pub fn record_ready<E: Entries, R: Log, W: Wait>(
     let Some(name) = desk.ready() else {
         return Ok(None);
     };
-    let (number, _posted) = record(rt, desk, seat, Event::Apply(name))?;
+    let number = record(rt, desk, seat, &Event::Apply(name), posted)?;
     Ok(Some(number))
 }
 

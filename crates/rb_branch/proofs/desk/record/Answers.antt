@@ -1,11 +1,11 @@
-use Rattle.std.proofs.Common.{◌≡◌, ◌∙◌, ◌++◌, ◌∷◌, [], Some, ap, length, rules}
+use Rattle.std.proofs.Common.{◌≡◌, ◌∙◌, ◌++◌, ◌∷◌, [], Some, ap, length, refl, rules}
 use Rattle.rb_branch.specs.Receipts.{receipt_in}
 use Rattle.rb_branch.proofs.Recorded.{desk_same, has_receipt, last_entry, recorded, seat_more, seat_same}
 use Rattle.rb_branch.proofs.desk.record.Goals as goal
 
 pub invariant_of-desk : goal.invariant_of-desk
 invariant_of-desk g c =
-    desk_same g.E.Entries.settings c.desk.inside.site c.note.new.site _ _ _ c.desk.invariant c.in_err-answer.ensures.err
+    desk_same g.E.Entries.settings c.desk.inside.site c.note.new.site _ _ _ c.desk.invariant c.in_err-note.ensures.err.0
 
 pub invariant_of-seat : goal.invariant_of-seat
 invariant_of-seat g c =
@@ -14,17 +14,17 @@ invariant_of-seat g c =
 
 pub note_last-requires : goal.note_last-requires
 note_last-requires g c =
-    last_entry g.E.Entries.settings c.desk.inside.site c.note.new.site _ _ _ c.args.event c.desk.invariant
-    c.in_ok-answer.ensures.step
+    last_entry g.E.Entries.settings c.desk.inside.site c.note.new.site _ _ _ c.args.event.now c.desk.invariant
+    c.in_ok-note.ensures.step
 
 pub invariant_of-seat-2 : goal.invariant_of-seat-2
 invariant_of-seat-2 g c =
     let new : c.new.result ≡ receipt_in c.seat.inside.site (length c.note.new.site.entries) 0 c.learn.new.self =
     c.new.ensures ∙ ap (λ n. receipt_in c.seat.inside.site n 0 c.learn.new.self) c.len-number.ensures in
     let pushed = c.push_reserved.ensures.items ∙ (λ i. c.note.ensures.kept i ++ new i ∷ []) in
-    seat_more g.E.Entries.settings c.desk.inside.site c.note.new.site _ _ c.seat.inside.site _ _ _ _ _ _ c.args.event
+    seat_more g.E.Entries.settings c.desk.inside.site c.note.new.site _ _ c.seat.inside.site _ _ _ _ _ _ c.args.event.now
     c.seat.inside.receipts.items c.push_reserved.new.self.items _ _ _ c.learn.new.self _ c.desk.invariant c.seat.invariant
-    c.in_ok-answer.ensures.here c.in_ok-answer.ensures.step pushed (ap Some c.in_ok-answer.ensures.reply)
+    c.in_ok-note.ensures.here c.in_ok-note.ensures.step pushed (ap Some c.in_ok-note.ensures.reply)
     c.note_last.ensures c.known-written.ensures c.learn.ensures.mine c.learn.ensures.others
     c.transfer.ensures.amount_left c.transfer.ensures.parts_left
 
@@ -33,10 +33,14 @@ returns-clause-ok g c =
     let new : c.new.result ≡ receipt_in c.seat.inside.site (length c.note.new.site.entries) 0 c.learn.new.self =
     c.new.ensures ∙ ap (λ n. receipt_in c.seat.inside.site n 0 c.learn.new.self) c.len-number.ensures in
     let pushed = c.push_reserved.ensures.items ∙ (λ i. c.note.ensures.kept i ++ new i ∷ []) in
-    let has = has_receipt g.E.Entries.settings c.desk.inside.site c.note.new.site _ _ c.seat.inside.site _ _ c.args.event
-    c.seat.inside.receipts.items c.push_reserved.new.self.items _ _ c.desk.invariant c.in_ok-answer.ensures.here
-    c.in_ok-answer.ensures.step pushed c.note_last.ensures c.known-written.ensures c.learn.ensures.others in
+    let has = has_receipt g.E.Entries.settings c.desk.inside.site c.note.new.site _ _ c.seat.inside.site _ _ c.args.event.now
+    c.seat.inside.receipts.items c.push_reserved.new.self.items _ _ c.desk.invariant c.in_ok-note.ensures.here
+    c.in_ok-note.ensures.step pushed c.note_last.ensures c.known-written.ensures c.learn.ensures.others in
     let len : c.len.result ≡ length c.push_reserved.new.self.items = search rules in
-    recorded c.desk.inside.site c.args.desk.now c.note.new.site c.args.event c.seat.inside.site _ c.seat.inside.receipts.items
-    c.push_reserved.new.self.items c.args.seat.now _ c.desk.view_is c.seat.view_is c.in_ok-answer.ensures.here
-    c.in_ok-answer.ensures.step has len c.in_ok-answer.ensures.posted
+    (
+      _,
+      c.in_ok-note.ensures.posted,
+      recorded c.desk.inside.site c.args.desk.now c.note.new.site c.args.event.now c.seat.inside.site _ c.seat.inside.receipts.items
+          c.push_reserved.new.self.items c.args.seat.now _ c.desk.view_is c.seat.view_is c.in_ok-note.ensures.here
+          c.in_ok-note.ensures.step has len refl,
+    )
