@@ -36,8 +36,7 @@ returns-clause-ok g c =
     let has = has_receipt g.E.Entries.settings c.desk.inside.site c.note.new.site _ _ c.seat.inside.site _ _ c.args.event.now
     c.seat.inside.receipts.items c.push_reserved.new.self.items _ _ c.desk.invariant c.in_ok-note.ensures.here
     c.in_ok-note.ensures.step pushed c.note_last.ensures c.known-written.ensures c.learn.ensures.others in
-    let len : c.len.result ≡ length c.push_reserved.new.self.items = search rules in
-    (
+    let len : c.len.result ≡ length c.push_reserved.new.self.items = search rules in (
       _,
       c.in_ok-note.ensures.posted,
       recorded c.desk.inside.site c.args.desk.now c.note.new.site c.args.event.now c.seat.inside.site _ c.seat.inside.receipts.items
