@@ -58,6 +58,10 @@ pub clocks_count : (w : ℕ) (bs os ss : List ℕ) → length (clocks_of w bs os
 clocks_count w bs [] ss = refl
 clocks_count w bs (o ∷ os) ss = ap suc (clocks_count w bs os (drop w ss))
 
+-- there are as many bases' beginnings as a table shows clocks
+pub seen_count : (w : ℕ) (bs os ss : List ℕ) (cs : List (List ℕ)) → clocks_of w bs os ss ≡ cs → length os ≡ length cs
+seen_count w bs os ss cs is = sym (clocks_count w bs os ss) ∙ ap length is
+
 -- the clock at an index
 pub clock_at : (w : ℕ) (bs os ss : List ℕ) (i o : ℕ) → slice_get os i ≡ Some o →
     slice_get (clocks_of w bs os ss) i ≡ Some (sums (take w (drop o bs)) (take w (drop (i * w) ss)))
@@ -275,6 +279,12 @@ longer_anew w o bs cs os ss ps ts ns base are count few at many is based near st
 -- the last of a list, as it is seen
 pub last_seen : (xs os : List ℕ) (o : ℕ) → xs ≡ os → slice_get xs (length xs - 1) ≡ Some o → slice_get os (length os - 1) ≡ Some o
 last_seen xs os o is there = subst (λ ys. slice_get ys (length ys - 1) ≡ Some o) is there
+
+-- the items of a range of a list, as it is seen
+pub range_seen : (o w e : ℕ) (xs bs : List ℕ) → e ≡ o + w → xs ≡ bs → take (e - o) (drop o xs) ≡ take w (drop o bs)
+range_seen o w e xs bs to is =
+    let long : e - o ≡ w = omega (arith, to) in
+    ap (λ ys. take (e - o) (drop o ys)) is ∙ ap (λ k. take k (drop o bs)) long
 
 -- the same counts
 same_all : (ks ns : List ℕ) → length ks ≤ length ns → ((k : ℕ) → k < length ks → get_or ks k 0 ≡ get_or ns k 0) → ks ≡ take (length ks) ns

@@ -4,6 +4,7 @@ use Rattle.rb_shadow.specs.Operations.{row_of}
 use Rattle.rb_ledger.specs.ClockLists.{ClockTable}
 use Rattle.rb_ledger.proofs.ClockTables
 use Rattle.std.proofs.lemmas.Option.{get_or_from_slice_get}
+use Rattle.rb_ledger.proofs.clock_list.ClockList.is_last.Goals.{After-self}
 use Rattle.rb_ledger.proofs.clock_list.ClockList.is_last.Goals as goal
 
 -- the last clock is the same but for an entry, if what is read of it is
@@ -16,34 +17,28 @@ same_last all i w r n red blue last at there long same =
     ∙ same
     ∙ ap (λ k. slice_set (red ∷ take k blue) r n) sites
 
+-- how many clocks there are
+count : (c : After-self) → length c.self.inside.starts.items ≡ length c.args.self.now.items
+count c = ClockTables.seen_count _ _ _ _ _ (ap (λ (t : ClockTable). t.items) c.self.view_is)
+
 pub at-last-requires : goal.at-last-requires
 at-last-requires c =
-    let w = c.self.inside.sites + 1 in
-    let count = ClockTables.clocks_count w c.self.inside.bases.items c.self.inside.starts.items c.self.inside.steps.items in
-    let items = ap (λ (t : ClockTable). length t.items) c.self.view_is in
-    omega (arith, count, items, c.requires.some, c.len.ensures, c.self.inside.starts.ok.0)
+    omega (arith, count (goal.at.at-last-requires c).After-self, c.requires.some, c.len.ensures, c.self.inside.starts.ok.0)
 
 pub returns-then-self-gt-FEW_SITES-clause-same : goal.returns-then-self-gt-FEW_SITES-clause-same
 returns-then-self-gt-FEW_SITES-clause-same c = λ t n.
-    let w = c.self.inside.sites + 1 in
-    let count = ClockTables.clocks_count w c.self.inside.bases.items c.self.inside.starts.items c.self.inside.steps.items in
-    let items = ap (λ (t : ClockTable). length t.items) c.self.view_is in
+    let many = count (goal.at.returns-then-self-gt-FEW_SITES-clause-same c).After-self in
     same_last c.args.self.now.items (c.len.result - 1) c.args.self.now.sites (row_of c.args.name) n c.args.deps.now.red
-    c.args.deps.now.blue c.at-last.result (omega (arith, count, items, c.len.ensures, c.self.inside.starts.ok.0))
+    c.args.deps.now.blue c.at-last.result (omega (arith, many, c.len.ensures, c.self.inside.starts.ok.0))
     c.at-last.ensures.counts c.at-last.ensures.length (c.is_same.ensures.same t n)
 
 pub at_of-last-requires-clause-near : goal.at_of-last-requires-clause-near
 at_of-last-requires-clause-near c =
-    let w = c.self.inside.sites + 1 in
-    let count = ClockTables.clocks_count w c.self.inside.bases.items c.self.inside.starts.items c.self.inside.steps.items in
-    let items = ap (λ (t : ClockTable). length t.items) c.self.view_is in
-    omega (arith, count, items, c.requires.some, c.len-2.ensures, c.self.inside.starts.ok.0)
+    omega (arith, count (goal.at.at_of-last-requires-clause-near c).After-self, c.requires.some, c.len-2.ensures, c.self.inside.starts.ok.0)
 
 pub returns-clause-same : goal.returns-clause-same
 returns-clause-same c = λ t n.
-    let w = c.self.inside.sites + 1 in
-    let count = ClockTables.clocks_count w c.self.inside.bases.items c.self.inside.starts.items c.self.inside.steps.items in
-    let items = ap (λ (t : ClockTable). length t.items) c.self.view_is in
+    let many = count (goal.at.returns-clause-same c).After-self in
     same_last c.args.self.now.items (c.len-2.result - 1) c.args.self.now.sites (row_of c.args.name) n c.args.deps.now.red
-    c.args.deps.now.blue c.at_of-last.result (omega (arith, count, items, c.len-2.ensures, c.self.inside.starts.ok.0))
+    c.args.deps.now.blue c.at_of-last.result (omega (arith, many, c.len-2.ensures, c.self.inside.starts.ok.0))
     c.at_of-last.ensures.counts c.at_of-last.ensures.length (c.is_same-2.ensures.same t n)

@@ -6,64 +6,48 @@ use Rattle.rb_ledger.specs.ClockLists.{ClockTable}
 use Rattle.rb_ledger.specs.OperationLists.{clock_of_counts}
 use Rattle.rb_ledger.proofs.ClockTables
 use Rattle.rb_ledger.proofs.OperationTables
+use Rattle.rb_ledger.proofs.clock_list.ClockList.keep.Goals.{After-len-count}
 use Rattle.rb_ledger.proofs.clock_list.ClockList.keep.Goals as goal
 
+-- the number that is read is that of the clocks
+len : (c : After-len-count) → c.len-count.result ≡ length c.args.self.now.items
+len c = omega (
+  arith,
+  ClockTables.seen_count _ _ _ _ _ (ap (λ (t : ClockTable). t.items) c.self.view_is),
+  c.len-count.ensures,
+  c.self.inside.starts.ok.0,
+)
+
 pub is_last-requires : goal.is_last-requires
-is_last-requires c =
-    let w = c.self.inside.sites + 1 in
-    let count = ClockTables.clocks_count w c.self.inside.bases.items c.self.inside.starts.items c.self.inside.steps.items in
-    let items = ap (λ (t : ClockTable). length t.items) c.self.view_is in
-    let len : c.len-count.result ≡ length c.args.self.now.items = omega (arith, count, items, c.len-count.ensures, c.self.inside.starts.ok.0) in
-    omega (arith, len, c.if-count-gt0.true)
+is_last-requires c = omega (arith, len (goal.at.is_last-requires c).After-len-count, c.if-count-gt0.true)
 
 pub returns-then-is_last-clause-number : goal.returns-then-is_last-clause-number
 returns-then-is_last-clause-number c =
-    let w = c.self.inside.sites + 1 in
-    let count = ClockTables.clocks_count w c.self.inside.bases.items c.self.inside.starts.items c.self.inside.steps.items in
-    let items = ap (λ (t : ClockTable). length t.items) c.self.view_is in
-    let len : c.len-count.result ≡ length c.args.self.now.items = omega (arith, count, items, c.len-count.ensures, c.self.inside.starts.ok.0) in
-    inr (omega (arith, len, c.if-count-gt0.true))
+    inr (omega (arith, len (goal.at.returns-then-is_last-clause-number c).After-len-count, c.if-count-gt0.true))
 
 pub returns-then-is_last-clause-count : goal.returns-then-is_last-clause-count
 returns-then-is_last-clause-count c =
-    let w = c.self.inside.sites + 1 in
-    let count = ClockTables.clocks_count w c.self.inside.bases.items c.self.inside.starts.items c.self.inside.steps.items in
-    let items = ap (λ (t : ClockTable). length t.items) c.self.view_is in
-    let len : c.len-count.result ≡ length c.args.self.now.items = omega (arith, count, items, c.len-count.ensures, c.self.inside.starts.ok.0) in
-    omega (arith, len, c.if-count-gt0.true)
+    omega (arith, len (goal.at.returns-then-is_last-clause-count c).After-len-count, c.if-count-gt0.true)
 
 pub returns-then-is_last-clause-clock : goal.returns-then-is_last-clause-clock
 returns-then-is_last-clause-clock c =
-    let w = c.self.inside.sites + 1 in
-    let count = ClockTables.clocks_count w c.self.inside.bases.items c.self.inside.starts.items c.self.inside.steps.items in
-    let items = ap (λ (t : ClockTable). length t.items) c.self.view_is in
-    let len : c.len-count.result ≡ length c.args.self.now.items = omega (arith, count, items, c.len-count.ensures, c.self.inside.starts.ok.0) in
+    let many = len (goal.at.returns-then-is_last-clause-clock c).After-len-count in
     let v = c.args.shadow.now in
     OperationTables.kept_same c.args.self.now.sites _ v.deps v.name c.requires.sites c.is_last.ensures.all c.requires.own
-    (λ m. ap (λ k. slice_set (get_or c.args.self.now.items (k - 1) []) (row_of v.name) m) len ∙ c.if-is_last.ensures.same refl m)
+    (λ m. ap (λ k. slice_set (get_or c.args.self.now.items (k - 1) []) (row_of v.name) m) many ∙ c.if-is_last.ensures.same refl m)
 
 pub returns-clause-number : goal.returns-clause-number
-returns-clause-number c =
-    let w = c.self.inside.sites + 1 in
-    let count = ClockTables.clocks_count w c.self.inside.bases.items c.self.inside.starts.items c.self.inside.steps.items in
-    let items = ap (λ (t : ClockTable). length t.items) c.self.view_is in
-    let len : c.len-count.result ≡ length c.args.self.now.items = omega (arith, count, items, c.len-count.ensures, c.self.inside.starts.ok.0) in
-    inl len
+returns-clause-number c = inl (len (goal.at.returns-clause-number c).After-len-count)
 
 pub returns-clause-count : goal.returns-clause-count
 returns-clause-count c =
-    let w = c.self.inside.sites + 1 in
-    let count = ClockTables.clocks_count w c.self.inside.bases.items c.self.inside.starts.items c.self.inside.steps.items in
-    let items = ap (λ (t : ClockTable). length t.items) c.self.view_is in
-    let len : c.len-count.result ≡ length c.args.self.now.items = omega (arith, count, items, c.len-count.ensures, c.self.inside.starts.ok.0) in
-    ap length c.push.ensures.items ∙ length_push c.args.self.now.items _ ∙ ap (λ k. k + 1) (sym len)
+    let many = len (goal.at.returns-clause-count c).After-len-count in
+    ap length c.push.ensures.items ∙ length_push c.args.self.now.items _ ∙ ap (λ k. k + 1) (sym many)
 
 pub returns-clause-clock : goal.returns-clause-clock
 returns-clause-clock c =
-    let w = c.self.inside.sites + 1 in
-    let count = ClockTables.clocks_count w c.self.inside.bases.items c.self.inside.starts.items c.self.inside.steps.items in
-    let items = ap (λ (t : ClockTable). length t.items) c.self.view_is in
-    let len : c.len-count.result ≡ length c.args.self.now.items = omega (arith, count, items, c.len-count.ensures, c.self.inside.starts.ok.0) in
+    let many = len (goal.at.returns-clause-clock c).After-len-count in
     let v = c.args.shadow.now in
-    ap (λ k. clock_of_counts c.args.self.now.sites (slice_set (get_or c.push.new.self.items k []) (row_of v.name) (number_of v.name - 1))) len
-    ∙ OperationTables.kept_behind c.args.self.now.sites c.args.self.now.items c.push.new.self.items v.deps v.name c.requires.sites c.push.ensures.all c.requires.own c.push.ensures.items
+    ap (λ k. clock_of_counts c.args.self.now.sites (slice_set (get_or c.push.new.self.items k []) (row_of v.name) (number_of v.name - 1))) many
+    ∙ OperationTables.kept_behind c.args.self.now.sites c.args.self.now.items c.push.new.self.items v.deps v.name c.requires.sites
+    c.push.ensures.all c.requires.own c.push.ensures.items

@@ -1,31 +1,25 @@
 use Rattle.std.proofs.Common.{◌≡◌, ◌+◌, ◌*◌, ap, ◌∙◌, arith, length, take}
 use Rattle.rb_ledger.specs.ClockLists.{ClockTable}
 use Rattle.rb_ledger.proofs.ClockTables
+use Rattle.rb_ledger.proofs.clock_list.ClockList.truncate.Goals.{After-truncate-3}
 use Rattle.rb_ledger.proofs.clock_list.ClockList.truncate.Goals as goal
+
+-- what is kept is of the first clocks
+cut : (c : After-truncate-3) → ClockTables.IsCut (c.self.inside.sites + 1) c.args.count c.self.inside.bases.items
+    c.self.inside.starts.items c.self.inside.steps.items c.truncate-3.new.self.items c.truncate.new.self.items
+    c.truncate-2.new.self.items
+cut c =
+    let w = c.self.inside.sites + 1 in
+    let len : c.len.result ≡ length c.truncate.new.self.items = omega (arith, c.len.ensures, c.truncate.new.self.ok.0) in
+    ClockTables.cut w c.args.count (c.len.result * w) _ _ _ _ _ _ c.self.invariant.based c.self.invariant.steps
+    c.truncate.ensures.items (ap (λ n. n * w) len) c.truncate-3.ensures.items c.truncate-2.ensures.items
 
 pub invariant_of-self : goal.invariant_of-self
 invariant_of-self c =
-    let w = c.self.inside.sites + 1 in
-    let len : c.len.result ≡ length c.truncate.new.self.items = omega (arith, c.len.ensures, c.truncate.new.self.ok.0) in
-    let k = ClockTables.cut w c.args.count (c.len.result * w) c.self.inside.bases.items c.self.inside.starts.items c.self.inside.steps.items
-    c.truncate-3.new.self.items c.truncate.new.self.items c.truncate-2.new.self.items
-    c.self.invariant.based c.self.invariant.steps c.truncate.ensures.items (ap (λ n. n * w) len) c.truncate-3.ensures.items c.truncate-2.ensures.items in
-    record {
-      least = c.self.invariant.least;
-      most = c.self.invariant.most;
-      steps = k.steps;
-      few = k.few;
-      based = k.based;
-      bases_fit = omega (arith, c.self.invariant.bases_fit, c.truncate-3.ensures.capacity);
-      starts_fit = omega (arith, c.self.invariant.starts_fit, c.truncate.ensures.capacity);
-      steps_fit = omega (arith, c.self.invariant.steps_fit, c.truncate-2.ensures.capacity);
-    }
+    let k = cut (goal.at.invariant_of-self c).After-truncate-3 in
+    grind arith
 
 pub returns-clause-items : goal.returns-clause-items
 returns-clause-items c =
-    let w = c.self.inside.sites + 1 in
-    let len : c.len.result ≡ length c.truncate.new.self.items = omega (arith, c.len.ensures, c.truncate.new.self.ok.0) in
-    let k = ClockTables.cut w c.args.count (c.len.result * w) c.self.inside.bases.items c.self.inside.starts.items c.self.inside.steps.items
-    c.truncate-3.new.self.items c.truncate.new.self.items c.truncate-2.new.self.items
-    c.self.invariant.based c.self.invariant.steps c.truncate.ensures.items (ap (λ n. n * w) len) c.truncate-3.ensures.items c.truncate-2.ensures.items in
-    k.clocks ∙ ap (λ (t : ClockTable). take c.args.count t.items) c.self.view_is
+    (cut (goal.at.returns-clause-items c).After-truncate-3).clocks
+    ∙ ap (λ (t : ClockTable). take c.args.count t.items) c.self.view_is
