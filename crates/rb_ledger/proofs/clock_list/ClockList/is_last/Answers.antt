@@ -8,8 +8,9 @@ use Rattle.rb_ledger.proofs.clock_list.ClockList.is_last.Goals.{After-self}
 use Rattle.rb_ledger.proofs.clock_list.ClockList.is_last.Goals as goal
 
 -- the last clock is the same but for an entry, if what is read of it is
-same_last : (all : List (List ℕ)) (i w r n red : ℕ) (blue last : List ℕ) → length all - 1 ≡ i → slice_get all i ≡ Some last →
-    length last ≡ w + 1 → slice_set last r n ≡ slice_set (red ∷ take (length last - 1) blue) r n →
+same_last : (all : List (List ℕ)) (i w r n red : ℕ) (blue last : List ℕ) → length all - 1 ≡ i →
+    slice_get all i ≡ Some last → length last ≡ w + 1 →
+    slice_set last r n ≡ slice_set (red ∷ take (length last - 1) blue) r n →
     slice_set (get_or all (length all - 1) []) r n ≡ slice_set (red ∷ take w blue) r n
 same_last all i w r n red blue last at there long same =
     let sites : length last - 1 ≡ w = omega (arith, long) in
@@ -23,22 +24,26 @@ count c = ClockTables.seen_count _ _ _ _ _ (ap (λ (t : ClockTable). t.items) c.
 
 pub at-last-requires : goal.at-last-requires
 at-last-requires c =
-    omega (arith, count (goal.at.at-last-requires c).After-self, c.requires.some, c.len.ensures, c.self.inside.starts.ok.0)
+    let many = count (goal.at.at-last-requires c).After-self in
+    omega (arith, many, c.requires.some, c.len.ensures, c.self.inside.starts.ok.0)
 
 pub returns-then-self-gt-FEW_SITES-clause-same : goal.returns-then-self-gt-FEW_SITES-clause-same
 returns-then-self-gt-FEW_SITES-clause-same c = λ t n.
     let many = count (goal.at.returns-then-self-gt-FEW_SITES-clause-same c).After-self in
-    same_last c.args.self.now.items (c.len.result - 1) c.args.self.now.sites (row_of c.args.name) n c.args.deps.now.red
-    c.args.deps.now.blue c.at-last.result (omega (arith, many, c.len.ensures, c.self.inside.starts.ok.0))
+    same_last c.args.self.now.items (c.len.result - 1) c.args.self.now.sites (row_of c.args.name) n
+    c.args.deps.now.red c.args.deps.now.blue c.at-last.result
+    (omega (arith, many, c.len.ensures, c.self.inside.starts.ok.0))
     c.at-last.ensures.counts c.at-last.ensures.length (c.is_same.ensures.same t n)
 
 pub at_of-last-requires-clause-near : goal.at_of-last-requires-clause-near
 at_of-last-requires-clause-near c =
-    omega (arith, count (goal.at.at_of-last-requires-clause-near c).After-self, c.requires.some, c.len-2.ensures, c.self.inside.starts.ok.0)
+    let many = count (goal.at.at_of-last-requires-clause-near c).After-self in
+    omega (arith, many, c.requires.some, c.len-2.ensures, c.self.inside.starts.ok.0)
 
 pub returns-clause-same : goal.returns-clause-same
 returns-clause-same c = λ t n.
     let many = count (goal.at.returns-clause-same c).After-self in
-    same_last c.args.self.now.items (c.len-2.result - 1) c.args.self.now.sites (row_of c.args.name) n c.args.deps.now.red
-    c.args.deps.now.blue c.at_of-last.result (omega (arith, many, c.len-2.ensures, c.self.inside.starts.ok.0))
+    same_last c.args.self.now.items (c.len-2.result - 1) c.args.self.now.sites (row_of c.args.name) n
+    c.args.deps.now.red c.args.deps.now.blue c.at_of-last.result
+    (omega (arith, many, c.len-2.ensures, c.self.inside.starts.ok.0))
     c.at_of-last.ensures.counts c.at_of-last.ensures.length (c.is_same-2.ensures.same t n)

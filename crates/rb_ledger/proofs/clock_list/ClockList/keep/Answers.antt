@@ -33,8 +33,9 @@ pub returns-then-is_last-clause-clock : goal.returns-then-is_last-clause-clock
 returns-then-is_last-clause-clock c =
     let many = len (goal.at.returns-then-is_last-clause-clock c).After-len-count in
     let v = c.args.shadow.now in
-    OperationTables.kept_same c.args.self.now.sites _ v.deps v.name c.requires.sites c.is_last.ensures.all c.requires.own
-    (λ m. ap (λ k. slice_set (get_or c.args.self.now.items (k - 1) []) (row_of v.name) m) many ∙ c.if-is_last.ensures.same refl m)
+    OperationTables.kept_same c.args.self.now.sites _ v.deps v.name c.requires.sites c.is_last.ensures.all
+    c.requires.own (λ m. ap (λ k. slice_set (get_or c.args.self.now.items (k - 1) []) (row_of v.name) m) many
+    ∙ c.if-is_last.ensures.same refl m)
 
 pub returns-clause-number : goal.returns-clause-number
 returns-clause-number c = inl (len (goal.at.returns-clause-number c).After-len-count)
@@ -48,6 +49,7 @@ pub returns-clause-clock : goal.returns-clause-clock
 returns-clause-clock c =
     let many = len (goal.at.returns-clause-clock c).After-len-count in
     let v = c.args.shadow.now in
-    ap (λ k. clock_of_counts c.args.self.now.sites (slice_set (get_or c.push.new.self.items k []) (row_of v.name) (number_of v.name - 1))) many
-    ∙ OperationTables.kept_behind c.args.self.now.sites c.args.self.now.items c.push.new.self.items v.deps v.name c.requires.sites
-    c.push.ensures.all c.requires.own c.push.ensures.items
+    ap (λ k. clock_of_counts c.args.self.now.sites
+    (slice_set (get_or c.push.new.self.items k []) (row_of v.name) (number_of v.name - 1))) many
+    ∙ OperationTables.kept_behind c.args.self.now.sites c.args.self.now.items c.push.new.self.items v.deps v.name
+    c.requires.sites c.push.ensures.all c.requires.own c.push.ensures.items

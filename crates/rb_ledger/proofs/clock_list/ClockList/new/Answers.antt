@@ -8,7 +8,8 @@ invariant_of-result c =
     record {
       least = omega (arith, c.max.ensures);
       most = omega (arith, c.max.ensures, c.from.ensures, c.requires);
-      steps = ap length c.new-3.ensures.items ∙ none ∙ sym (ap (λ os. length os * (c.max.result + 1)) c.new-2.ensures.items);
+      steps = ap length c.new-3.ensures.items ∙ none
+          ∙ sym (ap (λ os. length os * (c.max.result + 1)) c.new-2.ensures.items);
       few = omega (arith, ap length c.new.ensures.items);
       based = ClockTables.none_based _ _ c.new-2.result.items c.new-2.ensures.items;
       bases_fit = omega arith;

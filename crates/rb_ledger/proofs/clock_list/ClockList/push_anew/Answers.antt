@@ -1,4 +1,5 @@
-use Rattle.std.proofs.Common.{◌≡◌, ◌+◌, ◌-◌, ◌<◌, ◌≤◌, ◌++◌, ◌∷◌, [], ap, ◌∙◌, arith, drop, length, length-take-le, mul-le-mul_right, take}
+use Rattle.std.proofs.Common.{◌≡◌, ◌+◌, ◌-◌, ◌<◌, ◌≤◌, [], ◌∷◌, ◌++◌, length, take, drop}
+use Rattle.std.proofs.Common.{ap, ◌∙◌, arith, length-take-le, mul-le-mul_right}
 use Rattle.std.proofs.lemmas.List.{take_all}
 use Rattle.rb_ledger.specs.ClockLists.{ClockTable, clocks_of}
 use Rattle.rb_ledger.proofs.ClockTables
@@ -15,7 +16,9 @@ more c = omega (arith, count c, ap (λ (t : ClockTable). t.limit) c.self.view_is
 
 -- of the clock an entry for each site is kept, and the red one
 all : (c : After-self) → c.self.inside.sites + 1 ≡ length (c.args.red ∷ take c.self.inside.sites c.args.blue.now)
-all c = omega (arith, length-take-le c.self.inside.sites c.args.blue.now (omega (arith, c.requires.all, c.self.invariant.most)))
+all c =
+    let there : c.self.inside.sites ≤ length c.args.blue.now = omega (arith, c.requires.all, c.self.invariant.most) in
+    omega (arith, length-take-le c.self.inside.sites c.args.blue.now there)
 
 -- what is kept with one more clock by a base of its own
 longer : (c : After-push_reserved) → ClockTables.IsLonger (c.self.inside.sites + 1) c.self.inside.bases.items
@@ -33,7 +36,10 @@ longer c =
 pub push_base-requires : goal.push_base-requires
 push_base-requires c =
     let room = ClockTables.room_more (c.self.inside.sites + 1) _ _ (more (goal.at.push_base-requires c).After-self) in
-    record { room = omega (arith, room, c.self.invariant.few, c.self.invariant.bases_fit, c.self.inside.bases.ok.0, ClockTables.at_most c.self.inside.sites c.args.blue.now) }
+    let short = ClockTables.at_most c.self.inside.sites c.args.blue.now in
+    record {
+      room = omega (arith, room, c.self.invariant.few, c.self.invariant.bases_fit, c.self.inside.bases.ok.0, short);
+    }
 
 pub push_steps-requires-clause-room : goal.push_steps-requires-clause-room
 push_steps-requires-clause-room c =
@@ -47,9 +53,15 @@ push_steps-requires-clause-room c =
       ClockTables.at_most (o + c.self.inside.sites + 1 - o) (drop o c.deref.result.now),
     )
 
+pub push_reserved-requires : goal.push_reserved-requires
+push_reserved-requires c =
+    let less = more (goal.at.push_reserved-requires c).After-self in
+    omega (arith, less, c.self.invariant.starts_fit, c.self.inside.starts.ok.0)
+
 pub overflow_cast-start : goal.overflow_cast-start
 overflow_cast-start c =
-    let many : length c.self.inside.starts.items ≤ 17000000 = omega (arith, count (goal.at.overflow_cast-start c).After-self, c.requires.few) in
+    let same = count (goal.at.overflow_cast-start c).After-self in
+    let many : length c.self.inside.starts.items ≤ 17000000 = omega (arith, same, c.requires.few) in
     omega (
       arith,
       mul-le-mul_right (c.self.inside.sites + 1) many,
@@ -58,10 +70,6 @@ overflow_cast-start c =
       c.len-start.ensures,
       c.self.inside.bases.ok.0,
     )
-
-pub push_reserved-requires : goal.push_reserved-requires
-push_reserved-requires c =
-    omega (arith, more (goal.at.push_reserved-requires c).After-self, c.self.invariant.starts_fit, c.self.inside.starts.ok.0)
 
 pub invariant_of-self : goal.invariant_of-self
 invariant_of-self c =

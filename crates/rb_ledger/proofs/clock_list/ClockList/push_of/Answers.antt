@@ -1,4 +1,5 @@
-use Rattle.std.proofs.Common.{◌≡◌, ◌+◌, ◌-◌, ◌<◌, ◌≤◌, ◌++◌, ◌∷◌, [], Some, ap, sym, ◌∙◌, arith, drop, length, mul-le-mul_right, refl, take, suc}
+use Rattle.std.proofs.Common.{◌≡◌, suc, ◌+◌, ◌-◌, ◌<◌, ◌≤◌, [], ◌∷◌, ◌++◌, length, take, drop, Some}
+use Rattle.std.proofs.Common.{refl, ap, sym, ◌∙◌, arith, mul-le-mul_right}
 use Rattle.std.specs.Prelude.{slice_get}
 use Rattle.rb_ledger.specs.ClockLists.{ClockTable, clocks_of}
 use Rattle.rb_ledger.proofs.ClockTables
@@ -19,8 +20,9 @@ width : (c : After-self) → c.args.width ≡ c.self.inside.sites + 1
 width c = omega (arith, ap (λ (t : ClockTable). t.sites) c.self.view_is, c.requires.width)
 
 -- where the last clock's base begins
-there : (c : In-Some) → slice_get c.self.inside.starts.items (length c.self.inside.starts.items - 1) ≡ Some c.in-Some.last.now
-there c = ClockTables.last_seen _ c.self.inside.starts.items c.in-Some.last.now c.deref.ensures.value (sym c.in-Some.ensures.value)
+there : (c : In-Some) →
+    slice_get c.self.inside.starts.items (length c.self.inside.starts.items - 1) ≡ Some c.in-Some.last.now
+there c = ClockTables.last_seen _ _ c.in-Some.last.now c.deref.ensures.value (sym c.in-Some.ensures.value)
 
 -- that base is whole
 within : (c : In-Some) → c.in-Some.last.now + (c.self.inside.sites + 1) ≤ length c.self.inside.bases.items
@@ -37,10 +39,12 @@ longer c =
     let os = c.self.inside.starts.items in
     let low = ClockTables.based_low w 0 _ os (length os - 1) o c.self.invariant.based (there p.In-Some) in
     let fewer = mul-le-mul_right w (let e : length os - 1 ≤ length os = omega arith in e) in
-    let base = ClockTables.range_seen o w (o + c.args.width) _ _ (ap (λ k. o + k) (width p.After-self)) c.deref-in-Some.ensures.value in
-    ClockTables.longer w o _ os _ _ _ _ _ c.self.invariant.based c.self.invariant.steps (omega (arith, c.self.invariant.few))
-    (omega (arith, low, fewer)) (within p.In-Some) (omega (arith, c.requires.all, c.self.invariant.most)) base
-    (c.if-fits.ensures refl) c.push_reserved.ensures.items c.push_steps.ensures.items
+    let end : o + c.args.width ≡ o + w = ap (λ k. o + k) (width p.After-self) in
+    let base = ClockTables.range_seen o w _ _ _ end c.deref-in-Some.ensures.value in
+    ClockTables.longer w o _ os _ _ _ _ _ c.self.invariant.based c.self.invariant.steps
+    (omega (arith, c.self.invariant.few)) (omega (arith, low, fewer)) (within p.In-Some)
+    (omega (arith, c.requires.all, c.self.invariant.most)) base (c.if-fits.ensures refl) c.push_reserved.ensures.items
+    c.push_steps.ensures.items
 
 pub slice_bounds-base-end : goal.slice_bounds-base-end
 slice_bounds-base-end c =
@@ -63,7 +67,8 @@ push_steps-requires-clause-room c =
 
 pub push_reserved-requires : goal.push_reserved-requires
 push_reserved-requires c =
-    omega (arith, more (goal.at.push_reserved-requires c).After-self, c.self.invariant.starts_fit, c.self.inside.starts.ok.0)
+    let less = more (goal.at.push_reserved-requires c).After-self in
+    omega (arith, less, c.self.invariant.starts_fit, c.self.inside.starts.ok.0)
 
 pub invariant_of-self : goal.invariant_of-self
 invariant_of-self c =
@@ -72,8 +77,9 @@ invariant_of-self c =
 
 pub returns-then-fits-clause-items : goal.returns-then-fits-clause-items
 returns-then-fits-clause-items c =
-    let one : c.self.inside.sites + 1 ≡ suc c.self.inside.sites = omega arith in
+    let w = c.self.inside.sites + 1 in
+    let one : w ≡ suc c.self.inside.sites = omega arith in
     (longer (goal.at.returns-then-fits-clause-items c).After-push_reserved).clocks
-    ∙ ap (λ k. clocks_of (c.self.inside.sites + 1) c.self.inside.bases.items c.self.inside.starts.items c.self.inside.steps.items
+    ∙ ap (λ k. clocks_of w c.self.inside.bases.items c.self.inside.starts.items c.self.inside.steps.items
     ++ take k (c.args.red ∷ c.args.blue.now) ∷ []) one
     ∙ ap (λ (t : ClockTable). t.items ++ (c.args.red ∷ take t.sites c.args.blue.now) ∷ []) c.self.view_is
