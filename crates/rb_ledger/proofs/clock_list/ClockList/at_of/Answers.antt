@@ -16,7 +16,7 @@ width c = ap (λ (t : ClockTable). t.sites + 1) c.self.view_is ∙ sym c.require
 near : (c : After-self) → c.args.index < length c.self.inside.starts.items
 near c =
     let count = ClockTables.seen_count _ _ _ _ _ (ap (λ (t : ClockTable). t.items) c.self.view_is) in
-    omega (arith, count, c.requires.near)
+    omega arith
 
 -- its steps are all there
 room : (c : After-self) → c.args.index * c.args.width + c.args.width ≤ length c.self.inside.steps.items
@@ -35,7 +35,7 @@ there c =
 within : (c : After-index) → c.index.result.now + c.args.width ≤ length c.self.inside.bases.items
 within c =
     let whole = ClockTables.based_at _ 0 _ c.self.inside.starts.items _ _ c.self.invariant.based (there c) in
-    omega (arith, whole, width (goal.at.After-index c).After-self)
+    omega (arith, width (goal.at.After-index c).After-self)
 
 -- what is read of the bases is its base
 base : (c : After-deref-2) →
@@ -51,19 +51,17 @@ steps : (c : After-deref-2) →
 steps c = ClockTables.range_seen (c.args.index * c.args.width) c.args.width _ _ _ refl c.deref-2.ensures.value
 
 pub index-requires : goal.index-requires
-index-requires c = omega (arith, near (goal.at.index-requires c).After-self, c.self.inside.starts.ok.0)
+index-requires c = omega (arith, near (goal.at.index-requires c).After-self)
 
 pub overflow_mul-first : goal.overflow_mul-first
-overflow_mul-first c =
-    omega (arith, room (goal.at.overflow_mul-first c).After-self, c.self.inside.steps.ok.0, c.self.inside.steps.ok)
+overflow_mul-first c = omega (arith, room (goal.at.overflow_mul-first c).After-self)
 
 pub slice_bounds-result-end : goal.slice_bounds-result-end
 slice_bounds-result-end c =
     omega (arith, within (goal.at.slice_bounds-result-end c).After-index, ap length c.deref.ensures.value)
 
 pub overflow_add-result-2 : goal.overflow_add-result-2
-overflow_add-result-2 c =
-    omega (arith, room (goal.at.overflow_add-result-2 c).After-self, c.self.inside.steps.ok.0, c.self.inside.steps.ok)
+overflow_add-result-2 c = omega (arith, room (goal.at.overflow_add-result-2 c).After-self)
 
 pub slice_bounds-result-end-2 : goal.slice_bounds-result-end-2
 slice_bounds-result-end-2 c =

@@ -18,32 +18,26 @@ same_last all i w r n red blue last at there long same =
     ∙ same
     ∙ ap (λ k. slice_set (red ∷ take k blue) r n) sites
 
--- how many clocks there are
+-- as many clocks are kept as there are
 count : (c : After-self) → length c.self.inside.starts.items ≡ length c.args.self.now.items
 count c = ClockTables.seen_count _ _ _ _ _ (ap (λ (t : ClockTable). t.items) c.self.view_is)
 
 pub at-last-requires : goal.at-last-requires
-at-last-requires c =
-    let many = count (goal.at.at-last-requires c).After-self in
-    omega (arith, many, c.requires.some, c.len.ensures, c.self.inside.starts.ok.0)
+at-last-requires c = omega (arith, count (goal.at.at-last-requires c).After-self)
 
 pub returns-then-self-gt-FEW_SITES-clause-same : goal.returns-then-self-gt-FEW_SITES-clause-same
 returns-then-self-gt-FEW_SITES-clause-same c = λ t n.
     let many = count (goal.at.returns-then-self-gt-FEW_SITES-clause-same c).After-self in
     same_last c.args.self.now.items (c.len.result - 1) c.args.self.now.sites (row_of c.args.name) n
-    c.args.deps.now.red c.args.deps.now.blue c.at-last.result
-    (omega (arith, many, c.len.ensures, c.self.inside.starts.ok.0))
+    c.args.deps.now.red c.args.deps.now.blue c.at-last.result (omega arith)
     c.at-last.ensures.counts c.at-last.ensures.length (c.is_same.ensures.same t n)
 
 pub at_of-last-requires-clause-near : goal.at_of-last-requires-clause-near
-at_of-last-requires-clause-near c =
-    let many = count (goal.at.at_of-last-requires-clause-near c).After-self in
-    omega (arith, many, c.requires.some, c.len-2.ensures, c.self.inside.starts.ok.0)
+at_of-last-requires-clause-near c = omega (arith, count (goal.at.at_of-last-requires-clause-near c).After-self)
 
 pub returns-clause-same : goal.returns-clause-same
 returns-clause-same c = λ t n.
     let many = count (goal.at.returns-clause-same c).After-self in
     same_last c.args.self.now.items (c.len-2.result - 1) c.args.self.now.sites (row_of c.args.name) n
-    c.args.deps.now.red c.args.deps.now.blue c.at_of-last.result
-    (omega (arith, many, c.len-2.ensures, c.self.inside.starts.ok.0))
+    c.args.deps.now.red c.args.deps.now.blue c.at_of-last.result (omega arith)
     c.at_of-last.ensures.counts c.at_of-last.ensures.length (c.is_same-2.ensures.same t n)

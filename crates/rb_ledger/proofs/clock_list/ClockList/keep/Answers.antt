@@ -11,23 +11,18 @@ use Rattle.rb_ledger.proofs.clock_list.ClockList.keep.Goals as goal
 
 -- the number that is read is that of the clocks
 len : (c : After-len-count) → c.len-count.result ≡ length c.args.self.now.items
-len c = omega (
-  arith,
-  ClockTables.seen_count _ _ _ _ _ (ap (λ (t : ClockTable). t.items) c.self.view_is),
-  c.len-count.ensures,
-  c.self.inside.starts.ok.0,
-)
+len c = omega (arith, ClockTables.seen_count _ _ _ _ _ (ap (λ (t : ClockTable). t.items) c.self.view_is))
 
 pub is_last-requires : goal.is_last-requires
-is_last-requires c = omega (arith, len (goal.at.is_last-requires c).After-len-count, c.if-count-gt0.true)
+is_last-requires c = omega (arith, len (goal.at.is_last-requires c).After-len-count)
 
 pub returns-then-is_last-clause-number : goal.returns-then-is_last-clause-number
 returns-then-is_last-clause-number c =
-    inr (omega (arith, len (goal.at.returns-then-is_last-clause-number c).After-len-count, c.if-count-gt0.true))
+    inr (omega (arith, len (goal.at.returns-then-is_last-clause-number c).After-len-count))
 
 pub returns-then-is_last-clause-count : goal.returns-then-is_last-clause-count
 returns-then-is_last-clause-count c =
-    omega (arith, len (goal.at.returns-then-is_last-clause-count c).After-len-count, c.if-count-gt0.true)
+    omega (arith, len (goal.at.returns-then-is_last-clause-count c).After-len-count)
 
 pub returns-then-is_last-clause-clock : goal.returns-then-is_last-clause-clock
 returns-then-is_last-clause-clock c =

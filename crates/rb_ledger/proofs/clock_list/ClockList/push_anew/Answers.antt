@@ -6,19 +6,17 @@ use Rattle.rb_ledger.proofs.ClockTables
 use Rattle.rb_ledger.proofs.clock_list.ClockList.push_anew.Goals.{After-self, After-push_reserved}
 use Rattle.rb_ledger.proofs.clock_list.ClockList.push_anew.Goals as goal
 
--- how many clocks there are
+-- as many clocks are kept as there are
 count : (c : After-self) → length c.self.inside.starts.items ≡ length c.args.self.now.items
 count c = ClockTables.seen_count _ _ _ _ _ (ap (λ (t : ClockTable). t.items) c.self.view_is)
 
 -- there is memory for one more clock
 more : (c : After-self) → length c.self.inside.starts.items < c.self.inside.limit
-more c = omega (arith, count c, ap (λ (t : ClockTable). t.limit) c.self.view_is, c.requires.room)
+more c = omega (arith, count c, ap (λ (t : ClockTable). t.limit) c.self.view_is)
 
 -- of the clock an entry for each site is kept, and the red one
 all : (c : After-self) → c.self.inside.sites + 1 ≡ length (c.args.red ∷ take c.self.inside.sites c.args.blue.now)
-all c =
-    let there : c.self.inside.sites ≤ length c.args.blue.now = omega (arith, c.requires.all, c.self.invariant.most) in
-    omega (arith, length-take-le c.self.inside.sites c.args.blue.now there)
+all c = omega (arith, length-take-le c.self.inside.sites c.args.blue.now (omega arith))
 
 -- what is kept with one more clock by a base of its own
 longer : (c : After-push_reserved) → ClockTables.IsLonger (c.self.inside.sites + 1) c.self.inside.bases.items
@@ -27,7 +25,7 @@ longer : (c : After-push_reserved) → ClockTables.IsLonger (c.self.inside.sites
 longer c =
     let w = c.self.inside.sites + 1 in
     let o = c.len-start.result in
-    let at : o ≡ length c.self.inside.bases.items = omega (arith, c.len-start.ensures, c.self.inside.bases.ok.0) in
+    let at : o ≡ length c.self.inside.bases.items = omega arith in
     let base = ClockTables.range_seen o w (o + c.self.inside.sites + 1) _ _ (omega arith) c.deref.ensures.value in
     ClockTables.longer_anew w o _ _ _ _ _ _ _ _ c.self.invariant.based c.self.invariant.steps c.self.invariant.few at
     (all (goal.at.After-push_reserved c).After-self) c.push_base.ensures.items base c.push_base.ensures.near
@@ -37,9 +35,7 @@ pub push_base-requires : goal.push_base-requires
 push_base-requires c =
     let room = ClockTables.room_more (c.self.inside.sites + 1) _ _ (more (goal.at.push_base-requires c).After-self) in
     let short = ClockTables.at_most c.self.inside.sites c.args.blue.now in
-    record {
-      room = omega (arith, room, c.self.invariant.few, c.self.invariant.bases_fit, c.self.inside.bases.ok.0, short);
-    }
+    record { room = omega arith }
 
 pub push_steps-requires-clause-room : goal.push_steps-requires-clause-room
 push_steps-requires-clause-room c =
@@ -47,29 +43,17 @@ push_steps-requires-clause-room c =
     omega (
       arith,
       ClockTables.room_more (c.self.inside.sites + 1) _ _ (more (goal.at.push_steps-requires-clause-room c).After-self),
-      c.self.invariant.steps,
-      c.self.invariant.steps_fit,
-      c.self.inside.steps.ok.0,
       ClockTables.at_most (o + c.self.inside.sites + 1 - o) (drop o c.deref.result.now),
     )
 
 pub push_reserved-requires : goal.push_reserved-requires
-push_reserved-requires c =
-    let less = more (goal.at.push_reserved-requires c).After-self in
-    omega (arith, less, c.self.invariant.starts_fit, c.self.inside.starts.ok.0)
+push_reserved-requires c = omega (arith, more (goal.at.push_reserved-requires c).After-self)
 
 pub overflow_cast-start : goal.overflow_cast-start
 overflow_cast-start c =
     let same = count (goal.at.overflow_cast-start c).After-self in
-    let many : length c.self.inside.starts.items ≤ 17000000 = omega (arith, same, c.requires.few) in
-    omega (
-      arith,
-      mul-le-mul_right (c.self.inside.sites + 1) many,
-      c.self.invariant.few,
-      c.self.invariant.most,
-      c.len-start.ensures,
-      c.self.inside.bases.ok.0,
-    )
+    let many : length c.self.inside.starts.items ≤ 17000000 = omega arith in
+    omega (arith, mul-le-mul_right (c.self.inside.sites + 1) many)
 
 pub invariant_of-self : goal.invariant_of-self
 invariant_of-self c =

@@ -12,12 +12,11 @@ more c = omega (
   arith,
   ClockTables.seen_count _ _ _ _ _ (ap (λ (t : ClockTable). t.items) c.self.view_is),
   ap (λ (t : ClockTable). t.limit) c.self.view_is,
-  c.requires.room,
 )
 
 -- the table's clocks have this number of counts
 width : (c : After-self) → c.args.width ≡ c.self.inside.sites + 1
-width c = omega (arith, ap (λ (t : ClockTable). t.sites) c.self.view_is, c.requires.width)
+width c = omega (arith, ap (λ (t : ClockTable). t.sites) c.self.view_is)
 
 -- where the last clock's base begins
 there : (c : In-Some) →
@@ -41,9 +40,8 @@ longer c =
     let fewer = mul-le-mul_right w (let e : length os - 1 ≤ length os = omega arith in e) in
     let end : o + c.args.width ≡ o + w = ap (λ k. o + k) (width p.After-self) in
     let base = ClockTables.range_seen o w _ _ _ end c.deref-in-Some.ensures.value in
-    ClockTables.longer w o _ os _ _ _ _ _ c.self.invariant.based c.self.invariant.steps
-    (omega (arith, c.self.invariant.few)) (omega (arith, low, fewer)) (within p.In-Some)
-    (omega (arith, c.requires.all, c.self.invariant.most)) base (c.if-fits.ensures refl) c.push_reserved.ensures.items
+    ClockTables.longer w o _ os _ _ _ _ _ c.self.invariant.based c.self.invariant.steps (omega arith) (omega arith)
+    (within p.In-Some) (omega arith) base (c.if-fits.ensures refl) c.push_reserved.ensures.items
     c.push_steps.ensures.items
 
 pub slice_bounds-base-end : goal.slice_bounds-base-end
@@ -59,16 +57,11 @@ push_steps-requires-clause-room c =
       arith,
       ClockTables.room_more (c.self.inside.sites + 1) _ _ (more p.After-self),
       width p.After-self,
-      c.self.invariant.steps,
-      c.self.invariant.steps_fit,
-      c.self.inside.steps.ok.0,
       ClockTables.at_most (o + c.args.width - o) (drop o c.deref-in-Some.result.now),
     )
 
 pub push_reserved-requires : goal.push_reserved-requires
-push_reserved-requires c =
-    let less = more (goal.at.push_reserved-requires c).After-self in
-    omega (arith, less, c.self.invariant.starts_fit, c.self.inside.starts.ok.0)
+push_reserved-requires c = omega (arith, more (goal.at.push_reserved-requires c).After-self)
 
 pub invariant_of-self : goal.invariant_of-self
 invariant_of-self c =

@@ -10,8 +10,7 @@ cut : (c : After-truncate-3) → ClockTables.IsCut (c.self.inside.sites + 1) c.a
     c.truncate-2.new.self.items
 cut c =
     let w = c.self.inside.sites + 1 in
-    let len : c.len.result ≡ length c.truncate.new.self.items =
-    omega (arith, c.len.ensures, c.truncate.new.self.ok.0) in
+    let len : c.len.result ≡ length c.truncate.new.self.items = omega arith in
     ClockTables.cut w c.args.count (c.len.result * w) _ _ _ _ _ _ c.self.invariant.based c.self.invariant.steps
     c.truncate.ensures.items (ap (λ n. n * w) len) c.truncate-3.ensures.items c.truncate-2.ensures.items
 

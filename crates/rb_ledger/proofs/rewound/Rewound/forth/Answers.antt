@@ -17,7 +17,6 @@ use Rattle.rb_ledger.proofs.rewound.Rewound.forth.Goals as goal
 more : (c : After-self) → c.self.inside.at < length c.self.inside.entries.items
 more c = omega (
   arith,
-  c.requires,
   ap (λ (w : Rewinding). w.at) c.self.view_is,
   ap (λ (w : Rewinding). length w.ledger.entries) c.self.view_is,
 )
@@ -29,7 +28,7 @@ there c = sym c.get.ensures ∙ c.unwrap-shadow.ensures
 -- those before it are as many as the position says
 before : (c : After-first-before) → length c.first-before.result ≡ c.self.inside.at
 before c = ap length c.first-before.ensures
-    ∙ length-take-le c.self.inside.at c.self.inside.entries.items (omega (arith, c.self.invariant.at.within))
+    ∙ length-take-le c.self.inside.at c.self.inside.entries.items c.self.invariant.at.within
 
 -- the index is theirs
 index : (c : After-first-before) → IsIndex c.self.inside.index.config c.first-before.result c.self.inside.index
@@ -60,7 +59,6 @@ push-requires-clause-links c =
 pub invariant_of-self : goal.invariant_of-self
 invariant_of-self c =
     let next = there (goal.at.invariant_of-self c).After-unwrap-shadow in
-    let room = c.self.invariant.room in
     record {
       at = Cursors.forth _ _ _ _ _ _ _ _ _ _ c.new.result c.self.invariant.at refl next
           (c.new.ensures ∙ c.parts-parts.ensures ∙ ap (λ us. parts_of c.self.inside.index.config us
@@ -72,29 +70,22 @@ invariant_of-self c =
       checkpoints = CheckpointFacts.moved _ _ _ _ _ _ c.self.invariant.checkpoints c.push.ensures.index.config refl refl
           refl refl;
       sites = omega (arith, c.self.invariant.sites, ap (λ (s : Settings). s.sites) c.push.ensures.index.config);
-      room = record {
-        within = omega (arith, c.push.ensures.limit, room.within);
-        entries = omega (arith, c.push.ensures.limit, room.entries);
-        cancels = omega (arith, c.push.ensures.limit, c.push.ensures.capacity, room.cancels);
-        links = omega (arith, c.push.ensures.limit, room.links);
-        checkpoints = omega (arith, c.push.ensures.limit, room.checkpoints);
-      };
+      room = grind arith;
     }
 
 pub parts-parts-requires-clause-index : goal.parts-parts-requires-clause-index
 parts-parts-requires-clause-index c = index (goal.at.parts-parts-requires-clause-index c).After-first-before
 
 pub push_reserved-requires : goal.push_reserved-requires
-push_reserved-requires c = omega (arith, more (goal.at.push_reserved-requires c).After-self, c.self.invariant.at.room)
+push_reserved-requires c = omega (arith, more (goal.at.push_reserved-requires c).After-self)
 
 pub push-requires-clause-cancels : goal.push-requires-clause-cancels
 push-requires-clause-cancels c =
     let p = goal.at.push-requires-clause-cancels c in
-    let room = c.self.invariant.room in
-    omega (arith, before p.After-first-before, more p.After-self, room.within, room.cancels)
+    omega (arith, before p.After-first-before, more p.After-self)
 
 pub at-links-requires : goal.at-links-requires
-at-links-requires c = omega (arith, more (goal.at.at-links-requires c).After-self, c.self.invariant.at.links.count)
+at-links-requires c = omega (arith, more (goal.at.at-links-requires c).After-self)
 
 pub push-requires-clause-index : goal.push-requires-clause-index
 push-requires-clause-index c = index (goal.at.push-requires-clause-index c).After-first-before
@@ -105,12 +96,12 @@ push-requires-clause-parts c = c.parts-parts.ensures
 pub push-requires-clause-rows : goal.push-requires-clause-rows
 push-requires-clause-rows c =
     let p = goal.at.push-requires-clause-rows c in
-    omega (arith, before p.After-first-before, more p.After-self, c.self.invariant.room.within)
+    omega (arith, before p.After-first-before, more p.After-self)
 
 pub overflow_add-self : goal.overflow_add-self
 overflow_add-self c =
     let long = Lengths.valid_length _ _ c.self.invariant.at.index.clocked.configured c.self.invariant.at.valid in
-    omega (arith, more (goal.at.overflow_add-self c).After-self, long)
+    omega (arith, more (goal.at.overflow_add-self c).After-self)
 
 pub returns-clause-ledger : goal.returns-clause-ledger
 returns-clause-ledger c =
@@ -123,7 +114,7 @@ returns-clause-log c =
     let len = length c.self.inside.entries.items in
     let room = c.push_reserved.new.self.room - (len - (at + 1)) in
     let same : room ≡ c.self.inside.log.room - (len - at) =
-    omega (arith, more (goal.at.returns-clause-log c).After-self, c.push_reserved.ensures.room) in
+    omega (arith, more (goal.at.returns-clause-log c).After-self) in
     ap (λ s. Cursors.log (records_of s c.self.inside.entries.items) room)
     c.push.ensures.index.config
     ∙ ap (Cursors.log (records_of c.self.inside.index.config c.self.inside.entries.items)) same
