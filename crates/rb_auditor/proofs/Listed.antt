@@ -3,7 +3,7 @@ use Rattle.std.proofs.Common.{◌≡◌, ℕ, ◌+◌, ◌<◌, ◌≤◌, List,
 use Rattle.std.proofs.Common.{arith, length-append, Some, append_assoc, Vec, get_or}
 use Rattle.std.specs.Borrow.{Bor}
 use Rattle.std.specs.Prelude.{map, slice_get, slice_set}
-use Rattle.std.proofs.lemmas.List.{length-map, length-take-le, map-append, take_more}
+use Rattle.std.proofs.lemmas.List.{length-map, length-take-le, take_more}
 use Rattle.std.proofs.lemmas.Option.{slice_get_read}
 use Rattle.rb_auditor.specs.Findings.{lists_of}
 use Rattle.rb_site.specs.declared.message.Message.{Message}
@@ -16,18 +16,6 @@ use Rattle.rb_auditor.proofs.Lists
 -- the messages that are kept elsewhere
 abbrev pub read : List (Bor Message) → List Message
 read ms = map (λ m. m.now) ms
-
--- the next of the messages that are added is read behind the others
-pub read_next : (new old first : List (Bor Message)) (b : Bor Message) (posted : List Message) (k : ℕ) (d : Message) → k < length posted
-    → new ≡ old ++ b ∷ [] → b.now ≡ get_or posted k d → read old ≡ read first ++ take k posted
-    → read new ≡ read first ++ take (k + 1) posted
-read_next new old first b posted k d less is item so_far =
-    ap read is
-    ∙ map-append (λ (m : Bor Message). m.now) old (b ∷ [])
-    ∙ ap (λ ms. ms ++ b.now ∷ []) so_far
-    ∙ append_assoc (read first) (take k posted) (b.now ∷ [])
-    ∙ ap (λ m. read first ++ (take k posted ++ m ∷ [])) item
-    ∙ ap (λ ms. read first ++ ms) (sym (take_more posted k d less))
 
 -- while not all are added, there is spare capacity for one more
 pub room_left : (now first : List (Bor Message)) (posted : List Message) (k len old room : ℕ) → k < length posted → len ≡ length now

@@ -1,5 +1,5 @@
 -- A desk with one event more, and a seat with its receipt.
-use Rattle.std.proofs.Common.{◌≡◌, ◌∙◌, ◌<◌, ◌≤◌, ◌+◌, ℕ, List, All, length, length-append, sym, ap, subst, arith, [], ◌∷◌, ◌++◌}
+use Rattle.std.proofs.Common.{◌≡◌, ◌∙◌, ◌<◌, ◌+◌, ℕ, List, All, length, length-append, sym, ap, subst, arith, [], ◌∷◌, ◌++◌}
 use Rattle.std.proofs.Common.{Option, Some, None, Result, Ok, Err, get_or, refl, set, zero, suc}
 use Rattle.std.proofs.lemmas.List.{length-set}
 use Rattle.std.specs.Prelude.{IfOk, IfSome, MatchOption, slice_get}
@@ -10,9 +10,9 @@ use Rattle.rb_site.specs.declared.entry.Entry.{Entry}
 use Rattle.rb_site.specs.declared.event.Event.{Event}
 use Rattle.rb_site.specs.declared.event.Event.TheVariants.{Apply}
 use Rattle.rb_site.specs.declared.message.Message.{Message}
-use Rattle.rb_site.specs.Events.{first_site, reply_to, sent_at}
+use Rattle.rb_site.specs.Events.{reply_to, sent_at}
 use Rattle.rb_site.specs.declared.reply.Reply.{Reply}
-use Rattle.rb_site.specs.Seen.{SeenSite, Replays, entry, state_of, stepped}
+use Rattle.rb_site.specs.Seen.{SeenSite, entry, state_of, stepped}
 use Rattle.rb_log.specs.declared.noted.Noted.{Noted}
 use Rattle.rb_log.specs.Log.{KnowsAll, SeenWriter, noted_at}
 use Rattle.rb_log.proofs.Public.Knowing.{noted_last}
@@ -49,25 +49,6 @@ last_entry s x y w p a e desk step = (
   ap (λ (z : SeenSite). z.entries) step
       ∙ ap (λ es. es ++ entry e (reply_to x.settings (state_of x) e) ∷ []) (sym (ap (λ (v : SeenWriter Entry). v.entries) desk.noted)),
 )
-
--- one event more at the desk
-pub desk_more : (s : Settings) (x y : SeenSite) (w w' : SeenWriter Entry) (p a p' a' : ℕ) (e : Event) → IsDesk s x w p a
-    → y ≡ stepped x e → Replays y.settings (first_site y.me) y.entries → length y.entries ≤ y.settings.limits.history
-    → w' ≡ record w { entries = y.entries } → a' ≡ a + 1 → p' ≡ p → IsDesk s y w' p' a'
-desk_more s x y w w' p a p' a' e desk step replays room noted more part =
-    let same : y.settings ≡ s = ap (λ (z : SeenSite). z.settings) step ∙ desk.settings in
-    let len = ap (λ (z : SeenSite). length z.entries) step ∙ length-append x.entries (_ ∷ []) in record {
-      settings = same;
-      within = rw (ap (λ (z : SeenSite). z.me) step) desk.within;
-      replays = subst (λ (t : Settings). Replays t (first_site y.me) y.entries) same replays;
-      room = subst (λ (t : Settings). length y.entries ≤ t.limits.history) same room;
-      noted = noted ∙ (λ i. record {
-        site = (ap (λ (v : SeenWriter Entry). v.site) desk.noted ∙ sym (ap (λ (z : SeenSite). z.me) step)) i;
-        entries = y.entries;
-      });
-      one_part = part ∙ desk.one_part;
-      counted = omega (arith, more, desk.counted, len);
-    }
 
 -- what is in a log is in one that knows all of it
 pub in_log_kept : (site : ℕ) (log log' : List (Noted Entry)) (rs : List SeenReceipt) → KnowsAll log log' → AreInLog site log rs

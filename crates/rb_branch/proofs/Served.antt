@@ -24,9 +24,6 @@ same_message m n h = cc
 abbrev Served : SeenReceipt → Type 0
 Served r = IsServed r.event
 
-with_receipts : SeenSeat → List SeenReceipt → SeenSeat
-with_receipts c xs = record c { receipts = xs }
-
 served_nothing : All Served []
 served_nothing k d h = absurd (omega arith)
 

@@ -5,7 +5,7 @@ use Rattle.std.specs.Prelude.{◌==◌, map, if◌then◌else◌}
 use Rattle.json.specs.Tree.{HasNumbers, ItemsHaveNumbers}
 use Rattle.json.specs.Tree as tree
 use Rattle.json.proofs.Printed.Decimals.{IsNumber-decimal, IsNumber-signed_decimal}
-use Rattle.serde_json.specs.Data.{Data, boolean, string}
+use Rattle.serde_json.specs.Data.{Data, string}
 use Rattle.serde_json.specs.Read.{of_items, of_json, read}
 use Rattle.serde_json.specs.View.{items_of}
 use Rattle.serde_json.specs.Written.{compact_text, items_outline, outline}
@@ -59,9 +59,6 @@ record AreTexts (ds : List Data) (most : ℕ) : Type 0 where
 -- a string
 pub string_text : (text : List ℕ) → IsText (string text) 0
 string_text text = record { numbers = tt; shallow = omega arith; same = refl }
-
-boolean_text : (b : Bool) → IsText (boolean b) 0
-boolean_text b = record { numbers = tt; shallow = omega arith; same = refl }
 
 -- a number of 64 bits
 pub number_text : (n : ℕ) → n < 2 ^ 64 → IsText (number_json n) 0

@@ -37,4 +37,3 @@ mod StatementsFit
 mod CausesFit
 mod AnswersFit
 mod Receipts
-mod Migrations

@@ -1,5 +1,5 @@
 -- A shadow that comes, cut at its counts.
-use Rattle.std.proofs.Common.{◌≡◌, ℕ, ◌<◌, ◌≤◌, ◌+◌, ◌-◌, ◌^◌, List, ◌++◌, length, take, true, codes, decimal, ap, sym, ◌∙◌}
+use Rattle.std.proofs.Common.{◌≡◌, ℕ, ◌<◌, ◌+◌, ◌-◌, ◌^◌, List, ◌++◌, length, take, true, codes, decimal, ap, sym, ◌∙◌}
 use Rattle.std.proofs.Common.{append_assoc, length-append, arith}
 use Rattle.std.proofs.lemmas.List.{take_at}
 use Rattle.json.specs.Print.{escape_byte}
@@ -91,8 +91,3 @@ before_end l a b e =
     let long : length l ≡ length a + length b = ap length e ∙ length-append a b in
     let many : length a ≡ length l - length b = omega arith in
     ap (take (length l - length b)) e ∙ take_at a b (length l - length b) many
-
-pub end_within : (l a b : List ℕ) → l ≡ a ++ b → length b ≤ length l
-end_within l a b e =
-    let long : length l ≡ length a + length b = ap length e ∙ length-append a b in
-    omega arith

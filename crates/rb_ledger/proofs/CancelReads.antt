@@ -15,12 +15,11 @@ use Rattle.std.proofs.lemmas.List.Sums.{count_by-le-length}
 use Rattle.rb_money.specs.declared.limits.TheConstants.{MOST_OPERATIONS}
 use Rattle.rb_money.proofs.Public.Tests.{at_most, equal, number_sound}
 use Rattle.rb_money.proofs.Public.Tests
-use Rattle.rb_ledger.specs.Valid.{IsValid, position_of, operation_at, find_position, first_cancel_in, first_cancel_from}
+use Rattle.rb_ledger.specs.Valid.{IsValid, position_of, operation_at, first_cancel_in, first_cancel_from}
 use Rattle.rb_ledger.specs.Index.{IsIndex, all_cancels, cancels_of, no_cancels}
 use Rattle.rb_ledger.proofs.Public.Legal
 use Rattle.rb_ledger.proofs.Lengths
 use Rattle.rb_ledger.proofs.CancelFacts
-use Rattle.rb_ledger.proofs.FoundNames.{found_none}
 
 -- there is one number of cancellations for each operation
 pub all_counts : (us : List Shadow) (cs : List Cancels) → cs ≡ all_cancels us → length cs ≡ length us
@@ -97,11 +96,6 @@ target_near s us x h n index longer is = omega (
   CancelFacts.target_within us h (Legal.IsValid-last s us h longer).target,
   all_counts us x.cancels.items index.cancels,
 )
-
--- a name that wasn't found isn't cancelled
-pub uncancelled_unfound : (s : Settings) (us : List Shadow) (x : OpName) → IsValid s us → None ≡ find_position us x →
-    false ≡ is_cancelled us x
-uncancelled_unfound s us x valid e = sym (Legal.fresh_uncancelled us x valid.targets (found_none us x e))
 
 -- how often the operation at a position is cancelled
 pub count_there : (us : List Shadow) (cs : List Cancels) (p i : ℕ) (c : Cancels) → cs ≡ all_cancels us → 1 ≤ p → p - 1 ≡ i →

@@ -68,11 +68,6 @@ found_nothing us x e = absent us (found_none us x e)
     absent [] d = refl
     absent (u ∷ us) d = let (first, rest) = Members.or-false _ _ d in absent us rest ∙ sym (ap (λ b. cond b (Some u) (find_in us x)) first)
 
--- a target is in the list
-pub target_found : (us : List Shadow) (h : Shadow) (x : OpName) → HasTarget us h (Some x) → None ≡ find_in us x → ⊥
-target_found us h x (t, there, named, right) none = Members.true≢false (sym (Members.named us t there) ∙ ap (names us) named
-    ∙ Lookups.unnamed us x (sym none))
-
 -- the second account of what cancels it
 pub other_found : (us : List Shadow) (x : OpName) (p : ℕ) (d : Shadow) (r : Option Place) → Some p ≡ find_position us x →
     r ≡ receiver_of (get_or us (p - 1) d).kind → r ≡ option_and_then receiver_of (kind_in us x)

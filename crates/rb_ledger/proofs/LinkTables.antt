@@ -240,12 +240,6 @@ mark_read [] i o near is = absurd (omega arith)
 mark_read (p ∷ os) zero o near is = ap (λ (o : OwnLink). o.cancelled) is
 mark_read (p ∷ os) (suc i) o near is = mark_read os i o (omega arith) is
 
--- there is none past the end
-pub mark_past : (os : List OwnLink) (i : ℕ) → length os ≤ i → false ≡ get_or (marks os) i false
-mark_past [] i past = refl
-mark_past (p ∷ os) zero past = absurd (omega arith)
-mark_past (p ∷ os) (suc i) past = mark_past os i (omega arith)
-
 -- the marks of an operation more, which isn't cancelled
 pub marks_pushed : (os ps : List OwnLink) (o : OwnLink) → ps ≡ os ++ o ∷ [] → o.cancelled ≡ false → marks ps ≡ marks os ++ false ∷ []
 marks_pushed os ps o pushed free = ap marks pushed ∙ map_push (λ (o : OwnLink). o.cancelled) os o

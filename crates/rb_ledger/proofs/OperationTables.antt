@@ -1,15 +1,14 @@
 -- What lists of operations are after a change.
 use Rattle.std.proofs.Common.{◌≡◌, ℕ, zero, suc, ◌+◌, ◌-◌, ◌<◌, ◌≤◌, List, [], ◌∷◌, ◌++◌, length, take, drop, get_or}
-use Rattle.std.proofs.Common.{refl, ap, sym, ◌∙◌, subst, arith, inl, inr, Some, None, Result, Ok, Err, true, false}
+use Rattle.std.proofs.Common.{refl, ap, sym, ◌∙◌, subst, arith, inl, inr, Some, None, true, false}
 use Rattle.std.proofs.Common.{length-take-le}
-use Rattle.std.specs.Prelude.{Bool, not, IsOk, is_err, is_some, option_to_list, if◌then◌else◌, Option, option_map, slice_get, slice_index, slice_set, replicate, ◌==◌, nat_le}
+use Rattle.std.specs.Prelude.{Bool, not, is_some, option_to_list, if◌then◌else◌, Option, option_map, slice_get, slice_index, slice_set, replicate, ◌==◌, nat_le}
 use Rattle.std.specs.Prelude.{◌&&◌, ◌⊎◌, unwrap_or}
 use Rattle.std.proofs.lemmas.Bool.{and_parts}
 use Rattle.std.proofs.lemmas.Bool.Decides.{nat_tests}
 use Rattle.std.proofs.lemmas.List.{get_or_append_left, length-set, length-map, length_push, map_push, take-append-drop, take-take, take_all, set-append_left, set-get_or}
 use Rattle.std.proofs.lemmas.Option.{slice_get_past, slice_get-map}
 use Rattle.std.proofs.Math.Seq.{get_or-append_seam, take-append_seam}
-use Rattle.std.specs.declared.alloc.AllocError.{AllocError}
 use Rattle.rb_money.specs.Settings.{Settings}
 use Rattle.rb_money.specs.declared.limits.TheConstants.{MOST_SITES}
 use Rattle.rb_shadow.specs.declared.colour.Colour.{Colour}
@@ -301,8 +300,3 @@ of_sites s v w sound more =
 pub popped_body : (r : Option Body) (bs cs : List Body) → bs ≡ cs ++ option_to_list r → true ≡ is_some r → (b : Body) × (bs ≡ cs ++ b ∷ [])
 popped_body (Some b) bs cs is some = (b, is)
 popped_body None bs cs is some = cc
-
--- a call that succeeds has no error
-pub no_err : (r : Result (Unit {0}) AllocError) → IsOk r → is_err r ≡ true → ⊥
-no_err (Ok x) ok err = cc
-no_err (Err x) ok err = cc

@@ -1,12 +1,10 @@
 -- What is read of lists, rows and options.
-use Rattle.std.proofs.Common.{◌≡◌, ℕ, zero, suc, ◌+◌, ◌-◌, ◌<◌, ◌≤◌, false, List, length, take}
+use Rattle.std.proofs.Common.{◌≡◌, ℕ, zero, suc, ◌+◌, ◌-◌, ◌<◌, ◌≤◌, List, length, take}
 use Rattle.std.proofs.Common.{get_or, refl, ap, sym, ◌∙◌, arith, Some, None, Bor}
-use Rattle.std.specs.Prelude.{slice_get, ◌==◌, Option}
+use Rattle.std.specs.Prelude.{slice_get, Option}
 use Rattle.std.specs.Prelude.{option_copied}
 use Rattle.std.specs.Slice.{IsGetResult}
 use Rattle.std.proofs.lemmas.Option.{slice_get_read, slice_get_past}
-use Rattle.rb_shadow.proofs.Public.Members
-use Rattle.rb_money.proofs.Public.Tests.{equal}
 
 -- an item that was read, as one of the same list at the same index
 pub read_at : {X : Type 0} (xs ys : List X) (i j : ℕ) (x : X) → ys ≡ xs → i ≡ j → slice_get ys i ≡ Some x → slice_get xs j ≡ Some x
@@ -35,7 +33,3 @@ positive (suc p) h = omega arith
 pub not_one : (n : ℕ) → (1 ≤ n → ⊥) → n ≡ 0
 not_one zero h = refl
 not_one (suc n) h = absurd (h (omega arith))
-
--- numbers that a test tells apart
-pub apart_from : (m n : ℕ) → (m == n) ≡ false → m ≡ n → ⊥
-apart_from m n e h = Members.true≢false (sym (equal m n h) ∙ e)

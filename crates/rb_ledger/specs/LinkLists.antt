@@ -11,10 +11,6 @@ pub record LinkTable : Type 0 where
   pub cancelled : List Bool
   pub limit : ℕ
 
--- the link on a second account where there is no second account
-abbrev pub no_link : Link
-no_link = record { balance = 0; earlier = 0 }
-
 -- the balance of a number, from 1, of the balances on second accounts
 abbrev pub second_balance : List ℕ → ℕ → ℕ
 second_balance ns zero = 0

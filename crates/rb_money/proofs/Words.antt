@@ -5,8 +5,7 @@ use Rattle.std.specs.Prelude.{String}
 use Rattle.std.specs.List.{All}
 use Rattle.std.specs.HashMap.{get_by_text}
 use Rattle.std.specs.declared.alloc.Global.{Global}
-use Rattle.std.proofs.lemmas.List.Elements.{All-get_or}
-use Rattle.rb_money.specs.Words.{AreBytes, IsFoundShort, IsShort, word}
+use Rattle.rb_money.specs.Words.{AreBytes, IsShort, word}
 
 -- a word is no zero
 pub word_some : (name : List ℕ) → 1 ≤ word name
@@ -61,14 +60,6 @@ is_short m name w place bytes e found other others same =
 -- nothing is asked of an empty slot
 pub empty_slot : {S : Type 0} (m : HashMap (String Global) ℕ S) → IsShort m (0, 0)
 empty_slot m name bytes e = let some = word_some name in absurd (omega (arith, some, e))
-
--- what is in the table is in the map
-pub found_short : {S : Type 0} (m : HashMap (String Global) ℕ S) (short : List (ℕ × ℕ)) (name : List ℕ) (place : ℕ) → All (IsShort m) short
-    → IsFoundShort short name place → get_by_text m name ≡ Some place
-found_short m short name place all found =
-    let slot = found.1.0 in
-    let entry = All-get_or (IsShort m) short slot (word name, place) found.1.1 all in
-    subst (IsShort m) found.1.2 entry name found.0 refl
 
 none_taken : {X : Type 0} (n : ℕ) (none : List X) → none ≡ [] → take n none ≡ []
 none_taken zero none e = refl

@@ -11,8 +11,6 @@ use Rattle.std.specs.Slice.{IsGetResult}
 use Rattle.rb_money.specs.Settings.{Settings}
 use Rattle.rb_money.specs.declared.limits.TheConstants.{MOST_SITES}
 use Rattle.rb_money.specs.declared.refusal.Refusal.TheVariants.{HistoryFull, NoMessage, NoSite}
-use Rattle.rb_shadow.specs.Operations.{find_in}
-use Rattle.rb_shadow.specs.declared.shadow.Shadow.{Shadow}
 use Rattle.rb_site.specs.declared.event.Event.{Event}
 use Rattle.rb_site.specs.declared.event.Event.TheVariants.{Receive}
 use Rattle.rb_site.specs.declared.message.Message.{Message}
@@ -29,7 +27,7 @@ use Rattle.rb_site.specs.Worlds.{AreOwn, IsCommand, World, arrival, first_world,
 use Rattle.rb_site.specs.Worlds.{reply_in, world_after, world_at}
 use Rattle.rb_site.proofs.Public.Runs
 use Rattle.rb_site.proofs.Public.Seen
-use Rattle.rb_world.specs.Brought.{IsOwnOperation, brought_by}
+use Rattle.rb_world.specs.Brought.{brought_by}
 use Rattle.rb_world.specs.Laws.{IsRunOf, SeenWorld, next_replies, next_reply, next_world, next_worlds, opened}
 
 -- ---- an event and the site that it is for
@@ -294,17 +292,6 @@ known_at s xs i known e x same at there =
     let P : Option ModelSite → Type 0 = λ o. IsSomeAnd o (λ t. IsAsKnown s t.ops known e) in
     let Q : Settings → Type 0 = λ z. IsAsKnown z (state_of x).ops known e in
     subst Q (sym same) (subst P (slice_get-map state_of xs i ∙ ap (option_map state_of) at) there)
-
--- where a site applied the name of an operation of the world, it applied the operation
-pub applied_itself : (s : Settings) (w : World) (i : ℕ) (t : ModelSite) (v : Shadow) (o : Option Shadow) → IsOwnOperation s w v →
-    slice_get w.sites i ≡ Some t → o ≡ find_in t.ops v.name → is_some o ≡ true → find_in t.ops v.name ≡ Some v
-applied_itself s w i t v None own at found some = cc
-applied_itself s w i t v (Some u) own at found some = sym found ∙ ap Some (own.applied i t at u (sym found))
-
--- where nothing was found, there is nothing
-pub not_applied : (o q : Option Shadow) → o ≡ q → is_some o ≡ false → q ≡ None
-not_applied None q found none = sym found
-not_applied (Some u) q found none = cc
 
 -- a place that has a site is below their number
 pub site_there : (s : Settings) (xs : List SeenSite) (i : ℕ) → IsSomeAnd (slice_get (map state_of xs) i) (λ t. is_full s t ≡ false)

@@ -1,5 +1,5 @@
 -- Bytes that are written in a string as they are.
-use Rattle.std.proofs.Common.{◌≡◌, ◌<◌, ◌≤◌, ◌^◌, ℕ, suc, List, [], ◌∷◌, ◌++◌, length, get_or, decimal, codes, refl, sym, ap, true, ◌∙◌}
+use Rattle.std.proofs.Common.{◌≡◌, ◌<◌, ◌≤◌, ◌^◌, ℕ, suc, List, [], ◌∷◌, ◌++◌, length, get_or, decimal, codes, refl, sym, true, ◌∙◌}
 use Rattle.std.proofs.Common.{append_assoc, arith}
 use Rattle.std.specs.Prelude.{⊤, ◌&&◌, nat_le}
 use Rattle.std.specs.List.{list_all}
@@ -86,19 +86,6 @@ bytes_plain (b ∷ bs) h = let p = and_parts (is_name_byte b) (list_all is_name_
 blue_text : (s n rest : List ℕ) → (codes "\"B" ++ (s ++ (codes "." ++ (n ++ codes "\"")))) ++ rest
     ≡ codes "\"B" ++ (s ++ (codes "." ++ (n ++ (codes "\"" ++ rest))))
 blue_text s n rest = simp append_assoc
-
--- a blue operation's name in quotes before a text, piece by piece
-pub blue_before : (s n : ℕ) (rest : List ℕ) → s < 2 ^ 8 → n < 2 ^ 32 → quoted (name_text (Blue s n)) ++ rest
-    ≡ codes "\"B" ++ (decimal s ++ (codes "." ++ (decimal n ++ (codes "\"" ++ rest))))
-blue_before s n rest h k = ap (λ l. l ++ rest) (quoted_blue s n h k) ∙ blue_text (decimal s) (decimal n) rest
-
-red_text : (n rest : List ℕ) → (codes "\"R" ++ (n ++ codes "\"")) ++ rest ≡ codes "\"R" ++ (n ++ (codes "\"" ++ rest))
-red_text n rest = simp append_assoc
-
--- a red operation's name in quotes before a text, piece by piece
-pub red_before : (n : ℕ) (rest : List ℕ) → n < 2 ^ 32 → quoted (name_text (Red n)) ++ rest
-    ≡ codes "\"R" ++ (decimal n ++ (codes "\"" ++ rest))
-red_before n rest h = ap (λ l. l ++ rest) (quoted_red n h) ∙ red_text (decimal n) rest
 
 -- an account's name is written in quotes as it is
 pub account_plain : (name : List ℕ) → is_account_name name ≡ true → escape name ≡ name
