@@ -9,8 +9,8 @@ use std::alloc::Global;
 use std::marker::Model;
 use std::sync::ledger::{Blank, Book, Share};
 
-/// What lies behind the one lock that all sites share: how many entries seats got in advance, and the parts of the
-/// entries that no seat has. Clients see how many seats were given.
+/// What lies behind the one lock that all sites share: how many entries seats got in advance, the parts of the entries
+/// that no seat has, and what is known of the log. Clients see how many seats were given.
 #[derive(Drop)]
 pub struct Books<E: Entries, R: Log> {
     entries: Book<E>,

@@ -9,7 +9,7 @@ pub enum CallFault {
     /// There was no memory for the event, its receipt or what is sent with it.
     #[error("out of memory")]
     OutOfMemory,
-    /// The site's history is full, or the seat has `MOST_RECEIPTS` receipts.
+    /// The site's history is full, the seat has `MOST_RECEIPTS` receipts, or desk and seat are of two sites.
     #[error("history full")]
     HistoryFull,
 }

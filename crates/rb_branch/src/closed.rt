@@ -86,7 +86,7 @@ impl<E: Entries, R: Log> Closed<E, R> {
 
     /// The reports, where each history is the receipts of the seats given back for it, interleaved. Else the
     /// first site where it isn't so: where receipts are missing in all, the first where they are missing or
-    /// are others. Where every seat is given back, none is missing.
+    /// are others. Where every seat is given back, none is missing. `OutOfMemory` where there is no memory to find out.
     pub fn settle(self, seats: Vec<Seat<E, R>>) -> Result<Vec<SiteReport>, GatherFault>
         ensures ok { IfOk result (λ reports. (reports.items ≡ self.reports) × AllGathered reports.items seats.items) }
         ensures err { IfErr result (Explains self.reports seats.items) }

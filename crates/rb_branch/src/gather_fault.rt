@@ -11,7 +11,7 @@ pub enum GatherFault {
     /// The site's history isn't its seats' receipts, interleaved.
     #[error("receipts of site {site} are others than its entries")]
     Mixed { site: u8 },
-    /// There was no memory to find out.
+    /// There was no memory to find out, or no thread could be made.
     #[error("out of memory")]
     OutOfMemory,
 }

@@ -9,8 +9,8 @@ use std::alloc::{AllocError, Global};
 use std::marker::Model;
 use std::sync::Wait;
 
-/// The receiving end of a site's link. It keeps what was taken from the link and not yet received, as its
-/// site's inbox was full. Clients see what it keeps, in the order in which it was taken.
+/// The receiving end of a site's link. It keeps what was taken from the link until its site has received it; what
+/// finds the inbox full stays. Clients see what it keeps, in the order in which it was taken.
 #[derive(Drop)]
 pub struct Inlet {
     link: LinkReceiver,

@@ -34,7 +34,7 @@ pub(crate) fn merges<R: Log>(
     Ok(all_read(site, seats, next.as_slice()))
 }
 
-/// The seat whose next receipt has the number of this index, which is one more, if any has.
+/// The seat that the table has at this index, if its next receipt has the number one above the index.
 fn holder<R: Log>(
     site: u8,
     index: usize,

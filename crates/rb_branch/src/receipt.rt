@@ -6,9 +6,9 @@ use rb_log::{Known, Log};
 use rb_site::Entry;
 use std::marker::Model;
 
-/// What a seat keeps of one event that it made: the number of its entry, and how many sendings failed. What happened
-/// and what was answered lies in the site's history, at the number; proofs alone read it here, from the log. Clients
-/// see all of it.
+/// What a seat keeps of one event that it made: the number of its entry, how many sendings failed, and its site. What
+/// happened and what was answered lies in the site's history, at the number; proofs alone read it here, from the log.
+/// Clients see all of it.
 #[derive(Drop)]
 pub struct Receipt<R: Log> {
     number: u32,
@@ -46,7 +46,7 @@ impl<R: Log> Receipt<R> {
     }
 
     /// How many sendings failed: each message that went with it counts once for each link that refused it, as
-    /// its inlet was dropped, or that wasn't there.
+    /// its inlet was dropped or there was no memory, or that wasn't there.
     pub fn unsent(&self) -> u32
         ensures { result ≡ self.now.unsent }
     {

@@ -279,7 +279,7 @@ fn add_rows(rows: &mut Vec<Row>, index: usize, alloc: Global) -> Result<(), Allo
 }
 
 /// The name of a shadow of the row that is ready, if there is one. It is looked for up to the number
-/// after the clock's entry: from there on none is ready.
+/// after the clock's entry: none behind that is ready.
 fn ready_in(row: &[Shadow], clock: &Clock) -> Option<OpName>
     requires { (r : ℕ) × IsHeldRow r row.now }
     ensures some { IfSome result (λ name. (u : Shadow) × Among u row.now × (u.name ≡ name) × IsReady clock.now u) }

@@ -31,7 +31,7 @@ pub struct Checkpoints {
 }
 
 impl Checkpoints {
-    /// Those of no operations on these many accounts, without memory for any.
+    /// Those of no operations on this number of accounts, without memory for any.
     pub fn new(alloc: Global, accounts: u32) -> Checkpoints
         requires { accounts ≤ MOST_ACCOUNTS }
         ensures lasts { result.lasts.items ≡ [] }

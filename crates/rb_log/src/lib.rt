@@ -1,4 +1,5 @@
 //! One log of what sites noted, in proofs alone.
+//! Tests: none. What each call answers is in its contract.
 #![tactic(auto)]
 
 mod known;
