@@ -1,21 +1,38 @@
 -- The step of an entry that the site records.
-use Rattle.std.proofs.Common.{ap, refl, subst, length, arith}
+use Rattle.std.proofs.Common.{◌≡◌, ◌++◌, ap, refl, subst, length, arith}
 use Rattle.rb_site.specs.Events.{sent_at}
 use Rattle.rb_site.specs.Seen.{state_of}
-use Rattle.rb_auditor.specs.Kept.{IsPlaced}
+use Rattle.rb_auditor.specs.Kept.{IsMore, IsPlaced}
 use Rattle.rb_auditor.specs.Replays.{RecordsEntry}
 use Rattle.rb_auditor.proofs.Kept.{more_still, no_more}
 use Rattle.rb_auditor.proofs.Results.{no_value, still}
 use Rattle.rb_auditor.proofs.Steps
+use Rattle.rb_auditor.proofs.replay.step_of.Goals.{Else-not-branch, After-keep_posted}
 use Rattle.rb_auditor.proofs.replay.step_of.Goals as goal
+
+-- the site records the entry, and posts what it sends
+noted : (c : Else-not-branch) → RecordsEntry c.args.site.now c.note.new.site c.args.entry.now
+    c.reserve.new.self.posted.items c.note.new.messages.items
+noted c = rw c.if-not-branch.false at c.in_ok-note.ensures.noted
+
+-- the store has what the entry sends behind the messages before
+grown : (c : After-keep_posted) → c.keep_posted.new.self.messages.items
+    ≡ c.place_of.new.store.messages.items
+    ++ sent_at c.args.site.now.settings (state_of c.args.site.now) c.args.entry.now.event
+grown c =
+    Steps.sent_after _ _ c.reserve.new.self.posted.items _ _ _ c.in_ok-first.ensures.items c.in_ok-first.ensures.none
+    (noted (goal.at.After-keep_posted c).Else-not-branch).sends c.keep_posted.ensures
+
+-- no message is taken from the store
+more : (c : After-keep_posted) → IsMore c.args.store.now.messages.items c.keep_posted.new.self.messages.items
+more c =
+    more_still c.args.store.now.messages.items c.place_of.new.store.messages.items _
+    c.keep_posted.new.self.messages.items c.in_ok-place.ensures.more (record { more = _; is = refl }) (grown c)
 
 pub keep_posted-requires : goal.keep_posted-requires
 keep_posted-requires c =
-    let noted : RecordsEntry c.args.site.now c.note.new.site c.args.entry.now c.reserve.new.self.posted.items
-    c.note.new.messages.items =
-    rw c.if-not-branch.false at c.in_ok-note.ensures.noted in
     let few = Steps.few_more c.args.site.now.settings (state_of c.args.site.now) c.args.entry.now.event c.reserve.new.self.posted.items
-    c.note.new.messages.items noted.sends in
+    c.note.new.messages.items (noted (goal.at.keep_posted-requires c).Else-not-branch).sends in
     omega (
       arith,
       few,
@@ -27,26 +44,15 @@ keep_posted-requires c =
 
 pub overflow_cast-result : goal.overflow_cast-result
 overflow_cast-result c =
-    let noted : RecordsEntry c.args.site.now c.note.new.site c.args.entry.now c.reserve.new.self.posted.items
-    c.note.new.messages.items =
-    rw c.if-not-branch.false at c.in_ok-note.ensures.noted in
-    let grown = Steps.sent_after c.place_of.new.store.messages.items c.reserve.new.self.messages.items c.reserve.new.self.posted.items
-    c.note.new.messages.items _ c.keep_posted.new.self.messages.items c.in_ok-first.ensures.items c.in_ok-first.ensures.none noted.sends
-    c.keep_posted.ensures in
     let few = Steps.few_more c.args.site.now.settings (state_of c.args.site.now) c.args.entry.now.event
-    c.place_of.new.store.messages.items c.keep_posted.new.self.messages.items grown in
+    c.place_of.new.store.messages.items c.keep_posted.new.self.messages.items
+    (grown (goal.at.overflow_cast-result c).After-keep_posted) in
     omega (arith, few, c.len.ensures.same, c.in_ok-first.ensures.at)
 
 pub overflow_sub-count : goal.overflow_sub-count
 overflow_sub-count c =
-    let noted : RecordsEntry c.args.site.now c.note.new.site c.args.entry.now c.reserve.new.self.posted.items
-    c.note.new.messages.items =
-    rw c.if-not-branch.false at c.in_ok-note.ensures.noted in
-    let grown = Steps.sent_after c.place_of.new.store.messages.items c.reserve.new.self.messages.items c.reserve.new.self.posted.items
-    c.note.new.messages.items _ c.keep_posted.new.self.messages.items c.in_ok-first.ensures.items c.in_ok-first.ensures.none noted.sends
-    c.keep_posted.ensures in
-    Steps.no_fewer c.place_of.new.store.messages.items _ c.keep_posted.new.self.messages.items c.in_ok-first.first c.len.result grown
-    c.in_ok-first.ensures.at c.len.ensures.same
+    Steps.no_fewer c.place_of.new.store.messages.items _ c.keep_posted.new.self.messages.items c.in_ok-first.first
+    c.len.result (grown (goal.at.overflow_sub-count c).After-keep_posted) c.in_ok-first.ensures.at c.len.ensures.same
 
 pub note-requires : goal.note-requires
 note-requires c = c.requires
@@ -88,21 +94,16 @@ returns-then-not-branch c = record {
 
 pub returns-in-Some : goal.returns-in-Some
 returns-in-Some c =
-    let noted : RecordsEntry c.args.site.now c.note.new.site c.args.entry.now c.reserve.new.self.posted.items
-    c.note.new.messages.items =
-    rw c.if-not-branch.false at c.in_ok-note.ensures.noted in
-    let grown = Steps.sent_after c.place_of.new.store.messages.items c.reserve.new.self.messages.items c.reserve.new.self.posted.items
-    c.note.new.messages.items _ c.keep_posted.new.self.messages.items c.in_ok-first.ensures.items c.in_ok-first.ensures.none noted.sends
-    c.keep_posted.ensures in
+    let p = goal.at.returns-in-Some c in
     record {
-      more = more_still c.args.store.now.messages.items c.place_of.new.store.messages.items _
-          c.keep_posted.new.self.messages.items c.in_ok-place.ensures.more (record { more = _; is = refl }) grown;
+      more = more p.After-keep_posted;
       step = (
-        noted.is,
-        noted.replays,
+        (noted p.Else-not-branch).is,
+        (noted p.Else-not-branch).replays,
         Steps.receives c.args.site.now.settings (state_of c.args.site.now) c.place_of.new.store.messages.items
-            c.keep_posted.new.self.messages.items c.args.entry.now.event c.in-Some.at grown
-            (subst (IsPlaced c.place_of.new.store.messages.items c.args.entry.now.event) c.in-Some.is c.in_ok-place.ensures.place),
+            c.keep_posted.new.self.messages.items c.args.entry.now.event c.in-Some.at (grown p.After-keep_posted)
+            (subst (IsPlaced c.place_of.new.store.messages.items c.args.entry.now.event) c.in-Some.is
+            c.in_ok-place.ensures.place),
       );
       err = tt;
       same = c.in_ok-note.ensures.same;
@@ -110,21 +111,18 @@ returns-in-Some c =
 
 pub returns-in-None : goal.returns-in-None
 returns-in-None c =
-    let noted : RecordsEntry c.args.site.now c.note.new.site c.args.entry.now c.reserve.new.self.posted.items
-    c.note.new.messages.items =
-    rw c.if-not-branch.false at c.in_ok-note.ensures.noted in
-    let grown = Steps.sent_after c.place_of.new.store.messages.items c.reserve.new.self.messages.items c.reserve.new.self.posted.items
-    c.note.new.messages.items _ c.keep_posted.new.self.messages.items c.in_ok-first.ensures.items c.in_ok-first.ensures.none noted.sends
-    c.keep_posted.ensures in
+    let p = goal.at.returns-in-None c in
     record {
-      more = more_still c.args.store.now.messages.items c.place_of.new.store.messages.items _
-          c.keep_posted.new.self.messages.items c.in_ok-place.ensures.more (record { more = _; is = refl }) grown;
+      more = more p.After-keep_posted;
       step = (
-        noted.is,
-        noted.replays,
-        Steps.alone c.place_of.new.store.messages.items (sent_at c.args.site.now.settings (state_of c.args.site.now) c.args.entry.now.event)
-            c.keep_posted.new.self.messages.items c.args.entry.now.event c.in_ok-first.first c.len.result grown
-            (subst (IsPlaced c.place_of.new.store.messages.items c.args.entry.now.event) c.in-None.is c.in_ok-place.ensures.place)
+        (noted p.Else-not-branch).is,
+        (noted p.Else-not-branch).replays,
+        Steps.alone c.place_of.new.store.messages.items
+            (sent_at c.args.site.now.settings (state_of c.args.site.now) c.args.entry.now.event)
+            c.keep_posted.new.self.messages.items c.args.entry.now.event c.in_ok-first.first c.len.result
+            (grown p.After-keep_posted)
+            (subst (IsPlaced c.place_of.new.store.messages.items c.args.entry.now.event) c.in-None.is
+            c.in_ok-place.ensures.place)
             c.in_ok-first.ensures.at c.len.ensures.same c.if-count-eq0.true,
       );
       err = tt;
@@ -133,21 +131,18 @@ returns-in-None c =
 
 pub returns-in-None-2 : goal.returns-in-None-2
 returns-in-None-2 c =
-    let noted : RecordsEntry c.args.site.now c.note.new.site c.args.entry.now c.reserve.new.self.posted.items
-    c.note.new.messages.items =
-    rw c.if-not-branch.false at c.in_ok-note.ensures.noted in
-    let grown = Steps.sent_after c.place_of.new.store.messages.items c.reserve.new.self.messages.items c.reserve.new.self.posted.items
-    c.note.new.messages.items _ c.keep_posted.new.self.messages.items c.in_ok-first.ensures.items c.in_ok-first.ensures.none noted.sends
-    c.keep_posted.ensures in
+    let p = goal.at.returns-in-None-2 c in
     record {
-      more = more_still c.args.store.now.messages.items c.place_of.new.store.messages.items _
-          c.keep_posted.new.self.messages.items c.in_ok-place.ensures.more (record { more = _; is = refl }) grown;
+      more = more p.After-keep_posted;
       step = (
-        noted.is,
-        noted.replays,
-        Steps.sends c.place_of.new.store.messages.items (sent_at c.args.site.now.settings (state_of c.args.site.now) c.args.entry.now.event)
-            c.keep_posted.new.self.messages.items c.args.entry.now.event c.in_ok-first.first c.len.result grown
-            (subst (IsPlaced c.place_of.new.store.messages.items c.args.entry.now.event) c.in-None.is c.in_ok-place.ensures.place)
+        (noted p.Else-not-branch).is,
+        (noted p.Else-not-branch).replays,
+        Steps.sends c.place_of.new.store.messages.items
+            (sent_at c.args.site.now.settings (state_of c.args.site.now) c.args.entry.now.event)
+            c.keep_posted.new.self.messages.items c.args.entry.now.event c.in_ok-first.first c.len.result
+            (grown p.After-keep_posted)
+            (subst (IsPlaced c.place_of.new.store.messages.items c.args.entry.now.event) c.in-None.is
+            c.in_ok-place.ensures.place)
             c.in_ok-first.ensures.at c.len.ensures.same,
       );
       err = tt;
