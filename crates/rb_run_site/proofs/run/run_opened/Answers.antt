@@ -1,5 +1,6 @@
 -- The file is opened, and then the site goes on.
 use Rattle.std.proofs.Common.{rules, arith, ◌≡◌, ◌<◌, ◌∙◌, ⊎_elim, inl, inr, Err, ap, subst, sym}
+use Rattle.rb_journal.specs.Host.{LeavesOnly}
 use Rattle.rb_journal.specs.Journal.{IsLeftAs}
 use Rattle.rb_journal.specs.Lines.{recovered}
 use Rattle.rb_serve.specs.Ends.{IsFull}
@@ -15,43 +16,32 @@ use Rattle.rb_run_site.specs.Runs.{IsLeftOrAnswered}
 use Rattle.rb_run_site.proofs.Going.{from_same, only_journal}
 use Rattle.rb_run_site.proofs.Stopped.{never_read, not_begun, only_disk, stopped}
 use Rattle.rb_journal.proofs.Public.Moments.{runs_on, weaker}
+use Rattle.rb_run_site.proofs.run.run_opened.Given.{Over}
+use Rattle.rb_run_site.proofs.run.run_opened.Goals.{After-go_on-ended, After-from-in-Err-2}
 use Rattle.rb_run_site.proofs.run.run_opened.Goals as goal
 
-pub returns-in-Ok-ended-clause-any_moment : goal.returns-in-Ok-ended-clause-any_moment
-returns-in-Ok-ended-clause-any_moment g c =
+-- a crash leaves the journal and the output as they were, or with some of the lines answered
+run : (g : Over) (c : After-go_on-ended g) → LeavesOnly g.H.Host.moment g.H.Host.left_since c.args.host
+    c.go_on-ended.new.journal.host
+    (IsLeftOrAnswered (recovered c.args.bytes.now) c.args.opened.machine.node.site c.args.opened.sends.items
+    (served_input c.args.buffers.now.pending (g.S.Source.remaining c.args.reader.now)) (g.H.Host.output c.args.host))
+run g c =
     let host = g.H.Host in
-    let was = c.args.host in
-    let mid = c.in-Ok.journal.host in
-    let new = c.go_on-ended.new.journal.host in
-    let lines = recovered c.args.bytes.now in
-    let output = host.output was in
-    let x = c.args.opened.machine.node.site in
-    let sends = c.args.opened.sends.items in
-    let input = served_input c.args.buffers.now.pending (g.S.Source.remaining c.args.reader.now) in
-    let so_far = weaker host.moment host.left_since was mid (IsLeftAs lines output) (IsLeftOrAnswered lines x sends input output)
-    c.in-Ok.ensures.any_moment (λ f d at. inl at) in
-    runs_on host.moment host.left_since was mid new (IsLeftOrAnswered lines x sends input output)
-    (IsLeftOrAnswered (recovered (host.content mid)) x sends input (host.output mid)) so_far c.go_on-ended.ensures.any_moment
-    (λ f d run. from_same lines x sends input output (recovered (host.content mid)) (host.output mid) f d c.in-Ok.ensures.lines
-    c.in-Ok.ensures.output run)
+    runs_on host.moment host.left_since _ c.in-Ok.journal.host _ _ _
+    (weaker host.moment host.left_since _ _ _ _ c.in-Ok.ensures.any_moment (λ f d at. inl at))
+    c.go_on-ended.ensures.any_moment
+    (λ f d run. from_same _ _ _ _ _ _ _ f d c.in-Ok.ensures.lines c.in-Ok.ensures.output run)
+
+-- why the file can't be opened is passed on
+passed : (g : Over) (c : After-from-in-Err-2 g) → c.from-in-Err-2.result ≡ fault_of_serve (fault_of_host c.in-Err.error)
+passed g c = c.from-in-Err-2.ensures ∙ ap fault_of_serve c.from-in-Err.ensures
+
+pub returns-in-Ok-ended-clause-any_moment : goal.returns-in-Ok-ended-clause-any_moment
+returns-in-Ok-ended-clause-any_moment g c = run g (goal.at.returns-in-Ok-ended-clause-any_moment g c).After-go_on-ended
 
 pub returns-in-Err-ended-clause-any_moment : goal.returns-in-Err-ended-clause-any_moment
 returns-in-Err-ended-clause-any_moment g c =
-    let host = g.H.Host in
-    let was = c.args.host in
-    let mid = c.in-Ok.journal.host in
-    let new = c.go_on-ended.new.journal.host in
-    let lines = recovered c.args.bytes.now in
-    let output = host.output was in
-    let x = c.args.opened.machine.node.site in
-    let sends = c.args.opened.sends.items in
-    let input = served_input c.args.buffers.now.pending (g.S.Source.remaining c.args.reader.now) in
-    let so_far = weaker host.moment host.left_since was mid (IsLeftAs lines output) (IsLeftOrAnswered lines x sends input output)
-    c.in-Ok.ensures.any_moment (λ f d at. inl at) in
-    runs_on host.moment host.left_since was mid new (IsLeftOrAnswered lines x sends input output)
-    (IsLeftOrAnswered (recovered (host.content mid)) x sends input (host.output mid)) so_far c.go_on-ended.ensures.any_moment
-    (λ f d run. from_same lines x sends input output (recovered (host.content mid)) (host.output mid) f d c.in-Ok.ensures.lines
-    c.in-Ok.ensures.output run)
+    run g (goal.at.returns-in-Err-ended-clause-any_moment g c).After-go_on-ended
 
 pub returns-in-Err-ended-clause-journal : goal.returns-in-Err-ended-clause-journal
 returns-in-Err-ended-clause-journal g c = λ failed.
@@ -89,10 +79,9 @@ returns-in-Err-clause-ended g c =
     let new = c.in-Err.host in
     let opened = c.args.opened in
     let left = g.S.Source.remaining c.args.reader.now in
-    let is : c.from-in-Err-2.result ≡ fault_of_serve (fault_of_host c.in-Err.error) =
-    c.from-in-Err-2.ensures ∙ ap fault_of_serve c.from-in-Err.ensures in
     not_begun (AnswersAll opened.machine.node.site opened.sends.items c.args.number (served_input c.args.buffers.now.pending left) left
-    (host.output c.args.host) (recovered (host.content new)) (host.output new)) c.in-Err.error c.from-in-Err-2.result is
+    (host.output c.args.host) (recovered (host.content new)) (host.output new)) c.in-Err.error c.from-in-Err-2.result
+    (passed g (goal.at.returns-in-Err-clause-ended g c).After-from-in-Err-2)
 
 pub returns-in-Err-clause-any_moment : goal.returns-in-Err-clause-any_moment
 returns-in-Err-clause-any_moment g c =
@@ -107,14 +96,12 @@ returns-in-Err-clause-any_moment g c =
 
 pub returns-in-Err-clause-read : goal.returns-in-Err-clause-read
 returns-in-Err-clause-read g c = λ failed.
-    let is : c.from-in-Err-2.result ≡ fault_of_serve (fault_of_host c.in-Err.error) =
-    c.from-in-Err-2.ensures ∙ ap fault_of_serve c.from-in-Err.ensures in
-    let passed : c.from-in-Err-2.result ≡ NotRead = cc failed in
-    absurd (never_read c.in-Err.error (sym is ∙ passed))
+    let is : c.from-in-Err-2.result ≡ NotRead = cc failed in
+    let cause = sym (passed g (goal.at.returns-in-Err-clause-read g c).After-from-in-Err-2) ∙ is in
+    absurd (never_read c.in-Err.error cause)
 
 pub returns-in-Err-clause-journal : goal.returns-in-Err-clause-journal
 returns-in-Err-clause-journal g c = λ failed.
-    let is : c.from-in-Err-2.result ≡ fault_of_serve (fault_of_host c.in-Err.error) =
-    c.from-in-Err-2.ensures ∙ ap fault_of_serve c.from-in-Err.ensures in
-    let passed : c.from-in-Err-2.result ≡ DiskFailed = cc failed in
-    inl (c.in-Err.ensures.failed (only_disk c.in-Err.error (sym is ∙ passed) c.in-Err.ensures.full))
+    let is : c.from-in-Err-2.result ≡ DiskFailed = cc failed in
+    let cause = sym (passed g (goal.at.returns-in-Err-clause-journal g c).After-from-in-Err-2) ∙ is in
+    inl (c.in-Err.ensures.failed (only_disk c.in-Err.error cause c.in-Err.ensures.full))

@@ -1,16 +1,39 @@
 -- A site is opened, and then it goes on.
-use Rattle.std.proofs.Common.{◌≡◌, ◌<◌, ◌∙◌, ⊎_elim, ap, inl, inr, sym}
+use Rattle.std.proofs.Common.{◌≡◌, ◌<◌, ◌∙◌, ⊎_elim, ap, inl, inr, sym, ℕ, List}
+use Rattle.rb_journal.specs.Host.{LeavesOnly}
 use Rattle.rb_journal.specs.Lines.{recovered}
 use Rattle.rb_serve.specs.Ends.{IsFull}
 use Rattle.rb_serve.specs.Run.{served_input}
 use Rattle.rb_run_site.specs.Ends.{AnswersAll, AnswersBehind}
 use Rattle.rb_run_site.specs.Journals.{SiteAnswers, journal_of}
-use Rattle.rb_run_site.specs.Runs.{IsLeftOrAnswered, IsSiteRun}
+use Rattle.rb_run_site.specs.Runs.{IsSiteRun}
 use Rattle.rb_run_site.specs.Steps.{IsRunOfSteps}
 use Rattle.rb_run_site.proofs.Behind.{ends_behind, full_behind, ran, run_behind}
 use Rattle.rb_run_site.proofs.Stepped.{stepped_run}
 use Rattle.rb_journal.proofs.Public.Moments.{started, weaker}
+use Rattle.rb_run_site.proofs.run.run_site.Given.{Over}
+use Rattle.rb_run_site.proofs.run.run_site.Goals.{After-run_opened, After-open_site}
 use Rattle.rb_run_site.proofs.run.run_site.Goals as goal
+
+-- a crash while the opened site runs leaves a run of it
+run : (g : Over) (c : After-run_opened g) → LeavesOnly g.H.Host.moment g.H.Host.left_since c.args.host
+    c.run_opened.result.host
+    (IsSiteRun c.args.me c.args.resend (g.S.Source.remaining c.args.reader.now) (recovered c.args.bytes.now)
+    (g.H.Host.output c.args.host))
+run g c =
+    let is = c.in-Ok.ensures.opened in
+    weaker g.H.Host.moment g.H.Host.left_since _ _ _ _ c.run_opened.ensures.any_moment
+    (λ f d run. run_behind _ _ c.in-Ok.number _ (g.S.Source.remaining c.open_site.new.reader) c.args.bytes.now is.0
+    c.open_site.new.buffers.pending c.in-Ok.opened.machine.node.site c.in-Ok.opened.first.items
+    c.in-Ok.opened.sends.items is.1 is.2 _ f d run)
+
+-- a crash before the run leaves the lines and the output as they were
+still : (g : Over) (c : After-open_site g) (f d : List ℕ)
+    → g.H.Host.left_since c.args.host (g.H.Host.moment c.args.host) f d
+    → (recovered f ≡ recovered c.args.bytes.now) × (d ≡ g.H.Host.output c.args.host)
+still g c f d left =
+    let now = g.met.H.Host.only_now c.args.host f d left in
+    (ap recovered (c.requires.durable f now.0 ∙ sym c.requires.bytes), now.1)
 
 pub returns-in-Ok-clause-ended : goal.returns-in-Ok-clause-ended
 returns-in-Ok-clause-ended g c =
@@ -35,42 +58,15 @@ returns-in-Ok-clause-ended g c =
     c.run_opened.ensures.ended
 
 pub returns-in-Ok-clause-any_moment : goal.returns-in-Ok-clause-any_moment
-returns-in-Ok-clause-any_moment g c =
-    let host = g.H.Host in
-    let is = c.in-Ok.ensures.opened in
-    let input = g.S.Source.remaining c.args.reader.now in
-    let mid = c.open_site.new in
-    let left = g.S.Source.remaining mid.reader in
-    let was = c.args.host in
-    let new = c.run_opened.result.host in
-    let x = c.in-Ok.opened.machine.node.site in
-    let first = c.in-Ok.opened.first.items in
-    let sends = c.in-Ok.opened.sends.items in
-    let output = host.output was in
-    let file = c.args.bytes.now in
-    weaker host.moment host.left_since was new (IsLeftOrAnswered (recovered file) x sends (served_input mid.buffers.pending left) output)
-    (IsSiteRun c.args.me c.args.resend input (recovered file) output) c.run_opened.ensures.any_moment
-    (λ f d run. run_behind c.args.me c.args.resend c.in-Ok.number input left file is.0 mid.buffers.pending x first sends is.1 is.2
-    output f d run)
+returns-in-Ok-clause-any_moment g c = run g (goal.at.returns-in-Ok-clause-any_moment g c).After-run_opened
 
 pub returns-in-Ok-clause-steps : goal.returns-in-Ok-clause-steps
 returns-in-Ok-clause-steps g c =
     let host = g.H.Host in
-    let is = c.in-Ok.ensures.opened in
     let input = g.S.Source.remaining c.args.reader.now in
-    let mid = c.open_site.new in
-    let left = g.S.Source.remaining mid.reader in
-    let was = c.args.host in
-    let new = c.run_opened.result.host in
-    let x = c.in-Ok.opened.machine.node.site in
-    let first = c.in-Ok.opened.first.items in
-    let sends = c.in-Ok.opened.sends.items in
-    let output = host.output was in
-    let file = c.args.bytes.now in
-    weaker host.moment host.left_since was new (IsLeftOrAnswered (recovered file) x sends (served_input mid.buffers.pending left) output)
-    (IsRunOfSteps c.args.me c.args.resend input (recovered file) output) c.run_opened.ensures.any_moment
-    (λ f d run. stepped_run c.args.me c.args.resend input (recovered file) output f d
-    (run_behind c.args.me c.args.resend c.in-Ok.number input left file is.0 mid.buffers.pending x first sends is.1 is.2 output f d run))
+    weaker host.moment host.left_since c.args.host c.run_opened.result.host _
+    (IsRunOfSteps c.args.me c.args.resend input (recovered c.args.bytes.now) (host.output c.args.host))
+    (run g (goal.at.returns-in-Ok-clause-steps g c).After-run_opened) (stepped_run c.args.me c.args.resend input _ _)
 
 pub returns-in-Ok-clause-journal : goal.returns-in-Ok-clause-journal
 returns-in-Ok-clause-journal g c = λ failed.
@@ -88,17 +84,15 @@ returns-in-Ok-clause-journal g c = λ failed.
 pub returns-clause-any_moment : goal.returns-clause-any_moment
 returns-clause-any_moment g c =
     let host = g.H.Host in
-    let was = c.args.host in
     let input = g.S.Source.remaining c.args.reader.now in
-    started host.moment host.left_since was (IsSiteRun c.args.me c.args.resend input (recovered c.args.bytes.now) (host.output was))
-    (λ f d left. let now = g.met.H.Host.only_now was f d left in
-    inl (ap recovered (c.requires.durable f now.0 ∙ sym c.requires.bytes), now.1))
+    started host.moment host.left_since c.args.host
+    (IsSiteRun c.args.me c.args.resend input (recovered c.args.bytes.now) (host.output c.args.host))
+    (λ f d left. inl (still g (goal.at.returns-clause-any_moment g c).After-open_site f d left))
 
 pub returns-clause-steps : goal.returns-clause-steps
 returns-clause-steps g c =
     let host = g.H.Host in
-    let was = c.args.host in
     let input = g.S.Source.remaining c.args.reader.now in
-    started host.moment host.left_since was (IsRunOfSteps c.args.me c.args.resend input (recovered c.args.bytes.now) (host.output was))
-    (λ f d left. let now = g.met.H.Host.only_now was f d left in
-    inl (ap recovered (c.requires.durable f now.0 ∙ sym c.requires.bytes), now.1))
+    started host.moment host.left_since c.args.host
+    (IsRunOfSteps c.args.me c.args.resend input (recovered c.args.bytes.now) (host.output c.args.host))
+    (λ f d left. inl (still g (goal.at.returns-clause-steps g c).After-open_site f d left))
