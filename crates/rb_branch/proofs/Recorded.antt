@@ -151,7 +151,7 @@ records_one x y e a b n posted P h p = record {
 pub applied_or_same : (x y : SeenSite) (a b : SeenSeat) (before posted : List Message) (r : Result (Option ℕ) CallFault)
     → IfOk r (λ o. IfSome o (λ n. (name : OpName) × (sent : List Message) × IsReadyAt x name × (posted ≡ before ++ sent)
     × Records x y (Apply name) a b n sent))
-    → (r ≡ Ok None → ((name : OpName) → ¬ IsReadyAt x name) × (y ≡ x) × (b ≡ a))
+    → (r ≡ Ok None → ((name : OpName) → ¬ IsReadyAt x name) × (y ≡ x) × (b ≡ a) × (posted ≡ before))
     → IfOk r (λ o. MatchOption o (b ≡ a) (λ n. HasOneMore a b IsApply n))
 applied_or_same x y a b before posted (Ok None) some none = (none refl).2
 applied_or_same x y a b before posted (Ok (Some n)) some none = records_one x y (Apply some.0) a b n some.1 IsApply some.4 tt

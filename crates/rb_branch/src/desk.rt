@@ -172,8 +172,10 @@ pub fn record_ready<E: Entries, R: Log, W: Wait>(
         × (posted.new.items ≡ posted.old.items ++ sent)
         × Records desk.old desk.new (Apply x) seat.old seat.new n sent)) }
     ensures none { result ≡ Ok None
-        → ((x : NameOf) → ¬ IsReadyAt desk.old x) × (desk.new ≡ desk.old) × (seat.new ≡ seat.old) }
-    ensures err { OnErr result ((desk.new ≡ desk.old) × (seat.new ≡ seat.old)) }
+        → ((x : NameOf) → ¬ IsReadyAt desk.old x) × (desk.new ≡ desk.old) × (seat.new ≡ seat.old)
+        × (posted.new.items ≡ posted.old.items) }
+    ensures err { OnErr result ((desk.new ≡ desk.old) × (seat.new ≡ seat.old)
+        × (posted.new.items ≡ posted.old.items)) }
 {
     let Some(name) = desk.ready() else {
         return Ok(None);
