@@ -3,9 +3,9 @@ ghost use Rattle.std.specs.Prelude.{◌≡◌, ◌<◌, ◌↔◌, ◌++◌, ◌
 ghost use Rattle.rb_auditor.specs.Kept.{HaveNoEntries, entries_noted, one_step_more};
 
 use crate::step::Step;
-use rb_kit::Erased;
 use rb_site::Entry;
 use std::alloc::{AllocError, Global};
+use std::snapshot::Snapshot;
 
 /// Memory for this number of steps is taken at first: 128 kilobytes, a mapping of its own, which grows without a copy
 /// and of which only what is used takes memory.
@@ -14,7 +14,7 @@ const FIRST_STEPS: usize = 16_500;
 /// The entries of a site's history, of which no memory is kept but what each that the site records does with messages.
 #[derive(Drop)]
 pub struct Notes {
-    pub entries: Vec<Erased<Entry>>,
+    pub entries: Vec<Snapshot<Entry>>,
     /// One for each entry, up to the first that the site doesn't record.
     pub steps: Vec<Step>,
 }
@@ -58,7 +58,7 @@ impl Notes {
         ensures entries { entries_noted self.new ≡ entries_noted self.old ++ entry.now ∷ [] }
         ensures steps { self.new.steps.items ≡ one_step_more self.old.steps.items step }
     {
-        self.entries.push_reserved(Erased::of(entry));
+        self.entries.push_reserved(Snapshot::of(entry));
         if let Some(step) = step {
             self.steps.push_reserved(step);
         }

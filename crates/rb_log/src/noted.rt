@@ -1,5 +1,5 @@
 //! Entries of the log.
-use rb_kit::Erased;
+use std::snapshot::Snapshot;
 
 /// What a site noted.
 #[derive(Drop)]
@@ -7,5 +7,5 @@ pub struct Noted<T> {
     /// The site's number.
     pub site: u8,
     /// What it noted, in proofs alone.
-    pub entry: Erased<T>,
+    pub entry: Snapshot<T>,
 }

@@ -6,8 +6,8 @@ ghost use Rattle.rb_log.specs.Log.{noted_at};
 use crate::law::{Add, Law, Nothing};
 use crate::{Known, Log, Noted};
 use logbook::{Offer, Pen, Seen, Word};
-use rb_kit::Erased;
 use std::marker::{Model, PhantomData};
+use std::snapshot::Snapshot;
 use std::sync::Wait;
 
 /// The writer of a site. Clients see the site, and all that it noted, in order.
@@ -71,7 +71,7 @@ impl<T, L: Log> Writer<T, L> {
     {
         let noted = Noted {
             site: self.site,
-            entry: Erased::of(entry),
+            entry: Snapshot::of(entry),
         };
         let mut seen = self.seen.again();
         let mut offer: Offer<Noted<T>, u64, Law, Nothing> = seen.plain::<Nothing, Noted<T>, Add>(

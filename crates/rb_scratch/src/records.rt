@@ -4,17 +4,17 @@ ghost use Rattle.rb_scratch.specs.Tried.{IsOfTheLast};
 ghost use Rattle.rb_scratch.specs.declared.request.TheConstants.{MOST_REQUESTS};
 
 use crate::request::MOST_REQUESTS;
-use rb_kit::Erased;
 use rb_ledger::Ledger;
 use rb_undo::{Undo, UndoLog, UndoParts};
 use std::array;
 use std::marker::Model;
+use std::snapshot::Snapshot;
 
 /// A record, which isn't kept: it is made anew from the ledger, by its entry's position there.
 #[derive(Drop)]
 struct Slot {
     position: u32,
-    parts: Erased<UndoParts>,
+    parts: Snapshot<UndoParts>,
     ghost here: { parts.value.position ≡ position },
 }
 
@@ -26,7 +26,7 @@ impl Slot {
     {
         Slot {
             position: parts.position,
-            parts: Erased::of(parts),
+            parts: Snapshot::of(parts),
         }
     }
 

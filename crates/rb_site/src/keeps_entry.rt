@@ -5,8 +5,8 @@ ghost use Rattle.rb_site.specs.declared.entry.Entry.{Entry as TheEntry};
 ghost use Rattle.rb_site.specs.declared.event.Event.{Event as TheEvent};
 
 use crate::{Entry, Event, Reply};
-use rb_kit::Erased;
 use std::alloc::{AllocError, Global};
+use std::snapshot::Snapshot;
 
 /// What is kept of an entry: all of it, or nothing that takes memory.
 pub trait KeepsEntry: Drop {
@@ -58,12 +58,12 @@ impl KeepsEntry for Entry {
 /// An entry that isn't kept. Only proofs read it.
 #[derive(Drop)]
 pub struct ErasedEntry {
-    event: Erased<Event>,
-    reply: Erased<Reply>,
+    event: Snapshot<Event>,
+    reply: Snapshot<Reply>,
 }
 
 impl KeepsEntry for ErasedEntry {
-    type Kept = Erased<Event>;
+    type Kept = Snapshot<Event>;
 
     ghost kept = { λ e. e.value };
 
@@ -74,15 +74,15 @@ impl KeepsEntry for ErasedEntry {
     const KEEPS: bool = false;
 
     #[inline(always)]
-    fn keep(_alloc: Global, event: &Event) -> Result<Erased<Event>, AllocError> {
-        Ok(Erased::of(event))
+    fn keep(_alloc: Global, event: &Event) -> Result<Snapshot<Event>, AllocError> {
+        Ok(Snapshot::of(event))
     }
 
     #[inline(always)]
-    fn note(event: Erased<Event>, reply: &Reply, _noted: Option<Reply>) -> ErasedEntry {
+    fn note(event: Snapshot<Event>, reply: &Reply, _noted: Option<Reply>) -> ErasedEntry {
         ErasedEntry {
             event,
-            reply: Erased::of(reply),
+            reply: Snapshot::of(reply),
         }
     }
 }

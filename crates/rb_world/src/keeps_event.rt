@@ -3,9 +3,9 @@ ghost use Rattle.std.specs.Prelude.{◌≡◌, IfOk};
 ghost use Rattle.rb_site.specs.declared.world_event.WorldEvent.{WorldEvent as TheEvent};
 ghost use Rattle.rb_world.specs.Brought.{brought_by};
 
-use rb_kit::Erased;
 use rb_site::{Event, WorldEvent};
 use std::alloc::{AllocError, Global};
+use std::snapshot::Snapshot;
 
 /// What is kept of an event: the event, or nothing that takes memory.
 pub trait KeepsEvent: Drop {
@@ -45,9 +45,9 @@ impl KeepsEvent for WorldEvent {
 /// An event that isn't kept. Only proofs read it.
 #[derive(Drop)]
 pub struct ErasedEvent {
-    site: Erased<u8>,
-    arrived: Erased<Event>,
-    delivered: Erased<Option<u32>>,
+    site: Snapshot<u8>,
+    arrived: Snapshot<Event>,
+    delivered: Snapshot<Option<u32>>,
 }
 
 impl KeepsEvent for ErasedEvent {
@@ -61,9 +61,9 @@ impl KeepsEvent for ErasedEvent {
         delivered: Option<u32>,
     ) -> Result<ErasedEvent, AllocError> {
         Ok(ErasedEvent {
-            site: Erased::of(&site),
-            arrived: Erased::of(arrived),
-            delivered: Erased::of(&delivered),
+            site: Snapshot::of(&site),
+            arrived: Snapshot::of(arrived),
+            delivered: Snapshot::of(&delivered),
         })
     }
 }
