@@ -1,8 +1,7 @@
 //! The bytes of a batch, line by line.
-ghost use Rattle.std.specs.Prelude.{◌≡◌, ◌↔◌, ◌++◌, [], ◌∷◌, IsTrue, OnOk, OnErr, IfOk};
+ghost use Rattle.std.specs.Prelude.{◌≡◌, ◌↔◌, ◌++◌, [], ◌∷◌, IsTrue, OnOk, OnErr};
 ghost use Rattle.rb_journal.specs.Lines.{recovered, IsBatch, IsLine};
 
-use crate::end_of_lines;
 use std::alloc::{AllocError, Global};
 
 const LF: u8 = b'\n';
@@ -22,14 +21,6 @@ impl LineBatch {
         LineBatch {
             bytes: Vec::new(alloc),
         }
-    }
-
-    /// The lines that these bytes of a file have. `Err` means out of memory.
-    pub fn of_file(alloc: Global, bytes: &[u8]) -> Result<LineBatch, AllocError>
-        ensures { IfOk result (λ batch. recovered batch.bytes.items ≡ recovered bytes.now) }
-    {
-        let lines = bytes[..end_of_lines(bytes)].to_vec(alloc)?;
-        Ok(LineBatch { bytes: lines })
     }
 
     /// Adds a line, and its LF. `Err` means out of memory: nothing is added.

@@ -1,4 +1,5 @@
-//! A file of the operating system, and an output. Each method makes one call and then notes it with its answer.
+//! A file of the operating system, and an output. Each method makes its calls of the system, and then notes them as one
+//! with their answer.
 ghost use Rattle.std.specs.Prelude.{◌≡◌, ◌<◌, ◌≤◌, [], length, IfOk, IfSome};
 ghost use Rattle.rb_journal.specs.Host.{Only};
 ghost use Rattle.rb_journal.specs.Calls.{content_of, output_of, leaves, left_since, faults_of};
@@ -40,9 +41,7 @@ pub fn open_disk<R: Files<File = fs::File> + AllocGlobal, P: Print + Drop>(
         .write(true)
         .create(true)
         .open(rt, path)?;
-    if file.try_lock().is_err() {
-        return Err(io::ErrorKind::WouldBlock.into());
-    }
+    file.try_lock()?;
     file.sync_all()?;
     fs::File::open(rt, folder)?.sync_all()?;
     let mut bytes = Vec::new(rt.alloc());

@@ -10,7 +10,8 @@ ghost use Rattle.rb_journal.specs.Journal.{IsSettled, IsLeftAs, IsBeforeOrAfter,
 
 use crate::{Host, HostError};
 
-/// No file is longer than this, in bytes.
+/// A batch is added only where the lines before it, and the batch without its first byte, are each shorter than this,
+/// in bytes.
 const MAX_LEN: usize = 1 << 60;
 
 const LF: u8 = b'\n';

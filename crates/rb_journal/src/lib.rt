@@ -13,11 +13,9 @@ mod host;
 mod journal;
 mod memory;
 mod record;
-mod run;
 
 pub use batch::{LineBatch, is_line};
 pub use disk::{Disk, open_disk};
 pub use host::{Host, HostError};
 pub use journal::{Journal, end_of_lines, recover};
 pub use memory::Memory;
-pub use run::Step;

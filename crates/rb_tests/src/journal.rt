@@ -1,6 +1,6 @@
 //! Lines on the disk: what a torn end leaves, batches, a file of the system.
 use crate::checks::{equal, holds};
-use rb_journal::{HostError, Journal, LineBatch, Memory, Step, end_of_lines, is_line, open_disk};
+use rb_journal::{HostError, Journal, LineBatch, Memory, end_of_lines, is_line, open_disk};
 use std::alloc::{AllocError, Global};
 use std::fs;
 use std::test::Fail;
@@ -122,8 +122,8 @@ fn only_lines_are_taken(rt: HostRuntime) -> Result<(), Fail> {
     Ok(())
 }
 
-// Commits two steps, the second with no line.
-fn two_steps(alloc: Global) -> Result<Journal<Memory>, HostError> {
+// Commits two batches, the second with no line.
+fn two_batches(alloc: Global) -> Result<Journal<Memory>, HostError> {
     let host = Memory::new(alloc, Vec::new(alloc));
     match Journal::open(host, &[]) {
         Ok(mut journal) => {
@@ -132,16 +132,8 @@ fn two_steps(alloc: Global) -> Result<Journal<Memory>, HostError> {
             if is_line(line) {
                 batch.push(line)?;
             }
-            journal.commit_all(&[
-                Step {
-                    batch,
-                    reply: b"one".to_vec(alloc)?,
-                },
-                Step {
-                    batch: LineBatch::new(alloc),
-                    reply: b"two".to_vec(alloc)?,
-                },
-            ])?;
+            journal.commit_and_put_out(&batch.bytes, b"one")?;
+            journal.commit_and_put_out(&LineBatch::new(alloc).bytes, b"two")?;
             Ok(journal)
         }
         Err((error, _)) => Err(error),
@@ -149,8 +141,8 @@ fn two_steps(alloc: Global) -> Result<Journal<Memory>, HostError> {
 }
 
 #[test]
-fn steps_are_committed_in_order(rt: HostRuntime) -> Result<(), Fail> {
-    let journal = two_steps(rt.alloc())?;
+fn batches_are_committed_in_order(rt: HostRuntime) -> Result<(), Fail> {
+    let journal = two_batches(rt.alloc())?;
     equal(&rt, journal.host.bytes(), b"{a}\n ".as_slice());
     equal(&rt, journal.host.output(), b"onetwo".as_slice());
     Ok(())
