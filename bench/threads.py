@@ -9,12 +9,14 @@ import json
 import os
 import subprocess
 import sys
+import tempfile
 import time
 
 sys.dont_write_bytecode = True
 import run
 
 HEAD = ["Sites", "Tellers", "Events", "Threads, events a second", "One thread, events a second", "Ratio"]
+HEAD += ["The text alone, events a second"]
 BESIDE = ["Sites", "Tellers", "Processor time, ms", "The other's", "Ratio"]
 BESIDE += ["From start to end, ms", "The other's", "Ratio"]
 
@@ -33,6 +35,14 @@ def timed(words, given, runs):
         taken = time.perf_counter() - began
         best = min(taken, best or taken)
     return best, text
+
+
+def copied(text, runs):
+    """The least wall time in seconds in which `cat` writes a text that is in a file: no program can write it sooner."""
+    with tempfile.NamedTemporaryFile() as file:
+        file.write(text)
+        file.flush()
+        return timed(["cat", file.name], b"", runs)[0]
 
 
 def sent_by(reply):
@@ -75,8 +85,8 @@ def row(program, sites, tellers, given):
     if answered != replies:
         sys.exit(f"{' '.join(words)}: the script of its events is answered otherwise")
     events = replies.count(b"\n")
-    rates = [f"{events / taken:,.0f}" for taken in (threads, alone)]
-    return [sites, tellers, f"{events:,}", *rates, f"{alone / threads:.2f}"]
+    rates = [f"{events / taken:,.0f}" for taken in (threads, alone, copied(text, given.runs))]
+    return [sites, tellers, f"{events:,}", *rates[:2], f"{alone / threads:.2f}", rates[2]]
 
 
 def spent(words):
