@@ -11,6 +11,7 @@ pub trait Entries: Ledger {
     ghost settings: { Settings };
 }
 
+// Each use of `Brand` names a configuration of its own in place of this one.
 impl Entries for Brand {
     ghost use Rattle.std.specs.Prelude.{[]};
     ghost use Rattle.rb_money.specs.Settings.{Settings};

@@ -1,8 +1,8 @@
 //! Gates.
 
-/// Called at each call of a branch: when its site's lock is got, before the step, and once the lock is
-/// released. `enter` must not call the branch, nor wait for a thread that does: the lock of its site is held,
-/// so it would wait for itself.
+/// Called round each event of a seat, and each look of `apply_ready`: `enter` once the site's lock is got, `leave` once it
+/// is released. `enter` must not call the branch at its own site, nor wait for a thread that does: that site's lock is
+/// held.
 pub trait Gate {
     /// The site's lock is held.
     fn enter(&self, site: u8);

@@ -7,15 +7,14 @@ use std::sync::atomic::{AtomicBool, AtomicU64, AtomicUsize, Ordering};
 use std::sync::{Arc, Mutex, Wait};
 
 /// What the ends of a link share: the messages, in the order in which they came, behind a lock; how many sending ends
-/// there are, and whether the receiving end is there; how often it was to be woken, and how many threads may sleep
-/// there.
+/// there are, and whether the receiving end is there; how often it was to be woken, and whether it may sleep.
 #[derive(Drop)]
 struct Link {
     messages: Mutex<Vec<Message>>,
     senders: AtomicUsize,
     is_read: AtomicBool,
     rings: AtomicU64,
-    sleepers: AtomicUsize,
+    may_sleep: AtomicBool,
 }
 
 /// The sending end of a link.
@@ -43,7 +42,7 @@ pub(crate) fn open_link(alloc: Global) -> Result<(LinkSender, LinkReceiver), All
         senders: AtomicUsize::new(1),
         is_read: AtomicBool::new(true),
         rings: AtomicU64::new(0),
-        sleepers: AtomicUsize::new(0),
+        may_sleep: AtomicBool::new(false),
     };
     let link = Arc::new(alloc, shared)?;
     let batch = Batch {
@@ -57,10 +56,10 @@ pub(crate) fn open_link(alloc: Global) -> Result<(LinkSender, LinkReceiver), All
 }
 
 impl Link {
-    /// Wakes who sleeps until something comes or the link closes.
+    /// Wakes the receiving end, which sleeps until something comes or the link closes.
     fn ring(&self) {
         self.rings.fetch_add(1, Ordering::SeqCst);
-        if self.sleepers.load(Ordering::SeqCst) != 0 {
+        if self.may_sleep.load(Ordering::SeqCst) {
             self.rings.wake_all();
         }
     }
@@ -88,9 +87,10 @@ impl Link {
             if !is_open {
                 return false;
             }
-            self.sleepers.fetch_add(1, Ordering::SeqCst);
+            self.may_sleep.store(true, Ordering::SeqCst);
+            // It sleeps only where no ring came since: `park` compares the lower 32 bits.
             self.rings.park(rt, (heard & 0xffff_ffff) as u32);
-            self.sleepers.fetch_sub(1, Ordering::SeqCst);
+            self.may_sleep.store(false, Ordering::SeqCst);
         }
         unreachable!()
     }
