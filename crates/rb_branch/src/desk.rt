@@ -1,6 +1,6 @@
 //! Desks, seats, and the one call that makes a receipt.
 ghost use Rattle.std.specs.Prelude.{◌≡◌, ◌<◌, ◌≤◌, ◌++◌, ◌∷◌, [], All, IfNone, IfOk, IfSome, List, OnErr, OnOk, Err};
-ghost use Rattle.std.specs.Prelude.{IsTrue, None, Ok, ◌+◌, false, length, vec_capacity, vec_len};
+ghost use Rattle.std.specs.Prelude.{None, Ok, ◌+◌, false, length, vec_capacity, vec_len};
 ghost use Rattle.std.specs.Option.{option_copied};
 ghost use Rattle.rb_site.specs.Events.{first_site, is_full, reply_to, sent_at};
 ghost use Rattle.rb_site.specs.Seen.{Replays, first_seen, state_of, stepped};
@@ -22,7 +22,7 @@ use rb_log::{Known, Log, Writer};
 use rb_money::Refusal;
 use rb_shadow::OpName;
 use rb_site::{Entry, Event, Posted, Reply, Site, SiteReport};
-use std::alloc::{AllocError, Global};
+use std::alloc::Global;
 use std::marker::Model;
 use std::sync::Wait;
 use std::sync::ledger::Share;
@@ -176,6 +176,7 @@ pub fn record_ready<E: Entries, R: Log, W: Wait>(
         × (posted.new.items ≡ posted.old.items) }
     ensures err { OnErr result ((desk.new ≡ desk.old) × (seat.new ≡ seat.old)
         × (posted.new.items ≡ posted.old.items)) }
+    ensures full { result ≡ Err HistoryFull → CannotRecord desk.old seat.old }
 {
     let Some(name) = desk.ready() else {
         return Ok(None);
