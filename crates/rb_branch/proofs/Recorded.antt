@@ -10,13 +10,13 @@ use Rattle.rb_site.specs.declared.entry.Entry.{Entry}
 use Rattle.rb_site.specs.declared.event.Event.{Event}
 use Rattle.rb_site.specs.declared.event.Event.TheVariants.{Apply}
 use Rattle.rb_site.specs.declared.message.Message.{Message}
-use Rattle.rb_site.specs.Events.{reply_to, sent_at}
+use Rattle.rb_site.specs.Events.{first_site, reply_to, sent_at}
 use Rattle.rb_site.specs.declared.reply.Reply.{Reply}
-use Rattle.rb_site.specs.Seen.{SeenSite, entry, state_of, stepped}
+use Rattle.rb_site.specs.Seen.{SeenSite, Replays, entry, state_of, stepped}
 use Rattle.rb_log.specs.declared.noted.Noted.{Noted}
 use Rattle.rb_log.specs.Log.{KnowsAll, SeenWriter, noted_at}
 use Rattle.rb_log.proofs.Public.Knowing.{noted_last}
-use Rattle.rb_branch.specs.Seats.{HasOneMore, IsApply, IsDesk, IsReadyAt, IsSeat, IsSiteReply, Records, SeenSeat, SetsUnsent}
+use Rattle.rb_branch.specs.Seats.{HasOneMore, IsApply, IsCall, IsDesk, IsReadyAt, IsSeat, IsSiteReply, Records, SeenSeat, SetsUnsent}
 use Rattle.rb_branch.proofs.Public.Replies.{last_snoc}
 use Rattle.rb_branch.specs.declared.call_fault.CallFault.{CallFault}
 use Rattle.rb_branch.specs.Receipts.{AreInLog, IsInLog, SeenReceipt, found_entry, last_reply, receipt, receipt_in}
@@ -145,6 +145,22 @@ records_one x y e a b n posted P h p = record {
   seat = h.seat;
   event_is = p;
   number_is = h.number_is;
+}
+
+-- an event that is recorded at some site of the configuration is one receipt more
+pub call_one : (s : Settings) (e : Event) (a b : SeenSeat) (n : ℕ) (sent : List Message) (P : Event → Type 0)
+    → IsCall s e a b n sent → P e → HasOneMore a b P n
+call_one s e a b n sent P h p = records_one h.desk (stepped h.desk e) e a b n sent P h.records p
+
+-- an event that is recorded at a site of the configuration is such a call
+pub is_call : (s : Settings) (x y : SeenSite) (e : Event) (a b : SeenSeat) (n : ℕ) (posted sent : List Message)
+    → x.settings ≡ s → Replays s (first_site x.me) x.entries → posted ≡ sent → Records x y e a b n sent → IsCall s e a b n posted
+is_call s x y e a b n posted sent settings replays is h = record {
+  desk = x;
+  settings = settings;
+  replays = replays;
+  records = subst (λ (m : List Message). Records x (stepped x e) e a b n m) (sym is)
+      (subst (λ (z : SeenSite). Records x z e a b n sent) h.run h);
 }
 
 -- what an application answers, of the seat alone

@@ -92,6 +92,14 @@ pub record Records (old new : SeenSite) (event : Event) (before now : SeenSeat) 
   pub number_is : number ≡ length now.receipts
   pub posted_is : posted ≡ sent_at old.settings (state_of old) event
 
+-- the event was recorded at a site of the configuration, whose history replays: the seat has its receipt, at this
+-- number, and the messages are those that this site sends
+pub record IsCall (s : Settings) (event : Event) (before now : SeenSeat) (number : ℕ) (messages : List Message) : Type 0 where
+  pub desk : SeenSite
+  pub settings : desk.settings ≡ s
+  pub replays : Replays s (first_site desk.me) desk.entries
+  pub records : Records desk (stepped desk event) event before now number messages
+
 -- why nothing is recorded, but for running out of memory: the seat is of another site, the history is full, or the seat
 -- is
 abbrev pub CannotRecord : SeenSite → SeenSeat → Type 0
