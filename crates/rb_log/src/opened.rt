@@ -4,7 +4,7 @@ ghost use Rattle.std.specs.Prelude.{◌≡◌};
 use crate::law::{Empty, Law};
 use crate::{Log, Noted, Writers};
 use logbook::{Pens, Seen, Start};
-use std::marker::{Model, PhantomData};
+use std::marker::Model;
 
 /// An empty log of 256 sites that has no name yet. Clients see the logbook's book that it is.
 #[derive(Drop)]

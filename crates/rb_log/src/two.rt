@@ -1,5 +1,5 @@
 //! Two writers of one log.
-ghost use Rattle.std.specs.Prelude.{◌≡◌, ◌∷◌, [], Some};
+ghost use Rattle.std.specs.Prelude.{◌≡◌, Some};
 ghost use Rattle.rb_log.specs.Log.{noted_at};
 
 use crate::{Known, Log, OpenedLog};

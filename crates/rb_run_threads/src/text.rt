@@ -1,5 +1,5 @@
 //! Histories as text: the lines that an audit reads.
-ghost use Rattle.std.specs.Prelude.{◌≡◌, ◌↔◌, ◌++◌, ◌≤◌, List, [], Err, false, true, map, vec_len, IfOk, OnOk};
+ghost use Rattle.std.specs.Prelude.{◌≡◌, ◌↔◌, ◌++◌, ◌≤◌, [], Err, false, true, map, vec_len, OnOk};
 ghost use Rattle.rb_money.specs.declared.limits.TheConstants.{MOST_SITES};
 ghost use Rattle.rb_site.specs.declared.report.SiteReport.{SiteReport};
 ghost use Rattle.rb_run_threads.specs.Texts.{config_line, entry_line, histories_text, history_text, text_of};
