@@ -36,7 +36,7 @@ start_of s a = slice_index s.starts a.0
 abbrev pub is_account : Settings → Place → Bool
 is_account s a = nat_lt a.0 (length s.starts)
 
--- a byte of an account's name: a to z, 0 to 9, a dot, a line or a dash
+-- a byte of an account's name: a to z, 0 to 9, a dot, an underscore or a dash
 abbrev pub is_name_byte : ℕ → Bool
 is_name_byte b = (nat_le 97 b && nat_le b 122) || (nat_le 48 b && nat_le b 57) || (b == 46) || (b == 95) || (b == 45)
 

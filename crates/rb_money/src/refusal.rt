@@ -41,13 +41,13 @@ pub enum Refusal {
     BatchRefused { index: u8, cause: Cause },
     /// Nothing is held under the name.
     NotHeld,
-    /// Its past isn't applied here yet.
+    /// Its past isn't applied here yet, or, where `Ledger::check` says so, it is applied already.
     NotReady,
     /// The inbox is full, and the operation isn't ready.
     InboxFull,
     /// No site made such a message; `why` is 1 to 7.
     BadMessage { why: u8 },
-    /// Another operation has the name.
+    /// Another operation has the name, or it is said to be of this site, which didn't make it.
     Conflict,
     /// No message has the number.
     NoMessage,
