@@ -8,7 +8,7 @@ use rb_money::MOST_SITES;
 use rb_shadow::{Deps, OpName, Shadow};
 use std::marker::Model;
 
-/// How many operations of each site, and how many red ones. Clients see its entries.
+/// How many blue operations of each site, and how many red ones of all. Clients see its entries.
 #[derive(Drop)]
 pub struct Clock {
     entries: Deps,

@@ -1,4 +1,4 @@
-//! A site's clock: how many operations of each site, and how many red ones, it applied.
+//! A site's clock: how many blue operations of each site, and how many red ones of all, it applied.
 //! Tests: rb_tests, clock.rt.
 #![tactic(auto)]
 
