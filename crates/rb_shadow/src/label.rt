@@ -42,7 +42,7 @@ impl Label {
 
     /// The kind whose word the text begins with, and the text behind the word. `None` where it begins with none.
     #[inline(always)]
-    pub fn strip_word(text: &str) -> Option<(Label, &str)>
+    fn strip_word(text: &str) -> Option<(Label, &str)>
         ensures some { IfSome result (λ p. text.now ≡ word_of p.0 ++ p.1.now) }
         ensures none { result ≡ None → (label : Label) (rest : List ℕ) → text.now ≡ word_of label ++ rest → ⊥ }
     {

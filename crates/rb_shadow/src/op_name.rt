@@ -48,7 +48,7 @@ impl OpName {
     }
 
     /// Whether it is a blue name of another site than the home.
-    pub(crate) fn is_foreign(self, home: u8) -> bool
+    pub fn is_foreign(self, home: u8) -> bool
         ensures { result ≡ is_foreign self home }
     {
         match self {
