@@ -1,5 +1,5 @@
 //! The operations of a ledger, in their order.
-ghost use Rattle.std.specs.Prelude.{◌≡◌, ◌↔◌, ◌-◌, ◌+◌, ◌<◌, ◌≤◌, ◌++◌, ◌∷◌, [], length, take, drop, OnOk, IfOk};
+ghost use Rattle.std.specs.Prelude.{◌≡◌, ◌↔◌, ◌-◌, ◌+◌, ◌<◌, ◌≤◌, ◌++◌, ◌∷◌, [], length, take, drop, OnOk, OnErr, IfOk};
 ghost use Rattle.std.specs.Prelude.{IsTrue, false, slice_get, slice_index_or};
 ghost use Rattle.rb_money.specs.declared.limits.TheConstants.{MOST_OPERATIONS, MOST_SITES};
 ghost use Rattle.rb_shadow.specs.declared.shadow.Shadow.{Shadow as TheShadow};
@@ -188,6 +188,8 @@ impl OperationList {
         ensures sites { self.new.sites ≡ self.old.sites }
         ensures ok { OnOk result (limit ≤ self.new.limit) }
         ensures grows { self.old.limit ≤ self.new.limit }
+        ensures short { OnErr result (self.old.limit < limit) }
+        ensures err { OnErr result (self.new ≡ self.old) }
     {
         if limit <= self.limit {
             return Ok(());
