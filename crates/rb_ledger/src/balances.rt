@@ -22,8 +22,8 @@ impl Ledger {
         Some(head.balance)
     }
 
-    /// The balance of the account after the first operations, in cents. `None` where there is no such
-    /// account.
+    /// The balance of the account after the first `position` operations, in cents. `None` where there is no
+    /// such account.
     pub fn balance_after(&self, position: u32, place: Place) -> Option<u64>
         requires { position ≤ length self.now.entries }
         ensures absent { IsNone result ↔ (length self.now.settings.starts ≤ place.0) }

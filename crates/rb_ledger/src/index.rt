@@ -25,7 +25,7 @@ use std::alloc::{AllocError, Global};
 pub struct Index {
     /// The configuration, under which the list is valid.
     pub config: Config,
-    /// How many operations of each site there are, and how many red ones.
+    /// How many blue operations of each site there are, and how many red ones of all.
     pub clock: Clock,
     /// For each operation, how often it is cancelled.
     pub cancels: Vec<Cancels>,

@@ -35,8 +35,8 @@ impl Ledger {
         self.links.earlier_on(position as usize - 1, place)
     }
 
-    /// The position of the last of the first entries that is on the account, or 0, where the last of all
-    /// is given.
+    /// Of the first `limit` entries the position of the last that is on the account, or 0. `last` is that of all
+    /// entries.
     pub(crate) fn last_within(&self, limit: u32, last: u32, place: Place) -> u32
         requires within { limit ≤ length self.now.entries }
         requires last { IsLast self.now.entries place last }
