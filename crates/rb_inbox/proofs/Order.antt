@@ -346,13 +346,3 @@ found_inside n us b x o h e = ap (λ (b : Holding). find_in b.held x) h ∙ sym 
 -- the value where the list is the same
 pub unchanged : (n : ℕ) (us vs : List Shadow) (b : Holding) → us ≡ vs → holding n vs ≡ b → holding n us ≡ b
 unchanged n us vs b e h = ap (holding n) e ∙ h
-
--- where there is nothing under the name, nothing is left out
-pub without-absent : (us : List Shadow) (x : OpName) → find_in us x ≡ None → without x us ≡ us
-without-absent [] x h = refl
-without-absent (u ∷ us) x h = by (same_name u.name x) h (without-absent us x)
-  where
-    by : (b : Bool) → cond b (Some u) (find_in us x) ≡ None → (find_in us x ≡ None → without x us ≡ us) →
-        cond (not b) (u ∷ without x us) (without x us) ≡ u ∷ us
-    by true k rest = cc
-    by false k rest = ap (λ vs. u ∷ vs) (rest k)

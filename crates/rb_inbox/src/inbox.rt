@@ -206,17 +206,6 @@ impl Inbox {
         Ok(shadow)
     }
 
-    /// Lets go what is held under the name, if anything is.
-    pub fn remove(&mut self, name: &OpName)
-        ensures { self.new ≡ record self.old { held = without name.now self.old.held } }
-    {
-        let (index, held) = self.find(name);
-        match held {
-            None => {}
-            Some(_) => self.remove_at(name, index),
-        }
-    }
-
     /// Lets go the shadow that is held under the name, at its index in its row, as `find` gives it.
     pub fn remove_at(&mut self, name: &OpName, index: usize)
         requires held { (u : Shadow) × (find_in self.old.held name.now ≡ Some u) }
