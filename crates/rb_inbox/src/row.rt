@@ -1,5 +1,5 @@
 //! Rows of shadows.
-ghost use Rattle.std.specs.Prelude.{◌≡◌, ◌<◌, ◌≤◌, ◌++◌, [], length, insert, remove, IfOk, OnErr, OnOk};
+ghost use Rattle.std.specs.Prelude.{◌≡◌, ◌<◌, ◌≤◌, [], length, insert, remove, OnErr, OnOk};
 
 use rb_shadow::Shadow;
 use std::alloc::{AllocError, Global};
