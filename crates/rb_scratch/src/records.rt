@@ -1,5 +1,5 @@
 //! The records of what is tried.
-ghost use Rattle.std.specs.Prelude.{◌≡◌, ◌<◌, ◌≤◌, [], ◌∷◌, ◌++◌, length, MatchOption, IfOk, IfErr, OnOk, OnErr};
+ghost use Rattle.std.specs.Prelude.{◌≡◌, ◌<◌, ◌≤◌, [], ◌∷◌, ◌++◌, length, MatchOption, IfErr, OnOk, OnErr};
 ghost use Rattle.rb_scratch.specs.Tried.{IsOfTheLast};
 ghost use Rattle.rb_scratch.specs.declared.request.TheConstants.{MOST_REQUESTS};
 
@@ -99,11 +99,10 @@ impl Records {
         }
     }
 
-    /// Moves the records, which are those of the ledger's last entries, to the end of a log, and answers how many they
-    /// are. Out of memory they come back, and nothing changes but that the log may have more spare capacity.
-    pub fn append_to(self, ledger: &Ledger, log: &mut UndoLog) -> Result<usize, Records>
+    /// Moves the records, which are those of the ledger's last entries, to the end of a log. Out of memory they come
+    /// back, and nothing changes but that the log may have more spare capacity.
+    pub fn append_to(self, ledger: &Ledger, log: &mut UndoLog) -> Result<(), Records>
         requires { IsOfTheLast ledger.now self.parts }
-        ensures count { IfOk result (λ count. count ≡ length self.parts) }
         ensures log { OnOk result (log.new.parts ≡ log.old.parts ++ self.parts) }
         ensures back { IfErr result (λ back. back ≡ self) }
         ensures unchanged { OnErr result (log.new.parts ≡ log.old.parts) }
@@ -120,7 +119,7 @@ impl Records {
                 None => unreachable!(),
             }
         }
-        Ok(len)
+        Ok(())
     }
 
     /// Seals all records.

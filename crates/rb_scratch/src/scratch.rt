@@ -176,7 +176,7 @@ impl<'a> Scratch<'a> {
             }
         };
         match undos.append_to(ledger, log) {
-            Ok(_) => Ok(shadows),
+            Ok(()) => Ok(shadows),
             Err(undos) => Err(Scratch {
                 ledger,
                 token,
