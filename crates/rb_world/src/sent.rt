@@ -1,7 +1,7 @@
 //! Where the messages that were sent are kept.
 ghost use Rattle.std.specs.Prelude.{◌≡◌, ◌+◌, ◌<◌, ◌≤◌, ◌^◌, ◌++◌, ◌∷◌, [], List, length, map};
 ghost use Rattle.std.specs.Prelude.{true, false, IfSome, OnOk, OnErr, Some, vec_capacity};
-ghost use Rattle.rb_site.specs.Seen.{SeenSite, state_of};
+ghost use Rattle.rb_site.specs.Seen.{state_of};
 ghost use Rattle.rb_scratch.specs.declared.request.TheConstants.{MOST_REQUESTS};
 ghost use Rattle.rb_site.specs.declared.message.Message.{Message as TheMessage};
 ghost use Rattle.rb_token.specs.declared.message.TokenMessage.{TokenMessage as TheTokenMessage};

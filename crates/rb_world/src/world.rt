@@ -1,6 +1,6 @@
 //! The sites of a bank, together.
-ghost use Rattle.std.specs.Prelude.{◌≡◌, ◌+◌, ◌≤◌, ◌++◌, Some, IsSomeAnd, IfSome, IfOk, IfErr, OnErr, OnOk, All};
-ghost use Rattle.std.specs.Prelude.{is_some, length, true, false, map, option_map, slice_get, take, vec_len};
+ghost use Rattle.std.specs.Prelude.{◌≡◌, ◌≤◌, Some, IsSomeAnd, IfSome, IfOk, IfErr, OnErr, OnOk, All};
+ghost use Rattle.std.specs.Prelude.{is_some, length, true, false, map, option_map, slice_get, take};
 ghost use Rattle.std.specs.Prelude.{vec_capacity};
 ghost use Rattle.std.specs.List.{range_with_len};
 ghost use Rattle.rb_site.specs.Events.{first_site, is_full};
