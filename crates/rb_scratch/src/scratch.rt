@@ -118,7 +118,9 @@ impl<'a> Scratch<'a> {
 
     /// Runs a request: what it makes in a batch is at the ledger's end, and its name is answered.
     /// After a fault all is as before. The fault is `Refused(BadBatch)` for one request more than `MOST_REQUESTS`, else
-    /// `Declined` or what refuses the request, else `Refused(OutOfMemory)`.
+    /// `Declined` or what refuses the request, else `Refused(OutOfMemory)`. A request that would be declined is at
+    /// fault before its number is looked at: where no number is left either, the fault is `Declined` and not
+    /// `Refused(NumbersExhausted)`.
     pub fn run(&mut self, request: &Request) -> Result<OpName, RunFault>
         requires { self.old.token.me < self.old.ledger.now.settings.sites }
         ensures same_reference { self.new.ledger.ghost_name ≡ self.old.ledger.ghost_name }
