@@ -67,7 +67,7 @@ impl Journal {
         self.ledger.config()
     }
 
-    /// How many operations of each site, and how many red ones, were applied.
+    /// How many of each site's blue operations, by the site's number, and how many red ones were applied.
     pub fn clock(&self) -> &Clock
         ensures { result.now ≡ clock_of self.now.ops }
     {

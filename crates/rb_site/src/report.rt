@@ -16,7 +16,7 @@ pub struct SiteReport {
     pub entries: OperationList,
     /// For each of them, how many operations cancel it.
     pub counts: Vec<u32>,
-    /// How many operations of each site, and how many red ones, were applied.
+    /// How many of each site's blue operations, by the site's number, and how many red ones were applied.
     pub clock: Clock,
     /// What the site knew of the token.
     pub token: TokenState,

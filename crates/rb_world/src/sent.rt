@@ -14,7 +14,7 @@ use rb_site::{KeepsEntry, Message, Site};
 use rb_token::TokenMessage;
 use std::alloc::{AllocError, Global};
 
-/// Where a message is kept: an operation is kept once, in the ledger of the site that made it.
+/// Where a message is kept: of an operation there is only its position in its home's ledger.
 #[derive(Clone, Copy)]
 pub enum Kept {
     /// The operation at a position, from 1, of a site's ledger.

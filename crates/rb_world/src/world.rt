@@ -210,7 +210,8 @@ impl<E: KeepsEntry, R: KeepsEvent> World<E, R> {
         let Some(here) = self.site(site) else {
             unreachable!()
         };
-        // A copy is made in each of the two cases, since one of them doesn't read it.
+        // Each case makes the event for itself: where no entries are kept, one that is applied is answered by its name
+        // alone, so the compiler can leave that copy out.
         if here.applied(&operation.name()).is_some() {
             let arrived = Event::Receive(Message::Shadow(operation.shadow()));
             return self.take(site, full, &arrived, Known::Applied, Some(number), reply);
