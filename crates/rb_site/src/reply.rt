@@ -42,26 +42,23 @@ impl Reply {
         ensures { IfOk result (λ copy. copy ≡ self.now) }
     {
         match self {
-            Reply::Made { name, kind } => Ok(Reply::Made {
-                name: *name,
-                kind: *kind,
-            }),
             Reply::Names(names) => {
                 let names = names.try_copy(alloc)?;
                 Ok(Reply::Names(names))
             }
-            Reply::Held(name) => Ok(Reply::Held(*name)),
-            Reply::Already(name) => Ok(Reply::Already(*name)),
-            Reply::Taken(epoch) => Ok(Reply::Taken(*epoch)),
-            Reply::Stale(epoch) => Ok(Reply::Stale(*epoch)),
-            Reply::Applied(name) => Ok(Reply::Applied(*name)),
-            Reply::Passed(epoch) => Ok(Reply::Passed(*epoch)),
-            Reply::Balance(cents) => Ok(Reply::Balance(*cents)),
             Reply::Statement(statement) => {
                 let statement = statement.try_copy(alloc)?;
                 Ok(Reply::Statement(statement))
             }
-            Reply::Refused(why) => Ok(Reply::Refused(*why)),
+            Reply::Made { .. }
+            | Reply::Held(_)
+            | Reply::Already(_)
+            | Reply::Taken(_)
+            | Reply::Stale(_)
+            | Reply::Applied(_)
+            | Reply::Passed(_)
+            | Reply::Balance(_)
+            | Reply::Refused(_) => Ok(self.again(None)),
         }
     }
 
