@@ -2,7 +2,7 @@
 ghost use Rattle.std.specs.Prelude.{◌≡◌, ◌↔◌, IfOk, IsTrue};
 
 use crate::Message;
-use crate::same::{same_in, same_name, same_place, same_request};
+use crate::same::{same_in, same_place, same_value};
 use rb_kit::List;
 use rb_money::Place;
 use rb_scratch::Request;
@@ -56,11 +56,11 @@ impl Event {
     {
         match self {
             Event::Submit(request) => {
-                same_in!(other, Event::Submit(it) => same_request(request, it))
+                same_in!(other, Event::Submit(it) => same_value(request, it))
             }
             Event::Batch(requests) => same_in!(other, Event::Batch(it) => requests.same(it)),
             Event::Receive(message) => same_in!(other, Event::Receive(it) => message.same(it)),
-            Event::Apply(name) => same_in!(other, Event::Apply(it) => same_name(name, it)),
+            Event::Apply(name) => same_in!(other, Event::Apply(it) => same_value(name, it)),
             Event::Pass(to) => same_in!(other, Event::Pass(it) => *to == *it),
             Event::Balance(place) => same_in!(other, Event::Balance(it) => same_place(place, it)),
             Event::AsOf(place, position) => {

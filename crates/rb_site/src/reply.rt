@@ -2,7 +2,7 @@
 ghost use Rattle.std.specs.Prelude.{◌≡◌, ◌↔◌, true, IfOk, IsTrue};
 ghost use Rattle.rb_site.specs.Notes.{IsNoted};
 
-use crate::same::{same_in, same_label, same_name, same_refusal};
+use crate::same::{same_in, same_label, same_refusal, same_value};
 use rb_kit::List;
 use rb_money::Refusal;
 use rb_shadow::{Label, OpName};
@@ -93,14 +93,14 @@ impl Reply {
     {
         match self {
             Reply::Made { name, kind } => {
-                same_in!(other, Reply::Made { name: it, kind: its } => same_name(name, it) && same_label(kind, its))
+                same_in!(other, Reply::Made { name: it, kind: its } => same_value(name, it) && same_label(kind, its))
             }
             Reply::Names(names) => same_in!(other, Reply::Names(it) => names.same(it)),
-            Reply::Held(name) => same_in!(other, Reply::Held(it) => same_name(name, it)),
-            Reply::Already(name) => same_in!(other, Reply::Already(it) => same_name(name, it)),
+            Reply::Held(name) => same_in!(other, Reply::Held(it) => same_value(name, it)),
+            Reply::Already(name) => same_in!(other, Reply::Already(it) => same_value(name, it)),
             Reply::Taken(epoch) => same_in!(other, Reply::Taken(it) => *epoch == *it),
             Reply::Stale(epoch) => same_in!(other, Reply::Stale(it) => *epoch == *it),
-            Reply::Applied(name) => same_in!(other, Reply::Applied(it) => same_name(name, it)),
+            Reply::Applied(name) => same_in!(other, Reply::Applied(it) => same_value(name, it)),
             Reply::Passed(epoch) => same_in!(other, Reply::Passed(it) => *epoch == *it),
             Reply::Balance(cents) => same_in!(other, Reply::Balance(it) => *cents == *it),
             Reply::Statement(statement) => {

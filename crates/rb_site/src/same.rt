@@ -1,9 +1,9 @@
 //! Comparison of what events and replies hold.
 ghost use Rattle.std.specs.Prelude.{◌≡◌, ◌↔◌, IsTrue};
 
+use rb_kit::Exact;
 use rb_money::{Place, Refusal};
-use rb_scratch::Request;
-use rb_shadow::{Label, OpName};
+use rb_shadow::Label;
 use rb_token::TokenMessage;
 
 /// The test of what the pattern finds in the value, and `false` where the value is another variant.
@@ -18,18 +18,19 @@ macro_rules! same_in {
 
 pub(crate) use same_in;
 
+/// Whether two values of a type whose `==` is exact are equal.
+#[inline(always)]
+pub fn same_value<T: Exact>(first: &T, second: &T) -> bool
+    ensures { IsTrue result ↔ (first.now ≡ second.now) }
+{
+    *first == *second
+}
+
 /// Whether two places are equal.
 pub fn same_place(first: &Place, second: &Place) -> bool
     ensures { IsTrue result ↔ (first.now ≡ second.now) }
 {
     first.0 == second.0
-}
-
-/// Whether two names are equal.
-pub fn same_name(first: &OpName, second: &OpName) -> bool
-    ensures { IsTrue result ↔ (first.now ≡ second.now) }
-{
-    *first == *second
 }
 
 /// Whether two labels are equal.
@@ -41,13 +42,6 @@ pub fn same_label(first: &Label, second: &Label) -> bool
 
 /// Whether two refusals are equal.
 pub fn same_refusal(first: &Refusal, second: &Refusal) -> bool
-    ensures { IsTrue result ↔ (first.now ≡ second.now) }
-{
-    *first == *second
-}
-
-/// Whether two requests are equal.
-pub fn same_request(first: &Request, second: &Request) -> bool
     ensures { IsTrue result ↔ (first.now ≡ second.now) }
 {
     *first == *second

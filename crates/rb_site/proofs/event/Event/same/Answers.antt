@@ -33,7 +33,7 @@ statement_alone a b e = cc
 
 pub returns-in-Submit-other : goal.returns-in-Submit-other
 returns-in-Submit-other c = same_variant Submit submit_alone c.args.self.now c.args.other.now c.in-Submit.request
-    c.in-Submit-other.it c.same_request.result c.in-Submit.is c.in-Submit-other.is c.same_request.ensures
+    c.in-Submit-other.it c.same_value.result c.in-Submit.is c.in-Submit-other.is c.same_value.ensures
 
 pub returns-in-Batch-other : goal.returns-in-Batch-other
 returns-in-Batch-other c = same_variant Batch batch_alone c.args.self.now c.args.other.now c.in-Batch.requests
@@ -45,7 +45,7 @@ returns-in-Receive-other c = same_variant Receive receive_alone c.args.self.now 
 
 pub returns-in-Apply-other : goal.returns-in-Apply-other
 returns-in-Apply-other c = same_variant Apply apply_alone c.args.self.now c.args.other.now c.in-Apply.name
-    c.in-Apply-other.it c.same_name.result c.in-Apply.is c.in-Apply-other.is c.same_name.ensures
+    c.in-Apply-other.it c.same_value-in-Apply-other.result c.in-Apply.is c.in-Apply-other.is c.same_value-in-Apply-other.ensures
 
 pub returns-in-Pass-other : goal.returns-in-Pass-other
 returns-in-Pass-other c = same_variant Pass pass_alone c.args.self.now c.args.other.now c.in-Pass.to

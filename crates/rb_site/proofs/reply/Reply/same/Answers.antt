@@ -45,11 +45,11 @@ returns-in-Names-other c = same_variant Names names_alone c.args.self.now c.args
 
 pub returns-in-Held-other : goal.returns-in-Held-other
 returns-in-Held-other c = same_variant Held held_alone c.args.self.now c.args.other.now c.in-Held.name
-    c.in-Held-other.it c.same_name-in-Held-other.result c.in-Held.is c.in-Held-other.is c.same_name-in-Held-other.ensures
+    c.in-Held-other.it c.same_value-in-Held-other.result c.in-Held.is c.in-Held-other.is c.same_value-in-Held-other.ensures
 
 pub returns-in-Already-other : goal.returns-in-Already-other
 returns-in-Already-other c = same_variant Already already_alone c.args.self.now c.args.other.now c.in-Already.name
-    c.in-Already-other.it c.same_name-in-Already-other.result c.in-Already.is c.in-Already-other.is c.same_name-in-Already-other.ensures
+    c.in-Already-other.it c.same_value-in-Already-other.result c.in-Already.is c.in-Already-other.is c.same_value-in-Already-other.ensures
 
 pub returns-in-Taken-other : goal.returns-in-Taken-other
 returns-in-Taken-other c = same_variant Taken taken_alone c.args.self.now c.args.other.now c.in-Taken.epoch
@@ -61,7 +61,7 @@ returns-in-Stale-other c = same_variant Stale stale_alone c.args.self.now c.args
 
 pub returns-in-Applied-other : goal.returns-in-Applied-other
 returns-in-Applied-other c = same_variant Applied applied_alone c.args.self.now c.args.other.now c.in-Applied.name
-    c.in-Applied-other.it c.same_name-in-Applied-other.result c.in-Applied.is c.in-Applied-other.is c.same_name-in-Applied-other.ensures
+    c.in-Applied-other.it c.same_value-in-Applied-other.result c.in-Applied.is c.in-Applied-other.is c.same_value-in-Applied-other.ensures
 
 pub returns-in-Passed-other : goal.returns-in-Passed-other
 returns-in-Passed-other c = same_variant Passed passed_alone c.args.self.now c.args.other.now c.in-Passed.epoch
