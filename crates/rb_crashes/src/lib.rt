@@ -2,8 +2,9 @@
 //!
 //! A site records events in memory, writes them to its disk, and reports them: their replies and messages go out. It
 //! reports only what is on the disk, and a crash takes only what isn't. So nobody knows of what a crash takes: the
-//! sites' histories are those of a world in which nothing crashed, and all laws of `rb_world` hold of it. And what was
-//! reported, to a client or to another site, is in the site's history for good.
+//! sites' histories are those of a world in which nothing crashed, and all laws of `rb_world` hold of it but
+//! `refused_receive`, which is of one site. And what was reported, to a client or to another site, is in the site's
+//! history for good.
 //!
 //! Nothing here runs. The contract of each function is a law: specs/Crashes.antt says what a site with a disk is
 //! and what may happen at it, specs/Interleaved.antt how steps of single sites make up a world's, specs/Laws.antt the
