@@ -24,8 +24,8 @@ pub use reversal::{as_of_by_rewinding, back_to, there_and_back, tried_and_aborte
 use std::alloc::{AllocError, Global};
 pub use threads::deposit_while_served;
 
-/// A deposit at site 0 comes to site 1 and is applied there: the balance at each, in cents. It is refused
-/// where it isn't of 1 to `MOST_CENTS` cents.
+/// A deposit at site 0 comes to site 1 and is applied there: the balance at each, in cents. The site refuses an amount
+/// that isn't of 1 to `MOST_CENTS` cents; both balances are then 1,000. `Err` means out of memory.
 pub fn deposit_reaches_both(alloc: Global, amount: u64) -> Result<(u64, u64), AllocError>
     ensures here { IfOk result (λ both. balance_in (after (deposit_events amount)) 0 ann ≡ Some both.0) }
     ensures there { IfOk result (λ both. balance_in (after (deposit_events amount)) 1 ann ≡ Some both.1) }
