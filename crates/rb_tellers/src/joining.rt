@@ -60,11 +60,8 @@ fn all_ok<E: Entries, R: Log>(
 {
     let mut seats = Vec::with_capacity(alloc, results.len())?;
     for outcome in results {
-        match outcome {
-            Ok(seat) => seats.push_reserved(seat),
-            Err(CallFault::OutOfMemory) => return Err(TellersFault::OutOfMemory),
-            Err(CallFault::HistoryFull) => return Err(TellersFault::Gather),
-        }
+        let seat = outcome?;
+        seats.push_reserved(seat);
     }
     Ok(seats)
 }

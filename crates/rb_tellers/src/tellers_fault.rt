@@ -1,5 +1,6 @@
 //! Why tellers give no histories.
 
+use rb_branch::CallFault;
 use std::alloc::AllocError;
 use thiserror::Error;
 
@@ -17,5 +18,22 @@ pub enum TellersFault {
 impl From<AllocError> for TellersFault {
     fn from(_: AllocError) -> TellersFault {
         TellersFault::OutOfMemory
+    }
+}
+
+impl From<CallFault> for TellersFault {
+    ghost use Rattle.std.specs.Prelude.{◌≡◌};
+    ghost use Rattle.rb_branch.specs.declared.call_fault.CallFault.TheVariants.{HistoryFull};
+    ghost use Rattle.rb_branch.specs.declared.call_fault.CallFault.TheVariants.{OutOfMemory as CallOutOfMemory};
+    ghost use Rattle.rb_tellers.specs.declared.tellers_fault.TellersFault.TheVariants.{Gather, OutOfMemory};
+
+    ghost from_gives = { λ fault gives. (fault ≡ CallOutOfMemory → gives ≡ OutOfMemory)
+        × (fault ≡ HistoryFull → gives ≡ Gather) };
+
+    fn from(fault: CallFault) -> TellersFault {
+        match fault {
+            CallFault::OutOfMemory => TellersFault::OutOfMemory,
+            CallFault::HistoryFull => TellersFault::Gather,
+        }
     }
 }

@@ -102,14 +102,10 @@ fn both<E: Entries + Send + Sync, R: Log + Send + Sync, W: Threads + Wait + Sync
             ensures { IfOk result (IsDepositor amount) }
         { deposit(rt, branch, here, outbox, amount) },
     );
-    match (deposited, served) {
-        (Ok(depositor), Ok(server)) => {
-            seats.push_reserved(depositor);
-            seats.push_reserved(server);
-            Ok(seats)
-        }
-        _ => Err(TellersFault::Gather),
-    }
+    let (depositor, server) = (deposited?, served?);
+    seats.push_reserved(depositor);
+    seats.push_reserved(server);
+    Ok(seats)
 }
 
 /// Serves site 1 until its link closes.

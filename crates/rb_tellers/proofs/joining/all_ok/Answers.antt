@@ -17,9 +17,9 @@ pub loop-outcome-preserved : goal.loop-outcome-preserved
 loop-outcome-preserved g c = (
   tt,
   tt,
-  moved (map Ok c.loop-outcome.seats.items) _ (into_iter_items c.loop-outcome.outcome-iterator) _ _ (Ok c.in-Ok.seat)
-      (ap (map Ok) c.push_reserved.ensures.items ∙ map-append Ok c.loop-outcome.seats.items (c.in-Ok.seat ∷ []))
-      (c.in-Some.ensures.steps.0 ∙ ap (λ r. r ∷ into_iter_items c.next.new.self) c.in-Ok.is) c.loop-outcome.invariant.2,
+  moved (map Ok c.loop-outcome.seats.items) _ (into_iter_items c.loop-outcome.outcome-iterator) _ _ (Ok c.in_ok-seat.seat)
+      (ap (map Ok) c.push_reserved.ensures.items ∙ map-append Ok c.loop-outcome.seats.items (c.in_ok-seat.seat ∷ []))
+      (c.in-Some.ensures.steps.0 ∙ ap (λ r. r ∷ into_iter_items c.next.new.self) c.in_ok-seat.was) c.loop-outcome.invariant.2,
   omega (arith, c.loop-outcome.invariant.3, c.push_reserved.ensures.capacity),
   omega (arith, c.loop-outcome.invariant.4, c.push_reserved.ensures.len, ap length c.in-Some.ensures.steps.0),
 )
@@ -29,8 +29,5 @@ returns g c =
     all_moved (map Ok c.loop-outcome.seats.items) (into_iter_items c.loop-outcome.outcome-iterator) _
     (omega (arith, c.in-None.ensures.steps.0)) c.loop-outcome.invariant.2
 
-pub returns-in-Err-OutOfMemory : goal.returns-in-Err-OutOfMemory
-returns-in-Err-OutOfMemory g c = tt
-
-pub returns-in-Err-HistoryFull : goal.returns-in-Err-HistoryFull
-returns-in-Err-HistoryFull g c = tt
+pub returns-in_err-seat : goal.returns-in_err-seat
+returns-in_err-seat g c = IfOk-from_err c.from_residual-in_err-seat.result _ c.from_residual-in_err-seat.ensures.0
