@@ -45,6 +45,15 @@ promise_push {X} {Y} at xs xs' x f t now len all here i h found =
     let Q : List X → Type 0 = λ l. slice_get l i ≡ Some h in
     row_push P xs x all (here ∙ ap at (sym len)) i h (subst Q now found)
 
+-- what each element keeps by its handle's promise, where the promises are known by their places
+pub promised : {H C Y : Type 0} (hs : List H) (cs : List C) (f : H → Y) (at : ℕ → Y) (K : Y → C → Type 0)
+    → ((k : ℕ) (h : H) → slice_get hs k ≡ Some h → f h ≡ at k)
+    → ((k : ℕ) (c : C) → slice_get cs k ≡ Some c → (h : H) × (slice_get hs k ≡ Some h) × K (f h) c)
+    → (k : ℕ) (c : C) → slice_get cs k ≡ Some c → K (at k) c
+promised hs cs f at K known kept k c here =
+    let of = kept k c here in
+    subst (λ p. K p c) (known k of.0 of.1) of.2
+
 -- two lists that are a third one, after the first element of the second goes to the end of the first
 pub moved : {X : Type 0} (xs xs' ys ys' all : List X) (x : X) → xs' ≡ xs ++ x ∷ [] → ys ≡ x ∷ ys' → xs ++ ys ≡ all → xs' ++ ys' ≡ all
 moved xs xs' ys ys' all x one more is =

@@ -3,7 +3,7 @@ ghost use Rattle.std.specs.Prelude.{◌≡◌, ◌+◌, ◌%◌, ◌<◌, [], �
 ghost use Rattle.rb_tellers.specs.Tellers.{IsCrew, IsServer, IsTeller};
 
 use crate::TellersFault;
-use crate::joining::{join_servers, join_tellers, together};
+use crate::joining::{join, together};
 use crate::server::attend;
 use crate::server_of::ServerOf;
 use crate::teller::make_calls;
@@ -48,8 +48,8 @@ impl<
         let servers = self.hire_servers(inlets)?;
         let hired = self.hire_tellers(&outbox, tellers, seed)?;
         drop(outbox);
-        let hired = join_tellers(self.rt, self.alloc, hired, tellers, self.sites, seed)?;
-        let servers = join_servers(self.rt, self.alloc, servers, self.sites)?;
+        let hired = join(self.rt, self.alloc, hired)?;
+        let servers = join(self.rt, self.alloc, servers)?;
         together(hired, servers)
     }
 

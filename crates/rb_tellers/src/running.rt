@@ -23,6 +23,9 @@ use std::thread::Threads;
 /// site. Teller `t`, from 0, is at site `t` modulo the number of sites, and its first number is `seed + t`. Once
 /// all have ended the sites are closed, and their reports are given in order.
 ///
+/// Tellers call at the accounts of the places 0 to 3: with fewer accounts, calls at the missing ones are refused with
+/// `UnknownAccount`.
+///
 /// An `Err` comes once all threads have ended and all sites are closed. The gate is called with each call.
 pub fn run_bank<G: Gate + Drop + Sync, W: Threads + Wait + Sync>(
     rt: &W,
