@@ -1,7 +1,8 @@
 //! Where messages are listed: a row and a position in it.
-ghost use Rattle.std.specs.Prelude.{◌≡◌, ◌↔◌, IsTrue};
+ghost use Rattle.std.specs.Prelude.{◌≡◌, ◌+◌, ◌-◌, ◌↔◌, IsTrue};
+ghost use Rattle.rb_shadow.specs.Operations.{number_of, row_of};
 ghost use Rattle.rb_site.specs.declared.message.Message.TheVariants.{Shadow as ShadowMessage};
-ghost use Rattle.rb_auditor.specs.Sent.{row_of_message, row_of_name, slot_of, slot_of_name};
+ghost use Rattle.rb_auditor.specs.Sent.{row_of_message, slot_of};
 
 use rb_shadow::{OpName, Shadow};
 use rb_site::Message;
@@ -26,26 +27,20 @@ pub fn slot(message: &Message) -> usize
     }
 }
 
-/// The row of the operation of a name.
+/// The row of the operation of a name: the first one is that of the tokens.
 #[inline(always)]
 pub fn name_row(name: OpName) -> usize
-    ensures { result ≡ row_of_name name }
+    ensures { result ≡ row_of name + 1 }
 {
-    match name {
-        OpName::Red { n: _ } => 1,
-        OpName::Blue { site, n: _ } => site as usize + 2,
-    }
+    name.row() + 1
 }
 
 /// The position of the operation of a name in its row.
 #[inline(always)]
 pub fn name_slot(name: OpName) -> usize
-    ensures { result ≡ slot_of_name name }
+    ensures { result ≡ number_of name - 1 }
 {
-    match name {
-        OpName::Red { n } => n.saturating_sub(1) as usize,
-        OpName::Blue { site: _, n } => n.saturating_sub(1) as usize,
-    }
+    name.number().saturating_sub(1) as usize
 }
 
 /// Whether the message is this operation.

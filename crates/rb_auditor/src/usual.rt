@@ -1,10 +1,10 @@
 //! Operations that are kept in little memory.
 ghost use Rattle.std.specs.Prelude.{◌≡◌, ◌≤◌, IsTrue, drop, length};
 ghost use Rattle.rb_money.specs.declared.limits.TheConstants.{MOST_SITES as THE_MOST_SITES};
-ghost use Rattle.rb_shadow.specs.Sound.{are_entries, is_foreign};
+ghost use Rattle.rb_shadow.specs.Sound.{are_entries};
 ghost use Rattle.rb_auditor.specs.MessageLists.{IsUsual};
 
-use rb_shadow::{OpName, Shadow};
+use rb_shadow::Shadow;
 
 /// At banks of up to this number of sites the entries of a clock that must be 0 are looked at all at once.
 const FEW_SITES: usize = 3;
@@ -19,23 +19,12 @@ pub fn is_usual(sites: usize, shadow: &Shadow) -> bool
     if !are_none_from(&shadow.deps.blue, sites) {
         return false;
     }
-    if is_of_another(shadow) {
+    if shadow.name.is_foreign(shadow.home) {
         return false;
     }
     let entry = u64::from(shadow.deps.entry(shadow.name));
     let number = u64::from(shadow.name.number());
     entry + 1 == number
-}
-
-/// Whether the name is a blue one of another site than the home.
-#[inline(always)]
-fn is_of_another(shadow: &Shadow) -> bool
-    ensures { result ≡ is_foreign shadow.now.name shadow.now.home }
-{
-    match shadow.name {
-        OpName::Blue { site, n: _ } => site != shadow.home,
-        OpName::Red { n: _ } => false,
-    }
 }
 
 /// Whether all entries from a site on are 0.

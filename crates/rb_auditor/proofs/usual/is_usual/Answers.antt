@@ -12,7 +12,7 @@ returns c = λ yes.
         Clocks.total blue,
         Clocks.of_sites c.args.sites (Clocks.total blue) blue (omega arith) (sym c.are_none_from.ensures ∙ c.if-not-are_none_from.false),
       );
-      home = sym c.is_of_another.ensures ∙ c.if-is_of_another.false;
+      home = sym c.is_foreign.ensures ∙ c.if-is_foreign.false;
       own = omega (
         arith,
         eqb-true _ _ yes,

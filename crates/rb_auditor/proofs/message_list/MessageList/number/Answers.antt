@@ -1,12 +1,13 @@
 -- The message is where its spot says.
-use Rattle.std.proofs.Common.{◌∙◌, ℕ, Some, ap, refl, sym, length}
+use Rattle.std.proofs.Common.{◌∙◌, ◌+◌, ◌-◌, ℕ, Some, ap, refl, sym, length}
 use Rattle.std.specs.Prelude.{option_map, slice_get}
 use Rattle.std.proofs.lemmas.Option.{slice_get_past, slice_get_read}
 use Rattle.rb_shadow.specs.declared.op_name.OpName.{OpName}
+use Rattle.rb_shadow.specs.Operations.{number_of, row_of}
 use Rattle.rb_site.specs.declared.message.Message.{Message}
 use Rattle.rb_site.specs.declared.message.Message.TheVariants.{Shadow as ShadowMessage}
 use Rattle.rb_auditor.specs.MessageLists.{message_at_spot}
-use Rattle.rb_auditor.specs.Sent.{row_of_message, row_of_name, slot_of, slot_of_name}
+use Rattle.rb_auditor.specs.Sent.{row_of_message, slot_of}
 use Rattle.rb_auditor.proofs.Spots
 use Rattle.rb_auditor.proofs.message_list.MessageList.number.Goals as goal
 
@@ -26,8 +27,8 @@ returns-in_err-at-in-Usual c =
 pub returns-in_ok-at-in-Usual : goal.returns-in_ok-at-in-Usual
 returns-in_ok-at-in-Usual c =
     ap (λ (p : ℕ × ℕ). Some p) (ap (λ r. (r, c.name_slot.result)) c.name_row.ensures
-    ∙ ap (λ s. (row_of_name c.name-name.result, s)) c.name_slot.ensures
-    ∙ ap (λ (n : OpName). (row_of_name n, slot_of_name n)) c.name-name.ensures)
+    ∙ ap (λ s. (row_of c.name-name.result + 1, s)) c.name_slot.ensures
+    ∙ ap (λ (n : OpName). (row_of n + 1, number_of n - 1)) c.name-name.ensures)
     ∙ sym (ap (option_map number) (Spots.at_spot c.self.inside.usual.items c.self.inside.others.items c.self.inside.spots.items c.deref.result.now
     c.args.self.now _ _ _ c.args.index c.in_ok-at.field-0.now c.self.view_is c.self.invariant.each c.deref.ensures.value
     c.in_ok-at.ensures.lookup.3.0 c.in_ok-at.ensures.lookup.1
