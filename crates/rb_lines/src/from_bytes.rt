@@ -46,7 +46,7 @@ impl<'a> FromBytes<'a> {
 }
 
 impl Source for FromBytes<'_> {
-    ghost use Rattle.std.specs.Prelude.{◌+◌, ◌-◌, ◌^◌, ◌≤◌, ◌||◌, [], Some, true, length, min, is_err, IfOk, OnErr};
+    ghost use Rattle.std.specs.Prelude.{◌+◌, ◌-◌, ◌^◌, ◌≤◌, ◌||◌, [], Some, true, length, min, is_err, IfOk, IsErr, OnErr};
     ghost use Rattle.std.specs.Io.KnownBytes.{ReadConsumes};
 
     ghost remaining = { λ s. Some s.rest.now };
@@ -62,9 +62,10 @@ impl Source for FromBytes<'_> {
         ensures failed { self.new.failed ≡ (self.old.failed || is_err result) }
         ensures calls { self.new.calls ≡ min (self.old.calls + 1) (2 ^ 64 - 1) }
 
-        // As much as there is, and a failure only behind the last byte.
+        // As much as there is, and a failure behind the last byte alone, at each read there.
         ensures count { IfOk result (λ n. n ≡ min (min self.old.piece (length self.old.rest.now)) (length buf.old)) }
         ensures err { OnErr result ((self.old.rest.now ≡ []) × (self.old.fails ≡ true)) }
+        ensures fails { self.old.rest.now ≡ [] → self.old.fails ≡ true → IsErr result }
         ensures same { (self.new.piece ≡ self.old.piece) × (self.new.fails ≡ self.old.fails) }
     {
         self.calls = self.calls.saturating_add(1);
