@@ -1,13 +1,16 @@
 -- What went out and what is buffered, together, as a run goes on.
-use Rattle.std.proofs.Common.{◌≡◌, ◌<◌, ◌≤◌, ◌+◌, ◌⊎◌, ℕ, Bool, true, false, List, [], ◌++◌, length, take, drop, Option, Some, None}
-use Rattle.std.proofs.Common.{Result, Err, sym, ap, ◌∙◌, subst, append-nil, append_assoc}
+use Rattle.std.proofs.Common.{◌≡◌, ◌≢◌, ◌<◌, ◌≤◌, ◌+◌, ◌⊎◌, ℕ, Bool, true, false, List, [], ◌++◌, length, take, drop, Option, Some, None}
+use Rattle.std.proofs.Common.{Result, Err, refl, sym, ap, ◌∙◌, subst, append-nil, append_assoc}
 use Rattle.std.specs.Prelude.{IfSome}
 use Rattle.std.specs.Io.KnownBytes.{Appends, IsAtEnd}
 use Rattle.std.proofs.KnownBytes.{Appends-nil, Appends-trans}
 use Rattle.rb_lines.specs.Answers.{AnswersLine, EndsAtLine, EndsWith, IsRunState, RunEndsAs, RunWillEndAs, RunState}
 use Rattle.rb_lines.specs.declared.fault.StreamFault.{StreamFault}
 use Rattle.rb_lines.specs.declared.fault.StreamFault.TheVariants.{LongLine, Read, Write, OutOfMemory}
+use Rattle.rb_lines.specs.declared.no_line.NoLine.{NoLine}
+use Rattle.rb_lines.specs.declared.no_line.NoLine.TheVariants.{TooLong, OutOfMemory as NoMemory, Read as NotRead, Write as NotWritten}
 use Rattle.rb_lines.specs.Buffers.{Reads, Sends}
+use Rattle.rb_lines.specs.Faults.{fault_at}
 use Rattle.rb_lines.specs.Lines.{line_len, lines_of}
 use Rattle.rb_lines.specs.declared.limits.TheConstants.{LINE_LIMIT}
 use Rattle.rb_lines.specs.Writes.{AppendsFront, IsFront}
@@ -70,14 +73,14 @@ with_front : (of : Whole) (w0 w r0 r : Option (List ℕ)) (s : RunState) (p : Li
 with_front of w0 w r0 r s p e buffered result st ends = (st.0, st.1, both _ _ r0 ends (known_front of r0 r s p e (st.0 ++ buffered) st.2))
 
 -- the next line is too long
-pub ends_long : (of : Whole) (w0 w r0 r : Option (List ℕ)) (s : RunState) (p : List ℕ) (e : Bool) (buffered : List ℕ)
+ends_long : (of : Whole) (w0 w r0 r : Option (List ℕ)) (s : RunState) (p : List ℕ) (e : Bool) (buffered : List ℕ)
     → IsAt of w0 w r0 r s p e buffered → LINE_LIMIT < line_len p → IsRunState s
     → IsOver of w0 w r0 r (Err (LongLine s.number)) buffered
 ends_long of w0 w r0 r s p e buffered st long is =
     with_front of w0 w r0 r s p e buffered (Err (LongLine s.number)) st (known_long of r0 r s p e (st.0 ++ buffered) st.2 long is)
 
 -- no more is read
-pub ends_unread : (of : Whole) (w0 w r0 r : Option (List ℕ)) (s : RunState) (p : List ℕ) (e : Bool) (buffered : List ℕ)
+ends_unread : (of : Whole) (w0 w r0 r : Option (List ℕ)) (s : RunState) (p : List ℕ) (e : Bool) (buffered : List ℕ)
     → IsAt of w0 w r0 r s p e buffered → e ≡ false → line_len p ≡ length p → IsRunState s
     → IsOver of w0 w r0 r (Err Read) buffered
 ends_unread of w0 w r0 r s p e buffered st going none is =
@@ -105,7 +108,7 @@ twice of None text h = tt
 twice of (Some x) text h = (h, h)
 
 -- some of what was buffered before went out, and then there was no memory
-pub ends_out_of_memory : (of : Whole) (w0 w w' r0 r r' : Option (List ℕ)) (s : RunState) (p : List ℕ) (e : Bool)
+ends_out_of_memory : (of : Whole) (w0 w w' r0 r r' : Option (List ℕ)) (s : RunState) (p : List ℕ) (e : Bool)
     (buffered buffered' : List ℕ)
     → IsAt of w0 w r0 r s p e buffered → Sends w w' buffered buffered' → IsOver of w0 w' r0 r' (Err OutOfMemory) buffered'
 ends_out_of_memory of w0 w w' r0 r r' s p e buffered buffered' st sent = (
@@ -132,7 +135,7 @@ all_shorter of None text buffered front rest h e = tt
 all_shorter of (Some x) text buffered front rest h e = shorter text buffered front rest _ h e
 
 -- a write failed, and nothing is buffered any more
-pub ends_unwritten : (of : Whole) (w0 w w' r0 r r' : Option (List ℕ)) (s : RunState) (p : List ℕ) (e : Bool) (buffered buffered' : List ℕ)
+ends_unwritten : (of : Whole) (w0 w w' r0 r r' : Option (List ℕ)) (s : RunState) (p : List ℕ) (e : Bool) (buffered buffered' : List ℕ)
     → IsAt of w0 w r0 r s p e buffered → AppendsFront w w' buffered × (buffered' ≡ []) → IsOver of w0 w' r0 r' (Err Write) buffered'
 ends_unwritten of w0 w w' r0 r r' s p e buffered buffered' st (front, nothing) = (
   st.0 ++ front.0,
@@ -142,6 +145,25 @@ ends_unwritten of w0 w w' r0 r r' s p e buffered buffered' st (front, nothing) =
       ∙ ap (λ t. (st.0 ++ front.0) ++ t) (sym nothing))
       (all_shorter of r0 st.0 buffered front.0 front.1.0 (known_front of r0 r s p e (st.0 ++ buffered) st.2) front.1.1)),
 )
+
+-- there is no next line, for one of the reasons
+pub ends_no_line : {X : Type 0} (of : Whole) (w0 w w' r0 r r' : Option (List ℕ)) (s : RunState) (p p' : List ℕ) (e e' : Bool)
+    (buffered buffered' : List ℕ) (why : NoLine) → IsAt of w0 w r0 r s p e buffered → IsRunState s
+    → (why ≢ NoMemory → Reads p p' r r') → (e' ≡ false → e ≡ false) → (why ≢ NotWritten → Sends w w' buffered buffered')
+    → (why ≡ TooLong → LINE_LIMIT < line_len p') → (why ≡ NotRead → (e' ≡ false) × (line_len p' ≡ length p') × X)
+    → (why ≡ NotWritten → AppendsFront w w' buffered × (buffered' ≡ []))
+    → IsOver of w0 w' r0 r' (Err (fault_at why s.number)) buffered'
+ends_no_line of w0 w w' r0 r r' s p p' e e' buffered buffered' TooLong st is kept was sent long read front =
+    ends_long of w0 w' r0 r' s p' e' buffered'
+    (reads_on of w0 w w' r0 r r' s p p' e e' buffered buffered' st (kept (λ q. cc)) was (sent (λ q. cc))) (long refl) is
+ends_no_line of w0 w w' r0 r r' s p p' e e' buffered buffered' NotRead st is kept was sent long read front =
+    let (going, none, x) = read refl in
+    ends_unread of w0 w' r0 r' s p' e' buffered'
+    (reads_on of w0 w w' r0 r r' s p p' e e' buffered buffered' st (kept (λ q. cc)) was (sent (λ q. cc))) going none is
+ends_no_line of w0 w w' r0 r r' s p p' e e' buffered buffered' NotWritten st is kept was sent long read front =
+    ends_unwritten of w0 w w' r0 r r' s p e buffered buffered' st (front refl)
+ends_no_line of w0 w w' r0 r r' s p p' e e' buffered buffered' NoMemory st is kept was sent long read front =
+    ends_out_of_memory of w0 w w' r0 r r' s p e buffered buffered' st (sent (λ q. cc))
 
 -- ---- after the end
 

@@ -1,4 +1,5 @@
 pub mod Buffers
+pub mod Faults
 pub mod Lines
 pub mod Messages
 pub mod Writes

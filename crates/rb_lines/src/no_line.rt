@@ -1,8 +1,10 @@
 //! Why a run has no next line.
 ghost use Rattle.std.specs.Prelude.{◌≡◌};
+ghost use Rattle.rb_lines.specs.Faults.{fault_at};
 ghost use Rattle.rb_lines.specs.declared.no_line.NoLine.TheVariants.{OutOfMemory as NoMemory, Read as NotRead};
 ghost use Rattle.rb_lines.specs.declared.no_line.NoLine.TheVariants.{Write as NotWritten};
 
+use crate::fault::StreamFault;
 use crate::sink::WriteFailed;
 use crate::source::ReadFailed;
 use std::alloc::AllocError;
@@ -14,6 +16,20 @@ pub enum NoLine {
     Read,
     Write,
     OutOfMemory,
+}
+
+impl NoLine {
+    /// The fault of a run that stops here; its next line has this number, from 1.
+    pub fn fault_at(self, line: u64) -> StreamFault
+        ensures { result ≡ fault_at self line }
+    {
+        match self {
+            NoLine::TooLong => StreamFault::LongLine { line },
+            NoLine::Read => StreamFault::Read,
+            NoLine::Write => StreamFault::Write,
+            NoLine::OutOfMemory => StreamFault::OutOfMemory,
+        }
+    }
 }
 
 impl From<ReadFailed> for NoLine {

@@ -7,7 +7,6 @@ ghost use Rattle.rb_lines.specs.declared.limits.TheConstants.{MOST_READS};
 
 use crate::buffers::Buffers;
 use crate::fault::StreamFault;
-use crate::no_line::NoLine;
 use crate::responder::Responder;
 use crate::sink::Sink;
 use crate::source::Source;
@@ -43,14 +42,7 @@ fn answer_lines<S: Source, W: Sink, R: Responder>(
         let n = match buffers.next_line(reader, writer) {
             Ok(Some(n)) => n,
             Ok(None) => return responder.end(),
-            Err(NoLine::TooLong) => {
-                return Err(StreamFault::LongLine {
-                    line: responder.number(),
-                });
-            }
-            Err(NoLine::Read) => return Err(StreamFault::Read),
-            Err(NoLine::Write) => return Err(StreamFault::Write),
-            Err(NoLine::OutOfMemory) => return Err(StreamFault::OutOfMemory),
+            Err(why) => return Err(why.fault_at(responder.number())),
         };
         let line = &buffers.pending.as_slice()[..n];
         responder.answer_line(alloc, line, &mut buffers.buffered)?;

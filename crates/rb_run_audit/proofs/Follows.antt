@@ -5,6 +5,7 @@ use Rattle.std.specs.Prelude.{IfSome}
 use Rattle.std.specs.Io.KnownBytes.{IsAtEnd}
 use Rattle.rb_auditor.specs.Audits.{Audited}
 use Rattle.rb_lines.specs.Buffers.{Reads}
+use Rattle.rb_lines.specs.Faults.{fault_at}
 use Rattle.rb_lines.specs.Lines.{lines_of, is_long, line_len}
 use Rattle.rb_lines.specs.declared.limits.TheConstants.{LINE_LIMIT}
 use Rattle.rb_lines.specs.declared.fault.StreamFault.{StreamFault}
@@ -130,30 +131,15 @@ known_out_of_memory : (a b : Option (List ℕ)) (c : Collected) → IfSome a (λ
 known_out_of_memory None b c = tt
 known_out_of_memory (Some all) b c = refl
 
--- why there is no next line, as the fault of the line of this number
-abbrev pub reported : NoLine → ℕ → StreamFault
-reported TooLong n = LongLine n
-reported NotRead n = Read
-reported NotWritten n = Write
-reported NoMemory n = OutOfMemory
-
--- it is what a function gives that gives this for each reason
-pub reported_as : (why : NoLine) (n : ℕ) (f : StreamFault) → (why ≡ TooLong → f ≡ LongLine n) → (why ≡ NotRead → f ≡ Read)
-    → (why ≡ NotWritten → f ≡ Write) → (why ≡ NoMemory → f ≡ OutOfMemory) → f ≡ reported why n
-reported_as TooLong n f long read write memory = long refl
-reported_as NotRead n f long read write memory = read refl
-reported_as NotWritten n f long read write memory = write refl
-reported_as NoMemory n f long read write memory = memory refl
-
 -- the reason of `Read`
-pub why_read : (why : NoLine) (n : ℕ) → reported why n ≡ Read → why ≡ NotRead
+pub why_read : (why : NoLine) (n : ℕ) → fault_at why n ≡ Read → why ≡ NotRead
 why_read TooLong n e = cc
 why_read NotRead n e = refl
 why_read NotWritten n e = cc
 why_read NoMemory n e = cc
 
 -- the reason of `Write`
-pub why_write : (why : NoLine) (n : ℕ) → reported why n ≡ Write → why ≡ NotWritten
+pub why_write : (why : NoLine) (n : ℕ) → fault_at why n ≡ Write → why ≡ NotWritten
 why_write TooLong n e = cc
 why_write NotRead n e = cc
 why_write NotWritten n e = refl
@@ -163,7 +149,7 @@ why_write NoMemory n e = cc
 pub known_none : {X : Type 0} (a b b' : Option (List ℕ)) (c : Collected) (p p' : List ℕ) (e e' : Bool) (why : NoLine)
     → FollowsKnown a b c p e → (why ≢ NoMemory → Reads p p' b b') → (e' ≡ false → e ≡ false) → (why ≡ TooLong → LINE_LIMIT < line_len p')
     → (why ≡ NotRead → (e' ≡ false) × (line_len p' ≡ length p') × X) → why ≢ NotWritten
-    → IfSome a (λ input. CollectsAs (Err (reported why c.number)) c input b')
+    → IfSome a (λ input. CollectsAs (Err (fault_at why c.number)) c input b')
 known_none a b b' c p p' e e' TooLong f kept was long read not =
     known_long a b' c p' e' (known_read a b b' c p p' e e' f (kept (λ q. cc)) was) (long refl)
 known_none a b b' c p p' e e' NotRead f kept was long read not =

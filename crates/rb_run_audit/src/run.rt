@@ -8,23 +8,8 @@ ghost use Rattle.rb_run_audit.specs.Run.{CollectsAs, AuditEndsAs};
 
 use crate::answer::answer;
 use crate::collected::Collected;
-use rb_lines::{Buffers, NoLine, ScriptFault, Sink, Source, StreamFault, write_all};
+use rb_lines::{Buffers, ScriptFault, Sink, Source, StreamFault, write_all};
 use std::alloc::Global;
-
-/// Why there is no next line, as the fault of the line of this number.
-fn fault_of(why: NoLine, number: u64) -> StreamFault
-    ensures long { why ≡ NoLine.TooLong → result ≡ StreamFault.LongLine number }
-    ensures read { why ≡ NoLine.Read → result ≡ StreamFault.Read }
-    ensures write { why ≡ NoLine.Write → result ≡ StreamFault.Write }
-    ensures memory { why ≡ NoLine.OutOfMemory → result ≡ StreamFault.OutOfMemory }
-{
-    match why {
-        NoLine::TooLong => StreamFault::LongLine { line: number },
-        NoLine::Read => StreamFault::Read,
-        NoLine::Write => StreamFault::Write,
-        NoLine::OutOfMemory => StreamFault::OutOfMemory,
-    }
-}
 
 /// Takes each line of the reader's bytes. Nothing is buffered for the writer, so nothing is written.
 fn collect<S: Source, W: Sink>(
@@ -50,7 +35,7 @@ fn collect<S: Source, W: Sink>(
         let n = match buffers.next_line(reader, writer) {
             Ok(Some(n)) => n,
             Ok(None) => return Ok(()),
-            Err(why) => return Err(fault_of(why, collected.number)),
+            Err(why) => return Err(why.fault_at(collected.number)),
         };
         let line = &buffers.pending.as_slice()[..n];
         collected.take_line(alloc, line)?;

@@ -1,38 +1,15 @@
 use Rattle.std.proofs.Common.{arith, rules, ◌≡◌, ◌+◌, Err, ap, length-drop}
 use Rattle.std.proofs.lemmas.Bool.{false_from_ne_true}
-use Rattle.rb_lines.proofs.Progress.{ends_at_fault, ends_here, ends_long, ends_out_of_memory, ends_unread, ends_unwritten, goes_on}
-use Rattle.rb_lines.proofs.Progress.{reads_on}
+use Rattle.rb_lines.proofs.Progress.{ends_at_fault, ends_here, ends_no_line, goes_on, reads_on}
 use Rattle.rb_lines.proofs.run.answer_lines.Goals as goal
 
-pub returns-in-Err-TooLong-clause-written : goal.returns-in-Err-TooLong-clause-written
-returns-in-Err-TooLong-clause-written g c =
-    let next = c.in-Err-TooLong.ensures in
-    let kept = next.kept (λ e. cc (e, c.in-Err-TooLong.field-0-is)) in
-    let sent = next.sent (λ e. cc (e, c.in-Err-TooLong.field-0-is)) in
-    let now = reads_on _ _ _ _ _ _ _ _ _ _ _ _ _ _ c.lines.invariant.written kept next.was_going sent in
-    let is = g.met.R.Responder.is_run_state c.lines.responder in
-    rw c.number.ensures (ends_long _ _ _ _ _ _ _ _ _ now (next.long (ap Err c.in-Err-TooLong.field-0-is)) is)
-
-pub returns-in-Err-Read-clause-written : goal.returns-in-Err-Read-clause-written
-returns-in-Err-Read-clause-written g c =
-    let next = c.in-Err-Read.ensures in
-    let kept = next.kept (λ e. cc (e, c.in-Err-Read.field-0-is)) in
-    let sent = next.sent (λ e. cc (e, c.in-Err-Read.field-0-is)) in
-    let now = reads_on _ _ _ _ _ _ _ _ _ _ _ _ _ _ c.lines.invariant.written kept next.was_going sent in
-    let stop = next.read (ap Err c.in-Err-Read.field-0-is) in
-    ends_unread _ _ _ _ _ _ _ _ _ now stop.0 stop.1 (g.met.R.Responder.is_run_state c.lines.responder)
-
-pub returns-in-Err-Write-clause-written : goal.returns-in-Err-Write-clause-written
-returns-in-Err-Write-clause-written g c =
-    let next = c.in-Err-Write.ensures in
-    ends_unwritten _ _ _ _ _ _ (g.S.Source.remaining c.next_line.new.reader) _ _ _ _ _ c.lines.invariant.written
-    (next.front (ap Err c.in-Err-Write.field-0-is))
-
-pub returns-in-Err-OutOfMemory-clause-written : goal.returns-in-Err-OutOfMemory-clause-written
-returns-in-Err-OutOfMemory-clause-written g c =
-    let next = c.in-Err-OutOfMemory.ensures in
-    let sent = next.sent (λ e. cc (e, c.in-Err-OutOfMemory.field-0-is)) in
-    ends_out_of_memory _ _ _ _ _ _ (g.S.Source.remaining c.next_line.new.reader) _ _ _ _ _ c.lines.invariant.written sent
+pub returns-in-Err-clause-written : goal.returns-in-Err-clause-written
+returns-in-Err-clause-written g c =
+    let next = c.in-Err.ensures in
+    rw (c.fault_at.ensures, c.number.ensures)
+    (ends_no_line _ _ (g.W.Sink.contents c.lines.writer) _ _ (g.S.Source.remaining c.lines.reader) _ _ _ _ _ _ _ _ c.in-Err.why
+    c.lines.invariant.written (g.met.R.Responder.is_run_state c.lines.responder) next.kept next.was_going next.sent
+    (λ e. next.long (ap Err e)) (λ e. next.read (ap Err e)) (λ e. next.front (ap Err e)))
 
 pub returns-in-Ok-None-clause-written : goal.returns-in-Ok-None-clause-written
 returns-in-Ok-None-clause-written g c =

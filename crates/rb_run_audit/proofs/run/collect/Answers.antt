@@ -11,7 +11,7 @@ use Rattle.rb_lines.specs.declared.no_line.NoLine.TheVariants.{Write}
 use Rattle.rb_run_audit.specs.Collects.{HasEachSite, InputEndsAt, Takes}
 use Rattle.rb_run_audit.specs.Run.{CollectsAs}
 use Rattle.rb_run_audit.proofs.Follows.{FollowsKnown, known_end, known_fault, known_line, known_none, known_read, known_start, not_read}
-use Rattle.rb_run_audit.proofs.Follows.{not_write, reported, reported_as, why_read, why_write}
+use Rattle.rb_run_audit.proofs.Follows.{not_write, why_read, why_write}
 use Rattle.rb_run_audit.proofs.Buffered.{no_write, nothing_sent}
 use Rattle.rb_run_audit.proofs.Counted.{few_calls, less_left, next_number, ok_is_no_err, once_taken, same_reason, short_line}
 use Rattle.rb_run_audit.proofs.run.collect.Goals as goal
@@ -98,9 +98,7 @@ returns-in-Err g c =
     let next = c.in-Err.ensures in
     let not_written : c.in-Err.why ≢ Write =
     no_write c.in-Err.why c.lines.buffers.buffered.items c.lines.invariant.buffered (λ e. next.nothing (ap Err e)) in
-    let is : c.fault_of.result ≡ reported c.in-Err.why c.lines.collected.number =
-    reported_as c.in-Err.why c.lines.collected.number c.fault_of.result c.fault_of.ensures.long c.fault_of.ensures.read
-    c.fault_of.ensures.write c.fault_of.ensures.memory in
+    let is = c.fault_at.ensures in
     record {
       written = (nothing_sent (g.W.Sink.contents c.args.writer.now) (g.W.Sink.contents c.lines.writer)
           (g.W.Sink.contents c.next_line.new.writer) c.lines.buffers.buffered.items c.next_line.new.self.buffered.items
@@ -115,9 +113,9 @@ returns-in-Err g c =
           c.lines.buffers.ended c.next_line.new.self.ended c.in-Err.why c.lines.invariant.input next.kept next.was_going
           (λ e. next.long (ap Err e)) (λ e. next.read (ap Err e)) not_written);
       read = λ e. (next.read (ap Err (why_read c.in-Err.why c.lines.collected.number
-          (sym is ∙ same_reason c.fault_of.result Unread e)))).2;
+          (sym is ∙ same_reason c.fault_at.result Unread e)))).2;
       write = λ e. not_written (why_write c.in-Err.why c.lines.collected.number
-          (sym is ∙ same_reason c.fault_of.result Unwritten e));
+          (sym is ∙ same_reason c.fault_at.result Unwritten e));
       calls = few_calls (g.S.Source.calls c.next_line.new.reader) c.next_line.new.self.reads (g.S.Source.calls c.args.reader.now)
           next.counted;
     }
