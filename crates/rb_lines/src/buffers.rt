@@ -51,9 +51,13 @@ impl Buffers {
         self.pending.skip(if n < len { n + 1 } else { n });
     }
 
-    /// Reads once more. That each whole line was answered before, and each answer written, are premises here, since
-    /// no clause of `next_line` speaks of the moments between: it says that while a line waits nothing is read.
-    fn read_more<S: Source>(&mut self, reader: &mut S) -> Result<(), NoLine>
+    /// Reads once more, to behind what waits. That each whole line was answered before, and each answer written, are
+    /// premises here, since no clause of `next_line` speaks of the moments between: it says that while a line waits
+    /// nothing is read.
+    ///
+    /// `Read`: the read failed, or there were `MOST_READS` before. `OutOfMemory`: there was no memory to read into. No
+    /// other reason is given.
+    pub fn read_more<S: Source>(&mut self, reader: &mut S) -> Result<(), NoLine>
         requires counted { Counts (S.calls reader.old) self.old.reads }
         requires going { self.old.ended ≡ false }
         requires no_line_waits { line_len self.old.pending ≡ length self.old.pending }

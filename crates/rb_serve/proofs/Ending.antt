@@ -1,6 +1,6 @@
 -- How a run ends, where its turns are known.
 use Rattle.std.proofs.Common.{◌≡◌, ◌<◌, ◌≤◌, ◌⊎◌, ℕ, Bool, true, false, List, [], ◌++◌, length, take, Option, Some, None}
-use Rattle.std.proofs.Common.{Err, refl, sym, ap, ◌∙◌, rules, subst}
+use Rattle.std.proofs.Common.{Err, sym, ap, ◌∙◌, rules, subst}
 use Rattle.std.specs.Prelude.{IfSome}
 use Rattle.std.specs.Io.KnownBytes.{IsAtEnd, Keeps}
 use Rattle.rb_lines.specs.Lines.{is_long, line_len, lines_of}
@@ -9,7 +9,7 @@ use Rattle.rb_lines.specs.declared.limits.TheConstants.{LINE_LIMIT}
 use Rattle.rb_lines.proofs.Public.LongLines.{long_line}
 use Rattle.rb_lines.proofs.Public.Walks.{at_end, at_rest, line_at_front}
 use Rattle.rb_serve.specs.Ends.{AreAll, EndsAs, EndsAtRest, IsReadAnswered, IsBad, IsNext, IsPutOut}
-use Rattle.rb_serve.specs.Steps.{IsBadLine, IsReadFault, Point, StopsAt}
+use Rattle.rb_serve.specs.Steps.{IsBadLine, Point, StopsAt}
 use Rattle.rb_serve.specs.Turns.{Answers, HasNoAnswer, Turn, lines_answered, not_blank}
 use Rattle.rb_serve.specs.declared.fault.ServeFault.{ServeFault}
 use Rattle.rb_serve.specs.declared.fault.ServeFault.TheVariants.{BadLine, LongLine, Read, Write, Journal, OutOfMemory}
@@ -158,12 +158,3 @@ rests Read h = tt
 rests Write h = absurd h
 rests Journal h = absurd h
 rests OutOfMemory h = absurd h
-
--- where a read has failed and the journal is at rest, there was memory
-pub only_read : (fault : ServeFault) → IsReadFault {T = Unit {0}} (Err fault) → EndsAtRest {T = ℕ} (Err fault) → fault ≡ Read
-only_read (BadLine k) is h = absurd is
-only_read (LongLine k) is h = absurd is
-only_read Read is h = refl
-only_read Write is h = absurd is
-only_read Journal is h = absurd is
-only_read OutOfMemory is h = absurd h

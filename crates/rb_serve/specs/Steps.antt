@@ -70,13 +70,3 @@ StopsAt answers s number b (Err OutOfMemory) = Unit {0}
 StopsAt answers s number b (Err Write) = Unit {0}
 StopsAt answers s number b (Err Journal) = Unit {0}
 StopsAt answers s number b (Err Read) = ⊥
-
--- a read succeeded, failed, or took memory that wasn't there
-abbrev pub IsReadFault : {T : Type 0} → Result T ServeFault → Type 0
-IsReadFault (Ok x) = Unit {0}
-IsReadFault (Err Read) = Unit {0}
-IsReadFault (Err OutOfMemory) = Unit {0}
-IsReadFault (Err (BadLine k)) = ⊥
-IsReadFault (Err (LongLine k)) = ⊥
-IsReadFault (Err Write) = ⊥
-IsReadFault (Err Journal) = ⊥

@@ -6,7 +6,6 @@
 mod fault;
 mod group;
 mod machine;
-mod read;
 mod run;
 mod waiting;
 mod work;

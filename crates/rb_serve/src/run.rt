@@ -14,10 +14,9 @@ ghost use Rattle.rb_serve.specs.declared.fault.ServeFault.TheVariants.{Journal a
 use crate::fault::ServeFault;
 use crate::group::answer_group;
 use crate::machine::Machine;
-use crate::read::read_more;
 use crate::work::Work;
 use rb_journal::{Host, Journal};
-use rb_lines::{Buffers, Source};
+use rb_lines::{Buffers, NoLine, Source};
 use std::alloc::Global;
 
 /// Answers each line of what waits in `buffers` and of what the reader still gives, and says how many were answered;
@@ -73,6 +72,11 @@ pub fn serve<M: Machine, H: Host, S: Source>(
         if buffers.ended {
             return Ok(work.count);
         }
-        read_more(buffers, reader)?;
+        match buffers.read_more(reader) {
+            Ok(()) => {}
+            Err(NoLine::Read) => return Err(ServeFault::Read),
+            Err(NoLine::OutOfMemory) => return Err(ServeFault::OutOfMemory),
+            Err(NoLine::TooLong | NoLine::Write) => unreachable!(),
+        }
     }
 }

@@ -8,7 +8,7 @@ use Rattle.rb_serve.specs.Run.{IsRunOfTurns, served_input}
 use Rattle.rb_serve.specs.Steps.{point_of}
 use Rattle.rb_serve.specs.Turns.{Turn}
 use Rattle.rb_serve.specs.declared.fault.ServeFault.TheVariants.{Journal}
-use Rattle.rb_serve.proofs.Ending.{ends_all, ends_group, ends_read, only_read, put_out, rests}
+use Rattle.rb_serve.proofs.Ending.{ends_all, ends_group, ends_read, put_out, rests}
 use Rattle.rb_serve.proofs.Follow.{Follows, follows_read, follows_start, run_start}
 use Rattle.rb_serve.proofs.Groups.{group_cause, group_follows, group_moments}
 use Rattle.rb_serve.proofs.run.serve.Goals as goal
@@ -54,8 +54,13 @@ returns-then-buffers-clause-any_moment g c =
     let inv = c.reads.invariant in
     group_moments inv.follows inv.end inv.any_moment c.answer_group.ensures.any_moment
 
-pub returns-in_err-read_more-clause-any_moment : goal.returns-in_err-read_more-clause-any_moment
-returns-in_err-read_more-clause-any_moment g c =
+pub returns-in-Err-Read-clause-any_moment : goal.returns-in-Err-Read-clause-any_moment
+returns-in-Err-Read-clause-any_moment g c =
+    let inv = c.reads.invariant in
+    group_moments inv.follows inv.end inv.any_moment c.answer_group.ensures.any_moment
+
+pub returns-in-Err-OutOfMemory-clause-any_moment : goal.returns-in-Err-OutOfMemory-clause-any_moment
+returns-in-Err-OutOfMemory-clause-any_moment g c =
     let inv = c.reads.invariant in
     group_moments inv.follows inv.end inv.any_moment c.answer_group.ensures.any_moment
 
@@ -101,39 +106,23 @@ returns-then-buffers-clause-text g c = λ ok.
       ends_all _ _ _ _ _ _ _ _ _ follows (group.stop.1 ended) (inv.end (sym c.answer_group.ensures.ended ∙ ended)),
     )
 
-pub returns-in_err-read_more-clause-text : goal.returns-in_err-read_more-clause-text
-returns-in_err-read_more-clause-text g c = λ at_rest.
-    let answers = g.M.Machine.answers in
-    let new = c.answer_group.new in
+pub returns-in-Err-Read-clause-text : goal.returns-in-Err-Read-clause-text
+returns-in-Err-Read-clause-text g c = λ at_rest.
     let inv = c.reads.invariant in
-    let host = g.H.Host in
-    let was = c.args.journal.now.host in
-    let begin = g.M.Machine.state c.args.machine.now in
-    let input = served_input c.args.buffers.now.pending (g.S.Source.remaining c.args.reader.now) in
-    let lines = recovered (host.content was) in
-    let now = recovered (host.content new.journal.host) in
-    let said = host.output new.journal.host in
     let group = c.in_ok-answer_group.ensures in
     let follows = group_follows inv.follows inv.end (group.answered tt) c.answer_group.ensures.ended in
-    let fault = c.in_err-read_more.field-0.0 in
-    let passed : c.from_residual-in_err-read_more.result ≡ Err fault = search rules in
-    let read = c.in_err-read_more.ensures in
-    let is = only_read fault read.only (subst (λ r. EndsAtRest {T = ℕ} r) passed at_rest) in
-    let kept = read.kept (ap Err is) in
-    let left = g.S.Source.remaining c.read_more.new.reader in
-    let going : new.buffers.ended ≡ false = c.if-buffers.false in
-    subst (λ r. (turns : List (Turn g.M.Machine.State)) × IsPutOut answers begin lines (host.output was) turns now said
-    × EndsAs answers begin turns c.args.number input left r) (sym (passed ∙ ap Err is)) (
+    let going : c.answer_group.new.buffers.ended ≡ false = c.if-buffers.false in
+    let failed = rw c.in-Err-Read.field-0-is at c.in-Err-Read.ensures.read in (
       follows.turns,
       put_out _ _ _ _ _ _ _ _ _ follows,
-      ends_read _ _ _ _ _ _ _ _ left _ follows going group.stop.0 kept.1,
+      ends_read _ _ _ _ _ _ _ _ (g.S.Source.remaining c.read_more.new.reader) _ follows going group.stop.0 failed.2,
     )
 
 pub reads-preserved : goal.reads-preserved
 reads-preserved g c =
     let inv = c.reads.invariant in
     let group = c.in_ok-answer_group.ensures in
-    let read = c.in_ok-read_more.ensures in
+    let read = c.in-Ok.ensures in
     let follows = group_follows inv.follows inv.end (group.answered tt) c.answer_group.ensures.ended in
     let going : c.answer_group.new.buffers.ended ≡ false = c.if-buffers.false in
     record {
