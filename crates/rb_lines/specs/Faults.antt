@@ -3,7 +3,8 @@ use Rattle.std.specs.Prelude.{ℕ}
 use Rattle.rb_lines.specs.declared.fault.StreamFault.{StreamFault}
 use Rattle.rb_lines.specs.declared.fault.StreamFault.TheVariants.{LongLine, Read, Write, OutOfMemory}
 use Rattle.rb_lines.specs.declared.no_line.NoLine.{NoLine}
-use Rattle.rb_lines.specs.declared.no_line.NoLine.TheVariants.{TooLong, OutOfMemory as NoMemory, Read as NotRead, Write as NotWritten}
+use Rattle.rb_lines.specs.declared.no_line.NoLine.TheVariants.{TooLong, OutOfMemory as NoMemory}
+use Rattle.rb_lines.specs.declared.no_line.NoLine.TheVariants.{Read as NotRead, Write as NotWritten}
 
 -- why there is no next line, as a fault, where the next line has this number
 abbrev pub fault_at : NoLine → ℕ → StreamFault

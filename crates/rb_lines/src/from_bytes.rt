@@ -46,7 +46,8 @@ impl<'a> FromBytes<'a> {
 }
 
 impl Source for FromBytes<'_> {
-    ghost use Rattle.std.specs.Prelude.{◌+◌, ◌-◌, ◌^◌, ◌≤◌, ◌||◌, [], Some, true, length, min, is_err, IfOk, IsErr, OnErr};
+    ghost use Rattle.std.specs.Prelude.{◌+◌, ◌-◌, ◌^◌, ◌≤◌, ◌||◌, [], Some, true, length, min, is_err};
+    ghost use Rattle.std.specs.Prelude.{IfOk, IsErr, OnErr};
     ghost use Rattle.std.specs.Io.KnownBytes.{ReadConsumes};
 
     ghost remaining = { λ s. Some s.rest.now };
