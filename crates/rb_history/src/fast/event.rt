@@ -163,12 +163,11 @@ fn parse_statement<'a>(config: &Config, text: &'a str) -> Option<(Event, &'a str
     Some((Event::Statement(account), rest))
 }
 
-/// An event that comes seldom, as the first letters of its key say.
+/// An event that comes seldom, as the first letter of its key says.
 fn parse_rare<'a>(alloc: Global, config: &Config, text: &'a str) -> Option<(Event, &'a str)>
     ensures { IfSome result (λ p. BeginsWithEvent config.now p.0 text.now p.1.now) }
 {
-    let key = text.as_bytes();
-    match key.get(2) {
+    match text.as_bytes().get(2) {
         Some(b's') => parse_statement(config, text),
         Some(b'a') => parse_as_of(config, text),
         Some(b'b') => parse_batch(alloc, config, text),
@@ -189,7 +188,8 @@ fn put_rare<'a>(alloc: Global, config: &Config, text: &'a str, event: &mut Event
     Some(rest)
 }
 
-/// An event, as the first letters of its key say, in its place, and what follows it. It may be any where there is none.
+/// An event, as the first letter and the fourth of its key say, in its place, and what follows it. These two tell all
+/// thirteen keys apart; the first and the third don't (`shadow`, `statement`). It may be any where there is none.
 pub fn parse_event<'a>(
     alloc: Global,
     config: &Config,
@@ -199,11 +199,11 @@ pub fn parse_event<'a>(
     ensures { IfSome result (λ rest. BeginsWithEvent config.now event.new text.now rest.now) }
 {
     let key = text.as_bytes();
-    match (key.get(2), key.get(4)) {
-        (Some(b's'), Some(b'a')) => parse_received(config, text, event),
-        (Some(b'a'), Some(b'p')) => parse_apply(config, text, event),
-        (Some(b'b'), Some(b'l')) => parse_balance(config, text, event),
-        (Some(b't'), Some(b'a')) => parse_submit(config, text, event),
+    match (key.get(2), key.get(5)) {
+        (Some(b's'), Some(b'd')) => parse_received(config, text, event),
+        (Some(b'a'), Some(b'l')) => parse_apply(config, text, event),
+        (Some(b'b'), Some(b'a')) => parse_balance(config, text, event),
+        (Some(b't'), Some(b'n')) => parse_submit(config, text, event),
         (Some(b'd'), _) | (Some(b'w'), _) | (Some(b'i'), _) | (Some(b'c'), _) => {
             parse_submit(config, text, event)
         }

@@ -118,10 +118,7 @@ fn parse_rare<'a>(alloc: Global, text: &'a str) -> Option<(Reply, &'a str)>
     match (text.as_bytes().get(2), text.as_bytes().get(3)) {
         (Some(b'a'), _) => parse_already(text),
         (Some(b'r'), _) => parse_refused(text),
-        (Some(b'b'), Some(b'a')) => match parse_statement(alloc, text) {
-            Some(shown) => Some(shown),
-            None => parse_batch(text),
-        },
+        (Some(b'b'), _) => parse_statement(alloc, text),
         (Some(b't'), _) => parse_taken(text),
         (Some(b's'), _) => parse_stale(text),
         (Some(b'p'), Some(b'a')) => parse_passed(text),
