@@ -8,7 +8,7 @@ use crate::fast::account::{parse_account_between, parse_asked};
 use crate::fast::name::parse_name_between;
 use crate::fast::number::{parse_byte_between, parse_word_between};
 use crate::fast::shadow::parse_received;
-use rb_commands::fast::scan::parse_prefix;
+use rb_commands::fast::scan::{narrow, parse_prefix};
 use rb_kit::List;
 use rb_money::Config;
 use rb_scratch::Request;
@@ -33,11 +33,8 @@ fn parse_withdraw<'a>(config: &Config, text: &'a str) -> Option<(Request, &'a st
 fn parse_interest<'a>(config: &Config, text: &'a str) -> Option<(Request, &'a str)>
     ensures { IfSome result (λ p. BeginsWithRequest config.now p.0 text.now p.1.now) }
 {
-    let (account, rate, rest) = parse_asked(config, text, "{\"interest\":[\"")?;
-    if rate >= 0x1_0000_0000 {
-        return None;
-    }
-    let rate = rate as u32;
+    let (account, n, rest) = parse_asked(config, text, "{\"interest\":[\"")?;
+    let rate = narrow(n)?;
     Some((Request::Interest { account, rate }, rest))
 }
 
@@ -149,11 +146,9 @@ fn parse_balance<'a>(config: &Config, text: &'a str, event: &mut Event) -> Optio
 fn parse_as_of<'a>(config: &Config, text: &'a str) -> Option<(Event, &'a str)>
     ensures { IfSome result (λ p. BeginsWithEvent config.now p.0 text.now p.1.now) }
 {
-    let (account, position, rest) = parse_asked(config, text, "{\"asof\":[\"")?;
-    if position >= 0x1_0000_0000 {
-        return None;
-    }
-    Some((Event::AsOf(account, position as u32), rest))
+    let (account, n, rest) = parse_asked(config, text, "{\"asof\":[\"")?;
+    let position = narrow(n)?;
+    Some((Event::AsOf(account, position), rest))
 }
 
 fn parse_statement<'a>(config: &Config, text: &'a str) -> Option<(Event, &'a str)>

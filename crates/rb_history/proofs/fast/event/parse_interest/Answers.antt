@@ -1,7 +1,7 @@
-use Rattle.std.proofs.Common.{arith}
+use Rattle.std.proofs.Common.{refl}
 use Rattle.json.specs.Print.{escape_byte}
 use Rattle.rb_history.proofs.fast.event.parse_interest.Goals as goal
 
 pub returns : goal.returns
 unfolding escape_byte
-returns c = ((c.in_ok-account.ensures.0, omega arith), c.in_ok-account.ensures.2)
+returns c = rw (c.in_ok-account.ensures.2, c.in_ok-rate.ensures.1) ((c.in_ok-account.ensures.0, c.in_ok-rate.ensures.0), refl)
