@@ -1,11 +1,13 @@
 //! Pieces of a line, added at the end of bytes. After an `Err`, which means out of memory, a prefix of a piece may
 //! have been added.
-ghost use Rattle.std.specs.Prelude.{◌≡◌, ◌+◌, ◌++◌, decimal, length, take, OnOk, OnErr};
+ghost use Rattle.std.specs.Prelude.{◌≡◌, ◌≤◌, ◌+◌, ◌++◌, decimal, length, take, OnOk, OnErr};
 ghost use Rattle.json.specs.Print.{quoted};
 ghost use Rattle.rb_shadow.specs.NameText.{name_text};
 ghost use Rattle.rb_commands.specs.Adds.{Adds};
+ghost use Rattle.rb_commands.specs.declared.write.line.TheConstants.{SHORT};
 
-use crate::write::line::{LINE, SHORT};
+use crate::write::line::LINE;
+pub use crate::write::line::SHORT;
 use crate::write::put::{put_name, put_number, put_text};
 use itoa::Buffer;
 use rb_shadow::OpName;
@@ -62,18 +64,7 @@ pub fn append_number(out: &mut Vec<u8>, front: &str, n: u64, back: &str) -> Resu
     Ok(())
 }
 
-/// An operation's name in quotes.
-fn append_name(out: &mut Vec<u8>, name: OpName) -> Result<(), AllocError>
-    ensures { Adds result out.old.items out.new.items (quoted (name_text name)) }
-{
-    let at = out.len();
-    make_space(out, &[0; LINE])?;
-    let at = put_name(out.as_mut_slice(), at, name);
-    out.truncate(at);
-    Ok(())
-}
-
-/// An operation's name in quotes, between two texts.
+/// An operation's name in quotes, between two texts of at most [`SHORT`] bytes.
 #[inline(always)]
 pub fn append_named(
     out: &mut Vec<u8>,
@@ -81,13 +72,10 @@ pub fn append_named(
     name: OpName,
     back: &str,
 ) -> Result<(), AllocError>
+    requires front { length front.now ≤ SHORT }
+    requires back { length back.now ≤ SHORT }
     ensures { Adds result out.old.items out.new.items (front.now ++ (quoted (name_text name) ++ back.now)) }
 {
-    if front.len() > SHORT || back.len() > SHORT {
-        append(out, front)?;
-        append_name(out, name)?;
-        return append(out, back);
-    }
     let at = out.len();
     make_space(out, &[0; LINE])?;
     let space = out.as_mut_slice();
