@@ -1,5 +1,5 @@
 //! Lines of histories as JSON: the configuration written, entries written and read, and the verdicts of an audit.
-//! A configuration, a command and a reply are read and written by [`rb_commands`], whose calls for that are here too.
+//! A configuration, a command and a reply are read and written by [`rb_commands`].
 //! Tests: rb_tests_runs, entries.rt.
 #![tactic(auto)]
 
@@ -13,7 +13,6 @@ ghost use Rattle.rb_history.specs.Messages.{MessagesAreRead};
 ghost use Rattle.rb_history.specs.OneLine.{ConfigsAreLines, EntriesAreLines};
 ghost use Rattle.rb_history.specs.Sites.{HeldNamesFitLines, ReadEventsFit, RepliesFitLines};
 
-pub use rb_commands::{LineFault, read_command, read_config, write_reply};
 pub use read::entry::{read_entry, read_line};
 pub use read::event::read_event;
 pub use write::config::write_config;
