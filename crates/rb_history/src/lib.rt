@@ -26,14 +26,16 @@ pub fn configs_are_read()
     ensures { ConfigsAreRead }
 {}
 
-/// The line that is written for an entry of a site is read as the entry: where each of its places is that of an
-/// account of the configuration or `Place::NOWHERE`, and its reply isn't *out of memory*.
+/// The line that is written for an entry of a site of the configuration is read as the entry: where each of its places
+/// is that of an account of the configuration or `Place::NOWHERE`, its reply isn't *out of memory*, and, in version 1,
+/// the clock of a shadow that comes has 0 for each site past the eighth.
 pub fn entries_are_read()
     ensures { EntriesAreRead }
 {}
 
 /// The line that is written for an event by itself is read as the event: where each of its places is that of an
-/// account of the configuration or `Place::NOWHERE`.
+/// account of the configuration or `Place::NOWHERE`, and, in version 1, the clock of a shadow that comes has 0 for each
+/// site past the eighth.
 pub fn events_are_read()
     ensures { EventsAreRead }
 {}
