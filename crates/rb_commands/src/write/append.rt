@@ -1,5 +1,5 @@
-//! Pieces of a line, added at the end of bytes. After an `Err`, which means out of memory, a prefix of a piece may
-//! have been added.
+//! Pieces of a line, added at the end of bytes. An `Err` means out of memory: what was there stays, and more may be
+//! behind it.
 ghost use Rattle.std.specs.Prelude.{◌≡◌, ◌≤◌, ◌+◌, ◌++◌, decimal, length, take, OnOk, OnErr};
 ghost use Rattle.json.specs.Print.{quoted};
 ghost use Rattle.rb_shadow.specs.NameText.{name_text};

@@ -153,7 +153,8 @@ pub fn append_reply(out: &mut Vec<u8>, reply: &Reply) -> Result<(), AllocError>
     }
 }
 
-/// The JSON object of a reply: its line without the line feed.
+/// The JSON object of a reply: its line without the line feed. An `Err` means out of memory: what was there stays, and
+/// more may be behind it.
 pub fn append_value(out: &mut Vec<u8>, reply: &Reply) -> Result<(), AllocError>
     ensures { Adds result out.old.items out.new.items (compact_text (reply_json reply.now)) }
 {

@@ -119,7 +119,7 @@ fn put_spelled(
 }
 
 /// Reads the entry that a history's line is into its place, and returns the number of its site: `Bad` where it is none,
-/// `OutOfMemory` where there was no memory to read it. The entry may be any then.
+/// `OutOfMemory` where there was no memory to read it. After an `Err` the entry may be any.
 ///
 /// An account that the configuration doesn't have is read as `Place::NOWHERE`. The reply may be one that no
 /// site gives, and `why` and the number that stopped a batch may be any byte; but a line that reports running out of

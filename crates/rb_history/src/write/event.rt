@@ -91,7 +91,8 @@ fn append_token(out: &mut Vec<u8>, token: TokenMessage) -> Result<(), AllocError
     append_number(out, "", token.red as u64, "]}")
 }
 
-/// Adds the line of an event, without a line feed. An `Err` means out of memory, and leaves what was there.
+/// Adds the line of an event, without a line feed. An `Err` means out of memory: what was there stays, and more may be
+/// behind it.
 ///
 /// A place past the accounts is written "?".
 #[tactic(auto, unfolding(json::specs::Print::escape_byte))]
