@@ -132,7 +132,10 @@ The answer is one line, after the last entry:
 
   {"order":[0,1]}                       one world has the histories, recorded in this order of sites
   {"event":1,"fault":"reply","site":0}  the first entry of site 0 is none that it would have recorded
-  {"fault":"stuck","next":[1,2]}        what site 0 received first, and site 1 second, nobody sent
+  {"fault":"stuck","next":[1,2]}        no order goes on: entry 1 of site 0 and 2 of site 1 are next
+
+Where no order goes on, these entries wait for messages that no entry before sent. A site at its end
+shows one more than its entries.
 
 Statuses:
   0  one world has the histories
