@@ -62,8 +62,7 @@ pub const RESEND: &str =
 
 /// What is wrong with words that ask for nothing, where the command line takes them.
 pub const NOT_ASKED: &str =
-    "each option is a word, and its value the next word, a number with no sign and no zero in front, \
-     as in --seed 7";
+    "each option is a word, and its value the next word; a number has no sign and no zero in front";
 
 /// A script with its replies, the refusals and the statuses.
 pub const SCRIPT_HELP: &str =
