@@ -66,9 +66,9 @@ struct rbbank_site {
  * 0, 2 (no configuration), 3 (the configuration has no such site) or 4; after 2, 3 and 4 the handle is closed. */
 int32_t rbbank_site_open(struct rbbank_site *site, uint8_t me, const uint8_t *config, size_t length);
 
-/* Gives the site an event's line: a command without its site, or a message of another site. 0: the answer
- * {"reply":..,"sends":[..],"then":[..]} is kept, and so are its entries; 1; 2 (no event): nothing has changed, what
- * was kept before neither; 4.
+/* Gives the site an event's line: any command but "deliver", without its site, or a message of another site. 0: the
+ * answer {"reply":..,"sends":[..],"then":[..]} is kept, and so are its entries; 1; 2 (no event): nothing has changed,
+ * what was kept before neither; 4.
  * Write the entries where they last before anyone sees the answer: then a crash takes back nothing that was seen. */
 int32_t rbbank_site_answer(struct rbbank_site *site, const uint8_t *line, size_t length);
 

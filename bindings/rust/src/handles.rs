@@ -153,8 +153,8 @@ impl Site {
         Ok(site)
     }
 
-    /// Answers an event's line, a command without its site or a message of another site, by the line
-    /// `{"reply":..,"sends":[..],"then":[..]}`, without its line feed.
+    /// Answers an event's line: any command but `deliver`, without its site, or a message of another site. The answer
+    /// is the line `{"reply":..,"sends":[..],"then":[..]}`, without its line feed.
     ///
     /// # Errors
     ///

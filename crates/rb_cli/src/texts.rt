@@ -172,8 +172,8 @@ All lines, limits, refusals and statuses: docs/FORMAT.md"#;
 
 /// An event at a site with its answer, and the statuses.
 pub const SITE_HELP: &str =
-    r#"The first line is the configuration, and each later line an event: a command without its site, or a message
-that another site sent. At site 0, which has no journal yet:
+    r#"The first line is the configuration, and each later line an event: any command but "deliver", without its
+site, or a message that another site sent. At site 0, which has no journal yet:
 
   {"accounts":[["ann",0]],"sites":2,"version":1}
   {"deposit":["ann",500]}
