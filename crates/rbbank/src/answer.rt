@@ -1,9 +1,10 @@
 //! What the words ask for, done between any reader and any writer.
 ghost use Rattle.std.specs.Prelude.{◌≡◌, ◌+◌, ◌≤◌, ℕ, List, false, map, IfOk, IfErr, OnErr};
 ghost use Rattle.std.specs.Io.KnownBytes.{Appends};
+ghost use Rattle.clap.specs.Words.{HasKind};
 ghost use Rattle.rb_lines.specs.declared.limits.TheConstants.{MOST_READS};
 ghost use Rattle.rb_cli.specs.declared.words.Words.{Words as TheWords};
-ghost use Rattle.rb_cli.specs.Words.{Ask};
+ghost use Rattle.rb_cli.specs.Words.{Ask, kinds_of};
 ghost use Rattle.rbbank.specs.Asked.{DoesAsAsked};
 ghost use Rattle.rbbank.specs.Statuses.{IsSiteAsked};
 
@@ -53,6 +54,8 @@ pub fn answer<'a, H: Threads + Wait + Sync, S: Source, W: Sink>(
         × (text : List ℕ) × Appends (W.contents writer.old) (W.contents writer.new) text
         × DoesAsAsked asked answered (S.remaining reader.old) (S.remaining reader.new) text) }
     ensures unasked { IfErr result (λ _. (asked : TheWords) → ¬ Ask (map (λ word. word.now) words.entry.now) asked) }
+    // The error is one of those that these words may end in, so help is answered only where they ask for it.
+    ensures kinds { IfErr result (HasKind (kinds_of (map (λ word. word.now) words.entry.now))) }
     ensures untouched { OnErr result ((reader.new ≡ reader.old) × (writer.new ≡ writer.old)) }
     ensures asked { IfOk result
         (λ answered. IsSiteAsked answered → (reader.new ≡ reader.old) × (writer.new ≡ writer.old)) }
