@@ -19,43 +19,47 @@ abbrev pub status_of_unread : IoErrorKind → ℕ
 status_of_unread IoOutOfMemory = 4
 status_of_unread _ = 2
 
--- this status of a fault, or 4 where memory runs out for its text
+-- this status of a fault, or 4: its text takes memory, and no argument shows whether there is some. `print_line`, which
+-- is given the text, says by it which of the two
 abbrev pub IsToldStatus : ℕ → ℕ → Type 0
 IsToldStatus status n = (n ≡ status) ⊎ (n ≡ 4)
 
--- the status where the words ask for nothing: help or the version that was asked for is no fault where it is written
+-- the status where the words ask for nothing, by the kind of their error: 4 where memory ran out; for help and the
+-- version 0, or that of a write that failed, or 4; 2 for any other
 abbrev pub IsEndOfWords : ErrorKind → ℕ → Type 0
 IsEndOfWords NoMemory n = n ≡ 4
 IsEndOfWords DisplayHelp n = (n ≡ 0) ⊎ IsToldStatus (status_of Write) n
 IsEndOfWords DisplayVersion n = (n ≡ 0) ⊎ IsToldStatus (status_of Write) n
 IsEndOfWords _ n = n ≡ 2
 
--- a script, or a migration, that was answered whole is no fault
+-- a script, or a migration, ends in 0 where it was answered whole, else in its fault's status or 4
 abbrev pub IsEndOfScript : Result ℕ StreamFault → ℕ → Type 0
 IsEndOfScript (Ok count) n = n ≡ 0
 IsEndOfScript (Err fault) n = IsToldStatus (status_of fault) n
 
--- an audit ends in 0 where it found an order, and in 1 where it found that no world has the histories
+-- an audit ends in 0 where it found an order, in 1 where it found that no world has the histories, else in its fault's
+-- status or 4
 abbrev pub IsEndOfAudit : Result Bool StreamFault → ℕ → Type 0
 IsEndOfAudit (Ok true) n = n ≡ 0
 IsEndOfAudit (Ok false) n = n ≡ 1
 IsEndOfAudit (Err fault) n = IsToldStatus (status_of fault) n
 
--- a run of threads whose histories were written is no fault
+-- a run of threads ends in 0 where its histories were written, else in its fault's status or 4
 abbrev pub IsEndOfThreads : Result Unit ThreadsFault → ℕ → Type 0
 IsEndOfThreads (Ok u) n = n ≡ 0
 IsEndOfThreads (Err fault) n = IsToldStatus (threads_status_of fault) n
 
--- a site whose lines were all answered is no fault
+-- a site ends in 0 where its lines were all answered, else in its fault's status or 4
 abbrev pub IsEndOfSite : Result ℕ SiteFault → ℕ → Type 0
 IsEndOfSite (Ok count) n = n ≡ 0
 IsEndOfSite (Err fault) n = IsToldStatus (site_status_of fault) n
 
--- a run of a site ends as some run of it may
+-- a status that a run of a site may end in, whatever the run was
 abbrev pub IsEndOfSomeSite : ℕ → Type 0
 IsEndOfSomeSite n = (ran : Result ℕ SiteFault) × IsEndOfSite ran n
 
--- whatever was done ends as a script, an audit, a migration, a run of threads or one of a site does
+-- whatever was done ends as a script, an audit, a migration or a run of threads does by what it came to, or as some run
+-- of a site
 abbrev pub IsEndOf : Answered → ℕ → Type 0
 IsEndOf (Script ran) n = IsEndOfScript ran n
 IsEndOf (Audit ran) n = IsEndOfAudit ran n

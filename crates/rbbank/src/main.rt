@@ -3,7 +3,7 @@
 //! Tests: rb_tests_runs, words.rt; the program itself runs in the gate and on examples/.
 #![tactic(auto)]
 
-ghost use Rattle.std.specs.Prelude.{◌≡◌, ◌⊎◌};
+ghost use Rattle.std.specs.Prelude.{◌≡◌, ◌⊎◌, MatchResult};
 ghost use Rattle.std.specs.IoError.{error_kind};
 ghost use Rattle.std.specs.Process.{exit_status};
 ghost use Rattle.clap.specs.Words.{kind_of};
@@ -43,9 +43,9 @@ fn out_of_memory(rt: &HostRuntime) -> ExitCode
     ExitCode::from(NO_MEMORY)
 }
 
-/// Says this line, if there was memory for it, and ends with this status.
+/// Says this line, if there was memory for it, and ends with this status; else says that memory ran out.
 pub(crate) fn print_line(rt: &HostRuntime, line: Result<String, AllocError>, status: u8) -> ExitCode
-    ensures { IsToldStatus status (exit_status result) }
+    ensures { MatchResult line (λ _. exit_status result ≡ status) (λ _. exit_status result ≡ 4) }
 {
     match line {
         Ok(line) => {
