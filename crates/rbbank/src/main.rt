@@ -1,5 +1,5 @@
-//! `rbbank`: the sites of a bank, driven by a script or by tellers in threads, and audits and migrations of their
-//! histories.
+//! `rbbank`: the sites of a bank, driven by a script or by tellers in threads, one site over its journal, and audits
+//! and migrations of the sites' histories.
 //! Tests: rb_tests_runs, words.rt; the program itself runs in the gate and on examples/.
 #![tactic(auto)]
 
