@@ -8,6 +8,7 @@ use Rattle.rb_serve.specs.Ends.{IsFull}
 use Rattle.rb_serve.specs.Run.{served_input}
 use Rattle.rb_serve.specs.declared.fault.ServeFault.{ServeFault}
 use Rattle.rb_run_site.specs.Ends.{AnswersAll, AnswersBehind, IsFullBehind, RunsTo}
+use Rattle.rb_run_site.specs.Faults.{IsOpeningFault}
 use Rattle.rb_run_site.specs.Journals.{SiteAnswers, journal_of}
 use Rattle.rb_run_site.specs.Openings.{OpensSite}
 use Rattle.rb_run_site.specs.Runs.{AreBytesBehind, HasAnswered, IsLeftOrAnswered, IsSiteRun}
@@ -79,22 +80,36 @@ module _ (me most number : ℕ) (input left : Option (List ℕ)) (file config pe
     full = full;
   }
 
--- a run that did change something, with a weaker claim of its end
-pub ran : (A B : Result ℕ ServeFault → Type 0) (U : Type 0) (r : Result ℕ SiteFault) → ((e : Result ℕ ServeFault) → A e → B e)
-    → RunsTo A ⊥ r → RunsTo B U r
-ran A B U (Ok n) so a = so (Ok n) a
-ran A B U (Err (BadLine k)) so a = so _ a
-ran A B U (Err (LongLine k)) so (inl a) = inl (so _ a)
-ran A B U (Err (LongLine k)) so (inr none) = absurd none
-ran A B U (Err Read) so (inl a) = inl (so _ a)
-ran A B U (Err Read) so (inr none) = absurd none
-ran A B U (Err NoConfig) so a = absurd a
-ran A B U (Err (BadConfig k)) so a = absurd a
-ran A B U (Err NoSite) so a = absurd a
-ran A B U (Err AnotherJournal) so a = absurd a
-ran A B U (Err (BadEntry k)) so a = absurd a
-ran A B U (Err (WrongReply k)) so a = absurd a
-ran A B U (Err Write) so a = tt
-ran A B U (Err Journal) so a = tt
-ran A B U (Err OutOfMemory) so a = tt
-ran A B U (Err InUse) so a = absurd a
+-- a run that got past the opening, with a weaker claim of its end
+pub ran : (A B : Result ℕ ServeFault → Type 0) (stops : SiteFault → Type 0) (r : Result ℕ SiteFault)
+    → ((e : Result ℕ ServeFault) → A e → B e) → RunsTo A (λ _. ⊥) r → RunsTo B stops r
+ran A B stops (Ok n) so a = so (Ok n) a
+ran A B stops (Err (BadLine k)) so a = so _ a
+ran A B stops (Err (LongLine k)) so (inl a) = inl (so _ a)
+ran A B stops (Err (LongLine k)) so (inr none) = absurd none
+ran A B stops (Err Read) so (inl a) = inl (so _ a)
+ran A B stops (Err Read) so (inr none) = absurd none
+ran A B stops (Err NoConfig) so a = absurd a
+ran A B stops (Err (BadConfig k)) so a = absurd a
+ran A B stops (Err NoSite) so a = absurd a
+ran A B stops (Err AnotherJournal) so a = absurd a
+ran A B stops (Err (BadEntry k)) so a = absurd a
+ran A B stops (Err (WrongReply k)) so a = absurd a
+ran A B stops (Err Write) so a = tt
+ran A B stops (Err Journal) so a = tt
+ran A B stops (Err OutOfMemory) so a = tt
+ran A B stops (Err InUse) so a = absurd a
+
+-- a run that stopped in the opening
+pub stopped_there : (A : Result ℕ ServeFault → Type 0) (stops : SiteFault → Type 0) (fault : SiteFault) → IsOpeningFault fault → stops fault
+    → RunsTo A stops (Err fault)
+stopped_there A stops NoConfig is at = at
+stopped_there A stops (BadConfig k) is at = at
+stopped_there A stops NoSite is at = at
+stopped_there A stops AnotherJournal is at = at
+stopped_there A stops (BadEntry k) is at = at
+stopped_there A stops (WrongReply k) is at = at
+stopped_there A stops (LongLine k) is at = inr at
+stopped_there A stops Read is at = inr at
+stopped_there A stops OutOfMemory is at = tt
+stopped_there A stops _ is at = absurd is

@@ -1,15 +1,17 @@
 -- Why a site isn't opened.
 use Rattle.std.proofs.Common.{◌≡◌, ◌<◌, ◌≤◌, ◌+◌, ◌⊎◌, ℕ, Bool, true, List, ◌∷◌, ◌++◌, length, take, drop, Option, Some, None}
-use Rattle.std.proofs.Common.{sym, ap, subst, ◌∙◌}
+use Rattle.std.proofs.Common.{Err, sym, ap, subst, ◌∙◌}
 use Rattle.std.specs.Prelude.{IfSome}
 use Rattle.std.specs.Io.KnownBytes.{IsAtEnd}
 use Rattle.rb_lines.specs.Lines.{line_len, lines_of}
 use Rattle.rb_site.specs.Seen.{SeenSite, first_seen}
-use Rattle.rb_run_site.specs.FirstLines.{IsBehindBlanks, WaitsAt}
+use Rattle.rb_run_site.specs.Faults.{IsFirstLineFault}
+use Rattle.rb_run_site.specs.FirstLines.{FindsFirst, IsBehindBlanks, WaitsAt}
 use Rattle.rb_run_site.specs.Openings.{EndsFile, EndsNode, IsOpeningCause}
 use Rattle.rb_run_site.specs.Starts.{IsOf}
 use Rattle.rb_run_site.specs.declared.fault.SiteFault.{SiteFault}
 use Rattle.rb_run_site.specs.declared.fault.SiteFault.TheVariants.{NoConfig, BadConfig, NoSite, AnotherJournal, BadEntry, WrongReply}
+use Rattle.rb_run_site.specs.declared.fault.SiteFault.TheVariants.{LongLine, Read, OutOfMemory}
 use Rattle.rb_run_site.proofs.Configured.{next_line}
 
 -- what waits at the front is the input's first line
@@ -30,21 +32,33 @@ first_line_is (Some all) (Some rest) number p e n w len fits at_front end =
       },
     )
 
-module _ (me : ℕ) (input : Option (List ℕ)) (file : List ℕ) (number : ℕ) (line : List ℕ)
+-- no first line was found
+pub first_cause : (me : ℕ) (input left : Option (List ℕ)) (file pending : List ℕ) (why : SiteFault) → IsFirstLineFault why
+    → IfSome input (λ all. FindsFirst (Err why) all pending left) → IsOpeningCause me input left file why
+first_cause me None left file p NoConfig is found = tt
+first_cause me (Some all) left file p NoConfig is found = found.0
+first_cause me input left file p (LongLine k) is found = found
+first_cause me input left file p Read is found = found
+first_cause me input left file p OutOfMemory is found = tt
+first_cause me input left file p _ is found = absurd is
+
+module _ (me : ℕ) (input left : Option (List ℕ)) (file : List ℕ) (number : ℕ) (line : List ℕ)
     (first : IfSome input (λ all. (later : List (List ℕ)) × IsBehindBlanks number (line ∷ later) all)) where
   -- the line is no configuration, or has no such site
-  pub node_cause : (why : SiteFault) → EndsNode line number me why → IsOpeningCause me input file why
+  pub node_cause : (why : SiteFault) → EndsNode line number me why → IsOpeningCause me input left file why
   node_cause (BadConfig n) ends = record { number = number; line = line; first = first; holds = ends }
   node_cause NoSite ends = record { number = number; line = line; first = first; holds = ends }
   node_cause NoConfig ends = absurd ends
   node_cause AnotherJournal ends = absurd ends
   node_cause (BadEntry n) ends = absurd ends
   node_cause (WrongReply n) ends = absurd ends
+  node_cause (LongLine n) ends = absurd ends
+  node_cause Read ends = absurd ends
   node_cause _ ends = tt
 
   -- the file isn't replayed
   pub file_cause : (old : SeenSite) → IsOf line me old → old ≡ first_seen old.settings me → (why : SiteFault) → EndsFile old file why
-      → IsOpeningCause me input file why
+      → IsOpeningCause me input left file why
   file_cause old is begins AnotherJournal ends = record {
     number = number;
     line = line;
@@ -66,4 +80,6 @@ module _ (me : ℕ) (input : Option (List ℕ)) (file : List ℕ) (number : ℕ)
   file_cause old is begins NoConfig ends = absurd ends
   file_cause old is begins (BadConfig n) ends = absurd ends
   file_cause old is begins NoSite ends = absurd ends
+  file_cause old is begins (LongLine n) ends = absurd ends
+  file_cause old is begins Read ends = absurd ends
   file_cause old is begins _ ends = tt

@@ -13,10 +13,10 @@ use Rattle.rb_run_site.specs.declared.fault.SiteFault.TheVariants.{Journal as Di
 
 -- the lines stopped: what holds of their end, where they end at rest, holds of the run's
 pub stopped : (A : Result ℕ ServeFault → Type 0) (fault : ServeFault) (f : SiteFault) → f ≡ fault_of_serve fault
-    → (EndsAtRest {T = ℕ} (Err fault) → A (Err fault)) → RunsTo A ⊥ (Err f)
-stopped A fault f is ends = subst (λ why. RunsTo A ⊥ (Err why)) (sym is) (by fault ends)
+    → (EndsAtRest {T = ℕ} (Err fault) → A (Err fault)) → RunsTo A (λ _. ⊥) (Err f)
+stopped A fault f is ends = subst (λ why. RunsTo A (λ _. ⊥) (Err why)) (sym is) (by fault ends)
   where
-    by : (why : ServeFault) → (EndsAtRest {T = ℕ} (Err why) → A (Err why)) → RunsTo A ⊥ (Err (fault_of_serve why))
+    by : (why : ServeFault) → (EndsAtRest {T = ℕ} (Err why) → A (Err why)) → RunsTo A (λ _. ⊥) (Err (fault_of_serve why))
     by (BadLine n) ends = ends tt
     by (LongLine n) ends = inl (ends tt)
     by Read ends = inl (ends tt)
@@ -26,10 +26,10 @@ stopped A fault f is ends = subst (λ why. RunsTo A ⊥ (Err why)) (sym is) (by 
 
 -- the journal wasn't opened: of the end nothing is said
 pub not_begun : (A : Result ℕ ServeFault → Type 0) (e : HostError) (f : SiteFault) → f ≡ fault_of_serve (fault_of_host e)
-    → RunsTo A ⊥ (Err f)
-not_begun A e f is = subst (λ why. RunsTo A ⊥ (Err why)) (sym is) (by e)
+    → RunsTo A (λ _. ⊥) (Err f)
+not_begun A e f is = subst (λ why. RunsTo A (λ _. ⊥) (Err why)) (sym is) (by e)
   where
-    by : (why : HostError) → RunsTo A ⊥ (Err (fault_of_serve (fault_of_host why)))
+    by : (why : HostError) → RunsTo A (λ _. ⊥) (Err (fault_of_serve (fault_of_host why)))
     by Memory = tt
     by DiskError = tt
     by OutputFailed = tt

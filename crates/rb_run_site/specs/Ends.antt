@@ -1,5 +1,7 @@
 -- How a run of a site ends.
-use Rattle.std.specs.Prelude.{◌⊎◌, ℕ, List, ◌++◌, Option, IfSome, Result, Ok, Err}
+use Rattle.std.specs.Prelude.{◌≡◌, ◌⊎◌, ℕ, List, ◌++◌, Option, IfSome, Result, Ok, Err}
+use Rattle.rb_journal.specs.Host.{Only}
+use Rattle.rb_journal.specs.Lines.{at_rest, recovered}
 use Rattle.rb_site.specs.Seen.{SeenSite}
 use Rattle.rb_serve.specs.Ends.{EndsAs, IsFull, IsPutOut}
 use Rattle.rb_serve.specs.Turns.{Turn}
@@ -41,26 +43,25 @@ pub record IsFullBehind (me : ℕ) (input : Option (List ℕ)) (lines : List (Li
   pub behind_is : IfSome input (AreBytesBehind number behind)
   pub full : IsFull SiteAnswers behind start (journal_of start)
 
--- the end of a run: all lines were answered, or a line or a read was at fault after those before it were; or the file
--- and the output are as they were. Of a failed journal or output and of running out of memory nothing is said here
-abbrev pub RunsTo : (Result ℕ ServeFault → Type 0) → Type 0 → Result ℕ SiteFault → Type 0
-RunsTo answers unchanged (Ok n) = answers (Ok n)
-RunsTo answers unchanged (Err (BadLine k)) = answers (Err (BadInput k))
-RunsTo answers unchanged (Err (LongLine k)) = answers (Err (LongInput k)) ⊎ unchanged
-RunsTo answers unchanged (Err Read) = answers (Err NotRead) ⊎ unchanged
-RunsTo answers unchanged (Err NoConfig) = unchanged
-RunsTo answers unchanged (Err (BadConfig k)) = unchanged
-RunsTo answers unchanged (Err NoSite) = unchanged
-RunsTo answers unchanged (Err AnotherJournal) = unchanged
-RunsTo answers unchanged (Err (BadEntry k)) = unchanged
-RunsTo answers unchanged (Err (WrongReply k)) = unchanged
-RunsTo answers unchanged (Err Write) = Unit {0}
-RunsTo answers unchanged (Err Journal) = Unit {0}
-RunsTo answers unchanged (Err OutOfMemory) = Unit {0}
-RunsTo answers unchanged (Err InUse) = ⊥
+-- the file is whole lines and a closed gate, all of it on the disk
+abbrev pub IsAtRest : List ℕ → (List ℕ → Type 0) → Type 0
+IsAtRest file may_leave = (file ≡ at_rest (recovered file)) × Only file may_leave
 
--- the run ends where nothing has failed but a line or a read
-abbrev pub IsAtRest : Result ℕ SiteFault → Type 0
-IsAtRest (Ok n) = Unit {0}
-IsAtRest (Err (BadLine k)) = Unit {0}
-IsAtRest (Err _) = ⊥
+-- how a run ends: it answered all lines, or those before a line or a read that was at fault; or it stopped in the
+-- opening, for this fault. A line that is too long and a failed read come in either. Of a failed write, a failed
+-- journal and of running out of memory nothing is said here
+abbrev pub RunsTo : (Result ℕ ServeFault → Type 0) → (SiteFault → Type 0) → Result ℕ SiteFault → Type 0
+RunsTo answers stops (Ok n) = answers (Ok n)
+RunsTo answers stops (Err (BadLine k)) = answers (Err (BadInput k))
+RunsTo answers stops (Err (LongLine k)) = answers (Err (LongInput k)) ⊎ stops (LongLine k)
+RunsTo answers stops (Err Read) = answers (Err NotRead) ⊎ stops Read
+RunsTo answers stops (Err NoConfig) = stops NoConfig
+RunsTo answers stops (Err (BadConfig k)) = stops (BadConfig k)
+RunsTo answers stops (Err NoSite) = stops NoSite
+RunsTo answers stops (Err AnotherJournal) = stops AnotherJournal
+RunsTo answers stops (Err (BadEntry k)) = stops (BadEntry k)
+RunsTo answers stops (Err (WrongReply k)) = stops (WrongReply k)
+RunsTo answers stops (Err Write) = Unit {0}
+RunsTo answers stops (Err Journal) = Unit {0}
+RunsTo answers stops (Err OutOfMemory) = Unit {0}
+RunsTo answers stops (Err InUse) = ⊥

@@ -27,12 +27,16 @@ pub record HasReadBlanks (left : Option (List ℕ)) (input : List ℕ) : Type 0 
   pub whole : input ≡ taken ++ rest
   pub are_blank : not_blank (whole_lines taken) ≡ []
 
+-- the line of the input that has this number is too long, and only blank lines are before it
+abbrev pub IsLongFirst : ℕ → List ℕ → Type 0
+IsLongFirst k input =
+    (line : List ℕ) × (later : List (List ℕ)) × (is_long line ≡ true) × IsBehindBlanks k (line ∷ later) input
+
 -- the first line that isn't blank was found, and waits with what is behind it; or why it wasn't
 abbrev pub FindsFirst : Result (ℕ × ℕ) SiteFault → List ℕ → List ℕ → Option (List ℕ) → Type 0
 FindsFirst (Ok (n, number)) input pending left = WaitsAt number pending left input
 FindsFirst (Err NoConfig) input pending left = (not_blank (lines_of input) ≡ []) × (left ≡ Some [])
-FindsFirst (Err (LongLine k)) input pending left =
-    (line : List ℕ) × (later : List (List ℕ)) × (is_long line ≡ true) × IsBehindBlanks k (line ∷ later) input
+FindsFirst (Err (LongLine k)) input pending left = IsLongFirst k input
 FindsFirst (Err Read) input pending left = HasReadBlanks left input
 FindsFirst (Err OutOfMemory) input pending left = Unit {0}
 FindsFirst (Err _) input pending left = ⊥

@@ -9,11 +9,11 @@ use Rattle.rb_site.specs.Seen.{IsReplayed, SeenSite, first_seen}
 use Rattle.rb_node.specs.Replays.{IsReadWhole}
 use Rattle.rb_run_site.specs.Journals.{journal_head, journal_of}
 use Rattle.rb_run_site.specs.Files.{BeginsWith, IsAnother}
-use Rattle.rb_run_site.specs.FirstLines.{IsBehindBlanks}
+use Rattle.rb_run_site.specs.FirstLines.{HasReadBlanks, IsBehindBlanks, IsLongFirst}
 use Rattle.rb_run_site.specs.Replays.{EndsReplay}
 use Rattle.rb_run_site.specs.declared.fault.SiteFault.{SiteFault}
 use Rattle.rb_run_site.specs.declared.fault.SiteFault.TheVariants.{NoConfig, BadConfig, NoSite, AnotherJournal, BadEntry, WrongReply}
-use Rattle.rb_run_site.specs.declared.fault.SiteFault.TheVariants.{OutOfMemory}
+use Rattle.rb_run_site.specs.declared.fault.SiteFault.TheVariants.{LongLine, Read, OutOfMemory}
 use Rattle.rb_run_site.specs.Starts.{IsJournalOf, IsOf, sent_again}
 
 -- the line that a journal is still to begin with: the configuration's, where it has no line
@@ -59,15 +59,20 @@ pub record HasFirstLine (input : Option (List ℕ)) (P : ℕ → List ℕ → Ty
   pub first : IfSome input (λ all. (later : List (List ℕ)) × IsBehindBlanks number (line ∷ later) all)
   pub holds : P number line
 
--- what a fault of the opening says of the input's first line and of the file's bytes
-abbrev pub IsOpeningCause : ℕ → Option (List ℕ) → List ℕ → SiteFault → Type 0
-IsOpeningCause me input file NoConfig = IfSome input (λ all. not_blank (lines_of all) ≡ [])
-IsOpeningCause me input file (BadConfig n) = HasFirstLine input (λ number line. EndsNode line number me (BadConfig n))
-IsOpeningCause me input file NoSite = HasFirstLine input (λ number line. EndsNode line number me NoSite)
-IsOpeningCause me input file AnotherJournal = HasFirstLine input (EndsOpening me file AnotherJournal)
-IsOpeningCause me input file (BadEntry n) = HasFirstLine input (EndsOpening me file (BadEntry n))
-IsOpeningCause me input file (WrongReply n) = HasFirstLine input (EndsOpening me file (WrongReply n))
-IsOpeningCause me input file _ = Unit {0}
+-- what a fault of the opening says of the input, of what is still to be read of it, and of the file's bytes: the input
+-- has only blank lines; its first line that isn't blank is at fault, or the file is; a line is too long, and only blank
+-- lines are before it; or a read failed, and each whole line that was read is blank. Each other fault says nothing
+abbrev pub IsOpeningCause : ℕ → Option (List ℕ) → Option (List ℕ) → List ℕ → SiteFault → Type 0
+IsOpeningCause me input left file NoConfig = IfSome input (λ all. not_blank (lines_of all) ≡ [])
+IsOpeningCause me input left file (BadConfig n) =
+    HasFirstLine input (λ number line. EndsNode line number me (BadConfig n))
+IsOpeningCause me input left file NoSite = HasFirstLine input (λ number line. EndsNode line number me NoSite)
+IsOpeningCause me input left file AnotherJournal = HasFirstLine input (EndsOpening me file AnotherJournal)
+IsOpeningCause me input left file (BadEntry n) = HasFirstLine input (EndsOpening me file (BadEntry n))
+IsOpeningCause me input left file (WrongReply n) = HasFirstLine input (EndsOpening me file (WrongReply n))
+IsOpeningCause me input left file (LongLine k) = IfSome input (IsLongFirst k)
+IsOpeningCause me input left file Read = IfSome input (HasReadBlanks left)
+IsOpeningCause me input left file _ = Unit {0}
 
 -- the site of the configuration on a line went on by the file's entries
 pub record OpensSite (config : List ℕ) (me most : ℕ) (file : List ℕ) (x : SeenSite) (first sends : List ℕ) : Type 0 where

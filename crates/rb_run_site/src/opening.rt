@@ -111,7 +111,7 @@ pub fn open_site<S: Source>(
         r.0.machine.node.site r.0.first.items r.0.sends.items
         × IfSome (S.remaining reader.old) (WaitsBehind config r.1 buffers.new.pending (S.remaining reader.new))) }
     ensures only { IfErr result IsOpeningFault }
-    ensures cause { IfErr result (IsOpeningCause me (S.remaining reader.old) bytes.now) }
+    ensures cause { IfErr result (IsOpeningCause me (S.remaining reader.old) (S.remaining reader.new) bytes.now) }
     ensures read { result ≡ Err NotRead → (S.failed reader.new ≡ true) ⊎ (S.calls reader.new ≡ MOST_READS) }
     ensures calls { S.calls reader.new ≤ MOST_READS }
 {

@@ -1,9 +1,9 @@
 //! One site between a reader and a host: a whole run.
-ghost use Rattle.std.specs.Prelude.{◌≡◌, ◌+◌, ◌<◌, ◌≤◌, ◌^◌, ◌⊎◌, [], true, length, Err, IfErr, List, ℕ};
+ghost use Rattle.std.specs.Prelude.{◌≡◌, ◌+◌, ◌<◌, ◌≤◌, ◌^◌, ◌⊎◌, [], true, length, Err, List, ℕ};
 ghost use Rattle.std.specs.Io.KnownBytes.{IsAtEnd};
 ghost use Rattle.rb_journal.specs.Host.{LeavesOnly, Only};
 ghost use Rattle.rb_journal.specs.Journal.{IsSettled};
-ghost use Rattle.rb_journal.specs.Lines.{at_rest, recovered};
+ghost use Rattle.rb_journal.specs.Lines.{recovered};
 ghost use Rattle.rb_lines.specs.Buffers.{Counts};
 ghost use Rattle.rb_lines.specs.declared.limits.TheConstants.{MOST_READS};
 ghost use Rattle.rb_serve.specs.Ends.{EndsAtRest, IsFull};
@@ -91,11 +91,12 @@ fn run_opened<S: Source, H: Host>(
     requires end { buffers.old.ended ≡ true → IsAtEnd (S.remaining reader.old) }
     requires buffered { buffers.old.buffered.items ≡ [] }
     requires number { number + length buffers.old.pending < 2 ^ 63 }
-    ensures ended { RunsTo (AnswersAll opened.machine.node.site opened.sends.items number
+    ensures ended { RunsTo
+        (λ end. AnswersAll opened.machine.node.site opened.sends.items number
         (served_input buffers.old.pending (S.remaining reader.old)) (S.remaining reader.new) (H.output host)
-        (recovered (H.content result.host)) (H.output result.host)) ⊥ result.ended }
-    ensures rest { IsAtRest result.ended → H.content result.host ≡ at_rest (recovered (H.content result.host)) }
-    ensures durable { IsAtRest result.ended → Only (H.content result.host) (H.may_leave result.host) }
+        (recovered (H.content result.host)) (H.output result.host) end
+        × IsAtRest (H.content result.host) (H.may_leave result.host))
+        (λ _. ⊥) result.ended }
     ensures any_moment { LeavesOnly H.moment H.left_since host result.host
         (IsLeftOrAnswered (recovered bytes.now) opened.machine.node.site opened.sends.items
         (served_input buffers.old.pending (S.remaining reader.old)) (H.output host)) }
@@ -149,18 +150,16 @@ pub fn run_site<S: Source, H: Host>(
     requires durable { Only (H.content host) (H.may_leave host) }
     requires unread { S.calls reader.old ≡ 0 }
 
-    // The site that the input and the journal say has answered the lines behind the configuration, as the end says;
-    // or the run ended before anything was changed.
-    ensures ended { RunsTo (AnswersBehind me resend (S.remaining reader.old) (S.remaining reader.new)
-        (recovered bytes.now) (H.output host) (recovered (H.content result.host)) (H.output result.host))
-        (result.host ≡ host) result.ended }
-
-    // Each fault of the opening comes only for its cause, by the input's first line and the file's lines.
-    ensures opening { IfErr result.ended (IsOpeningCause me (S.remaining reader.old) bytes.now) }
-
-    // Then the file is whole lines and a closed gate, all of it on the disk.
-    ensures rest { IsAtRest result.ended → H.content result.host ≡ at_rest (recovered (H.content result.host)) }
-    ensures durable { IsAtRest result.ended → Only (H.content result.host) (H.may_leave result.host) }
+    // The site that the input and the journal say has answered the lines behind the configuration, as the end says,
+    // and then the file is whole lines and a closed gate, all of it on the disk. Or the run stopped in the opening: the
+    // host is as it was, and the fault comes only for its cause, by the input's first line and the file's lines.
+    ensures ended { RunsTo
+        (λ end. AnswersBehind me resend (S.remaining reader.old) (S.remaining reader.new)
+        (recovered bytes.now) (H.output host) (recovered (H.content result.host)) (H.output result.host) end
+        × IsAtRest (H.content result.host) (H.may_leave result.host))
+        (λ fault. (result.host ≡ host)
+        × IsOpeningCause me (S.remaining reader.old) (S.remaining reader.new) bytes.now fault)
+        result.ended }
 
     // A crash at any moment leaves a journal that some first lines of the input have, and nothing was put out that it
     // takes back.

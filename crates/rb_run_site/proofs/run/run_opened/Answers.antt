@@ -7,7 +7,7 @@ use Rattle.rb_serve.specs.Ends.{IsFull}
 use Rattle.rb_serve.specs.Run.{served_input}
 use Rattle.rb_serve.specs.declared.fault.ServeFault.TheVariants.{Journal as JournalStopped}
 use Rattle.rb_serve.specs.Faults.{fault_of_host}
-use Rattle.rb_run_site.specs.Ends.{AnswersAll}
+use Rattle.rb_run_site.specs.Ends.{AnswersAll, IsAtRest}
 use Rattle.rb_run_site.specs.Faults.{fault_of_serve}
 use Rattle.rb_run_site.specs.Journals.{SiteAnswers, journal_of}
 use Rattle.rb_run_site.specs.declared.fault.SiteFault.TheVariants.{Journal as DiskFailed, Read as NotRead}
@@ -62,6 +62,12 @@ pub go_on-ended-requires-clause-begins : goal.go_on-ended-requires-clause-begins
 go_on-ended-requires-clause-begins g c =
     subst (λ ls. IsToBegin ls c.args.opened.machine.node.site c.args.opened.first.items) (sym c.in-Ok.ensures.lines) c.requires.begins
 
+pub returns-in-Ok-ended-clause-ended : goal.returns-in-Ok-ended-clause-ended
+returns-in-Ok-ended-clause-ended g c =
+    let text = rw c.in-Ok.ensures.output at c.in-Ok-ended.ensures.text in
+    let settled = c.in-Ok-ended.ensures.settled tt in
+    (text tt, (settled.file, settled.durable))
+
 pub returns-in-Err-ended-clause-ended : goal.returns-in-Err-ended-clause-ended
 returns-in-Err-ended-clause-ended g c =
     let host = g.H.Host in
@@ -69,9 +75,12 @@ returns-in-Err-ended-clause-ended g c =
     let opened = c.args.opened in
     let input = served_input c.args.buffers.now.pending (g.S.Source.remaining c.args.reader.now) in
     let fault = c.in-Err-ended.fault in
-    stopped (AnswersAll opened.machine.node.site opened.sends.items c.args.number input (g.S.Source.remaining c.go_on-ended.new.reader)
-    (host.output c.args.host) (recovered (host.content new)) (host.output new)) fault c.from.result c.from.ensures
-    (rw c.in-Ok.ensures.output at c.in-Err-ended.ensures.text)
+    let text = rw c.in-Ok.ensures.output at c.in-Err-ended.ensures.text in
+    let settled = c.in-Err-ended.ensures.settled in
+    stopped (λ ended. AnswersAll opened.machine.node.site opened.sends.items c.args.number input
+    (g.S.Source.remaining c.go_on-ended.new.reader) (host.output c.args.host) (recovered (host.content new)) (host.output new) ended
+    × IsAtRest (host.content new) (host.may_leave new)) fault c.from.result c.from.ensures
+    (λ at. (text at, ((settled at).file, (settled at).durable)))
 
 pub returns-in-Err-clause-ended : goal.returns-in-Err-clause-ended
 returns-in-Err-clause-ended g c =
@@ -79,8 +88,9 @@ returns-in-Err-clause-ended g c =
     let new = c.in-Err.host in
     let opened = c.args.opened in
     let left = g.S.Source.remaining c.args.reader.now in
-    not_begun (AnswersAll opened.machine.node.site opened.sends.items c.args.number (served_input c.args.buffers.now.pending left) left
-    (host.output c.args.host) (recovered (host.content new)) (host.output new)) c.in-Err.error c.from-in-Err-2.result
+    not_begun (λ ended. AnswersAll opened.machine.node.site opened.sends.items c.args.number
+    (served_input c.args.buffers.now.pending left) left (host.output c.args.host) (recovered (host.content new)) (host.output new) ended
+    × IsAtRest (host.content new) (host.may_leave new)) c.in-Err.error c.from-in-Err-2.result
     (passed g (goal.at.returns-in-Err-clause-ended g c).After-from-in-Err-2)
 
 pub returns-in-Err-clause-any_moment : goal.returns-in-Err-clause-any_moment

@@ -1,14 +1,15 @@
 -- A site is opened, and then it goes on.
-use Rattle.std.proofs.Common.{◌≡◌, ◌<◌, ◌∙◌, ⊎_elim, ap, inl, inr, sym, ℕ, List}
+use Rattle.std.proofs.Common.{◌≡◌, ◌<◌, ◌∙◌, ⊎_elim, ap, inl, inr, refl, sym, ℕ, List}
 use Rattle.rb_journal.specs.Host.{LeavesOnly}
 use Rattle.rb_journal.specs.Lines.{recovered}
 use Rattle.rb_serve.specs.Ends.{IsFull}
 use Rattle.rb_serve.specs.Run.{served_input}
-use Rattle.rb_run_site.specs.Ends.{AnswersAll, AnswersBehind}
+use Rattle.rb_run_site.specs.Ends.{AnswersAll, AnswersBehind, IsAtRest}
 use Rattle.rb_run_site.specs.Journals.{SiteAnswers, journal_of}
+use Rattle.rb_run_site.specs.Openings.{IsOpeningCause}
 use Rattle.rb_run_site.specs.Runs.{IsSiteRun}
 use Rattle.rb_run_site.specs.Steps.{IsRunOfSteps}
-use Rattle.rb_run_site.proofs.Behind.{ends_behind, full_behind, ran, run_behind}
+use Rattle.rb_run_site.proofs.Behind.{ends_behind, full_behind, ran, run_behind, stopped_there}
 use Rattle.rb_run_site.proofs.Stepped.{stepped_run}
 use Rattle.rb_journal.proofs.Public.Moments.{started, weaker}
 use Rattle.rb_run_site.proofs.run.run_site.Given.{Over}
@@ -51,10 +52,15 @@ returns-in-Ok-clause-ended g c =
     let now = recovered (host.content new) in
     let said = host.output new in
     let file = c.args.bytes.now in
-    ran (AnswersAll x sends c.in-Ok.number (served_input mid.buffers.pending left) still output now said)
-    (AnswersBehind c.args.me c.args.resend input still (recovered file) output now said) (new ≡ c.args.host) c.run_opened.result.ended
-    (λ e all. ends_behind c.args.me c.args.resend c.in-Ok.number input left file is.0 mid.buffers.pending x first sends is.1 is.2
-    output still now said e all)
+    let rest = IsAtRest (host.content new) (host.may_leave new) in
+    ran (λ e. AnswersAll x sends c.in-Ok.number (served_input mid.buffers.pending left) still output now said e × rest)
+    (λ e. AnswersBehind c.args.me c.args.resend input still (recovered file) output now said e × rest)
+    (λ why. (new ≡ c.args.host) × IsOpeningCause c.args.me input still file why) c.run_opened.result.ended
+    (λ e all. (
+      ends_behind c.args.me c.args.resend c.in-Ok.number input left file is.0 mid.buffers.pending x first sends is.1 is.2
+          output still now said e all.0,
+      all.1,
+    ))
     c.run_opened.ensures.ended
 
 pub returns-in-Ok-clause-any_moment : goal.returns-in-Ok-clause-any_moment
@@ -80,6 +86,18 @@ returns-in-Ok-clause-journal g c = λ failed.
     (full_behind c.args.me c.args.resend c.in-Ok.number (g.S.Source.remaining c.args.reader.now) left c.args.bytes.now is.0
     mid.buffers.pending x c.in-Ok.opened.first.items c.in-Ok.opened.sends.items is.1 is.2 full))
     (c.run_opened.ensures.journal failed)
+
+pub returns-clause-ended : goal.returns-clause-ended
+returns-clause-ended g c =
+    let host = g.H.Host in
+    let was = c.args.host in
+    let input = g.S.Source.remaining c.args.reader.now in
+    let left = g.S.Source.remaining c.open_site.new.reader in
+    let file = c.args.bytes.now in
+    stopped_there (λ e. AnswersBehind c.args.me c.args.resend input left (recovered file) (host.output was)
+    (recovered (host.content was)) (host.output was) e × IsAtRest (host.content was) (host.may_leave was))
+    (λ why. (was ≡ was) × IsOpeningCause c.args.me input left file why) c.in-Err.fault c.in-Err.ensures.only
+    (refl, c.in-Err.ensures.cause)
 
 pub returns-clause-any_moment : goal.returns-clause-any_moment
 returns-clause-any_moment g c =
