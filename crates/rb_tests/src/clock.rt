@@ -15,25 +15,29 @@ const OF_NO_SITE: OpName = OpName::Blue {
 };
 
 /// What counts the first name alone.
-const ONE: Deps = Deps {
-    blue: [0, 1, 0, 0, 0, 0, 0, 0, 0, 0, 0, 0, 0, 0, 0, 0],
-    red: 0,
-};
+fn one() -> Deps {
+    let mut blue = [0; MOST_SITES];
+    blue[1] = 1;
+    Deps { blue, red: 0 }
+}
 
-const NEXT: Shadow = Shadow {
-    name: SECOND,
-    home: 1,
-    deps: ONE,
-    account: Place(0),
-    amount: 5,
-    kind: Kind::Deposit,
-};
+/// The operation of the second name.
+fn next() -> Shadow {
+    Shadow {
+        name: SECOND,
+        home: 1,
+        deps: one(),
+        account: Place(0),
+        amount: 5,
+        kind: Kind::Deposit,
+    }
+}
 
 /// Whether the clock is at least that of one name, whether the second is next, and which of the two it covers.
 fn seen(clock: &Clock) -> [bool; 4] {
     [
-        clock.at_least(&ONE),
-        clock.is_next(&NEXT),
+        clock.at_least(&one()),
+        clock.is_next(&next()),
         clock.covers(&FIRST),
         clock.covers(&SECOND),
     ]
@@ -44,11 +48,11 @@ fn counts_names(rt: HostRuntime) {
     let mut clock = Clock::zero();
     equal(&rt, seen(&clock), [false, false, false, false]);
     clock.advance(&FIRST);
-    equal(&rt, clock.deps(), ONE);
+    equal(&rt, clock.deps(), one());
     equal(&rt, seen(&clock), [true, true, true, false]);
     let beyond = Shadow {
         name: OF_NO_SITE,
-        ..NEXT
+        ..next()
     };
     holds(&rt, "no next of no site", !clock.is_next(&beyond));
     clock.retreat(&FIRST);

@@ -1,5 +1,6 @@
-//! What holds after running out of memory. Each test passes whether or not an allocation is refused, and at most one of
-//! its process is: `make refuse` runs them with each refused in turn.
+//! What holds after running out of memory. `refuse_each` and `reserved` pass whether or not an allocation is refused,
+//! and at most one of their process is: `make refuse` runs them with each refused in turn. `runs_of_rows` passes only
+//! where none is refused, and no world stops.
 ghost use Rattle.std.specs.Prelude.{◌≡◌, [], All, IfOk};
 ghost use Rattle.rb_ledger.specs.Records.{records_of};
 ghost use Rattle.rb_site.specs.Worlds.{IsCommand};
@@ -161,7 +162,7 @@ fn refuse_each(rt: HostRuntime) -> Result<(), Fail> {
     Ok(())
 }
 
-/// Each row, through a whole run.
+/// Each row, through a whole run, which nothing stops.
 #[test]
 fn runs_of_rows(rt: HostRuntime) -> Result<(), Fail> {
     for lines in ROWS.split("\n\n") {

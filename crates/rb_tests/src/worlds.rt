@@ -1,4 +1,5 @@
-//! Tests of worlds, and of undoing a tail of operations. Whole runs of the worked rows are made by tests/cases.py.
+//! Tests of worlds, and of undoing a tail of operations. `runs_of_rows` (refused.rt) runs each worked row whole by
+//! `World::run`, and tests/cases.py by the program.
 ghost use Rattle.std.specs.Prelude.{◌≡◌, ◌<◌, All, IfOk, IsTrue, OnOk, length};
 ghost use Rattle.rb_ledger.specs.Records.{records_of};
 ghost use Rattle.rb_site.specs.Worlds.{IsCommand};

@@ -4,8 +4,8 @@ ghost use Rattle.rb_branch.specs.declared.limits.TheConstants.{SEAT_PARTS};
 
 use crate::checks::{equal, holds};
 use rb_branch::{
-    Branch, CallFault, Entries, Gate, GatherFault, Inlet, NoGate, Outbox, SEAT_PARTS, Seat,
-    SeatFault, links,
+    Branch, CallFault, Entries, Gate, GatherFault, Inlet, MOST_SEATS, NoGate, Outbox, SEAT_PARTS,
+    Seat, SeatFault, links,
 };
 use rb_log::{Log, OpenedLog};
 use rb_money::{Config, Limits, Place};
@@ -243,7 +243,7 @@ impl Case for Seats {
     ) -> Result<Vec<Seat<E, R>>, Fail> {
         equal(rt, branch.seat(rt, 2).err(), Some(SeatFault::NoSite));
         let mut seats = Vec::new(alloc);
-        for _i in 0..1_024 {
+        for _i in 0..MOST_SEATS {
             let seat = branch.seat(rt, 0)?;
             if seats.push(seat).is_err() {
                 return Err(Fail::from("no memory"));
