@@ -19,7 +19,7 @@ help:
 	@echo '  make check         proves every crate, over what earlier checks kept'
 	@echo '  make wrong-bodies CRATE=rb_ledger'
 	@echo '                     the mutants of a crate that the gate leaves out; without CRATE all of them, some hours'
-	@echo '  make refuse        each allocation of the program and of four tests refused in turn'
+	@echo '  make refuse        each allocation of the program and of five tests refused in turn; wants a C compiler, cc'
 	@echo '  make bench         the measurements of bench/README.md, some ten minutes'
 	@echo '  make crash         sites ended at random moments, over and over, and started again; some minutes'
 	@echo '  make broker        three sites over the message broker mosquitto, if it is installed'
@@ -96,7 +96,7 @@ crash: build
 broker: build
 	@examples/broker/three_sites.sh crates/rbbank/out/rbbank
 
-# Each allocation of the program and of four tests refused in turn (docs/GATE.md, "Beside the gate").
+# Each allocation of the program and of five tests refused in turn (docs/GATE.md, "Beside the gate"); it wants cc.
 refuse: build
 	@cd crates/rb_tests && rt test
 	@cd crates/rb_tests_runs && rt test

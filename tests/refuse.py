@@ -1,5 +1,5 @@
 #!/usr/bin/env python3
-"""Refuses each allocation in turn: of the program on four scripts, a migration and a run of one teller, and of four
+"""Refuses each allocation in turn: of the program on four scripts, a migration and a run of one teller, and of five
 tests.
 
 usage: refuse.py PROGRAM TESTS RUNS     (what `rt run` built in crates/rbbank/out, and `rt test` in crates/rb_tests/out
@@ -7,8 +7,9 @@ usage: refuse.py PROGRAM TESTS RUNS     (what `rt run` built in crates/rbbank/ou
 
 A process is run with its first allocation refused, another with its second, and so on until a run meets
 no refusal. The program has to write a prefix of what is expected and end in status 4, or all of it in status 0;
-a test (crates/rb_tests/src/refused.rt; crates/rb_tests_runs/src/scripts.rt, seats.rt) has to pass. Ends in status 1
-where a run does otherwise, and where no run of an input was stopped on the way, or none inside a batch.
+a test (crates/rb_tests/src/refused.rt, money.rt; crates/rb_tests_runs/src/scripts.rt, seats.rt) has to pass, and may
+say that it was stopped only where an allocation was refused. Ends in status 1 where a run does otherwise, and where no
+run of an input was stopped on the way, or none inside a batch.
 
 A run of one teller writes nothing before it ends in status 4. Its threads take memory in an order that differs from
 run to run. Where it was a link that was refused memory, one message is lost, and the other site goes on without it.
@@ -142,12 +143,13 @@ def all_tests(refuser, tests, runs):
     text, stops = test(refuser, runs, "scripts::refuse_script")
     if not stops:
         sys.exit("refuse: no script was stopped")
-    # It is never stopped: it needs no memory beyond what it takes first.
+    # These two are never stopped: one needs no memory beyond what it takes first, the other looks at faults alone.
     room, _ = test(refuser, tests, "refused::reserved")
+    faults, _ = test(refuser, tests, "money::memory_is_looked_at_last")
     calls, stops = test(refuser, runs, "seats::refuse_seats")
     if not stops:
         sys.exit("refuse: no call of a seat was refused")
-    return each + text + room + calls
+    return each + text + room + faults + calls
 
 
 def main():
