@@ -8,6 +8,9 @@ usage: bank.py                    prints which program the scripts would run
 The program is that of crates/rbbank/out: the proved program where the gate's note beside it names its bytes and those
 of every source, else the built program where no source is newer. Where neither is there, `rt try` runs the sources
 with no proof.
+
+A FILE is a migration or histories by its name, NAME.migration.jsonl or NAME.histories.jsonl; and histories, whatever
+its name, where its second line is an entry. Else it is a script.
 """
 import hashlib
 import json
@@ -128,9 +131,12 @@ def word_of(path):
 
 def try_file(path):
     """Runs a file with no proof, prints what the program answers, and gives its status."""
+    import world  # (which imports this file)
     data, word = read(path), word_of(path)
     if word == "site":
         raise Stop(f"{path}: the lines of a site, which wants a journal as well; examples/check.py runs it")
+    if word == "script" and world.are_histories(world.lines_of(data)):
+        word = "audit"
     run = tried().run(word, data)
     print("\n".join(run.replies))
     if run.error:
@@ -147,6 +153,13 @@ def meanings():
 
 
 NUMBERS, WHYS = meanings()
+# what these mean where they are the cause of another refusal, which has none of their fields
+CAUSES = {6: "already cancelled", 9: "fewer red operations applied than come before it"}
+
+
+def meaning(number):
+    """What a refusal's number means, with the keys of its fields in place of these."""
+    return re.split(r"[;:] `", NUMBERS.get(number, "no such refusal"))[0]
 
 
 def refusal(reply, whole=False):
@@ -154,12 +167,11 @@ def refusal(reply, whole=False):
     number = reply["refused"]
     if number == 13:
         cause = reply["cause"]
-        why = "would be declined" if cause == "declined" else refusal({"refused": cause})
+        why = "would be declined" if cause == "declined" else CAUSES.get(cause, meaning(cause))
         return f"at index {reply['index']} of the batch: {why}"
     if number == 17 and whole:
         return f"bad message: {WHYS.get(reply['why'], 'of no such reason')}"
-    words = re.split(r"[;:] `", NUMBERS.get(number, "no such refusal"))[0]
-    return re.sub(r"`(\w+)`", lambda key: str(reply.get(key.group(1), "some")), words)
+    return re.sub(r"`(\w+)`", lambda key: str(reply[key.group(1)]), meaning(number))
 
 
 def stops_in_words(name, main):
