@@ -4,7 +4,8 @@ help:
 	@echo 'At once:'
 	@echo '  make demo          the stored run, drawn, each command beside its reply; a minute'
 	@echo '  make try FILE=examples/stale_token.jsonl'
-	@echo '                     a script, histories or a migration, run with no proof; it builds for a minute each time'
+	@echo '                     a script, histories or a migration (NAME.migration.jsonl), run with no proof; it builds'
+	@echo '                     for a minute each time'
 	@echo
 	@echo 'With time (on four processors; on two it takes about twice as long):'
 	@echo '  make build         proves and builds the program; less than an hour the first time'
