@@ -9,10 +9,11 @@ usage: closure.py                  the headline's: the functions and laws of the
        closure.py --write          writes docs/MODEL.md: each definition in its part with the comment above it, and the
                                    words before the first section of a crate in each part as they are
        closure.py --check          whether docs/MODEL.md is what --write makes and names no definition that there isn't,
-                                   whether the clauses of the tables of docs/PROVED.md are there and rest on as many
-                                   definitions as these say, README.md's numbers too, whether other crates cite each
-                                   file of proofs/Public and none else of proofs/, and whether no two definitions share
-                                   a name; this is silent where all is well
+                                   whether the functions and clauses of the tables of docs/PROVED.md are there and rest
+                                   on as many definitions as these say, README.md's numbers too, whether its table of
+                                   conditions has just the public functions that have one, whether other crates cite
+                                   each file of proofs/Public and none else of proofs/, and whether no two definitions
+                                   share a name; this is silent where all is well
 
 Words are resolved by the 'use' lines of their file. A type of the code is resolved to the types of its fields, and one
 that clients see as a value of a model to that value.
@@ -33,8 +34,8 @@ WORD = re.compile(r"[^\W\d]\w*")
 # a type of the code with its fields, and a trait with its functions
 TYPE = re.compile(r"(?ms)^(?:pub(?:\([^)]*\))? )?(struct|enum|trait|type) (\w+)(?:[^\n]*;$|.*?^})")
 
-# the head or the end of an impl, or a function with its signature and contract
-IMPL = r"^impl(?:<[^\n]*?>)? (?:[\w:<>]+ for )?(\w+)|^(}) *$"
+# the head or the end of an impl or a trait, or a function with its signature and contract
+IMPL = r"^(?:impl(?:<[^\n]*?>)? (?:[\w:<>]+ for )?|(?:pub )?trait )(\w+)|^(}) *$"
 HEAD = r'^( *)(pub(?:\([^)]*\))? )?(?:extern "C" )?fn (\w+)'
 FUNCTION = re.compile(r"(?ms)" + IMPL + "|" + HEAD + r"(.*?)(?=^\3\{|^\3    \{\}|\{\n|;\n)")
 
@@ -123,11 +124,22 @@ def types(crate):
             yield Thing("type", crate, file, found.group(2), without(part, "//"), imports(text) | imports(beside), True)
 
 
+def open_files(texts):
+    """The files of a crate that other crates name: its root, and the modules that are public in one of these."""
+    for file in ("src/lib.rt", "src/main.rt"):
+        waiting = [file] if file in texts else []
+        for at in waiting:
+            folder = at.removesuffix("mod.rt") if at.endswith("/mod.rt") else "src/"
+            for name in re.findall(r"(?m)^pub mod (\w+);", texts[at]):
+                waiting += [it for it in (f"{folder}{name}.rt", f"{folder}{name}/mod.rt") if it in texts]
+        yield from waiting
+
+
 def exported(crate):
-    """The names that a crate's root hands to other crates, or any of its files to C."""
+    """The names that a crate's root and its public modules hand to other crates, or any of its files to C."""
     texts = {file: read("crates", crate, file) for file in files(crate, "src", "rt")}
-    roots = [text for file, text in texts.items() if file in ("src/lib.rt", "src/main.rt")]
-    found = re.findall(r"(?ms)^pub use (.*?);|^pub (?:type|fn) (\w+)", "".join(roots))
+    roots = [texts[file] for file in open_files(texts)]
+    found = re.findall(r"(?ms)^pub use (.*?);|^pub (?:type|struct|enum|trait|fn) (\w+)", "".join(roots))
     to_c = re.findall(r'(?m)^pub extern "C" fn (\w+)', "".join(texts.values()))
     return set(WORD.findall(" ".join(part for parts in found for part in parts))).union(to_c)
 
@@ -137,15 +149,13 @@ def functions(crate):
     handed = exported(crate)
     for file in files(crate, "src", "rt"):
         # (a comment between clauses may end in what ends a signature)
-        text, owner = re.sub(r"(?m)^ *//.*$", "", read("crates", crate, file)), None
+        text, owner, of_trait = re.sub(r"(?m)^ *//.*$", "", read("crates", crate, file)), None, False
         for found in FUNCTION.finditer(text):
-            if found.group(1):
-                owner = found.group(1)
-            elif found.group(2):
-                owner = None
+            if found.group(1) or found.group(2):
+                owner, of_trait = found.group(1), "trait " in found.group(0)
             else:
                 name = (f"{owner}::" if owner and found.group(3) else "") + found.group(5)
-                public = found.group(4) == "pub " and name.split("::")[0] in handed
+                public = (of_trait or found.group(4) == "pub ") and name.split("::")[0] in handed
                 signature = name.split("::")[0] + found.group(6)
                 yield Thing("function", crate, file, name, signature, imports(text), public)
 
@@ -236,9 +246,11 @@ def named_in(things, row):
 
 
 def counted(things):
-    """The rows of docs/PROVED.md, and the numbers of README.md, that say another number than there are definitions."""
+    """The rows of docs/PROVED.md, and the numbers of README.md, that say another number than there are definitions, or
+    name what isn't there."""
     for row in re.findall(r"(?m)^\| .*\|$", read("docs/PROVED.md")):
         names, number = named_in(things, row), re.search(r"\| (\d+)\b[^|]*\|(?:[^|]*\|){0,2}$", row)
+        yield from (f"docs/PROVED.md: there is no {name}" for name in names if not things.statements(name))
         if number and names and int(number.group(1)) != resting(things, names):
             yield f"docs/PROVED.md: {', '.join(names)} rests on {resting(things, names)}, and not on {number.group(1)}"
         for name, clauses in re.findall(r"`(\w+(?:::\w+)+)`: ((?:(?:, )?`\w+`)+)", row):
@@ -251,6 +263,19 @@ def counted(things):
         rests = resting(things, names)
         if re.findall(said, read("README.md")) != [str(rests)]:
             yield f"README.md: '{said}' should say {rests}"
+
+
+def conditions(things):
+    """Says which public functions have a condition and aren't in docs/PROVED.md's table of these, and the reverse."""
+    table = re.search(r"(?ms)^\| Crate \| Conditions.*?\n\n", read("docs/PROVED.md"))
+    rows = re.findall(r"(?m)^\| (rb_\w+) \|(.*)$", table.group(0) if table else "")
+    said = {(crate, name) for crate, row in rows for name in re.findall(r"`([\w:]+)`", row)}
+    found = {(it.crate, it.name) for its in things.functions.values() for it in its
+             if it.public and re.search(r"\brequires\b", it.text)}
+    for crate, name in sorted(found - said):
+        yield f"docs/PROVED.md: {name} of {crate} has a condition, and isn't in the table of these"
+    for crate, name in sorted(said - found):
+        yield f"docs/PROVED.md: {crate} has no public {name} with a condition"
 
 
 def parts(things):
@@ -401,7 +426,7 @@ def check(things):
         if not found:
             wrong.append(f"docs/PROVED.md: there is no {name}")
         wrong += [f"docs/PROVED.md: {name} has no clause {it}" for it in clauses if f"ensures {it} " not in found]
-    wrong += counted(things)
+    wrong += [*counted(things), *conditions(things)]
     print("\n".join(wrong), end="\n" if wrong else "")
     return len(wrong)
 
