@@ -12,7 +12,8 @@ help:
 	@echo '  make install PREFIX=/usr/local'
 	@echo '                     copies the program, its manual page and completions for three shells, after make build'
 	@echo '  make examples      every example, and every case of tests/cases, through the program, after make build'
-	@echo '  make test          the gate; some 40 minutes; with kit 13f half a minute where nothing changed since (docs/GATE.md)'
+	@echo '  make test          the gate; some 40 minutes; with kit 13f half a minute where nothing changed since'
+	@echo '                     (docs/GATE.md)'
 	@echo '  make bindings      the library for C, Rust and Python (bindings/), their tests and the shop of examples/shop;'
 	@echo '                     wants gcc or clang, and cargo'
 	@echo
@@ -101,7 +102,8 @@ broker: build
 refuse: build
 	@cd crates/rb_tests && rt test
 	@cd crates/rb_tests_runs && rt test
-	@tests/refuse.py crates/rbbank/out/rbbank crates/rb_tests/out/rb_tests_tests crates/rb_tests_runs/out/rb_tests_runs_tests
+	@tests/refuse.py crates/rbbank/out/rbbank crates/rb_tests/out/rb_tests_tests \
+		crates/rb_tests_runs/out/rb_tests_runs_tests
 
 # The mutants that the gate leaves out for its time.
 wrong-bodies:

@@ -39,20 +39,27 @@ def write(out, *given, **more):
     out.writelines(line + "\n" for line in lines(*given, **more))
 
 
-def main():
+def options():
     words = argparse.ArgumentParser(description=__doc__)
     words.add_argument("--kind", choices=KINDS, default="mix")
     words.add_argument("--commands", type=int, default=1000)
     words.add_argument("--seed", type=int, default=1)
-    of_mix = words.add_argument_group("for the mix")
-    of_mix.add_argument("--sites", type=int, default=3, choices=range(2, LIMITS["MOST_SITES"] + 1))
-    of_mix.add_argument("--accounts", type=int, default=10)
-    of_mix.add_argument("--weights", default=mix.DEFAULT_MIX, help=f"of requests and questions, {mix.DEFAULT_MIX}")
-    of_mix.add_argument("--backlog", type=int, default=16, help="how many messages may wait for a site before they come first")
+    of_mix = words.add_argument_group(f"for {', '.join(MIXED)}", argument_default=argparse.SUPPRESS)
+    of_mix.add_argument("--sites", type=int, choices=range(2, LIMITS["MOST_SITES"] + 1), help="else 3")
+    of_mix.add_argument("--accounts", type=int, help=f"1 to {LIMITS['MOST_ACCOUNTS']}, else 10")
+    of_mix.add_argument("--weights", help=f"of requests and questions, else {mix.DEFAULT_MIX}")
+    of_mix.add_argument("--backlog", type=int, help="messages that may wait for a site before they come first, else 16")
+    return words
+
+
+def main():
+    words = options()
     given = words.parse_args()
-    more = {}
-    if given.kind in MIXED:
-        more = {name: getattr(given, name) for name in ("sites", "accounts", "weights", "backlog")}
+    more = {name: value for name, value in vars(given).items() if name not in ("kind", "commands", "seed")}
+    if more and given.kind not in MIXED:
+        words.error(f"--{' --'.join(more)}: for {', '.join(MIXED)} alone, and not for {given.kind}")
+    if not 1 <= more.get("accounts", 1) <= LIMITS["MOST_ACCOUNTS"]:
+        words.error(f"--accounts: 1 to {LIMITS['MOST_ACCOUNTS']}")
     try:
         write(sys.stdout, given.kind, given.commands, given.seed, **more)
     except ValueError as wrong:

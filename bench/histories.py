@@ -14,7 +14,8 @@ def written(value):
 
 
 def counts(clock, version):
-    """The blue operations of a clock: in version 1 for each of as many sites as it may have, in version 2 those above 0."""
+    """The blue operations of a clock: in version 1 for each of as many sites as there may be, in version 2 those above
+    0."""
     if version == 1:
         return [*clock, *[0] * (LIMITS["MOST_SITES_OF_VERSION_1"] - len(clock))]
     return [[site, count] for site, count in enumerate(clock) if count]
@@ -36,7 +37,7 @@ def shadow(run, operation, version):
 
 
 class Known:
-    """What each site has heard of, operations by name and its greatest epoch; and the version of the lines that tell it."""
+    """What each site has heard of, operations by name and its greatest epoch; and the version of the lines."""
 
     def __init__(self, sites, version):
         self.version = version

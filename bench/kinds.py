@@ -1,7 +1,8 @@
 """The scripts of one kind of command each. A kind yields its accounts with their starts, and then its commands.
 
-All have two sites, but for those whose names end in a number, and the token stays at site 0. Names are known beforehand: the n-th blue operation that
-site 0 makes is B0.n, the n-th red one R.n without the dot. So a command costs the same time however long the script is.
+All have two sites, but for those whose names end in a number, and the token stays at site 0. Names are known
+beforehand: the n-th blue operation that site 0 makes is B0.n, the n-th red one is Rn. So a command costs the same time
+however long the script is.
 """
 import itertools
 import random
@@ -127,7 +128,7 @@ def rows(seed, shown):
 
 
 def inbox(seed, commands):
-    """Rounds of deposits, at most as many as an inbox holds, each round delivered backwards and then applied in order."""
+    """Rounds of deposits, at most as many as an inbox holds, each delivered backwards and then applied in order."""
     pick = picker(seed)
     yield [(name, 0) for name in FEW]
     first = 1
@@ -204,7 +205,7 @@ def cycle(seed, commands):
 
 
 def again(line, before=(), start=0, others=()):
-    """The kind that repeats one line, after some others that make what it asks about. Other accounts start with nothing."""
+    """The kind that repeats one line, after some others that make what it asks about. Other accounts start with 0."""
     def kind(_seed, commands):
         yield [("a0", start), *((name, 0) for name in others)]
         yield from before[:commands]

@@ -1,4 +1,4 @@
-"""Runs a command of a program on an input in a file: its processor time, its peak memory, its replies, its instructions."""
+"""Runs a command of a program on an input in a file: its processor time, peak memory, replies and instructions."""
 import ctypes
 import os
 import re
@@ -18,13 +18,15 @@ def adopt():
 
 
 def usage(program, word, path):
-    """What a run used: seconds of processor time, user and system, and the peak of its memory in bytes. None over the limit.
+    """What a run used: seconds of processor time, user and system, and the peak of its memory in bytes. None over the
+    limit.
 
     The system counts the memory of the process that starts a program to the program's peak. So a small shell starts it,
     and is gone when the program begins.
     """
     line = f'ulimit -t {LIMIT}; exec 3<&0; {{ read go <&3; exec "$0" "$1" < "$2" > /dev/null 3<&-; }} & echo $!'
-    with subprocess.Popen(["sh", "-c", line, program, word, path], stdin=subprocess.PIPE, stdout=subprocess.PIPE) as shell:
+    words = ["sh", "-c", line, program, word, path]
+    with subprocess.Popen(words, stdin=subprocess.PIPE, stdout=subprocess.PIPE) as shell:
         number = int(shell.stdout.readline())
         shell.wait()
     _, status, used = os.wait4(number, 0)

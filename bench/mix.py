@@ -229,7 +229,8 @@ class Mix:
         red = target.kind != "withdraw"
         if target.name in site.cancelled:
             return None
-        if red and not (site.may_make_red() and all(site.balances[account] >= moved for account, moved in site.changes(target))):
+        covered = all(site.balances[account] >= moved for account, moved in site.changes(target))
+        if red and not (site.may_make_red() and covered):
             return None
         self.make(site, "cancel", red, target.account, target.amount, target)
         return f'{{"cancel":"{target.name}","site":{site.number}}}'

@@ -15,7 +15,8 @@ sys.dont_write_bytecode = True
 from limits import LIMITS
 
 CONFIG = b'{"accounts":[["ann",500],["bob",0]],"sites":3,"version":1}\n'
-NUMBERS = ["0", "1", "2", "7", "50", "255", "256", "4294967295", "4294967296", str(LIMITS["MOST_CENTS"]), str(LIMITS["MOST_CENTS"] + 1),
+NUMBERS = ["0", "1", "2", "7", "50", "255", "256", "4294967295", "4294967296",
+           str(LIMITS["MOST_CENTS"]), str(LIMITS["MOST_CENTS"] + 1),
            "999999999999999999", "1000000000000000000", "18446744073709551615", "18446744073709551616"]
 ODD_NUMBERS = ["-1", "-0", "01", "1.0", "1e2", "1E0", "+1", "0x1", "", "null", "true", '"1"', "[1]"]
 NAMES = ["ann", "bob", "eve", "", "a b", "\u00e9", "B0.1", "R1", "\u007f"]
@@ -25,11 +26,12 @@ REQUESTS = ["deposit", "withdraw", "interest", "cancel", "transfer"]
 KEYS = PAIRS + ["cancel", "transfer", "apply", "balance", "statement", "pass", "deliver", "batch"]
 LABELS = ["deposit", "withdraw", "declined", "interest", "cancel", "transfer", "lend"]
 # What replies tell: the kinds of their members' values, by their keys.
-REPLIES = [{"kind": "label", "name": "name"}, {"held": "name"}, {"already": "name"}, {"applied": "name"}, {"names": "names"},
-           {"taken": "number"}, {"stale": "number"}, {"passed": "number"}, {"balance": "number"}, {"refused": "refusal"},
-           {"balance": "number", "rows": "rows", "start": "number"}, {"position": "number", "refused": "6"},
-           {"needed": "number", "refused": "9", "seen": "number"}, {"cause": "cause", "index": "number", "refused": "13"},
-           {"refused": "17", "why": "number"}]
+REPLIES = [{"kind": "label", "name": "name"}, {"held": "name"}, {"already": "name"}, {"applied": "name"},
+           {"names": "names"}, {"taken": "number"}, {"stale": "number"}, {"passed": "number"}, {"balance": "number"},
+           {"refused": "refusal"}, {"balance": "number", "rows": "rows", "start": "number"},
+           {"position": "number", "refused": "6"}, {"needed": "number", "refused": "9", "seen": "number"},
+           {"cause": "cause", "index": "number", "refused": "13"}, {"refused": "17", "why": "number"}]
+ROW = ["number", "name", "label", "moved", "cancelled", "number"]
 SHADOW = {"account": "account", "amount": "number", "deps": "deps", "home": "number", "kind": "label", "name": "name"}
 # The last member of a shadow: none, that of a cancellation or that of a transfer.
 LASTS = [{}, {"target": "name"}, {"to": "account"}]
@@ -67,7 +69,8 @@ class Odd:
 
     def value(self, key):
         if key == "batch":
-            return self.listed([self.members([self.member(self.random.choice(REQUESTS))]) for _ in range(self.random.randrange(4))])
+            count = self.random.randrange(4)
+            return self.listed([self.members([self.member(self.random.choice(REQUESTS))]) for _ in range(count)])
         if key in PAIRS:
             return self.listed([self.text(self.random.choice(NAMES)), self.number()])
         if key == "transfer":
@@ -90,11 +93,12 @@ class Odd:
             "label": lambda: self.text(self.random.choice(LABELS if self.one_in(20) else LABELS[:6])),
             "refusal": lambda: str(self.random.randrange(26)),
             "cause": lambda: self.part("label" if self.one_in(2) else "number"),
-            "deps": lambda: self.listed([self.listed([self.part("number") for _ in range(7 if self.one_in(20) else 8)]), self.part("number")]),
+            "deps": lambda: self.listed([self.part("counts"), self.part("number")]),
+            "counts": lambda: self.listed([self.part("number") for _ in range(7 if self.one_in(20) else 8)]),
             "token": lambda: self.listed([self.part("number") for _ in range(3)]),
             "moved": lambda: ("-" if self.one_in(2) else "") + self.part("number"),
             "cancelled": lambda: "null" if self.one_in(20) else self.random.choice(["true", "false"]),
-            "row": lambda: self.listed([self.part(k) for k in ["number", "name", "label", "moved", "cancelled", "number"]]),
+            "row": lambda: self.listed([self.part(k) for k in ROW]),
             "rows": lambda: self.listed([self.part("row") for _ in range(self.random.randrange(3))]),
         }
         return parts[kind]() if kind in parts else kind
@@ -114,7 +118,8 @@ class Odd:
     def entry(self):
         """A line of a history, mostly as it is written."""
         self.spaced = self.one_in(8)
-        members = [("event", self.event()), ("reply", self.told(self.random.choice(REPLIES))), ("site", self.random.choice("0123"))]
+        members = [("event", self.event()), ("reply", self.told(self.random.choice(REPLIES)))]
+        members.append(("site", self.random.choice("0123")))
         if self.one_in(40):
             self.random.shuffle(members)
         return self.spoilt(self.members(members))

@@ -1,7 +1,8 @@
 #!/usr/bin/env python3
-"""Measures `rbbank script` on generated scripts, `rbbank audit` and `rbbank migrate` on generated histories, and prints a table, a line for each kind and size.
+"""Measures `rbbank script` on generated scripts, `rbbank audit` and `rbbank migrate` on generated histories, and prints
+a table, a line for each kind and size.
 
-README.md tells what each kind and each number is.
+README.md says what each kind and each number is.
 """
 import argparse
 import os
@@ -78,7 +79,8 @@ def counted(program, asked, paths, times):
 
 
 def figures(program, kind, sizes, given):
-    """Each size with its figures, or None where it takes too long. Time and instructions are less those of no commands."""
+    """Each size with its figures, or None where it takes too long. Of time and instructions those of no commands are
+    taken off."""
     with tempfile.TemporaryDirectory() as folder:
         paths = {size: script(folder, kind, size, given.seed) for size in [0, *sizes]}
         asked = word(kind)
@@ -93,7 +95,8 @@ def figures(program, kind, sizes, given):
             growth = taken / before if taken and before else None
             steps = (counts[size] - counts[0]) / size if counts.get(size) and counts.get(0) else None
             writes = measure.writes(program, asked, paths[size]) if shutil.which("strace") else None
-            yield size, Figures(measure.refused(program, asked, paths[size]), taken, growth, steps, writes, times[size][1])
+            refused = measure.refused(program, asked, paths[size])
+            yield size, Figures(refused, taken, growth, steps, writes, times[size][1])
             before = taken
 
 
@@ -122,7 +125,7 @@ def tell_bytes(peaks):
 def main():
     words = argparse.ArgumentParser(description=__doc__)
     words.add_argument("program", nargs="?", help="a built rbbank; without it, `make build` makes it")
-    words.add_argument("--kinds", default=",".join([*AT_EACH, *(one for one in [*kinds.SHORTEST, *generate.AT_SITES] if one not in AT_EACH)]))
+    words.add_argument("--kinds", default=",".join(dict.fromkeys([*AT_EACH, *kinds.SHORTEST, *generate.AT_SITES])))
     words.add_argument("--sizes", default=SIZES, help=f"commands, the least first, {SIZES}")
     words.add_argument("--runs", type=int, default=3, help="rounds, of which the best is told")
     words.add_argument("--seed", type=int, default=1)
@@ -130,12 +133,12 @@ def main():
     chosen = given.kinds.split(",")
     if not generate.KINDS.keys() >= set(chosen):
         words.error(f"the kinds are {', '.join(generate.KINDS)}")
-    program = os.path.abspath(given.program) if given.program else built()
+    program, sizes = os.path.abspath(given.program) if given.program else built(), given.sizes.split(",")
     measure.adopt()
     print("|", " | ".join(HEAD), "|\n|" + "---|" * len(HEAD))
     peaks = {}
     for kind in chosen:
-        for size, found in figures(program, kind, sizes_of(kind, [int(size) for size in given.sizes.split(",")]), given):
+        for size, found in figures(program, kind, sizes_of(kind, list(map(int, sizes))), given):
             print("|", " | ".join([kind, f"{size:,}", *cells(found)]), "|", flush=True)
             if kind == "deposit" and found:
                 peaks[size] = found.peak

@@ -8,7 +8,8 @@ site sent forged.rows. Made are
   crates/rb_tests/src/row_texts.rt, forged_texts.rt   the same texts, whole files
   crates/rb_world/proofs/WorkedRows.antt, ForgedRows.antt
                                                       the replies as terms, computed, behind the line "-- Made: .."
-Run rt fmt in crates/rb_world after it. With --check nothing is written: it ends in 1 where one isn't what would be made.
+Run rt fmt in crates/rb_world after it. With --check nothing is written: it ends in 1 where one isn't what would be
+made.
 """
 import glob
 import json
@@ -27,11 +28,10 @@ UNFOLDED = re.compile(r"^-- Each run unfolds ([^.]+)\.$", re.MULTILINE)
 # limits that terms name, each as a number of lines
 CENTS, RATE, BLUE, RED, EPOCH = "MOST_CENTS", "MOST_RATE", "MOST_BLUE", "MOST_RED", "MOST_EPOCH"
 LIMITS = {CENTS: 10**11, RATE: 10**4, BLUE: 10**6, RED: 10**6, EPOCH: 4 * 10**9}
-MOST_SITES = 8  # the counts of an operation in version 1
 REFUSALS = (
     "OutOfMemory UnknownAccount BadAmount BadRate UnknownOperation NotCancellable AlreadyCancelled NumbersExhausted "
-    "NeedToken RedBehind WouldOverdraw DeltaTooLarge BadBatch BatchRefused NotHeld NotReady InboxFull BadMessage Conflict "
-    "NoMessage NoSite NotYours PositionBeyond HistoryFull SameAccount"
+    "NeedToken RedBehind WouldOverdraw DeltaTooLarge BadBatch BatchRefused NotHeld NotReady InboxFull BadMessage "
+    "Conflict NoMessage NoSite NotYours PositionBeyond HistoryFull SameAccount"
 ).split()
 
 
@@ -109,8 +109,8 @@ class Bank:
         keys = ("blue", "red", "inbox", "history", "epoch")
         given = "; ".join(f"{key} = {self.config[key]}" for key in keys if key in self.config)
         limits = f"record largest {{ {given} }}" if given else "largest"
-        sites, version = self.config["sites"], self.config["version"]
-        return f"record {{ sites = {sites}; names = {names}; starts = {starts}; limits = {limits}; version = {version} }}"
+        of_all = f"limits = {limits}; version = {self.config['version']}"
+        return f"record {{ sites = {self.config['sites']}; names = {names}; starts = {starts}; {of_all} }}"
 
     def place(self, name):
         return self.places.get(name, "NOWHERE")
@@ -135,9 +135,9 @@ class Bank:
         if "to" in it:
             kind = f"({kind} {self.place(it['to'])})"
         deps = f"counting {counts} {part(over(red, RED))}"
-        account, amount = self.place(it["account"]), over(it["amount"], CENTS)
-        fields = f"name = {name_of(it['name'])}; home = {it['home']}; deps = {deps}; account = {account}; amount = {amount}"
-        return f"(Receive (ShadowMessage (record {{ {fields}; kind = {kind} }})))"
+        money = f"account = {self.place(it['account'])}; amount = {over(it['amount'], CENTS)}"
+        fields = f"name = {name_of(it['name'])}; home = {it['home']}; deps = {deps}; {money}; kind = {kind}"
+        return f"(Receive (ShadowMessage (record {{ {fields} }})))"
 
     def event(self, asked):
         ((kind, given),) = asked.items()

@@ -88,8 +88,8 @@ def main(words):
     rows, minutes = table_of(seen)
     used = resource.getrusage(resource.RUSAGE_CHILDREN)
     print("\n".join(rows))
-    print(f"the prover {minutes:.1f}, all processes {(used.ru_utime + used.ru_stime) / 60:.1f} minutes of processor time, "
-          f"in {(time.time() - begun) / 60:.1f} minutes on {len(os.sched_getaffinity(0))} processors")
+    print(f"the prover {minutes:.1f}, all processes {(used.ru_utime + used.ru_stime) / 60:.1f} minutes of processor "
+          f"time, in {(time.time() - begun) / 60:.1f} minutes on {len(os.sched_getaffinity(0))} processors")
     return running.returncode
 
 

@@ -1,14 +1,15 @@
 #!/usr/bin/env python3
-"""Tries the mutants that the gate leaves out for its time: those of tests/wrong_bodies/*.edits. The prover must refuse each.
+"""Tries the mutants that the gate leaves out for its time: those of tests/wrong_bodies/*.edits. The prover must refuse
+each.
 
 usage: wrong_bodies.py CRATE..      tries the mutants of these crates
        wrong_bodies.py --all        tries those of every crate, some hours of processor time
        wrong_bodies.py --check      proves nothing: whether each mutant still applies, and docs/PROVED.md has their
                                     numbers, and the names of those of must-fail/
 
-A file tests/wrong_bodies/CRATE.edits has the crate's mutants, each under its name in brackets, in the form of a must-fail
-edit: a line 'file: src/..', and pairs of lines 'old: TEXT' and 'new: TEXT'. It applies where each old text is in its file
-exactly once. Mutants are tried on a copy of the repository, over what earlier checks kept.
+A file tests/wrong_bodies/CRATE.edits has the crate's mutants, each under its name in brackets, in the form of a
+must-fail edit: a line 'file: src/..', and pairs of lines 'old: TEXT' and 'new: TEXT'. It applies where each old text is
+in its file exactly once. Mutants are tried on a copy of the repository, over what earlier checks kept.
 """
 import collections
 import glob
@@ -97,7 +98,8 @@ def named():
     edits = glob.glob(os.path.join(CRATES, "*", "must-fail", "*.edit"))
     there = collections.Counter(os.path.basename(it)[: -len(".edit")] for it in edits)
     for name in sorted((there - said) | (said - there)):
-        print(f"wrong_bodies: {name}: docs/PROVED.md names it {said[name]} times, and must-fail/ has it {there[name]} times")
+        times = f"docs/PROVED.md names it {said[name]} times, and must-fail/ has it {there[name]} times"
+        print(f"wrong_bodies: {name}: {times}")
     return said == there
 
 
