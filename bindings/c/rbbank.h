@@ -27,9 +27,10 @@ extern "C" {
 /* What calls on a handle return. */
 enum {
     RBBANK_OK = 0,
-    RBBANK_NONE = 1,     /* the handle is zeroed or closed, or its memory ran out before: nothing happened */
+    RBBANK_NONE = 1,     /* the handle is zeroed or closed, by its caller or by a status below: nothing happened */
     RBBANK_BAD_LINE = 2, /* no command, no event, no entry of this site: nothing changed; no configuration: closed */
-    RBBANK_REFUSED = 3,  /* rbbank_site_open: no such site; rbbank_site_replay: the site gives another reply */
+    RBBANK_REFUSED = 3,  /* rbbank_site_open: no such site; rbbank_site_replay: the site gives another reply than the
+                            entry has, or its history is full: closed */
     RBBANK_NO_MEMORY = 4 /* memory ran out: the handle is closed, and the last answer is lost */
 };
 
@@ -62,7 +63,8 @@ struct rbbank_site {
 };
 
 /* Opens site `me` (0 to 15) of the bank of a configuration's line, before any event. Its entries are then the
- * journal's first line. A site that the handle had is ended first.
+ * journal's first line. Where a journal is there, compare: one that begins with another line is another bank's, and
+ * its entries might be replayed here all the same. A site that the handle had is ended first.
  * 0, 2 (no configuration), 3 (the configuration has no such site) or 4; after 2, 3 and 4 the handle is closed. */
 int32_t rbbank_site_open(struct rbbank_site *site, uint8_t me, const uint8_t *config, size_t length);
 
@@ -82,7 +84,7 @@ size_t rbbank_site_entries(struct rbbank_site *site, size_t from, uint8_t *out, 
 
 /* Gives a site that was opened again the next line of its journal, behind the first. 0; 1; 2 (no entry of this site):
  * nothing has changed; 3 (the site gives another reply than the entry has, or its history is full): the handle is
- * closed; 4. */
+ * closed; 4. The entry may be spelled in any way, where the program takes a journal's line only as it writes it. */
 int32_t rbbank_site_replay(struct rbbank_site *site, const uint8_t *line, size_t length);
 
 /* Ends the site, and gives its memory back. The handle is zeroed, and may be opened again. */
@@ -91,10 +93,11 @@ void rbbank_site_close(struct rbbank_site *site);
 /* ---- Whole runs, from all lines of an input to all lines of the output
  *
  * They return the program's statuses: 0; 1 where an audit found a fault; 2 for a bad line; 3 where `out`, of
- * `capacity` bytes, is too short; 4 where memory ran out. `*written` bytes of `out` were written: with 0 and 1 the
- * whole output, with 2 what was written before the bad line, with 3 a prefix. `*number` is with 0 and 1 how many lines
- * were written; with 2 the number of the bad line, from 1, blank ones counted, or 0 where the input has no
- * configuration; with 3 how many bytes `out` has to have. */
+ * `capacity` bytes, is too short for what was to be written, however the run ended; 4 where memory ran out. `*written`
+ * bytes of `out` were written: with 0 and 1 the whole output, with 2 what was written before the bad line, with 3 a
+ * prefix, with 4 what was written by then, maybe nothing. `*number` is with 0 and 1 how many lines were written; with 2
+ * the number of the bad line, from 1, blank ones counted, or 0 where the input has no configuration; with 3 how many
+ * bytes `out` has to have; with 4 it is 0. */
 
 /* Commands in, replies out: `rbbank script`. */
 int32_t rbbank_script(const uint8_t *input, size_t length, uint8_t *out, size_t capacity, size_t *written,

@@ -35,7 +35,7 @@ Line = typing.Union[str, bytes]
 
 
 class Closed(RuntimeError):
-    """The bank or the site was closed, or its memory ran out before."""
+    """The bank or the site was closed, or ended before: for want of memory, or with a wrong reply."""
 
 
 class BadLine(ValueError):
@@ -47,7 +47,7 @@ class NoSuchSite(ValueError):
 
 
 class WrongReply(ValueError):
-    """The site gives another reply than the entry has. The site is closed."""
+    """The site gives another reply than the entry has, or its history is full. The site is closed."""
 
 
 class LineFault(BadLine):
@@ -196,8 +196,9 @@ class Site(_Handle):
     """Site `me`, 0 to 15, of a configuration, before any event.
 
     Its journal is the caller's: the entries after the opening, and then those after each answer, which are written
-    where they last before anyone sees the answer. To go on after a crash, open the site again, and give it each line
-    of the journal behind the first by `replay`.
+    where they last before anyone sees the answer. To go on after a crash, open the site again, see that the journal
+    begins with its entries (else it is another bank's, and might be replayed all the same), and give it each line of
+    the journal behind the first by `replay`.
     """
 
     _prefix = "rbbank_site_"
@@ -217,8 +218,8 @@ class Site(_Handle):
             return self._kept(_call("rbbank_site_entries"))
 
     def replay(self, entry: Line) -> str:
-        """Gives it the next line of its journal, and returns the line `{"sends":[..]}` of what the entry sent, or
-        nothing where it sent nothing.
+        """Gives it the next line of its journal, in any spelling, and returns the line `{"sends":[..]}` of what the
+        entry sent, or nothing where it sent nothing.
 
         Raises BadLine where it is no entry of this site, after which all is as it was; WrongReply, after which it is
         closed; Closed; MemoryError, after which it is closed.

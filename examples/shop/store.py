@@ -61,13 +61,16 @@ class Store:
             threading.Thread(target=self.carry, args=[to], daemon=True).start()
 
     def replay(self):
-        """Goes on from the journal. What a crash left behind its last whole line is cut off; all is sent again."""
+        """Goes on from the journal. What a crash left behind its last whole line is cut off; all is sent again. Another
+        bank's journal stays as it is."""
         self.journal.seek(0)
-        lines = self.journal.read()
+        lines, first = self.journal.read(), self.site.entries()
         whole = lines[:lines.rfind(b"\n") + 1]
+        if whole and not whole.startswith(first):
+            sys.exit(f"store {self.name}: another bank's journal")
         self.journal.truncate(len(whole))
         if not whole:
-            self.keep(self.site.entries())
+            self.keep(first)
         for entry in whole.splitlines()[1:]:
             self.send(json.loads(self.site.replay(entry) or '{"sends":[]}')["sends"])
 

@@ -1,4 +1,4 @@
-//! The calls of bindings/c/rbbank.h, in its order. tests/bindings.py compares them with the library's exports.
+//! The calls of bindings/c/rbbank.h, in its order. bindings/declarations.py compares them with the library's exports.
 use std::ffi::c_void;
 
 /// What C keeps of a bank or of a site: null to begin with, and never looked into.

@@ -29,7 +29,7 @@ pub enum AnswerError {
 pub enum ReplayError {
     /// The line is no entry of this site. Nothing has changed.
     BadLine,
-    /// The site gives another reply than the entry has: nothing more can be asked of it.
+    /// The site gives another reply than the entry has, or its history is full: nothing more can be asked of it.
     WrongReply,
     /// There was no memory: nothing more can be asked of the site.
     OutOfMemory,

@@ -108,6 +108,9 @@ impl Drop for Bank {
 /// One site of a configuration. Its journal is the caller's: the [`entries`](Site::entries) after the opening, and
 /// then those after each answer, which are written where they last before anyone sees the answer. Dropping it ends it.
 ///
+/// To go on after a crash, open the site again and see that the journal begins with its entries: else it is another
+/// bank's, and might be replayed all the same. Then give it each line of the journal behind the first.
+///
 /// ```
 /// use rbbank::Site;
 ///
@@ -119,6 +122,7 @@ impl Drop for Bank {
 /// assert!(answer.starts_with(r#"{"reply":{"kind":"deposit","name":"B0.1"},"sends":[{"shadow":{"#));
 ///
 /// let mut again = Site::open(0, configuration)?; // after a crash
+/// assert!(journal.starts_with(again.entries()), "another bank's journal");
 /// for entry in journal.lines().skip(1) {
 ///     again.replay(entry)?;
 /// }
@@ -175,8 +179,8 @@ impl Site {
         copy(&mut self.handle, c::rbbank_site_entries, &mut self.text)
     }
 
-    /// Takes the next line of the site's journal, behind the first, and gives the line `{"sends":[..]}` of what the
-    /// entry sent, or nothing where it sent nothing.
+    /// Takes the next line of the site's journal, behind the first and in any spelling, and gives the line
+    /// `{"sends":[..]}` of what the entry sent, or nothing where it sent nothing.
     ///
     /// # Errors
     ///
