@@ -255,10 +255,14 @@ def failed(sites):
 
 def unwritten(sites):
     """Output that can't be written ends a site, whose journal is at rest, and has what wasn't reported."""
+    given = BANK + b'{"deposit":["ann",500]}\n' + BALANCE
+    wanted = (b"", "rbbank: write failed\n", 3, stored("site_deposit.site.journal"))
     with open("/dev/full", "wb") as full:
-        given = BANK + b'{"deposit":["ann",500]}\n' + BALANCE
-        wanted = (b"", "rbbank: write failed\n", 3, stored("site_deposit.site.journal"))
         yield "a full device as output", sites.run(given, output=full) == wanted
+    read, write = os.pipe()
+    os.close(read)
+    with os.fdopen(write, "wb") as closed:
+        yield "an output without a reader", sites.run(given, output=closed) == wanted
 
 
 def lines_at_fault(sites):
