@@ -20,7 +20,7 @@ pub use run::{Ran, run_site};
 /// However often a site ran and crashed, each run over the file that the crash before it left: the next run starts with
 /// the very site that all turns led to whose entries the file has, and all turns are one run of a site that doesn't
 /// crash. So what the site answers is what it would have answered without the crashes, after the same events. And that
-/// file is never at fault.
+/// file is never at fault. All this is of files that have the configuration's line: a run that goes on writes it first.
 pub fn restart_goes_on()
     ensures site { RestartsGoOn }
     ensures run { RestartedRunsAreOne }
