@@ -16,7 +16,6 @@ sys.dont_write_bytecode = True
 import run
 
 HEAD = ["Sites", "Tellers", "Events", "Threads, events a second", "One thread, events a second", "Ratio"]
-HEAD += ["The text alone, events a second"]
 BESIDE = ["Sites", "Tellers", "Processor time, ms", "The other's", "Ratio"]
 BESIDE += ["From start to end, ms", "The other's", "Ratio"]
 
@@ -37,12 +36,15 @@ def timed(words, given, runs):
     return best, text
 
 
-def copied(text, runs):
-    """The least wall time in seconds in which `cat` writes a text that is in a file: no program can write it sooner."""
+def idle(text, threads, given):
+    """The least wall time in seconds in which `cat` writes a text that is in a file, or the program of --idle makes as
+    many threads, which do nothing, and then writes as many bytes."""
+    if given.idle:
+        return timed([given.idle, str(threads), str(len(text))], b"", given.runs)[0]
     with tempfile.NamedTemporaryFile() as file:
         file.write(text)
         file.flush()
-        return timed(["cat", file.name], b"", runs)[0]
+        return timed(["cat", file.name], b"", given.runs)[0]
 
 
 def sent_by(reply):
@@ -85,7 +87,7 @@ def row(program, sites, tellers, given):
     if answered != replies:
         sys.exit(f"{' '.join(words)}: the script of its events is answered otherwise")
     events = replies.count(b"\n")
-    rates = [f"{events / taken:,.0f}" for taken in (threads, alone, copied(text, given.runs))]
+    rates = [f"{events / taken:,.0f}" for taken in (threads, alone, idle(text, sites + tellers, given))]
     return [sites, tellers, f"{events:,}", *rates[:2], f"{alone / threads:.2f}", rates[2]]
 
 
@@ -115,13 +117,15 @@ def main():
     words = argparse.ArgumentParser(description=__doc__)
     words.add_argument("program", nargs="?", help="a built rbbank; without it, `make build` makes it")
     words.add_argument("--other", help="a second program, to compare the processor time of runs")
+    words.add_argument("--idle", help="bench/plain's program idle, in place of cat, for the last column")
     words.add_argument("--sites", default="2,4,8")
     words.add_argument("--tellers", default="1,8,64")
     words.add_argument("--runs", type=int, default=5, help="runs, of which the best counts")
     words.add_argument("--seed", type=int, default=1)
     given = words.parse_args()
     program = os.path.abspath(given.program) if given.program else run.built()
-    head = BESIDE if given.other else HEAD
+    last = "Idle threads and the text" if given.idle else "The text alone"
+    head = BESIDE if given.other else [*HEAD, f"{last}, events a second"]
     print("|", " | ".join(head), "|\n|" + "---|" * len(head))
     for sites in map(int, given.sites.split(",")):
         for tellers in map(int, given.tellers.split(",")):
