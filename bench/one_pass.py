@@ -57,8 +57,8 @@ def shadow(version, label):
     """An operation of site 0, as it comes to another site."""
     last = {"cancel": {"target": "R1"}, "transfer": {"to": "bob"}}.get(label, {})
     counts = [0] * 8 if version == 1 else []
-    told = {"account": "ann", "amount": 5, "deps": [counts, 0], "home": 0, "kind": label, "name": "B0.1"}
-    return {"shadow": told | last}
+    members = {"account": "ann", "amount": 5, "deps": [counts, 0], "home": 0, "kind": label, "name": "B0.1"}
+    return {"shadow": members | last}
 
 
 def entry(event, reply, site=1):
