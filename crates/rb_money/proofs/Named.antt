@@ -1,5 +1,5 @@
 -- Accounts that are asked for, by their names.
-use Rattle.std.proofs.Common.{◌≡◌, List, [], ◌∷◌, ◌++◌, ℕ, ◌+◌, ◌<◌, ◌≤◌, zero, suc, false, None, refl, ap, sym, ◌∙◌}
+use Rattle.std.proofs.Common.{◌≡◌, List, [], ◌∷◌, ◌++◌, ℕ, ◌+◌, ◌<◌, zero, suc, false, None, refl, ap, sym, ◌∙◌}
 use Rattle.std.proofs.Common.{arith, get_or, take, length, append-nil, append_assoc}
 use Rattle.std.specs.Prelude.{map, string_bytes, String}
 use Rattle.std.specs.declared.alloc.Global.{Global}
@@ -52,9 +52,3 @@ new_after before k (e ∷ es) none (suc i) a l =
 -- where nothing is wrong with them, no name is among those before it
 pub all_new : (accounts : Entries) → account_fault [] 0 (map account_of accounts) ≡ None → AreNewUpTo (length accounts) accounts
 all_new accounts none = new_after [] 0 accounts none
-
--- there are as many of them
-pub length_before : (i : ℕ) (accounts : Entries) → i ≤ length accounts → length (names_before i accounts) ≡ i
-length_before zero accounts l = refl
-length_before (suc i) [] l = absurd (omega arith)
-length_before (suc i) (e ∷ es) l = ap suc (length_before i es (omega arith))

@@ -1,11 +1,10 @@
--- Names xs words.
+-- Names as words.
 use Rattle.std.proofs.Common.{◌≡◌, List, [], ◌∷◌, ℕ, zero, suc, ◌*◌, ◌<◌, ◌≤◌, Some, refl, ap, sym, subst, ◌∙◌, ◌++◌, length, take}
-use Rattle.std.proofs.Common.{HashMap, arith}
-use Rattle.std.specs.Prelude.{String}
+use Rattle.std.proofs.Common.{arith}
 use Rattle.std.specs.List.{All}
-use Rattle.std.specs.HashMap.{get_by_text}
-use Rattle.std.specs.declared.alloc.Global.{Global}
+use Rattle.rb_money.specs.Settings.{place_in}
 use Rattle.rb_money.specs.Words.{AreBytes, IsShort, word}
+use Rattle.rb_money.specs.declared.place.Place.{Place}
 
 -- a word is no zero
 pub word_some : (name : List ℕ) → 1 ≤ word name
@@ -51,15 +50,15 @@ same_word (a ∷ xs) (b ∷ ys) h k e =
     let same = same_word xs ys (λ i d l. h (suc i) d (omega arith)) (λ i d l. k (suc i) d (omega arith)) rest in
     ap (λ x. x ∷ xs) first ∙ ap (λ l. b ∷ l) same
 
--- a word and its place in the map
-pub is_short : {S : Type 0} (m : HashMap (String Global) ℕ S) (name : List ℕ) (w place : ℕ) → AreBytes name → w ≡ word name
-    → get_by_text m name ≡ Some place → IsShort m (w, place)
-is_short m name w place bytes e found other others same =
-    ap (get_by_text m) (same_word other name others bytes (same ∙ e)) ∙ found
+-- a word and its place
+pub is_short : (names : List (List ℕ)) (name : List ℕ) (w : ℕ) (place : Place) → AreBytes name → w ≡ word name →
+    place_in names name ≡ Some place → IsShort names (w, place)
+is_short names name w place bytes e found other others same =
+    ap (place_in names) (same_word other name others bytes (same ∙ e)) ∙ found
 
 -- nothing is asked of an empty slot
-pub empty_slot : {S : Type 0} (m : HashMap (String Global) ℕ S) → IsShort m (0, 0)
-empty_slot m name bytes e = let some = word_some name in absurd (omega (arith, some, e))
+pub empty_slot : (names : List (List ℕ)) (place : Place) → IsShort names (0, place)
+empty_slot names place name bytes e = let some = word_some name in absurd (omega (arith, some, e))
 
 none_taken : {X : Type 0} (n : ℕ) (none : List X) → none ≡ [] → take n none ≡ []
 none_taken zero none e = refl

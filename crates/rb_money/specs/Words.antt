@@ -1,8 +1,8 @@
 -- Names that are looked up as one number.
 use Rattle.std.specs.List.{All}
-use Rattle.std.specs.HashMap.{HashMap, get_by_text}
-use Rattle.std.specs.Prelude.{◌≡◌, ◌+◌, ◌*◌, ◌<◌, ℕ, List, [], ◌∷◌, Some, String, length, get_or}
-use Rattle.std.specs.declared.alloc.Global.{Global}
+use Rattle.std.specs.Prelude.{◌≡◌, ◌+◌, ◌*◌, ◌<◌, ℕ, List, [], ◌∷◌, Some}
+use Rattle.rb_money.specs.Settings.{place_in}
+use Rattle.rb_money.specs.declared.place.Place.{Place}
 
 -- the bytes of a name as one number, the first the lowest, and a 1 above them
 abbrev pub word : List ℕ → ℕ
@@ -13,11 +13,10 @@ word (b ∷ bs) = word bs * 256 + b
 abbrev pub AreBytes : List ℕ → Type 0
 AreBytes bytes = All (λ b. b < 256) bytes
 
--- a word and a place: the map has the place for whatever name has the word
-abbrev pub IsShort : {S : Type 0} → HashMap (String Global) ℕ S → ℕ × ℕ → Type 0
-IsShort places e = (name : List ℕ) → AreBytes name → word name ≡ e.0 → get_by_text places name ≡ Some e.1
+-- a word and a place: whatever name has the word is at the place among these names
+abbrev pub IsShort : List (List ℕ) → ℕ × Place → Type 0
+IsShort names e = (name : List ℕ) → AreBytes name → word name ≡ e.0 → place_in names name ≡ Some e.1
 
--- the table has the word of the name with the place
-abbrev pub IsFoundShort : List (ℕ × ℕ) → List ℕ → ℕ → Type 0
-IsFoundShort short name place = AreBytes name × ((slot : ℕ) × (slot < length short)
-    × (get_or short slot (word name, place) ≡ (word name, place)))
+-- a table of words and places, each of which is so
+abbrev pub AreShort : List (List ℕ) → List (ℕ × Place) → Type 0
+AreShort names slots = All (IsShort names) slots

@@ -15,6 +15,7 @@ mod number;
 mod place;
 mod rate;
 mod refusal;
+mod short_names;
 
 pub use accounts::{Accounts, LONGEST_NAME};
 pub use amount::Amount;

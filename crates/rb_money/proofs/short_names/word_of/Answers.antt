@@ -1,6 +1,6 @@
 use Rattle.std.proofs.Common.{◌-◌, ◌<◌, arith, drop, length-drop, rules, slice_index_or}
 use Rattle.rb_money.proofs.Words.{word_small}
-use Rattle.rb_money.proofs.accounts.word_of.Goals as goal
+use Rattle.rb_money.proofs.short_names.word_of.Goals as goal
 
 pub overflow_mul-word : goal.overflow_mul-word
 overflow_mul-word c =
