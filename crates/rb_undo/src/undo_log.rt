@@ -7,7 +7,7 @@ use std::alloc::{AllocError, Global};
 use std::marker::Model;
 
 /// Undo records in order, each of which is still to be spent or sealed. A log can't be dropped
-/// either: it is closed, or appended to another.
+/// either: it is closed.
 pub struct UndoLog {
     undos: Vec<Undo>,
 }
@@ -92,19 +92,6 @@ impl UndoLog {
             (λ undo. (self.old.parts ≡ self.new.parts ++ undo ∷ []) × (self.new.room ≡ self.old.room + 1)) }
     {
         self.undos.pop()
-    }
-
-    /// Moves the records of another log to the end, in spare capacity.
-    pub fn append(&mut self, other: UndoLog)
-        requires { length other.parts ≤ self.old.room }
-        ensures parts { self.new.parts ≡ self.old.parts ++ other.parts }
-        ensures room { self.old.room ≤ self.new.room + length other.parts }
-    {
-        let UndoLog { mut undos } = other;
-        match self.undos.append(&mut undos) {
-            Ok(()) => undos.destroy_empty(),
-            Err(_) => unreachable!(),
-        }
     }
 
     /// Seals all records.
