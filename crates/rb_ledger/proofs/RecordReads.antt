@@ -1,20 +1,17 @@
 -- What is read to make the record of an operation, where all the operations are there and not only those before it.
-use Rattle.std.proofs.Common.{◌≡◌, ℕ, ◌+◌, ◌-◌, ◌<◌, List, [], ◌∷◌, ◌++◌, get_or, take, drop, refl, ap, sym, ◌∙◌, subst}
+use Rattle.std.proofs.Common.{◌≡◌, ℕ, ◌+◌, ◌-◌, List, take, drop, refl, ap, sym, ◌∙◌, subst}
 use Rattle.std.proofs.Common.{arith, inr, Some, None, length}
-use Rattle.std.proofs.Common.{cond, length-take-le}
-use Rattle.std.specs.Prelude.{Option, IfSome, slice_get}
-use Rattle.std.proofs.lemmas.List.{take-append-drop, take_more}
+use Rattle.std.proofs.Common.{length-take-le}
+use Rattle.std.specs.Prelude.{Option, IfSome}
+use Rattle.std.proofs.lemmas.List.{take-append-drop}
 use Rattle.std.proofs.lemmas.Option.{slice_get_within}
-use Rattle.rb_money.proofs.Public.Tests
 use Rattle.rb_money.specs.Settings.{Settings}
 use Rattle.rb_money.specs.declared.place.Place.{Place}
 use Rattle.rb_shadow.specs.declared.op_name.OpName.{OpName}
 use Rattle.rb_shadow.specs.declared.shadow.Shadow.{Shadow}
 use Rattle.rb_shadow.specs.Operations.{Among, names, target_of, other_of}
 use Rattle.rb_shadow.proofs.Public.Members
-use Rattle.rb_undo.specs.declared.parts.UndoParts.{UndoParts}
-use Rattle.rb_ledger.specs.Valid.{IsValid, HasTarget, operation_at, parts_of, position_of}
-use Rattle.rb_ledger.specs.Records.{records_of}
+use Rattle.rb_ledger.specs.Valid.{IsValid, HasTarget, operation_at, position_of}
 use Rattle.rb_ledger.specs.OnAccount.{IsOn}
 use Rattle.rb_ledger.proofs.CancelFacts
 use Rattle.rb_ledger.proofs.FoundNames.{entry_there}
@@ -22,7 +19,6 @@ use Rattle.rb_ledger.proofs.Moves
 use Rattle.rb_ledger.proofs.Others
 use Rattle.rb_ledger.proofs.Public.Fronts
 use Rattle.rb_ledger.proofs.Public.OnAccount
-use Rattle.rb_ledger.proofs.Public.Records.{records_of-pushed}
 
 -- the position of an operation is one more than how many come before it
 pub entry_after : (us : List Shadow) (p : ℕ) (u : Shadow) → Some u ≡ operation_at us p → p ≡ length (take (p - 1) us) + 1
@@ -66,21 +62,3 @@ target_before s us vs p n u valid e seen is = is ∙ ap (λ ws. position_of ws (
           CancelFacts.stands_once us i j v w valid.unique (Fronts.get_take (p - 1) us i v first).1 among
               (called ∙ sym known),
         )
-
--- the records of the operations below and that of the next are those of one operation more
-pub one_record_more : (s : Settings) (us xs : List Shadow) (k : ℕ) (d : Shadow) (ps qs : List UndoParts) (p : UndoParts) → xs ≡ us
-    → k < length us → p ≡ parts_of s (take (k + 1 - 1) us) (get_or xs k d) → ps ≡ records_of s (take k us) → qs ≡ ps ++ p ∷ [] →
-    qs ≡ records_of s (take (k + 1) us)
-one_record_more s us xs k d ps qs p same there is so_far added =
-    let here : k + 1 - 1 ≡ k = omega (arith) in
-    let u : Shadow = get_or us k d in
-    records_of-pushed s s (take k us) (take (k + 1) us) u ps qs p so_far
-    (is ∙ ap (λ j. parts_of s (take j us) (get_or xs k d)) here ∙ ap (λ ys. parts_of s (take k us) (get_or ys k d)) same)
-    (take_more us k d there) refl added
-
--- the entry after the first ones
-pub entry_next : (us xs : List Shadow) (k : ℕ) (d : Shadow) → xs ≡ us → k < length xs → Some (get_or xs k d) ≡ operation_at us (k + 1)
-entry_next us xs k d same near =
-    let here : k + 1 - 1 ≡ k = omega arith in
-    ap (λ ys. Some (get_or ys k d)) same ∙ sym (ap (λ b. cond b None (slice_get us (k + 1 - 1))) (Tests.positive (k + 1) (omega arith))
-    ∙ ap (slice_get us) here ∙ Others.item us k d (omega (arith, near, ap length same)))

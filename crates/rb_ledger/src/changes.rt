@@ -38,7 +38,7 @@ impl Ledger {
         if let Err(refusal) = self.check(&shadow) {
             return Err((shadow, refusal));
         }
-        match self.apply_valid(shadow) {
+        match self.apply_valid(&shadow) {
             Ok(undo) => Ok(undo),
             Err(AllocError) => Err((shadow, Refusal::OutOfMemory)),
         }
@@ -46,26 +46,33 @@ impl Ledger {
 
     /// Adds a shadow that keeps the list valid at the end, without checking that again, and gives the
     /// record to undo it. An error means out of memory.
-    pub fn apply_valid(&mut self, shadow: Shadow) -> Result<Undo, AllocError>
-        requires { IsValid self.old.settings (self.old.entries ++ shadow ∷ []) }
-        ensures applied { IfOk result (λ undo. (self.new.entries ≡ self.old.entries ++ shadow ∷ [])
-            × (undo ≡ parts_of self.old.settings self.old.entries shadow)) }
+    #[inline(always)]
+    pub fn apply_valid(&mut self, shadow: &Shadow) -> Result<Undo, AllocError>
+        requires { IsValid self.old.settings (self.old.entries ++ shadow.now ∷ []) }
+        ensures applied { IfOk result (λ undo. (self.new.entries ≡ self.old.entries ++ shadow.now ∷ [])
+            × (undo ≡ parts_of self.old.settings self.old.entries shadow.now)) }
         ensures settings { self.new.settings ≡ self.old.settings }
         ensures room { OnOk result (0 < self.old.room → self.new.room + 1 ≡ self.old.room) }
         ensures err { OnErr result ((self.new ≡ self.old) × (self.old.room ≡ 0)) }
     {
-        let parts = self.index.parts(&self.entries.all(), &shadow);
-        self.append(&shadow)?;
+        self.make_room()?;
+        let parts = self.index.parts(&self.entries.all(), shadow);
+        let links = self.links_of(shadow, &parts);
+        self.index.push(&self.entries.all(), shadow, &parts, &links);
+        self.links.mark(parts.target, true);
+        self.links.push(&links);
+        self.entries.push(shadow);
+        self.checkpoints.push(parts.position, &self.index.heads);
         Ok(Undo::new(parts))
     }
 
-    /// Adds a shadow that is to stay at the end, as `apply` does, but without a record to undo it. It is sound by
-    /// itself, and all that its home had applied was applied here. The refusal is that of `check`, or else
-    /// `OutOfMemory`.
-    pub fn apply_ready(&mut self, shadow: &Shadow) -> Result<(), Refusal>
+    /// The same as `apply`, for a shadow that is sound by itself, and all that its home had applied was applied here:
+    /// neither is tested again. The refusal is that of `check`, or else `OutOfMemory`.
+    pub fn apply_ready(&mut self, shadow: &Shadow) -> Result<Undo, Refusal>
         requires sound { IsSound self.old.settings shadow.now }
         requires eligible { is_eligible self.old.entries shadow.now ≡ true }
-        ensures applied { OnOk result (self.new.entries ≡ self.old.entries ++ shadow.now ∷ []) }
+        ensures applied { IfOk result (λ undo. (self.new.entries ≡ self.old.entries ++ shadow.now ∷ [])
+            × (undo ≡ parts_of self.old.settings self.old.entries shadow.now)) }
         ensures taken { OnOk result (refusal_of_sound self.old.settings self.old.entries shadow.now ≡ None) }
         ensures settings { self.new.settings ≡ self.old.settings }
         ensures room { OnOk result (0 < self.old.room → self.new.room + 1 ≡ self.old.room) }
@@ -81,31 +88,10 @@ impl Ledger {
         if let Some(refusal) = self.refusal_of_ready(shadow) {
             return Err(refusal);
         }
-        match self.append(shadow) {
-            Ok(()) => Ok(()),
+        match self.apply_valid(shadow) {
+            Ok(undo) => Ok(undo),
             Err(AllocError) => Err(Refusal::OutOfMemory),
         }
-    }
-
-    /// Adds a shadow that keeps the list valid, and is to stay, at the end, without checking that again: as
-    /// `apply_valid` does, but without a record to undo it. An error means out of memory.
-    #[inline(always)]
-    pub fn append(&mut self, shadow: &Shadow) -> Result<(), AllocError>
-        requires { IsValid self.old.settings (self.old.entries ++ shadow.now ∷ []) }
-        ensures applied { OnOk result (self.new.entries ≡ self.old.entries ++ shadow.now ∷ []) }
-        ensures settings { self.new.settings ≡ self.old.settings }
-        ensures room { OnOk result (0 < self.old.room → self.new.room + 1 ≡ self.old.room) }
-        ensures err { OnErr result ((self.new ≡ self.old) × (self.old.room ≡ 0)) }
-    {
-        self.make_room()?;
-        let parts = self.index.parts(&self.entries.all(), shadow);
-        let links = self.links_of(shadow, &parts);
-        self.index.push(&self.entries.all(), shadow, &parts, &links);
-        self.links.mark(parts.target, true);
-        self.links.push(&links);
-        self.entries.push(shadow);
-        self.checkpoints.push(parts.position, &self.index.heads);
-        Ok(())
     }
 
     /// Takes the last entry out again. The record is that of this entry.

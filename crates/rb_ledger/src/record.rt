@@ -1,16 +1,15 @@
 //! The undo records of a ledger's operations.
-ghost use Rattle.std.specs.Prelude.{◌≡◌, ◌<◌, ◌-◌, take, Some, IfOk, IfSome, option_map, unwrap_or};
+ghost use Rattle.std.specs.Prelude.{◌≡◌, ◌<◌, ◌-◌, take, Some, IfSome, option_map, unwrap_or};
 ghost use Rattle.rb_money.specs.Amounts.{cents};
 ghost use Rattle.rb_shadow.specs.Operations.{bal};
 ghost use Rattle.rb_ledger.specs.Valid.{IsValid, operation_at, parts_of};
 ghost use Rattle.rb_ledger.specs.OnAccount.{IsOn};
-ghost use Rattle.rb_ledger.specs.Records.{record_at, records_of};
+ghost use Rattle.rb_ledger.specs.Records.{record_at};
 
 use crate::Ledger;
 use rb_money::Place;
 use rb_shadow::Shadow;
-use rb_undo::{Undo, UndoLog, UndoParts};
-use std::alloc::{AllocError, Global};
+use rb_undo::UndoParts;
 
 impl Ledger {
     /// The record to undo the operation at a position, counted from 1: that of the operations before it. It is made
@@ -20,25 +19,6 @@ impl Ledger {
     {
         let entry = self.entry(position)?;
         Some(self.record_of(position, &entry))
-    }
-
-    /// The records to undo all operations, in order. `Err` means out of memory.
-    pub fn records(&self, alloc: Global) -> Result<UndoLog, AllocError>
-        ensures { IfOk result (λ log. log.parts ≡ records_of self.now.settings self.now.entries) }
-    {
-        // For a fact alone: there are at most `MOST_OPERATIONS` entries.
-        let _few = self.len();
-        let mut log = UndoLog::new(alloc);
-        if log.reserve(self.entries.len()).is_err() {
-            log.close();
-            return Err(AllocError);
-        }
-        for k in 0..self.entries.len() {
-            let entry = self.entries.get(k).unwrap();
-            let parts = self.record_of(k as u32 + 1, &entry);
-            log.push_reserved(Undo::new(parts));
-        }
-        Ok(log)
     }
 
     /// The record to undo the entry at the position.

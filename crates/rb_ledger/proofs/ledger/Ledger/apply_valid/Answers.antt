@@ -16,7 +16,7 @@ use Rattle.rb_ledger.specs.Valid.{IsValid, parts_of, position_of}
 use Rattle.rb_shadow.proofs.Public.SoundFacts
 use Rattle.rb_ledger.proofs.Public.Legal
 use Rattle.rb_ledger.proofs.OperationTables
-use Rattle.rb_ledger.proofs.ledger.Ledger.append.Goals as goal
+use Rattle.rb_ledger.proofs.ledger.Ledger.apply_valid.Goals as goal
 
 pub links_of-links-requires-clause-configured : goal.links_of-links-requires-clause-configured
 links_of-links-requires-clause-configured c = subst (λ (b : Book). IsConfigured b.settings) c.self.view_is
@@ -195,9 +195,16 @@ push-requires-4-clause-room c =
     )
 
 pub returns-clause-applied : goal.returns-clause-applied
-returns-clause-applied c =
-    c.push-3.ensures.items
-    ∙ ap (λ us. us ++ c.args.shadow.now ∷ []) (ap (λ (b : Book). b.entries) c.self.view_is ∙ c.in_ok-make_room.ensures.entries)
+returns-clause-applied c = (
+  c.push-3.ensures.items
+      ∙ ap (λ us. us ++ c.args.shadow.now ∷ []) (ap (λ (b : Book). b.entries) c.self.view_is ∙ c.in_ok-make_room.ensures.entries),
+  c.new.ensures
+      ∙ c.parts-parts.ensures
+      ∙ ap (λ us. parts_of c.self.inside.index.config us c.args.shadow.now) c.all.ensures
+      ∙ ap (λ (b : Book). parts_of b.settings b.entries c.args.shadow.now) c.self.view_is
+      ∙ ap (λ s. parts_of s c.make_room.new.self.entries c.args.shadow.now) c.in_ok-make_room.ensures.settings
+      ∙ ap (λ us. parts_of c.args.self.now.settings us c.args.shadow.now) c.in_ok-make_room.ensures.entries,
+)
 
 pub returns-clause-room : goal.returns-clause-room
 returns-clause-room c = λ some.
