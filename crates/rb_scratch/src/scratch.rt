@@ -20,8 +20,8 @@ use rb_token::TokenView;
 use rb_undo::UndoLog;
 use std::alloc::{AllocError, Global};
 
-/// A ledger on which requests are tried, to be kept all or not at all: it must be spent by `commit`, `keep`
-/// or `abort`. It has the ledger alone meanwhile. That its records are those of the ledger's last entries
+/// A ledger on which requests are tried, to be kept all or not at all: it must be spent by `commit` or
+/// `abort`. It has the ledger alone meanwhile. That its records are those of the ledger's last entries
 /// is a condition of its calls, and each of them keeps it.
 pub struct Scratch<'a> {
     ledger: &'a mut Ledger,
@@ -39,7 +39,7 @@ fn undo_all(ledger: &mut Ledger, undos: Records)
     ensures room { ledger.new.room ≡ ledger.old.room + length undos.parts }
 {
     let mut undos = undos;
-    'undos: while let Some(undo) = undos.pop(ledger) {
+    'undos: while let Some(undo) = undos.pop() {
         ledger.undo(undo);
     }
     undos.close();
@@ -81,7 +81,7 @@ fn try_one(
         return Err(RunFault::Refused(Refusal::BadBatch));
     }
     let shadow = generate_in_batch(ledger, &token, request)?;
-    match ledger.apply_valid(shadow) {
+    match ledger.apply_valid(&shadow) {
         Ok(undo) => {
             undos.push(undo);
             Ok(shadow.name)
@@ -177,7 +177,7 @@ impl<'a> Scratch<'a> {
                 });
             }
         };
-        match undos.append_to(ledger, log) {
+        match undos.append_to(log) {
             Ok(()) => Ok(shadows),
             Err(undos) => Err(Scratch {
                 ledger,
@@ -186,23 +186,6 @@ impl<'a> Scratch<'a> {
                 alloc,
             }),
         }
-    }
-
-    /// Keeps what was run, and gives up the undo of it. Answers how many operations that are, the ledger's last. This
-    /// takes no memory.
-    pub fn keep(self) -> usize
-        ensures ledger { self.exit.0.now ≡ self.entry.ledger.now }
-        ensures count { result ≡ length self.entry.undos.parts }
-    {
-        let Scratch {
-            ledger: _,
-            token: _,
-            undos,
-            alloc: _,
-        } = self;
-        let count = undos.len();
-        undos.close();
-        count
     }
 
     /// Takes back what was run: the ledger's list is that at the opening, and there is spare
