@@ -1,6 +1,6 @@
 -- The requests of a batch, one by one.
 use Rattle.std.proofs.Common.{◌≡◌, ◌∙◌, ℕ, ◌+◌, ◌<◌, ◌≤◌, ◌⊎◌, inl, inr, List, [], ◌∷◌, ◌++◌, drop, get_or, length, take, ap, arith, refl}
-use Rattle.std.proofs.Common.{subst, sym, Bool, true, false, cond, not, ◌&&◌, Result, Ok, Err, map}
+use Rattle.std.proofs.Common.{sym, Bool, true, false, cond, not, ◌&&◌, Result, Ok, Err, IfOk, IfErr, map}
 use Rattle.std.specs.Prelude.{nat_le}
 use Rattle.std.proofs.lemmas.List.{drop_more, length-take-le, take-append-drop, take_more}
 use Rattle.rb_money.specs.Refusals.{and_then}
@@ -10,6 +10,8 @@ use Rattle.rb_money.specs.declared.refusal.Refusal.TheVariants.{BadBatch, BatchR
 use Rattle.rb_shadow.specs.declared.shadow.Shadow.{Shadow}
 use Rattle.rb_undo.specs.declared.parts.UndoParts.{UndoParts}
 use Rattle.rb_ledger.specs.Book.{Book}
+use Rattle.rb_ledger.specs.Records.{logged, records_of}
+use Rattle.rb_ledger.proofs.Public.Records
 use Rattle.rb_token.specs.Token.{Token}
 use Rattle.rb_token.specs.Seen.{Shows}
 use Rattle.rb_token.specs.declared.view.TokenView.{TokenView}
@@ -77,25 +79,27 @@ fault_made base vs book parts me known rs r fault tried more few is other =
     by (inl e) = e
     by (inr (v, made, e, room)) = absurd (other e)
 
--- there are as many records as requests
-pub as_many : (s : Settings) (me : ℕ) (base vs : List Shadow) (view : TokenView) (book : Book) (parts : List UndoParts) (rs : List Request)
-    → IsTried base vs book parts
-    → ((known : Token) → Shows view known → batch_of s me base known 0 rs ≡ Ok vs) → length parts ≡ length rs
-as_many s me base vs view book parts rs tried runs = tried_length base vs book parts tried
-    ∙ batch_length s me base (seen view) 0 rs vs (runs (seen view) (seen_shows view))
+-- there are as many operations as requests
+pub as_many : (s : Settings) (me : ℕ) (base vs : List Shadow) (view : TokenView) (rs : List Request) →
+    ((known : Token) → Shows view known → batch_of s me base known 0 rs ≡ Ok vs) → length vs ≡ length rs
+as_many s me base vs view rs runs = batch_length s me base (seen view) 0 rs vs (runs (seen view) (seen_shows view))
 
--- what was tried on a scratch is in the ledger that it was opened on
-pub tried_here : (old opened book : Book) (view shown : TokenView) (parts : List UndoParts) (rs : List Request)
-    (vs : List Shadow) → opened ≡ old → shown ≡ view → IsTried opened.entries vs book parts →
-    ((known : Token) → Shows shown known → batch_of opened.settings shown.me opened.entries known 0 rs ≡ Ok vs)
-    → (book.entries ≡ old.entries ++ vs)
-    × ((known : Token) → Shows view known → batch_of old.settings view.me old.entries known 0 rs ≡ Ok vs)
-tried_here old opened book view shown parts rs vs is sees tried runs =
-    let B : Book → Type 0 = λ b. (known : Token) → Shows view known → batch_of b.settings view.me b.entries known 0 rs ≡ Ok vs in
-    let V : TokenView → Type 0 = λ t. (known : Token) → Shows t known → batch_of opened.settings t.me opened.entries known 0 rs ≡ Ok vs in (
-      tried.entries ∙ ap (λ (b : Book). b.entries ++ vs) is,
-      subst B is (subst V sees runs),
-    )
+-- ---- the records of a batch
+
+-- the log has the list's records, whether a batch was made or refused
+pub journaled : {A : Type 0} (X : A → Type 0) (Y : Refusal → Type 0) (r : Result A Refusal) (s now : Settings) (us later : List Shadow)
+    (ps qs : List UndoParts) → now ≡ s → ps ≡ records_of s us
+    → ((a : A) → X a → (made : List Shadow) × (later ≡ us ++ made) × (qs ≡ ps ++ logged s us made)) →
+    ((why : Refusal) → Y why → (later ≡ us) × (qs ≡ ps)) → IfOk r X → IfErr r Y → qs ≡ records_of now later
+journaled X Y (Ok a) s now us later ps qs same kept more less ok err =
+    let (made, grown, noted) = more a ok in
+    noted ∙ ap (λ rs. rs ++ logged s us made) kept ∙ sym (Records.records_of-append s us made)
+    ∙ ap (records_of s) (sym grown)
+    ∙ ap (λ z. records_of z later) (sym same)
+journaled X Y (Err why) s now us later ps qs same kept more less ok err =
+    let (back, noted) = less why err in
+    noted ∙ kept ∙ ap (records_of s) (sym back)
+    ∙ ap (λ z. records_of z later) (sym same)
 
 -- ---- what a batch comes to
 

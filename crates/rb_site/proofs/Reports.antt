@@ -1,9 +1,8 @@
 -- There is memory for a report.
 use Rattle.std.proofs.Common.{◌≡◌, ◌∙◌, ℕ, ◌+◌, ◌<◌, ◌≤◌, Bool, true, false, cond, not, List, [], ◌∷◌, ◌++◌, length, ap, arith, refl, sym}
-use Rattle.std.proofs.Common.{subst, take, drop, get_or, append_assoc, length-append}
-use Rattle.std.specs.Prelude.{◌==◌, ◌-◌, zero, suc, None, Some, map, option_map, slice_get}
-use Rattle.std.proofs.lemmas.Bool.Decides.{nat_tests}
-use Rattle.std.proofs.lemmas.List.{length-map, map-append, take_all, take_more}
+use Rattle.std.proofs.Common.{subst, take, get_or, length-append}
+use Rattle.std.specs.Prelude.{zero, suc, Some, map, option_map, slice_get}
+use Rattle.std.proofs.lemmas.List.{length-map, take_all, take_more}
 use Rattle.std.proofs.lemmas.List.Sums.{length-filter, count_by-le-length}
 use Rattle.rb_scratch.specs.declared.request.TheConstants.{MOST_REQUESTS}
 use Rattle.rb_money.specs.Settings.{Settings}
@@ -21,9 +20,6 @@ use Rattle.rb_site.specs.Histories.{events_of}
 use Rattle.rb_site.specs.Reports.{IsEnough, RoomFor}
 use Rattle.rb_site.specs.Seen.{SeenSite, next_site, next_sites, state_of}
 use Rattle.rb_site.specs.States.{Follows, IsStanding, SiteState}
-use Rattle.std.proofs.lemmas.Option.{get_or_from_slice_get, slice_get_within}
-use Rattle.rb_ledger.specs.Valid.{operation_at}
-use Rattle.rb_ledger.proofs.Public.Fronts
 use Rattle.rb_site.proofs.Public.Runs
 
 -- ---- what is applied grows by what is sent at most
@@ -137,33 +133,3 @@ at_end k n total within end same = omega arith
 -- at its end it is whole
 pub whole : {A : Type 0} (xs : List A) (k n : ℕ) → n ≡ length xs → n ≤ k → take k xs ≡ xs
 whole xs k n same end = take_all k xs (omega arith)
-
--- with one element more, one more is mapped
-mapped_more : {A B : Type 0} (f : A → B) (xs : List A) (k : ℕ) (d : A) → k < length xs →
-    map f (take k xs) ++ f (get_or xs k d) ∷ [] ≡ map f (take (k + 1) xs)
-mapped_more f xs k d there = sym (ap (map f) (take_more xs k d there) ∙ map-append f (take k xs) (get_or xs k d ∷ []))
-
--- what is pushed behind others, one more each time
-pub pushed_behind : {A B : Type 0} (f : A → B) (xs : List A) (k : ℕ) (d : A) (front old new : List B) → k < length xs →
-    old ≡ front ++ map f (take k xs) → new ≡ old ++ f (get_or xs k d) ∷ [] → new ≡ front ++ map f (take (k + 1) xs)
-pushed_behind f xs k d front old new there so_far pushed =
-    pushed
-    ∙ ap (λ bs. bs ++ f (get_or xs k d) ∷ []) so_far
-    ∙ append_assoc front (map f (take k xs)) (f (get_or xs k d) ∷ [])
-    ∙ ap (λ bs. front ++ bs) (mapped_more f xs k d there)
-
--- the same of what was read at an index behind the first ones
-pub pushed_read : {B : Type 0} (f : Shadow → B) (first : ℕ) (xs : List Shadow) (k : ℕ) (u : Shadow) (front old new : List B) →
-    slice_get xs (first + k) ≡ Some u → old ≡ front ++ map f (take k (drop first xs)) → new ≡ old ++ f u ∷ [] →
-    new ≡ front ++ map f (take (k + 1) (drop first xs))
-pushed_read f first xs k u front old new there so_far added =
-    let here : slice_get (drop first xs) k ≡ Some u = Fronts.get_dropped first xs k ∙ there in
-    pushed_behind f (drop first xs) k u front old new (slice_get_within (drop first xs) k u here) so_far
-    (added ∙ ap (λ v. old ++ f v ∷ []) (sym (get_or_from_slice_get (drop first xs) k u u here)))
-
--- the operation at a position, by its index
-pub read_at : (us : List Shadow) (i : ℕ) (u : Shadow) → operation_at us (i + 1) ≡ Some u → slice_get us i ≡ Some u
-read_at us i u e =
-    let test : (i + 1 == 0) ≡ false = grind (arith, nat_tests) in
-    let same : i + 1 - 1 ≡ i = omega arith in
-    ap (slice_get us) (sym same) ∙ ap (λ b. cond b None (slice_get us (i + 1 - 1))) (sym test) ∙ e

@@ -1,5 +1,5 @@
 -- What a site reports as it is closed.
-use Rattle.std.specs.Prelude.{◌≡◌, ℕ, ◌≤◌, List, [], ◌∷◌, length, map}
+use Rattle.std.specs.Prelude.{◌≡◌, ℕ, ◌≤◌, Bool, true, false, List, [], ◌∷◌, length, map}
 use Rattle.std.specs.List.{range_with_len}
 use Rattle.rb_money.specs.Amounts.{cents}
 use Rattle.rb_money.specs.Settings.{Settings}
@@ -31,6 +31,25 @@ pub record IsReport (s : Settings) (t : ModelSite) (r : SiteReport) : Type 0 whe
   pub token : r.token.token ≡ t.token
   pub waiting : r.waiting ≡ length t.held
   pub history : r.history.items ≡ history_of s t
+
+-- the report of a site that keeps no history is its state, without balances and counts
+pub record IsReportUnkept (s : Settings) (t : ModelSite) (r : SiteReport) : Type 0 where
+  pub me : r.me ≡ t.me
+  pub balances : r.balances.items ≡ []
+  pub entries : r.entries.items ≡ t.ops
+  pub counts : r.counts.items ≡ []
+  pub clock : r.clock ≡ clock_of t.ops
+  pub token_me : r.token.me ≡ t.me
+  pub token_sites : r.token.sites ≡ s.sites
+  pub token_limits : r.token.limits ≡ s.limits
+  pub token : r.token.token ≡ t.token
+  pub waiting : r.waiting ≡ length t.held
+  pub history : r.history.items ≡ []
+
+-- what a site that keeps its history, or doesn't, reports
+abbrev pub IsReportOf : Bool → Settings → ModelSite → SiteReport → Type 0
+IsReportOf true s t r = IsReport s t r
+IsReportOf false s t r = IsReportUnkept s t r
 
 -- memory for the balances of this number of accounts, and for the counts of this number of operations
 pub record RoomFor : Type 0 where

@@ -1,6 +1,7 @@
 //! The requests of a batch, made on a ledger.
 ghost use Rattle.std.specs.Prelude.{◌≡◌, ◌≤◌, ◌<◌, ◌++◌, [], ◌⊎◌, List, length, map, Ok, Err, IfOk, IfErr, OnOk, ◌+◌};
 ghost use Rattle.std.specs.Prelude.{vec_len, vec_capacity};
+ghost use Rattle.rb_ledger.specs.Records.{logged};
 ghost use Rattle.rb_shadow.specs.declared.shadow.Shadow.{Shadow as TheShadow};
 ghost use Rattle.rb_token.specs.Token.{Token};
 ghost use Rattle.rb_token.specs.Seen.{Shows};
@@ -16,6 +17,7 @@ use rb_ledger::Ledger;
 use rb_money::Refusal;
 use rb_scratch::{Request, RunFault, Scratch};
 use rb_token::TokenView;
+use rb_undo::UndoLog;
 use std::alloc::Global;
 
 /// The refusal of a batch whose request of this index, from 0, is at fault. Out of memory is
@@ -58,30 +60,16 @@ fn run_all(scratch: &mut Scratch, requests: &[Request]) -> Result<(), Refusal>
     Ok(())
 }
 
-/// The answer that names the ledger's last `count` operations, each of which is sent. There is memory for
-/// them.
-fn answer_of_last(ledger: &Ledger, count: usize, room: BatchRoom, sent: &mut Vec<Message>) -> Answer
-    requires there { count ≤ length ledger.now.entries }
-    requires few { count ≤ room.most }
-    requires room { vec_len sent.old + count ≤ vec_capacity sent.old }
-    ensures answer { (base made : List TheShadow) → ledger.now.entries ≡ base ++ made → length made ≡ count →
-        Says room.keeps result (Reply.Names (names_of_all made)) }
-    ensures sent { (base made : List TheShadow) → ledger.now.entries ≡ base ++ made → length made ≡ count →
-        sent.new.items ≡ sent.old.items ++ map Message.Shadow made }
-{
-    let first = ledger.len() - count as u32;
-    room.filled(ledger, first, sent)
-}
-
 /// Makes the requests at the site of the token's view, each after those before it: all of them or none.
-/// The answer names the operations, where the reply before has names in their memory, and their messages are put at the
-/// end of what was sent.
+/// The answer names the operations, where the reply before has names in their memory, their messages are put at the end
+/// of what was sent, and their records at the log's end.
 ///
 /// Refuses, and changes nothing but that reply: with `BatchRefused` by the first request at fault, or with
 /// `OutOfMemory`.
 pub fn run_batch(
     alloc: Global,
     ledger: &mut Ledger,
+    log: &mut UndoLog,
     token: TokenView,
     requests: &[Request],
     before: &mut Reply,
@@ -92,11 +80,13 @@ pub fn run_batch(
     requires few { length requests.now ≤ MOST_REQUESTS }
     ensures settings { ledger.new.settings ≡ ledger.old.settings }
     ensures made { IfOk result (λ answer. (made : List TheShadow) × (ledger.new.entries ≡ ledger.old.entries ++ made)
+        × (log.new.parts ≡ log.old.parts ++ logged ledger.old.settings ledger.old.entries made)
         × Says keeps answer (Reply.Names (names_of_all made))
         × (sent.new.items ≡ sent.old.items ++ map Message.Shadow made)
         × ((known : Token) → Shows token known → batch_of ledger.old.settings token.me ledger.old.entries known 0
         requests.now ≡ Ok made)) }
-    ensures refused { IfErr result (λ why. (ledger.new.entries ≡ ledger.old.entries) × (sent.new.items ≡ sent.old.items)
+    ensures refused { IfErr result (λ why. (ledger.new.entries ≡ ledger.old.entries) × (log.new.parts ≡ log.old.parts)
+        × (sent.new.items ≡ sent.old.items)
         × ((why ≡ Refusal.OutOfMemory) ⊎ ((known : Token) → Shows token known →
         batch_of ledger.old.settings token.me ledger.old.entries known 0 requests.now ≡ Err why))) }
 {
@@ -112,6 +102,11 @@ pub fn run_batch(
             return Err(Refusal::OutOfMemory);
         }
     };
-    let count = scratch.keep();
-    Ok(answer_of_last(ledger, count, room, sent))
+    match scratch.commit(log) {
+        Ok(made) => Ok(room.filled(made.as_slice(), sent)),
+        Err(back) => {
+            back.abort();
+            Err(Refusal::OutOfMemory)
+        }
+    }
 }

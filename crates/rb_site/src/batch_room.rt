@@ -1,5 +1,5 @@
 //! Memory for the answer to a batch.
-ghost use Rattle.std.specs.Prelude.{◌≡◌, ◌+◌, ◌≤◌, ◌++◌, [], IfOk, drop, length, map, vec_len, vec_capacity};
+ghost use Rattle.std.specs.Prelude.{◌≡◌, ◌+◌, ◌≤◌, ◌++◌, [], IfOk, length, map, vec_len, vec_capacity};
 ghost use Rattle.rb_scratch.specs.Batches.{names_of_all};
 ghost use Rattle.rb_site.specs.Rooms.{IsRoomFor};
 ghost use Rattle.rb_site.specs.States.{Says};
@@ -7,9 +7,8 @@ ghost use Rattle.rb_site.specs.States.{Says};
 use crate::answer::Answer;
 use crate::{Message, Reply};
 use rb_kit::List;
-use rb_ledger::Ledger;
 use rb_money::Refusal;
-use rb_shadow::OpName;
+use rb_shadow::{OpName, Shadow};
 use std::alloc::{AllocError, Global};
 use std::marker::Model;
 use std::mem;
@@ -65,12 +64,12 @@ impl BatchRoom {
         })
     }
 
-    /// The answer that names the operations from an index on, each of which is sent. There is memory for them.
-    pub fn filled(self, ledger: &Ledger, first: u32, sent: &mut Vec<Message>) -> Answer
-        requires few { length (drop first ledger.now.entries) ≤ self.most }
-        requires room { vec_len sent.old + length (drop first ledger.now.entries) ≤ vec_capacity sent.old }
-        ensures answer { Says self.keeps result (Reply.Names (names_of_all (drop first ledger.now.entries))) }
-        ensures sent { sent.new.items ≡ sent.old.items ++ map Message.Shadow (drop first ledger.now.entries) }
+    /// The answer that names the operations, each of which is sent. There is memory for them.
+    pub fn filled(self, made: &[Shadow], sent: &mut Vec<Message>) -> Answer
+        requires few { length made.now ≤ self.most }
+        requires room { vec_len sent.old + length made.now ≤ vec_capacity sent.old }
+        ensures answer { Says self.keeps result (Reply.Names (names_of_all made.now)) }
+        ensures sent { sent.new.items ≡ sent.old.items ++ map Message.Shadow made.now }
     {
         let BatchRoom {
             most: _,
@@ -78,14 +77,14 @@ impl BatchRoom {
             names,
             noted,
         } = self;
-        let names = named_and_sent(names, ledger, first, sent);
+        send(sent, made);
         let noted = if keeps {
-            Some(Reply::Names(List::new(copied(noted, names.as_slice()))))
+            Some(Reply::Names(List::new(with_names(noted, made))))
         } else {
             None
         };
         Answer {
-            reply: Reply::Names(List::new(names)),
+            reply: Reply::Names(List::new(with_names(names, made))),
             noted,
         }
     }
@@ -106,36 +105,24 @@ fn spare_names(alloc: Global, before: &mut Reply) -> Vec<OpName>
     }
 }
 
-/// Each operation's name, and the message that sends it behind those sent, both in spare capacity.
-fn named_and_sent(
-    mut names: Vec<OpName>,
-    ledger: &Ledger,
-    first: u32,
-    sent: &mut Vec<Message>,
-) -> Vec<OpName>
+/// Each operation's name, in spare capacity.
+fn with_names(mut names: Vec<OpName>, made: &[Shadow]) -> Vec<OpName>
     requires empty { names.items ≡ [] }
-    requires room { length (drop first ledger.now.entries) ≤ vec_capacity names }
-    requires sent { vec_len sent.old + length (drop first ledger.now.entries) ≤ vec_capacity sent.old }
-    ensures names { result.items ≡ names_of_all (drop first ledger.now.entries) }
-    ensures sent { sent.new.items ≡ sent.old.items ++ map Message.Shadow (drop first ledger.now.entries) }
+    requires room { length made.now ≤ vec_capacity names }
+    ensures { result.items ≡ names_of_all made.now }
 {
-    let count = ledger.len().saturating_sub(first);
-    for k in 0..count {
-        let operation = ledger.operation(first + k + 1).unwrap();
-        names.push_reserved(operation.name());
-        sent.push_reserved(Message::Shadow(operation.shadow()));
+    for shadow in made {
+        names.push_reserved(shadow.name);
     }
     names
 }
 
-/// The same names once more, in spare capacity.
-fn copied(mut names: Vec<OpName>, from: &[OpName]) -> Vec<OpName>
-    requires empty { names.items ≡ [] }
-    requires room { length from.now ≤ vec_capacity names }
-    ensures { result.items ≡ from.now }
+/// Adds the message that sends each operation, in spare capacity.
+fn send(sent: &mut Vec<Message>, made: &[Shadow])
+    requires { vec_len sent.old + length made.now ≤ vec_capacity sent.old }
+    ensures { sent.new.items ≡ sent.old.items ++ map Message.Shadow made.now }
 {
-    for k in 0..from.len() {
-        names.push_reserved(from[k]);
+    for shadow in made {
+        sent.push_reserved(Message::Shadow(*shadow));
     }
-    names
 }

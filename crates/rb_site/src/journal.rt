@@ -1,4 +1,4 @@
-//! A site's ledger.
+//! A site's ledger with its undo records.
 ghost use Rattle.std.specs.Prelude.{◌≡◌, ◌<◌, ◌≤◌, ◌++◌, ◌∷◌, ◌⊎◌, [], List, length, map, Some, None, Ok, Err, IfOk};
 ghost use Rattle.std.specs.Prelude.{IfErr, OnOk, OnErr, true};
 ghost use Rattle.rb_ledger.specs.Checks.{refusal_of};
@@ -28,27 +28,34 @@ use rb_vclock::Clock;
 use std::alloc::{AllocError, Global};
 use std::marker::Model;
 
-/// A site's ledger. Clients see the settings and the operations. The record to undo an operation isn't kept: it is made
-/// anew from the ledger.
+/// A ledger and its undo records, one for each operation. Clients see the settings and the operations.
 pub struct Journal {
     ledger: Ledger,
+    log: UndoLog,
 }
 
 impl Model for Journal {
+    ghost use Rattle.std.specs.Prelude.{◌≡◌};
+    ghost use Rattle.rb_ledger.specs.Records.{records_of};
     ghost use Rattle.rb_site.specs.States.{SeenLedger};
 
     ghost Value = { SeenLedger };
 
     ghost view = { λ j. record { settings = j.ledger.settings; ops = j.ledger.entries } };
+
+    ghost invariant = { λ j. j.log.parts ≡ records_of j.ledger.settings j.ledger.entries };
 }
 
 impl Journal {
-    /// A ledger of the configuration without operations. `Err` means out of memory.
+    /// A ledger of the configuration without operations, and without records. `Err` means out of memory.
     pub fn open(alloc: Global, config: &Config) -> Result<Journal, AllocError>
         ensures { IfOk result (λ journal. journal ≡ record { settings = config.now; ops = [] }) }
     {
         let ledger = Ledger::open(alloc, config)?;
-        Ok(Journal { ledger })
+        Ok(Journal {
+            ledger,
+            log: UndoLog::new(alloc),
+        })
     }
 
     /// The ledger.
@@ -92,15 +99,15 @@ impl Journal {
         }
     }
 
-    /// The undo records, made anew: the k-th is that of the first k operations. `Err` means out of memory.
-    pub fn log(&self, alloc: Global) -> Result<UndoLog, AllocError>
-        ensures { IfOk result (λ log. log.parts ≡ records_of self.now.settings self.now.ops) }
+    /// The undo records: the k-th is that of the first k operations.
+    pub fn log(&self) -> &UndoLog
+        ensures { result.now.parts ≡ records_of self.now.settings self.now.ops }
     {
-        self.ledger.records(alloc)
+        &self.log
     }
 
-    /// Applies a sound shadow whose past was applied. After a refusal, which is that of `Ledger::check`, or else out of
-    /// memory, all is as before.
+    /// Applies a sound shadow whose past was applied, and keeps the record to undo that. After a refusal, which is that
+    /// of `Ledger::check`, or else out of memory, all is as before.
     pub fn apply(&mut self, shadow: &Shadow) -> Result<(), Refusal>
         requires sound { IsSound self.old.settings shadow.now }
         requires eligible { is_eligible self.old.ops shadow.now ≡ true }
@@ -110,17 +117,34 @@ impl Journal {
             × ((refusal_of self.old.settings self.old.ops shadow.now ≡ Some why)
             ⊎ ((why ≡ Refusal.OutOfMemory) × (refusal_of self.old.settings self.old.ops shadow.now ≡ None)))) }
     {
-        self.ledger.apply_ready(shadow)
+        if self.log.reserve(1).is_err() {
+            // Out of memory is the refusal where nothing else refuses the shadow.
+            if let Err(why) = self.ledger.check(shadow) {
+                return Err(why);
+            }
+            return Err(Refusal::OutOfMemory);
+        }
+        match self.ledger.apply_ready(shadow) {
+            Ok(undo) => {
+                self.log.push_reserved(undo);
+                Ok(())
+            }
+            Err(why) => Err(why),
+        }
     }
 
-    /// Applies a shadow that may follow the operations. An `Err` means out of memory, and all is as before.
+    /// Applies a shadow that may follow the operations, and keeps the record to undo that. An `Err` means out of
+    /// memory, and all is as before.
     #[inline(always)]
     pub fn append(&mut self, shadow: &Shadow) -> Result<(), AllocError>
         requires { IsValid self.old.settings (self.old.ops ++ shadow.now ∷ []) }
         ensures ok { OnOk result (self.new ≡ record self.old { ops = self.old.ops ++ shadow.now ∷ [] }) }
         ensures err { OnErr result (self.new ≡ self.old) }
     {
-        self.ledger.append(shadow)
+        self.log.reserve(1)?;
+        let undo = self.ledger.apply_valid(shadow)?;
+        self.log.push_reserved(undo);
+        Ok(())
     }
 
     /// Makes the requests of a batch at the site of the token's view, each after those before it: all of
@@ -153,6 +177,7 @@ impl Journal {
         run_batch(
             alloc,
             &mut self.ledger,
+            &mut self.log,
             token,
             requests,
             before,
@@ -169,12 +194,13 @@ impl Journal {
         balance_at(&self.ledger, place, position)
     }
 
-    /// Gives up the ledger for its operations and their clock.
+    /// Gives up the undo of every operation, and gives the operations and their clock.
     pub fn close(self) -> (OperationList, Clock)
         ensures entries { result.0.items ≡ self.ops }
         ensures clock { result.1 ≡ clock_of self.ops }
     {
-        let Journal { ledger } = self;
+        let Journal { ledger, log } = self;
+        log.close();
         ledger.close()
     }
 }

@@ -1,5 +1,5 @@
 //! What a site's history keeps of its entries.
-ghost use Rattle.std.specs.Prelude.{◌≡◌, Bool, true, false, IfOk};
+ghost use Rattle.std.specs.Prelude.{◌≡◌, Bool, true, false, [], map, IfOk};
 ghost use Rattle.rb_site.specs.Notes.{IsNoted};
 ghost use Rattle.rb_site.specs.declared.entry.Entry.{Entry as TheEntry};
 ghost use Rattle.rb_site.specs.declared.event.Event.{Event as TheEvent};
@@ -32,6 +32,12 @@ pub trait KeepsEntry: Drop {
     fn note(event: Self::Kept, reply: &Reply, noted: Option<Reply>) -> Self
         requires { IsNoted KEEPS reply.now noted }
         ensures { entry result ≡ record { event = kept event; reply = reply.now } };
+
+    /// The history that is reported: the entries in order where they are kept, and none where they aren't. This takes
+    /// no memory.
+    fn reported(alloc: Global, history: Vec<Self>) -> Vec<Entry>
+        ensures kept { KEEPS ≡ true → result.items ≡ map entry history.items }
+        ensures unkept { KEEPS ≡ false → result.items ≡ [] };
 }
 
 impl KeepsEntry for Entry {
@@ -52,6 +58,12 @@ impl KeepsEntry for Entry {
     fn note(event: Event, reply: &Reply, noted: Option<Reply>) -> Entry {
         let reply = reply.again(noted);
         Entry { event, reply }
+    }
+
+    fn reported(_alloc: Global, history: Vec<Entry>) -> Vec<Entry>
+        ensures kept { result.items ≡ map (λ x. x) history.items }
+    {
+        history
     }
 }
 
@@ -84,5 +96,11 @@ impl KeepsEntry for ErasedEntry {
             event,
             reply: Snapshot::of(reply),
         }
+    }
+
+    fn reported(alloc: Global, _history: Vec<ErasedEntry>) -> Vec<Entry>
+        ensures unkept { result.items ≡ [] }
+    {
+        Vec::new(alloc)
     }
 }

@@ -1,5 +1,5 @@
 //! Memory for the lists of a report.
-ghost use Rattle.std.specs.Prelude.{◌≡◌, ◌≤◌, [], true, IfOk, OnOk, length, vec_capacity};
+ghost use Rattle.std.specs.Prelude.{◌≡◌, ◌≤◌, [], true, false, IfOk, OnOk, length, vec_capacity};
 ghost use Rattle.rb_site.specs.Reports.{balances_of, counts_of};
 
 use rb_ledger::Ledger;
@@ -55,14 +55,19 @@ impl Room {
         self.counts.reserve(entries)
     }
 
-    /// The balances, in cents, and the counts of a ledger, for which there is memory.
-    pub fn filled(self, ledger: &Ledger) -> (Vec<u64>, Vec<u32>)
-        requires accounts { length ledger.now.settings.starts ≤ self.accounts }
-        requires entries { length ledger.now.entries ≤ self.entries }
-        ensures balances { result.0.items ≡ balances_of ledger.now.settings ledger.now.entries }
-        ensures counts { result.1.items ≡ counts_of ledger.now.entries }
+    /// The balances, in cents, and the counts of a ledger, for which there is memory; both lists are empty where they
+    /// aren't reported.
+    pub fn filled(self, reports: bool, ledger: &Ledger) -> (Vec<u64>, Vec<u32>)
+        requires accounts { reports ≡ true → length ledger.now.settings.starts ≤ self.accounts }
+        requires entries { reports ≡ true → length ledger.now.entries ≤ self.entries }
+        ensures balances { reports ≡ true → result.0.items ≡ balances_of ledger.now.settings ledger.now.entries }
+        ensures counts { reports ≡ true → result.1.items ≡ counts_of ledger.now.entries }
+        ensures unreported { reports ≡ false → (result.0.items ≡ []) × (result.1.items ≡ []) }
     {
         let Room { balances, counts } = self;
+        if !reports {
+            return (balances, counts);
+        }
         (with_balances(balances, ledger), with_counts(counts, ledger))
     }
 }

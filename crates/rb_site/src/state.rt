@@ -5,12 +5,11 @@ ghost use Rattle.rb_ledger.specs.Records.{records_of};
 ghost use Rattle.rb_shadow.specs.Sound.{IsSound};
 ghost use Rattle.rb_scratch.specs.declared.request.TheConstants.{MOST_REQUESTS};
 ghost use Rattle.rb_site.specs.Events.{first_site, outcome_of, outcome_of_new};
-ghost use Rattle.rb_site.specs.Known.{IsAsKnown};
 ghost use Rattle.rb_site.specs.States.{Follows, Says, noting, plain};
 
 use crate::answer::give;
 use crate::journal::Journal;
-use crate::{Event, Known, Message, Reply};
+use crate::{Event, Message, Reply};
 use rb_inbox::{Inbox, PutAnswer};
 use rb_kit::List;
 use rb_ledger::{Ledger, OperationList};
@@ -92,11 +91,11 @@ impl State {
         self.journal.applied(name)
     }
 
-    /// The undo records, made anew: the k-th is that of the first k operations. `Err` means out of memory.
-    pub fn log(&self) -> Result<UndoLog, AllocError>
-        ensures { IfOk result (λ log. log.parts ≡ records_of self.now.settings self.now.site.ops) }
+    /// The undo records: the k-th is that of the first k operations.
+    pub fn log(&self) -> &UndoLog
+        ensures { result.now.parts ≡ records_of self.now.settings self.now.site.ops }
     {
-        self.journal.log(self.alloc)
+        self.journal.log()
     }
 
     /// What the site holds.
@@ -143,14 +142,12 @@ impl State {
     pub fn act(
         &mut self,
         event: &Event,
-        known: Known,
         keeps: bool,
         sent: &mut Vec<Message>,
         reply: &mut Reply,
         noted: &mut Option<Reply>,
     ) -> Result<(), AllocError>
-        requires noted { noted.old ≡ None }
-        requires known { IsAsKnown self.old.settings self.old.site.ops known event.now }
+        requires { noted.old ≡ None }
         ensures ok { OnOk result (Follows keeps self.old self.new sent.old.items sent.new.items
             (outcome_of self.old.settings self.old.site event.now) (noting reply.new noted.new)) }
         ensures err { OnErr result ((self.new ≡ self.old) × (sent.new.items ≡ sent.old.items)) }
@@ -158,7 +155,7 @@ impl State {
         match event {
             Event::Submit(request) => self.submit(request, sent, reply),
             Event::Batch(requests) => self.batch(requests, keeps, sent, reply, noted),
-            Event::Receive(Message::Shadow(shadow)) => self.receive(shadow, known, reply),
+            Event::Receive(Message::Shadow(shadow)) => self.receive(shadow, reply),
             Event::Receive(Message::Token(message)) => Ok(self.accept(message, reply)),
             Event::Apply(name) => self.apply(name, reply),
             Event::Pass(to) => self.pass(*to, sent, reply),
@@ -226,32 +223,10 @@ impl State {
         Ok(give(reply, Reply::Refused(why)))
     }
 
-    #[inline(always)]
-    #[tactic(auto, unfolding(crate::specs::Events::outcome_of))]
-    /// A shadow from another site is held until it is applied.
-    fn receive(
-        &mut self,
-        shadow: &Shadow,
-        known: Known,
-        reply: &mut Reply,
-    ) -> Result<(), AllocError>
-        requires { IsAsKnown self.old.settings self.old.site.ops known (Event.Receive (Message.Shadow shadow.now)) }
-        ensures ok { OnOk result (Follows true self.old self.new [] []
-            (outcome_of self.old.settings self.old.site (Event.Receive (Message.Shadow shadow.now)))
-            (plain reply.new)) }
-        ensures err { OnErr result (self.new ≡ self.old) }
-    {
-        match known {
-            Known::Nothing => self.receive_any(shadow, reply),
-            Known::Applied => Ok(give(reply, Reply::Already(shadow.name))),
-            Known::New => self.receive_new(shadow, reply),
-        }
-    }
-
     #[inline(never)]
     #[tactic(auto, unfolding(crate::specs::Events::outcome_of))]
-    /// A shadow from another site, of which nothing is known, is held until it is applied.
-    fn receive_any(&mut self, shadow: &Shadow, reply: &mut Reply) -> Result<(), AllocError>
+    /// A shadow from another site is held until it is applied.
+    fn receive(&mut self, shadow: &Shadow, reply: &mut Reply) -> Result<(), AllocError>
         ensures ok { OnOk result (Follows true self.old self.new [] []
             (outcome_of self.old.settings self.old.site (Event.Receive (Message.Shadow shadow.now)))
             (plain reply.new)) }

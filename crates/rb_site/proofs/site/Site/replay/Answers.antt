@@ -1,5 +1,5 @@
 -- One event more.
-use Rattle.std.proofs.Common.{◌≡◌, ◌∙◌, false, Result, Ok, Err, IfOk, is_err, ap, length, refl, sym}
+use Rattle.std.proofs.Common.{◌≡◌, ◌∙◌, false, Result, Ok, Err, OnOk, is_err, ap, length, refl, sym}
 use Rattle.std.proofs.lemmas.Result.{IfOk-from_err}
 use borrow.Author.Count.{falls}
 use Rattle.std.specs.declared.alloc.AllocError.{AllocError}
@@ -8,15 +8,15 @@ use Rattle.rb_site.proofs.Reports.{sites_more, whole}
 use Rattle.rb_site.proofs.site.Site.replay.Goals as goal
 
 -- what holds where a result is Ok holds where it isn't an error
-replayed : {A : Type 0} (r : Result A AllocError) (P : A → Type 0) → is_err r ≡ false → IfOk r P → (a : A) × P a
-replayed (Ok a) P e h = (a, h)
-replayed (Err why) P e h = cc
+answered : {A : Type 0} (r : Result A AllocError) (P : Type 0) → is_err r ≡ false → OnOk r P → P
+answered (Ok a) P e h = h
+answered (Err why) P e h = cc
 
 pub loop-event-preserved : goal.loop-event-preserved
 loop-event-preserved c =
-    let (answer, ok) = replayed c.step.result _ (sym c.is_err.ensures.value ∙ c.if-is_err.false) c.step.ensures.ok in
+    let ok = answered c.answer.result _ (sym c.is_err.ensures.value ∙ c.if-is_err.false) c.answer.ensures.ok in
     sites_more (first_seen c.args.config.now c.args.me) c.args.events.now c.loop-event.event-index c.event-item.result c.loop-event.site
-    c.step.new.self c.loop-event-test.true c.loop-event.invariant (ok.0 ∙ ap (next_site c.loop-event.site) c.event-item.is)
+    c.answer.new.self c.loop-event-test.true c.loop-event.invariant (ok.0 ∙ ap (next_site c.loop-event.site) c.event-item.is)
 
 pub returns-in_err-site : goal.returns-in_err-site
 returns-in_err-site c = IfOk-from_err c.from_residual.result _ c.from_residual.ensures.0

@@ -1,16 +1,14 @@
 -- An event is handled as the model says.
-use Rattle.std.proofs.Common.{◌≡◌, refl, rules, subst}
+use Rattle.std.proofs.Common.{refl}
 use Rattle.std.proofs.lemmas.Result.{on_err_weaker}
-use Rattle.rb_site.specs.declared.event.Event.TheVariants.{Apply, Pass, Receive, Submit}
-use Rattle.rb_site.specs.declared.message.Message.TheVariants.{Shadow as ShadowMessage}
-use Rattle.rb_site.specs.Known.{IsAsKnown}
+use Rattle.rb_site.specs.declared.event.Event.TheVariants.{Apply, Pass, Submit}
 use Rattle.rb_site.proofs.Handlers.{handled, handled_silent}
 use Rattle.rb_site.proofs.state.State.act.Goals as goal
 
 pub returns-in-Submit-clause-ok : goal.returns-in-Submit-clause-ok
 returns-in-Submit-clause-ok c = handled c.args.keeps c.args.self.now c.submit.new.self c.args.sent.now.items c.submit.new.sent.items
     c.args.event.now (Submit c.in-Submit.request) c.submit.result c.submit.new.reply
-    c.args.noted.now c.in-Submit.is c.requires.noted c.submit.ensures.ok
+    c.args.noted.now c.in-Submit.is c.requires c.submit.ensures.ok
 
 pub returns-in-Receive-Shadow-clause-err : goal.returns-in-Receive-Shadow-clause-err
 returns-in-Receive-Shadow-clause-err c = on_err_weaker c.receive.result (λ e. (e, refl)) c.receive.ensures.err
@@ -18,7 +16,7 @@ returns-in-Receive-Shadow-clause-err c = on_err_weaker c.receive.result (λ e. (
 pub returns-in-Apply-clause-ok : goal.returns-in-Apply-clause-ok
 returns-in-Apply-clause-ok c = handled_silent c.args.keeps c.args.self.now c.apply.new.self c.args.sent.now.items
     c.args.event.now (Apply c.in-Apply.name) c.apply.result c.apply.new.reply c.args.noted.now
-    c.in-Apply.is c.requires.noted c.apply.ensures.ok
+    c.in-Apply.is c.requires c.apply.ensures.ok
 
 pub returns-in-Apply-clause-err : goal.returns-in-Apply-clause-err
 returns-in-Apply-clause-err c = on_err_weaker c.apply.result (λ e. (e, refl)) c.apply.ensures.err
@@ -26,9 +24,4 @@ returns-in-Apply-clause-err c = on_err_weaker c.apply.result (λ e. (e, refl)) c
 pub returns-in-Pass-clause-ok : goal.returns-in-Pass-clause-ok
 returns-in-Pass-clause-ok c = handled c.args.keeps c.args.self.now c.pass.new.self c.args.sent.now.items c.pass.new.sent.items
     c.args.event.now (Pass c.in-Pass.to) c.pass.result c.pass.new.reply
-    c.args.noted.now c.in-Pass.is c.requires.noted c.pass.ensures.ok
-
-pub receive-requires : goal.receive-requires
-receive-requires c =
-    let brings : c.args.event.now ≡ Receive (ShadowMessage c.in-Receive-Shadow.shadow) = search rules in
-    subst (IsAsKnown c.args.self.now.settings c.args.self.now.site.ops c.args.known) brings c.requires.known
+    c.args.noted.now c.in-Pass.is c.requires c.pass.ensures.ok

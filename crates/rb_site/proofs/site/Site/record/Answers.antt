@@ -3,9 +3,7 @@ use Rattle.std.proofs.Common.{◌≡◌, ◌∙◌, ◌+◌, ◌≤◌, Bool, tr
 use Rattle.std.specs.Prelude.{map}
 use Rattle.std.proofs.lemmas.List.{map-append}
 use Rattle.rb_scratch.specs.declared.request.TheConstants.{MOST_REQUESTS}
-use Rattle.rb_shadow.specs.declared.shadow.Shadow.{Shadow}
-use Rattle.rb_site.specs.Known.{IsAsKnown}
-use Rattle.rb_site.specs.Events.{ModelSite, is_full, outcome_of, reply_to, sent_at}
+use Rattle.rb_site.specs.Events.{is_full, outcome_of, reply_to, sent_at}
 use Rattle.rb_site.specs.Seen.{SeenSite, entry, next_site, state_of}
 use Rattle.rb_site.specs.declared.answer.Answer.{Answer}
 use Rattle.rb_site.specs.declared.entry.Entry.{Entry}
@@ -13,8 +11,8 @@ use Rattle.rb_site.specs.declared.reply.Reply.{Reply}
 use Rattle.rb_site.specs.Notes.{IsNoted}
 use Rattle.rb_site.specs.Reports.{IsEnough, RoomFor}
 use Rattle.rb_site.specs.States.{IsStanding, Says, SiteState, noting}
-use Rattle.rb_site.proofs.site.Site.answer_known.Given.{Over}
-use Rattle.rb_site.proofs.site.Site.answer_known.Goals as goal
+use Rattle.rb_site.proofs.site.Site.record.Given.{Over}
+use Rattle.rb_site.proofs.site.Site.record.Goals as goal
 use Rattle.rb_site.proofs.Reports.{still_enough}
 use Rattle.rb_site.proofs.States.{IsStep, is_step, me_kept, noted_in, seen_as, seen_now}
 use Rattle.rb_site.proofs.Public.Outcomes.{sends_few}
@@ -50,7 +48,7 @@ the_step : (g : Over) (c : goal.After-push_reserved g) → IsStep (seen_as c.sel
 the_step g c =
     is_step c.KEEPS-2.result _ c.self.inside.state c.act.new.self c.args.sent.now.items c.act.new.sent.items c.args.event.now
     (noting c.act.new.reply c.act.new.noted)
-    (ap (λ (x : SeenSite). is_full x.settings (state_of x)) c.self.view_is ∙ c.requires.room)
+    (ap (λ (x : SeenSite). is_full x.settings (state_of x)) c.self.view_is ∙ c.requires)
     c.self.invariant.0 c.in_ok-act.ensures.ok
 
 the_pushed : (g : Over) (c : goal.After-push_reserved g) → seen_as c.act.new.self.settings c.act.new.self.site.me
@@ -165,9 +163,3 @@ note-requires g c =
 
 pub push_reserved-requires : goal.push_reserved-requires
 push_reserved-requires g c = omega (arith, c.in_ok-reserve_one.ensures.ok, c.in_ok-reserve_one.ensures.len)
-
-pub act-requires-clause-known : goal.act-requires-clause-known
-act-requires-clause-known g c =
-    let P : SeenSite → Type 0 = λ x. IsAsKnown x.settings (state_of x).ops c.args.known c.args.event.now in
-    let Q : List Shadow → Type 0 = λ us. IsAsKnown c.self.inside.state.settings us c.args.known c.args.event.now in
-    subst Q (sym (ap (λ (t : ModelSite). t.ops) c.self.invariant.0.site)) (subst P (sym c.self.view_is) c.requires.known)

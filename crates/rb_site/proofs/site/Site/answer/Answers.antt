@@ -5,7 +5,7 @@ use Rattle.rb_site.specs.declared.reply.Reply.TheVariants.{Refused}
 use Rattle.rb_site.specs.Events.{is_full, outcome_of, reply_of, sent_by}
 use Rattle.rb_site.specs.Seen.{state_of, stepped}
 use Rattle.rb_site.proofs.Errors.{on_err}
-use Rattle.rb_site.proofs.site.Site.step_onto.Goals as goal
+use Rattle.rb_site.proofs.site.Site.answer.Goals as goal
 
 pub returns-then-is_full-clause-ok : goal.returns-then-is_full-clause-ok
 returns-then-is_full-clause-ok g c =
@@ -18,7 +18,7 @@ returns-then-is_full-clause-ok g c =
     )
 
 pub record-requires : goal.record-requires
-record-requires g c = sym c.if-is_full.ensures
+record-requires g c = sym c.is_full.ensures ∙ c.if-is_full.false
 
 pub returns-clause-ok : goal.returns-clause-ok
 returns-clause-ok g c = c.record.ensures.ok
@@ -27,4 +27,4 @@ pub returns-clause-err : goal.returns-clause-err
 returns-clause-err g c = c.record.ensures.err
 
 pub returns-clause-has_room : goal.returns-clause-has_room
-returns-clause-has_room g c = on_err c.record.result _ (sym c.if-is_full.ensures)
+returns-clause-has_room g c = on_err c.record.result _ (sym c.is_full.ensures ∙ c.if-is_full.false)
