@@ -11,7 +11,7 @@ ghost use Rattle.rb_capi.specs.Copies.{Copies};
 
 use crate::bank_handle::BankHandle;
 use crate::copy::copy_from;
-use rb_commands::{LineFault, append_reply, parse_command, read_any_command, read_config};
+use rb_commands::{LineFault, append_reply, read_command, read_config};
 use rb_lines::text_on;
 use rb_site::WorldEvent;
 use rb_world::LeanWorld;
@@ -60,22 +60,6 @@ fn open(alloc: Global, config: &[u8]) -> Result<Bank, LineFault>
 }
 
 impl Bank {
-    /// Gives the bank a command, and keeps the line of its reply. An `Err` means out of memory.
-    #[inline(always)]
-    fn take_command(&mut self, command: &WorldEvent) -> Result<(), LineFault>
-        requires { IsCommand command.now }
-        ensures { MatchResult result (λ _. self.new ≡ next_bank self.old command.now) (λ why. why ≡ OutOfMemory) }
-    {
-        let Ok(reply) = self.world.step(command) else {
-            return Err(LineFault::OutOfMemory);
-        };
-        self.answer.clear();
-        match append_reply(&mut self.answer, &reply) {
-            Ok(()) => Ok(()),
-            Err(_) => Err(LineFault::OutOfMemory),
-        }
-    }
-
     /// Gives the bank the command on a line, and keeps the line of its reply.
     #[tactic(auto, unfolding(rb_run_script::specs::Script::command_on))]
     fn answer_line(&mut self, alloc: Global, line: &[u8]) -> Result<(), LineFault>
@@ -87,12 +71,14 @@ impl Bank {
         let Some(text) = text_on(line) else {
             return Err(LineFault::Bad);
         };
-        match parse_command(alloc, self.world.config(), text, &mut Vec::new(alloc)) {
-            Some((command, site)) => self.take_command(&command.at(site)),
-            None => {
-                let command = read_any_command(alloc, self.world.config(), text)?;
-                self.take_command(&command)
-            }
+        let command = read_command(alloc, self.world.config(), text)?;
+        let Ok(reply) = self.world.step(command) else {
+            return Err(LineFault::OutOfMemory);
+        };
+        self.answer.clear();
+        match append_reply(&mut self.answer, &reply) {
+            Ok(()) => Ok(()),
+            Err(_) => Err(LineFault::OutOfMemory),
         }
     }
 }

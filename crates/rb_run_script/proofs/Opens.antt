@@ -15,7 +15,7 @@ nothing n o = let none : (n - n) + o.count ≡ o.count = omega arith in ap (λ m
 
 -- the line of the configuration opens its world, and asks for no reply
 pub opens : (s s' : Session) (l : List ℕ) (k : Settings) → s.world ≡ None → is_long l ≡ false → is_blank l ≡ false → config_on l ≡ Some k
-    → s' ≡ record { world = Some (opened k); number = s.number + 1; count = s.count }
+    → s' ≡ record { world = Some (opened k); reply = s.reply; number = s.number + 1; count = s.count }
     → AnswersLine (session_state s) (session_state s') l []
 opens s s' l k none short some is e =
     subst (λ x. AnswersLine (session_state s) (session_state x) l []) (sym e) (record {

@@ -1,20 +1,20 @@
 -- The state of a script between two lines, and what one line does.
-use Rattle.std.specs.Prelude.{◌≡◌, ℕ, List, ◌++◌, Option, Some, None, Result, MatchResult, refl}
+use Rattle.std.specs.Prelude.{◌≡◌, ℕ, List, ◌++◌, Option, Some, None, refl}
 use Rattle.std.proofs.Common.{ap}
 use Rattle.rb_lines.proofs.Public.Chosen.{first_chosen}
 use Rattle.rb_lines.specs.Lines.{is_long}
+use Rattle.rb_money.specs.declared.refusal.Refusal.TheVariants.{NoSite}
+use Rattle.rb_site.specs.declared.reply.Reply.TheVariants.{Refused}
 use Rattle.rb_site.specs.declared.world_event.WorldEvent.{WorldEvent}
 use Rattle.rb_world.specs.Laws.{SeenWorld, next_reply, next_world}
 use Rattle.rb_commands.specs.Replies.{line}
-use Rattle.rb_commands.specs.declared.fault.LineFault.{LineFault}
-use Rattle.rb_commands.specs.declared.fault.LineFault.TheVariants.{OutOfMemory}
 use Rattle.rb_run_script.specs.declared.session.Session.{Session}
 use Rattle.rb_lines.specs.Answers.{IsRunState, LinesOutcome, RunState}
 use Rattle.rb_run_script.specs.Script.{commands_from, script_outcome, script_from}
 
 -- the session before the first line
 abbrev pub first_session : Session
-first_session = record { world = None; number = 1; count = 0 }
+first_session = record { world = None; reply = Refused NoSite; number = 1; count = 0 }
 
 -- the outcome of the lines to come, the first of which is line n: before the configuration and after it
 abbrev pub session_rest_from : Option SeenWorld → ℕ → List (List ℕ) → LinesOutcome
@@ -41,13 +41,6 @@ session_is_state s = of s.world s.number s.count
       no_text = refl;
       unfinished = tt;
     }
-
--- the world took this command, and the line of its reply is buffered; or there was no memory, and nothing is buffered
-abbrev pub TakesCommand : {T : Type 0} → Result T LineFault → WorldEvent → SeenWorld → SeenWorld → List ℕ → List ℕ
-    → Type 0
-TakesCommand r command old new buffered buffered' = MatchResult r
-    (λ _. (new ≡ next_world old command) × (buffered' ≡ buffered ++ line (next_reply old command)))
-    (λ why. (why ≡ OutOfMemory) × (buffered' ≡ buffered))
 
 -- there is a command, the world took it, and the line of its reply is buffered
 pub record AnswersCommand (asked : Option WorldEvent) (old new : SeenWorld) (buffered buffered' : List ℕ) : Type 0 where

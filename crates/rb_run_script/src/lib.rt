@@ -2,7 +2,6 @@
 //! Tests: rb_tests_runs, scripts.rt.
 #![tactic(auto)]
 
-mod asked_world;
 mod command;
 mod run;
 mod session;

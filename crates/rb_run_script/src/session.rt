@@ -6,17 +6,19 @@ ghost use Rattle.rb_commands.specs.declared.fault.LineFault.TheVariants.{Bad};
 ghost use Rattle.rb_commands.specs.Configurations.{config_on};
 ghost use Rattle.rb_run_script.specs.Session.{first_session};
 
-use crate::asked_world::AskedWorld;
 use crate::command::answer_command;
 use rb_commands::{LineFault, read_config};
 use rb_lines::{Responder, StreamFault, is_blank, text_on};
+use rb_money::Refusal;
+use rb_site::Reply;
 use rb_world::LeanWorld;
 use std::alloc::Global;
 
-/// The state of a script: the world once there is a configuration, the number of the next line, from 1, and the number
-/// of replies so far.
+/// The state of a script: the world once there is a configuration, the place of its last reply, the number of the next
+/// line, from 1, and the number of replies so far.
 pub struct Session {
-    pub world: Option<AskedWorld>,
+    pub world: Option<LeanWorld>,
+    pub reply: Reply,
     pub number: u64,
     pub count: u64,
 }
@@ -45,13 +47,14 @@ impl Session {
     {
         Session {
             world: None,
+            reply: Reply::Refused(Refusal::NoSite),
             number: 1,
             count: 0,
         }
     }
 
     /// The script goes on with this world. The one before it is ended.
-    fn start(&mut self, world: AskedWorld)
+    fn start(&mut self, world: LeanWorld)
         ensures { self.new ≡ record self.old { world = Some world } }
     {
         if let Some(before) = self.world.replace(world) {
@@ -68,7 +71,7 @@ impl Session {
             (λ why. why ≡ Bad → config_on line.now ≡ None) }
     {
         let world = open_world(alloc, line)?;
-        self.start(AskedWorld::new(alloc, world));
+        self.start(world);
         Ok(())
     }
 
@@ -76,6 +79,7 @@ impl Session {
     pub fn close(self) {
         let Session {
             world,
+            reply: _,
             number: _,
             count: _,
         } = self;
@@ -113,7 +117,7 @@ impl Responder for Session {
             }
             return Ok(());
         };
-        match answer_command(alloc, world, line, buffered) {
+        match answer_command(alloc, world, &mut self.reply, line, buffered) {
             Ok(()) => self.count += 1,
             Err(LineFault::Bad) => return Err(StreamFault::BadLine { line: number }),
             Err(LineFault::OutOfMemory) => return Err(StreamFault::OutOfMemory),

@@ -43,7 +43,7 @@ pub fn bank_after(alloc: Global, events: &[WorldEvent]) -> Result<World, AllocEr
     match world.run(events) {
         Ok(_) => Ok(world),
         Err(_) => {
-            world.end();
+            let _reports = world.close();
             Err(AllocError)
         }
     }

@@ -42,7 +42,7 @@ pub fn deposit_reaches_both(alloc: Global, amount: u64) -> Result<(u64, u64), Al
     ];
     let world = bank_after(alloc, events.as_slice())?;
     let both = (balance(&world, 0, ANN), balance(&world, 1, ANN));
-    world.end();
+    let _reports = world.close();
     Ok(both)
 }
 
@@ -63,14 +63,14 @@ pub fn cancel_gives_back(alloc: Global, amount: u64) -> Result<(u64, u64), Alloc
     let events = [WorldEvent::At(0, Event::Submit(withdrawal))];
     let mut world = bank_after(alloc, events.as_slice())?;
     let taken = balance(&world, 0, ANN);
-    match world.step(&WorldEvent::At(0, Event::Submit(cancellation))) {
+    match world.step(WorldEvent::At(0, Event::Submit(cancellation))) {
         Ok(_) => {
             let given_back = balance(&world, 0, ANN);
-            world.end();
+            let _reports = world.close();
             Ok((taken, given_back))
         }
         Err(error) => {
-            world.end();
+            let _reports = world.close();
             Err(error)
         }
     }
@@ -99,14 +99,14 @@ pub fn batch_is_refused_whole(
         amount: withdrawn,
     })?;
     let mut world = open_bank(alloc)?;
-    match world.step(&WorldEvent::At(0, Event::Batch(List::new(requests)))) {
+    match world.step(WorldEvent::At(0, Event::Batch(List::new(requests)))) {
         Ok(reply) => {
-            let answered = (reply, balance(&world, 0, ANN), world.message_count());
-            world.end();
+            let answered = (reply, balance(&world, 0, ANN), world.messages().len());
+            let _reports = world.close();
             Ok(answered)
         }
         Err(error) => {
-            world.end();
+            let _reports = world.close();
             Err(error)
         }
     }

@@ -1,14 +1,11 @@
 -- All laws, of every run, and of every world that is the run of its events.
-use Rattle.std.proofs.Common.{◌≡◌, ◌≤◌, ℕ, Some, zero, suc, List, [], ◌∷◌, All, take, sym, subst, arith}
+use Rattle.std.proofs.Common.{◌≤◌, ℕ, zero, suc, List, [], ◌∷◌, All, take, sym, subst, arith}
 use Rattle.std.proofs.lemmas.List.Elements.{All-head, All-tail}
 use Rattle.rb_money.specs.Settings.{Settings}
 use Rattle.rb_money.specs.declared.limits.TheConstants.{MOST_SITES}
-use Rattle.rb_shadow.specs.declared.shadow.Shadow.{Shadow}
-use Rattle.rb_site.specs.declared.message.Message.TheVariants.{Shadow as ShadowMessage}
 use Rattle.rb_site.specs.declared.reply.Reply.{Reply}
 use Rattle.rb_site.specs.declared.world_event.WorldEvent.{WorldEvent}
-use Rattle.rb_site.specs.Worlds.{AreOwn, IsCommand, message_at, world_of_run}
-use Rattle.rb_world.specs.Brought.{IsOwnOperation}
+use Rattle.rb_site.specs.Worlds.{AreOwn, IsCommand, world_of_run}
 use Rattle.rb_world.specs.Laws.{Holds, IsRunOf, SeenWorld, next_world, next_worlds}
 use Rattle.rb_world.proofs.CaughtUp
 use Rattle.rb_world.proofs.Good
@@ -48,14 +45,6 @@ pub holds_of_run : (x : SeenWorld) → IsRunOf x → Holds x.settings x.world
 holds_of_run x run =
     subst (Holds x.settings) (sym run.is)
     (holds x.settings x.events (let some : 2 ≤ x.settings.sites = run.some_sites in omega arith) run.few_sites run.own)
-
--- in such a world an operation that was sent is its own
-pub own_of_run : (x : SeenWorld) (k : ℕ) (v : Shadow) → IsRunOf x → message_at x.world.messages k ≡ Some (ShadowMessage v)
-    → IsOwnOperation x.settings x.world v
-own_of_run x k v run sent =
-    Ready.own_operation x.settings x.world k v
-    (subst (Good.IsGood x.settings) (sym run.is)
-    (Good.good_run x.settings x.events (let some : 2 ≤ x.settings.sites = run.some_sites in omega arith) run.few_sites run.own)) sent
 
 -- so far all laws hold
 pub holds_so_far : (start : SeenWorld) (events : List WorldEvent) (k : ℕ) (now : SeenWorld) (replies : List Reply) → IsRunOf start →

@@ -27,7 +27,6 @@ use Rattle.rb_site.specs.Events.{Answers, Applies, Holds, ModelSite, Outcome, Re
 use Rattle.rb_site.specs.Events.{reply_of, reply_to, unless_known}
 use Rattle.rb_site.specs.Worlds.{World, made_in, message_at, reply_at, reply_in}
 use Rattle.rb_world.specs.Laws.{NeverStuck, TrustsItsOwn}
-use Rattle.rb_world.specs.Brought.{IsOwnOperation}
 use Rattle.rb_world.proofs.Steps
 use Rattle.rb_world.proofs.Order
 use Rattle.rb_world.proofs.Good.{IsGood, IsInOrder, sound_in}
@@ -231,15 +230,3 @@ trusts_its_own s w g i k = by_site (slice_get w.sites i) refl
     by_site : (o : Option ModelSite) → slice_get w.sites i ≡ o → Trusts (reply_at s o (option_map Receive (message_at w.messages k)))
     by_site None h = (λ e. cc, λ why e. cc)
     by_site (Some t) h = by_message t h (message_at w.messages k) refl
-
--- ---- an operation of the world
-
--- an operation that was sent is one of the good world's own
-pub own_operation : (s : Settings) (w : World) (k : ℕ) (v : Shadow) → IsGood s w → message_at w.messages k ≡ Some (ShadowMessage v)
-    → IsOwnOperation s w v
-own_operation s w k v g sent =
-    let made : Among v (made_in w) = Steps.sent_message w.messages k (ShadowMessage v) sent in
-    record {
-      sound = sound_in s w v g made;
-      applied = λ i t at u e. found_is (made_in w) t.ops u v g.order.unique (g.sites i t at).part made e;
-    }

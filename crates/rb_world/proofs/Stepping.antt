@@ -3,14 +3,14 @@ use Rattle.std.proofs.Common.{◌≡◌, ℕ, ◌+◌, ◌<◌, All, length, tak
 use Rattle.std.proofs.Common.{◌≤◌, Bor, IfSome, OnErr, OnOk, arith, ap, is_err, sym, subst, ◌∙◌}
 use Rattle.std.proofs.Common.{Option, Some, None, Result, Ok, Err}
 use Rattle.std.specs.declared.alloc.AllocError.{AllocError}
-use Rattle.std.specs.Prelude.{map, option_map, IsSomeAnd, slice_get, slice_set, is_some}
+use Rattle.std.specs.Prelude.{map, option_map, slice_get, slice_set, is_some}
 use Rattle.std.proofs.lemmas.List.Elements.{All-cons, All-nil, All-set}
-use Rattle.std.proofs.lemmas.List.{map-set, take_more}
-use Rattle.std.proofs.lemmas.Option.{slice_get-map, slice_get_past, slice_get_read, slice_get_within, get_or_from_slice_get}
+use Rattle.std.proofs.lemmas.List.{length-map, map-set, take_more}
+use Rattle.std.proofs.lemmas.Option.{slice_get-map, slice_get_past, slice_get_read}
 use Rattle.std.specs.Slice.{IsGetResult}
 use Rattle.rb_money.specs.Settings.{Settings}
 use Rattle.rb_money.specs.declared.limits.TheConstants.{MOST_SITES}
-use Rattle.rb_money.specs.declared.refusal.Refusal.TheVariants.{HistoryFull, NoMessage, NoSite}
+use Rattle.rb_money.specs.declared.refusal.Refusal.TheVariants.{HistoryFull}
 use Rattle.rb_site.specs.declared.event.Event.{Event}
 use Rattle.rb_site.specs.declared.event.Event.TheVariants.{Receive}
 use Rattle.rb_site.specs.declared.message.Message.{Message}
@@ -18,8 +18,6 @@ use Rattle.rb_site.specs.declared.reply.Reply.{Reply}
 use Rattle.rb_site.specs.declared.reply.Reply.TheVariants.{Refused}
 use Rattle.rb_site.specs.declared.world_event.WorldEvent.{WorldEvent}
 use Rattle.rb_site.specs.declared.world_event.WorldEvent.TheVariants.{At, Deliver}
-use Rattle.rb_site.specs.Known.{IsAsKnown}
-use Rattle.rb_site.specs.declared.known.Known.{Known}
 use Rattle.rb_site.specs.Events.{ModelSite, after_event, is_full, outcome_of, reply_of, reply_to, sent_at}
 use Rattle.rb_site.specs.Histories.{site_of}
 use Rattle.rb_site.specs.Seen.{SeenSite, next_site, state_of}
@@ -27,7 +25,6 @@ use Rattle.rb_site.specs.Worlds.{AreOwn, IsCommand, World, arrival, first_world,
 use Rattle.rb_site.specs.Worlds.{reply_in, world_after, world_at}
 use Rattle.rb_site.proofs.Public.Runs
 use Rattle.rb_site.proofs.Public.Seen
-use Rattle.rb_world.specs.Brought.{brought_by}
 use Rattle.rb_world.specs.Laws.{IsRunOf, SeenWorld, next_replies, next_reply, next_world, next_worlds, opened}
 
 -- ---- an event and the site that it is for
@@ -90,90 +87,10 @@ full_step w ev e t arrived at full =
       still w ev (here.recorded ∙ ap not full),
     )
 
--- the event of the world by which something arrives at a site is for that site
-pub site_brought : (i : ℕ) (e : Event) (d : Option ℕ) → i ≡ site_of (brought_by i e d)
-site_brought i e None = refl
-site_brought i e (Some k) = refl
-
--- at a site that is there, and whose history is full or isn't: where it is, nothing happens
-pub full_at : (w : SeenWorld) (ev : WorldEvent) (e : Event) (i : ℕ) (full : Bool) → i ≡ site_of ev → arrival w.world.messages ev ≡ Some e
-    → IsSomeAnd (slice_get w.world.sites i) (λ t. is_full w.settings t ≡ full) → full ≡ true
-    → (Refused HistoryFull ≡ next_reply w ev) × (w ≡ next_world w ev)
-full_at w ev e i full place arrived is filled = by (slice_get w.world.sites i) refl is
-  where
-    by : (o : Option ModelSite) → slice_get w.world.sites i ≡ o → IsSomeAnd o (λ t. is_full w.settings t ≡ full)
-        → (Refused HistoryFull ≡ next_reply w ev) × (w ≡ next_world w ev)
-    by None q h = absurd h
-    by (Some t) q h = full_step w ev e t arrived (ap (slice_get w.world.sites) (sym place) ∙ q) (h ∙ filled)
-
--- where there is no site of its number, an event is refused, and nothing happens
-pub no_site : (w : SeenWorld) (ev : WorldEvent) (i : ℕ) → i ≡ site_of ev → None ≡ slice_get w.world.sites i
-    → (Refused NoSite ≡ next_reply w ev) × (w ≡ next_world w ev)
-no_site w (At j e) i place none =
-    let at : slice_get w.world.sites j ≡ None = ap (slice_get w.world.sites) (sym place) ∙ sym none in (
-      sym (ap (λ o. reply_at w.settings o (Some e)) at),
-      still w (At j e) (ap (is_recorded_at w.settings) at),
-    )
-no_site w (Deliver j k) i place none =
-    let m : Option Message = message_at w.world.messages k in
-    let at : slice_get w.world.sites j ≡ None = ap (slice_get w.world.sites) (sym place) ∙ sym none in (
-      sym (ap (λ o. reply_at w.settings o (option_map Receive m)) at),
-      still w (Deliver j k) (ap (λ o. is_recorded_at w.settings o && is_some m) at),
-    )
-
-and_false : (b : Bool) → (b && false) ≡ false
-and_false true = refl
-and_false false = refl
-
--- where there is no message of its number, a delivery is refused, and nothing happens
-pub no_message : (w : SeenWorld) (i k : ℕ) (t : ModelSite) → Some t ≡ slice_get w.world.sites i → None ≡ message_at w.world.messages k
-    → (Refused NoMessage ≡ next_reply w (Deliver i k)) × (w ≡ next_world w (Deliver i k))
-no_message w i k t at none =
-    let m : Option Message = message_at w.world.messages k in (
-      ap (λ o. reply_at w.settings (Some t) (option_map Receive o)) none ∙ ap (λ o. reply_at w.settings o (option_map Receive m)) at,
-      still w (Deliver i k) (ap (λ o. is_recorded_at w.settings o && is_some m) (sym at)
-          ∙ ap (λ o. is_recorded_at w.settings (Some t) && is_some o) (sym none) ∙ and_false (not (is_full w.settings t))),
-    )
-
--- the same at a site that is there by what is known of it
-pub no_message_there : (w : SeenWorld) (i k : ℕ) (P : ModelSite → Type 0) → IsSomeAnd (slice_get w.world.sites i) P
-    → None ≡ message_at w.world.messages k
-    → (Refused NoMessage ≡ next_reply w (Deliver i k)) × (w ≡ next_world w (Deliver i k))
-no_message_there w i k P there none = by (slice_get w.world.sites i) refl there
-  where
-    by : (o : Option ModelSite) → slice_get w.world.sites i ≡ o → IsSomeAnd o P
-        → (Refused NoMessage ≡ next_reply w (Deliver i k)) × (w ≡ next_world w (Deliver i k))
-    by None q h = absurd h
-    by (Some t) q h = no_message w i k t (sym q) none
-
--- at a site that is there, and whose history isn't full, an event that arrives is recorded
-pub recorded_at : (w : SeenWorld) (ev : WorldEvent) (e : Event) (i : ℕ) (full : Bool) → i ≡ site_of ev
-    → arrival w.world.messages ev ≡ Some e → IsSomeAnd (slice_get w.world.sites i) (λ t. is_full w.settings t ≡ full) → full ≡ false
-    → is_recorded w.settings w.world ev ≡ true
-recorded_at w ev e i full place arrived is free = by (slice_get w.world.sites i) refl is
-  where
-    by : (o : Option ModelSite) → slice_get w.world.sites i ≡ o → IsSomeAnd o (λ t. is_full w.settings t ≡ full)
-        → is_recorded w.settings w.world ev ≡ true
-    by None q h = absurd h
-    by (Some t) q h =
-        (arrives w.settings w.world ev e t arrived (ap (slice_get w.world.sites) (sym place) ∙ q)).recorded ∙ ap not (h ∙ free)
-
--- what follows from what holds at an error holds there too
-pub at_error : {A : Type 0} (r : Result A AllocError) (P Q : Type 0) → (P → Q) → OnErr r P → OnErr r Q
-at_error (Ok a) P Q h p = tt
-at_error (Err why) P Q h p = h p
-
 -- what holds, holds at an error
 pub on_error : {A : Type 0} (r : Result A AllocError) (P : Type 0) → P → OnErr r P
 on_error (Ok a) P p = tt
 on_error (Err why) P p = p
-
--- what an answer says of an event, it says of the same event
-pub said_of : {A : Type 0} (r : Result A AllocError) (reply : Reply) (old new : SeenWorld) (d e : WorldEvent) → d ≡ e
-    → OnOk r ((reply ≡ next_reply old d) × (new ≡ next_world old d))
-    → OnOk r ((reply ≡ next_reply old e) × (new ≡ next_world old e))
-said_of r reply old new d e same h =
-    let P : WorldEvent → Type 0 = λ x. OnOk r ((reply ≡ next_reply old x) × (new ≡ next_world old x)) in subst P same h
 
 -- ---- a step that a site records
 
@@ -266,42 +183,18 @@ pub settings_kept : (s : Settings) (xs : List SeenSite) (i : ℕ) (x : SeenSite)
     AreOf s (slice_set xs i (next_site x e))
 settings_kept s xs i x e here all = All-set (λ (y : SeenSite). y.settings ≡ s) xs i (next_site x e) (Seen.settings-next x e ∙ here) all
 
--- the site at a place, where its history isn't full
-pub taken_at : (s : Settings) (xs : List SeenSite) (ms : List Message) (ev : WorldEvent) (e : Event) (i : ℕ) (x : SeenSite) → i ≡ site_of ev
-    → arrival ms ev ≡ Some e → IsSomeAnd (slice_get (map state_of xs) i) (λ t. is_full s t ≡ false)
-    → AreOf s xs → x ≡ get_or xs i x → IsTaken s xs ms ev e x
-taken_at s xs ms ev e i x place arrived room all same = by (slice_get xs i) refl (let P : Option ModelSite →
-    Type 0 = λ o. IsSomeAnd o (λ t. is_full s t ≡ false) in subst P (slice_get-map state_of xs i) room)
-  where
-    by : (o : Option SeenSite) → slice_get xs i ≡ o → IsSomeAnd (option_map state_of o) (λ t. is_full s t ≡ false) → IsTaken s xs ms ev e x
-    by None q h = absurd h
-    by (Some y) q h =
-        let here : x ≡ y = same ∙ get_or_from_slice_get xs i y x q in
-        record {
-          arrived = arrived;
-          at = ap (slice_get xs) (sym place) ∙ q ∙ ap Some (sym here);
-          settings = ap (λ (z : SeenSite). z.settings) same ∙ all i x (slice_get_within xs i y q);
-          room = let P : SeenSite → Type 0 = λ z. is_full s (state_of z) ≡ false in subst P (sym here) h;
-        }
+-- there are as many sites as their states
+pub site_there : (xs : List SeenSite) (ts : List ModelSite) (i : ℕ) → map state_of xs ≡ ts → i < length ts → i < length xs
+site_there xs ts i same below =
+    subst (λ n. i < n) (length-map xs state_of) (let P : List ModelSite → Type 0 = λ us. i < length us in subst P (sym same) below)
 
--- what is known of an event at the site at a place
-pub known_at : (s : Settings) (xs : List SeenSite) (i : ℕ) (known : Known) (e : Event) (x : SeenSite) → x.settings ≡ s
-    → slice_get xs i ≡ Some x → IsSomeAnd (slice_get (map state_of xs) i) (λ t. IsAsKnown s t.ops known e)
-    → IsAsKnown x.settings (state_of x).ops known e
-known_at s xs i known e x same at there =
-    let P : Option ModelSite → Type 0 = λ o. IsSomeAnd o (λ t. IsAsKnown s t.ops known e) in
-    let Q : Settings → Type 0 = λ z. IsAsKnown z (state_of x).ops known e in
-    subst Q (sym same) (subst P (slice_get-map state_of xs i ∙ ap (option_map state_of) at) there)
-
--- a place that has a site is below their number
-pub site_there : (s : Settings) (xs : List SeenSite) (i : ℕ) → IsSomeAnd (slice_get (map state_of xs) i) (λ t. is_full s t ≡ false)
-    → i < length xs
-site_there s xs i h = by (slice_get xs i) refl (let P : Option ModelSite → Type 0 = λ o. IsSomeAnd o (λ t. is_full s t ≡ false) in
-    subst P (slice_get-map state_of xs i) h)
-  where
-    by : (o : Option SeenSite) → slice_get xs i ≡ o → IsSomeAnd (option_map state_of o) (λ t. is_full s t ≡ false) → i < length xs
-    by None q k = absurd k
-    by (Some x) q k = slice_get_within xs i x q
+-- the site at a place
+pub site_at : (s : Settings) (xs : List SeenSite) (i : ℕ) (x : SeenSite) → i < length xs → AreOf s xs → x ≡ get_or xs i x
+    → (slice_get xs i ≡ Some x) × (x.settings ≡ s)
+site_at s xs i x below all same = (
+  slice_get_read xs (length xs) i x refl below same,
+  ap (λ (y : SeenSite). y.settings) same ∙ all i x below,
+)
 
 -- ---- a site that is read
 

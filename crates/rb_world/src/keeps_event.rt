@@ -1,9 +1,8 @@
 //! What a world keeps of the events that its sites recorded.
 ghost use Rattle.std.specs.Prelude.{◌≡◌, IfOk};
 ghost use Rattle.rb_site.specs.declared.world_event.WorldEvent.{WorldEvent as TheEvent};
-ghost use Rattle.rb_world.specs.Brought.{brought_by};
 
-use rb_site::{Event, WorldEvent};
+use rb_site::WorldEvent;
 use std::alloc::{AllocError, Global};
 use std::snapshot::Snapshot;
 
@@ -12,58 +11,32 @@ pub trait KeepsEvent: Drop {
     // The event that was noted.
     ghost noted: { Self → TheEvent };
 
-    /// Notes the event that brings a site what arrives there: the delivery of the message of that number, or an event
-    /// of the site's own. `Err` means out of memory.
-    fn note(
-        alloc: Global,
-        site: u8,
-        arrived: &Event,
-        delivered: Option<u32>,
-    ) -> Result<Self, AllocError>
-        ensures { IfOk result (λ note. noted note ≡ brought_by site arrived.now delivered) };
+    /// Notes the event. `Err` means out of memory.
+    fn note(alloc: Global, event: &WorldEvent) -> Result<Self, AllocError>
+        ensures { IfOk result (λ note. noted note ≡ event.now) };
 }
 
 impl KeepsEvent for WorldEvent {
     ghost noted = { λ e. e };
 
-    fn note(
-        alloc: Global,
-        site: u8,
-        arrived: &Event,
-        delivered: Option<u32>,
-    ) -> Result<WorldEvent, AllocError> {
-        match delivered {
-            Some(number) => Ok(WorldEvent::Deliver(site, number)),
-            None => {
-                let event = arrived.try_copy(alloc)?;
-                Ok(WorldEvent::At(site, event))
-            }
-        }
+    fn note(alloc: Global, event: &WorldEvent) -> Result<WorldEvent, AllocError> {
+        event.try_copy(alloc)
     }
 }
 
 /// An event that isn't kept. Only proofs read it.
 #[derive(Drop)]
 pub struct ErasedEvent {
-    site: Snapshot<u8>,
-    arrived: Snapshot<Event>,
-    delivered: Snapshot<Option<u32>>,
+    event: Snapshot<WorldEvent>,
 }
 
 impl KeepsEvent for ErasedEvent {
-    ghost noted = { λ e. brought_by e.site.value e.arrived.value e.delivered.value };
+    ghost noted = { λ e. e.event.value };
 
     #[inline(always)]
-    fn note(
-        _alloc: Global,
-        site: u8,
-        arrived: &Event,
-        delivered: Option<u32>,
-    ) -> Result<ErasedEvent, AllocError> {
+    fn note(_alloc: Global, event: &WorldEvent) -> Result<ErasedEvent, AllocError> {
         Ok(ErasedEvent {
-            site: Snapshot::of(&site),
-            arrived: Snapshot::of(arrived),
-            delivered: Snapshot::of(&delivered),
+            event: Snapshot::of(event),
         })
     }
 }

@@ -1,69 +1,52 @@
 //! The sites of a bank, together.
-ghost use Rattle.std.specs.Prelude.{◌≡◌, ◌≤◌, Some, IsSomeAnd, IfSome, IfOk, IfErr, OnErr, OnOk, All};
-ghost use Rattle.std.specs.Prelude.{is_some, length, true, false, map, option_map, slice_get, take};
-ghost use Rattle.std.specs.Prelude.{vec_capacity};
+ghost use Rattle.std.specs.Prelude.{◌≡◌, ◌<◌, ◌≤◌, Some, IfSome, IfOk, IfErr, OnErr, OnOk, All};
+ghost use Rattle.std.specs.Prelude.{length, true, map, option_map, slice_get, take};
 ghost use Rattle.std.specs.List.{range_with_len};
-ghost use Rattle.rb_site.specs.Events.{first_site, is_full};
+ghost use Rattle.rb_site.specs.Events.{first_site};
 ghost use Rattle.rb_site.specs.Reports.{AreReports};
 ghost use Rattle.rb_site.specs.Seen.{state_of};
 ghost use Rattle.rb_site.specs.Histories.{site_of};
-ghost use Rattle.rb_site.specs.declared.message.Message.{Message as TheMessage};
-ghost use Rattle.rb_site.specs.declared.world_event.WorldEvent.{WorldEvent as TheEvent};
 ghost use Rattle.rb_site.specs.Worlds.{IsCommand, arrival, is_recorded, message_at};
-ghost use Rattle.rb_site.specs.Known.{IsAsKnown};
-ghost use Rattle.rb_world.specs.Brought.{IsOwnOperation, brought_by};
 ghost use Rattle.rb_world.specs.Laws.{Holds, IsRunOf, next_replies, next_reply, next_world, next_worlds, opened};
 
-use crate::sent::{Sent, kept_message, kept_operation};
 use crate::{KeepsEvent, Stopped};
 use rb_kit::reserve_one;
-use rb_ledger::OperationRef;
 use rb_money::{Config, Refusal};
-use rb_site::{Entry, Event, KeepsEntry, Known, Message, Reply, Site, SiteReport, WorldEvent};
+use rb_site::{Entry, Event, KeepsEntry, Message, Reply, Site, SiteReport, WorldEvent};
 use std::alloc::{AllocError, Global};
 use std::marker::Model;
 
-/// One site for each site number, where every message that was ever sent is kept, and the events that the sites
-/// recorded. It is always the run of its events. It can't be dropped: it is closed or ended. `E` is what
-/// the sites keep of each entry, and `R` is what the world keeps of each event.
+/// One site for each site number, every message that was ever sent, in order, and the events that the sites
+/// recorded. Sites share nothing else. A world is always the run of its events. It can't be dropped: it is closed.
+/// `E` is what the sites keep of each entry, and `R` is what the world keeps of each event.
 pub struct World<E: KeepsEntry = Entry, R: KeepsEvent = WorldEvent> {
     alloc: Global,
     config: Config,
     sites: Vec<Site<E>>,
-    sent: Sent,
-    recorded: Vec<R>,
+    messages: Vec<Message>,
+    events: Vec<R>,
     reports: Vec<SiteReport>,
 }
 
 impl<E: KeepsEntry, R: KeepsEvent> Model for World<E, R> {
-    ghost use Rattle.std.specs.Prelude.{◌≡◌, ◌≤◌, [], true, All, length, map, vec_capacity};
+    ghost use Rattle.std.specs.Prelude.{◌≡◌, ◌≤◌, [], All, length, map, vec_capacity};
     ghost use Rattle.rb_site.specs.Seen.{SeenSite, state_of};
     ghost use Rattle.rb_world.specs.Laws.{SeenWorld, IsRunOf};
-    ghost use Rattle.rb_world.specs.Sent.{AreKept, CanNote, kept_messages};
 
     ghost Value = { SeenWorld };
 
     ghost view = { λ w. record {
       settings = w.config;
-      world = record {
-        sites = map state_of w.sites.items;
-        messages = kept_messages (map state_of w.sites.items) w.sent.tokens.items w.sent.places.items;
-      };
-      events = map R.noted w.recorded.items;
+      world = record { sites = map state_of w.sites.items; messages = w.messages.items };
+      events = map R.noted w.events.items;
     } };
 
     ghost invariant = { λ w. IsRunOf (record {
       settings = w.config;
-      world = record {
-        sites = map state_of w.sites.items;
-        messages = kept_messages (map state_of w.sites.items) w.sent.tokens.items w.sent.places.items;
-      };
-      events = map R.noted w.recorded.items;
+      world = record { sites = map state_of w.sites.items; messages = w.messages.items };
+      events = map R.noted w.events.items;
     })
         × All (λ (x : SeenSite). x.settings ≡ w.config) w.sites.items
-        × AreKept (map state_of w.sites.items) w.sent.tokens.items w.sent.places.items
-        × (w.sent.posted.items ≡ [])
-        × (w.sent.ready ≡ true → CanNote w.sent)
         × (w.reports.items ≡ [])
         × (length w.sites.items ≤ vec_capacity w.reports) };
 }
@@ -93,8 +76,9 @@ impl World {
             return Err(Stopped { answered: 0 });
         }
         for (answered, event) in events.iter().enumerate() {
-            match self.step(event) {
-                Ok(reply) => replies.push_reserved(reply),
+            let mut reply = Reply::Refused(Refusal::NoSite);
+            match self.answer(event, &mut reply) {
+                Ok(()) => replies.push_reserved(reply),
                 Err(_) => return Err(Stopped { answered }),
             }
         }
@@ -106,7 +90,7 @@ impl World {
         ensures same { result.now ≡ self.now.events }
         ensures run { IsRunOf self.now }
     {
-        self.recorded.as_slice()
+        self.events.as_slice()
     }
 
     /// Ends the world: each site in turn reports its state. This takes no memory.
@@ -117,8 +101,8 @@ impl World {
             alloc: _,
             config: _,
             mut sites,
-            sent: _,
-            recorded: _,
+            messages: _,
+            events: _,
             mut reports,
         } = self;
         'sites: while let Some(site) = sites.pop() {
@@ -143,28 +127,28 @@ impl<E: KeepsEntry, R: KeepsEvent> World<E, R> {
             alloc,
             config,
             sites,
-            sent: Sent::new(alloc),
-            recorded: Vec::new(alloc),
+            messages: Vec::new(alloc),
+            events: Vec::new(alloc),
             reports,
         })
     }
 
     /// One event, and its reply. It is listed where a site recorded it. `Err` means out of memory, and comes
     /// only for an event that a site would record: the world is then as before.
-    pub fn step(&mut self, event: &WorldEvent) -> Result<Reply, AllocError>
-        requires { IsCommand event.now }
-        ensures ok { IfOk result (λ reply. (reply ≡ next_reply self.old event.now)
-            × (self.new ≡ next_world self.old event.now)) }
+    pub fn step(&mut self, event: WorldEvent) -> Result<Reply, AllocError>
+        requires { IsCommand event }
+        ensures ok { IfOk result (λ reply. (reply ≡ next_reply self.old event)
+            × (self.new ≡ next_world self.old event)) }
         ensures err { OnErr result (self.new ≡ self.old) }
-        ensures recordable { OnErr result (is_recorded self.old.settings self.old.world event.now ≡ true) }
+        ensures recordable { OnErr result (is_recorded self.old.settings self.old.world event ≡ true) }
     {
         let mut reply = Reply::Refused(Refusal::NoSite);
-        self.answer(event, &mut reply)?;
+        self.answer(&event, &mut reply)?;
         Ok(reply)
     }
 
-    /// The same as `step`, but that the reply is put in the place of another. After an `Err` that place may have any
-    /// reply.
+    /// The same as `step`, but that the event is read, and the reply is put in the place of another. After an `Err` that
+    /// place may have any reply.
     #[inline(always)]
     pub fn answer(&mut self, event: &WorldEvent, reply: &mut Reply) -> Result<(), AllocError>
         requires { IsCommand event.now }
@@ -173,146 +157,48 @@ impl<E: KeepsEntry, R: KeepsEvent> World<E, R> {
         ensures err { OnErr result (self.new ≡ self.old) }
         ensures recordable { OnErr result (is_recorded self.old.settings self.old.world event.now ≡ true) }
     {
-        let number = event.site();
-        let Some(site) = self.site(number) else {
+        if self.site(event.site()).is_none() {
             *reply = Reply::Refused(Refusal::NoSite);
             return Ok(());
-        };
-        let full = site.is_full();
+        }
         match event {
-            WorldEvent::At(_, event) => {
-                self.take(number, full, event, Known::Nothing, None, reply)
-            }
-            WorldEvent::Deliver(_, sent) => self.deliver(number, full, *sent, reply),
+            WorldEvent::At(_, arrived) => self.arrive(event, arrived, reply),
+            WorldEvent::Deliver(_, number) => match self.message(*number) {
+                Some(message) => self.arrive(event, &Event::Receive(message), reply),
+                None => {
+                    *reply = Reply::Refused(Refusal::NoMessage);
+                    Ok(())
+                }
+            },
         }
     }
 
-    /// A site takes the message of a number, if there is one, unless its history is full.
-    #[inline(never)]
-    fn deliver(
-        &mut self,
-        site: u8,
-        full: bool,
-        number: u32,
-        reply: &mut Reply,
-    ) -> Result<(), AllocError>
-        requires full { IsSomeAnd (slice_get self.old.world.sites site)
-            (λ site. is_full self.old.settings site ≡ full) }
-        ensures ok { OnOk result ((reply.new ≡ next_reply self.old (TheEvent.Deliver site number))
-            × (self.new ≡ next_world self.old (TheEvent.Deliver site number))) }
-        ensures err { OnErr result (self.new ≡ self.old) }
-        ensures recordable { OnErr result (is_recorded self.old.settings self.old.world (TheEvent.Deliver site number)
-            ≡ true) }
-    {
-        let Some(operation) = self.operation(number) else {
-            return self.deliver_any(site, full, number, reply);
-        };
-        let Some(here) = self.site(site) else {
-            unreachable!()
-        };
-        // Each case makes the event for itself: where no entries are kept, one that is applied is answered by its name
-        // alone, so the compiler can leave that copy out.
-        if here.applied(&operation.name()).is_some() {
-            let arrived = Event::Receive(Message::Shadow(operation.shadow()));
-            return self.take(site, full, &arrived, Known::Applied, Some(number), reply);
-        }
-        let arrived = Event::Receive(Message::Shadow(operation.shadow()));
-        self.take(site, full, &arrived, Known::New, Some(number), reply)
-    }
-
-    /// A site takes the message of a number, if there is one, whatever it is, unless its history is full.
-    #[inline(never)]
-    fn deliver_any(
-        &mut self,
-        site: u8,
-        full: bool,
-        number: u32,
-        reply: &mut Reply,
-    ) -> Result<(), AllocError>
-        requires full { IsSomeAnd (slice_get self.old.world.sites site)
-            (λ site. is_full self.old.settings site ≡ full) }
-        ensures ok { OnOk result ((reply.new ≡ next_reply self.old (TheEvent.Deliver site number))
-            × (self.new ≡ next_world self.old (TheEvent.Deliver site number))) }
-        ensures err { OnErr result (self.new ≡ self.old) }
-        ensures recordable { OnErr result (is_recorded self.old.settings self.old.world (TheEvent.Deliver site number)
-            ≡ true) }
-    {
-        match self.message(number) {
-            Some(message) => {
-                self.take(
-                    site,
-                    full,
-                    &Event::Receive(message),
-                    Known::Nothing,
-                    Some(number),
-                    reply,
-                )
-            }
-            None => {
-                *reply = Reply::Refused(Refusal::NoMessage);
-                Ok(())
-            }
-        }
-    }
-
-    /// What arrives at a site, by an event of its own or by the delivery of the message of that number, is taken,
-    /// unless its history is full.
+    /// What an event brings to its site arrives there: unless the site's history is full, the site takes a step, and the
+    /// event is listed.
     #[inline(always)]
-    fn take(
+    fn arrive(
         &mut self,
-        site: u8,
-        full: bool,
+        event: &WorldEvent,
         arrived: &Event,
-        known: Known,
-        delivered: Option<u32>,
         reply: &mut Reply,
     ) -> Result<(), AllocError>
-        requires command { IsCommand (brought_by site arrived.now delivered) }
-        requires full { IsSomeAnd (slice_get self.old.world.sites site)
-            (λ site. is_full self.old.settings site ≡ full) }
-        requires arrived { arrival self.old.world.messages (brought_by site arrived.now delivered) ≡ Some arrived.now }
-        requires known { IsSomeAnd (slice_get self.old.world.sites site)
-            (λ site. IsAsKnown self.old.settings site.ops known arrived.now) }
-        ensures ok { OnOk result ((reply.new ≡ next_reply self.old (brought_by site arrived.now delivered))
-            × (self.new ≡ next_world self.old (brought_by site arrived.now delivered))) }
+        requires command { IsCommand event.now }
+        requires site { site_of event.now < length self.old.world.sites }
+        requires arrived { arrival self.old.world.messages event.now ≡ Some arrived.now }
+        ensures ok { OnOk result ((reply.new ≡ next_reply self.old event.now)
+            × (self.new ≡ next_world self.old event.now)) }
         ensures err { OnErr result (self.new ≡ self.old) }
-        ensures recordable { OnErr result (full ≡ false) }
+        ensures recordable { OnErr result (is_recorded self.old.settings self.old.world event.now ≡ true) }
     {
-        if full {
+        let site = event.site() as usize;
+        if self.sites[site].is_full() {
             *reply = Reply::Refused(Refusal::HistoryFull);
             return Ok(());
         }
-        let noted = R::note(self.alloc, site, arrived, delivered)?;
-        self.record(site, arrived, known, noted, reply)
-    }
-
-    /// A site takes an event for which its history has spare capacity.
-    #[inline(always)]
-    fn record(
-        &mut self,
-        site: u8,
-        arrived: &Event,
-        known: Known,
-        noted: R,
-        reply: &mut Reply,
-    ) -> Result<(), AllocError>
-        requires command { IsCommand (R.noted noted) }
-        requires site { site ≡ site_of (R.noted noted) }
-        requires arrived { arrival self.old.world.messages (R.noted noted) ≡ Some arrived.now }
-        requires known { IsSomeAnd (slice_get self.old.world.sites site)
-            (λ site. IsAsKnown self.old.settings site.ops known arrived.now) }
-        requires room { IsSomeAnd (slice_get self.old.world.sites site) (λ site. is_full self.old.settings site
-            ≡ false) }
-        ensures ok { OnOk result ((reply.new ≡ next_reply self.old (R.noted noted))
-            × (self.new ≡ next_world self.old (R.noted noted))) }
-        ensures err { OnErr result (self.new ≡ self.old) }
-    {
-        reserve_one(&mut self.recorded)?;
-        self.sent.make_ready()?;
-        let applied = self.sites[site as usize].ledger().len();
-        self.sites[site as usize].answer_known(arrived, known, &mut self.sent.posted, reply)?;
-        self.sent.note(site, applied);
-        self.recorded.push_reserved(noted);
+        reserve_one(&mut self.events)?;
+        let noted = R::note(self.alloc, event)?;
+        self.sites[site].answer(arrived, &mut self.messages, reply)?;
+        self.events.push_reserved(noted);
         Ok(())
     }
 
@@ -331,42 +217,23 @@ impl<E: KeepsEntry, R: KeepsEvent> World<E, R> {
         self.sites.get(site as usize)
     }
 
-    /// How many messages were ever sent.
-    pub fn message_count(&self) -> usize
-        ensures { result ≡ length self.now.world.messages }
-    {
-        self.sent.places.len()
-    }
-
-    /// The message of a number, from 1 in the order of sending; `None` where there is no such message. Whatever
-    /// happened, the laws of a world hold.
-    pub fn message(&self, number: u32) -> Option<Message>
-        ensures same { result ≡ message_at self.now.world.messages number }
+    /// Every message that was ever sent, in order. Whatever happened, the laws of a world hold.
+    pub fn messages(&self) -> &[Message]
+        ensures same { result.now ≡ self.now.world.messages }
         ensures holds { Holds self.now.settings self.now.world }
     {
-        // For a fact alone: the world is the run of its events.
-        let places = &self.sent.places;
-        if number == 0 {
-            return None;
-        }
-        match places.get(number as usize - 1) {
-            Some(kept) => kept_message(self.sites.as_slice(), self.sent.tokens.as_slice(), *kept),
-            None => None,
-        }
+        self.messages.as_slice()
     }
 
-    /// The operation that the message of a number sent, where it is kept in a ledger.
+    /// The message of a number, from 1 in the order of sending.
     #[inline(always)]
-    fn operation(&self, number: u32) -> Option<OperationRef<'_>>
-        ensures sent { IfSome result (λ shadow. message_at self.now.world.messages number
-            ≡ Some (TheMessage.Shadow shadow)) }
-        ensures own { IfSome result (λ shadow. IsOwnOperation self.now.settings self.now.world shadow) }
+    fn message(&self, number: u32) -> Option<Message>
+        ensures { result ≡ message_at self.now.world.messages number }
     {
         if number == 0 {
             return None;
         }
-        let kept = self.sent.places.get(number as usize - 1)?;
-        kept_operation(self.sites.as_slice(), *kept)
+        self.messages.get(number as usize - 1).copied()
     }
 
     /// Ends the world.
@@ -375,8 +242,8 @@ impl<E: KeepsEntry, R: KeepsEvent> World<E, R> {
             alloc: _,
             config: _,
             sites,
-            sent: _,
-            recorded: _,
+            messages: _,
+            events: _,
             reports: _,
         } = self;
         end_all(sites);

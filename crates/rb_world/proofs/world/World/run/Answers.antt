@@ -18,8 +18,8 @@ loop-answered-init c = (
       (c.reserve.ensures.len ∙ c.new-replies.ensures.len) refl,
 )
 
-pub step-requires : goal.step-requires
-step-requires c =
+pub answer-requires : goal.answer-requires
+answer-requires c =
     subst IsCommand (sym c.index-events-answered.is)
     (c.requires c.loop-answered.answered c.index-events-answered.result c.loop-answered-test.true)
 
@@ -31,10 +31,10 @@ loop-answered-smaller c = falls (length c.args.events.now) c.loop-answered.answe
 
 pub loop-answered-preserved : goal.loop-answered-preserved
 loop-answered-preserved c = (
-  (let P : List Reply → Type 0 = λ rs. IsRunSoFar c.args.self.now c.args.events.now (c.loop-answered.answered + 1) c.step.new.self rs in
+  (let P : List Reply → Type 0 = λ rs. IsRunSoFar c.args.self.now c.args.events.now (c.loop-answered.answered + 1) c.answer.new.self rs in
       subst P (sym c.push_reserved.ensures.items)
-      (run_more c.args.self.now c.args.events.now c.loop-answered.answered _ c.loop-answered.self c.step.new.self
-      c.loop-answered.replies.items c.in-Ok.reply c.loop-answered-test.true c.loop-answered.invariant.0
+      (run_more c.args.self.now c.args.events.now c.loop-answered.answered _ c.loop-answered.self c.answer.new.self
+      c.loop-answered.replies.items c.answer.new.reply c.loop-answered-test.true c.loop-answered.invariant.0
       ((c.in-Ok.ensures.ok).1 ∙ ap (next_world c.loop-answered.self) c.index-events-answered.is) ((c.in-Ok.ensures.ok).0
       ∙ ap (next_reply c.loop-answered.self) c.index-events-answered.is))),
   c.push_reserved.ensures.len ∙ ap (λ n. n + 1) c.loop-answered.invariant.1,
