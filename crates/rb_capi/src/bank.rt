@@ -1,9 +1,8 @@
 //! A bank: all sites of a configuration with their messages.
 ghost use Rattle.std.specs.Prelude.{◌≡◌, ◌≢◌, ◌⊎◌, ◌↔◌, None, Some, MatchResult, pos};
 ghost use Rattle.rb_money.specs.Settings.{Settings};
-ghost use Rattle.rb_site.specs.Worlds.{IsCommand};
 ghost use Rattle.rb_site.specs.declared.world_event.WorldEvent.{WorldEvent as CommandOf};
-ghost use Rattle.rb_commands.specs.declared.fault.LineFault.TheVariants.{Bad, OutOfMemory};
+ghost use Rattle.rb_commands.specs.declared.fault.LineFault.TheVariants.{Bad};
 ghost use Rattle.rb_commands.specs.Configurations.{config_on};
 ghost use Rattle.rb_run_script.specs.Script.{command_on};
 ghost use Rattle.rb_capi.specs.Banks.{SeenBank, first_bank, kept_answer, next_bank};
@@ -13,7 +12,6 @@ use crate::bank_handle::BankHandle;
 use crate::copy::copy_from;
 use rb_commands::{LineFault, append_reply, read_command, read_config};
 use rb_lines::text_on;
-use rb_site::WorldEvent;
 use rb_world::LeanWorld;
 use std::alloc::Global;
 use std::marker::Model;
