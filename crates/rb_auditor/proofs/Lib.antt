@@ -19,3 +19,5 @@ mod Steps
 mod Kept
 mod Judged
 mod Read
+mod Recorded
+mod Walking

@@ -1,13 +1,15 @@
 -- Messages that were sent.
-use Rattle.std.proofs.Common.{◌≡◌, ℕ, suc, List, [], ◌∷◌, ◌++◌, ap, sym, ◌∙◌, inl, inr, subst, Some}
+use Rattle.std.proofs.Common.{◌≡◌, ℕ, suc, ◌+◌, ◌<◌, List, [], ◌∷◌, ◌++◌, length, take, get_or, ap, sym, ◌∙◌, inl, inr, subst, Some}
 use Rattle.std.specs.Prelude.{slice_get}
-use Rattle.std.proofs.lemmas.List.{append-nil, map-append}
+use Rattle.std.proofs.lemmas.List.{append-nil, map-append, take_more}
+use Rattle.std.proofs.lemmas.Option.{slice_get-get_or}
 use Rattle.rb_money.specs.Settings.{Settings}
 use Rattle.rb_site.specs.declared.entry.Entry.{Entry}
 use Rattle.rb_site.specs.declared.event.Event.TheVariants.{Receive}
 use Rattle.rb_site.specs.declared.message.Message.{Message}
 use Rattle.rb_site.specs.Events.{ModelSite, after_events, sent_at}
 use Rattle.rb_site.specs.Histories.{IsAmong, IsFrom, events_of, sends_of}
+use Rattle.rb_site.proofs.Public.Recorded.{at_place}
 use Rattle.rb_site.proofs.Public.Stuck
 use Rattle.rb_auditor.specs.Progress.{IsHeldUp}
 
@@ -35,3 +37,18 @@ sends_more s t xs x =
     ap (sends_of s t) (map-append (λ (y : Entry). y.event) xs (x ∷ []))
     ∙ Stuck.sends-append s (events_of xs) (x.event ∷ []) t
     ∙ ap (λ ms. sends_of s t (events_of xs) ++ ms) (append-nil (sent_at s (after_events s t (events_of xs)) x.event))
+
+-- ---- messages that are looked for one place after another
+
+-- a message that is found is among them
+pub found : (ms : List Message) (k : ℕ) (d m : Message) → k < length ms → get_or ms k d ≡ m → IsAmong m ms
+found ms k d m less is = at_place ms k m (slice_get-get_or ms k d less ∙ ap Some is)
+
+-- one that isn't at the next place either isn't among so many
+pub not_found : (ms : List Message) (k : ℕ) (d m : Message) → k < length ms → ¬ IsAmong m (take k ms) → ¬ (get_or ms k d ≡ m)
+    → ¬ IsAmong m (take (k + 1) ms)
+not_found ms k d m less before other among =
+    elim (Stuck.among-cases m (take k ms) (get_or ms k d ∷ []) (subst (IsAmong m) (take_more ms k d less) among)) [
+      | inl a ↦ before a
+      | inr b ↦ elim b [ inl e ↦ other (sym e) | inr z ↦ z ]
+    ]

@@ -24,7 +24,8 @@ replays-front : (s : Settings) (t : ModelSite) (xs ys : List Entry) → Replays 
 replays-front s t [] ys h = tt
 replays-front s t (x ∷ xs) ys h = (h.0, replays-front s (after_event s t x.event) xs ys h.1)
 
-replays-at : (s : Settings) (t : ModelSite) (xs ys : List Entry) (x : Entry) → Replays s t (xs ++ x ∷ ys) →
+-- each reply of entries that replay is the one that the run gives there
+pub replays-at : (s : Settings) (t : ModelSite) (xs ys : List Entry) (x : Entry) → Replays s t (xs ++ x ∷ ys) →
     x.reply ≡ reply_to s (after_events s t (events_of xs)) x.event
 replays-at s t [] ys x h = h.0
 replays-at s t (y ∷ xs) ys x h = replays-at s (after_event s t y.event) xs ys x h.1
@@ -54,7 +55,7 @@ run_after s i h r =
     ∙ ap (after_events s (first_site i)) (Seen.history-state x r)
 
 -- its history has as many events
-length_after : (s : Settings) (i : ℕ) (h : List Entry) → IsReplay s i h → length (site_after s i h).history ≡ length h
+pub length_after : (s : Settings) (i : ℕ) (h : List Entry) → IsReplay s i h → length (site_after s i h).history ≡ length h
 length_after s i h r = ap length (Seen.history-state (record { settings = s; me = i; entries = h }) r)
     ∙ length-map h (λ (x : Entry). x.event)
 
@@ -71,7 +72,8 @@ pub after_more : (s : Settings) (t : ModelSite) (xs : List Entry) (x : Entry) �
 after_more s t xs x = ap (after_events s t) (map-append (λ (y : Entry). y.event) xs (x ∷ []))
     ∙ Runs.after_events-append s (events_of xs) (x.event ∷ []) t
 
-not_full : (s : Settings) (t : ModelSite) (k : ℕ) → length t.history ≡ k → k < s.limits.history → is_full s t ≡ false
+-- a history with fewer entries than the limit isn't full
+pub not_full : (s : Settings) (t : ModelSite) (k : ℕ) → length t.history ≡ k → k < s.limits.history → is_full s t ≡ false
 not_full s t k e lt = grind (arith, nat_tests)
 
 -- at an entry of a history that replays the site isn't full, gives the entry's reply and goes on by its event

@@ -16,7 +16,7 @@ held_past ms (suc k) [] p = tt
 held_past ms (suc k) (x ∷ h) p = held_past ms k h (omega arith)
 
 -- what can't come is the receipt of a message that wasn't sent
-unsent : (ms : List Message) (e : Event) → ¬ IsFrom ms e → (m : Message) × (e ≡ Receive m) × ¬ IsAmong m ms
+pub unsent : (ms : List Message) (e : Event) → ¬ IsFrom ms e → (m : Message) × (e ≡ Receive m) × ¬ IsAmong m ms
 unsent ms (Receive m) h = (m, refl, h)
 unsent ms _ h = absurd (h tt)
 

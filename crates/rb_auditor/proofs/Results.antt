@@ -1,6 +1,6 @@
 -- What follows from how a call went.
 use Rattle.std.proofs.Common.{◌≡◌, false, Option, Some, None, Result, Ok, Err}
-use Rattle.std.specs.Prelude.{IfNone, IfOk, IfSome, IsErr, OnErr, OnOk, is_some}
+use Rattle.std.specs.Prelude.{IfOk, IfSome, IsErr, OnErr, OnOk}
 use Rattle.std.specs.Result.{is_err}
 use Rattle.std.specs.declared.alloc.AllocError.{AllocError}
 
@@ -38,8 +38,3 @@ still (Err y) P h = h
 pub none_found : {A : Type 0} (o : Option A) (P : A → Type 0) → o ≡ None → IfSome o P
 none_found None P e = tt
 none_found (Some x) P e = cc
-
--- what is said where there is nothing
-pub where_none : {A : Type 0} {P : Type 0} (o : Option A) → is_some o ≡ false → IfNone o P → P
-where_none None e h = h
-where_none (Some x) e h = cc

@@ -74,11 +74,6 @@ pub still_taking : (p : Progress) (order : List ℕ) (ms : List Message) → IsT
     → IsTaking (record p { order = order; messages = ms })
 still_taking p order ms v e f = subst IsTaking (sym (same_as p p order ms refl e f)) v
 
--- before any entry is taken no progress is another
-pub first_by_itself : (p : Progress) (s : Settings) (hs : List (List Entry)) → p ≡ first_progress s hs
-    → p ≡ first_progress p.settings p.histories
-first_by_itself p s hs e = e ∙ sym (ap (λ (r : Progress). first_progress r.settings r.histories) e)
-
 -- ---- one entry more
 
 site_now : (s : Settings) (i k : ℕ) (h : List Entry) → site_after s (0 + i) (take k h) ≡ site_after s i (take k h)
@@ -253,10 +248,6 @@ took_further p q i t = record {
       (Lists.left_less p.histories p.taken i t.taken t.history t.next.there t.next.at
       (Lists.split_at t.history t.taken t.entry t.next.next).within);
 }
-
--- and its site is at the end of the order
-pub took_order : (p q : Progress) (i : ℕ) → Took p q i → q.order ≡ p.order ++ i ∷ []
-took_order p q i t = ap (λ (r : Progress). r.order) t.is
 
 -- what is further than q is further than p, where q is further than p or the same
 pub further_more : (b : Bool) (p q r : Progress) → MatchBool b (IsFurther p q) (q ≡ p) → IsFurther q r → IsFurther p r

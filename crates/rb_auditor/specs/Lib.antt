@@ -6,3 +6,4 @@ pub mod MessageLists
 pub mod Progress
 pub mod Replays
 pub mod Sent
+pub mod Walks

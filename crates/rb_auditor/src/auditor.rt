@@ -5,10 +5,9 @@ ghost use Rattle.rb_auditor.specs.Certificates.{Certifies};
 ghost use Rattle.rb_auditor.specs.Findings.{IsFound, Refutes};
 
 use crate::auditing::find;
-use crate::checking::follow_all;
 use crate::notes::{Notes, no_notes};
 use crate::replay::take_entry;
-use crate::sites::{end_all, open_sites};
+use crate::sites::{close_all, open_sites};
 use crate::store::Store;
 use crate::{AuditFault, Certificate};
 use rb_money::Config;
@@ -17,7 +16,7 @@ use std::alloc::{AllocError, Global};
 use std::marker::Model;
 
 /// Histories that are read entry by entry, those of the sites in any order. Each entry is replayed by its site as it is
-/// read. Clients see the configuration and each site's entries. It can't be dropped: it finishes, checks or ends.
+/// read. Clients see the configuration and each site's entries. It can't be dropped: it finishes or is closed.
 pub struct Auditor {
     alloc: Global,
     config: Config,
@@ -91,33 +90,12 @@ impl Auditor {
             notes,
             store,
         } = self;
-        end_all(sites);
+        close_all(sites);
         find(alloc, &config, notes.as_slice(), &store.messages)
     }
 
-    /// Whether a world could have recorded the histories in this order. `Err` means out of memory.
-    pub fn check(self, certificate: &Certificate) -> Result<bool, AllocError>
-        ensures { IfOk result (λ yes. IsTrue yes ↔ Certifies self.settings self.histories certificate.now) }
-    {
-        let Auditor {
-            alloc,
-            config,
-            sites,
-            notes,
-            store,
-        } = self;
-        end_all(sites);
-        follow_all(
-            alloc,
-            &config,
-            notes.as_slice(),
-            &store.messages,
-            certificate.as_slice(),
-        )
-    }
-
-    /// Ends the auditor.
-    pub fn end(self) {
+    /// Closes the auditor.
+    pub fn close(self) {
         let Auditor {
             alloc: _,
             config: _,
@@ -125,6 +103,6 @@ impl Auditor {
             notes: _,
             store: _,
         } = self;
-        end_all(sites);
+        close_all(sites);
     }
 }

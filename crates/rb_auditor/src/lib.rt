@@ -27,4 +27,4 @@ pub use audit_fault::AuditFault;
 pub use auditing::audit;
 pub use auditor::Auditor;
 pub use certificate::Certificate;
-pub use checking::check;
+pub use checking::check::check;

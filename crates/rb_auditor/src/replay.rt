@@ -7,7 +7,8 @@ ghost use Rattle.rb_auditor.specs.Replays.{RecordsEntry, seen_at};
 use crate::notes::Notes;
 use crate::step::Step;
 use crate::store::Store;
-use rb_site::{Entry, ErasedEntry, Event, Message, Site};
+use rb_money::Refusal;
+use rb_site::{Entry, ErasedEntry, Event, Message, Reply, Site};
 use std::alloc::AllocError;
 
 /// Takes the next entry of the site's history. `Err` means out of memory, and takes nothing.
@@ -91,6 +92,7 @@ fn note(
     if site.is_full() {
         return Ok(false);
     }
-    let reply = site.record(&entry.event, messages)?;
+    let mut reply = Reply::Refused(Refusal::HistoryFull);
+    site.answer(&entry.event, messages, &mut reply)?;
     Ok(reply.same(&entry.reply))
 }

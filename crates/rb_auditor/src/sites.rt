@@ -21,7 +21,7 @@ pub fn open_sites(alloc: Global, config: &Config) -> Result<Vec<Site<ErasedEntry
         match Site::open_keeping(alloc, config, me) {
             Ok(site) => sites.push_reserved(site),
             Err(refused) => {
-                end_all(sites);
+                close_all(sites);
                 return Err(refused);
             }
         }
@@ -29,8 +29,8 @@ pub fn open_sites(alloc: Global, config: &Config) -> Result<Vec<Site<ErasedEntry
     Ok(sites)
 }
 
-/// Ends sites whose state nobody asks for.
-pub fn end_all(mut sites: Vec<Site<ErasedEntry>>) {
+/// Closes sites whose state nobody asks for.
+pub fn close_all(mut sites: Vec<Site<ErasedEntry>>) {
     'sites: while let Some(site) = sites.pop() {
         site.end();
     }

@@ -21,7 +21,7 @@ pub fn read_all(
     let mut auditor = Auditor::open(alloc, config.try_copy()?)?;
     for site in 0..config.sites() {
         if read(&mut auditor, site, histories[site as usize].as_slice()).is_err() {
-            auditor.end();
+            auditor.close();
             return Err(AllocError);
         }
     }

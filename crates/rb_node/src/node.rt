@@ -17,7 +17,7 @@ use std::alloc::{AllocError, Global};
 use std::marker::Model;
 
 /// One site of a bank, which is asked and answers by lines. It keeps no history: that is the caller's, as the lines of
-/// entries. It can't be dropped: it is ended.
+/// entries. It can't be dropped: it is closed.
 pub struct Node {
     pub(crate) alloc: Global,
     pub(crate) config: Config,
@@ -106,8 +106,8 @@ impl Node {
         Ok(line)
     }
 
-    /// Ends the site.
-    pub fn end(self) {
+    /// Closes the site.
+    pub fn close(self) {
         let Node {
             alloc: _,
             config: _,

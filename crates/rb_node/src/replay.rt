@@ -17,8 +17,8 @@ use rb_commands::LineFault;
 use rb_commands::write::append::append;
 use rb_history::{append_line, read_line};
 use rb_lines::text_on;
-use rb_money::Config;
-use rb_site::{Entry, Message};
+use rb_money::{Config, Refusal};
+use rb_site::{Entry, Message, Reply};
 use std::alloc::AllocError;
 
 /// The messages as a line, where there are any.
@@ -124,11 +124,9 @@ impl Node {
         if self.site.is_full() {
             return Err(NodeFault::WrongReply);
         }
-        let same = self
-            .site
-            .record(&entry.event, &mut self.sent)?
-            .same(&entry.reply);
-        if !same {
+        let mut reply = Reply::Refused(Refusal::HistoryFull);
+        self.site.answer(&entry.event, &mut self.sent, &mut reply)?;
+        if !reply.same(&entry.reply) {
             return Err(NodeFault::WrongReply);
         }
         Ok(())

@@ -42,7 +42,8 @@ impl Node {
             ++ sent_at self.old.site.settings (state_of self.old.site) event))
             (λ _. take (length entries.old.items) entries.new.items ≡ entries.old.items) }
     {
-        let reply = self.site.record(&event, &mut self.sent)?;
+        let mut reply = Reply::Refused(Refusal::HistoryFull);
+        self.site.answer(&event, &mut self.sent, &mut reply)?;
         let entry = Entry { event, reply };
         append_entry(entries, &self.config, self.site.me(), &entry)?;
         let Entry { event: _, reply } = entry;

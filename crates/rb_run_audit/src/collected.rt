@@ -18,7 +18,7 @@ use rb_site::{Entry, Event, Reply};
 use std::alloc::Global;
 
 /// What was collected of an audit's lines: once there is a configuration its auditor, which has read each entry so far,
-/// and the number of the next line, from 1. It can't be dropped: it ends, or gives its auditor.
+/// and the number of the next line, from 1. It can't be dropped: it is closed, or gives its auditor.
 pub struct Collected {
     pub auditor: Option<Auditor>,
     pub number: u64,
@@ -79,7 +79,7 @@ impl Collected {
         };
         let auditor = Auditor::open(alloc, config)?;
         if let Some(before) = self.auditor.replace(auditor) {
-            before.end();
+            before.close();
         }
         Ok(())
     }
@@ -112,10 +112,10 @@ impl Collected {
         auditor
     }
 
-    /// Ends what was collected.
-    pub fn end(self) {
+    /// Closes what was collected.
+    pub fn close(self) {
         if let Some(auditor) = self.into_auditor() {
-            auditor.end();
+            auditor.close();
         }
     }
 }

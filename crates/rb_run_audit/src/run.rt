@@ -65,7 +65,7 @@ pub fn run_audit<S: Source, W: Sink>(
 {
     let mut collected = Collected::new();
     if let Err(fault) = collect(alloc, reader, writer, &mut collected) {
-        collected.end();
+        collected.close();
         return Err(fault);
     }
     let Some(auditor) = collected.into_auditor() else {

@@ -11,26 +11,26 @@ pub returns : goal.returns
 returns c =
     let old = c.args.self.now.site in
     let event = c.args.event in
-    let reply = c.in_ok-reply.reply in
+    let reply = c.answer.new.reply in
     let entries = c.args.entries.now.items in
     let x = entry event reply in
     let seen : c.self.inside.site ≡ old = ap (λ (v : SeenNode). v.site) c.self.view_is in
-    let is : c.record.new.self ≡ next_site old event = c.in_ok-reply.ensures.ok.0 ∙ ap (λ y. next_site y event) seen in
+    let is : c.answer.new.self ≡ next_site old event = c.in_ok-answer.ensures.ok.0 ∙ ap (λ y. next_site y event) seen in
     record {
       recorded = (
-        recorded old c.record.new.self event reply x c.me.result entries c.append_entry.new.out.items c.requires is
-            (c.in_ok-reply.ensures.ok.1 ∙ ap (λ (y : SeenSite). reply_to y.settings (state_of y) event) seen)
+        recorded old c.answer.new.self event reply x c.me.result entries c.append_entry.new.out.items c.requires is
+            (c.in_ok-answer.ensures.ok.1 ∙ ap (λ (y : SeenSite). reply_to y.settings (state_of y) event) seen)
             refl
             (c.me.ensures.same ∙ ap (λ (y : SeenSite). y.me) is ∙ me-next old event)
             (c.in_ok-append_entry.ensures ∙ ap (λ s. entries ++ line_of (entry_json s c.me.result x))
             (sym c.self.invariant ∙ ap (λ (y : SeenSite). y.settings) seen)),
-        c.in_ok-reply.ensures.ok.2
+        c.in_ok-answer.ensures.ok.2
             ∙ ap (λ (v : SeenNode). v.sent ++ sent_at v.site.settings (state_of v.site) event) c.self.view_is,
       );
     }
 
-pub returns-in_err-reply : goal.returns-in_err-reply
-returns-in_err-reply c = record {
+pub returns-in_err-answer : goal.returns-in_err-answer
+returns-in_err-answer c = record {
   recorded = kept c.from_residual.result _ c.from_residual.ensures.0 (stayed c.args.entries.now.items);
 }
 

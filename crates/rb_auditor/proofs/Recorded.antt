@@ -1,0 +1,78 @@
+-- A history that a site records is what is left of the run of its events.
+use Rattle.std.proofs.Common.{◌≡◌, ℕ, ◌+◌, ◌<◌, ◌≤◌, Bool, true, false, cond, List, [], ◌∷◌, ◌++◌, length, refl, ap, sym, subst, ◌∙◌, arith}
+use Rattle.std.proofs.Common.{append_assoc, append-nil, length-append}
+use Rattle.rb_money.specs.Settings.{Settings}
+use Rattle.rb_site.specs.declared.entry.Entry.{Entry}
+use Rattle.rb_site.specs.declared.event.Event.{Event}
+use Rattle.rb_site.specs.Events.{first_site, is_full}
+use Rattle.rb_site.specs.Histories.{events_of}
+use Rattle.rb_site.specs.Seen.{Replays, SeenSite, entry, first_seen, next_site, next_sites, state_of, stepped}
+use Rattle.rb_site.proofs.Public.Seen
+use Rattle.rb_auditor.specs.Findings.{IsReplay}
+use Rattle.rb_auditor.specs.Replays.{seen_at}
+use Rattle.rb_auditor.proofs.Replaying
+
+-- ---- a run keeps what the site is
+
+settings_kept : (x : SeenSite) (es : List Event) → (next_sites x es).settings ≡ x.settings
+settings_kept x [] = refl
+settings_kept x (e ∷ es) = settings_kept (next_site x e) es ∙ Seen.settings-next x e
+
+me_next : (x : SeenSite) (e : Event) → (next_site x e).me ≡ x.me
+me_next x e = by (is_full x.settings (state_of x))
+  where
+    by : (b : Bool) → (cond b x (stepped x e)).me ≡ x.me
+    by true = refl
+    by false = refl
+
+me_kept : (x : SeenSite) (es : List Event) → (next_sites x es).me ≡ x.me
+me_kept x [] = refl
+me_kept x (e ∷ es) = me_kept (next_site x e) es ∙ me_next x e
+
+-- ---- what is recorded
+
+-- an entry that the site records is what its event leaves
+pub step_on : (s : Settings) (i : ℕ) (xs ys : List Entry) (y : Entry) → IsReplay s i (xs ++ y ∷ ys)
+    → next_site (seen_at s i xs) y.event ≡ seen_at s i (xs ++ y ∷ [])
+step_on s i xs ys y r =
+    ap (λ b. cond b (seen_at s i xs) (stepped (seen_at s i xs) y.event)) free
+    ∙ ap (λ z. seen_at s i (xs ++ entry y.event z ∷ [])) (sym (Replaying.replays-at s (first_site i) xs ys y r.replays))
+  where
+    front : IsReplay s i xs
+    front = Replaying.replay-front s i xs (y ∷ ys) r
+
+    free : is_full s (state_of (seen_at s i xs)) ≡ false
+    free =
+        let room : length (xs ++ y ∷ ys) ≤ s.limits.history = r.room in
+        let longer : length (xs ++ y ∷ ys) ≡ length xs + length (y ∷ ys) = length-append xs (y ∷ ys) in
+        Replaying.not_full s (state_of (seen_at s i xs)) (length xs) (Replaying.length_after s i xs front) (omega arith)
+
+recorded_on : (s : Settings) (i : ℕ) (xs ys : List Entry) → IsReplay s i (xs ++ ys)
+    → next_sites (seen_at s i xs) (events_of ys) ≡ seen_at s i (xs ++ ys)
+recorded_on s i xs [] r = ap (seen_at s i) (sym (append-nil xs))
+recorded_on s i xs (y ∷ ys) r =
+    ap (λ x. next_sites x (events_of ys)) (step_on s i xs ys y r)
+    ∙ recorded_on s i (xs ++ y ∷ []) ys (subst (IsReplay s i) (sym (append_assoc xs (y ∷ []) ys)) r)
+    ∙ ap (seen_at s i) (append_assoc xs (y ∷ []) ys)
+
+-- the run of the events of a history that the site records leaves that history
+pub recorded : (s : Settings) (i : ℕ) (h : List Entry) (x : SeenSite) (es : List Event) → es ≡ events_of h
+    → x ≡ next_sites (first_seen s i) es → IsReplay s i h → x.entries ≡ h
+recorded s i h x es events is r =
+    ap (λ (z : SeenSite). z.entries) (is ∙ ap (next_sites (first_seen s i)) events ∙ recorded_on s i [] h r)
+
+-- and a history that is left by a run is one that the site records
+pub records : (s : Settings) (i : ℕ) (h : List Entry) (x : SeenSite) (es : List Event) → x ≡ next_sites (first_seen s i) es
+    → i < s.sites → Replays x.settings (first_site x.me) x.entries → length x.entries ≤ x.settings.limits.history → x.entries ≡ h
+    → IsReplay s i h
+records s i h x es is within replays room same = subst (IsReplay s i) same (record {
+  within = within;
+  replays = subst (λ j. Replays s (first_site j) x.entries) me (subst (λ t. Replays t (first_site x.me) x.entries) settings replays);
+  room = subst (λ (t : Settings). length x.entries ≤ t.limits.history) settings room;
+})
+  where
+    settings : x.settings ≡ s
+    settings = ap (λ (z : SeenSite). z.settings) is ∙ settings_kept (first_seen s i) es
+
+    me : x.me ≡ i
+    me = ap (λ (z : SeenSite). z.me) is ∙ me_kept (first_seen s i) es

@@ -1,0 +1,192 @@
+-- An order, followed by the sites that record the histories.
+use Rattle.std.proofs.Common.{◌≡◌, ℕ, zero, suc, ◌+◌, ◌<◌, ◌≤◌, List, [], ◌∷◌, ◌++◌, length, take, refl, ap, sym, subst, ◌∙◌, inl, inr}
+use Rattle.std.proofs.Common.{arith, Option, Some, None, false, drop}
+use Rattle.std.specs.Prelude.{IfSome, MatchOption, map, replicate, slice_get, slice_set}
+use Rattle.std.specs.List.{range_with_len}
+use Rattle.std.proofs.lemmas.List.{length-set, length-take-le, map-set}
+use Rattle.std.proofs.lemmas.List.FromFn.{length-map-range_with_len}
+use Rattle.std.proofs.lemmas.Option.{slice_get_within}
+use Rattle.rb_money.specs.Settings.{Settings}
+use Rattle.rb_site.specs.declared.entry.Entry.{Entry}
+use Rattle.rb_site.specs.declared.message.Message.{Message}
+use Rattle.rb_site.specs.Events.{is_full, sent_at}
+use Rattle.rb_site.specs.Histories.{IsFrom}
+use Rattle.rb_site.specs.Seen.{SeenSite, first_seen, next_site, state_of}
+use Rattle.rb_site.proofs.Public.Lists.{map_at, map_back}
+use Rattle.rb_site.proofs.Public.Places
+use Rattle.rb_site.proofs.Public.Places.{same_number}
+use Rattle.rb_auditor.specs.Findings.{IsReplay}
+use Rattle.rb_auditor.specs.Progress.{IsDone, IsHeldUp, IsLeft, IsTaking, Progress, Rests, Took, first_progress}
+use Rattle.rb_auditor.specs.Replays.{seen_at}
+use Rattle.rb_auditor.specs.Walks.{AreAlong, AreAtEnd, AreReplays, IsAlong, IsBeforeEnd, TakesNext, progress_of}
+use Rattle.rb_auditor.proofs.Lists
+use Rattle.rb_auditor.proofs.Lists.{IsSplit}
+use Rattle.rb_auditor.proofs.Recorded
+use Rattle.rb_auditor.proofs.Replaying
+use Rattle.rb_auditor.proofs.Resting
+
+-- how many entries a site recorded
+abbrev recorded : SeenSite → ℕ
+recorded x = length x.entries
+
+-- ---- the start
+
+none_recorded : (s : Settings) (a n : ℕ) → map recorded (map (first_seen s) (range_with_len a n)) ≡ replicate n 0
+none_recorded s a zero = refl
+none_recorded s a (suc n) = ap (λ ks. 0 ∷ ks) (none_recorded s (a + 1) n)
+
+first_at : (s : Settings) (a n i : ℕ) (x : SeenSite) → slice_get (map (first_seen s) (range_with_len a n)) i ≡ Some x
+    → x ≡ first_seen s (a + i)
+first_at s a zero i x at = cc
+first_at s a (suc n) zero x at = let e : first_seen s a ≡ x = cc in sym e ∙ ap (first_seen s) (let q : a ≡ a + 0 = omega arith in q)
+first_at s a (suc n) (suc i) x at =
+    first_at s (a + 1) n i x at ∙ ap (first_seen s) (let q : a + 1 + i ≡ a + suc i = omega arith in q)
+
+-- before any event each site is along
+pub along_first : (s : Settings) (hs : List (List Entry)) (xs : List SeenSite) → xs ≡ map (first_seen s) (range_with_len 0 s.sites)
+    → length hs ≡ s.sites → AreAlong s hs xs
+along_first s hs xs is n = record {
+  sites = ap length is ∙ length-map-range_with_len (first_seen s) 0 s.sites ∙ sym n;
+  each = λ i h x there at.
+      (let e : x ≡ first_seen s (0 + i) = first_at s 0 s.sites i x (ap (λ ys. slice_get ys i) (sym is) ∙ at) in
+      let none : length x.entries ≡ 0 = ap recorded e in
+      e ∙ ap (first_seen s) (let q : 0 + i ≡ i = omega arith in q) ∙ ap (λ k. seen_at s i (take k h)) (sym none));
+}
+
+-- and nothing is taken
+pub nothing_taken : (s : Settings) (hs : List (List Entry)) (xs : List SeenSite) (ms : List Message)
+    → xs ≡ map (first_seen s) (range_with_len 0 s.sites) → length hs ≡ s.sites → ms ≡ [] → progress_of s hs [] xs ms ≡ first_progress s hs
+nothing_taken s hs xs ms is n none =
+    ap (λ ks. with_parts ks ms) (ap (map recorded) is ∙ none_recorded s 0 s.sites ∙ ap (λ k. replicate k 0) (sym n))
+    ∙ ap (with_parts (replicate (length hs) 0)) none
+  where
+    with_parts : List ℕ → List Message → Progress
+    with_parts ks ns = record { settings = s; histories = hs; order = []; taken = ks; messages = ns }
+
+-- ---- a site's next entry
+
+-- what holds where there is something
+pub if_some : {A : Type 0} (L P : Type 0) (M : A → Type 0) (o : Option A) → MatchOption o L M → ((a : A) → M a → P) → IfSome o (λ a. P)
+if_some L P M None m g = tt
+if_some L P M (Some a) m g = g a m
+
+-- where an entry is left, the site's history isn't full
+pub room_left : (x : SeenSite) (h : List Entry) → IsAlong x h → IsReplay x.settings x.me h → length x.entries < length h
+    → is_full x.settings (state_of x) ≡ false
+room_left x h along r less =
+    let front : IsReplay x.settings x.me x.entries = subst (IsReplay x.settings x.me) (sym along)
+    (Replaying.replay-take x.settings x.me (length x.entries) h r) in
+    let room : length h ≤ x.settings.limits.history = r.room in
+    Replaying.not_full x.settings (state_of x) (length x.entries) (Replaying.length_after x.settings x.me x.entries front) (omega arith)
+
+-- with its next entry the site is still along
+pub next_along : (x : SeenSite) (h : List Entry) (y : Entry) → IsAlong x h → IsReplay x.settings x.me h
+    → slice_get h (length x.entries) ≡ Some y → next_site x y.event ≡ seen_at x.settings x.me (take (length x.entries + 1) h)
+next_along x h y along r at =
+    let sp : IsSplit h (length x.entries) y = Lists.split_at h (length x.entries) y at in
+    ap (λ xs. next_site (seen_at x.settings x.me xs) y.event) along
+    ∙ Recorded.step_on x.settings x.me (take (length x.entries) h) sp.rest y (subst (IsReplay x.settings x.me) sp.whole r)
+    ∙ ap (seen_at x.settings x.me) (sym sp.more)
+
+-- where none is left, nothing is taken
+pub none_left : (ms : List Message) (h : List Entry) (k : ℕ) → slice_get h k ≡ None → IsHeldUp ms (drop k h)
+none_left ms [] zero at = tt
+none_left ms [] (suc k) at = tt
+none_left ms (x ∷ h) zero at = cc
+none_left ms (x ∷ h) (suc k) at = none_left ms h k at
+
+-- nor where it can't come yet
+pub held_here : (ms : List Message) (h : List Entry) (k : ℕ) (y : Entry) → slice_get h k ≡ Some y → ¬ IsFrom ms y.event
+    → IsHeldUp ms (drop k h)
+held_here ms h k y at not = subst (IsHeldUp ms) (sym (Lists.split_at h k y at).dropped) (Resting.unsent ms y.event not)
+
+-- ---- one entry more
+
+-- a site that is along can take the next entry of its history
+pub at_site : (s : Settings) (hs : List (List Entry)) (xs : List SeenSite) (i : ℕ) (h f : List Entry) (x : SeenSite) → AreAlong s hs xs
+    → AreReplays s hs → slice_get hs i ≡ Some h → slice_get xs i ≡ Some x → f ≡ h → IsAlong x f × IsReplay x.settings x.me f
+at_site s hs xs i h f x along replays there at same =
+    let is : x ≡ seen_at s i (take (length x.entries) h) = along.each i h x there at in (
+      ap (λ (z : SeenSite). z.entries) is ∙ ap (take (length x.entries)) (sym same),
+      subst (λ (z : SeenSite). IsReplay z.settings z.me f) (sym is) (subst (IsReplay s i) (sym same) (replays i h there)),
+    )
+
+longer : (x y : SeenSite) (h : List Entry) (before after : List Message) → TakesNext x y h before after → length y.entries ≡ length x.entries + 1
+longer x y h before after t =
+    let within : length x.entries < length h = slice_get_within h (length x.entries) t.entry t.next in
+    ap recorded t.is ∙ length-take-le (length x.entries + 1) h (omega arith)
+
+-- what the site takes is taken
+pub took : (s : Settings) (hs : List (List Entry)) (order : List ℕ) (xs : List SeenSite) (ms after : List Message) (i : ℕ) (h : List Entry)
+    (x y : SeenSite) → AreAlong s hs xs → slice_get hs i ≡ Some h → slice_get xs i ≡ Some x → TakesNext x y h ms after
+    → Took (progress_of s hs order xs ms) (progress_of s hs (order ++ i ∷ []) (slice_set xs i y) after) i
+took s hs order xs ms after i h x y along there at t = record {
+  taken = length x.entries;
+  history = h;
+  entry = t.entry;
+  next = record { there = there; at = map_at recorded xs i x at; next = t.next };
+  source = t.source;
+  is = ap (λ ks. with_parts ks after) counts ∙ ap (with_parts (slice_set (map recorded xs) i (length x.entries + 1))) sent;
+}
+  where
+    with_parts : List ℕ → List Message → Progress
+    with_parts ks ns = record { settings = s; histories = hs; order = order ++ i ∷ []; taken = ks; messages = ns }
+
+    counts : map recorded (slice_set xs i y) ≡ slice_set (map recorded xs) i (length x.entries + 1)
+    counts = map-set recorded xs i y ∙ ap (slice_set (map recorded xs) i) (longer x y h ms after t)
+
+    sent : after ≡ ms ++ sent_at s (state_of (seen_at s i (take (length x.entries) h))) t.entry.event
+    sent = t.sends ∙ ap (λ (z : SeenSite). ms ++ sent_at z.settings (state_of z) t.entry.event) (along.each i h x there at)
+
+-- and each site is along then
+pub along_next : (s : Settings) (hs : List (List Entry)) (xs : List SeenSite) (ms after : List Message) (i : ℕ) (h : List Entry)
+    (x y : SeenSite) → AreAlong s hs xs → slice_get hs i ≡ Some h → slice_get xs i ≡ Some x → TakesNext x y h ms after
+    → AreAlong s hs (slice_set xs i y)
+along_next s hs xs ms after i h x y along there at t = record {
+  sites = length-set xs i y ∙ along.sites;
+  each = λ j g z here found. elim (same_number i j) [
+    | inl e ↦ (let is : y ≡ z = Lists.same_item (slice_get (slice_set xs i y) i) y z (Places.get_set_same xs i x y at)
+        (ap (slice_get (slice_set xs i y)) (sym e) ∙ found) in
+        let same : h ≡ g = Lists.same_item (slice_get hs i) h g there (ap (slice_get hs) (sym e) ∙ here) in
+        sym is ∙ mine ∙ ap (λ (k : ℕ). seen_at s k (take (length y.entries) h)) (sym e)
+        ∙ ap (λ f. seen_at s j (take (length y.entries) f)) same
+        ∙ ap (λ (w : SeenSite). seen_at s j (take (length w.entries) g)) is)
+    | inr ne ↦ along.each j g z here (sym (Places.get_set_other xs i j y ne) ∙ found)
+  ];
+}
+  where
+    mine : y ≡ seen_at s i (take (length y.entries) h)
+    mine =
+        t.is
+        ∙ ap (λ (z : SeenSite). seen_at z.settings z.me (take (length x.entries + 1) h)) (along.each i h x there at)
+        ∙ ap (λ k. seen_at s i (take k h)) (sym (longer x y h ms after t))
+
+-- a site that takes nothing rests
+pub rests : (s : Settings) (hs : List (List Entry)) (order : List ℕ) (xs : List SeenSite) (ms : List Message) (i : ℕ) (h : List Entry)
+    (x : SeenSite) → slice_get hs i ≡ Some h → slice_get xs i ≡ Some x → IsHeldUp ms (drop (length x.entries) h)
+    → Rests (progress_of s hs order xs ms) i
+rests s hs order xs ms i h x there at held =
+    record { taken = length x.entries; history = h; there = there; at = map_at recorded xs i x at; held = held }
+
+-- ---- the end
+
+-- where each site is at its end, all is taken
+pub done : (s : Settings) (hs : List (List Entry)) (order : List ℕ) (xs : List SeenSite) (ms : List Message)
+    → IsTaking (progress_of s hs order xs ms) → AreAtEnd hs xs → IsDone (progress_of s hs order xs ms)
+done s hs order xs ms taking end i k h there at =
+    let (x, found, is) = map_back recorded xs i k at in
+    let within : k ≤ length h = taking.within i k h there at in
+    let past : length h ≤ length x.entries = end i h x there found in
+    omega arith
+
+-- and else an entry is left
+pub left : (s : Settings) (hs : List (List Entry)) (order : List ℕ) (xs : List SeenSite) (ms : List Message) → IsBeforeEnd hs xs
+    → IsLeft (progress_of s hs order xs ms)
+left s hs order xs ms b = record {
+  site = b.site;
+  taken = length b.seen.entries;
+  history = b.history;
+  there = b.there;
+  at = map_at recorded xs b.site b.seen b.at;
+  less = b.less;
+}

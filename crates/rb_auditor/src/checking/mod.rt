@@ -1,0 +1,7 @@
+//! The check of an order. It shares no code with the search for one.
+
+pub mod check;
+mod following;
+mod recorded;
+mod sent_before;
+mod sites;
