@@ -32,7 +32,7 @@ pub fn open_sites(alloc: Global, config: &Config) -> Result<Vec<Site<ErasedEntry
 /// Closes sites whose state nobody asks for.
 pub fn close_all(mut sites: Vec<Site<ErasedEntry>>) {
     'sites: while let Some(site) = sites.pop() {
-        site.end();
+        let _report = site.close();
     }
     sites.destroy_empty();
 }

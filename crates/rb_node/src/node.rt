@@ -115,6 +115,6 @@ impl Node {
             sent: _,
             written: _,
         } = self;
-        site.end();
+        let _report = site.close();
     }
 }
