@@ -5,8 +5,8 @@ use Rattle.std.specs.Prelude.{IfSome}
 use Rattle.std.specs.Io.KnownBytes.{IsAtEnd}
 use Rattle.rb_lines.specs.Answers.{AnswersLine, RunEndsAs, EndsAtLine, IsFaulty, EndsWith, IsRunState, IsUnfinished, LinesOutcome, RunState}
 use Rattle.rb_lines.specs.Answers.{after_text, no_outcome}
-use Rattle.rb_lines.specs.declared.fault.StreamFault.{StreamFault}
-use Rattle.rb_lines.specs.declared.fault.StreamFault.TheVariants.{NoConfig, BadConfig, BadLine, LongLine, Read, Write, OutOfMemory}
+use Rattle.rb_lines.specs.declared.fault.ScriptFault.{ScriptFault}
+use Rattle.rb_lines.specs.declared.fault.ScriptFault.TheVariants.{NoConfig, BadConfig, BadLine, LongLine, Read, Write, OutOfMemory, Gather}
 use Rattle.rb_lines.specs.Writes.{IsFront}
 use Rattle.rb_lines.specs.Buffers.{Reads}
 use Rattle.rb_lines.specs.Lines.{lines_of, is_long, line_len}
@@ -48,7 +48,7 @@ known_line of (Some all) (Some x) s s' p e t t' n f len fits st end ans = after_
 
 -- ---- the ends
 
-faulty : (whole : LinesOutcome) (t : List ℕ) (n : ℕ) (f : StreamFault) (o : LinesOutcome) → whole ≡ after_text t n o → o ≡ no_outcome f
+faulty : (whole : LinesOutcome) (t : List ℕ) (n : ℕ) (f : ScriptFault) (o : LinesOutcome) → whole ≡ after_text t n o → o ≡ no_outcome f
     → IsFaulty whole t f
 faulty whole t n f o e is = let all = e ∙ ap (after_text t n) is in record {
   text_is = ap (λ (x : LinesOutcome). x.text) all ∙ append-nil t;
@@ -102,7 +102,7 @@ whole_end of all s t whole is =
     ∙ ap (λ n. record { text = t; count = n; fault = None }) (add-zero s.count)
 
 -- the result at the end of the source
-at_the_end : (of : Whole) (all : List ℕ) (b : Option (List ℕ)) (s : RunState) (t : List ℕ) (r : Result ℕ StreamFault)
+at_the_end : (of : Whole) (all : List ℕ) (b : Option (List ℕ)) (s : RunState) (t : List ℕ) (r : Result ℕ ScriptFault)
     → of (lines_of all) ≡ after_text t s.count (s.rest []) → b ≡ Some [] → EndsWith s r
     → RunEndsAs of r all b t
 at_the_end of all b s t (Ok n) whole end (many, is) =
@@ -111,7 +111,7 @@ at_the_end of all b s t (Err f) whole end (unconfigured, is) =
     subst (λ g. RunEndsAs of (Err g) all b t) (sym unconfigured) (faulty (of (lines_of all)) t s.count NoConfig _ whole is)
 
 -- the result where there are no more lines
-pub known_end : (of : Whole) (a b : Option (List ℕ)) (s : RunState) (p : List ℕ) (e : Bool) (t : List ℕ) (r : Result ℕ StreamFault)
+pub known_end : (of : Whole) (a b : Option (List ℕ)) (s : RunState) (p : List ℕ) (e : Bool) (t : List ℕ) (r : Result ℕ ScriptFault)
     → FollowsKnown of a b s p e t → p ≡ [] → IsAtEnd b → EndsWith s r
     → IfSome a (λ input. RunEndsAs of r input b t)
 known_end of None b s p e t r f none end is = tt
@@ -120,7 +120,7 @@ known_end of (Some all) (Some x) s p e t r f none end is =
     at_the_end of all (Some x) s t r (at_end of all s p x e t f none end) (ap Some end) is
 
 -- the result of a line at which a run ends
-at_fault : (of : Whole) (all : List ℕ) (b : Option (List ℕ)) (s : RunState) (t l : List ℕ) (more : List (List ℕ)) (f : StreamFault)
+at_fault : (of : Whole) (all : List ℕ) (b : Option (List ℕ)) (s : RunState) (t l : List ℕ) (more : List (List ℕ)) (f : ScriptFault)
     → of (lines_of all) ≡ after_text t s.count (s.rest (l ∷ more)) → EndsAtLine s l f
     → RunEndsAs of (Err f) all b t
 at_fault of all b s t l more (BadConfig n) e h = faulty (of (lines_of all)) t s.count (BadConfig n) _ e (h more)
@@ -130,9 +130,10 @@ at_fault of all b s t l more NoConfig e h = absurd h
 at_fault of all b s t l more (LongLine n) e h = absurd h
 at_fault of all b s t l more Read e h = absurd h
 at_fault of all b s t l more Write e h = absurd h
+at_fault of all b s t l more Gather e h = absurd h
 
 -- the result of a run that ends at the line at the front
-pub known_fault : (of : Whole) (a b : Option (List ℕ)) (s : RunState) (p : List ℕ) (e : Bool) (t : List ℕ) (n : ℕ) (f : StreamFault)
+pub known_fault : (of : Whole) (a b : Option (List ℕ)) (s : RunState) (p : List ℕ) (e : Bool) (t : List ℕ) (n : ℕ) (f : ScriptFault)
     → FollowsKnown of a b s p e t → n ≡ line_len p → n ≤ length p
     → (n < length p) ⊎ ((n ≡ length p) × (0 < n) × (e ≡ true)) → (e ≡ true → IsAtEnd b) → EndsAtLine s (take n p) f
     → IfSome a (λ input. RunEndsAs of (Err f) input b t)

@@ -5,8 +5,8 @@ use Rattle.std.specs.Prelude.{IfSome}
 use Rattle.std.specs.Io.KnownBytes.{Appends, IsAtEnd}
 use Rattle.std.proofs.KnownBytes.{Appends-nil, Appends-trans}
 use Rattle.rb_lines.specs.Answers.{AnswersLine, EndsAtLine, EndsWith, IsRunState, RunEndsAs, RunWillEndAs, RunState}
-use Rattle.rb_lines.specs.declared.fault.StreamFault.{StreamFault}
-use Rattle.rb_lines.specs.declared.fault.StreamFault.TheVariants.{LongLine, Read, Write, OutOfMemory}
+use Rattle.rb_lines.specs.declared.fault.ScriptFault.{ScriptFault}
+use Rattle.rb_lines.specs.declared.fault.ScriptFault.TheVariants.{LongLine, Read, Write, OutOfMemory}
 use Rattle.rb_lines.specs.declared.no_line.NoLine.{NoLine}
 use Rattle.rb_lines.specs.declared.no_line.NoLine.TheVariants.{TooLong, OutOfMemory as NoMemory, Read as NotRead, Write as NotWritten}
 use Rattle.rb_lines.specs.Buffers.{Reads, Sends}
@@ -23,7 +23,7 @@ abbrev pub IsAt : Whole → Option (List ℕ) → Option (List ℕ) → Option (
 IsAt of w0 w r0 r s p e buffered = (text : List ℕ) × Appends w0 w text × FollowsKnown of r0 r s p e (text ++ buffered)
 
 -- at the end, where some may still be buffered
-abbrev pub IsOver : Whole → Option (List ℕ) → Option (List ℕ) → Option (List ℕ) → Option (List ℕ) → Result ℕ StreamFault → List ℕ → Type 0
+abbrev pub IsOver : Whole → Option (List ℕ) → Option (List ℕ) → Option (List ℕ) → Option (List ℕ) → Result ℕ ScriptFault → List ℕ → Type 0
 IsOver of w0 w r0 r result buffered = (text : List ℕ) × Appends w0 w text
     × IfSome r0 (λ input. RunWillEndAs of result input r (text ++ buffered))
 
@@ -67,7 +67,7 @@ goes_on of w0 w r0 r s s' p e buffered buffered' n st len fits at_front end answ
 -- ---- the ends
 
 with_front : (of : Whole) (w0 w r0 r : Option (List ℕ)) (s : RunState) (p : List ℕ) (e : Bool) (buffered : List ℕ)
-    (result : Result ℕ StreamFault)
+    (result : Result ℕ ScriptFault)
     → (st : IsAt of w0 w r0 r s p e buffered) → IfSome r0 (λ input. RunEndsAs of result input r (st.0 ++ buffered))
     → IsOver of w0 w r0 r result buffered
 with_front of w0 w r0 r s p e buffered result st ends = (st.0, st.1, both _ _ r0 ends (known_front of r0 r s p e (st.0 ++ buffered) st.2))
@@ -88,7 +88,7 @@ ends_unread of w0 w r0 r s p e buffered st going none is =
 
 -- the line that is next ends the run
 pub ends_at_fault : (of : Whole) (w0 w r0 r : Option (List ℕ)) (s : RunState) (p : List ℕ) (e : Bool) (buffered buffered' : List ℕ) (n : ℕ)
-    (f : StreamFault) → IsAt of w0 w r0 r s p e buffered → n ≡ line_len p → n ≤ length p
+    (f : ScriptFault) → IsAt of w0 w r0 r s p e buffered → n ≡ line_len p → n ≤ length p
     → (n < length p) ⊎ ((n ≡ length p) × (0 < n) × (e ≡ true)) → (e ≡ true → IsAtEnd r) → (buffered' ≡ buffered) × EndsAtLine s (take n p) f
     → IsOver of w0 w r0 r (Err f) buffered'
 ends_at_fault of w0 w r0 r s p e buffered buffered' n f st len fits at_front end (same, fault) =
@@ -97,7 +97,7 @@ ends_at_fault of w0 w r0 r s p e buffered buffered' n f st len fits at_front end
 
 -- there are no more lines
 pub ends_here : (of : Whole) (w0 w r0 r : Option (List ℕ)) (s : RunState) (p : List ℕ) (e : Bool) (buffered : List ℕ)
-    (result : Result ℕ StreamFault) → IsAt of w0 w r0 r s p e buffered → p ≡ [] → IsAtEnd r
+    (result : Result ℕ ScriptFault) → IsAt of w0 w r0 r s p e buffered → p ≡ [] → IsAtEnd r
     → EndsWith s result → IsOver of w0 w r0 r result buffered
 ends_here of w0 w r0 r s p e buffered result st none end is =
     with_front of w0 w r0 r s p e buffered result st (known_end of r0 r s p e (st.0 ++ buffered) result st.2 none end is)
@@ -168,14 +168,14 @@ ends_no_line of w0 w w' r0 r r' s p p' e e' buffered buffered' NoMemory st is ke
 -- ---- after the end
 
 -- what was buffered went out
-pub over_written : (of : Whole) (w0 w w' r0 r : Option (List ℕ)) (result : Result ℕ StreamFault) (buffered : List ℕ)
+pub over_written : (of : Whole) (w0 w w' r0 r : Option (List ℕ)) (result : Result ℕ ScriptFault) (buffered : List ℕ)
     → IsOver of w0 w r0 r result buffered → Appends w w' buffered
     → (text : List ℕ) × Appends w0 w' text × IfSome r0 (λ input. RunEndsAs of result input r text)
 over_written of w0 w w' None r result buffered st written = (st.0 ++ buffered, Appends-trans w0 w w' st.0 buffered st.1 written, tt)
 over_written of w0 w w' (Some x) r result buffered st written = (st.0 ++ buffered, Appends-trans w0 w w' st.0 buffered st.1 written, st.2.0)
 
 -- a prefix of it did
-pub over_unwritten : (of : Whole) (w0 w w' r0 r : Option (List ℕ)) (result : Result ℕ StreamFault) (buffered : List ℕ)
+pub over_unwritten : (of : Whole) (w0 w w' r0 r : Option (List ℕ)) (result : Result ℕ ScriptFault) (buffered : List ℕ)
     → IsOver of w0 w r0 r result buffered → AppendsFront w w' buffered
     → (text : List ℕ) × Appends w0 w' text × IfSome r0 (λ input. RunEndsAs of (Err Write) input r text)
 over_unwritten of w0 w w' None r result buffered st front = (st.0 ++ front.0, Appends-trans w0 w w' st.0 front.0 st.1 front.2, tt)

@@ -2,16 +2,16 @@
 use Rattle.std.specs.Prelude.{◌≡◌, ℕ, ◌+◌, ◌-◌, ◌≤◌, true, List, [], ◌∷◌, ◌++◌, Option, Some, None, Result, Ok, Err}
 use Rattle.rb_lines.specs.Lines.{is_long, lines_of, whole_lines}
 use Rattle.rb_lines.specs.Writes.{IsFront}
-use Rattle.rb_lines.specs.declared.fault.StreamFault.{StreamFault}
-use Rattle.rb_lines.specs.declared.fault.StreamFault.TheVariants.{NoConfig, BadConfig, BadLine, LongLine, Read, Write, OutOfMemory}
+use Rattle.rb_lines.specs.declared.fault.ScriptFault.{ScriptFault}
+use Rattle.rb_lines.specs.declared.fault.ScriptFault.TheVariants.{NoConfig, BadConfig, BadLine, LongLine, Read, Write, OutOfMemory, Gather}
 
 -- what is written for some lines, how many were answered, and what is wrong with the first that is wrong
 pub record LinesOutcome : Type 0 where
   pub text : List ℕ
   pub count : ℕ
-  pub fault : Option StreamFault
+  pub fault : Option ScriptFault
 
-abbrev pub no_outcome : StreamFault → LinesOutcome
+abbrev pub no_outcome : ScriptFault → LinesOutcome
 no_outcome f = record { text = []; count = 0; fault = Some f }
 
 -- the outcome, once this text of this number of answers comes before it
@@ -21,12 +21,12 @@ after_text text count o = record { text = text ++ o.text; count = count + o.coun
 -- ---- how a run ends, where `of` is what lines come to
 
 -- the run ends at a line with this fault, and this is the text of the lines before
-pub record IsFaulty (o : LinesOutcome) (text : List ℕ) (f : StreamFault) : Type 0 where
+pub record IsFaulty (o : LinesOutcome) (text : List ℕ) (f : ScriptFault) : Type 0 where
   pub text_is : o.text ≡ text
   pub fault_is : o.fault ≡ Some f
 
 -- no line so far is wrong
-abbrev pub IsUnfinished : Option StreamFault → Type 0
+abbrev pub IsUnfinished : Option ScriptFault → Type 0
 IsUnfinished None = Unit {0}
 IsUnfinished (Some NoConfig) = Unit {0}
 IsUnfinished (Some (BadConfig n)) = ⊥
@@ -35,6 +35,7 @@ IsUnfinished (Some (LongLine n)) = ⊥
 IsUnfinished (Some Read) = ⊥
 IsUnfinished (Some Write) = ⊥
 IsUnfinished (Some OutOfMemory) = ⊥
+IsUnfinished (Some Gather) = ⊥
 
 -- these bytes of the input were read, and each line of them that has its line feed was answered
 pub record IsAnswered (of : List (List ℕ) → LinesOutcome) (input rest text : List ℕ) : Type 0 where
@@ -43,8 +44,9 @@ pub record IsAnswered (of : List (List ℕ) → LinesOutcome) (input rest text :
   pub text_is : (of (whole_lines taken)).text ≡ text
   pub unfinished : IsUnfinished (of (whole_lines taken)).fault
 
--- the result of a run over this input, of which the second part is left, where the text was written
-abbrev pub RunEndsAs : (List (List ℕ) → LinesOutcome) → Result ℕ StreamFault → List ℕ → Option (List ℕ) → List ℕ → Type 0
+-- the result of a run over this input, of which the second part is left, where the text was written; a run over lines
+-- gathers no histories
+abbrev pub RunEndsAs : (List (List ℕ) → LinesOutcome) → Result ℕ ScriptFault → List ℕ → Option (List ℕ) → List ℕ → Type 0
 RunEndsAs of (Ok n) input left text = (of (lines_of input) ≡ record { text = text; count = n; fault = None }) × (left ≡ Some [])
 RunEndsAs of (Err NoConfig) input left text = IsFaulty (of (lines_of input)) text NoConfig
 RunEndsAs of (Err (BadConfig n)) input left text = IsFaulty (of (lines_of input)) text (BadConfig n)
@@ -53,9 +55,10 @@ RunEndsAs of (Err (LongLine n)) input left text = IsFaulty (of (lines_of input))
 RunEndsAs of (Err Read) input left text = (rest : List ℕ) × (left ≡ Some rest) × IsAnswered of input rest text
 RunEndsAs of (Err Write) input left text = IsFront text (of (lines_of input)).text
 RunEndsAs of (Err OutOfMemory) input left text = IsFront text (of (lines_of input)).text
+RunEndsAs of (Err Gather) input left text = ⊥
 
 -- the same where some of the text is still to be written: whatever prefix of it goes out is a prefix of the whole text
-abbrev pub RunWillEndAs : (List (List ℕ) → LinesOutcome) → Result ℕ StreamFault → List ℕ → Option (List ℕ) → List ℕ → Type 0
+abbrev pub RunWillEndAs : (List (List ℕ) → LinesOutcome) → Result ℕ ScriptFault → List ℕ → Option (List ℕ) → List ℕ → Type 0
 RunWillEndAs of r input left text = RunEndsAs of r input left text × IsFront text (of (lines_of input)).text
 
 -- ---- between two lines
@@ -80,12 +83,12 @@ pub record AnswersLine (old new : RunState) (l text : List ℕ) : Type 0 where
   pub one : new.count ≤ old.count + 1
 
 -- there are no more lines: this number of them was answered, or there was no configuration
-abbrev pub EndsWith : RunState → Result ℕ StreamFault → Type 0
+abbrev pub EndsWith : RunState → Result ℕ ScriptFault → Type 0
 EndsWith s (Ok n) = (n ≡ s.count) × (s.rest [] ≡ record { text = []; count = 0; fault = None })
 EndsWith s (Err f) = (f ≡ NoConfig) × (s.rest [] ≡ no_outcome NoConfig)
 
--- the run ends at this line; nothing is said of running out of memory
-abbrev pub EndsAtLine : RunState → List ℕ → StreamFault → Type 0
+-- the run ends at this line, by one of three faults; nothing is said of running out of memory
+abbrev pub EndsAtLine : RunState → List ℕ → ScriptFault → Type 0
 EndsAtLine s l (BadConfig n) = (ls : List (List ℕ)) → s.rest (l ∷ ls) ≡ no_outcome (BadConfig n)
 EndsAtLine s l (BadLine n) = (ls : List (List ℕ)) → s.rest (l ∷ ls) ≡ no_outcome (BadLine n)
 EndsAtLine s l OutOfMemory = Unit {0}
@@ -93,3 +96,4 @@ EndsAtLine s l NoConfig = ⊥
 EndsAtLine s l (LongLine n) = ⊥
 EndsAtLine s l Read = ⊥
 EndsAtLine s l Write = ⊥
+EndsAtLine s l Gather = ⊥

@@ -1,16 +1,17 @@
-//! Why a run over lines stops.
+//! Why a run stops before its end.
 ghost use Rattle.std.specs.Prelude.{◌≡◌, string_bytes, IfOk};
 ghost use Rattle.rb_lines.specs.Messages.{message_of, status_of};
-ghost use Rattle.rb_lines.specs.declared.fault.StreamFault.TheVariants.{OutOfMemory, Write};
+ghost use Rattle.rb_lines.specs.declared.fault.ScriptFault.TheVariants.{OutOfMemory, Write};
 
 use crate::sink::WriteFailed;
 use std::alloc::{AllocError, Global};
 use std::fmt;
 use thiserror::Error;
 
-/// Why a run over lines stops before its end. Lines are numbered from 1, and those that are skipped count.
+/// Why a script, an audit, a migration or a run of tellers stops before its end. Lines are numbered from 1, and those
+/// that are skipped count.
 #[derive(Clone, Copy, Debug, PartialEq, Eq, Error)]
-pub enum StreamFault {
+pub enum ScriptFault {
     /// Every line is to be skipped.
     NoConfig,
     /// The first line that isn't to be skipped is no configuration.
@@ -23,15 +24,14 @@ pub enum StreamFault {
     Read,
     /// A write failed or took nothing, whatever else there was to say.
     Write,
-    /// There was no memory to go on.
+    /// There was no memory to go on, or a thread couldn't be made.
     OutOfMemory,
+    /// A site's history was full, or is no interleaving of its tellers' receipts: of runs of tellers alone.
+    Gather,
 }
 
-/// Why a script, an audit or a migration stops before its end.
-pub type ScriptFault = StreamFault;
-
 // By hand, since a derived one states no output.
-impl fmt::Display for StreamFault {
+impl fmt::Display for ScriptFault {
     ghost use Rattle.std.specs.Prelude.{Some};
     ghost use Rattle.rb_lines.specs.Messages.{reason_of};
 
@@ -39,51 +39,54 @@ impl fmt::Display for StreamFault {
 
     fn fmt<W: fmt::Write>(&self, f: &mut fmt::Formatter<W>) -> fmt::Result {
         match self {
-            StreamFault::NoConfig => f.write_str("no configuration"),
-            StreamFault::BadConfig { line } => write!(f, "line {line}: bad configuration"),
-            StreamFault::BadLine { line } => write!(f, "line {line}: bad line"),
-            StreamFault::LongLine { line } => write!(f, "line {line}: line too long"),
-            StreamFault::Read => f.write_str("read failed"),
-            StreamFault::Write => f.write_str("write failed"),
-            StreamFault::OutOfMemory => f.write_str("out of memory"),
+            ScriptFault::NoConfig => f.write_str("no configuration"),
+            ScriptFault::BadConfig { line } => write!(f, "line {line}: bad configuration"),
+            ScriptFault::BadLine { line } => write!(f, "line {line}: bad line"),
+            ScriptFault::LongLine { line } => write!(f, "line {line}: line too long"),
+            ScriptFault::Read => f.write_str("read failed"),
+            ScriptFault::Write => f.write_str("write failed"),
+            ScriptFault::OutOfMemory => f.write_str("out of memory"),
+            ScriptFault::Gather => f.write_str("gather failed"),
         }
     }
 }
 
-impl From<AllocError> for StreamFault {
+impl From<AllocError> for ScriptFault {
     ghost from_gives = { λ _ fault. fault ≡ OutOfMemory };
 
-    fn from(_: AllocError) -> StreamFault {
-        StreamFault::OutOfMemory
+    fn from(_: AllocError) -> ScriptFault {
+        ScriptFault::OutOfMemory
     }
 }
 
-impl From<WriteFailed> for StreamFault {
+impl From<WriteFailed> for ScriptFault {
     ghost from_gives = { λ _ fault. fault ≡ Write };
 
-    fn from(_: WriteFailed) -> StreamFault {
-        StreamFault::Write
+    fn from(_: WriteFailed) -> ScriptFault {
+        ScriptFault::Write
     }
 }
 
 /// What a program says on standard error, without the line feed. An `Err` means out of memory.
-pub fn message(alloc: Global, fault: StreamFault) -> Result<String, AllocError>
+pub fn message(alloc: Global, fault: ScriptFault) -> Result<String, AllocError>
     ensures { IfOk result (λ text. string_bytes text ≡ message_of fault) }
 {
     format!(in alloc; "rbbank: {fault}")
 }
 
-/// A program's exit status: 2 where the input is wrong, 3 where a read or a write failed, 4 where memory ran out.
-pub fn status(fault: StreamFault) -> u8
+/// A program's exit status: 2 where the input is wrong, 3 where a read or a write failed, 4 where memory ran out, 5 where
+/// histories can't be gathered.
+pub fn status(fault: ScriptFault) -> u8
     ensures { result ≡ status_of fault }
 {
     match fault {
-        StreamFault::NoConfig => 2,
-        StreamFault::BadConfig { line: _ } => 2,
-        StreamFault::BadLine { line: _ } => 2,
-        StreamFault::LongLine { line: _ } => 2,
-        StreamFault::Read => 3,
-        StreamFault::Write => 3,
-        StreamFault::OutOfMemory => 4,
+        ScriptFault::NoConfig => 2,
+        ScriptFault::BadConfig { line: _ } => 2,
+        ScriptFault::BadLine { line: _ } => 2,
+        ScriptFault::LongLine { line: _ } => 2,
+        ScriptFault::Read => 3,
+        ScriptFault::Write => 3,
+        ScriptFault::OutOfMemory => 4,
+        ScriptFault::Gather => 5,
     }
 }

@@ -20,7 +20,7 @@ mod to_writer;
 mod write;
 
 pub use buffers::Buffers;
-pub use fault::{ScriptFault, StreamFault, message, status};
+pub use fault::{ScriptFault, message, status};
 pub use from_bytes::FromBytes;
 pub use from_reader::FromReader;
 pub use limits::{LINE_LIMIT, MOST_BUFFERED, MOST_READS, READ_SIZE};

@@ -4,7 +4,7 @@ ghost use Rattle.rb_lines.specs.Faults.{fault_at};
 ghost use Rattle.rb_lines.specs.declared.no_line.NoLine.TheVariants.{OutOfMemory as NoMemory, Read as NotRead};
 ghost use Rattle.rb_lines.specs.declared.no_line.NoLine.TheVariants.{Write as NotWritten};
 
-use crate::fault::StreamFault;
+use crate::fault::ScriptFault;
 use crate::sink::WriteFailed;
 use crate::source::ReadFailed;
 use std::alloc::AllocError;
@@ -20,14 +20,14 @@ pub enum NoLine {
 
 impl NoLine {
     /// The fault of a run that stops here; its next line has this number, from 1.
-    pub fn fault_at(self, line: u64) -> StreamFault
+    pub fn fault_at(self, line: u64) -> ScriptFault
         ensures { result ≡ fault_at self line }
     {
         match self {
-            NoLine::TooLong => StreamFault::LongLine { line },
-            NoLine::Read => StreamFault::Read,
-            NoLine::Write => StreamFault::Write,
-            NoLine::OutOfMemory => StreamFault::OutOfMemory,
+            NoLine::TooLong => ScriptFault::LongLine { line },
+            NoLine::Read => ScriptFault::Read,
+            NoLine::Write => ScriptFault::Write,
+            NoLine::OutOfMemory => ScriptFault::OutOfMemory,
         }
     }
 }

@@ -3,7 +3,7 @@ ghost use Rattle.std.specs.Prelude.{◌≡◌, ◌++◌, ◌^◌, ◌<◌, ◌�
 ghost use Rattle.rb_lines.specs.Answers.{AnswersLine, EndsAtLine, EndsWith, IsRunState, RunState};
 ghost use Rattle.rb_lines.specs.declared.limits.TheConstants.{LINE_LIMIT};
 
-use crate::fault::StreamFault;
+use crate::fault::ScriptFault;
 use std::alloc::Global;
 
 /// What answers the lines of a run, one after another.
@@ -22,7 +22,7 @@ pub trait Responder {
         alloc: Global,
         line: &[u8],
         buffered: &mut Vec<u8>,
-    ) -> Result<(), StreamFault>
+    ) -> Result<(), ScriptFault>
         requires short { length line.now ≤ LINE_LIMIT }
         requires number { (state self.old).number < 2 ^ 63 }
         requires count { (state self.old).count < 2 ^ 63 }
@@ -32,7 +32,7 @@ pub trait Responder {
             (λ fault. (buffered.new.items ≡ buffered.old.items) × EndsAtLine (state self.old) line.now fault) };
 
     /// Where there are no more lines: how many were answered, or that there was no configuration.
-    fn end(&self) -> Result<u64, StreamFault>
+    fn end(&self) -> Result<u64, ScriptFault>
         ensures { EndsWith (state self.now) result };
 
     // A line that is too long ends the run, and no line is no text and no bad line.

@@ -2,11 +2,11 @@
 ghost use Rattle.std.specs.Prelude.{◌≡◌, ◌↔◌, ◌+◌, ◌++◌, ◌≤◌, ◌⊎◌, List, [], ℕ, true, false, Err, IfSome};
 ghost use Rattle.std.specs.Io.KnownBytes.{Appends};
 ghost use Rattle.rb_lines.specs.Answers.{RunEndsAs, RunWillEndAs};
-ghost use Rattle.rb_lines.specs.declared.fault.StreamFault.TheVariants.{Read, Write};
+ghost use Rattle.rb_lines.specs.declared.fault.ScriptFault.TheVariants.{Read, Write};
 ghost use Rattle.rb_lines.specs.declared.limits.TheConstants.{MOST_READS};
 
 use crate::buffers::Buffers;
-use crate::fault::StreamFault;
+use crate::fault::ScriptFault;
 use crate::responder::Responder;
 use crate::sink::Sink;
 use crate::source::Source;
@@ -21,7 +21,7 @@ fn answer_lines<S: Source, W: Sink, R: Responder>(
     writer: &mut W,
     responder: &mut R,
     buffers: &mut Buffers,
-) -> Result<u64, StreamFault>
+) -> Result<u64, ScriptFault>
     requires unread { S.calls reader.old ≡ 0 }
     requires fresh { W.failed writer.old ≡ false }
     requires first { (R.state responder.old).number ≡ 1 }
@@ -59,7 +59,7 @@ pub fn run_lines<S: Source, W: Sink, R: Responder>(
     reader: &mut S,
     writer: &mut W,
     responder: &mut R,
-) -> Result<u64, StreamFault>
+) -> Result<u64, ScriptFault>
     requires unread { S.calls reader.old ≡ 0 }
     requires fresh { W.failed writer.old ≡ false }
     requires first { (R.state responder.old).number ≡ 1 }

@@ -1,6 +1,6 @@
 use Rattle.std.proofs.Common.{rules, ◌≡◌, Err}
 use Rattle.rb_lines.proofs.Progress.{over_unwritten, over_written}
-use Rattle.rb_lines.specs.declared.fault.StreamFault.TheVariants.{Write}
+use Rattle.rb_lines.specs.declared.fault.ScriptFault.TheVariants.{Write}
 use Rattle.rb_lines.proofs.run.run_lines.Goals as goal
 
 pub returns-clause-written : goal.returns-clause-written
