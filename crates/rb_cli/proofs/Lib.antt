@@ -1,2 +1,6 @@
 mod Added
 mod Given
+mod Options
+mod Passing
+mod Reading
+mod Usual

@@ -1,17 +1,17 @@
--- The words that ask for each thing, and the command line that takes them.
+-- The words that ask for each thing, the command line that takes them, and what it reads them as.
 use Rattle.std.specs.Prelude.{◌≡◌, ◌<◌, ◌≤◌, ◌+◌, ◌*◌, ◌^◌, ℕ, pos, List, [], ◌∷◌, length, codes, decimal, Bool, true, false}
-use Rattle.std.specs.Prelude.{Option, None, Some, slice_get}
-use Rattle.clap.specs.Words.{App, Kinds, Rule, Shape, fault_of, new_app, new_rule, with_rule, with_subcommand}
-use Rattle.clap.specs.Kinds.{or_else}
+use Rattle.std.specs.Prelude.{Option, None, Some, IfSome, if◌then◌else◌, option_map, slice_get}
+use Rattle.std.specs.Str.{bytes_eq}
+use Rattle.std.specs.Str.Parse.{IsNumeral, digits_value, without_leading_plus}
+use Rattle.clap.specs.Words.{App, Row, Rule, Shape, Text, first_of, new_app, new_rule, one_of, subcommand_of, with_rule, with_subcommand}
 use Rattle.clap.specs.declared.builder.value_parser.ValueParser.{ValueParser}
 use Rattle.clap.specs.declared.builder.value_parser.ValueParser.TheVariants.{Signed}
-use Rattle.clap.specs.declared.error.kind.ErrorKind.TheVariants.{InvalidSubcommand}
 use Rattle.rb_money.specs.declared.limits.TheConstants.{MOST_HISTORY, MOST_SITES}
 use Rattle.rb_cli.specs.declared.words.TheConstants.{MOST_TELLERS}
 use Rattle.rb_cli.specs.declared.words.Words.{Words}
 use Rattle.rb_cli.specs.declared.words.Words.TheVariants.{Script, Audit, Migrate, Threads, Site}
 
--- ---- what the words ask for
+-- ---- words in their usual spelling: each option's name, and its value behind it, in a word of its own
 
 -- one of the options behind the first word has this name, and this text behind it
 abbrev pub IsGiven : List (List ℕ) → List ℕ → List ℕ → Type 0
@@ -56,7 +56,7 @@ Ask words Migrate = words ≡ codes "migrate" ∷ []
 Ask words (Threads sites tellers seed) = AskForThreads words sites tellers seed
 Ask words (Site me journal resend) = AskForSite words me journal.now resend
 
--- ---- the command line, which says what is wrong with other words
+-- ---- the command line
 
 -- the command line before its subcommand: the words don't begin with the program's name, and it says its version
 abbrev pub top_line : Shape
@@ -95,7 +95,84 @@ plain_line =
 abbrev pub command_line : App
 command_line = with_subcommand (with_subcommand plain_line threads_line.top) site_line.top
 
--- the kinds of error that words may end in, out of memory aside: those of the first word that the command line doesn't
--- take, and where it takes all, that they ask for nothing
-abbrev pub kinds_of : List (List ℕ) → Kinds
-kinds_of words = or_else (fault_of command_line words) (InvalidSubcommand ∷ [])
+-- ---- what the command line reads words as
+
+-- what is asked for, with the file's name as text
+pub data Asked : Type 0 where
+  script : Asked
+  audit : Asked
+  migrate : Asked
+  threads : ℕ → ℕ → ℕ → Asked
+  site : ℕ → Text → Option ℕ → Asked
+
+abbrev pub asked_of : Words → Asked
+asked_of Script = script
+asked_of Audit = audit
+asked_of Migrate = migrate
+asked_of (Threads sites tellers seed) = threads sites tellers seed
+asked_of (Site me journal resend) = site me journal.now resend
+
+-- the number that a text is, which may have a plus sign and zeros in front
+abbrev pub number_of : Text → ℕ
+number_of text = digits_value 10 (without_leading_plus text)
+
+-- the number of the option with this name, where it is given
+abbrev pub number_at : Text → List Row → Option ℕ
+number_at name rows = option_map number_of (one_of name rows)
+
+-- a run of threads has all three of its options
+abbrev pub with_run : Option ℕ → Option ℕ → Option ℕ → Option Asked
+with_run (Some sites) (Some tellers) (Some seed) = Some (threads sites tellers seed)
+with_run _ _ _ = None
+
+abbrev pub threads_of : List Row → Option Asked
+threads_of rows = with_run (number_at (codes "sites") rows) (number_at (codes "tellers") rows) (number_at (codes "seed") rows)
+
+-- a site has its number and its file, and may have how many last entries' messages are written again
+abbrev pub with_site : Option ℕ → Option Text → Option ℕ → Option Asked
+with_site (Some me) (Some journal) resend = Some (site me journal resend)
+with_site _ _ _ = None
+
+abbrev pub site_of : List Row → Option Asked
+site_of rows = with_site (number_at (codes "me") rows) (first_of (codes "journal") rows) (number_at (codes "resend") rows)
+
+-- what a command with its options asks for
+abbrev pub words_of_command : Text → List Row → Option Asked
+words_of_command name rows =
+    if bytes_eq name (codes "script") then Some script else if bytes_eq name (codes "audit") then Some audit
+    else if bytes_eq name (codes "migrate") then Some migrate else if bytes_eq name (codes "threads") then threads_of rows
+    else if bytes_eq name (codes "site") then site_of rows else None
+
+-- what the command that a parse met asks for, with what it found of its options
+abbrev pub words_of_matches : Option (Text × List Row) → Option Asked
+words_of_matches None = None
+words_of_matches (Some met) = words_of_command met.0 met.1
+
+-- the words are read as this
+abbrev pub IsRead : List Text → Words → Type 0
+IsRead words asked = words_of_matches (subcommand_of command_line words) ≡ Some (asked_of asked)
+
+-- what is asked for is within its limits
+abbrev pub IsInRange : Asked → Type 0
+IsInRange (threads sites tellers seed) =
+    (2 ≤ sites) × (sites ≤ MOST_SITES) × (1 ≤ tellers) × (tellers ≤ MOST_TELLERS) × (seed < 2 ^ 32)
+IsInRange (site me journal resend) = (me < MOST_SITES) × IfSome resend (λ n. n ≤ MOST_HISTORY)
+IsInRange _ = Unit {0}
+
+-- ---- what is known of the options of a command that was met
+
+-- the text is a number from the first to the second
+abbrev pub IsNumberWithin : ℕ → ℕ → Text → Type 0
+IsNumberWithin least most text = IsNumeral 10 (without_leading_plus text) × (least ≤ number_of text) × (number_of text ≤ most)
+
+-- the option, where it is given, is such a number
+abbrev pub FitsWithin : ℕ → ℕ → Text → List Row → Type 0
+FitsWithin least most name rows = IfSome (one_of name rows) (IsNumberWithin least most)
+
+-- the options of a command with this name have numbers within their limits
+pub record AreFit (name : Text) (rows : List Row) : Type 0 where
+  pub sites : name ≡ codes "threads" → FitsWithin 2 MOST_SITES (codes "sites") rows
+  pub tellers : name ≡ codes "threads" → FitsWithin 1 MOST_TELLERS (codes "tellers") rows
+  pub seed : name ≡ codes "threads" → FitsWithin 0 4294967295 (codes "seed") rows
+  pub me : name ≡ codes "site" → FitsWithin 0 15 (codes "me") rows
+  pub resend : name ≡ codes "site" → FitsWithin 0 MOST_HISTORY (codes "resend") rows

@@ -4,7 +4,6 @@
 
 mod arguments;
 mod command_line;
-mod options;
 mod texts;
 mod words;
 

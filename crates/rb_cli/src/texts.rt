@@ -60,10 +60,6 @@ pub const JOURNAL: &str = "The file that the site's history is kept in";
 pub const RESEND: &str =
     "How many of the last entries have their messages written again, 0 to 100000000; all without it";
 
-/// What is wrong with words that ask for nothing, where the command line takes them.
-pub const NOT_ASKED: &str =
-    "each option is a word, and its value the next word; a number has no sign and no zero in front";
-
 /// A script with its replies, the refusals and the statuses.
 pub const SCRIPT_HELP: &str =
     r#"The first line is the configuration, and each later line a command at a site. A deposit is made
@@ -188,7 +184,7 @@ What is indented further here is the rest of the line above it. A message is giv
 as it is: an operation to every other site, the token to the site that it is for. A journal that is there goes on:
 first the messages of its last N entries are written again, those of all entries where --resend isn't given.
 
-The options have any order, each value in a word of its own; a file's name that begins with - is written ./-
+The options have any order, as --me 0 or as --me=0; a file's name that begins with - is written ./-
 
 Statuses:
   0  every line was answered
@@ -206,7 +202,7 @@ as the lines that an audit reads:
 
   rbbank threads --sites 3 --tellers 4 --seed 7 | rbbank audit
 
-Each option is wanted, in any order, its number in a word of its own, with no sign and no zero in front.
+Each option is wanted, in any order, as --seed 7 or as --seed=7.
 Which histories come out differs from run to run.
 
 Statuses:

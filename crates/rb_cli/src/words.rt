@@ -1,14 +1,12 @@
 //! What a command line asks for.
-ghost use Rattle.std.specs.Prelude.{◌≡◌, codes, length, map, slice_get, IfErr, IfNone, IfOk, IfSome, IsErr, Some};
-ghost use Rattle.clap.specs.Words.{HasKind, app_of};
-ghost use Rattle.rb_cli.specs.Words.{Ask, command_line as line, kinds_of};
+ghost use Rattle.std.specs.Prelude.{◌≡◌, codes, map, option_map, IfErr, IfOk, IfSome};
+ghost use Rattle.clap.specs.Words.{FailsBy, fault_of, found_of, kind_of, rows_of, subcommand_rows_of};
+ghost use Rattle.clap.specs.declared.error.kind.ErrorKind.TheVariants.{OutOfMemory};
+ghost use Rattle.rb_cli.specs.Words.{AreFit, Ask, FitsWithin, IsInRange, IsRead, asked_of, command_line as line};
+ghost use Rattle.rb_cli.specs.Words.{number_at, site_of, threads_of, words_of_matches};
 
 use crate::command_line::command_line;
-use crate::options::{file_of, number_of};
-use crate::texts;
-use clap::error::ErrorKind;
-use clap::{Command, Error};
-use rb_money::{MOST_HISTORY, MOST_SITES};
+use clap::{ArgMatches, Error};
 use std::alloc::Global;
 
 /// The most tellers of a run.
@@ -39,16 +37,22 @@ pub enum Words<'a> {
     },
 }
 
-/// The run of threads that seven words ask for, the first of which is its name.
-fn threads<'a>(words: &[&'a str]) -> Option<Words<'a>>
-    requires count { length words.now ≡ 7 }
-    requires first { slice_get (map (λ word. word.now) words.now) 0 ≡ Some (codes "threads") }
-    ensures some { IfSome result (Ask (map (λ word. word.now) words.now)) }
-    ensures none { IfNone result ((asked : Words) → ¬ Ask (map (λ word. word.now) words.now) asked) }
+/// The number of an option, where it is given.
+fn number(given: &ArgMatches, name: &str) -> Option<u32>
+    requires { FitsWithin 0 4294967295 name.now (rows_of (found_of given.now)) }
+    ensures { result ≡ number_at name.now (rows_of (found_of given.now)) }
 {
-    let sites = number_of(words, "--sites", 2, MOST_SITES as u32)?;
-    let tellers = number_of(words, "--tellers", 1, MOST_TELLERS)?;
-    let seed = number_of(words, "--seed", 0, u32::MAX)?;
+    given.get_one(name)
+}
+
+/// The run of threads that its options ask for.
+fn threads<'a>(given: &ArgMatches<'a>) -> Option<Words<'a>>
+    requires { AreFit (codes "threads") (rows_of (found_of given.now)) }
+    ensures { option_map asked_of result ≡ threads_of (rows_of (found_of given.now)) }
+{
+    let sites = number(given, "sites")?;
+    let tellers = number(given, "tellers")?;
+    let seed = number(given, "seed")?;
     Some(Words::Threads {
         sites: sites as u8,
         tellers: tellers as u8,
@@ -56,84 +60,57 @@ fn threads<'a>(words: &[&'a str]) -> Option<Words<'a>>
     })
 }
 
-/// The site that five words ask for, the first of which is its name. Its messages are all written again.
-fn site<'a>(words: &[&'a str]) -> Option<Words<'a>>
-    requires count { length words.now ≡ 5 }
-    requires first { slice_get (map (λ word. word.now) words.now) 0 ≡ Some (codes "site") }
-    ensures some { IfSome result (Ask (map (λ word. word.now) words.now)) }
-    ensures none { IfNone result ((asked : Words) → ¬ Ask (map (λ word. word.now) words.now) asked) }
+/// The site that its options ask for.
+fn site<'a>(given: &ArgMatches<'a>) -> Option<Words<'a>>
+    requires { AreFit (codes "site") (rows_of (found_of given.now)) }
+    ensures { option_map asked_of result ≡ site_of (rows_of (found_of given.now)) }
 {
-    let me = number_of(words, "--me", 0, MOST_SITES as u32 - 1)?;
-    let journal = file_of(words, "--journal")?;
+    let me = number(given, "me")?;
+    let journal = given.get_str("journal")?;
+    let resend = number(given, "resend");
     Some(Words::Site {
         me: me as u8,
         journal,
-        resend: None,
+        resend,
     })
 }
 
-/// The site that seven words ask for, the first of which is its name, and how many entries' messages are written again.
-fn site_again<'a>(words: &[&'a str]) -> Option<Words<'a>>
-    requires count { length words.now ≡ 7 }
-    requires first { slice_get (map (λ word. word.now) words.now) 0 ≡ Some (codes "site") }
-    ensures some { IfSome result (Ask (map (λ word. word.now) words.now)) }
-    ensures none { IfNone result ((asked : Words) → ¬ Ask (map (λ word. word.now) words.now) asked) }
+/// What the command that was met asks for, with its options.
+fn asked_by<'a>(matches: &ArgMatches<'a>) -> Option<Words<'a>>
+    requires { IfSome (subcommand_rows_of matches.now) (λ met. AreFit met.0 met.1) }
+    ensures { option_map asked_of result ≡ words_of_matches (subcommand_rows_of matches.now) }
 {
-    let me = number_of(words, "--me", 0, MOST_SITES as u32 - 1)?;
-    let journal = file_of(words, "--journal")?;
-    let resend = number_of(words, "--resend", 0, MOST_HISTORY)?;
-    Some(Words::Site {
-        me: me as u8,
-        journal,
-        resend: Some(resend),
-    })
-}
-
-/// What the words ask for, where they are just its words.
-fn asked_for<'a>(words: &[&'a str]) -> Option<Words<'a>>
-    ensures some { IfSome result (Ask (map (λ word. word.now) words.now)) }
-    ensures none { IfNone result ((asked : Words) → ¬ Ask (map (λ word. word.now) words.now) asked) }
-{
-    match words {
-        ["script"] => Some(Words::Script),
-        ["audit"] => Some(Words::Audit),
-        ["migrate"] => Some(Words::Migrate),
-        ["threads", _, _, _, _, _, _] => threads(words),
-        ["site", _, _, _, _] => site(words),
-        ["site", _, _, _, _, _, _] => site_again(words),
+    let (name, given) = matches.subcommand()?;
+    match name {
+        "script" => Some(Words::Script),
+        "audit" => Some(Words::Audit),
+        "migrate" => Some(Words::Migrate),
+        "threads" => threads(given),
+        "site" => site(given),
         _ => None,
     }
-}
-
-/// The error that this command line has for words that ask for nothing. Where it takes the words, the error says so.
-fn refused_by<'a>(command: &mut Command<'a>, words: &'a [&'a str]) -> Result<Words<'a>, Error>
-    requires { app_of command.now ≡ line }
-    ensures err { IsErr result }
-    ensures kinds { IfErr result (HasKind (kinds_of (map (λ word. word.now) words.entry.now))) }
-{
-    command.try_get_matches_from_mut(words)?;
-    Err(command.error(ErrorKind::InvalidSubcommand, texts::NOT_ASKED)?)
-}
-
-/// The error that the program's command line has for words that ask for nothing.
-fn refused<'a>(alloc: Global, words: &'a [&'a str]) -> Result<Words<'a>, Error>
-    ensures err { IsErr result }
-    ensures kinds { IfErr result (HasKind (kinds_of (map (λ word. word.now) words.entry.now))) }
-{
-    refused_by(&mut command_line(alloc)?, words)
 }
 
 /// What the words after the program's name ask for. The error has the text to show: `ErrorKind::DisplayHelp` is help
 /// that was asked for, `ErrorKind::DisplayVersion` the version.
 pub fn read_words<'a>(alloc: Global, words: &'a [&'a str]) -> Result<Words<'a>, Error>
-    ensures ok { IfOk result (Ask (map (λ word. word.now) words.entry.now)) }
-    // Words that ask for something never fail.
-    ensures err { IfErr result (λ _. (asked : Words) → ¬ Ask (map (λ word. word.now) words.entry.now) asked) }
-    // An error's kind is what the words are for: help and the version only where they ask for it.
-    ensures kinds { IfErr result (HasKind (kinds_of (map (λ word. word.now) words.entry.now))) }
+    // What the command line reads the words as.
+    ensures ok { IfOk result (IsRead (map (λ word. word.now) words.entry.now)) }
+    ensures ranges { IfOk result (λ asked. IsInRange (asked_of asked)) }
+    // Ok comes only for words that the command line takes, and an error's kind is what is wrong with the words, or out
+    // of memory: help and the version only where they ask for it.
+    ensures kinds { FailsBy (fault_of line (map (λ word. word.now) words.entry.now)) result }
+    // Words that ask for something, each option's name and value in a word of its own, are read as that, and refused for
+    // want of memory alone.
+    ensures usual { IfOk result
+        (λ read. (asked : Words) → Ask (map (λ word. word.now) words.entry.now) asked → asked_of read ≡ asked_of asked) }
+    ensures err { IfErr result
+        (λ e. (asked : Words) → Ask (map (λ word. word.now) words.entry.now) asked → kind_of e ≡ OutOfMemory) }
 {
-    if let Some(asked) = asked_for(words) {
-        return Ok(asked);
+    let mut command = command_line(alloc)?;
+    let matches = command.try_get_matches_from_mut(words)?;
+    match asked_by(&matches) {
+        Some(asked) => Ok(asked),
+        None => unreachable!(),
     }
-    refused(alloc, words)
 }

@@ -1,0 +1,310 @@
+-- Words that the command line takes ask for something, within its limits.
+use Rattle.std.proofs.Common.{◌≡◌, ◌∙◌, ◌≤◌, ◌&&◌, ◌||◌, ℕ, Bool, cond, codes, true, false, true≢false, not, refl, sym, subst, arith, List, [], ◌∷◌, Option, Some, None, inl, inr, is_some}
+use Rattle.std.specs.Prelude.{IfSome, find, fold, option_map}
+use Rattle.std.specs.Option.{option_map_or}
+use Rattle.std.specs.Str.{bytes_eq}
+use Rattle.std.proofs.lemmas.Slice.Eq.{bytes_eq-Decides}
+use Rattle.clap.specs.Lexer.{long_of, short_of, without_minus}
+use Rattle.clap.specs.Kinds.{or_else}
+use Rattle.clap.specs.Faults.{check_fault, entered_fault, fault_of, level_fault, other_fault, step_fault, walk_fault, word_fault}
+use Rattle.clap.specs.Simple.{App, Shape, new_app, built, entered, label_of, names_of, built_leaf, filled, inherited, marked_built, rows_at, subcommand_of, with_leaf_noted}
+use Rattle.clap.specs.Takes.{is_given}
+use Rattle.clap.specs.Walk.{Held, Names, Outcome, Row, Rule, Step, Text, Waiting, Walk, after_flag, after_step, answers_to, arg_by_index, bundle, idle, long_met, arg_by_long}
+use Rattle.clap.specs.Walk.{done, long_or_other, next, nothing_held, one_of, option, plain, plain_word, positional, refused, rows_after, short_or_plain, stop_after, subcommand, subcommand_met, subcommand_or_other}
+use Rattle.clap.specs.Walk.{to_positional, trailing, value, waits, walk_from, walked, walked_from, word_met}
+use Rattle.clap.specs.declared.error.kind.ErrorKind.TheVariants.{DisplayHelp, InvalidSubcommand, MissingSubcommand}
+use Rattle.clap.proofs.OnLiterals.{clap_on_literals}
+use Rattle.rb_money.specs.declared.limits.TheConstants.{MOST_HISTORY, MOST_SITES}
+use Rattle.rb_cli.specs.declared.words.TheConstants.{MOST_TELLERS}
+use Rattle.rb_cli.specs.Words.{AreFit, Asked, IsInRange, IsNumberWithin, command_line, option_rule, site_line, threads_line, within, number_of, words_of_matches, script, audit, migrate, threads, site}
+use Rattle.rb_cli.proofs.Options.{HasText, at_option, fits, given_text, none_missing, leaf_passes, number_of_text}
+use Rattle.rb_cli.proofs.Passing.{Each, HasOptions, Passes, found_in, never, none_of}
+
+-- ---- help is no command that is run
+
+abbrev IsOther : Text → Type 0
+IsOther name = bytes_eq name (codes "help") ≡ false
+
+abbrev StopsElsewhere : Option (Text × List Text) → Type 0
+StopsElsewhere None = Unit {0}
+StopsElsewhere (Some p) = IsOther p.0
+
+abbrev StepsElsewhere : Step → Type 0
+StepsElsewhere (subcommand name) = IsOther name
+StepsElsewhere (next w) = Unit {0}
+StepsElsewhere (trailing p) = Unit {0}
+StepsElsewhere value = Unit {0}
+
+plain_step : (c : List Rule) (waiting : Waiting) (word : Text) (h : Held) → StepsElsewhere (plain_word c waiting word h).1
+plain_step c idle word h = tt
+plain_step c (option id) word h = tt
+plain_step c positional word h = tt
+
+flag_step : (c : List Rule) (waiting : Waiting) (word : Text) (h : Held) (out : Outcome) → StepsElsewhere (after_flag c waiting word h out).1
+flag_step c waiting word h done = tt
+flag_step c waiting word h (waits id) = tt
+flag_step c waiting word h plain = plain_step c waiting word h
+flag_step c waiting word h refused = plain_step c waiting word h
+
+short_step : (c : List Rule) (waiting : Waiting) (word : Text) (short : Option Text) (h : Held)
+    → StepsElsewhere (short_or_plain c waiting word short h).1
+short_step c waiting word None h = plain_step c waiting word h
+short_step c waiting word (Some flags) h = flag_step c waiting word (bundle c flags h).0 (bundle c flags h).1
+
+long_step : (c : List Rule) (waiting : Waiting) (word : Text) (long : Option (Text × Option Text)) (h : Held)
+    → StepsElsewhere (long_or_other c waiting word long h).1
+long_step c waiting word (Some p) h =
+    flag_step c waiting word (long_met c (arg_by_long c p.0) p.1 h).0 (long_met c (arg_by_long c p.0) p.1 h).1
+long_step c waiting word None h = short_step c waiting word (short_of word) h
+
+other_step : (s : Shape) → s.disable_help_subcommand ≡ false → (name : Option Text) (waiting : Waiting) (position : ℕ) (word : Text) (h : Held)
+    → other_fault s name word h ≡ [] → StepsElsewhere (subcommand_or_other s.rules name waiting position word h).1
+other_step s has (Some name) waiting position word h none = go (bytes_eq name (codes "help")) s.disable_help_subcommand has none
+  where
+    go : (b disabled : Bool) → disabled ≡ false → cond (b && not disabled) (DisplayHelp ∷ InvalidSubcommand ∷ []) [] ≡ [] → b ≡ false
+    go true true is e = is
+    go true false is e = absurd (never DisplayHelp (InvalidSubcommand ∷ []) e)
+    go false disabled is e = refl
+other_step s has None waiting position word h none = go (bytes_eq word (45 ∷ 45 ∷ []))
+  where
+    go : (b : Bool) → StepsElsewhere (cond b (h, trailing position) (long_or_other s.rules waiting word (long_of word) h)).1
+    go true = tt
+    go false = long_step s.rules waiting word (long_of word) h
+
+word_step : (s : Shape) (names : Names) → s.disable_help_subcommand ≡ false → (is_trailing : Bool) (waiting : Waiting) (position : ℕ)
+    → (word : Text) (h : Held) → word_fault s names is_trailing waiting word h ≡ []
+    → StepsElsewhere (word_met s.rules names is_trailing waiting position word h).1
+word_step s names has true waiting position word h none = tt
+word_step s names has false waiting position word h none =
+    other_step s has (subcommand_met names waiting word) waiting position word h none
+
+after_stop : (s : Shape) (word : Text) (w : Walk) (h : Held) (step : Step) → StepsElsewhere step → StopsElsewhere w.stopped
+    → StopsElsewhere (after_step s.rules word w h step).stopped
+after_stop s word w h (next waiting) ok was = was
+after_stop s word w h (trailing position) ok was = was
+after_stop s word w h (subcommand name) ok was = ok
+after_stop s word w h value ok was = go (arg_by_index s.rules w.position)
+  where
+    go : (found : Option Rule) → StopsElsewhere (to_positional s.rules found word w h).stopped
+    go None = was
+    go (Some a) = tt
+
+turn_stop : (s : Shape) (names : Names) → s.disable_help_subcommand ≡ false → (w : Walk) (word : Text) (stop : Option (Text × List Text))
+    → stop ≡ w.stopped
+    → cond (is_some stop) []
+    (or_else (word_fault s names w.is_trailing w.waiting word w.held)
+    (step_fault s w.position (word_met s.rules names w.is_trailing w.waiting w.position word w.held).0
+    (word_met s.rules names w.is_trailing w.waiting w.position word w.held).1)) ≡ []
+    → StopsElsewhere w.stopped → StopsElsewhere (walked_from s.rules names stop w word).stopped
+turn_stop s names has w word (Some p) at none was = subst StopsElsewhere (sym at) was
+turn_stop s names has w word None at none was =
+    after_stop s word w _ _ (word_step s names has w.is_trailing w.waiting w.position word w.held (none_of _ _ none).0) was
+
+walk_stop : (s : Shape) (names : Names) → s.disable_help_subcommand ≡ false → (w : Walk) (words : List Text)
+    → walk_fault s names w words ≡ [] → StopsElsewhere w.stopped → StopsElsewhere (fold (walked s.rules names) w words).stopped
+unfolding clap_on_literals
+walk_stop s names has w [] none was = was
+walk_stop s names has w (word ∷ words) none was =
+    let parts = none_of _ _ none in
+    walk_stop s names has (walked s.rules names w word) words parts.1 (turn_stop s names has w word w.stopped refl parts.0 was)
+
+-- ---- what each command asks for
+
+-- what a parse met asks for something, within its limits
+pub record Asks (met : Option (Text × List Row)) : Type 0 where
+  pub asked : Asked
+  pub is : words_of_matches met ≡ Some asked
+  pub in_range : IsInRange asked
+  pub fit : IfSome met (λ m. AreFit m.0 m.1)
+
+other_text : (a b : Text) → bytes_eq a b ≡ false → a ≡ b → ⊥
+other_text a b differ same = true≢false (sym ((bytes_eq-Decides a b).1 same) ∙ differ)
+
+no_options : (name : Text) (rows : List Row) → bytes_eq name (codes "threads") ≡ false → bytes_eq name (codes "site") ≡ false → AreFit name rows
+no_options name rows no_threads no_site = record {
+  sites = λ is. absurd (other_text _ _ no_threads is);
+  tellers = λ is. absurd (other_text _ _ no_threads is);
+  seed = λ is. absurd (other_text _ _ no_threads is);
+  me = λ is. absurd (other_text _ _ no_site is);
+  resend = λ is. absurd (other_text _ _ no_site is);
+}
+
+nothing_missing : (a b d : Bool) → (not a || (not b || (not d || false))) ≡ false → (a ≡ true) × (b ≡ true) × (d ≡ true)
+nothing_missing true true true e = (refl, refl, refl)
+nothing_missing true true false e = absurd (true≢false e)
+nothing_missing true false d e = absurd (true≢false e)
+nothing_missing false b d e = absurd (true≢false e)
+
+-- a command as it is built, below the command line
+abbrev pub leaf : App → Shape
+leaf a = built_leaf (inherited (with_leaf_noted (marked_built command_line.top)) a.top)
+
+abbrev pub numbers : Text → ℕ → ℕ → Bool → Rule
+numbers name least most required = filled (option_rule name (within least most) required)
+
+pub threads_options : HasOptions (leaf threads_line)
+threads_options = (
+  record { own = refl; defaults = refl; kind = inl (refl, omega arith) },
+  (
+    record { own = refl; defaults = refl; kind = inl (refl, omega arith) },
+    (
+      record { own = refl; defaults = refl; kind = inl (refl, omega arith) },
+      (record { own = refl; defaults = refl; kind = inr refl }, tt),
+    ),
+  ),
+)
+
+pub site_options : HasOptions (leaf site_line)
+site_options = (
+  record { own = refl; defaults = refl; kind = inl (refl, omega arith) },
+  (
+    record { own = refl; defaults = refl; kind = inl (refl, omega arith) },
+    (
+      record { own = refl; defaults = refl; kind = inl (refl, omega arith) },
+      (record { own = refl; defaults = refl; kind = inr refl }, tt),
+    ),
+  ),
+)
+
+threads_given : (rows : List Row) → Each (Passes (leaf threads_line).rules) rows → check_fault (leaf threads_line) rows false ≡ []
+    → HasText (numbers (codes "sites") 2 MOST_SITES true) (codes "sites") rows
+    × HasText (numbers (codes "tellers") 1 MOST_TELLERS true) (codes "tellers") rows
+    × HasText (numbers (codes "seed") 0 4294967295 true) (codes "seed") rows
+threads_given rows all none =
+    let given = nothing_missing (is_given (codes "sites") rows) (is_given (codes "tellers") rows) (is_given (codes "seed") rows)
+    (none_missing (leaf threads_line) rows none) in (
+      given_text (leaf threads_line).rules _ _ rows all refl given.0,
+      given_text (leaf threads_line).rules _ _ rows all refl given.1,
+      given_text (leaf threads_line).rules _ _ rows all refl given.2,
+    )
+
+threads_asks : (rows : List Row) → Each (Passes (leaf threads_line).rules) rows → check_fault (leaf threads_line) rows false ≡ []
+    → Asks (Some (codes "threads", rows))
+threads_asks rows all none =
+    let given = threads_given rows all none in
+    let sites = number_of_text _ _ rows 2 MOST_SITES given.0 refl in
+    let tellers = number_of_text _ _ rows 1 MOST_TELLERS given.1 refl in
+    let seed = number_of_text _ _ rows 0 4294967295 given.2 refl in
+    let rules = (leaf threads_line).rules in record {
+      asked = threads (number_of (without_minus given.0.text)) (number_of (without_minus given.1.text)) (number_of (without_minus given.2.text));
+      is = rw (sites.0, tellers.0, seed.0) refl;
+      in_range = (sites.1.1, sites.1.2, tellers.1.1, tellers.1.2, omega (arith, seed.1.2));
+      fit = record {
+        sites = λ _. fits _ _ rows 2 MOST_SITES (at_option rules (numbers (codes "sites") 2 MOST_SITES true) _ rows all refl) refl;
+        tellers = λ _. fits _ _ rows 1 MOST_TELLERS (at_option rules (numbers (codes "tellers") 1 MOST_TELLERS true) _ rows all refl) refl;
+        seed = λ _. fits _ _ rows 0 4294967295 (at_option rules (numbers (codes "seed") 0 4294967295 true) _ rows all refl) refl;
+        me = λ is. absurd (other_text (codes "threads") (codes "site") refl is);
+        resend = λ is. absurd (other_text (codes "threads") (codes "site") refl is);
+      };
+    }
+
+site_given : (rows : List Row) → Each (Passes (leaf site_line).rules) rows → check_fault (leaf site_line) rows false ≡ []
+    → HasText (numbers (codes "me") 0 15 true) (codes "me") rows
+    × HasText (filled (option_rule (codes "journal") None true)) (codes "journal") rows
+site_given rows all none =
+    let given = nothing_missing (is_given (codes "me") rows) (is_given (codes "journal") rows) true
+    (none_missing (leaf site_line) rows none) in (
+      given_text (leaf site_line).rules _ _ rows all refl given.0,
+      given_text (leaf site_line).rules _ _ rows all refl given.1,
+    )
+
+-- the number of entries that are sent again, where it is given
+resent : (o : Option Text) → IfSome o (IsNumberWithin 0 MOST_HISTORY) → IfSome (option_map number_of o) (λ n. n ≤ MOST_HISTORY)
+resent None h = tt
+resent (Some t) h = h.2
+
+site_asks : (rows : List Row) → Each (Passes (leaf site_line).rules) rows → check_fault (leaf site_line) rows false ≡ []
+    → Asks (Some (codes "site", rows))
+site_asks rows all none =
+    let given = site_given rows all none in
+    let me = number_of_text _ _ rows 0 15 given.0 refl in
+    let rules = (leaf site_line).rules in
+    let again = fits _ _ rows 0 MOST_HISTORY (at_option rules (numbers (codes "resend") 0 MOST_HISTORY false) (codes "resend") rows all refl) refl in
+    record {
+      asked = site (number_of (without_minus given.0.text)) given.1.text (option_map number_of (one_of (codes "resend") rows));
+      is = rw (me.0, given.1.first) refl;
+      in_range = (omega (arith, me.1.2), resent (one_of (codes "resend") rows) again);
+      fit = record {
+        sites = λ is. absurd (other_text (codes "site") (codes "threads") refl is);
+        tellers = λ is. absurd (other_text (codes "site") (codes "threads") refl is);
+        seed = λ is. absurd (other_text (codes "site") (codes "threads") refl is);
+        me = λ _. fits _ _ rows 0 15 (at_option rules (numbers (codes "me") 0 15 true) _ rows all refl) refl;
+        resend = λ _. again;
+      };
+    }
+
+-- ---- the command line
+
+-- what a command asks for where words lead to it by this name
+abbrev AsksBy : Text → Shape → Type 0
+AsksBy name s = (words : List Text) → level_fault s [] nothing_held words false [] ≡ [] → answers_to name (label_of s) ≡ true
+    → Asks (Some (rows_at s words))
+
+plain_asks : (name : Text) (a : App) (asked : Asked) → ((rows : List Row) → words_of_matches (Some ((leaf a).name, rows)) ≡ Some asked)
+    → IsInRange asked → bytes_eq (leaf a).name (codes "threads") ≡ false → bytes_eq (leaf a).name (codes "site") ≡ false
+    → AsksBy name (leaf a)
+plain_asks name a asked is in_range no_threads no_site words none named = record {
+  asked = asked;
+  is = is (rows_at (leaf a) words).1;
+  in_range = in_range;
+  fit = no_options _ _ no_threads no_site;
+}
+
+each_asks : (name : Text) → IsOther name → Each (AsksBy name) (built command_line).subs
+each_asks name other = (
+  plain_asks name (new_app (codes "script")) script (λ rows. refl) tt refl refl,
+  (
+    plain_asks name (new_app (codes "audit")) audit (λ rows. refl) tt refl refl,
+    (
+      plain_asks name (new_app (codes "migrate")) migrate (λ rows. refl) tt refl refl,
+      (
+        (λ words none named.
+            let done = leaf_passes (leaf threads_line) threads_options words none in
+            threads_asks (rows_after (leaf threads_line).rules [] words) done.0 done.1),
+        (
+          (λ words none named.
+              let done = leaf_passes (leaf site_line) site_options words none in
+              site_asks (rows_after (leaf site_line).rules [] words) done.0 done.1),
+          ((λ words none named. absurd (no_help name other (or_false _ named))), tt),
+        ),
+      ),
+    ),
+  ),
+)
+  where
+    or_false : (b : Bool) → (b || false) ≡ true → b ≡ true
+    or_false true e = refl
+    or_false false e = e
+
+    no_help : (name : Text) → IsOther name → bytes_eq (codes "help") name ≡ true → ⊥
+    no_help name other is = other_text name (codes "help") other (sym ((bytes_eq-Decides (codes "help") name).0 is))
+
+entered_asks : (stop : Option (Text × List Text)) → StopsElsewhere stop → entered_fault (built command_line) stop ≡ []
+    → is_some (entered (built command_line) stop) ≡ true → Asks (entered (built command_line) stop)
+entered_asks None ok none some = absurd (true≢false (sym some))
+entered_asks (Some p) ok none some =
+    go (find (λ s. answers_to p.0 (label_of s)) (built command_line).subs)
+    (found_in (AsksBy p.0) (λ s. answers_to p.0 (label_of s)) (built command_line).subs (each_asks p.0 ok)) none some
+  where
+    go : (o : Option Shape) → IfSome o (λ s. AsksBy p.0 s × (answers_to p.0 (label_of s) ≡ true))
+        → option_map_or (λ s. level_fault s [] nothing_held p.1 false []) o [] ≡ []
+        → is_some (option_map (λ s. rows_at s p.1) o) ≡ true
+        → Asks (option_map (λ s. rows_at s p.1) o)
+    go None h fault some = absurd (true≢false (sym some))
+    go (Some s) h fault some = h.0 p.1 fault h.1
+
+entered_one : (rows : List Row) (has : Bool) → check_fault (built command_line).top rows has ≡ [] → has ≡ true
+entered_one rows true e = refl
+entered_one rows false e = absurd (never MissingSubcommand [] e)
+
+-- words that the command line takes ask for something
+pub taken_asks : (words : List Text) → fault_of command_line words ≡ [] → Asks (subcommand_of command_line words)
+taken_asks words none =
+    let app = built command_line in
+    let stop = stop_after app.top.rules (names_of app) words in
+    let one = none_of _ _ none in
+    let two = none_of _ _ one.1 in
+    let three = none_of _ _ two.1 in
+    let four = none_of _ _ three.1 in
+    entered_asks stop (walk_stop app.top (names_of app) refl (walk_from nothing_held) words one.0 tt) two.0
+    (entered_one (rows_after app.top.rules (names_of app) words) (is_some (entered app stop)) four.1)
