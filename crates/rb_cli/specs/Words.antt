@@ -152,6 +152,10 @@ words_of_matches (Some met) = words_of_command met.0 met.1
 abbrev pub IsRead : List Text → Words → Type 0
 IsRead words asked = words_of_matches (subcommand_of command_line words) ≡ Some (asked_of asked)
 
+-- where words in their usual spelling ask for something, it is this
+abbrev pub IsAsUsual : List Text → Words → Type 0
+IsAsUsual words asked = (usual : Words) → Ask words usual → asked_of asked ≡ asked_of usual
+
 -- what is asked for is within its limits
 abbrev pub IsInRange : Asked → Type 0
 IsInRange (threads sites tellers seed) =

@@ -2,8 +2,8 @@
 ghost use Rattle.std.specs.Prelude.{◌≡◌, codes, map, option_map, IfErr, IfOk, IfSome};
 ghost use Rattle.clap.specs.Words.{FailsBy, fault_of, found_of, kind_of, rows_of, subcommand_rows_of};
 ghost use Rattle.clap.specs.declared.error.kind.ErrorKind.TheVariants.{OutOfMemory};
-ghost use Rattle.rb_cli.specs.Words.{AreFit, Ask, FitsWithin, IsInRange, IsRead, asked_of, command_line as line};
-ghost use Rattle.rb_cli.specs.Words.{number_at, site_of, threads_of, words_of_matches};
+ghost use Rattle.rb_cli.specs.Words.{AreFit, Ask, FitsWithin, IsAsUsual, IsInRange, IsRead, asked_of};
+ghost use Rattle.rb_cli.specs.Words.{command_line as line, number_at, site_of, threads_of, words_of_matches};
 
 use crate::command_line::command_line;
 use clap::{ArgMatches, Error};
@@ -102,8 +102,7 @@ pub fn read_words<'a>(alloc: Global, words: &'a [&'a str]) -> Result<Words<'a>, 
     ensures kinds { FailsBy (fault_of line (map (λ word. word.now) words.entry.now)) result }
     // Words that ask for something, each option's name and value in a word of its own, are read as that, and refused for
     // want of memory alone.
-    ensures usual { IfOk result
-        (λ read. (asked : Words) → Ask (map (λ word. word.now) words.entry.now) asked → asked_of read ≡ asked_of asked) }
+    ensures usual { IfOk result (IsAsUsual (map (λ word. word.now) words.entry.now)) }
     ensures err { IfErr result
         (λ e. (asked : Words) → Ask (map (λ word. word.now) words.entry.now) asked → kind_of e ≡ OutOfMemory) }
 {
