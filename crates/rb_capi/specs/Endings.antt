@@ -1,12 +1,12 @@
 -- How a run from memory to memory ends, and what C finds then.
 use Rattle.std.specs.Prelude.{◌≡◌, ◌≢◌, ℕ, ℤ, pos, List, [], ◌++◌, length, take, drop, min, nat_le, Result, Ok, Err, if◌then◌else◌}
-use Rattle.rb_lines.specs.declared.fault.StreamFault.{StreamFault}
-use Rattle.rb_lines.specs.declared.fault.StreamFault.TheVariants.{NoConfig, BadConfig, BadLine, LongLine, Read, Write, OutOfMemory}
+use Rattle.rb_lines.specs.declared.fault.ScriptFault.{ScriptFault}
+use Rattle.rb_lines.specs.declared.fault.ScriptFault.TheVariants.{NoConfig, BadConfig, BadLine, LongLine, Read, Write, OutOfMemory, Gather}
 use Rattle.rb_lines.specs.Messages.{status_of}
 use Rattle.rb_capi.specs.declared.ending.Ending.{Ending}
 
 -- the number of the line that is wrong, or 0 where none is
-abbrev pub number_of_line : StreamFault → ℕ
+abbrev pub number_of_line : ScriptFault → ℕ
 number_of_line NoConfig = 0
 number_of_line (BadConfig n) = n
 number_of_line (BadLine n) = n
@@ -14,21 +14,22 @@ number_of_line (LongLine n) = n
 number_of_line Read = 0
 number_of_line Write = 0
 number_of_line OutOfMemory = 0
+number_of_line Gather = 0
 
 -- at a fault the status is the program's, and the number that of the line that is wrong
-pub record IsEndAtFault (fault : StreamFault) (e : Ending) : Type 0 where
+pub record IsEndAtFault (fault : ScriptFault) (e : Ending) : Type 0 where
   pub status : e.status ≡ status_of fault
   pub number : e.number ≡ number_of_line fault
 
 -- a script or a migration that ended well has the status 0, and the number is that of the lines that were written
-abbrev pub IsEndOfLines : Result ℕ StreamFault → Ending → Type 0
+abbrev pub IsEndOfLines : Result ℕ ScriptFault → Ending → Type 0
 IsEndOfLines (Ok count) e = e ≡ record { status = 0; number = count }
 IsEndOfLines (Err fault) e = IsEndAtFault fault e
 
 -- ---- from memory to memory
 
 -- a read or a write fails for want of memory alone
-abbrev pub result_in_memory : {A : Type 0} → Result A StreamFault → Result A StreamFault
+abbrev pub result_in_memory : {A : Type 0} → Result A ScriptFault → Result A ScriptFault
 result_in_memory (Ok x) = Ok x
 result_in_memory (Err NoConfig) = Err NoConfig
 result_in_memory (Err (BadConfig n)) = Err (BadConfig n)
@@ -37,9 +38,10 @@ result_in_memory (Err (LongLine n)) = Err (LongLine n)
 result_in_memory (Err Read) = Err OutOfMemory
 result_in_memory (Err Write) = Err OutOfMemory
 result_in_memory (Err OutOfMemory) = Err OutOfMemory
+result_in_memory (Err Gather) = Err Gather
 
 -- the text that was written, or none where a read or a write failed
-abbrev pub text_in_memory : {A : Type 0} → Result A StreamFault → List ℕ → List ℕ
+abbrev pub text_in_memory : {A : Type 0} → Result A ScriptFault → List ℕ → List ℕ
 text_in_memory (Ok x) text = text
 text_in_memory (Err NoConfig) text = text
 text_in_memory (Err (BadConfig n)) text = text
@@ -48,9 +50,10 @@ text_in_memory (Err (LongLine n)) text = text
 text_in_memory (Err Read) text = []
 text_in_memory (Err Write) text = []
 text_in_memory (Err OutOfMemory) text = text
+text_in_memory (Err Gather) text = text
 
 -- the run ended well, at a line that is wrong, or where memory ran out: no read and no write failed
-pub record IsInMemory {A : Type 0} (r : Result A StreamFault) : Type 0 where
+pub record IsInMemory {A : Type 0} (r : Result A ScriptFault) : Type 0 where
   pub no_read : r ≢ Err Read
   pub no_write : r ≢ Err Write
 

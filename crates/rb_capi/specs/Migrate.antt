@@ -1,13 +1,13 @@
 -- What a migration comes to for C.
 use Rattle.std.specs.Prelude.{ℕ, ℤ, List, [], Some, Result}
-use Rattle.rb_lines.specs.declared.fault.StreamFault.{StreamFault}
+use Rattle.rb_lines.specs.declared.fault.ScriptFault.{ScriptFault}
 use Rattle.rb_run_migrate.specs.Run.{MigrationEndsAs}
 use Rattle.rb_capi.specs.declared.ending.Ending.{Ending}
 use Rattle.rb_capi.specs.Endings.{IsEndOfLines, IsHandedOver, IsInMemory}
 
 -- a migration of these bytes ended as a run may, in memory, and C finds what it wrote and how it ended
 pub record AnswersMigration (input before after : List ℕ) (written number : ℕ) (status : ℤ) : Type 0 where
-  pub result : Result ℕ StreamFault
+  pub result : Result ℕ ScriptFault
   pub text : List ℕ
   pub ending : Ending
   pub ran : MigrationEndsAs result input (Some []) text

@@ -3,7 +3,7 @@ ghost use Rattle.std.specs.Prelude.{◌≡◌};
 ghost use Rattle.rb_capi.specs.Endings.{IsEndAtFault, IsEndOfLines, IsHandedOver};
 ghost use Rattle.rb_capi.specs.Endings.{number_of_line, result_in_memory, text_in_memory};
 
-use rb_lines::{ScriptFault, StreamFault, status};
+use rb_lines::{ScriptFault, status};
 
 /// How a run ended: its status, as the program's, and how many lines it wrote, or the number of the line that is wrong.
 #[derive(Clone, Copy)]
@@ -19,28 +19,28 @@ pub fn in_memory<T: Drop>(ran: Result<T, ScriptFault>, text: &mut Vec<u8>) -> Re
     ensures text { text.new.items ≡ text_in_memory ran text.old.items }
 {
     match ran {
-        Err(StreamFault::Read | StreamFault::Write) => {
+        Err(ScriptFault::Read | ScriptFault::Write) => {
             text.clear();
-            Err(StreamFault::OutOfMemory)
+            Err(ScriptFault::OutOfMemory)
         }
         ran => ran,
     }
 }
 
 /// The number of the line that is wrong, or 0 where none is.
-fn wrong_line(fault: StreamFault) -> u64
+fn wrong_line(fault: ScriptFault) -> u64
     ensures { result ≡ number_of_line fault }
 {
     match fault {
-        StreamFault::BadConfig { line } => line,
-        StreamFault::BadLine { line } => line,
-        StreamFault::LongLine { line } => line,
+        ScriptFault::BadConfig { line } => line,
+        ScriptFault::BadLine { line } => line,
+        ScriptFault::LongLine { line } => line,
         _ => 0,
     }
 }
 
 /// How a run ends at a fault.
-pub fn end_at_fault(fault: StreamFault) -> Ending
+pub fn end_at_fault(fault: ScriptFault) -> Ending
     ensures { IsEndAtFault fault result }
 {
     Ending {
@@ -79,7 +79,7 @@ pub fn hand_over(
     *written = n;
     if n < text.len() {
         *number = text.len() as u64;
-        return i32::from(status(StreamFault::Write));
+        return i32::from(status(ScriptFault::Write));
     }
     *number = ending.number;
     i32::from(ending.status)

@@ -8,8 +8,8 @@ use Rattle.rb_lines.specs.Buffers.{Reads}
 use Rattle.rb_lines.specs.Faults.{fault_at}
 use Rattle.rb_lines.specs.Lines.{lines_of, is_long, line_len}
 use Rattle.rb_lines.specs.declared.limits.TheConstants.{LINE_LIMIT}
-use Rattle.rb_lines.specs.declared.fault.StreamFault.{StreamFault}
-use Rattle.rb_lines.specs.declared.fault.StreamFault.TheVariants.{NoConfig, BadConfig, BadLine, LongLine, Read, Write, OutOfMemory}
+use Rattle.rb_lines.specs.declared.fault.ScriptFault.{ScriptFault}
+use Rattle.rb_lines.specs.declared.fault.ScriptFault.TheVariants.{NoConfig, BadConfig, BadLine, LongLine, Read, Write, OutOfMemory, Gather}
 use Rattle.rb_lines.specs.declared.no_line.NoLine.{NoLine}
 use Rattle.rb_lines.specs.declared.no_line.NoLine.TheVariants.{TooLong, OutOfMemory as NoMemory, Read as NotRead, Write as NotWritten}
 use Rattle.rb_lines.proofs.Public.LongLines.{long_line}
@@ -158,7 +158,7 @@ known_none a b b' c p p' e e' NotRead f kept was long read not =
 known_none a b b' c p p' e e' NotWritten f kept was long read not = absurd (not refl)
 known_none a b b' c p p' e e' NoMemory f kept was long read not = known_out_of_memory a b' c
 
-at_fault : (all : List ℕ) (b : Option (List ℕ)) (c : Collected) (l : List ℕ) (more : List (List ℕ)) (f : StreamFault)
+at_fault : (all : List ℕ) (b : Option (List ℕ)) (c : Collected) (l : List ℕ) (more : List (List ℕ)) (f : ScriptFault)
     → input_of (lines_of all) ≡ input_rest c (l ∷ more) → InputEndsAt c l f → AuditEndsAs (Err f) all b []
 at_fault all b c l more (BadConfig n) e h = (e ∙ h more, refl)
 at_fault all b c l more (BadLine n) e h = (e ∙ h more, refl)
@@ -167,17 +167,18 @@ at_fault all b c l more NoConfig e h = absurd h
 at_fault all b c l more (LongLine n) e h = absurd h
 at_fault all b c l more Read e h = absurd h
 at_fault all b c l more Write e h = absurd h
+at_fault all b c l more Gather e h = absurd h
 
 -- no line ends the input by a failed read
-pub not_read : (c : Collected) (l : List ℕ) (f : StreamFault) → InputEndsAt c l f → f ≢ Read
+pub not_read : (c : Collected) (l : List ℕ) (f : ScriptFault) → InputEndsAt c l f → f ≢ Read
 not_read c l f h e = subst (InputEndsAt c l) e h
 
 -- and none by a failed write
-pub not_write : (c : Collected) (l : List ℕ) (f : StreamFault) → InputEndsAt c l f → f ≢ Write
+pub not_write : (c : Collected) (l : List ℕ) (f : ScriptFault) → InputEndsAt c l f → f ≢ Write
 not_write c l f h e = subst (InputEndsAt c l) e h
 
 -- the line at the front ends the audit
-pub known_fault : (a b : Option (List ℕ)) (c c' : Collected) (p : List ℕ) (e : Bool) (n : ℕ) (f : StreamFault) → FollowsKnown a b c p e
+pub known_fault : (a b : Option (List ℕ)) (c c' : Collected) (p : List ℕ) (e : Bool) (n : ℕ) (f : ScriptFault) → FollowsKnown a b c p e
     → n ≡ line_len p → n ≤ length p
     → (n < length p) ⊎ ((n ≡ length p) × (0 < n) × (e ≡ true)) → (e ≡ true → IsAtEnd b) → InputEndsAt c (take n p) f
     → IfSome a (λ input. CollectsAs (Err f) c' input b)

@@ -6,7 +6,7 @@ use Rattle.std.proofs.KnownBytes.{Appends-trans}
 use Rattle.rb_auditor.specs.Audits.{Audited}
 use Rattle.rb_lines.specs.Lines.{lines_of}
 use Rattle.rb_lines.specs.Writes.{AppendsFront, IsFront}
-use Rattle.rb_lines.specs.declared.fault.StreamFault.TheVariants.{Write}
+use Rattle.rb_lines.specs.declared.fault.ScriptFault.TheVariants.{Write}
 use Rattle.rb_run_audit.specs.declared.collected.Collected.{Collected}
 use Rattle.rb_run_audit.specs.Inputs.{Input, input_of}
 use Rattle.rb_run_audit.specs.Collects.{input_rest_from}

@@ -7,8 +7,8 @@ use Rattle.rb_site.specs.declared.entry.Entry.{Entry}
 use Rattle.rb_auditor.specs.Audits.{Audited, HasMore}
 use Rattle.rb_history.specs.Entries.{entry_on}
 use Rattle.rb_lines.specs.Lines.{is_blank, is_long}
-use Rattle.rb_lines.specs.declared.fault.StreamFault.{StreamFault}
-use Rattle.rb_lines.specs.declared.fault.StreamFault.TheVariants.{BadLine, OutOfMemory}
+use Rattle.rb_lines.specs.declared.fault.ScriptFault.{ScriptFault}
+use Rattle.rb_lines.specs.declared.fault.ScriptFault.TheVariants.{BadLine, OutOfMemory}
 use Rattle.rb_run_audit.specs.declared.collected.Collected.{Collected}
 use Rattle.rb_run_audit.specs.Inputs.{input_after, with_entry}
 use Rattle.rb_run_audit.specs.Collects.{InputEndsAt, HasEachSite, Takes, input_rest_from}
@@ -30,7 +30,7 @@ one_more a b x n ls m =
     ∙ ap (λ (o : Audited). input_after o.settings o.histories n ls) (sym m.is)
 
 -- the line of an entry was taken by the auditor a, which is then b
-pub entry_taken : (old new : Collected) (l : List ℕ) (a b : Audited) (r : Result Unit StreamFault) → old.auditor ≡ Some a
+pub entry_taken : (old new : Collected) (l : List ℕ) (a b : Audited) (r : Result Unit ScriptFault) → old.auditor ≡ Some a
     → HasEachSite old → is_long l ≡ false → is_blank l ≡ false → new.auditor ≡ Some b → new.number ≡ old.number + 1
     → MatchResult r (λ _. (x : ℕ × Entry) × (entry_on a.settings l ≡ Some x) × HasMore a b x.0 (x.1 ∷ []))
     (λ fault. (fault ≡ OutOfMemory) ⊎ ((fault ≡ BadLine old.number) × (entry_on a.settings l ≡ None)))

@@ -6,8 +6,8 @@ use Rattle.rb_site.specs.Histories.{AreOneWorlds}
 use Rattle.rb_history.specs.Verdicts.{verdict_line, order_json, stuck_json, wrong_reply_json}
 use Rattle.rb_lines.specs.Lines.{lines_of, whole_lines}
 use Rattle.rb_lines.specs.Writes.{IsFront}
-use Rattle.rb_lines.specs.declared.fault.StreamFault.{StreamFault}
-use Rattle.rb_lines.specs.declared.fault.StreamFault.TheVariants.{NoConfig, BadConfig, BadLine, LongLine, Read, Write, OutOfMemory}
+use Rattle.rb_lines.specs.declared.fault.ScriptFault.{ScriptFault}
+use Rattle.rb_lines.specs.declared.fault.ScriptFault.TheVariants.{NoConfig, BadConfig, BadLine, LongLine, Read, Write, OutOfMemory, Gather}
 use Rattle.rb_run_audit.specs.Inputs.{Input, input_of}
 use Rattle.rb_run_audit.specs.Collects.{input_rest}
 use Rattle.rb_run_audit.specs.declared.collected.Collected.{Collected}
@@ -38,7 +38,7 @@ ReportsVerdict true x line = ReportsOrder x line
 ReportsVerdict false x line = (¬ AreOneWorlds x.settings x.histories) × (ReportsWrongReply x line ⊎ ReportsStuck x line)
 
 -- no line so far is bad
-abbrev pub IsUnfinishedInput : Result Input StreamFault → Type 0
+abbrev pub IsUnfinishedInput : Result Input ScriptFault → Type 0
 IsUnfinishedInput (Ok x) = Unit {0}
 IsUnfinishedInput (Err NoConfig) = Unit {0}
 IsUnfinishedInput (Err (BadConfig n)) = ⊥
@@ -47,6 +47,7 @@ IsUnfinishedInput (Err (LongLine n)) = ⊥
 IsUnfinishedInput (Err Read) = ⊥
 IsUnfinishedInput (Err Write) = ⊥
 IsUnfinishedInput (Err OutOfMemory) = ⊥
+IsUnfinishedInput (Err Gather) = ⊥
 
 -- these bytes of the input were read, and no whole line of them is bad
 pub record IsCollected (input rest : List ℕ) : Type 0 where
@@ -55,11 +56,12 @@ pub record IsCollected (input rest : List ℕ) : Type 0 where
   pub unfinished : IsUnfinishedInput (input_of (whole_lines taken))
 
 -- the first bad line of the input, or that there is no configuration; nothing was written
-abbrev pub IsFaultyAudit : List ℕ → List ℕ → StreamFault → Type 0
+abbrev pub IsFaultyAudit : List ℕ → List ℕ → ScriptFault → Type 0
 IsFaultyAudit input text f = (input_of (lines_of input) ≡ Err f) × (text ≡ [])
 
--- the result of an audit of this input, of which the second part is left, where the text was written
-abbrev pub AuditEndsAs : Result Bool StreamFault → List ℕ → Option (List ℕ) → List ℕ → Type 0
+-- the result of an audit of this input, of which the second part is left, where the text was written; an audit gathers
+-- no histories
+abbrev pub AuditEndsAs : Result Bool ScriptFault → List ℕ → Option (List ℕ) → List ℕ → Type 0
 AuditEndsAs (Ok found) input left text = (x : Input) × (input_of (lines_of input) ≡ Ok x)
     × ReportsVerdict found x text × (left ≡ Some [])
 AuditEndsAs (Err NoConfig) input left text = IsFaultyAudit input text NoConfig
@@ -70,8 +72,9 @@ AuditEndsAs (Err Read) input left text = (rest : List ℕ) × (left ≡ Some res
 AuditEndsAs (Err Write) input left text = (x : Input) × (found : Bool) × (line : List ℕ) × (input_of (lines_of input) ≡ Ok x)
     × ReportsVerdict found x line × IsFront text line
 AuditEndsAs (Err OutOfMemory) input left text = text ≡ []
+AuditEndsAs (Err Gather) input left text = ⊥
 
 -- how the collecting of this input's lines ends, before anything is answered
-abbrev pub CollectsAs : Result Unit StreamFault → Collected → List ℕ → Option (List ℕ) → Type 0
+abbrev pub CollectsAs : Result Unit ScriptFault → Collected → List ℕ → Option (List ℕ) → Type 0
 CollectsAs (Ok _) c input left = (input_of (lines_of input) ≡ input_rest c []) × (left ≡ Some [])
 CollectsAs (Err f) c input left = AuditEndsAs (Err f) input left []

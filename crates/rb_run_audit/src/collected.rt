@@ -12,7 +12,7 @@ ghost use Rattle.rb_run_audit.specs.Collects.{InputEndsAt, HasEachSite, Takes};
 use rb_auditor::Auditor;
 use rb_commands::{LineFault, read_config};
 use rb_history::read_entry;
-use rb_lines::{StreamFault, is_blank, text_on};
+use rb_lines::{ScriptFault, is_blank, text_on};
 use rb_money::Config;
 use rb_site::{Entry, Event, Reply};
 use std::alloc::Global;
@@ -64,18 +64,18 @@ impl Collected {
     }
 
     /// Takes the line of the configuration: the entries of its sites come next.
-    fn take_config(&mut self, alloc: Global, number: u64, line: &[u8]) -> Result<(), StreamFault>
+    fn take_config(&mut self, alloc: Global, number: u64, line: &[u8]) -> Result<(), ScriptFault>
         ensures number { self.new.number ≡ self.old.number }
         ensures taken { MatchResult result
             (λ _. (s : Settings) × (config_on line.now ≡ Some s) × (a : Audited) × (self.new.auditor ≡ Some a)
             × (a.settings ≡ s) × (a.histories ≡ replicate s.sites []))
-            (λ fault. (fault ≡ StreamFault.OutOfMemory)
-            ⊎ ((fault ≡ StreamFault.BadConfig number) × (config_on line.now ≡ None))) }
+            (λ fault. (fault ≡ ScriptFault.OutOfMemory)
+            ⊎ ((fault ≡ ScriptFault.BadConfig number) × (config_on line.now ≡ None))) }
     {
         let config = match config_of(alloc, line) {
             Ok(config) => config,
-            Err(LineFault::Bad) => return Err(StreamFault::BadConfig { line: number }),
-            Err(LineFault::OutOfMemory) => return Err(StreamFault::OutOfMemory),
+            Err(LineFault::Bad) => return Err(ScriptFault::BadConfig { line: number }),
+            Err(LineFault::OutOfMemory) => return Err(ScriptFault::OutOfMemory),
         };
         let auditor = Auditor::open(alloc, config)?;
         if let Some(before) = self.auditor.replace(auditor) {
@@ -87,7 +87,7 @@ impl Collected {
     /// Takes one line, which isn't too long.
     ///
     /// Refuses with `BadConfig` or `BadLine`, by the line's number, or `OutOfMemory`; the audit ends then.
-    pub fn take_line(&mut self, alloc: Global, line: &[u8]) -> Result<(), StreamFault>
+    pub fn take_line(&mut self, alloc: Global, line: &[u8]) -> Result<(), ScriptFault>
         requires short { length line.now ≤ LINE_LIMIT }
         requires number { self.old.number < 2 ^ 63 }
         requires each { HasEachSite self.old }
@@ -126,13 +126,13 @@ fn take_entry(
     auditor: &mut Auditor,
     number: u64,
     line: &[u8],
-) -> Result<(), StreamFault>
+) -> Result<(), ScriptFault>
     requires { length auditor.old.histories ≡ auditor.old.settings.sites }
     ensures { MatchResult result
         (λ _. (x : ℕ × TheEntry) × (entry_on auditor.old.settings line.now ≡ Some x)
         × HasMore auditor.old auditor.new x.0 (x.1 ∷ []))
-        (λ fault. (fault ≡ StreamFault.OutOfMemory)
-        ⊎ ((fault ≡ StreamFault.BadLine number) × (entry_on auditor.old.settings line.now ≡ None))) }
+        (λ fault. (fault ≡ ScriptFault.OutOfMemory)
+        ⊎ ((fault ≡ ScriptFault.BadLine number) × (entry_on auditor.old.settings line.now ≡ None))) }
 {
     let mut entry = Entry {
         event: Event::Pass(0),
@@ -140,7 +140,7 @@ fn take_entry(
     };
     match entry_of(alloc, auditor.config(), line, &mut entry) {
         Ok(site) => Ok(auditor.take(site, &entry)?),
-        Err(LineFault::Bad) => Err(StreamFault::BadLine { line: number }),
-        Err(LineFault::OutOfMemory) => Err(StreamFault::OutOfMemory),
+        Err(LineFault::Bad) => Err(ScriptFault::BadLine { line: number }),
+        Err(LineFault::OutOfMemory) => Err(ScriptFault::OutOfMemory),
     }
 }

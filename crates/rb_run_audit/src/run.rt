@@ -1,14 +1,14 @@
 //! A whole audit, from bytes to bytes.
 ghost use Rattle.std.specs.Prelude.{◌≡◌, ◌↔◌, ◌≢◌, ◌+◌, ◌≤◌, ◌⊎◌, List, [], ℕ, true, false, Err, None, IfSome, OnOk};
 ghost use Rattle.std.specs.Io.KnownBytes.{Appends};
-ghost use Rattle.rb_lines.specs.declared.fault.StreamFault.TheVariants.{Read, Write};
+ghost use Rattle.rb_lines.specs.declared.fault.ScriptFault.TheVariants.{Read, Write};
 ghost use Rattle.rb_lines.specs.declared.limits.TheConstants.{MOST_READS};
 ghost use Rattle.rb_run_audit.specs.Collects.{HasEachSite};
 ghost use Rattle.rb_run_audit.specs.Run.{CollectsAs, AuditEndsAs};
 
 use crate::answer::answer;
 use crate::collected::Collected;
-use rb_lines::{Buffers, ScriptFault, Sink, Source, StreamFault, write_all};
+use rb_lines::{Buffers, ScriptFault, Sink, Source, ScriptFault, write_all};
 use std::alloc::Global;
 
 /// Takes each line of the reader's bytes. Nothing is buffered for the writer, so nothing is written.
@@ -17,7 +17,7 @@ fn collect<S: Source, W: Sink>(
     reader: &mut S,
     writer: &mut W,
     collected: &mut Collected,
-) -> Result<(), StreamFault>
+) -> Result<(), ScriptFault>
     requires unread { S.calls reader.old ≡ 0 }
     requires fresh { W.failed writer.old ≡ false }
     requires first { (collected.old.auditor ≡ None) × (collected.old.number ≡ 1) }
@@ -69,7 +69,7 @@ pub fn run_audit<S: Source, W: Sink>(
         return Err(fault);
     }
     let Some(auditor) = collected.into_auditor() else {
-        return Err(StreamFault::NoConfig);
+        return Err(ScriptFault::NoConfig);
     };
     let (found, line) = answer(alloc, auditor)?;
     write_all(writer, line.as_slice())?;

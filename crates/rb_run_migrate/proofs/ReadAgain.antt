@@ -9,7 +9,7 @@ use Rattle.rb_commands.specs.Laws.{ReadConfigsAreConfigured}
 use Rattle.rb_history.specs.Entries.{entry_of_line, entry_on}
 use Rattle.rb_history.specs.Fits.{Each, ReadEntriesFit}
 use Rattle.rb_lines.specs.Answers.{LinesOutcome, after_text, no_outcome}
-use Rattle.rb_lines.specs.declared.fault.StreamFault.TheVariants.{BadConfig, BadLine, LongLine}
+use Rattle.rb_lines.specs.declared.fault.ScriptFault.TheVariants.{BadConfig, BadLine, LongLine}
 use Rattle.rb_lines.specs.Lines.{is_blank, is_long, lines_of}
 use Rattle.rb_run_audit.specs.Inputs.{input_after, input_from, input_of, with_entry}
 use Rattle.rb_run_audit.specs.Laws.{HasShortLines, InputsAreReadBack, IsWritable, entries_text, by_site, input_text, with_entries}

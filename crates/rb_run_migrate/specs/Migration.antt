@@ -9,7 +9,7 @@ use Rattle.rb_history.specs.ConfigLines.{config_json}
 use Rattle.rb_history.specs.Entries.{entry_json, entry_on}
 use Rattle.rb_lines.specs.Answers.{LinesOutcome, after_text, no_outcome}
 use Rattle.rb_lines.specs.Lines.{is_blank, is_long}
-use Rattle.rb_lines.specs.declared.fault.StreamFault.TheVariants.{NoConfig, BadConfig, BadLine, LongLine}
+use Rattle.rb_lines.specs.declared.fault.ScriptFault.TheVariants.{NoConfig, BadConfig, BadLine, LongLine}
 
 -- the line of a configuration in version 2
 abbrev pub migrated_config_line : Settings → List ℕ

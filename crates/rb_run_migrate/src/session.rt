@@ -9,7 +9,7 @@ ghost use Rattle.rb_run_migrate.specs.Session.{first_migration};
 
 use crate::versions::Versions;
 use rb_commands::{LineFault, read_config};
-use rb_lines::{Responder, StreamFault, is_blank, text_on};
+use rb_lines::{Responder, ScriptFault, is_blank, text_on};
 use std::alloc::Global;
 
 /// The state of a migration: the configuration once there is one, the number of the next line, from 1, and the lines
@@ -89,7 +89,7 @@ impl Responder for Session {
         alloc: Global,
         line: &[u8],
         buffered: &mut Vec<u8>,
-    ) -> Result<(), StreamFault> {
+    ) -> Result<(), ScriptFault> {
         let number = self.number;
         self.number = number + 1;
         if is_blank(line) {
@@ -98,24 +98,24 @@ impl Responder for Session {
         let Some(versions) = &self.versions else {
             match open(alloc, line, buffered) {
                 Ok(versions) => self.versions = Some(versions),
-                Err(LineFault::Bad) => return Err(StreamFault::BadConfig { line: number }),
-                Err(LineFault::OutOfMemory) => return Err(StreamFault::OutOfMemory),
+                Err(LineFault::Bad) => return Err(ScriptFault::BadConfig { line: number }),
+                Err(LineFault::OutOfMemory) => return Err(ScriptFault::OutOfMemory),
             }
             self.count += 1;
             return Ok(());
         };
         match answer_entry(alloc, versions, line, buffered) {
             Ok(()) => self.count += 1,
-            Err(LineFault::Bad) => return Err(StreamFault::BadLine { line: number }),
-            Err(LineFault::OutOfMemory) => return Err(StreamFault::OutOfMemory),
+            Err(LineFault::Bad) => return Err(ScriptFault::BadLine { line: number }),
+            Err(LineFault::OutOfMemory) => return Err(ScriptFault::OutOfMemory),
         }
         Ok(())
     }
 
-    fn end(&self) -> Result<u64, StreamFault> {
+    fn end(&self) -> Result<u64, ScriptFault> {
         match self.versions {
             Some(_) => Ok(self.count),
-            None => Err(StreamFault::NoConfig),
+            None => Err(ScriptFault::NoConfig),
         }
     }
 

@@ -10,8 +10,8 @@ use Rattle.rb_commands.specs.Configurations.{config_on}
 use Rattle.rb_commands.specs.Replies.{line}
 use Rattle.rb_lines.specs.Answers.{LinesOutcome, no_outcome}
 use Rattle.rb_lines.specs.Lines.{is_blank, is_long}
-use Rattle.rb_lines.specs.declared.fault.StreamFault.{StreamFault}
-use Rattle.rb_lines.specs.declared.fault.StreamFault.TheVariants.{NoConfig, BadConfig, BadLine, LongLine}
+use Rattle.rb_lines.specs.declared.fault.ScriptFault.{ScriptFault}
+use Rattle.rb_lines.specs.declared.fault.ScriptFault.TheVariants.{NoConfig, BadConfig, BadLine, LongLine}
 
 -- the command on a line, at these settings
 unfoldable pub command_on : Settings → List ℕ → Option WorldEvent
@@ -20,9 +20,9 @@ command_on s l = if is_utf8 l then command_at s l else None
 -- a script's commands up to its first bad line, and what is wrong with that
 pub record Commands : Type 0 where
   pub commands : List WorldEvent
-  pub fault : Option StreamFault
+  pub fault : Option ScriptFault
 
-abbrev pub stops : StreamFault → Commands
+abbrev pub stops : ScriptFault → Commands
 stops f = record { commands = []; fault = Some f }
 
 abbrev pub with_command : WorldEvent → Commands → Commands

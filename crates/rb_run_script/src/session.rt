@@ -8,7 +8,7 @@ ghost use Rattle.rb_run_script.specs.Session.{first_session};
 
 use crate::command::answer_command;
 use rb_commands::{LineFault, read_config};
-use rb_lines::{Responder, StreamFault, is_blank, text_on};
+use rb_lines::{Responder, ScriptFault, is_blank, text_on};
 use rb_money::Refusal;
 use rb_site::Reply;
 use rb_world::LeanWorld;
@@ -103,7 +103,7 @@ impl Responder for Session {
         alloc: Global,
         line: &[u8],
         buffered: &mut Vec<u8>,
-    ) -> Result<(), StreamFault> {
+    ) -> Result<(), ScriptFault> {
         let number = self.number;
         self.number = number + 1;
         if is_blank(line) {
@@ -112,23 +112,23 @@ impl Responder for Session {
         let Some(world) = &mut self.world else {
             match self.open(alloc, line) {
                 Ok(()) => {}
-                Err(LineFault::Bad) => return Err(StreamFault::BadConfig { line: number }),
-                Err(LineFault::OutOfMemory) => return Err(StreamFault::OutOfMemory),
+                Err(LineFault::Bad) => return Err(ScriptFault::BadConfig { line: number }),
+                Err(LineFault::OutOfMemory) => return Err(ScriptFault::OutOfMemory),
             }
             return Ok(());
         };
         match answer_command(alloc, world, &mut self.reply, line, buffered) {
             Ok(()) => self.count += 1,
-            Err(LineFault::Bad) => return Err(StreamFault::BadLine { line: number }),
-            Err(LineFault::OutOfMemory) => return Err(StreamFault::OutOfMemory),
+            Err(LineFault::Bad) => return Err(ScriptFault::BadLine { line: number }),
+            Err(LineFault::OutOfMemory) => return Err(ScriptFault::OutOfMemory),
         }
         Ok(())
     }
 
-    fn end(&self) -> Result<u64, StreamFault> {
+    fn end(&self) -> Result<u64, ScriptFault> {
         match self.world {
             Some(_) => Ok(self.count),
-            None => Err(StreamFault::NoConfig),
+            None => Err(ScriptFault::NoConfig),
         }
     }
 

@@ -5,7 +5,7 @@ use Rattle.std.proofs.KnownBytes.{Appends-nil}
 use Rattle.std.proofs.lemmas.Bool.{false_from_ne_true}
 use Rattle.std.proofs.lemmas.Result.{err_from_is_err_and}
 use Rattle.rb_lines.specs.Buffers.{Counts, IsNextLine, IsWholeLine, left}
-use Rattle.rb_lines.specs.declared.fault.StreamFault.TheVariants.{Read as Unread, Write as Unwritten}
+use Rattle.rb_lines.specs.declared.fault.ScriptFault.TheVariants.{Read as Unread, Write as Unwritten}
 use Rattle.rb_lines.specs.declared.limits.TheConstants.{LINE_LIMIT, MOST_READS, READ_SIZE}
 use Rattle.rb_lines.specs.declared.no_line.NoLine.TheVariants.{Write}
 use Rattle.rb_run_audit.specs.Collects.{HasEachSite, InputEndsAt, Takes}

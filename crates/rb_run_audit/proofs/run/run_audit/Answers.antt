@@ -1,7 +1,7 @@
 use Rattle.std.proofs.Common.{◌≡◌, ◌∙◌, [], Err, ap, sym}
 use Rattle.std.proofs.lemmas.Bool.{false≢true}
 use Rattle.std.proofs.lemmas.Result.{err_from_is_err_and}
-use Rattle.rb_lines.specs.declared.fault.StreamFault.TheVariants.{Read, Write}
+use Rattle.rb_lines.specs.declared.fault.ScriptFault.TheVariants.{Read, Write}
 use Rattle.rb_run_audit.proofs.Counted.{same_reason}
 use Rattle.rb_run_audit.proofs.Reported.{reported, part_reported}
 use Rattle.rb_run_audit.proofs.run.run_audit.Goals as goal
