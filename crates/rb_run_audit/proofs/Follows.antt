@@ -145,6 +145,13 @@ why_write NotRead n e = cc
 why_write NotWritten n e = refl
 why_write NoMemory n e = cc
 
+-- none is `Gather`
+pub why_gather : (why : NoLine) (n : ℕ) → fault_at why n ≢ Gather
+why_gather TooLong n e = cc
+why_gather NotRead n e = cc
+why_gather NotWritten n e = cc
+why_gather NoMemory n e = cc
+
 -- there is no next line, and no write failed
 pub known_none : {X : Type 0} (a b b' : Option (List ℕ)) (c : Collected) (p p' : List ℕ) (e e' : Bool) (why : NoLine)
     → FollowsKnown a b c p e → (why ≢ NoMemory → Reads p p' b b') → (e' ≡ false → e ≡ false) → (why ≡ TooLong → LINE_LIMIT < line_len p')
@@ -176,6 +183,10 @@ not_read c l f h e = subst (InputEndsAt c l) e h
 -- and none by a failed write
 pub not_write : (c : Collected) (l : List ℕ) (f : ScriptFault) → InputEndsAt c l f → f ≢ Write
 not_write c l f h e = subst (InputEndsAt c l) e h
+
+-- and none gathers histories
+pub not_gather : (c : Collected) (l : List ℕ) (f : ScriptFault) → InputEndsAt c l f → f ≢ Gather
+not_gather c l f h e = subst (InputEndsAt c l) e h
 
 -- the line at the front ends the audit
 pub known_fault : (a b : Option (List ℕ)) (c c' : Collected) (p : List ℕ) (e : Bool) (n : ℕ) (f : ScriptFault) → FollowsKnown a b c p e

@@ -1,14 +1,14 @@
 //! A whole audit, from bytes to bytes.
 ghost use Rattle.std.specs.Prelude.{◌≡◌, ◌↔◌, ◌≢◌, ◌+◌, ◌≤◌, ◌⊎◌, List, [], ℕ, true, false, Err, None, IfSome, OnOk};
 ghost use Rattle.std.specs.Io.KnownBytes.{Appends};
-ghost use Rattle.rb_lines.specs.declared.fault.ScriptFault.TheVariants.{Read, Write};
+ghost use Rattle.rb_lines.specs.declared.fault.ScriptFault.TheVariants.{Gather, Read, Write};
 ghost use Rattle.rb_lines.specs.declared.limits.TheConstants.{MOST_READS};
 ghost use Rattle.rb_run_audit.specs.Collects.{HasEachSite};
 ghost use Rattle.rb_run_audit.specs.Run.{CollectsAs, AuditEndsAs};
 
 use crate::answer::answer;
 use crate::collected::Collected;
-use rb_lines::{Buffers, ScriptFault, Sink, Source, ScriptFault, write_all};
+use rb_lines::{Buffers, ScriptFault, Sink, Source, write_all};
 use std::alloc::Global;
 
 /// Takes each line of the reader's bytes. Nothing is buffered for the writer, so nothing is written.
@@ -28,6 +28,7 @@ fn collect<S: Source, W: Sink>(
         (λ input. CollectsAs result collected.new input (S.remaining reader.new)) }
     ensures read { result ≡ Err Read → (S.failed reader.new ≡ true) ⊎ (S.calls reader.new ≡ MOST_READS) }
     ensures write { result ≢ Err Write }
+    ensures gather { result ≢ Err Gather }
     ensures calls { S.calls reader.new ≤ S.calls reader.old + MOST_READS }
 {
     let mut buffers = Buffers::new(alloc);
@@ -60,6 +61,8 @@ pub fn run_audit<S: Source, W: Sink>(
         × IfSome (S.remaining reader.old) (λ input. AuditEndsAs result input (S.remaining reader.new) text) }
     ensures read { result ≡ Err Read → (S.failed reader.new ≡ true) ⊎ (S.calls reader.new ≡ MOST_READS) }
     ensures write { (result ≡ Err Write) ↔ (W.failed writer.new ≡ true) }
+    // Whatever the reader has, there are no histories to gather.
+    ensures gather { result ≢ Err Gather }
     // There are up to `MOST_READS` reads, whatever is answered.
     ensures calls { S.calls reader.new ≤ S.calls reader.old + MOST_READS }
 {

@@ -5,13 +5,13 @@ use Rattle.std.proofs.KnownBytes.{Appends-nil}
 use Rattle.std.proofs.lemmas.Bool.{false_from_ne_true}
 use Rattle.std.proofs.lemmas.Result.{err_from_is_err_and}
 use Rattle.rb_lines.specs.Buffers.{Counts, IsNextLine, IsWholeLine, left}
-use Rattle.rb_lines.specs.declared.fault.ScriptFault.TheVariants.{Read as Unread, Write as Unwritten}
+use Rattle.rb_lines.specs.declared.fault.ScriptFault.TheVariants.{Gather as Ungathered, Read as Unread, Write as Unwritten}
 use Rattle.rb_lines.specs.declared.limits.TheConstants.{LINE_LIMIT, MOST_READS, READ_SIZE}
 use Rattle.rb_lines.specs.declared.no_line.NoLine.TheVariants.{Write}
 use Rattle.rb_run_audit.specs.Collects.{HasEachSite, InputEndsAt, Takes}
 use Rattle.rb_run_audit.specs.Run.{CollectsAs}
 use Rattle.rb_run_audit.proofs.Follows.{FollowsKnown, known_end, known_fault, known_line, known_none, known_read, known_start, not_read}
-use Rattle.rb_run_audit.proofs.Follows.{not_write, why_read, why_write}
+use Rattle.rb_run_audit.proofs.Follows.{not_gather, not_write, why_gather, why_read, why_write}
 use Rattle.rb_run_audit.proofs.Buffered.{no_write, nothing_sent}
 use Rattle.rb_run_audit.proofs.Counted.{few_calls, less_left, next_number, ok_is_no_err, once_taken, same_reason, short_line}
 use Rattle.rb_run_audit.proofs.run.collect.Goals as goal
@@ -89,6 +89,7 @@ returns-in-Ok-None g c =
       read = λ e. absurd {A = (g.S.Source.failed c.next_line.new.reader ≡ true) ⊎ (g.S.Source.calls c.next_line.new.reader ≡ MOST_READS)}
           (ok_is_no_err _ _ e);
       write = λ e. ok_is_no_err _ _ e;
+      gather = λ e. ok_is_no_err _ _ e;
       calls = few_calls (g.S.Source.calls c.next_line.new.reader) c.next_line.new.self.reads (g.S.Source.calls c.args.reader.now)
           next.counted;
     }
@@ -116,6 +117,7 @@ returns-in-Err g c =
           (sym is ∙ same_reason c.fault_at.result Unread e)))).2;
       write = λ e. not_written (why_write c.in-Err.why c.lines.collected.number
           (sym is ∙ same_reason c.fault_at.result Unwritten e));
+      gather = λ e. why_gather c.in-Err.why c.lines.collected.number (sym is ∙ same_reason c.fault_at.result Ungathered e);
       calls = few_calls (g.S.Source.calls c.next_line.new.reader) c.next_line.new.self.reads (g.S.Source.calls c.args.reader.now)
           next.counted;
     }
@@ -160,6 +162,8 @@ returns-in_err-take_line g c =
           (same_reason c.in_err-take_line.field-0.0 Unread (sym passed ∙ e)));
       write = λ e. not_write c.lines.collected (take c.in-Ok-Some.n c.next_line.new.self.pending) c.in_err-take_line.field-0.0 ended
           (same_reason c.in_err-take_line.field-0.0 Unwritten (sym passed ∙ e));
+      gather = λ e. not_gather c.lines.collected (take c.in-Ok-Some.n c.next_line.new.self.pending) c.in_err-take_line.field-0.0 ended
+          (same_reason c.in_err-take_line.field-0.0 Ungathered (sym passed ∙ e));
       calls = few_calls (g.S.Source.calls c.next_line.new.reader) c.next_line.new.self.reads (g.S.Source.calls c.args.reader.now)
           next.counted;
     }

@@ -1,7 +1,7 @@
 use Rattle.std.proofs.Common.{◌≡◌, ◌∙◌, [], Err, ap, sym}
 use Rattle.std.proofs.lemmas.Bool.{false≢true}
 use Rattle.std.proofs.lemmas.Result.{err_from_is_err_and}
-use Rattle.rb_lines.specs.declared.fault.ScriptFault.TheVariants.{Read, Write}
+use Rattle.rb_lines.specs.declared.fault.ScriptFault.TheVariants.{Gather, Read, Write}
 use Rattle.rb_run_audit.proofs.Counted.{same_reason}
 use Rattle.rb_run_audit.proofs.Reported.{reported, part_reported}
 use Rattle.rb_run_audit.proofs.run.run_audit.Goals as goal
@@ -41,5 +41,6 @@ returns-in-Err g c = record {
     λ e. absurd (c.in-Err.ensures.write (ap Err (same_reason c.in-Err.fault Write e))),
     λ t. absurd (false≢true (sym c.in-Err.ensures.fresh ∙ t)),
   );
+  gather = λ e. c.in-Err.ensures.gather (ap Err (same_reason c.in-Err.fault Gather e));
   calls = c.in-Err.ensures.calls;
 }
