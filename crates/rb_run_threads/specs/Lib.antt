@@ -1,5 +1,4 @@
 pub mod Bank
-pub mod Messages
 pub mod Runs
 pub mod Texts
 pub mod Writing

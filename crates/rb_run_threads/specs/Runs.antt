@@ -5,10 +5,10 @@ use Rattle.rb_site.specs.declared.entry.Entry.{Entry}
 use Rattle.rb_site.specs.Seen.{IsReplayed}
 use Rattle.rb_tellers.specs.Tellers.{TellersAt}
 use Rattle.rb_lines.specs.Writes.{IsFront}
+use Rattle.rb_lines.specs.declared.fault.ScriptFault.{ScriptFault}
+use Rattle.rb_lines.specs.declared.fault.ScriptFault.TheVariants.{Write, OutOfMemory, Gather}
 use Rattle.rb_run_threads.specs.Bank.{bank_of}
 use Rattle.rb_run_threads.specs.Texts.{text_of}
-use Rattle.rb_run_threads.specs.declared.fault.ThreadsFault.{ThreadsFault}
-use Rattle.rb_run_threads.specs.declared.fault.ThreadsFault.TheVariants.{OutOfMemory, Gather, Write}
 
 -- the histories of a run with this number of tellers, one for each site: it is its own replay, and but for what was
 -- received and applied it is what the site's tellers did, interleaved
@@ -27,9 +27,11 @@ pub record IsRun (sites tellers seed : ℕ) (text : List ℕ) : Type 0 where
 abbrev pub BeginsRun : ℕ → ℕ → ℕ → List ℕ → Type 0
 BeginsRun sites tellers seed text = (whole : List ℕ) × IsRun sites tellers seed whole × IsFront text whole
 
--- the result of a run of tellers at sites, by the numbers of both, where the text was written
-abbrev pub ThreadsEndAs : Result Unit ThreadsFault → ℕ → ℕ → ℕ → List ℕ → Type 0
+-- the result of a run of tellers at sites, by the numbers of both, where the text was written; it reads nothing, so it has
+-- no other fault
+abbrev pub ThreadsEndAs : Result Unit ScriptFault → ℕ → ℕ → ℕ → List ℕ → Type 0
 ThreadsEndAs (Ok u) sites tellers seed text = IsRun sites tellers seed text
 ThreadsEndAs (Err Write) sites tellers seed text = BeginsRun sites tellers seed text
 ThreadsEndAs (Err OutOfMemory) sites tellers seed text = (text ≡ []) ⊎ BeginsRun sites tellers seed text
 ThreadsEndAs (Err Gather) sites tellers seed text = text ≡ []
+ThreadsEndAs (Err _) sites tellers seed text = ⊥

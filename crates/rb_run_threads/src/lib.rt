@@ -2,11 +2,9 @@
 //! Tests: rb_tests_runs, tellers.rt; tests/cases.py runs tellers through the program.
 #![tactic(auto)]
 
-mod fault;
 mod opening;
 mod run;
 mod text;
 mod unwritten;
 
-pub use fault::{ThreadsFault, threads_message, threads_status};
 pub use run::run_threads;

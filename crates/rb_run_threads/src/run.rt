@@ -1,16 +1,15 @@
 //! A run of tellers at the sites of a bank, and what they did as text.
 ghost use Rattle.std.specs.Prelude.{◌≡◌, ◌↔◌, ◌≤◌, List, ℕ, true, false, Err};
 ghost use Rattle.std.specs.Io.KnownBytes.{Appends};
-ghost use Rattle.rb_run_threads.specs.declared.fault.ThreadsFault.TheVariants.{Write};
+ghost use Rattle.rb_lines.specs.declared.fault.ScriptFault.TheVariants.{Write};
 ghost use Rattle.rb_money.specs.declared.limits.TheConstants.{MOST_SITES};
 ghost use Rattle.rb_run_threads.specs.Runs.{ThreadsEndAs};
 
-use crate::fault::ThreadsFault;
 use crate::opening::bank;
 use crate::text::write_text;
 use crate::unwritten::Unwritten;
 use rb_branch::Gate;
-use rb_lines::Sink;
+use rb_lines::{ScriptFault, Sink};
 use rb_tellers::{TellersFault, run_bank};
 use std::alloc::Global;
 use std::sync::Wait;
@@ -31,7 +30,7 @@ pub fn run_threads<G: Gate + Drop + Sync, K: Sink, W: Threads + Wait + Sync>(
     seed: u32,
     gate: G,
     writer: &mut K,
-) -> Result<(), ThreadsFault>
+) -> Result<(), ScriptFault>
     requires some_sites { 2 ≤ sites }
     requires few_sites { sites ≤ MOST_SITES }
     requires fresh { K.failed writer.old ≡ false }
@@ -44,12 +43,12 @@ pub fn run_threads<G: Gate + Drop + Sync, K: Sink, W: Threads + Wait + Sync>(
     let copy = config.try_copy()?;
     let reports = match run_bank(rt, alloc, copy, gate, tellers, seed) {
         Ok(reports) => reports,
-        Err(TellersFault::OutOfMemory) => return Err(ThreadsFault::OutOfMemory),
-        Err(TellersFault::Gather) => return Err(ThreadsFault::Gather),
+        Err(TellersFault::OutOfMemory) => return Err(ScriptFault::OutOfMemory),
+        Err(TellersFault::Gather) => return Err(ScriptFault::Gather),
     };
     match write_text(alloc, writer, &config, reports) {
         Ok(()) => Ok(()),
-        Err(Unwritten::Write) => Err(ThreadsFault::Write),
-        Err(Unwritten::OutOfMemory) => Err(ThreadsFault::OutOfMemory),
+        Err(Unwritten::Write) => Err(ScriptFault::Write),
+        Err(Unwritten::OutOfMemory) => Err(ScriptFault::OutOfMemory),
     }
 }

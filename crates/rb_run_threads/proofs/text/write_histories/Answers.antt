@@ -1,4 +1,4 @@
-use Rattle.std.proofs.Common.{rules, ◌≡◌, ◌≤◌, Err, ap, arith, length, sym, vec_len, ◌∙◌}
+use Rattle.std.proofs.Common.{rules, ◌≡◌, Err, arith}
 use Rattle.std.proofs.lemmas.Bool.{false_from_ne_true}
 use Rattle.std.specs.Vec.Iter.{into_iter_items}
 use Rattle.rb_run_threads.proofs.Lines.{histories_go_on, histories_stop, next_left}
