@@ -366,6 +366,7 @@ fn faults_in_words(rt: HostRuntime) -> Result<(), Fail> {
         ),
         (ScriptFault::Write, "rbbank: write failed", 3),
         (ScriptFault::OutOfMemory, "rbbank: out of memory", 4),
+        (ScriptFault::Gather, "rbbank: gather failed", 5),
     ] {
         let said = message(rt.alloc(), fault)?;
         equal(&rt, (said.as_str(), status(fault)), (text, number));

@@ -3,8 +3,8 @@
 use crate::branch::comes;
 use crate::checks::{equal, holds};
 use rb_branch::{Gate, NoGate};
-use rb_lines::ToBytes;
-use rb_run_threads::{ThreadsFault, run_threads, threads_message, threads_status};
+use rb_lines::{ScriptFault, ToBytes};
+use rb_run_threads::run_threads;
 use std::rt::Clock;
 use std::sync::atomic::{AtomicBool, Ordering};
 use std::test::Fail;
@@ -18,21 +18,8 @@ fn writer_fails_midway(rt: HostRuntime) {
     equal(
         &rt,
         (run, begins, taken.len()),
-        (Err(ThreadsFault::Write), true, 100),
+        (Err(ScriptFault::Write), true, 100),
     );
-}
-
-#[test]
-fn threads_faults_in_words(rt: HostRuntime) -> Result<(), Fail> {
-    for (fault, text, number) in [
-        (ThreadsFault::Write, "rbbank: write failed", 3u8),
-        (ThreadsFault::OutOfMemory, "rbbank: out of memory", 4),
-        (ThreadsFault::Gather, "rbbank: gather failed", 5),
-    ] {
-        let said = threads_message(rt.alloc(), fault)?;
-        equal(&rt, (said.as_str(), threads_status(fault)), (text, number));
-    }
-    Ok(())
 }
 
 /// A gate whose first entry at each of two sites waits for the other's.

@@ -21,7 +21,17 @@ fn limits_are_shown(rt: HostRuntime) -> Result<(), Fail> {
     Ok(())
 }
 
-/// Each option's number is read as it is written, in any order.
+/// What words that are given in a line are read as.
+fn expect(rt: &HostRuntime, line: &str, wanted: Words) {
+    let words: Vec<&str> = line.split(" ").collect(rt.alloc()).expect(rt, "memory");
+    equal(
+        rt,
+        read_words(rt.alloc(), words.as_slice()).ok(),
+        Some(wanted),
+    );
+}
+
+/// Each option's number is read as it is written, in any order, in the next word or behind `=`.
 #[test]
 fn numbers_are_read(rt: HostRuntime) {
     let run = Words::Threads {
@@ -29,15 +39,32 @@ fn numbers_are_read(rt: HostRuntime) {
         tellers: 64,
         seed: 4294967295,
     };
-    for words in [
+    for line in [
         "threads --sites 3 --tellers 64 --seed 4294967295",
         "threads --seed 4294967295 --tellers 64 --sites 3",
+        "threads --sites=3 --seed +4294967295 --tellers=064",
     ] {
-        let words: Vec<&str> = words.split(" ").collect(rt.alloc()).expect(&rt, "memory");
-        equal(
-            &rt,
-            read_words(rt.alloc(), words.as_slice()).ok(),
-            Some(run),
-        );
+        expect(&rt, line, run);
+    }
+}
+
+/// A site's file is named by the text of its option, which may begin with a hyphen behind `=`, or be a hyphen alone.
+#[test]
+fn journals_are_read(rt: HostRuntime) {
+    for (line, journal, resend) in [
+        ("site --me 15 --journal j", "j", None),
+        ("site --resend=0 --journal=-j --me=15", "-j", Some(0)),
+        (
+            "site --journal - --resend 100000000 --me 15",
+            "-",
+            Some(100_000_000),
+        ),
+    ] {
+        let wanted = Words::Site {
+            me: 15,
+            journal,
+            resend,
+        };
+        expect(&rt, line, wanted);
     }
 }

@@ -4,11 +4,9 @@ use Rattle.std.specs.declared.io.ErrorKind.{ErrorKind as IoErrorKind}
 use Rattle.std.specs.declared.io.ErrorKind.TheVariants.{OutOfMemory as IoOutOfMemory}
 use Rattle.clap.specs.declared.error.kind.ErrorKind.{ErrorKind}
 use Rattle.clap.specs.declared.error.kind.ErrorKind.TheVariants.{DisplayHelp, DisplayVersion, OutOfMemory as NoMemory}
-use Rattle.rb_lines.specs.declared.fault.StreamFault.{StreamFault}
-use Rattle.rb_lines.specs.declared.fault.StreamFault.TheVariants.{NoConfig, OutOfMemory, Write}
+use Rattle.rb_lines.specs.declared.fault.ScriptFault.{ScriptFault}
+use Rattle.rb_lines.specs.declared.fault.ScriptFault.TheVariants.{NoConfig, OutOfMemory, Write}
 use Rattle.rb_lines.specs.Messages.{status_of}
-use Rattle.rb_run_threads.specs.declared.fault.ThreadsFault.{ThreadsFault}
-use Rattle.rb_run_threads.specs.Messages.{threads_status_of}
 use Rattle.rb_run_site.specs.declared.fault.SiteFault.{SiteFault}
 use Rattle.rbbank.specs.declared.answer.Answered.{Answered}
 use Rattle.rbbank.specs.declared.answer.Answered.TheVariants.{Script, Audit, Migrate, Threads, SiteAsked}
@@ -19,30 +17,26 @@ use Rattle.rbbank.specs.Statuses.{IsToldStatus, status_of_unread}
 pub no_memory : (n : ℕ) → n ≡ 4 → IsEnd n
 no_memory n e = inr (inr (inl (OutOfMemory, e)))
 
-fault_end : (n : ℕ) (fault : StreamFault) → IsToldStatus (status_of fault) n → IsEnd n
+fault_end : (n : ℕ) (fault : ScriptFault) → IsToldStatus (status_of fault) n → IsEnd n
 fault_end n fault (inl e) = inr (inr (inl (fault, e)))
 fault_end n fault (inr e) = no_memory n e
 
-threads_fault_end : (n : ℕ) (fault : ThreadsFault) → IsToldStatus (threads_status_of fault) n → IsEnd n
-threads_fault_end n fault (inl e) = inr (inr (inr (inl (fault, e))))
-threads_fault_end n fault (inr e) = no_memory n e
-
-script_end : (n : ℕ) (answered : Result ℕ StreamFault) → IsEndOfScript answered n → IsEnd n
+script_end : (n : ℕ) (answered : Result ℕ ScriptFault) → IsEndOfScript answered n → IsEnd n
 script_end n (Ok count) e = inl e
 script_end n (Err fault) e = fault_end n fault e
 
-audit_end : (n : ℕ) (answered : Result Bool StreamFault) → IsEndOfAudit answered n → IsEnd n
+audit_end : (n : ℕ) (answered : Result Bool ScriptFault) → IsEndOfAudit answered n → IsEnd n
 audit_end n (Ok true) e = inl e
 audit_end n (Ok false) e = inr (inl e)
 audit_end n (Err fault) e = fault_end n fault e
 
-threads_end : (n : ℕ) (ran : Result Unit ThreadsFault) → IsEndOfThreads ran n → IsEnd n
+threads_end : (n : ℕ) (ran : Result Unit ScriptFault) → IsEndOfThreads ran n → IsEnd n
 threads_end n (Ok u) e = inl e
-threads_end n (Err fault) e = threads_fault_end n fault e
+threads_end n (Err fault) e = fault_end n fault e
 
 site_end : (n : ℕ) (ran : Result ℕ SiteFault) → IsEndOfSite ran n → IsEnd n
 site_end n (Ok count) e = inl e
-site_end n (Err fault) (inl e) = inr (inr (inr (inr (fault, e))))
+site_end n (Err fault) (inl e) = inr (inr (inr (fault, e)))
 site_end n (Err fault) (inr e) = no_memory n e
 
 -- whatever was done

@@ -1,5 +1,6 @@
 -- What the program does for its words.
-use Rattle.std.specs.Prelude.{◌≡◌, ℕ, List, [], Option, IfSome}
+use Rattle.std.specs.Prelude.{◌≡◌, ◌≢◌, ℕ, List, [], Option, IfSome, Err}
+use Rattle.rb_lines.specs.declared.fault.ScriptFault.TheVariants.{Gather}
 use Rattle.rb_cli.specs.declared.words.Words.{Words}
 use Rattle.rb_cli.specs.declared.words.Words.TheVariants.{Script, Audit, Migrate, Threads, Site}
 use Rattle.rb_run_script.specs.Run.{ScriptEndsAs}
@@ -11,12 +12,12 @@ use Rattle.rbbank.specs.declared.answer.Answered.TheVariants.{Script as ScriptRa
 use Rattle.rbbank.specs.declared.answer.Answered.TheVariants.{Threads as TellersRan, SiteAsked}
 
 -- what was asked for was done, by the definition of its own run: a script on the reader's bytes, an audit of them or a
--- migration, wherever these bytes are known, or a run of tellers, which reads nothing; or a site is to run as asked,
--- and nothing was read or written
+-- migration, wherever these bytes are known, none of which gathers histories, or a run of tellers, which reads nothing;
+-- or a site is to run as asked, and nothing was read or written
 abbrev pub DoesAsAsked : Words → Answered → Option (List ℕ) → Option (List ℕ) → List ℕ → Type 0
-DoesAsAsked Script (ScriptRan r) bytes left text = IfSome bytes (λ input. ScriptEndsAs r input left text)
-DoesAsAsked Audit (AuditRan r) bytes left text = IfSome bytes (λ input. AuditEndsAs r input left text)
-DoesAsAsked Migrate (MigrationRan r) bytes left text = IfSome bytes (λ input. MigrationEndsAs r input left text)
+DoesAsAsked Script (ScriptRan r) bytes left text = (r ≢ Err Gather) × IfSome bytes (λ input. ScriptEndsAs r input left text)
+DoesAsAsked Audit (AuditRan r) bytes left text = (r ≢ Err Gather) × IfSome bytes (λ input. AuditEndsAs r input left text)
+DoesAsAsked Migrate (MigrationRan r) bytes left text = (r ≢ Err Gather) × IfSome bytes (λ input. MigrationEndsAs r input left text)
 DoesAsAsked (Threads sites tellers seed) (TellersRan r) bytes left text = ThreadsEndAs r sites tellers seed text × (left ≡ bytes)
 DoesAsAsked (Site me journal resend) (SiteAsked me' journal' resend') bytes left text =
     (me' ≡ me) × (journal' ≡ journal) × (resend' ≡ resend) × (text ≡ []) × (left ≡ bytes)

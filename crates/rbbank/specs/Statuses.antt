@@ -4,11 +4,9 @@ use Rattle.std.specs.declared.io.ErrorKind.{ErrorKind as IoErrorKind}
 use Rattle.std.specs.declared.io.ErrorKind.TheVariants.{OutOfMemory as IoOutOfMemory}
 use Rattle.clap.specs.declared.error.kind.ErrorKind.{ErrorKind}
 use Rattle.clap.specs.declared.error.kind.ErrorKind.TheVariants.{DisplayHelp, DisplayVersion, OutOfMemory as NoMemory}
-use Rattle.rb_lines.specs.declared.fault.StreamFault.{StreamFault}
-use Rattle.rb_lines.specs.declared.fault.StreamFault.TheVariants.{Write}
+use Rattle.rb_lines.specs.declared.fault.ScriptFault.{ScriptFault}
+use Rattle.rb_lines.specs.declared.fault.ScriptFault.TheVariants.{Write}
 use Rattle.rb_lines.specs.Messages.{status_of}
-use Rattle.rb_run_threads.specs.declared.fault.ThreadsFault.{ThreadsFault}
-use Rattle.rb_run_threads.specs.Messages.{threads_status_of}
 use Rattle.rb_run_site.specs.declared.fault.SiteFault.{SiteFault}
 use Rattle.rb_run_site.specs.Faults.{site_status_of}
 use Rattle.rbbank.specs.declared.answer.Answered.{Answered}
@@ -33,21 +31,21 @@ IsEndOfWords DisplayVersion n = (n ≡ 0) ⊎ IsToldStatus (status_of Write) n
 IsEndOfWords _ n = n ≡ 2
 
 -- a script, or a migration, ends in 0 where it was answered whole, else in its fault's status or 4
-abbrev pub IsEndOfScript : Result ℕ StreamFault → ℕ → Type 0
+abbrev pub IsEndOfScript : Result ℕ ScriptFault → ℕ → Type 0
 IsEndOfScript (Ok count) n = n ≡ 0
 IsEndOfScript (Err fault) n = IsToldStatus (status_of fault) n
 
 -- an audit ends in 0 where it found an order, in 1 where it found that no world has the histories, else in its fault's
 -- status or 4
-abbrev pub IsEndOfAudit : Result Bool StreamFault → ℕ → Type 0
+abbrev pub IsEndOfAudit : Result Bool ScriptFault → ℕ → Type 0
 IsEndOfAudit (Ok true) n = n ≡ 0
 IsEndOfAudit (Ok false) n = n ≡ 1
 IsEndOfAudit (Err fault) n = IsToldStatus (status_of fault) n
 
 -- a run of threads ends in 0 where its histories were written, else in its fault's status or 4
-abbrev pub IsEndOfThreads : Result Unit ThreadsFault → ℕ → Type 0
+abbrev pub IsEndOfThreads : Result Unit ScriptFault → ℕ → Type 0
 IsEndOfThreads (Ok u) n = n ≡ 0
-IsEndOfThreads (Err fault) n = IsToldStatus (threads_status_of fault) n
+IsEndOfThreads (Err fault) n = IsToldStatus (status_of fault) n
 
 -- a site ends in 0 where its lines were all answered, else in its fault's status or 4
 abbrev pub IsEndOfSite : Result ℕ SiteFault → ℕ → Type 0
@@ -69,8 +67,7 @@ IsEndOf (SiteAsked me journal resend) n = IsEndOfSomeSite n
 
 -- 0, 1, or the status of a fault
 abbrev pub IsEnd : ℕ → Type 0
-IsEnd n = (n ≡ 0) ⊎ ((n ≡ 1) ⊎ (((fault : StreamFault) × (n ≡ status_of fault)) ⊎ (((fault : ThreadsFault) × (n ≡ threads_status_of fault))
-    ⊎ ((fault : SiteFault) × (n ≡ site_status_of fault)))))
+IsEnd n = (n ≡ 0) ⊎ ((n ≡ 1) ⊎ (((fault : ScriptFault) × (n ≡ status_of fault)) ⊎ ((fault : SiteFault) × (n ≡ site_status_of fault))))
 
 -- a site is to run
 abbrev pub IsSiteAsked : Answered → Type 0

@@ -1,10 +1,11 @@
 //! What the words ask for, done between any reader and any writer.
 ghost use Rattle.std.specs.Prelude.{◌≡◌, ◌+◌, ◌≤◌, ℕ, List, false, map, IfOk, IfErr, OnErr};
 ghost use Rattle.std.specs.Io.KnownBytes.{Appends};
-ghost use Rattle.clap.specs.Words.{HasKind};
+ghost use Rattle.clap.specs.Words.{FailsBy, fault_of, kind_of};
+ghost use Rattle.clap.specs.declared.error.kind.ErrorKind.TheVariants.{OutOfMemory};
 ghost use Rattle.rb_lines.specs.declared.limits.TheConstants.{MOST_READS};
 ghost use Rattle.rb_cli.specs.declared.words.Words.{Words as TheWords};
-ghost use Rattle.rb_cli.specs.Words.{Ask, kinds_of};
+ghost use Rattle.rb_cli.specs.Words.{Ask, IsRead, command_line};
 ghost use Rattle.rbbank.specs.Asked.{DoesAsAsked};
 ghost use Rattle.rbbank.specs.Statuses.{IsSiteAsked};
 
@@ -14,7 +15,7 @@ use rb_lines::{ScriptFault, Sink, Source};
 use rb_run_audit::run_audit;
 use rb_run_migrate::run_migrate;
 use rb_run_script::run_script;
-use rb_run_threads::{ThreadsFault, run_threads};
+use rb_run_threads::run_threads;
 use std::alloc::Global;
 use std::sync::Wait;
 use std::thread::Threads;
@@ -29,7 +30,7 @@ pub enum Answered<'a> {
     /// Histories were written again.
     Migrate(Result<u64, ScriptFault>),
     /// Tellers ran.
-    Threads(Result<(), ThreadsFault>),
+    Threads(Result<(), ScriptFault>),
     /// A site is to run over this file, which takes a disk as well. Nothing is done yet.
     SiteAsked {
         me: u8,
@@ -50,12 +51,15 @@ pub fn answer<'a, H: Threads + Wait + Sync, S: Source, W: Sink>(
 ) -> Result<Answered<'a>, clap::Error>
     requires unread { S.calls reader.old ≡ 0 }
     requires fresh { W.failed writer.old ≡ false }
-    ensures done { IfOk result (λ answered. (asked : TheWords) × Ask (map (λ word. word.now) words.entry.now) asked
+    ensures done { IfOk result (λ answered. (asked : TheWords) × IsRead (map (λ word. word.now) words.entry.now) asked
         × (text : List ℕ) × Appends (W.contents writer.old) (W.contents writer.new) text
         × DoesAsAsked asked answered (S.remaining reader.old) (S.remaining reader.new) text) }
-    ensures unasked { IfErr result (λ _. (asked : TheWords) → ¬ Ask (map (λ word. word.now) words.entry.now) asked) }
-    // The error is one of those that these words may end in, so help is answered only where they ask for it.
-    ensures kinds { IfErr result (HasKind (kinds_of (map (λ word. word.now) words.entry.now))) }
+    // Words in their usual spelling are refused for want of memory alone.
+    ensures unasked { IfErr result
+        (λ e. (asked : TheWords) → Ask (map (λ word. word.now) words.entry.now) asked → kind_of e ≡ OutOfMemory) }
+    // Something is done only for words that the command line takes. The error is one of those that these words may end
+    // in, so help is answered only where they ask for it.
+    ensures kinds { FailsBy (fault_of command_line (map (λ word. word.now) words.entry.now)) result }
     ensures untouched { OnErr result ((reader.new ≡ reader.old) × (writer.new ≡ writer.old)) }
     ensures asked { IfOk result
         (λ answered. IsSiteAsked answered → (reader.new ≡ reader.old) × (writer.new ≡ writer.old)) }

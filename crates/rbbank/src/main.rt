@@ -8,7 +8,7 @@ ghost use Rattle.std.specs.IoError.{error_kind};
 ghost use Rattle.std.specs.Process.{exit_status};
 ghost use Rattle.clap.specs.Words.{kind_of};
 ghost use Rattle.rb_lines.specs.Messages.{status_of};
-ghost use Rattle.rb_lines.specs.declared.fault.StreamFault.TheVariants.{Write as NotWritten};
+ghost use Rattle.rb_lines.specs.declared.fault.ScriptFault.TheVariants.{Write as NotWritten};
 ghost use Rattle.rbbank.specs.Statuses.{IsEnd, IsEndOf, IsEndOfAudit, IsEndOfScript, IsEndOfThreads, IsEndOfWords};
 ghost use Rattle.rbbank.specs.Statuses.{IsSiteAsked};
 ghost use Rattle.rbbank.specs.Statuses.{IsToldStatus, status_of_unread};
@@ -20,7 +20,6 @@ use answer::{Answered, answer};
 use clap::error::ErrorKind;
 use on_disk::run_on_disk;
 use rb_lines::{FromReader, ScriptFault, Source, ToWriter, message, status};
-use rb_run_threads::{ThreadsFault, threads_message, threads_status};
 use std::alloc::AllocError;
 use std::process::ExitCode;
 use std::sync::Wait;
@@ -56,7 +55,7 @@ pub(crate) fn print_line(rt: &HostRuntime, line: Result<String, AllocError>, sta
     }
 }
 
-/// Says why a script, an audit or a migration stopped.
+/// Says why a script, an audit, a migration or a run of threads stopped.
 fn report_fault(rt: &HostRuntime, fault: ScriptFault) -> ExitCode
     ensures { IsToldStatus (status_of fault) (exit_status result) }
 {
@@ -123,16 +122,12 @@ fn end_of_audit(rt: &HostRuntime, ran: Result<bool, ScriptFault>) -> ExitCode
 }
 
 /// How a run of threads ends the program.
-fn end_of_threads(rt: &HostRuntime, ran: Result<(), ThreadsFault>) -> ExitCode
+fn end_of_threads(rt: &HostRuntime, ran: Result<(), ScriptFault>) -> ExitCode
     ensures { IsEndOfThreads ran (exit_status result) }
 {
     match ran {
         Ok(()) => ExitCode::SUCCESS,
-        Err(fault) => print_line(
-            rt,
-            threads_message(rt.alloc(), fault),
-            threads_status(fault),
-        ),
+        Err(fault) => report_fault(rt, fault),
     }
 }
 
