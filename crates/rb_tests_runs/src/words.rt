@@ -1,9 +1,11 @@
-//! The words of the command line: their limits in the help, and the numbers of a run as they are read. What words are
-//! taken is in tests/cases.
+//! The words of the command line: their limits in the help, and what options are read as. What words are taken is in
+//! tests/cases.
 
 use crate::checks::{equal, holds};
 use rb_cli::{MOST_TELLERS, Words, read_words};
 use rb_money::MOST_SITES;
+use std::alloc::Global;
+use std::process::Abort;
 use std::test::Fail;
 
 /// Help names the limits of sites and tellers as the code has them.
@@ -21,14 +23,10 @@ fn limits_are_shown(rt: HostRuntime) -> Result<(), Fail> {
     Ok(())
 }
 
-/// What words that are given in a line are read as.
-fn expect(rt: &HostRuntime, line: &str, wanted: Words) {
-    let words: Vec<&str> = line.split(" ").collect(rt.alloc()).expect(rt, "memory");
-    equal(
-        rt,
-        read_words(rt.alloc(), words.as_slice()).ok(),
-        Some(wanted),
-    );
+/// The words of a line are read as this.
+fn are_read(rt: &impl Abort, alloc: Global, line: &str, wanted: Words) {
+    let words: Vec<&str> = line.split(" ").collect(alloc).expect(rt, "memory");
+    equal(rt, read_words(alloc, words.as_slice()).ok(), Some(wanted));
 }
 
 /// Each option's number is read as it is written, in any order, in the next word or behind `=`.
@@ -44,7 +42,7 @@ fn numbers_are_read(rt: HostRuntime) {
         "threads --seed 4294967295 --tellers 64 --sites 3",
         "threads --sites=3 --seed +4294967295 --tellers=064",
     ] {
-        expect(&rt, line, run);
+        are_read(&rt, rt.alloc(), line, run);
     }
 }
 
@@ -65,6 +63,6 @@ fn journals_are_read(rt: HostRuntime) {
             journal,
             resend,
         };
-        expect(&rt, line, wanted);
+        are_read(&rt, rt.alloc(), line, wanted);
     }
 }
