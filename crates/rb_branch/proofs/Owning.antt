@@ -6,9 +6,9 @@ use Rattle.std.proofs.lemmas.Bool.{eqb-true, eq-eqb}
 use Rattle.std.proofs.lemmas.Bool.Decides.{eqb_tells}
 use Rattle.std.proofs.lemmas.Option.{slice_get_within, slice_get-get_or}
 use Rattle.rb_site.specs.declared.entry.Entry.{Entry}
-use Rattle.rb_branch.specs.Receipts.{SeenReceipt}
+use Rattle.rb_branch.specs.declared.receipt.Receipt.{Receipt}
 use Rattle.rb_branch.specs.Gathered.{IsGathered, IsInterleaving, claim, claims, claims_at, numbered}
-use Rattle.rb_branch.specs.Owners.{AreDistinct, AreOwners, HoldsReceipt, HasWithin, IsHolder, OwnedWithin, Puts, PutsAll, has_number, is_next}
+use Rattle.rb_branch.specs.Owners.{AreDistinct, AreOwners, HoldsReceipt, HasWithin, IsHolder, OwnedWithin, PutsAll, has_number, is_next}
 use Rattle.rb_branch.specs.Seats.{SeenSeat}
 use Rattle.rb_site.proofs.Public.Lists.{map_at}
 use Rattle.rb_branch.proofs.Merging.{get_set_other}
@@ -57,11 +57,11 @@ owned_same site m seats c xs at away all i v now =
 
 -- ---- who has a number next claims it
 
-has_if : (b : Bool) (rs : List SeenReceipt) (index number : ℕ) → (if b then has_number number (slice_get rs index) else false) ≡ true
+has_if : (b : Bool) (rs : List Receipt) (index number : ℕ) → (if b then has_number number (slice_get rs index) else false) ≡ true
     → (b ≡ true) × HasWithin (length rs) number rs
 has_if true rs index number h = (refl, has_at (slice_get rs index) refl h)
   where
-    has_at : (o : Option SeenReceipt) → slice_get rs index ≡ o → has_number number o ≡ true → HasWithin (length rs) number rs
+    has_at : (o : Option Receipt) → slice_get rs index ≡ o → has_number number o ≡ true → HasWithin (length rs) number rs
     has_at None at h = cc
     has_at (Some r) at h = record {
       index = index;
@@ -228,47 +228,3 @@ owned_all site m seats xs past all i v at =
       | inl g ↦ inl (slice_get_within seats v g.1.seat g.1.at, g.1)
       | inr g ↦ inr (g.0, λ j b. g.1 j (omega arith))
     ]
-
--- the table with the number of one receipt more
-pub puts_next : (m k number : ℕ) (rs : List SeenReceipt) (r : SeenReceipt) (old now new : List ℕ) → PutsAll m rs k old now
-    → Puts number k now new → slice_get rs m ≡ Some r → number ≡ r.number → PutsAll (m + 1) rs k old new
-puts_next m k number rs r old now new all one at is = (one.0 ∙ all.0, each)
-  where
-    -- a receipt before the new one, or the new one
-    before : (i : ℕ) → number ≢ i + 1 → HasWithin (m + 1) (i + 1) rs → HasWithin m (i + 1) rs
-    before i apart h =
-        elim (eqb_tells h.index m) [
-          | inl p ↦
-              (let P : ℕ → Type 0 = λ j. slice_get rs j ≡ Some h.receipt in
-              let found = subst P p.1 h.at in
-              let same : h.receipt ≡ r = cc (found, at) in
-              absurd (apart (is ∙ ap (λ (x : SeenReceipt). x.number) (sym same) ∙ h.number_is)))
-          | inr p ↦
-              record {
-                index = h.index;
-                receipt = h.receipt;
-                below = (let b = h.below in let n = p.1 in omega arith);
-                at = h.at;
-                number_is = h.number_is;
-              }
-        ]
-
-    after : (i : ℕ) → HasWithin m (i + 1) rs → HasWithin (m + 1) (i + 1) rs
-    after i h = record {
-      index = h.index;
-      receipt = h.receipt;
-      below = (let b = h.below in omega arith);
-      at = h.at;
-      number_is = h.number_is;
-    }
-
-    each : (i v : ℕ) → slice_get new i ≡ Some v
-        → ((v ≡ k) × HasWithin (m + 1) (i + 1) rs) ⊎ ((slice_get old i ≡ Some v) × ¬ HasWithin (m + 1) (i + 1) rs)
-    each i v h =
-        elim (one.1 i v h) [
-          | inl p ↦ inl (p.0, record { index = m; receipt = r; below = omega arith; at = at; number_is = sym is ∙ p.1 })
-          | inr p ↦ elim (all.1 i v p.0) [
-            | inl q ↦ inl (q.0, after i q.1)
-            | inr q ↦ inr (q.0, λ w. q.1 (before i p.1 w))
-          ]
-        ]

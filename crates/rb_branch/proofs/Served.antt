@@ -8,26 +8,26 @@ use Rattle.std.proofs.Math.Seq.{set-append_seam, get_or-append_seam}
 use Rattle.rb_site.specs.declared.event.Event.{Event}
 use Rattle.rb_site.specs.declared.event.Event.TheVariants as ev
 use Rattle.rb_site.specs.declared.message.Message.{Message}
-use Rattle.rb_branch.specs.Receipts.{SeenReceipt}
+use Rattle.rb_branch.specs.declared.receipt.Receipt.{Receipt}
 use Rattle.rb_branch.specs.Seats.{HasOneMore, HasServed, IsApply, IsOneOf, IsServed, WasReceived, NoneLost, SeenSeat, Any}
 use Rattle.rb_branch.specs.Seats.{is_full_inbox}
 
-abbrev Refuses : Message → SeenReceipt → Type 0
+abbrev Refuses : Message → Receipt → Type 0
 Refuses m r = (r.event ≡ ev.Receive m) × (is_full_inbox r.reply ≡ true)
 
-abbrev Takes : Message → SeenReceipt → Type 0
+abbrev Takes : Message → Receipt → Type 0
 Takes m r = (r.event ≡ ev.Receive m) × (is_full_inbox r.reply ≡ false)
 
 same_message : (m n : Message) → ev.Receive m ≡ ev.Receive n → m ≡ n
 same_message m n h = cc
 
-abbrev Served : SeenReceipt → Type 0
+abbrev Served : Receipt → Type 0
 Served r = IsServed r.event
 
 served_nothing : All Served []
 served_nothing k d h = absurd (omega arith)
 
-served_single : (r : SeenReceipt) → Served r → All Served (r ∷ [])
+served_single : (r : Receipt) → Served r → All Served (r ∷ [])
 served_single r s zero d h = s
 served_single r s (suc k) d h = absurd (omega arith)
 
@@ -61,7 +61,7 @@ some_removed P (y ∷ ys) (suc k) x at (inl p) = inl (inl p)
 some_removed P (y ∷ ys) (suc k) x at (inr h) = elim (some_removed P ys k x at h) [ inl l ↦ inl (inr l) | inr r ↦ inr r ]
 
 -- no message is lost in two steps
-lost_more : (a b c : List Message) (xs ys : List SeenReceipt) → NoneLost a b xs → NoneLost b c ys → NoneLost a c (xs ++ ys)
+lost_more : (a b c : List Message) (xs ys : List Receipt) → NoneLost a b xs → NoneLost b c ys → NoneLost a c (xs ++ ys)
 lost_more a b c xs ys h k = record {
   kept = λ m i. onward m (h.kept m i);
   refused = λ m i. elim (some_of (Refuses m) xs ys i) [
@@ -85,7 +85,7 @@ lost_taken a b m is =
     subst P (sym is) (record { kept = λ x h. inl (some_left (λ k. x ≡ k) a (m ∷ []) h); refused = λ x h. absurd h })
 
 -- a kept message that is refused and stays
-lost_refused : (kept : List Message) (k : ℕ) (m : Message) (r : SeenReceipt) → slice_get kept k ≡ Some m → r.event ≡ ev.Receive m
+lost_refused : (kept : List Message) (k : ℕ) (m : Message) (r : Receipt) → slice_get kept k ≡ Some m → r.event ≡ ev.Receive m
     → NoneLost kept kept (r ∷ [])
 lost_refused kept k m r at is = record {
   kept = λ x h. inl h;
@@ -96,7 +96,7 @@ lost_refused kept k m r at is = record {
 }
 
 -- a kept message that is received and goes
-lost_received : (kept : List Message) (k : ℕ) (m : Message) (r : SeenReceipt) → slice_get kept k ≡ Some m → r.event ≡ ev.Receive m
+lost_received : (kept : List Message) (k : ℕ) (m : Message) (r : Receipt) → slice_get kept k ≡ Some m → r.event ≡ ev.Receive m
     → is_full_inbox r.reply ≡ false
     → NoneLost kept (remove kept k) (r ∷ [])
 lost_received kept k m r at is not = record {
@@ -117,7 +117,7 @@ served_more a b c k l m n p h t = record {
   more = h.more ++ t.more;
   seat =
       t.seat ∙ (λ i. record (h.seat i) { receipts = (h.seat i).receipts ++ t.more })
-      ∙ ap (λ (xs : List SeenReceipt). record a { receipts = xs }) (append_assoc a.receipts h.more t.more);
+      ∙ ap (λ (xs : List Receipt). record a { receipts = xs }) (append_assoc a.receipts h.more t.more);
   served = All-append Served h.more t.more h.served t.served;
   count_is = omega (arith, h.count_is, t.count_is, length-append h.more t.more);
   none_lost = lost_more k l m h.more t.more h.none_lost t.none_lost;
@@ -135,7 +135,7 @@ serves_more a b c k l m h t = (h.0 + t.0, served_more a b c k l m h.0 t.0 h.1 t.
 none_more : (a : SeenSeat) (k l : List Message) → NoneLost k l [] → HasServed a a k l 0
 none_more a k l lost = record {
   more = [];
-  seat = ap (λ (xs : List SeenReceipt). record a { receipts = xs }) (sym (append-nil a.receipts));
+  seat = ap (λ (xs : List Receipt). record a { receipts = xs }) (sym (append-nil a.receipts));
   served = served_nothing;
   count_is = refl;
   none_lost = lost;
@@ -181,7 +181,7 @@ served_apply b c kept n h = record {
 
 -- the reply of the last receipt
 last_reply : (b c : SeenSeat) (P : Event → Type 0) (n : ℕ) (full : Bool) (h : HasOneMore b c P n)
-    → ((xs : List SeenReceipt) (r : SeenReceipt) → c.receipts ≡ xs ++ r ∷ [] → full ≡ is_full_inbox r.reply) → full ≡ is_full_inbox h.last.reply
+    → ((xs : List Receipt) (r : Receipt) → c.receipts ≡ xs ++ r ∷ [] → full ≡ is_full_inbox r.reply) → full ≡ is_full_inbox h.last.reply
 last_reply b c P n full h found = found b.receipts h.last (ap (λ (s : SeenSeat). s.receipts) h.seat)
 
 served_message : (b c : SeenSeat) (old new : List Message) (m : Message) (n : ℕ) (h : HasOneMore b c (λ e. e ≡ ev.Receive m) n)
@@ -202,7 +202,7 @@ served_refused b c kept k n m at h = served_message b c kept kept m n h (lost_re
 -- a kept message is received, and goes
 pub served_received : (b c : SeenSeat) (old new : List Message) (k n : ℕ) (m : Message) (full : Bool) → slice_get old k ≡ Some m
     → HasOneMore b c (λ e. e ≡ ev.Receive m) n
-    → ((xs : List SeenReceipt) (r : SeenReceipt) → c.receipts ≡ xs ++ r ∷ [] → full ≡ is_full_inbox r.reply) → full ≡ false
+    → ((xs : List Receipt) (r : Receipt) → c.receipts ≡ xs ++ r ∷ [] → full ≡ is_full_inbox r.reply) → full ≡ false
     → new ≡ remove old k → HasServed b c old new 1
 served_received b c old new k n m full at h found not is =
     let P : List Message → Type 0 = λ l. NoneLost old l (h.last ∷ []) in
@@ -210,7 +210,7 @@ served_received b c old new k n m full at h found not is =
     served_message b c old new m n h (subst P (sym is) (lost_received old k m h.last at h.event_is reply))
 
 -- the last receipt with another count of messages that were not sent
-pub set_last : (items items' xs : List SeenReceipt) (r now : SeenReceipt) (n count : ℕ)
+pub set_last : (items items' xs : List Receipt) (r now : Receipt) (n count : ℕ)
     → items ≡ xs ++ r ∷ [] → n ≡ length items → now ≡ get_or items (n - 1) now
     → items' ≡ set items (n - 1) (record now { unsent = count })
     → items' ≡ xs ++ record r { unsent = count } ∷ []
@@ -226,7 +226,7 @@ serves_ready a b c k l None h ready = serves_same a b c k l l h ready refl
 serves_ready a b c k l (Some n) h ready = serves_more a b c k l l h (1, served_apply b c l n ready)
 
 -- how many receipts more there are
-pub served_since : (a b : SeenSeat) (k l : List Message) (xs ys : List SeenReceipt) → Serves a b k l → xs ≡ a.receipts → ys ≡ b.receipts
+pub served_since : (a b : SeenSeat) (k l : List Message) (xs ys : List Receipt) → Serves a b k l → xs ≡ a.receipts → ys ≡ b.receipts
     → HasServed a b k l (length ys - length xs)
 served_since a b k l xs ys h before now =
     let more = ap (λ (c : SeenSeat). length c.receipts) h.1.seat ∙ length-append a.receipts h.1.more in

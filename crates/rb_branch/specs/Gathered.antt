@@ -3,13 +3,10 @@ use Rattle.std.specs.Prelude.{◌≡◌, ℕ, ◌+◌, ◌<◌, ◌≤◌, ◌^�
 use Rattle.std.specs.Prelude.{slice_get, slice_set, sum_by, vec_len, Bool, Err, IsTrue, OnOk, Result}
 use Rattle.rb_money.specs.Settings.{Settings}
 use Rattle.rb_money.specs.declared.limits.TheConstants.{MOST_SITES}
-use Rattle.rb_branch.specs.declared.limits.TheConstants.{SEAT_PARTS}
 use Rattle.rb_branch.specs.declared.gather_fault.GatherFault.{GatherFault}
 use Rattle.rb_branch.specs.declared.gather_fault.GatherFault.TheVariants.{Missing, Mixed, OutOfMemory}
-use Rattle.rb_branch.specs.Receipts.{AreInLog, SeenReceipt}
+use Rattle.rb_branch.specs.declared.receipt.Receipt.{Receipt}
 use Rattle.rb_branch.specs.Seats.{SeenSeat}
-use Rattle.rb_log.specs.declared.noted.Noted.{Noted}
-use Rattle.rb_log.specs.Log.{noted_at}
 use Rattle.rb_site.specs.declared.entry.Entry.{Entry}
 use Rattle.rb_site.specs.declared.report.SiteReport.{SiteReport}
 use Rattle.rb_site.specs.Events.{first_site}
@@ -37,7 +34,7 @@ numbered n [] = []
 numbered n (e ∷ es) = (n, e) ∷ numbered (n + 1) es
 
 -- the numbered entry that a receipt claims
-abbrev pub claim : SeenReceipt → ℕ × Entry
+abbrev pub claim : Receipt → ℕ × Entry
 claim r = (r.number, entry r.event r.reply)
 
 -- what a seat claims of a site
@@ -84,37 +81,15 @@ pub record SeenClosed : Type 0 where
   pub reports : List SiteReport
   pub seats : ℕ
 
--- the report's history is in the log, where its site noted each entry at its number
-abbrev pub IsReportInLog : List (Noted Entry) → SiteReport → Type 0
-IsReportInLog log r = (n : ℕ) (e : Entry) → slice_get r.history.items n ≡ Some e → noted_at r.me (n + 1) log ≡ Some e
-
--- one report for each site, whose history is in the log; the merged share has all parts of the entries but the seats',
--- and their number for its amount
-pub record AreClosed (s : Settings) (all : ℕ) (reports : List SiteReport) (log : List (Noted Entry)) (parts amount : ℕ)
-    : Type 0 where
+-- one report for each site; the merged share has all parts of the entries, and their number for its amount
+pub record AreClosed (s : Settings) (all : ℕ) (reports : List SiteReport) (parts amount : ℕ) : Type 0 where
   pub each : length reports ≡ s.sites
   pub few : length reports ≤ MOST_SITES
   pub closed : All (IsClosedReport s) reports
-  pub noted : All (IsReportInLog log) reports
-  pub all_parts : parts + SEAT_PARTS ≡ all
+  pub all_parts : parts ≡ all
   pub counted : amount ≡ entries_in reports
 
--- the receipts of all seats are in the log
-abbrev pub AreSeatsInLog : List (Noted Entry) → List SeenSeat → Type 0
-AreSeatsInLog log seats = All (λ (seat : SeenSeat). AreInLog seat.site log seat.receipts) seats
-
 -- ---- what is found
-
--- the receipts of this site's seats are its entries, where it has one of their number
-abbrev pub AgreesWith : ℕ → List Entry → List SeenSeat → Type 0
-AgreesWith site history seats =
-    (k : ℕ) (seat : SeenSeat) → slice_get seats k ≡ Some seat → seat.site ≡ site
-    → (i : ℕ) (r : SeenReceipt) → slice_get seat.receipts i ≡ Some r
-    → (n : ℕ) (e : Entry) → r.number ≡ n + 1 → slice_get history n ≡ Some e → entry r.event r.reply ≡ e
-
--- the same of all sites
-abbrev pub AllAgree : List SiteReport → List SeenSeat → Type 0
-AllAgree reports seats = (k : ℕ) (r : SiteReport) → slice_get reports k ≡ Some r → AgreesWith r.me r.history.items seats
 
 -- each report is of the site of its number, and its history is the receipts of that site's seats, interleaved
 abbrev pub AllGathered : List SiteReport → List SeenSeat → Type 0

@@ -1,12 +1,12 @@
 -- Which seat has the receipt of which entry.
 use Rattle.std.specs.Prelude.{◌≡◌, ◌≢◌, ◌⊎◌, ℕ, ◌+◌, ◌<◌, List, Bool, true, false, ◌==◌, nat_le, if◌then◌else◌, Option}
 use Rattle.std.specs.Prelude.{Some, None, length, slice_get, slice_index}
-use Rattle.rb_branch.specs.Receipts.{SeenReceipt}
+use Rattle.rb_branch.specs.declared.receipt.Receipt.{Receipt}
 use Rattle.rb_branch.specs.Seats.{SeenSeat}
 
 -- ---- the next receipt of each seat
 
-abbrev pub has_number : ℕ → Option SeenReceipt → Bool
+abbrev pub has_number : ℕ → Option Receipt → Bool
 has_number n None = false
 has_number n (Some r) = r.number == n
 
@@ -30,9 +30,9 @@ AllRead site seats next = (k : ℕ) (seat : SeenSeat) → slice_get seats k ≡ 
 -- ---- the table of owners
 
 -- a receipt at an index below m has this number
-pub record HasWithin (m number : ℕ) (rs : List SeenReceipt) : Type 0 where
+pub record HasWithin (m number : ℕ) (rs : List Receipt) : Type 0 where
   pub index : ℕ
-  pub receipt : SeenReceipt
+  pub receipt : Receipt
   pub below : index < m
   pub at : slice_get rs index ≡ Some receipt
   pub number_is : receipt.number ≡ number
@@ -55,7 +55,7 @@ Puts number k old new =
     × ((i v : ℕ) → slice_get new i ≡ Some v → ((v ≡ k) × (number ≡ i + 1)) ⊎ ((slice_get old i ≡ Some v) × (number ≢ i + 1)))
 
 -- the table has k for the numbers of the first m receipts, where it is long enough, and all else is as before
-abbrev pub PutsAll : ℕ → List SeenReceipt → ℕ → List ℕ → List ℕ → Type 0
+abbrev pub PutsAll : ℕ → List Receipt → ℕ → List ℕ → List ℕ → Type 0
 PutsAll m rs k old new =
     (length new ≡ length old)
     × ((i v : ℕ) → slice_get new i ≡ Some v → ((v ≡ k) × HasWithin m (i + 1) rs) ⊎ ((slice_get old i ≡ Some v) × ¬ HasWithin m (i + 1) rs))

@@ -1,17 +1,14 @@
 -- What a call does to a desk and to a seat.
-use Rattle.std.specs.Prelude.{◌≡◌, ◌≢◌, ◌⊎◌, ℕ, ◌+◌, ◌*◌, ◌≤◌, ◌<◌, Bool, true, false, Option, Some, None, zero, suc}
+use Rattle.std.specs.Prelude.{◌≡◌, ◌≢◌, ◌⊎◌, ℕ, ◌+◌, ◌≤◌, ◌<◌, Bool, true, false, Option, Some, None, zero, suc}
 use Rattle.std.specs.Prelude.{slice_get, List, [], ◌∷◌, ◌++◌, length, All}
 use Rattle.rb_money.specs.Settings.{Settings}
 use Rattle.rb_money.specs.declared.limits.TheConstants.{MOST_SITES}
-use Rattle.rb_branch.specs.declared.limits.TheConstants.{MOST_RECEIPTS, MOST_SEATS, SEAT_PARTS}
-use Rattle.rb_branch.specs.Receipts.{AreInLog, SeenReceipt, receipt}
+use Rattle.rb_branch.specs.declared.limits.TheConstants.{MOST_RECEIPTS, MOST_SEATS, RECEIPT_PARTS}
+use Rattle.rb_branch.specs.declared.receipt.Receipt.{Receipt}
 use Rattle.rb_inbox.specs.Held.{IsReady}
-use Rattle.rb_log.specs.declared.noted.Noted.{Noted}
-use Rattle.rb_log.specs.Log.{SeenWriter}
 use Rattle.rb_shadow.specs.Operations.{clock_of, find_in}
 use Rattle.rb_shadow.specs.declared.op_name.OpName.{OpName}
 use Rattle.rb_shadow.specs.declared.shadow.Shadow.{Shadow}
-use Rattle.rb_site.specs.declared.entry.Entry.{Entry}
 use Rattle.rb_site.specs.declared.event.Event.{Event}
 use Rattle.rb_site.specs.declared.event.Event.TheVariants.{Receive, Apply}
 use Rattle.rb_site.specs.declared.message.Message.{Message}
@@ -26,22 +23,21 @@ use Rattle.rb_site.specs.Seen.{SeenSite, Replays, state_of, stepped}
 -- a seat, as clients see it: its site's number and its receipts
 pub record SeenSeat : Type 0 where
   pub site : ℕ
-  pub receipts : List SeenReceipt
+  pub receipts : List Receipt
 
--- a desk's site is one of the branch's configuration, its history replays and is within its limit, and it noted all its
--- entries in the log; its share of the entries is one part, whose amount is their number
-pub record IsDesk (s : Settings) (site : SeenSite) (writer : SeenWriter Entry) (parts amount : ℕ) : Type 0 where
+-- a desk's site is one of the branch's configuration, its history replays and is within its limit; its share of the
+-- entries is one part, whose amount is their number
+pub record IsDesk (s : Settings) (site : SeenSite) (parts amount : ℕ) : Type 0 where
   pub settings : site.settings ≡ s
   pub within : site.me < s.sites
   pub replays : Replays s (first_site site.me) site.entries
   pub room : length site.entries ≤ s.limits.history
-  pub noted : writer ≡ record { site = site.me; entries = site.entries }
   pub one_part : parts ≡ 1
   pub counted : amount ≡ length site.entries
 
 -- the reply of a receipt is what a site of this number answers to its event: one of the configuration, whose history
 -- replays and is one shorter than the receipt's number
-pub record IsSiteReply (s : Settings) (site : ℕ) (r : SeenReceipt) : Type 0 where
+pub record IsSiteReply (s : Settings) (site : ℕ) (r : Receipt) : Type 0 where
   pub before : SeenSite
   pub settings : before.settings ≡ s
   pub me : before.me ≡ site
@@ -49,34 +45,37 @@ pub record IsSiteReply (s : Settings) (site : ℕ) (r : SeenReceipt) : Type 0 wh
   pub number : r.number ≡ length before.entries + 1
   pub reply : r.reply ≡ reply_to s (state_of before) r.event
 
--- a seat's site is one of the configuration's; its share of the entries is one part, whose amount is how many receipts
--- more it may have; the reply of each receipt is what such a site answers, and each is in the log that the seat knows
-pub record IsSeat (s : Settings) (site : ℕ) (receipts : List SeenReceipt) (log : List (Noted Entry)) (parts amount : ℕ)
-    : Type 0 where
+-- a seat's site is one of the configuration's; its share of the receipts is one part, whose amount is their number; the
+-- reply of each is what such a site answers
+pub record IsSeat (s : Settings) (site : ℕ) (receipts : List Receipt) (parts amount : ℕ) : Type 0 where
   pub within : site < s.sites
   pub one_part : parts ≡ 1
-  pub counted : amount + length receipts ≡ MOST_RECEIPTS
+  pub counted : amount ≡ length receipts
+  pub few : length receipts ≤ MOST_RECEIPTS
   pub answered : All (IsSiteReply s site) receipts
-  pub noted : AreInLog site log receipts
 
--- each seat that was given got one part of the entries, with MOST_RECEIPTS of them in advance, which are all that there
--- are; the rest of the seats' parts counts nothing
-pub record AreBooks (seats entries parts amount : ℕ) : Type 0 where
-  pub given : entries ≡ seats * MOST_RECEIPTS
-  pub rest : parts + seats ≡ SEAT_PARTS
+-- there are as many entries as receipts; of the parts of the receipts each seat that was given has one, and the rest
+-- counts nothing
+pub record AreBooks (all seats entries receipts parts amount : ℕ) : Type 0 where
+  pub same : entries ≡ receipts
+  pub all_parts : all ≡ RECEIPT_PARTS
+  pub rest : parts + seats ≡ all
   pub few : seats ≤ MOST_SEATS
   pub none : amount ≡ 0
 
--- a branch has a lock for each site of its configuration, and the entries a part for each and those of the seats
+-- a branch has a lock for each site of its configuration, and the entries a part for each
 pub record IsBranch (s : Settings) (parts count : ℕ) : Type 0 where
   pub all : count ≡ s.sites
-  pub all_parts : parts ≡ s.sites + SEAT_PARTS
+  pub all_parts : parts ≡ s.sites
   pub few : count ≤ MOST_SITES
 
 -- ---- receipts
 
+abbrev pub receipt : ℕ → Event → Reply → ℕ → Receipt
+receipt n e r unsent = record { number = n; event = e; reply = r; unsent = unsent }
+
 -- the receipt of a number, from 1
-abbrev pub receipt_at : List SeenReceipt → ℕ → Option SeenReceipt
+abbrev pub receipt_at : List Receipt → ℕ → Option Receipt
 receipt_at rs zero = None
 receipt_at rs (suc k) = slice_get rs k
 
@@ -107,7 +106,7 @@ CannotRecord desk seat = (seat.site ≢ desk.me) ⊎ ((is_full desk.settings (st
 
 -- the seat has one receipt more, at its end, of such an event; the number is its position, from 1
 pub record HasOneMore (old new : SeenSeat) (P : Event → Type 0) (number : ℕ) : Type 0 where
-  pub last : SeenReceipt
+  pub last : Receipt
   pub seat : new ≡ record old { receipts = old.receipts ++ last ∷ [] }
   pub event_is : P last.event
   pub number_is : number ≡ length new.receipts
@@ -144,29 +143,29 @@ abbrev pub IsOneOf : Message → List Message → Type 0
 IsOneOf m kept = Any (λ k. m ≡ k) kept
 
 -- one of these receipts says that the message came and was refused, as the inbox was full
-abbrev pub WasRefused : Message → List SeenReceipt → Type 0
+abbrev pub WasRefused : Message → List Receipt → Type 0
 WasRefused m receipts = Any (λ r. (r.event ≡ Receive m) × (is_full_inbox r.reply ≡ true)) receipts
 
 -- one of these receipts says that the message came, with another reply
-abbrev pub WasReceived : Message → List SeenReceipt → Type 0
+abbrev pub WasReceived : Message → List Receipt → Type 0
 WasReceived m receipts = Any (λ r. (r.event ≡ Receive m) × (is_full_inbox r.reply ≡ false)) receipts
 
 -- no message is lost: each that was kept, or was refused by one of these receipts as the inbox was full, is kept, or
 -- was received by one of them with another reply
-pub record NoneLost (old new : List Message) (receipts : List SeenReceipt) : Type 0 where
+pub record NoneLost (old new : List Message) (receipts : List Receipt) : Type 0 where
   pub kept : (m : Message) → IsOneOf m old → IsOneOf m new ⊎ WasReceived m receipts
   pub refused : (m : Message) → WasRefused m receipts → IsOneOf m new ⊎ WasReceived m receipts
 
 -- the seat has this number of receipts more, at its end, all of events that serve its site; and no message is lost
 -- between these receipts and what the inlet kept before and keeps now
 pub record HasServed (old new : SeenSeat) (before now : List Message) (count : ℕ) : Type 0 where
-  pub more : List SeenReceipt
+  pub more : List Receipt
   pub seat : new ≡ record old { receipts = old.receipts ++ more }
-  pub served : All (λ (r : SeenReceipt). IsServed r.event) more
+  pub served : All (λ (r : Receipt). IsServed r.event) more
   pub count_is : count ≡ length more
   pub none_lost : NoneLost before now more
 
 -- the last receipt says how many times a link refused one of its messages, and all else is as before
 abbrev pub SetsUnsent : SeenSeat → SeenSeat → ℕ → Type 0
-SetsUnsent old new count = (xs : List SeenReceipt) (r : SeenReceipt) → old.receipts ≡ xs ++ r ∷ []
+SetsUnsent old new count = (xs : List Receipt) (r : Receipt) → old.receipts ≡ xs ++ r ∷ []
     → new ≡ record old { receipts = xs ++ record r { unsent = count } ∷ [] }

@@ -1,25 +1,24 @@
 //! The books of a branch.
-ghost use Rattle.std.specs.Prelude.{◌≡◌, ◌+◌, ◌*◌, ◌<◌, ◌≤◌, ◌↔◌, [], IsSome, IfSome, OnSome};
-ghost use Rattle.rb_branch.specs.declared.limits.TheConstants.{MOST_RECEIPTS, MOST_SEATS, SEAT_PARTS};
+ghost use Rattle.std.specs.Prelude.{◌≡◌, ◌+◌, ◌<◌, ◌≤◌, ◌↔◌, [], IsSome, IfSome, OnSome};
+ghost use Rattle.rb_branch.specs.declared.limits.TheConstants.{MOST_SEATS, RECEIPT_PARTS};
 
-use crate::{Entries, MOST_RECEIPTS, MOST_SEATS, SEAT_PARTS, Seat};
-use rb_log::{Known, Log};
-use rb_site::Entry;
+use crate::{Entries, MOST_SEATS, Seat};
 use std::alloc::Global;
 use std::marker::Model;
-use std::sync::ledger::{Blank, Book, Share};
+use std::sync::ledger::{Blank, Book, Ledger, Share};
 
-/// What lies behind the one lock that all sites share: how many entries seats got in advance, the parts of the entries
-/// that no seat has, and what is known of the log. Clients see how many seats were given.
+/// What lies behind the one lock that all sites share: how many entries and how many receipts there are,
+/// which is one number, and the parts of the receipts that no seat has. Clients see how many seats were given.
 #[derive(Drop)]
-pub struct Books<E: Entries, R: Log> {
+pub struct Books<E: Entries, R: Ledger> {
     entries: Book<E>,
-    rest: Share<E>,
-    known: Known<Entry, R>,
+    receipts: Book<R>,
+    rest: Share<R>,
     seats: u32,
+    spare: Share<E>,
 }
 
-impl<E: Entries, R: Log> Model for Books<E, R> {
+impl<E: Entries, R: Ledger> Model for Books<E, R> {
     ghost use Rattle.std.specs.Prelude.{ℕ};
     ghost use Rattle.rb_branch.specs.Seats.{AreBooks};
 
@@ -27,31 +26,33 @@ impl<E: Entries, R: Log> Model for Books<E, R> {
 
     ghost view = { λ b. b.seats };
 
-    ghost invariant = { λ b. AreBooks b.seats b.entries.total b.rest.parts b.rest.amount };
+    ghost invariant = { λ b. AreBooks R.parts b.seats b.entries.total b.receipts.total b.rest.parts b.rest.amount };
 }
 
-impl<E: Entries, R: Log> Books<E, R> {
-    /// New books, and the sites' parts of the entries.
-    pub(crate) fn open(entries: Blank, known: Known<Entry, R>) -> (Books<E, R>, Share<E>)
-        requires name { (entries.name ≡ E.name) × (entries.parts ≡ E.parts) }
-        requires parts { SEAT_PARTS ≤ E.parts }
+impl<E: Entries, R: Ledger> Books<E, R> {
+    /// New books, and all parts of the entries.
+    pub(crate) fn open(entries: Blank, receipts: Blank) -> (Books<E, R>, Share<E>)
+        requires entries { (entries.name ≡ E.name) × (entries.parts ≡ E.parts) }
+        requires receipts { (receipts.name ≡ R.name) × (receipts.parts ≡ R.parts) × (receipts.parts ≡ RECEIPT_PARTS) }
         ensures none { result.0 ≡ 0 }
-        ensures all { (result.1.parts + SEAT_PARTS ≡ E.parts) × (result.1.amount ≡ 0) }
+        ensures all { (result.1.parts ≡ E.parts) × (result.1.amount ≡ 0) }
     {
         let (entries, mut all) = entries.open::<E>();
-        let rest = all.split_off(SEAT_PARTS, 0);
+        let spare = all.empty();
+        let (receipts, rest) = receipts.open::<R>();
         (
             Books {
                 entries,
+                receipts,
                 rest,
-                known,
                 seats: 0,
+                spare,
             },
             all,
         )
     }
 
-    /// A seat at a site, with as many entries in advance as it may have receipts, unless `MOST_SEATS` were given.
+    /// A seat at a site, unless `MOST_SEATS` were given.
     pub(crate) fn seat(&mut self, alloc: Global, site: u8) -> Option<Seat<E, R>>
         requires { site < E.settings.sites }
         ensures some { IsSome result ↔ (self.old < MOST_SEATS) }
@@ -61,16 +62,10 @@ impl<E: Entries, R: Log> Books<E, R> {
         if self.seats >= MOST_SEATS {
             return None;
         }
-        let Books {
-            entries,
-            rest,
-            known,
-            seats,
-        } = self;
-        let mut share = rest.split_off(1, 0);
-        entries.add(&mut share, MOST_RECEIPTS as u64);
+        let Books { rest, seats, .. } = self;
+        let share = rest.split_off(1, 0);
         *seats += 1;
-        Some(Seat::open(alloc, site, known.again(), share))
+        Some(Seat::open(alloc, site, share))
     }
 
     /// How many seats were given.
@@ -81,31 +76,45 @@ impl<E: Entries, R: Log> Books<E, R> {
         self.seats
     }
 
+    /// Counts an entry and its receipt.
+    pub(crate) fn count(&mut self, entry: &mut Share<E>, receipt: &mut Share<R>)
+        requires entry { 0 < entry.old.parts }
+        requires receipt { 0 < receipt.old.parts }
+        ensures entry { (entry.new.amount ≡ entry.old.amount + 1) × (entry.new.parts ≡ entry.old.parts) }
+        ensures receipt { (receipt.new.amount ≡ receipt.old.amount + 1) × (receipt.new.parts ≡ receipt.old.parts) }
+        ensures seats { self.new ≡ self.old }
+    {
+        let Books {
+            entries,
+            receipts,
+            ..
+        } = self;
+        entries.add(entry, 1);
+        receipts.add(receipt, 1);
+    }
+
     /// A share of the entries that has no part.
     pub(crate) fn empty(&mut self) -> Share<E>
         ensures none { (result.parts ≡ 0) × (result.amount ≡ 0) }
         ensures seats { self.new ≡ self.old }
     {
-        self.rest.empty()
+        self.spare.empty()
     }
 
-    /// What the books know of the log.
-    pub(crate) fn known(&self) -> Known<Entry, R> {
-        self.known.again()
-    }
-
-    /// The book, and the parts that no seat has.
-    pub(crate) fn apart(self) -> (Book<E>, Share<E>)
-        ensures given { result.0.total ≡ self * MOST_RECEIPTS }
-        ensures parts { result.1.parts + self ≡ SEAT_PARTS }
-        ensures none { result.1.amount ≡ 0 }
+    /// Both books, and the parts that no seat has.
+    pub(crate) fn apart(self) -> (Book<E>, Book<R>, Share<R>)
+        ensures same { result.0.total ≡ result.1.total }
+        ensures parts { (result.2.parts + self ≡ R.parts) × (R.parts ≡ RECEIPT_PARTS) }
+        ensures none { result.2.amount ≡ 0 }
     {
         let Books {
             entries,
+            receipts,
             rest,
-            known: _,
             seats: _,
+            spare,
         } = self;
-        (entries, rest)
+        drop(spare);
+        (entries, receipts, rest)
     }
 }

@@ -4,16 +4,16 @@ ghost use Rattle.rb_branch.specs.Seats.{HasOneMore};
 
 use crate::{Branch, CallFault, Entries, Gate, Outbox, Seat};
 use rb_kit::List;
-use rb_log::Log;
 use rb_money::Place;
 use rb_scratch::Request;
 use rb_shadow::OpName;
 use rb_site::{Event, Message};
 use std::sync::Wait;
+use std::sync::ledger::Ledger;
 
 /// Each call is one event at the seat's site, and answers the number of its receipt in the seat, from 1. After
 /// an `Err`, that memory ran out or that the history or the seat is full, site and seat are as before.
-impl<E: Entries, R: Log, G: Gate + Drop> Branch<E, R, G> {
+impl<E: Entries, R: Ledger, G: Gate + Drop> Branch<E, R, G> {
     /// A request for one operation.
     pub fn submit<W: Wait>(
         &self,
@@ -81,7 +81,7 @@ impl<E: Entries, R: Log, G: Gate + Drop> Branch<E, R, G> {
         ensures ok { IfOk result (λ n. HasOneMore seat.old seat.new (λ e. e ≡ event) n) }
         ensures err { OnErr result (seat.new ≡ seat.old) }
     {
-        let (number, posted) = self.call(rt, seat, &event)?;
+        let (number, posted) = self.call(rt, seat, event)?;
         let unsent = outbox.post(rt, seat.site(), self.sites(), posted.as_slice());
         seat.set_unsent(unsent);
         Ok(number)
@@ -92,7 +92,7 @@ impl<E: Entries, R: Log, G: Gate + Drop> Branch<E, R, G> {
         ensures ok { IfOk result (λ n. HasOneMore seat.old seat.new (λ e. e ≡ event) n) }
         ensures err { OnErr result (seat.new ≡ seat.old) }
     {
-        let (number, _posted) = self.call(rt, seat, &event)?;
+        let (number, _posted) = self.call(rt, seat, event)?;
         Ok(number)
     }
 

@@ -1,38 +1,35 @@
 //! The closed sites of a branch, and the seats that are given back to them.
-ghost use Rattle.std.specs.Prelude.{◌≡◌, ◌≢◌, ◌+◌, ◌^◌, ◌<◌, ◌≤◌, ℕ, All, IfOk, IfErr, OnOk, IsTrue, Err, Result};
-ghost use Rattle.std.specs.Prelude.{length, slice_index_or, vec_len};
-ghost use Rattle.rb_branch.specs.Gathered.{AgreesWith, AllAgree, AllGathered, Explains, IsClosedReport, IsFirst};
-ghost use Rattle.rb_branch.specs.Gathered.{IsGathered, IsReportInLog, LooksSo, entries_in};
+ghost use Rattle.std.specs.Prelude.{◌≡◌, ◌≢◌, ◌+◌, ◌^◌, ◌<◌, ◌≤◌, ℕ, All, IfOk, IfErr, OnOk, IsTrue, Err, Result, length, slice_index_or};
+ghost use Rattle.std.specs.Prelude.{vec_len};
+ghost use Rattle.rb_branch.specs.Gathered.{AllGathered, Explains, IsClosedReport, IsFirst, IsGathered, LooksSo, entries_in};
 ghost use Rattle.rb_branch.specs.declared.gather_fault.GatherFault.{GatherFault as FaultOf};
 ghost use Rattle.rb_branch.specs.Gathered.{receipts_at, receipts_in};
 ghost use Rattle.rb_branch.specs.declared.gather_fault.GatherFault.TheVariants.{Missing, Mixed};
-ghost use Rattle.rb_branch.specs.declared.limits.TheConstants.{MOST_SEATS, SEAT_PARTS};
+ghost use Rattle.rb_branch.specs.declared.limits.TheConstants.{MOST_SEATS};
 ghost use Rattle.rb_money.specs.declared.limits.TheConstants.{MOST_SITES};
 
 use crate::closing::take_back;
 use crate::given::Given;
 use crate::merge::merges;
 use crate::{Books, Entries, GatherFault, Seat};
-use rb_log::{Known, Log};
-use rb_site::{Entry, SiteReport};
+use rb_site::SiteReport;
 use std::alloc::{AllocError, Global};
 use std::marker::Model;
-use std::sync::ledger::Share;
+use std::sync::ledger::{Ledger, Share};
 use std::thread;
 use std::thread::Threads;
 
-/// The reports of a branch's sites, once they are closed, with what they know of the log, and its books. Clients see
-/// the reports, one for each site, and how many seats were given.
+/// The reports of a branch's sites, once they are closed, and its books. Clients see the reports, one for each
+/// site, and how many seats were given.
 #[derive(Drop)]
-pub struct Closed<E: Entries, R: Log> {
+pub struct Closed<E: Entries, R: Ledger> {
     alloc: Global,
     books: Books<E, R>,
     reports: Vec<SiteReport>,
     share: Share<E>,
-    known: Known<Entry, R>,
 }
 
-impl<E: Entries, R: Log> Model for Closed<E, R> {
+impl<E: Entries, R: Ledger> Model for Closed<E, R> {
     ghost use Rattle.std.specs.Prelude.{vec_len};
     ghost use Rattle.rb_branch.specs.Gathered.{AreClosed, SeenClosed};
 
@@ -40,22 +37,20 @@ impl<E: Entries, R: Log> Model for Closed<E, R> {
 
     ghost view = { λ c. record { reports = c.reports.items; seats = c.books } };
 
-    ghost invariant = { λ c. AreClosed E.settings E.parts c.reports.items c.known c.share.parts c.share.amount };
+    ghost invariant = { λ c. AreClosed E.settings E.parts c.reports.items c.share.parts c.share.amount };
 }
 
-impl<E: Entries, R: Log> Closed<E, R> {
-    /// The closed sites' reports, their merged shares, and what they know of the log.
+impl<E: Entries, R: Ledger> Closed<E, R> {
+    /// The closed sites' reports and merged shares.
     pub(crate) fn new(
         alloc: Global,
         books: Books<E, R>,
         reports: Vec<SiteReport>,
         share: Share<E>,
-        known: Known<Entry, R>,
     ) -> Closed<E, R>
         requires reports { All (IsClosedReport E.settings) reports.items }
-        requires noted { All (IsReportInLog known) reports.items }
         requires all { (vec_len reports ≡ E.settings.sites) × (vec_len reports ≤ MOST_SITES) }
-        requires share { (share.parts + SEAT_PARTS ≡ E.parts) × (share.amount ≡ entries_in reports.items) }
+        requires share { (share.parts ≡ E.parts) × (share.amount ≡ entries_in reports.items) }
         ensures { result ≡ record { reports = reports.items; seats = books } }
     {
         Closed {
@@ -63,7 +58,6 @@ impl<E: Entries, R: Log> Closed<E, R> {
             books,
             reports,
             share,
-            known,
         }
     }
 
@@ -109,8 +103,6 @@ impl<E: Entries, R: Log> Closed<E, R> {
         rt: &W,
         seats: Vec<Seat<E, R>>,
     ) -> Result<Vec<SiteReport>, GatherFault>
-    where
-        R: Sync,
         ensures ok { IfOk result (λ reports. (reports.items ≡ self.reports) × AllGathered reports.items seats.items) }
         ensures err { IfErr result (Explains self.reports seats.items) }
         ensures first { IfErr result (IsFirst self.reports seats.items) }
@@ -126,15 +118,14 @@ impl<E: Entries, R: Log> Closed<E, R> {
         }
     }
 
-    /// Takes the seats back: the reports, what the seats gave, which agree, and whether there are fewer receipts than
-    /// entries. Where every seat is given back, there are as many. `Err` means out of memory.
+    /// Takes the seats back: the reports, what the seats gave, and whether there are fewer receipts than entries. Where
+    /// every seat is given back, there are as many. `Err` means out of memory.
     fn take_in(
         self,
         seats: Vec<Seat<E, R>>,
-    ) -> Result<(Vec<SiteReport>, Vec<Given<R>>, bool), AllocError>
+    ) -> Result<(Vec<SiteReport>, Vec<Given>, bool), AllocError>
         ensures reports { IfOk result (λ r. r.0.items ≡ self.reports) }
         ensures given { IfOk result (λ r. r.1.items ≡ seats.items) }
-        ensures agree { IfOk result (λ r. AllAgree r.0.items r.1.items) }
         ensures fits { IfOk result (λ r. receipts_in r.1.items < 2 ^ 64) }
         ensures few { IfOk result (λ r. vec_len r.1 < 2 ^ 16) }
         ensures missing { IfOk result (λ r. IsTrue r.2 → receipts_in r.1.items < entries_in r.0.items) }
@@ -145,14 +136,11 @@ impl<E: Entries, R: Log> Closed<E, R> {
             books,
             reports,
             mut share,
-            mut known,
         } = self;
-        let (mut entries, rest) = books.apart();
-        // For a fact alone: no more entries were made than seats had in advance.
+        let (mut entries, mut receipts, rest) = books.apart();
+        let (given, mut mine) = take_back(alloc, seats, rest)?;
         entries.audit(&mut share);
-        share.merge(rest);
-        let (given, mut all) = take_back(alloc, seats, share, &mut known)?;
-        entries.audit(&mut all);
+        receipts.audit(&mut mine);
         let total = count_entries(reports.as_slice());
         let missing = count_receipts(given.as_slice()) < total;
         Ok((reports, given, missing))
@@ -160,15 +148,14 @@ impl<E: Entries, R: Log> Closed<E, R> {
 }
 
 /// Looks at all sites, from the first. `missing` says that there are fewer receipts than entries.
-fn look_at_all<R: Log>(
+fn look_at_all(
     alloc: Global,
     reports: &[SiteReport],
-    seats: &[Given<R>],
+    seats: &[Given],
     missing: bool,
 ) -> Result<(), GatherFault>
     requires fits { receipts_in seats.now < 2 ^ 64 }
     requires few { length seats.now < 2 ^ 16 }
-    requires agree { AllAgree reports.now seats.now }
     requires missing { IsTrue missing → receipts_in seats.now < entries_in reports.now }
     ensures ok { OnOk result (AllGathered reports.now seats.now) }
     ensures err { IfErr result (Explains reports.now seats.now) }
@@ -184,24 +171,22 @@ fn look_at_all<R: Log>(
 }
 
 /// Looks at all sites, each in a thread of its own. `missing` says that there are fewer receipts than entries.
-fn look_at_each<R: Log + Sync, W: Threads + Sync>(
+fn look_at_each<W: Threads + Sync>(
     rt: &W,
     alloc: Global,
     reports: &[SiteReport],
-    seats: &[Given<R>],
+    seats: &[Given],
     missing: bool,
 ) -> Result<(), GatherFault>
     requires fits { receipts_in seats.now < 2 ^ 64 }
     requires few { length seats.now < 2 ^ 16 }
-    requires agree { AllAgree reports.now seats.now }
     requires missing { IsTrue missing → receipts_in seats.now < entries_in reports.now }
     ensures ok { OnOk result (AllGathered reports.now seats.now) }
     ensures err { IfErr result (Explains reports.now seats.now) }
     ensures first { IfErr result (IsFirst reports.now seats.now) }
 {
     let look = |k: usize| -> Result<(), GatherFault>
-        requires { (k < length reports.now) × (receipts_in seats.now < 2 ^ 64) × (length seats.now < 2 ^ 16)
-            × AllAgree reports.now seats.now }
+        requires { (k < length reports.now) × (receipts_in seats.now < 2 ^ 64) × (length seats.now < 2 ^ 16) }
         ensures { LooksSo reports.entry.now seats.entry.now missing k result }
     { look_at(alloc, &reports[k], k, seats, missing) };
     let Ok(found) = thread::map_indices(rt, alloc, reports.len(), &look) else {
@@ -211,9 +196,9 @@ fn look_at_each<R: Log + Sync, W: Threads + Sync>(
 }
 
 /// The first fault that was found, if any.
-fn first_fault<R: Log>(
+fn first_fault(
     reports: &[SiteReport],
-    seats: &[Given<R>],
+    seats: &[Given],
     missing: bool,
     found: &[Result<(), GatherFault>],
 ) -> Result<(), GatherFault>
@@ -234,16 +219,15 @@ fn first_fault<R: Log>(
 }
 
 /// Looks at the site of this number.
-fn look_at<R: Log>(
+fn look_at(
     alloc: Global,
     report: &SiteReport,
     number: usize,
-    seats: &[Given<R>],
+    seats: &[Given],
     missing: bool,
 ) -> Result<(), GatherFault>
     requires fits { receipts_in seats.now < 2 ^ 64 }
     requires few { length seats.now < 2 ^ 16 }
-    requires agrees { AgreesWith report.now.me report.now.history.items seats.now }
     ensures ok { OnOk result ((report.now.me ≡ number) × IsGathered number report.now.history.items seats.now) }
     ensures missing { (s : ℕ) → result ≡ Err (Missing s)
         → (s ≡ number) × (report.now.me ≡ number) × IsTrue missing
@@ -280,7 +264,7 @@ fn count_entries(reports: &[SiteReport]) -> u64
 }
 
 /// How many receipts there are.
-fn count_receipts<R: Log>(seats: &[Given<R>]) -> u64
+fn count_receipts(seats: &[Given]) -> u64
     requires { receipts_in seats.now < 2 ^ 64 }
     ensures { result ≡ receipts_in seats.now }
 {
@@ -292,7 +276,7 @@ fn count_receipts<R: Log>(seats: &[Given<R>]) -> u64
 }
 
 /// How many receipts there are of a site.
-fn count_at<R: Log>(site: u8, seats: &[Given<R>]) -> u64
+fn count_at(site: u8, seats: &[Given]) -> u64
     requires { receipts_in seats.now < 2 ^ 64 }
     ensures { result ≡ receipts_at site seats.now }
 {

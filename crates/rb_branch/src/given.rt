@@ -1,19 +1,18 @@
 //! Seats that were given back.
-ghost use Rattle.std.specs.Prelude.{◌≡◌, ◌+◌, ◌^◌, ◌<◌, true};
+ghost use Rattle.std.specs.Prelude.{◌≡◌, ◌+◌, ◌^◌, ◌<◌, length, slice_index_or};
 ghost use Rattle.rb_branch.specs.Owners.{is_next, is_read};
 
 use crate::Receipt;
-use rb_log::Log;
 use std::marker::Model;
 
 /// The site's number and the receipts of a seat that was given back.
 #[derive(Drop)]
-pub struct Given<R: Log> {
+pub struct Given {
     site: u8,
-    receipts: Vec<Receipt<R>>,
+    receipts: Vec<Receipt>,
 }
 
-impl<R: Log> Model for Given<R> {
+impl Model for Given {
     ghost use Rattle.rb_branch.specs.Seats.{SeenSeat};
 
     ghost Value = { SeenSeat };
@@ -21,9 +20,9 @@ impl<R: Log> Model for Given<R> {
     ghost view = { λ g. record { site = g.site; receipts = g.receipts.items } };
 }
 
-impl<R: Log> Given<R> {
+impl Given {
     /// A seat of this site with these receipts.
-    pub(crate) fn new(site: u8, receipts: Vec<Receipt<R>>) -> Given<R>
+    pub(crate) fn new(site: u8, receipts: Vec<Receipt>) -> Given
         ensures { result ≡ record { site = site; receipts = receipts.items } }
     {
         Given { site, receipts }
@@ -37,24 +36,32 @@ impl<R: Log> Given<R> {
     }
 
     /// The receipts.
-    pub(crate) fn receipts(&self) -> &[Receipt<R>]
+    pub(crate) fn receipts(&self) -> &[Receipt]
         ensures { result.now ≡ self.now.receipts }
     {
         self.receipts.as_slice()
     }
 
-    /// Whether the seat is of this site, and its receipt at this index has the number.
-    pub(crate) fn is_next(&self, site: u8, index: usize, number: usize) -> bool
-        ensures same { result ≡ is_next site index number self.now }
-        ensures fits { result ≡ true → index + 1 < 2 ^ 64 }
+    /// The receipt at this index, from 0.
+    pub(crate) fn receipt(&self, index: usize) -> &Receipt
+        requires { index < length self.now.receipts }
+        ensures here { result.now ≡ slice_index_or self.now.receipts index result.now }
+        ensures fits { index + 1 < 2 ^ 64 }
     {
         // For a fact alone: there are fewer than 2 ^ 64 receipts.
         let _len = self.receipts.len();
+        &self.receipts[index]
+    }
+
+    /// Whether the seat is of this site, and its receipt at this index has the number.
+    pub(crate) fn is_next(&self, site: u8, index: usize, number: usize) -> bool
+        ensures { result ≡ is_next site index number self.now }
+    {
         if self.site != site {
             return false;
         }
         match self.receipts.get(index) {
-            Some(receipt) => receipt.number() as usize == number,
+            Some(receipt) => receipt.number as usize == number,
             None => false,
         }
     }

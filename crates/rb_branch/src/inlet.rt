@@ -3,7 +3,7 @@ ghost use Rattle.std.specs.Prelude.{◌≡◌, ◌<◌, ◌++◌, ◌∷◌, [],
 ghost use Rattle.std.specs.List.{remove};
 ghost use Rattle.rb_site.specs.declared.message.Message.{Message as MessageOf};
 
-use crate::link::LinkReceiver;
+use crossbeam_channel::Receiver;
 use rb_site::Message;
 use std::alloc::{AllocError, Global};
 use std::marker::Model;
@@ -13,7 +13,7 @@ use std::sync::Wait;
 /// finds the inbox full stays. Clients see what it keeps, in the order in which it was taken.
 #[derive(Drop)]
 pub struct Inlet {
-    link: LinkReceiver,
+    link: Receiver<Message>,
     kept: Vec<Message>,
 }
 
@@ -28,7 +28,7 @@ impl Model for Inlet {
 
 impl Inlet {
     /// The end of this link, which keeps nothing.
-    pub(crate) fn new(alloc: Global, link: LinkReceiver) -> Inlet
+    pub(crate) fn new(alloc: Global, link: Receiver<Message>) -> Inlet
         ensures { result ≡ [] }
     {
         Inlet {
@@ -42,8 +42,7 @@ impl Inlet {
     pub fn next<W: Wait>(&mut self, rt: &W) -> Option<Message>
         ensures { self.new ≡ self.old }
     {
-        let message = self.link.next(rt)?;
-        Some(*message)
+        self.link.recv(rt).ok()
     }
 
     /// What it keeps.
@@ -61,10 +60,10 @@ impl Inlet {
         ensures err { OnErr result (self.new ≡ self.old) }
     {
         self.kept.reserve(1)?;
-        let Some(message) = self.link.next(rt) else {
+        let Ok(message) = self.link.recv(rt) else {
             return Ok(false);
         };
-        self.kept.push_reserved(*message);
+        self.kept.push_reserved(message);
         Ok(true)
     }
 

@@ -3,8 +3,8 @@
 /// The most seats of a branch.
 pub const MOST_SEATS: u32 = 1_024;
 
-/// The parts of the ledger of a branch's entries that the sites don't have: one for each seat, and one for the books.
-pub const SEAT_PARTS: u64 = MOST_SEATS as u64 + 1;
+/// The parts of the ledger of a branch's receipts: one for each seat, and one for the books.
+pub const RECEIPT_PARTS: u64 = MOST_SEATS as u64 + 1;
 
 /// The most receipts of a seat, so that their numbers in it, from 1, fit 32 bits.
 pub const MOST_RECEIPTS: usize = 4_000_000_000;

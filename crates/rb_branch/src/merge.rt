@@ -1,53 +1,50 @@
 //! Whether a history is its seats' receipts, interleaved.
-ghost use Rattle.std.specs.Prelude.{◌≡◌, ◌+◌, ◌^◌, ◌<◌, ◌↔◌, ℕ, IfOk, IfSome, IsNone, IsTrue, length, slice_index};
-ghost use Rattle.rb_branch.specs.Gathered.{AgreesWith, IsGathered};
+ghost use Rattle.std.specs.Prelude.{◌≡◌, ◌+◌, ◌^◌, ◌<◌, ◌↔◌, ℕ, IfOk, IfSome, IsNone, IsTrue, length};
+ghost use Rattle.rb_site.specs.Seen.{entry as entry_of};
+ghost use Rattle.rb_branch.specs.Gathered.{IsGathered};
 ghost use Rattle.rb_branch.specs.Owners.{AllRead, AreDistinct, AreOwners, IsHolder};
 
+use crate::Receipt;
 use crate::given::Given;
 use crate::owners::owners_of;
-use rb_log::Log;
 use rb_site::Entry;
 use std::alloc::{AllocError, Global};
 
-/// Whether the history of a site is the receipts of these seats, interleaved. The numbers say it: what a receipt says
-/// of its number is in the history there, by the log. Each number is looked at once, for any number of seats. `Err`
-/// means out of memory.
-pub(crate) fn merges<R: Log>(
+/// Whether the history of a site is the receipts of these seats, interleaved. Each entry is looked at once,
+/// and each receipt, for any number of seats. `Err` means out of memory.
+pub(crate) fn merges(
     alloc: Global,
     site: u8,
     history: &[Entry],
-    seats: &[Given<R>],
+    seats: &[Given],
 ) -> Result<bool, AllocError>
-    requires few { length seats.now < 2 ^ 16 }
-    requires agrees { AgreesWith site history.now seats.now }
+    requires { length seats.now < 2 ^ 16 }
     ensures { IfOk result (λ b. IsTrue b ↔ IsGathered site history.now seats.now) }
 {
     let owners = owners_of(alloc, site, history.len(), seats)?;
     let mut next: Vec<usize> = vec![in alloc; 0; seats.len()]?;
-    for i in 0..history.len() {
+    for (i, entry) in history.iter().enumerate() {
         let Some(k) = holder(site, i, seats, next.as_slice(), owners.as_slice()) else {
             return Ok(false);
         };
         let taken = next[k];
+        let seat = &seats[k];
+        let receipt = seat.receipt(taken);
+        if !is_of(receipt, entry) {
+            return Ok(false);
+        }
         next[k] = taken + 1;
     }
     Ok(all_read(site, seats, next.as_slice()))
 }
 
 /// The seat that the table has at this index, if its next receipt has the number one above the index.
-fn holder<R: Log>(
-    site: u8,
-    index: usize,
-    seats: &[Given<R>],
-    next: &[usize],
-    owners: &[u16],
-) -> Option<usize>
+fn holder(site: u8, index: usize, seats: &[Given], next: &[usize], owners: &[u16]) -> Option<usize>
     requires len { length next.now ≡ length seats.now }
     requires index { index < length owners.now }
     requires owners { AreOwners site seats.now owners.now }
     ensures found { IfSome result (λ k. IsHolder site (index + 1) seats.now next.now k) }
     ensures within { IfSome result (λ k. k < length seats.now) }
-    ensures fits { IfSome result (λ k. slice_index next.now k + 1 < 2 ^ 64) }
     ensures none { IsNone result → AreDistinct site seats.now → (k : ℕ)
         → ¬ IsHolder site (index + 1) seats.now next.now k }
 {
@@ -62,8 +59,15 @@ fn holder<R: Log>(
     }
 }
 
+/// Whether the receipt is of this entry.
+fn is_of(receipt: &Receipt, entry: &Entry) -> bool
+    ensures { IsTrue result ↔ (entry_of receipt.now.event receipt.now.reply ≡ entry.now) }
+{
+    receipt.event.same(&entry.event) && receipt.reply.same(&entry.reply)
+}
+
 /// Whether all receipts of the site were read.
-fn all_read<R: Log>(site: u8, seats: &[Given<R>], next: &[usize]) -> bool
+fn all_read(site: u8, seats: &[Given], next: &[usize]) -> bool
     requires { length next.now ≡ length seats.now }
     ensures { IsTrue result ↔ AllRead site seats.now next.now }
 {

@@ -5,16 +5,15 @@ ghost use Rattle.rb_branch.specs.Seats.{SeenSeat};
 
 use crate::Receipt;
 use crate::given::Given;
-use rb_log::Log;
 use std::alloc::{AllocError, Global};
 
 /// For each number of the site, from 1 to this count, the seat that has its receipt, counted from 0; the
 /// number of seats where none has. Of two with one number it is the last. `Err` means out of memory.
-pub(crate) fn owners_of<R: Log>(
+pub(crate) fn owners_of(
     alloc: Global,
     site: u8,
     count: usize,
-    seats: &[Given<R>],
+    seats: &[Given],
 ) -> Result<Vec<u16>, AllocError>
     requires { length seats.now < 2 ^ 16 }
     ensures len { IfOk result (λ v. vec_len v ≡ count) }
@@ -28,7 +27,7 @@ pub(crate) fn owners_of<R: Log>(
 }
 
 /// Puts the seat at k into the table at all numbers of its receipts, if it is of this site.
-fn put_seat<R: Log>(owners: &mut Vec<u16>, k: u16, site: u8, seat: &Given<R>)
+fn put_seat(owners: &mut Vec<u16>, k: u16, site: u8, seat: &Given)
     ensures len { vec_len owners.new ≡ vec_len owners.old }
     ensures owned { (seats : List SeenSeat) → slice_get seats k ≡ Some seat.now
         → OwnedWithin k site seats owners.old.items → OwnedWithin (k + 1) site seats owners.new.items }
@@ -40,12 +39,11 @@ fn put_seat<R: Log>(owners: &mut Vec<u16>, k: u16, site: u8, seat: &Given<R>)
 }
 
 /// Puts a seat into the table at the numbers of all these receipts.
-fn put_all<R: Log>(owners: &mut Vec<u16>, k: u16, receipts: &[Receipt<R>])
+fn put_all(owners: &mut Vec<u16>, k: u16, receipts: &[Receipt])
     ensures { PutsAll (length receipts.now) receipts.now k owners.old.items owners.new.items }
 {
     for i in 0..receipts.len() {
-        let number = receipts[i].number();
-        put(owners, k, number);
+        put(owners, k, receipts[i].number);
     }
 }
 

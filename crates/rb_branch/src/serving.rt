@@ -1,21 +1,39 @@
 //! The serving of a site: what comes by its link is received, and what is ready is applied.
-ghost use Rattle.std.specs.Prelude.{◌<◌, ◌+◌, ◌^◌, ℕ, IfOk, OnErr, length};
+ghost use Rattle.std.specs.Prelude.{◌<◌, ◌+◌, ◌^◌, ℕ, IfOk, List, OnErr, length};
 ghost use Rattle.rb_branch.specs.Seats.{HasServed};
+ghost use Rattle.rb_site.specs.declared.message.Message.{Message as MessageOf};
 
 use crate::{Branch, CallFault, Entries, Gate, Inlet, Seat};
-use rb_log::Log;
 use std::sync::Wait;
+use std::sync::ledger::Ledger;
 
-impl<E: Entries, R: Log, G: Gate + Drop> Branch<E, R, G> {
+impl<E: Entries, R: Ledger, G: Gate + Drop> Branch<E, R, G> {
     /// Receives what the inlet keeps and then what comes by its link until it closes, and after each message
     /// applies what is ready. Ok is how many receipts the seat has more. What the site refuses as its inbox is
-    /// full is kept in the inlet, and all that is kept is received again after each application. After an `Err`
-    /// the seat has the receipts of the events before, the inlet keeps what was taken and not received, and
-    /// `serve` may be called again.
+    /// full is received again after each application; what is never received otherwise goes with the inlet, and
+    /// its receipts are refusals. After an `Err` the seat has the receipts of the events before, and what was taken
+    /// and not received goes with the inlet: `serve_from` gives it back.
     ///
     /// The link closes once all outboxes are dropped, so a thread that serves must not hold one of them: it
     /// would wait for itself.
     pub fn serve<W: Wait>(
+        &self,
+        rt: &W,
+        seat: &mut Seat<E, R>,
+        inlet: Inlet,
+    ) -> Result<u64, CallFault>
+        ensures ok { IfOk result (λ n. (left : List MessageOf) × HasServed seat.old seat.new inlet left n) }
+        ensures err { OnErr result ((left : List MessageOf) × (n : ℕ) × HasServed seat.old seat.new inlet left n) }
+    {
+        let mut inlet = inlet;
+        self.serve_from(rt, seat, &mut inlet)
+    }
+
+    /// The same, with an inlet that stays with the caller. What the site refuses as its inbox is full is kept in
+    /// the inlet, and all that is kept is received again after each application. After an `Err` the seat has the
+    /// receipts of the events before, the inlet keeps what was taken and not received, and `serve_from` may be
+    /// called again.
+    pub fn serve_from<W: Wait>(
         &self,
         rt: &W,
         seat: &mut Seat<E, R>,

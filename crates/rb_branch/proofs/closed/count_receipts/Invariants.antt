@@ -3,4 +3,4 @@ use Rattle.rb_branch.specs.Gathered.{receipts_in}
 use Rattle.rb_branch.proofs.closed.count_receipts.Given as goal
 
 abbrev pub invariant-loop-seat : goal.invariant-loop-seat
-invariant-loop-seat g l = l.count ≡ receipts_in (take l.seat-index l.seats)
+invariant-loop-seat l = l.count ≡ receipts_in (take l.seat-index l.seats)

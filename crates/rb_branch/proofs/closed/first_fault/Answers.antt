@@ -4,7 +4,7 @@ use Rattle.rb_branch.proofs.Reports.{explained_found, failed, fine_all, fine_fou
 use Rattle.rb_branch.proofs.closed.first_fault.Goals as goal
 
 pub returns-in-Err-clause-err : goal.returns-in-Err-clause-err
-returns-in-Err-clause-err g c =
+returns-in-Err-clause-err c =
     let within : c.loop-k.k < length c.args.reports.now = omega (arith, c.requires.len, c.loop-k-test.true) in
     let looks : LooksSo c.args.reports.now c.args.seats.now c.args.missing c.loop-k.k (failed c.in-Err.fault) =
     subst (LooksSo c.args.reports.now c.args.seats.now c.args.missing c.loop-k.k) c.in-Err.is
@@ -12,7 +12,7 @@ returns-in-Err-clause-err g c =
     explained_found c.args.reports.now c.args.seats.now c.args.missing c.loop-k.k c.in-Err.fault within c.requires.missing looks
 
 pub returns-in-Err-clause-first : goal.returns-in-Err-clause-first
-returns-in-Err-clause-first g c =
+returns-in-Err-clause-first c =
     let within : c.loop-k.k < length c.args.reports.now = omega (arith, c.requires.len, c.loop-k-test.true) in
     let looks : LooksSo c.args.reports.now c.args.seats.now c.args.missing c.loop-k.k (failed c.in-Err.fault) =
     subst (LooksSo c.args.reports.now c.args.seats.now c.args.missing c.loop-k.k) c.in-Err.is
@@ -20,7 +20,7 @@ returns-in-Err-clause-first g c =
     first_found c.args.reports.now c.args.seats.now c.args.missing c.loop-k.k c.in-Err.fault within looks c.loop-k.invariant
 
 pub loop-k-preserved : goal.loop-k-preserved
-loop-k-preserved g c =
+loop-k-preserved c =
     let within : c.loop-k.k < length c.args.reports.now = omega (arith, c.requires.len, c.loop-k-test.true) in
     let looks : LooksSo c.args.reports.now c.args.seats.now c.args.missing c.loop-k.k (Ok c.in_default.field-0) =
     subst (LooksSo c.args.reports.now c.args.seats.now c.args.missing c.loop-k.k) c.in_default.is
@@ -28,5 +28,5 @@ loop-k-preserved g c =
     fine_found c.args.reports.now c.args.seats.now c.args.missing c.loop-k.k c.in_default.field-0 looks c.loop-k.invariant
 
 pub returns-clause-ok : goal.returns-clause-ok
-returns-clause-ok g c = fine_all c.args.reports.now c.args.seats.now c.loop-k.k (omega (arith, c.requires.len, c.loop-k-test.false))
+returns-clause-ok c = fine_all c.args.reports.now c.args.seats.now c.loop-k.k (omega (arith, c.requires.len, c.loop-k-test.false))
     c.loop-k.invariant

@@ -6,5 +6,5 @@ use Rattle.rb_branch.specs.Gathered.{IsGathered}
 use Rattle.rb_branch.proofs.closed.first_fault.Given as goal
 
 abbrev pub invariant-loop-k : goal.invariant-loop-k
-invariant-loop-k g l = (j : ℕ) → j < l.k → (r : SiteReport) → slice_get l.reports j ≡ Some r
+invariant-loop-k l = (j : ℕ) → j < l.k → (r : SiteReport) → slice_get l.reports j ≡ Some r
     → (r.me ≡ j) × IsGathered j r.history.items l.seats

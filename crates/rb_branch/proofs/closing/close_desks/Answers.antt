@@ -1,5 +1,5 @@
 use Rattle.std.proofs.Common.{rules}
-use Rattle.rb_branch.proofs.Reports.{reports-push, entries_in-push, noted-push}
+use Rattle.rb_branch.proofs.Reports.{reports-push, entries_in-push}
 use Rattle.rb_branch.proofs.closing.close_desks.Goals as goal
 
 pub loop-k-preserved : goal.loop-k-preserved
@@ -12,7 +12,4 @@ loop-k-preserved g c = record {
       c.merge.new.self.amount c.push_reserved.ensures.items c.loop-k.invariant.amount (search rules);
   reports = reports-push g.E.Entries.settings c.loop-k.reports.items c.push_reserved.new.self.items c.close-report.result.0
       c.push_reserved.ensures.items c.loop-k.invariant.reports (search rules);
-  noted = noted-push c.loop-k.known c.learn.new.self c.loop-k.reports.items c.push_reserved.new.self.items c.close-report.result.0
-      c.close-report.result.2 c.push_reserved.ensures.items c.loop-k.invariant.noted c.close-report.ensures.noted
-      c.learn.ensures.mine c.learn.ensures.others;
 }

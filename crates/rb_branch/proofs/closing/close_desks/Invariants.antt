@@ -1,6 +1,6 @@
 use Rattle.std.proofs.Common.{◌≡◌, ◌+◌, ◌≤◌, vec_len, All}
 use Rattle.std.specs.Vec.{vec_capacity}
-use Rattle.rb_branch.specs.Gathered.{IsClosedReport, IsReportInLog, entries_in}
+use Rattle.rb_branch.specs.Gathered.{IsClosedReport, entries_in}
 use Rattle.rb_branch.proofs.closing.close_desks.Given as goal
 
 abbrev pub invariant-loop-k : goal.invariant-loop-k
@@ -11,5 +11,4 @@ invariant-loop-k g l = record {
   parts : l.all.parts ≡ l._k;
   amount : l.all.amount ≡ entries_in l.reports.items;
   reports : All (IsClosedReport g.E.Entries.settings) l.reports.items;
-  noted : All (IsReportInLog l.known) l.reports.items;
 }

@@ -1,7 +1,6 @@
-use Rattle.std.proofs.Common.{rules}
+use Rattle.std.proofs.Common.{◌+◌, ◌∙◌, ap, rules}
 use Rattle.std.specs.Vec.Iter.{into_iter_items}
-use Rattle.rb_log.proofs.Public.Knowing.{knows_all-trans}
-use Rattle.rb_branch.proofs.Reports.{given-push, receipts_in-push, seats_noted-push}
+use Rattle.rb_branch.proofs.Reports.{given-push, receipts_in-push}
 use Rattle.rb_branch.proofs.closing.take_back.Goals as goal
 
 pub loop-seat-preserved : goal.loop-seat-preserved
@@ -13,12 +12,9 @@ loop-seat-preserved g c = record {
       c.in-Some.ensures.steps.0 c.push_reserved.ensures.items c.give_back-own.ensures.given;
   parts = search rules;
   amount = receipts_in-push c.loop-seat.given.items c.push_reserved.new.self.items c.in-Some.seat c.give_back-own.result.0
-      c.args.all.amount c.loop-seat.all.amount c.merge.new.self.amount c.give_back-own.result.1.amount _ _ c.push_reserved.ensures.items
-      c.give_back-own.ensures.given (search rules) c.loop-seat.invariant.amount c.merge.ensures.amount c.give_back-own.ensures.share.1;
+      c.args.all.amount c.loop-seat.all.amount c.merge.new.self.amount c.push_reserved.ensures.items c.give_back-own.ensures.given
+      c.loop-seat.invariant.amount
+      (c.merge.ensures.amount ∙ ap (λ n. c.loop-seat.all.amount + n) c.give_back-own.ensures.share.1);
   few = search rules;
-  kept = knows_all-trans _ _ _ c.loop-seat.invariant.kept c.learn.ensures.mine;
-  noted = seats_noted-push c.loop-seat.known c.learn.new.self c.loop-seat.given.items c.push_reserved.new.self.items c.in-Some.seat
-      c.give_back-own.result.0 c.give_back-own.result.2 c.push_reserved.ensures.items c.give_back-own.ensures.given
-      c.loop-seat.invariant.noted c.give_back-own.ensures.noted c.learn.ensures.mine c.learn.ensures.others;
   room = search rules;
 }

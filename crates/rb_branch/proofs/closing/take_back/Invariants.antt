@@ -1,9 +1,7 @@
-use Rattle.std.proofs.Common.{◌≡◌, ◌+◌, ◌*◌, ◌≤◌, ◌++◌, vec_len}
+use Rattle.std.proofs.Common.{◌≡◌, ◌+◌, ◌≤◌, ◌++◌, vec_len}
 use Rattle.std.specs.Vec.{vec_capacity}
 use Rattle.std.specs.Vec.Iter.{into_iter_items}
-use Rattle.rb_log.specs.Log.{KnowsAll}
-use Rattle.rb_branch.specs.Gathered.{AreSeatsInLog, receipts_in}
-use Rattle.rb_branch.specs.declared.limits.TheConstants.{MOST_RECEIPTS}
+use Rattle.rb_branch.specs.Gathered.{receipts_in}
 use Rattle.rb_branch.proofs.closing.take_back.Given as goal
 
 abbrev pub invariant-loop-seat : goal.invariant-loop-seat
@@ -12,9 +10,7 @@ invariant-loop-seat g l = record {
   finite : (goal.iterator-loop-seat g).is_finite l.seat-iterator;
   all : l.given.items ++ into_iter_items l.seat-iterator ≡ l.fn.seats.items;
   parts : l.all.parts ≡ l.fn.all.parts + vec_len l.given;
-  amount : l.all.amount + receipts_in l.given.items ≡ l.fn.all.amount + vec_len l.given * MOST_RECEIPTS;
-  few : l.all.parts ≤ g.E.Ledger.parts;
-  kept : KnowsAll l.fn.known l.known;
-  noted : AreSeatsInLog l.known l.given.items;
+  amount : l.all.amount ≡ l.fn.all.amount + receipts_in l.given.items;
+  few : l.all.parts ≤ g.R.Ledger.parts;
   room : vec_len l.fn.seats ≤ vec_capacity l.given;
 }

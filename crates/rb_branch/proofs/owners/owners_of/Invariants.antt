@@ -3,4 +3,4 @@ use Rattle.rb_branch.specs.Owners.{OwnedWithin}
 use Rattle.rb_branch.proofs.owners.owners_of.Given as goal
 
 abbrev pub invariant-loop-k : goal.invariant-loop-k
-invariant-loop-k g l = (vec_len l.owners ≡ l.count) × OwnedWithin l.k l.site l.seats l.owners.items
+invariant-loop-k l = (vec_len l.owners ≡ l.count) × OwnedWithin l.k l.site l.seats l.owners.items

@@ -1,3 +1,0 @@
-pub mod Public
-mod Prefixes
-mod Noting

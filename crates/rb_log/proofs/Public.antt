@@ -1,2 +1,0 @@
--- What other crates cite.
-pub mod Knowing

@@ -1,3 +1,0 @@
-pub mod Log
-pub mod Rules
-pub use Rattle.logbook.specs.Pages
