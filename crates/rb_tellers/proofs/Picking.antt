@@ -16,7 +16,7 @@ use Rattle.rb_site.specs.declared.event.Event.{Event}
 use Rattle.rb_site.specs.declared.event.Event.TheVariants as ev
 use Rattle.rb_site.specs.Seen.{entry}
 use Rattle.rb_site.proofs.Public.Lists.{get_front, map_at, map_back}
-use Rattle.rb_branch.specs.Receipts.{SeenReceipt}
+use Rattle.rb_branch.specs.declared.receipt.Receipt.{Receipt}
 use Rattle.rb_branch.specs.Gathered.{AllEmpty, IsGathered, IsInterleaving, claim, claims, claims_at, numbered}
 use Rattle.rb_branch.specs.Seats.{IsServed, SeenSeat}
 use Rattle.rb_tellers.specs.declared.teller.TheConstants.{CALLS}
@@ -92,7 +92,7 @@ call_is x last site sites =
     call_if (nat_lt (r % 8) 4) (r % 8 == 4) (r % 8 == 5) (r % 8 == 6) (rq.Deposit a (1 + r / 8 % 1000)) (rq.Withdraw a (1 + r / 8 % 500))
     (rq.Interest a (r / 8 % 200)) (cancel_or a last) ((site + 1) % sites)
 
-pick_follows : (site sites x : ℕ) (last : Option OpName) (rs : List SeenReceipt) → FollowsCalls site sites x last (entries_of rs)
+pick_follows : (site sites x : ℕ) (last : Option OpName) (rs : List Receipt) → FollowsCalls site sites x last (entries_of rs)
     → pick (map claim rs) ≡ entries_of rs
 pick_follows site sites x last [] f = refl
 pick_follows site sites x last (r ∷ rs) f =
@@ -105,14 +105,14 @@ served_is (ev.Receive m) s = refl
 served_is (ev.Apply a) s = refl
 served_is _ s = absurd s
 
-pick_served : (rs : List SeenReceipt) → All (λ (r : SeenReceipt). IsServed r.event) rs → pick (map claim rs) ≡ []
+pick_served : (rs : List Receipt) → All (λ (r : Receipt). IsServed r.event) rs → pick (map claim rs) ≡ []
 pick_served [] all = refl
 pick_served (r ∷ rs) all =
     let is = served_is r.event (all 0 r (omega arith)) in
     (λ i. if is i then entry r.event r.reply ∷ pick (map claim rs) else pick (map claim rs))
     ∙ pick_served rs (λ k d h. all (suc k) d (omega arith))
 
-pick_if : (b : Bool) (rs : List SeenReceipt) → pick (map claim rs) ≡ [] → pick (if b then map claim rs else []) ≡ []
+pick_if : (b : Bool) (rs : List Receipt) → pick (map claim rs) ≡ [] → pick (if b then map claim rs else []) ≡ []
 pick_if true rs h = h
 pick_if false rs h = refl
 
@@ -125,7 +125,7 @@ teller_list seed sites site t c h = (
       (λ i. pick (if at i then map claim c.receipts else [])) ∙ pick_follows (t % sites) sites (seed + t) None c.receipts h.follows in
       let P : List Entry → Type 0 = λ es. (length es ≡ CALLS) × FollowsCalls site sites (seed + t) None es in
       let Q : ℕ → Type 0 = λ s. FollowsCalls s sites (seed + t) None (entries_of c.receipts) in
-      subst P (sym all) (length-map c.receipts (λ (r : SeenReceipt). entry r.event r.reply) ∙ h.count, subst Q here h.follows)),
+      subst P (sym all) (length-map c.receipts (λ (r : Receipt). entry r.event r.reply) ∙ h.count, subst Q here h.follows)),
   (λ away.
       elim (eqb_tells c.site site) [
         | inl p ↦ absurd (away (sym h.site_is ∙ p.1))

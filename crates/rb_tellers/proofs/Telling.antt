@@ -4,7 +4,7 @@ use Rattle.rb_shadow.specs.declared.op_name.OpName.{OpName}
 use Rattle.rb_site.specs.declared.entry.Entry.{Entry}
 use Rattle.rb_site.specs.declared.event.Event.{Event}
 use Rattle.rb_site.specs.Seen.{entry}
-use Rattle.rb_branch.specs.Receipts.{SeenReceipt}
+use Rattle.rb_branch.specs.declared.receipt.Receipt.{Receipt}
 use Rattle.rb_branch.specs.Seats.{HasOneMore, SeenSeat}
 use Rattle.rb_tellers.specs.Tellers.{next_number, call_of, last_after, FollowsCalls, entries_of}
 
@@ -31,7 +31,7 @@ last_of-snoc : (last : Option OpName) (es : List Entry) (e : Entry) → last_of 
 last_of-snoc last [] e = refl
 last_of-snoc last (y ∷ es) e = last_of-snoc (last_after last y.reply) es e
 
-entries_of-snoc : (rs : List SeenReceipt) (r : SeenReceipt) → entries_of (rs ++ r ∷ []) ≡ entries_of rs ++ entry r.event r.reply ∷ []
+entries_of-snoc : (rs : List Receipt) (r : Receipt) → entries_of (rs ++ r ∷ []) ≡ entries_of rs ++ entry r.event r.reply ∷ []
 entries_of-snoc [] r = refl
 entries_of-snoc (s ∷ rs) r = ap (λ xs. entry s.event s.reply ∷ xs) (entries_of-snoc rs r)
 
@@ -46,13 +46,13 @@ pub record Stands (first site sites : ℕ) (c : SeenSeat) (x : ℕ) (last : Opti
 -- before the first call
 pub stands_first : (first site sites : ℕ) (c : SeenSeat) → c.site ≡ site → c.receipts ≡ [] → Stands first site sites c first None 0
 stands_first first site sites c here none =
-    let P : List SeenReceipt → Type 0 = λ rs. FollowsCalls site sites first None (entries_of rs) in
+    let P : List Receipt → Type 0 = λ rs. FollowsCalls site sites first None (entries_of rs) in
     record {
       site_is = here;
-      count_is = ap (λ (rs : List SeenReceipt). length rs) none;
+      count_is = ap (λ (rs : List Receipt). length rs) none;
       follows = subst P (sym none) tt;
-      number_is = ap (λ (rs : List SeenReceipt). number_after first (entries_of rs)) (sym none);
-      last_is = ap (λ (rs : List SeenReceipt). last_of None (entries_of rs)) (sym none);
+      number_is = ap (λ (rs : List Receipt). number_after first (entries_of rs)) (sym none);
+      last_is = ap (λ (rs : List Receipt). last_of None (entries_of rs)) (sym none);
     }
 
 -- after one call more
@@ -60,7 +60,7 @@ pub stands_next : (first site sites : ℕ) (old new : SeenSeat) (x x' : ℕ) (la
     → Stands first site sites old x last count
     → x' ≡ next_number x → e ≡ call_of x' last site sites
     → HasOneMore old new (λ f. f ≡ e) number
-    → ((xs : List SeenReceipt) (r : SeenReceipt) → new.receipts ≡ xs ++ r ∷ [] → last' ≡ last_after last r.reply)
+    → ((xs : List Receipt) (r : Receipt) → new.receipts ≡ xs ++ r ∷ [] → last' ≡ last_after last r.reply)
     → Stands first site sites new x' last' (count + 1)
 stands_next first site sites old new x x' last last' count number e s next call more told =
     let r = more.last in
@@ -75,7 +75,7 @@ stands_next first site sites old new x x' last last' count number e s next call 
     let P : List Entry → Type 0 = FollowsCalls site sites first None in
     record {
       site_is = ap (λ (c : SeenSeat). c.site) more.seat ∙ s.site_is;
-      count_is = omega (arith, ap (λ (xs : List SeenReceipt). length xs) now, length-append rs (r ∷ []), s.count_is);
+      count_is = omega (arith, ap (λ (xs : List Receipt). length xs) now, length-append rs (r ∷ []), s.count_is);
       follows = subst P (sym all) (Follows-snoc site sites first None es f s.follows is);
       number_is = step ∙ sym (ap (number_after first) all ∙ number_after-snoc first es f);
       last_is = told rs r now ∙ ap (λ l. last_after l r.reply) s.last_is ∙ sym (ap (last_of None) all ∙ last_of-snoc None es f);

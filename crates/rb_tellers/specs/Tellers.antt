@@ -1,7 +1,7 @@
 -- The calls of tellers, each by its own numbers and by what it was answered.
 use Rattle.std.specs.Prelude.{◌≡◌, ℕ, ◌+◌, ◌*◌, ◌/◌, ◌%◌, ◌^◌, List, [], ◌∷◌, ◌++◌, slice_get, ◌==◌, nat_lt}
 use Rattle.std.specs.Prelude.{if◌then◌else◌, Option, Some, None, map, length, All, Bool, true, false}
-use Rattle.rb_branch.specs.Receipts.{SeenReceipt}
+use Rattle.rb_branch.specs.declared.receipt.Receipt.{Receipt}
 use Rattle.rb_branch.specs.Gathered.{IsInterleaving}
 use Rattle.rb_branch.specs.Seats.{IsServed, SeenSeat}
 use Rattle.rb_tellers.specs.declared.teller.TheConstants.{CALLS, INCREMENT, MULTIPLIER}
@@ -54,7 +54,7 @@ FollowsCalls site sites x last (e ∷ es) =
     (e.event ≡ call_of (next_number x) last site sites) × FollowsCalls site sites (next_number x) (last_after last e.reply) es
 
 -- the entries that receipts are of
-abbrev pub entries_of : List SeenReceipt → List Entry
+abbrev pub entries_of : List Receipt → List Entry
 entries_of receipts = map (λ r. entry r.event r.reply) receipts
 
 -- the seat of a teller after all its calls
@@ -66,7 +66,7 @@ pub record IsTeller (first site sites : ℕ) (seat : SeenSeat) : Type 0 where
 -- the seat of a serving thread: it received and applied alone
 pub record IsServer (site : ℕ) (seat : SeenSeat) : Type 0 where
   pub site_is : seat.site ≡ site
-  pub served : All (λ (r : SeenReceipt). IsServed r.event) seat.receipts
+  pub served : All (λ (r : Receipt). IsServed r.event) seat.receipts
 
 -- ---- a run
 

@@ -9,9 +9,9 @@ use crate::server_of::ServerOf;
 use crate::teller::make_calls;
 use crate::teller_of::TellerOf;
 use rb_branch::{Branch, CallFault, Entries, Gate, Inlet, Outbox, Seat, links};
-use rb_log::Log;
 use std::alloc::Global;
 use std::sync::Wait;
+use std::sync::ledger::Ledger;
 use std::thread::{PromisedHandle, Scope, Threads};
 
 /// A teller's thread, which gives its seat back.
@@ -22,7 +22,7 @@ pub(crate) type ServerHandle<E, R> = PromisedHandle<Result<Seat<E, R>, CallFault
 
 /// What the threads of a run have in common: the scope that they end in, the branch, and how many sites it has.
 #[derive(Drop)]
-pub(crate) struct Crew<'s, X, E: Entries, R: Log, G: Gate, W> {
+pub(crate) struct Crew<'s, X, E: Entries, R: Ledger, G: Gate, W> {
     pub scope: &'s Scope<'s, X>,
     pub rt: &'s W,
     pub alloc: Global,
@@ -34,7 +34,7 @@ impl<
     's,
     X,
     E: Entries + Send + Sync + 's,
-    R: Log + Send + Sync + 's,
+    R: Ledger + Send + Sync + 's,
     G: Gate + Drop + Sync + 's,
     W: Threads + Wait + Sync + 's,
 > Crew<'s, X, E, R, G, W> {

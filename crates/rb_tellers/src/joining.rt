@@ -4,13 +4,13 @@ ghost use Rattle.rb_branch.specs.Seats.{SeenSeat};
 
 use crate::TellersFault;
 use rb_branch::{CallFault, Entries, Seat};
-use rb_log::Log;
 use std::alloc::Global;
+use std::sync::ledger::Ledger;
 use std::thread;
 use std::thread::{Promise, PromisedHandle, Threads};
 
 /// Waits for all threads. Each gives its seat back, in the order of the handles, as it promised.
-pub(crate) fn join<E: Entries, R: Log, P: Promise<Result<Seat<E, R>, CallFault>>, W: Threads>(
+pub(crate) fn join<E: Entries, R: Ledger, P: Promise<Result<Seat<E, R>, CallFault>>, W: Threads>(
     rt: &W,
     alloc: Global,
     handles: Vec<PromisedHandle<Result<Seat<E, R>, CallFault>, P>>,
@@ -26,7 +26,7 @@ pub(crate) fn join<E: Entries, R: Log, P: Promise<Result<Seat<E, R>, CallFault>>
 }
 
 /// The seats, where every thread gave one back.
-fn all_ok<E: Entries, R: Log>(
+fn all_ok<E: Entries, R: Ledger>(
     alloc: Global,
     results: Vec<Result<Seat<E, R>, CallFault>>,
 ) -> Result<Vec<Seat<E, R>>, TellersFault>
@@ -41,7 +41,7 @@ fn all_ok<E: Entries, R: Log>(
 }
 
 /// All seats, the tellers' first.
-pub(crate) fn together<E: Entries, R: Log>(
+pub(crate) fn together<E: Entries, R: Ledger>(
     mut tellers: Vec<Seat<E, R>>,
     servers: Vec<Seat<E, R>>,
 ) -> Result<Vec<Seat<E, R>>, TellersFault>

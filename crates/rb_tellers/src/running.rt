@@ -1,21 +1,20 @@
 //! A run: tellers and serving threads over a branch of their own.
-ghost use Rattle.std.specs.Prelude.{◌≡◌, ◌+◌, ◌<◌, ℕ, List, All, IfOk, Some, vec_len, slice_get};
+ghost use Rattle.std.specs.Prelude.{◌≡◌, ◌<◌, ℕ, List, All, IfOk, Some, vec_len, slice_get};
 ghost use Rattle.rb_branch.specs.Gathered.{AllGathered, IsClosedReport};
 ghost use Rattle.rb_branch.specs.Seats.{SeenSeat};
-ghost use Rattle.rb_branch.specs.declared.limits.TheConstants.{SEAT_PARTS};
+ghost use Rattle.rb_branch.specs.declared.limits.TheConstants.{RECEIPT_PARTS};
 ghost use Rattle.rb_tellers.specs.Tellers.{IsCrew, TellersAt};
 ghost use Rattle.rb_site.specs.declared.report.SiteReport.{SiteReport};
 
 use crate::TellersFault;
 use crate::crew::Crew;
-use rb_branch::{Branch, Entries, Gate, GatherFault, SEAT_PARTS, Seat};
-use rb_log::{Log, OpenedLog};
+use rb_branch::{Branch, Entries, Gate, GatherFault, RECEIPT_PARTS, Seat};
 use rb_money::Config;
-use rb_site::{Entry, SiteReport};
+use rb_site::SiteReport;
 use std::alloc::Global;
 use std::marker::Brand;
 use std::sync::Wait;
-use std::sync::ledger::Blank;
+use std::sync::ledger::{Blank, Ledger};
 use std::thread;
 use std::thread::Threads;
 
@@ -42,15 +41,15 @@ pub fn run_bank<G: Gate + Drop + Sync, W: Threads + Wait + Sync>(
     ensures tellers { IfOk result (λ reports. (k : ℕ) (r : SiteReport) → slice_get reports.items k ≡ Some r
         → (r.me ≡ k) × TellersAt seed tellers config.sites k r.history.items) }
 {
-    let entries = Blank::new(u64::from(config.sites()) + SEAT_PARTS);
-    let log = OpenedLog::new();
-    run_with::<Brand, Brand, G, W>(rt, alloc, config, gate, tellers, seed, entries, log)
+    let entries = Blank::new(u64::from(config.sites()));
+    let receipts = Blank::new(RECEIPT_PARTS);
+    run_with::<Brand, Brand, G, W>(rt, alloc, config, gate, tellers, seed, entries, receipts)
 }
 
-/// The same, with this ledger of the entries and this log of them.
+/// The same, with these ledgers of the entries and the receipts.
 fn run_with<
     E: Entries + Send + Sync,
-    R: Log + Send + Sync,
+    R: Ledger + Send + Sync,
     G: Gate + Drop + Sync,
     W: Threads + Wait + Sync,
 >(
@@ -61,19 +60,18 @@ fn run_with<
     tellers: u8,
     seed: u32,
     entries: Blank,
-    log: OpenedLog<Entry>,
+    receipts: Blank,
 ) -> Result<Vec<SiteReport>, TellersFault>
     requires config { config ≡ E.settings }
-    requires entries { (entries.name ≡ E.name) × (entries.parts ≡ E.parts)
-        × (entries.parts ≡ config.sites + SEAT_PARTS) }
-    requires log { log ≡ R.book }
+    requires entries { (entries.name ≡ E.name) × (entries.parts ≡ E.parts) × (entries.parts ≡ config.sites) }
+    requires receipts { (receipts.name ≡ R.name) × (receipts.parts ≡ R.parts) × (receipts.parts ≡ RECEIPT_PARTS) }
     ensures all { IfOk result (λ reports. vec_len reports ≡ config.sites) }
     ensures closed { IfOk result (λ reports. All (IsClosedReport config) reports.items) }
     ensures gathered { IfOk result (λ reports. (seats : List SeenSeat) × IsCrew seed tellers config.sites seats
         × AllGathered reports.items seats) }
 {
     let sites = config.sites();
-    let branch: Branch<E, R, G> = Branch::open(alloc, config, gate, entries, log)?;
+    let branch: Branch<E, R, G> = Branch::open(alloc, config, gate, entries, receipts)?;
     match run_branch(rt, alloc, &branch, sites, tellers, seed) {
         Ok(seats) => match branch.gather_by(rt, seats) {
             Ok(reports) => Ok(reports),
@@ -90,7 +88,7 @@ fn run_with<
 /// Runs all threads over a branch, and gives their seats back.
 fn run_branch<
     E: Entries + Send + Sync,
-    R: Log + Send + Sync,
+    R: Ledger + Send + Sync,
     G: Gate + Drop + Sync,
     W: Threads + Wait + Sync,
 >(

@@ -3,7 +3,7 @@ ghost use Rattle.std.specs.Prelude.{IfOk};
 ghost use Rattle.rb_tellers.specs.Tellers.{IsServer};
 
 use rb_branch::{CallFault, Entries, Seat};
-use rb_log::Log;
+use std::sync::ledger::Ledger;
 use std::thread::Promise;
 
 /// A thread gives its seat back after it served this site.
@@ -12,6 +12,6 @@ pub struct ServerOf {
     pub site: u8,
 }
 
-impl<E: Entries, R: Log> Promise<Result<Seat<E, R>, CallFault>> for ServerOf {
+impl<E: Entries, R: Ledger> Promise<Result<Seat<E, R>, CallFault>> for ServerOf {
     ghost kept_by = { λ p r. IfOk r (IsServer p.site) };
 }

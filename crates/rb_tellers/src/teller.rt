@@ -1,15 +1,15 @@
 //! Tellers.
 ghost use Rattle.std.specs.Prelude.{◌≡◌, ◌<◌, ◌++◌, ◌∷◌, [], List, IfOk};
-ghost use Rattle.rb_branch.specs.Receipts.{SeenReceipt};
+ghost use Rattle.rb_branch.specs.declared.receipt.Receipt.{Receipt};
 ghost use Rattle.rb_tellers.specs.Tellers.{IsTeller, call_of, cancel_or, last_after, next_number};
 
 use rb_branch::{Branch, CallFault, Entries, Gate, Outbox, Seat};
-use rb_log::Log;
 use rb_money::Place;
 use rb_scratch::Request;
 use rb_shadow::OpName;
 use rb_site::{Event, Reply};
 use std::sync::Wait;
+use std::sync::ledger::Ledger;
 
 /// How many calls a teller makes.
 pub const CALLS: u8 = 100;
@@ -22,7 +22,7 @@ pub const INCREMENT: u64 = 1_442_695_040_888_963_407;
 
 /// A teller's calls, one after another, each chosen by the next number and the name of the last operation
 /// that it made; one that is refused is followed by the next. The seat comes back with a receipt for each.
-pub(crate) fn make_calls<E: Entries, R: Log, G: Gate + Drop, W: Wait>(
+pub(crate) fn make_calls<E: Entries, R: Ledger, G: Gate + Drop, W: Wait>(
     rt: &W,
     branch: &Branch<E, R, G>,
     mut seat: Seat<E, R>,
@@ -97,12 +97,11 @@ fn cancel_last(account: Place, last: Option<OpName>) -> Request
 }
 
 /// The name of the operation that the last receipt says was made, or else the last name before it.
-fn last_made<E: Entries, R: Log>(seat: &Seat<E, R>, last: Option<OpName>) -> Option<OpName>
-    ensures { (xs : List SeenReceipt) (r : SeenReceipt) → seat.now.receipts ≡ xs ++ r ∷ []
-        → result ≡ last_after last r.reply }
+fn last_made<E: Entries, R: Ledger>(seat: &Seat<E, R>, last: Option<OpName>) -> Option<OpName>
+    ensures { (xs : List Receipt) (r : Receipt) → seat.now.receipts ≡ xs ++ r ∷ [] → result ≡ last_after last r.reply }
 {
-    match seat.last_reply() {
-        Some(reply) => match reply {
+    match seat.receipts().last() {
+        Some(receipt) => match &receipt.reply {
             Reply::Made { name, .. } => Some(*name),
             _ => last,
         },

@@ -3,7 +3,7 @@ ghost use Rattle.std.specs.Prelude.{IfOk};
 ghost use Rattle.rb_tellers.specs.Tellers.{IsTeller};
 
 use rb_branch::{CallFault, Entries, Seat};
-use rb_log::Log;
+use std::sync::ledger::Ledger;
 use std::thread::Promise;
 
 /// A thread gives its seat back after all calls of the teller of this first number, at this site, of a bank
@@ -15,6 +15,6 @@ pub struct TellerOf {
     pub sites: u8,
 }
 
-impl<E: Entries, R: Log> Promise<Result<Seat<E, R>, CallFault>> for TellerOf {
+impl<E: Entries, R: Ledger> Promise<Result<Seat<E, R>, CallFault>> for TellerOf {
     ghost kept_by = { λ p r. IfOk r (IsTeller p.first p.site p.sites) };
 }

@@ -12,8 +12,8 @@ open-requires-clause-config g c = c.requires.config
 pub open-requires-clause-entries : goal.open-requires-clause-entries
 open-requires-clause-entries g c = c.requires.entries
 
-pub open-requires-clause-log : goal.open-requires-clause-log
-open-requires-clause-log g c = c.requires.log
+pub open-requires-clause-receipts : goal.open-requires-clause-receipts
+open-requires-clause-receipts g c = c.requires.receipts
 
 pub returns-in_err-branch-clause-all : goal.returns-in_err-branch-clause-all
 returns-in_err-branch-clause-all g c = IfOk-from_err c.from_residual.result _ c.from_residual.ensures.0
