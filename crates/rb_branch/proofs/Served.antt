@@ -1,5 +1,5 @@
 -- Receipts of a serving seat, put together.
-use Rattle.std.proofs.Common.{◌≡◌, ℕ, zero, suc, ◌+◌, ◌-◌, List, [], ◌∷◌, ◌++◌, length, refl, sym, ap, ◌∙◌, subst, arith}
+use Rattle.std.proofs.Common.{◌≡◌, ℕ, zero, suc, ◌+◌, ◌-◌, ◌<◌, ◌≤◌, List, [], ◌∷◌, ◌++◌, length, refl, sym, ap, ◌∙◌, subst, arith}
 use Rattle.std.proofs.Common.{length-append, append_assoc, append-nil, get_or, set, remove, Bool, true, false, true≢false, Some, ◌⊎◌, inl}
 use Rattle.std.proofs.Common.{None, inr}
 use Rattle.std.specs.Prelude.{All, OnErr, MatchBool, MatchOption, Option, Result, Ok, Err, slice_get}
@@ -9,7 +9,7 @@ use Rattle.rb_site.specs.declared.event.Event.{Event}
 use Rattle.rb_site.specs.declared.event.Event.TheVariants as ev
 use Rattle.rb_site.specs.declared.message.Message.{Message}
 use Rattle.rb_branch.specs.declared.receipt.Receipt.{Receipt}
-use Rattle.rb_branch.specs.Seats.{HasOneMore, HasServed, IsApply, IsOneOf, IsServed, WasReceived, NoneLost, SeenSeat, Any}
+use Rattle.rb_branch.specs.Seats.{AreRefused, HasOneMore, HasServed, IsApply, IsOneOf, IsServed, WasReceived, NoneLost, SeenSeat, Any}
 use Rattle.rb_branch.specs.Seats.{is_full_inbox}
 
 abbrev Refuses : Message → Receipt → Type 0
@@ -224,6 +224,88 @@ pub serves_ready : (a b c : SeenSeat) (k l : List Message) (o : Option ℕ) → 
     → MatchOption o (c ≡ b) (λ n. HasOneMore b c IsApply n) → Serves a c k l
 serves_ready a b c k l None h ready = serves_same a b c k l l h ready refl
 serves_ready a b c k l (Some n) h ready = serves_more a b c k l l h (1, served_apply b c l n ready)
+
+-- ---- messages that were refused
+
+-- none is the first of none
+pub refused_none : (kept : List Message) (rs : List Receipt) → AreRefused 0 kept rs
+refused_none kept rs i m h at = absurd (omega arith)
+
+-- more receipts say it too
+refused_more : (n : ℕ) (kept : List Message) (rs rs' xs : List Receipt) → AreRefused n kept rs → rs' ≡ rs ++ xs → AreRefused n kept rs'
+refused_more n kept rs rs' xs all is i m h at = subst (Any (Refuses m)) (sym is) (some_left (Refuses m) rs xs (all i m h at))
+
+-- and so does a receipt more
+pub refused_after : (n k : ℕ) (kept : List Message) (b c : SeenSeat) (P : Event → Type 0) → AreRefused n kept b.receipts
+    → HasOneMore b c P k → AreRefused n kept c.receipts
+refused_after n k kept b c P all h =
+    refused_more n kept b.receipts c.receipts (h.last ∷ []) all (ap (λ (s : SeenSeat). s.receipts) h.seat)
+
+-- what an application leaves
+pub refused_applied : (n : ℕ) (kept : List Message) (b c : SeenSeat) (o : Option ℕ) → AreRefused n kept b.receipts
+    → MatchOption o (c ≡ b) (λ k. HasOneMore b c IsApply k) → AreRefused n kept c.receipts
+refused_applied n kept b c None all same = subst (λ (s : SeenSeat). AreRefused n kept s.receipts) (sym same) all
+refused_applied n kept b c (Some k) all h = refused_after n k kept b c IsApply all h
+
+-- one message more is refused
+pub refused_next : (k n : ℕ) (kept : List Message) (b c : SeenSeat) (m : Message) (full : Bool) → AreRefused k kept b.receipts
+    → slice_get kept k ≡ Some m → HasOneMore b c (λ e. e ≡ ev.Receive m) n
+    → ((xs : List Receipt) (r : Receipt) → c.receipts ≡ xs ++ r ∷ [] → full ≡ is_full_inbox r.reply) → full ≡ true
+    → AreRefused (k + 1) kept c.receipts
+refused_next k n kept b c m full all at h found is i x within here =
+    let now = ap (λ (s : SeenSeat). s.receipts) h.seat in
+    elim (lt_or_same i k within) [
+      | inl less ↦ subst (Any (Refuses x)) (sym now) (some_left (Refuses x) b.receipts (h.last ∷ []) (all i x less here))
+      | inr same ↦
+          let one : x ≡ m = some_same (sym here ∙ ap (slice_get kept) same ∙ at) in
+          let reply : is_full_inbox h.last.reply ≡ true = sym (last_reply b c (λ e. e ≡ ev.Receive m) n full h found) ∙ is in
+          subst (Any (Refuses x)) (sym now)
+          (some_right (Refuses x) b.receipts (h.last ∷ []) (inl (h.event_is ∙ ap ev.Receive (sym one), reply)))
+    ]
+  where
+    lt_or_same : (i k : ℕ) → i < k + 1 → (i < k) ⊎ (i ≡ k)
+    lt_or_same zero zero h = inr refl
+    lt_or_same zero (suc k) h = inl (omega arith)
+    lt_or_same (suc i) zero h = absurd (omega arith)
+    lt_or_same (suc i) (suc k) h = elim (lt_or_same i k (omega arith)) [
+      | inl less ↦ inl (omega (arith, less))
+      | inr same ↦ inr (ap suc same)
+    ]
+
+    some_same : {x y : Message} → Some x ≡ Some y → x ≡ y
+    some_same is = cc is
+
+-- those before one that goes
+pub refused_removed : (k : ℕ) (kept new : List Message) (rs : List Receipt) → AreRefused k kept rs → new ≡ remove kept k
+    → AreRefused k new rs
+refused_removed k kept new rs all is i m within at =
+    all i m within (sym (below kept k i within) ∙ ap (λ (l : List Message). slice_get l i) (sym is) ∙ at)
+  where
+    below : (xs : List Message) (k i : ℕ) → i < k → slice_get (remove xs k) i ≡ slice_get xs i
+    below [] zero i h = absurd (omega arith)
+    below [] (suc k) i h = refl
+    below (x ∷ xs) zero i h = absurd (omega arith)
+    below (x ∷ xs) (suc k) zero h = refl
+    below (x ∷ xs) (suc k) (suc i) h = below xs k i (omega arith)
+
+-- those before one that is taken, if one was
+pub refused_taken : (n : ℕ) (kept new : List Message) (rs : List Receipt) (t : Bool) → AreRefused (length kept) kept rs
+    → n ≡ length kept → MatchBool t ((x : Message) × (new ≡ kept ++ x ∷ [])) (new ≡ kept) → AreRefused n new rs
+refused_taken n kept new rs false all is same i m within at =
+    all i m (omega (arith, within, is)) (ap (λ (l : List Message). slice_get l i) (sym same) ∙ at)
+refused_taken n kept new rs true all is taken i m within at =
+    let inside : i < length kept = omega (arith, within, is) in
+    all i m inside (sym (before kept (taken.0 ∷ []) i inside) ∙ ap (λ (l : List Message). slice_get l i) (sym taken.1) ∙ at)
+  where
+    before : (xs ys : List Message) (i : ℕ) → i < length xs → slice_get (xs ++ ys) i ≡ slice_get xs i
+    before [] ys i h = absurd (omega arith)
+    before (x ∷ xs) ys zero h = refl
+    before (x ∷ xs) ys (suc i) h = before xs ys i (omega arith)
+
+-- where all are, once the first n are
+pub refused_all : (n : ℕ) (kept : List Message) (rs : List Receipt) → AreRefused n kept rs → length kept ≤ n
+    → AreRefused (length kept) kept rs
+refused_all n kept rs all few i m within at = all i m (omega (arith, within, few)) at
 
 -- how many receipts more there are
 pub served_since : (a b : SeenSeat) (k l : List Message) (xs ys : List Receipt) → Serves a b k l → xs ≡ a.receipts → ys ≡ b.receipts

@@ -150,6 +150,10 @@ WasRefused m receipts = Any (λ r. (r.event ≡ Receive m) × (is_full_inbox r.r
 abbrev pub WasReceived : Message → List Receipt → Type 0
 WasReceived m receipts = Any (λ r. (r.event ≡ Receive m) × (is_full_inbox r.reply ≡ false)) receipts
 
+-- each of the first n messages was refused, as the inbox was full, by one of these receipts
+abbrev pub AreRefused : ℕ → List Message → List Receipt → Type 0
+AreRefused n kept receipts = (i : ℕ) (m : Message) → i < n → slice_get kept i ≡ Some m → WasRefused m receipts
+
 -- no message is lost: each that was kept, or was refused by one of these receipts as the inbox was full, is kept, or
 -- was received by one of them with another reply
 pub record NoneLost (old new : List Message) (receipts : List Receipt) : Type 0 where

@@ -1,6 +1,6 @@
 //! The serving of a site: what comes by its link is received, and what is ready is applied.
-ghost use Rattle.std.specs.Prelude.{◌<◌, ◌+◌, ◌^◌, ℕ, IfOk, List, OnErr, length};
-ghost use Rattle.rb_branch.specs.Seats.{HasServed};
+ghost use Rattle.std.specs.Prelude.{◌<◌, ◌+◌, ◌^◌, ℕ, IfNone, IfOk, IfSome, List, OnErr, OnOk, length};
+ghost use Rattle.rb_branch.specs.Seats.{AreRefused, HasServed};
 ghost use Rattle.rb_site.specs.declared.message.Message.{Message as MessageOf};
 
 use crate::{Branch, CallFault, Entries, Gate, Inlet, Seat};
@@ -10,9 +10,9 @@ use std::sync::ledger::Ledger;
 impl<E: Entries, R: Ledger, G: Gate + Drop> Branch<E, R, G> {
     /// Receives what the inlet keeps and then what comes by its link until it closes, and after each message
     /// applies what is ready. Ok is how many receipts the seat has more. What the site refuses as its inbox is
-    /// full is received again after each application; what is never received otherwise goes with the inlet, and
-    /// its receipts are refusals. After an `Err` the seat has the receipts of the events before, and what was taken
-    /// and not received goes with the inlet: `serve_from` gives it back.
+    /// full is received again after each application; where it never finds space it goes with the inlet, and the
+    /// seat has a receipt of its refusal. After an `Err` the seat has the receipts of the events before, and what was
+    /// taken and not received goes with the inlet: `serve_from` leaves it with the caller.
     ///
     /// The link closes once all outboxes are dropped, so a thread that serves must not hold one of them: it
     /// would wait for itself.
@@ -22,7 +22,8 @@ impl<E: Entries, R: Ledger, G: Gate + Drop> Branch<E, R, G> {
         seat: &mut Seat<E, R>,
         inlet: Inlet,
     ) -> Result<u64, CallFault>
-        ensures ok { IfOk result (λ n. (left : List MessageOf) × HasServed seat.old seat.new inlet left n) }
+        ensures ok { IfOk result (λ n. (left : List MessageOf) × HasServed seat.old seat.new inlet left n
+            × AreRefused (length left) left seat.new.receipts) }
         ensures err { OnErr result ((left : List MessageOf) × (n : ℕ) × HasServed seat.old seat.new inlet left n) }
     {
         let mut inlet = inlet;
@@ -32,7 +33,7 @@ impl<E: Entries, R: Ledger, G: Gate + Drop> Branch<E, R, G> {
     /// The same, with an inlet that stays with the caller. What the site refuses as its inbox is full is kept in
     /// the inlet, and all that is kept is received again after each application. After an `Err` the seat has the
     /// receipts of the events before, the inlet keeps what was taken and not received, and `serve_from` may be
-    /// called again.
+    /// called again. After Ok the seat has a receipt of the refusal of each message that is kept.
     pub fn serve_from<W: Wait>(
         &self,
         rt: &W,
@@ -40,6 +41,7 @@ impl<E: Entries, R: Ledger, G: Gate + Drop> Branch<E, R, G> {
         inlet: &mut Inlet,
     ) -> Result<u64, CallFault>
         ensures ok { IfOk result (λ n. HasServed seat.old seat.new inlet.old inlet.new n) }
+        ensures refused { OnOk result (AreRefused (length inlet.new) inlet.new seat.new.receipts) }
         ensures err { OnErr result ((n : ℕ) × HasServed seat.old seat.new inlet.old inlet.new n) }
     {
         let before = seat.receipts().len();
@@ -54,7 +56,8 @@ impl<E: Entries, R: Ledger, G: Gate + Drop> Branch<E, R, G> {
         seat: &mut Seat<E, R>,
         inlet: &mut Inlet,
     ) -> Result<(), CallFault>
-        ensures { (n : ℕ) × HasServed seat.old seat.new inlet.old inlet.new n }
+        ensures served { (n : ℕ) × HasServed seat.old seat.new inlet.old inlet.new n }
+        ensures refused { OnOk result (AreRefused (length inlet.new) inlet.new seat.new.receipts) }
     {
         let mut first: usize = 0;
         for _ in rt.forever() {
@@ -63,7 +66,7 @@ impl<E: Entries, R: Ledger, G: Gate + Drop> Branch<E, R, G> {
             };
             first = next;
         }
-        Ok(())
+        unreachable!()
     }
 
     /// Receives what is kept from this index on. Then applies what is ready or, where nothing is, takes the next
@@ -76,7 +79,10 @@ impl<E: Entries, R: Ledger, G: Gate + Drop> Branch<E, R, G> {
         inlet: &mut Inlet,
         first: usize,
     ) -> Result<Option<usize>, CallFault>
-        ensures { (n : ℕ) × HasServed seat.old seat.new inlet.old inlet.new n }
+        requires { AreRefused first inlet.old seat.old.receipts }
+        ensures served { (n : ℕ) × HasServed seat.old seat.new inlet.old inlet.new n }
+        ensures some { IfOk result (λ o. IfSome o (λ next. AreRefused next inlet.new seat.new.receipts)) }
+        ensures none { IfOk result (λ o. IfNone o (AreRefused (length inlet.new) inlet.new seat.new.receipts)) }
     {
         self.receive_from(rt, seat, inlet, first)?;
         if self.apply_ready(rt, seat)?.is_some() {
@@ -98,7 +104,9 @@ impl<E: Entries, R: Ledger, G: Gate + Drop> Branch<E, R, G> {
         inlet: &mut Inlet,
         first: usize,
     ) -> Result<(), CallFault>
-        ensures { (n : ℕ) × HasServed seat.old seat.new inlet.old inlet.new n }
+        requires { AreRefused first inlet.old seat.old.receipts }
+        ensures served { (n : ℕ) × HasServed seat.old seat.new inlet.old inlet.new n }
+        ensures refused { OnOk result (AreRefused (length inlet.new) inlet.new seat.new.receipts) }
     {
         let mut index = first;
         while index < inlet.kept().len() {
@@ -118,7 +126,9 @@ impl<E: Entries, R: Ledger, G: Gate + Drop> Branch<E, R, G> {
     ) -> Result<usize, CallFault>
         requires within { index < length inlet.old }
         requires fits { index + 1 < 2 ^ 64 }
+        requires front { AreRefused index inlet.old seat.old.receipts }
         ensures served { (n : ℕ) × HasServed seat.old seat.new inlet.old inlet.new n }
+        ensures refused { IfOk result (λ next. AreRefused next inlet.new seat.new.receipts) }
         ensures fewer { IfOk result (λ next. length inlet.new + index < length inlet.old + next) }
     {
         let message = inlet.message(index);

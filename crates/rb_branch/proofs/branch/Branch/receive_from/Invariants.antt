@@ -1,9 +1,13 @@
 use Rattle.std.proofs.Common.{◌-◌, length}
+use Rattle.rb_branch.specs.Seats.{AreRefused}
 use Rattle.rb_branch.proofs.Served.{Serves}
 use Rattle.rb_branch.proofs.branch.Branch.receive_from.Given as goal
 
 abbrev pub invariant-loop-index : goal.invariant-loop-index
-invariant-loop-index g l = Serves l.initial.seat l.seat l.initial.inlet l.inlet
+invariant-loop-index g l = record {
+  served : Serves l.initial.seat l.seat l.initial.inlet l.inlet;
+  front : AreRefused l.index l.inlet l.seat.receipts;
+}
 
 abbrev pub decreases-loop-index : goal.decreases-loop-index
 decreases-loop-index g l = length l.inlet - l.index

@@ -1,27 +1,35 @@
-use Rattle.std.proofs.Common.{refl}
-use Rattle.rb_branch.proofs.Served.{serves_ready, serves_same, serves_taken}
+use Rattle.std.proofs.Common.{ap, length, refl}
+use Rattle.rb_branch.proofs.Served.{refused_applied, refused_taken, serves_ready, serves_same, serves_taken}
 use Rattle.rb_branch.proofs.branch.Branch.serve_once.Goals as goal
 
-pub returns-in_err-receive_from : goal.returns-in_err-receive_from
-returns-in_err-receive_from g c = c.receive_from.ensures
+pub returns-in_err-receive_from-clause-served : goal.returns-in_err-receive_from-clause-served
+returns-in_err-receive_from-clause-served g c = c.receive_from.ensures.served
 
-pub returns-in_err-apply_ready : goal.returns-in_err-apply_ready
-returns-in_err-apply_ready g c = serves_same _ _ _ _ _ _ c.receive_from.ensures c.in_err-apply_ready.ensures.err refl
+pub returns-in_err-apply_ready-clause-served : goal.returns-in_err-apply_ready-clause-served
+returns-in_err-apply_ready-clause-served g c =
+    serves_same _ _ _ _ _ _ c.receive_from.ensures.served c.in_err-apply_ready.ensures.err refl
 
-pub returns-then-is_some : goal.returns-then-is_some
-returns-then-is_some g c = serves_ready _ _ _ _ _ _ c.receive_from.ensures c.in_ok-apply_ready.ensures.ok
+pub returns-then-is_some-clause-served : goal.returns-then-is_some-clause-served
+returns-then-is_some-clause-served g c = serves_ready _ _ _ _ _ _ c.receive_from.ensures.served c.in_ok-apply_ready.ensures.ok
 
-pub returns-in_err-taken : goal.returns-in_err-taken
-returns-in_err-taken g c =
-    serves_same _ _ _ _ _ _ (serves_ready _ _ _ _ _ _ c.receive_from.ensures c.in_ok-apply_ready.ensures.ok) refl
+pub returns-in_err-taken-clause-served : goal.returns-in_err-taken-clause-served
+returns-in_err-taken-clause-served g c =
+    serves_same _ _ _ _ _ _ (serves_ready _ _ _ _ _ _ c.receive_from.ensures.served c.in_ok-apply_ready.ensures.ok) refl
     c.in_err-taken.ensures.err
 
-pub returns-then-not-taken : goal.returns-then-not-taken
-returns-then-not-taken g c =
-    serves_taken _ _ _ _ _ _ (serves_ready _ _ _ _ _ _ c.receive_from.ensures c.in_ok-apply_ready.ensures.ok)
+pub returns-then-not-taken-clause-served : goal.returns-then-not-taken-clause-served
+returns-then-not-taken-clause-served g c =
+    serves_taken _ _ _ _ _ _ (serves_ready _ _ _ _ _ _ c.receive_from.ensures.served c.in_ok-apply_ready.ensures.ok)
     c.in_ok-taken.ensures.ok
 
-pub returns : goal.returns
-returns g c =
-    serves_taken _ _ _ _ _ _ (serves_ready _ _ _ _ _ _ c.receive_from.ensures c.in_ok-apply_ready.ensures.ok)
+pub returns-clause-served : goal.returns-clause-served
+returns-clause-served g c =
+    serves_taken _ _ _ _ _ _ (serves_ready _ _ _ _ _ _ c.receive_from.ensures.served c.in_ok-apply_ready.ensures.ok)
+    c.in_ok-taken.ensures.ok
+
+pub returns-clause-some : goal.returns-clause-some
+returns-clause-some g c =
+    let all = refused_applied _ _ c.receive_from.new.seat c.apply_ready.new.seat _ c.in_ok-receive_from.ensures.refused
+    c.in_ok-apply_ready.ensures.ok in
+    refused_taken _ c.receive_from.new.inlet c.take.new.self c.apply_ready.new.seat.receipts _ all (ap length c.kept-kept.ensures)
     c.in_ok-taken.ensures.ok
