@@ -1,24 +1,23 @@
 //! A branch of two sites: a deposit at the one while a thread serves the other.
-ghost use Rattle.std.specs.Prelude.{◌≡◌, ◌+◌, [], List, All, IfOk, vec_len};
+ghost use Rattle.std.specs.Prelude.{◌≡◌, [], List, All, IfOk, vec_len};
 ghost use Rattle.rb_branch.specs.Gathered.{AllGathered, IsClosedReport};
 ghost use Rattle.rb_branch.specs.Seats.{SeenSeat};
-ghost use Rattle.rb_branch.specs.declared.limits.TheConstants.{SEAT_PARTS};
+ghost use Rattle.rb_branch.specs.declared.limits.TheConstants.{RECEIPT_PARTS};
 ghost use Rattle.rb_uses.specs.Bank.{bank};
 ghost use Rattle.rb_uses.specs.Served.{AreBoth, IsDepositor, IsAttendant};
 
 use crate::bank::{ANN, config};
 use rb_branch::{
-    Branch, CallFault, Entries, GatherFault, Inlet, NoGate, Outbox, SEAT_PARTS, Seat, links,
+    Branch, CallFault, Entries, GatherFault, Inlet, NoGate, Outbox, RECEIPT_PARTS, Seat, links,
 };
-use rb_log::{Log, OpenedLog};
 use rb_money::Config;
 use rb_scratch::Request;
-use rb_site::{Entry, SiteReport};
+use rb_site::SiteReport;
 use rb_tellers::TellersFault;
 use std::alloc::Global;
 use std::marker::Brand;
 use std::sync::Wait;
-use std::sync::ledger::Blank;
+use std::sync::ledger::{Blank, Ledger};
 use std::thread;
 use std::thread::Threads;
 
@@ -37,31 +36,30 @@ pub fn deposit_while_served<W: Threads + Wait + Sync>(
         × AllGathered reports.items seats) }
 {
     let config = config(alloc)?;
-    let entries = Blank::new(2 + SEAT_PARTS);
-    let log = OpenedLog::new();
-    with_branch::<Brand, Brand, W>(rt, alloc, config, amount, entries, log)
+    let entries = Blank::new(2);
+    let receipts = Blank::new(RECEIPT_PARTS);
+    with_branch::<Brand, Brand, W>(rt, alloc, config, amount, entries, receipts)
 }
 
-/// The same, with this ledger of the entries and this log of them.
-fn with_branch<E: Entries + Send + Sync, R: Log + Send + Sync, W: Threads + Wait + Sync>(
+/// The same, with these ledgers of the entries and the receipts.
+fn with_branch<E: Entries + Send + Sync, R: Ledger + Send + Sync, W: Threads + Wait + Sync>(
     rt: &W,
     alloc: Global,
     config: Config,
     amount: u64,
     entries: Blank,
-    log: OpenedLog<Entry>,
+    receipts: Blank,
 ) -> Result<Vec<SiteReport>, TellersFault>
     requires config { config ≡ E.settings }
     requires bank { config ≡ bank }
-    requires entries { (entries.name ≡ E.name) × (entries.parts ≡ E.parts)
-        × (entries.parts ≡ config.sites + SEAT_PARTS) }
-    requires log { log ≡ R.book }
+    requires entries { (entries.name ≡ E.name) × (entries.parts ≡ E.parts) × (entries.parts ≡ config.sites) }
+    requires receipts { (receipts.name ≡ R.name) × (receipts.parts ≡ R.parts) × (receipts.parts ≡ RECEIPT_PARTS) }
     ensures all { IfOk result (λ reports. vec_len reports ≡ 2) }
     ensures closed { IfOk result (λ reports. All (IsClosedReport bank) reports.items) }
     ensures gathered { IfOk result (λ reports. (seats : List SeenSeat) × AreBoth amount seats
         × AllGathered reports.items seats) }
 {
-    let branch: Branch<E, R, NoGate> = Branch::open(alloc, config, NoGate, entries, log)?;
+    let branch: Branch<E, R, NoGate> = Branch::open(alloc, config, NoGate, entries, receipts)?;
     match both(rt, alloc, &branch, amount) {
         Ok(seats) => match branch.gather(seats) {
             Ok(reports) => Ok(reports),
@@ -77,7 +75,7 @@ fn with_branch<E: Entries + Send + Sync, R: Log + Send + Sync, W: Threads + Wait
 
 /// The depositor's seat and the server's, once both have ended: the link closes as the depositor's end is
 /// dropped, and the server ends then.
-fn both<E: Entries + Send + Sync, R: Log + Send + Sync, W: Threads + Wait + Sync>(
+fn both<E: Entries + Send + Sync, R: Ledger + Send + Sync, W: Threads + Wait + Sync>(
     rt: &W,
     alloc: Global,
     branch: &Branch<E, R, NoGate>,
@@ -109,21 +107,21 @@ fn both<E: Entries + Send + Sync, R: Log + Send + Sync, W: Threads + Wait + Sync
 }
 
 /// Serves site 1 until its link closes.
-fn serve<E: Entries, R: Log, W: Wait>(
+fn serve<E: Entries, R: Ledger, W: Wait>(
     rt: &W,
     branch: &Branch<E, R, NoGate>,
     mut seat: Seat<E, R>,
-    mut inlet: Inlet,
+    inlet: Inlet,
 ) -> Result<Seat<E, R>, CallFault>
     requires { seat ≡ record { site = 1; receipts = [] } }
     ensures { IfOk result IsAttendant }
 {
-    let _count = branch.serve(rt, &mut seat, &mut inlet)?;
+    let _count = branch.serve(rt, &mut seat, inlet)?;
     Ok(seat)
 }
 
 /// A deposit at site 0, which goes out to site 1.
-fn deposit<E: Entries, R: Log, W: Wait>(
+fn deposit<E: Entries, R: Ledger, W: Wait>(
     rt: &W,
     branch: &Branch<E, R, NoGate>,
     mut seat: Seat<E, R>,
