@@ -1,30 +1,25 @@
 //! Seats of a branch, in threads and out of them.
-ghost use Rattle.std.specs.Prelude.{◌≡◌, ◌+◌};
-ghost use Rattle.rb_branch.specs.declared.limits.TheConstants.{SEAT_PARTS};
+ghost use Rattle.std.specs.Prelude.{◌≡◌};
+ghost use Rattle.rb_branch.specs.declared.limits.TheConstants.{RECEIPT_PARTS};
 
 use crate::checks::{equal, holds};
 use rb_branch::{
-    Branch, CallFault, Entries, Gate, GatherFault, Inlet, MOST_SEATS, NoGate, Outbox, SEAT_PARTS,
-    Seat, SeatFault, links,
+    Branch, CallFault, Entries, Gate, GatherFault, Inlet, MOST_SEATS, NoGate, Outbox,
+    RECEIPT_PARTS, Seat, SeatFault, links,
 };
-use rb_log::{Log, OpenedLog};
 use rb_money::{Config, Limits, Place};
 use rb_scratch::Request;
-use rb_site::{Entry, Reply, SiteReport};
+use rb_site::{Event, Reply, SiteReport};
 use std::alloc::{AllocError, Global};
 use std::marker::Brand;
 use std::process::Abort;
-use std::rt::Clock;
 use std::sync::Wait;
-use std::sync::atomic::{AtomicBool, Ordering};
-use std::sync::ledger::Blank;
+use std::sync::ledger::{Blank, Ledger};
 use std::test::Fail;
-use std::thread;
-use std::time::Duration;
 
 /// What one thread does at a branch, and the seats that it gives back.
 pub trait Case {
-    fn calls<E: Entries, R: Log, G: Gate + Drop, W: Wait + Abort + Print>(
+    fn calls<E: Entries, R: Ledger, G: Gate + Drop, W: Wait + Abort + Print>(
         &self,
         rt: &W,
         alloc: Global,
@@ -33,7 +28,7 @@ pub trait Case {
 }
 
 /// The branch, gathered with the seats that were given back.
-pub fn gathered_with<E: Entries, R: Log, G: Gate + Drop>(
+pub fn gathered_with<E: Entries, R: Ledger, G: Gate + Drop>(
     alloc: Global,
     branch: Branch<E, R, G>,
     seats: Result<Vec<Seat<E, R>>, Fail>,
@@ -47,22 +42,21 @@ pub fn gathered_with<E: Entries, R: Log, G: Gate + Drop>(
     }
 }
 
-fn gathered_over<E: Entries, R: Log, G: Gate + Drop, W: Wait + Abort + Print, C: Case>(
+fn gathered_over<E: Entries, R: Ledger, G: Gate + Drop, W: Wait + Abort + Print, C: Case>(
     rt: &W,
     alloc: Global,
     config: Config,
     gate: G,
     case: &C,
     entries: Blank,
-    log: OpenedLog<Entry>,
+    receipts: Blank,
 ) -> Result<Result<Vec<SiteReport>, GatherFault>, Fail>
     requires config { config ≡ E.settings }
-    requires entries { (entries.name ≡ E.name) × (entries.parts ≡ E.parts)
-        × (entries.parts ≡ config.sites + SEAT_PARTS) }
-    requires log { log ≡ R.book }
+    requires entries { (entries.name ≡ E.name) × (entries.parts ≡ E.parts) × (entries.parts ≡ config.sites) }
+    requires receipts { (receipts.name ≡ R.name) × (receipts.parts ≡ R.parts) × (receipts.parts ≡ RECEIPT_PARTS) }
 {
     let opened: Result<Branch<E, R, G>, AllocError> = Branch::open(
-        alloc, config, gate, entries, log,
+        alloc, config, gate, entries, receipts,
     );
     let Ok(branch) = opened else {
         return Ok(Err(GatherFault::OutOfMemory));
@@ -86,8 +80,8 @@ pub fn gathered<G: Gate + Drop, W: Wait + Abort + Print, C: Case>(
         config,
         gate,
         case,
-        Blank::new(sites + SEAT_PARTS),
-        OpenedLog::new(),
+        Blank::new(sites),
+        Blank::new(RECEIPT_PARTS),
     )
 }
 
@@ -107,7 +101,7 @@ pub fn deposit(amount: u64) -> Request {
 }
 
 /// A deposit of this number of cents at a seat's site. Its receipt's number.
-pub fn deposited<E: Entries, R: Log, G: Gate + Drop, W: Wait>(
+pub fn deposited<E: Entries, R: Ledger, G: Gate + Drop, W: Wait>(
     rt: &W,
     branch: &Branch<E, R, G>,
     seat: &mut Seat<E, R>,
@@ -118,7 +112,7 @@ pub fn deposited<E: Entries, R: Log, G: Gate + Drop, W: Wait>(
 }
 
 /// A question at a seat's site for the first account's balance. Its receipt's number.
-pub fn asked<E: Entries, R: Log, G: Gate + Drop, W: Wait>(
+pub fn asked<E: Entries, R: Ledger, G: Gate + Drop, W: Wait>(
     rt: &W,
     branch: &Branch<E, R, G>,
     seat: &mut Seat<E, R>,
@@ -128,15 +122,19 @@ pub fn asked<E: Entries, R: Log, G: Gate + Drop, W: Wait>(
 
 /// The first account's balance is the one that is wanted, as a seat's site answers. The number of the receipt that says
 /// so.
-pub fn balance_is<E: Entries, R: Log, G: Gate + Drop, W: Wait + Abort>(
+pub fn balance_is<E: Entries, R: Ledger, G: Gate + Drop, W: Wait + Abort>(
     rt: &W,
     branch: &Branch<E, R, G>,
     seat: &mut Seat<E, R>,
     cents: u64,
 ) -> Result<u32, Fail> {
     let number = asked(rt, branch, seat)?;
-    let reply = seat.last_reply().ok_or("no reply")?;
-    holds(rt, "the balance", reply.same(&Reply::Balance(cents)));
+    let receipt = seat.receipt(number).ok_or("no receipt")?;
+    holds(
+        rt,
+        "the balance",
+        receipt.reply.same(&Reply::Balance(cents)),
+    );
     Ok(number)
 }
 
@@ -147,49 +145,47 @@ pub fn to_the_second(alloc: Global) -> Result<(Outbox, Inlet), Fail> {
     Ok((outbox, inlet))
 }
 
-/// How often a gate looks at a flag before it gives up, with a millisecond between two looks.
-pub const TURNS: u32 = 10_000;
-
-/// Waits for a flag, and says whether it came.
-pub fn comes<C: Clock>(clock: &C, flag: &AtomicBool) -> bool {
-    comes_within(clock, flag, TURNS)
-}
-
-/// Looks at a flag up to `looks` times, a millisecond apart, and says whether it came.
-pub fn comes_within<C: Clock>(clock: &C, flag: &AtomicBool, looks: u32) -> bool {
-    for _ in 0..looks {
-        if flag.load(Ordering::SeqCst) {
-            return true;
-        }
-        let _ = thread::sleep(clock, Duration::from_millis(1));
-    }
-    false
-}
-
 /// Serves a site until its link closes. How many receipts the seat has more.
-pub fn served_by<E: Entries, R: Log, G: Gate + Drop, W: Wait>(
+pub fn served_by<E: Entries, R: Ledger, G: Gate + Drop, W: Wait>(
     rt: &W,
     branch: &Branch<E, R, G>,
     seat: &mut Seat<E, R>,
-    mut inlet: Inlet,
+    inlet: Inlet,
 ) -> Result<u64, CallFault> {
-    branch.serve(rt, seat, &mut inlet)
+    branch.serve(rt, seat, inlet)
 }
 
-/// A deposit of 5 cents and then the balance, by a seat that made no call yet: their receipts are read by number.
-fn read_back<E: Entries, R: Log, G: Gate + Drop, W: Wait + Abort>(
-    rt: &W,
-    branch: &Branch<E, R, G>,
-    seat: &mut Seat<E, R>,
-    outbox: &Outbox,
-) -> Result<(), Fail> {
-    let first = deposited(rt, branch, seat, outbox, 5)?;
-    let second = balance_is(rt, branch, seat, 5)?;
-    equal(rt, (first, second), (1, 2));
-    for (number, wanted) in [(0, None), (1, Some(1)), (2, Some(2)), (3, None)] {
-        let found = seat.receipt(number).map(|receipt| receipt.number());
-        equal(rt, found, wanted);
+/// A deposit of 5 cents and then the balance, by one seat: its receipts are read by number.
+struct ReadBack;
+
+impl Case for ReadBack {
+    fn calls<E: Entries, R: Ledger, G: Gate + Drop, W: Wait + Abort + Print>(
+        &self,
+        rt: &W,
+        alloc: Global,
+        branch: &Branch<E, R, G>,
+    ) -> Result<Vec<Seat<E, R>>, Fail> {
+        let (outbox, _inlet) = to_the_second(alloc)?;
+        let mut seat = branch.seat(rt, 0)?;
+        let first = deposited(rt, branch, &mut seat, &outbox, 5)?;
+        let second = balance_is(rt, branch, &mut seat, 5)?;
+        equal(rt, (first, second), (1, 2));
+        for (number, wanted) in [(0, None), (1, Some(1)), (2, Some(2)), (3, None)] {
+            let found = seat.receipt(number).map(|receipt| receipt.number);
+            equal(rt, found, wanted);
+        }
+        let receipt = seat.receipt(1).ok_or("no receipt")?;
+        let asked = receipt.event.same(&Event::Submit(deposit(5)));
+        holds(rt, "the deposit", asked && receipt.unsent == 0);
+        Ok(vec![in alloc; seat]?)
     }
+}
+
+#[test]
+fn read_back(rt: HostRuntime) -> Result<(), Fail> {
+    let config = some_sites(rt.alloc(), 2, Limits::largest())?;
+    let reports = gathered(&rt, rt.alloc(), config, NoGate, &ReadBack)??;
+    equal(&rt, reports.len(), 2);
     Ok(())
 }
 
@@ -197,7 +193,7 @@ fn read_back<E: Entries, R: Log, G: Gate + Drop, W: Wait + Abort>(
 struct OneServed;
 
 impl Case for OneServed {
-    fn calls<E: Entries, R: Log, G: Gate + Drop, W: Wait + Abort + Print>(
+    fn calls<E: Entries, R: Ledger, G: Gate + Drop, W: Wait + Abort + Print>(
         &self,
         rt: &W,
         alloc: Global,
@@ -207,16 +203,12 @@ impl Case for OneServed {
         let copy = outbox.try_copy(alloc)?;
         let mut teller = branch.seat(rt, 0)?;
         let mut server = branch.seat(rt, 1)?;
-        read_back(rt, branch, &mut teller, &copy)?;
+        let _number = deposited(rt, branch, &mut teller, &copy, 5)?;
         drop(outbox);
         drop(copy);
         equal(rt, served_by(rt, branch, &mut server, inlet).ok(), Some(2));
         let _number = balance_is(rt, branch, &mut server, 5)?;
-        equal(
-            rt,
-            teller.receipt(1).map(|receipt| receipt.unsent()),
-            Some(0),
-        );
+        equal(rt, teller.receipt(1).map(|receipt| receipt.unsent), Some(0));
         Ok(vec![in alloc; teller, server]?)
     }
 }
@@ -235,7 +227,7 @@ fn served(rt: HostRuntime) -> Result<(), Fail> {
 struct Seats;
 
 impl Case for Seats {
-    fn calls<E: Entries, R: Log, G: Gate + Drop, W: Wait + Abort + Print>(
+    fn calls<E: Entries, R: Ledger, G: Gate + Drop, W: Wait + Abort + Print>(
         &self,
         rt: &W,
         alloc: Global,
@@ -258,7 +250,7 @@ impl Case for Seats {
 struct Full;
 
 impl Case for Full {
-    fn calls<E: Entries, R: Log, G: Gate + Drop, W: Wait + Abort + Print>(
+    fn calls<E: Entries, R: Ledger, G: Gate + Drop, W: Wait + Abort + Print>(
         &self,
         rt: &W,
         alloc: Global,
@@ -279,7 +271,7 @@ impl Case for Full {
 struct OneMissing;
 
 impl Case for OneMissing {
-    fn calls<E: Entries, R: Log, G: Gate + Drop, W: Wait + Abort + Print>(
+    fn calls<E: Entries, R: Ledger, G: Gate + Drop, W: Wait + Abort + Print>(
         &self,
         rt: &W,
         alloc: Global,
@@ -292,7 +284,7 @@ impl Case for OneMissing {
         let number = deposited(rt, branch, &mut first, &outbox, 1)?;
         equal(
             rt,
-            first.receipt(number).map(|receipt| receipt.unsent()),
+            first.receipt(number).map(|receipt| receipt.unsent),
             Some(1),
         );
         let _number = deposited(rt, branch, &mut second, &outbox, 1)?;

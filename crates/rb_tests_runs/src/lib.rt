@@ -15,6 +15,8 @@ mod commands;
 #[cfg(test)]
 mod entries;
 #[cfg(test)]
+mod flags;
+#[cfg(test)]
 mod gates;
 #[cfg(test)]
 mod links;
@@ -28,5 +30,7 @@ mod scripts;
 mod seats;
 #[cfg(test)]
 mod tellers;
+#[cfg(test)]
+mod threads;
 #[cfg(test)]
 mod words;

@@ -6,13 +6,13 @@ use crate::branch::{
 use crate::checks::equal;
 use rb_branch::{Branch, Entries, Gate, Inlet, NoGate, Outbox, Seat, links};
 use rb_kit::List;
-use rb_log::Log;
 use rb_money::Limits;
 use rb_shadow::write_name;
 use rb_site::Message;
 use std::alloc::{AllocError, Global};
 use std::process::Abort;
 use std::sync::Wait;
+use std::sync::ledger::Ledger;
 use std::test::Fail;
 
 /// A deposit, a passing of the token to site 2 and a batch of two at site 0 of three: over this number of links, of
@@ -79,7 +79,7 @@ fn brought<W: Wait>(rt: &W, alloc: Global, inlet: &mut Inlet) -> Result<String, 
 }
 
 /// The three calls.
-fn three_calls<E: Entries, R: Log, G: Gate + Drop, W: Wait>(
+fn three_calls<E: Entries, R: Ledger, G: Gate + Drop, W: Wait>(
     rt: &W,
     alloc: Global,
     branch: &Branch<E, R, G>,
@@ -94,7 +94,7 @@ fn three_calls<E: Entries, R: Log, G: Gate + Drop, W: Wait>(
 }
 
 impl Case for Sent {
-    fn calls<E: Entries, R: Log, G: Gate + Drop, W: Wait + Abort + Print>(
+    fn calls<E: Entries, R: Ledger, G: Gate + Drop, W: Wait + Abort + Print>(
         &self,
         rt: &W,
         alloc: Global,
@@ -106,7 +106,7 @@ impl Case for Sent {
         three_calls(rt, alloc, branch, &mut seat, &outbox)?;
         drop(outbox);
         for (receipt, unsent) in seat.receipts().iter().zip(self.unsent) {
-            equal(rt, receipt.unsent(), unsent);
+            equal(rt, receipt.unsent, unsent);
         }
         for (inlet, wanted) in inlets.iter_mut().zip(self.brought) {
             equal(rt, brought(rt, alloc, inlet)?.as_str(), wanted);
@@ -130,7 +130,7 @@ fn sent_by_links(rt: HostRuntime) -> Result<(), Fail> {
 struct Turned;
 
 impl Case for Turned {
-    fn calls<E: Entries, R: Log, G: Gate + Drop, W: Wait + Abort + Print>(
+    fn calls<E: Entries, R: Ledger, G: Gate + Drop, W: Wait + Abort + Print>(
         &self,
         rt: &W,
         alloc: Global,

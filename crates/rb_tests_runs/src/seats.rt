@@ -10,7 +10,6 @@ use rb_branch::{
     Branch, CallFault, Entries, Gate, GatherFault, Inlet, NoGate, Outbox, Seat, links,
 };
 use rb_commands::{LineFault, read_command, read_config, write_reply};
-use rb_log::Log;
 use rb_money::Config;
 use rb_scratch::Request;
 use rb_site::{Event, Message, Reply, SiteReport, WorldEvent};
@@ -18,6 +17,7 @@ use rb_tests::rows::{Row, row_named};
 use std::alloc::Global;
 use std::process::Abort;
 use std::sync::Wait;
+use std::sync::ledger::Ledger;
 use std::test::Fail;
 
 /// What is asked for, or, where that is refused memory, what is given when it is asked for again.
@@ -33,7 +33,7 @@ macro_rules! twice {
 /// The seats of two sites, the links between them, and what they brought so far: `None` where a link refused a
 /// message, which it does only where memory may be refused.
 #[derive(Drop)]
-struct Desks<E: Entries, R: Log> {
+struct Desks<E: Entries, R: Ledger> {
     seats: Vec<Seat<E, R>>,
     outbox: Outbox,
     inlets: Vec<Inlet>,
@@ -42,7 +42,7 @@ struct Desks<E: Entries, R: Log> {
 }
 
 /// The call that an event is. Its receipt's place in the seat, or `None` where nothing is to be applied.
-fn called<E: Entries, R: Log, G: Gate + Drop, W: Wait>(
+fn called<E: Entries, R: Ledger, G: Gate + Drop, W: Wait>(
     rt: &W,
     branch: &Branch<E, R, G>,
     seat: &mut Seat<E, R>,
@@ -64,7 +64,7 @@ fn called<E: Entries, R: Log, G: Gate + Drop, W: Wait>(
 }
 
 /// The same, made again where there was no memory for it: the seat has no receipt more then. Whether it was.
-fn called_again<E: Entries, R: Log, G: Gate + Drop, W: Wait + Abort>(
+fn called_again<E: Entries, R: Ledger, G: Gate + Drop, W: Wait + Abort>(
     rt: &W,
     alloc: Global,
     branch: &Branch<E, R, G>,
@@ -139,7 +139,7 @@ fn step_of(command: WorldEvent, sent: &[Option<Message>]) -> Step {
 /// What a world answers where no such message was sent.
 const NO_MESSAGE: &str = r#"{"refused":19}"#;
 
-impl<E: Entries, R: Log> Desks<E, R> {
+impl<E: Entries, R: Ledger> Desks<E, R> {
     /// A seat at each of two sites.
     fn open<G: Gate + Drop, W: Wait>(
         rt: &W,
@@ -186,11 +186,10 @@ impl<E: Entries, R: Log> Desks<E, R> {
         let receipt = seat
             .receipt(number.ok_or("nothing to apply")?)
             .ok_or("no receipt")?;
-        let reply = seat.last_reply().ok_or("no reply")?;
-        let line = twice!(write_reply(alloc, reply));
+        let line = twice!(write_reply(alloc, &receipt.reply));
         equal(rt, line.as_str().trim_end(), wanted);
-        let count = sent_with(reply);
-        let refused = receipt.unsent() as usize;
+        let count = sent_with(&receipt.reply);
+        let refused = receipt.unsent as usize;
         let inlet = self
             .inlets
             .get_mut(usize::from(site == 0))
@@ -209,7 +208,7 @@ struct Through<'a> {
 }
 
 impl Case for Through<'_> {
-    fn calls<E: Entries, R: Log, G: Gate + Drop, W: Wait + Abort + Print>(
+    fn calls<E: Entries, R: Ledger, G: Gate + Drop, W: Wait + Abort + Print>(
         &self,
         rt: &W,
         alloc: Global,

@@ -1,12 +1,12 @@
 //! Runs of tellers: a write that fails, and that two of them are under way at once. Runs of the program, with their
 //! audits, are made by tests/cases.py.
-use crate::branch::comes;
 use crate::checks::{equal, holds};
+use crate::flags::Flag;
 use rb_branch::{Gate, NoGate};
 use rb_lines::{ScriptFault, ToBytes};
 use rb_run_threads::run_threads;
 use std::rt::Clock;
-use std::sync::atomic::{AtomicBool, Ordering};
+use std::sync::Wait;
 use std::test::Fail;
 
 #[test]
@@ -24,25 +24,25 @@ fn writer_fails_midway(rt: HostRuntime) {
 
 /// A gate whose first entry at each of two sites waits for the other's.
 #[derive(Drop)]
-struct Meet<'a, C> {
-    clock: &'a C,
-    zero: &'a AtomicBool,
-    one: &'a AtomicBool,
-    late: &'a AtomicBool,
+struct Meet<'a, W> {
+    rt: &'a W,
+    zero: &'a Flag,
+    one: &'a Flag,
+    late: &'a Flag,
 }
 
-impl<C: Clock> Gate for Meet<'_, C> {
+impl<W: Wait + Clock> Gate for Meet<'_, W> {
     fn enter(&self, site: u8) {
         let (mine, other) = if site == 0 {
             (self.zero, self.one)
         } else {
             (self.one, self.zero)
         };
-        if mine.swap(true, Ordering::SeqCst) {
+        if mine.raise(self.rt) {
             return;
         }
-        if !comes(self.clock, other) {
-            self.late.store(true, Ordering::SeqCst);
+        if !other.comes(self.rt) {
+            self.late.raise(self.rt);
         }
     }
 
@@ -51,11 +51,11 @@ impl<C: Clock> Gate for Meet<'_, C> {
 
 #[test]
 fn gate_threads(rt: HostRuntime) -> Result<(), Fail> {
-    let zero = AtomicBool::new(false);
-    let one = AtomicBool::new(false);
-    let late = AtomicBool::new(false);
+    let zero = Flag::new();
+    let one = Flag::new();
+    let late = Flag::new();
     let gate = Meet {
-        clock: &rt,
+        rt: &rt,
         zero: &zero,
         one: &one,
         late: &late,
@@ -66,8 +66,8 @@ fn gate_threads(rt: HostRuntime) -> Result<(), Fail> {
     holds(
         &rt,
         "both entered",
-        zero.load(Ordering::SeqCst) && one.load(Ordering::SeqCst),
+        zero.is_raised(&rt) && one.is_raised(&rt),
     );
-    holds(&rt, "not late", !late.load(Ordering::SeqCst));
+    holds(&rt, "not late", !late.is_raised(&rt));
     Ok(())
 }
