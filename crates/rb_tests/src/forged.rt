@@ -6,8 +6,8 @@ use rb_commands::read_config;
 use rb_history::read_line;
 use rb_inbox::Inbox;
 use rb_money::{Config, Refusal};
-use rb_site::{Event, Reply, Site};
-use rb_token::TokenState;
+use rb_site::{Event, Message, Reply, Site};
+use rb_token::{TokenMessage, TokenState};
 use std::alloc::{AllocError, Global};
 use std::process::Abort;
 use std::test::Fail;
@@ -53,27 +53,89 @@ fn is_answered(before: &Site, after: &Site, wanted: &Reply) -> bool {
         && same_token(before.token(), after.token())
 }
 
-/// Whether the last of these events is answered so at site 1, and a refusal leaves the site as it was.
+/// Site 1 after these events, each of which it steps.
+fn stepped(alloc: Global, config: &Config, events: &[Event]) -> Result<Site, AllocError> {
+    let sites = config.sites();
+    prove!(1 < sites);
+    Site::replay(alloc, config, 1, events)
+}
+
+/// A message that a world sent before.
+const SENT: Message = Message::Token(TokenMessage {
+    epoch: 1,
+    to: 0,
+    red: 0,
+});
+
+/// How many messages go out with a reply that isn't a batch's.
+fn sent_with(reply: &Reply) -> usize {
+    usize::from(matches!(reply, Reply::Made { .. } | Reply::Passed(_)))
+}
+
+/// Gives a site an event as a world does, whose messages it has: what it sends goes behind these. Whether it does, and
+/// the reply is the one that is wanted.
+fn delivered(
+    alloc: Global,
+    site: &mut Site,
+    event: &Event,
+    wanted: &Reply,
+) -> Result<bool, AllocError> {
+    if site.is_full() {
+        return Ok(false);
+    }
+    let mut sent = vec![in alloc; SENT]?;
+    let mut reply = Reply::Balance(0);
+    site.answer(event, &mut sent, &mut reply)?;
+    let count = sent.len().checked_sub(1);
+    Ok(reply.same(wanted) && sent.first() == Some(&SENT) && count == Some(sent_with(wanted)))
+}
+
+/// Whether the last of these events is answered so by a step, and a refusal leaves the site as it was before.
+fn steps_so(
+    alloc: Global,
+    config: &Config,
+    before: &Site,
+    events: &[Event],
+    wanted: &Reply,
+) -> Result<bool, AllocError> {
+    let after = stepped(alloc, config, events)?;
+    let answered = is_answered(before, &after, wanted);
+    let _report = after.close();
+    Ok(answered)
+}
+
+/// Whether an event behind these is answered so in a world, and a refusal leaves the site as it was before.
+fn delivers_so(
+    alloc: Global,
+    config: &Config,
+    before: &Site,
+    events: &[Event],
+    last: &Event,
+    wanted: &Reply,
+) -> Result<bool, AllocError> {
+    let mut after = stepped(alloc, config, events)?;
+    let right = delivered(alloc, &mut after, last, wanted);
+    let answered = is_answered(before, &after, wanted);
+    let _report = after.close();
+    Ok(right? && answered)
+}
+
+/// Whether the last of these events is answered so at site 1, and a refusal leaves the site as it was: by a step, and
+/// as a world gives it to the site.
 fn last_is_answered(
     alloc: Global,
     config: &Config,
     events: &[Event],
     wanted: &Reply,
 ) -> Result<bool, AllocError> {
-    let sites = config.sites();
-    prove!(1 < sites);
-    let before = Site::replay(alloc, config, 1, &events[..events.len().saturating_sub(1)])?;
-    let after = match Site::replay(alloc, config, 1, events) {
-        Ok(after) => after,
-        Err(refused) => {
-            before.end();
-            return Err(refused);
-        }
+    let Some((last, first)) = events.split_last() else {
+        return Ok(false);
     };
-    let answered = is_answered(&before, &after, wanted);
-    before.end();
-    after.end();
-    Ok(answered)
+    let before = stepped(alloc, config, first)?;
+    let by_step = steps_so(alloc, config, &before, events, wanted);
+    let in_a_world = delivers_so(alloc, config, &before, first, last, wanted);
+    let _report = before.close();
+    Ok(by_step? && in_a_world?)
 }
 
 /// Whether the entry on a line is what site 1 answers behind these events, to which its event is added.

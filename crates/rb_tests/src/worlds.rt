@@ -1,5 +1,5 @@
-//! Tests of worlds, and of undoing a tail of operations. `runs_of_rows` (refused.rt) runs each worked row whole by
-//! `World::run`, and tests/cases.py by the program.
+//! Tests of worlds, and of undoing a tail of operations. `whole_run` and `other_runs` (refused.rt) run each worked row
+//! whole by `World::run`, and tests/cases.py by the program.
 ghost use Rattle.std.specs.Prelude.{◌≡◌, ◌<◌, All, IfOk, IsTrue, OnOk, length};
 ghost use Rattle.rb_ledger.specs.Records.{records_of};
 ghost use Rattle.rb_site.specs.Worlds.{IsCommand};
@@ -293,6 +293,18 @@ pub fn reports_of(alloc: Global, script: &str) -> Result<Vec<SiteReport>, LineFa
     }
 }
 
+/// What site 0 applied after a script.
+pub fn applied_at_first(alloc: Global, script: &str) -> Result<Vec<Shadow>, LineFault> {
+    let reports = reports_of(alloc, script)?;
+    let Some(report) = reports.first() else {
+        return Err(LineFault::Bad);
+    };
+    match report.entries.copy_from(alloc, 0) {
+        Ok(applied) => Ok(applied),
+        Err(_) => Err(LineFault::OutOfMemory),
+    }
+}
+
 #[test]
 fn tail_back(rt: HostRuntime) -> Result<(), Fail> {
     let alloc = rt.alloc();
@@ -304,9 +316,7 @@ fn tail_back(rt: HostRuntime) -> Result<(), Fail> {
         "transfer_and_cancel",
     ] {
         let script = row_named(name)?.script;
-        let reports = reports_of(alloc, script)?;
-        let entries = &reports.get(0).ok_or("no report")?.entries;
-        let applied = entries.copy_from(alloc, 0)?;
+        let applied = applied_at_first(alloc, script)?;
         let config = config_of(alloc, script)?;
         holds(
             &rt,
@@ -315,5 +325,45 @@ fn tail_back(rt: HostRuntime) -> Result<(), Fail> {
         );
         holds(&rt, name, !applied.is_empty());
     }
+    Ok(())
+}
+
+/// The first account's balance, and how often the first operation is cancelled.
+fn first_of(ledger: &Ledger) -> (Option<u64>, Option<u32>) {
+    (ledger.balance(Place(0)), ledger.count(1))
+}
+
+/// The same after these operations, once the last is undone, and once the one before it is.
+fn two_undone(
+    ledger: &mut Ledger,
+    log: &mut UndoLog,
+    shadows: &[Shadow],
+) -> Result<[(Option<u64>, Option<u32>); 3], Fail>
+    requires { log.old.parts ≡ records_of ledger.old.settings ledger.old.entries }
+{
+    apply_all(ledger, log, shadows)?;
+    let all = first_of(ledger);
+    let _undone = undo_last(ledger, log);
+    let but_one = first_of(ledger);
+    let _undone = undo_last(ledger, log);
+    Ok([all, but_one, first_of(ledger)])
+}
+
+/// Of two cancellations of one withdrawal only the first moves money, so only its undoing takes it back.
+#[test]
+fn undo_two(rt: HostRuntime) -> Result<(), Fail> {
+    let alloc = rt.alloc();
+    let script = row_named("two_cancels_of_one_withdrawal")?.script;
+    let applied = applied_at_first(alloc, script)?;
+    let mut ledger = Ledger::open(alloc, &config_of(alloc, script)?)?;
+    let mut log = UndoLog::new(alloc);
+    let seen = two_undone(&mut ledger, &mut log, applied.as_slice());
+    log.close();
+    let wanted = [
+        (Some(1000), Some(2)),
+        (Some(1000), Some(1)),
+        (Some(700), Some(0)),
+    ];
+    equal(&rt, seen?, wanted);
     Ok(())
 }

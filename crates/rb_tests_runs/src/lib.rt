@@ -3,6 +3,8 @@
 #![tactic(auto)]
 
 #[cfg(test)]
+mod audited;
+#[cfg(test)]
 mod auditor;
 #[cfg(test)]
 mod audits;
@@ -12,6 +14,8 @@ mod branch;
 mod checks;
 #[cfg(test)]
 mod commands;
+#[cfg(test)]
+mod copies;
 #[cfg(test)]
 mod entries;
 #[cfg(test)]

@@ -322,8 +322,8 @@ fn many_lines_take_few_writes(rt: HostRuntime) -> Result<(), Fail> {
     Ok(())
 }
 
-/// A worked row as a run. It passes whether or not an allocation is refused, and at most one of its process is: `make
-/// refuse` runs it with each refused in turn.
+/// A worked row as a run. It passes whether or not an allocation is refused, and at most one of its process is:
+/// tests/refuse.py runs it with each refused in turn.
 #[test]
 fn refuse_script(rt: HostRuntime) -> Result<(), Fail> {
     let row = row_named("deposit_reaches_the_other_site")?;
