@@ -62,7 +62,7 @@ bindings: build
 	@bindings/build.py
 	@bindings/check.py crates/rbbank/out/rbbank
 
-# The gate. The last line is 'N passed, 0 failed', or an example or a case that is answered otherwise.
+# The gate. The last line is 'N passed, 0 failed', or an example or a case that is answered otherwise. It wants cc.
 test: toolchain
 	examples/from_rows.py --check
 	tests/closure.py --check
@@ -70,6 +70,7 @@ test: toolchain
 	tests/plain_words.py --check
 	bindings/declarations.py --check
 	rt ci
+	@tests/refuse.py --gate crates/rb_tests/out/rb_tests_tests crates/rb_tests_runs/out/rb_tests_runs_tests
 	@examples/bank.py --record crates/rbbank/out/rbbank
 	@examples/check.py --quiet crates/rbbank/out/rbbank
 	@examples/check_drawings.py --quiet crates/rbbank/out/rbbank

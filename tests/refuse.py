@@ -4,6 +4,8 @@ tests.
 
 usage: refuse.py PROGRAM TESTS RUNS     (what `rt run` built in crates/rbbank/out, and `rt test` in crates/rb_tests/out
                                          and crates/rb_tests_runs/out)
+       refuse.py --gate TESTS RUNS      (as `rt ci` leaves them there: four of the tests alone, and where all is well
+                                         nothing is printed)
 
 A process is run with its first allocation refused, another with its second, and so on until a run meets
 no refusal. The program has to write a prefix of what is expected and end in status 4, or all of it in status 0;
@@ -17,6 +19,7 @@ run to run. Where it was a link that was refused memory, one message is lost, an
 import itertools
 import os
 import re
+import shutil
 import subprocess
 import sys
 import tempfile
@@ -41,6 +44,8 @@ class Refuser:
     """Runs commands with one of their allocations refused."""
 
     def __init__(self, folder):
+        if shutil.which("cc") is None:
+            sys.exit("refuse: there is no C compiler, cc")
         self.library = os.path.join(folder, "refuse_nth.so")
         self.mark = os.path.join(folder, "refused")
         source = os.path.join(HERE, "refuse_nth.c")
@@ -114,7 +119,7 @@ def one_teller_on(refuser, program):
     return refusals
 
 
-def test(refuser, tests, name):
+def test(refuser, say, tests, name):
     """A test. The number of refusals, and where they stopped it, as it says: a row, and what came there."""
     refusals, stops = 0, []
     for nth, run, refused in refuser.runs([tests, name]):
@@ -124,43 +129,48 @@ def test(refuser, tests, name):
             fail(name, nth, run)
         refusals += refused
         stops += said
-    print(f"{name}: {refusals} refusals, {len(stops)} runs stopped")
+    say(f"{name}: {refusals} refusals, {len(stops)} runs stopped")
     return refusals, stops
 
 
-def all_tests(refuser, tests, runs):
-    """The tests. The number of refusals."""
-    each, stops = test(refuser, tests, "refused::refuse_each")
+def gate_tests(refuser, say, tests, runs):
+    """The tests of the gate. The number of refusals."""
+    each, stops = test(refuser, say, tests, "refused::refuse_each")
     for name in ROWS:
         count = sum(row == name for row, _ in stops)
-        print(f"  {name}: {count} runs stopped")
+        say(f"  {name}: {count} runs stopped")
         if count == 0:
             sys.exit(f"refuse: no run of {name} was stopped")
     inside = sum('{"names":' in what for _, what in stops)
-    print(f"  inside a batch that is made: {inside} runs stopped")
+    say(f"  inside a batch that is made: {inside} runs stopped")
     if inside == 0:
         sys.exit("refuse: no run was stopped inside a batch")
-    text, stops = test(refuser, runs, "scripts::refuse_script")
+    text, stops = test(refuser, say, runs, "scripts::refuse_script")
     if not stops:
         sys.exit("refuse: no script was stopped")
-    # These two are never stopped: one needs no memory beyond what it takes first, the other looks at faults alone.
-    room, _ = test(refuser, tests, "refused::reserved")
-    faults, _ = test(refuser, tests, "money::memory_is_looked_at_last")
-    calls, stops = test(refuser, runs, "seats::refuse_seats")
+    # It is never stopped: it needs no memory beyond what it takes first.
+    room, _ = test(refuser, say, tests, "refused::reserved")
+    calls, stops = test(refuser, say, runs, "seats::refuse_seats")
     if not stops:
         sys.exit("refuse: no call of a seat was refused")
-    return each + text + room + faults + calls
+    return each + text + room + calls
 
 
 def main():
     if len(sys.argv) != 4:
         sys.exit(__doc__)
-    program, tests, runs = map(os.path.abspath, sys.argv[1:])
+    program, tests, runs = sys.argv[1], *map(os.path.abspath, sys.argv[2:])
     with tempfile.TemporaryDirectory() as folder:
         refuser = Refuser(folder)
+        if program == "--gate":
+            gate_tests(refuser, lambda _: None, tests, runs)
+            return
+        program = os.path.abspath(program)
         refusals = sum(program_on(refuser, program, name, command) for name, command in RUNS)
         refusals += one_teller_on(refuser, program)
-        refusals += all_tests(refuser, tests, runs)
+        refusals += gate_tests(refuser, print, tests, runs)
+        # It is never stopped: it looks at faults alone.
+        refusals += test(refuser, print, tests, "money::memory_is_looked_at_last")[0]
     print(f"{refusals} refusals tried, and all is as it has to be")
 
 
