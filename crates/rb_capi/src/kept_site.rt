@@ -40,7 +40,7 @@ impl Drop for KeptSite {
             next_answer: _,
             next_entries: _,
         } = self;
-        node.end();
+        node.close();
     }
 }
 
@@ -57,7 +57,7 @@ impl KeptSite {
         let entries = match node.config_line() {
             Ok(line) => line,
             Err(_) => {
-                node.end();
+                node.close();
                 return Err(NodeFault::OutOfMemory);
             }
         };

@@ -24,10 +24,10 @@ impl SiteMachine {
         }
     }
 
-    /// Ends the site.
-    pub fn end(self) {
+    /// Closes the site.
+    pub fn close(self) {
         let SiteMachine { node, entries: _ } = self;
-        node.end();
+        node.close();
     }
 }
 

@@ -34,14 +34,14 @@ pub struct Opened {
 }
 
 impl Opened {
-    /// Ends the site.
-    pub fn end(self) {
+    /// Closes the site.
+    pub fn close(self) {
         let Opened {
             machine,
             first: _,
             sends: _,
         } = self;
-        machine.end();
+        machine.close();
     }
 }
 
@@ -133,7 +133,7 @@ pub fn open_site<S: Source>(
             ))
         }
         Err(fault) => {
-            node.end();
+            node.close();
             Err(fault)
         }
     }

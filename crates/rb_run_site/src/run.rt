@@ -110,7 +110,7 @@ fn run_opened<S: Source, H: Host>(
     match Journal::open(host, bytes) {
         Ok(mut journal) => {
             let ended = go_on(alloc, &mut opened, number, &mut journal, buffers, reader);
-            opened.end();
+            opened.close();
             let Journal { host, end: _ } = journal;
             match ended {
                 Ok(count) => Ran {
@@ -124,7 +124,7 @@ fn run_opened<S: Source, H: Host>(
             }
         }
         Err((error, host)) => {
-            opened.end();
+            opened.close();
             Ran {
                 host,
                 ended: Err(SiteFault::from(ServeFault::from(error))),
