@@ -33,7 +33,7 @@ impl Model for Bank {
 impl Drop for Bank {
     fn drop(self) {
         let Bank { world, answer: _ } = self;
-        world.end();
+        let _reports = world.close();
     }
 }
 

@@ -58,7 +58,7 @@ impl Session {
         ensures { self.new ≡ record self.old { world = Some world } }
     {
         if let Some(before) = self.world.replace(world) {
-            before.end();
+            let _reports = before.close();
         }
     }
 
@@ -84,7 +84,7 @@ impl Session {
             count: _,
         } = self;
         if let Some(world) = world {
-            world.end();
+            let _reports = world.close();
         }
     }
 }

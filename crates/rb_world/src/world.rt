@@ -3,11 +3,11 @@ ghost use Rattle.std.specs.Prelude.{◌≡◌, ◌<◌, ◌≤◌, Some, IfSome,
 ghost use Rattle.std.specs.Prelude.{length, true, map, option_map, slice_get, take};
 ghost use Rattle.std.specs.List.{range_with_len};
 ghost use Rattle.rb_site.specs.Events.{first_site};
-ghost use Rattle.rb_site.specs.Reports.{AreReports};
 ghost use Rattle.rb_site.specs.Seen.{state_of};
 ghost use Rattle.rb_site.specs.Histories.{site_of};
 ghost use Rattle.rb_site.specs.Worlds.{IsCommand, arrival, is_recorded, message_at};
 ghost use Rattle.rb_world.specs.Laws.{Holds, IsRunOf, next_replies, next_reply, next_world, next_worlds, opened};
+ghost use Rattle.rb_world.specs.Reports.{AreReportsOf};
 
 use crate::{KeepsEvent, Stopped};
 use rb_kit::reserve_one;
@@ -91,26 +91,6 @@ impl World {
         ensures run { IsRunOf self.now }
     {
         self.events.as_slice()
-    }
-
-    /// Ends the world: each site in turn reports its state. This takes no memory.
-    pub fn close(self) -> Vec<SiteReport>
-        ensures { AreReports self.settings self.world.sites result.items }
-    {
-        let World {
-            alloc: _,
-            config: _,
-            mut sites,
-            messages: _,
-            events: _,
-            mut reports,
-        } = self;
-        'sites: while let Some(site) = sites.pop() {
-            reports.push_reserved(site.close());
-        }
-        sites.destroy_empty();
-        reports.reverse();
-        reports
     }
 }
 
@@ -236,17 +216,25 @@ impl<E: KeepsEntry, R: KeepsEvent> World<E, R> {
         self.messages.get(number as usize - 1).copied()
     }
 
-    /// Ends the world.
-    pub fn end(self) {
+    /// Ends the world: each site in turn reports its state. One that keeps no history reports no balances, counts and
+    /// history. This takes no memory.
+    pub fn close(self) -> Vec<SiteReport>
+        ensures { AreReportsOf E.KEEPS self.settings self.world.sites result.items }
+    {
         let World {
             alloc: _,
             config: _,
-            sites,
+            mut sites,
             messages: _,
             events: _,
-            reports: _,
+            mut reports,
         } = self;
-        end_all(sites);
+        'sites: while let Some(site) = sites.pop() {
+            reports.push_reserved(site.close());
+        }
+        sites.destroy_empty();
+        reports.reverse();
+        reports
     }
 }
 
@@ -278,7 +266,7 @@ fn open_sites<E: KeepsEntry>(alloc: Global, config: &Config) -> Result<Vec<Site<
 /// Ends sites whose reports nobody asks for.
 fn end_all<E: KeepsEntry>(mut sites: Vec<Site<E>>) {
     'sites: while let Some(site) = sites.pop() {
-        site.end();
+        let _report = site.close();
     }
     sites.destroy_empty();
 }
