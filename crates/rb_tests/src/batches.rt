@@ -62,16 +62,6 @@ fn committed(alloc: Global, ledger: &mut Ledger, log: &mut UndoLog) -> Tried {
     }
 }
 
-/// What was tried and kept, its undo given up. How many operations that were.
-fn kept(alloc: Global, ledger: &mut Ledger) -> Tried {
-    let sites = ledger.config().sites();
-    prove!(0 < sites);
-    let mut scratch = Scratch::open(alloc, ledger, HOLDER);
-    let first = scratch.run(&DEPOSIT_50);
-    let second = scratch.run(&WITHDRAW_57);
-    (first, second, scratch.keep())
-}
-
 /// A deposit of 7 cents.
 const DEPOSIT_7: [Operation; 1] = [(BLUE_1, 0, (0, 0), ANN, 7, Kind::Deposit)];
 
@@ -115,30 +105,6 @@ fn after_commit(alloc: Global) -> Result<(Tried, usize, Left), Fail> {
 fn all_are_kept(rt: HostRuntime) -> Result<(), Fail> {
     let (tried, records, left) = after_commit(rt.alloc())?;
     equal(&rt, (tried, records), (BOTH, 2));
-    equal(&rt, left, (3, 2, Some(0)));
-    Ok(())
-}
-
-/// The position and the name that the record of an operation has.
-fn record_of(ledger: &Ledger, position: u32) -> Option<(u32, OpName)> {
-    let parts = ledger.record(position)?;
-    Some((parts.position, parts.name))
-}
-
-/// What is tried and kept behind a deposit, the records of the second and the third operation, and what the ledger has
-/// then.
-fn after_keep(alloc: Global) -> Result<(Tried, [Option<(u32, OpName)>; 2], Left), Fail> {
-    let mut ledger = ledger_after(alloc, &[("ann", 0)], &DEPOSIT_7)?;
-    let tried = kept(alloc, &mut ledger);
-    let records = [record_of(&ledger, 2), record_of(&ledger, 3)];
-    Ok((tried, records, left_in(&ledger)))
-}
-
-#[test]
-fn all_are_kept_without_records(rt: HostRuntime) -> Result<(), Fail> {
-    let (tried, records, left) = after_keep(rt.alloc())?;
-    equal(&rt, tried, BOTH);
-    equal(&rt, records, [Some((2, BLUE_2)), Some((3, RED_1))]);
     equal(&rt, left, (3, 2, Some(0)));
     Ok(())
 }

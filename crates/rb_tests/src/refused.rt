@@ -31,33 +31,14 @@ macro_rules! twice {
     };
 }
 
-/// The number of the message at an index.
-fn number_at(index: usize) -> u32 {
-    match u32::try_from(index) {
-        Ok(index) => index.saturating_add(1),
-        Err(_) => u32::MAX,
-    }
-}
-
 /// Whether two sites hold the same of the shadows that a world's messages bring.
 fn same_held(site: &Site, other: &Site, world: &World) -> bool {
     let mut same = site.inbox().len() == other.inbox().len();
-    for k in 0..world.message_count() {
-        let number = number_at(k);
-        if let Some(Message::Shadow(shadow)) = world.message(number) {
+    for message in world.messages() {
+        if let Message::Shadow(shadow) = message {
             let name = &shadow.name;
             same = same && site.inbox().held(name) == other.inbox().held(name);
         }
-    }
-    same
-}
-
-/// Whether two worlds sent the same messages.
-fn same_messages(world: &World, other: &World) -> bool {
-    let mut same = world.message_count() == other.message_count();
-    for k in 0..world.message_count() {
-        let number = number_at(k);
-        same = same && world.message(number) == other.message(number);
     }
     same
 }
@@ -76,8 +57,8 @@ fn same_sites(site: &Site, other: &Site) -> bool {
 
 /// Whether two worlds are equal in their sites, the messages that were sent and the events.
 fn same_worlds(world: &World, other: &World) -> bool {
-    let mut same = same_messages(world, other);
-    same = same && world.events().len() == other.events().len();
+    let mut same = world.messages() == other.messages()
+        && world.events().len() == other.events().len();
     for (event, it) in world.events().iter().zip(other.events()) {
         same = same && event.same(it);
     }

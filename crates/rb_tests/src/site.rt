@@ -5,7 +5,7 @@ use rb_commands::read_command;
 use rb_history::read_line;
 use rb_money::{Config, Limits};
 use rb_site::{Entry, Site};
-use std::alloc::{AllocError, Global};
+use std::alloc::Global;
 use std::test::Fail;
 
 /// Lines of histories, and below each one that differs from it in one thing that its event or its reply has.
@@ -135,14 +135,6 @@ fn replayed(alloc: Global, config: &Config, me: u8, history: &[Entry]) -> Result
     Ok(Site::replay(alloc, config, me, events.as_slice())?)
 }
 
-/// How many undo records a site gives.
-fn record_count(site: &Site) -> Result<usize, AllocError> {
-    let log = site.log()?;
-    let count = log.len();
-    log.close();
-    Ok(count)
-}
-
 /// Whether a site has this history, whether it holds the token, and its lengths.
 fn found_in(site: &Site, wanted: &[Entry]) -> (bool, bool, [usize; 4]) {
     let mut same = true;
@@ -152,7 +144,7 @@ fn found_in(site: &Site, wanted: &[Entry]) -> (bool, bool, [usize; 4]) {
     let lengths = [
         site.history().len(),
         site.ledger().len() as usize,
-        record_count(site).unwrap_or(0),
+        site.log().len(),
         site.inbox().len(),
     ];
     (same, site.token().view().held, lengths)

@@ -58,9 +58,7 @@ fn has_room(rt: HostRuntime) -> Result<(), Fail> {
         return Err(Fail::from("no memory"));
     }
     log.push_reserved(Undo::new(parts(1)));
-    let mut other = UndoLog::new(rt.alloc());
-    pushed(&rt, &mut other, 2);
-    log.append(other);
+    log.push_reserved(Undo::new(parts(2)));
     let seen = (log.len(), popped(&mut log));
     log.close();
     equal(&rt, seen, (2, Some(2)));

@@ -74,9 +74,9 @@ fn nothing_is_recorded_where_no_site_or_message_is(rt: HostRuntime) -> Result<()
     let config = read_config(alloc, r#"{"accounts":[["ann",0]],"sites":2,"version":1}"#)?;
     let mut world = World::open(alloc, config)?;
     let event = WorldEvent::Deliver(0, 1);
-    let _reply = world.step(&event).expect(&rt, "answered");
+    let _reply = world.step(event).expect(&rt, "answered");
     holds(&rt, "no event", world.events().is_empty());
-    holds(&rt, "no message", world.message_count() == 0);
+    holds(&rt, "no message", world.messages().is_empty());
     for place in 0..2u8 {
         let site = world.site(place).expect(&rt, "a site");
         holds(&rt, "no entry", site.history().is_empty());
@@ -104,7 +104,7 @@ fn one_event_is_recorded(rt: HostRuntime) -> Result<(), Fail> {
     let alloc = rt.alloc();
     let config = read_config(alloc, r#"{"accounts":[["ann",5]],"sites":2,"version":1}"#)?;
     let mut world = World::open(alloc, config)?;
-    let reply = world.step(&WorldEvent::At(0, Event::Balance(Place(0))));
+    let reply = world.step(WorldEvent::At(0, Event::Balance(Place(0))));
     let text = recorded(alloc, &world);
     let _reports = world.close();
     holds(
