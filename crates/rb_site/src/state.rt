@@ -83,14 +83,6 @@ impl State {
         self.journal.ledger()
     }
 
-    /// The operation of the name that the site applied, or `None`.
-    #[inline(always)]
-    pub fn applied(&self, name: &OpName) -> Option<Shadow>
-        ensures { result ≡ find_in self.now.site.ops name.now }
-    {
-        self.journal.applied(name)
-    }
-
     /// The undo records: the k-th is that of the first k operations.
     pub fn log(&self) -> &UndoLog
         ensures { result.now.parts ≡ records_of self.now.settings self.now.site.ops }

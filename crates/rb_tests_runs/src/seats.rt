@@ -262,6 +262,7 @@ fn seat_calls(rt: HostRuntime) -> Result<(), Fail> {
         "token_waits_for_reds",
         "two_cancels_of_one_withdrawal",
         "interest_stays",
+        "batch_all_or_nothing",
         "transfer_and_cancel",
     ] {
         let reports = row_through(&rt, rt.alloc(), &row_named(name)?, false)??;
