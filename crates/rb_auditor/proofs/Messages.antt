@@ -44,7 +44,7 @@ sends_more s t xs x =
 pub found : (ms : List Message) (k : ℕ) (d m : Message) → k < length ms → get_or ms k d ≡ m → IsAmong m ms
 found ms k d m less is = at_place ms k m (slice_get-get_or ms k d less ∙ ap Some is)
 
--- one that isn't at the next place either isn't among so many
+-- one that isn't at the next place isn't among the first of this number either
 pub not_found : (ms : List Message) (k : ℕ) (d m : Message) → k < length ms → ¬ IsAmong m (take k ms) → ¬ (get_or ms k d ≡ m)
     → ¬ IsAmong m (take (k + 1) ms)
 not_found ms k d m less before other among =

@@ -20,7 +20,7 @@ use Rattle.rb_cli.proofs.Passing.{Each, HasOptions, IsOption}
 pub both_none : (a b : Kinds) → a ≡ [] → b ≡ [] → or_else a b ≡ []
 both_none a b e f = ap (λ k. or_else k b) e ∙ f
 
--- ---- where the walk stands
+-- ---- where the walk is
 
 -- nothing is waited for, and this was read last
 abbrev pub at : List Row → Option (Text × List Text) → Walk

@@ -16,7 +16,7 @@ use Rattle.clap.specs.declared.error.kind.ErrorKind.TheVariants.{DisplayHelp, In
 use Rattle.clap.proofs.OnLiterals.{clap_on_literals}
 use Rattle.rb_money.specs.declared.limits.TheConstants.{MOST_HISTORY, MOST_SITES}
 use Rattle.rb_cli.specs.declared.words.TheConstants.{MOST_TELLERS}
-use Rattle.rb_cli.specs.Words.{AreFit, Asked, IsInRange, IsNumberWithin, command_line, option_rule, site_line, threads_line, within, number_of, words_of_matches, script, audit, migrate, threads, site}
+use Rattle.rb_cli.specs.Words.{AreFit, Asked, IsInRange, IsNumberWithin, command_line, option_rule, site_line, threads_line, within, numeral_value, words_of_matches, script, audit, migrate, threads, site}
 use Rattle.rb_cli.proofs.Options.{HasText, at_option, fits, given_text, none_missing, leaf_passes, number_of_text}
 use Rattle.rb_cli.proofs.Passing.{Each, HasOptions, Passes, found_in, never, none_of}
 
@@ -120,8 +120,8 @@ pub record Asks (met : Option (Text × List Row)) : Type 0 where
 other_text : (a b : Text) → bytes_eq a b ≡ false → a ≡ b → ⊥
 other_text a b differ same = true≢false (sym ((bytes_eq-Decides a b).1 same) ∙ differ)
 
-no_options : (name : Text) (rows : List Row) → bytes_eq name (codes "threads") ≡ false → bytes_eq name (codes "site") ≡ false → AreFit name rows
-no_options name rows no_threads no_site = record {
+no_options : (name : Text) (its_rows : List Row) → bytes_eq name (codes "threads") ≡ false → bytes_eq name (codes "site") ≡ false → AreFit name its_rows
+no_options name its_rows no_threads no_site = record {
   sites = λ is. absurd (other_text _ _ no_threads is);
   tellers = λ is. absurd (other_text _ _ no_threads is);
   seed = λ is. absurd (other_text _ _ no_threads is);
@@ -166,69 +166,69 @@ site_options = (
   ),
 )
 
-threads_given : (rows : List Row) → Each (Passes (leaf threads_line).rules) rows → check_fault (leaf threads_line) rows false ≡ []
-    → HasText (numbers (codes "sites") 2 MOST_SITES true) (codes "sites") rows
-    × HasText (numbers (codes "tellers") 1 MOST_TELLERS true) (codes "tellers") rows
-    × HasText (numbers (codes "seed") 0 4294967295 true) (codes "seed") rows
-threads_given rows all none =
-    let given = nothing_missing (is_given (codes "sites") rows) (is_given (codes "tellers") rows) (is_given (codes "seed") rows)
-    (none_missing (leaf threads_line) rows none) in (
-      given_text (leaf threads_line).rules _ _ rows all refl given.0,
-      given_text (leaf threads_line).rules _ _ rows all refl given.1,
-      given_text (leaf threads_line).rules _ _ rows all refl given.2,
+threads_given : (its_rows : List Row) → Each (Passes (leaf threads_line).rules) its_rows → check_fault (leaf threads_line) its_rows false ≡ []
+    → HasText (numbers (codes "sites") 2 MOST_SITES true) (codes "sites") its_rows
+    × HasText (numbers (codes "tellers") 1 MOST_TELLERS true) (codes "tellers") its_rows
+    × HasText (numbers (codes "seed") 0 4294967295 true) (codes "seed") its_rows
+threads_given its_rows all none =
+    let given = nothing_missing (is_given (codes "sites") its_rows) (is_given (codes "tellers") its_rows) (is_given (codes "seed") its_rows)
+    (none_missing (leaf threads_line) its_rows none) in (
+      given_text (leaf threads_line).rules _ _ its_rows all refl given.0,
+      given_text (leaf threads_line).rules _ _ its_rows all refl given.1,
+      given_text (leaf threads_line).rules _ _ its_rows all refl given.2,
     )
 
-threads_asks : (rows : List Row) → Each (Passes (leaf threads_line).rules) rows → check_fault (leaf threads_line) rows false ≡ []
-    → Asks (Some (codes "threads", rows))
-threads_asks rows all none =
-    let given = threads_given rows all none in
-    let sites = number_of_text _ _ rows 2 MOST_SITES given.0 refl in
-    let tellers = number_of_text _ _ rows 1 MOST_TELLERS given.1 refl in
-    let seed = number_of_text _ _ rows 0 4294967295 given.2 refl in
+threads_asks : (its_rows : List Row) → Each (Passes (leaf threads_line).rules) its_rows → check_fault (leaf threads_line) its_rows false ≡ []
+    → Asks (Some (codes "threads", its_rows))
+threads_asks its_rows all none =
+    let given = threads_given its_rows all none in
+    let sites = number_of_text _ _ its_rows 2 MOST_SITES given.0 refl in
+    let tellers = number_of_text _ _ its_rows 1 MOST_TELLERS given.1 refl in
+    let seed = number_of_text _ _ its_rows 0 4294967295 given.2 refl in
     let rules = (leaf threads_line).rules in record {
-      asked = threads (number_of (without_minus given.0.text)) (number_of (without_minus given.1.text)) (number_of (without_minus given.2.text));
+      asked = threads (numeral_value (without_minus given.0.text)) (numeral_value (without_minus given.1.text)) (numeral_value (without_minus given.2.text));
       is = rw (sites.0, tellers.0, seed.0) refl;
       in_range = (sites.1.1, sites.1.2, tellers.1.1, tellers.1.2, omega (arith, seed.1.2));
       fit = record {
-        sites = λ _. fits _ _ rows 2 MOST_SITES (at_option rules (numbers (codes "sites") 2 MOST_SITES true) _ rows all refl) refl;
-        tellers = λ _. fits _ _ rows 1 MOST_TELLERS (at_option rules (numbers (codes "tellers") 1 MOST_TELLERS true) _ rows all refl) refl;
-        seed = λ _. fits _ _ rows 0 4294967295 (at_option rules (numbers (codes "seed") 0 4294967295 true) _ rows all refl) refl;
+        sites = λ _. fits _ _ its_rows 2 MOST_SITES (at_option rules (numbers (codes "sites") 2 MOST_SITES true) _ its_rows all refl) refl;
+        tellers = λ _. fits _ _ its_rows 1 MOST_TELLERS (at_option rules (numbers (codes "tellers") 1 MOST_TELLERS true) _ its_rows all refl) refl;
+        seed = λ _. fits _ _ its_rows 0 4294967295 (at_option rules (numbers (codes "seed") 0 4294967295 true) _ its_rows all refl) refl;
         me = λ is. absurd (other_text (codes "threads") (codes "site") refl is);
         resend = λ is. absurd (other_text (codes "threads") (codes "site") refl is);
       };
     }
 
-site_given : (rows : List Row) → Each (Passes (leaf site_line).rules) rows → check_fault (leaf site_line) rows false ≡ []
-    → HasText (numbers (codes "me") 0 15 true) (codes "me") rows
-    × HasText (filled (option_rule (codes "journal") None true)) (codes "journal") rows
-site_given rows all none =
-    let given = nothing_missing (is_given (codes "me") rows) (is_given (codes "journal") rows) true
-    (none_missing (leaf site_line) rows none) in (
-      given_text (leaf site_line).rules _ _ rows all refl given.0,
-      given_text (leaf site_line).rules _ _ rows all refl given.1,
+site_given : (its_rows : List Row) → Each (Passes (leaf site_line).rules) its_rows → check_fault (leaf site_line) its_rows false ≡ []
+    → HasText (numbers (codes "me") 0 15 true) (codes "me") its_rows
+    × HasText (filled (option_rule (codes "journal") None true)) (codes "journal") its_rows
+site_given its_rows all none =
+    let given = nothing_missing (is_given (codes "me") its_rows) (is_given (codes "journal") its_rows) true
+    (none_missing (leaf site_line) its_rows none) in (
+      given_text (leaf site_line).rules _ _ its_rows all refl given.0,
+      given_text (leaf site_line).rules _ _ its_rows all refl given.1,
     )
 
 -- the number of entries that are sent again, where it is given
-resent : (o : Option Text) → IfSome o (IsNumberWithin 0 MOST_HISTORY) → IfSome (option_map number_of o) (λ n. n ≤ MOST_HISTORY)
+resent : (o : Option Text) → IfSome o (IsNumberWithin 0 MOST_HISTORY) → IfSome (option_map numeral_value o) (λ n. n ≤ MOST_HISTORY)
 resent None h = tt
 resent (Some t) h = h.2
 
-site_asks : (rows : List Row) → Each (Passes (leaf site_line).rules) rows → check_fault (leaf site_line) rows false ≡ []
-    → Asks (Some (codes "site", rows))
-site_asks rows all none =
-    let given = site_given rows all none in
-    let me = number_of_text _ _ rows 0 15 given.0 refl in
+site_asks : (its_rows : List Row) → Each (Passes (leaf site_line).rules) its_rows → check_fault (leaf site_line) its_rows false ≡ []
+    → Asks (Some (codes "site", its_rows))
+site_asks its_rows all none =
+    let given = site_given its_rows all none in
+    let me = number_of_text _ _ its_rows 0 15 given.0 refl in
     let rules = (leaf site_line).rules in
-    let again = fits _ _ rows 0 MOST_HISTORY (at_option rules (numbers (codes "resend") 0 MOST_HISTORY false) (codes "resend") rows all refl) refl in
+    let again = fits _ _ its_rows 0 MOST_HISTORY (at_option rules (numbers (codes "resend") 0 MOST_HISTORY false) (codes "resend") its_rows all refl) refl in
     record {
-      asked = site (number_of (without_minus given.0.text)) given.1.text (option_map number_of (one_of (codes "resend") rows));
+      asked = site (numeral_value (without_minus given.0.text)) given.1.text (option_map numeral_value (one_of (codes "resend") its_rows));
       is = rw (me.0, given.1.first) refl;
-      in_range = (omega (arith, me.1.2), resent (one_of (codes "resend") rows) again);
+      in_range = (omega (arith, me.1.2), resent (one_of (codes "resend") its_rows) again);
       fit = record {
         sites = λ is. absurd (other_text (codes "site") (codes "threads") refl is);
         tellers = λ is. absurd (other_text (codes "site") (codes "threads") refl is);
         seed = λ is. absurd (other_text (codes "site") (codes "threads") refl is);
-        me = λ _. fits _ _ rows 0 15 (at_option rules (numbers (codes "me") 0 15 true) _ rows all refl) refl;
+        me = λ _. fits _ _ its_rows 0 15 (at_option rules (numbers (codes "me") 0 15 true) _ its_rows all refl) refl;
         resend = λ _. again;
       };
     }
@@ -240,7 +240,7 @@ abbrev AsksBy : Text → Shape → Type 0
 AsksBy name s = (words : List Text) → level_fault s [] nothing_held words false [] ≡ [] → answers_to name (label_of s) ≡ true
     → Asks (Some (rows_at s words))
 
-plain_asks : (name : Text) (a : App) (asked : Asked) → ((rows : List Row) → words_of_matches (Some ((leaf a).name, rows)) ≡ Some asked)
+plain_asks : (name : Text) (a : App) (asked : Asked) → ((its_rows : List Row) → words_of_matches (Some ((leaf a).name, its_rows)) ≡ Some asked)
     → IsInRange asked → bytes_eq (leaf a).name (codes "threads") ≡ false → bytes_eq (leaf a).name (codes "site") ≡ false
     → AsksBy name (leaf a)
 plain_asks name a asked is in_range no_threads no_site words none named = record {
@@ -252,11 +252,11 @@ plain_asks name a asked is in_range no_threads no_site words none named = record
 
 each_asks : (name : Text) → IsOther name → Each (AsksBy name) (built command_line).subs
 each_asks name other = (
-  plain_asks name (new_app (codes "script")) script (λ rows. refl) tt refl refl,
+  plain_asks name (new_app (codes "script")) script (λ its_rows. refl) tt refl refl,
   (
-    plain_asks name (new_app (codes "audit")) audit (λ rows. refl) tt refl refl,
+    plain_asks name (new_app (codes "audit")) audit (λ its_rows. refl) tt refl refl,
     (
-      plain_asks name (new_app (codes "migrate")) migrate (λ rows. refl) tt refl refl,
+      plain_asks name (new_app (codes "migrate")) migrate (λ its_rows. refl) tt refl refl,
       (
         (λ words none named.
             let done = leaf_passes (leaf threads_line) threads_options words none in
@@ -293,9 +293,9 @@ entered_asks (Some p) ok none some =
     go None h fault some = absurd (true≢false (sym some))
     go (Some s) h fault some = h.0 p.1 fault h.1
 
-entered_one : (rows : List Row) (has : Bool) → check_fault (built command_line).top rows has ≡ [] → has ≡ true
-entered_one rows true e = refl
-entered_one rows false e = absurd (never MissingSubcommand [] e)
+entered_one : (its_rows : List Row) (has : Bool) → check_fault (built command_line).top its_rows has ≡ [] → has ≡ true
+entered_one its_rows true e = refl
+entered_one its_rows false e = absurd (never MissingSubcommand [] e)
 
 -- words that the command line takes ask for something
 pub taken_asks : (words : List Text) → fault_of command_line words ≡ [] → Asks (subcommand_of command_line words)

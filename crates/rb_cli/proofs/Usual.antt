@@ -24,7 +24,7 @@ use Rattle.clap.specs.declared.builder.action.ArgAction.TheVariants.{Set}
 use Rattle.clap.specs.declared.builder.value_parser.ValueParser.TheVariants.{Signed}
 use Rattle.rb_money.specs.declared.limits.TheConstants.{MOST_HISTORY, MOST_SITES}
 use Rattle.rb_cli.specs.declared.words.TheConstants.{MOST_TELLERS}
-use Rattle.rb_cli.specs.Words.{Ask, Asked, AskForSite, AskForThreads, IsFileName, asked_of, command_line, number_of, option_rule, script, audit, migrate, site, site_line, threads, threads_line, words_of_matches}
+use Rattle.rb_cli.specs.Words.{Ask, Asked, AskForSite, AskForThreads, IsFileName, as_asked, command_line, numeral_value, option_rule, script, audit, migrate, site, site_line, threads, threads_line, words_of_matches}
 use Rattle.rb_cli.specs.declared.words.Words.{Words}
 use Rattle.rb_cli.specs.declared.words.Words.TheVariants.{Script, Audit, Migrate, Threads, Site}
 use Rattle.rb_cli.proofs.Given.{AreGiven, Given, IsNamed, IsPlain, at, rows_with, spelled, takes_given, waiting_at}
@@ -62,9 +62,9 @@ signed_in n least most t is below low high =
     rw (is.signless, is.plus, is.value) (is.numeral, omega (arith, ints), omega (arith, ints), omega (arith, ints))
 
 -- the digits read as the number
-reads : (n : ℕ) (t : Text) → IsDigits n t → number_of (without_minus t) ≡ n
+reads : (n : ℕ) (t : Text) → IsDigits n t → numeral_value (without_minus t) ≡ n
 reads n t is =
-    ap (λ o. number_of (unwrap_or o t)) is.plain ∙ ap (digits_value 10) is.plus ∙ is.value
+    ap (λ o. numeral_value (unwrap_or o t)) is.plain ∙ ap (digits_value 10) is.plus ∙ is.value
 
 file_plain : (t : Text) → IsFileName t → IsPlain t
 file_plain [] is = refl
@@ -250,9 +250,9 @@ two_taken f g asked given checks is =
 -- ---- any order
 
 module _ (a b d : ℕ) (x : Fits (leaf threads_line) (sites_given a)) (y : Fits (leaf threads_line) (tellers_given b))
-    (z : Fits (leaf threads_line) (seed_given d)) (xr : number_of (without_minus (decimal a)) ≡ a)
-    (yr : number_of (without_minus (decimal b)) ≡ b) (zr : number_of (without_minus (decimal d)) ≡ d) where
-  run_is : Some (threads (number_of (without_minus (decimal a))) (number_of (without_minus (decimal b))) (number_of (without_minus (decimal d))))
+    (z : Fits (leaf threads_line) (seed_given d)) (xr : numeral_value (without_minus (decimal a)) ≡ a)
+    (yr : numeral_value (without_minus (decimal b)) ≡ b) (zr : numeral_value (without_minus (decimal d)) ≡ d) where
+  run_is : Some (threads (numeral_value (without_minus (decimal a))) (numeral_value (without_minus (decimal b))) (numeral_value (without_minus (decimal d))))
       ≡ Some (threads a b d)
   run_is = λ i. Some (threads (xr i) (yr i) (zr i))
 
@@ -275,9 +275,9 @@ module _ (a b d : ℕ) (x : Fits (leaf threads_line) (sites_given a)) (y : Fits 
   seed_tellers_sites = threads_taken (seed_given d) (tellers_given b) (sites_given a) (threads a b d) (three _ _ _ _ z y x refl refl) refl run_is
 
 module _ (a b : ℕ) (file : Text) (x : Fits (leaf site_line) (me_given a)) (y : Fits (leaf site_line) (journal_given file))
-    (z : Fits (leaf site_line) (resend_given b)) (xr : number_of (without_minus (decimal a)) ≡ a)
-    (zr : number_of (without_minus (decimal b)) ≡ b) where
-  site_is : Some (site (number_of (without_minus (decimal a))) file (Some (number_of (without_minus (decimal b))))) ≡ Some (site a file (Some b))
+    (z : Fits (leaf site_line) (resend_given b)) (xr : numeral_value (without_minus (decimal a)) ≡ a)
+    (zr : numeral_value (without_minus (decimal b)) ≡ b) where
+  site_is : Some (site (numeral_value (without_minus (decimal a))) file (Some (numeral_value (without_minus (decimal b))))) ≡ Some (site a file (Some b))
   site_is = λ i. Some (site (xr i) file (Some (zr i)))
 
   me_journal_resend : TakesAs (codes "site" ∷ spelled (me_given a ∷ journal_given file ∷ resend_given b ∷ [])) (site a file (Some b))
@@ -299,8 +299,8 @@ module _ (a b : ℕ) (file : Text) (x : Fits (leaf site_line) (me_given a)) (y :
   resend_journal_me = site_taken (resend_given b) (journal_given file) (me_given a) (site a file (Some b)) (three _ _ _ _ z y x refl refl) refl site_is
 
 module _ (a : ℕ) (file : Text) (x : Fits (leaf site_line) (me_given a)) (y : Fits (leaf site_line) (journal_given file))
-    (xr : number_of (without_minus (decimal a)) ≡ a) where
-  all_is : Some (site (number_of (without_minus (decimal a))) file None) ≡ Some (site a file None)
+    (xr : numeral_value (without_minus (decimal a)) ≡ a) where
+  all_is : Some (site (numeral_value (without_minus (decimal a))) file None) ≡ Some (site a file None)
   all_is = ap (λ n. Some (site n file None)) xr
 
   me_journal : TakesAs (codes "site" ∷ spelled (me_given a ∷ journal_given file ∷ [])) (site a file None)
@@ -353,8 +353,8 @@ no_both a x y differ is_x is_y = true≢false (sym ((bytes_eq-Decides x y).1 (sy
 
 module _ (w a b d e f g : Text) (k m n : ℕ) (first : w ≡ codes "threads") (x : Fits (leaf threads_line) (sites_given k))
     (y : Fits (leaf threads_line) (tellers_given m)) (z : Fits (leaf threads_line) (seed_given n))
-    (xr : number_of (without_minus (decimal k)) ≡ k) (yr : number_of (without_minus (decimal m)) ≡ m)
-    (zr : number_of (without_minus (decimal n)) ≡ n) where
+    (xr : numeral_value (without_minus (decimal k)) ≡ k) (yr : numeral_value (without_minus (decimal m)) ≡ m)
+    (zr : numeral_value (without_minus (decimal n)) ≡ n) where
   threads_in : InThree a b d e f g (codes "--sites") (decimal k) → InThree a b d e f g (codes "--tellers") (decimal m)
       → InThree a b d e f g (codes "--seed") (decimal n) → TakesAs (w ∷ a ∷ b ∷ d ∷ e ∷ f ∷ g ∷ []) (threads k m n)
   threads_in (inl s) (inl t) u = absurd (no_both _ (codes "--sites") (codes "--tellers") refl s.0 t.0)
@@ -393,7 +393,7 @@ module _ (w a b d e f g : Text) (k m n : ℕ) (first : w ≡ codes "threads") (x
 
 module _ (w a b d e f g file : Text) (k n : ℕ) (first : w ≡ codes "site") (x : Fits (leaf site_line) (me_given k))
     (y : Fits (leaf site_line) (journal_given file)) (z : Fits (leaf site_line) (resend_given n))
-    (xr : number_of (without_minus (decimal k)) ≡ k) (zr : number_of (without_minus (decimal n)) ≡ n) where
+    (xr : numeral_value (without_minus (decimal k)) ≡ k) (zr : numeral_value (without_minus (decimal n)) ≡ n) where
   site_in : InThree a b d e f g (codes "--me") (decimal k) → InThree a b d e f g (codes "--journal") file
       → InThree a b d e f g (codes "--resend") (decimal n) → TakesAs (w ∷ a ∷ b ∷ d ∷ e ∷ f ∷ g ∷ []) (site k file (Some n))
   site_in (inl s) (inl t) u = absurd (no_both _ (codes "--me") (codes "--journal") refl s.0 t.0)
@@ -431,7 +431,7 @@ module _ (w a b d e f g file : Text) (k n : ℕ) (first : w ≡ codes "site") (x
   site_in (inr (inr s)) (inr (inr t)) u = absurd (no_both _ (codes "--me") (codes "--journal") refl s.0 t.0)
 
 module _ (w a b d e file : Text) (k : ℕ) (first : w ≡ codes "site") (x : Fits (leaf site_line) (me_given k))
-    (y : Fits (leaf site_line) (journal_given file)) (xr : number_of (without_minus (decimal k)) ≡ k) where
+    (y : Fits (leaf site_line) (journal_given file)) (xr : numeral_value (without_minus (decimal k)) ≡ k) where
   site_in_two : Pair a b (codes "--me") (decimal k) ⊎ Pair d e (codes "--me") (decimal k)
       → Pair a b (codes "--journal") file ⊎ Pair d e (codes "--journal") file → TakesAs (w ∷ a ∷ b ∷ d ∷ e ∷ []) (site k file None)
   site_in_two (inl s) (inl t) = absurd (no_both _ (codes "--me") (codes "--journal") refl s.0 t.0)
@@ -506,7 +506,7 @@ migrate_taken = (refl, refl)
 
 -- words that ask for something are taken, and read as that
 pub usual_words : (words : List Text) (asked : Words) → Ask words asked
-    → (fault_of command_line words ≡ []) × (words_of_matches (subcommand_of command_line words) ≡ Some (asked_of asked))
+    → (fault_of command_line words ≡ []) × (words_of_matches (subcommand_of command_line words) ≡ Some (as_asked asked))
 usual_words words Script ask = subst (λ ws. TakesAs ws script) (sym ask) script_taken
 usual_words words Audit ask = subst (λ ws. TakesAs ws audit) (sym ask) audit_taken
 usual_words words Migrate ask = subst (λ ws. TakesAs ws migrate) (sym ask) migrate_taken

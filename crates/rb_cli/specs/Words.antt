@@ -105,43 +105,43 @@ pub data Asked : Type 0 where
   threads : ℕ → ℕ → ℕ → Asked
   site : ℕ → Text → Option ℕ → Asked
 
-abbrev pub asked_of : Words → Asked
-asked_of Script = script
-asked_of Audit = audit
-asked_of Migrate = migrate
-asked_of (Threads sites tellers seed) = threads sites tellers seed
-asked_of (Site me journal resend) = site me journal.now resend
+abbrev pub as_asked : Words → Asked
+as_asked Script = script
+as_asked Audit = audit
+as_asked Migrate = migrate
+as_asked (Threads sites tellers seed) = threads sites tellers seed
+as_asked (Site me journal resend) = site me journal.now resend
 
 -- the number that a text is, which may have a plus sign and zeros in front
-abbrev pub number_of : Text → ℕ
-number_of text = digits_value 10 (without_leading_plus text)
+abbrev pub numeral_value : Text → ℕ
+numeral_value text = digits_value 10 (without_leading_plus text)
 
 -- the number of the option with this name, where it is given
 abbrev pub number_at : Text → List Row → Option ℕ
-number_at name rows = option_map number_of (one_of name rows)
+number_at name rows = option_map numeral_value (one_of name rows)
 
 -- a run of threads has all three of its options
 abbrev pub with_run : Option ℕ → Option ℕ → Option ℕ → Option Asked
 with_run (Some sites) (Some tellers) (Some seed) = Some (threads sites tellers seed)
 with_run _ _ _ = None
 
-abbrev pub threads_of : List Row → Option Asked
-threads_of rows = with_run (number_at (codes "sites") rows) (number_at (codes "tellers") rows) (number_at (codes "seed") rows)
+abbrev pub threads_asked : List Row → Option Asked
+threads_asked rows = with_run (number_at (codes "sites") rows) (number_at (codes "tellers") rows) (number_at (codes "seed") rows)
 
 -- a site has its number and its file, and may have how many last entries' messages are written again
-abbrev pub with_site : Option ℕ → Option Text → Option ℕ → Option Asked
-with_site (Some me) (Some journal) resend = Some (site me journal resend)
-with_site _ _ _ = None
+abbrev pub with_site_options : Option ℕ → Option Text → Option ℕ → Option Asked
+with_site_options (Some me) (Some journal) resend = Some (site me journal resend)
+with_site_options _ _ _ = None
 
-abbrev pub site_of : List Row → Option Asked
-site_of rows = with_site (number_at (codes "me") rows) (first_of (codes "journal") rows) (number_at (codes "resend") rows)
+abbrev pub site_asked : List Row → Option Asked
+site_asked rows = with_site_options (number_at (codes "me") rows) (first_of (codes "journal") rows) (number_at (codes "resend") rows)
 
 -- what a command with its options asks for
 abbrev pub words_of_command : Text → List Row → Option Asked
 words_of_command name rows =
     if bytes_eq name (codes "script") then Some script else if bytes_eq name (codes "audit") then Some audit
-    else if bytes_eq name (codes "migrate") then Some migrate else if bytes_eq name (codes "threads") then threads_of rows
-    else if bytes_eq name (codes "site") then site_of rows else None
+    else if bytes_eq name (codes "migrate") then Some migrate else if bytes_eq name (codes "threads") then threads_asked rows
+    else if bytes_eq name (codes "site") then site_asked rows else None
 
 -- what the command that a parse met asks for, with what it found of its options
 abbrev pub words_of_matches : Option (Text × List Row) → Option Asked
@@ -149,12 +149,12 @@ words_of_matches None = None
 words_of_matches (Some met) = words_of_command met.0 met.1
 
 -- the words are read as this
-abbrev pub IsRead : List Text → Words → Type 0
-IsRead words asked = words_of_matches (subcommand_of command_line words) ≡ Some (asked_of asked)
+abbrev pub AreReadAs : List Text → Words → Type 0
+AreReadAs words asked = words_of_matches (subcommand_of command_line words) ≡ Some (as_asked asked)
 
 -- where words in their usual spelling ask for something, it is this
 abbrev pub IsAsUsual : List Text → Words → Type 0
-IsAsUsual words asked = (usual : Words) → Ask words usual → asked_of asked ≡ asked_of usual
+IsAsUsual words asked = (usual : Words) → Ask words usual → as_asked asked ≡ as_asked usual
 
 -- what is asked for is within its limits
 abbrev pub IsInRange : Asked → Type 0
@@ -167,7 +167,7 @@ IsInRange _ = Unit {0}
 
 -- the text is a number from the first to the second
 abbrev pub IsNumberWithin : ℕ → ℕ → Text → Type 0
-IsNumberWithin least most text = IsNumeral 10 (without_leading_plus text) × (least ≤ number_of text) × (number_of text ≤ most)
+IsNumberWithin least most text = IsNumeral 10 (without_leading_plus text) × (least ≤ numeral_value text) × (numeral_value text ≤ most)
 
 -- the option, where it is given, is such a number
 abbrev pub FitsWithin : ℕ → ℕ → Text → List Row → Type 0

@@ -2,8 +2,8 @@
 ghost use Rattle.std.specs.Prelude.{◌≡◌, codes, map, option_map, IfErr, IfOk, IfSome};
 ghost use Rattle.clap.specs.Words.{FailsBy, fault_of, found_of, kind_of, rows_of, subcommand_rows_of};
 ghost use Rattle.clap.specs.declared.error.kind.ErrorKind.TheVariants.{OutOfMemory};
-ghost use Rattle.rb_cli.specs.Words.{AreFit, Ask, FitsWithin, IsAsUsual, IsInRange, IsRead, asked_of};
-ghost use Rattle.rb_cli.specs.Words.{command_line as line, number_at, site_of, threads_of, words_of_matches};
+ghost use Rattle.rb_cli.specs.Words.{AreFit, Ask, FitsWithin, IsAsUsual, IsInRange, AreReadAs, as_asked};
+ghost use Rattle.rb_cli.specs.Words.{command_line as line, number_at, site_asked, threads_asked, words_of_matches};
 
 use crate::command_line::command_line;
 use clap::{ArgMatches, Error};
@@ -48,7 +48,7 @@ fn number(given: &ArgMatches, name: &str) -> Option<u32>
 /// The run of threads that its options ask for.
 fn threads<'a>(given: &ArgMatches<'a>) -> Option<Words<'a>>
     requires { AreFit (codes "threads") (rows_of (found_of given.now)) }
-    ensures { option_map asked_of result ≡ threads_of (rows_of (found_of given.now)) }
+    ensures { option_map as_asked result ≡ threads_asked (rows_of (found_of given.now)) }
 {
     let sites = number(given, "sites")?;
     let tellers = number(given, "tellers")?;
@@ -63,7 +63,7 @@ fn threads<'a>(given: &ArgMatches<'a>) -> Option<Words<'a>>
 /// The site that its options ask for.
 fn site<'a>(given: &ArgMatches<'a>) -> Option<Words<'a>>
     requires { AreFit (codes "site") (rows_of (found_of given.now)) }
-    ensures { option_map asked_of result ≡ site_of (rows_of (found_of given.now)) }
+    ensures { option_map as_asked result ≡ site_asked (rows_of (found_of given.now)) }
 {
     let me = number(given, "me")?;
     let journal = given.get_str("journal")?;
@@ -78,7 +78,7 @@ fn site<'a>(given: &ArgMatches<'a>) -> Option<Words<'a>>
 /// What the command that was met asks for, with its options.
 fn asked_by<'a>(matches: &ArgMatches<'a>) -> Option<Words<'a>>
     requires { IfSome (subcommand_rows_of matches.now) (λ met. AreFit met.0 met.1) }
-    ensures { option_map asked_of result ≡ words_of_matches (subcommand_rows_of matches.now) }
+    ensures { option_map as_asked result ≡ words_of_matches (subcommand_rows_of matches.now) }
 {
     let (name, given) = matches.subcommand()?;
     match name {
@@ -95,8 +95,8 @@ fn asked_by<'a>(matches: &ArgMatches<'a>) -> Option<Words<'a>>
 /// that was asked for, `ErrorKind::DisplayVersion` the version.
 pub fn read_words<'a>(alloc: Global, words: &'a [&'a str]) -> Result<Words<'a>, Error>
     // What the command line reads the words as.
-    ensures ok { IfOk result (IsRead (map (λ word. word.now) words.entry.now)) }
-    ensures ranges { IfOk result (λ asked. IsInRange (asked_of asked)) }
+    ensures ok { IfOk result (AreReadAs (map (λ word. word.now) words.entry.now)) }
+    ensures ranges { IfOk result (λ asked. IsInRange (as_asked asked)) }
     // Ok comes only for words that the command line takes, and an error's kind is what is wrong with the words, or out
     // of memory: help and the version only where they ask for it.
     ensures kinds { FailsBy (fault_of line (map (λ word. word.now) words.entry.now)) result }

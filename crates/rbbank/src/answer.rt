@@ -5,7 +5,7 @@ ghost use Rattle.clap.specs.Words.{FailsBy, fault_of, kind_of};
 ghost use Rattle.clap.specs.declared.error.kind.ErrorKind.TheVariants.{OutOfMemory};
 ghost use Rattle.rb_lines.specs.declared.limits.TheConstants.{MOST_READS};
 ghost use Rattle.rb_cli.specs.declared.words.Words.{Words as TheWords};
-ghost use Rattle.rb_cli.specs.Words.{Ask, IsAsUsual, IsRead, command_line};
+ghost use Rattle.rb_cli.specs.Words.{Ask, IsAsUsual, AreReadAs, command_line};
 ghost use Rattle.rbbank.specs.Asked.{DoesAsAsked};
 ghost use Rattle.rbbank.specs.Statuses.{IsSiteAsked};
 
@@ -51,7 +51,7 @@ pub fn answer<'a, H: Threads + Wait + Sync, S: Source, W: Sink>(
 ) -> Result<Answered<'a>, clap::Error>
     requires unread { S.calls reader.old ≡ 0 }
     requires fresh { W.failed writer.old ≡ false }
-    ensures done { IfOk result (λ answered. (asked : TheWords) × IsRead (map (λ word. word.now) words.entry.now) asked
+    ensures done { IfOk result (λ answered. (asked : TheWords) × AreReadAs (map (λ word. word.now) words.entry.now) asked
         × IsAsUsual (map (λ word. word.now) words.entry.now) asked
         × (text : List ℕ) × Appends (W.contents writer.old) (W.contents writer.new) text
         × DoesAsAsked asked answered (S.remaining reader.old) (S.remaining reader.new) text) }

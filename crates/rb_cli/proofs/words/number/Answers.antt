@@ -4,13 +4,13 @@ use Rattle.std.specs.Str.Parse.{ParsesUnsigned, ExplainsUnsignedError, HasUnsign
 use Rattle.clap.specs.Matches.{ReadsOne}
 use Rattle.clap.specs.Words.{Text, found_of, one_of, rows_of}
 use Rattle.clap.proofs.WalkLemmas.{one_text-rows}
-use Rattle.rb_cli.specs.Words.{IsNumberWithin, number_of}
+use Rattle.rb_cli.specs.Words.{IsNumberWithin, numeral_value}
 use Rattle.rb_cli.proofs.words.number.Goals as goal
 
 read : (E : Type 0) (G : Text → Result ℕ E → Type 0) (o : Option Text) (r : Option ℕ)
     → ((u : Text) (x : Result ℕ E) → G u x → ParsesUnsigned 32 10 u x) → (o ≡ None → r ≡ None)
     → ((t : Text) → o ≡ Some t → ReadsOne G t r) → IfSome o (IsNumberWithin 0 4294967295)
-    → r ≡ option_map number_of o
+    → r ≡ option_map numeral_value o
 read E G None r only none value fits = none refl
 read E G (Some t) (Some v) only none value fits = ap Some (only t (Ok v) (value t refl)).1
 read E G (Some t) None only none value fits =

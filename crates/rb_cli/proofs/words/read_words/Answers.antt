@@ -6,7 +6,7 @@ use Rattle.clap.specs.declared.error.Error.{Error}
 use Rattle.clap.specs.declared.error.kind.ErrorKind.TheVariants.{OutOfMemory}
 use Rattle.clap.specs.declared.parser.matches.ArgMatches.{ArgMatches}
 use Rattle.clap.proofs.OnLiterals.{clap_on_literals}
-use Rattle.rb_cli.specs.Words.{AreFit, Asked, IsInRange, asked_of, command_line, words_of_matches}
+use Rattle.rb_cli.specs.Words.{AreFit, Asked, IsInRange, as_asked, command_line, words_of_matches}
 use Rattle.rb_cli.proofs.Reading.{taken_asks}
 use Rattle.rb_cli.proofs.Usual.{usual_words}
 use Rattle.rb_cli.proofs.words.read_words.Goals as goal
@@ -74,7 +74,7 @@ unreachable-requires c =
     let words = map (λ word. word.now) c.args.words.now in
     let asks = taken_asks words (taken_by _ words c.in_ok-command.ensures c.in_ok-matches.ensures.kinds) in
     let met = met_by _ words c.in_ok-matches.matches c.in_ok-command.ensures c.in_ok-matches.ensures.ok.2 in
-    let none = sym (ap (option_map asked_of) c.in-None.is) ∙ c.asked_by.ensures ∙ ap words_of_matches met ∙ asks.is in
+    let none = sym (ap (option_map as_asked) c.in-None.is) ∙ c.asked_by.ensures ∙ ap words_of_matches met ∙ asks.is in
     is_nothing _ none
   where
     is_nothing : (x : Asked) → None ≡ Some x → ⊥
@@ -85,7 +85,7 @@ returns-clause-ranges c =
     let words = map (λ word. word.now) c.args.words.now in
     let asks = taken_asks words (taken_by _ words c.in_ok-command.ensures c.in_ok-matches.ensures.kinds) in
     let met = met_by _ words c.in_ok-matches.matches c.in_ok-command.ensures c.in_ok-matches.ensures.ok.2 in
-    let is = sym (ap (option_map asked_of) c.in-Some.is) ∙ c.asked_by.ensures ∙ ap words_of_matches met ∙ asks.is in
+    let is = sym (ap (option_map as_asked) c.in-Some.is) ∙ c.asked_by.ensures ∙ ap words_of_matches met ∙ asks.is in
     subst IsInRange (sym (some_same _ _ is)) asks.in_range
 
 pub returns-clause-kinds : goal.returns-clause-kinds
@@ -97,5 +97,5 @@ pub returns-clause-usual : goal.returns-clause-usual
 returns-clause-usual c = λ asked ask.
     let words = map (λ word. word.now) c.args.words.now in
     let met = met_by _ words c.in_ok-matches.matches c.in_ok-command.ensures c.in_ok-matches.ensures.ok.2 in
-    let is = sym (ap (option_map asked_of) c.in-Some.is) ∙ c.asked_by.ensures ∙ ap words_of_matches met in
+    let is = sym (ap (option_map as_asked) c.in-Some.is) ∙ c.asked_by.ensures ∙ ap words_of_matches met in
     some_same _ _ (is ∙ (usual_words words asked ask).1)

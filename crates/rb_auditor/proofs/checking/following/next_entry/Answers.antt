@@ -1,4 +1,4 @@
--- A site that has an entry left has room for it.
+-- A site that has an entry left has spare capacity for it.
 use Rattle.std.proofs.Common.{◌<◌, length, subst}
 use Rattle.rb_auditor.proofs.Walking
 use Rattle.rb_auditor.proofs.checking.following.next_entry.Goals as goal
