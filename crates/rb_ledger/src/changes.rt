@@ -1,12 +1,10 @@
 //! What changes a ledger.
 ghost use Rattle.std.specs.Prelude.{◌≡◌, ◌≤◌, ◌<◌, ◌+◌, length, Some, None, List, [], ◌∷◌, ◌++◌, ◌⊎◌, OnOk, OnErr};
-ghost use Rattle.std.specs.Prelude.{IfOk, IfErr, true};
+ghost use Rattle.std.specs.Prelude.{IfOk, IfErr};
 ghost use Rattle.rb_money.specs.declared.limits.TheConstants.{MOST_OPERATIONS};
-ghost use Rattle.rb_shadow.specs.Operations.{is_eligible};
-ghost use Rattle.rb_shadow.specs.Sound.{IsSound};
 ghost use Rattle.rb_shadow.specs.declared.shadow.Shadow.{Shadow as TheShadow};
 ghost use Rattle.rb_ledger.specs.Valid.{IsValid, parts_of};
-ghost use Rattle.rb_ledger.specs.Checks.{refusal_of, refusal_of_sound};
+ghost use Rattle.rb_ledger.specs.Checks.{refusal_of};
 
 use crate::Ledger;
 use rb_money::Refusal;
@@ -64,34 +62,6 @@ impl Ledger {
         self.entries.push(shadow);
         self.checkpoints.push(parts.position, &self.index.heads);
         Ok(Undo::new(parts))
-    }
-
-    /// The same as `apply`, for a shadow that is sound by itself, and all that its home had applied was applied here:
-    /// neither is tested again. The refusal is that of `check`, or else `OutOfMemory`.
-    pub fn apply_ready(&mut self, shadow: &Shadow) -> Result<Undo, Refusal>
-        requires sound { IsSound self.old.settings shadow.now }
-        requires eligible { is_eligible self.old.entries shadow.now ≡ true }
-        ensures applied { IfOk result (λ undo. (self.new.entries ≡ self.old.entries ++ shadow.now ∷ [])
-            × (undo ≡ parts_of self.old.settings self.old.entries shadow.now)) }
-        ensures taken { OnOk result (refusal_of_sound self.old.settings self.old.entries shadow.now ≡ None) }
-        ensures settings { self.new.settings ≡ self.old.settings }
-        ensures room { OnOk result (0 < self.old.room → self.new.room + 1 ≡ self.old.room) }
-
-        ensures refused { OnErr result (self.new ≡ self.old) }
-        ensures reason { IfErr result (λ why.
-            (refusal_of_sound self.old.settings self.old.entries shadow.now ≡ Some why)
-            ⊎ ((why ≡ Refusal.OutOfMemory) × (refusal_of_sound self.old.settings self.old.entries shadow.now ≡ None)
-            × (self.old.room ≡ 0))) }
-    {
-        // For a fact alone: the operations are a valid list.
-        let _config = self.config();
-        if let Some(refusal) = self.refusal_of_ready(shadow) {
-            return Err(refusal);
-        }
-        match self.apply_valid(shadow) {
-            Ok(undo) => Ok(undo),
-            Err(AllocError) => Err(Refusal::OutOfMemory),
-        }
     }
 
     /// Takes the last entry out again. The record is that of this entry.

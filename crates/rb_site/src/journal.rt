@@ -5,7 +5,6 @@ ghost use Rattle.rb_ledger.specs.Checks.{refusal_of};
 ghost use Rattle.rb_ledger.specs.Records.{records_of};
 ghost use Rattle.rb_ledger.specs.Valid.{IsValid};
 ghost use Rattle.rb_shadow.specs.Operations.{clock_of, find_in, is_eligible};
-ghost use Rattle.rb_shadow.specs.Sound.{IsSound};
 ghost use Rattle.rb_shadow.specs.declared.shadow.Shadow.{Shadow as TheShadow};
 ghost use Rattle.rb_scratch.specs.Batches.{batch_of, names_of_all};
 ghost use Rattle.rb_statements.specs.Statements.{balance_as_of};
@@ -106,11 +105,9 @@ impl Journal {
         &self.log
     }
 
-    /// Applies a sound shadow whose past was applied, and keeps the record to undo that. After a refusal, which is that
-    /// of `Ledger::check`, or else out of memory, all is as before.
+    /// Applies a shadow, and keeps the record to undo that. After a refusal, which is that of `Ledger::check`, or else
+    /// out of memory, all is as before.
     pub fn apply(&mut self, shadow: &Shadow) -> Result<(), Refusal>
-        requires sound { IsSound self.old.settings shadow.now }
-        requires eligible { is_eligible self.old.ops shadow.now ≡ true }
         ensures applied { OnOk result (self.new ≡ record self.old { ops = self.old.ops ++ shadow.now ∷ [] }) }
         ensures taken { OnOk result (refusal_of self.old.settings self.old.ops shadow.now ≡ None) }
         ensures refused { IfErr result (λ why. (self.new ≡ self.old)
@@ -124,12 +121,13 @@ impl Journal {
             }
             return Err(Refusal::OutOfMemory);
         }
-        match self.ledger.apply_ready(shadow) {
+        let applied = self.ledger.apply(*shadow);
+        match applied {
             Ok(undo) => {
                 self.log.push_reserved(undo);
                 Ok(())
             }
-            Err(why) => Err(why),
+            Err((_, why)) => Err(why),
         }
     }
 
@@ -142,9 +140,14 @@ impl Journal {
         ensures err { OnErr result (self.new ≡ self.old) }
     {
         self.log.reserve(1)?;
-        let undo = self.ledger.apply_valid(shadow)?;
-        self.log.push_reserved(undo);
-        Ok(())
+        match self.ledger.apply(*shadow) {
+            Ok(undo) => {
+                self.log.push_reserved(undo);
+                Ok(())
+            }
+            // What may follow the operations is refused for want of memory alone.
+            Err(_) => Err(AllocError),
+        }
     }
 
     /// Makes the requests of a batch at the site of the token's view, each after those before it: all of

@@ -12,4 +12,4 @@ invariant_of-self-in-Ok c =
     ∙ ap (λ p. records_of c.self.inside.ledger.settings c.self.inside.ledger.entries ++ p ∷ []) c.in-Ok.ensures.applied.1
     ∙ sym (Records.records_of-push c.self.inside.ledger.settings c.self.inside.ledger.entries c.args.shadow.now)
     ∙ ap (records_of c.self.inside.ledger.settings) (sym c.in-Ok.ensures.applied.0)
-    ∙ ap (λ (s : Settings). records_of s c.apply_ready.new.self.entries) (sym c.apply_ready.ensures.settings)
+    ∙ ap (λ (s : Settings). records_of s c.apply-applied.new.self.entries) (sym c.apply-applied.ensures.settings)

@@ -112,13 +112,6 @@ returns-in-OutOfMemory-clause-err c =
     ap (λ (b : SeenLedger). state_as b.settings c.self.inside.token.me b.ops c.self.inside.inbox.held c.self.inside.token.token)
     c.in-Err.ensures.refused.0 ∙ c.self.view_is
 
-pub apply-requires-clause-sound : goal.apply-requires-clause-sound
-apply-requires-clause-sound c = held_sound c.self.inside.journal.settings c.self.inside.inbox.held c.args.name.now c.in-Some.held.now
-    c.self.invariant.sound (sym c.find-index.ensures.held ∙ ap option_copied c.in-Some.is)
-
-pub apply-requires-clause-eligible : goal.apply-requires-clause-eligible
-apply-requires-clause-eligible c = sym c.is_eligible.ensures ∙ c.if-not-is_eligible.false
-
 pub remove_at-requires-clause-held : goal.remove_at-requires-clause-held
 remove_at-requires-clause-held c = (
   c.in-Some.held.now,
