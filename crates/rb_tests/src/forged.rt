@@ -50,6 +50,7 @@ fn is_answered(before: &Site, after: &Site, wanted: &Reply) -> bool {
     last.reply.same(wanted)
         && kept
         && same_answers(before.ledger(), after.ledger())
+        && before.log().len() == after.log().len()
         && same_token(before.token(), after.token())
 }
 
@@ -90,18 +91,22 @@ fn delivered(
     Ok(reply.same(wanted) && sent.first() == Some(&SENT) && count == Some(sent_with(wanted)))
 }
 
-/// Whether the last of these events is answered so by a step, and a refusal leaves the site as it was before.
+/// Whether an event behind these is answered so by a step, and a refusal leaves the site as it was before.
 fn steps_so(
     alloc: Global,
     config: &Config,
     before: &Site,
     events: &[Event],
+    last: &Event,
     wanted: &Reply,
 ) -> Result<bool, AllocError> {
-    let after = stepped(alloc, config, events)?;
+    let event = last.try_copy(alloc)?;
+    let mut after = stepped(alloc, config, events)?;
+    let ran = after.step(event);
     let answered = is_answered(before, &after, wanted);
     let _report = after.close();
-    Ok(answered)
+    let (reply, posted) = ran?;
+    Ok(answered && reply.same(wanted) && posted.len() == sent_with(wanted))
 }
 
 /// Whether an event behind these is answered so in a world, and a refusal leaves the site as it was before.
@@ -132,7 +137,7 @@ fn last_is_answered(
         return Ok(false);
     };
     let before = stepped(alloc, config, first)?;
-    let by_step = steps_so(alloc, config, &before, events, wanted);
+    let by_step = steps_so(alloc, config, &before, first, last, wanted);
     let in_a_world = delivers_so(alloc, config, &before, first, last, wanted);
     let _report = before.close();
     Ok(by_step? && in_a_world?)

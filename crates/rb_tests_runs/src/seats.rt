@@ -1,8 +1,8 @@
 //! Worked rows through seats and links. What is delivered is what the links brought, in the order of sending,
 //! and what is applied is what the site has ready.
 //!
-//! `refuse_seats` passes whether or not an allocation is refused, and at most one of its process is: `make
-//! refuse` runs it with each refused in turn.
+//! `refuse_seats` passes whether or not an allocation is refused, and at most one of its process is:
+//! tests/refuse.py runs it with each refused in turn.
 
 use crate::branch::{Case, gathered};
 use crate::checks::{equal, equal_at, holds};
