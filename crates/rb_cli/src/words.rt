@@ -100,8 +100,8 @@ pub fn read_words<'a>(alloc: Global, words: &'a [&'a str]) -> Result<Words<'a>, 
     // Ok comes only for words that the command line takes, and an error's kind is what is wrong with the words, or out
     // of memory: help and the version only where they ask for it.
     ensures kinds { FailsBy (fault_of line (map (λ word. word.now) words.entry.now)) result }
-    // Words that ask for something, each option's name and value in a word of its own, are read as that, and refused for
-    // want of memory alone.
+    // Words that ask for something, each option's name and value in a word of its own, are read as that, and refused
+    // for want of memory alone.
     ensures usual { IfOk result (IsAsUsual (map (λ word. word.now) words.entry.now)) }
     ensures err { IfErr result
         (λ e. (asked : Words) → Ask (map (λ word. word.now) words.entry.now) asked → kind_of e ≡ OutOfMemory) }

@@ -16,7 +16,7 @@ pub enum ScriptFault {
     NoConfig,
     /// The first line that isn't to be skipped is no configuration.
     BadConfig { line: u64 },
-    /// A later line is no command.
+    /// A later line is no command or entry.
     BadLine { line: u64 },
     /// A line has more than `LINE_LIMIT` bytes before its line feed.
     LongLine { line: u64 },
@@ -26,7 +26,7 @@ pub enum ScriptFault {
     Write,
     /// There was no memory to go on, or a thread couldn't be made.
     OutOfMemory,
-    /// A site's history was full, or is no interleaving of its tellers' receipts: of runs of tellers alone.
+    /// A site's history was full, or isn't its seats' receipts, interleaved: of runs of tellers alone.
     Gather,
 }
 
@@ -74,8 +74,8 @@ pub fn message(alloc: Global, fault: ScriptFault) -> Result<String, AllocError>
     format!(in alloc; "rbbank: {fault}")
 }
 
-/// A program's exit status: 2 where the input is wrong, 3 where a read or a write failed, 4 where memory ran out, 5 where
-/// histories can't be gathered.
+/// A program's exit status: 2 where the input is wrong, 3 where a read or a write failed, 4 where memory ran out, 5
+/// where histories can't be gathered.
 pub fn status(fault: ScriptFault) -> u8
     ensures { result ≡ status_of fault }
 {

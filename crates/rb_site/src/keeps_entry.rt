@@ -13,7 +13,7 @@ pub trait KeepsEntry: Drop {
     /// What is kept of an event, before there is a reply.
     type Kept: Drop;
 
-    // The event of which that was kept.
+    // The event that was kept.
     ghost kept: { Self.Kept → TheEvent };
 
     // The entry that was noted.
@@ -28,7 +28,7 @@ pub trait KeepsEntry: Drop {
     fn keep(alloc: Global, event: &Event) -> Result<Self::Kept, AllocError>
         ensures { IfOk result (λ k. kept k ≡ event.now) };
 
-    /// Notes an event that was kept with its reply, of which this was noted.
+    /// The entry of a kept event and its reply. `noted` is the copy of the reply, where one was made.
     fn note(event: Self::Kept, reply: &Reply, noted: Option<Reply>) -> Self
         requires { IsNoted KEEPS reply.now noted }
         ensures { entry result ≡ record { event = kept event; reply = reply.now } };

@@ -62,7 +62,7 @@ impl Reply {
         }
     }
 
-    /// An equal reply, by what was noted of this one. This takes no memory.
+    /// An equal reply, from the copy that was noted. This takes no memory.
     pub fn again(&self, noted: Option<Reply>) -> Reply
         requires { IsNoted true self.now noted }
         ensures { result ≡ self.now }

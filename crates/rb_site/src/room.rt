@@ -27,8 +27,8 @@ impl Model for Room {
 }
 
 impl Room {
-    /// Memory for this number of accounts, and for no operation yet, where there will be a report. `Err` means out of
-    /// memory.
+    /// Memory for this number of accounts, and for no operation yet, where the report has these lists. `Err` means out
+    /// of memory.
     pub fn open(alloc: Global, reports: bool, accounts: usize) -> Result<Room, AllocError>
         ensures { reports ≡ true → IfOk result (λ room. accounts ≤ room.accounts) }
     {
@@ -42,7 +42,7 @@ impl Room {
         })
     }
 
-    /// Takes memory for this number of operations in all, where there will be a report. `Err` means out of memory.
+    /// Takes memory for this number of operations in all, where the report has these lists. `Err` means out of memory.
     #[inline(always)]
     pub fn grow(&mut self, reports: bool, entries: usize) -> Result<(), AllocError>
         ensures ok { reports ≡ true → OnOk result (entries ≤ self.new.entries) }

@@ -32,8 +32,8 @@ const LISTS: &str =
     r#"{"event":{"batch":[{"deposit":["ann",50]},{"withdraw":["ann",57]}]},"reply":{"names":["B0.2","R1"]},"site":0}
 {"event":{"statement":"ann"},"reply":{"balance":7,"rows":[[1,"B0.1","deposit",7,false,7]],"start":0},"site":0}"#;
 
-/// The entry on a line of a site. It, its event and its reply are the same as their copies, and the line that is written
-/// for the copy is the line.
+/// The entry on a line of a site. It, its event and its reply are the same as their copies, and the line that is
+/// written for the copy is the line.
 fn copied(
     rt: &impl Abort,
     alloc: Global,

@@ -113,7 +113,7 @@ impl<E: KeepsEntry, R: KeepsEvent> World<E, R> {
         })
     }
 
-    /// One event, and its reply. It is listed where a site recorded it. `Err` means out of memory, and comes
+    /// One event, and its reply. The event is listed where a site recorded it. `Err` means out of memory, and comes
     /// only for an event that a site would record: the world is then as before.
     pub fn step(&mut self, event: WorldEvent) -> Result<Reply, AllocError>
         requires { IsCommand event }
@@ -127,8 +127,8 @@ impl<E: KeepsEntry, R: KeepsEvent> World<E, R> {
         Ok(reply)
     }
 
-    /// The same as `step`, but that the event is read, and the reply is put in the place of another. After an `Err` that
-    /// place may have any reply.
+    /// As `step`, but it borrows the event, and puts the reply in the place of another. After an `Err` that place may
+    /// have any reply.
     #[inline(always)]
     pub fn answer(&mut self, event: &WorldEvent, reply: &mut Reply) -> Result<(), AllocError>
         requires { IsCommand event.now }
@@ -216,8 +216,8 @@ impl<E: KeepsEntry, R: KeepsEvent> World<E, R> {
         self.messages.get(number as usize - 1).copied()
     }
 
-    /// Ends the world: each site in turn reports its state. One that keeps no history reports no balances, counts and
-    /// history. This takes no memory.
+    /// Closes the world: each site reports its state, in order. A site that keeps no history reports no balances, no
+    /// counts and no history. This takes no memory.
     pub fn close(self) -> Vec<SiteReport>
         ensures { AreReportsOf E.KEEPS self.settings self.world.sites result.items }
     {
@@ -263,7 +263,7 @@ fn open_sites<E: KeepsEntry>(alloc: Global, config: &Config) -> Result<Vec<Site<
     Ok(sites)
 }
 
-/// Ends sites whose reports nobody asks for.
+/// Closes sites whose reports nobody asks for.
 fn end_all<E: KeepsEntry>(mut sites: Vec<Site<E>>) {
     'sites: while let Some(site) = sites.pop() {
         let _report = site.close();

@@ -15,7 +15,7 @@ use rb_money::{Config, Refusal};
 use rb_site::{Entry, History, Reply, Site};
 use std::alloc::{AllocError, Global};
 
-/// Whether sites, one for each of these histories, which it records, could have recorded them in this order. `Err`
+/// Whether one world could have recorded these histories in this order. Each is one that its site records. `Err`
 /// means out of memory.
 pub fn follow(
     alloc: Global,

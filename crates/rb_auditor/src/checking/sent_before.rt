@@ -10,7 +10,7 @@ use std::collections::HashMap;
 #[derive(Drop)]
 pub struct SentBefore {
     pub messages: Vec<Message>,
-    // Where the last one of a number is. In a run of a world no two have one number.
+    // Where the last message of each row and number is. In a run of a world no two messages share both.
     places: HashMap<(usize, u32), usize>,
 }
 
