@@ -12,7 +12,7 @@ help:
 	@echo '  make install PREFIX=/usr/local'
 	@echo '                     copies the program, its manual page and completions for three shells, after make build'
 	@echo '  make examples      every example, and every case of tests/cases, through the program, after make build'
-	@echo '  make test          the gate; some 40 minutes; with kit 13f half a minute where nothing changed since'
+	@echo '  make test          the gate; about an hour; less than a minute where nothing changed since'
 	@echo '                     (docs/GATE.md)'
 	@echo '  make bindings      the library for C, Rust and Python (bindings/), their tests and the shop of examples/shop;'
 	@echo '                     wants gcc or clang, and cargo'
