@@ -111,7 +111,8 @@ at_site s hs xs i h f x along replays there at same =
       subst (λ (z : SeenSite). IsReplay z.settings z.me f) (sym is) (subst (IsReplay s i) (sym same) (replays i h there)),
     )
 
-longer : (x y : SeenSite) (h : List Entry) (before after : List Message) → TakesNext x y h before after → length y.entries ≡ length x.entries + 1
+longer : (x y : SeenSite) (h : List Entry) (before after : List Message) → TakesNext x y h before after
+    → length y.entries ≡ length x.entries + 1
 longer x y h before after t =
     let within : length x.entries < length h = slice_get_within h (length x.entries) t.entry t.next in
     ap recorded t.is ∙ length-take-le (length x.entries + 1) h (omega arith)

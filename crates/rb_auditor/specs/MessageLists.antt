@@ -7,8 +7,8 @@ use Rattle.rb_shadow.specs.Sound.{is_foreign}
 use Rattle.rb_ledger.specs.OperationLists.{IsOfSites}
 use Rattle.rb_site.specs.declared.message.Message.{Message}
 use Rattle.rb_site.specs.declared.message.Message.TheVariants.{Shadow as ShadowMessage}
-use Rattle.rb_auditor.specs.declared.spot.Spot.{Spot}
-use Rattle.rb_auditor.specs.declared.spot.Spot.TheVariants.{Usual, Other}
+use Rattle.rb_auditor.specs.declared.kept_at.KeptAt.{KeptAt}
+use Rattle.rb_auditor.specs.declared.kept_at.KeptAt.TheVariants.{Usual, Other}
 
 -- messages, how many of them are usual operations, of how many sites the entries of the clock of such a one are kept, and for
 -- how many messages there is memory
@@ -30,7 +30,7 @@ pub record IsUsual (sites : ℕ) (v : Shadow) : Type 0 where
   pub own : entry_of v.deps v.name + 1 ≡ number_of v.name
 
 -- the message at a spot, among these operations or among these others
-abbrev pub message_at_spot : List Shadow → List Message → Spot → Option Message
+abbrev pub message_at_spot : List Shadow → List Message → KeptAt → Option Message
 message_at_spot us os (Usual k) = option_map (λ u. ShadowMessage u) (slice_get us k)
 message_at_spot us os (Other k) = slice_get os k
 

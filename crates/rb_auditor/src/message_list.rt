@@ -7,9 +7,9 @@ ghost use Rattle.rb_site.specs.declared.message.Message.TheVariants.{Shadow as S
 ghost use Rattle.rb_auditor.specs.MessageLists.{IsUsual};
 ghost use Rattle.rb_auditor.specs.Sent.{row_of_message, slot_of};
 
+use crate::compact_operations::is_usual;
+use crate::kept_at::KeptAt;
 use crate::message::{is_operation, name_row, name_slot, row, slot};
-use crate::spot::Spot;
-use crate::usual::is_usual;
 use rb_ledger::OperationList;
 use rb_money::MOST_OPERATIONS;
 use rb_shadow::Shadow;
@@ -25,7 +25,7 @@ pub struct MessageList {
     // Tokens, and operations with other clocks, which no site of the bank makes.
     others: Vec<Message>,
     // One for each message.
-    spots: Vec<Spot>,
+    spots: Vec<KeptAt>,
     limit: usize,
 }
 
@@ -82,8 +82,8 @@ impl MessageList {
         ensures { result ≡ slice_get self.now.items index }
     {
         match *self.spots.get(index)? {
-            Spot::Usual { at } => Some(Message::Shadow(self.usual.get(at as usize)?)),
-            Spot::Other { at } => Some(*self.others.get(at as usize)?),
+            KeptAt::Usual { at } => Some(Message::Shadow(self.usual.get(at as usize)?)),
+            KeptAt::Other { at } => Some(*self.others.get(at as usize)?),
         }
     }
 
@@ -93,11 +93,11 @@ impl MessageList {
         ensures { result ≡ option_map (λ m. (row_of_message m, slot_of m)) (slice_get self.now.items index) }
     {
         match *self.spots.get(index)? {
-            Spot::Usual { at } => {
+            KeptAt::Usual { at } => {
                 let name = self.usual.at(at as usize)?.name();
                 Some((name_row(name), name_slot(name)))
             }
-            Spot::Other { at } => {
+            KeptAt::Other { at } => {
                 let message = self.others.get(at as usize)?;
                 Some((row(message), slot(message)))
             }
@@ -113,11 +113,11 @@ impl MessageList {
             return false;
         };
         match *spot {
-            Spot::Usual { at } => match self.usual.get(at as usize) {
+            KeptAt::Usual { at } => match self.usual.get(at as usize) {
                 Some(known) => is_operation(message, &known),
                 None => false,
             },
-            Spot::Other { at } => match self.others.get(at as usize) {
+            KeptAt::Other { at } => match self.others.get(at as usize) {
                 Some(known) => known.same(message),
                 None => false,
             },
@@ -203,7 +203,7 @@ impl MessageList {
     {
         let at = self.usual.len() as u32;
         self.usual.push(shadow);
-        self.spots.push_reserved(Spot::Usual { at });
+        self.spots.push_reserved(KeptAt::Usual { at });
     }
 
     /// Adds a message that is kept whole.
@@ -214,6 +214,6 @@ impl MessageList {
     {
         let at = self.others.len() as u32;
         self.others.push_reserved(*message);
-        self.spots.push_reserved(Spot::Other { at });
+        self.spots.push_reserved(KeptAt::Other { at });
     }
 }

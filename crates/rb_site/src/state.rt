@@ -127,10 +127,10 @@ impl State {
         (entries, clock, token)
     }
 
-    #[inline(always)]
-    #[tactic(auto, unfolding(crate::specs::Events::outcome_of))]
     /// One event, for a history that keeps replies or doesn't. The answer goes to the two places, and what the event
     /// sends to the end of the messages sent. After running out of memory the state and the messages are as before.
+    #[inline(always)]
+    #[tactic(auto, unfolding(crate::specs::Events::outcome_of))]
     pub fn act(
         &mut self,
         event: &Event,
@@ -157,8 +157,8 @@ impl State {
         }
     }
 
-    #[tactic(auto, unfolding(crate::specs::Events::outcome_of))]
     /// A request is decided here, and its shadow is applied here and sent.
+    #[tactic(auto, unfolding(crate::specs::Events::outcome_of))]
     fn submit(
         &mut self,
         request: &Request,
@@ -181,9 +181,9 @@ impl State {
         Ok(give(reply, Reply::Made { name, kind }))
     }
 
-    #[inline(never)]
     /// The requests of a batch are decided here one after another, and their shadows are applied
     /// here and sent: all of them or none.
+    #[inline(never)]
     fn batch(
         &mut self,
         requests: &List<Request>,
@@ -215,9 +215,9 @@ impl State {
         Ok(give(reply, Reply::Refused(why)))
     }
 
+    /// A shadow from another site is held until it is applied.
     #[inline(never)]
     #[tactic(auto, unfolding(crate::specs::Events::outcome_of))]
-    /// A shadow from another site is held until it is applied.
     fn receive(&mut self, shadow: &Shadow, reply: &mut Reply) -> Result<(), AllocError>
         ensures ok { OnOk result (Follows true self.old self.new [] []
             (outcome_of self.old.settings self.old.site (Event.Receive (Message.Shadow shadow.now)))
@@ -233,8 +233,8 @@ impl State {
         self.receive_new(shadow, reply)
     }
 
-    #[tactic(auto, unfolding(crate::specs::Events::outcome_of))]
     /// A sound shadow, of a name that isn't applied here, is held until it is.
+    #[tactic(auto, unfolding(crate::specs::Events::outcome_of))]
     fn receive_new(&mut self, shadow: &Shadow, reply: &mut Reply) -> Result<(), AllocError>
         requires sound { IsSound self.old.settings shadow.now }
         requires new { find_in self.old.site.ops shadow.now.name ≡ None }
@@ -249,8 +249,8 @@ impl State {
         self.hold(shadow, reply)
     }
 
-    #[inline(always)]
     /// A sound shadow that isn't applied here is held until it is.
+    #[inline(always)]
     fn hold(&mut self, shadow: &Shadow, reply: &mut Reply) -> Result<(), AllocError>
         requires { IsSound self.old.settings shadow.now }
         ensures ok { OnOk result (Follows true self.old self.new [] []
@@ -270,9 +270,9 @@ impl State {
         Ok(give(reply, Reply::Refused(why)))
     }
 
+    /// A token message makes this site the holder, unless its epoch was seen.
     #[inline(never)]
     #[tactic(auto, unfolding(crate::specs::Events::outcome_of))]
-    /// A token message makes this site the holder, unless its epoch was seen.
     fn accept(&mut self, message: &TokenMessage, reply: &mut Reply)
         ensures { Follows true self.old self.new [] [] (outcome_of self.old.settings self.old.site
             (Event.Receive (Message.Token message.now))) (plain reply.new) }
@@ -284,8 +284,8 @@ impl State {
         }
     }
 
-    #[tactic(auto, unfolding(crate::specs::Events::outcome_of))]
     /// A held shadow whose past is applied is applied too, or is let go where it can't be.
+    #[tactic(auto, unfolding(crate::specs::Events::outcome_of))]
     fn apply(&mut self, name: &OpName, reply: &mut Reply) -> Result<(), AllocError>
         ensures ok { OnOk result (Follows true self.old self.new [] []
             (outcome_of self.old.settings self.old.site (Event.Apply name.now)) (plain reply.new)) }
@@ -316,9 +316,9 @@ impl State {
         }
     }
 
+    /// The token goes to another site.
     #[inline(never)]
     #[tactic(auto, unfolding(crate::specs::Events::outcome_of))]
-    /// The token goes to another site.
     fn pass(&mut self, to: u8, sent: &mut Vec<Message>, reply: &mut Reply) -> Result<(), AllocError>
         ensures ok { OnOk result (Follows true self.old self.new sent.old.items sent.new.items
             (outcome_of self.old.settings self.old.site (Event.Pass to)) (plain reply.new)) }
@@ -335,9 +335,9 @@ impl State {
         Ok(give(reply, Reply::Passed(message.epoch)))
     }
 
+    /// An account's balance.
     #[inline(always)]
     #[tactic(auto, unfolding(crate::specs::Events::outcome_of))]
-    /// An account's balance.
     fn balance(&self, place: Place, reply: &mut Reply)
         ensures { Follows true self.now self.now [] [] (outcome_of self.now.settings self.now.site
             (Event.Balance place)) (plain reply.new) }
@@ -348,9 +348,9 @@ impl State {
         }
     }
 
+    /// An account's balance, in cents, after the first `position` operations of the ledger.
     #[inline(never)]
     #[tactic(auto, unfolding(crate::specs::Events::outcome_of))]
-    /// An account's balance, in cents, after the first `position` operations of the ledger.
     fn as_of(&self, place: Place, position: u32, reply: &mut Reply)
         ensures { Follows true self.now self.now [] [] (outcome_of self.now.settings self.now.site
             (Event.AsOf place position)) (plain reply.new) }
@@ -385,9 +385,9 @@ impl State {
         }
     }
 
+    /// The same of any account.
     #[inline(never)]
     #[tactic(auto, unfolding(crate::specs::Events::outcome_of))]
-    /// The same of any account.
     fn any_statement(
         &self,
         place: Place,

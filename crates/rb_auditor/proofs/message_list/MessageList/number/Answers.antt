@@ -18,7 +18,8 @@ number m = (row_of_message m, slot_of m)
 pub returns-in_err-at-in-Usual : goal.returns-in_err-at-in-Usual
 returns-in_err-at-in-Usual c =
     c.from_residual-in_err-at-in-Usual.ensures
-    ∙ sym (ap (option_map number) (Spots.at_spot c.self.inside.usual.items c.self.inside.others.items c.self.inside.spots.items c.deref.result.now
+    ∙ sym (ap (option_map number) (Spots.at_spot c.self.inside.usual.items c.self.inside.others.items
+    c.self.inside.spots.items c.deref.result.now
     c.args.self.now _ _ _ c.args.index c.in_ok-at.field-0.now c.self.view_is c.self.invariant.each c.deref.ensures.value
     c.in_ok-at.ensures.lookup.3.0 c.in_ok-at.ensures.lookup.1
     ∙ ap (message_at_spot c.self.inside.usual.items c.self.inside.others.items) c.in-Usual.is
@@ -29,7 +30,8 @@ returns-in_ok-at-in-Usual c =
     ap (λ (p : ℕ × ℕ). Some p) (ap (λ r. (r, c.name_slot.result)) c.name_row.ensures
     ∙ ap (λ s. (row_of c.name-name.result + 1, s)) c.name_slot.ensures
     ∙ ap (λ (n : OpName). (row_of n + 1, number_of n - 1)) c.name-name.ensures)
-    ∙ sym (ap (option_map number) (Spots.at_spot c.self.inside.usual.items c.self.inside.others.items c.self.inside.spots.items c.deref.result.now
+    ∙ sym (ap (option_map number) (Spots.at_spot c.self.inside.usual.items c.self.inside.others.items
+    c.self.inside.spots.items c.deref.result.now
     c.args.self.now _ _ _ c.args.index c.in_ok-at.field-0.now c.self.view_is c.self.invariant.each c.deref.ensures.value
     c.in_ok-at.ensures.lookup.3.0 c.in_ok-at.ensures.lookup.1
     ∙ ap (message_at_spot c.self.inside.usual.items c.self.inside.others.items) c.in-Usual.is
@@ -38,7 +40,8 @@ returns-in_ok-at-in-Usual c =
 pub returns-in_err-message-in-Other : goal.returns-in_err-message-in-Other
 returns-in_err-message-in-Other c =
     c.from_residual-in_err-message-in-Other.ensures
-    ∙ sym (ap (option_map number) (Spots.at_spot c.self.inside.usual.items c.self.inside.others.items c.self.inside.spots.items c.deref.result.now
+    ∙ sym (ap (option_map number) (Spots.at_spot c.self.inside.usual.items c.self.inside.others.items
+    c.self.inside.spots.items c.deref.result.now
     c.args.self.now _ _ _ c.args.index c.in_ok-at.field-0.now c.self.view_is c.self.invariant.each c.deref.ensures.value
     c.in_ok-at.ensures.lookup.3.0 c.in_ok-at.ensures.lookup.1
     ∙ ap (message_at_spot c.self.inside.usual.items c.self.inside.others.items) c.in-Other.is
@@ -49,7 +52,8 @@ pub returns-in_ok-message-in-Other : goal.returns-in_ok-message-in-Other
 returns-in_ok-message-in-Other c =
     ap (λ (p : ℕ × ℕ). Some p) (ap (λ r. (r, c.slot.result)) c.row.ensures
     ∙ ap (λ s. (row_of_message c.in_ok-message-in-Other.message.now, s)) c.slot.ensures)
-    ∙ sym (ap (option_map number) (Spots.at_spot c.self.inside.usual.items c.self.inside.others.items c.self.inside.spots.items c.deref.result.now
+    ∙ sym (ap (option_map number) (Spots.at_spot c.self.inside.usual.items c.self.inside.others.items
+    c.self.inside.spots.items c.deref.result.now
     c.args.self.now _ _ _ c.args.index c.in_ok-at.field-0.now c.self.view_is c.self.invariant.each c.deref.ensures.value
     c.in_ok-at.ensures.lookup.3.0 c.in_ok-at.ensures.lookup.1
     ∙ ap (message_at_spot c.self.inside.usual.items c.self.inside.others.items) c.in-Other.is

@@ -38,7 +38,8 @@ first c = ap as_progress (c.in_ok-resize.ensures.items
 pub invariant_of-result : goal.invariant_of-result
 invariant_of-result c = (
   Takings.first_as c.args.config.now (histories_in c.args.notes.now) c.new-2.result.items c.resize.new.self.items c.in_ok-sent.sent.items
-      c.new-2.ensures.items c.in_ok-sent.ensures.1 (first c) (Judged.first_taken c.args.config.now c.args.notes.now c.args.messages.now.items
+      c.new-2.ensures.items c.in_ok-sent.ensures.1 (first c)
+      (Judged.first_taken c.args.config.now c.args.notes.now c.args.messages.now.items
       c.requires.judged c.requires.whole),
   subst (AreJudged c.args.config.now c.args.notes.now) (sym c.in_ok-sent.ensures.0) c.requires.judged,
   c.requires.whole,

@@ -100,8 +100,10 @@ took c =
     let sent : List Message =
     sent_at c.self.inside.config.now (site_after c.self.inside.config.now c.args.site (take c.index-taken.result.now
     (entries_noted c.index-self-site.result))) n.entry.event in
-    let may : IsFrom c.self.inside.sent.items n.entry.event × ((take c.in-Some-moved.count (drop c.in-Some-moved.first c.self.inside.sent.all)) ≡ sent) =
-    Judged.comes c.self.inside.sent.items c.self.inside.sent.all n.entry.event sent c.in-Some.step.now (take c.in-Some-moved.count (drop c.in-Some-moved.first c.self.inside.sent.all)) n.says
+    let may : IsFrom c.self.inside.sent.items n.entry.event
+    × ((take c.in-Some-moved.count (drop c.in-Some-moved.first c.self.inside.sent.all)) ≡ sent) =
+    Judged.comes c.self.inside.sent.items c.self.inside.sent.all n.entry.event sent c.in-Some.step.now
+    (take c.in-Some-moved.count (drop c.in-Some-moved.first c.self.inside.sent.all)) n.says
     c.in-Some-moved.ensures.taken in
     let order : c.push_reserved.new.self.items ≡ c.self.inside.order.items ++ c.args.site ∷ [] =
     c.push_reserved.ensures.items ∙ ap (λ js. js ++ c.args.site ∷ []) c.in_ok-reserve.ensures.items in
@@ -113,7 +115,8 @@ took c =
       entry = n.entry;
       next = record { there = r.there; at = r.at; next = n.next };
       source = may.0;
-      is = ap (λ o. with_both c o c.add_all.new.self.items) order ∙ ap (with_both c (c.self.inside.order.items ++ c.args.site ∷ [])) messages;
+      is = ap (λ o. with_both c o c.add_all.new.self.items) order
+          ∙ ap (with_both c (c.self.inside.order.items ++ c.args.site ∷ [])) messages;
     }
   where
     with_both : goal.After-push_reserved → List ℕ → List Message → Progress

@@ -2,7 +2,7 @@
 
 /// Where a list keeps a message, by positions from 0.
 #[derive(Clone, Copy)]
-pub enum Spot {
+pub enum KeptAt {
     /// Among the usual operations.
     Usual { at: u32 },
     /// Among all other messages.
