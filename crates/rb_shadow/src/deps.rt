@@ -1,10 +1,15 @@
 //! What an operation depends on.
-ghost use Rattle.std.specs.Prelude.{◌≡◌};
+ghost use Rattle.std.specs.Prelude.{◌≡◌, ◌≤◌, length, ℕ};
+ghost use Rattle.rb_money.specs.declared.limits.TheConstants.{MOST_SITES};
+ghost use Rattle.rb_shadow.specs.declared.deps.TheConstants.{FEW};
 ghost use Rattle.rb_shadow.specs.Operations.{entry_of, names_of_clock};
 ghost use Rattle.rb_shadow.specs.Sound.{are_entries, is_clock};
 
 use crate::OpName;
 use rb_money::{Limits, MOST_SITES};
+
+/// Of a bank of up to this number of sites each site's entry is tested by itself.
+const FEW: u8 = 3;
 
 /// How many of each site's blue operations, by the site's number, and how many red ones.
 #[derive(Clone, Copy, Debug, PartialEq, Eq)]
@@ -41,8 +46,45 @@ impl Deps {
     }
 }
 
+/// Whether the entries are within the limit, and 0 for all but the first `sites` sites.
 #[inline(always)]
 fn are_within(entries: &[u32], sites: u8, limit: u32) -> bool
+    requires { length entries.now ≡ MOST_SITES }
+    ensures { result ≡ are_entries sites limit entries.now }
+{
+    if sites <= FEW {
+        return are_within_few(entries, sites, limit);
+    }
+    are_within_many(entries, sites, limit)
+}
+
+/// The same for a small bank: all but the first entries are tested together.
+#[inline(always)]
+fn are_within_few(entries: &[u32], sites: u8, limit: u32) -> bool
+    requires all { length entries.now ≡ MOST_SITES }
+    requires few { sites ≤ FEW }
+    ensures { result ≡ are_entries sites limit entries.now }
+{
+    let first = if sites == 0 { 0 } else { limit };
+    let second = if sites <= 1 { 0 } else { limit };
+    let third = if sites <= 2 { 0 } else { limit };
+    (entries[0] <= first) & (entries[1] <= second) & (entries[2] <= third) & are_none(&entries[3..])
+}
+
+/// Whether all entries are 0. Each is looked at, as several are compared at once.
+#[inline(always)]
+fn are_none(entries: &[u32]) -> bool
+    ensures { (limit : ℕ) → result ≡ are_entries 0 limit entries.now }
+{
+    let mut none = true;
+    for n in entries {
+        none &= *n == 0;
+    }
+    none
+}
+
+/// The same of any number of sites.
+fn are_within_many(entries: &[u32], sites: u8, limit: u32) -> bool
     ensures { result ≡ are_entries sites limit entries.now }
 {
     let mut fits = true;

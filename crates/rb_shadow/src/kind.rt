@@ -149,6 +149,7 @@ impl Kind {
     }
 
     /// Whether it cancels an operation of a site that the bank doesn't have, or one that the clock doesn't count.
+    #[inline(always)]
     pub(crate) fn cancels_unseen(self, sites: u8, deps: &Deps) -> bool
         ensures { result ≡ cancels_unseen sites self deps.now }
     {
