@@ -58,6 +58,7 @@ impl Clock {
     }
 
     /// Whether each entry is at least that of `deps`, so that all the names counted there are counted here.
+    #[inline(always)]
     pub fn at_least(&self, deps: &Deps) -> bool
         ensures entries { IsTrue result ↔ IsAtLeast self.now deps.now }
         ensures names { IsTrue result ↔ IsWithin (names_of_clock deps.now) (names_of_clock self.now) }
