@@ -21,6 +21,7 @@ const MANY_ENTRIES: usize = 32_768;
 impl Ledger {
     /// Adds a shadow at the end, and gives the record to undo that. A shadow that is refused comes
     /// back, with the refusal of `check`, or else `OutOfMemory`.
+    #[inline(always)]
     pub fn apply(&mut self, shadow: Shadow) -> Result<Undo, (Shadow, Refusal)>
         ensures applied { IfOk result (λ undo. (self.new.entries ≡ self.old.entries ++ shadow ∷ [])
             × (undo ≡ parts_of self.old.settings self.old.entries shadow)) }
