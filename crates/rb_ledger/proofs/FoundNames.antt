@@ -7,7 +7,7 @@ use Rattle.std.proofs.lemmas.Option.{slice_get_within, get_or_from_slice_get}
 use Rattle.rb_money.specs.declared.place.Place.{Place}
 use Rattle.rb_shadow.specs.declared.shadow.Shadow.{Shadow}
 use Rattle.rb_shadow.specs.declared.op_name.OpName.{OpName}
-use Rattle.rb_shadow.specs.Operations.{names, find_in, Among}
+use Rattle.rb_shadow.specs.Operations.{names, find_in, same_shadow, Among}
 use Rattle.rb_shadow.specs.Operations.{kind_in, receiver_of, target_of, other_of}
 use Rattle.rb_shadow.specs.declared.kind.Kind.{Kind}
 use Rattle.rb_shadow.specs.declared.kind.Kind.TheVariants.{Deposit, Withdraw, Declined, Interest, Cancel, Transfer}
@@ -84,6 +84,21 @@ other_near us x p m e count =
     let (t, at, named, found) = found_there us x p e in
     let (some, there) = entry_there us p t (sym at) in
     (omega (arith, some), omega (arith, count, slice_get_within us (p - 1) t there))
+
+-- the operation at the position of a shadow's name is the one that the shadow is compared with
+pub known : (us : List Shadow) (v : Shadow) (p : ℕ) (u : Shadow) → Some p ≡ find_position us v.name → slice_get us (p - 1) ≡ Some u →
+    Some (same_shadow u v) ≡ option_map (λ (w : Shadow). same_shadow w v) (find_in us v.name)
+known us v p u e read =
+    let (t, at, named, found) = found_there us v.name p e in
+    let (some, there) = entry_there us p t (sym at) in
+    ap (option_map (λ (w : Shadow). same_shadow w v)) (sym read ∙ there ∙ sym found)
+
+-- at a position that was found there is an operation
+pub nothing_missing : (us : List Shadow) (x : OpName) (p : ℕ) → Some p ≡ find_position us x → slice_get us (p - 1) ≡ None → ⊥
+nothing_missing us x p e none =
+    let (t, at, named, found) = found_there us x p e in
+    let (some, there) = entry_there us p t (sym at) in
+    let both : None ≡ Some t = sym none ∙ there in cc
 
 -- a name that wasn't found has no second account to give back
 pub other_unfound : (us : List Shadow) (x : OpName) → None ≡ find_position us x → None ≡ option_and_then receiver_of (kind_in us x)

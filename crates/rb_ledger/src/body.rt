@@ -1,9 +1,10 @@
 //! What an operation is beside its clock's entries.
-ghost use Rattle.std.specs.Prelude.{◌≡◌};
+ghost use Rattle.std.specs.Prelude.{◌≡◌, IsTrue};
+ghost use Rattle.rb_shadow.specs.Operations.{number_of, shown_colour};
 ghost use Rattle.rb_ledger.specs.OperationLists.{kept_name};
 
 use rb_money::Place;
-use rb_shadow::{Colour, Kind, OpName};
+use rb_shadow::{Colour, Kind, OpName, Shadow};
 
 /// An operation without the entries of its clock. The fields lie in this order, in 32 bytes: of the name there is no
 /// site, as a blue one's is the home.
@@ -33,5 +34,26 @@ impl Body {
             },
             Colour::Red => OpName::Red { n: self.number },
         }
+    }
+
+    /// Whether it is what a shadow is beside its clock.
+    #[inline(always)]
+    pub fn is_of(&self, shadow: &Shadow) -> bool
+        ensures { IsTrue result → self.now ≡ record {
+          colour = shown_colour shadow.now.name;
+          home = shadow.now.home;
+          account = shadow.now.account;
+          number = number_of shadow.now.name;
+          kind = shadow.now.kind;
+          clock = self.now.clock;
+          amount = shadow.now.amount;
+        } }
+    {
+        self.colour == shadow.name.colour()
+            && self.number == shadow.name.number()
+            && self.home == shadow.home
+            && self.account == shadow.account
+            && self.amount == shadow.amount
+            && self.kind == shadow.kind
     }
 }

@@ -125,28 +125,27 @@ impl ClockList {
         ensures limit { self.new.limit ≡ self.old.limit }
     {
         let count = self.starts.len();
-        if count > 0 && self.is_last(&shadow.deps, shadow.name) {
+        if count > 0 && self.is_at(count - 1, &shadow.deps, shadow.name) {
             return count - 1;
         }
         self.push(shadow.deps.red, &shadow.deps.blue);
         count
     }
 
-    /// Whether a clock is the one that is kept last, but for the entry of a name.
+    /// Whether a clock is the one that is kept at an index, from 0, but for the entry of a name.
     #[inline(always)]
-    fn is_last(&self, deps: &Deps, name: OpName) -> bool
-        requires some { 0 < length self.now.items }
-        ensures same { IsTrue result → (n : ℕ) →
-            slice_set (slice_index_or self.now.items (length self.now.items - 1) []) (row_of name) n
+    pub fn is_at(&self, index: usize, deps: &Deps, name: OpName) -> bool
+        requires { index < length self.now.items }
+        ensures same { IsTrue result → (n : ℕ) → slice_set (slice_index_or self.now.items index []) (row_of name) n
             ≡ slice_set (deps.now.red ∷ take self.now.sites deps.now.blue) (row_of name) n }
         ensures all { length deps.now.blue ≡ MOST_SITES }
     {
         if self.sites > FEW_SITES {
-            let last = self.at(self.starts.len() - 1);
-            return is_same(&last, deps, name);
+            let kept = self.at(index);
+            return is_same(&kept, deps, name);
         }
-        let last = self.at_of(self.starts.len() - 1, FEW_SITES + 1);
-        is_same(&last, deps, name)
+        let kept = self.at_of(index, FEW_SITES + 1);
+        is_same(&kept, deps, name)
     }
 
     /// Adds a clock, in spare capacity.

@@ -1,6 +1,6 @@
 //! The operations of a ledger, in their order.
 ghost use Rattle.std.specs.Prelude.{◌≡◌, ◌↔◌, ◌-◌, ◌+◌, ◌<◌, ◌≤◌, ◌++◌, ◌∷◌, [], length, take, drop, OnOk, OnErr, IfOk};
-ghost use Rattle.std.specs.Prelude.{IsTrue, false, slice_get, slice_index_or};
+ghost use Rattle.std.specs.Prelude.{IsTrue, Some, false, slice_get, slice_index_or};
 ghost use Rattle.rb_money.specs.declared.limits.TheConstants.{MOST_OPERATIONS, MOST_SITES};
 ghost use Rattle.rb_shadow.specs.declared.shadow.Shadow.{Shadow as TheShadow};
 ghost use Rattle.rb_shadow.specs.Operations.{entry_of, number_of, receiver_of};
@@ -104,6 +104,23 @@ impl OperationList {
             body,
             clocks: &self.clocks,
         })
+    }
+
+    /// Whether a shadow was found to be the operation at an index, from 0: the two are compared as the operation is
+    /// kept. `false` says nothing.
+    #[inline(always)]
+    pub(crate) fn is_at(&self, index: usize, shadow: &Shadow) -> bool
+        requires near { index < length self.now.items }
+        requires sites { IsOfSites self.now.sites shadow.now.deps }
+        requires home { is_foreign shadow.now.name shadow.now.home ≡ false }
+        requires own { entry_of shadow.now.deps shadow.now.name + 1 ≡ number_of shadow.now.name }
+        ensures { IsTrue result → slice_get self.now.items index ≡ Some shadow.now }
+    {
+        let body = &self.bodies[index];
+        body.is_of(shadow)
+            && self
+                .clocks
+                .is_at(body.clock as usize, &shadow.deps, shadow.name)
     }
 
     /// The second account of a transfer at an index, from 0.

@@ -13,7 +13,7 @@ use Rattle.rb_money.specs.declared.refusal.Refusal.{Refusal}
 use Rattle.rb_money.specs.declared.refusal.Refusal.TheVariants.{UnknownOperation, NotCancellable, AlreadyCancelled}
 use Rattle.rb_ledger.specs.Valid.{operation_at, find_position, first_cancel_in, position_from, first_cancel_from}
 use Rattle.rb_scratch.specs.Requests.{Plan}
-use Rattle.rb_scratch.proofs.Public.Positions.{no_position, at_position}
+use Rattle.rb_scratch.proofs.Positions.{no_position, at_position}
 
 -- at a position that was found there is an operation
 pub found_there : (us : List Shadow) (x : OpName) (p : ℕ) → find_position us x ≡ Some p → (t : Shadow) × (find_in us x ≡ Some t)

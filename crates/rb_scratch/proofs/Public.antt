@@ -3,5 +3,4 @@ pub mod Batches
 pub mod Fits
 pub mod Made
 pub mod Makes
-pub mod Positions
 pub mod Tokens

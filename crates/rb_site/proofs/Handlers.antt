@@ -1,7 +1,7 @@
 -- What each handler of a site does is what the event comes to.
 use Rattle.std.proofs.Common.{◌≡◌, ℕ, ◌≤◌, Bool, true, false, cond, not, ◌&&◌, ◌⊎◌, inl, inr, List, [], ◌∷◌, ◌++◌, length, refl, ap, sym}
 use Rattle.std.proofs.Common.{subst, ◌∙◌, arith, Option, Some, None, append-nil, Result, Ok, Err, OnOk, take}
-use Rattle.std.specs.Prelude.{nat_le, nat_lt, ◌==◌}
+use Rattle.std.specs.Prelude.{nat_le, nat_lt, option_map, ◌==◌}
 use Rattle.std.proofs.lemmas.Bool.{eq-eqb, ne_eqb}
 use Rattle.std.proofs.lemmas.Bool.Decides.{nat_tests}
 use Rattle.rb_money.specs.Amounts.{cents}
@@ -360,6 +360,25 @@ knows z v u a sound found is =
         → AnswersAlone z z (cond b (Answers (Already v.name)) (Refuses Conflict)) a
     by true is = (refl, is, refl)
     by false is = (refl, is, refl)
+
+-- the same by what is known of the one applied: whether it is the shadow
+pub knows_whether : (z : SiteState) (v : Shadow) (same : Bool) (a : Answer) → fault_of z.settings v ≡ None →
+    Some same ≡ option_map (λ (u : Shadow). same_shadow u v) (find_in z.site.ops v.name) →
+    Says true a (cond same (Already v.name) (Refused Conflict))
+    → AnswersAlone z z (outcome_of z.settings z.site (Receive (ShadowMessage v))) a
+knows_whether z v same a sound known says = at (find_in z.site.ops v.name) refl known
+  where
+    at : (o : Option Shadow) → find_in z.site.ops v.name ≡ o → Some same ≡ option_map (λ (u : Shadow). same_shadow u v) o →
+        AnswersAlone z z (outcome_of z.settings z.site (Receive (ShadowMessage v))) a
+    at None found test = cc
+    at (Some u) found test =
+        let is : same ≡ same_shadow u v = cc in
+        knows z v u a sound found (subst (λ b. Says true a (cond b (Already v.name) (Refused Conflict))) is says)
+
+-- a shadow of which nothing is known wasn't applied
+pub knows_nothing : (f : Shadow → Bool) (o : Option Shadow) → None ≡ option_map f o → o ≡ None
+knows_nothing f None e = refl
+knows_nothing f (Some u) e = cc
 
 -- a sound shadow of this site's own that isn't applied here is refused
 pub refuses_own : (z : SiteState) (v : Shadow) (a : Answer) → fault_of z.settings v ≡ None → find_in z.site.ops v.name ≡ None →

@@ -1,10 +1,11 @@
 //! A site's ledger with its undo records.
 ghost use Rattle.std.specs.Prelude.{◌≡◌, ◌<◌, ◌≤◌, ◌++◌, ◌∷◌, ◌⊎◌, [], List, length, map, Some, None, Ok, Err, IfOk};
-ghost use Rattle.std.specs.Prelude.{IfErr, OnOk, OnErr, true};
+ghost use Rattle.std.specs.Prelude.{IfErr, OnOk, OnErr, option_map, true};
 ghost use Rattle.rb_ledger.specs.Checks.{refusal_of};
 ghost use Rattle.rb_ledger.specs.Records.{records_of};
 ghost use Rattle.rb_ledger.specs.Valid.{IsValid};
-ghost use Rattle.rb_shadow.specs.Operations.{clock_of, find_in, is_eligible};
+ghost use Rattle.rb_shadow.specs.Operations.{clock_of, find_in, is_eligible, same_shadow};
+ghost use Rattle.rb_shadow.specs.Sound.{IsSound};
 ghost use Rattle.rb_shadow.specs.declared.shadow.Shadow.{Shadow as TheShadow};
 ghost use Rattle.rb_scratch.specs.Batches.{batch_of, names_of_all};
 ghost use Rattle.rb_statements.specs.Statements.{balance_as_of};
@@ -19,7 +20,7 @@ use crate::{Message, Reply};
 use rb_ledger::{Ledger, OperationList};
 use rb_money::{Config, Place, Refusal};
 use rb_scratch::Request;
-use rb_shadow::{OpName, Shadow};
+use rb_shadow::Shadow;
 use rb_statements::balance_at;
 use rb_token::TokenView;
 use rb_undo::UndoLog;
@@ -87,15 +88,13 @@ impl Journal {
         self.ledger.is_eligible(shadow)
     }
 
-    /// The applied shadow of a name, or `None`.
+    /// Whether the applied operation of a sound shadow's name is the shadow. `None` if none of that name was applied.
     #[inline(always)]
-    pub fn applied(&self, name: &OpName) -> Option<Shadow>
-        ensures { result ≡ find_in self.now.ops name.now }
+    pub fn knows(&self, shadow: &Shadow) -> Option<bool>
+        requires { IsSound self.now.settings shadow.now }
+        ensures { result ≡ option_map (λ u. same_shadow u shadow.now) (find_in self.now.ops shadow.now.name) }
     {
-        match self.ledger.find(name) {
-            Some(position) => self.ledger.entry(position),
-            None => None,
-        }
+        self.ledger.knows(shadow)
     }
 
     /// The undo records: the k-th is that of the first k operations.

@@ -1,6 +1,6 @@
 //! The state of a site between two events.
 ghost use Rattle.std.specs.Prelude.{◌≡◌, ◌<◌, ◌&&◌, [], true, nat_le, if◌then◌else◌, IfOk, None, OnErr, OnOk};
-ghost use Rattle.rb_shadow.specs.Operations.{clock_of, find_in, same_shadow};
+ghost use Rattle.rb_shadow.specs.Operations.{clock_of, find_in};
 ghost use Rattle.rb_ledger.specs.Records.{records_of};
 ghost use Rattle.rb_shadow.specs.Sound.{IsSound};
 ghost use Rattle.rb_scratch.specs.declared.request.TheConstants.{MOST_REQUESTS};
@@ -227,8 +227,8 @@ impl State {
         if let Err(why) = shadow.sound(self.journal.config()) {
             return Ok(give(reply, Reply::Refused(why)));
         }
-        if let Some(applied) = self.journal.applied(&shadow.name) {
-            return Ok(again(shadow, &applied, reply));
+        if let Some(same) = self.journal.knows(shadow) {
+            return Ok(again(shadow, same, reply));
         }
         self.receive_new(shadow, reply)
     }
@@ -421,11 +421,11 @@ fn is_batch(requests: usize) -> bool
 }
 
 /// A shadow whose name is known: the same comes again, or it is a conflict.
-fn again(shadow: &Shadow, known: &Shadow, reply: &mut Reply)
-    ensures { Says true (plain reply.new) (if same_shadow known.now shadow.now then Reply.Already shadow.now.name
+fn again(shadow: &Shadow, same: bool, reply: &mut Reply)
+    ensures { Says true (plain reply.new) (if same then Reply.Already shadow.now.name
         else Reply.Refused Refusal.Conflict) }
 {
-    if known.same(shadow) {
+    if same {
         give(reply, Reply::Already(shadow.name));
     } else {
         give(reply, Reply::Refused(Refusal::Conflict));

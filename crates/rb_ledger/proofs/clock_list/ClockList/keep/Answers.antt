@@ -13,24 +13,22 @@ use Rattle.rb_ledger.proofs.clock_list.ClockList.keep.Goals as goal
 len : (c : After-len-count) → c.len-count.result ≡ length c.args.self.now.items
 len c = omega (arith, ClockTables.seen_count _ _ _ _ _ (ap (λ (t : ClockTable). t.items) c.self.view_is))
 
-pub is_last-requires : goal.is_last-requires
-is_last-requires c = omega (arith, len (goal.at.is_last-requires c).After-len-count)
+pub is_at-requires : goal.is_at-requires
+is_at-requires c = let before = goal.at.is_at-requires c in omega (arith, len before.After-len-count, c.if-count-gt0.true)
 
-pub returns-then-is_last-clause-number : goal.returns-then-is_last-clause-number
-returns-then-is_last-clause-number c =
-    inr (omega (arith, len (goal.at.returns-then-is_last-clause-number c).After-len-count))
+pub returns-then-is_at-clause-number : goal.returns-then-is_at-clause-number
+returns-then-is_at-clause-number c =
+    inr (omega (arith, len (goal.at.returns-then-is_at-clause-number c).After-len-count))
 
-pub returns-then-is_last-clause-count : goal.returns-then-is_last-clause-count
-returns-then-is_last-clause-count c =
-    omega (arith, len (goal.at.returns-then-is_last-clause-count c).After-len-count)
+pub returns-then-is_at-clause-count : goal.returns-then-is_at-clause-count
+returns-then-is_at-clause-count c =
+    omega (arith, len (goal.at.returns-then-is_at-clause-count c).After-len-count)
 
-pub returns-then-is_last-clause-clock : goal.returns-then-is_last-clause-clock
-returns-then-is_last-clause-clock c =
-    let many = len (goal.at.returns-then-is_last-clause-clock c).After-len-count in
+pub returns-then-is_at-clause-clock : goal.returns-then-is_at-clause-clock
+returns-then-is_at-clause-clock c =
     let v = c.args.shadow.now in
-    OperationTables.kept_same c.args.self.now.sites _ v.deps v.name c.requires.sites c.is_last.ensures.all
-    c.requires.own (λ m. ap (λ k. slice_set (get_or c.args.self.now.items (k - 1) []) (row_of v.name) m) many
-    ∙ c.if-is_last.ensures.same refl m)
+    OperationTables.kept_same c.args.self.now.sites _ v.deps v.name c.requires.sites c.is_at.ensures.all
+    c.requires.own (λ m. c.if-is_at.ensures.same refl m)
 
 pub returns-clause-number : goal.returns-clause-number
 returns-clause-number c = inl (len (goal.at.returns-clause-number c).After-len-count)

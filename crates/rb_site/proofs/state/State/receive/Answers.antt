@@ -1,10 +1,12 @@
 -- A received shadow is answered as the model says.
 use Rattle.std.proofs.Common.{◌∙◌, true, ap, subst, sym}
-use Rattle.rb_shadow.specs.Operations.{find_in}
+use Rattle.std.specs.Prelude.{option_map}
+use Rattle.rb_shadow.specs.declared.shadow.Shadow.{Shadow}
+use Rattle.rb_shadow.specs.Operations.{find_in, same_shadow}
 use Rattle.rb_shadow.specs.Sound.{fault_of}
 use Rattle.rb_site.specs.declared.reply.Reply.TheVariants.{Refused}
 use Rattle.rb_site.specs.States.{Says, SiteState, plain}
-use Rattle.rb_site.proofs.Handlers.{knows, refuses_unsound}
+use Rattle.rb_site.proofs.Handlers.{knows_nothing, knows_whether, refuses_unsound}
 use Rattle.rb_site.proofs.state.State.receive.Goals as goal
 
 pub returns-in-Err-clause-ok : goal.returns-in-Err-clause-ok
@@ -14,12 +16,16 @@ returns-in-Err-clause-ok c =
     (ap (λ s. fault_of s c.args.shadow.now) (sym (c.config.ensures.same ∙ ap (λ (z : SiteState). z.settings) c.self.view_is)) ∙ fault)
     (subst (λ w. Says true (plain c.give.new.place) (Refused w)) is c.give.ensures)
 
+pub knows-requires : goal.knows-requires
+knows-requires c = ap (λ s. fault_of s c.args.shadow.now) (sym c.config.ensures.same) ∙ c.in_default.ensures.sound
+
 pub returns-in-Some-clause-ok : goal.returns-in-Some-clause-ok
 returns-in-Some-clause-ok c =
-    knows c.args.self.now c.args.shadow.now c.in-Some.applied (plain c.again.new.reply)
+    knows_whether c.args.self.now c.args.shadow.now c.in-Some.same (plain c.again.new.reply)
     (ap (λ s. fault_of s c.args.shadow.now) (sym (c.config.ensures.same ∙ ap (λ (z : SiteState). z.settings) c.self.view_is))
     ∙ c.in_default.ensures.sound)
-    (ap (λ (z : SiteState). find_in z.site.ops c.args.shadow.now.name) (sym c.self.view_is) ∙ sym c.in-Some.ensures)
+    (c.in-Some.ensures ∙ ap (λ (z : SiteState). option_map (λ (u : Shadow). same_shadow u c.args.shadow.now)
+    (find_in z.site.ops c.args.shadow.now.name)) c.self.view_is)
     c.again.ensures
 
 pub receive_new-requires-clause-sound : goal.receive_new-requires-clause-sound
@@ -29,4 +35,5 @@ receive_new-requires-clause-sound c =
 
 pub receive_new-requires-clause-new : goal.receive_new-requires-clause-new
 receive_new-requires-clause-new c =
-    ap (λ (z : SiteState). find_in z.site.ops c.args.shadow.now.name) (sym c.self.view_is) ∙ sym c.in_default-applied.ensures
+    ap (λ (z : SiteState). find_in z.site.ops c.args.shadow.now.name) (sym c.self.view_is)
+    ∙ knows_nothing (λ (u : Shadow). same_shadow u c.args.shadow.now) _ c.in_default-knows.ensures
