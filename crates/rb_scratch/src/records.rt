@@ -28,6 +28,7 @@ impl Model for Records {
 
 impl Records {
     /// No records.
+    #[inline(always)]
     pub fn new() -> Records
         ensures { result.parts ≡ [] }
     {
@@ -65,6 +66,7 @@ impl Records {
 
     /// Moves the records to the end of a log. Out of memory they come back, and nothing changes but that the log may
     /// have more spare capacity.
+    #[inline(always)]
     pub fn append_to(self, log: &mut UndoLog) -> Result<(), Records>
         ensures log { OnOk result (log.new.parts ≡ log.old.parts ++ self.parts) }
         ensures back { IfErr result (λ back. back ≡ self) }

@@ -92,6 +92,7 @@ fn try_one(
 
 impl<'a> Scratch<'a> {
     /// A scratch on the ledger, at the site of the token's view.
+    #[inline(always)]
     pub fn open(alloc: Global, ledger: &'a mut Ledger, token: TokenView) -> Scratch<'a>
         requires { token.me < ledger.old.settings.sites }
         ensures same_reference { result.ledger.ghost_name ≡ ledger.entry.ghost_name }
@@ -146,6 +147,7 @@ impl<'a> Scratch<'a> {
     /// Keeps what was run: gives the shadows in order, and puts their records at the log's end. Out of
     /// memory the scratch comes back, and nothing changes but that the log may have more spare capacity.
     /// That can be only where something was run.
+    #[inline(always)]
     pub fn commit(self, log: &mut UndoLog) -> Result<Vec<Shadow>, Scratch<'a>>
         requires { IsOfTheLast self.ledger.now self.undos.parts }
         ensures* ledger { sem 𝓛 (RestsIfOk the_row self.entry.ledger (λ scratch. scratch.ledger.ghost_name) result
@@ -190,6 +192,7 @@ impl<'a> Scratch<'a> {
 
     /// Takes back what was run: the ledger's list is that at the opening, and there is spare
     /// capacity for one more for each operation taken out.
+    #[inline(never)]
     pub fn abort(self)
         requires { IsOfTheLast self.ledger.now self.undos.parts }
         ensures settings { self.exit.0.now.settings ≡ self.entry.ledger.now.settings }
