@@ -133,7 +133,7 @@ impl Journal {
     /// Applies a shadow that may follow the operations, and keeps the record to undo that. An `Err` means out of
     /// memory, and all is as before.
     #[inline(always)]
-    pub fn append(&mut self, shadow: &Shadow) -> Result<(), AllocError>
+    pub fn apply_made(&mut self, shadow: &Shadow) -> Result<(), AllocError>
         requires { IsValid self.old.settings (self.old.ops ++ shadow.now ∷ []) }
         ensures ok { OnOk result (self.new ≡ record self.old { ops = self.old.ops ++ shadow.now ∷ [] }) }
         ensures err { OnErr result (self.new ≡ self.old) }

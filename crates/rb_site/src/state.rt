@@ -174,7 +174,7 @@ impl State {
             Err(why) => return Ok(give(reply, Reply::Refused(why))),
         };
         sent.reserve(1)?;
-        self.journal.append(&shadow)?;
+        self.journal.apply_made(&shadow)?;
         sent.push_reserved(Message::Shadow(shadow));
         let name = shadow.name;
         let kind = shadow.kind.label();

@@ -3,7 +3,7 @@ use Rattle.std.proofs.Common.{◌∙◌, ◌++◌, ◌∷◌, [], ap, sym}
 use Rattle.rb_money.specs.Settings.{Settings}
 use Rattle.rb_ledger.specs.Records.{records_of}
 use Rattle.rb_ledger.proofs.Public.Records
-use Rattle.rb_site.proofs.journal.Journal.append.Goals as goal
+use Rattle.rb_site.proofs.journal.Journal.apply_made.Goals as goal
 
 pub invariant_of-self-in-Ok : goal.invariant_of-self-in-Ok
 invariant_of-self-in-Ok c =

@@ -11,8 +11,8 @@ use Rattle.rb_site.specs.declared.reply.Reply.{Reply}
 use Rattle.rb_site.specs.Notes.{IsNoted}
 use Rattle.rb_site.specs.Reports.{IsEnough, RoomFor}
 use Rattle.rb_site.specs.States.{IsStanding, Says, SiteState, noting}
-use Rattle.rb_site.proofs.site.Site.record.Given.{Over}
-use Rattle.rb_site.proofs.site.Site.record.Goals as goal
+use Rattle.rb_site.proofs.site.Site.take_step.Given.{Over}
+use Rattle.rb_site.proofs.site.Site.take_step.Goals as goal
 use Rattle.rb_site.proofs.Reports.{still_enough}
 use Rattle.rb_site.proofs.States.{IsStep, is_step, me_kept, noted_in, seen_as, seen_now}
 use Rattle.rb_site.proofs.Public.Outcomes.{sends_few}

@@ -34,19 +34,19 @@ returns-in-Err-clause-ok c =
 pub returns-in_err-reserve-clause-err : goal.returns-in_err-reserve-clause-err
 returns-in_err-reserve-clause-err c = on_err c.from_residual.result _ (refl, c.in_err-reserve.ensures.items)
 
-pub append-requires : goal.append-requires
-append-requires c =
+pub apply_made-requires : goal.apply_made-requires
+apply_made-requires c =
     subst (λ us. IsValid c.self.inside.journal.settings (us ++ c.in-Ok.shadow ∷ [])) c.ledger.ensures.entries
     (subst (λ s. IsValid s (c.ledger.result.now.entries ++ c.in-Ok.shadow ∷ [])) c.ledger.ensures.settings c.in-Ok.ensures.valid)
 
 pub invariant_of-self : goal.invariant_of-self
-invariant_of-self c = tied_as c.self.inside.journal.settings c.append.new.self.settings c.self.inside.inbox c.self.inside.token
-    (ap (λ (b : SeenLedger). b.settings) c.in_err-append.ensures.err) c.self.invariant
+invariant_of-self c = tied_as c.self.inside.journal.settings c.apply_made.new.self.settings c.self.inside.inbox c.self.inside.token
+    (ap (λ (b : SeenLedger). b.settings) c.in_err-apply_made.ensures.err) c.self.invariant
 
-pub returns-in_err-append-clause-err : goal.returns-in_err-append-clause-err
-returns-in_err-append-clause-err c = on_err c.from_residual-in_err-append.result _ (
+pub returns-in_err-apply_made-clause-err : goal.returns-in_err-apply_made-clause-err
+returns-in_err-apply_made-clause-err c = on_err c.from_residual-in_err-apply_made.result _ (
   ap (λ (b : SeenLedger). state_as b.settings c.self.inside.token.me b.ops c.self.inside.inbox.held c.self.inside.token.token)
-      c.in_err-append.ensures.err ∙ c.self.view_is,
+      c.in_err-apply_made.ensures.err ∙ c.self.view_is,
   c.in_ok-reserve.ensures.items,
 )
 
@@ -54,12 +54,12 @@ pub push_reserved-requires : goal.push_reserved-requires
 push_reserved-requires c = omega (arith, c.in_ok-reserve.ensures.ok, c.in_ok-reserve.ensures.len)
 
 pub invariant_of-self-2 : goal.invariant_of-self-2
-invariant_of-self-2 c = tied_as c.self.inside.journal.settings c.append.new.self.settings c.self.inside.inbox c.self.inside.token
-    (ap (λ (b : SeenLedger). b.settings) c.in_ok-append.ensures.ok) c.self.invariant
+invariant_of-self-2 c = tied_as c.self.inside.journal.settings c.apply_made.new.self.settings c.self.inside.inbox c.self.inside.token
+    (ap (λ (b : SeenLedger). b.settings) c.in_ok-apply_made.ensures.ok) c.self.invariant
 
 pub returns-clause-ok : goal.returns-clause-ok
 returns-clause-ok c =
-    let P : SiteState → Type 0 = λ z. Follows true z (state_as c.append.new.self.settings c.self.inside.token.me c.append.new.self.ops
+    let P : SiteState → Type 0 = λ z. Follows true z (state_as c.apply_made.new.self.settings c.self.inside.token.me c.apply_made.new.self.ops
     c.self.inside.inbox.held c.self.inside.token.token) c.args.sent.now.items c.push_reserved.new.self.items
     (outcome_of z.settings z.site (Submit c.args.request.now)) (plain c.give-2.new.place) in
     let old : SiteState = state_as c.self.inside.journal.settings c.self.inside.token.me c.self.inside.journal.ops c.self.inside.inbox.held
@@ -68,7 +68,7 @@ returns-clause-ok c =
     c.self.inside.token.token) c.args.sent.now.items c.push_reserved.new.self.items
     (outcome_of old.settings old.site (Submit c.args.request.now)) (plain c.give-2.new.place) in
     subst P c.self.view_is
-    (subst Q (sym c.in_ok-append.ensures.ok)
+    (subst Q (sym c.in_ok-apply_made.ensures.ok)
     (makes_request c.self.inside.journal.settings c.self.inside.token.me c.self.inside.journal.ops c.self.inside.inbox.held
     c.self.inside.token.token c.args.request.now c.in-Ok.shadow c.args.sent.now.items c.push_reserved.new.self.items
     (plain c.give-2.new.place)
