@@ -34,4 +34,4 @@ closed_report s x parts amount r desk few report =
     let me : r.me ≡ x.me = report.me ∙ Seen.me-state x in
     let shown : P s r.me r.history.items = subst (λ (t : Settings). P t r.me r.history.items) desk.settings
     (subst (λ (i : ℕ). P x.settings i r.history.items) (sym me) (subst (P x.settings x.me) (sym same) there)) in
-    record { within = shown.0; replays = shown.1; room = shown.2; stands = shown.3; few = few }
+    record { within = shown.0; replays = shown.1; room = shown.2; is_report = shown.3; few = few }

@@ -143,14 +143,14 @@ numbers_from lists m (f ∷ es) j x h o =
       | inr r ↦ (let later = numbers_from (set lists h.0 h.1) (m + 1) es j x h.3 r in omega arith)
     ]
 
-stands_once : (lists : List (List (ℕ × Entry))) (m : ℕ) (es : List Entry) (j k : ℕ) (x y : ℕ × Entry)
+is_once : (lists : List (List (ℕ × Entry))) (m : ℕ) (es : List Entry) (j k : ℕ) (x y : ℕ × Entry)
     → IsInterleaving lists (numbered m es) → Occurs lists j x → Occurs lists k y → x.0 ≡ y.0 → j ≡ k
-stands_once lists m [] j k x y h o u same =
+is_once lists m [] j k x y h o u same =
     let gone = h j o.items o.there in
     let P : List (ℕ × Entry) → Type 0 = λ l. slice_get l o.index ≡ Some x in
     let none = subst P gone o.at in
     cc
-stands_once lists m (f ∷ es) j k x y h o u same =
+is_once lists m (f ∷ es) j k x y h o u same =
     elim (left_or_head lists h.0 (m, f) h.1 j x h.2 o) [
       | inl e ↦
           (elim (left_or_head lists h.0 (m, f) h.1 k y h.2 u) [
@@ -166,7 +166,7 @@ stands_once lists m (f ∷ es) j k x y h o u same =
                 (let later = numbers_from (set lists h.0 h.1) (m + 1) es j x h.3 e in
                 let n = ap (λ (p : ℕ × Entry). p.0) g.1 in
                 absurd (omega arith))
-            | inr g ↦ stands_once (set lists h.0 h.1) (m + 1) es j k x y h.3 e g same
+            | inr g ↦ is_once (set lists h.0 h.1) (m + 1) es j k x y h.3 e g same
           ])
     ]
 
@@ -195,7 +195,7 @@ pub distinct : (site : ℕ) (history : List Entry) (seats : List SeenSeat) → I
 distinct site history seats h number j k a b =
     let o = claims_occur site number seats j a in
     let u = claims_occur site number seats k b in
-    stands_once (claims site seats) 1 history j k o.0 u.0 h o.2 u.2 (o.1 ∙ sym u.1)
+    is_once (claims site seats) 1 history j k o.0 u.0 h o.2 u.2 (o.1 ∙ sym u.1)
 
 -- ---- the test of one seat
 

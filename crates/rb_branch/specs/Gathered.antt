@@ -73,7 +73,7 @@ pub record IsClosedReport (s : Settings) (r : SiteReport) : Type 0 where
   pub within : r.me < s.sites
   pub replays : Replays s (first_site r.me) r.history.items
   pub room : length r.history.items ≤ s.limits.history
-  pub stands : IsReport s (state_of (seen s r.me r.history.items)) r
+  pub is_report : IsReport s (state_of (seen s r.me r.history.items)) r
   pub few : vec_len r.history < 2 ^ 32
 
 -- a branch whose sites are closed, as clients see it: the reports, and how many seats were given

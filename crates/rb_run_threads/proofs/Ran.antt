@@ -10,7 +10,7 @@ use Rattle.rb_site.specs.declared.report.SiteReport.{SiteReport}
 use Rattle.rb_site.specs.Seen.{IsReplayed}
 use Rattle.rb_site.proofs.Public.Lists.{map_back}
 use Rattle.rb_branch.specs.Gathered.{IsClosedReport}
-use Rattle.rb_tellers.specs.Tellers.{TellersAt}
+use Rattle.rb_branch.specs.Tellers.{TellersAt}
 use Rattle.rb_lines.specs.Buffers.{Sends}
 use Rattle.rb_lines.specs.Writes.{AppendsFront}
 use Rattle.rb_run_threads.specs.Bank.{bank_of}
@@ -35,12 +35,12 @@ at_place s rs k r closed at = subst (IsClosedReport s) (get_or_from_slice_get rs
 pub gathered : (s : Settings) (tellers seed : ℕ) (rs : List SiteReport) → length rs ≡ s.sites → All (IsClosedReport s) rs
     → ((k : ℕ) (r : SiteReport) → slice_get rs k ≡ Some r → (r.me ≡ k) × TellersAt seed tellers s.sites k r.history.items)
     → AreTellers s tellers seed (map history_of rs)
-gathered s tellers seed rs all closed told = record {
+gathered s tellers seed rs all closed each = record {
   each_site = length-map rs history_of ∙ all;
-  replays = λ k h at. let b = map_back history_of rs k h at in replayed s b.0 k h (at_place s rs k b.0 closed b.1) (told k b.0 b.1).0 b.2;
+  replays = λ k h at. let b = map_back history_of rs k h at in replayed s b.0 k h (at_place s rs k b.0 closed b.1) (each k b.0 b.1).0 b.2;
   tellers_at = λ k h at. let b = map_back history_of rs k h at in
       let P : List Entry → Type 0 = λ es. TellersAt seed tellers s.sites k es in
-      subst P (sym b.2) (told k b.0 b.1).1;
+      subst P (sym b.2) (each k b.0 b.1).1;
 }
 
 -- a run of the bank by another name

@@ -1,5 +1,5 @@
 //! A run of tellers and serving threads at the sites of a bank, and what they did as text.
-//! Tests: rb_tests_runs, tellers.rt; tests/cases.py runs tellers through the program.
+//! Tests: rb_tests_runs, audited.rt, tellers.rt; tests/cases.py runs tellers through the program.
 #![tactic(auto)]
 
 mod opening;

@@ -8,12 +8,12 @@ ghost use Rattle.rb_uses.specs.Served.{AreBoth, IsDepositor, IsAttendant};
 
 use crate::bank::{ANN, config};
 use rb_branch::{
-    Branch, CallFault, Entries, GatherFault, Inlet, NoGate, Outbox, RECEIPT_PARTS, Seat, links,
+    Branch, CallFault, Entries, GatherFault, Inlet, NoGate, Outbox, RECEIPT_PARTS, Seat,
+    TellersFault, links,
 };
 use rb_money::Config;
 use rb_scratch::Request;
 use rb_site::SiteReport;
-use rb_tellers::TellersFault;
 use std::alloc::Global;
 use std::marker::Brand;
 use std::sync::Wait;
