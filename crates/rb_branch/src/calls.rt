@@ -25,7 +25,7 @@ impl<E: Entries, R: Ledger, G: Gate + Drop> Branch<E, R, G> {
         ensures ok { IfOk result (λ n. HasOneMore seat.old seat.new (λ e. e ≡ Event.Submit request) n) }
         ensures err { OnErr result (seat.new ≡ seat.old) }
     {
-        self.send(rt, seat, outbox, Event::Submit(request))
+        self.make(rt, seat, Some(outbox), Event::Submit(request))
     }
 
     /// A request to cancel an operation.
@@ -39,7 +39,12 @@ impl<E: Entries, R: Ledger, G: Gate + Drop> Branch<E, R, G> {
         ensures ok { IfOk result (λ n. HasOneMore seat.old seat.new (λ e. e ≡ Event.Submit (Request.Cancel target)) n) }
         ensures err { OnErr result (seat.new ≡ seat.old) }
     {
-        self.send(rt, seat, outbox, Event::Submit(Request::Cancel { target }))
+        self.make(
+            rt,
+            seat,
+            Some(outbox),
+            Event::Submit(Request::Cancel { target }),
+        )
     }
 
     /// 1 to `MOST_REQUESTS` requests, of which all are made or none.
@@ -53,7 +58,7 @@ impl<E: Entries, R: Ledger, G: Gate + Drop> Branch<E, R, G> {
         ensures ok { IfOk result (λ n. HasOneMore seat.old seat.new (λ e. e ≡ Event.Batch requests) n) }
         ensures err { OnErr result (seat.new ≡ seat.old) }
     {
-        self.send(rt, seat, outbox, Event::Batch(requests))
+        self.make(rt, seat, Some(outbox), Event::Batch(requests))
     }
 
     /// The token is to go to the site of this number.
@@ -67,7 +72,7 @@ impl<E: Entries, R: Ledger, G: Gate + Drop> Branch<E, R, G> {
         ensures ok { IfOk result (λ n. HasOneMore seat.old seat.new (λ e. e ≡ Event.Pass to) n) }
         ensures err { OnErr result (seat.new ≡ seat.old) }
     {
-        self.send(rt, seat, outbox, Event::Pass(to))
+        self.make(rt, seat, Some(outbox), Event::Pass(to))
     }
 
     /// One event. What it sends goes out by the outbox once the site's lock is released.
@@ -81,18 +86,26 @@ impl<E: Entries, R: Ledger, G: Gate + Drop> Branch<E, R, G> {
         ensures ok { IfOk result (λ n. HasOneMore seat.old seat.new (λ e. e ≡ event) n) }
         ensures err { OnErr result (seat.new ≡ seat.old) }
     {
-        let (number, posted) = self.call(rt, seat, event)?;
-        let unsent = outbox.post(rt, seat.site(), self.sites(), posted.as_slice());
-        seat.set_unsent(unsent);
-        Ok(number)
+        self.make(rt, seat, Some(outbox), event)
     }
 
-    /// One event that sends nothing.
-    fn ask<W: Wait>(&self, rt: &W, seat: &mut Seat<E, R>, event: Event) -> Result<u32, CallFault>
+    /// One event. What it sends goes out by the outbox, if there is one, once the site's lock is released.
+    fn make<W: Wait>(
+        &self,
+        rt: &W,
+        seat: &mut Seat<E, R>,
+        outbox: Option<&Outbox>,
+        event: Event,
+    ) -> Result<u32, CallFault>
         ensures ok { IfOk result (λ n. HasOneMore seat.old seat.new (λ e. e ≡ event) n) }
         ensures err { OnErr result (seat.new ≡ seat.old) }
     {
-        let (number, _posted) = self.call(rt, seat, event)?;
+        let (number, posted) = self.call(rt, seat, event)?;
+        let Some(outbox) = outbox else {
+            return Ok(number);
+        };
+        let unsent = outbox.post(rt, seat.site(), self.sites(), posted.as_slice());
+        seat.set_unsent(unsent);
         Ok(number)
     }
 
@@ -106,7 +119,7 @@ impl<E: Entries, R: Ledger, G: Gate + Drop> Branch<E, R, G> {
         ensures ok { IfOk result (λ n. HasOneMore seat.old seat.new (λ e. e ≡ Event.Receive message) n) }
         ensures err { OnErr result (seat.new ≡ seat.old) }
     {
-        self.ask(rt, seat, Event::Receive(message))
+        self.make(rt, seat, None, Event::Receive(message))
     }
 
     /// A question for an account's balance.
@@ -119,7 +132,7 @@ impl<E: Entries, R: Ledger, G: Gate + Drop> Branch<E, R, G> {
         ensures ok { IfOk result (λ n. HasOneMore seat.old seat.new (λ e. e ≡ Event.Balance place) n) }
         ensures err { OnErr result (seat.new ≡ seat.old) }
     {
-        self.ask(rt, seat, Event::Balance(place))
+        self.make(rt, seat, None, Event::Balance(place))
     }
 
     /// A question for an account's balance after this number of the site's operations.
@@ -133,7 +146,7 @@ impl<E: Entries, R: Ledger, G: Gate + Drop> Branch<E, R, G> {
         ensures ok { IfOk result (λ n. HasOneMore seat.old seat.new (λ e. e ≡ Event.AsOf place position) n) }
         ensures err { OnErr result (seat.new ≡ seat.old) }
     {
-        self.ask(rt, seat, Event::AsOf(place, position))
+        self.make(rt, seat, None, Event::AsOf(place, position))
     }
 
     /// A question for an account's statement.
@@ -146,6 +159,6 @@ impl<E: Entries, R: Ledger, G: Gate + Drop> Branch<E, R, G> {
         ensures ok { IfOk result (λ n. HasOneMore seat.old seat.new (λ e. e ≡ Event.Statement place) n) }
         ensures err { OnErr result (seat.new ≡ seat.old) }
     {
-        self.ask(rt, seat, Event::Statement(place))
+        self.make(rt, seat, None, Event::Statement(place))
     }
 }

@@ -1,7 +1,7 @@
 use Rattle.std.proofs.Common.{◌≡◌}
 use Rattle.std.proofs.Common.{refl}
 use Rattle.rb_branch.proofs.Recorded.{call_one, one_with_unsent}
-use Rattle.rb_branch.proofs.branch.Branch.send.Goals as goal
+use Rattle.rb_branch.proofs.branch.Branch.make.Goals as goal
 
 pub returns-clause-ok : goal.returns-clause-ok
 returns-clause-ok g c =
