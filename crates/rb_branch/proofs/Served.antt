@@ -2,7 +2,8 @@
 use Rattle.std.proofs.Common.{◌≡◌, ℕ, zero, suc, ◌+◌, ◌-◌, ◌<◌, ◌≤◌, List, [], ◌∷◌, ◌++◌, length, refl, sym, ap, ◌∙◌, subst, arith}
 use Rattle.std.proofs.Common.{length-append, append_assoc, append-nil, get_or, set, remove, Bool, true, false, true≢false, Some, ◌⊎◌, inl}
 use Rattle.std.proofs.Common.{None, inr}
-use Rattle.std.specs.Prelude.{All, OnErr, MatchBool, MatchOption, Option, Result, Ok, Err, slice_get}
+use Rattle.std.specs.Prelude.{All, OnErr, IfNone, MatchBool, MatchOption, Option, Result, Ok, Err, slice_get, drop}
+use Rattle.std.proofs.lemmas.List.{drop-append-le}
 use Rattle.std.proofs.lemmas.List.Elements.{All-append}
 use Rattle.std.proofs.Math.Seq.{set-append_seam, get_or-append_seam}
 use Rattle.rb_site.specs.declared.event.Event.{Event}
@@ -10,7 +11,7 @@ use Rattle.rb_site.specs.declared.event.Event.TheVariants as ev
 use Rattle.rb_site.specs.declared.message.Message.{Message}
 use Rattle.rb_branch.specs.declared.receipt.Receipt.{Receipt}
 use Rattle.rb_branch.specs.Seats.{AreRefused, HasOneMore, HasServed, IsApply, IsOneOf, IsServed, WasReceived, NoneLost, SeenSeat, Any}
-use Rattle.rb_branch.specs.Seats.{is_full_inbox}
+use Rattle.rb_branch.specs.Seats.{RefusesOn, is_full_inbox, receipts_since}
 
 abbrev Refuses : Message → Receipt → Type 0
 Refuses m r = (r.event ≡ ev.Receive m) × (is_full_inbox r.reply ≡ true)
@@ -235,32 +236,35 @@ refused_none kept rs i m h at = absurd (omega arith)
 refused_more : (n : ℕ) (kept : List Message) (rs rs' xs : List Receipt) → AreRefused n kept rs → rs' ≡ rs ++ xs → AreRefused n kept rs'
 refused_more n kept rs rs' xs all is i m h at = subst (Any (Refuses m)) (sym is) (some_left (Refuses m) rs xs (all i m h at))
 
--- and so does a receipt more
-pub refused_after : (n k : ℕ) (kept : List Message) (b c : SeenSeat) (P : Event → Type 0) → AreRefused n kept b.receipts
-    → HasOneMore b c P k → AreRefused n kept c.receipts
-refused_after n k kept b c P all h =
-    refused_more n kept b.receipts c.receipts (h.last ∷ []) all (ap (λ (s : SeenSeat). s.receipts) h.seat)
+-- from a receipt on that was there, one more is behind those
+since_one : (b c : SeenSeat) (P : Event → Type 0) (n from : ℕ) → from ≤ length b.receipts → (h : HasOneMore b c P n)
+    → drop from c.receipts ≡ drop from b.receipts ++ h.last ∷ []
+since_one b c P n from few h =
+    ap (λ (s : SeenSeat). drop from s.receipts) h.seat ∙ drop-append-le from b.receipts (h.last ∷ []) few
 
 -- what an application leaves
-pub refused_applied : (n : ℕ) (kept : List Message) (b c : SeenSeat) (o : Option ℕ) → AreRefused n kept b.receipts
-    → MatchOption o (c ≡ b) (λ k. HasOneMore b c IsApply k) → AreRefused n kept c.receipts
-refused_applied n kept b c None all same = subst (λ (s : SeenSeat). AreRefused n kept s.receipts) (sym same) all
-refused_applied n kept b c (Some k) all h = refused_after n k kept b c IsApply all h
+pub refuses_applied : (n : ℕ) (kept : List Message) (b c : SeenSeat) (o : Option ℕ)
+    → MatchOption o (c ≡ b) (λ k. HasOneMore b c IsApply k) → RefusesOn n kept b n kept c
+refuses_applied n kept b c None same from few all =
+    subst (λ (s : SeenSeat). AreRefused n kept (drop from s.receipts)) (sym same) all
+refuses_applied n kept b c (Some k) h from few all =
+    refused_more n kept (drop from b.receipts) (drop from c.receipts) (h.last ∷ []) all (since_one b c IsApply k from few h)
 
 -- one message more is refused
-pub refused_next : (k n : ℕ) (kept : List Message) (b c : SeenSeat) (m : Message) (full : Bool) → AreRefused k kept b.receipts
+pub refuses_next : (k n : ℕ) (kept : List Message) (b c : SeenSeat) (m : Message) (full : Bool)
     → slice_get kept k ≡ Some m → HasOneMore b c (λ e. e ≡ ev.Receive m) n
     → ((xs : List Receipt) (r : Receipt) → c.receipts ≡ xs ++ r ∷ [] → full ≡ is_full_inbox r.reply) → full ≡ true
-    → AreRefused (k + 1) kept c.receipts
-refused_next k n kept b c m full all at h found is i x within here =
-    let now = ap (λ (s : SeenSeat). s.receipts) h.seat in
+    → RefusesOn k kept b (k + 1) kept c
+refuses_next k n kept b c m full at h found is from few all i x within here =
+    let rs = drop from b.receipts in
+    let now = since_one b c (λ e. e ≡ ev.Receive m) n from few h in
     elim (lt_or_same i k within) [
-      | inl less ↦ subst (Any (Refuses x)) (sym now) (some_left (Refuses x) b.receipts (h.last ∷ []) (all i x less here))
+      | inl less ↦ subst (Any (Refuses x)) (sym now) (some_left (Refuses x) rs (h.last ∷ []) (all i x less here))
       | inr same ↦
           let one : x ≡ m = some_same (sym here ∙ ap (slice_get kept) same ∙ at) in
           let reply : is_full_inbox h.last.reply ≡ true = sym (last_reply b c (λ e. e ≡ ev.Receive m) n full h found) ∙ is in
           subst (Any (Refuses x)) (sym now)
-          (some_right (Refuses x) b.receipts (h.last ∷ []) (inl (h.event_is ∙ ap ev.Receive (sym one), reply)))
+          (some_right (Refuses x) rs (h.last ∷ []) (inl (h.event_is ∙ ap ev.Receive (sym one), reply)))
     ]
   where
     lt_or_same : (i k : ℕ) → i < k + 1 → (i < k) ⊎ (i ≡ k)
@@ -275,11 +279,14 @@ refused_next k n kept b c m full all at h found is i x within here =
     some_same : {x y : Message} → Some x ≡ Some y → x ≡ y
     some_same is = cc is
 
--- those before one that goes
-pub refused_removed : (k : ℕ) (kept new : List Message) (rs : List Receipt) → AreRefused k kept rs → new ≡ remove kept k
-    → AreRefused k new rs
-refused_removed k kept new rs all is i m within at =
-    all i m within (sym (below kept k i within) ∙ ap (λ (l : List Message). slice_get l i) (sym is) ∙ at)
+-- one that was received with another reply goes, and those before it are still refused
+pub refuses_received : (k n : ℕ) (kept new : List Message) (b c : SeenSeat) (m : Message) → HasOneMore b c (λ e. e ≡ ev.Receive m) n
+    → new ≡ remove kept k → RefusesOn k kept b k new c
+refuses_received k n kept new b c m h is from few all i x within at =
+    let rs = drop from b.receipts in
+    let still : AreRefused k kept (drop from c.receipts) =
+    refused_more k kept rs (drop from c.receipts) (h.last ∷ []) all (since_one b c (λ e. e ≡ ev.Receive m) n from few h) in
+    still i x within (sym (below kept k i within) ∙ ap (λ (l : List Message). slice_get l i) (sym is) ∙ at)
   where
     below : (xs : List Message) (k i : ℕ) → i < k → slice_get (remove xs k) i ≡ slice_get xs i
     below [] zero i h = absurd (omega arith)
@@ -289,7 +296,7 @@ refused_removed k kept new rs all is i m within at =
     below (x ∷ xs) (suc k) (suc i) h = below xs k i (omega arith)
 
 -- those before one that is taken, if one was
-pub refused_taken : (n : ℕ) (kept new : List Message) (rs : List Receipt) (t : Bool) → AreRefused (length kept) kept rs
+refused_taken : (n : ℕ) (kept new : List Message) (rs : List Receipt) (t : Bool) → AreRefused (length kept) kept rs
     → n ≡ length kept → MatchBool t ((x : Message) × (new ≡ kept ++ x ∷ [])) (new ≡ kept) → AreRefused n new rs
 refused_taken n kept new rs false all is same i m within at =
     all i m (omega (arith, within, is)) (ap (λ (l : List Message). slice_get l i) (sym same) ∙ at)
@@ -302,10 +309,51 @@ refused_taken n kept new rs true all is taken i m within at =
     before (x ∷ xs) ys zero h = refl
     before (x ∷ xs) ys (suc i) h = before xs ys i (omega arith)
 
--- where all are, once the first n are
-pub refused_all : (n : ℕ) (kept : List Message) (rs : List Receipt) → AreRefused n kept rs → length kept ≤ n
-    → AreRefused (length kept) kept rs
-refused_all n kept rs all few i m within at = all i m (omega (arith, within, few)) at
+-- a message is taken, if one was
+pub refuses_taken : (n : ℕ) (kept new : List Message) (a : SeenSeat) (t : Bool) → n ≡ length kept
+    → MatchBool t ((x : Message) × (new ≡ kept ++ x ∷ [])) (new ≡ kept) → RefusesOn (length kept) kept a n new a
+refuses_taken n kept new a t is taken from few all = refused_taken n kept new (drop from a.receipts) t all is taken
+
+-- no message is taken
+pub refuses_untaken : (kept new : List Message) (a : SeenSeat) (t : Bool) → t ≡ false
+    → MatchBool t ((x : Message) × (new ≡ kept ++ x ∷ [])) (new ≡ kept) → RefusesOn (length kept) kept a (length new) new a
+refuses_untaken kept new a false is same from few all =
+    subst (λ (l : List Message). AreRefused (length l) l (drop from a.receipts)) (sym same) all
+refuses_untaken kept new a true is taken from few all = absurd (true≢false is)
+
+-- what holds where there is none
+pub if_none : (o : Option ℕ) (P : Type 0) → ((x : ℕ) → ¬ (o ≡ Some x)) → IfNone o P → P
+if_none None P not h = h
+if_none (Some x) P not h = absurd (not x refl)
+
+-- none is the first of none
+pub refuses_none : (n : ℕ) (old new : List Message) (a b : SeenSeat) → RefusesOn n old a 0 new b
+refuses_none n old new a b from few all = refused_none new (drop from b.receipts)
+
+-- nothing happened
+pub refuses_same : (n : ℕ) (kept : List Message) (a : SeenSeat) → RefusesOn n kept a n kept a
+refuses_same n kept a from few all = all
+
+-- all that are kept, once the first n are
+pub refuses_all : (k n : ℕ) (old kept : List Message) (a b : SeenSeat) → RefusesOn k old a n kept b → length kept ≤ n
+    → RefusesOn k old a (length kept) kept b
+refuses_all k n old kept a b all most from few first i m within at = all from few first i m (omega (arith, within, most)) at
+
+-- there are no fewer receipts
+serves_longer : (a b : SeenSeat) (k l : List Message) → Serves a b k l → length a.receipts ≤ length b.receipts
+serves_longer a b k l h =
+    omega (arith, ap (λ (c : SeenSeat). length c.receipts) h.1.seat, length-append a.receipts h.1.more)
+
+-- one after the other
+pub refuses_then : (n m p : ℕ) (k l o : List Message) (a b c : SeenSeat) → Serves a b k l → RefusesOn n k a m l b
+    → RefusesOn m l b p o c → RefusesOn n k a p o c
+refuses_then n m p k l o a b c served first next from few all =
+    next from (omega (arith, few, serves_longer a b k l served)) (first from few all)
+
+-- the same of the receipts since some seat
+pub refused_since : (n m : ℕ) (k l o : List Message) (a b c : SeenSeat) → Serves a b k l → AreRefused n l (receipts_since a b)
+    → RefusesOn n l b m o c → AreRefused m o (receipts_since a c)
+refused_since n m k l o a b c served all next = next (length a.receipts) (serves_longer a b k l served) all
 
 -- how many receipts more there are
 pub served_since : (a b : SeenSeat) (k l : List Message) (xs ys : List Receipt) → Serves a b k l → xs ≡ a.receipts → ys ≡ b.receipts

@@ -1,6 +1,6 @@
 -- What a call does to a desk and to a seat.
 use Rattle.std.specs.Prelude.{◌≡◌, ◌≢◌, ◌⊎◌, ℕ, ◌+◌, ◌≤◌, ◌<◌, Bool, true, false, Option, Some, None, zero, suc}
-use Rattle.std.specs.Prelude.{slice_get, List, [], ◌∷◌, ◌++◌, length, All}
+use Rattle.std.specs.Prelude.{slice_get, drop, List, [], ◌∷◌, ◌++◌, length, All}
 use Rattle.rb_money.specs.Settings.{Settings}
 use Rattle.rb_money.specs.declared.limits.TheConstants.{MOST_SITES}
 use Rattle.rb_branch.specs.declared.limits.TheConstants.{MOST_RECEIPTS, MOST_SEATS, RECEIPT_PARTS}
@@ -153,6 +153,16 @@ WasReceived m receipts = Any (λ r. (r.event ≡ Receive m) × (is_full_inbox r.
 -- each of the first n messages was refused, as the inbox was full, by one of these receipts
 abbrev pub AreRefused : ℕ → List Message → List Receipt → Type 0
 AreRefused n kept receipts = (i : ℕ) (m : Message) → i < n → slice_get kept i ≡ Some m → WasRefused m receipts
+
+-- the receipts that a seat has more than it had
+abbrev pub receipts_since : SeenSeat → SeenSeat → List Receipt
+receipts_since old new = drop (length old.receipts) new.receipts
+
+-- from whichever receipt on one looks: if those that the seat had refuse the first n messages that were kept, those that
+-- it has refuse the first m that are kept now
+abbrev pub RefusesOn : ℕ → List Message → SeenSeat → ℕ → List Message → SeenSeat → Type 0
+RefusesOn n before old m now new =
+    (from : ℕ) → from ≤ length old.receipts → AreRefused n before (drop from old.receipts) → AreRefused m now (drop from new.receipts)
 
 -- no message is lost: each that was kept, or was refused by one of these receipts as the inbox was full, is kept, or
 -- was received by one of them with another reply

@@ -1,6 +1,6 @@
 //! The serving of a site: what comes by its link is received, and what is ready is applied.
 ghost use Rattle.std.specs.Prelude.{◌<◌, ◌+◌, ◌^◌, ℕ, IfNone, IfOk, IfSome, List, OnErr, OnOk, length};
-ghost use Rattle.rb_branch.specs.Seats.{AreRefused, HasServed};
+ghost use Rattle.rb_branch.specs.Seats.{AreRefused, HasServed, RefusesOn, receipts_since};
 ghost use Rattle.rb_site.specs.declared.message.Message.{Message as MessageOf};
 
 use crate::{Branch, CallFault, Entries, Gate, Inlet, Seat};
@@ -23,7 +23,7 @@ impl<E: Entries, R: Ledger, G: Gate + Drop> Branch<E, R, G> {
         inlet: Inlet,
     ) -> Result<u64, CallFault>
         ensures ok { IfOk result (λ n. (left : List MessageOf) × HasServed seat.old seat.new inlet left n
-            × AreRefused (length left) left seat.new.receipts) }
+            × AreRefused (length left) left (receipts_since seat.old seat.new)) }
         ensures err { OnErr result ((left : List MessageOf) × (n : ℕ) × HasServed seat.old seat.new inlet left n) }
     {
         let mut inlet = inlet;
@@ -33,7 +33,7 @@ impl<E: Entries, R: Ledger, G: Gate + Drop> Branch<E, R, G> {
     /// The same, with an inlet that stays with the caller. What the site refuses as its inbox is full is kept in
     /// the inlet, and all that is kept is received again after each application. After an `Err` the seat has the
     /// receipts of the events before, the inlet keeps what was taken and not received, and `serve_from` may be
-    /// called again. After Ok the seat has a receipt of the refusal of each message that is kept.
+    /// called again. After Ok the call's own receipts have the refusal of each message that is kept.
     pub fn serve_from<W: Wait>(
         &self,
         rt: &W,
@@ -41,7 +41,7 @@ impl<E: Entries, R: Ledger, G: Gate + Drop> Branch<E, R, G> {
         inlet: &mut Inlet,
     ) -> Result<u64, CallFault>
         ensures ok { IfOk result (λ n. HasServed seat.old seat.new inlet.old inlet.new n) }
-        ensures refused { OnOk result (AreRefused (length inlet.new) inlet.new seat.new.receipts) }
+        ensures refused { OnOk result (AreRefused (length inlet.new) inlet.new (receipts_since seat.old seat.new)) }
         ensures err { OnErr result ((n : ℕ) × HasServed seat.old seat.new inlet.old inlet.new n) }
     {
         let before = seat.receipts().len();
@@ -57,7 +57,7 @@ impl<E: Entries, R: Ledger, G: Gate + Drop> Branch<E, R, G> {
         inlet: &mut Inlet,
     ) -> Result<(), CallFault>
         ensures served { (n : ℕ) × HasServed seat.old seat.new inlet.old inlet.new n }
-        ensures refused { OnOk result (AreRefused (length inlet.new) inlet.new seat.new.receipts) }
+        ensures refused { OnOk result (AreRefused (length inlet.new) inlet.new (receipts_since seat.old seat.new)) }
     {
         let mut first: usize = 0;
         for _ in rt.forever() {
@@ -79,10 +79,10 @@ impl<E: Entries, R: Ledger, G: Gate + Drop> Branch<E, R, G> {
         inlet: &mut Inlet,
         first: usize,
     ) -> Result<Option<usize>, CallFault>
-        requires { AreRefused first inlet.old seat.old.receipts }
         ensures served { (n : ℕ) × HasServed seat.old seat.new inlet.old inlet.new n }
-        ensures some { IfOk result (λ o. IfSome o (λ next. AreRefused next inlet.new seat.new.receipts)) }
-        ensures none { IfOk result (λ o. IfNone o (AreRefused (length inlet.new) inlet.new seat.new.receipts)) }
+        ensures some { IfOk result (λ o. IfSome o (λ next. RefusesOn first inlet.old seat.old next inlet.new seat.new)) }
+        ensures none { IfOk result
+            (λ o. IfNone o (RefusesOn first inlet.old seat.old (length inlet.new) inlet.new seat.new)) }
     {
         self.receive_from(rt, seat, inlet, first)?;
         if self.apply_ready(rt, seat)?.is_some() {
@@ -104,9 +104,8 @@ impl<E: Entries, R: Ledger, G: Gate + Drop> Branch<E, R, G> {
         inlet: &mut Inlet,
         first: usize,
     ) -> Result<(), CallFault>
-        requires { AreRefused first inlet.old seat.old.receipts }
         ensures served { (n : ℕ) × HasServed seat.old seat.new inlet.old inlet.new n }
-        ensures refused { OnOk result (AreRefused (length inlet.new) inlet.new seat.new.receipts) }
+        ensures refused { OnOk result (RefusesOn first inlet.old seat.old (length inlet.new) inlet.new seat.new) }
     {
         let mut index = first;
         while index < inlet.kept().len() {
@@ -126,9 +125,8 @@ impl<E: Entries, R: Ledger, G: Gate + Drop> Branch<E, R, G> {
     ) -> Result<usize, CallFault>
         requires within { index < length inlet.old }
         requires fits { index + 1 < 2 ^ 64 }
-        requires front { AreRefused index inlet.old seat.old.receipts }
         ensures served { (n : ℕ) × HasServed seat.old seat.new inlet.old inlet.new n }
-        ensures refused { IfOk result (λ next. AreRefused next inlet.new seat.new.receipts) }
+        ensures refused { IfOk result (λ next. RefusesOn index inlet.old seat.old next inlet.new seat.new) }
         ensures fewer { IfOk result (λ next. length inlet.new + index < length inlet.old + next) }
     {
         let message = inlet.message(index);

@@ -1,6 +1,6 @@
 use Rattle.std.proofs.Common.{arith, refl}
 use Rattle.std.proofs.lemmas.List.Edits.{length-remove}
-use Rattle.rb_branch.proofs.Served.{refused_after, refused_next, refused_removed, served_received, served_refused, serves_none, serves_same}
+use Rattle.rb_branch.proofs.Served.{refuses_next, refuses_received, served_received, served_refused, serves_none, serves_same}
 use Rattle.rb_branch.proofs.branch.Branch.receive_at.Goals as goal
 
 pub returns-in_err-_number-clause-served : goal.returns-in_err-_number-clause-served
@@ -12,14 +12,13 @@ returns-then-found_full-clause-served g c =
 
 pub returns-then-found_full-clause-refused : goal.returns-then-found_full-clause-refused
 returns-then-found_full-clause-refused g c =
-    refused_next c.args.index _ c.args.inlet.now c.args.seat.now c.receive.new.seat c.message-message.result c.found_full.result
-    c.requires.front c.message-message.ensures c.in_ok-_number.ensures.ok c.found_full.ensures c.if-found_full.true
+    refuses_next c.args.index _ c.args.inlet.now c.args.seat.now c.receive.new.seat c.message-message.result c.found_full.result
+    c.message-message.ensures c.in_ok-_number.ensures.ok c.found_full.ensures c.if-found_full.true
 
 pub returns-clause-refused : goal.returns-clause-refused
 returns-clause-refused g c =
-    refused_removed c.args.index c.args.inlet.now c.let_go.new.self c.receive.new.seat.receipts
-    (refused_after c.args.index _ c.args.inlet.now c.args.seat.now c.receive.new.seat _ c.requires.front c.in_ok-_number.ensures.ok)
-    c.let_go.ensures
+    refuses_received c.args.index _ c.args.inlet.now c.let_go.new.self c.args.seat.now c.receive.new.seat c.message-message.result
+    c.in_ok-_number.ensures.ok c.let_go.ensures
 
 pub returns-clause-served : goal.returns-clause-served
 returns-clause-served g c = (

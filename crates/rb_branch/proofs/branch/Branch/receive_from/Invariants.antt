@@ -1,12 +1,12 @@
 use Rattle.std.proofs.Common.{◌-◌, length}
-use Rattle.rb_branch.specs.Seats.{AreRefused}
+use Rattle.rb_branch.specs.Seats.{RefusesOn}
 use Rattle.rb_branch.proofs.Served.{Serves}
 use Rattle.rb_branch.proofs.branch.Branch.receive_from.Given as goal
 
 abbrev pub invariant-loop-index : goal.invariant-loop-index
 invariant-loop-index g l = record {
   served : Serves l.initial.seat l.seat l.initial.inlet l.inlet;
-  front : AreRefused l.index l.inlet l.seat.receipts;
+  front : RefusesOn l.initial.index l.initial.inlet l.initial.seat l.index l.inlet l.seat;
 }
 
 abbrev pub decreases-loop-index : goal.decreases-loop-index

@@ -1,4 +1,4 @@
-use Rattle.rb_branch.specs.Seats.{AreRefused}
+use Rattle.rb_branch.specs.Seats.{AreRefused, receipts_since}
 use Rattle.rb_branch.proofs.Served.{Serves}
 use Rattle.rb_branch.proofs.branch.Branch.serve_all.Given as goal
 
@@ -7,5 +7,5 @@ invariant-loop g l = record {
   next : (goal.iterator-loop g).can_next l.iterator';
   finite : (goal.iterator-loop g).is_finite l.iterator';
   served : Serves l.initial.seat l.seat l.initial.inlet l.inlet;
-  front : AreRefused l.first l.inlet l.seat.receipts;
+  front : AreRefused l.first l.inlet (receipts_since l.initial.seat l.seat);
 }
