@@ -1,5 +1,5 @@
 -- A desk with one event more, and a seat with its receipt.
-use Rattle.std.proofs.Common.{◌≡◌, ◌∙◌, ◌<◌, ◌≤◌, ◌+◌, ℕ, List, All, length, length-append, sym, ap, subst, arith, [], ◌∷◌, ◌++◌}
+use Rattle.std.proofs.Common.{◌≡◌, ◌∙◌, ◌<◌, ◌≤◌, ◌+◌, ◌-◌, ℕ, List, All, length, length-append, sym, ap, subst, arith, [], ◌∷◌, ◌++◌}
 use Rattle.std.proofs.Common.{get_or, set}
 use Rattle.std.proofs.lemmas.List.{length-set}
 use Rattle.std.proofs.lemmas.List.Elements.{All-append, All-cons, All-nil, All-set}
@@ -27,6 +27,18 @@ desk_same s x y p a desk is = subst (λ (z : SeenSite). IsDesk s z p a) (sym is)
 -- the seat of equal receipts
 pub seat_same : (s : Settings) (site p a : ℕ) (rs rs' : List Receipt) → IsSeat s site rs p a → rs' ≡ rs → IsSeat s site rs' p a
 seat_same s site p a rs rs' seat is = subst (λ (xs : List Receipt). IsSeat s site xs p a) (sym is) seat
+
+-- an event leaves one entry more
+pub one_entry : (x y : SeenSite) (e : Event) (n m : ℕ) → y ≡ stepped x e → n ≡ length x.entries → m ≡ length y.entries → m - n ≡ 1
+one_entry x y e n m step before now =
+    let len = ap (λ (z : SeenSite). length z.entries) step ∙ length-append x.entries (_ ∷ []) in omega (arith, before, now, len)
+
+-- and one receipt more
+pub one_receipt : (x y : SeenSite) (e : Event) (rs rs' : List Receipt) (n m : ℕ) → HasReceipt x y e rs rs' → n ≡ length rs
+    → m ≡ length rs' → m - n ≡ 1
+one_receipt x y e rs rs' n m is before now =
+    let len = ap length is ∙ length-append rs (receipt (length y.entries) e (reply_to x.settings (state_of x) e) 0 ∷ []) in
+    omega (arith, before, now, len)
 
 -- one event more at the desk
 pub desk_more : (s : Settings) (x y : SeenSite) (p a p' a' : ℕ) (e : Event) → IsDesk s x p a → y ≡ stepped x e

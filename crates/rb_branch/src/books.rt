@@ -76,12 +76,19 @@ impl<E: Entries, R: Ledger> Books<E, R> {
         self.seats
     }
 
-    /// Counts an entry and its receipt.
-    pub(crate) fn count(&mut self, entry: &mut Share<E>, receipt: &mut Share<R>)
+    /// Counts what an event left: this number of entries at a site and of receipts at a seat, which is one number.
+    pub(crate) fn count(
+        &mut self,
+        entry: &mut Share<E>,
+        made: u64,
+        receipt: &mut Share<R>,
+        noted: u64,
+    )
+        requires same { made ≡ noted }
         requires entry { 0 < entry.old.parts }
         requires receipt { 0 < receipt.old.parts }
-        ensures entry { (entry.new.amount ≡ entry.old.amount + 1) × (entry.new.parts ≡ entry.old.parts) }
-        ensures receipt { (receipt.new.amount ≡ receipt.old.amount + 1) × (receipt.new.parts ≡ receipt.old.parts) }
+        ensures entry { (entry.new.amount ≡ entry.old.amount + made) × (entry.new.parts ≡ entry.old.parts) }
+        ensures receipt { (receipt.new.amount ≡ receipt.old.amount + noted) × (receipt.new.parts ≡ receipt.old.parts) }
         ensures seats { self.new ≡ self.old }
     {
         let Books {
@@ -89,8 +96,8 @@ impl<E: Entries, R: Ledger> Books<E, R> {
             receipts,
             ..
         } = self;
-        entries.add(entry, 1);
-        receipts.add(receipt, 1);
+        entries.add(entry, made);
+        receipts.add(receipt, noted);
     }
 
     /// A share of the entries that has no part.

@@ -86,8 +86,12 @@ pub fn record<E: Entries, R: Ledger, W: Wait>(
         share,
         ..
     } = seat;
+    let (entries, noted) = (site.len(), receipts.len());
     let posted = note(site, *me, receipts, event)?;
-    books.lock(rt).count(entry, share);
+    let made = u64::from(site.len() - entries);
+    books
+        .lock(rt)
+        .count(entry, made, share, (receipts.len() - noted) as u64);
     Ok((receipts.len() as u32, posted))
 }
 
