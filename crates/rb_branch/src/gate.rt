@@ -1,8 +1,8 @@
 //! Gates.
 
-/// Called round each event of a seat, and each look of `apply_ready`: `enter` once the site's lock is got, `leave` once it
-/// is released. `enter` must not call the branch at its own site, nor wait for a thread that does: that site's lock is
-/// held.
+/// Called each time that a site's lock is held, for an event of a seat, a look of `apply_ready`, or some steps of a
+/// server: `enter` once the lock is got, `leave` once it is released. `enter` must not call the branch at its own site,
+/// nor wait for a thread that does: that site's lock is held.
 pub trait Gate {
     /// The site's lock is held.
     fn enter(&self, site: u8);

@@ -67,6 +67,21 @@ impl Inlet {
         Ok(true)
     }
 
+    /// Takes the next message that has come by the link, without waiting, and keeps it behind the others. `false` where
+    /// none has come. After an `Err`, out of memory, nothing was taken.
+    pub(crate) fn take_come<W: Wait>(&mut self, rt: &W) -> Result<bool, AllocError>
+        ensures ok { IfOk result
+            (λ b. MatchBool b ((m : MessageOf) × (self.new ≡ self.old ++ m ∷ [])) (self.new ≡ self.old)) }
+        ensures err { OnErr result (self.new ≡ self.old) }
+    {
+        self.kept.reserve(1)?;
+        let Ok(come) = self.link.try_recv(rt) else {
+            return Ok(false);
+        };
+        self.kept.push_reserved(come);
+        Ok(true)
+    }
+
     /// The kept message at this index, from 0.
     pub(crate) fn message(&self, index: usize) -> Message
         requires { index < length self.now }

@@ -1,11 +1,15 @@
 //! The serving of a site: what comes by its link is received, and what is ready is applied.
-ghost use Rattle.std.specs.Prelude.{◌<◌, ◌+◌, ◌^◌, ℕ, IfNone, IfOk, IfSome, List, OnErr, OnOk, length};
+ghost use Rattle.std.specs.Prelude.{◌<◌, ℕ, IfNone, IfOk, IfSome, List, OnErr, OnOk, length};
 ghost use Rattle.rb_branch.specs.Seats.{AreRefused, HasServed, RefusesOn, receipts_since};
 ghost use Rattle.rb_site.specs.declared.message.Message.{Message as MessageOf};
 
+use crate::receiving::serve_step;
 use crate::{Branch, CallFault, Entries, Gate, Inlet, Seat};
 use std::sync::Wait;
 use std::sync::ledger::Ledger;
+
+/// The most steps for which a server keeps its site's lock.
+const MOST_STEPS: u32 = 64;
 
 impl<E: Entries, R: Ledger, G: Gate + Drop> Branch<E, R, G> {
     /// Receives what the inlet keeps and then what comes by its link until it closes, and after each message
@@ -69,9 +73,8 @@ impl<E: Entries, R: Ledger, G: Gate + Drop> Branch<E, R, G> {
         unreachable!()
     }
 
-    /// Receives what is kept from this index on. Then applies what is ready or, where nothing is, takes the next
-    /// message: the index to receive from next, which after an application is that of all. `None` once the link
-    /// is closed.
+    /// Receives what is kept from this index on and applies what is ready. Then waits for the next message: the index to
+    /// receive from next. `None` once the link is closed.
     fn serve_once<W: Wait>(
         &self,
         rt: &W,
@@ -84,9 +87,11 @@ impl<E: Entries, R: Ledger, G: Gate + Drop> Branch<E, R, G> {
         ensures none { IfOk result
             (λ o. IfNone o (RefusesOn first inlet.old seat.old (length inlet.new) inlet.new seat.new)) }
     {
-        self.receive_from(rt, seat, inlet, first)?;
-        if self.apply_ready(rt, seat)?.is_some() {
-            return Ok(Some(0));
+        let site = seat.site();
+        let answer = self.serve_locked(rt, site, seat, inlet, first);
+        self.gate.leave(site);
+        if let Some(next) = answer? {
+            return Ok(Some(next));
         }
         let kept = inlet.kept().len();
         let taken = inlet.take(rt)?;
@@ -96,45 +101,32 @@ impl<E: Entries, R: Ledger, G: Gate + Drop> Branch<E, R, G> {
         Ok(Some(kept))
     }
 
-    /// Receives each kept message once, from this index on.
-    fn receive_from<W: Wait>(
+    /// The part of serving that is under the site's lock: receives what is kept from this index on and what has come by
+    /// the link, and applies what is ready, until `MOST_STEPS` steps are done: the index to receive from next; `None`
+    /// once nothing is ready and nothing has come.
+    fn serve_locked<W: Wait>(
         &self,
         rt: &W,
+        site: u8,
         seat: &mut Seat<E, R>,
         inlet: &mut Inlet,
         first: usize,
-    ) -> Result<(), CallFault>
+    ) -> Result<Option<usize>, CallFault>
+        requires { site < E.settings.sites }
         ensures served { (n : ℕ) × HasServed seat.old seat.new inlet.old inlet.new n }
-        ensures refused { OnOk result (RefusesOn first inlet.old seat.old (length inlet.new) inlet.new seat.new) }
+        ensures some { IfOk result (λ o. IfSome o (λ next. RefusesOn first inlet.old seat.old next inlet.new seat.new)) }
+        ensures none { IfOk result
+            (λ o. IfNone o (RefusesOn first inlet.old seat.old (length inlet.new) inlet.new seat.new)) }
     {
-        let mut index = first;
-        while index < inlet.kept().len() {
-            index = self.receive_at(rt, seat, inlet, index)?;
+        let mut desk = self.desks[site as usize].lock(rt);
+        self.gate.enter(site);
+        let mut next = first;
+        for _k in 0..MOST_STEPS {
+            let Some(index) = serve_step(rt, &mut desk, seat, &self.books, inlet, next)? else {
+                return Ok(None);
+            };
+            next = index;
         }
-        Ok(())
-    }
-
-    /// Receives the kept message at this index. It stays where the inbox is full, and goes otherwise: the index
-    /// of the next.
-    fn receive_at<W: Wait>(
-        &self,
-        rt: &W,
-        seat: &mut Seat<E, R>,
-        inlet: &mut Inlet,
-        index: usize,
-    ) -> Result<usize, CallFault>
-        requires within { index < length inlet.old }
-        requires fits { index + 1 < 2 ^ 64 }
-        ensures served { (n : ℕ) × HasServed seat.old seat.new inlet.old inlet.new n }
-        ensures refused { IfOk result (λ next. RefusesOn index inlet.old seat.old next inlet.new seat.new) }
-        ensures fewer { IfOk result (λ next. length inlet.new + index < length inlet.old + next) }
-    {
-        let message = inlet.message(index);
-        let _number = self.receive(rt, seat, message)?;
-        if seat.found_full() {
-            return Ok(index + 1);
-        }
-        inlet.let_go(index);
-        Ok(index)
+        Ok(Some(next))
     }
 }

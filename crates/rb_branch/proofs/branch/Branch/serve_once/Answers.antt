@@ -1,54 +1,21 @@
 use Rattle.std.proofs.Common.{ap, length, refl}
-use Rattle.rb_branch.proofs.Served.{refuses_applied, refuses_none, refuses_taken, refuses_then, refuses_untaken, serves_ready, serves_same}
-use Rattle.rb_branch.proofs.Served.{serves_taken}
+use Rattle.rb_branch.proofs.Served.{if_none, refuses_taken, refuses_then, serves_same, serves_taken}
 use Rattle.rb_branch.proofs.branch.Branch.serve_once.Goals as goal
-
-pub returns-in_err-receive_from-clause-served : goal.returns-in_err-receive_from-clause-served
-returns-in_err-receive_from-clause-served g c = c.receive_from.ensures.served
-
-pub returns-in_err-apply_ready-clause-served : goal.returns-in_err-apply_ready-clause-served
-returns-in_err-apply_ready-clause-served g c =
-    serves_same _ _ _ _ _ _ c.receive_from.ensures.served c.in_err-apply_ready.ensures.err refl
-
-pub returns-then-is_some-clause-served : goal.returns-then-is_some-clause-served
-returns-then-is_some-clause-served g c = serves_ready _ _ _ _ _ _ c.receive_from.ensures.served c.in_ok-apply_ready.ensures.ok
 
 pub returns-in_err-taken-clause-served : goal.returns-in_err-taken-clause-served
 returns-in_err-taken-clause-served g c =
-    serves_same _ _ _ _ _ _ (serves_ready _ _ _ _ _ _ c.receive_from.ensures.served c.in_ok-apply_ready.ensures.ok) refl
-    c.in_err-taken.ensures.err
+    serves_same _ _ _ _ _ _ c.serve_locked-answer.ensures.served refl c.in_err-taken.ensures.err
 
 pub returns-then-not-taken-clause-served : goal.returns-then-not-taken-clause-served
-returns-then-not-taken-clause-served g c =
-    serves_taken _ _ _ _ _ _ (serves_ready _ _ _ _ _ _ c.receive_from.ensures.served c.in_ok-apply_ready.ensures.ok)
-    c.in_ok-taken.ensures.ok
+returns-then-not-taken-clause-served g c = serves_taken _ _ _ _ _ _ c.serve_locked-answer.ensures.served c.in_ok-taken.ensures.ok
 
 pub returns-clause-served : goal.returns-clause-served
-returns-clause-served g c =
-    serves_taken _ _ _ _ _ _ (serves_ready _ _ _ _ _ _ c.receive_from.ensures.served c.in_ok-apply_ready.ensures.ok)
-    c.in_ok-taken.ensures.ok
-
-pub returns-then-is_some-clause-some : goal.returns-then-is_some-clause-some
-returns-then-is_some-clause-some g c =
-    refuses_none c.args.first c.args.inlet.now c.receive_from.new.inlet c.args.seat.now c.apply_ready.new.seat
-
-pub returns-then-not-taken-clause-none : goal.returns-then-not-taken-clause-none
-returns-then-not-taken-clause-none g c =
-    let applied = refuses_applied _ _ c.receive_from.new.seat c.apply_ready.new.seat _ c.in_ok-apply_ready.ensures.ok in
-    let both =
-    refuses_then _ _ _ _ _ _ c.args.seat.now c.receive_from.new.seat c.apply_ready.new.seat c.receive_from.ensures.served
-    c.in_ok-receive_from.ensures.refused applied in
-    let served = serves_ready _ _ _ _ _ _ c.receive_from.ensures.served c.in_ok-apply_ready.ensures.ok in
-    refuses_then _ _ _ _ _ _ c.args.seat.now c.apply_ready.new.seat c.apply_ready.new.seat served both
-    (refuses_untaken c.receive_from.new.inlet c.take.new.self c.apply_ready.new.seat _ c.if-not-taken.true c.in_ok-taken.ensures.ok)
+returns-clause-served g c = serves_taken _ _ _ _ _ _ c.serve_locked-answer.ensures.served c.in_ok-taken.ensures.ok
 
 pub returns-clause-some : goal.returns-clause-some
 returns-clause-some g c =
-    let applied = refuses_applied _ _ c.receive_from.new.seat c.apply_ready.new.seat _ c.in_ok-apply_ready.ensures.ok in
-    let both =
-    refuses_then _ _ _ _ _ _ c.args.seat.now c.receive_from.new.seat c.apply_ready.new.seat c.receive_from.ensures.served
-    c.in_ok-receive_from.ensures.refused applied in
-    let served = serves_ready _ _ _ _ _ _ c.receive_from.ensures.served c.in_ok-apply_ready.ensures.ok in
-    refuses_then _ _ _ _ _ _ c.args.seat.now c.apply_ready.new.seat c.apply_ready.new.seat served both
-    (refuses_taken _ c.receive_from.new.inlet c.take.new.self c.apply_ready.new.seat _ (ap length c.kept-kept.ensures)
+    let locked = if_none _ _ c.in_default.not-Some c.in_ok-next.ensures.none in
+    refuses_then _ _ _ _ _ _ c.args.seat.now c.serve_locked-answer.new.seat c.serve_locked-answer.new.seat
+    c.serve_locked-answer.ensures.served locked
+    (refuses_taken _ c.serve_locked-answer.new.inlet c.take.new.self c.serve_locked-answer.new.seat _ (ap length c.kept-kept.ensures)
     c.in_ok-taken.ensures.ok)

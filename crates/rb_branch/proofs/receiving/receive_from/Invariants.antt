@@ -1,7 +1,7 @@
 use Rattle.std.proofs.Common.{◌-◌, length}
 use Rattle.rb_branch.specs.Seats.{RefusesOn}
 use Rattle.rb_branch.proofs.Served.{Serves}
-use Rattle.rb_branch.proofs.branch.Branch.receive_from.Given as goal
+use Rattle.rb_branch.proofs.receiving.receive_from.Given as goal
 
 abbrev pub invariant-loop-index : goal.invariant-loop-index
 invariant-loop-index g l = record {

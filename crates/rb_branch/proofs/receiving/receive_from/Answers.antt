@@ -1,6 +1,6 @@
 use Rattle.std.proofs.Common.{ap, arith, length}
 use Rattle.rb_branch.proofs.Served.{refuses_all, refuses_same, refuses_then, serves_more, serves_none}
-use Rattle.rb_branch.proofs.branch.Branch.receive_from.Goals as goal
+use Rattle.rb_branch.proofs.receiving.receive_from.Goals as goal
 
 pub loop-index-init : goal.loop-index-init
 loop-index-init g c = record { served = serves_none _ _; front = refuses_same c.args.first c.args.inlet.now c.args.seat.now }
