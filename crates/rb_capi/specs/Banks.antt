@@ -2,7 +2,7 @@
 use Rattle.std.specs.Prelude.{ℕ, List, [], Option, Some, None}
 use Rattle.rb_money.specs.Settings.{Settings}
 use Rattle.rb_site.specs.declared.world_event.WorldEvent.{WorldEvent}
-use Rattle.rb_commands.specs.Replies.{line}
+use Rattle.rb_history.specs.Replies.{line}
 use Rattle.rb_world.specs.Laws.{SeenWorld, next_reply, next_world, opened}
 
 -- the world, and the text of the last answer

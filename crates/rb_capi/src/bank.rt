@@ -2,15 +2,15 @@
 ghost use Rattle.std.specs.Prelude.{◌≡◌, ◌≢◌, ◌⊎◌, ◌↔◌, None, Some, MatchResult, pos};
 ghost use Rattle.rb_money.specs.Settings.{Settings};
 ghost use Rattle.rb_site.specs.declared.world_event.WorldEvent.{WorldEvent as CommandOf};
-ghost use Rattle.rb_commands.specs.declared.fault.LineFault.TheVariants.{Bad};
-ghost use Rattle.rb_commands.specs.Configurations.{config_on};
+ghost use Rattle.rb_history.specs.declared.fault.LineFault.TheVariants.{Bad};
+ghost use Rattle.rb_history.specs.Configurations.{config_on};
 ghost use Rattle.rb_run_script.specs.Script.{command_on};
 ghost use Rattle.rb_capi.specs.Banks.{SeenBank, first_bank, kept_answer, next_bank};
 ghost use Rattle.rb_capi.specs.Copies.{Copies};
 
 use crate::bank_handle::BankHandle;
 use crate::copy::copy_from;
-use rb_commands::{LineFault, append_reply, read_command, read_config};
+use rb_history::{LineFault, append_reply, read_command, read_config};
 use rb_lines::text_on;
 use rb_world::LeanWorld;
 use std::alloc::Global;
@@ -38,7 +38,7 @@ impl Drop for Bank {
 }
 
 /// The bank of the configuration on a line, before any event.
-#[tactic(auto, unfolding(rb_commands::specs::Configurations::config_on))]
+#[tactic(auto, unfolding(rb_history::specs::Configurations::config_on))]
 fn open(alloc: Global, config: &[u8]) -> Result<Bank, LineFault>
     ensures { MatchResult result
         (λ bank. (s : Settings) × (config_on config.now ≡ Some s) × (bank ≡ first_bank s))

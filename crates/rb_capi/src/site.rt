@@ -1,7 +1,7 @@
 //! One site of a bank.
 ghost use Rattle.std.specs.Prelude.{◌≡◌, ◌≢◌, ◌<◌, ◌≤◌, ◌⊎◌, ◌↔◌, None, Some, pos};
 ghost use Rattle.rb_money.specs.Settings.{Settings};
-ghost use Rattle.rb_commands.specs.Configurations.{config_on};
+ghost use Rattle.rb_history.specs.Configurations.{config_on};
 ghost use Rattle.rb_node.specs.Answers.{event_on};
 ghost use Rattle.rb_capi.specs.Copies.{Copies};
 ghost use Rattle.rb_capi.specs.Sites.{AnswersEventLine, IsNoEntryLine, IsWrongEntry, ReplaysEntryLine, SeenKept};

@@ -2,8 +2,8 @@
 use Rattle.std.proofs.Common.{◌≡◌, ℕ, List, length, take}
 use Rattle.std.specs.Prelude.{Result, Ok, Err}
 use Rattle.std.specs.Result.{IsErr}
-use Rattle.rb_commands.specs.Adds.{Adds}
-use Rattle.rb_commands.proofs.Public.Appended.{front_of_front}
+use Rattle.rb_history.specs.Adds.{Adds}
+use Rattle.rb_history.proofs.Public.Appended.{front_of_front}
 
 -- what was there first is there after a call that failed
 pub failed_behind : {A E : Type 0} (r : Result A E) (old mid new t : List ℕ) → IsErr r → take (length old) mid ≡ old

@@ -13,11 +13,11 @@ use Rattle.rb_money.specs.Faults.{Account, account_fault, config_fault, is_among
 use Rattle.rb_money.specs.Settings.{IsConfigured, IsVersion, Settings, is_account_name}
 use Rattle.rb_money.specs.declared.limits.TheConstants.{MOST_SITES, MOST_SITES_OF_VERSION_1, MOST_ACCOUNTS, MOST_BLUE, MOST_RED, MOST_INBOX}
 use Rattle.rb_money.specs.declared.limits.TheConstants.{MOST_HISTORY, MOST_EPOCH}
-use Rattle.rb_commands.specs.Configurations.{accounts_in, config_at, config_of, is_version}
+use Rattle.rb_history.specs.Configurations.{accounts_in, config_at, config_of, is_version}
 use Rattle.rb_history.specs.ConfigLines.{accounts_of, config_json, start_json}
 use Rattle.rb_history.specs.Fits.{Each}
 use Rattle.rb_money.proofs.Public.Tests.{is_below as below}
-use Rattle.rb_commands.proofs.Public.Reading.{compact_read}
+use Rattle.rb_history.proofs.Reading.{compact_read}
 use Rattle.rb_history.proofs.EntryText.{list_text, number_text, pair_text, string_text}
 use Rattle.rb_history.proofs.KnownPlaces.{fails}
 

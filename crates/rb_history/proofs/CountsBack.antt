@@ -6,7 +6,7 @@ use Rattle.std.proofs.lemmas.List.{drop_at, length-drop, length-replicate, lengt
 use Rattle.serde_json.specs.View.{items_of}
 use Rattle.rb_money.specs.Settings.{IsVersion}
 use Rattle.rb_money.specs.declared.limits.TheConstants.{MOST_SITES, MOST_SITES_OF_VERSION_1}
-use Rattle.rb_commands.specs.Values.{list_json, number_json}
+use Rattle.rb_history.specs.Values.{list_json, number_json}
 use Rattle.rb_money.proofs.Public.Tests.{equal, is_below as below}
 use Rattle.rb_history.specs.Counts.{blue_at, blue_json, counts_at, counts_in, widened}
 use Rattle.rb_history.specs.Fits.{Each}

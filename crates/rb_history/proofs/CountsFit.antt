@@ -7,7 +7,7 @@ use Rattle.std.proofs.lemmas.List.{length-replicate}
 use Rattle.serde_json.specs.Data.{Data, Items, no_items, item}
 use Rattle.serde_json.specs.Find.{as_array}
 use Rattle.rb_money.specs.declared.limits.TheConstants.{MOST_SITES, MOST_SITES_OF_VERSION_1}
-use Rattle.rb_commands.specs.Values.{number_below, pair_of}
+use Rattle.rb_history.specs.Values.{number_below, pair_of}
 use Rattle.rb_history.specs.Counts.{blue_at, counts_at, counts_in, numbered_at, numbered_in, widened}
 use Rattle.rb_history.specs.Fits.{Each}
 use Rattle.rb_history.proofs.CountsBack.{each_append, each_replicate, widened_fits, widened_further, widened_length}

@@ -5,7 +5,7 @@ use Rattle.std.proofs.lemmas.Bool.{ne_eqb}
 use Rattle.serde_json.specs.View.{items_view, view}
 use Rattle.serde_json.specs.declared.value.Value.{Value}
 use Rattle.rb_history.specs.Counts.{counts_in}
-use Rattle.rb_commands.specs.Values.{number_below}
+use Rattle.rb_history.specs.Values.{number_below}
 
 -- the list of counts, where there is one, is as long as the list
 counts_length : (vs : List Value) (ns : List ℕ) → counts_in (items_view vs) ≡ Some ns → length ns ≡ length vs

@@ -6,7 +6,7 @@ use Rattle.serde_json.specs.Find.{get}
 use Rattle.serde_json.specs.Read.{read}
 use Rattle.rb_money.specs.Settings.{Settings}
 use Rattle.rb_site.specs.declared.entry.Entry.{Entry}
-use Rattle.rb_commands.specs.Values.{number_below, size_of}
+use Rattle.rb_history.specs.Values.{number_below, size_of}
 use Rattle.rb_history.specs.Entries.{entry_in, entry_of_line, entry_of_object}
 use Rattle.rb_history.specs.Fields.{field}
 use Rattle.rb_history.specs.Fits.{IsEvent, IsReply, ReadEntriesFit}

@@ -17,9 +17,9 @@ use Rattle.rb_site.specs.declared.message.Message.TheVariants.{Shadow as ShadowM
 use Rattle.rb_history.specs.Entries.{entry_json, entry_of_object, event_json, request_json, shadow_json}
 use Rattle.rb_history.specs.Fits.{Each, IsEvent, IsKind, IsReply, IsRequest, IsShadow}
 use Rattle.rb_history.specs.Recorded.{event_at, kind_at, shadow_at}
-use Rattle.rb_commands.specs.Requests.{request_alone, requests_in}
+use Rattle.rb_history.specs.Requests.{request_alone, requests_in}
 use Rattle.rb_money.proofs.Public.Tests.{is_below as below}
-use Rattle.rb_commands.proofs.Public.Reading.{back}
+use Rattle.rb_history.proofs.Reading.{back}
 use Rattle.rb_history.proofs.CountsBack.{blue_back}
 use Rattle.rb_history.proofs.KnownPlaces.{known_place}
 use Rattle.rb_history.proofs.ReplyBack.{reply_back}

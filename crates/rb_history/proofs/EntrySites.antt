@@ -10,11 +10,11 @@ use Rattle.rb_site.specs.declared.entry.Entry.{Entry}
 use Rattle.rb_site.specs.declared.event.Event.{Event}
 use Rattle.rb_site.specs.declared.reply.Reply.{Reply}
 use Rattle.rb_history.specs.Entries.{entry_in, entry_of_object}
-use Rattle.rb_commands.specs.Lines.{Gives}
-use Rattle.rb_commands.specs.declared.fault.LineFault.{LineFault}
+use Rattle.rb_history.specs.Lines.{Gives}
+use Rattle.rb_history.specs.declared.fault.LineFault.{LineFault}
 use Rattle.rb_history.specs.Recorded.{event_at}
 use Rattle.rb_history.specs.RepliesRead.{reply_told}
-use Rattle.rb_commands.specs.Values.{number_below, size_of}
+use Rattle.rb_history.specs.Values.{number_below, size_of}
 use Rattle.rb_history.specs.Fields.{field}
 
 cut : (t : Bool) (n m bound : ℕ) → nat_lt n bound ≡ t → (if t then Some n else None) ≡ Some m → m < bound

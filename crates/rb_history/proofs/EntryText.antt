@@ -35,10 +35,10 @@ use Rattle.rb_statements.specs.declared.row.Row.{Row}
 use Rattle.rb_history.specs.Counts.{blue_json, numbered_from, numbered_json}
 use Rattle.rb_history.specs.Entries.{asked_json, deps_json, entry_json, event_json, request_json, shadow_json}
 use Rattle.rb_history.specs.Fits.{Each, IsCause, IsEvent, IsMoved, IsRefusal, IsReply, IsRequest, IsStatementRow, IsShadow}
-use Rattle.rb_commands.specs.Replies.{cause_json, refusal_json, reply_json}
-use Rattle.rb_commands.specs.Statements.{row_json}
-use Rattle.rb_commands.specs.Values.{integer_json, list_json, name_json, number_json, one_json, pair_json, three_json}
-use Rattle.rb_commands.proofs.Public.Reading.{compact_read}
+use Rattle.rb_history.specs.Replies.{cause_json, refusal_json, reply_json}
+use Rattle.rb_history.specs.Statements.{row_json}
+use Rattle.rb_history.specs.Values.{integer_json, list_json, name_json, number_json, one_json, pair_json, three_json}
+use Rattle.rb_history.proofs.Reading.{compact_read}
 use Rattle.rb_history.proofs.CountsBack.{each_take}
 use Rattle.rb_history.proofs.Numbered.{numbered_fit}
 

@@ -2,7 +2,7 @@
 use Rattle.std.proofs.Common.{ap, ◌∙◌, arith}
 use Rattle.std.specs.Prelude.{option_and_then}
 use Rattle.rb_site.specs.declared.event.Event.TheVariants.{Receive}
-use Rattle.rb_commands.proofs.Public.Reading.{compact_read}
+use Rattle.rb_history.proofs.Reading.{compact_read}
 use Rattle.rb_history.specs.Entries.{event_json}
 use Rattle.rb_history.specs.Fits.{EventsAreRead}
 use Rattle.rb_history.specs.Messages.{MessagesAreRead}

@@ -7,9 +7,9 @@ use Rattle.rb_money.specs.Settings.{Settings}
 use Rattle.rb_scratch.specs.declared.request.Request.TheVariants.{Deposit, Withdraw, Interest, Cancel, Transfer}
 use Rattle.rb_shadow.specs.NameText.{IsName}
 use Rattle.rb_site.specs.declared.event.Event.TheVariants.{Submit, Batch, Apply, Pass, Balance, AsOf, Statement}
-use Rattle.rb_commands.specs.Commands.{teller_event_of, event_of}
-use Rattle.rb_commands.specs.Requests.{place_at, request_alone, request_of, requests_at, requests_in, transfer_at}
-use Rattle.rb_commands.specs.Values.{name_at, number_below, size_of, three_of}
+use Rattle.rb_history.specs.Commands.{teller_event_of, event_of}
+use Rattle.rb_history.specs.Requests.{place_at, request_alone, request_of, requests_at, requests_in, transfer_at}
+use Rattle.rb_history.specs.Values.{name_at, number_below, size_of, three_of}
 use Rattle.rb_history.specs.Fits.{Each, IsEvent, IsKnown, IsRequest}
 use Rattle.rb_history.proofs.FitsLaws.{IsByte, IsLong, fits_cons, fits_either, fits_if, fits_map, fits_next, fits_then}
 use Rattle.rb_history.proofs.PartsFit.{asked, name, number, place}

@@ -3,7 +3,7 @@ use Rattle.std.proofs.Common.{◌≡◌, ◌<◌, ◌^◌, ℕ, Bool, true, fals
 use Rattle.std.specs.Prelude.{IfSome, if◌then◌else◌, option_and_then, option_map}
 use Rattle.serde_json.specs.Data.{Data}
 use Rattle.serde_json.specs.Find.{get}
-use Rattle.rb_commands.specs.Values.{either}
+use Rattle.rb_history.specs.Values.{either}
 use Rattle.rb_history.specs.Fields.{field}
 use Rattle.rb_history.specs.Fits.{Each}
 

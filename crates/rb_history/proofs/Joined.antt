@@ -2,7 +2,7 @@
 use Rattle.std.proofs.Common.{◌≡◌, ℕ, List, ◌++◌, codes, sym, ap, ◌∙◌, append_assoc}
 use Rattle.rb_shadow.specs.NameText.{IsName, name_text}
 use Rattle.rb_shadow.specs.declared.op_name.OpName.{OpName}
-use Rattle.rb_commands.proofs.Public.Plain.{escape_plain, plain_name}
+use Rattle.rb_history.proofs.Plain.{escape_plain, plain_name}
 use Rattle.json.specs.Print.{escape}
 use Rattle.rb_history.specs.Beginnings.{IsBetween, behind_quote}
 

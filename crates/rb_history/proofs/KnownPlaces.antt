@@ -10,7 +10,7 @@ use Rattle.std.proofs.lemmas.Slice.Eq.{bytes_eq-Decides}
 use Rattle.rb_money.specs.Settings.{IsConfigured, Settings, is_account_name}
 use Rattle.rb_money.specs.declared.place.Place.{Place}
 use Rattle.rb_history.specs.Fits.{IsKnown}
-use Rattle.rb_commands.specs.Requests.{account_place}
+use Rattle.rb_history.specs.Requests.{account_place}
 use Rattle.rb_money.specs.declared.place.TheConstants.Place.{NOWHERE}
 use Rattle.rb_money.specs.declared.limits.TheConstants.{MOST_ACCOUNTS}
 

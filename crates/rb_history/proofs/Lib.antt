@@ -1,5 +1,21 @@
 pub mod Public
 mod Shapes
+mod Utf8
+mod Reading
+mod Plain
+mod Numerals
+mod Back
+mod Sited
+mod UsualLines
+mod Spellings
+mod Members
+mod Scanned
+mod Blanks
+mod Batches
+mod Versions
+mod Configured
+mod Digits
+mod Put
 mod CountsLength
 mod Numbered
 mod CountsBack

@@ -5,7 +5,7 @@ use Rattle.std.proofs.lemmas.List.{map-append}
 use Rattle.serde_json.specs.Data.{Data}
 use Rattle.serde_json.specs.View.{items_of}
 use Rattle.serde_json.specs.Written.{compact_text, items_text}
-use Rattle.rb_commands.proofs.Public.Listed.{rest_text, whole_text}
+use Rattle.rb_history.proofs.Public.Listed.{rest_text, whole_text}
 use Rattle.rb_history.specs.Fits.{Each}
 
 -- the text begins with these items, whatever items are left, this before the first of them

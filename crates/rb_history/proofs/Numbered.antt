@@ -13,8 +13,8 @@ use Rattle.serde_json.specs.Written.{compact_text}
 use Rattle.serde_json.specs.declared.value.Value.{Value}
 use Rattle.rb_money.specs.declared.limits.TheConstants.{MOST_SITES}
 use Rattle.rb_money.proofs.Public.Tests.{is_below as below}
-use Rattle.rb_commands.proofs.Public.Reading.{with_front}
-use Rattle.rb_commands.proofs.Public.Listed.{rest_text}
+use Rattle.rb_history.proofs.Reading.{with_front}
+use Rattle.rb_history.proofs.Public.Listed.{rest_text}
 use Rattle.rb_history.specs.Counts.{numbered_from, numbered_at, numbered_in, numbered_json}
 use Rattle.rb_history.specs.Fits.{Each}
 

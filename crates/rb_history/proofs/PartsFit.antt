@@ -12,8 +12,8 @@ use Rattle.rb_money.specs.declared.place.TheConstants.Place.{NOWHERE}
 use Rattle.rb_shadow.specs.NameText.{IsName, candidate, is_name, name_of, name_text}
 use Rattle.rb_shadow.specs.declared.op_name.OpName.{OpName}
 use Rattle.rb_shadow.specs.declared.op_name.OpName.TheVariants.{Blue, Red}
-use Rattle.rb_commands.specs.Requests.{account_place, asked_of, place_at}
-use Rattle.rb_commands.specs.Values.{name_at, number_below, pair_of}
+use Rattle.rb_history.specs.Requests.{account_place, asked_of, place_at}
+use Rattle.rb_history.specs.Values.{name_at, number_below, pair_of}
 use Rattle.rb_history.specs.Fields.{field}
 use Rattle.rb_history.specs.Fits.{IsKnown}
 use Rattle.rb_history.proofs.FitsLaws.{IsByte, IsLong, IsWord, fits_field, fits_if, fits_made, fits_map, fits_next, fits_then}

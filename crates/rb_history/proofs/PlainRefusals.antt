@@ -4,8 +4,8 @@ use Rattle.std.specs.Prelude.{if◌then◌else◌}
 use Rattle.json.proofs.Found.{Some_inj}
 use Rattle.rb_money.specs.Refusals.{number_of_refusal}
 use Rattle.rb_money.specs.declared.refusal.Refusal.{Refusal}
-use Rattle.rb_commands.specs.Replies.{refusal_json}
-use Rattle.rb_commands.specs.Values.{number_json, one_json}
+use Rattle.rb_history.specs.Replies.{refusal_json}
+use Rattle.rb_history.specs.Values.{number_json, one_json}
 use Rattle.rb_history.specs.Fits.{Each, IsRefusal}
 use Rattle.rb_history.specs.RepliesRead.{find_refusal, plain_refusals}
 

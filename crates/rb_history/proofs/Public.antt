@@ -1,2 +1,4 @@
 -- What other crates cite.
+pub mod Appended
 pub mod Each
+pub mod Listed

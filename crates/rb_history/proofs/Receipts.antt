@@ -12,7 +12,7 @@ use Rattle.rb_shadow.specs.declared.shadow.Shadow.{Shadow}
 use Rattle.rb_site.specs.declared.event.Event.TheVariants.{Receive}
 use Rattle.rb_site.specs.declared.message.Message.TheVariants.{Shadow as ShadowMessage}
 use Rattle.rb_site.specs.declared.reply.Reply.{Reply}
-use Rattle.rb_commands.specs.Replies.{reply_json}
+use Rattle.rb_history.specs.Replies.{reply_json}
 use Rattle.rb_history.specs.Counts.{blue_json}
 use Rattle.rb_history.specs.Entries.{entry_json, event_json, last_members}
 use Rattle.rb_history.specs.Beginnings.{account_behind_quote, behind_quote, BeginsWithCounts}

@@ -12,8 +12,8 @@ use Rattle.rb_shadow.specs.declared.label.Label.{Label}
 use Rattle.rb_shadow.specs.declared.label.Label.TheVariants.{Deposit, Withdraw, Declined, Interest, Cancel, Transfer}
 use Rattle.rb_site.specs.declared.event.Event.TheVariants.{Receive}
 use Rattle.rb_site.specs.declared.message.Message.TheVariants.{Token as TokenOnItsWay}
-use Rattle.rb_commands.specs.Requests.{place_at}
-use Rattle.rb_commands.specs.Values.{name_at, number_below, pair_of, size_of, three_of}
+use Rattle.rb_history.specs.Requests.{place_at}
+use Rattle.rb_history.specs.Values.{name_at, number_below, pair_of, size_of, three_of}
 use Rattle.rb_history.specs.Counts.{blue_at}
 use Rattle.rb_history.specs.Fields.{field, label_at}
 use Rattle.rb_history.specs.Fits.{IsEvent, IsKind, IsKnown, IsShadow}

@@ -6,7 +6,7 @@ use Rattle.rb_money.specs.declared.refusal.Cause.TheVariants.{Declined as CauseD
 use Rattle.rb_money.specs.declared.refusal.Refusal.{Refusal}
 use Rattle.rb_money.specs.declared.refusal.Refusal.TheVariants.{AlreadyCancelled, RedBehind, BatchRefused, BadMessage}
 use Rattle.rb_money.specs.Refusals.{number_of_refusal}
-use Rattle.rb_commands.specs.Values.{number_below, size_of}
+use Rattle.rb_history.specs.Values.{number_below, size_of}
 use Rattle.rb_history.specs.Fields.{field}
 use Rattle.rb_history.specs.Fits.{Each, IsCause, IsRefusal}
 use Rattle.rb_history.specs.RepliesRead.{cause_at, find_refusal, plain_refusals, refusal_told, tells_declined}

@@ -6,7 +6,7 @@ use Rattle.serde_json.specs.Data.{Data, Num, unsigned, negative, float, Items, n
 use Rattle.serde_json.specs.Find.{as_array, as_bool, as_i64, as_number, get}
 use Rattle.rb_shadow.specs.NameText.{IsName}
 use Rattle.rb_site.specs.declared.reply.Reply.TheVariants.{Made, Names, Held, Already, Taken, Stale, Applied, Passed, Balance, Refused}
-use Rattle.rb_commands.specs.Values.{name_at, number_below, size_of}
+use Rattle.rb_history.specs.Values.{name_at, number_below, size_of}
 use Rattle.rb_history.specs.Fields.{field, label_at, six_in, six_of}
 use Rattle.rb_history.specs.Fits.{Each, IsMoved, IsRefusal, IsReply, IsStatementRow}
 use Rattle.rb_history.specs.RepliesRead.{answer_of, made_told, moved_told, names_at, names_in, refusal_told, reply_told, row_at, rows_at}

@@ -14,13 +14,13 @@ use Rattle.rb_site.specs.declared.reply.Reply.TheVariants.{Made, Names, Held, Al
 use Rattle.rb_site.specs.declared.reply.Reply.TheVariants.{Refused}
 use Rattle.rb_statements.specs.declared.row.Row.{Row}
 use Rattle.rb_history.specs.Fits.{Each, IsMoved, IsRefusal, IsReply, IsStatementRow}
-use Rattle.rb_commands.specs.Replies.{refusal_json, reply_json}
+use Rattle.rb_history.specs.Replies.{refusal_json, reply_json}
 use Rattle.rb_history.specs.RepliesRead.{moved_told, names_in, reply_told, row_at, rows_in}
-use Rattle.rb_commands.specs.Statements.{row_json}
+use Rattle.rb_history.specs.Statements.{row_json}
 use Rattle.rb_shadow.specs.Labels.{label_of_word, word_of}
-use Rattle.rb_commands.specs.Values.{integer_json, name_json}
+use Rattle.rb_history.specs.Values.{integer_json, name_json}
 use Rattle.rb_money.proofs.Public.Tests.{is_below as below}
-use Rattle.rb_commands.proofs.Public.Reading.{back}
+use Rattle.rb_history.proofs.Reading.{back}
 
 label_back : (k : Label) → label_of_word (word_of k) ≡ Some k
 label_back Deposit = refl

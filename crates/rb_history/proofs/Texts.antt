@@ -20,9 +20,9 @@ use Rattle.rb_site.specs.declared.entry.Entry.{Entry}
 use Rattle.rb_site.specs.declared.event.Event.{Event}
 use Rattle.rb_site.specs.declared.event.Event.TheVariants.{Submit, Batch, Receive, Apply, Pass, Balance, AsOf, Statement}
 use Rattle.rb_site.specs.declared.message.Message.TheVariants.{Shadow as ShadowMessage, Token as TokenOnItsWay}
-use Rattle.rb_commands.specs.Values.{list_json, number_json}
-use Rattle.rb_commands.proofs.Public.Utf8.{HasTexts, ItemsHaveTexts, MembersHaveTexts, label_utf8, list_texts, name_utf8, reply_texts}
-use Rattle.rb_commands.proofs.Public.Utf8.{text_utf8}
+use Rattle.rb_history.specs.Values.{list_json, number_json}
+use Rattle.rb_history.proofs.Utf8.{HasTexts, ItemsHaveTexts, MembersHaveTexts, label_utf8, list_texts, name_utf8, reply_texts}
+use Rattle.rb_history.proofs.Utf8.{text_utf8}
 use Rattle.rb_history.specs.Counts.{blue_json, numbered_from, numbered_json}
 use Rattle.rb_history.specs.ConfigLines.{accounts_of, config_json, start_json}
 use Rattle.rb_history.specs.Entries.{account_json, deps_json, entry_json, event_json, last_members, request_json, shadow_json}

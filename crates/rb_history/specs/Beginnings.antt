@@ -11,7 +11,7 @@ use Rattle.rb_scratch.specs.declared.request.Request.{Request}
 use Rattle.rb_shadow.specs.declared.deps.Deps.{Deps}
 use Rattle.rb_site.specs.declared.event.Event.{Event}
 use Rattle.rb_site.specs.declared.reply.Reply.{Reply}
-use Rattle.rb_commands.specs.Replies.{reply_json}
+use Rattle.rb_history.specs.Replies.{reply_json}
 use Rattle.rb_history.specs.Counts.{blue_json, numbered_from, numbered_json}
 use Rattle.rb_history.specs.Entries.{deps_json, event_json, request_json}
 use Rattle.rb_history.specs.Fits.{Each, IsEvent, IsReply, IsRequest}

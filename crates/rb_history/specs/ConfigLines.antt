@@ -4,8 +4,8 @@ use Rattle.serde_json.specs.Data.{Data, string, object, member, no_members}
 use Rattle.serde_json.specs.Written.{compact_text}
 use Rattle.rb_money.specs.Faults.{Account}
 use Rattle.rb_money.specs.Settings.{IsConfigured, Settings}
-use Rattle.rb_commands.specs.Configurations.{config_at}
-use Rattle.rb_commands.specs.Values.{number_json, list_json, pair_json}
+use Rattle.rb_history.specs.Configurations.{config_at}
+use Rattle.rb_history.specs.Values.{number_json, list_json, pair_json}
 
 -- an account: its name and its starting balance
 abbrev pub start_json : Account → Data

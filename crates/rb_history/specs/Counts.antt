@@ -4,7 +4,7 @@ use Rattle.std.specs.Prelude.{None, if◌then◌else◌, option_and_then, option
 use Rattle.serde_json.specs.Data.{Data, Items, no_items, item}
 use Rattle.serde_json.specs.Find.{as_array}
 use Rattle.rb_money.specs.declared.limits.TheConstants.{MOST_SITES, MOST_SITES_OF_VERSION_1}
-use Rattle.rb_commands.specs.Values.{list_json, number_below, number_json, pair_json, pair_of}
+use Rattle.rb_history.specs.Values.{list_json, number_below, number_json, pair_json, pair_of}
 
 -- ---- what is written
 

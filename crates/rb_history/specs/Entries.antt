@@ -20,8 +20,8 @@ use Rattle.rb_token.specs.declared.message.TokenMessage.{TokenMessage}
 use Rattle.rb_history.specs.Counts.{blue_json}
 use Rattle.rb_history.specs.Recorded.{event_at}
 use Rattle.rb_history.specs.RepliesRead.{reply_told}
-use Rattle.rb_commands.specs.Replies.{reply_json}
-use Rattle.rb_commands.specs.Values.{list_json, name_json, number_below, number_json, one_json, pair_json, size_of, three_json}
+use Rattle.rb_history.specs.Replies.{reply_json}
+use Rattle.rb_history.specs.Values.{list_json, name_json, number_below, number_json, one_json, pair_json, size_of, three_json}
 use Rattle.rb_history.specs.Fields.{field}
 
 -- ---- what is written

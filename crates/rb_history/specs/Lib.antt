@@ -1,3 +1,15 @@
+pub mod Values
+pub mod Statements
+pub mod Placed
+pub mod Replies
+pub mod Lines
+pub mod Requests
+pub mod Commands
+pub mod Configurations
+pub mod Adds
+pub mod Spelled
+pub mod Blanks
+pub mod Laws
 pub mod Fields
 pub mod ConfigLines
 pub mod Counts

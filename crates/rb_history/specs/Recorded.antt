@@ -14,9 +14,9 @@ use Rattle.rb_site.specs.declared.event.Event.{Event}
 use Rattle.rb_site.specs.declared.event.Event.TheVariants.{Receive}
 use Rattle.rb_site.specs.declared.message.Message.TheVariants.{Shadow as ShadowMessage, Token as TokenOnItsWay}
 use Rattle.rb_token.specs.declared.message.TokenMessage.{TokenMessage}
-use Rattle.rb_commands.specs.Commands.{event_of}
-use Rattle.rb_commands.specs.Requests.{place_at}
-use Rattle.rb_commands.specs.Values.{either, name_at, number_below, pair_of, size_of, three_of}
+use Rattle.rb_history.specs.Commands.{event_of}
+use Rattle.rb_history.specs.Requests.{place_at}
+use Rattle.rb_history.specs.Values.{either, name_at, number_below, pair_of, size_of, three_of}
 use Rattle.rb_history.specs.Counts.{blue_at}
 use Rattle.rb_history.specs.Fields.{field, label_at}
 

@@ -17,7 +17,7 @@ use Rattle.rb_site.specs.declared.reply.Reply.{Reply}
 use Rattle.rb_site.specs.declared.reply.Reply.TheVariants.{Made, Names, Held, Already, Taken, Stale, Applied, Passed, Balance, Statement}
 use Rattle.rb_site.specs.declared.reply.Reply.TheVariants.{Refused}
 use Rattle.rb_statements.specs.declared.row.Row.{Row}
-use Rattle.rb_commands.specs.Values.{either, name_at, number_below, size_of}
+use Rattle.rb_history.specs.Values.{either, name_at, number_below, size_of}
 use Rattle.rb_history.specs.Fields.{field, label_at, six_of}
 
 -- ---- refusals

@@ -2,7 +2,7 @@
 use Rattle.std.specs.Prelude.{ℕ, List, ◌++◌, codes}
 use Rattle.serde_json.specs.Data.{Data, string, object, member, no_members}
 use Rattle.serde_json.specs.Written.{compact_text}
-use Rattle.rb_commands.specs.Values.{number_json, list_json, one_json}
+use Rattle.rb_history.specs.Values.{number_json, list_json, one_json}
 
 -- the sites in the order in which their entries were taken
 abbrev pub order_json : List ℕ → Data

@@ -1,25 +1,48 @@
-//! Lines of histories as JSON: the configuration written, entries written and read, and the verdicts of an audit.
-//! A configuration, a command and a reply are read and written by [`rb_commands`].
-//! Tests: rb_tests_runs, entries.rt.
+//! Lines as JSON: of scripts, their configuration, commands and replies; of histories, their entries; and the verdicts
+//! of an audit.
+//!
+//! Lines are written in [`write`]. They are read in one pass in `fast`, if they are spelled as programs spell them, and
+//! by their JSON value in `read`.
+//! Tests: rb_tests_runs, commands.rt, replies.rt, entries.rt.
 #![tactic(auto)]
 
 mod fast;
+mod fault;
 mod read;
-mod write;
+mod site_command;
+pub mod write;
 
+ghost use Rattle.rb_history.specs.Commands.{CommandsAreRead};
 ghost use Rattle.rb_history.specs.ConfigLines.{ConfigsAreRead};
 ghost use Rattle.rb_history.specs.Fits.{EntriesAreRead, EventsAreRead, ReadEntriesFit};
+ghost use Rattle.rb_history.specs.Laws.{ReadConfigsAreConfigured};
 ghost use Rattle.rb_history.specs.Messages.{MessagesAreRead};
 ghost use Rattle.rb_history.specs.OneLine.{ConfigsAreLines, EntriesAreLines};
 ghost use Rattle.rb_history.specs.Sites.{HeldNamesFitLines, ReadEventsFit, RepliesFitLines};
 
+pub use fast::command::parse_command;
+pub use fault::LineFault;
+pub use read::command::{read_any_command, read_command};
+pub use read::config::read_config;
 pub use read::entry::{read_entry, read_line};
 pub use read::event::read_event;
+pub use site_command::SiteCommand;
 pub use write::config::write_config;
 pub use write::entry::{append_line, write_line};
 pub use write::event::append_event;
 pub use write::migrated::append_migrated;
+pub use write::reply::{append_reply, append_value, write_reply};
 pub use write::verdict::{order_line, stuck_line, wrong_reply_line};
+
+/// Each command is read from its JSON object.
+pub fn commands_are_read()
+    ensures { CommandsAreRead }
+{}
+
+/// Whatever a configuration's line is read as, nothing is wrong with it: all that a `Config` keeps.
+pub fn read_configs_are_configured()
+    ensures { ReadConfigsAreConfigured }
+{}
 
 /// The line that is written for a configuration is read as the configuration.
 pub fn configs_are_read()

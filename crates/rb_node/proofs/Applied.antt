@@ -18,10 +18,10 @@ use Rattle.rb_site.specs.Events.{ModelSite, after_event, after_events, is_full, 
 use Rattle.rb_site.specs.Seen.{SeenSite, next_sites, state_of}
 use Rattle.rb_site.proofs.Public.Recorded.{noted_history}
 use Rattle.rb_site.proofs.Public.Seen.{settings-next, state-next}
-use Rattle.rb_commands.specs.Replies.{reply_json}
-use Rattle.rb_commands.specs.Adds.{Adds}
-use Rattle.rb_commands.proofs.Public.Appended.{both, front_of_front, front_of_sum, front_stays}
-use Rattle.rb_commands.proofs.Public.Listed.{rest_text, whole_text}
+use Rattle.rb_history.specs.Replies.{reply_json}
+use Rattle.rb_history.specs.Adds.{Adds}
+use Rattle.rb_history.proofs.Public.Appended.{both, front_of_front, front_of_sum, front_stays}
+use Rattle.rb_history.proofs.Public.Listed.{rest_text, whole_text}
 use Rattle.rb_history.specs.Entries.{entry_json}
 use Rattle.rb_node.specs.Answers.{AppliesAll, AreReadyInTurn, IsAllApplied, IsReadyName, answer_json, entry_lines, line_of, messages_json}
 use Rattle.rb_node.specs.Steps.{AnswersEvent, Applies, AppliesOne, Steps}

@@ -16,8 +16,8 @@ use Rattle.rb_site.specs.declared.message.Message.{Message}
 use Rattle.rb_site.specs.declared.reply.Reply.{Reply}
 use Rattle.rb_site.specs.Events.{ModelSite, after_event, after_events, is_full, replies_to_events, reply_to, sent_at}
 use Rattle.rb_site.specs.Seen.{SeenSite, next_sites, state_of}
-use Rattle.rb_commands.specs.Replies.{reply_json}
-use Rattle.rb_commands.specs.Values.{list_json, one_json}
+use Rattle.rb_history.specs.Replies.{reply_json}
+use Rattle.rb_history.specs.Values.{list_json, one_json}
 use Rattle.rb_history.specs.Entries.{entry_json, event_json, event_of_line}
 
 -- ---- a site by lines, as clients see it

@@ -9,7 +9,7 @@ use Rattle.rb_site.specs.declared.reply.Reply.{Reply}
 use Rattle.rb_site.specs.declared.event.Event.TheVariants.{Apply}
 use Rattle.rb_site.specs.Events.{after_event, after_events, replies_to_events, reply_to, sent_at}
 use Rattle.rb_site.specs.Seen.{SeenSite, next_site, next_sites, state_of}
-use Rattle.rb_commands.specs.Replies.{reply_json}
+use Rattle.rb_history.specs.Replies.{reply_json}
 use Rattle.rb_node.specs.Answers.{AppliesAll, AreReadyInTurn, IsAllApplied, answer_json, entry_lines, line_of}
 
 -- one event: the site after it, its reply, and the line of its entry behind those before

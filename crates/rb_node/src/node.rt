@@ -1,15 +1,14 @@
 //! One site by lines.
 ghost use Rattle.std.specs.Prelude.{◌≡◌, ◌<◌, ◌≤◌, Some, None, IfOk, Err, MatchResult};
 ghost use Rattle.rb_money.specs.Settings.{Settings};
-ghost use Rattle.rb_commands.specs.declared.fault.LineFault.TheVariants.{Bad};
+ghost use Rattle.rb_history.specs.declared.fault.LineFault.TheVariants.{Bad};
 ghost use Rattle.rb_site.specs.Seen.{first_seen};
-ghost use Rattle.rb_commands.specs.Configurations.{config_on};
+ghost use Rattle.rb_history.specs.Configurations.{config_on};
 ghost use Rattle.rb_history.specs.ConfigLines.{config_json};
 ghost use Rattle.rb_node.specs.Answers.{line_of};
 
 use crate::fault::NodeFault;
-use rb_commands::{LineFault, read_config};
-use rb_history::write_config;
+use rb_history::{LineFault, read_config, write_config};
 use rb_lines::text_on;
 use rb_money::Config;
 use rb_site::{ErasedEntry, Message, Site};
@@ -40,7 +39,7 @@ impl Model for Node {
 }
 
 /// The configuration on a line.
-#[tactic(auto, unfolding(rb_commands::specs::Configurations::config_on))]
+#[tactic(auto, unfolding(rb_history::specs::Configurations::config_on))]
 fn config_of(alloc: Global, line: &[u8]) -> Result<Config, LineFault>
     ensures { MatchResult result
         (λ config. config_on line.now ≡ Some config)

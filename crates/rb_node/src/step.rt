@@ -2,14 +2,14 @@
 ghost use Rattle.std.specs.Prelude.{◌≡◌, ◌++◌, ◌∷◌, [], false, length, take, MatchResult};
 ghost use Rattle.rb_site.specs.Events.{is_full, reply_to, sent_at};
 ghost use Rattle.rb_site.specs.Seen.{entry, next_site, state_of};
-ghost use Rattle.rb_commands.specs.Adds.{Adds};
+ghost use Rattle.rb_history.specs.Adds.{Adds};
 ghost use Rattle.rb_history.specs.Entries.{entry_json};
 ghost use Rattle.rb_node.specs.Answers.{line_of};
 ghost use Rattle.rb_node.specs.Steps.{Steps};
 
 use crate::Node;
-use rb_commands::write::append::append;
 use rb_history::append_line;
+use rb_history::write::append::append;
 use rb_money::{Config, Refusal};
 use rb_site::{Entry, Event, Reply};
 use std::alloc::AllocError;

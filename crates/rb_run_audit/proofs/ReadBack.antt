@@ -7,7 +7,7 @@ use Rattle.std.proofs.lemmas.Bool.{and_parts}
 use Rattle.serde_json.specs.Written.{compact_text}
 use Rattle.rb_money.specs.Settings.{IsConfigured, Settings}
 use Rattle.rb_site.specs.declared.entry.Entry.{Entry}
-use Rattle.rb_commands.specs.Configurations.{config_at, config_on}
+use Rattle.rb_history.specs.Configurations.{config_at, config_on}
 use Rattle.rb_history.specs.ConfigLines.{ConfigsAreRead, config_json}
 use Rattle.rb_history.specs.Entries.{entry_json, entry_of_line, entry_on}
 use Rattle.rb_history.specs.Fits.{Each, EntriesAreRead}

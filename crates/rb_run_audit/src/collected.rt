@@ -2,16 +2,15 @@
 ghost use Rattle.std.specs.Prelude.{◌≡◌, ◌^◌, ◌<◌, ◌≤◌, ◌⊎◌, ℕ, [], ◌∷◌, None, Some, length, replicate, MatchResult};
 ghost use Rattle.rb_money.specs.Settings.{Settings};
 ghost use Rattle.rb_auditor.specs.Audits.{Audited, HasMore};
-ghost use Rattle.rb_commands.specs.Configurations.{config_on};
+ghost use Rattle.rb_history.specs.Configurations.{config_on};
 ghost use Rattle.rb_site.specs.declared.entry.Entry.{Entry as TheEntry};
 ghost use Rattle.rb_history.specs.Entries.{entry_on};
-ghost use Rattle.rb_commands.specs.declared.fault.LineFault.TheVariants.{Bad};
+ghost use Rattle.rb_history.specs.declared.fault.LineFault.TheVariants.{Bad};
 ghost use Rattle.rb_lines.specs.declared.limits.TheConstants.{LINE_LIMIT};
 ghost use Rattle.rb_run_audit.specs.Collects.{InputEndsAt, HasEachSite, Takes};
 
 use rb_auditor::Auditor;
-use rb_commands::{LineFault, read_config};
-use rb_history::read_entry;
+use rb_history::{LineFault, read_config, read_entry};
 use rb_lines::{ScriptFault, is_blank, text_on};
 use rb_money::Config;
 use rb_site::{Entry, Event, Reply};
@@ -25,7 +24,7 @@ pub struct Collected {
 }
 
 /// The configuration on a line.
-#[tactic(auto, unfolding(rb_commands::specs::Configurations::config_on))]
+#[tactic(auto, unfolding(rb_history::specs::Configurations::config_on))]
 fn config_of(alloc: Global, line: &[u8]) -> Result<Config, LineFault>
     ensures { MatchResult result
         (λ config. config_on line.now ≡ Some config)

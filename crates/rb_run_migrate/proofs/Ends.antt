@@ -2,7 +2,7 @@
 use Rattle.std.proofs.Common.{◌≡◌, ◌+◌, ◌-◌, ℕ, false, List, Some, None, refl, sym, ap, subst, arith}
 use Rattle.rb_money.specs.Settings.{Settings}
 use Rattle.rb_site.specs.declared.entry.Entry.{Entry}
-use Rattle.rb_commands.specs.Configurations.{config_on}
+use Rattle.rb_history.specs.Configurations.{config_on}
 use Rattle.rb_history.specs.Entries.{entry_on}
 use Rattle.rb_lines.specs.Answers.{AnswersLine, LinesOutcome, after_text}
 use Rattle.rb_lines.specs.Lines.{is_blank, is_long}

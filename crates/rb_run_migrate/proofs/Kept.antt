@@ -10,7 +10,7 @@ use Rattle.rb_shadow.specs.declared.shadow.Shadow.{Shadow}
 use Rattle.rb_site.specs.declared.event.Event.{Event}
 use Rattle.rb_site.specs.declared.event.Event.TheVariants.{Submit, Batch, Receive}
 use Rattle.rb_site.specs.declared.message.Message.TheVariants.{Shadow as ShadowMessage}
-use Rattle.rb_commands.specs.Laws.{ReadConfigsAreConfigured}
+use Rattle.rb_history.specs.Laws.{ReadConfigsAreConfigured}
 use Rattle.rb_history.specs.Fits.{Each, EntriesAreRead, IsEvent, IsKind, IsRequest, IsShadow, ReadEntriesFit}
 use Rattle.rb_run_migrate.specs.Laws.{MigratedEntriesAreRead}
 

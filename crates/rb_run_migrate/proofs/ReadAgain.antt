@@ -4,8 +4,8 @@ use Rattle.std.specs.Prelude.{if◌then◌else◌}
 use Rattle.std.specs.Str.{is_utf8}
 use Rattle.rb_money.specs.Settings.{IsConfigured, Settings, in_version_2}
 use Rattle.rb_site.specs.declared.entry.Entry.{Entry}
-use Rattle.rb_commands.specs.Configurations.{config_at, config_on}
-use Rattle.rb_commands.specs.Laws.{ReadConfigsAreConfigured}
+use Rattle.rb_history.specs.Configurations.{config_at, config_on}
+use Rattle.rb_history.specs.Laws.{ReadConfigsAreConfigured}
 use Rattle.rb_history.specs.Entries.{entry_of_line, entry_on}
 use Rattle.rb_history.specs.Fits.{Each, ReadEntriesFit}
 use Rattle.rb_lines.specs.Answers.{LinesOutcome, after_text, no_outcome}

@@ -5,7 +5,7 @@ use Rattle.rb_money.specs.Settings.{Settings, in_version_2}
 use Rattle.rb_site.specs.Events.{ModelSite, after_events, replies_to_events}
 use Rattle.rb_site.specs.declared.entry.Entry.{Entry}
 use Rattle.rb_site.specs.declared.event.Event.{Event}
-use Rattle.rb_commands.specs.Configurations.{config_at}
+use Rattle.rb_history.specs.Configurations.{config_at}
 use Rattle.rb_history.specs.ConfigLines.{config_json}
 use Rattle.rb_history.specs.Entries.{entry_of_line, entry_json}
 use Rattle.rb_lines.specs.Lines.{lines_of}

@@ -4,7 +4,7 @@ use Rattle.std.specs.Option.{option_map_or}
 use Rattle.serde_json.specs.Written.{compact_text}
 use Rattle.rb_money.specs.Settings.{Settings, in_version_2}
 use Rattle.rb_site.specs.declared.entry.Entry.{Entry}
-use Rattle.rb_commands.specs.Configurations.{config_on}
+use Rattle.rb_history.specs.Configurations.{config_on}
 use Rattle.rb_history.specs.ConfigLines.{config_json}
 use Rattle.rb_history.specs.Entries.{entry_json, entry_on}
 use Rattle.rb_lines.specs.Answers.{LinesOutcome, after_text, no_outcome}

@@ -2,8 +2,9 @@
 ghost use Rattle.rb_run_migrate.specs.Laws.{MigratedConfigsAreRead, MigratedEntriesAreRead, MigratedReplaysAreEqual};
 ghost use Rattle.rb_run_migrate.specs.Laws.{MigrationsAreRead};
 
-use rb_commands::read_configs_are_configured;
-use rb_history::{configs_are_read, entries_are_read, read_entries_fit};
+use rb_history::{
+    configs_are_read, entries_are_read, read_configs_are_configured, read_entries_fit,
+};
 use rb_run_audit::inputs_are_read_back;
 
 /// What is written in version 2 for lines that were read is read, under the configuration in version 2, as what

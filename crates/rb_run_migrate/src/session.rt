@@ -1,14 +1,14 @@
 //! The lines of a migration, one at a time.
 ghost use Rattle.std.specs.Prelude.{◌≡◌, ◌++◌, ℕ, None, Some, MatchResult, OnErr};
 ghost use Rattle.rb_site.specs.declared.entry.Entry.{Entry};
-ghost use Rattle.rb_commands.specs.declared.fault.LineFault.TheVariants.{Bad};
-ghost use Rattle.rb_commands.specs.Configurations.{config_on};
+ghost use Rattle.rb_history.specs.declared.fault.LineFault.TheVariants.{Bad};
+ghost use Rattle.rb_history.specs.Configurations.{config_on};
 ghost use Rattle.rb_history.specs.Entries.{entry_on};
 ghost use Rattle.rb_run_migrate.specs.Migration.{migrated_config_line, migrated_entry_line};
 ghost use Rattle.rb_run_migrate.specs.Session.{first_migration};
 
 use crate::versions::Versions;
-use rb_commands::{LineFault, read_config};
+use rb_history::{LineFault, read_config};
 use rb_lines::{Responder, ScriptFault, is_blank, text_on};
 use std::alloc::Global;
 
@@ -22,7 +22,7 @@ pub struct Session {
 }
 
 /// The configuration on a line, which is buffered in version 2. An `Err` buffers nothing.
-#[tactic(auto, unfolding(rb_commands::specs::Configurations::config_on))]
+#[tactic(auto, unfolding(rb_history::specs::Configurations::config_on))]
 fn open(alloc: Global, line: &[u8], buffered: &mut Vec<u8>) -> Result<Versions, LineFault>
     ensures opened { MatchResult result
         (λ s. (config_on line.now ≡ Some s) × (buffered.new.items ≡ buffered.old.items ++ migrated_config_line s))

@@ -1,13 +1,12 @@
 //! A configuration as its line has it, and in version 2 of the format.
 ghost use Rattle.std.specs.Prelude.{◌≡◌, ◌≤◌, ◌++◌, ℕ, None, Some, codes, length, take, IfOk, MatchResult, OnErr, OnOk};
 ghost use Rattle.rb_site.specs.declared.entry.Entry.{Entry};
-ghost use Rattle.rb_commands.specs.declared.fault.LineFault.TheVariants.{Bad};
+ghost use Rattle.rb_history.specs.declared.fault.LineFault.TheVariants.{Bad};
 ghost use Rattle.rb_history.specs.Entries.{entry_of_line};
 ghost use Rattle.rb_run_migrate.specs.Migration.{migrated_config_line, migrated_entry_line};
 
-use rb_commands::LineFault;
-use rb_commands::write::append::append;
-use rb_history::{append_migrated, write_config};
+use rb_history::write::append::append;
+use rb_history::{LineFault, append_migrated, write_config};
 use rb_money::Config;
 use std::alloc::{AllocError, Global};
 use std::marker::Model;

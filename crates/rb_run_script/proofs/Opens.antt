@@ -5,7 +5,7 @@ use Rattle.rb_world.specs.Laws.{opened}
 use Rattle.rb_run_script.specs.declared.session.Session.{Session}
 use Rattle.rb_lines.specs.Answers.{AnswersLine, LinesOutcome, after_text}
 use Rattle.rb_lines.specs.Lines.{is_blank, is_long}
-use Rattle.rb_commands.specs.Configurations.{config_on}
+use Rattle.rb_history.specs.Configurations.{config_on}
 use Rattle.rb_run_script.specs.Script.{commands_from, script_outcome}
 use Rattle.rb_run_script.specs.Session.{session_state}
 

@@ -5,9 +5,9 @@ use Rattle.std.specs.Str.{is_utf8}
 use Rattle.rb_money.specs.Settings.{Settings}
 use Rattle.rb_site.specs.declared.world_event.WorldEvent.{WorldEvent}
 use Rattle.rb_world.specs.Laws.{SeenWorld, next_replies, opened}
-use Rattle.rb_commands.specs.Commands.{command_at}
-use Rattle.rb_commands.specs.Configurations.{config_on}
-use Rattle.rb_commands.specs.Replies.{line}
+use Rattle.rb_history.specs.Commands.{command_at}
+use Rattle.rb_history.specs.Configurations.{config_on}
+use Rattle.rb_history.specs.Replies.{line}
 use Rattle.rb_lines.specs.Answers.{LinesOutcome, no_outcome}
 use Rattle.rb_lines.specs.Lines.{is_blank, is_long}
 use Rattle.rb_lines.specs.declared.fault.ScriptFault.{ScriptFault}

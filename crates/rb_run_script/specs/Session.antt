@@ -7,7 +7,7 @@ use Rattle.rb_money.specs.declared.refusal.Refusal.TheVariants.{NoSite}
 use Rattle.rb_site.specs.declared.reply.Reply.TheVariants.{Refused}
 use Rattle.rb_site.specs.declared.world_event.WorldEvent.{WorldEvent}
 use Rattle.rb_world.specs.Laws.{SeenWorld, next_reply, next_world}
-use Rattle.rb_commands.specs.Replies.{line}
+use Rattle.rb_history.specs.Replies.{line}
 use Rattle.rb_run_script.specs.declared.session.Session.{Session}
 use Rattle.rb_lines.specs.Answers.{IsRunState, LinesOutcome, RunState}
 use Rattle.rb_run_script.specs.Script.{commands_from, script_outcome, script_from}

@@ -1,10 +1,10 @@
 //! The commands of a script, given to its world.
 ghost use Rattle.std.specs.Prelude.{◌≡◌, MatchResult, OnErr};
-ghost use Rattle.rb_commands.specs.declared.fault.LineFault.TheVariants.{Bad};
+ghost use Rattle.rb_history.specs.declared.fault.LineFault.TheVariants.{Bad};
 ghost use Rattle.rb_run_script.specs.Script.{command_on};
 ghost use Rattle.rb_run_script.specs.Session.{AnswersCommand};
 
-use rb_commands::{LineFault, append_reply, read_command};
+use rb_history::{LineFault, append_reply, read_command};
 use rb_lines::text_on;
 use rb_site::Reply;
 use rb_world::LeanWorld;

@@ -2,12 +2,12 @@
 ghost use Rattle.std.specs.Prelude.{◌≡◌, None, Some, MatchResult};
 ghost use Rattle.rb_money.specs.Settings.{Settings};
 ghost use Rattle.rb_world.specs.Laws.{opened};
-ghost use Rattle.rb_commands.specs.declared.fault.LineFault.TheVariants.{Bad};
-ghost use Rattle.rb_commands.specs.Configurations.{config_on};
+ghost use Rattle.rb_history.specs.declared.fault.LineFault.TheVariants.{Bad};
+ghost use Rattle.rb_history.specs.Configurations.{config_on};
 ghost use Rattle.rb_run_script.specs.Session.{first_session};
 
 use crate::command::answer_command;
-use rb_commands::{LineFault, read_config};
+use rb_history::{LineFault, read_config};
 use rb_lines::{Responder, ScriptFault, is_blank, text_on};
 use rb_money::Refusal;
 use rb_site::Reply;
@@ -24,7 +24,7 @@ pub struct Session {
 }
 
 /// The world before any event of the configuration on a line.
-#[tactic(auto, unfolding(rb_commands::specs::Configurations::config_on))]
+#[tactic(auto, unfolding(rb_history::specs::Configurations::config_on))]
 fn open_world(alloc: Global, line: &[u8]) -> Result<LeanWorld, LineFault>
     ensures { MatchResult result
         (λ world. (s : Settings) × (config_on line.now ≡ Some s) × (world ≡ opened s))

@@ -8,8 +8,8 @@ use Rattle.std.proofs.lemmas.List.{append_cancel_right}
 use Rattle.std.proofs.lemmas.Grind.{flat_map-append}
 use Rattle.serde_json.specs.Written.{compact_text}
 use Rattle.rb_money.specs.Settings.{IsConfigured, Settings}
-use Rattle.rb_commands.specs.Configurations.{config_at, config_on}
-use Rattle.rb_commands.specs.Laws.{ReadConfigsAreConfigured}
+use Rattle.rb_history.specs.Configurations.{config_at, config_on}
+use Rattle.rb_history.specs.Laws.{ReadConfigsAreConfigured}
 use Rattle.rb_journal.specs.Lines.{recovered}
 use Rattle.rb_site.specs.declared.entry.Entry.{Entry}
 use Rattle.rb_site.specs.Seen.{IsReplayed, SeenSite, first_seen}

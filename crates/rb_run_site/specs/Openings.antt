@@ -1,7 +1,7 @@
 -- A site that is opened over a file, of which nothing is changed yet.
 use Rattle.std.specs.Prelude.{◌≡◌, ◌⊎◌, ◌≤◌, ◌<◌, ℕ, List, [], ◌∷◌, Option, Some, None, IfSome}
 use Rattle.rb_money.specs.Settings.{Settings}
-use Rattle.rb_commands.specs.Configurations.{config_on}
+use Rattle.rb_history.specs.Configurations.{config_on}
 use Rattle.rb_journal.specs.Lines.{recovered}
 use Rattle.rb_lines.specs.Lines.{lines_of}
 use Rattle.rb_serve.specs.Turns.{not_blank}

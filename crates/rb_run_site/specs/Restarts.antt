@@ -1,6 +1,6 @@
 -- Runs of a site, each over the file that a crash of the one before left.
 use Rattle.std.specs.Prelude.{◌≡◌, ℕ, List, ◌++◌, Option, Some}
-use Rattle.rb_commands.specs.Configurations.{config_on}
+use Rattle.rb_history.specs.Configurations.{config_on}
 use Rattle.rb_journal.specs.Lines.{recovered}
 use Rattle.rb_serve.specs.Turns.{AreTurns, Turn, state_after}
 use Rattle.rb_site.specs.Seen.{SeenSite}

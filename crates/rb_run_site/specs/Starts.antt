@@ -2,7 +2,7 @@
 use Rattle.std.specs.Prelude.{◌≡◌, ◌⊎◌, ℕ, ◌+◌, ◌-◌, ◌<◌, List, [], ◌∷◌, ◌++◌, length, Option, Some, IfSome}
 use Rattle.rb_site.specs.Events.{first_site}
 use Rattle.rb_site.specs.Seen.{IsReplayed, SeenSite, first_seen}
-use Rattle.rb_commands.specs.Configurations.{config_on}
+use Rattle.rb_history.specs.Configurations.{config_on}
 use Rattle.rb_lines.specs.Lines.{lines_of}
 use Rattle.rb_node.specs.Replays.{IsReadWhole}
 use Rattle.rb_serve.specs.Turns.{not_blank}

@@ -26,7 +26,7 @@ pub fn restart_goes_on()
     ensures run { RestartedRunsAreOne }
     ensures taken { RestartsAreTaken }
 {
-    rb_commands::read_configs_are_configured();
+    rb_history::read_configs_are_configured();
     rb_history::configs_are_read();
     rb_node::replays_back();
 }

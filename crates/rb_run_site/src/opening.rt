@@ -5,7 +5,7 @@ ghost use Rattle.std.specs.Prelude.{MatchResult};
 ghost use Rattle.std.specs.Io.KnownBytes.{IsAtEnd};
 ghost use Rattle.rb_journal.specs.Lines.{recovered};
 ghost use Rattle.rb_site.specs.Seen.{first_seen};
-ghost use Rattle.rb_commands.specs.Configurations.{config_on};
+ghost use Rattle.rb_history.specs.Configurations.{config_on};
 ghost use Rattle.rb_lines.specs.Buffers.{Counts};
 ghost use Rattle.rb_lines.specs.declared.limits.TheConstants.{MOST_READS};
 ghost use Rattle.rb_run_site.specs.Journals.{journal_head, journal_of};

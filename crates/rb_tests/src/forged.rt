@@ -2,8 +2,7 @@
 use crate::checks::holds;
 use crate::forged_texts::RUNS;
 use crate::worlds::same_answers;
-use rb_commands::read_config;
-use rb_history::read_line;
+use rb_history::{read_config, read_line};
 use rb_inbox::Inbox;
 use rb_money::{Config, Refusal};
 use rb_site::{Event, Message, Reply, Site};

@@ -1,8 +1,7 @@
 //! Tests of entries, commands and sites.
 use crate::checks::{equal, equal_at};
 use crate::common::config_of;
-use rb_commands::read_command;
-use rb_history::read_line;
+use rb_history::{read_command, read_line};
 use rb_money::{Config, Limits};
 use rb_site::{Entry, Site};
 use std::alloc::Global;

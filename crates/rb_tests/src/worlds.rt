@@ -6,7 +6,7 @@ ghost use Rattle.rb_site.specs.Worlds.{IsCommand};
 
 use crate::checks::{equal, holds};
 use crate::rows::row_named;
-use rb_commands::{LineFault, read_command, read_config, write_reply};
+use rb_history::{LineFault, read_command, read_config, write_reply};
 use rb_ledger::Ledger;
 use rb_money::{Config, Place};
 use rb_shadow::Shadow;

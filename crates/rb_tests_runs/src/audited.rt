@@ -5,8 +5,7 @@ ghost use Rattle.rb_money.specs.declared.limits.TheConstants.{MOST_SITES};
 
 use crate::checks::equal;
 use rb_branch::NoGate;
-use rb_commands::read_config;
-use rb_history::read_line;
+use rb_history::{read_config, read_line};
 use rb_lines::{FromBytes, ToBytes};
 use rb_run_audit::run_audit;
 use rb_run_threads::run_threads;

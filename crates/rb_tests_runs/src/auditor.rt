@@ -1,8 +1,7 @@
 //! Certificates that are checked. What audits find is in tests/cases, audits.cases.
 use crate::checks::equal;
 use rb_auditor::{Certificate, check};
-use rb_commands::read_config;
-use rb_history::read_line;
+use rb_history::{read_config, read_line};
 use rb_money::Config;
 use rb_site::Entry;
 use std::alloc::Global;

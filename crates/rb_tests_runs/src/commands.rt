@@ -2,8 +2,7 @@
 //! in tests/cases, bad_lines.cases.
 
 use crate::checks::{equal, equal_at};
-use rb_commands::{LineFault, read_command, read_config};
-use rb_history::{read_line, write_config};
+use rb_history::{LineFault, read_command, read_config, read_line, write_config};
 use std::test::Fail;
 
 const TWO_ACCOUNTS: &str = r#"{"accounts":[["ann",0],["bob",70]],"sites":2,"version":1}"#;

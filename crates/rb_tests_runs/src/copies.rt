@@ -3,8 +3,7 @@ ghost use Rattle.std.specs.Prelude.{◌<◌};
 
 use crate::checks::{equal, equal_at, holds};
 use rb_branch::links;
-use rb_commands::{read_command, read_config};
-use rb_history::{read_line, write_config, write_line};
+use rb_history::{read_command, read_config, read_line, write_config, write_line};
 use rb_money::Config;
 use rb_site::{Entry, Event, Message, Site};
 use rb_tests::rows::row_named;

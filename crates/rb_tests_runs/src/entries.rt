@@ -2,8 +2,7 @@
 //! bad_lines.cases and migrations.cases.
 
 use crate::checks::{equal, holds};
-use rb_commands::read_config;
-use rb_history::{append_line, read_line, write_line};
+use rb_history::{append_line, read_config, read_line, write_line};
 use rb_money::{Config, Place, Refusal};
 use rb_site::{Entry, Event, Reply};
 use std::process::Abort;

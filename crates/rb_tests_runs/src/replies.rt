@@ -2,7 +2,7 @@
 
 use crate::checks::equal;
 use crate::entries::{TWO_ACCOUNTS, both_ways};
-use rb_commands::{read_config, write_reply};
+use rb_history::{read_config, write_reply};
 use std::test::Fail;
 
 /// Replies, each with what it is read as.

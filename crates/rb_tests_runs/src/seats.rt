@@ -9,7 +9,7 @@ use crate::checks::{equal, equal_at, holds};
 use rb_branch::{
     Branch, CallFault, Entries, Gate, GatherFault, Inlet, NoGate, Outbox, Seat, links,
 };
-use rb_commands::{LineFault, read_command, read_config, write_reply};
+use rb_history::{LineFault, read_command, read_config, write_reply};
 use rb_money::Config;
 use rb_scratch::Request;
 use rb_site::{Event, Message, Reply, SiteReport, WorldEvent};

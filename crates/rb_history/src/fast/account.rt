@@ -4,7 +4,7 @@ ghost use Rattle.rb_history.specs.Fits.{IsKnown};
 ghost use Rattle.rb_history.specs.Beginnings.{IsBetween, account_behind_quote};
 
 use crate::fast::number::parse_long_between;
-use rb_commands::fast::scan::{parse_number, parse_prefix, parse_string};
+use crate::fast::scan::{parse_number, parse_prefix, parse_string};
 use rb_money::{Config, Place};
 
 /// The place of an account's name, behind the first quote. "?" is written for an account that there isn't.

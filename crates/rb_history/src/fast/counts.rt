@@ -3,13 +3,13 @@
 ghost use Rattle.std.specs.Prelude.{◌≡◌, ◌<◌, ◌≤◌, ◌^◌, ◌++◌, IfSome, length};
 ghost use Rattle.serde_json.specs.Written.{compact_text};
 ghost use Rattle.rb_money.specs.declared.limits.TheConstants.{MOST_SITES};
-ghost use Rattle.rb_commands.specs.Values.{number_json};
+ghost use Rattle.rb_history.specs.Values.{number_json};
 ghost use Rattle.rb_history.specs.Counts.{numbered_json};
 ghost use Rattle.rb_history.specs.Beginnings.{BeginsWithCounts, BeginsWithEach, BeginsWithNumbered};
 
 use crate::fast::number::parse_word_between;
+use crate::fast::scan::{parse_byte, parse_prefix, parse_word};
 use crate::read::counts::widened;
-use rb_commands::fast::scan::{parse_byte, parse_prefix, parse_word};
 use rb_money::{MOST_SITES, MOST_SITES_OF_VERSION_1};
 
 /// A count for each of these places, and what follows the closing bracket.

@@ -1,12 +1,12 @@
 //! The end of a history's line, behind its event, in one pass. `None` says nothing of a text.
 ghost use Rattle.std.specs.Prelude.{◌≡◌, ◌<◌, ◌++◌, codes, decimal, IfSome};
 ghost use Rattle.serde_json.specs.Written.{compact_text};
-ghost use Rattle.rb_commands.specs.Replies.{reply_json};
+ghost use Rattle.rb_history.specs.Replies.{reply_json};
 ghost use Rattle.rb_history.specs.Fits.{IsReply};
 
 use crate::fast::number::parse_byte_between;
 use crate::fast::reply::parse_reply;
-use rb_commands::fast::scan::parse_prefix;
+use crate::fast::scan::parse_prefix;
 use rb_money::Config;
 use rb_site::Reply;
 use std::alloc::Global;

@@ -9,7 +9,7 @@ ghost use Rattle.rb_history.specs.Entries.{last_members};
 
 use crate::fast::account::parse_account_between;
 use crate::fast::name::parse_name_between;
-use rb_commands::fast::scan::parse_prefix;
+use crate::fast::scan::parse_prefix;
 use rb_money::Config;
 use rb_shadow::{Kind, Label};
 

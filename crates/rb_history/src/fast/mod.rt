@@ -1,5 +1,8 @@
-//! What this program writes, read in one pass.
+//! What is read in one pass, as programs spell it: no blank, no escape. Where blanks are between the tokens of a
+//! command, they are left out first. Any other text is read by its JSON value. `None` says nothing of a text.
 pub mod account;
+pub mod blanks;
+pub mod command;
 pub mod counts;
 pub mod entry;
 pub mod event;
@@ -8,5 +11,8 @@ pub mod name;
 pub mod number;
 pub mod refusal;
 pub mod reply;
+pub mod request;
+pub mod scan;
 pub mod shadow;
+pub mod site_command;
 pub mod statement;

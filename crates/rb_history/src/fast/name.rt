@@ -3,7 +3,7 @@ ghost use Rattle.std.specs.Prelude.{◌≡◌, ◌<◌, ◌++◌, IfSome};
 ghost use Rattle.rb_shadow.specs.NameText.{IsName, name_text};
 ghost use Rattle.rb_history.specs.Beginnings.{IsBetween, behind_quote};
 
-use rb_commands::fast::scan::{parse_name, parse_prefix};
+use crate::fast::scan::{parse_name, parse_prefix};
 use rb_shadow::OpName;
 
 /// An operation's name, behind its first quote.

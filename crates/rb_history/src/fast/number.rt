@@ -2,7 +2,7 @@
 ghost use Rattle.std.specs.Prelude.{◌<◌, ◌^◌, IfSome, decimal};
 ghost use Rattle.rb_history.specs.Beginnings.{IsBetween};
 
-use rb_commands::fast::scan::{parse_byte, parse_number, parse_prefix, parse_word};
+use crate::fast::scan::{parse_byte, parse_number, parse_prefix, parse_word};
 
 /// A number between two texts.
 #[inline(always)]

@@ -1,13 +1,13 @@
 //! Refusals of a history's line, in one pass. `None` says nothing of a text.
 ghost use Rattle.std.specs.Prelude.{◌≡◌, ◌++◌, IfSome};
 ghost use Rattle.serde_json.specs.Written.{compact_text};
-ghost use Rattle.rb_commands.specs.Replies.{cause_json};
+ghost use Rattle.rb_history.specs.Replies.{cause_json};
 ghost use Rattle.rb_history.specs.Fits.{IsCause};
 ghost use Rattle.rb_history.specs.Beginnings.{BeginsWithReply};
 
 use crate::fast::number::{parse_byte_between, parse_word_between};
+use crate::fast::scan::{parse_byte, parse_prefix};
 use crate::read::refusal::plain_refusal;
-use rb_commands::fast::scan::{parse_byte, parse_prefix};
 use rb_money::{Cause, Refusal};
 use rb_site::Reply;
 

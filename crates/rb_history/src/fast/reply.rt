@@ -2,14 +2,14 @@
 ghost use Rattle.std.specs.Prelude.{IfSome};
 ghost use Rattle.rb_history.specs.Beginnings.{BeginsWithReply, BeginsWithEach};
 ghost use Rattle.rb_shadow.specs.NameText.{IsName};
-ghost use Rattle.rb_commands.specs.Values.{name_json};
+ghost use Rattle.rb_history.specs.Values.{name_json};
 
 use crate::fast::kind::parse_label;
 use crate::fast::name::{parse_name_between, parse_op_name};
 use crate::fast::number::{parse_long_between, parse_word_between};
 use crate::fast::refusal::{parse_batch, parse_behind, parse_cancelled, parse_refused};
+use crate::fast::scan::parse_prefix;
 use crate::fast::statement::parse_statement;
-use rb_commands::fast::scan::parse_prefix;
 use rb_kit::List;
 use rb_shadow::OpName;
 use rb_site::Reply;

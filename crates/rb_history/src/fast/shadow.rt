@@ -9,7 +9,7 @@ use crate::fast::counts::parse_counts;
 use crate::fast::kind::{parse_kind, parse_label};
 use crate::fast::name::parse_op_name;
 use crate::fast::number::{parse_byte_between, parse_long_between, parse_word_between};
-use rb_commands::fast::scan::parse_prefix;
+use crate::fast::scan::parse_prefix;
 use rb_money::{Config, MOST_SITES, Place};
 use rb_shadow::{Deps, Kind, OpName, Shadow};
 use rb_site::{Event, Message};

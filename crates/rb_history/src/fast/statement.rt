@@ -4,14 +4,14 @@ ghost use Rattle.std.specs.Fmt.{signed_decimal};
 ghost use Rattle.json.specs.Print.{token_text};
 ghost use Rattle.json.specs.Token.{boolean};
 ghost use Rattle.serde_json.specs.Written.{compact_text};
-ghost use Rattle.rb_commands.specs.Statements.{row_json};
+ghost use Rattle.rb_history.specs.Statements.{row_json};
 ghost use Rattle.rb_history.specs.Fits.{IsMoved, IsStatementRow};
 ghost use Rattle.rb_history.specs.Beginnings.{BeginsWithEach, BeginsWithReply};
 
 use crate::fast::kind::parse_label;
 use crate::fast::name::parse_op_name;
 use crate::fast::number::{parse_long_between, parse_word_between};
-use rb_commands::fast::scan::{parse_number, parse_prefix};
+use crate::fast::scan::{parse_number, parse_prefix};
 use rb_kit::List;
 use rb_site::Reply;
 use rb_statements::{Row, Statement};

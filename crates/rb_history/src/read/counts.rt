@@ -4,7 +4,7 @@ ghost use Rattle.rb_money.specs.declared.limits.TheConstants.{MOST_SITES};
 ghost use Rattle.serde_json.specs.View.{items_view, view};
 ghost use Rattle.rb_history.specs.Counts.{blue_at, counts_at, numbered_at, numbered_in, widened};
 
-use rb_commands::read::value::{byte, pair, word};
+use crate::read::value::{byte, pair, word};
 use rb_money::{MOST_SITES, MOST_SITES_OF_VERSION_1};
 use serde_json::Value;
 

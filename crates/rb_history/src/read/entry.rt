@@ -1,22 +1,22 @@
 //! Lines of histories, read.
 ghost use Rattle.std.specs.Prelude.{◌≡◌, ◌<◌, codes, IfOk, IfSome, MatchResult, None, Some};
-ghost use Rattle.rb_commands.specs.declared.fault.LineFault.TheVariants.{Bad};
+ghost use Rattle.rb_history.specs.declared.fault.LineFault.TheVariants.{Bad};
 ghost use Rattle.serde_json.specs.View.{view};
 ghost use Rattle.serde_json.specs.Written.{compact_text};
 ghost use Rattle.rb_history.specs.Entries.{entry_json, entry_of_line, entry_of_object};
-ghost use Rattle.rb_commands.specs.Lines.{Gives};
+ghost use Rattle.rb_history.specs.Lines.{Gives};
 ghost use Rattle.rb_history.specs.Recorded.{event_at};
 ghost use Rattle.rb_history.specs.RepliesRead.{reply_told};
-ghost use Rattle.rb_commands.specs.Values.{number_below};
+ghost use Rattle.rb_history.specs.Values.{number_below};
 ghost use Rattle.rb_history.specs.Fields.{field};
 
 use crate::fast::entry::parse_entry_end;
 use crate::fast::event::parse_event;
+use crate::fast::scan::parse_prefix;
+use crate::fault::LineFault;
 use crate::read::event::event;
 use crate::read::reply::reply;
-use rb_commands::LineFault;
-use rb_commands::fast::scan::parse_prefix;
-use rb_commands::read::value::{read_value, size};
+use crate::read::value::{read_value, size};
 use rb_money::Config;
 use rb_site::{Entry, Event, Reply};
 use serde_json::Value;

@@ -1,19 +1,74 @@
-//! Events, from a history's line.
-ghost use Rattle.std.specs.Prelude.{◌≡◌};
+//! Events. `None` and `Bad` mean that a value is none.
+ghost use Rattle.std.specs.Prelude.{◌≡◌, ◌^◌, IfOk, IfSome};
 ghost use Rattle.serde_json.specs.View.{view};
-ghost use Rattle.rb_history.specs.Recorded.{token_at, event_at, recorded_of};
-ghost use Rattle.rb_commands.specs.Lines.{Gives};
+ghost use Rattle.rb_site.specs.Worlds.{IsOwn};
+ghost use Rattle.rb_site.specs.declared.event.Event.TheVariants.{AsOf};
+ghost use Rattle.rb_history.specs.Commands.{teller_event_of, event_of};
 ghost use Rattle.rb_history.specs.Entries.{event_of_line};
+ghost use Rattle.rb_history.specs.Lines.{Gives};
+ghost use Rattle.rb_history.specs.Recorded.{token_at, event_at, recorded_of};
+ghost use Rattle.rb_history.specs.Requests.{asked_of};
 
 use crate::fast::event::parse_event_line;
+use crate::fault::LineFault;
+use crate::read::request::{account, request, requests};
 use crate::read::shadow::shadow;
-use rb_commands::read::value::{byte, read_value, size, three, word};
-use rb_commands::{LineFault, event as event_of_command};
+use crate::read::value::{byte, name, pair, read_value, size, three, word};
+use rb_kit::List;
 use rb_money::Config;
 use rb_site::{Event, Message};
 use rb_token::TokenMessage;
 use serde_json::Value;
 use std::alloc::Global;
+
+/// A question for a balance as of a position, from the list of its account and position.
+fn as_of(config: &Config, value: &Value) -> Option<Event>
+    ensures value { result ≡ asked_of config.now (2 ^ 32) AsOf (view value.now) }
+    ensures own { IfSome result IsOwn }
+{
+    let (name, position) = pair(value)?;
+    let account = account(config, name)?;
+    let position = word(position)?;
+    Some(Event::AsOf(account, position))
+}
+
+/// What a teller sees of an account, or a request.
+fn teller_event(config: &Config, value: &Value) -> Option<Event>
+    ensures value { result ≡ teller_event_of config.now (view value.now) }
+    ensures own { IfSome result IsOwn }
+{
+    if let Some(argument) = value.get("balance") {
+        return Some(Event::Balance(account(config, argument)?));
+    }
+    if let Some(argument) = value.get("asof") {
+        return as_of(config, argument);
+    }
+    if let Some(argument) = value.get("statement") {
+        return Some(Event::Statement(account(config, argument)?));
+    }
+    Some(Event::Submit(request(config, value)?))
+}
+
+/// An event that a command asks of a site, by a key of an object that may have others.
+pub fn own_event(alloc: Global, config: &Config, value: &Value) -> Result<Event, LineFault>
+    ensures value { Gives result (event_of config.now (view value.now)) }
+    ensures own { IfOk result IsOwn }
+{
+    if let Some(list) = value.get("batch") {
+        return match requests(alloc, config, list) {
+            Ok(requests) => Ok(Event::Batch(List::new(requests))),
+            Err(fault) => Err(fault),
+        };
+    }
+    let event = if let Some(argument) = value.get("apply") {
+        name(argument).map(Event::Apply)
+    } else if let Some(argument) = value.get("pass") {
+        byte(argument).map(Event::Pass)
+    } else {
+        teller_event(config, value)
+    };
+    event.ok_or(LineFault::Bad)
+}
 
 /// The token on its way.
 fn token(value: &Value) -> Option<TokenMessage>
@@ -42,7 +97,7 @@ fn recorded(alloc: Global, config: &Config, value: &Value) -> Result<Event, Line
             None => Err(LineFault::Bad),
         };
     }
-    event_of_command(alloc, config, value)
+    own_event(alloc, config, value)
 }
 
 /// An event, from an object of one member.

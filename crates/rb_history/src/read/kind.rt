@@ -5,8 +5,8 @@ ghost use Rattle.rb_history.specs.Fields.{label_at};
 ghost use Rattle.rb_money.specs.Settings.{Settings};
 ghost use Rattle.rb_history.specs.Recorded.{kind_at, kind_of};
 
-use rb_commands::account;
-use rb_commands::read::value::{name, size};
+use crate::read::request::account;
+use crate::read::value::{name, size};
 use rb_money::Config;
 use rb_shadow::{Kind, Label};
 use serde_json::Value;

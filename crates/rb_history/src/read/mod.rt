@@ -1,9 +1,13 @@
-//! What is read, from the JSON value of a line. `None` and `Bad` mean that a value is nothing of the kind.
+//! What is read from the JSON value of a line. `None` and `Bad` mean that a value is nothing of the kind.
+pub mod command;
+pub mod config;
 pub mod counts;
 pub mod entry;
 pub mod event;
 pub mod kind;
 pub mod refusal;
 pub mod reply;
+pub mod request;
 pub mod shadow;
 pub mod statement;
+pub mod value;

@@ -5,7 +5,7 @@ ghost use Rattle.rb_history.specs.RepliesRead.{refused_batch_told, behind_of, ca
 ghost use Rattle.rb_history.specs.RepliesRead.{tells_declined, bad_message_told, plain_of, plain_refusals};
 ghost use Rattle.rb_history.specs.RepliesRead.{refusal_told};
 
-use rb_commands::read::value::{byte, size, word};
+use crate::read::value::{byte, size, word};
 use rb_money::{Cause, Refusal};
 use serde_json::Value;
 

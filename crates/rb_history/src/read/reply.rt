@@ -2,16 +2,16 @@
 ghost use Rattle.std.specs.Prelude.{◌≡◌, ◌^◌, option_and_then, option_map};
 ghost use Rattle.serde_json.specs.View.{view};
 ghost use Rattle.rb_site.specs.declared.reply.Reply.TheVariants.{Names, Refused};
-ghost use Rattle.rb_commands.specs.Lines.{Gives, GivesAs};
+ghost use Rattle.rb_history.specs.Lines.{Gives, GivesAs};
 ghost use Rattle.rb_history.specs.RepliesRead.{answer_of, made_told, names_at, refusal_told, reply_told, short_of};
 ghost use Rattle.rb_history.specs.RepliesRead.{simple_of};
-ghost use Rattle.rb_commands.specs.Values.{number_below};
+ghost use Rattle.rb_history.specs.Values.{number_below};
 
+use crate::fault::LineFault;
 use crate::read::kind::label;
 use crate::read::refusal::refusal;
 use crate::read::statement::statement;
-use rb_commands::LineFault;
-use rb_commands::read::value::{byte, long, name, size, word};
+use crate::read::value::{byte, long, name, size, word};
 use rb_kit::List;
 use rb_shadow::OpName;
 use rb_site::Reply;

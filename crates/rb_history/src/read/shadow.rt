@@ -5,8 +5,8 @@ ghost use Rattle.rb_history.specs.Recorded.{deps_at, shadow_at};
 
 use crate::read::counts::counts;
 use crate::read::kind::kind;
-use rb_commands::account;
-use rb_commands::read::value::{byte, long, name, pair, word};
+use crate::read::request::account;
+use crate::read::value::{byte, long, name, pair, word};
 use rb_money::Config;
 use rb_shadow::{Deps, Shadow};
 use serde_json::Value;

@@ -2,13 +2,13 @@
 ghost use Rattle.std.specs.Prelude.{◌≡◌, option_map, ◌^◌};
 ghost use Rattle.serde_json.specs.View.{view};
 ghost use Rattle.rb_history.specs.Fields.{six_of, field};
-ghost use Rattle.rb_commands.specs.Lines.{GivesAs, Gives};
+ghost use Rattle.rb_history.specs.Lines.{GivesAs, Gives};
 ghost use Rattle.rb_history.specs.RepliesRead.{row_at, rows_at, statement_told};
-ghost use Rattle.rb_commands.specs.Values.{number_below};
+ghost use Rattle.rb_history.specs.Values.{number_below};
 
+use crate::fault::LineFault;
 use crate::read::kind::label;
-use rb_commands::LineFault;
-use rb_commands::read::value::{long, name, word};
+use crate::read::value::{long, name, word};
 use rb_kit::List;
 use rb_site::Reply;
 use rb_statements::{Row, Statement};

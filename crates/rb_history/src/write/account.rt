@@ -2,10 +2,10 @@
 ghost use Rattle.std.specs.Prelude.{◌≡◌, ◌++◌, codes, slice_get, unwrap_or};
 ghost use Rattle.json.specs.Print.{escape};
 ghost use Rattle.serde_json.specs.Written.{compact_text};
-ghost use Rattle.rb_commands.specs.Adds.{Adds};
+ghost use Rattle.rb_history.specs.Adds.{Adds};
 ghost use Rattle.rb_history.specs.Entries.{account_json, asked_json};
 
-use rb_commands::write::append::{append, append_number, append_three};
+use crate::write::append::{append, append_number, append_three};
 use rb_money::{Config, Place};
 use std::alloc::AllocError;
 

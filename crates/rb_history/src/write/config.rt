@@ -2,11 +2,11 @@
 ghost use Rattle.std.specs.Prelude.{◌≡◌, ◌<◌, ◌++◌, codes, decimal, false, get_or, length, map, string_bytes, IfOk, []};
 ghost use Rattle.serde_json.specs.View.{items_of};
 ghost use Rattle.serde_json.specs.Written.{compact_text, items_text};
-ghost use Rattle.rb_commands.specs.Adds.{Adds};
+ghost use Rattle.rb_history.specs.Adds.{Adds};
 ghost use Rattle.rb_history.specs.ConfigLines.{accounts_of, config_json, start_json};
 
 use crate::write::account::append_account;
-use rb_commands::write::append::{append, append_number};
+use crate::write::append::{append, append_number};
 use rb_money::{Cents, Config, Limits, Place};
 use std::alloc::{AllocError, Global};
 

@@ -3,12 +3,12 @@
 ghost use Rattle.std.specs.Prelude.{◌≡◌, ◌<◌, ◌==◌, ◌++◌, [], codes, if◌then◌else◌, IfOk};
 ghost use Rattle.rb_money.specs.declared.limits.TheConstants.{MOST_SITES};
 ghost use Rattle.serde_json.specs.Written.{compact_text};
-ghost use Rattle.rb_commands.specs.Adds.{Adds};
-ghost use Rattle.rb_commands.specs.Values.{list_json};
+ghost use Rattle.rb_history.specs.Adds.{Adds};
+ghost use Rattle.rb_history.specs.Values.{list_json};
 ghost use Rattle.rb_history.specs.Counts.{blue_json, numbered_from, numbered_json};
 
+use crate::write::append::{append, append_number};
 use crate::write::number::append_numbers;
-use rb_commands::write::append::{append, append_number};
 use rb_money::{MOST_SITES, MOST_SITES_OF_VERSION_1};
 use std::alloc::AllocError;
 

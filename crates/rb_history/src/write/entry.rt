@@ -1,12 +1,12 @@
 //! Lines of histories, written.
 ghost use Rattle.std.specs.Prelude.{◌≡◌, ◌<◌, ◌++◌, string_bytes, IfOk, OnErr, OnOk};
 ghost use Rattle.serde_json.specs.Written.{compact_text};
-ghost use Rattle.rb_commands.specs.Adds.{Adds};
+ghost use Rattle.rb_history.specs.Adds.{Adds};
 ghost use Rattle.rb_history.specs.Entries.{entry_json};
 
+use crate::write::append::{append, append_number};
 use crate::write::event::append_event;
-use rb_commands::append_value;
-use rb_commands::write::append::{append, append_number};
+use crate::write::reply::append_value;
 use rb_money::Config;
 use rb_site::Entry;
 use std::alloc::{AllocError, Global};

@@ -1,14 +1,14 @@
 //! Events of a history's line, added at the end of bytes.
 ghost use Rattle.std.specs.Prelude.{◌++◌, codes};
 ghost use Rattle.serde_json.specs.Written.{compact_text};
-ghost use Rattle.rb_commands.specs.Adds.{Adds};
+ghost use Rattle.rb_history.specs.Adds.{Adds};
 ghost use Rattle.rb_history.specs.Entries.{event_json, request_json, token_json};
 ghost use Rattle.rb_scratch.specs.declared.request.Request.TheVariants.{Transfer};
-ghost use Rattle.rb_commands.specs.Values.{list_json, one_json};
+ghost use Rattle.rb_history.specs.Values.{list_json, one_json};
 
 use crate::write::account::{append_account, append_asked};
+use crate::write::append::{append, append_named, append_number};
 use crate::write::shadow::append_shadow;
-use rb_commands::write::append::{append, append_named, append_number};
 use rb_money::{Config, Place};
 use rb_scratch::Request;
 use rb_site::{Event, Message};

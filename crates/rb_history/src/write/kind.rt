@@ -1,11 +1,11 @@
 //! The kind of a shadow, written.
 ghost use Rattle.std.specs.Prelude.{true};
 ghost use Rattle.serde_json.specs.Written.{members_text};
-ghost use Rattle.rb_commands.specs.Adds.{Adds};
+ghost use Rattle.rb_history.specs.Adds.{Adds};
 ghost use Rattle.rb_history.specs.Entries.{last_members};
 
 use crate::write::account::append_account;
-use rb_commands::write::append::{append, append_named};
+use crate::write::append::{append, append_named};
 use rb_money::Config;
 use rb_shadow::Kind;
 use std::alloc::AllocError;

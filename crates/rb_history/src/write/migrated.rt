@@ -6,21 +6,21 @@ ghost use Rattle.std.specs.Prelude.{◌≡◌, ◌++◌, ℕ, None, Some, IfSome
 ghost use Rattle.serde_json.specs.Written.{compact_text};
 ghost use Rattle.rb_money.specs.Settings.{in_version_2};
 ghost use Rattle.rb_site.specs.declared.entry.Entry.{Entry};
-ghost use Rattle.rb_commands.specs.Adds.{Adds};
-ghost use Rattle.rb_commands.specs.declared.fault.LineFault.TheVariants.{Bad};
+ghost use Rattle.rb_history.specs.Adds.{Adds};
+ghost use Rattle.rb_history.specs.declared.fault.LineFault.TheVariants.{Bad};
 ghost use Rattle.rb_history.specs.Counts.{blue_json};
 ghost use Rattle.rb_history.specs.Entries.{entry_json, entry_of_line};
 ghost use Rattle.rb_history.specs.Migrated.{IsCutReceipt, IsMigrated, MayMigrate, is_shadow};
 
 use crate::fast::counts::parse_counts;
 use crate::fast::entry::parse_entry_end;
+use crate::fast::scan::parse_prefix;
 use crate::fast::shadow::{parse_back, parse_front};
+use crate::fault::LineFault;
 use crate::read::entry::{parse_entry, read_line};
+use crate::write::append::append;
 use crate::write::counts::append_counts;
 use crate::write::entry::append_line;
-use rb_commands::LineFault;
-use rb_commands::fast::scan::parse_prefix;
-use rb_commands::write::append::append;
 use rb_money::{Config, MOST_SITES};
 use rb_site::{Entry, Event, Message, Reply};
 use std::alloc::{AllocError, Global};

@@ -1,10 +1,10 @@
 //! Lists of numbers, added at the end of bytes.
 ghost use Rattle.std.specs.Prelude.{◌≡◌, ℕ};
 ghost use Rattle.serde_json.specs.Written.{compact_text};
-ghost use Rattle.rb_commands.specs.Adds.{Adds};
-ghost use Rattle.rb_commands.specs.Values.{list_json, number_json};
+ghost use Rattle.rb_history.specs.Adds.{Adds};
+ghost use Rattle.rb_history.specs.Values.{list_json, number_json};
 
-use rb_commands::write::append::{append, append_number};
+use crate::write::append::{append, append_number};
 use std::alloc::AllocError;
 
 /// A number of at most 64 bits.

@@ -2,14 +2,14 @@
 ghost use Rattle.std.specs.Prelude.{◌++◌, codes, decimal, true};
 ghost use Rattle.serde_json.specs.Written.{compact_text, members_text};
 ghost use Rattle.rb_shadow.specs.Labels.{label_of, word_of};
-ghost use Rattle.rb_commands.specs.Adds.{Adds};
+ghost use Rattle.rb_history.specs.Adds.{Adds};
 ghost use Rattle.rb_history.specs.Entries.{account_json, deps_json, last_members, shadow_json};
-ghost use Rattle.rb_commands.specs.Values.{name_json, one_json};
+ghost use Rattle.rb_history.specs.Values.{name_json, one_json};
 
 use crate::write::account::append_account;
+use crate::write::append::{append, append_named, append_number};
 use crate::write::counts::append_counts;
 use crate::write::kind::append_last;
-use rb_commands::write::append::{append, append_named, append_number};
 use rb_money::Config;
 use rb_shadow::{Deps, Shadow};
 use std::alloc::AllocError;

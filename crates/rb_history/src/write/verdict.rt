@@ -1,11 +1,11 @@
 //! The verdict: the line that an audit answers.
 ghost use Rattle.std.specs.Prelude.{◌≡◌, IfOk};
 ghost use Rattle.serde_json.specs.Written.{compact_text};
-ghost use Rattle.rb_commands.specs.Adds.{Adds};
+ghost use Rattle.rb_history.specs.Adds.{Adds};
 ghost use Rattle.rb_history.specs.Verdicts.{verdict_line, order_json, stuck_json, wrong_reply_json};
 
+use crate::write::append::{append, append_number};
 use crate::write::number::append_numbers;
-use rb_commands::write::append::{append, append_number};
 use std::alloc::{AllocError, Global};
 
 fn append_order(out: &mut Vec<u8>, order: &[u8]) -> Result<(), AllocError>

@@ -1,7 +1,7 @@
 use Rattle.std.proofs.Common.{refl}
 use Rattle.serde_json.specs.Written.{compact_text}
-use Rattle.rb_commands.specs.Replies.{reply_json}
-use Rattle.rb_commands.proofs.Public.Appended.{then}
+use Rattle.rb_history.specs.Replies.{reply_json}
+use Rattle.rb_history.proofs.Public.Appended.{then}
 use Rattle.rb_node.proofs.answer.append_listed.Goals as goal
 
 pub returns : goal.returns

@@ -2,7 +2,7 @@ use Rattle.std.proofs.Common.{refl}
 use Rattle.serde_json.specs.Written.{compact_text}
 use Rattle.rb_site.specs.declared.event.Event.TheVariants.{Receive}
 use Rattle.rb_history.specs.Entries.{event_json}
-use Rattle.rb_commands.proofs.Public.Appended.{then}
+use Rattle.rb_history.proofs.Public.Appended.{then}
 use Rattle.rb_node.proofs.answer.append_message.Goals as goal
 
 pub returns : goal.returns

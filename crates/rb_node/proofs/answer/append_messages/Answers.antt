@@ -2,8 +2,8 @@ use Rattle.std.proofs.Common.{◌++◌, codes, [], add-one, drop-cons, arith, re
 use Rattle.std.specs.Prelude.{map}
 use Rattle.rb_site.specs.declared.event.Event.TheVariants.{Receive}
 use Rattle.rb_history.specs.Entries.{event_json}
-use Rattle.rb_commands.proofs.Public.Appended.{front_of_front, front_of_sum, then}
-use Rattle.rb_commands.proofs.Public.Listed.{item_written, items_written, rest_text, whole_text}
+use Rattle.rb_history.proofs.Public.Appended.{front_of_front, front_of_sum, then}
+use Rattle.rb_history.proofs.Public.Listed.{item_written, items_written, rest_text, whole_text}
 use Rattle.rb_node.proofs.Failed.{kept, stayed}
 use Rattle.rb_node.proofs.answer.append_messages.Goals as goal
 

@@ -4,7 +4,7 @@ use denote.Text.{Utf8}
 use denote.Shadow.{shadow}
 use Rattle.rb_site.specs.declared.event.Event.TheVariants.{Receive}
 use Rattle.rb_history.specs.Entries.{event_json}
-use Rattle.rb_commands.proofs.Public.Listed.{rest_text}
+use Rattle.rb_history.proofs.Public.Listed.{rest_text}
 use Rattle.rb_node.proofs.answer.append_messages.Given as goal
 
 abbrev pub invariant-loop-message : goal.invariant-loop-message

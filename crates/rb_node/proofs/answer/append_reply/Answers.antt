@@ -5,8 +5,8 @@ use Rattle.serde_json.specs.View.{items_of}
 use Rattle.serde_json.specs.Written.{compact_text, items_text}
 use Rattle.rb_site.specs.declared.event.Event.TheVariants.{Receive}
 use Rattle.rb_history.specs.Entries.{event_json}
-use Rattle.rb_commands.specs.Replies.{reply_json}
-use Rattle.rb_commands.proofs.Public.Appended.{both, failed, then}
+use Rattle.rb_history.specs.Replies.{reply_json}
+use Rattle.rb_history.proofs.Public.Appended.{both, failed, then}
 use Rattle.rb_node.proofs.answer.append_reply.Goals as goal
 
 -- the parts of the text, one behind another

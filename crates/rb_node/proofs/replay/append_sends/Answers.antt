@@ -6,8 +6,8 @@ use Rattle.serde_json.specs.Written.{items_text}
 use Rattle.rb_money.specs.Settings.{Settings}
 use Rattle.rb_site.specs.declared.event.Event.TheVariants.{Receive}
 use Rattle.rb_site.specs.declared.message.Message.{Message}
-use Rattle.rb_commands.specs.Adds.{Adds}
-use Rattle.rb_commands.proofs.Public.Appended.{both, failed, then}
+use Rattle.rb_history.specs.Adds.{Adds}
+use Rattle.rb_history.proofs.Public.Appended.{both, failed, then}
 use Rattle.rb_history.specs.Entries.{event_json}
 use Rattle.rb_node.specs.Answers.{sent_line}
 use Rattle.rb_node.proofs.replay.append_sends.Goals as goal

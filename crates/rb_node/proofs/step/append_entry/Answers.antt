@@ -1,7 +1,7 @@
 use Rattle.std.proofs.Common.{codes, ap, length, refl, take, ◌∙◌}
 use Rattle.serde_json.specs.Written.{compact_text}
 use Rattle.rb_history.specs.Entries.{entry_json}
-use Rattle.rb_commands.proofs.Public.Appended.{then}
+use Rattle.rb_history.proofs.Public.Appended.{then}
 use Rattle.rb_node.proofs.Failed.{kept, stayed}
 use Rattle.rb_node.proofs.step.append_entry.Goals as goal
 

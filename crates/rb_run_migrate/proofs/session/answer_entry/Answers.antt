@@ -4,7 +4,7 @@ use Rattle.std.specs.Prelude.{MatchResult}
 use Rattle.std.specs.Str.{is_utf8}
 use Rattle.rb_money.specs.Settings.{Settings}
 use Rattle.rb_site.specs.declared.entry.Entry.{Entry}
-use Rattle.rb_commands.specs.declared.fault.LineFault.TheVariants.{Bad}
+use Rattle.rb_history.specs.declared.fault.LineFault.TheVariants.{Bad}
 use Rattle.rb_history.specs.Entries.{entry_of_line, entry_on}
 use Rattle.rb_run_migrate.specs.Migration.{migrated_entry_line}
 use Rattle.rb_run_migrate.proofs.session.answer_entry.Goals as goal

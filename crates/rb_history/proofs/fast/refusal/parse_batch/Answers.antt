@@ -1,7 +1,7 @@
 use Rattle.std.proofs.Common.{◌++◌, codes, decimal}
 use Rattle.serde_json.specs.Written.{compact_text}
-use Rattle.rb_commands.specs.Replies.{cause_json}
-use Rattle.rb_commands.proofs.Public.Numerals.{thirteen}
+use Rattle.rb_history.specs.Replies.{cause_json}
+use Rattle.rb_history.proofs.Numerals.{thirteen}
 use Rattle.rb_history.proofs.Joined.{between}
 use Rattle.json.specs.Print.{escape_byte}
 use Rattle.rb_history.proofs.fast.refusal.parse_batch.Goals as goal

@@ -1,5 +1,5 @@
 use Rattle.std.proofs.Common.{◌++◌, codes, decimal}
-use Rattle.rb_commands.proofs.Public.Numerals.{nine}
+use Rattle.rb_history.proofs.Numerals.{nine}
 use Rattle.rb_history.proofs.Joined.{two_told}
 use Rattle.json.specs.Print.{escape_byte}
 use Rattle.rb_history.proofs.fast.refusal.parse_behind.Goals as goal

@@ -1,4 +1,4 @@
-use Rattle.rb_commands.proofs.Public.Numerals.{six}
+use Rattle.rb_history.proofs.Numerals.{six}
 use Rattle.json.specs.Print.{escape_byte}
 use Rattle.rb_history.proofs.fast.refusal.parse_cancelled.Goals as goal
 

@@ -1,4 +1,4 @@
-use Rattle.rb_commands.proofs.Public.Numerals.{seventeen}
+use Rattle.rb_history.proofs.Numerals.{seventeen}
 use Rattle.json.specs.Print.{escape_byte}
 use Rattle.rb_history.proofs.fast.refusal.parse_message.Goals as goal
 

@@ -1,5 +1,5 @@
 use Rattle.std.proofs.Common.{◌≡◌, [], ◌∷◌, ◌++◌, codes, ap, sym, subst, ◌∙◌, rules}
-use Rattle.rb_commands.specs.Values.{name_json}
+use Rattle.rb_history.specs.Values.{name_json}
 use Rattle.rb_shadow.specs.NameText.{IsName}
 use Rattle.rb_history.specs.Fits.{Each}
 use Rattle.rb_history.proofs.ListRead.{BeginsWith, all_read, each_more, one_more}

@@ -1,6 +1,6 @@
 use denote.Text.{Utf8}
 use denote.Shadow.{shadow}
-use Rattle.rb_commands.specs.Values.{name_json}
+use Rattle.rb_history.specs.Values.{name_json}
 use Rattle.rb_shadow.specs.NameText.{IsName}
 use Rattle.rb_history.specs.Fits.{Each}
 use Rattle.rb_history.proofs.ListRead.{BeginsWith}

@@ -3,7 +3,7 @@ use Rattle.std.specs.Prelude.{map}
 use Rattle.json.specs.Print.{escape_byte}
 use Rattle.serde_json.specs.View.{items_of}
 use Rattle.serde_json.specs.Written.{items_text}
-use Rattle.rb_commands.specs.Values.{name_json}
+use Rattle.rb_history.specs.Values.{name_json}
 use Rattle.rb_history.proofs.Joined.{between}
 use Rattle.rb_history.proofs.fast.reply.parse_names.Goals as goal
 

@@ -4,7 +4,7 @@ use Rattle.json.specs.Print.{token_text}
 use Rattle.json.specs.Token.{boolean}
 use Rattle.rb_shadow.specs.NameText.{name_text}
 use Rattle.rb_shadow.specs.Labels.{word_of}
-use Rattle.rb_commands.proofs.Public.Numerals.{integer_text}
+use Rattle.rb_history.proofs.Numerals.{integer_text}
 use Rattle.rb_history.specs.Beginnings.{behind_quote}
 use Rattle.rb_history.proofs.fast.statement.parse_row.Goals as goal
 

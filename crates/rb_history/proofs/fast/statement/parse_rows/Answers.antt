@@ -1,5 +1,5 @@
 use Rattle.std.proofs.Common.{◌≡◌, [], ◌∷◌, ◌++◌, codes, sym, subst, rules}
-use Rattle.rb_commands.specs.Statements.{row_json}
+use Rattle.rb_history.specs.Statements.{row_json}
 use Rattle.rb_history.specs.Fits.{Each, IsStatementRow}
 use Rattle.rb_history.proofs.ListRead.{BeginsWith, all_read, each_more, one_more}
 use Rattle.rb_history.proofs.fast.statement.parse_rows.Goals as goal

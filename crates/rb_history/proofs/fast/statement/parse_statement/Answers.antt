@@ -3,7 +3,7 @@ use Rattle.std.specs.Prelude.{map}
 use Rattle.json.specs.Print.{escape_byte}
 use Rattle.serde_json.specs.View.{items_of}
 use Rattle.serde_json.specs.Written.{items_text}
-use Rattle.rb_commands.specs.Statements.{row_json}
+use Rattle.rb_history.specs.Statements.{row_json}
 use Rattle.rb_history.proofs.fast.statement.parse_statement.Goals as goal
 
 statement_text : (balance rows start rest : List ℕ)

@@ -2,7 +2,7 @@ use Rattle.std.proofs.Common.{◌≡◌, length, take, drop}
 use Rattle.rb_money.specs.declared.limits.TheConstants.{MOST_SITES_OF_VERSION_1}
 use Rattle.serde_json.specs.View.{items_view}
 use Rattle.rb_history.specs.Counts.{counts_in}
-use Rattle.rb_commands.proofs.Public.Reading.{with_front}
+use Rattle.rb_history.proofs.Reading.{with_front}
 use Rattle.rb_history.proofs.read.counts.first_counts.Given as goal
 
 abbrev pub invariant-loop-site : goal.invariant-loop-site

@@ -1,7 +1,7 @@
 use Rattle.std.proofs.Common.{◌≡◌, ◌+◌, ◌∷◌, Some, drop, suc, take, ap, sym, ◌∙◌, add-one, arith, drop-cons, rules}
 use Rattle.std.proofs.lemmas.List.{drop_all}
 use Rattle.serde_json.specs.View.{items_view}
-use Rattle.rb_commands.proofs.Public.Reading.{nothing_read, with_front}
+use Rattle.rb_history.proofs.Reading.{nothing_read, with_front}
 use Rattle.rb_history.specs.Counts.{numbered_in}
 use Rattle.rb_history.proofs.Numbered.{all_read, none_behind, value_read}
 use Rattle.rb_history.proofs.read.counts.numbered_counts.Goals as goal

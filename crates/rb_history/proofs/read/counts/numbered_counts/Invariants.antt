@@ -2,7 +2,7 @@ use Rattle.std.proofs.Common.{◌≡◌, ◌≤◌, ◌-◌, length, take, drop}
 use Rattle.std.specs.Prelude.{replicate}
 use Rattle.rb_money.specs.declared.limits.TheConstants.{MOST_SITES}
 use Rattle.serde_json.specs.View.{items_view}
-use Rattle.rb_commands.proofs.Public.Reading.{with_front}
+use Rattle.rb_history.proofs.Reading.{with_front}
 use Rattle.rb_history.specs.Counts.{numbered_in}
 use Rattle.rb_history.proofs.read.counts.numbered_counts.Given as goal
 

@@ -3,7 +3,7 @@ use Rattle.json.specs.Print.{escape_byte}
 use Rattle.serde_json.specs.Written.{compact_text}
 use Rattle.rb_money.specs.Settings.{Settings}
 use Rattle.rb_site.specs.declared.entry.Entry.{Entry}
-use Rattle.rb_commands.specs.Replies.{reply_json}
+use Rattle.rb_history.specs.Replies.{reply_json}
 use Rattle.rb_history.specs.Entries.{entry_json, entry_of_line, event_json}
 use Rattle.rb_history.proofs.EntryLine.{entry_line}
 use Rattle.rb_history.proofs.read.entry.parse_entry.Goals as goal

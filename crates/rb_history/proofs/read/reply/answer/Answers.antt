@@ -1,8 +1,8 @@
 use Rattle.std.proofs.Common.{◌≡◌, refl, sym, subst, ◌∙◌, rules}
 use Rattle.serde_json.specs.Data.{Data}
 use Rattle.serde_json.specs.View.{view}
-use Rattle.rb_commands.specs.Lines.{Gives}
-use Rattle.rb_commands.specs.Values.{size_of}
+use Rattle.rb_history.specs.Lines.{Gives}
+use Rattle.rb_history.specs.Values.{size_of}
 use Rattle.rb_history.specs.RepliesRead.{answer_of, made_told, short_of, statement_told}
 use Rattle.rb_history.proofs.read.reply.answer.Goals as goal
 

@@ -3,7 +3,7 @@ use Rattle.std.proofs.lemmas.List.{drop_all}
 use Rattle.std.specs.Prelude.{option_and_then}
 use Rattle.serde_json.specs.Find.{as_array}
 use Rattle.serde_json.specs.View.{items_view, view}
-use Rattle.rb_commands.proofs.Public.Reading.{nothing_read, with_front}
+use Rattle.rb_history.proofs.Reading.{nothing_read, with_front}
 use Rattle.rb_history.specs.RepliesRead.{rows_in}
 use Rattle.rb_history.proofs.ItemsRead.{none_read, one_more_read}
 use Rattle.rb_history.proofs.read.statement.rows.Goals as goal

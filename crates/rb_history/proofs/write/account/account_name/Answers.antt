@@ -1,7 +1,7 @@
 use Rattle.std.proofs.Common.{◌≡◌, Some, refl, rules}
 use Rattle.std.specs.Prelude.{slice_get}
 use Rattle.json.specs.Print.{escape_byte}
-use Rattle.rb_commands.proofs.Public.Plain.{account_plain}
+use Rattle.rb_history.proofs.Plain.{account_plain}
 use Rattle.rb_history.proofs.write.account.account_name.Goals as goal
 
 pub returns-in-Some-clause-plain : goal.returns-in-Some-clause-plain

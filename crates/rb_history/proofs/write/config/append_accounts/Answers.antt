@@ -1,8 +1,8 @@
 use Rattle.std.proofs.Common.{◌++◌, codes, [], length, ap, add-one, arith, rules}
 use Rattle.std.specs.Prelude.{map}
 use Rattle.rb_history.specs.ConfigLines.{accounts_of, start_json}
-use Rattle.rb_commands.proofs.Public.Appended.{front_of_front, front_of_sum, then}
-use Rattle.rb_commands.proofs.Public.Listed.{rest_text, whole_text, item_written, items_written}
+use Rattle.rb_history.proofs.Public.Appended.{front_of_front, front_of_sum, then}
+use Rattle.rb_history.proofs.Public.Listed.{rest_text, whole_text, item_written, items_written}
 use Rattle.rb_history.proofs.Starts.{drop_accounts, few_accounts}
 use Rattle.rb_history.proofs.Behind.{failed_behind}
 use Rattle.rb_history.proofs.write.config.append_accounts.Goals as goal

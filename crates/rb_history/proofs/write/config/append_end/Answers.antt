@@ -1,5 +1,5 @@
 use Rattle.std.proofs.Common.{◌≡◌, ◌++◌, List, ℕ, codes, decimal, append_assoc}
-use Rattle.rb_commands.proofs.Public.Appended.{then}
+use Rattle.rb_history.proofs.Public.Appended.{then}
 use Rattle.rb_history.proofs.write.config.append_end.Goals as goal
 
 end_text : (sites version : List ℕ)

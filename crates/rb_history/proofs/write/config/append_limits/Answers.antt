@@ -1,5 +1,5 @@
 use Rattle.std.proofs.Common.{◌≡◌, ◌++◌, List, ℕ, codes, decimal, append_assoc}
-use Rattle.rb_commands.proofs.Public.Appended.{both, failed, then}
+use Rattle.rb_history.proofs.Public.Appended.{both, failed, then}
 use Rattle.rb_history.proofs.write.config.append_limits.Goals as goal
 
 limits_text : (blue epoch history inbox red : List ℕ)

@@ -4,7 +4,7 @@ use Rattle.std.proofs.lemmas.Option.{slice_get-get_or}
 use Rattle.json.specs.Print.{quoted}
 use Rattle.serde_json.specs.Written.{compact_text}
 use Rattle.rb_history.specs.Entries.{account_json}
-use Rattle.rb_commands.proofs.Public.Appended.{both, failed, then}
+use Rattle.rb_history.proofs.Public.Appended.{both, failed, then}
 use Rattle.rb_history.proofs.write.config.append_start.Goals as goal
 
 start_text : (comma account n : List ℕ)

@@ -2,7 +2,7 @@ use Rattle.std.proofs.Common.{◌≡◌, ◌++◌, codes, length, take, drop, []
 use Rattle.std.specs.Prelude.{map}
 use denote.Text.{Utf8}
 use denote.Shadow.{shadow}
-use Rattle.rb_commands.proofs.Public.Listed.{rest_text}
+use Rattle.rb_history.proofs.Public.Listed.{rest_text}
 use Rattle.rb_history.specs.Counts.{numbered_from, numbered_json}
 use Rattle.rb_history.proofs.write.counts.append_numbered.Given as goal
 

@@ -1,7 +1,7 @@
 use Rattle.std.proofs.Common.{refl}
 use Rattle.serde_json.specs.Written.{compact_text}
 use Rattle.rb_history.specs.Entries.{request_json}
-use Rattle.rb_commands.proofs.Public.Appended.{then}
+use Rattle.rb_history.proofs.Public.Appended.{then}
 use Rattle.rb_history.proofs.write.event.append_listed.Goals as goal
 
 pub returns : goal.returns

@@ -1,8 +1,8 @@
 use Rattle.std.proofs.Common.{codes, add-one, drop-cons, arith, rules}
 use Rattle.json.specs.Print.{escape_byte}
 use Rattle.rb_history.specs.Entries.{request_json}
-use Rattle.rb_commands.proofs.Public.Appended.{front_of_front, front_of_sum}
-use Rattle.rb_commands.proofs.Public.Listed.{item_written, list_between}
+use Rattle.rb_history.proofs.Public.Appended.{front_of_front, front_of_sum}
+use Rattle.rb_history.proofs.Public.Listed.{item_written, list_between}
 use Rattle.rb_history.proofs.Behind.{failed_behind}
 use Rattle.rb_history.proofs.write.event.append_requests.Goals as goal
 

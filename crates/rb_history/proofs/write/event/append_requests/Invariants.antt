@@ -3,7 +3,7 @@ use Rattle.std.specs.Prelude.{map}
 use denote.Text.{Utf8}
 use denote.Shadow.{shadow}
 use Rattle.rb_history.specs.Entries.{request_json}
-use Rattle.rb_commands.proofs.Public.Listed.{rest_text}
+use Rattle.rb_history.proofs.Public.Listed.{rest_text}
 use Rattle.rb_history.proofs.write.event.append_requests.Given as goal
 
 abbrev pub invariant-loop-request : goal.invariant-loop-request

@@ -1,6 +1,6 @@
 use Rattle.std.proofs.Common.{◌≡◌, ◌++◌, List, ℕ, codes, decimal, append_assoc}
 use Rattle.json.specs.Print.{escape_byte}
-use Rattle.rb_commands.proofs.Public.Appended.{both, failed, then}
+use Rattle.rb_history.proofs.Public.Appended.{both, failed, then}
 use Rattle.rb_history.proofs.write.event.append_token.Goals as goal
 
 token_text : (epoch to red : List ℕ)

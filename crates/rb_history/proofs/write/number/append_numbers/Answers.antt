@@ -1,9 +1,9 @@
 use Rattle.std.proofs.Common.{◌++◌, ◌∷◌, codes, [], ap, sym, drop, suc, ◌∙◌, append_assoc, append-nil, add-one, decimal, drop-cons, arith}
 use Rattle.std.proofs.Common.{rules}
 use Rattle.std.specs.Prelude.{map}
-use Rattle.rb_commands.specs.Values.{number_json}
-use Rattle.rb_commands.proofs.Public.Appended.{front_of_front, front_of_sum, then}
-use Rattle.rb_commands.proofs.Public.Listed.{rest_text, whole_text, item_written, items_written}
+use Rattle.rb_history.specs.Values.{number_json}
+use Rattle.rb_history.proofs.Public.Appended.{front_of_front, front_of_sum, then}
+use Rattle.rb_history.proofs.Public.Listed.{rest_text, whole_text, item_written, items_written}
 use Rattle.rb_history.proofs.Behind.{failed_behind}
 use Rattle.rb_history.proofs.write.number.append_numbers.Goals as goal
 

@@ -2,8 +2,8 @@ use Rattle.std.proofs.Common.{◌≡◌, ◌++◌, codes, length, take, drop, []
 use Rattle.std.specs.Prelude.{map}
 use denote.Text.{Utf8}
 use denote.Shadow.{shadow}
-use Rattle.rb_commands.specs.Values.{number_json}
-use Rattle.rb_commands.proofs.Public.Listed.{rest_text}
+use Rattle.rb_history.specs.Values.{number_json}
+use Rattle.rb_history.proofs.Public.Listed.{rest_text}
 use Rattle.rb_history.proofs.write.number.append_numbers.Given as goal
 
 abbrev pub invariant-loop-number : goal.invariant-loop-number

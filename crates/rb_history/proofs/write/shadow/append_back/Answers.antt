@@ -2,8 +2,8 @@ use Rattle.std.proofs.Common.{◌≡◌, ◌++◌, List, ℕ, [], codes, decimal
 use Rattle.serde_json.specs.Written.{compact_text, members_text}
 use Rattle.rb_shadow.specs.Labels.{label_of, word_of}
 use Rattle.rb_history.specs.Entries.{last_members}
-use Rattle.rb_commands.specs.Values.{name_json}
-use Rattle.rb_commands.proofs.Public.Appended.{both, failed, then}
+use Rattle.rb_history.specs.Values.{name_json}
+use Rattle.rb_history.proofs.Public.Appended.{both, failed, then}
 use Rattle.rb_history.proofs.write.shadow.append_back.Goals as goal
 
 back_text : (home kind name last : List ℕ)

@@ -3,9 +3,9 @@ use Rattle.json.specs.Print.{escape_byte}
 use Rattle.serde_json.specs.Written.{compact_text, members_text}
 use Rattle.rb_shadow.specs.Labels.{label_of, word_of}
 use Rattle.rb_history.specs.Entries.{account_json, deps_json, last_members}
-use Rattle.rb_commands.specs.Values.{name_json}
-use Rattle.rb_commands.proofs.Public.Appended.{both, failed, then}
-use Rattle.rb_commands.proofs.Public.Plain.{quoted_label}
+use Rattle.rb_history.specs.Values.{name_json}
+use Rattle.rb_history.proofs.Public.Appended.{both, failed, then}
+use Rattle.rb_history.proofs.Plain.{quoted_label}
 use Rattle.rb_history.proofs.write.shadow.append_shadow.Goals as goal
 
 shadow_text : (account amount deps home kind name last : List ℕ)

@@ -1,8 +1,8 @@
 use Rattle.std.proofs.Common.{◌++◌, codes, append_assoc}
 use Rattle.json.specs.Print.{escape_byte}
 use Rattle.serde_json.specs.Written.{compact_text}
-use Rattle.rb_commands.specs.Values.{list_json, number_json}
-use Rattle.rb_commands.proofs.Public.Appended.{both, failed, then}
+use Rattle.rb_history.specs.Values.{list_json, number_json}
+use Rattle.rb_history.proofs.Public.Appended.{both, failed, then}
 use Rattle.rb_history.proofs.write.verdict.append_stuck.Goals as goal
 
 pub returns : goal.returns

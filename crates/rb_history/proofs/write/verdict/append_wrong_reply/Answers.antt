@@ -1,6 +1,6 @@
 use Rattle.std.proofs.Common.{◌++◌, codes, decimal, append_assoc}
 use Rattle.json.specs.Print.{escape_byte}
-use Rattle.rb_commands.proofs.Public.Appended.{then}
+use Rattle.rb_history.proofs.Public.Appended.{then}
 use Rattle.rb_history.proofs.write.verdict.append_wrong_reply.Goals as goal
 
 pub returns : goal.returns

@@ -1,5 +1,5 @@
 use Rattle.std.proofs.Common.{ap, sym, ◌∙◌}
-use Rattle.rb_commands.proofs.Public.Appended.{front_of_front, front_of_sum, front_stays}
+use Rattle.rb_history.proofs.Public.Appended.{front_of_front, front_of_sum, front_stays}
 use Rattle.rb_site.specs.Seen.{SeenSite}
 use Rattle.rb_site.proofs.Public.Seen.{settings-next}
 use Rattle.rb_node.specs.Answers.{SeenNode}

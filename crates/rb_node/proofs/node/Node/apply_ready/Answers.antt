@@ -1,5 +1,5 @@
 use Rattle.std.proofs.Common.{rules}
-use Rattle.rb_commands.proofs.Public.Appended.{front_of_front, front_of_sum}
+use Rattle.rb_history.proofs.Public.Appended.{front_of_front, front_of_sum}
 use Rattle.rb_node.proofs.Applied.{applies_more, applies_none, closed, spare_falls}
 use Rattle.rb_node.proofs.Failed.{kept, stayed}
 use Rattle.rb_node.proofs.node.Node.apply_ready.Goals as goal

@@ -1,9 +1,0 @@
-use Rattle.std.proofs.Common.{◌≡◌, ◌≤◌, ◌-◌, length, take}
-use Rattle.json.specs.Print.{escape}
-use Rattle.rb_commands.proofs.fast.scan.find_quote.Given as goal
-
-abbrev pub invariant-loop-len : goal.invariant-loop-len
-invariant-loop-len l = record { within : l.len ≤ length l.text; plain : escape (take l.len l.text) ≡ take l.len l.text }
-
-abbrev pub decreases-loop-len : goal.decreases-loop-len
-decreases-loop-len l = length l.text - l.len

@@ -1,9 +1,0 @@
-use Rattle.std.proofs.Common.{◌≡◌, drop}
-use Rattle.serde_json.specs.View.{items_view}
-use Rattle.rb_commands.specs.Requests.{requests_in}
-use Rattle.rb_commands.proofs.Public.Reading.{with_front}
-use Rattle.rb_commands.proofs.read.request.requests.Given as goal
-
-abbrev pub invariant-loop-item : goal.invariant-loop-item
-invariant-loop-item l = with_front l.requests.items (requests_in l.config (items_view (drop l.item-index l.item-items)))
-    ≡ requests_in l.config (items_view l.item-items)

@@ -1,9 +1,0 @@
-use Rattle.std.proofs.Common.{sym, arith}
-use Rattle.rb_commands.proofs.Public.Plain.{quoted_red}
-use Rattle.rb_commands.proofs.Put.{placed_is, placed_then}
-use Rattle.rb_commands.proofs.write.put.put_red.Goals as goal
-
-pub returns-clause-text : goal.returns-clause-text
-returns-clause-text c =
-    placed_is (sym (quoted_red c.args.n (omega arith))) (placed_then c.put_text-at.ensures
-    (placed_then c.put_small-at.ensures.text c.put_text.ensures))

@@ -1,0 +1,21 @@
+-- Texts put one behind another.
+use Rattle.std.proofs.Common.{◌≡◌, ℕ, ◌+◌, List, ◌++◌, length, take, ap, ◌∙◌, append_assoc, length-append, arith}
+use Rattle.rb_history.specs.Placed.{Placed}
+
+-- a text behind another is both
+pub placed_then : {a b c xs ys : List ℕ} {i j k : ℕ} → Placed a b i xs j → Placed b c j ys k → Placed a c i (xs ++ ys) k
+placed_then {a} {b} {c} {xs} {ys} {i} {j} {k} p q = record {
+  bytes = q.bytes ∙ ap (λ l. l ++ ys) p.bytes ∙ append_assoc (take i a) xs ys;
+  moved = q.moved ∙ ap (λ n. n + length ys) p.moved ∙ (omega (arith, length-append xs ys));
+}
+
+-- the same text, in other words
+pub placed_is : {a b xs ys : List ℕ} {i j : ℕ} → xs ≡ ys → Placed a b i xs j → Placed a b i ys j
+placed_is {a} {b} {xs} {ys} {i} {j} e p = record {
+  bytes = p.bytes ∙ ap (λ l. take i a ++ l) e;
+  moved = p.moved ∙ ap (λ l. i + length l) e;
+}
+
+-- five texts and a line feed in two halves
+pub in_halves : (a b c d e f : List ℕ) → a ++ (b ++ (c ++ (d ++ (e ++ f)))) ≡ ((a ++ (b ++ c)) ++ (d ++ e)) ++ f
+in_halves a b c d e f = simp append_assoc

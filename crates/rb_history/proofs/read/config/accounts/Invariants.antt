@@ -1,0 +1,11 @@
+use Rattle.std.proofs.Common.{◌≡◌, drop}
+use Rattle.std.specs.Prelude.{map}
+use Rattle.serde_json.specs.View.{items_view}
+use Rattle.rb_history.specs.Configurations.{accounts_in}
+use Rattle.rb_money.specs.Faults.{account_of}
+use Rattle.rb_history.proofs.Reading.{with_front}
+use Rattle.rb_history.proofs.read.config.accounts.Given as goal
+
+abbrev pub invariant-loop-item : goal.invariant-loop-item
+invariant-loop-item l = with_front (map account_of l.accounts.items) (accounts_in (items_view (drop l.item-index l.item-items)))
+    ≡ accounts_in (items_view l.item-items)

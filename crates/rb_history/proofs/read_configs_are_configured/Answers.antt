@@ -1,0 +1,5 @@
+use Rattle.rb_history.proofs.Configured.{read_configured}
+use Rattle.rb_history.proofs.read_configs_are_configured.Goals as goal
+
+pub returns : goal.returns
+returns c = read_configured

@@ -1,0 +1,53 @@
+use Rattle.std.proofs.Common.{◌++◌, [], ap, sym, subst, append_assoc, codes, cond, false, add-one, drop-cons, arith}
+use Rattle.json.specs.Print.{escape_byte}
+use Rattle.serde_json.specs.View.{items_of}
+use Rattle.serde_json.specs.Written.{items_text}
+use Rattle.rb_shadow.specs.declared.op_name.OpName.TheVariants.{Blue}
+use Rattle.rb_history.specs.Adds.{Adds}
+use Rattle.rb_history.specs.Values.{name_json}
+use Rattle.rb_history.proofs.Public.Appended.{failed_first, front_of_front, front_of_sum}
+use Rattle.rb_history.proofs.Public.Listed.{item_written, list_between, rest_text}
+use Rattle.std.specs.Prelude.{map}
+use Rattle.rb_history.proofs.write.reply.append_names.Goals as goal
+
+pub loop-name-init : goal.loop-name-init
+loop-name-init c = record {
+  front = front_of_sum c.args.out.now.items c.append.new.out.items _ c.in_ok-append.ensures;
+  written = ap (λ l. l ++ rest_text [] (map name_json c.args.names.now)) c.in_ok-append.ensures;
+}
+
+pub returns-in_err-append : goal.returns-in_err-append
+returns-in_err-append c =
+    failed_first c.from_residual.result c.args.out.now.items c.append.new.out.items _ c.from_residual.ensures.0 c.in_err-append.ensures
+
+pub loop-name-preserved : goal.loop-name-preserved
+loop-name-preserved c =
+    let out = c.loop-name.out.items in
+    let new = c.append_listed.new.out.items in
+    let names = c.args.names.now in
+    let i = c.loop-name.name-index in
+    let comma = cond c.loop-name.comma (codes ",") [] in
+    record {
+      front = front_of_front c.args.out.now.items out new c.loop-name.invariant.front
+          (front_of_sum out new _ c.in_ok-append_listed.ensures);
+      written = item_written name_json out new comma _ names i _ (rw add-one (drop-cons names i (Blue 0 0) (omega arith)))
+          c.in_ok-append_listed.ensures c.loop-name.invariant.written;
+    }
+
+pub returns : goal.returns
+unfolding escape_byte
+returns c =
+    let front = codes "{\"names\":[" in
+    let list = items_text false (items_of (map name_json c.args.names.now)) in
+    subst (λ t. Adds c.append-2.result c.args.out.now.items c.append-2.new.out.items t)
+    (ap (λ l. front ++ l) (sym (append_assoc list (codes "}") (codes "\n"))))
+    (list_between name_json c.append-2.result c.args.out.now.items c.loop-name.out.items c.append-2.new.out.items
+    (cond c.loop-name.comma (codes ",") []) front (codes "}\n") c.args.names.now c.loop-name.name-index (omega arith)
+    c.loop-name.invariant.written c.append-2.ensures)
+
+pub returns-in_err-append_listed : goal.returns-in_err-append_listed
+returns-in_err-append_listed c =
+    let old = c.args.out.now.items in
+    let new = c.append_listed.new.out.items in
+    failed_first c.from_residual-in_err-append_listed.result old new _ c.from_residual-in_err-append_listed.ensures.0
+    (front_of_front old c.loop-name.out.items new c.loop-name.invariant.front c.in_err-append_listed.ensures)

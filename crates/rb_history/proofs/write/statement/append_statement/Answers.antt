@@ -1,0 +1,27 @@
+use Rattle.std.proofs.Common.{◌≡◌, ◌++◌, codes, decimal, append_assoc, List, ℕ, false}
+use Rattle.std.specs.Prelude.{map}
+use Rattle.serde_json.specs.View.{items_of}
+use Rattle.serde_json.specs.Written.{items_text}
+use Rattle.json.specs.Print.{escape_byte}
+use Rattle.rb_history.specs.Statements.{row_json}
+use Rattle.rb_history.proofs.Public.Appended.{then}
+use Rattle.rb_history.proofs.write.statement.append_statement.Goals as goal
+
+-- the texts of a line, put together in two ways
+in_line : (a b d e f g h n : List ℕ) →
+    (a ++ (b ++ d)) ++ (e ++ (f ++ (g ++ (h ++ n)))) ≡ (a ++ (b ++ (d ++ (e ++ (f ++ (g ++ h)))))) ++ n
+in_line a b d e f g h n = simp append_assoc
+
+pub returns : goal.returns
+unfolding escape_byte
+returns c =
+    let old = c.args.out.now.items in
+    let balance = decimal c.args.shown.now.balance in
+    let start = decimal c.args.shown.now.start in
+    let list = items_text false (items_of (map row_json c.args.shown.now.rows)) in
+    let front = codes "{\"balance\":" ++ (balance ++ codes ",\"rows\":[") in
+    let back = codes ",\"start\":" ++ (start ++ codes "}\n") in
+    let rows = rw c.as_slice.ensures at c.append_rows.ensures in
+    then c.append_rows.result old c.append_number.new.out.items c.append_rows.new.out.items front (list ++ back) _
+    c.in_ok-append_number.ensures rows
+    (in_line (codes "{\"balance\":") balance (codes ",\"rows\":[") list (codes ",\"start\":") start (codes "}") (codes "\n"))

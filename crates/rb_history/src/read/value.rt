@@ -1,0 +1,102 @@
+//! JSON values: numbers, names and lists of two or three in them. `None` means that a value is nothing of the kind.
+ghost use Rattle.std.specs.Prelude.{◌≡◌, ◌^◌, option_map};
+ghost use Rattle.serde_json.specs.Read.{read};
+ghost use Rattle.serde_json.specs.View.{view};
+ghost use Rattle.rb_history.specs.Lines.{GivesAs};
+ghost use Rattle.rb_history.specs.Values.{number_below, name_at, pair_of, size_of, three_of};
+
+use crate::fault::LineFault;
+use rb_shadow::{OpName, read_name};
+use serde_json::Value;
+use std::alloc::Global;
+
+/// The JSON value that a line is: `Bad` where it is none, `OutOfMemory` where there was no memory to read it.
+pub fn read_value(alloc: Global, line: &str) -> Result<Value, LineFault>
+    ensures { GivesAs view result (read line.now) }
+{
+    match Value::from_str(alloc, line) {
+        Ok(value) => Ok(value),
+        Err(error) => {
+            if error.is_memory() {
+                return Err(LineFault::OutOfMemory);
+            }
+            Err(LineFault::Bad)
+        }
+    }
+}
+
+/// A number below 2^8.
+pub fn byte(value: &Value) -> Option<u8>
+    ensures { result ≡ number_below (2 ^ 8) (view value.now) }
+{
+    match value.as_u64() {
+        Some(n) if n < 256 => Some(n as u8),
+        _ => None,
+    }
+}
+
+/// A number below 2^32.
+pub fn word(value: &Value) -> Option<u32>
+    ensures { result ≡ number_below (2 ^ 32) (view value.now) }
+{
+    match value.as_u64() {
+        Some(n) if n < 0x1_0000_0000 => Some(n as u32),
+        _ => None,
+    }
+}
+
+/// A number below 2^64.
+pub fn long(value: &Value) -> Option<u64>
+    ensures { result ≡ number_below (2 ^ 64) (view value.now) }
+{
+    match value.as_u64() {
+        Some(n) => Some(n),
+        None => None,
+    }
+}
+
+/// An operation's name.
+pub fn name(value: &Value) -> Option<OpName>
+    ensures { result ≡ name_at (view value.now) }
+{
+    match value.as_str() {
+        Some(text) => read_name(text),
+        None => None,
+    }
+}
+
+/// The two items of a list of two.
+#[tactic(auto, using(crate::proofs::Shapes::no_pair))]
+pub fn pair(value: &Value) -> Option<(&Value, &Value)>
+    ensures { option_map (λ p. (view p.0.now, view p.1.now)) result ≡ pair_of (view value.now) }
+{
+    let items = value.as_array()?;
+    if items.len() == 2 {
+        Some((&items[0], &items[1]))
+    } else {
+        None
+    }
+}
+
+/// The three items of a list of three.
+#[tactic(auto, using(crate::proofs::Shapes::no_three))]
+pub fn three(value: &Value) -> Option<(&Value, &Value, &Value)>
+    ensures { option_map (λ p. (view p.0.now, view p.1.now, view p.2.now)) result ≡ three_of (view value.now) }
+{
+    let items = value.as_array()?;
+    if items.len() == 3 {
+        Some((&items[0], &items[1], &items[2]))
+    } else {
+        None
+    }
+}
+
+/// How many members an object has.
+pub fn size(value: &Value) -> usize
+    ensures { result ≡ size_of (view value.now) }
+{
+    match value.as_object() {
+        Some(members) => members.len(),
+        None => 0,
+    }
+}
