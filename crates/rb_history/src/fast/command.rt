@@ -106,12 +106,7 @@ fn parse_first_site(text: &str) -> Option<(Option<u8>, &str)>
 /// Any command, from the object's first key on. Each kind returns where it is parsed, since a result of several kinds
 /// would be put together from the parts of all. Of two keys with one first byte the more frequent is tried first.
 #[inline(never)]
-fn parse_any(
-    alloc: Global,
-    config: &Config,
-    line: &str,
-    spare: &mut Vec<Request>,
-) -> Option<(SiteCommand, u8)>
+fn parse_any(alloc: Global, config: &Config, line: &str) -> Option<(SiteCommand, u8)>
     ensures { IfSome result (λ p. command_at config.now (codes "{\"" ++ line.now) ≡ Some (with_site p.1 p.0)) }
 {
     let (first, text) = parse_first_site(line)?;
@@ -126,7 +121,7 @@ fn parse_any(
         if let Some(balance) = sited(config, first, text, parse_balance(config, text)) {
             return Some(balance);
         }
-        return sited(config, first, text, parse_batch(alloc, config, text, spare));
+        return sited(config, first, text, parse_batch(alloc, config, text));
     }
     if key == b'c' {
         return sited_request(config, first, text, parse_cancellation(config, text));
@@ -168,20 +163,14 @@ fn parse_short(config: &Config, text: &str) -> Option<(SiteCommand, u8)>
 }
 
 /// The command of a line in the usual spelling, and its site. `None` says nothing of the line: it may have another.
-/// A batch's list takes the memory of the spare one.
 #[inline(always)]
-pub fn parse_command(
-    alloc: Global,
-    config: &Config,
-    line: &str,
-    spare: &mut Vec<Request>,
-) -> Option<(SiteCommand, u8)>
+pub fn parse_command(alloc: Global, config: &Config, line: &str) -> Option<(SiteCommand, u8)>
     ensures { IfSome result (λ p. command_at config.now line.now ≡ Some (with_site p.1 p.0)) }
 {
     let text = parse_prefix(line, "{\"")?;
     match parse_short(config, text) {
         Some(command) => Some(command),
-        None => parse_any(alloc, config, text, spare),
+        None => parse_any(alloc, config, text),
     }
 }
 
@@ -190,5 +179,5 @@ pub fn parse_spaced(alloc: Global, config: &Config, line: &str) -> Option<(SiteC
     ensures { IfSome result (λ p. command_at config.now line.now ≡ Some (with_site p.1 p.0)) }
 {
     let text = without_blanks(alloc, line)?;
-    parse_command(alloc, config, text.as_str(), &mut Vec::new(alloc))
+    parse_command(alloc, config, text.as_str())
 }

@@ -1,5 +1,5 @@
 //! Requests, from their key on. `None` says nothing of a text.
-ghost use Rattle.std.specs.Prelude.{◌≡◌, [], IfSome};
+ghost use Rattle.std.specs.Prelude.{IfSome};
 ghost use Rattle.rb_history.specs.Spelled.{SpellsRequest, SpellsRequests};
 
 use crate::fast::scan::{narrow, parse_name, parse_pair, parse_prefix, parse_three};
@@ -7,7 +7,6 @@ use crate::read::request::place;
 use rb_money::Config;
 use rb_scratch::Request;
 use std::alloc::Global;
-use std::mem;
 
 #[inline(always)]
 pub fn parse_deposit<'a>(config: &Config, text: &'a str) -> Option<(Request, &'a str)>
@@ -69,26 +68,15 @@ fn parse_request<'a>(config: &Config, text: &'a str) -> Option<(Request, &'a str
     }
 }
 
-/// An empty list of requests, in the memory of a spare one.
-#[inline(always)]
-fn take_spare(alloc: Global, spare: &mut Vec<Request>) -> Vec<Request>
-    ensures { result.items ≡ [] }
-{
-    let mut requests = mem::replace(spare, Vec::new(alloc));
-    requests.clear();
-    requests
-}
-
-/// The requests of a batch, behind its bracket: at least one. Their list takes the memory of the spare one.
+/// The requests of a batch, behind its bracket: at least one.
 pub fn parse_requests<'a>(
     alloc: Global,
     config: &Config,
     text: &'a str,
-    spare: &mut Vec<Request>,
 ) -> Option<(Vec<Request>, &'a str)>
     ensures { IfSome result (λ p. SpellsRequests config.now p.0.items text.now p.1.now) }
 {
-    let mut requests = take_spare(alloc, spare);
+    let mut requests = Vec::new(alloc);
     let mut left = text;
     'items: loop {
         let (request, rest) = parse_request(config, parse_prefix(left, "{\"")?)?;

@@ -10,21 +10,18 @@ use crate::read::request::place;
 use crate::site_command::SiteCommand;
 use rb_kit::List;
 use rb_money::Config;
-use rb_scratch::Request;
 use std::alloc::Global;
 
-/// A batch, whose list takes the memory of the spare one.
 #[inline(always)]
 pub fn parse_batch<'a>(
     alloc: Global,
     config: &Config,
     text: &'a str,
-    spare: &mut Vec<Request>,
 ) -> Option<(SiteCommand, &'a str)>
     ensures { IfSome result (λ p. Spells config.now p.0 text.now p.1.now) }
 {
     let list = parse_prefix(text, "batch\":[")?;
-    let (requests, rest) = parse_requests(alloc, config, list, spare)?;
+    let (requests, rest) = parse_requests(alloc, config, list)?;
     Some((SiteCommand::Batch(List::new(requests)), rest))
 }
 

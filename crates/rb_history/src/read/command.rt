@@ -80,7 +80,7 @@ pub fn read_command(alloc: Global, config: &Config, line: &str) -> Result<WorldE
     ensures value { Gives result (command_at config.now line.now) }
     ensures command { IfOk result IsCommand }
 {
-    match parse_command(alloc, config, line, &mut Vec::new(alloc)) {
+    match parse_command(alloc, config, line) {
         Some((command, site)) => Ok(command.at(site)),
         None => read_any_command(alloc, config, line),
     }
