@@ -15,7 +15,3 @@ placed_is {a} {b} {xs} {ys} {i} {j} e p = record {
   bytes = p.bytes ∙ ap (λ l. take i a ++ l) e;
   moved = p.moved ∙ ap (λ l. i + length l) e;
 }
-
--- five texts and a line feed in two halves
-pub in_halves : (a b c d e f : List ℕ) → a ++ (b ++ (c ++ (d ++ (e ++ f)))) ≡ ((a ++ (b ++ c)) ++ (d ++ e)) ++ f
-in_halves a b c d e f = simp append_assoc

@@ -1,6 +1,6 @@
 -- What one call adds after another.
 use Rattle.std.proofs.Common.{◌≡◌, ℕ, List, ◌++◌, length, take, drop, take-append-drop, refl, sym, ap, ◌∙◌, append_assoc}
-use Rattle.std.specs.Prelude.{Result, Ok, Err, IsOk, OnOk}
+use Rattle.std.specs.Prelude.{Result, Ok, Err}
 use Rattle.std.specs.Result.{IsErr}
 use Rattle.std.proofs.lemmas.List.{take_at}
 use Rattle.rb_history.specs.Adds.{Adds}
@@ -42,15 +42,3 @@ failed (Err x) old mid new a t is e h = front_stays old mid new a e h
 pub failed_first : {A E : Type 0} (r : Result A E) (old new t : List ℕ) → IsErr r → take (length old) new ≡ old → Adds r old new t
 failed_first (Ok x) old new t is h = absurd (cc)
 failed_first (Err x) old new t is h = h
-
--- what was added is there, where all of it was kept
-pub kept : {A X E F : Type 0} (r : Result A E) (q : Result X F) (old mid new text : List ℕ) → Adds r old mid text
-    → OnOk q (IsOk r × (new ≡ mid)) → OnOk q (new ≡ old ++ text)
-kept (Ok x) (Ok y) old mid new text a e = e.1 ∙ a
-kept (Err x) (Ok y) old mid new text a e = absurd (cc)
-kept (Ok x) (Err y) old mid new text a e = e
-kept (Err x) (Err y) old mid new text a e = e
-
--- a text behind two others is behind both
-pub before_end : (a b c d : List ℕ) → a ++ (b ++ (c ++ d)) ≡ (a ++ (b ++ c)) ++ d
-before_end a b c d = simp append_assoc

@@ -6,9 +6,8 @@ ghost use Rattle.rb_shadow.specs.NameText.{name_text};
 ghost use Rattle.rb_history.specs.Adds.{Adds};
 ghost use Rattle.rb_history.specs.declared.write.line.TheConstants.{SHORT};
 
-use crate::write::line::LINE;
 pub use crate::write::line::SHORT;
-use crate::write::put::{put_name, put_number, put_text};
+use crate::write::line::{LINE, put_name_between, put_number_between};
 use itoa::Buffer;
 use rb_shadow::OpName;
 use std::alloc::AllocError;
@@ -56,11 +55,8 @@ pub fn append_number(out: &mut Vec<u8>, front: &str, n: u64, back: &str) -> Resu
     }
     let at = out.len();
     make_space(out, &[0; LINE])?;
-    let space = out.as_mut_slice();
-    let at = put_text(space, at, front);
-    let at = put_number(space, at, n);
-    let at = put_text(space, at, back);
-    out.truncate(at);
+    let end = put_number_between(out.as_mut_slice(), at, front, n, back);
+    out.truncate(end);
     Ok(())
 }
 
@@ -78,10 +74,7 @@ pub fn append_named(
 {
     let at = out.len();
     make_space(out, &[0; LINE])?;
-    let space = out.as_mut_slice();
-    let at = put_text(space, at, front);
-    let at = put_name(space, at, name);
-    let at = put_text(space, at, back);
-    out.truncate(at);
+    let end = put_name_between(out.as_mut_slice(), at, front, name, back);
+    out.truncate(end);
     Ok(())
 }

@@ -1,5 +1,5 @@
-//! Short lines, put into space that is there.
-ghost use Rattle.std.specs.Prelude.{◌≡◌, ◌≤◌, ◌+◌, ◌++◌, codes, decimal, length};
+//! Short texts, put into space that is there.
+ghost use Rattle.std.specs.Prelude.{◌≤◌, ◌+◌, ◌++◌, decimal, length};
 ghost use Rattle.json.specs.Print.{quoted};
 ghost use Rattle.serde_json.specs.Written.{compact_text};
 ghost use Rattle.rb_history.specs.Placed.{Placed};
@@ -10,48 +10,47 @@ ghost use Rattle.rb_shadow.specs.NameText.{name_text};
 use crate::write::put::{put_name, put_number, put_text, put_word};
 use rb_shadow::{Label, OpName};
 
-/// The most bytes of a short line.
+/// The most bytes of a short text.
 pub const LINE: usize = 64;
 
 /// The most bytes of what is before or behind a number or a name.
 pub const SHORT: usize = 20;
 
-/// Puts a number between two short texts, as a line.
+/// Puts a number between two texts.
 #[inline(always)]
-pub fn put_number_line(space: &mut [u8], at: usize, front: &str, n: u64, back: &str) -> usize
+pub fn put_number_between(space: &mut [u8], at: usize, front: &str, n: u64, back: &str) -> usize
     requires front { length front.now ≤ SHORT }
     requires back { length back.now ≤ SHORT }
     requires space { at + LINE ≤ length space.old }
-    ensures { Placed space.old space.new at ((front.now ++ (decimal n ++ back.now)) ++ codes "\n") result }
+    ensures { Placed space.old space.new at (front.now ++ (decimal n ++ back.now)) result }
 {
     let at = put_text(space, at, front);
     let at = put_number(space, at, n);
-    let at = put_text(space, at, back);
-    put_text(space, at, "\n")
+    put_text(space, at, back)
 }
 
-/// Puts an operation's name in quotes, behind a short text and before a brace, as a line.
+/// Puts an operation's name in quotes between two texts.
 #[inline(always)]
-pub fn put_named_line(space: &mut [u8], at: usize, front: &str, name: OpName) -> usize
+pub fn put_name_between(space: &mut [u8], at: usize, front: &str, name: OpName, back: &str) -> usize
     requires front { length front.now ≤ SHORT }
+    requires back { length back.now ≤ SHORT }
     requires space { at + LINE ≤ length space.old }
-    ensures { Placed space.old space.new at
-        ((front.now ++ (quoted (name_text name) ++ codes "}")) ++ codes "\n") result }
+    ensures { Placed space.old space.new at (front.now ++ (quoted (name_text name) ++ back.now)) result }
 {
     let at = put_text(space, at, front);
     let at = put_name(space, at, name);
-    put_text(space, at, "}\n")
+    put_text(space, at, back)
 }
 
-/// Puts the line of an operation that was made: its kind and its name.
+/// Puts the object of an operation that was made: its kind and its name.
 #[inline(always)]
 pub fn put_made(space: &mut [u8], at: usize, name: OpName, kind: Label) -> usize
     requires { at + LINE ≤ length space.old }
-    ensures { Placed space.old space.new at (compact_text (made_json name kind) ++ codes "\n") result }
+    ensures { Placed space.old space.new at (compact_text (made_json name kind)) result }
 {
     let at = put_text(space, at, "{\"kind\":\"");
     let at = put_word(space, at, kind);
     let at = put_text(space, at, "\",\"name\":");
     let at = put_name(space, at, name);
-    put_text(space, at, "}\n")
+    put_text(space, at, "}")
 }

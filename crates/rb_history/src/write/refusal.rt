@@ -1,11 +1,11 @@
-//! Lines of refusals.
-ghost use Rattle.std.specs.Prelude.{◌≤◌, ◌+◌, ◌++◌, codes, length};
+//! Refusals, put into space that is there.
+ghost use Rattle.std.specs.Prelude.{◌≤◌, ◌+◌, length};
 ghost use Rattle.serde_json.specs.Written.{compact_text};
 ghost use Rattle.rb_history.specs.Placed.{Placed};
 ghost use Rattle.rb_history.specs.Replies.{refusal_json, behind_json, batch_json, cause_json};
 ghost use Rattle.rb_history.specs.declared.write.line.TheConstants.{LINE};
 
-use crate::write::line::put_number_line;
+use crate::write::line::put_number_between;
 use crate::write::put::{put_byte, put_small, put_text};
 use rb_money::{Cause, Refusal};
 
@@ -14,13 +14,13 @@ use rb_money::{Cause, Refusal};
 #[tactic(auto, unfolding(json::specs::Print::escape_byte))]
 fn put_behind(space: &mut [u8], at: usize, seen: u32, needed: u32) -> usize
     requires { at + LINE ≤ length space.old }
-    ensures { Placed space.old space.new at (compact_text (behind_json seen needed) ++ codes "\n") result }
+    ensures { Placed space.old space.new at (compact_text (behind_json seen needed)) result }
 {
     let at = put_text(space, at, "{\"needed\":");
     let at = put_small(space, at, needed);
     let at = put_text(space, at, ",\"refused\":9,\"seen\":");
     let at = put_small(space, at, seen);
-    put_text(space, at, "}\n")
+    put_text(space, at, "}")
 }
 
 /// What stopped a batch.
@@ -41,24 +41,24 @@ fn put_cause(space: &mut [u8], at: usize, cause: Cause) -> usize
 #[tactic(auto, unfolding(json::specs::Print::escape_byte))]
 fn put_batch(space: &mut [u8], at: usize, index: u8, cause: Cause) -> usize
     requires { at + LINE ≤ length space.old }
-    ensures { Placed space.old space.new at (compact_text (batch_json index cause) ++ codes "\n") result }
+    ensures { Placed space.old space.new at (compact_text (batch_json index cause)) result }
 {
     let at = put_text(space, at, "{\"cause\":");
     let at = put_cause(space, at, cause);
     let at = put_text(space, at, ",\"index\":");
     let at = put_byte(space, at, index);
-    put_text(space, at, ",\"refused\":13}\n")
+    put_text(space, at, ",\"refused\":13}")
 }
 
-/// Puts the line of a refusal: its number, and what it holds besides.
+/// Puts the object of a refusal: its number, and what it holds besides.
 #[tactic(auto, unfolding(json::specs::Print::escape_byte))]
 pub fn put_refusal(space: &mut [u8], at: usize, refusal: &Refusal) -> usize
     requires { at + LINE ≤ length space.old }
-    ensures { Placed space.old space.new at (compact_text (refusal_json refusal.now) ++ codes "\n") result }
+    ensures { Placed space.old space.new at (compact_text (refusal_json refusal.now)) result }
 {
     match refusal {
         Refusal::AlreadyCancelled { position } => {
-            put_number_line(
+            put_number_between(
                 space,
                 at,
                 "{\"position\":",
@@ -69,8 +69,8 @@ pub fn put_refusal(space: &mut [u8], at: usize, refusal: &Refusal) -> usize
         Refusal::RedBehind { seen, needed } => put_behind(space, at, *seen, *needed),
         Refusal::BatchRefused { index, cause } => put_batch(space, at, *index, *cause),
         Refusal::BadMessage { why } => {
-            put_number_line(space, at, "{\"refused\":17,\"why\":", *why as u64, "}")
+            put_number_between(space, at, "{\"refused\":17,\"why\":", *why as u64, "}")
         }
-        _ => put_number_line(space, at, "{\"refused\":", refusal.number() as u64, "}"),
+        _ => put_number_between(space, at, "{\"refused\":", refusal.number() as u64, "}"),
     }
 }

@@ -1,22 +1,19 @@
-//! Lines of replies.
-ghost use Rattle.std.specs.Prelude.{◌≡◌, ◌≤◌, ◌+◌, ◌++◌, [], codes, cond, length, take, IfOk, IsOk, OnOk, OnErr};
-ghost use Rattle.std.specs.Prelude.{string_bytes};
+//! Replies.
+ghost use Rattle.std.specs.Prelude.{◌≡◌, ◌≤◌, ◌+◌, ◌++◌, [], codes, cond, length, IfOk, OnOk, OnErr, string_bytes};
 ghost use Rattle.serde_json.specs.Written.{compact_text};
 ghost use Rattle.rb_history.specs.Adds.{Adds};
 ghost use Rattle.rb_history.specs.Placed.{Placed};
 ghost use Rattle.rb_history.specs.Replies.{HasShortLine, line, reply_json};
 ghost use Rattle.rb_history.specs.declared.write.line.TheConstants.{LINE};
-ghost use Rattle.rb_history.specs.Statements.{statement_json};
 ghost use Rattle.rb_history.specs.Values.{name_json, list_json, one_json};
 
 use crate::write::append::{append, make_space};
-use crate::write::line::{LINE, put_made, put_named_line, put_number_line};
+use crate::write::line::{LINE, put_made, put_name_between, put_number_between};
 use crate::write::put::{put_if, put_name};
 use crate::write::refusal::put_refusal;
-use crate::write::statement::{append_empty, append_statement};
+use crate::write::statement::append_statement;
 use rb_shadow::OpName;
 use rb_site::Reply;
-use rb_statements::Statement;
 use std::alloc::{AllocError, Global};
 
 /// The most bytes of a name in quotes and the comma before it.
@@ -36,10 +33,11 @@ fn append_listed(out: &mut Vec<u8>, comma: bool, name: OpName) -> Result<(), All
     Ok(())
 }
 
-/// A list of names, as the one member of an object on a line.
+/// A list of names, as the one member of an object.
+#[inline(never)]
 fn append_names(out: &mut Vec<u8>, names: &[OpName]) -> Result<(), AllocError>
     ensures { Adds result out.old.items out.new.items
-        (compact_text (one_json (codes "names") (list_json name_json names.now)) ++ codes "\n") }
+        (compact_text (one_json (codes "names") (list_json name_json names.now))) }
 {
     append(out, "{\"names\":[")?;
     let mut comma = false;
@@ -47,98 +45,62 @@ fn append_names(out: &mut Vec<u8>, names: &[OpName]) -> Result<(), AllocError>
         append_listed(out, comma, *name)?;
         comma = true;
     }
-    append(out, "]}\n")
+    append(out, "]}")
 }
 
-/// Cuts off what was added behind the first `before` bytes, where there was no memory for all of it.
-#[inline(always)]
-fn keep_if_added(
-    out: &mut Vec<u8>,
-    before: usize,
-    added: Result<(), AllocError>,
-) -> Result<(), AllocError>
-    requires { before ≤ length out.old.items }
-    ensures ok { OnOk result (IsOk added × (out.new.items ≡ out.old.items)) }
-    ensures err { OnErr result (out.new.items ≡ take before out.old.items) }
-{
-    if added.is_ok() {
-        return Ok(());
-    }
-    out.truncate(before);
-    Err(AllocError)
-}
-
-/// The line of a list of names. An `Err` adds nothing.
-#[inline(never)]
-fn append_names_line(out: &mut Vec<u8>, names: &[OpName]) -> Result<(), AllocError>
-    ensures ok { OnOk result (out.new.items
-        ≡ out.old.items ++ (compact_text (one_json (codes "names") (list_json name_json names.now)) ++ codes "\n")) }
-    ensures err { OnErr result (out.new.items ≡ out.old.items) }
-{
-    let before = out.len();
-    let added = append_names(out, names);
-    keep_if_added(out, before, added)
-}
-
-/// The line of a statement with rows. An `Err` adds nothing.
-#[inline(never)]
-fn append_rows_line(out: &mut Vec<u8>, shown: &Statement) -> Result<(), AllocError>
-    ensures ok { OnOk result (out.new.items
-        ≡ out.old.items ++ (compact_text (statement_json shown.now) ++ codes "\n")) }
-    ensures err { OnErr result (out.new.items ≡ out.old.items) }
-{
-    let before = out.len();
-    let added = append_statement(out, shown);
-    keep_if_added(out, before, added)
-}
-
-/// The line of a statement. An `Err` adds nothing.
-#[inline(never)]
-fn append_statement_line(out: &mut Vec<u8>, shown: &Statement) -> Result<(), AllocError>
-    ensures ok { OnOk result (out.new.items
-        ≡ out.old.items ++ (compact_text (statement_json shown.now) ++ codes "\n")) }
-    ensures err { OnErr result (out.new.items ≡ out.old.items) }
-{
-    if shown.rows.as_slice().is_empty() {
-        return append_empty(out, shown);
-    }
-    append_rows_line(out, shown)
-}
-
-/// Puts a reply's line, which is a short one.
+/// Puts the object of a reply, which is a short one.
 #[inline(always)]
 #[tactic(auto, unfolding(json::specs::Print::escape_byte))]
-fn put_line(space: &mut [u8], at: usize, reply: &Reply) -> usize
+fn put_reply(space: &mut [u8], at: usize, reply: &Reply) -> usize
     requires short { HasShortLine reply.now }
     requires space { at + LINE ≤ length space.old }
-    ensures { Placed space.old space.new at (line reply.now) result }
+    ensures { Placed space.old space.new at (compact_text (reply_json reply.now)) result }
 {
     match reply {
         Reply::Made { name, kind } => put_made(space, at, *name, *kind),
-        Reply::Held(name) => put_named_line(space, at, "{\"held\":", *name),
-        Reply::Already(name) => put_named_line(space, at, "{\"already\":", *name),
-        Reply::Taken(epoch) => put_number_line(space, at, "{\"taken\":", *epoch as u64, "}"),
-        Reply::Stale(epoch) => put_number_line(space, at, "{\"stale\":", *epoch as u64, "}"),
-        Reply::Applied(name) => put_named_line(space, at, "{\"applied\":", *name),
-        Reply::Passed(epoch) => put_number_line(space, at, "{\"passed\":", *epoch as u64, "}"),
-        Reply::Balance(cents) => put_number_line(space, at, "{\"balance\":", *cents, "}"),
+        Reply::Held(name) => put_name_between(space, at, "{\"held\":", *name, "}"),
+        Reply::Already(name) => put_name_between(space, at, "{\"already\":", *name, "}"),
+        Reply::Taken(epoch) => put_number_between(space, at, "{\"taken\":", *epoch as u64, "}"),
+        Reply::Stale(epoch) => put_number_between(space, at, "{\"stale\":", *epoch as u64, "}"),
+        Reply::Applied(name) => put_name_between(space, at, "{\"applied\":", *name, "}"),
+        Reply::Passed(epoch) => put_number_between(space, at, "{\"passed\":", *epoch as u64, "}"),
+        Reply::Balance(cents) => put_number_between(space, at, "{\"balance\":", *cents, "}"),
         Reply::Refused(refusal) => put_refusal(space, at, refusal),
         Reply::Names(_) | Reply::Statement(_) => unreachable!(),
     }
 }
 
-/// Adds a reply's line, which is a short one.
+/// The object of a reply, which is a short one.
 #[inline(always)]
 fn append_short(out: &mut Vec<u8>, reply: &Reply) -> Result<(), AllocError>
     requires { HasShortLine reply.now }
-    ensures ok { OnOk result (out.new.items ≡ out.old.items ++ line reply.now) }
-    ensures err { OnErr result (out.new.items ≡ out.old.items) }
+    ensures { Adds result out.old.items out.new.items (compact_text (reply_json reply.now)) }
 {
     let at = out.len();
     make_space(out, &[0; LINE])?;
-    let end = put_line(out.as_mut_slice(), at, reply);
+    let end = put_reply(out.as_mut_slice(), at, reply);
     out.truncate(end);
     Ok(())
+}
+
+/// The JSON object of a reply. An `Err` means out of memory: what was there stays, and more may be behind it.
+pub fn append_value(out: &mut Vec<u8>, reply: &Reply) -> Result<(), AllocError>
+    ensures { Adds result out.old.items out.new.items (compact_text (reply_json reply.now)) }
+{
+    match reply {
+        Reply::Names(names) => append_names(out, names.as_slice()),
+        Reply::Statement(shown) => append_statement(out, shown),
+        _ => append_short(out, reply),
+    }
+}
+
+/// The line of a reply, with its line feed.
+#[inline(always)]
+fn append_reply_line(out: &mut Vec<u8>, reply: &Reply) -> Result<(), AllocError>
+    ensures { Adds result out.old.items out.new.items (line reply.now) }
+{
+    append_value(out, reply)?;
+    append(out, "\n")
 }
 
 /// Adds the line of a reply, with its line feed. An `Err` means out of memory, and adds nothing.
@@ -146,21 +108,14 @@ pub fn append_reply(out: &mut Vec<u8>, reply: &Reply) -> Result<(), AllocError>
     ensures ok { OnOk result (out.new.items ≡ out.old.items ++ line reply.now) }
     ensures err { OnErr result (out.new.items ≡ out.old.items) }
 {
-    match reply {
-        Reply::Names(names) => append_names_line(out, names.as_slice()),
-        Reply::Statement(shown) => append_statement_line(out, shown),
-        _ => append_short(out, reply),
+    let before = out.len();
+    match append_reply_line(out, reply) {
+        Ok(()) => Ok(()),
+        Err(refused) => {
+            out.truncate(before);
+            Err(refused)
+        }
     }
-}
-
-/// The JSON object of a reply: its line without the line feed. An `Err` means out of memory: what was there stays, and
-/// more may be behind it.
-pub fn append_value(out: &mut Vec<u8>, reply: &Reply) -> Result<(), AllocError>
-    ensures { Adds result out.old.items out.new.items (compact_text (reply_json reply.now)) }
-{
-    append_reply(out, reply)?;
-    out.truncate(out.len() - 1);
-    Ok(())
 }
 
 /// The line of a reply, with its line feed. An `Err` means out of memory.

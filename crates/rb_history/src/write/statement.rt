@@ -1,6 +1,5 @@
 //! Statements, as they are written.
 ghost use Rattle.std.specs.Prelude.{◌≡◌, ◌≤◌, ◌+◌, ◌++◌, [], cond, codes, decimal, false, length, map};
-ghost use Rattle.std.specs.Prelude.{OnErr, OnOk};
 ghost use Rattle.std.specs.Fmt.{signed_decimal};
 ghost use Rattle.serde_json.specs.Written.{compact_text, items_text};
 ghost use Rattle.serde_json.specs.View.{items_of};
@@ -88,43 +87,41 @@ fn append_row(out: &mut Vec<u8>, comma: bool, row: &Row) -> Result<(), AllocErro
     Ok(())
 }
 
-/// The rows of a list, with its closing bracket, and the rest of a line: the start.
+/// The rows of a list, with its closing bracket, and the rest of the object: the start.
 fn append_rows(out: &mut Vec<u8>, rows: &[Row], start: u64) -> Result<(), AllocError>
     ensures { Adds result out.old.items out.new.items (items_text false (items_of (map row_json rows.now))
-        ++ (codes ",\"start\":" ++ (decimal start ++ codes "}\n"))) }
+        ++ (codes ",\"start\":" ++ (decimal start ++ codes "}"))) }
 {
     let mut comma = false;
     for row in rows {
         append_row(out, comma, row)?;
         comma = true;
     }
-    append_number(out, "],\"start\":", start, "}\n")
+    append_number(out, "],\"start\":", start, "}")
 }
 
-/// The most bytes of the line of a statement without rows.
+/// The most bytes of a statement without rows.
 const EMPTY: usize = 80;
 
-/// Puts the line of a statement without rows.
+/// Puts a statement without rows.
 #[inline(always)]
 fn put_empty(space: &mut [u8], at: usize, shown: &Statement) -> usize
     requires empty { shown.now.rows ≡ [] }
     requires space { at + EMPTY ≤ length space.old }
-    ensures { Placed space.old space.new at (compact_text (statement_json shown.now) ++ codes "\n") result }
+    ensures { Placed space.old space.new at (compact_text (statement_json shown.now)) result }
 {
     let at = put_text(space, at, "{\"balance\":");
     let at = put_number(space, at, shown.balance);
     let at = put_text(space, at, ",\"rows\":[],\"start\":");
     let at = put_number(space, at, shown.start);
-    put_text(space, at, "}\n")
+    put_text(space, at, "}")
 }
 
-/// Adds the line of a statement without rows, in space that is made once. An `Err` adds nothing.
+/// A statement without rows, in space that is made once.
 #[inline(always)]
-pub fn append_empty(out: &mut Vec<u8>, shown: &Statement) -> Result<(), AllocError>
+fn append_empty(out: &mut Vec<u8>, shown: &Statement) -> Result<(), AllocError>
     requires { shown.now.rows ≡ [] }
-    ensures ok { OnOk result (out.new.items
-        ≡ out.old.items ++ (compact_text (statement_json shown.now) ++ codes "\n")) }
-    ensures err { OnErr result (out.new.items ≡ out.old.items) }
+    ensures { Adds result out.old.items out.new.items (compact_text (statement_json shown.now)) }
 {
     let at = out.len();
     make_space(out, &[0; EMPTY])?;
@@ -133,10 +130,14 @@ pub fn append_empty(out: &mut Vec<u8>, shown: &Statement) -> Result<(), AllocErr
     Ok(())
 }
 
-/// The object of a statement, as a line.
+/// The object of a statement with rows or without.
+#[inline(never)]
 pub fn append_statement(out: &mut Vec<u8>, shown: &Statement) -> Result<(), AllocError>
-    ensures { Adds result out.old.items out.new.items (compact_text (statement_json shown.now) ++ codes "\n") }
+    ensures { Adds result out.old.items out.new.items (compact_text (statement_json shown.now)) }
 {
+    if shown.rows.as_slice().is_empty() {
+        return append_empty(out, shown);
+    }
     append_number(out, "{\"balance\":", shown.balance, ",\"rows\":[")?;
     append_rows(out, shown.rows.as_slice(), shown.start)
 }

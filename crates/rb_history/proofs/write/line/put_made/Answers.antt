@@ -12,9 +12,9 @@ made_with label name = codes "{\"kind\":" ++ (label ++ (codes ",\"name\":" ++ (n
 
 -- the same, piece by piece
 abbrev made_by : List ℕ → List ℕ → List ℕ
-made_by label name = codes "{\"kind\":\"" ++ (label ++ (codes "\",\"name\":" ++ (name ++ codes "}\n")))
+made_by label name = codes "{\"kind\":\"" ++ (label ++ (codes "\",\"name\":" ++ (name ++ codes "}")))
 
-made_text : (label name : List ℕ) → made_by label name ≡ made_with (codes "\"" ++ (label ++ codes "\"")) name ++ codes "\n"
+made_text : (label name : List ℕ) → made_by label name ≡ made_with (codes "\"" ++ (label ++ codes "\"")) name
 made_text label name = simp append_assoc
 
 pub returns : goal.returns
@@ -22,6 +22,6 @@ unfolding escape_byte
 returns c =
     let label = word_of c.args.kind in
     let name = quoted (name_text c.args.name) in
-    let same = made_text label name ∙ ap (λ l. made_with l name ++ codes "\n") (sym (quoted_label c.args.kind)) in
+    let same = made_text label name ∙ ap (λ l. made_with l name) (sym (quoted_label c.args.kind)) in
     placed_is same (placed_then c.put_text-at.ensures (placed_then c.put_word-at.ensures.text (placed_then c.put_text-at-2.ensures
     (placed_then c.put_name-at.ensures.text c.put_text.ensures))))

@@ -1,9 +1,9 @@
-use Rattle.std.proofs.Common.{◌≡◌, ◌++◌, codes, decimal, append_assoc, ap, ◌∙◌}
+use Rattle.std.proofs.Common.{◌≡◌, ◌++◌, codes, decimal, refl}
 use Rattle.json.specs.Print.{escape_byte}
 use Rattle.serde_json.specs.Written.{compact_text}
 use Rattle.rb_history.specs.Replies.{batch_json, cause_json}
 use Rattle.rb_history.proofs.Numerals.{thirteen}
-use Rattle.rb_history.proofs.Put.{in_halves, placed_is, placed_then}
+use Rattle.rb_history.proofs.Put.{placed_is, placed_then}
 use Rattle.rb_history.proofs.write.refusal.put_batch.Goals as goal
 
 pub returns : goal.returns
@@ -11,10 +11,7 @@ unfolding escape_byte
 returns c =
     let cause = compact_text (cause_json c.args.cause) in
     let index = decimal c.args.index in
-    let front = codes "{\"cause\":" ++ (cause ++ codes ",\"index\":") in
-    let back = index ++ codes ",\"refused\":13}" in
-    let same : front ++ back ≡ compact_text (batch_json c.args.index c.args.cause) = rw thirteen (simp append_assoc) in
-    let whole = in_halves (codes "{\"cause\":") cause (codes ",\"index\":") index (codes ",\"refused\":13}") (codes "\n")
-    ∙ ap (λ l. l ++ codes "\n") same in
-    placed_is whole (placed_then c.put_text-at.ensures (placed_then c.put_cause-at.ensures.text (placed_then c.put_text-at-2.ensures
+    let text = codes "{\"cause\":" ++ (cause ++ (codes ",\"index\":" ++ (index ++ codes ",\"refused\":13}"))) in
+    let same : text ≡ compact_text (batch_json c.args.index c.args.cause) = rw thirteen refl in
+    placed_is same (placed_then c.put_text-at.ensures (placed_then c.put_cause-at.ensures.text (placed_then c.put_text-at-2.ensures
     (placed_then c.put_byte-at.ensures.text c.put_text.ensures))))

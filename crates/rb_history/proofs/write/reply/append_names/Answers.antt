@@ -1,9 +1,6 @@
-use Rattle.std.proofs.Common.{◌++◌, [], ap, sym, subst, append_assoc, codes, cond, false, add-one, drop-cons, arith}
+use Rattle.std.proofs.Common.{◌++◌, [], ap, codes, cond, add-one, drop-cons, arith}
 use Rattle.json.specs.Print.{escape_byte}
-use Rattle.serde_json.specs.View.{items_of}
-use Rattle.serde_json.specs.Written.{items_text}
 use Rattle.rb_shadow.specs.declared.op_name.OpName.TheVariants.{Blue}
-use Rattle.rb_history.specs.Adds.{Adds}
 use Rattle.rb_history.specs.Values.{name_json}
 use Rattle.rb_history.proofs.Public.Appended.{failed_first, front_of_front, front_of_sum}
 use Rattle.rb_history.proofs.Public.Listed.{item_written, list_between, rest_text}
@@ -37,13 +34,9 @@ loop-name-preserved c =
 pub returns : goal.returns
 unfolding escape_byte
 returns c =
-    let front = codes "{\"names\":[" in
-    let list = items_text false (items_of (map name_json c.args.names.now)) in
-    subst (λ t. Adds c.append-2.result c.args.out.now.items c.append-2.new.out.items t)
-    (ap (λ l. front ++ l) (sym (append_assoc list (codes "}") (codes "\n"))))
-    (list_between name_json c.append-2.result c.args.out.now.items c.loop-name.out.items c.append-2.new.out.items
-    (cond c.loop-name.comma (codes ",") []) front (codes "}\n") c.args.names.now c.loop-name.name-index (omega arith)
-    c.loop-name.invariant.written c.append-2.ensures)
+    list_between name_json c.append-2.result c.args.out.now.items c.loop-name.out.items c.append-2.new.out.items
+    (cond c.loop-name.comma (codes ",") []) (codes "{\"names\":[") (codes "}") c.args.names.now c.loop-name.name-index (omega arith)
+    c.loop-name.invariant.written c.append-2.ensures
 
 pub returns-in_err-append_listed : goal.returns-in_err-append_listed
 returns-in_err-append_listed c =

@@ -7,10 +7,9 @@ use Rattle.rb_history.specs.Statements.{row_json}
 use Rattle.rb_history.proofs.Public.Appended.{then}
 use Rattle.rb_history.proofs.write.statement.append_statement.Goals as goal
 
--- the texts of a line, put together in two ways
-in_line : (a b d e f g h n : List ℕ) →
-    (a ++ (b ++ d)) ++ (e ++ (f ++ (g ++ (h ++ n)))) ≡ (a ++ (b ++ (d ++ (e ++ (f ++ (g ++ h)))))) ++ n
-in_line a b d e f g h n = simp append_assoc
+-- the texts of an object, put together in two ways
+in_line : (a b d e f g h : List ℕ) → (a ++ (b ++ d)) ++ (e ++ (f ++ (g ++ h))) ≡ a ++ (b ++ (d ++ (e ++ (f ++ (g ++ h)))))
+in_line a b d e f g h = simp append_assoc
 
 pub returns : goal.returns
 unfolding escape_byte
@@ -20,8 +19,8 @@ returns c =
     let start = decimal c.args.shown.now.start in
     let list = items_text false (items_of (map row_json c.args.shown.now.rows)) in
     let front = codes "{\"balance\":" ++ (balance ++ codes ",\"rows\":[") in
-    let back = codes ",\"start\":" ++ (start ++ codes "}\n") in
-    let rows = rw c.as_slice.ensures at c.append_rows.ensures in
+    let back = codes ",\"start\":" ++ (start ++ codes "}") in
+    let rows = rw c.as_slice-2.ensures at c.append_rows.ensures in
     then c.append_rows.result old c.append_number.new.out.items c.append_rows.new.out.items front (list ++ back) _
     c.in_ok-append_number.ensures rows
-    (in_line (codes "{\"balance\":") balance (codes ",\"rows\":[") list (codes ",\"start\":") start (codes "}") (codes "\n"))
+    (in_line (codes "{\"balance\":") balance (codes ",\"rows\":[") list (codes ",\"start\":") start (codes "}"))

@@ -1,4 +1,4 @@
-use Rattle.std.proofs.Common.{◌≡◌, ◌++◌, ◌∙◌, codes, decimal, append_assoc, ap, sym, List, ℕ, false}
+use Rattle.std.proofs.Common.{◌≡◌, ◌++◌, ◌∙◌, codes, decimal, ap, refl, sym, List, ℕ, false}
 use Rattle.std.specs.Prelude.{map}
 use Rattle.serde_json.specs.View.{items_of}
 use Rattle.serde_json.specs.Written.{items_text}
@@ -8,15 +8,15 @@ use Rattle.rb_statements.specs.declared.row.Row.{Row}
 use Rattle.rb_history.proofs.Put.{placed_is, placed_then}
 use Rattle.rb_history.proofs.write.statement.put_empty.Goals as goal
 
--- the texts of a line around the list of its rows
-abbrev line_with : List ℕ → List ℕ → List ℕ → List ℕ
-line_with balance list start =
-    (codes "{\"balance\":" ++ (balance ++ (codes ",\"rows\":[" ++ (list ++ (codes ",\"start\":" ++ (start ++ codes "}")))))) ++ codes "\n"
+-- the texts of an object around the list of its rows
+abbrev object_with : List ℕ → List ℕ → List ℕ → List ℕ
+object_with balance list start =
+    codes "{\"balance\":" ++ (balance ++ (codes ",\"rows\":[" ++ (list ++ (codes ",\"start\":" ++ (start ++ codes "}")))))
 
 -- the same, piece by piece, where the list is a bracket
-empty_text : (balance start : List ℕ) → codes "{\"balance\":" ++ (balance ++ (codes ",\"rows\":[],\"start\":" ++ (start ++ codes "}\n")))
-    ≡ line_with balance (codes "]") start
-empty_text balance start = simp append_assoc
+empty_text : (balance start : List ℕ) → codes "{\"balance\":" ++ (balance ++ (codes ",\"rows\":[],\"start\":" ++ (start ++ codes "}")))
+    ≡ object_with balance (codes "]") start
+empty_text balance start = refl
 
 pub returns : goal.returns
 unfolding escape_byte
@@ -24,6 +24,6 @@ returns c =
     let shown = c.args.shown.now in
     let list = λ (rows : List Row). items_text false (items_of (map row_json rows)) in
     let same = empty_text (decimal shown.balance) (decimal shown.start)
-    ∙ ap (λ (rows : List Row). line_with (decimal shown.balance) (list rows) (decimal shown.start)) (sym c.requires.empty) in
+    ∙ ap (λ (rows : List Row). object_with (decimal shown.balance) (list rows) (decimal shown.start)) (sym c.requires.empty) in
     placed_is same (placed_then c.put_text-at.ensures (placed_then c.put_number-at.ensures.text (placed_then c.put_text-at-2.ensures
     (placed_then c.put_number-at-2.ensures.text c.put_text.ensures))))
