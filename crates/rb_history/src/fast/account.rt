@@ -1,10 +1,11 @@
-//! Accounts, in one pass. `None` says nothing of a text.
+//! Accounts, alone and beside a number, in one pass. `None` says nothing of a text.
 ghost use Rattle.std.specs.Prelude.{◌≡◌, ◌<◌, ◌^◌, ◌++◌, IfSome, codes, decimal};
+ghost use Rattle.json.specs.Print.{escape};
 ghost use Rattle.rb_history.specs.Fits.{IsKnown};
 ghost use Rattle.rb_history.specs.Beginnings.{IsBetween, account_behind_quote};
 
-use crate::fast::number::parse_long_between;
-use crate::fast::scan::{parse_number, parse_prefix, parse_string};
+use crate::fast::number::{parse_long_between, parse_number};
+use crate::fast::scan::{parse_prefix, parse_string};
 use rb_money::{Config, Place};
 
 /// The place of an account's name, behind the first quote. "?" is written for an account that there isn't.
@@ -48,4 +49,27 @@ pub fn parse_asked<'a>(config: &Config, text: &'a str, front: &str) -> Option<(P
     let (place, rest) = parse_account_between(config, text, front, ",")?;
     let (n, rest) = parse_long_between(rest, "", "]}")?;
     Some((place, n, rest))
+}
+
+/// An account's name and a number, in a list of two.
+#[inline(always)]
+pub fn parse_pair(text: &str) -> Option<(&str, u64, &str)>
+    ensures { IfSome result (λ p. (p.1 < 2 ^ 64) × (escape p.0.now ≡ p.0.now)
+        × (text.now ≡ p.0.now ++ (codes "\"," ++ (decimal p.1 ++ (codes "]" ++ p.2.now))))) }
+{
+    let (name, rest) = parse_string(text)?;
+    let (n, rest) = parse_number(parse_prefix(rest, ",")?)?;
+    Some((name, n, parse_prefix(rest, "]")?))
+}
+
+/// Two accounts' names and a number, in a list of three.
+#[inline(always)]
+pub fn parse_three(text: &str) -> Option<(&str, &str, u64, &str)>
+    ensures { IfSome result (λ p. (p.2 < 2 ^ 64) × (escape p.0.now ≡ p.0.now) × (escape p.1.now ≡ p.1.now)
+        × (text.now ≡ p.0.now ++ (codes "\",\"" ++ (p.1.now ++
+        (codes "\"," ++ (decimal p.2 ++ (codes "]" ++ p.3.now))))))) }
+{
+    let (first, rest) = parse_string(text)?;
+    let (second, n, rest) = parse_pair(parse_prefix(rest, ",\"")?)?;
+    Some((first, second, n, rest))
 }

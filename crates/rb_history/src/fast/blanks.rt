@@ -5,7 +5,8 @@ ghost use Rattle.json.specs.Lex.{between, lex, tokens};
 ghost use Rattle.json.specs.Word.{is_operator};
 ghost use Rattle.rb_history.specs.Blanks.{AreTokens};
 
-use crate::fast::scan::{find_quote, parse_digits};
+use crate::fast::number::parse_digits;
+use crate::fast::scan::find_quote;
 use std::alloc::Global;
 
 /// Whether a byte is a token by itself.

@@ -5,10 +5,11 @@ ghost use Rattle.rb_history.specs.Spelled.{EndsLine, IsLineOf, Spells, SpellsReq
 ghost use Rattle.rb_history.specs.Spelled.{with_site};
 
 use crate::fast::blanks::without_blanks;
+use crate::fast::number::parse_byte;
 use crate::fast::request::{
     parse_cancellation, parse_deposit, parse_interest, parse_transfer, parse_withdrawal,
 };
-use crate::fast::scan::{parse_byte, parse_prefix};
+use crate::fast::scan::parse_prefix;
 use crate::fast::site_command::{
     parse_apply, parse_as_of, parse_balance, parse_batch, parse_delivery, parse_pass,
     parse_statement,

@@ -6,8 +6,8 @@ ghost use Rattle.rb_history.specs.Beginnings.{BeginsWithEach, BeginsWithEvent, B
 
 use crate::fast::account::{parse_account_between, parse_asked};
 use crate::fast::name::parse_name_between;
-use crate::fast::number::{parse_byte_between, parse_word_between};
-use crate::fast::scan::{narrow, parse_prefix};
+use crate::fast::number::{narrow, parse_byte_between, parse_word_between};
+use crate::fast::scan::parse_prefix;
 use crate::fast::shadow::parse_received;
 use rb_kit::List;
 use rb_money::Config;

@@ -1,17 +1,37 @@
 //! Names of operations, in one pass. `None` says nothing of a text.
-ghost use Rattle.std.specs.Prelude.{◌≡◌, ◌<◌, ◌++◌, IfSome};
+ghost use Rattle.std.specs.Prelude.{◌≡◌, ◌<◌, ◌^◌, ◌++◌, IfSome, MatchOption, codes, decimal};
 ghost use Rattle.rb_shadow.specs.NameText.{IsName, name_text};
 ghost use Rattle.rb_history.specs.Beginnings.{IsBetween, behind_quote};
 
-use crate::fast::scan::{parse_name, parse_prefix};
+use crate::fast::number::{parse_byte, parse_word};
+use crate::fast::scan::parse_prefix;
 use rb_shadow::OpName;
 
-/// An operation's name, behind its first quote.
+/// The site of a blue operation's name, or `None` of a red one's, and what follows: the number.
 #[inline(always)]
-pub fn parse_op_name(text: &str) -> Option<(OpName, &str)>
-    ensures { IfSome result (λ p. IsName p.0 × (text.now ≡ behind_quote (name_text p.0) ++ p.1.now)) }
+fn parse_site(text: &str) -> Option<(Option<u8>, &str)>
+    ensures { IfSome result (λ p. MatchOption p.0 (text.now ≡ codes "R" ++ p.1.now)
+        (λ site. (site < 2 ^ 8) × (text.now ≡ codes "B" ++ (decimal site ++ (codes "." ++ p.1.now))))) }
 {
-    let (name, rest) = parse_name(text)?;
+    if let Some(number) = parse_prefix(text, "R") {
+        return Some((None, number));
+    }
+    let (site, rest) = parse_byte(parse_prefix(text, "B")?)?;
+    Some((Some(site), parse_prefix(rest, ".")?))
+}
+
+/// The operation's name before a quote, and what follows the quote.
+#[inline(always)]
+pub fn parse_name(text: &str) -> Option<(OpName, &str)>
+    ensures { IfSome result (λ p. IsName p.0 × (text.now ≡ name_text p.0 ++ (codes "\"" ++ p.1.now))) }
+{
+    let (site, number) = parse_site(text)?;
+    let (n, rest) = parse_word(number)?;
+    let rest = parse_prefix(rest, "\"")?;
+    let name = match site {
+        Some(site) => OpName::Blue { site, n },
+        None => OpName::Red { n },
+    };
     Some((name, rest))
 }
 
@@ -21,6 +41,6 @@ pub fn parse_name_between<'a>(text: &'a str, front: &str, back: &str) -> Option<
     ensures { IfSome result (λ p. IsName p.0 × IsBetween (behind_quote (name_text p.0)) text.now front.now back.now
         p.1.now) }
 {
-    let (name, rest) = parse_op_name(parse_prefix(text, front)?)?;
+    let (name, rest) = parse_name(parse_prefix(text, front)?)?;
     Some((name, parse_prefix(rest, back)?))
 }

@@ -1,8 +1,74 @@
 //! Numbers, in one pass. `None` says nothing of a text.
-ghost use Rattle.std.specs.Prelude.{◌<◌, ◌^◌, IfSome, decimal};
+ghost use Rattle.std.specs.Prelude.{◌≡◌, ◌<◌, ◌≤◌, ◌^◌, ◌++◌, IfSome, decimal, length, take};
 ghost use Rattle.rb_history.specs.Beginnings.{IsBetween};
 
-use crate::fast::scan::{parse_byte, parse_number, parse_prefix, parse_word};
+use crate::fast::scan::parse_prefix;
+
+/// The most that is read of a number, so that one more digit fits.
+const MOST: u64 = 1_000_000_000_000_000_000;
+
+/// The number that the text begins with, and how many digits it has. A zero is a number by itself.
+#[inline(always)]
+pub(crate) fn parse_digits(text: &[u8]) -> Option<(u64, usize)>
+    ensures { IfSome result (λ p. (p.0 < 2 ^ 64) × (p.1 ≤ length text.now) × (take p.1 text.now ≡ decimal p.0)) }
+{
+    if text.len() == 0 || text[0] < b'0' || b'9' < text[0] {
+        return None;
+    }
+    let mut n = (text[0] - b'0') as u64;
+    if n == 0 {
+        return Some((0, 1));
+    }
+    let mut len = 1;
+    'digits: while len < text.len() && n < MOST {
+        let digit = text[len].wrapping_sub(b'0');
+        if 9 < digit {
+            break 'digits;
+        }
+        n = n * 10 + digit as u64;
+        len += 1;
+    }
+    Some((n, len))
+}
+
+/// The number that the text begins with, and what follows it.
+#[inline(always)]
+pub fn parse_number(text: &str) -> Option<(u64, &str)>
+    ensures { IfSome result (λ p. (p.0 < 2 ^ 64) × (text.now ≡ decimal p.0 ++ p.1.now)) }
+{
+    let (n, len) = parse_digits(text.as_bytes())?;
+    Some((n, &text[len..]))
+}
+
+/// The number, where it is below 2^32.
+#[inline(always)]
+pub fn narrow(n: u64) -> Option<u32>
+    ensures { IfSome result (λ m. (m < 2 ^ 32) × (n ≡ m)) }
+{
+    if n < 0x1_0000_0000 {
+        Some(n as u32)
+    } else {
+        None
+    }
+}
+
+/// The number below 2^32 that the text begins with, and what follows it.
+#[inline(always)]
+pub fn parse_word(text: &str) -> Option<(u32, &str)>
+    ensures { IfSome result (λ p. (p.0 < 2 ^ 32) × (text.now ≡ decimal p.0 ++ p.1.now)) }
+{
+    let (n, rest) = parse_number(text)?;
+    Some((narrow(n)?, rest))
+}
+
+/// The number below 2^8 that the text begins with, and what follows it.
+#[inline(always)]
+pub fn parse_byte(text: &str) -> Option<(u8, &str)>
+    ensures { IfSome result (λ p. (p.0 < 2 ^ 8) × (text.now ≡ decimal p.0 ++ p.1.now)) }
+{
+    let (n, rest) = parse_number(text)?;
+    if n < 256 { Some((n as u8, rest)) } else { None }
+}
 
 /// A number between two texts.
 #[inline(always)]

@@ -5,7 +5,7 @@ ghost use Rattle.rb_shadow.specs.NameText.{IsName};
 ghost use Rattle.rb_history.specs.Values.{name_json};
 
 use crate::fast::kind::parse_label;
-use crate::fast::name::{parse_name_between, parse_op_name};
+use crate::fast::name::{parse_name, parse_name_between};
 use crate::fast::number::{parse_long_between, parse_word_between};
 use crate::fast::refusal::{parse_batch, parse_behind, parse_cancelled, parse_refused};
 use crate::fast::scan::parse_prefix;
@@ -37,7 +37,7 @@ fn parse_list<'a>(alloc: Global, text: &'a str) -> Option<(Vec<OpName>, &'a str)
         if let Some(rest) = parse_prefix(left, "]") {
             return Some((names, rest));
         }
-        let (name, rest) = parse_op_name(parse_prefix(parse_prefix(left, comma)?, "\"")?)?;
+        let (name, rest) = parse_name(parse_prefix(parse_prefix(left, comma)?, "\"")?)?;
         if names.push(name).is_err() {
             return None;
         }

@@ -7,7 +7,7 @@ ghost use Rattle.rb_history.specs.Receipts.{BeginsWithBack, shadow_front};
 use crate::fast::account::parse_account_between;
 use crate::fast::counts::parse_counts;
 use crate::fast::kind::{parse_kind, parse_label};
-use crate::fast::name::parse_op_name;
+use crate::fast::name::parse_name;
 use crate::fast::number::{parse_byte_between, parse_long_between, parse_word_between};
 use crate::fast::scan::parse_prefix;
 use rb_money::{Config, MOST_SITES, Place};
@@ -42,7 +42,7 @@ pub fn parse_back<'a>(config: &Config, text: &'a str) -> Option<(Back, &'a str)>
     let (red, rest) = parse_word_between(text, ",", "]")?;
     let (home, rest) = parse_byte_between(rest, ",\"home\":", ",\"kind\":\"")?;
     let (label, rest) = parse_label(rest)?;
-    let (name, rest) = parse_op_name(parse_prefix(rest, ",\"name\":\"")?)?;
+    let (name, rest) = parse_name(parse_prefix(rest, ",\"name\":\"")?)?;
     let (kind, rest) = parse_kind(config, label, rest)?;
     let rest = parse_prefix(rest, "}")?;
     let back = Back {

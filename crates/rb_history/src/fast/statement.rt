@@ -9,9 +9,9 @@ ghost use Rattle.rb_history.specs.Fits.{IsMoved, IsStatementRow};
 ghost use Rattle.rb_history.specs.Beginnings.{BeginsWithEach, BeginsWithReply};
 
 use crate::fast::kind::parse_label;
-use crate::fast::name::parse_op_name;
-use crate::fast::number::{parse_long_between, parse_word_between};
-use crate::fast::scan::{parse_number, parse_prefix};
+use crate::fast::name::parse_name;
+use crate::fast::number::{parse_long_between, parse_number, parse_word_between};
+use crate::fast::scan::parse_prefix;
 use rb_kit::List;
 use rb_site::Reply;
 use rb_statements::{Row, Statement};
@@ -50,7 +50,7 @@ fn parse_row(text: &str) -> Option<(Row, &str)>
     ensures { IfSome result (λ p. IsStatementRow p.0 × (text.now ≡ compact_text (row_json p.0) ++ p.1.now)) }
 {
     let (position, rest) = parse_word_between(text, "[", ",\"")?;
-    let (name, rest) = parse_op_name(rest)?;
+    let (name, rest) = parse_name(rest)?;
     let (kind, rest) = parse_label(parse_prefix(rest, ",\"")?)?;
     let (moved, rest) = parse_moved(parse_prefix(rest, ",")?)?;
     let (cancelled, rest) = parse_cancelled(parse_prefix(rest, ",")?)?;

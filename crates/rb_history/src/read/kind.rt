@@ -1,25 +1,14 @@
-//! Kinds, from their words, and the kind of a shadow.
+//! The kind of a shadow.
 ghost use Rattle.std.specs.Prelude.{◌≡◌};
 ghost use Rattle.serde_json.specs.View.{view};
-ghost use Rattle.rb_history.specs.Fields.{label_at};
 ghost use Rattle.rb_money.specs.Settings.{Settings};
 ghost use Rattle.rb_history.specs.Recorded.{kind_at, kind_of};
 
 use crate::read::request::account;
-use crate::read::value::{name, size};
+use crate::read::value::{label, name, size};
 use rb_money::Config;
 use rb_shadow::{Kind, Label};
 use serde_json::Value;
-
-/// The kind that a value is.
-pub fn label(value: &Value) -> Option<Label>
-    ensures { result ≡ label_at (view value.now) }
-{
-    match value.as_str() {
-        Some(word) => Label::from_word(word),
-        None => None,
-    }
-}
 
 /// A cancellation, of its target.
 fn cancel(value: &Value) -> Option<Kind>

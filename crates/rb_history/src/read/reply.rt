@@ -8,10 +8,9 @@ ghost use Rattle.rb_history.specs.RepliesRead.{simple_of};
 ghost use Rattle.rb_history.specs.Values.{number_below};
 
 use crate::fault::LineFault;
-use crate::read::kind::label;
 use crate::read::refusal::refusal;
 use crate::read::statement::statement;
-use crate::read::value::{byte, long, name, size, word};
+use crate::read::value::{byte, label, long, name, size, word};
 use rb_kit::List;
 use rb_shadow::OpName;
 use rb_site::Reply;

@@ -1,41 +1,18 @@
 //! Statements, from a history's line.
-ghost use Rattle.std.specs.Prelude.{◌≡◌, option_map, ◌^◌};
+ghost use Rattle.std.specs.Prelude.{◌≡◌, ◌^◌};
 ghost use Rattle.serde_json.specs.View.{view};
-ghost use Rattle.rb_history.specs.Fields.{six_of, field};
+ghost use Rattle.rb_history.specs.Fields.{field};
 ghost use Rattle.rb_history.specs.Lines.{GivesAs, Gives};
 ghost use Rattle.rb_history.specs.RepliesRead.{row_at, rows_at, statement_told};
 ghost use Rattle.rb_history.specs.Values.{number_below};
 
 use crate::fault::LineFault;
-use crate::read::kind::label;
-use crate::read::value::{long, name, word};
+use crate::read::value::{label, long, name, six, word};
 use rb_kit::List;
 use rb_site::Reply;
 use rb_statements::{Row, Statement};
 use serde_json::Value;
 use std::alloc::Global;
-
-/// The six items of a list of six.
-#[tactic(auto, using(crate::proofs::Shapes::no_six))]
-fn six(value: &Value) -> Option<(&Value, &Value, &Value, &Value, &Value, &Value)>
-    ensures { option_map (λ p. (
-      view p.0.now,
-      view p.1.now,
-      view p.2.now,
-      view p.3.now,
-      view p.4.now,
-      view p.5.now,
-    )) result ≡ six_of (view value.now) }
-{
-    let items = value.as_array()?;
-    if items.len() == 6 {
-        Some((
-            &items[0], &items[1], &items[2], &items[3], &items[4], &items[5],
-        ))
-    } else {
-        None
-    }
-}
 
 /// A row, from the list of its parts.
 fn row(value: &Value) -> Option<Row>

@@ -1,12 +1,14 @@
-//! JSON values: numbers, names and lists of two or three in them. `None` means that a value is nothing of the kind.
+//! JSON values: numbers, names, kinds, lists of a known length and sizes of objects. `None` means that a value is nothing
+//! of the kind.
 ghost use Rattle.std.specs.Prelude.{◌≡◌, ◌^◌, option_map};
 ghost use Rattle.serde_json.specs.Read.{read};
 ghost use Rattle.serde_json.specs.View.{view};
+ghost use Rattle.rb_history.specs.Fields.{label_at, six_of};
 ghost use Rattle.rb_history.specs.Lines.{GivesAs};
 ghost use Rattle.rb_history.specs.Values.{number_below, name_at, pair_of, size_of, three_of};
 
 use crate::fault::LineFault;
-use rb_shadow::{OpName, read_name};
+use rb_shadow::{Label, OpName, read_name};
 use serde_json::Value;
 use std::alloc::Global;
 
@@ -65,6 +67,16 @@ pub fn name(value: &Value) -> Option<OpName>
     }
 }
 
+/// The kind that a value is.
+pub fn label(value: &Value) -> Option<Label>
+    ensures { result ≡ label_at (view value.now) }
+{
+    match value.as_str() {
+        Some(word) => Label::from_word(word),
+        None => None,
+    }
+}
+
 /// The two items of a list of two.
 #[tactic(auto, using(crate::proofs::Shapes::no_pair))]
 pub fn pair(value: &Value) -> Option<(&Value, &Value)>
@@ -86,6 +98,28 @@ pub fn three(value: &Value) -> Option<(&Value, &Value, &Value)>
     let items = value.as_array()?;
     if items.len() == 3 {
         Some((&items[0], &items[1], &items[2]))
+    } else {
+        None
+    }
+}
+
+/// The six items of a list of six.
+#[tactic(auto, using(crate::proofs::Shapes::no_six))]
+pub fn six(value: &Value) -> Option<(&Value, &Value, &Value, &Value, &Value, &Value)>
+    ensures { option_map (λ p. (
+      view p.0.now,
+      view p.1.now,
+      view p.2.now,
+      view p.3.now,
+      view p.4.now,
+      view p.5.now,
+    )) result ≡ six_of (view value.now) }
+{
+    let items = value.as_array()?;
+    if items.len() == 6 {
+        Some((
+            &items[0], &items[1], &items[2], &items[3], &items[4], &items[5],
+        ))
     } else {
         None
     }

@@ -2,6 +2,7 @@ use Rattle.std.proofs.Common.{◌≡◌, [], ◌∷◌, ◌++◌, codes, ap, sym
 use Rattle.rb_history.specs.Values.{name_json}
 use Rattle.rb_shadow.specs.NameText.{IsName}
 use Rattle.rb_history.specs.Fits.{Each}
+use Rattle.rb_history.proofs.Joined.{name_told}
 use Rattle.rb_history.proofs.ListRead.{BeginsWith, all_read, each_more, one_more}
 use Rattle.rb_history.proofs.fast.reply.parse_list.Goals as goal
 
@@ -23,6 +24,7 @@ loop-preserved c =
     let names = c.loop.names.items in
     let next = c.in_ok-name.rest.now in
     let made = c.in_ok-name in
+    let named = name_told made.name _ _ made.ensures.0 made.ensures.1 in
     let pushed : c.push.new.self.items ≡ names ++ (made.name ∷ []) = search rules in
     record {
       left = search rules;
@@ -30,7 +32,7 @@ loop-preserved c =
       fit = subst (Each IsName) (sym pushed) (each_more IsName names made.name c.loop.invariant.fit made.ensures.0);
       read = subst (BeginsWith name_json text made.rest.now (codes ",")) (sym pushed)
           (one_more name_json text c.loop.left.now c.loop.comma.now c.in_ok-parse_prefix.field-0.now made.rest.now names made.name
-          c.loop.invariant.read c.in_ok-parse_prefix.ensures (c.in_ok-parse_prefix-2.ensures ∙ ap (λ l. codes "\"" ++ l) made.ensures.1));
+          c.loop.invariant.read c.in_ok-parse_prefix.ensures (c.in_ok-parse_prefix-2.ensures ∙ ap (λ l. codes "\"" ++ l) named));
     }
 
 pub returns-in-Some : goal.returns-in-Some

@@ -1,6 +1,6 @@
 use Rattle.std.proofs.Common.{◌≡◌, ◌≤◌, ◌+◌, ◌-◌, ◌*◌, ◌%◌, ap, ◌∙◌, arith, decimal, get_or}
 use Rattle.rb_history.proofs.Scanned.{one_digit, digit_more}
-use Rattle.rb_history.proofs.fast.scan.parse_digits.Goals as goal
+use Rattle.rb_history.proofs.fast.number.parse_digits.Goals as goal
 
 pub digits-init : goal.digits-init
 digits-init c = record {

@@ -1,7 +1,7 @@
 use Rattle.std.proofs.Common.{decimal}
 use Rattle.rb_history.proofs.Scanned.{cut_behind}
 use Rattle.rb_history.proofs.Utf8.{decimal_utf8}
-use Rattle.rb_history.proofs.fast.scan.parse_number.Goals as goal
+use Rattle.rb_history.proofs.fast.number.parse_number.Goals as goal
 
 pub range_from-requires : goal.range_from-requires
 range_from-requires c = λ some.
