@@ -1,8 +1,10 @@
 -- What is read one after another is what is written.
 use Rattle.std.proofs.Common.{◌≡◌, ℕ, List, ◌++◌, codes, sym, ap, ◌∙◌, append_assoc}
+use Rattle.rb_shadow.specs.Labels.{word_of}
 use Rattle.rb_shadow.specs.NameText.{IsName, name_text}
+use Rattle.rb_shadow.specs.declared.label.Label.{Label}
 use Rattle.rb_shadow.specs.declared.op_name.OpName.{OpName}
-use Rattle.rb_history.proofs.Plain.{escape_plain, plain_name}
+use Rattle.rb_history.proofs.Plain.{escape_plain, label_plain, plain_name}
 use Rattle.json.specs.Print.{escape}
 use Rattle.rb_history.specs.Beginnings.{IsBetween, behind_quote}
 
@@ -28,3 +30,9 @@ string_told name text rest plain e = e ∙ sym (append_assoc name (codes "\"") r
 pub name_told : (x : OpName) (text rest : List ℕ) → IsName x → text ≡ name_text x ++ (codes "\"" ++ rest)
     → text ≡ behind_quote (name_text x) ++ rest
 name_told x text rest h e = string_told (name_text x) text rest (escape_plain (name_text x) (plain_name x h)) e
+
+-- a kind's word
+pub label_told : (k : Label) (word text mid rest : List ℕ) → word ≡ word_of k → text ≡ word ++ mid → mid ≡ codes "\"" ++ rest
+    → text ≡ behind_quote (word_of k) ++ rest
+label_told k word text mid rest is e f =
+    string_told (word_of k) text rest (label_plain k) (e ∙ ap (λ l. l ++ mid) is ∙ ap (λ l. word_of k ++ l) f)

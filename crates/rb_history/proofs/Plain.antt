@@ -59,7 +59,13 @@ plain_name (Red n) h = plain-append (codes "R") (decimal n) (refl, tt) (plain_de
 pub quoted_plain : (xs : List ℕ) → ArePlain xs → quoted xs ≡ 34 ∷ (xs ++ 34 ∷ [])
 quoted_plain xs h = rw (escape_plain xs h) refl
 
--- so does a kind's word
+-- a kind's word has no escape
+pub label_plain : (k : Label) → escape (word_of k) ≡ word_of k
+unfolding escape_byte
+label_plain Deposit = refl
+label_plain _ = refl
+
+-- a kind's word in quotes
 pub quoted_label : (k : Label) → quoted (word_of k) ≡ 34 ∷ (word_of k ++ 34 ∷ [])
 unfolding escape_byte
 quoted_label Deposit = refl

@@ -13,23 +13,7 @@ use crate::fast::scan::parse_prefix;
 use rb_money::Config;
 use rb_shadow::{Kind, Label};
 
-/// A kind's word and its second quote.
-#[inline(always)]
-#[tactic(auto, unfolding(json::specs::Print::escape_byte))]
-fn quoted_word(label: Label) -> &'static str
-    ensures { result.now ≡ behind_quote (word_of label) }
-{
-    match label {
-        Label::Deposit => "deposit\"",
-        Label::Withdraw => "withdraw\"",
-        Label::Declined => "declined\"",
-        Label::Interest => "interest\"",
-        Label::Cancel => "cancel\"",
-        Label::Transfer => "transfer\"",
-    }
-}
-
-/// A kind's word, behind its first quote.
+/// A kind's word and its second quote, behind its first.
 #[inline(always)]
 pub fn parse_label(text: &str) -> Option<(Label, &str)>
     ensures { IfSome result (λ p. text.now ≡ behind_quote (word_of p.0) ++ p.1.now) }
@@ -42,7 +26,8 @@ pub fn parse_label(text: &str) -> Option<(Label, &str)>
         (Some(b't'), _) => Label::Transfer,
         _ => Label::Cancel,
     };
-    Some((label, parse_prefix(text, quoted_word(label))?))
+    let rest = parse_prefix(text, label.word())?;
+    Some((label, parse_prefix(rest, "\"")?))
 }
 
 /// A cancellation, of its target, and the end of the object.

@@ -204,7 +204,8 @@ pub fn put_name(space: &mut [u8], at: usize, name: OpName) -> usize
     }
 }
 
-/// Puts a kind's word.
+/// Puts a kind's word. Each kind has an arm of its own, in which the length of its word is known, so that a few stores
+/// put it.
 #[inline(always)]
 pub fn put_word(space: &mut [u8], at: usize, kind: Label) -> usize
     requires { at + 8 ≤ length space.old }
@@ -212,11 +213,11 @@ pub fn put_word(space: &mut [u8], at: usize, kind: Label) -> usize
     ensures short { result ≤ at + 8 }
 {
     match kind {
-        Label::Deposit => put_text(space, at, "deposit"),
-        Label::Withdraw => put_text(space, at, "withdraw"),
-        Label::Declined => put_text(space, at, "declined"),
-        Label::Interest => put_text(space, at, "interest"),
-        Label::Cancel => put_text(space, at, "cancel"),
-        Label::Transfer => put_text(space, at, "transfer"),
+        Label::Deposit => put_text(space, at, Label::Deposit.word()),
+        Label::Withdraw => put_text(space, at, Label::Withdraw.word()),
+        Label::Declined => put_text(space, at, Label::Declined.word()),
+        Label::Interest => put_text(space, at, Label::Interest.word()),
+        Label::Cancel => put_text(space, at, Label::Cancel.word()),
+        Label::Transfer => put_text(space, at, Label::Transfer.word()),
     }
 }
