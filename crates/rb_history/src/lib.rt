@@ -1,14 +1,18 @@
 //! Lines as JSON: of scripts, their configuration, commands and replies; of histories, their entries; and the verdicts
 //! of an audit.
 //!
-//! Lines are written in [`write`]. They are read in one pass in `fast`, if they are spelled as programs spell them, and
-//! by their JSON value in `read`.
+//! They are written in [`write`]. There are two readers: `fast` reads in one pass what is spelled as programs spell it,
+//! and `read` the JSON value of any line. In `lines` a line is given to the first, and then to the second.
 //! Tests: rb_tests_runs, commands.rt, replies.rt, entries.rt.
 #![tactic(auto)]
 
+mod accounts;
+mod counts;
 mod fast;
 mod fault;
+mod lines;
 mod read;
+mod refusals;
 mod site_command;
 pub mod write;
 
@@ -22,15 +26,15 @@ ghost use Rattle.rb_history.specs.Sites.{HeldNamesFitLines, ReadEventsFit, Repli
 
 pub use fast::command::parse_command;
 pub use fault::LineFault;
-pub use read::command::{read_any_command, read_command};
+pub use lines::command::{read_any_command, read_command};
+pub use lines::entry::{read_entry, read_line};
+pub use lines::event::read_event;
+pub use lines::migrated::append_migrated;
 pub use read::config::read_config;
-pub use read::entry::{read_entry, read_line};
-pub use read::event::read_event;
 pub use site_command::SiteCommand;
 pub use write::config::write_config;
 pub use write::entry::{append_line, write_line};
 pub use write::event::append_event;
-pub use write::migrated::append_migrated;
 pub use write::reply::{append_reply, append_value, write_reply};
 pub use write::verdict::{order_line, stuck_line, wrong_reply_line};
 

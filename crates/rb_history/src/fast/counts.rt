@@ -7,9 +7,9 @@ ghost use Rattle.rb_history.specs.Values.{number_json};
 ghost use Rattle.rb_history.specs.Counts.{numbered_json};
 ghost use Rattle.rb_history.specs.Beginnings.{BeginsWithCounts, BeginsWithEach, BeginsWithNumbered};
 
+use crate::counts::widened;
 use crate::fast::number::{parse_byte, parse_word, parse_word_between};
 use crate::fast::scan::parse_prefix;
-use crate::read::counts::widened;
 use rb_money::{MOST_SITES, MOST_SITES_OF_VERSION_1};
 
 /// A count for each of these places, and what follows the closing bracket.

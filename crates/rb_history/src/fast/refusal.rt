@@ -7,7 +7,7 @@ ghost use Rattle.rb_history.specs.Beginnings.{BeginsWithReply};
 
 use crate::fast::number::{parse_byte, parse_byte_between, parse_word_between};
 use crate::fast::scan::parse_prefix;
-use crate::read::refusal::plain_refusal;
+use crate::refusals::plain_refusal;
 use rb_money::{Cause, Refusal};
 use rb_site::Reply;
 

@@ -2,11 +2,11 @@
 ghost use Rattle.std.specs.Prelude.{IfSome};
 ghost use Rattle.rb_history.specs.Spelled.{SpellsRequest, SpellsRequests};
 
+use crate::accounts::place;
 use crate::fast::account::{parse_pair, parse_three};
 use crate::fast::name::parse_name;
 use crate::fast::number::narrow;
 use crate::fast::scan::parse_prefix;
-use crate::read::request::place;
 use rb_money::Config;
 use rb_scratch::Request;
 use std::alloc::Global;

@@ -2,12 +2,12 @@
 ghost use Rattle.std.specs.Prelude.{IfSome};
 ghost use Rattle.rb_history.specs.Spelled.{Spells};
 
+use crate::accounts::place;
 use crate::fast::account::parse_pair;
 use crate::fast::name::parse_name;
 use crate::fast::number::{narrow, parse_byte, parse_word};
 use crate::fast::request::parse_requests;
 use crate::fast::scan::{parse_prefix, parse_string};
-use crate::read::request::place;
 use crate::site_command::SiteCommand;
 use rb_kit::List;
 use rb_money::Config;

@@ -2,8 +2,9 @@
 ghost use Rattle.std.specs.Prelude.{◌≡◌, ◌<◌, ◌≤◌, ◌==◌, IfSome};
 ghost use Rattle.rb_money.specs.declared.limits.TheConstants.{MOST_SITES};
 ghost use Rattle.serde_json.specs.View.{items_view, view};
-ghost use Rattle.rb_history.specs.Counts.{blue_at, counts_at, numbered_at, numbered_in, widened};
+ghost use Rattle.rb_history.specs.Counts.{blue_at, counts_at, numbered_at, numbered_in};
 
+use crate::counts::widened;
 use crate::read::value::{byte, pair, word};
 use rb_money::{MOST_SITES, MOST_SITES_OF_VERSION_1};
 use serde_json::Value;
@@ -21,17 +22,6 @@ fn first_counts(value: &Value) -> Option<[u32; MOST_SITES_OF_VERSION_1]>
         counts[site] = word(&items[site])?;
     }
     Some(counts)
-}
-
-/// The counts of the sites that version 1 may have, and 0 for each further site.
-pub fn widened(first: &[u32; MOST_SITES_OF_VERSION_1]) -> [u32; MOST_SITES]
-    ensures { result ≡ widened first.now }
-{
-    let mut counts = [0; MOST_SITES];
-    for site in 0..MOST_SITES_OF_VERSION_1 {
-        counts[site] = first[site];
-    }
-    counts
 }
 
 /// The number of a site, at least this, and its count, above 0.

@@ -1,22 +1,17 @@
-//! Lines of histories, read.
-ghost use Rattle.std.specs.Prelude.{◌≡◌, ◌<◌, codes, IfOk, IfSome, MatchResult, None, Some};
-ghost use Rattle.rb_history.specs.declared.fault.LineFault.TheVariants.{Bad};
+//! Entries of a history.
+ghost use Rattle.std.specs.Prelude.{◌≡◌, codes};
 ghost use Rattle.serde_json.specs.View.{view};
-ghost use Rattle.serde_json.specs.Written.{compact_text};
-ghost use Rattle.rb_history.specs.Entries.{entry_json, entry_of_line, entry_of_object};
+ghost use Rattle.rb_history.specs.Entries.{entry_of_object};
+ghost use Rattle.rb_history.specs.Fields.{field};
 ghost use Rattle.rb_history.specs.Lines.{Gives};
 ghost use Rattle.rb_history.specs.Recorded.{event_at};
 ghost use Rattle.rb_history.specs.RepliesRead.{reply_told};
 ghost use Rattle.rb_history.specs.Values.{number_below};
-ghost use Rattle.rb_history.specs.Fields.{field};
 
-use crate::fast::entry::parse_entry_end;
-use crate::fast::event::parse_event;
-use crate::fast::scan::parse_prefix;
 use crate::fault::LineFault;
 use crate::read::event::event;
 use crate::read::reply::reply;
-use crate::read::value::{read_value, size};
+use crate::read::value::size;
 use rb_money::Config;
 use rb_site::{Entry, Event, Reply};
 use serde_json::Value;
@@ -55,7 +50,7 @@ fn site_of(config: &Config, value: &Value) -> Option<u8>
 }
 
 /// An entry of a site, from an object of three members.
-fn entry(alloc: Global, config: &Config, value: &Value) -> Result<(u8, Entry), LineFault>
+pub fn entry(alloc: Global, config: &Config, value: &Value) -> Result<(u8, Entry), LineFault>
     ensures { Gives result (entry_of_object config.now (view value.now)) }
 {
     if size(value) != 3 {
@@ -70,86 +65,4 @@ fn entry(alloc: Global, config: &Config, value: &Value) -> Result<(u8, Entry), L
     };
     let reply = reply_of(alloc, value)?;
     Ok((site, Entry { event, reply }))
-}
-
-/// The entry of a line as it is written, in its place, and the number of its site. The entry may be any where there is
-/// none.
-#[inline(always)]
-pub fn parse_entry(alloc: Global, config: &Config, line: &str, entry: &mut Entry) -> Option<u8>
-    ensures read { IfSome result (λ site. (entry_of_line config.now line.now ≡ Some (site, entry.new))
-        × (site < config.now.sites)) }
-    ensures told { IfSome result (λ site. line.now ≡ compact_text (entry_json config.now site entry.new)) }
-{
-    // For a fact alone: its settings are those of a configuration.
-    let _sites = config.sites();
-    let text = parse_prefix(line, "{\"event\":")?;
-    let rest = parse_event(alloc, config, text, &mut entry.event)?;
-    let site = parse_entry_end(alloc, config, rest, &mut entry.reply)?;
-    Some(site)
-}
-
-/// The entry that a line of any spelling is, with the number of its site.
-#[inline(never)]
-fn read_spelled(alloc: Global, config: &Config, line: &str) -> Result<(u8, Entry), LineFault>
-    ensures read { Gives result (entry_of_line config.now line.now) }
-    ensures site { IfOk result (λ x. x.0 < config.now.sites) }
-{
-    match read_value(alloc, line) {
-        Ok(value) => entry(alloc, config, &value),
-        Err(fault) => Err(fault),
-    }
-}
-
-/// The entry that a line of any spelling is, in its place, and the number of its site.
-#[cold]
-#[inline(never)]
-fn put_spelled(
-    alloc: Global,
-    config: &Config,
-    line: &str,
-    entry: &mut Entry,
-) -> Result<u8, LineFault>
-    ensures { MatchResult result
-        (λ site. (entry_of_line config.now line.now ≡ Some (site, entry.new)) × (site < config.now.sites))
-        (λ why. why ≡ Bad → entry_of_line config.now line.now ≡ None) }
-{
-    let (site, read) = read_spelled(alloc, config, line)?;
-    *entry = read;
-    Ok(site)
-}
-
-/// Reads the entry that a history's line is into its place, and returns the number of its site: `Bad` where it is none,
-/// `OutOfMemory` where there was no memory to read it. After an `Err` the entry may be any.
-///
-/// An account that the configuration doesn't have is read as `Place::NOWHERE`. The reply may be one that no
-/// site gives, and `why` and the number that stopped a batch may be any byte; but a line that reports running out of
-/// memory is bad, as is one of a site that the configuration doesn't have.
-pub fn read_entry(
-    alloc: Global,
-    config: &Config,
-    line: &str,
-    entry: &mut Entry,
-) -> Result<u8, LineFault>
-    ensures { MatchResult result
-        (λ site. (entry_of_line config.now line.now ≡ Some (site, entry.new)) × (site < config.now.sites))
-        (λ why. why ≡ Bad → entry_of_line config.now line.now ≡ None) }
-{
-    match parse_entry(alloc, config, line, entry) {
-        Some(site) => Ok(site),
-        None => put_spelled(alloc, config, line, entry),
-    }
-}
-
-/// The entry that a history's line is, as `read_entry` reads it, with the number of its site: `Bad` where it is none,
-/// `OutOfMemory` where there was no memory to read it.
-pub fn read_line(alloc: Global, config: &Config, line: &str) -> Result<(u8, Entry), LineFault>
-    ensures read { Gives result (entry_of_line config.now line.now) }
-    ensures site { IfOk result (λ x. x.0 < config.now.sites) }
-{
-    let mut entry = Entry {
-        event: Event::Pass(0),
-        reply: Reply::Taken(0),
-    };
-    let site = read_entry(alloc, config, line, &mut entry)?;
-    Ok((site, entry))
 }

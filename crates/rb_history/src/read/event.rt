@@ -4,16 +4,14 @@ ghost use Rattle.serde_json.specs.View.{view};
 ghost use Rattle.rb_site.specs.Worlds.{IsOwn};
 ghost use Rattle.rb_site.specs.declared.event.Event.TheVariants.{AsOf};
 ghost use Rattle.rb_history.specs.Commands.{teller_event_of, event_of};
-ghost use Rattle.rb_history.specs.Entries.{event_of_line};
 ghost use Rattle.rb_history.specs.Lines.{Gives};
 ghost use Rattle.rb_history.specs.Recorded.{token_at, event_at, recorded_of};
 ghost use Rattle.rb_history.specs.Requests.{asked_of};
 
-use crate::fast::event::parse_event_line;
 use crate::fault::LineFault;
 use crate::read::request::{account, request, requests};
 use crate::read::shadow::shadow;
-use crate::read::value::{byte, name, pair, read_value, size, three, word};
+use crate::read::value::{byte, name, pair, size, three, word};
 use rb_kit::List;
 use rb_money::Config;
 use rb_site::{Event, Message};
@@ -108,20 +106,4 @@ pub fn event(alloc: Global, config: &Config, value: &Value) -> Result<Event, Lin
         return Err(LineFault::Bad);
     }
     recorded(alloc, config, value)
-}
-
-/// The event that a line is by itself, as a history's line has it: `Bad` where it is none, `OutOfMemory` where
-/// there was no memory to read it.
-///
-/// An account that the configuration doesn't have is read as `Place::NOWHERE`.
-pub fn read_event(alloc: Global, config: &Config, line: &str) -> Result<Event, LineFault>
-    ensures { Gives result (event_of_line config.now line.now) }
-{
-    if let Some(read) = parse_event_line(alloc, config, line) {
-        return Ok(read);
-    }
-    match read_value(alloc, line) {
-        Ok(value) => event(alloc, config, &value),
-        Err(fault) => Err(fault),
-    }
 }

@@ -1,11 +1,12 @@
 //! Refusals, from a history's line.
 ghost use Rattle.std.specs.Prelude.{◌≡◌};
 ghost use Rattle.serde_json.specs.View.{view};
-ghost use Rattle.rb_history.specs.RepliesRead.{refused_batch_told, behind_of, cancelled_of, cause_at, find_refusal};
-ghost use Rattle.rb_history.specs.RepliesRead.{tells_declined, bad_message_told, plain_of, plain_refusals};
+ghost use Rattle.rb_history.specs.RepliesRead.{refused_batch_told, behind_of, cancelled_of, cause_at};
+ghost use Rattle.rb_history.specs.RepliesRead.{tells_declined, bad_message_told, plain_of};
 ghost use Rattle.rb_history.specs.RepliesRead.{refusal_told};
 
 use crate::read::value::{byte, size, word};
+use crate::refusals::plain_refusal;
 use rb_money::{Cause, Refusal};
 use serde_json::Value;
 
@@ -72,49 +73,6 @@ fn message(value: &Value) -> Option<Refusal>
     }
     let why = byte(value.get("why")?)?;
     Some(Refusal::BadMessage { why })
-}
-
-/// The refusals that are written as their numbers alone.
-const PLAIN: [Refusal; 20] = [
-    Refusal::UnknownAccount,
-    Refusal::BadAmount,
-    Refusal::BadRate,
-    Refusal::UnknownOperation,
-    Refusal::NotCancellable,
-    Refusal::NumbersExhausted,
-    Refusal::NeedToken,
-    Refusal::WouldOverdraw,
-    Refusal::DeltaTooLarge,
-    Refusal::BadBatch,
-    Refusal::NotHeld,
-    Refusal::NotReady,
-    Refusal::InboxFull,
-    Refusal::Conflict,
-    Refusal::NoMessage,
-    Refusal::NoSite,
-    Refusal::NotYours,
-    Refusal::PositionBeyond,
-    Refusal::HistoryFull,
-    Refusal::SameAccount,
-];
-
-/// The first of these that has the number.
-fn find_refusal(number: u8, refusals: &[Refusal]) -> Option<Refusal>
-    ensures { result ≡ find_refusal number refusals.now }
-{
-    for refusal in refusals {
-        if refusal.number() == number {
-            return Some(*refusal);
-        }
-    }
-    None
-}
-
-/// The refusal that is written as this number alone.
-pub fn plain_refusal(number: u8) -> Option<Refusal>
-    ensures { result ≡ find_refusal number plain_refusals }
-{
-    find_refusal(number, &PLAIN)
 }
 
 fn plain(value: &Value, number: u8) -> Option<Refusal>

@@ -3,27 +3,17 @@ ghost use Rattle.std.specs.Prelude.{◌≡◌, ◌^◌, option_map};
 ghost use Rattle.serde_json.specs.View.{view};
 ghost use Rattle.rb_scratch.specs.declared.request.Request.TheVariants.{Cancel, Deposit, Interest, Withdraw};
 ghost use Rattle.rb_history.specs.Lines.{GivesAs};
-ghost use Rattle.rb_history.specs.Requests.{account_place, asked_of, place_at, request_of, request_alone, requests_at};
+ghost use Rattle.rb_history.specs.Requests.{asked_of, place_at, request_of, request_alone, requests_at};
 ghost use Rattle.rb_history.specs.Requests.{transfer_at};
 ghost use Rattle.rb_history.specs.Values.{name_at};
 
+use crate::accounts::place;
 use crate::fault::LineFault;
 use crate::read::value::{long, name, pair, size, three, word};
 use rb_money::{Config, Place};
 use rb_scratch::Request;
 use serde_json::Value;
 use std::alloc::Global;
-
-/// The place of an account's name.
-#[inline(always)]
-pub fn place(config: &Config, name: &str) -> Place
-    ensures { result ≡ account_place config.now name.now }
-{
-    match config.accounts().place(name) {
-        Some(place) => place,
-        None => Place::NOWHERE,
-    }
-}
 
 /// The place of the account that a value names.
 pub fn account(config: &Config, value: &Value) -> Option<Place>

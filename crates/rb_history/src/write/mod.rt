@@ -8,7 +8,6 @@ pub(crate) mod entry;
 pub(crate) mod event;
 pub(crate) mod kind;
 pub(crate) mod line;
-pub(crate) mod migrated;
 pub(crate) mod number;
 pub(crate) mod put;
 pub(crate) mod refusal;

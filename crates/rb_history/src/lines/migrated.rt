@@ -13,11 +13,11 @@ ghost use Rattle.rb_history.specs.Entries.{entry_json, entry_of_line};
 ghost use Rattle.rb_history.specs.Migrated.{IsCutReceipt, IsMigrated, MayMigrate, is_shadow};
 
 use crate::fast::counts::parse_counts;
-use crate::fast::entry::parse_entry_end;
+use crate::fast::entry::{parse_entry, parse_entry_end};
 use crate::fast::scan::parse_prefix;
 use crate::fast::shadow::{parse_back, parse_front};
 use crate::fault::LineFault;
-use crate::read::entry::{parse_entry, read_line};
+use crate::lines::entry::read_line;
 use crate::write::append::append;
 use crate::write::counts::append_counts;
 use crate::write::entry::append_line;

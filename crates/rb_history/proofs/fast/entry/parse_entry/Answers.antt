@@ -6,7 +6,7 @@ use Rattle.rb_site.specs.declared.entry.Entry.{Entry}
 use Rattle.rb_history.specs.Replies.{reply_json}
 use Rattle.rb_history.specs.Entries.{entry_json, entry_of_line, event_json}
 use Rattle.rb_history.proofs.EntryLine.{entry_line}
-use Rattle.rb_history.proofs.read.entry.parse_entry.Goals as goal
+use Rattle.rb_history.proofs.fast.entry.parse_entry.Goals as goal
 
 entry_told : (s : Settings) (line text rest : List ℕ) (site : ℕ) (x : Entry) → line ≡ codes "{\"event\":" ++ text
     → text ≡ compact_text (event_json s x.event) ++ rest

@@ -2,7 +2,7 @@ use Rattle.std.proofs.Common.{◌++◌, append_assoc}
 use Rattle.serde_json.specs.Written.{compact_text}
 use Rattle.rb_history.specs.Counts.{blue_json}
 use Rattle.rb_history.proofs.Public.Appended.{both, then}
-use Rattle.rb_history.proofs.write.migrated.append_cut.Goals as goal
+use Rattle.rb_history.proofs.lines.migrated.append_cut.Goals as goal
 
 pub returns : goal.returns
 returns c =

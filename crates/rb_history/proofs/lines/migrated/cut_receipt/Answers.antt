@@ -15,7 +15,7 @@ use Rattle.rb_history.specs.Receipts.{BeginsWithBack, shadow_back, shadow_front}
 use Rattle.rb_history.specs.declared.fast.shadow.Back.{Back}
 use Rattle.rb_history.proofs.EntryLine.{entry_line}
 use Rattle.rb_history.proofs.Receipts.{before_end, end_text, receipt_told, shadow_fits, shadow_of}
-use Rattle.rb_history.proofs.write.migrated.cut_receipt.Goals as goal
+use Rattle.rb_history.proofs.lines.migrated.cut_receipt.Goals as goal
 
 -- what is before the counts
 before_counts : (s : Settings) (account : Place) (amount : ℕ) (line event list : List ℕ) → line ≡ codes "{\"event\":" ++ event

@@ -1,0 +1,79 @@
+//! Lines of histories.
+ghost use Rattle.std.specs.Prelude.{◌≡◌, ◌<◌, IfOk, MatchResult, None, Some};
+ghost use Rattle.rb_history.specs.declared.fault.LineFault.TheVariants.{Bad};
+ghost use Rattle.rb_history.specs.Entries.{entry_of_line};
+ghost use Rattle.rb_history.specs.Lines.{Gives};
+
+use crate::fast::entry::parse_entry;
+use crate::fault::LineFault;
+use crate::read::entry::entry;
+use crate::read::value::read_value;
+use rb_money::Config;
+use rb_site::{Entry, Event, Reply};
+use std::alloc::Global;
+
+/// The entry that a line of any spelling is, with the number of its site.
+#[inline(never)]
+fn read_spelled(alloc: Global, config: &Config, line: &str) -> Result<(u8, Entry), LineFault>
+    ensures read { Gives result (entry_of_line config.now line.now) }
+    ensures site { IfOk result (λ x. x.0 < config.now.sites) }
+{
+    match read_value(alloc, line) {
+        Ok(value) => entry(alloc, config, &value),
+        Err(fault) => Err(fault),
+    }
+}
+
+/// The entry that a line of any spelling is, in its place, and the number of its site.
+#[cold]
+#[inline(never)]
+fn put_spelled(
+    alloc: Global,
+    config: &Config,
+    line: &str,
+    entry: &mut Entry,
+) -> Result<u8, LineFault>
+    ensures { MatchResult result
+        (λ site. (entry_of_line config.now line.now ≡ Some (site, entry.new)) × (site < config.now.sites))
+        (λ why. why ≡ Bad → entry_of_line config.now line.now ≡ None) }
+{
+    let (site, read) = read_spelled(alloc, config, line)?;
+    *entry = read;
+    Ok(site)
+}
+
+/// Reads the entry that a history's line is into its place, and returns the number of its site: `Bad` where it is none,
+/// `OutOfMemory` where there was no memory to read it. After an `Err` the entry may be any.
+///
+/// An account that the configuration doesn't have is read as `Place::NOWHERE`. The reply may be one that no
+/// site gives, and `why` and the number that stopped a batch may be any byte; but a line that reports running out of
+/// memory is bad, as is one of a site that the configuration doesn't have.
+pub fn read_entry(
+    alloc: Global,
+    config: &Config,
+    line: &str,
+    entry: &mut Entry,
+) -> Result<u8, LineFault>
+    ensures { MatchResult result
+        (λ site. (entry_of_line config.now line.now ≡ Some (site, entry.new)) × (site < config.now.sites))
+        (λ why. why ≡ Bad → entry_of_line config.now line.now ≡ None) }
+{
+    match parse_entry(alloc, config, line, entry) {
+        Some(site) => Ok(site),
+        None => put_spelled(alloc, config, line, entry),
+    }
+}
+
+/// The entry that a history's line is, as `read_entry` reads it, with the number of its site: `Bad` where it is none,
+/// `OutOfMemory` where there was no memory to read it.
+pub fn read_line(alloc: Global, config: &Config, line: &str) -> Result<(u8, Entry), LineFault>
+    ensures read { Gives result (entry_of_line config.now line.now) }
+    ensures site { IfOk result (λ x. x.0 < config.now.sites) }
+{
+    let mut entry = Entry {
+        event: Event::Pass(0),
+        reply: Reply::Taken(0),
+    };
+    let site = read_entry(alloc, config, line, &mut entry)?;
+    Ok((site, entry))
+}
