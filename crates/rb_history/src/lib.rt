@@ -10,6 +10,7 @@ mod accounts;
 mod counts;
 mod fast;
 mod fault;
+mod keys;
 mod lines;
 mod read;
 mod refusals;

@@ -14,6 +14,7 @@ use crate::fast::site_command::{
     parse_apply, parse_as_of, parse_balance, parse_batch, parse_delivery, parse_pass,
     parse_statement,
 };
+use crate::keys::{behind_quote, spell};
 use crate::site_command::SiteCommand;
 use rb_money::Config;
 use rb_scratch::Request;
@@ -37,7 +38,7 @@ fn parse_end(text: &str) -> Option<()>
 fn parse_last_site(text: &str) -> Option<u8>
     ensures { IfSome result (λ site. text.now ≡ codes ",\"site\":" ++ (decimal site ++ codes "}")) }
 {
-    let (site, rest) = parse_byte(parse_prefix(text, ",\"site\":")?)?;
+    let (site, rest) = parse_byte(parse_prefix(text, spell!("," site ":"))?)?;
     parse_end(rest)?;
     Some(site)
 }
@@ -97,7 +98,7 @@ fn sited_request(
 fn parse_first_site(text: &str) -> Option<(Option<u8>, &str)>
     ensures { IfSome result (λ p. text.now ≡ behind_site p.0 p.1.now) }
 {
-    let Some(number) = parse_prefix(text, "site\":") else {
+    let Some(number) = parse_prefix(text, behind_quote!(site ":")) else {
         return Some((None, text));
     };
     let (site, rest) = parse_byte(number)?;

@@ -9,6 +9,7 @@ use crate::fast::event::parse_event;
 use crate::fast::number::parse_byte_between;
 use crate::fast::reply::parse_reply;
 use crate::fast::scan::parse_prefix;
+use crate::keys::spell;
 use rb_money::Config;
 use rb_site::{Entry, Reply};
 use std::alloc::Global;
@@ -22,8 +23,8 @@ pub fn parse_entry_end(alloc: Global, config: &Config, text: &str, reply: &mut R
         × (text.now ≡ codes ",\"reply\":" ++ (compact_text (reply_json reply.new)
         ++ (codes ",\"site\":" ++ (decimal site ++ codes "}"))))) }
 {
-    let rest = parse_reply(alloc, parse_prefix(text, ",\"reply\":")?, reply)?;
-    let (site, rest) = parse_byte_between(rest, ",\"site\":", "}")?;
+    let rest = parse_reply(alloc, parse_prefix(text, spell!("," reply ":"))?, reply)?;
+    let (site, rest) = parse_byte_between(rest, spell!("," site ":"), "}")?;
     if !rest.is_empty() || config.sites() <= site {
         return None;
     }
@@ -40,7 +41,7 @@ pub fn parse_entry(alloc: Global, config: &Config, line: &str, entry: &mut Entry
 {
     // For a fact alone: its settings are those of a configuration.
     let _sites = config.sites();
-    let text = parse_prefix(line, "{\"event\":")?;
+    let text = parse_prefix(line, spell!("{" event ":"))?;
     let rest = parse_event(alloc, config, text, &mut entry.event)?;
     let site = parse_entry_end(alloc, config, rest, &mut entry.reply)?;
     Some(site)

@@ -9,6 +9,7 @@ use crate::fast::name::parse_name_between;
 use crate::fast::number::{narrow, parse_byte_between, parse_word_between};
 use crate::fast::scan::parse_prefix;
 use crate::fast::shadow::parse_received;
+use crate::keys::spell;
 use rb_kit::List;
 use rb_money::Config;
 use rb_scratch::Request;
@@ -19,21 +20,21 @@ use std::alloc::Global;
 fn parse_deposit<'a>(config: &Config, text: &'a str) -> Option<(Request, &'a str)>
     ensures { IfSome result (λ p. BeginsWithRequest config.now p.0 text.now p.1.now) }
 {
-    let (account, amount, rest) = parse_asked(config, text, "{\"deposit\":[\"")?;
+    let (account, amount, rest) = parse_asked(config, text, spell!("{" deposit ":[\""))?;
     Some((Request::Deposit { account, amount }, rest))
 }
 
 fn parse_withdraw<'a>(config: &Config, text: &'a str) -> Option<(Request, &'a str)>
     ensures { IfSome result (λ p. BeginsWithRequest config.now p.0 text.now p.1.now) }
 {
-    let (account, amount, rest) = parse_asked(config, text, "{\"withdraw\":[\"")?;
+    let (account, amount, rest) = parse_asked(config, text, spell!("{" withdraw ":[\""))?;
     Some((Request::Withdraw { account, amount }, rest))
 }
 
 fn parse_interest<'a>(config: &Config, text: &'a str) -> Option<(Request, &'a str)>
     ensures { IfSome result (λ p. BeginsWithRequest config.now p.0 text.now p.1.now) }
 {
-    let (account, n, rest) = parse_asked(config, text, "{\"interest\":[\"")?;
+    let (account, n, rest) = parse_asked(config, text, spell!("{" interest ":[\""))?;
     let rate = narrow(n)?;
     Some((Request::Interest { account, rate }, rest))
 }
@@ -41,14 +42,14 @@ fn parse_interest<'a>(config: &Config, text: &'a str) -> Option<(Request, &'a st
 fn parse_cancel<'a>(config: &Config, text: &'a str) -> Option<(Request, &'a str)>
     ensures { IfSome result (λ p. BeginsWithRequest config.now p.0 text.now p.1.now) }
 {
-    let (target, rest) = parse_name_between(text, "{\"cancel\":\"", "}")?;
+    let (target, rest) = parse_name_between(text, spell!("{" cancel ":\""), "}")?;
     Some((Request::Cancel { target }, rest))
 }
 
 fn parse_transfer<'a>(config: &Config, text: &'a str) -> Option<(Request, &'a str)>
     ensures { IfSome result (λ p. BeginsWithRequest config.now p.0 text.now p.1.now) }
 {
-    let (from, rest) = parse_account_between(config, text, "{\"transfer\":[\"", ",\"")?;
+    let (from, rest) = parse_account_between(config, text, spell!("{" transfer ":[\""), ",\"")?;
     let (to, amount, rest) = parse_asked(config, rest, "")?;
     Some((Request::Transfer { from, to, amount }, rest))
 }
@@ -104,14 +105,18 @@ fn parse_requests<'a>(
 fn parse_batch<'a>(alloc: Global, config: &Config, text: &'a str) -> Option<(Event, &'a str)>
     ensures { IfSome result (λ p. BeginsWithEvent config.now p.0 text.now p.1.now) }
 {
-    let (requests, rest) = parse_requests(alloc, config, parse_prefix(text, "{\"batch\":[")?)?;
+    let (requests, rest) = parse_requests(
+        alloc,
+        config,
+        parse_prefix(text, spell!("{" batch ":["))?,
+    )?;
     Some((Event::Batch(List::new(requests)), parse_prefix(rest, "}")?))
 }
 
 fn parse_token<'a>(config: &Config, text: &'a str) -> Option<(Event, &'a str)>
     ensures { IfSome result (λ p. BeginsWithEvent config.now p.0 text.now p.1.now) }
 {
-    let (epoch, rest) = parse_word_between(text, "{\"token\":[", ",")?;
+    let (epoch, rest) = parse_word_between(text, spell!("{" token ":["), ",")?;
     let (to, rest) = parse_byte_between(rest, "", ",")?;
     let (red, rest) = parse_word_between(rest, "", "]}")?;
     let token = TokenMessage { epoch, to, red };
@@ -122,7 +127,7 @@ fn parse_token<'a>(config: &Config, text: &'a str) -> Option<(Event, &'a str)>
 fn parse_apply<'a>(config: &Config, text: &'a str, event: &mut Event) -> Option<&'a str>
     ensures { IfSome result (λ rest. BeginsWithEvent config.now event.new text.now rest.now) }
 {
-    let (name, rest) = parse_name_between(text, "{\"apply\":\"", "}")?;
+    let (name, rest) = parse_name_between(text, spell!("{" apply ":\""), "}")?;
     *event = Event::Apply(name);
     Some(rest)
 }
@@ -130,7 +135,7 @@ fn parse_apply<'a>(config: &Config, text: &'a str, event: &mut Event) -> Option<
 fn parse_pass<'a>(config: &Config, text: &'a str) -> Option<(Event, &'a str)>
     ensures { IfSome result (λ p. BeginsWithEvent config.now p.0 text.now p.1.now) }
 {
-    let (to, rest) = parse_byte_between(text, "{\"pass\":", "}")?;
+    let (to, rest) = parse_byte_between(text, spell!("{" pass ":"), "}")?;
     Some((Event::Pass(to), rest))
 }
 
@@ -138,7 +143,7 @@ fn parse_pass<'a>(config: &Config, text: &'a str) -> Option<(Event, &'a str)>
 fn parse_balance<'a>(config: &Config, text: &'a str, event: &mut Event) -> Option<&'a str>
     ensures { IfSome result (λ rest. BeginsWithEvent config.now event.new text.now rest.now) }
 {
-    let (account, rest) = parse_account_between(config, text, "{\"balance\":\"", "}")?;
+    let (account, rest) = parse_account_between(config, text, spell!("{" balance ":\""), "}")?;
     *event = Event::Balance(account);
     Some(rest)
 }
@@ -146,7 +151,7 @@ fn parse_balance<'a>(config: &Config, text: &'a str, event: &mut Event) -> Optio
 fn parse_as_of<'a>(config: &Config, text: &'a str) -> Option<(Event, &'a str)>
     ensures { IfSome result (λ p. BeginsWithEvent config.now p.0 text.now p.1.now) }
 {
-    let (account, n, rest) = parse_asked(config, text, "{\"asof\":[\"")?;
+    let (account, n, rest) = parse_asked(config, text, spell!("{" asof ":[\""))?;
     let position = narrow(n)?;
     Some((Event::AsOf(account, position), rest))
 }
@@ -154,7 +159,7 @@ fn parse_as_of<'a>(config: &Config, text: &'a str) -> Option<(Event, &'a str)>
 fn parse_statement<'a>(config: &Config, text: &'a str) -> Option<(Event, &'a str)>
     ensures { IfSome result (λ p. BeginsWithEvent config.now p.0 text.now p.1.now) }
 {
-    let (account, rest) = parse_account_between(config, text, "{\"statement\":\"", "}")?;
+    let (account, rest) = parse_account_between(config, text, spell!("{" statement ":\""), "}")?;
     Some((Event::Statement(account), rest))
 }
 

@@ -10,6 +10,7 @@ ghost use Rattle.rb_history.specs.Entries.{last_members};
 use crate::fast::account::parse_account_between;
 use crate::fast::name::parse_name_between;
 use crate::fast::scan::parse_prefix;
+use crate::keys::spell;
 use rb_money::Config;
 use rb_shadow::{Kind, Label};
 
@@ -37,7 +38,7 @@ fn parse_target<'a>(config: &Config, text: &'a str) -> Option<(Kind, &'a str)>
     ensures kind { IfSome result (λ p. IsKind config.now p.0 × (label_of p.0 ≡ Cancel)) }
     ensures text { IfSome result (λ p. text.now ≡ members_text true (last_members config.now p.0) ++ p.1.now) }
 {
-    let (target, rest) = parse_name_between(text, ",\"target\":\"", "}")?;
+    let (target, rest) = parse_name_between(text, spell!("," target ":\""), "}")?;
     Some((Kind::Cancel { target }, rest))
 }
 
@@ -48,7 +49,7 @@ fn parse_receiver<'a>(config: &Config, text: &'a str) -> Option<(Kind, &'a str)>
     ensures kind { IfSome result (λ p. IsKind config.now p.0 × (label_of p.0 ≡ Transfer)) }
     ensures text { IfSome result (λ p. text.now ≡ members_text true (last_members config.now p.0) ++ p.1.now) }
 {
-    let (to, rest) = parse_account_between(config, text, ",\"to\":\"", "}")?;
+    let (to, rest) = parse_account_between(config, text, spell!("," to ":\""), "}")?;
     Some((Kind::Transfer { to }, rest))
 }
 

@@ -7,6 +7,7 @@ ghost use Rattle.rb_history.specs.Beginnings.{BeginsWithReply};
 
 use crate::fast::number::{parse_byte, parse_byte_between, parse_word_between};
 use crate::fast::scan::parse_prefix;
+use crate::keys::spell;
 use crate::refusals::plain_refusal;
 use rb_money::{Cause, Refusal};
 use rb_site::Reply;
@@ -15,7 +16,11 @@ use rb_site::Reply;
 pub fn parse_behind(text: &str) -> Option<(Reply, &str)>
     ensures { IfSome result (λ p. BeginsWithReply p.0 text.now p.1.now) }
 {
-    let (needed, rest) = parse_word_between(text, "{\"needed\":", ",\"refused\":9,\"seen\":")?;
+    let (needed, rest) = parse_word_between(
+        text,
+        spell!("{" needed ":"),
+        spell!("," refused ":9," seen ":"),
+    )?;
     let (seen, rest) = parse_word_between(rest, "", "}")?;
     Some((Reply::Refused(Refusal::RedBehind { seen, needed }), rest))
 }
@@ -24,7 +29,11 @@ pub fn parse_behind(text: &str) -> Option<(Reply, &str)>
 pub fn parse_cancelled(text: &str) -> Option<(Reply, &str)>
     ensures { IfSome result (λ p. BeginsWithReply p.0 text.now p.1.now) }
 {
-    let (position, rest) = parse_word_between(text, "{\"position\":", ",\"refused\":6}")?;
+    let (position, rest) = parse_word_between(
+        text,
+        spell!("{" position ":"),
+        spell!("," refused ":6}"),
+    )?;
     let refusal = Refusal::AlreadyCancelled { position };
     Some((Reply::Refused(refusal), rest))
 }
@@ -33,7 +42,7 @@ pub fn parse_cancelled(text: &str) -> Option<(Reply, &str)>
 fn parse_cause(text: &str) -> Option<(Cause, &str)>
     ensures { IfSome result (λ p. IsCause p.0 × (text.now ≡ compact_text (cause_json p.0) ++ p.1.now)) }
 {
-    if let Some(rest) = parse_prefix(text, "\"declined\"") {
+    if let Some(rest) = parse_prefix(text, spell!(declined)) {
         return Some((Cause::Declined, rest));
     }
     let (number, rest) = parse_byte(text)?;
@@ -44,8 +53,12 @@ fn parse_cause(text: &str) -> Option<(Cause, &str)>
 pub fn parse_batch(text: &str) -> Option<(Reply, &str)>
     ensures { IfSome result (λ p. BeginsWithReply p.0 text.now p.1.now) }
 {
-    let (cause, rest) = parse_cause(parse_prefix(text, "{\"cause\":")?)?;
-    let (index, rest) = parse_byte_between(rest, ",\"index\":", ",\"refused\":13}")?;
+    let (cause, rest) = parse_cause(parse_prefix(text, spell!("{" cause ":"))?)?;
+    let (index, rest) = parse_byte_between(
+        rest,
+        spell!("," index ":"),
+        spell!("," refused ":13}"),
+    )?;
     let refusal = Refusal::BatchRefused { index, cause };
     Some((Reply::Refused(refusal), rest))
 }
@@ -54,7 +67,7 @@ pub fn parse_batch(text: &str) -> Option<(Reply, &str)>
 fn parse_message(text: &str) -> Option<(Reply, &str)>
     ensures { IfSome result (λ p. BeginsWithReply p.0 text.now p.1.now) }
 {
-    let (why, rest) = parse_byte_between(text, "{\"refused\":17,\"why\":", "}")?;
+    let (why, rest) = parse_byte_between(text, spell!("{" refused ":17," why ":"), "}")?;
     Some((Reply::Refused(Refusal::BadMessage { why }), rest))
 }
 
@@ -62,7 +75,7 @@ fn parse_message(text: &str) -> Option<(Reply, &str)>
 pub fn parse_refused(text: &str) -> Option<(Reply, &str)>
     ensures { IfSome result (λ p. BeginsWithReply p.0 text.now p.1.now) }
 {
-    match parse_byte_between(text, "{\"refused\":", "}") {
+    match parse_byte_between(text, spell!("{" refused ":"), "}") {
         Some((number, rest)) => {
             let refusal = plain_refusal(number)?;
             Some((Reply::Refused(refusal), rest))

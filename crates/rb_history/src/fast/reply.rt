@@ -10,6 +10,7 @@ use crate::fast::number::{parse_long_between, parse_word_between};
 use crate::fast::refusal::{parse_batch, parse_behind, parse_cancelled, parse_refused};
 use crate::fast::scan::parse_prefix;
 use crate::fast::statement::parse_statement;
+use crate::keys::spell;
 use rb_kit::List;
 use rb_shadow::OpName;
 use rb_site::Reply;
@@ -20,8 +21,8 @@ use std::alloc::Global;
 fn parse_made<'a>(text: &'a str, reply: &mut Reply) -> Option<&'a str>
     ensures { IfSome result (λ rest. BeginsWithReply reply.new text.now rest.now) }
 {
-    let (kind, rest) = parse_label(parse_prefix(text, "{\"kind\":\"")?)?;
-    let (name, rest) = parse_name_between(rest, ",\"name\":\"", "}")?;
+    let (kind, rest) = parse_label(parse_prefix(text, spell!("{" kind ":\""))?)?;
+    let (name, rest) = parse_name_between(rest, spell!("," name ":\""), "}")?;
     *reply = Reply::Made { name, kind };
     Some(rest)
 }
@@ -51,7 +52,7 @@ fn parse_list<'a>(alloc: Global, text: &'a str) -> Option<(Vec<OpName>, &'a str)
 fn parse_names<'a>(alloc: Global, text: &'a str) -> Option<(Reply, &'a str)>
     ensures { IfSome result (λ p. BeginsWithReply p.0 text.now p.1.now) }
 {
-    let (names, rest) = parse_list(alloc, parse_prefix(text, "{\"names\":[")?)?;
+    let (names, rest) = parse_list(alloc, parse_prefix(text, spell!("{" names ":["))?)?;
     Some((Reply::Names(List::new(names)), parse_prefix(rest, "}")?))
 }
 
@@ -59,7 +60,7 @@ fn parse_names<'a>(alloc: Global, text: &'a str) -> Option<(Reply, &'a str)>
 fn parse_held<'a>(text: &'a str, reply: &mut Reply) -> Option<&'a str>
     ensures { IfSome result (λ rest. BeginsWithReply reply.new text.now rest.now) }
 {
-    let (name, rest) = parse_name_between(text, "{\"held\":\"", "}")?;
+    let (name, rest) = parse_name_between(text, spell!("{" held ":\""), "}")?;
     *reply = Reply::Held(name);
     Some(rest)
 }
@@ -67,7 +68,7 @@ fn parse_held<'a>(text: &'a str, reply: &mut Reply) -> Option<&'a str>
 fn parse_already(text: &str) -> Option<(Reply, &str)>
     ensures { IfSome result (λ p. BeginsWithReply p.0 text.now p.1.now) }
 {
-    let (name, rest) = parse_name_between(text, "{\"already\":\"", "}")?;
+    let (name, rest) = parse_name_between(text, spell!("{" already ":\""), "}")?;
     Some((Reply::Already(name), rest))
 }
 
@@ -75,7 +76,7 @@ fn parse_already(text: &str) -> Option<(Reply, &str)>
 fn parse_applied<'a>(text: &'a str, reply: &mut Reply) -> Option<&'a str>
     ensures { IfSome result (λ rest. BeginsWithReply reply.new text.now rest.now) }
 {
-    let (name, rest) = parse_name_between(text, "{\"applied\":\"", "}")?;
+    let (name, rest) = parse_name_between(text, spell!("{" applied ":\""), "}")?;
     *reply = Reply::Applied(name);
     Some(rest)
 }
@@ -83,21 +84,21 @@ fn parse_applied<'a>(text: &'a str, reply: &mut Reply) -> Option<&'a str>
 fn parse_taken(text: &str) -> Option<(Reply, &str)>
     ensures { IfSome result (λ p. BeginsWithReply p.0 text.now p.1.now) }
 {
-    let (epoch, rest) = parse_word_between(text, "{\"taken\":", "}")?;
+    let (epoch, rest) = parse_word_between(text, spell!("{" taken ":"), "}")?;
     Some((Reply::Taken(epoch), rest))
 }
 
 fn parse_stale(text: &str) -> Option<(Reply, &str)>
     ensures { IfSome result (λ p. BeginsWithReply p.0 text.now p.1.now) }
 {
-    let (epoch, rest) = parse_word_between(text, "{\"stale\":", "}")?;
+    let (epoch, rest) = parse_word_between(text, spell!("{" stale ":"), "}")?;
     Some((Reply::Stale(epoch), rest))
 }
 
 fn parse_passed(text: &str) -> Option<(Reply, &str)>
     ensures { IfSome result (λ p. BeginsWithReply p.0 text.now p.1.now) }
 {
-    let (epoch, rest) = parse_word_between(text, "{\"passed\":", "}")?;
+    let (epoch, rest) = parse_word_between(text, spell!("{" passed ":"), "}")?;
     Some((Reply::Passed(epoch), rest))
 }
 
@@ -106,7 +107,7 @@ fn parse_passed(text: &str) -> Option<(Reply, &str)>
 fn parse_balance<'a>(text: &'a str, reply: &mut Reply) -> Option<&'a str>
     ensures { IfSome result (λ rest. BeginsWithReply reply.new text.now rest.now) }
 {
-    let (cents, rest) = parse_long_between(text, "{\"balance\":", "}")?;
+    let (cents, rest) = parse_long_between(text, spell!("{" balance ":"), "}")?;
     *reply = Reply::Balance(cents);
     Some(rest)
 }

@@ -7,6 +7,7 @@ use crate::fast::account::{parse_pair, parse_three};
 use crate::fast::name::parse_name;
 use crate::fast::number::narrow;
 use crate::fast::scan::parse_prefix;
+use crate::keys::behind_quote;
 use rb_money::Config;
 use rb_scratch::Request;
 use std::alloc::Global;
@@ -15,7 +16,7 @@ use std::alloc::Global;
 pub fn parse_deposit<'a>(config: &Config, text: &'a str) -> Option<(Request, &'a str)>
     ensures { IfSome result (λ p. SpellsRequest config.now p.0 text.now p.1.now) }
 {
-    let (name, amount, rest) = parse_pair(parse_prefix(text, "deposit\":[\"")?)?;
+    let (name, amount, rest) = parse_pair(parse_prefix(text, behind_quote!(deposit ":[\""))?)?;
     let account = place(config, name);
     Some((Request::Deposit { account, amount }, rest))
 }
@@ -24,7 +25,7 @@ pub fn parse_deposit<'a>(config: &Config, text: &'a str) -> Option<(Request, &'a
 pub fn parse_withdrawal<'a>(config: &Config, text: &'a str) -> Option<(Request, &'a str)>
     ensures { IfSome result (λ p. SpellsRequest config.now p.0 text.now p.1.now) }
 {
-    let (name, amount, rest) = parse_pair(parse_prefix(text, "withdraw\":[\"")?)?;
+    let (name, amount, rest) = parse_pair(parse_prefix(text, behind_quote!(withdraw ":[\""))?)?;
     let account = place(config, name);
     Some((Request::Withdraw { account, amount }, rest))
 }
@@ -33,7 +34,7 @@ pub fn parse_withdrawal<'a>(config: &Config, text: &'a str) -> Option<(Request, 
 pub fn parse_interest<'a>(config: &Config, text: &'a str) -> Option<(Request, &'a str)>
     ensures { IfSome result (λ p. SpellsRequest config.now p.0 text.now p.1.now) }
 {
-    let (name, n, rest) = parse_pair(parse_prefix(text, "interest\":[\"")?)?;
+    let (name, n, rest) = parse_pair(parse_prefix(text, behind_quote!(interest ":[\""))?)?;
     let account = place(config, name);
     let rate = narrow(n)?;
     Some((Request::Interest { account, rate }, rest))
@@ -43,7 +44,7 @@ pub fn parse_interest<'a>(config: &Config, text: &'a str) -> Option<(Request, &'
 pub fn parse_cancellation<'a>(config: &Config, text: &'a str) -> Option<(Request, &'a str)>
     ensures { IfSome result (λ p. SpellsRequest config.now p.0 text.now p.1.now) }
 {
-    let (target, rest) = parse_name(parse_prefix(text, "cancel\":\"")?)?;
+    let (target, rest) = parse_name(parse_prefix(text, behind_quote!(cancel ":\""))?)?;
     Some((Request::Cancel { target }, rest))
 }
 
@@ -51,7 +52,10 @@ pub fn parse_cancellation<'a>(config: &Config, text: &'a str) -> Option<(Request
 pub fn parse_transfer<'a>(config: &Config, text: &'a str) -> Option<(Request, &'a str)>
     ensures { IfSome result (λ p. SpellsRequest config.now p.0 text.now p.1.now) }
 {
-    let (from, to, amount, rest) = parse_three(parse_prefix(text, "transfer\":[\"")?)?;
+    let (from, to, amount, rest) = parse_three(parse_prefix(
+        text,
+        behind_quote!(transfer ":[\""),
+    )?)?;
     let from = place(config, from);
     let to = place(config, to);
     Some((Request::Transfer { from, to, amount }, rest))

@@ -10,6 +10,7 @@ use crate::fast::kind::{parse_kind, parse_label};
 use crate::fast::name::parse_name;
 use crate::fast::number::{parse_byte_between, parse_long_between, parse_word_between};
 use crate::fast::scan::parse_prefix;
+use crate::keys::spell;
 use rb_money::{Config, MOST_SITES, Place};
 use rb_shadow::{Deps, Kind, OpName, Shadow};
 use rb_site::{Event, Message};
@@ -29,8 +30,13 @@ pub fn parse_front<'a>(config: &Config, text: &'a str) -> Option<(Place, u64, &'
     ensures { IfSome result (λ p. IsKnown config.now p.0 × (p.1 < 2 ^ 64)
         × (text.now ≡ shadow_front config.now p.0 p.1 ++ p.2.now)) }
 {
-    let (account, rest) = parse_account_between(config, text, "{\"shadow\":{\"account\":\"", ",")?;
-    let (amount, rest) = parse_long_between(rest, "\"amount\":", ",\"deps\":[")?;
+    let (account, rest) = parse_account_between(
+        config,
+        text,
+        spell!("{" shadow ":{" account ":\""),
+        ",",
+    )?;
+    let (amount, rest) = parse_long_between(rest, spell!(amount ":"), spell!("," deps ":["))?;
     Some((account, amount, rest))
 }
 
@@ -40,9 +46,9 @@ pub fn parse_back<'a>(config: &Config, text: &'a str) -> Option<(Back, &'a str)>
     ensures { IfSome result (λ p. BeginsWithBack config.now p.0 text.now p.1.now) }
 {
     let (red, rest) = parse_word_between(text, ",", "]")?;
-    let (home, rest) = parse_byte_between(rest, ",\"home\":", ",\"kind\":\"")?;
+    let (home, rest) = parse_byte_between(rest, spell!("," home ":"), spell!("," kind ":\""))?;
     let (label, rest) = parse_label(rest)?;
-    let (name, rest) = parse_name(parse_prefix(rest, ",\"name\":\"")?)?;
+    let (name, rest) = parse_name(parse_prefix(rest, spell!("," name ":\""))?)?;
     let (kind, rest) = parse_kind(config, label, rest)?;
     let rest = parse_prefix(rest, "}")?;
     let back = Back {

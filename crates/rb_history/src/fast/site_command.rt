@@ -8,6 +8,7 @@ use crate::fast::name::parse_name;
 use crate::fast::number::{narrow, parse_byte, parse_word};
 use crate::fast::request::parse_requests;
 use crate::fast::scan::{parse_prefix, parse_string};
+use crate::keys::behind_quote;
 use crate::site_command::SiteCommand;
 use rb_kit::List;
 use rb_money::Config;
@@ -21,7 +22,7 @@ pub fn parse_batch<'a>(
 ) -> Option<(SiteCommand, &'a str)>
     ensures { IfSome result (λ p. Spells config.now p.0 text.now p.1.now) }
 {
-    let list = parse_prefix(text, "batch\":[")?;
+    let list = parse_prefix(text, behind_quote!(batch ":["))?;
     let (requests, rest) = parse_requests(alloc, config, list)?;
     Some((SiteCommand::Batch(List::new(requests)), rest))
 }
@@ -30,7 +31,7 @@ pub fn parse_batch<'a>(
 pub fn parse_apply<'a>(config: &Config, text: &'a str) -> Option<(SiteCommand, &'a str)>
     ensures { IfSome result (λ p. Spells config.now p.0 text.now p.1.now) }
 {
-    let (name, rest) = parse_name(parse_prefix(text, "apply\":\"")?)?;
+    let (name, rest) = parse_name(parse_prefix(text, behind_quote!(apply ":\""))?)?;
     Some((SiteCommand::Apply(name), rest))
 }
 
@@ -38,7 +39,7 @@ pub fn parse_apply<'a>(config: &Config, text: &'a str) -> Option<(SiteCommand, &
 pub fn parse_pass<'a>(config: &Config, text: &'a str) -> Option<(SiteCommand, &'a str)>
     ensures { IfSome result (λ p. Spells config.now p.0 text.now p.1.now) }
 {
-    let (to, rest) = parse_byte(parse_prefix(text, "pass\":")?)?;
+    let (to, rest) = parse_byte(parse_prefix(text, behind_quote!(pass ":"))?)?;
     Some((SiteCommand::Pass(to), rest))
 }
 
@@ -46,7 +47,7 @@ pub fn parse_pass<'a>(config: &Config, text: &'a str) -> Option<(SiteCommand, &'
 pub fn parse_balance<'a>(config: &Config, text: &'a str) -> Option<(SiteCommand, &'a str)>
     ensures { IfSome result (λ p. Spells config.now p.0 text.now p.1.now) }
 {
-    let (name, rest) = parse_string(parse_prefix(text, "balance\":\"")?)?;
+    let (name, rest) = parse_string(parse_prefix(text, behind_quote!(balance ":\""))?)?;
     let account = place(config, name);
     Some((SiteCommand::Balance(account), rest))
 }
@@ -55,7 +56,7 @@ pub fn parse_balance<'a>(config: &Config, text: &'a str) -> Option<(SiteCommand,
 pub fn parse_as_of<'a>(config: &Config, text: &'a str) -> Option<(SiteCommand, &'a str)>
     ensures { IfSome result (λ p. Spells config.now p.0 text.now p.1.now) }
 {
-    let (name, n, rest) = parse_pair(parse_prefix(text, "asof\":[\"")?)?;
+    let (name, n, rest) = parse_pair(parse_prefix(text, behind_quote!(asof ":[\""))?)?;
     let account = place(config, name);
     let position = narrow(n)?;
     Some((SiteCommand::AsOf(account, position), rest))
@@ -65,7 +66,7 @@ pub fn parse_as_of<'a>(config: &Config, text: &'a str) -> Option<(SiteCommand, &
 pub fn parse_statement<'a>(config: &Config, text: &'a str) -> Option<(SiteCommand, &'a str)>
     ensures { IfSome result (λ p. Spells config.now p.0 text.now p.1.now) }
 {
-    let (name, rest) = parse_string(parse_prefix(text, "statement\":\"")?)?;
+    let (name, rest) = parse_string(parse_prefix(text, behind_quote!(statement ":\""))?)?;
     let account = place(config, name);
     Some((SiteCommand::Statement(account), rest))
 }
@@ -74,6 +75,6 @@ pub fn parse_statement<'a>(config: &Config, text: &'a str) -> Option<(SiteComman
 pub fn parse_delivery<'a>(config: &Config, text: &'a str) -> Option<(SiteCommand, &'a str)>
     ensures { IfSome result (λ p. Spells config.now p.0 text.now p.1.now) }
 {
-    let (message, rest) = parse_word(parse_prefix(text, "deliver\":")?)?;
+    let (message, rest) = parse_word(parse_prefix(text, behind_quote!(deliver ":"))?)?;
     Some((SiteCommand::Deliver(message), rest))
 }

@@ -12,6 +12,7 @@ use crate::fast::kind::parse_label;
 use crate::fast::name::parse_name;
 use crate::fast::number::{parse_long_between, parse_number, parse_word_between};
 use crate::fast::scan::parse_prefix;
+use crate::keys::spell;
 use rb_kit::List;
 use rb_site::Reply;
 use rb_statements::{Row, Statement};
@@ -91,9 +92,9 @@ fn parse_rows<'a>(alloc: Global, text: &'a str) -> Option<(Vec<Row>, &'a str)>
 pub fn parse_statement<'a>(alloc: Global, text: &'a str) -> Option<(Reply, &'a str)>
     ensures { IfSome result (λ p. BeginsWithReply p.0 text.now p.1.now) }
 {
-    let (balance, rest) = parse_long_between(text, "{\"balance\":", ",\"rows\":[")?;
+    let (balance, rest) = parse_long_between(text, spell!("{" balance ":"), spell!("," rows ":["))?;
     let (rows, rest) = parse_rows(alloc, rest)?;
-    let (start, rest) = parse_long_between(rest, ",\"start\":", "}")?;
+    let (start, rest) = parse_long_between(rest, spell!("," start ":"), "}")?;
     let shown = Statement {
         start,
         rows: List::new(rows),

@@ -17,6 +17,7 @@ use crate::fast::entry::{parse_entry, parse_entry_end};
 use crate::fast::scan::parse_prefix;
 use crate::fast::shadow::{parse_back, parse_front};
 use crate::fault::LineFault;
+use crate::keys::spell;
 use crate::lines::entry::read_line;
 use crate::write::append::append;
 use crate::write::counts::append_counts;
@@ -37,7 +38,7 @@ fn cut_receipt<'a>(
 {
     // For a fact alone: its settings are those of a configuration.
     let _sites = config.sites();
-    let event = parse_prefix(line, "{\"event\":")?;
+    let event = parse_prefix(line, spell!("{" event ":"))?;
     let (_account, _amount, list) = parse_front(config, event)?;
     let behind = parse_counts(config.version(), list, counts)?;
     let (_back, end) = parse_back(config, behind)?;

@@ -8,6 +8,7 @@ ghost use Rattle.rb_history.specs.Lines.{Gives};
 ghost use Rattle.rb_history.specs.Values.{number_below};
 
 use crate::fault::LineFault;
+use crate::keys::key;
 use crate::read::event::own_event;
 use crate::read::value::{byte, size, word};
 use rb_money::Config;
@@ -25,7 +26,7 @@ fn command_at_site(
     ensures value { Gives result (command_for config.now (view value.now) site) }
     ensures command { IfOk result IsCommand }
 {
-    if let Some(message) = value.get("deliver") {
+    if let Some(message) = value.get(key!(deliver)) {
         return match word(message) {
             Some(message) => Ok(WorldEvent::Deliver(site, message)),
             None => Err(LineFault::Bad),
@@ -41,7 +42,7 @@ fn command_at_site(
 fn site(value: &Value) -> Option<u8>
     ensures { result ≡ option_and_then (number_below (2 ^ 8)) (get (codes "site") (view value.now)) }
 {
-    byte(value.get("site")?)
+    byte(value.get(key!(site))?)
 }
 
 /// A command, from an object of its site and one more member.

@@ -11,6 +11,7 @@ ghost use Rattle.rb_history.specs.Lines.{Gives, GivesAs};
 ghost use Rattle.rb_history.specs.Values.{number_below};
 
 use crate::fault::LineFault;
+use crate::keys::key;
 use crate::read::value::{byte, long, pair, read_value, size, word};
 use rb_money::{Config, ConfigFault, Limits, MOST_SITES_OF_VERSION_1};
 use serde_json::Value;
@@ -73,11 +74,11 @@ fn limits(value: &Value) -> Option<Limits>
     ensures { result ≡ limits_of (view value.now) }
 {
     let most = Limits::largest();
-    let blue = limit(value, "blue", most.blue)?;
-    let red = limit(value, "red", most.red)?;
-    let inbox = limit(value, "inbox", most.inbox)?;
-    let history = limit(value, "history", most.history)?;
-    let epoch = limit(value, "epoch", most.epoch)?;
+    let blue = limit(value, key!(blue), most.blue)?;
+    let red = limit(value, key!(red), most.red)?;
+    let inbox = limit(value, key!(inbox), most.inbox)?;
+    let history = limit(value, key!(history), most.history)?;
+    let epoch = limit(value, key!(epoch), most.epoch)?;
     Some(Limits {
         blue,
         red,
@@ -103,11 +104,11 @@ fn is_of_known_keys(value: &Value) -> bool
     ensures { result ≡ has_known_keys (view value.now) }
 {
     let known = 3
-        + count(value, "blue")
-        + count(value, "red")
-        + count(value, "inbox")
-        + count(value, "history")
-        + count(value, "epoch");
+        + count(value, key!(blue))
+        + count(value, key!(red))
+        + count(value, key!(inbox))
+        + count(value, key!(history))
+        + count(value, key!(epoch));
     size(value) == known
 }
 
@@ -115,7 +116,7 @@ fn is_of_known_keys(value: &Value) -> bool
 fn version(value: &Value) -> Option<u8>
     ensures { result ≡ version_at (view value.now) }
 {
-    byte(value.get("version")?)
+    byte(value.get(key!(version))?)
 }
 
 /// Whether lines of a bank with this number of sites may have this version.
@@ -132,7 +133,7 @@ fn is_version(version: u8, sites: u8) -> bool
 fn sites(value: &Value) -> Option<u8>
     ensures { result ≡ option_and_then (number_below (2 ^ 8)) (get (codes "sites") (view value.now)) }
 {
-    byte(value.get("sites")?)
+    byte(value.get(key!(sites))?)
 }
 
 /// The configuration in a version that its sites may have.
@@ -183,7 +184,7 @@ fn parts(alloc: Global, value: &Value) -> Result<Config, LineFault>
     let Some(limits) = limits(value) else {
         return Err(LineFault::Bad);
     };
-    let Some(list) = value.get("accounts") else {
+    let Some(list) = value.get(key!(accounts)) else {
         return Err(LineFault::Bad);
     };
     match accounts(alloc, list) {

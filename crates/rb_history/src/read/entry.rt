@@ -9,6 +9,7 @@ ghost use Rattle.rb_history.specs.RepliesRead.{reply_told};
 ghost use Rattle.rb_history.specs.Values.{number_below};
 
 use crate::fault::LineFault;
+use crate::keys::key;
 use crate::read::event::event;
 use crate::read::reply::reply;
 use crate::read::value::size;
@@ -21,7 +22,7 @@ use std::alloc::Global;
 fn event_of(alloc: Global, config: &Config, value: &Value) -> Result<Event, LineFault>
     ensures { Gives result (field (codes "event") (event_at config.now) (view value.now)) }
 {
-    match value.get("event") {
+    match value.get(key!(event)) {
         Some(made) => event(alloc, config, made),
         None => Err(LineFault::Bad),
     }
@@ -31,7 +32,7 @@ fn event_of(alloc: Global, config: &Config, value: &Value) -> Result<Event, Line
 fn reply_of(alloc: Global, value: &Value) -> Result<Reply, LineFault>
     ensures { Gives result (field (codes "reply") reply_told (view value.now)) }
 {
-    match value.get("reply") {
+    match value.get(key!(reply)) {
         Some(given) => reply(alloc, given),
         None => Err(LineFault::Bad),
     }
@@ -41,7 +42,7 @@ fn reply_of(alloc: Global, value: &Value) -> Result<Reply, LineFault>
 fn site_of(config: &Config, value: &Value) -> Option<u8>
     ensures { result ≡ field (codes "site") (number_below config.now.sites) (view value.now) }
 {
-    let site = value.get("site")?.as_u64()?;
+    let site = value.get(key!(site))?.as_u64()?;
     if site < u64::from(config.sites()) {
         Some(site as u8)
     } else {

@@ -9,6 +9,7 @@ ghost use Rattle.rb_history.specs.Recorded.{token_at, event_at, recorded_of};
 ghost use Rattle.rb_history.specs.Requests.{asked_of};
 
 use crate::fault::LineFault;
+use crate::keys::key;
 use crate::read::request::{account, request, requests};
 use crate::read::shadow::shadow;
 use crate::read::value::{byte, name, pair, size, three, word};
@@ -35,13 +36,13 @@ fn teller_event(config: &Config, value: &Value) -> Option<Event>
     ensures value { result ≡ teller_event_of config.now (view value.now) }
     ensures own { IfSome result IsOwn }
 {
-    if let Some(argument) = value.get("balance") {
+    if let Some(argument) = value.get(key!(balance)) {
         return Some(Event::Balance(account(config, argument)?));
     }
-    if let Some(argument) = value.get("asof") {
+    if let Some(argument) = value.get(key!(asof)) {
         return as_of(config, argument);
     }
-    if let Some(argument) = value.get("statement") {
+    if let Some(argument) = value.get(key!(statement)) {
         return Some(Event::Statement(account(config, argument)?));
     }
     Some(Event::Submit(request(config, value)?))
@@ -52,15 +53,15 @@ pub fn own_event(alloc: Global, config: &Config, value: &Value) -> Result<Event,
     ensures value { Gives result (event_of config.now (view value.now)) }
     ensures own { IfOk result IsOwn }
 {
-    if let Some(list) = value.get("batch") {
+    if let Some(list) = value.get(key!(batch)) {
         return match requests(alloc, config, list) {
             Ok(requests) => Ok(Event::Batch(List::new(requests))),
             Err(fault) => Err(fault),
         };
     }
-    let event = if let Some(argument) = value.get("apply") {
+    let event = if let Some(argument) = value.get(key!(apply)) {
         name(argument).map(Event::Apply)
-    } else if let Some(argument) = value.get("pass") {
+    } else if let Some(argument) = value.get(key!(pass)) {
         byte(argument).map(Event::Pass)
     } else {
         teller_event(config, value)
@@ -83,13 +84,13 @@ fn token(value: &Value) -> Option<TokenMessage>
 fn recorded(alloc: Global, config: &Config, value: &Value) -> Result<Event, LineFault>
     ensures { Gives result (recorded_of config.now (view value.now)) }
 {
-    if let Some(made) = value.get("shadow") {
+    if let Some(made) = value.get(key!(shadow)) {
         return match shadow(config, made) {
             Some(shadow) => Ok(Event::Receive(Message::Shadow(shadow))),
             None => Err(LineFault::Bad),
         };
     }
-    if let Some(sent) = value.get("token") {
+    if let Some(sent) = value.get(key!(token)) {
         return match token(sent) {
             Some(token) => Ok(Event::Receive(Message::Token(token))),
             None => Err(LineFault::Bad),

@@ -4,6 +4,7 @@ ghost use Rattle.serde_json.specs.View.{view};
 ghost use Rattle.rb_money.specs.Settings.{Settings};
 ghost use Rattle.rb_history.specs.Recorded.{kind_at, kind_of};
 
+use crate::keys::key;
 use crate::read::request::account;
 use crate::read::value::{label, name, size};
 use rb_money::Config;
@@ -17,7 +18,7 @@ fn cancel(value: &Value) -> Option<Kind>
     if size(value) != 7 {
         return None;
     }
-    let target = name(value.get("target")?)?;
+    let target = name(value.get(key!(target))?)?;
     Some(Kind::Cancel { target })
 }
 
@@ -28,7 +29,7 @@ fn transfer(config: &Config, value: &Value) -> Option<Kind>
     if size(value) != 7 {
         return None;
     }
-    let to = account(config, value.get("to")?)?;
+    let to = account(config, value.get(key!(to))?)?;
     Some(Kind::Transfer { to })
 }
 
@@ -54,6 +55,6 @@ fn kind_of(config: &Config, value: &Value, label: Label) -> Option<Kind>
 pub fn kind(config: &Config, value: &Value) -> Option<Kind>
     ensures { result ≡ kind_at config.now (view value.now) }
 {
-    let label = label(value.get("kind")?)?;
+    let label = label(value.get(key!(kind))?)?;
     kind_of(config, value, label)
 }

@@ -5,6 +5,7 @@ ghost use Rattle.rb_history.specs.RepliesRead.{refused_batch_told, behind_of, ca
 ghost use Rattle.rb_history.specs.RepliesRead.{tells_declined, bad_message_told, plain_of};
 ghost use Rattle.rb_history.specs.RepliesRead.{refusal_told};
 
+use crate::keys::key;
 use crate::read::value::{byte, size, word};
 use crate::refusals::plain_refusal;
 use rb_money::{Cause, Refusal};
@@ -15,7 +16,7 @@ fn is_declined(value: &Value) -> bool
     ensures { result ≡ tells_declined (view value.now) }
 {
     match value.as_str() {
-        Some(word) => word == "declined",
+        Some(word) => word == key!(declined),
         None => false,
     }
 }
@@ -39,7 +40,7 @@ fn cancelled(value: &Value) -> Option<Refusal>
     if size(value) != 2 {
         return None;
     }
-    let position = word(value.get("position")?)?;
+    let position = word(value.get(key!(position))?)?;
     Some(Refusal::AlreadyCancelled { position })
 }
 
@@ -49,8 +50,8 @@ fn behind(value: &Value) -> Option<Refusal>
     if size(value) != 3 {
         return None;
     }
-    let seen = word(value.get("seen")?)?;
-    let needed = word(value.get("needed")?)?;
+    let seen = word(value.get(key!(seen))?)?;
+    let needed = word(value.get(key!(needed))?)?;
     Some(Refusal::RedBehind { seen, needed })
 }
 
@@ -60,8 +61,8 @@ fn batch(value: &Value) -> Option<Refusal>
     if size(value) != 3 {
         return None;
     }
-    let index = byte(value.get("index")?)?;
-    let cause = cause(value.get("cause")?)?;
+    let index = byte(value.get(key!(index))?)?;
+    let cause = cause(value.get(key!(cause))?)?;
     Some(Refusal::BatchRefused { index, cause })
 }
 
@@ -71,7 +72,7 @@ fn message(value: &Value) -> Option<Refusal>
     if size(value) != 2 {
         return None;
     }
-    let why = byte(value.get("why")?)?;
+    let why = byte(value.get(key!(why))?)?;
     Some(Refusal::BadMessage { why })
 }
 

@@ -8,6 +8,7 @@ ghost use Rattle.rb_history.specs.RepliesRead.{simple_of};
 ghost use Rattle.rb_history.specs.Values.{number_below};
 
 use crate::fault::LineFault;
+use crate::keys::key;
 use crate::read::refusal::refusal;
 use crate::read::statement::statement;
 use crate::read::value::{byte, label, long, name, size, word};
@@ -21,25 +22,25 @@ use std::alloc::Global;
 fn simple(value: &Value) -> Option<Reply>
     ensures { result ≡ simple_of (view value.now) }
 {
-    if let Some(made) = value.get("held") {
+    if let Some(made) = value.get(key!(held)) {
         return name(made).map(Reply::Held);
     }
-    if let Some(made) = value.get("already") {
+    if let Some(made) = value.get(key!(already)) {
         return name(made).map(Reply::Already);
     }
-    if let Some(epoch) = value.get("taken") {
+    if let Some(epoch) = value.get(key!(taken)) {
         return word(epoch).map(Reply::Taken);
     }
-    if let Some(epoch) = value.get("stale") {
+    if let Some(epoch) = value.get(key!(stale)) {
         return word(epoch).map(Reply::Stale);
     }
-    if let Some(made) = value.get("applied") {
+    if let Some(made) = value.get(key!(applied)) {
         return name(made).map(Reply::Applied);
     }
-    if let Some(epoch) = value.get("passed") {
+    if let Some(epoch) = value.get(key!(passed)) {
         return word(epoch).map(Reply::Passed);
     }
-    long(value.get("balance")?).map(Reply::Balance)
+    long(value.get(key!(balance))?).map(Reply::Balance)
 }
 
 /// The names of a list, in its order.
@@ -75,7 +76,7 @@ fn made_by_batch(alloc: Global, list: &Value) -> Result<Reply, LineFault>
 fn short(alloc: Global, value: &Value) -> Result<Reply, LineFault>
     ensures { Gives result (short_of (view value.now)) }
 {
-    if let Some(list) = value.get("names") {
+    if let Some(list) = value.get(key!(names)) {
         return made_by_batch(alloc, list);
     }
     match simple(value) {
@@ -88,8 +89,8 @@ fn short(alloc: Global, value: &Value) -> Result<Reply, LineFault>
 fn made(value: &Value) -> Option<Reply>
     ensures { result ≡ made_told (view value.now) }
 {
-    let name = name(value.get("name")?)?;
-    let kind = label(value.get("kind")?)?;
+    let name = name(value.get(key!(name))?)?;
+    let kind = label(value.get(key!(kind))?)?;
     Some(Reply::Made { name, kind })
 }
 
@@ -126,7 +127,7 @@ fn refused(value: &Value, number: &Value) -> Option<Reply>
 pub fn reply(alloc: Global, value: &Value) -> Result<Reply, LineFault>
     ensures { Gives result (reply_told (view value.now)) }
 {
-    let Some(number) = value.get("refused") else {
+    let Some(number) = value.get(key!(refused)) else {
         return answer(alloc, value);
     };
     match refused(value, number) {

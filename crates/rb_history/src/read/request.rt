@@ -9,6 +9,7 @@ ghost use Rattle.rb_history.specs.Values.{name_at};
 
 use crate::accounts::place;
 use crate::fault::LineFault;
+use crate::keys::key;
 use crate::read::value::{long, name, pair, size, three, word};
 use rb_money::{Config, Place};
 use rb_scratch::Request;
@@ -78,19 +79,19 @@ fn transfer(config: &Config, value: &Value) -> Option<Request>
 pub fn request(config: &Config, value: &Value) -> Option<Request>
     ensures { result ≡ request_of config.now (view value.now) }
 {
-    if let Some(argument) = value.get("deposit") {
+    if let Some(argument) = value.get(key!(deposit)) {
         return deposit(config, argument);
     }
-    if let Some(argument) = value.get("withdraw") {
+    if let Some(argument) = value.get(key!(withdraw)) {
         return withdrawal(config, argument);
     }
-    if let Some(argument) = value.get("interest") {
+    if let Some(argument) = value.get(key!(interest)) {
         return interest(config, argument);
     }
-    if let Some(argument) = value.get("cancel") {
+    if let Some(argument) = value.get(key!(cancel)) {
         return cancellation(argument);
     }
-    transfer(config, value.get("transfer")?)
+    transfer(config, value.get(key!(transfer))?)
 }
 
 /// A request of a batch, from an object of one member.

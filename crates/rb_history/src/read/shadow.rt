@@ -3,6 +3,7 @@ ghost use Rattle.std.specs.Prelude.{◌≡◌};
 ghost use Rattle.serde_json.specs.View.{view};
 ghost use Rattle.rb_history.specs.Recorded.{deps_at, shadow_at};
 
+use crate::keys::key;
 use crate::read::counts::counts;
 use crate::read::kind::kind;
 use crate::read::request::account;
@@ -25,12 +26,12 @@ fn deps(version: u8, value: &Value) -> Option<Deps>
 pub fn shadow(config: &Config, value: &Value) -> Option<Shadow>
     ensures { result ≡ shadow_at config.now (view value.now) }
 {
-    let account = account(config, value.get("account")?)?;
-    let amount = long(value.get("amount")?)?;
-    let deps = deps(config.version(), value.get("deps")?)?;
-    let home = byte(value.get("home")?)?;
+    let account = account(config, value.get(key!(account))?)?;
+    let amount = long(value.get(key!(amount))?)?;
+    let deps = deps(config.version(), value.get(key!(deps))?)?;
+    let home = byte(value.get(key!(home))?)?;
     let kind = kind(config, value)?;
-    let name = name(value.get("name")?)?;
+    let name = name(value.get(key!(name))?)?;
     Some(Shadow {
         name,
         home,

@@ -7,6 +7,7 @@ ghost use Rattle.rb_history.specs.RepliesRead.{row_at, rows_at, statement_told};
 ghost use Rattle.rb_history.specs.Values.{number_below};
 
 use crate::fault::LineFault;
+use crate::keys::key;
 use crate::read::value::{label, long, name, six, word};
 use rb_kit::List;
 use rb_site::Reply;
@@ -65,13 +66,13 @@ fn cents(value: &Value, key: &str) -> Option<u64>
 pub fn statement(alloc: Global, value: &Value) -> Result<Reply, LineFault>
     ensures { Gives result (statement_told (view value.now)) }
 {
-    let Some(start) = cents(value, "start") else {
+    let Some(start) = cents(value, key!(start)) else {
         return Err(LineFault::Bad);
     };
-    let Some(balance) = cents(value, "balance") else {
+    let Some(balance) = cents(value, key!(balance)) else {
         return Err(LineFault::Bad);
     };
-    let Some(list) = value.get("rows") else {
+    let Some(list) = value.get(key!(rows)) else {
         return Err(LineFault::Bad);
     };
     match rows(alloc, list) {

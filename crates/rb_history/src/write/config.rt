@@ -5,6 +5,7 @@ ghost use Rattle.serde_json.specs.Written.{compact_text, items_text};
 ghost use Rattle.rb_history.specs.Adds.{Adds};
 ghost use Rattle.rb_history.specs.ConfigLines.{accounts_of, config_json, start_json};
 
+use crate::keys::spell;
 use crate::write::account::append_account;
 use crate::write::append::{append, append_number};
 use rb_money::{Cents, Config, Limits, Place};
@@ -49,11 +50,16 @@ fn append_limits(out: &mut Vec<u8>, limits: Limits) -> Result<(), AllocError>
         ++ (codes ",\"inbox\":" ++ (decimal limits.inbox ++ (codes ",\"red\":" ++ (decimal limits.red
         ++ codes ",\"sites\":")))))))))) }
 {
-    append_number(out, ",\"blue\":", limits.blue as u64, ",\"epoch\":")?;
-    append_number(out, "", limits.epoch as u64, ",\"history\":")?;
-    append_number(out, "", limits.history as u64, ",\"inbox\":")?;
-    append_number(out, "", limits.inbox as u64, ",\"red\":")?;
-    append_number(out, "", limits.red as u64, ",\"sites\":")
+    append_number(
+        out,
+        spell!("," blue ":"),
+        limits.blue as u64,
+        spell!("," epoch ":"),
+    )?;
+    append_number(out, "", limits.epoch as u64, spell!("," history ":"))?;
+    append_number(out, "", limits.history as u64, spell!("," inbox ":"))?;
+    append_number(out, "", limits.inbox as u64, spell!("," red ":"))?;
+    append_number(out, "", limits.red as u64, spell!("," sites ":"))
 }
 
 /// The sites, the version and the end of the object.
@@ -61,7 +67,7 @@ fn append_end(out: &mut Vec<u8>, sites: u8, version: u8) -> Result<(), AllocErro
     ensures { Adds result out.old.items out.new.items (decimal sites ++ (codes ",\"version\":" ++ (decimal version
         ++ codes "}"))) }
 {
-    append_number(out, "", sites as u64, ",\"version\":")?;
+    append_number(out, "", sites as u64, spell!("," version ":"))?;
     append_number(out, "", version as u64, "}")
 }
 
@@ -69,7 +75,7 @@ fn append_end(out: &mut Vec<u8>, sites: u8, version: u8) -> Result<(), AllocErro
 fn append_config(out: &mut Vec<u8>, config: &Config) -> Result<(), AllocError>
     ensures { Adds result out.old.items out.new.items (compact_text (config_json config.now)) }
 {
-    append(out, "{\"accounts\":[")?;
+    append(out, spell!("{" accounts ":["))?;
     append_accounts(out, config)?;
     append_limits(out, config.limits())?;
     append_end(out, config.sites(), config.version())

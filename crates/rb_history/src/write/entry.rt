@@ -4,6 +4,7 @@ ghost use Rattle.serde_json.specs.Written.{compact_text};
 ghost use Rattle.rb_history.specs.Adds.{Adds};
 ghost use Rattle.rb_history.specs.Entries.{entry_json};
 
+use crate::keys::spell;
 use crate::write::append::{append, append_number};
 use crate::write::event::append_event;
 use crate::write::reply::append_value;
@@ -20,11 +21,11 @@ fn append_entry(
 ) -> Result<(), AllocError>
     ensures { Adds result out.old.items out.new.items (compact_text (entry_json config.now site entry.now)) }
 {
-    append(out, "{\"event\":")?;
+    append(out, spell!("{" event ":"))?;
     append_event(out, config, &entry.event)?;
-    append(out, ",\"reply\":")?;
+    append(out, spell!("," reply ":"))?;
     append_value(out, &entry.reply)?;
-    append_number(out, ",\"site\":", site as u64, "}")
+    append_number(out, spell!("," site ":"), site as u64, "}")
 }
 
 /// Adds the line of an entry of a site's history, without a line feed. An `Err` means out of memory, and adds

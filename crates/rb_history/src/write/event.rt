@@ -6,6 +6,7 @@ ghost use Rattle.rb_history.specs.Entries.{event_json, request_json, token_json}
 ghost use Rattle.rb_scratch.specs.declared.request.Request.TheVariants.{Transfer};
 ghost use Rattle.rb_history.specs.Values.{list_json, one_json};
 
+use crate::keys::spell;
 use crate::write::account::{append_account, append_asked};
 use crate::write::append::{append, append_named, append_number};
 use crate::write::shadow::append_shadow;
@@ -26,7 +27,7 @@ fn append_transfer(
     ensures { Adds result out.old.items out.new.items
         (compact_text (request_json config.now (Transfer from to amount))) }
 {
-    append_account(out, "{\"transfer\":[", config, from, ",")?;
+    append_account(out, spell!("{" transfer ":["), config, from, ",")?;
     append_account(out, "", config, to, ",")?;
     append_number(out, "", amount, "]}")
 }
@@ -38,15 +39,15 @@ fn append_request(out: &mut Vec<u8>, config: &Config, request: Request) -> Resul
 {
     match request {
         Request::Deposit { account, amount } => {
-            append_asked(out, "{\"deposit\":", config, account, amount)
+            append_asked(out, spell!("{" deposit ":"), config, account, amount)
         }
         Request::Withdraw { account, amount } => {
-            append_asked(out, "{\"withdraw\":", config, account, amount)
+            append_asked(out, spell!("{" withdraw ":"), config, account, amount)
         }
         Request::Interest { account, rate } => {
-            append_asked(out, "{\"interest\":", config, account, rate as u64)
+            append_asked(out, spell!("{" interest ":"), config, account, rate as u64)
         }
-        Request::Cancel { target } => append_named(out, "{\"cancel\":", target, "}"),
+        Request::Cancel { target } => append_named(out, spell!("{" cancel ":"), target, "}"),
         Request::Transfer { from, to, amount } => append_transfer(out, config, from, to, amount),
     }
 }
@@ -73,7 +74,7 @@ fn append_requests(
     ensures { Adds result out.old.items out.new.items
         (compact_text (one_json (codes "batch") (list_json (request_json config.now) requests.now))) }
 {
-    append(out, "{\"batch\":[")?;
+    append(out, spell!("{" batch ":["))?;
     let mut comma = "";
     for request in requests {
         append_listed(out, comma, config, *request)?;
@@ -86,7 +87,7 @@ fn append_requests(
 fn append_token(out: &mut Vec<u8>, token: TokenMessage) -> Result<(), AllocError>
     ensures { Adds result out.old.items out.new.items (compact_text (one_json (codes "token") (token_json token))) }
 {
-    append_number(out, "{\"token\":[", token.epoch as u64, ",")?;
+    append_number(out, spell!("{" token ":["), token.epoch as u64, ",")?;
     append_number(out, "", token.to as u64, ",")?;
     append_number(out, "", token.red as u64, "]}")
 }
@@ -104,12 +105,18 @@ pub fn append_event(out: &mut Vec<u8>, config: &Config, event: &Event) -> Result
         Event::Batch(requests) => append_requests(out, config, requests.as_slice()),
         Event::Receive(Message::Shadow(shadow)) => append_shadow(out, config, *shadow),
         Event::Receive(Message::Token(token)) => append_token(out, *token),
-        Event::Apply(name) => append_named(out, "{\"apply\":", *name, "}"),
-        Event::Pass(to) => append_number(out, "{\"pass\":", *to as u64, "}"),
-        Event::Balance(place) => append_account(out, "{\"balance\":", config, *place, "}"),
+        Event::Apply(name) => append_named(out, spell!("{" apply ":"), *name, "}"),
+        Event::Pass(to) => append_number(out, spell!("{" pass ":"), *to as u64, "}"),
+        Event::Balance(place) => append_account(out, spell!("{" balance ":"), config, *place, "}"),
         Event::AsOf(place, position) => {
-            append_asked(out, "{\"asof\":", config, *place, *position as u64)
+            append_asked(out, spell!("{" asof ":"), config, *place, *position as u64)
         }
-        Event::Statement(place) => append_account(out, "{\"statement\":", config, *place, "}"),
+        Event::Statement(place) => append_account(
+            out,
+            spell!("{" statement ":"),
+            config,
+            *place,
+            "}",
+        ),
     }
 }

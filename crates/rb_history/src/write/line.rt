@@ -7,6 +7,7 @@ ghost use Rattle.rb_history.specs.Replies.{made_json};
 ghost use Rattle.rb_history.specs.declared.write.line.TheConstants.{LINE, SHORT};
 ghost use Rattle.rb_shadow.specs.NameText.{name_text};
 
+use crate::keys::spell;
 use crate::write::put::{put_name, put_number, put_text, put_word};
 use rb_shadow::{Label, OpName};
 
@@ -48,9 +49,9 @@ pub fn put_made(space: &mut [u8], at: usize, name: OpName, kind: Label) -> usize
     requires { at + LINE ≤ length space.old }
     ensures { Placed space.old space.new at (compact_text (made_json name kind)) result }
 {
-    let at = put_text(space, at, "{\"kind\":\"");
+    let at = put_text(space, at, spell!("{" kind ":\""));
     let at = put_word(space, at, kind);
-    let at = put_text(space, at, "\",\"name\":");
+    let at = put_text(space, at, spell!("\"," name ":"));
     let at = put_name(space, at, name);
     put_text(space, at, "}")
 }

@@ -7,6 +7,7 @@ ghost use Rattle.rb_history.specs.Replies.{HasShortLine, line, reply_json};
 ghost use Rattle.rb_history.specs.declared.write.line.TheConstants.{LINE};
 ghost use Rattle.rb_history.specs.Values.{name_json, list_json, one_json};
 
+use crate::keys::spell;
 use crate::write::append::{append, make_space};
 use crate::write::line::{LINE, put_made, put_name_between, put_number_between};
 use crate::write::put::{put_if, put_name};
@@ -39,7 +40,7 @@ fn append_names(out: &mut Vec<u8>, names: &[OpName]) -> Result<(), AllocError>
     ensures { Adds result out.old.items out.new.items
         (compact_text (one_json (codes "names") (list_json name_json names.now))) }
 {
-    append(out, "{\"names\":[")?;
+    append(out, spell!("{" names ":["))?;
     let mut comma = false;
     for name in names {
         append_listed(out, comma, *name)?;
@@ -58,13 +59,37 @@ fn put_reply(space: &mut [u8], at: usize, reply: &Reply) -> usize
 {
     match reply {
         Reply::Made { name, kind } => put_made(space, at, *name, *kind),
-        Reply::Held(name) => put_name_between(space, at, "{\"held\":", *name, "}"),
-        Reply::Already(name) => put_name_between(space, at, "{\"already\":", *name, "}"),
-        Reply::Taken(epoch) => put_number_between(space, at, "{\"taken\":", *epoch as u64, "}"),
-        Reply::Stale(epoch) => put_number_between(space, at, "{\"stale\":", *epoch as u64, "}"),
-        Reply::Applied(name) => put_name_between(space, at, "{\"applied\":", *name, "}"),
-        Reply::Passed(epoch) => put_number_between(space, at, "{\"passed\":", *epoch as u64, "}"),
-        Reply::Balance(cents) => put_number_between(space, at, "{\"balance\":", *cents, "}"),
+        Reply::Held(name) => put_name_between(space, at, spell!("{" held ":"), *name, "}"),
+        Reply::Already(name) => put_name_between(space, at, spell!("{" already ":"), *name, "}"),
+        Reply::Taken(epoch) => put_number_between(
+            space,
+            at,
+            spell!("{" taken ":"),
+            *epoch as u64,
+            "}",
+        ),
+        Reply::Stale(epoch) => put_number_between(
+            space,
+            at,
+            spell!("{" stale ":"),
+            *epoch as u64,
+            "}",
+        ),
+        Reply::Applied(name) => put_name_between(space, at, spell!("{" applied ":"), *name, "}"),
+        Reply::Passed(epoch) => put_number_between(
+            space,
+            at,
+            spell!("{" passed ":"),
+            *epoch as u64,
+            "}",
+        ),
+        Reply::Balance(cents) => put_number_between(
+            space,
+            at,
+            spell!("{" balance ":"),
+            *cents,
+            "}",
+        ),
         Reply::Refused(refusal) => put_refusal(space, at, refusal),
         Reply::Names(_) | Reply::Statement(_) => unreachable!(),
     }

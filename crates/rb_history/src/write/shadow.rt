@@ -6,6 +6,7 @@ ghost use Rattle.rb_history.specs.Adds.{Adds};
 ghost use Rattle.rb_history.specs.Entries.{account_json, deps_json, last_members, shadow_json};
 ghost use Rattle.rb_history.specs.Values.{name_json, one_json};
 
+use crate::keys::spell;
 use crate::write::account::append_account;
 use crate::write::append::{append, append_named, append_number};
 use crate::write::counts::append_counts;
@@ -30,8 +31,19 @@ fn append_front(out: &mut Vec<u8>, config: &Config, shadow: &Shadow) -> Result<(
         ++ (decimal shadow.now.amount ++ (codes ",\"deps\":"
         ++ compact_text (deps_json config.now.version shadow.now.deps)))))) }
 {
-    append_account(out, "{\"shadow\":{\"account\":", config, shadow.account, "")?;
-    append_number(out, ",\"amount\":", shadow.amount, ",\"deps\":")?;
+    append_account(
+        out,
+        spell!("{" shadow ":{" account ":"),
+        config,
+        shadow.account,
+        "",
+    )?;
+    append_number(
+        out,
+        spell!("," amount ":"),
+        shadow.amount,
+        spell!("," deps ":"),
+    )?;
     append_deps(out, config.version(), &shadow.deps)
 }
 
@@ -41,9 +53,14 @@ fn append_back(out: &mut Vec<u8>, config: &Config, shadow: Shadow) -> Result<(),
         ++ (codes ",\"kind\":\"" ++ (word_of (label_of shadow.kind) ++ (codes "\",\"name\":"
         ++ (compact_text (name_json shadow.name) ++ members_text true (last_members config.now shadow.kind))))))) }
 {
-    append_number(out, ",\"home\":", shadow.home as u64, ",\"kind\":\"")?;
+    append_number(
+        out,
+        spell!("," home ":"),
+        shadow.home as u64,
+        spell!("," kind ":\""),
+    )?;
     append(out, shadow.kind.label().word())?;
-    append_named(out, "\",\"name\":", shadow.name, "")?;
+    append_named(out, spell!("\"," name ":"), shadow.name, "")?;
     append_last(out, config, shadow.kind)
 }
 

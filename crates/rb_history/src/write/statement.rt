@@ -12,6 +12,7 @@ ghost use Rattle.rb_history.specs.Statements.{row_json, statement_json};
 ghost use Rattle.rb_history.specs.declared.write.statement.TheConstants.{EMPTY, ROW};
 ghost use Rattle.rb_shadow.specs.Labels.{word_of};
 
+use crate::keys::spell;
 use crate::write::append::{append_number, make_space};
 use crate::write::put::{put_if, put_integer, put_name, put_number, put_small, put_text, put_word};
 use rb_statements::{Row, Statement};
@@ -97,7 +98,7 @@ fn append_rows(out: &mut Vec<u8>, rows: &[Row], start: u64) -> Result<(), AllocE
         append_row(out, comma, row)?;
         comma = true;
     }
-    append_number(out, "],\"start\":", start, "}")
+    append_number(out, spell!("]," start ":"), start, "}")
 }
 
 /// The most bytes of a statement without rows.
@@ -110,9 +111,9 @@ fn put_empty(space: &mut [u8], at: usize, shown: &Statement) -> usize
     requires space { at + EMPTY ≤ length space.old }
     ensures { Placed space.old space.new at (compact_text (statement_json shown.now)) result }
 {
-    let at = put_text(space, at, "{\"balance\":");
+    let at = put_text(space, at, spell!("{" balance ":"));
     let at = put_number(space, at, shown.balance);
-    let at = put_text(space, at, ",\"rows\":[],\"start\":");
+    let at = put_text(space, at, spell!("," rows ":[]," start ":"));
     let at = put_number(space, at, shown.start);
     put_text(space, at, "}")
 }
@@ -138,6 +139,11 @@ pub fn append_statement(out: &mut Vec<u8>, shown: &Statement) -> Result<(), Allo
     if shown.rows.as_slice().is_empty() {
         return append_empty(out, shown);
     }
-    append_number(out, "{\"balance\":", shown.balance, ",\"rows\":[")?;
+    append_number(
+        out,
+        spell!("{" balance ":"),
+        shown.balance,
+        spell!("," rows ":["),
+    )?;
     append_rows(out, shown.rows.as_slice(), shown.start)
 }

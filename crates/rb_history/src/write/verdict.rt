@@ -4,6 +4,7 @@ ghost use Rattle.serde_json.specs.Written.{compact_text};
 ghost use Rattle.rb_history.specs.Adds.{Adds};
 ghost use Rattle.rb_history.specs.Verdicts.{verdict_line, order_json, stuck_json, wrong_reply_json};
 
+use crate::keys::spell;
 use crate::write::append::{append, append_number};
 use crate::write::number::append_numbers;
 use std::alloc::{AllocError, Global};
@@ -11,7 +12,7 @@ use std::alloc::{AllocError, Global};
 fn append_order(out: &mut Vec<u8>, order: &[u8]) -> Result<(), AllocError>
     ensures { Adds result out.old.items out.new.items (compact_text (order_json order.now)) }
 {
-    append(out, "{\"order\":")?;
+    append(out, spell!("{" order ":"))?;
     append_numbers(out, order)?;
     append(out, "}")
 }
@@ -19,7 +20,7 @@ fn append_order(out: &mut Vec<u8>, order: &[u8]) -> Result<(), AllocError>
 fn append_stuck(out: &mut Vec<u8>, next: &[u32]) -> Result<(), AllocError>
     ensures { Adds result out.old.items out.new.items (compact_text (stuck_json next.now)) }
 {
-    append(out, "{\"fault\":\"stuck\",\"next\":")?;
+    append(out, spell!("{" fault ":" stuck "," next ":"))?;
     append_numbers(out, next)?;
     append(out, "}")
 }
@@ -29,9 +30,9 @@ fn append_wrong_reply(out: &mut Vec<u8>, site: u8, event: u32) -> Result<(), All
 {
     append_number(
         out,
-        "{\"event\":",
+        spell!("{" event ":"),
         event as u64,
-        ",\"fault\":\"reply\",\"site\":",
+        spell!("," fault ":" reply "," site ":"),
     )?;
     append_number(out, "", site as u64, "}")
 }
